@@ -1,0 +1,11 @@
+pub mod FreeList
+pub mod Request
+pub mod Place
+pub mod Changes
+pub mod Laws
+pub mod Refusal
+pub mod ErrorText
+pub mod Sizes
+pub mod Kind
+pub mod Settings
+pub mod Chunks

@@ -1,0 +1,37 @@
+//! Laws of the definitions, each the contract of a function that does nothing.
+
+ghost use Rattle.std.specs.Prelude.{◌≡◌, ℕ, ◌+◌, ◌-◌, ◌^◌, ◌<◌, ◌≤◌, []};
+ghost use Rattle.std.specs.Int.{IsPowerOfTwo};
+ghost use Rattle.gpu_core.specs.FreeList.{FreeList, IsGap};
+ghost use Rattle.gpu_core.specs.Request.{Request};
+ghost use Rattle.gpu_core.specs.Changes.{Takes, Releases};
+ghost use Rattle.gpu_core.specs.Place.{Fits, HasNoPlace};
+ghost use Rattle.gpu_core.specs.Laws.{IsSound, IsPageSeparated, IsLongEnough};
+
+/// A take has one outcome.
+pub fn one_take()
+    ensures { (old : FreeList) (r : Request) (o p n m : ℕ) (new next : FreeList) → IsSound old
+        → Takes old r o n new → Takes old r p m next → (o ≡ p) × (n ≡ m) × (new ≡ next) }
+{}
+
+/// A take and a refusal for want of a place exclude each other.
+pub fn takes_or_refuses()
+    ensures { (old : FreeList) (r : Request) (o n : ℕ) (new : FreeList) → Takes old r o n new → HasNoPlace old r → ⊥ }
+{}
+
+/// A release has one outcome.
+pub fn one_release()
+    ensures { (old : FreeList) (n : ℕ) (new next : FreeList) → IsSound old → Releases old n new → Releases old n next → new ≡ next }
+{}
+
+/// A block without pieces has a place for every request up to its size, while it has numbers.
+pub fn empty_block_has_place()
+    ensures { (b : FreeList) (r : Request) → b.extents ≡ [] → 0 < b.size → r.size ≤ b.size
+        → HasNoPlace b r → (r.size < b.size) × (b.counter ≡ 2 ^ 64 - 1) }
+{}
+
+/// A gap that is long enough fits.
+pub fn long_gap_fits()
+    ensures { (b : FreeList) (r : Request) (s e : ℕ) → IsSound b → IsPowerOfTwo b.granularity → IsPowerOfTwo r.alignment
+        → 0 < r.size → IsGap b s e → IsLongEnough b r s e → (o : ℕ) × Fits b r s e o }
+{}
