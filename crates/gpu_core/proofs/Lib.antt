@@ -19,3 +19,4 @@ pub mod Numbers
 pub mod Powers
 pub mod Determined
 pub mod Empty
+pub mod Live

@@ -1,8 +1,8 @@
 //! Laws of the definitions, each the contract of a function that does nothing.
 
-ghost use Rattle.std.specs.Prelude.{◌≡◌, ℕ, ◌+◌, ◌-◌, ◌^◌, ◌<◌, ◌≤◌, []};
+ghost use Rattle.std.specs.Prelude.{◌≡◌, ◌≢◌, ℕ, ◌+◌, ◌-◌, ◌^◌, ◌<◌, ◌≤◌, [], Contains};
 ghost use Rattle.std.specs.Int.{IsPowerOfTwo};
-ghost use Rattle.gpu_core.specs.FreeList.{FreeList, IsGap};
+ghost use Rattle.gpu_core.specs.FreeList.{Extent, FreeList, SomeExtent, IsGap};
 ghost use Rattle.gpu_core.specs.Request.{Request};
 ghost use Rattle.gpu_core.specs.Changes.{Takes, Releases};
 ghost use Rattle.gpu_core.specs.Place.{Fits, HasNoPlace};
@@ -34,4 +34,20 @@ pub fn empty_block_has_place()
 pub fn long_gap_fits()
     ensures { (b : FreeList) (r : Request) (s e : ℕ) → IsSound b → IsPowerOfTwo b.granularity → IsPowerOfTwo r.alignment
         → 0 < r.size → IsGap b s e → IsLongEnough b r s e → (o : ℕ) × Fits b r s e o }
+{}
+
+/// A take keeps every live piece, and adds one under a number that no live piece has.
+pub fn take_adds_one_piece()
+    ensures keeps { (old : FreeList) (r : Request) (o n : ℕ) (new : FreeList) → Takes old r o n new
+        → (x : Extent) → Contains old.extents x → Contains new.extents x }
+    ensures adds { (old : FreeList) (r : Request) (o n : ℕ) (new : FreeList) → Takes old r o n new
+        → SomeExtent new (λ x. x.number ≡ n) }
+    ensures number { (old : FreeList) (r : Request) (o n : ℕ) (new : FreeList) → IsSound old → IsSound new
+        → Takes old r o n new → SomeExtent old (λ x. x.number ≡ n) → ⊥ }
+{}
+
+/// A release keeps every live piece but the one of its number.
+pub fn release_keeps_the_others()
+    ensures { (old : FreeList) (n : ℕ) (new : FreeList) → IsSound old → Releases old n new
+        → (x : Extent) → Contains old.extents x → x.number ≢ n → Contains new.extents x }
 {}

@@ -1,0 +1,72 @@
+-- A block whose pieces are bound to numbers of the caller's, and what may be answered.
+use Rattle.std.specs.Prelude.{◌≡◌, ◌≢◌, ℕ, ◌<◌, List, [], Option, Some, None, IsTrue}
+use Rattle.std.specs.Ordering.{nat_cmp}
+use Rattle.std.specs.Int.{is_power_of_two}
+use Rattle.std.specs.Int.NonZero.{non_zero_u64_get}
+use Rattle.std.specs.declared.num.NonZeroU64.{NonZeroU64}
+use Rattle.std.specs.BTreeMap.{insert_entry, is_at}
+use Rattle.std.specs.Map.{lookup, remove_entry}
+use Rattle.gpu_core.specs.FreeList.{FreeList, SomeExtent, fresh_free_list}
+use Rattle.gpu_core.specs.Request.{Request}
+use Rattle.gpu_core.specs.Place.{HasNoPlace}
+use Rattle.gpu_core.specs.Changes.{Takes, Releases}
+use Rattle.gpu_core.specs.Laws.{IsSound}
+use Rattle.gpu_session.specs.declared.error_number.ErrorNumber.{ErrorNumber}
+use Rattle.gpu_session.specs.declared.error_number.ErrorNumber.TheVariants.{E1, E2, E3, E4, E5, E6, E7, E8, E9, E10}
+use Rattle.gpu_session.specs.declared.block.reply.Reply.{Reply}
+use Rattle.gpu_session.specs.declared.block.reply.Reply.TheVariants as replies
+
+-- the block, and the numbers of its pieces by the caller's numbers, in the order of these
+pub record State : Type 0 where
+  pub block : FreeList
+  pub bound : List (ℕ × NonZeroU64)
+
+abbrev pub unused : ℕ → ℕ → State
+unused size granularity = record { block = fresh_free_list size granularity 2; bound = [] }
+
+-- the piece that a number of the caller's stands for
+abbrev pub piece_at : State → ℕ → Option NonZeroU64
+piece_at s key = lookup (is_at (nat_cmp key)) s.bound
+
+-- each bound number is a live piece's, and no two of the caller's numbers stand for one piece
+pub record OwnsPieces (s : State) : Type 0 where
+  pub sound : IsSound s.block
+  pub live : (key : ℕ) (n : NonZeroU64) → piece_at s key ≡ Some n → SomeExtent s.block (λ x. x.number ≡ non_zero_u64_get n)
+  pub apart : (j k : ℕ) (n m : NonZeroU64) → piece_at s j ≡ Some n → piece_at s k ≡ Some m → non_zero_u64_get n ≡ non_zero_u64_get m → j ≡ k
+
+-- what may be asked of a block
+abbrev pub IsValid : Request → Type 0
+IsValid r = (0 < r.size) × IsTrue (is_power_of_two r.alignment)
+
+-- which errors a request may meet
+abbrev pub RefusesTake : FreeList → Request → ErrorNumber → Type 0
+RefusesTake b r E1 = IsValid r × HasNoPlace b r
+RefusesTake b r E4 = IsValid r → ⊥
+RefusesTake b r E10 = IsValid r
+RefusesTake b r E2 = ⊥
+RefusesTake b r E3 = ⊥
+RefusesTake b r E5 = ⊥
+RefusesTake b r E6 = ⊥
+RefusesTake b r E7 = ⊥
+RefusesTake b r E8 = ⊥
+RefusesTake b r E9 = ⊥
+
+-- a request under a number of the caller's, its reply, and the state that it leaves
+abbrev pub Taking : State → ℕ → Request → Reply → State → Type 0
+Taking old key r replies.Busy new = (piece_at old key ≢ None) × (new ≡ old)
+Taking old key r (replies.Taken offset chunk) new = (piece_at old key ≡ None) × IsValid r
+    × Takes old.block r offset (non_zero_u64_get chunk) new.block × (new.bound ≡ insert_entry nat_cmp old.bound key chunk)
+Taking old key r (replies.Refused number) new = (piece_at old key ≡ None) × RefusesTake old.block r number × (new ≡ old)
+Taking old key r (replies.Block size) new = ⊥
+Taking old key r replies.Given new = ⊥
+Taking old key r replies.Unbound new = ⊥
+
+-- a piece is given back, if the number stands for one
+abbrev pub Giving : State → ℕ → Reply → State → Type 0
+Giving old key replies.Given new = (chunk : NonZeroU64) × (piece_at old key ≡ Some chunk)
+    × Releases old.block (non_zero_u64_get chunk) new.block × (new.bound ≡ remove_entry (is_at (nat_cmp key)) old.bound)
+Giving old key replies.Unbound new = (piece_at old key ≡ None) × (new ≡ old)
+Giving old key (replies.Taken offset chunk) new = ⊥
+Giving old key (replies.Refused number) new = ⊥
+Giving old key (replies.Block size) new = ⊥
+Giving old key replies.Busy new = ⊥

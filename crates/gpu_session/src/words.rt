@@ -1,0 +1,38 @@
+//! The words that commands are made of.
+
+ghost use Rattle.std.specs.Prelude.{◌≡◌, ◌≢◌, ℕ, ◌<◌, ◌^◌, ◌↔◌, IsTrue, MatchOption, IfOk};
+ghost use Rattle.std.specs.Fmt.{decimal};
+ghost use Rattle.gpu_session.specs.Words.{texts, words_of, IsName};
+
+use std::alloc::{AllocError, Global};
+
+/// The words of a line, which single spaces separate.
+pub fn words<'a>(alloc: Global, line: &'a str) -> Result<Vec<&'a str>, AllocError>
+    ensures { IfOk result (λ v. texts v.items ≡ words_of line.now) }
+{
+    line.split(' ').collect(alloc)
+}
+
+/// The number that a word spells in decimal, without leading zeros.
+pub fn number(word: &str) -> Option<u64>
+    ensures { MatchOption result ((n : ℕ) → n < 2 ^ 64 → word.now ≢ decimal n) (λ n. word.now ≡ decimal n) }
+{
+    let bytes = word.as_bytes();
+    if bytes.is_empty() {
+        return None;
+    }
+    if bytes[0] == b'+' {
+        return None;
+    }
+    if bytes[0] == b'0' && bytes.len() > 1 {
+        return None;
+    }
+    word.parse().ok()
+}
+
+/// Whether a word may be a name: 1 to 64 printable characters.
+pub fn is_name(word: &str) -> bool
+    ensures { IsTrue result ↔ IsName word.now }
+{
+    !word.is_empty() && word.len() <= 64 && word.as_bytes().iter().all(|b| 0x21 <= *b && *b <= 0x7e)
+}
