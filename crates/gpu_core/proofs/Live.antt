@@ -38,7 +38,7 @@ filter_keeps p [] = All-nil (λ z. p z ≡ true → Contains (filter p []) z)
 filter_keeps p (y ∷ ys) =
     All-cons (λ z. p z ≡ true → Contains (filter p (y ∷ ys)) z) y ys (λ h. subst (λ b. Contains (cond b (y ∷ filter p ys) (filter p ys)) y) (sym h) (here y (filter p ys)))
     (All-weaker (λ z. p z ≡ true → Contains (filter p ys) z) (λ z. p z ≡ true → Contains (filter p (y ∷ ys)) z) (λ z q h.
-      elim (p y) as (λ b. Contains (cond b (y ∷ filter p ys) (filter p ys)) z) [ true ↦ there y z (filter p ys) (q h) | false ↦ q h ]) ys (filter_keeps p ys))
+    elim (p y) as (λ b. Contains (cond b (y ∷ filter p ys) (filter p ys)) z) [ true ↦ there y z (filter p ys) (q h) | false ↦ q h ]) ys (filter_keeps p ys))
 
 -- ---- a take
 

@@ -31,8 +31,8 @@ impl Model for AllocationSizes {
     ghost Value = { Sizes };
 
     ghost view = { λ s. record {
-        device = record { smallest = s.min_device_memblock_size; largest = s.max_device_memblock_size };
-        host = record { smallest = s.min_host_memblock_size; largest = s.max_host_memblock_size };
+      device = record { smallest = s.min_device_memblock_size; largest = s.max_device_memblock_size };
+      host = record { smallest = s.min_host_memblock_size; largest = s.max_host_memblock_size };
     } };
 
     ghost invariant = { λ s.
@@ -40,10 +40,10 @@ impl Model for AllocationSizes {
         × AreInLimits (record { smallest = s.min_host_memblock_size; largest = s.max_host_memblock_size }) };
 
     ghost inverse = { λ v. record {
-        min_device_memblock_size = v.device.smallest;
-        max_device_memblock_size = v.device.largest;
-        min_host_memblock_size = v.host.smallest;
-        max_host_memblock_size = v.host.largest;
+      min_device_memblock_size = v.device.smallest;
+      max_device_memblock_size = v.device.largest;
+      min_host_memblock_size = v.host.smallest;
+      max_host_memblock_size = v.host.largest;
     } };
 }
 

@@ -15,3 +15,6 @@ pub use allocator_debug_settings::AllocatorDebugSettings;
 pub use error::{AllocationError, Fault, Result};
 pub use free_list::FreeListAllocator;
 pub use memory_location::MemoryLocation;
+
+#[cfg(test)]
+mod tests;

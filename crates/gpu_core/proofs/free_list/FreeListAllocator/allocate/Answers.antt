@@ -141,11 +141,11 @@ returns-in_err-text-clause-cause c =
     let r = subst (λ (xs : List Chunk). LeavesRest xs c.in-Some.found (asked at) c.leaves_rest-rest.result) c.deref-2.ensures.value c.leaves_rest-rest.ensures in
     host_refusal c.from_residual.result c.args.self.now (the_request at) c.from_residual.ensures.1
     (has_place i.chunks.items i.size i.counter (asked at) c.args.self.now c.args.name.now c.in-Some.found c.self.invariant.1 c.requires.piece (the_view at) b (λ lt.
-      let is = (r b.fits.front b.fits.chunk b.fits.back b.fits.split b.fits.index).1 lt in
-      elim c.else-rest.branch [
-        | else-rest-via-then-rest+else-self v ↦ (let ne = v.if-self.false in omega arith)
-        | else-rest-via-else-rest v ↦ absurd (false≢true (sym v.if-rest.false ∙ is))
-      ]))
+    let is = (r b.fits.front b.fits.chunk b.fits.back b.fits.split b.fits.index).1 lt in
+    elim c.else-rest.branch [
+      | else-rest-via-then-rest+else-self v ↦ (let ne = v.if-self.false in omega arith)
+      | else-rest-via-else-rest v ↦ absurd (false≢true (sym v.if-rest.false ∙ is))
+    ]))
 
 pub returns-in_err-number-clause-cause : goal.returns-in_err-number-clause-cause
 returns-in_err-number-clause-cause c =
@@ -155,8 +155,8 @@ returns-in_err-number-clause-cause c =
     let r = subst (λ (xs : List Chunk). LeavesRest xs c.in-Some.found (asked at) c.leaves_rest-rest.result) c.deref-2.ensures.value c.leaves_rest-rest.ensures in
     host_refusal c.from_residual-in_err-number.result c.args.self.now (the_request at) c.from_residual-in_err-number.ensures.1
     (has_place i.chunks.items i.size i.counter (asked at) c.args.self.now c.args.name.now c.in-Some.found c.self.invariant.1 c.requires.piece (the_view at) b (λ lt.
-      let is = (r b.fits.front b.fits.chunk b.fits.back b.fits.split b.fits.index).1 lt in
-      elim c.else-rest.branch [
-        | else-rest-via-then-rest+else-self v ↦ (let ne = v.if-self.false in omega arith)
-        | else-rest-via-else-rest v ↦ absurd (false≢true (sym v.if-rest.false ∙ is))
-      ]))
+    let is = (r b.fits.front b.fits.chunk b.fits.back b.fits.split b.fits.index).1 lt in
+    elim c.else-rest.branch [
+      | else-rest-via-then-rest+else-self v ↦ (let ne = v.if-self.false in omega arith)
+      | else-rest-via-else-rest v ↦ absurd (false≢true (sym v.if-rest.false ∙ is))
+    ]))
