@@ -1,1 +1,262 @@
-//! Tests of what no contract says.
+//! Tests of what no contract says: worked traces, bad lines, and readers and writers that fail.
+
+use crate::run::{LIMIT, run_trace};
+use log::sink::Discard;
+use std::alloc::{AllocError, Global};
+use std::io;
+use std::io::{ErrorKind, Read, Write};
+use std::process::Abort;
+use std::test::Fail;
+
+fn check(rt: &impl Abort, alloc: Global, input: &[u8], output: &str, status: u8) {
+    let mut reader = input;
+    let mut written = Vec::new(alloc);
+    let got = run_trace(&Discard, alloc, &mut reader, &mut written);
+    assert_eq!(rt; written.as_slice(), output.as_bytes());
+    assert_eq!(rt; got, status);
+}
+
+// ---- whole traces
+
+const BEST_FIT: &str = "block host 4194304 4194304 0 1
+take 1 100 1 linear a
+take 2 10 1 linear b
+take 3 50 1 linear c
+take 4 10 1 linear d
+give 1
+give 3
+take 5 40 1 linear e
+";
+
+const BEST_FIT_REPLIES: &str = "block 4194304
+ok offset 0 chunk 2
+ok offset 100 chunk 3
+ok offset 110 chunk 4
+ok offset 160 chunk 5
+ok
+ok
+ok offset 110 chunk 6
+";
+
+#[test]
+fn traces_are_answered(rt: HostRuntime) {
+    let alloc = rt.alloc();
+    check(&rt, alloc, BEST_FIT.as_bytes(), BEST_FIT_REPLIES, 0);
+    check(&rt, alloc, b"", "", 0);
+    check(&rt, alloc, b"\n# nothing\n\n#", "", 0);
+    for (input, output) in [
+        ("block device 8388608 268435456 3 1", "block 67108864\n"),
+        (
+            "block device 4194304 4194304 18446744073709551615 4096",
+            "block 4194304\n",
+        ),
+        (
+            "block host 1 18446744073709551615 7 9223372036854775808\n",
+            "block 268435456\n",
+        ),
+        (
+            "block host 4194304 4194304 0 1\ntake 1 1 1 linear a\ntake 2 1 9223372036854775808 linear b\n",
+            "block 4194304\nok offset 0 chunk 2\nerror E1\n",
+        ),
+        (
+            "block host 4194304 4194304 0 1\ngive 1\ntake 1 0 1 linear a\ntake 1 1 3 linear a\ntake 1 1 0 linear a\n",
+            "block 4194304\nunbound\nerror E4\nerror E4\nerror E4\n",
+        ),
+        (
+            "block host 4194304 4194304 0 1\ntake 1 1 1 linear a\ntake 1 0 1 linear a\ngive 1\ngive 1\n",
+            "block 4194304\nok offset 0 chunk 2\nbusy\nok\nunbound\n",
+        ),
+        (
+            "block host 4194304 4194304 0 1024\ntake 1 16 16 linear a\ntake 2 64 16 nonlinear b\ntake 3 16 16 linear c\n",
+            "block 4194304\nok offset 0 chunk 2\nok offset 1024 chunk 3\nok offset 2048 chunk 4\n",
+        ),
+    ] {
+        check(&rt, alloc, input.as_bytes(), output, 0);
+    }
+}
+
+// ---- bad lines
+
+#[test]
+fn a_bad_line_ends_the_trace(rt: HostRuntime) -> Result<(), Fail> {
+    let alloc = rt.alloc();
+    for line in [
+        "take 1 1 1  linear a",
+        " take 1 1 1 linear a",
+        "take 1 1 1 linear a ",
+        "take 1 1 1 linear a\r",
+        "take 1 1 1 linear",
+        "take 1 1 1 linear a b",
+        "take 1 1 1 linear \u{e9}",
+        "take 1 1 1 linear \u{7f}",
+        "take 1 1 1 Linear a",
+        "take 1 010 1 linear a",
+        "take 1 +1 1 linear a",
+        "take 1 -1 1 linear a",
+        "take 1 1 1 free a",
+        "take 18446744073709551616 1 1 linear a",
+        "take 1 18446744073709551616 1 linear a",
+        "take 1 1 1 linear aaaaaaaaaaaaaaaaaaaaaaaaaaaaaaaaaaaaaaaaaaaaaaaaaaaaaaaaaaaaaaaaa",
+        "give",
+        "give 01",
+        "give 1 2",
+        "Give 1",
+        "alloc 1 1 1 1 GpuOnly linear managed a",
+        "block host 4194304 4194304 0 1",
+        "\r",
+        " ",
+        " # no remark",
+        "# \u{e9}",
+    ] {
+        let mut input = Vec::new(alloc);
+        input.extend_from_slice(b"block host 4194304 4194304 0 1\n\n# a remark\n")?;
+        input.extend_from_slice(line.as_bytes())?;
+        input.extend_from_slice(b"\ngive 7\n")?;
+        check(&rt, alloc, &input, "block 4194304\nbad line 4\n", 2);
+    }
+    for line in [
+        "take 1 1 1 linear a",
+        "give 1",
+        "block host 4194304 4194304 0 3",
+        "block host 4194304 4194304 0 0",
+        "block both 4194304 4194304 0 1",
+        "block host 4194304 4194304 0",
+        "block host 4194304 4194304 0 1 1",
+        "heap 1073741824",
+        "new",
+    ] {
+        check(&rt, alloc, line.as_bytes(), "bad line 1\n", 2);
+    }
+    Ok(())
+}
+
+#[test]
+fn a_long_name_is_read(rt: HostRuntime) {
+    let name =
+        "block host 4194304 4194304 0 1\ntake 1 1 1 linear !aaaaaaaaaaaaaaaaaaaaaaaaaaaaaaaaaaaaaaaaaaaaaaaaaaaaaaaaaaaaaa~";
+    check(
+        &rt,
+        rt.alloc(),
+        name.as_bytes(),
+        "block 4194304\nok offset 0 chunk 2\n",
+        0,
+    );
+}
+
+fn remarks(alloc: Global, len: u64) -> Result<Vec<u8>, AllocError> {
+    let mut input = Vec::new(alloc);
+    for _ in 0..len {
+        input.push(b'\n')?;
+    }
+    Ok(input)
+}
+
+#[test]
+fn a_trace_over_the_limit_is_bad_from_its_first_line(rt: HostRuntime) -> Result<(), Fail> {
+    let alloc = rt.alloc();
+    check(&rt, alloc, &remarks(alloc, LIMIT)?, "", 0);
+    check(&rt, alloc, &remarks(alloc, LIMIT + 1)?, "bad line 1\n", 2);
+    Ok(())
+}
+
+// ---- readers and writers that fail
+
+/// Gives a byte a read, and fails after so many.
+#[derive(Drop)]
+struct Breaking<'a> {
+    bytes: &'a [u8],
+    left: usize,
+}
+
+impl Read for Breaking<'_> {
+    fn read(&mut self, buf: &mut [u8]) -> io::Result<usize> {
+        if self.left == 0 {
+            return Err(io::Error::from(ErrorKind::BrokenPipe));
+        }
+        let n = self.left.min(1).min(buf.len()).min(self.bytes.len());
+        let (front, rest) = self.bytes.split_at(n);
+        buf[..n].copy_from_slice(front);
+        self.bytes = rest;
+        self.left -= n;
+        Ok(n)
+    }
+}
+
+/// Holds so many bytes, and fails at the next one, or at a flush.
+#[derive(Drop)]
+struct Full {
+    held: Vec<u8>,
+    left: usize,
+    flushes: bool,
+}
+
+impl Write for Full {
+    fn write(&mut self, buf: &[u8]) -> io::Result<usize> {
+        let n = self.left.min(buf.len());
+        if n == 0 && !buf.is_empty() {
+            return Err(io::Error::from(ErrorKind::StorageFull));
+        }
+        self.held.extend_from_slice(&buf[..n])?;
+        self.left -= n;
+        Ok(n)
+    }
+
+    fn flush(&mut self) -> io::Result<()> {
+        if self.flushes {
+            Ok(())
+        } else {
+            Err(io::Error::from(ErrorKind::StorageFull))
+        }
+    }
+}
+
+const DAMAGED: &str = "block host 4194304 4194304 0 1\ntake 1 1 1 linear a\ngive 1\nx";
+
+const DAMAGED_REPLIES: &str = "block 4194304\nok offset 0 chunk 2\nok\nbad line 4\n";
+
+#[test]
+fn a_failed_read_ends_the_trace_unanswered(rt: HostRuntime) {
+    for input in [BEST_FIT, DAMAGED] {
+        for left in 0..input.len() {
+            let mut reader = Breaking {
+                bytes: input.as_bytes(),
+                left,
+            };
+            let mut out = Vec::new(rt.alloc());
+            let status = run_trace(&Discard, rt.alloc(), &mut reader, &mut out);
+            assert_eq!(rt; status, 1);
+            assert!(rt; out.is_empty());
+        }
+    }
+}
+
+#[test]
+fn a_failed_write_ends_the_trace(rt: HostRuntime) {
+    for (input, output) in [(BEST_FIT, BEST_FIT_REPLIES), (DAMAGED, DAMAGED_REPLIES)] {
+        for left in 0..output.len() {
+            let mut reader = input.as_bytes();
+            let mut out = Full {
+                held: Vec::new(rt.alloc()),
+                left,
+                flushes: true,
+            };
+            let status = run_trace(&Discard, rt.alloc(), &mut reader, &mut out);
+            assert_eq!(rt; status, 1);
+            assert!(rt; output.as_bytes().starts_with(out.held.as_slice()));
+        }
+    }
+}
+
+#[test]
+fn a_failed_flush_is_a_failed_write(rt: HostRuntime) {
+    for input in [BEST_FIT, DAMAGED, ""] {
+        let mut reader = input.as_bytes();
+        let mut out = Full {
+            held: Vec::new(rt.alloc()),
+            left: usize::MAX,
+            flushes: false,
+        };
+        let status = run_trace(&Discard, rt.alloc(), &mut reader, &mut out);
+        assert_eq!(rt; status, 1);
+    }
+}
