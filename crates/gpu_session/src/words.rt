@@ -1,6 +1,6 @@
 //! The words that commands are made of.
 
-ghost use Rattle.std.specs.Prelude.{◌≡◌, ◌≢◌, ℕ, ◌<◌, ◌^◌, ◌↔◌, IsTrue, MatchOption, IfOk};
+ghost use Rattle.std.specs.Prelude.{◌≡◌, ◌≢◌, ℕ, ◌<◌, ◌^◌, ◌↔◌, length, slice_index, IsTrue, MatchOption, IfOk};
 ghost use Rattle.std.specs.Fmt.{decimal};
 ghost use Rattle.gpu_session.specs.Words.{texts, words_of, IsName};
 
@@ -24,10 +24,18 @@ pub fn number(word: &str) -> Option<u64>
     if bytes[0] == b'+' {
         return None;
     }
-    if bytes[0] == b'0' && bytes.len() > 1 {
+    if has_leading_zero(bytes) {
         return None;
     }
     word.parse().ok()
+}
+
+/// Whether the first of several digits is a zero.
+fn has_leading_zero(digits: &[u8]) -> bool
+    requires { 0 < length digits.now }
+    ensures { IsTrue result ↔ ((slice_index digits.now 0 ≡ 48) × (1 < length digits.now)) }
+{
+    digits[0] == b'0' && digits.len() > 1
 }
 
 /// Whether a word may be a name: 1 to 64 printable characters.
