@@ -3,10 +3,9 @@
 
 use gpu_session::run_trace;
 use log::sink::Discard;
-use std::env;
-use std::io;
 use std::io::BufWriter;
 use std::process::ExitCode;
+use std::{env, io};
 
 /// Whether the program was given arguments, of which it takes none.
 fn has_arguments(rt: &HostRuntime) -> io::Result<bool> {
@@ -17,7 +16,9 @@ fn main(rt: HostRuntime) -> ExitCode {
     match has_arguments(&rt) {
         Ok(false) => {}
         Ok(true) => {
-            let _ = eprintln!(rt; "gpu_trace: takes no arguments, and reads a trace from standard input");
+            let _ = eprintln!(rt;
+                "gpu_trace: takes no arguments, and reads a trace from standard input"
+            );
             return ExitCode::from(1);
         }
         Err(_) => return ExitCode::from(1),
