@@ -2,7 +2,7 @@
 use Rattle.std.proofs.Common.{◌≡◌, ℕ, zero, suc, ◌+◌, ◌<◌, ◌≤◌, ◌⊎◌, ltb, cond, Bool, true, false, List, [], ◌∷◌, length, get_or, refl, sym, ap, ◌∙◌, subst, inl, inr, arith, Option, Some, None, MatchOption}
 use Rattle.std.proofs.lemmas.Bool.{cases_lt, cases_eq}
 use Rattle.std.proofs.lemmas.Bool.Decides.{nat_tests}
-use Rattle.gpu_core.specs.declared.free_list.chunk.Chunk.{Chunk}
+use Rattle.gpu_core.specs.declared.chunk.Chunk.{Chunk}
 use Rattle.gpu_core.specs.declared.free_list.place.Wanted.{Wanted}
 use Rattle.gpu_core.specs.declared.free_list.search.Found.{Found}
 use Rattle.gpu_core.specs.Chunks.{FitsAt, IsBestOf, NoneFits, shorter_of, size_at}

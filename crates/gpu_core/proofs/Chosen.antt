@@ -1,7 +1,7 @@
 -- What the search finds among the chunks is the chosen gap of the block.
 use Rattle.std.proofs.Common.{◌≡◌, ◌≢◌, ℕ, suc, ◌+◌, ◌≤◌, List, [], ◌∷◌, ◌++◌, length, refl, sym, ap, ◌∙◌, subst, inl, inr, arith}
 use Rattle.std.proofs.lemmas.List.{append_assoc, length-append}
-use Rattle.gpu_core.specs.declared.free_list.chunk.Chunk.{Chunk}
+use Rattle.gpu_core.specs.declared.chunk.Chunk.{Chunk}
 use Rattle.gpu_core.specs.declared.free_list.place.Wanted.{Wanted}
 use Rattle.gpu_core.specs.declared.free_list.search.Found.{Found}
 use Rattle.gpu_core.specs.declared.allocation_type.AllocationType.{AllocationType}

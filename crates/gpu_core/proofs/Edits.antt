@@ -3,7 +3,7 @@ use Rattle.std.proofs.Common.{◌≡◌, ℕ, suc, ◌+◌, ◌-◌, ◌^◌, �
 use Rattle.std.specs.List.{insert, remove}
 use Rattle.std.proofs.lemmas.List.{take_at, drop_at, get_or_at, set_at, append_assoc, length-append, length-take-le, take-append-drop, drop_more}
 use Rattle.std.proofs.lemmas.List.Edits.{remove-append_right}
-use Rattle.gpu_core.specs.declared.free_list.chunk.Chunk.{Chunk}
+use Rattle.gpu_core.specs.declared.chunk.Chunk.{Chunk}
 use Rattle.gpu_core.specs.declared.allocation_type.AllocationType.{AllocationType}
 use Rattle.gpu_core.specs.declared.allocation_type.AllocationType.TheVariants.{Free, Linear, NonLinear}
 use Rattle.gpu_core.specs.Chunks.{Covers, cut_chunk, filled_chunk, joined_chunk, join_back, join_front, join_kinds, IsLaidOut, HoldsNumber, IsFree, IsJoinedAt, IsJoinedBehind, IsJoinedBefore, IsReleasedAt, IsFilledAt, IsCutAt, size_at}

@@ -4,7 +4,7 @@ use Rattle.std.specs.Prelude.{String}
 use Rattle.std.specs.declared.alloc.Global.{Global}
 use Rattle.std.proofs.lemmas.List.{length-append}
 use Rattle.std.proofs.lemmas.Bool.{ltb-true, lt-ltb}
-use Rattle.gpu_core.specs.declared.free_list.chunk.Chunk.{Chunk}
+use Rattle.gpu_core.specs.declared.chunk.Chunk.{Chunk}
 use Rattle.gpu_core.specs.declared.free_list.place.Wanted.{Wanted}
 use Rattle.gpu_core.specs.declared.free_list.search.Found.{Found}
 use Rattle.gpu_core.specs.Chunks.{Covers, FitsAt, IsLaidOut, size_at, piece_of, cut_chunk, IsTaken, IsCutAt, IsFilledAt, LeavesRest}

@@ -3,7 +3,7 @@ use Rattle.std.proofs.Common.{◌≡◌, ℕ, ◌+◌, ◌<◌, ◌≤◌, ◌�
 use Rattle.std.proofs.lemmas.List.{append_assoc}
 use Rattle.std.proofs.lemmas.List.Elements.{All-weaker, All-contains}
 use Rattle.std.proofs.lemmas.Bool.{cases_lt}
-use Rattle.gpu_core.specs.declared.free_list.chunk.Chunk.{Chunk}
+use Rattle.gpu_core.specs.declared.chunk.Chunk.{Chunk}
 use Rattle.gpu_core.specs.declared.allocation_type.AllocationType.{AllocationType}
 use Rattle.gpu_core.specs.declared.allocation_type.AllocationType.TheVariants.{Free, Linear, NonLinear}
 use Rattle.gpu_core.specs.FreeList.{Extent, SomeExtent, IsGap}

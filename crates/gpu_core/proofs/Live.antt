@@ -1,5 +1,5 @@
 -- Which pieces are live after a take and after a release.
-use Rattle.std.proofs.Common.{◌≡◌, ◌≢◌, ℕ, suc, ◌+◌, ◌<◌, ◌≤◌, ◌⊎◌, List, [], ◌∷◌, refl, sym, ap, ◌∙◌, subst, inl, inr, arith, Bool, true, false, cond, ltb, eqb}
+use Rattle.std.proofs.Common.{◌≡◌, ◌≢◌, ℕ, suc, ◌+◌, ◌≤◌, ◌⊎◌, List, [], ◌∷◌, refl, sym, ap, ◌∙◌, subst, inl, inr, arith, Bool, true, false, cond, ltb, eqb}
 use Rattle.std.specs.Prelude.{All, Contains, filter, not}
 use Rattle.std.proofs.lemmas.List.Elements.{All-nil, All-cons, All-weaker, All-contains, All-contains_itself}
 use Rattle.gpu_core.specs.FreeList.{Extent, FreeList, SomeExtent}
@@ -11,10 +11,10 @@ use Rattle.gpu_core.proofs.Separation.{within_of}
 
 -- ---- elements of edited lists
 
-here : {X : Type 0} (x : X) (xs : List X) → Contains (x ∷ xs) x
+pub here : {X : Type 0} (x : X) (xs : List X) → Contains (x ∷ xs) x
 here x xs = (0, omega arith, refl)
 
-there : {X : Type 0} (y x : X) (xs : List X) → Contains xs x → Contains (y ∷ xs) x
+pub there : {X : Type 0} (y x : X) (xs : List X) → Contains xs x → Contains (y ∷ xs) x
 there y x xs h = (suc h.0, (let l = h.1 in omega arith), h.2)
 
 placed_added : {X : Type 0} (key : X → ℕ) (x : X) (xs : List X) → Contains (placed key x xs) x

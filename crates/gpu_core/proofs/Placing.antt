@@ -2,7 +2,7 @@
 use Rattle.std.proofs.Common.{◌≡◌, ◌≢◌, ℕ, ◌+◌, ◌-◌, ◌^◌, ◌<◌, ◌≤◌, List, ◌∷◌, ◌++◌, length, refl, sym, ap, ◌∙◌, subst, inl, inr, arith, Bool, true, false}
 use Rattle.std.specs.Prelude.{Contains, String, string_bytes, Result, Ok, Err, IfErr, IsErrAnd}
 use Rattle.std.specs.declared.alloc.Global.{Global}
-use Rattle.gpu_core.specs.declared.free_list.chunk.Chunk.{Chunk}
+use Rattle.gpu_core.specs.declared.chunk.Chunk.{Chunk}
 use Rattle.gpu_core.specs.declared.free_list.place.Wanted.{Wanted}
 use Rattle.gpu_core.specs.declared.free_list.search.Found.{Found}
 use Rattle.gpu_core.specs.declared.allocation_type.AllocationType.{AllocationType}

@@ -2,7 +2,7 @@
 use Rattle.std.proofs.Common.{◌≡◌, ℕ, ◌+◌, ◌<◌, ◌≤◌, List, [], ◌∷◌, ◌++◌, get_or, refl, sym, ap, ◌∙◌, subst, inl, inr, arith}
 use Rattle.std.specs.Prelude.{All, Contains}
 use Rattle.std.proofs.lemmas.List.Elements.{All-weaker, All-nil, All-cons, All-contains, Contains-append_cases}
-use Rattle.gpu_core.specs.declared.free_list.chunk.Chunk.{Chunk}
+use Rattle.gpu_core.specs.declared.chunk.Chunk.{Chunk}
 use Rattle.gpu_core.specs.FreeList.{Extent}
 use Rattle.gpu_core.specs.Laws.{IsSound}
 use Rattle.gpu_core.specs.Chunks.{Covers, AreChunks, IsChunk, extent, extents_of, gaps_of, free_list_of, AreDistinct}

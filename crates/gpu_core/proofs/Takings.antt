@@ -2,7 +2,7 @@
 use Rattle.std.proofs.Common.{◌≡◌, ◌≢◌, ℕ, ◌+◌, ◌<◌, ◌≤◌, List, [], ◌∷◌, ◌++◌, refl, sym, ap, ◌∙◌, subst, inl, inr, arith}
 use Rattle.std.specs.Prelude.{All, Contains}
 use Rattle.std.proofs.lemmas.List.Elements.{All-nil, All-cons, All-head, All-tail, All-weaker, All-append}
-use Rattle.gpu_core.specs.declared.free_list.chunk.Chunk.{Chunk}
+use Rattle.gpu_core.specs.declared.chunk.Chunk.{Chunk}
 use Rattle.gpu_core.specs.declared.allocation_type.AllocationType.{AllocationType}
 use Rattle.gpu_core.specs.declared.allocation_type.AllocationType.TheVariants.{Free, Linear, NonLinear}
 use Rattle.gpu_core.specs.FreeList.{Extent}

@@ -4,7 +4,7 @@ use Rattle.std.specs.Prelude.{All, Contains}
 use Rattle.std.specs.List.{cons_option}
 use Rattle.std.proofs.lemmas.List.{length-append, get_or_at}
 use Rattle.std.proofs.lemmas.List.Elements.{filter_map-append, All-nil, All-cons, All-weaker, All-contains}
-use Rattle.gpu_core.specs.declared.free_list.chunk.Chunk.{Chunk}
+use Rattle.gpu_core.specs.declared.chunk.Chunk.{Chunk}
 use Rattle.gpu_core.specs.declared.allocation_type.AllocationType.{AllocationType}
 use Rattle.gpu_core.specs.declared.allocation_type.AllocationType.TheVariants.{Free, Linear, NonLinear}
 use Rattle.gpu_core.specs.FreeList.{Extent}

@@ -1,6 +1,6 @@
--- What a take and a release leave of a block.
+-- What a take, a release and a new name leave of a block.
 use Rattle.std.specs.Prelude.{◌≡◌, ℕ, ◌+◌, ◌-◌, ◌^◌, ◌<◌, ◌⊎◌, ◌==◌, not, nat_lt, if◌then◌else◌, List, [], ◌∷◌, map, filter, Contains}
-use Rattle.gpu_core.specs.FreeList.{Extent, FreeList, IsGap}
+use Rattle.gpu_core.specs.FreeList.{Extent, FreeList, SomeExtent, IsGap}
 use Rattle.gpu_core.specs.Request.{Request}
 use Rattle.gpu_core.specs.Place.{IsBestFit}
 
@@ -43,3 +43,13 @@ pub record Releases (old : FreeList) (number : ℕ) (new : FreeList) : Type 0 wh
   pub extents : new.extents ≡ without_extent gone.start old.extents
   pub numbers : ((s : ℕ) × IsGap old s gone.start × (new.gap_numbers ≡ without_gap gone.end old.gap_numbers)) ⊎ (((s : ℕ) → IsGap old s gone.start → ⊥) × (new.gap_numbers ≡ with_gap gone.start number (without_gap gone.end old.gap_numbers)))
   pub same : (new.size ≡ old.size) × (new.granularity ≡ old.granularity) × (new.counter ≡ old.counter)
+
+-- the extent with the name, if it has the number
+abbrev pub with_name : ℕ → List ℕ → Extent → Extent
+with_name number name x = if x.number == number then record x { name = name } else x
+
+-- the extent of that number has another name
+pub record Renames (old : FreeList) (number : ℕ) (name : List ℕ) (new : FreeList) : Type 0 where
+  pub held : SomeExtent old (λ x. x.number ≡ number)
+  pub extents : new.extents ≡ map (with_name number name) old.extents
+  pub same : (new.size ≡ old.size) × (new.granularity ≡ old.granularity) × (new.counter ≡ old.counter) × (new.gap_numbers ≡ old.gap_numbers)

@@ -1,10 +1,10 @@
 -- The sorted list of chunks behind a block: free chunks are its gaps, the others its extents.
-use Rattle.std.specs.Prelude.{◌≡◌, ◌≢◌, ℕ, ◌+◌, ◌-◌, ◌^◌, ◌<◌, ◌≤◌, ◌⊎◌, zero, suc, nat_lt, if◌then◌else◌, length, ◌++◌, List, [], ◌∷◌, All, Option, Some, None, String, string_bytes, Bool, IsTrue, ◌↔◌}
+use Rattle.std.specs.Prelude.{◌≡◌, ◌≢◌, ℕ, ◌+◌, ◌-◌, ◌^◌, ◌<◌, ◌≤◌, ◌⊎◌, zero, suc, nat_lt, if◌then◌else◌, length, ◌++◌, List, [], ◌∷◌, All, Option, Some, None, String, string_bytes, Bool, false, ◌==◌, IsTrue, ◌↔◌}
 use Rattle.std.specs.declared.alloc.Global.{Global}
 use Rattle.std.specs.List.{filter_map}
 use Rattle.gpu_core.specs.declared.allocation_type.AllocationType.{AllocationType}
 use Rattle.gpu_core.specs.declared.allocation_type.AllocationType.TheVariants.{Free, Linear, NonLinear}
-use Rattle.gpu_core.specs.declared.free_list.chunk.Chunk.{Chunk}
+use Rattle.gpu_core.specs.declared.chunk.Chunk.{Chunk}
 use Rattle.gpu_core.specs.declared.free_list.place.Wanted.{Wanted}
 use Rattle.gpu_core.specs.declared.free_list.search.Found.{Found}
 use Rattle.gpu_core.specs.FreeList.{Extent, FreeList}
@@ -60,6 +60,13 @@ pub record IsChunk (counter : ℕ) (c : Chunk) : Type 0 where
   pub before : c.offset < c.start + c.size
   pub positive : 0 < c.number
   pub given : c.number < counter
+
+-- the chunk is a whole block of that size, and its piece
+pub record IsWholeChunk (size : ℕ) (c : Chunk) : Type 0 where
+  pub starts : (c.start ≡ 0) × (c.offset ≡ 0)
+  pub whole : c.size ≡ size
+  pub first : c.number ≡ 1
+  pub live : IsFree c.kind → ⊥
 
 -- no two chunks have one number
 abbrev pub AreDistinct : List Chunk → Type 0
@@ -127,6 +134,12 @@ NoneFits cs w n = (k o : ℕ) → k < n → FitsAt cs w k o → ⊥
 abbrev pub IsLaidOut : List Chunk → Type 0
 IsLaidOut cs = (size : ℕ) × (size < 2 ^ 64) × Covers cs 0 size
 
+-- the chunk is a gap with that number
+abbrev pub is_gap_by : AllocationType → ℕ → Chunk → Bool
+is_gap_by Free number c = c.number == number
+is_gap_by Linear number c = false
+is_gap_by NonLinear number c = false
+
 -- ---- the changes
 
 -- the i-th chunk is the piece with that number
@@ -153,6 +166,13 @@ filled_chunk c offset kind name = record c { offset = offset; kind = kind; name 
 abbrev pub IsFilledAt : List Chunk → ℕ → ℕ → AllocationType → String Global → List Chunk → Type 0
 IsFilledAt old i offset kind name new =
     (front : List Chunk) (c : Chunk) (back : List Chunk) → old ≡ front ++ c ∷ back → length front ≡ i → new ≡ front ++ filled_chunk c offset kind name ∷ back
+
+abbrev pub named_chunk : Chunk → String Global → Chunk
+named_chunk c name = record c { name = name }
+
+abbrev pub IsNamedAt : List Chunk → ℕ → String Global → List Chunk → Type 0
+IsNamedAt old i name new =
+    (front : List Chunk) (c : Chunk) (back : List Chunk) → old ≡ front ++ c ∷ back → length front ≡ i → new ≡ front ++ named_chunk c name ∷ back
 
 abbrev pub joined_chunk : Chunk → Chunk → Chunk
 joined_chunk a b = record a { size = a.size + b.size }

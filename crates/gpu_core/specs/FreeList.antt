@@ -1,5 +1,6 @@
 -- A block of memory that is cut into pieces: its extents and its gaps.
-use Rattle.std.specs.Prelude.{◌≡◌, ℕ, ◌<◌, ◌≤◌, ◌⊎◌, List, [], ◌∷◌, All, Contains}
+use Rattle.std.specs.Prelude.{Option, Some, None, ◌+◌, ◌≡◌, ℕ, ◌<◌, ◌≤◌, ◌⊎◌, ◌-◌, ◌==◌, Bool, List, [], ◌∷◌, All, Contains}
+use Rattle.std.specs.List.{sum_by, list_any}
 use Rattle.gpu_core.specs.declared.allocation_type.AllocationType.{AllocationType}
 
 -- [start, end) belongs to one live piece, which begins at `offset`; what lies before that is padding
@@ -34,3 +35,16 @@ pub record IsGap (b : FreeList) (start end : ℕ) : Type 0 where
   pub meets_none : All (λ x. (x.end ≤ start) ⊎ (end ≤ x.start)) b.extents
   pub starts : (start ≡ 0) ⊎ SomeExtent b (λ x. x.end ≡ start)
   pub ends : (end ≡ b.size) ⊎ SomeExtent b (λ x. x.start ≡ end)
+
+-- the bytes of the extents, padding included
+abbrev pub extent_bytes : List Extent → ℕ
+extent_bytes xs = sum_by (λ x. x.end - x.start) xs
+
+-- a gap has the number
+abbrev pub has_gap_number : FreeList → ℕ → Bool
+has_gap_number b n = list_any (λ g. g.1 == n) b.gap_numbers
+
+-- the offset and the size of the piece of that number among the extents, if there is one
+abbrev pub FindsPlace : List Extent → ℕ → Option (ℕ × ℕ) → Type 0
+FindsPlace xs number None = (x : Extent) → Contains xs x → x.number ≡ number → ⊥
+FindsPlace xs number (Some p) = (x : Extent) × Contains xs x × (x.number ≡ number) × (x.offset ≡ p.0) × (x.end ≡ p.0 + p.1)

@@ -2,7 +2,7 @@
 use Rattle.std.specs.Prelude.{◌≡◌, ◌≢◌, ℕ, ◌+◌, ◌-◌, ◌^◌, ◌<◌, ◌≤◌, ◌⊎◌, max, All, Contains}
 use Rattle.gpu_core.specs.declared.error.AllocationError.{AllocationError}
 use Rattle.gpu_core.specs.declared.error.AllocationError.TheVariants as errors
-use Rattle.gpu_core.specs.FreeList.{Extent, FreeList}
+use Rattle.gpu_core.specs.FreeList.{Extent, FreeList, SomeExtent, IsGap}
 use Rattle.gpu_core.specs.Request.{Request}
 use Rattle.gpu_core.specs.Place.{page}
 
@@ -34,3 +34,10 @@ IsForNumbers b (errors.Internal _) = ⊥
 IsForNumbers b errors.BarrierLayoutNeedsDevice10 = ⊥
 IsForNumbers b errors.CastableFormatsRequiresEnhancedBarriers = ⊥
 IsForNumbers b errors.CastableFormatsRequiresAtLeastDevice12 = ⊥
+
+-- extents and gaps cover the block: each place lies in one, no two of them share a place, and no two gaps touch
+pub record IsCovered (b : FreeList) : Type 0 where
+  pub all : (p : ℕ) → p < b.size → SomeExtent b (λ x. (x.start ≤ p) × (p < x.end)) ⊎ ((s : ℕ) × (e : ℕ) × IsGap b s e × (s ≤ p) × (p < e))
+  pub extents : (x y : Extent) → Contains b.extents x → Contains b.extents y → (x ≡ y) ⊎ ((x.end ≤ y.start) ⊎ (y.end ≤ x.start))
+  pub beside : (x : Extent) (s e : ℕ) → Contains b.extents x → IsGap b s e → (x.end ≤ s) ⊎ (e ≤ x.start)
+  pub gaps : (s e t u : ℕ) → IsGap b s e → IsGap b t u → ((s ≡ t) × (e ≡ u)) ⊎ ((e < t) ⊎ (u < s))

@@ -8,4 +8,15 @@ pub mod ErrorText
 pub mod Sizes
 pub mod Kind
 pub mod Settings
+pub mod TypeState
+pub mod TypeTake
+pub mod TypePrepare
+pub mod TypeRelease
+pub mod Slots
 pub mod Chunks
+pub mod Report
+pub mod Dedicated
+pub mod Block
+pub mod SubAllocator
+pub mod Leak
+pub mod Bytes

@@ -1,9 +1,10 @@
 -- Why a call is refused, as contracts compare it.
-use Rattle.std.specs.Prelude.{ℕ, ℤ, List, Option, Some, None, Result, Ok, Err, codes}
+use Rattle.std.specs.Prelude.{◌≡◌, ◌⊎◌, ℕ, ℤ, if◌then◌else◌, List, Option, Some, None, Result, Ok, Err, codes}
+use Rattle.std.specs.Int.NonZero.{non_zero_u64_get}
 use Rattle.std.specs.declared.num.NonZeroU64.{NonZeroU64}
 use Rattle.gpu_core.specs.declared.error.AllocationError.{AllocationError}
 use Rattle.gpu_core.specs.declared.error.AllocationError.TheVariants as errors
-use Rattle.gpu_core.specs.FreeList.{FreeList}
+use Rattle.gpu_core.specs.FreeList.{FreeList, SomeExtent, has_gap_number}
 use Rattle.gpu_core.specs.Request.{Request}
 use Rattle.gpu_core.specs.Place.{HasNoPlace}
 
@@ -54,3 +55,15 @@ IsTakeRefusal b r errors.CastableFormatsRequiresAtLeastDevice12 = ⊥
 abbrev pub release_refusal : Option NonZeroU64 → Refusal
 release_refusal None = internal (codes "Chunk ID must be a valid value.") None
 release_refusal (Some _) = internal (codes "Attempting to free chunk that is not in chunk list.") None
+
+-- why no piece of that number is renamed: a gap has it, or nothing has it
+abbrev pub rename_fault : FreeList → ℕ → Refusal
+rename_fault b n =
+    internal (if has_gap_number b n then codes "Attempting to rename a freed allocation." else codes "Attempting to rename chunk that is not in chunk list.") None
+
+-- why a new name is refused: the number is missing, or it is no live piece's, or it is one's and the host's memory was refused
+abbrev pub IsRenameRefusal : FreeList → Option NonZeroU64 → Refusal → Type 0
+IsRenameRefusal b None refusal = refusal ≡ internal (codes "Chunk ID must be a valid value.") None
+IsRenameRefusal b (Some n) refusal =
+    ((SomeExtent b (λ x. x.number ≡ non_zero_u64_get n) → ⊥) × (refusal ≡ rename_fault b (non_zero_u64_get n)))
+    ⊎ (SomeExtent b (λ x. x.number ≡ non_zero_u64_get n) × (refusal ≡ host_out_of_memory))

@@ -1,5 +1,5 @@
 -- The sizes of the blocks that pieces share, in bytes.
-use Rattle.std.specs.Prelude.{ℕ, ◌*◌, ◌^◌, ◌≤◌, ◌≡◌, ◌%◌, min, max, Bool, true, false, if◌then◌else◌}
+use Rattle.std.specs.Prelude.{ℕ, ◌*◌, ◌^◌, ◌≤◌, min, max, Bool, if◌then◌else◌}
 use Rattle.std.specs.Int.{next_multiple_of}
 use Rattle.gpu_core.specs.declared.allocation_sizes.TheConstants.{STEP, LARGEST, DOUBLINGS}
 

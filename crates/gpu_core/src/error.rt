@@ -1,8 +1,9 @@
 //! Why a call is refused.
 
-ghost use Rattle.std.specs.Prelude.{◌≡◌, Some};
+ghost use Rattle.std.specs.Prelude.{◌≡◌, Some, None};
 ghost use Rattle.gpu_core.specs.ErrorText.{fault_text, error_text};
 ghost use Rattle.gpu_core.specs.declared.error.AllocationError.TheVariants.{HostOutOfMemory};
+ghost use Rattle.gpu_core.specs.Refusal.{refusal_of, internal};
 
 use std::alloc::{AllocError, AllocFailed};
 use std::error::Error;
@@ -102,4 +103,11 @@ impl<T: Drop> From<AllocFailed<T>> for AllocationError {
     fn from(_refused: AllocFailed<T>) -> AllocationError {
         AllocationError::HostOutOfMemory
     }
+}
+
+/// A fault of this crate's own, without a code.
+pub(crate) fn internal_fault(text: &'static str) -> AllocationError
+    ensures { refusal_of result ≡ internal text.now None }
+{
+    AllocationError::Internal(Fault { text, code: None })
 }

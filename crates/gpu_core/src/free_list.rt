@@ -1,19 +1,23 @@
 //! A block that is cut into pieces, each in the shortest gap that it fits in.
 
-ghost use Rattle.std.specs.Prelude.{◌≡◌, ◌≢◌, ℕ, ◌+◌, ◌^◌, ◌<◌, ◌≤◌, None, IfOk, OnOk, OnErr, IfErr, IfSome, IsSomeAnd, IsTrue};
+ghost use Rattle.std.specs.Prelude.{◌≡◌, ◌≢◌, ℕ, ◌+◌, ◌^◌, ◌<◌, ◌≤◌, None, IfOk, OnOk, OnErr, IfErr, IfSome, IsSomeAnd, IsTrue, ◌↔◌, [], map, true, false};
 ghost use Rattle.std.specs.Int.{is_power_of_two};
 ghost use Rattle.std.specs.Int.NonZero.{non_zero_u64_get};
-ghost use Rattle.gpu_core.specs.Refusal.{refusal_of, internal};
+ghost use Rattle.gpu_core.specs.Refusal.{refusal_of};
 ghost use Rattle.gpu_core.specs.declared.error.AllocationError.TheVariants.{HostOutOfMemory};
 
-mod chunk;
 mod edit;
 mod place;
 mod search;
 
-use crate::{AllocationError, AllocationType, Fault, Result};
-use chunk::Chunk;
-use edit::{leaves_rest, position_of, release, take};
+use crate::chunk::Chunk;
+use crate::error::internal_fault;
+use crate::rows::rows_of;
+use crate::{AllocationError, AllocationReport, AllocationType, Leaks, Result};
+use edit::{
+    has_gap_number, leaves_rest, name_at, none_taken, place_of, position_of, release, take,
+    taken_bytes,
+};
 use place::Wanted;
 use search::find_place;
 use std::alloc::{AllocError, Global};
@@ -25,7 +29,7 @@ use std::num::NonZeroU64;
 /// the block's granularity.
 #[derive(Drop)]
 pub struct FreeListAllocator {
-    alloc: Global,
+    pub(crate) alloc: Global,
     size: u64,
     granularity: u64,
     counter: u64,
@@ -49,11 +53,13 @@ impl Model for FreeListAllocator {
 }
 
 impl FreeListAllocator {
-    ghost use Rattle.gpu_core.specs.FreeList.{SomeExtent, IsGap, fresh_free_list};
+    ghost use Rattle.gpu_core.specs.FreeList.{FindsPlace, SomeExtent, IsGap, fresh_free_list, extent_bytes};
     ghost use Rattle.gpu_core.specs.Request.{request};
-    ghost use Rattle.gpu_core.specs.Changes.{Takes, Releases};
-    ghost use Rattle.gpu_core.specs.Refusal.{IsTakeRefusal, release_refusal};
-    ghost use Rattle.gpu_core.specs.Laws.{IsSound, IsPageSeparated, IsLongEnough, IsForNumbers};
+    ghost use Rattle.gpu_core.specs.Changes.{Takes, Releases, Renames};
+    ghost use Rattle.gpu_core.specs.Refusal.{IsTakeRefusal, release_refusal, IsRenameRefusal};
+    ghost use Rattle.gpu_core.specs.Report.{row_of, extent_row};
+    ghost use Rattle.gpu_core.specs.Leak.{leak_of};
+    ghost use Rattle.gpu_core.specs.Laws.{IsSound, IsPageSeparated, IsLongEnough, IsForNumbers, IsCovered};
 
     /// A block of `size` bytes without pieces: one gap with number 1, and 2 is the next new number. `granularity` is the
     /// page size in bytes: Vulkan's bufferImageGranularity, elsewhere 1. The only refusal is `HostOutOfMemory`.
@@ -119,6 +125,7 @@ impl FreeListAllocator {
         // where the pieces lie, for all pairs of them; and a gap that is long enough is never refused
         ensures sound { OnOk result (IsSound self.new) }
         ensures separated { OnOk result (IsPageSeparated self.new) }
+        ensures covered { OnOk result (IsCovered self.new) }
         ensures law { IfErr result (λ e. (s t : ℕ) → IsGap self.old s t
             → IsLongEnough self.old (request size alignment kind name.now) s t
             → IsForNumbers self.old e) }
@@ -156,15 +163,96 @@ impl FreeListAllocator {
         ensures pages { self.new.granularity ≡ self.old.granularity }
         ensures sound { OnOk result (IsSound self.new) }
         ensures separated { OnOk result (IsPageSeparated self.new) }
+        ensures covered { OnOk result (IsCovered self.new) }
     {
         let Some(number) = chunk_id else {
-            return Err(fault("Chunk ID must be a valid value."));
+            return Err(internal_fault("Chunk ID must be a valid value."));
         };
         let Some(i) = position_of(&self.chunks, number.get()) else {
-            return Err(fault("Attempting to free chunk that is not in chunk list."));
+            return Err(internal_fault("Attempting to free chunk that is not in chunk list."));
         };
         release(&mut self.chunks, i, String::new(self.alloc));
         Ok(())
+    }
+
+    /// Gives a live piece another name. `Internal` where the number is missing, a gap's or not there, else
+    /// `HostOutOfMemory` where the host refused memory; a refusal leaves the block as it was.
+    pub fn rename_allocation(&mut self, chunk_id: Option<NonZeroU64>, name: &str) -> Result<()>
+        ensures renamed { OnOk result
+            (IsSomeAnd chunk_id (λ n. Renames self.old (non_zero_u64_get n) name.now self.new)) }
+        ensures cause { IfErr result (λ e. IsRenameRefusal self.old chunk_id (refusal_of e)) }
+        ensures refused { OnErr result (self.new ≡ self.old) }
+        ensures pages { self.new.granularity ≡ self.old.granularity }
+        ensures sound { OnOk result (IsSound self.new) }
+        ensures separated { OnOk result (IsPageSeparated self.new) }
+        ensures covered { OnOk result (IsCovered self.new) }
+    {
+        let Some(number) = chunk_id else {
+            return Err(internal_fault("Chunk ID must be a valid value."));
+        };
+        let Some(i) = position_of(&self.chunks, number.get()) else {
+            if has_gap_number(&self.chunks, number.get()) {
+                return Err(internal_fault("Attempting to rename a freed allocation."));
+            }
+            return Err(internal_fault("Attempting to rename chunk that is not in chunk list."));
+        };
+        let text = String::from_str(self.alloc, name)?;
+        name_at(&mut self.chunks, i, text);
+        Ok(())
+    }
+
+    /// The bytes of all pieces, padding included.
+    pub fn allocated(&self) -> u64
+        ensures { result ≡ extent_bytes self.now.extents }
+    {
+        // a field that is read is known to be a u64
+        let _size = self.size;
+        taken_bytes(&self.chunks)
+    }
+
+    /// The offset and the size in bytes of the live piece with that number.
+    pub(crate) fn place_of(&self, number: NonZeroU64) -> Option<(u64, u64)>
+        ensures { FindsPlace self.now.extents (non_zero_u64_get number) result }
+    {
+        let _size = self.size;
+        place_of(&self.chunks, number.get())
+    }
+
+    /// The size of the block in bytes.
+    pub(crate) fn size(&self) -> u64
+        ensures { result ≡ self.now.size }
+    {
+        self.size
+    }
+
+    /// Whether no piece is live.
+    pub fn is_empty(&self) -> bool
+        ensures { IsTrue result ↔ self.now.extents ≡ [] }
+    {
+        none_taken(&self.chunks)
+    }
+
+    /// The live pieces in order of offset. The only refusal is `HostOutOfMemory`.
+    pub fn report_allocations(&self) -> Result<Vec<AllocationReport>>
+        ensures rows { IfOk result (λ v. map row_of v.items ≡ map extent_row self.now.extents) }
+        ensures cause { IfErr result (λ e. e ≡ HostOutOfMemory) }
+    {
+        // a field that is read is known to be a u64
+        let _size = self.size;
+        let rows = rows_of(self.alloc, &self.chunks)?;
+        Ok(rows)
+    }
+
+    /// The live pieces in order of offset, in block `memory_block` of type `memory_type`. It takes no memory.
+    pub fn leaks(&self, memory_type: usize, memory_block: usize) -> Leaks<'_>
+        ensures { result ≡ map (leak_of memory_type memory_block true) self.now.extents }
+    {
+        Leaks {
+            memory_type,
+            memory_block,
+            general: true,
+            rest: &self.chunks,
+        }
     }
 }
 
@@ -173,10 +261,4 @@ fn non_zero(n: u64) -> NonZeroU64
     ensures { non_zero_u64_get result ≡ n }
 {
     NonZeroU64::new(n).unwrap()
-}
-
-fn fault(text: &'static str) -> AllocationError
-    ensures { refusal_of result ≡ internal text.now None }
-{
-    AllocationError::Internal(Fault { text, code: None })
 }

@@ -1,12 +1,15 @@
 //! Laws of the definitions, each the contract of a function that does nothing.
 
-ghost use Rattle.std.specs.Prelude.{◌≡◌, ◌≢◌, ℕ, ◌+◌, ◌-◌, ◌^◌, ◌<◌, ◌≤◌, [], Contains};
+ghost use Rattle.std.specs.Prelude.{◌≡◌, ◌≢◌, ℕ, ◌+◌, ◌-◌, ◌^◌, ◌<◌, ◌≤◌, [], Contains, List};
 ghost use Rattle.std.specs.Int.{IsPowerOfTwo};
 ghost use Rattle.gpu_core.specs.FreeList.{Extent, FreeList, SomeExtent, IsGap};
+ghost use Rattle.gpu_core.specs.declared.error.AllocationError.TheVariants.{OutOfMemory};
+ghost use Rattle.gpu_core.specs.Block.{Block, TakesIn, ReleasesIn, RenamesIn, IsTakeRefusalIn, IsSoundBlock};
+ghost use Rattle.gpu_core.specs.Bytes.{IsBytesText};
 ghost use Rattle.gpu_core.specs.Request.{Request};
 ghost use Rattle.gpu_core.specs.Changes.{Takes, Releases};
-ghost use Rattle.gpu_core.specs.Place.{Fits, HasNoPlace};
-ghost use Rattle.gpu_core.specs.Laws.{IsSound, IsPageSeparated, IsLongEnough};
+ghost use Rattle.gpu_core.specs.Place.{Fits, HasNoPlace, page};
+ghost use Rattle.gpu_core.specs.Laws.{IsSound, IsPageSeparated, IsLongEnough, IsCovered};
 
 /// A take has one outcome.
 pub fn one_take()
@@ -50,4 +53,47 @@ pub fn take_adds_one_piece()
 pub fn release_keeps_the_others()
     ensures { (old : FreeList) (n : ℕ) (new : FreeList) → IsSound old → Releases old n new
         → (x : Extent) → Contains old.extents x → x.number ≢ n → Contains new.extents x }
+{}
+
+/// The extents and gaps of a sound block cover it exactly, and no two gaps touch.
+pub fn extents_and_gaps_cover()
+    ensures { (b : FreeList) → IsSound b → IsCovered b }
+{}
+
+/// Two live pieces of different kinds share no page, wherever in them one looks.
+pub fn kinds_share_no_page()
+    ensures { (b : FreeList) → 0 < b.granularity → IsPageSeparated b → IsSound b → (x y : Extent)
+        → Contains b.extents x → Contains b.extents y → x.kind ≢ y.kind → (p q : ℕ)
+        → x.offset ≤ p → p < x.end → y.offset ≤ q → q < y.end → page b.granularity p ≢ page b.granularity q }
+{}
+
+/// An amount of bytes has one text.
+pub fn one_bytes_text()
+    ensures { (n : ℕ) (s t : List ℕ) → IsBytesText n s → IsBytesText n t → s ≡ t }
+{}
+
+// ---- blocks of either form
+
+/// A take in a block has one outcome.
+pub fn one_take_in()
+    ensures { (old : Block) (r : Request) (o p n m : ℕ) (new next : Block) → IsSoundBlock old
+        → TakesIn old r o n new → TakesIn old r p m next → (o ≡ p) × (n ≡ m) × (new ≡ next) }
+{}
+
+/// A take in a block and a refusal for want of a place exclude each other.
+pub fn takes_or_refuses_in()
+    ensures { (old : Block) (r : Request) (o n : ℕ) (new : Block) → TakesIn old r o n new
+        → IsTakeRefusalIn old r OutOfMemory → ⊥ }
+{}
+
+/// A release in a block has one outcome.
+pub fn one_release_in()
+    ensures { (old : Block) (n : ℕ) (new next : Block) → IsSoundBlock old
+        → ReleasesIn old n new → ReleasesIn old n next → new ≡ next }
+{}
+
+/// A new name in a block has one outcome.
+pub fn one_rename_in()
+    ensures { (old : Block) (n : ℕ) (name : List ℕ) (new next : Block)
+        → RenamesIn old n name new → RenamesIn old n name next → new ≡ next }
 {}

@@ -1,7 +1,11 @@
 //! Tests of what no contract says: worked rows, printed texts, and that each call succeeds while there is memory.
 
-ghost use Rattle.std.specs.Prelude.{◌≡◌, ◌≢◌, ◌<◌, IfOk, IsTrue};
+ghost use Rattle.std.specs.Prelude.{◌≡◌, ◌≢◌, ℕ, ◌<◌, IfOk, IsTrue};
+ghost use Rattle.gpu_core.specs.Block.{HasPages};
+ghost use Rattle.gpu_core.specs.SubAllocator.{block_of};
 ghost use Rattle.std.specs.Int.{is_power_of_two};
+
+mod memory_types;
 
 use super::*;
 use std::alloc::{AllocError, Global};
@@ -393,5 +397,448 @@ fn a_number_that_is_not_live_is_refused(rt: HostRuntime) -> Result<(), Fail> {
     give(&rt, b, 2);
     refuse(&rt, rt.alloc(), b, 2, unknown)?;
     linear(&rt, b, 10, Some((0, 3)));
+    Ok(())
+}
+
+// ---- blocks of either form
+
+fn general(rt: &impl Abort, alloc: Global, granularity: u64) -> Result<SubAllocator>
+    ensures { IfOk result (λ b. HasPages (block_of b) granularity) }
+{
+    Ok(SubAllocator::FreeList(block_of(rt, alloc, granularity)?))
+}
+
+fn dedicated(rt: &impl Abort, alloc: Global, size: u64) -> SubAllocator
+    ensures { HasPages (block_of result) 1 }
+{
+    assert!(rt; size > 0);
+    SubAllocator::Dedicated(DedicatedBlockAllocator::new(alloc, size))
+}
+
+/// What is asked of a block.
+#[derive(Clone, Copy)]
+struct Asked<'a> {
+    size: u64,
+    alignment: u64,
+    kind: AllocationType,
+    granularity: u64,
+    name: &'a str,
+}
+
+fn wanted(size: u64, name: &str) -> Asked<'_>
+    ensures piece { result.kind ≢ AllocationType.Free }
+    ensures paged { result.granularity ≡ 1 }
+{
+    Asked {
+        size,
+        alignment: 1,
+        kind: AllocationType::Linear,
+        granularity: 1,
+        name,
+    }
+}
+
+fn ask(rt: &impl Abort, block: &mut SubAllocator, asked: Asked) -> Result<(u64, u64)>
+    requires paged { HasPages (block_of block.old) asked.granularity }
+    requires piece { asked.kind ≢ AllocationType.Free }
+    ensures { (g : ℕ) → HasPages (block_of block.old) g → HasPages (block_of block.new) g }
+{
+    assert!(rt; asked.size > 0);
+    assert!(rt; asked.alignment.is_power_of_two());
+    let (offset, number) = block.allocate(
+        asked.size,
+        asked.alignment,
+        asked.kind,
+        asked.granularity,
+        asked.name,
+    )?;
+    Ok((offset, number.get()))
+}
+
+/// 0 stands for no number.
+fn give_back(block: &mut SubAllocator, number: u64) -> Result<()>
+    ensures { (g : ℕ) → HasPages (block_of block.old) g → HasPages (block_of block.new) g }
+{
+    block.free(NonZeroU64::new(number))
+}
+
+/// 0 stands for no number.
+fn rename(block: &mut SubAllocator, number: u64, name: &str) -> Result<()>
+    ensures { (g : ℕ) → HasPages (block_of block.old) g → HasPages (block_of block.new) g }
+{
+    block.rename_allocation(NonZeroU64::new(number), name)
+}
+
+fn check_refused<V: Drop>(
+    rt: &impl Abort,
+    alloc: Global,
+    got: Result<V>,
+    want: &str,
+) -> Result<()> {
+    match got {
+        Ok(_) => assert!(rt; false, "not refused: {want}"),
+        Err(error) => check_text(rt, alloc, &error, want)?,
+    }
+    Ok(())
+}
+
+const OUT_OF_MEMORY: &str = "Out of memory";
+
+const OTHER_SIZE: &str = "Internal error: DedicatedBlockAllocator size must match allocation size.";
+
+const NOT_ONE: &str = "Internal error: Chunk ID must be 1.";
+
+#[test]
+fn a_dedicated_block_holds_one_piece_of_its_size(rt: HostRuntime) -> Result<(), Fail> {
+    let alloc = rt.alloc();
+    let mut block = dedicated(&rt, alloc, 1000);
+    let b = &mut block;
+    assert!(rt; !b.supports_general_allocations());
+    check_refused(&rt, alloc, ask(&rt, b, wanted(999, "a")), OTHER_SIZE)?;
+    assert!(rt; b.is_empty());
+    assert_eq!(rt; ask(&rt, b, wanted(1000, "a"))?, (0, 1));
+    check_refused(&rt, alloc, ask(&rt, b, wanted(999, "b")), OUT_OF_MEMORY)?;
+    check_refused(&rt, alloc, ask(&rt, b, wanted(1000, "b")), OUT_OF_MEMORY)?;
+    assert_eq!(rt; b.allocated(), 1000);
+    assert!(rt; !b.is_empty());
+    check_refused(&rt, alloc, give_back(b, 2), NOT_ONE)?;
+    check_refused(&rt, alloc, give_back(b, 0), NOT_ONE)?;
+    give_back(b, 1)?;
+    let freed = "Internal error: Attempting to free a freed allocation.";
+    check_refused(&rt, alloc, give_back(b, 1), freed)?;
+    check_refused(&rt, alloc, give_back(b, 2), NOT_ONE)?;
+    assert_eq!(rt; b.allocated(), 0);
+    Ok(())
+}
+
+#[test]
+fn a_free_list_in_a_block_gives_and_takes(rt: HostRuntime) -> Result<(), Fail> {
+    let alloc = rt.alloc();
+    let mut block = general(&rt, alloc, 1)?;
+    let b = &mut block;
+    assert!(rt; b.supports_general_allocations());
+    assert!(rt; b.is_empty());
+    assert_eq!(rt; ask(&rt, b, wanted(10, "a"))?, (0, 2));
+    check_refused(&rt, alloc, ask(&rt, b, wanted(4 * MB, "b")), OUT_OF_MEMORY)?;
+    let missing = "Internal error: Chunk ID must be a valid value.";
+    let unknown = "Internal error: Attempting to free chunk that is not in chunk list.";
+    check_refused(&rt, alloc, give_back(b, 0), missing)?;
+    check_refused(&rt, alloc, give_back(b, 1), unknown)?;
+    check_refused(&rt, alloc, give_back(b, 7), unknown)?;
+    give_back(b, 2)?;
+    assert!(rt; b.is_empty());
+    assert_eq!(rt; ask(&rt, b, wanted(4 * MB, "b"))?, (0, 2));
+    Ok(())
+}
+
+#[test]
+fn the_last_number_in_a_block(rt: HostRuntime) -> Result<(), Fail> {
+    let alloc = rt.alloc();
+    let last = 18_446_744_073_709_551_614;
+    let granularity = granularity_one(&rt);
+    let list = FreeListAllocator::with_counter(alloc, 4_194_304, granularity, last)?;
+    let mut block = SubAllocator::FreeList(list);
+    let b = &mut block;
+    assert_eq!(rt; ask(&rt, b, wanted(10, "a"))?, (0, last));
+    check_refused(&rt, alloc, ask(&rt, b, wanted(10, "b")), OUT_OF_MEMORY)?;
+    assert_eq!(rt; ask(&rt, b, wanted(4_194_294, "c"))?, (10, 1));
+    give_back(b, last)?;
+    assert_eq!(rt; ask(&rt, b, wanted(10, "d"))?, (0, last));
+    Ok(())
+}
+
+#[test]
+fn a_gap_is_refused_for_its_last_page(rt: HostRuntime) -> Result<(), Fail> {
+    let mut block = general(&rt, rt.alloc(), 1024)?;
+    let b = &mut block;
+    let one = Asked {
+        size: 2000,
+        alignment: 1,
+        kind: AllocationType::Linear,
+        granularity: 1024,
+        name: "a",
+    };
+    assert_eq!(rt; ask(&rt, b, one)?, (0, 2));
+    let other = Asked {
+        size: 100,
+        kind: AllocationType::NonLinear,
+        ..one
+    };
+    assert_eq!(rt; ask(&rt, b, other)?, (2048, 3));
+    give_back(b, 2)?;
+    let half = Asked { size: 1000, ..one };
+    assert_eq!(rt; ask(&rt, b, half)?, (0, 4));
+    assert_eq!(rt; ask(&rt, b, half)?, (3072, 5));
+    assert_eq!(rt;
+        ask(
+            &rt,
+            b,
+            Asked {
+                kind: AllocationType::NonLinear,
+                ..half
+            }
+        )?,
+        (4096, 6)
+    );
+    Ok(())
+}
+
+fn report_text(block: &SubAllocator, alloc: Global) -> Result<String> {
+    let mut text = String::new(alloc);
+    for row in &block.report_allocations()? {
+        let name = row.name.as_str();
+        let offset = row.offset;
+        let size = row.size;
+        let line = format!(in alloc; "{name} {offset} {size};")?;
+        text.push_str(line.as_str())?;
+    }
+    Ok(text)
+}
+
+fn check_report(rt: &impl Abort, alloc: Global, block: &SubAllocator, want: &str) -> Result<()> {
+    let text = report_text(block, alloc)?;
+    assert_eq!(rt; text.as_str(), want);
+    Ok(())
+}
+
+#[test]
+fn a_piece_in_a_free_list_gets_another_name(rt: HostRuntime) -> Result<(), Fail> {
+    let alloc = rt.alloc();
+    let mut block = general(&rt, alloc, 1)?;
+    let b = &mut block;
+    assert_eq!(rt; ask(&rt, b, wanted(10, "a"))?, (0, 2));
+    assert_eq!(rt; ask(&rt, b, wanted(20, "b"))?, (10, 3));
+    assert_eq!(rt; ask(&rt, b, wanted(30, "c"))?, (30, 4));
+    give_back(b, 2)?;
+    rename(b, 3, "new")?;
+    check_report(&rt, alloc, b, "new 10 20;c 30 30;")?;
+    let missing = "Internal error: Chunk ID must be a valid value.";
+    let freed = "Internal error: Attempting to rename a freed allocation.";
+    let unknown = "Internal error: Attempting to rename chunk that is not in chunk list.";
+    check_refused(&rt, alloc, rename(b, 0, "x"), missing)?;
+    check_refused(&rt, alloc, rename(b, 1, "x"), freed)?;
+    check_refused(&rt, alloc, rename(b, 2, "x"), freed)?;
+    check_refused(&rt, alloc, rename(b, 5, "x"), unknown)?;
+    check_report(&rt, alloc, b, "new 10 20;c 30 30;")?;
+    Ok(())
+}
+
+#[test]
+fn a_dedicated_piece_gets_another_name(rt: HostRuntime) -> Result<(), Fail> {
+    let alloc = rt.alloc();
+    let mut block = dedicated(&rt, alloc, 1000);
+    let b = &mut block;
+    let freed = "Internal error: Attempting to rename a freed allocation.";
+    check_refused(&rt, alloc, rename(b, 1, "x"), freed)?;
+    check_refused(&rt, alloc, rename(b, 2, "x"), NOT_ONE)?;
+    check_refused(&rt, alloc, rename(b, 0, "x"), NOT_ONE)?;
+    check_report(&rt, alloc, b, "")?;
+    assert_eq!(rt; ask(&rt, b, wanted(1000, "a"))?, (0, 1));
+    check_refused(&rt, alloc, rename(b, 2, "x"), NOT_ONE)?;
+    check_report(&rt, alloc, b, "a 0 1000;")?;
+    rename(b, 1, "new")?;
+    check_report(&rt, alloc, b, "new 0 1000;")?;
+    Ok(())
+}
+
+// ---- reports and leaks
+
+/// Pieces of 100 bytes, and of 64 at alignment 256.
+fn two_pieces(rt: &impl Abort, alloc: Global) -> Result<SubAllocator> {
+    let mut block = general(rt, alloc, 1)?;
+    let b = &mut block;
+    assert_eq!(rt; ask(rt, b, wanted(100, "a"))?, (0, 2));
+    let aligned = Asked {
+        alignment: 256,
+        ..wanted(64, "b")
+    };
+    assert_eq!(rt; ask(rt, b, aligned)?, (256, 3));
+    Ok(block)
+}
+
+#[test]
+fn pieces_are_reported_without_padding_and_counted_with_it(rt: HostRuntime) -> Result<(), Fail> {
+    let block = two_pieces(&rt, rt.alloc())?;
+    check_report(&rt, rt.alloc(), &block, "a 0 100;b 256 64;")?;
+    assert_eq!(rt; block.allocated(), 320);
+    Ok(())
+}
+
+fn check_texts(rt: &impl Abort, texts: &Vec<String>, want: &[&str]) {
+    assert_eq!(rt; texts.len(), want.len());
+    for (text, want) in texts.iter().zip(want) {
+        let want: &str = *want;
+        assert_eq!(rt; text.as_str(), want);
+    }
+}
+
+const LEAK_A: &str =
+    "leak detected: {\n    memory type: 0\n    memory block: 0\n    chunk: {\n        chunk_id: 2,\n        size: 0x64,\n        offset: 0x0,\n        allocation_type: Linear,\n        name: a\n    }\n}";
+
+const LEAK_B: &str =
+    "leak detected: {\n    memory type: 0\n    memory block: 0\n    chunk: {\n        chunk_id: 3,\n        size: 0xdc,\n        offset: 0x64,\n        allocation_type: Linear,\n        name: b\n    }\n}";
+
+const LEAK_IMAGE: &str =
+    "leak detected: {\n    memory type: 7\n    memory block: 2\n    chunk: {\n        chunk_id: 2,\n        size: 0x10,\n        offset: 0x0,\n        allocation_type: NonLinear,\n        name: i\n    }\n}";
+
+const LEAK_DEDICATED: &str =
+    "leak detected: {\n    memory type: 0\n    memory block: 1\n    dedicated allocation: {\n        size: 0x3e8,\n        name: b\n    }\n}";
+
+#[test]
+fn leaks_print_start_and_padded_size(rt: HostRuntime) -> Result<(), Fail> {
+    let alloc = rt.alloc();
+    let mut block = two_pieces(&rt, alloc)?;
+    check_texts(&rt, &block.leak_texts(0, 0)?, &[LEAK_A, LEAK_B]);
+    assert_eq!(rt; block.leaks(0, 0).count(), 2);
+    for (leak, want) in block.leaks(0, 0).zip([LEAK_A, LEAK_B]) {
+        check_text(&rt, alloc, &leak, want)?;
+    }
+    give_back(&mut block, 2)?;
+    check_texts(&rt, &block.leak_texts(0, 0)?, &[LEAK_B]);
+    give_back(&mut block, 3)?;
+    check_texts(&rt, &block.leak_texts(0, 0)?, &[]);
+    Ok(())
+}
+
+#[test]
+fn leaks_name_their_block(rt: HostRuntime) -> Result<(), Fail> {
+    let alloc = rt.alloc();
+    let mut image = general(&rt, alloc, 1)?;
+    let asked = Asked {
+        kind: AllocationType::NonLinear,
+        ..wanted(16, "i")
+    };
+    assert_eq!(rt; ask(&rt, &mut image, asked)?, (0, 2));
+    check_texts(&rt, &image.leak_texts(7, 2)?, &[LEAK_IMAGE]);
+    let mut block = dedicated(&rt, alloc, 1000);
+    check_texts(&rt, &block.leak_texts(0, 1)?, &[]);
+    assert_eq!(rt; ask(&rt, &mut block, wanted(1000, "b"))?, (0, 1));
+    check_texts(&rt, &block.leak_texts(0, 1)?, &[LEAK_DEDICATED]);
+    Ok(())
+}
+
+#[test]
+fn amounts_have_two_decimals(rt: HostRuntime) -> Result<(), Fail> {
+    for (amount, want) in [
+        (0, "0.00 B"),
+        (512, "512.00 B"),
+        (1023, "1023.00 B"),
+        (1024, "1.00 KB"),
+        (1152, "1.12 KB"),
+        (1408, "1.38 KB"),
+        (1536, "1.50 KB"),
+        (1048575, "1024.00 KB"),
+        (1048576, "1.00 MB"),
+        (1_073_741_824, "1.00 GB"),
+        (1_099_511_627_776, "1.00 TB"),
+        (1_125_899_906_842_624, "1.00 PB"),
+        (1_152_921_504_606_846_976, "1.00 EB"),
+        (u64::MAX, "16.00 EB"),
+    ] {
+        let text = fmt_bytes(rt.alloc(), amount)?;
+        assert_eq!(rt; text.as_str(), want);
+    }
+    Ok(())
+}
+
+fn row(alloc: Global, name: &str, offset: u64, size: u64) -> Result<AllocationReport> {
+    Ok(AllocationReport {
+        name: String::from_str(alloc, name)?,
+        offset,
+        size,
+    })
+}
+
+fn sample_report(rt: &impl Abort, alloc: Global) -> Result<AllocatorReport> {
+    let block = two_pieces(rt, alloc)?;
+    let allocations = block.report_allocations()?;
+    let mut blocks = Vec::new(alloc);
+    blocks.push(MemoryBlockReport {
+        size: 4 * MB,
+        allocations: 0..2,
+    })?;
+    Ok(AllocatorReport {
+        allocations,
+        blocks,
+        total_allocated_bytes: block.allocated(),
+        total_capacity_bytes: 4 * MB,
+    })
+}
+
+fn check_report_text(
+    rt: &impl Abort,
+    report: &AllocatorReport,
+    limit: Option<usize>,
+    want: &str,
+) -> Result<()> {
+    let text = report.text(limit)?;
+    assert_eq!(rt; text.as_str(), want);
+    Ok(())
+}
+
+#[test]
+fn a_report_prints_its_sums_and_largest_pieces(rt: HostRuntime) -> Result<(), Fail> {
+    let report = sample_report(&rt, rt.alloc())?;
+    let whole =
+        "AllocatorReport { summary: 320.00 B / 4.00 MB, blocks: 1, allocations: 2, largest: [\"a\": 100.00 B, \"b\": 64.00 B] }";
+    check_report_text(&rt, &report, None, whole)?;
+    check_report_text(&rt, &report, Some(2), whole)?;
+    check_report_text(
+        &rt,
+        &report,
+        Some(1),
+        "AllocatorReport { summary: 320.00 B / 4.00 MB, blocks: 1, allocations: 2, largest: [\"a\": 100.00 B] }",
+    )?;
+    check_report_text(
+        &rt,
+        &report,
+        Some(0),
+        "AllocatorReport { summary: 320.00 B / 4.00 MB, blocks: 1, allocations: 2, largest: [] }",
+    )?;
+    Ok(())
+}
+
+#[test]
+fn largest_pieces_come_first_and_equal_ones_in_order(rt: HostRuntime) -> Result<(), Fail> {
+    let alloc = rt.alloc();
+    let mut allocations = Vec::new(alloc);
+    for (name, offset, size) in [("", 0, 1), ("c", 1, 2), ("b", 3, 2), ("a", 5, 4096)] {
+        allocations.push(row(alloc, name, offset, size)?)?;
+    }
+    let report = AllocatorReport {
+        allocations,
+        blocks: Vec::new(alloc),
+        total_allocated_bytes: 4101,
+        total_capacity_bytes: 8192,
+    };
+    check_report_text(
+        &rt,
+        &report,
+        None,
+        "AllocatorReport { summary: 4.00 KB / 8.00 KB, blocks: 0, allocations: 4, largest: [\"a\": 4.00 KB, \"c\": 2.00 B, \"b\": 2.00 B, \"--\": 1.00 B] }",
+    )?;
+    Ok(())
+}
+
+#[test]
+fn clones_of_reports_print_the_same(rt: HostRuntime) -> Result<(), Fail> {
+    let report = sample_report(&rt, rt.alloc())?;
+    let copy = report.clone()?;
+    let text = report.text(None)?;
+    check_report_text(&rt, &copy, None, text.as_str())?;
+    let block = MemoryBlockReport {
+        size: 9,
+        allocations: 3..5,
+    };
+    let again = block.clone()?;
+    assert_eq!(rt;
+        (again.size, again.allocations.start, again.allocations.end),
+        (9, 3, 5)
+    );
+    let line = row(rt.alloc(), "a \"b\"", 7, 1536)?;
+    let copy = line.clone()?;
+    assert_eq!(rt; (copy.offset, copy.size), (7, 1536));
+    let text = copy.text()?;
+    assert_eq!(rt; text.as_str(), "\"a \\\"b\\\"\": 1.50 KB");
     Ok(())
 }

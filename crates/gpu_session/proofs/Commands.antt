@@ -4,7 +4,7 @@ use Rattle.std.specs.Prelude.{codes}
 use Rattle.std.specs.Borrow.{Bor}
 use Rattle.std.specs.Fmt.{decimal}
 use Rattle.gpu_session.specs.declared.block.command.Command.{Command}
-use Rattle.gpu_session.specs.declared.block.command.Command.TheVariants.{Block, Take, Give}
+use Rattle.gpu_session.specs.declared.block.command.Command.TheVariants.{Block, Take, Give, Report}
 use Rattle.gpu_session.specs.BlockCommand.{IsPowerOfTwo, Spells}
 use Rattle.gpu_session.specs.Words.{texts}
 
@@ -13,3 +13,4 @@ granularity_only (a ∷ b ∷ m ∷ k ∷ e ∷ rest) d h (Block s x y z g) f = 
 granularity_only arguments d h (Block s x y z g) f = let i = f.is in cc
 granularity_only arguments d h (Take k n a y t) f = let i = f.is in cc
 granularity_only arguments d h (Give k) f = let i = f.is in cc
+granularity_only arguments d h Report f = let i = f.is in cc

@@ -5,14 +5,14 @@ use Rattle.gpu_core.specs.Sizes.{Sizes, only_size, with_largest, shared_block_si
 use Rattle.gpu_session.specs.declared.block.command.Side.{Side}
 use Rattle.gpu_session.specs.declared.block.command.Side.TheVariants.{Device, Host}
 use Rattle.gpu_session.specs.declared.block.command.Command.{Command}
-use Rattle.gpu_session.specs.declared.block.command.Command.TheVariants.{Block, Take, Give}
+use Rattle.gpu_session.specs.declared.block.command.Command.TheVariants.{Block, Take, Give, Report}
 use Rattle.gpu_session.specs.declared.error_number.ErrorNumber.TheVariants.{E10}
 use Rattle.gpu_session.specs.declared.block.reply.Reply.{Reply}
 use Rattle.gpu_session.specs.declared.block.reply.Reply.TheVariants as replies
 use Rattle.gpu_session.specs.declared.block.stage.Stage.{Stage}
 use Rattle.gpu_session.specs.declared.block.stage.Stage.TheVariants.{Before, Open, Closed}
 use Rattle.gpu_session.specs.BlockCommand.{is_host, type_of_kind}
-use Rattle.gpu_session.specs.BlockSession.{unused, Taking, Giving}
+use Rattle.gpu_session.specs.BlockSession.{unused, Taking, Giving, Reporting}
 
 -- blocks of `min` bytes that double up to `max` on one side
 abbrev pub sizes_of : Side → ℕ → ℕ → Sizes
@@ -28,9 +28,11 @@ abbrev pub Admits : Stage → Command → Type 0
 Admits Before (Block side min max count granularity) = Unit {0}
 Admits Before (Take key size alignment kind name) = ⊥
 Admits Before (Give key) = ⊥
+Admits Before Report = ⊥
 Admits (Open s) (Block side min max count granularity) = ⊥
 Admits (Open s) (Take key size alignment kind name) = Unit {0}
 Admits (Open s) (Give key) = Unit {0}
+Admits (Open s) Report = Unit {0}
 Admits Closed c = ⊥
 
 -- the block is made, or host memory is refused
@@ -41,9 +43,11 @@ Opening size granularity (replies.Taken offset chunk) new = ⊥
 Opening size granularity replies.Given new = ⊥
 Opening size granularity replies.Busy new = ⊥
 Opening size granularity replies.Unbound new = ⊥
+Opening size granularity (replies.Report report) new = ⊥
 
 abbrev pub Step : Stage → Command → Reply → Stage → Type 0
 Step Before (Block side min max count granularity) r new = Opening (block_size side min max count) granularity r new
 Step (Open s) (Take key size alignment kind name) r (Open t) = Taking s key (request size alignment (type_of_kind kind) (string_bytes name)) r t
 Step (Open s) (Give key) r (Open t) = Giving s key r t
+Step (Open s) Report r (Open t) = Reporting s r × (t ≡ s)
 Step old c r new = ⊥

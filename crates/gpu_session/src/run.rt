@@ -31,7 +31,7 @@ enum TraceError {
 }
 
 /// What a line did.
-#[derive(Debug, Drop)]
+#[derive(Drop)]
 pub enum Outcome {
     Nothing,
     Replied(Reply),

@@ -1,12 +1,14 @@
 //! The changes of a list of chunks.
 
-ghost use Rattle.std.specs.Prelude.{◌≡◌, ◌≢◌, ℕ, ◌+◌, ◌-◌, ◌^◌, ◌<◌, ◌≤◌, [], ◌∷◌, ◌++◌, length, vec_len, insert, IfOk, OnOk, OnErr, MatchOption};
-ghost use Rattle.gpu_core.specs.Chunks.{IsLaidOut, size_at, HoldsNumber, IsCutAt, IsFilledAt, IsJoinedAt, IsJoinedBehind, IsJoinedBefore, IsReleasedAt, FitsAt, LeavesRest, IsTaken};
+ghost use Rattle.std.specs.Prelude.{◌≡◌, ◌≢◌, ℕ, ◌+◌, ◌-◌, ◌^◌, ◌<◌, ◌≤◌, [], ◌∷◌, ◌++◌, length, vec_len, insert, IfOk, OnOk, OnErr, MatchOption, IsTrue, ◌↔◌, All};
+ghost use Rattle.gpu_core.specs.Chunks.{IsLaidOut, size_at, HoldsNumber, IsCutAt, IsFilledAt, IsNamedAt, is_gap_by, IsJoinedAt, IsJoinedBehind, IsJoinedBefore, IsReleasedAt, FitsAt, LeavesRest, IsTaken, IsChunk, extents_of};
+ghost use Rattle.gpu_core.specs.FreeList.{extent_bytes, FindsPlace};
+ghost use Rattle.std.specs.List.{list_any};
 
-use super::chunk::{Chunk, is_free};
 use super::place::Wanted;
 use super::search::Found;
 use crate::AllocationType;
+use crate::chunk::{Chunk, is_free};
 use std::alloc::AllocError;
 
 /// The place of the piece with that number.
@@ -20,6 +22,22 @@ pub fn position_of(chunks: &[Chunk], number: u64) -> Option<usize>
         }
     }
     None
+}
+
+fn is_gap_of(chunk: &Chunk, number: u64) -> bool
+    ensures { result ≡ is_gap_by chunk.now.kind number chunk.now }
+{
+    match chunk.kind {
+        AllocationType::Free => chunk.number == number,
+        AllocationType::Linear | AllocationType::NonLinear => false,
+    }
+}
+
+/// Whether a gap has that number.
+pub fn has_gap_number(chunks: &[Chunk], number: u64) -> bool
+    ensures { result ≡ list_any (λ c. is_gap_by c.kind number c) chunks.now }
+{
+    chunks.iter().any(|chunk| is_gap_of(chunk, number))
 }
 
 fn put(chunks: &mut Vec<Chunk>, i: usize, piece: Chunk) -> Result<(), AllocError>
@@ -63,6 +81,15 @@ pub fn fill(chunks: &mut Vec<Chunk>, i: usize, offset: u64, kind: AllocationType
     chunk.offset = offset;
     chunk.kind = kind;
     chunk.name = name;
+}
+
+/// Gives the i-th chunk another name.
+pub fn name_at(chunks: &mut Vec<Chunk>, i: usize, text: String)
+    requires within { i < vec_len chunks.old }
+    ensures { IsNamedAt chunks.old.items i text chunks.new.items }
+{
+    let chunk = &mut chunks[i];
+    chunk.name = text;
 }
 
 /// Makes one chunk of the i-th and the next.
@@ -156,4 +183,45 @@ pub fn take(
     }
     fill(chunks, found.index, found.offset, wanted.kind, name);
     Ok(number)
+}
+
+/// The bytes of all chunks that aren't free.
+pub fn taken_bytes(chunks: &[Chunk]) -> u64
+    requires { IsLaidOut chunks.now }
+    ensures { result ≡ extent_bytes (extents_of chunks.now) }
+{
+    let mut sum = 0;
+    for chunk in chunks {
+        if !is_free(chunk.kind) {
+            sum += chunk.size;
+        }
+    }
+    sum
+}
+
+/// Whether all chunks are free.
+pub fn none_taken(chunks: &[Chunk]) -> bool
+    ensures { IsTrue result ↔ extents_of chunks.now ≡ [] }
+{
+    for chunk in chunks {
+        if !is_free(chunk.kind) {
+            return false;
+        }
+    }
+    true
+}
+
+/// The offset and the size in bytes of the live piece with that number.
+pub fn place_of(chunks: &[Chunk], number: u64) -> Option<(u64, u64)>
+    requires laid_out { IsLaidOut chunks.now }
+    requires each { (counter : ℕ) × All (IsChunk counter) chunks.now }
+    ensures { FindsPlace (extents_of chunks.now) number result }
+{
+    match position_of(chunks, number) {
+        Some(i) => {
+            let chunk = &chunks[i];
+            Some((chunk.offset, chunk.start + chunk.size - chunk.offset))
+        }
+        None => None,
+    }
 }

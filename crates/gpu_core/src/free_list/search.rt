@@ -3,9 +3,9 @@
 ghost use Rattle.std.specs.Prelude.{◌≡◌, ℕ, ◌+◌, ◌^◌, ◌<◌, ◌≤◌, length, take, drop, MatchOption};
 ghost use Rattle.gpu_core.specs.Chunks.{last_kind, first_kind, FitsAt, IsBestOf, NoneFits, IsLaidOut, shorter_of};
 
-use super::chunk::{Chunk, is_free};
 use super::place::{Wanted, place_between};
 use crate::AllocationType;
+use crate::chunk::{Chunk, is_free};
 
 /// A free chunk that serves, by its place in the list, and the offset in it.
 #[derive(Clone, Copy)]

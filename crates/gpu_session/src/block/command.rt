@@ -45,6 +45,7 @@ pub enum Command {
     Give {
         key: u64,
     },
+    Report,
 }
 
 impl Side {
@@ -167,6 +168,15 @@ fn give(arguments: &[&str]) -> Option<Command>
     Some(Command::Give { key })
 }
 
+fn report(arguments: &[&str]) -> Option<Command>
+    ensures { Says (codes "report" ∷ texts arguments.now) result }
+{
+    let [] = arguments else {
+        return None;
+    };
+    Some(Command::Report)
+}
+
 fn by_verb(alloc: Global, verb: &str, arguments: &[&str]) -> Result<Option<Command>, AllocError>
     ensures { IfOk result (λ found. Says (verb.now ∷ texts arguments.now) found) }
 {
@@ -174,6 +184,7 @@ fn by_verb(alloc: Global, verb: &str, arguments: &[&str]) -> Result<Option<Comma
         "block" => Ok(block(arguments)),
         "take" => take(alloc, arguments),
         "give" => Ok(give(arguments)),
+        "report" => Ok(report(arguments)),
         _ => Ok(None),
     }
 }

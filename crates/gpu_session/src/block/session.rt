@@ -1,17 +1,18 @@
 //! A block whose pieces are bound to numbers of the caller's.
 
-ghost use Rattle.std.specs.Prelude.{◌≡◌, ◌≢◌, ◌<◌, IsTrue, None};
+ghost use Rattle.std.specs.Prelude.{◌≡◌, ◌≢◌, ℕ, ◌<◌, IsTrue, None, true};
 ghost use Rattle.std.specs.Ordering.{nat_cmp};
 ghost use Rattle.std.specs.Int.{is_power_of_two};
 ghost use Rattle.std.specs.BTreeMap.{get};
 ghost use Rattle.gpu_core.specs.Request.{request};
-ghost use Rattle.gpu_core.specs.Laws.{IsSound};
+ghost use Rattle.gpu_core.specs.Block.{is_general, HasPages, IsSoundBlock};
+ghost use Rattle.gpu_core.specs.SubAllocator.{block_of};
 ghost use Rattle.gpu_session.specs.BlockSession.{Taking};
 
 use super::command::Kind;
-use super::reply::Reply;
+use super::reply::{Reply, Report};
 use crate::error_number::{ErrorNumber, number_of};
-use gpu_core::{AllocationType, FreeListAllocator};
+use gpu_core::{AllocationType, FreeListAllocator, SubAllocator};
 use std::alloc::Global;
 use std::collections::BTreeMap;
 use std::collections::btree_map::Entry;
@@ -31,21 +32,24 @@ struct Wanted {
 /// always succeeds.
 #[derive(Drop)]
 pub struct BlockSession {
+    size: u64,
     granularity: u64,
-    block: FreeListAllocator,
+    block: SubAllocator,
     bound: BTreeMap<u64, NonZeroU64>,
 }
 
 impl Model for BlockSession {
     ghost use Rattle.std.specs.Prelude.{◌≡◌};
     ghost use Rattle.gpu_session.specs.BlockSession.{State, OwnsPieces};
+    ghost use Rattle.gpu_core.specs.Block.{size_of, HasPages};
+    ghost use Rattle.gpu_core.specs.SubAllocator.{block_of};
 
     ghost Value = { State };
 
-    ghost view = { λ s. record { block = s.block; bound = s.bound.entries } };
+    ghost view = { λ s. record { block = block_of s.block; bound = s.bound.entries } };
 
-    ghost invariant = { λ s. (s.block.granularity ≡ s.granularity)
-        × OwnsPieces (record { block = s.block; bound = s.bound.entries }) };
+    ghost invariant = { λ s. (size_of (block_of s.block) ≡ s.size) × HasPages (block_of s.block) s.granularity
+        × OwnsPieces (record { block = block_of s.block; bound = s.bound.entries }) };
 }
 
 impl BlockSession {
@@ -54,7 +58,7 @@ impl BlockSession {
     ghost use Rattle.gpu_core.specs.Request.{request};
     ghost use Rattle.gpu_core.specs.declared.error.AllocationError.TheVariants.{HostOutOfMemory};
     ghost use Rattle.gpu_session.specs.BlockCommand.{type_of_kind};
-    ghost use Rattle.gpu_session.specs.BlockSession.{unused, Taking, Giving};
+    ghost use Rattle.gpu_session.specs.BlockSession.{unused, Taking, Giving, Reporting};
 
     /// A block of `size` bytes without pieces. The only refusal is `HostOutOfMemory`.
     pub fn new(alloc: Global, size: u64, granularity: u64) -> gpu_core::Result<BlockSession>
@@ -64,8 +68,9 @@ impl BlockSession {
         ensures cause { IfErr result (λ e. e ≡ HostOutOfMemory) }
     {
         Ok(BlockSession {
+            size,
             granularity,
-            block: FreeListAllocator::new(alloc, size, granularity)?,
+            block: SubAllocator::FreeList(FreeListAllocator::new(alloc, size, granularity)?),
             bound: BTreeMap::new(alloc),
         })
     }
@@ -101,11 +106,25 @@ impl BlockSession {
             None => Reply::Unbound,
         }
     }
+
+    /// The live pieces, and the sums.
+    pub fn report(&self) -> Reply
+        ensures { Reporting self.now result }
+    {
+        let Ok(pieces) = self.block.report_allocations() else {
+            return Reply::Refused(ErrorNumber::E10);
+        };
+        Reply::Report(Report {
+            pieces,
+            total: self.block.allocated(),
+            capacity: self.size,
+        })
+    }
 }
 
 /// Takes a piece, and binds the key, which stands for none, to it. Room for the key is made first.
 fn take_unbound(
-    block: &mut FreeListAllocator,
+    block: &mut SubAllocator,
     bound: &mut BTreeMap<u64, NonZeroU64>,
     key: u64,
     wanted: Wanted,
@@ -114,13 +133,14 @@ fn take_unbound(
     requires sized { 0 < wanted.size }
     requires aligned { IsTrue (is_power_of_two wanted.alignment) }
     requires piece { wanted.kind ≢ AllocationType.Free }
-    requires paged { wanted.granularity ≡ block.old.granularity }
+    requires paged { HasPages (block_of block.old) wanted.granularity }
+    requires general { is_general (block_of block.old) ≡ true }
     requires unbound { get nat_cmp bound.old key ≡ None }
-    ensures taking { Taking (record { block = block.old; bound = bound.old.entries }) key
+    ensures taking { Taking (record { block = block_of block.old; bound = bound.old.entries }) key
         (request wanted.size wanted.alignment wanted.kind name.now) result
-        (record { block = block.new; bound = bound.new.entries }) }
-    ensures sound { IsSound block.old → IsSound block.new }
-    ensures pages { block.new.granularity ≡ block.old.granularity }
+        (record { block = block_of block.new; bound = bound.new.entries }) }
+    ensures sound { IsSoundBlock (block_of block.old) → IsSoundBlock (block_of block.new) }
+    ensures pages { (g : ℕ) → HasPages (block_of block.old) g → HasPages (block_of block.new) g }
 {
     match bound.entry(key) {
         Err(_) => Reply::Refused(ErrorNumber::E10),

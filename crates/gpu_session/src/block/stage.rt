@@ -43,7 +43,7 @@ impl Stage {
                     let size = block_size(*side, *min, *max, *count);
                     Some(self.open(alloc, size, *granularity))
                 }
-                Command::Take { .. } | Command::Give { .. } => None,
+                Command::Take { .. } | Command::Give { .. } | Command::Report => None,
             },
             Stage::Open(session) => match command {
                 Command::Block { .. } => None,
@@ -55,6 +55,7 @@ impl Stage {
                     name,
                 } => Some(session.take(*key, *size, *alignment, *kind, name.as_str())),
                 Command::Give { key } => Some(session.give(*key)),
+                Command::Report => Some(session.report()),
             },
             Stage::Closed => None,
         }

@@ -1,6 +1,6 @@
 use Rattle.std.proofs.Common.{◌≡◌, ℕ, ◌+◌, ◌-◌, ◌^◌, ◌<◌, List, length, refl, sym, ◌∙◌, subst, arith, true, false}
 use Rattle.std.proofs.lemmas.Bool.{false≢true}
-use Rattle.gpu_core.specs.declared.free_list.chunk.Chunk.{Chunk}
+use Rattle.gpu_core.specs.declared.chunk.Chunk.{Chunk}
 use Rattle.gpu_core.specs.declared.free_list.place.Wanted.{Wanted}
 use Rattle.gpu_core.specs.Request.{Request}
 use Rattle.gpu_core.specs.Place.{HasNoPlace}
@@ -12,6 +12,7 @@ use Rattle.gpu_core.proofs.Keeping.{law_at, Stepped, stepped, granularity_of}
 use Rattle.std.specs.Prelude.{IsTrue}
 use Rattle.std.specs.Int.{is_power_of_two}
 use Rattle.gpu_core.proofs.Sound.{sound_block}
+use Rattle.gpu_core.proofs.Covering.{sound_covered}
 use Rattle.gpu_core.proofs.Powers.{positive_from_test}
 use Rattle.gpu_core.proofs.free_list.FreeListAllocator.allocate.Goals as goal
 use Rattle.gpu_core.proofs.free_list.FreeListAllocator.allocate.Goals.{In-Some, In_ok-number, After-find_place, After-leaves_rest-rest, In_default, then-rest-2, else-rest-2, else-rest-via-then-rest+else-self, else-rest-via-else-rest}
@@ -115,6 +116,16 @@ returns-clause-sound c =
     elim c.if-rest-2.branch [
       | then-rest-2 w ↦ rw w.self-is (sound_block c.take.new.chunks.items i.size i.granularity (i.counter + 1) (the_rest at c.in_ok-number.number refl w.if-rest-2.true).are)
       | else-rest-2 w ↦ rw w.self-is (sound_block c.take.new.chunks.items i.size i.granularity i.counter (the_whole at c.in_ok-number.number refl w.if-rest-2.false).are)
+    ]
+
+pub returns-clause-covered : goal.returns-clause-covered
+returns-clause-covered c =
+    let at = (goal.at.returns-clause-covered c).In_ok-number in
+    let i = c.self.inside in
+    let ds = c.take.new.chunks.items in
+    elim c.if-rest-2.branch [
+      | then-rest-2 w ↦ rw w.self-is (sound_covered (free_list_of i.size i.granularity (i.counter + 1) ds) (sound_block ds i.size i.granularity (i.counter + 1) (the_rest at c.in_ok-number.number refl w.if-rest-2.true).are))
+      | else-rest-2 w ↦ rw w.self-is (sound_covered (free_list_of i.size i.granularity i.counter ds) (sound_block ds i.size i.granularity i.counter (the_whole at c.in_ok-number.number refl w.if-rest-2.false).are))
     ]
 
 pub returns-clause-separated : goal.returns-clause-separated

@@ -1,12 +1,13 @@
 use Rattle.std.proofs.Common.{◌≡◌, ℕ, List, sym, subst}
 use Rattle.std.specs.Int.NonZero.{non_zero_u64_get}
-use Rattle.gpu_core.specs.declared.free_list.chunk.Chunk.{Chunk}
+use Rattle.gpu_core.specs.declared.chunk.Chunk.{Chunk}
 use Rattle.gpu_core.specs.FreeList.{FreeList, SomeExtent}
 use Rattle.gpu_core.specs.Changes.{Releases}
 use Rattle.gpu_core.specs.Chunks.{HoldsNumber, free_list_of}
 use Rattle.gpu_core.proofs.Releasing.{Released, released_at, none_live}
 use Rattle.gpu_core.proofs.Separation.{releases_separated}
 use Rattle.gpu_core.proofs.Sound.{sound_block}
+use Rattle.gpu_core.proofs.Covering.{sound_covered}
 use Rattle.gpu_core.proofs.free_list.FreeListAllocator.free.Goals as goal
 use Rattle.gpu_core.proofs.free_list.FreeListAllocator.free.Goals.{After-release}
 use Rattle.std.specs.Prelude.{IfSome, IsSomeAnd}
@@ -40,3 +41,9 @@ returns-clause-sound c = sound_block c.release.new.chunks.items c.self.inside.si
 
 pub returns-clause-separated : goal.returns-clause-separated
 returns-clause-separated c = releases_separated (free_list_of c.self.inside.size c.self.inside.granularity c.self.inside.counter c.self.inside.chunks.items) (non_zero_u64_get c.in-Some.number) (free_list_of c.self.inside.size c.self.inside.granularity c.self.inside.counter c.release.new.chunks.items) c.self.invariant.2 (the_release c).releases
+
+pub returns-clause-covered : goal.returns-clause-covered
+returns-clause-covered c =
+    let at = (goal.at.returns-clause-covered c).After-release in
+    let i = c.self.inside in
+    sound_covered (free_list_of i.size i.granularity i.counter c.release.new.chunks.items) (sound_block c.release.new.chunks.items i.size i.granularity i.counter (the_release at).are)

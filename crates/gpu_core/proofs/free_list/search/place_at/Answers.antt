@@ -1,6 +1,6 @@
 use Rattle.std.proofs.Common.{◌≡◌, ◌+◌, take, drop, subst, List, ◌∷◌, ◌++◌, arith}
 use Rattle.std.proofs.lemmas.List.{length-take-le}
-use Rattle.gpu_core.specs.declared.free_list.chunk.Chunk.{Chunk}
+use Rattle.gpu_core.specs.declared.chunk.Chunk.{Chunk}
 use Rattle.gpu_core.specs.Chunks.{Covers, Differ}
 use Rattle.gpu_core.proofs.Lists.{parted}
 use Rattle.gpu_core.proofs.Tiling.{Around, around, Covers-le, last_kind-first, FitsAt-is}

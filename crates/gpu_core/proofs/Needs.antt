@@ -1,0 +1,69 @@
+-- A fresh block serves the request that it was made for.
+use Rattle.std.proofs.Common.{◌≡◌, ℕ, ◌<◌, ◌≤◌, Bool, true, false, not, Option, Some, None, refl, inl, inr, arith, sym, ◌∙◌}
+use Rattle.gpu_core.specs.declared.error.AllocationError.{AllocationError}
+use Rattle.gpu_core.specs.declared.error.AllocationError.TheVariants as errors
+use Rattle.gpu_core.specs.Refusal.{refusal_of, host_out_of_memory, IsTakeRefusal}
+use Rattle.gpu_core.specs.Request.{Request}
+use Rattle.gpu_core.specs.FreeList.{fresh_free_list}
+use Rattle.std.specs.Prelude.{IsNone}
+use Rattle.gpu_core.specs.Block.{Block, size_of, is_general, TakesIn, IsTakeRefusalIn}
+use Rattle.gpu_core.specs.TypeTake.{fresh_block}
+use Rattle.gpu_core.proofs.Empty.{empty_has_place}
+use Rattle.gpu_core.proofs.Kept.{takes_same}
+use Rattle.std.proofs.lemmas.Bool.{false≢true}
+
+pub host_error : (e : AllocationError) → refusal_of e ≡ host_out_of_memory → e ≡ errors.HostOutOfMemory
+host_error errors.HostOutOfMemory h = refl
+host_error errors.OutOfMemory h = absurd (cc)
+host_error (errors.FailedToMap _) h = absurd (cc)
+host_error errors.NoCompatibleMemoryTypeFound h = absurd (cc)
+host_error errors.InvalidAllocationCreateDesc h = absurd (cc)
+host_error (errors.InvalidAllocatorCreateDesc _) h = absurd (cc)
+host_error (errors.Internal _) h = absurd (cc)
+host_error errors.BarrierLayoutNeedsDevice10 h = absurd (cc)
+host_error errors.CastableFormatsRequiresEnhancedBarriers h = absurd (cc)
+host_error errors.CastableFormatsRequiresAtLeastDevice12 h = absurd (cc)
+
+fresh_list_error : (size granularity : ℕ) (r : Request) (e : AllocationError) → 0 < size → r.size ≤ size → IsTakeRefusal (fresh_free_list size granularity 2) r e → e ≡ errors.HostOutOfMemory
+fresh_list_error size granularity r errors.OutOfMemory some le h =
+    let n = empty_has_place (fresh_free_list size granularity 2) r refl some le h in
+    let last = n.1 in
+    absurd (omega arith)
+fresh_list_error size granularity r errors.HostOutOfMemory some le h = refl
+fresh_list_error size granularity r (errors.FailedToMap _) some le h = absurd h
+fresh_list_error size granularity r errors.NoCompatibleMemoryTypeFound some le h = absurd h
+fresh_list_error size granularity r errors.InvalidAllocationCreateDesc some le h = absurd h
+fresh_list_error size granularity r (errors.InvalidAllocatorCreateDesc _) some le h = absurd h
+fresh_list_error size granularity r (errors.Internal _) some le h = absurd h
+fresh_list_error size granularity r errors.BarrierLayoutNeedsDevice10 some le h = absurd h
+fresh_list_error size granularity r errors.CastableFormatsRequiresEnhancedBarriers some le h = absurd h
+fresh_list_error size granularity r errors.CastableFormatsRequiresAtLeastDevice12 some le h = absurd h
+
+pub fresh_error : (is_dedicated : Bool) (size granularity : ℕ) (r : Request) (e : AllocationError) → (is_dedicated ≡ true → size ≡ r.size) → r.size ≤ size → 0 < r.size → IsTakeRefusalIn (fresh_block is_dedicated size granularity) r e → e ≡ errors.HostOutOfMemory
+fresh_error true size granularity r e exact le some h =
+    elim h [
+      | inl taken ↦ absurd (false≢true taken.0)
+      | inr free ↦ elim free [
+        | inl other ↦ absurd (other.1 (sym (exact refl)))
+        | inr host ↦ host_error e host.2
+      ]
+    ]
+fresh_error false size granularity r e exact le some h = fresh_list_error size granularity r e (omega arith) le h
+
+pub none_of : {A : Type 0} (o : Option A) → ((x : A) → o ≡ Some x → ⊥) → IsNone o
+none_of None h = refl
+none_of (Some x) h = absurd (h x refl)
+
+fresh_size : (is_dedicated : Bool) (size granularity : ℕ) → size_of (fresh_block is_dedicated size granularity) ≡ size
+fresh_size true size granularity = refl
+fresh_size false size granularity = refl
+
+fresh_kind : (is_dedicated : Bool) (size granularity : ℕ) → is_general (fresh_block is_dedicated size granularity) ≡ not is_dedicated
+fresh_kind true size granularity = refl
+fresh_kind false size granularity = refl
+
+-- what is taken of a fresh block has its size and form
+pub fresh_taken : (is_dedicated : Bool) (size granularity : ℕ) (r : Request) (o n : ℕ) (new : Block) → TakesIn (fresh_block is_dedicated size granularity) r o n new → (size_of new ≡ size) × (is_general new ≡ not is_dedicated)
+fresh_taken is_dedicated size granularity r o n new t =
+    let same = takes_same (fresh_block is_dedicated size granularity) r o n new t in
+    (same.0 ∙ fresh_size is_dedicated size granularity, same.1 ∙ fresh_kind is_dedicated size granularity)

@@ -1,0 +1,61 @@
+-- The slots of a memory type as its code keeps them, and the changes of one slot.
+use Rattle.std.specs.Prelude.{◌≡◌, ℕ, ◌<◌, Bool, true, List, length, Option, Some, None, map, Contains, IsTrue}
+use Rattle.std.specs.Option.{option_map}
+use Rattle.std.specs.Int.{is_power_of_two}
+use Rattle.gpu_core.specs.declared.memory_type.slot.LiveBlock.{LiveBlock}
+use Rattle.gpu_core.specs.declared.memory_type.slot.Finding.{Finding}
+use Rattle.gpu_core.specs.declared.memory_type.slot.Finding.TheVariants as findings
+use Rattle.gpu_core.specs.Request.{Request}
+use Rattle.gpu_core.specs.SubAllocator.{block_of}
+use Rattle.gpu_core.specs.Block.{extents_of, is_general, TakesIn, HasPages, IsSoundBlock}
+use Rattle.gpu_core.specs.FreeList.{Extent}
+use Rattle.gpu_core.specs.TypeState.{Slot, slot_at, capacity_of, shared_count}
+use Rattle.gpu_core.specs.TypeRelease.{SlotHolds, Goes}
+use Rattle.gpu_core.specs.declared.memory_type.Piece.{Piece}
+use Rattle.std.specs.Int.NonZero.{non_zero_u64_get}
+
+abbrev pub slot_of : {H : Type 0} → LiveBlock H → Slot H
+slot_of b = record { number = b.number; block = block_of b.sub }
+
+abbrev pub slots_of : {H : Type 0} → List (Option (LiveBlock H)) → List (Option (Slot H))
+slots_of slots = map (option_map slot_of) slots
+
+-- a slot's block is sound and has the type's pages
+abbrev pub SlotIsSound : {H : Type 0} → ℕ → Option (Slot H) → Type 0
+SlotIsSound granularity None = Unit {0}
+SlotIsSound granularity (Some s) = HasPages s.block granularity × IsSoundBlock s.block
+
+abbrev pub AreSound : {H : Type 0} → ℕ → List (Option (Slot H)) → Type 0
+AreSound granularity slots = (i : ℕ) → SlotIsSound granularity (slot_at slots i)
+
+-- the code's sums are those of the slots, the pages are a power of two, and the blocks are sound
+pub record AreKept {H : Type 0} (granularity : ℕ) (slots : List (Option (Slot H))) (capacity general : ℕ) : Type 0 where
+  pub pages : IsTrue (is_power_of_two granularity)
+  pub sound : AreSound granularity slots
+  pub capacity_is : capacity ≡ capacity_of slots
+  pub general_is : general ≡ shared_count slots
+
+-- a piece was taken of a shared block
+abbrev pub SlotTakes : {H : Type 0} → Option (Slot H) → Request → (offset number : ℕ) → H → Option (Slot H) → Type 0
+SlotTakes (Some old) r offset number device (Some new) =
+    (is_general old.block ≡ true) × (device ≡ old.number) × (new.number ≡ old.number) × TakesIn old.block r offset number new.block
+SlotTakes None r offset number device new = ⊥
+SlotTakes (Some old) r offset number device None = ⊥
+
+-- the i-th slot is empty
+pub record IsEmptyAt {H : Type 0} (slots : List (Option (Slot H))) (i : ℕ) : Type 0 where
+  pub below : i < length slots
+  pub empty : slot_at slots i ≡ None
+
+-- what a look for a piece finds: its record, another one under its number, or nothing under that
+abbrev pub Finds : {H : Type 0} → (H → H → Bool) → Piece H → Slot H → Finding → Type 0
+Finds eq p s findings.Piece = SlotHolds eq p (Some s)
+Finds eq p s findings.Other = (SlotHolds eq p (Some s) → ⊥) × ((x : Extent) × Contains (extents_of s.block) x × (x.number ≡ non_zero_u64_get p.number))
+Finds eq p s findings.Nothing = (x : Extent) → Contains (extents_of s.block) x → x.number ≡ non_zero_u64_get p.number → ⊥
+
+-- a slot's block stays, or goes where it is empty and dedicated or one of several shared ones
+abbrev pub Settles : {H : Type 0} → (several : Type 0) → Option (Slot H) → Option H → Option (Slot H) → Type 0
+Settles several (Some old) gone (Some new) = (gone ≡ None) × (new ≡ old) × (Goes several old.block → ⊥)
+Settles several (Some old) gone None = (gone ≡ Some old.number) × Goes several old.block
+Settles several None gone None = gone ≡ None
+Settles several None gone (Some new) = ⊥

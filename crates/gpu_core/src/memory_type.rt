@@ -1,0 +1,239 @@
+//! The blocks of one memory type, with no device at hand.
+
+ghost use Rattle.std.specs.Prelude.{◌≡◌, ◌≢◌, ◌+◌, ◌^◌, ◌<◌, ◌≤◌, ◌↔◌, [], length, Some, None, IfOk, IfErr, OnOk, OnErr, IsOk, IsTrue};
+ghost use Rattle.std.specs.Option.{option_map};
+ghost use Rattle.std.specs.Int.{is_power_of_two};
+ghost use Rattle.std.specs.Int.NonZero.{non_zero_u64_get};
+ghost use Rattle.gpu_core.specs.declared.error.AllocationError.TheVariants.{HostOutOfMemory};
+ghost use Rattle.gpu_core.specs.Refusal.{refusal_of};
+
+mod need;
+mod slot;
+mod slots;
+
+use crate::{AllocationSizes, AllocationType, Leaks, Result};
+use need::make_room;
+pub use need::{NeedBlock, Room};
+use slot::{Finding, LiveBlock, Released, find};
+use slots::{free_in, put_block, rename_in, reserve_slot, take_shared};
+use std::alloc::Global;
+use std::marker::Model;
+use std::num::NonZeroU64;
+
+/// What is asked of a memory type. Size and alignment are bytes.
+#[derive(Clone, Copy, Debug)]
+pub struct Request<'a> {
+    pub size: u64,
+    pub alignment: u64,
+    pub kind: AllocationType,
+    /// Whether the piece shall have a block of its own.
+    pub dedicated: bool,
+    pub name: &'a str,
+}
+
+/// A live piece: the slot of its block, its number in the block, its place in bytes, and the device's number of the
+/// block.
+#[derive(Clone, Copy, Debug, PartialEq, Eq)]
+pub struct Piece<H> {
+    pub slot: usize,
+    pub number: NonZeroU64,
+    pub offset: u64,
+    pub size: u64,
+    pub block: H,
+}
+
+/// What a request comes to.
+#[derive(Drop)]
+pub enum Prepared<H> {
+    /// A shared block has served it.
+    Taken(Piece<H>),
+    /// A new block is needed: ask the device for it, and then call `install`.
+    NeedBlock(NeedBlock),
+}
+
+/// The blocks of one memory type, each in a slot, and the pieces in them. It holds no memory of a device: `H` is the
+/// device's number of a block. Sizes are bytes.
+#[derive(Drop)]
+pub struct MemoryType<H: Copy + Eq> {
+    is_host: bool,
+    granularity: u64,
+    slots: Vec<Option<LiveBlock<H>>>,
+    capacity: u64,
+    general: usize,
+    alloc: Global,
+}
+
+impl<H: Copy + Eq> Model for MemoryType<H> {
+    ghost use Rattle.std.specs.Prelude.{vec_capacity};
+    ghost use Rattle.gpu_core.specs.TypeState.{TypeState};
+    ghost use Rattle.gpu_core.specs.Slots.{slots_of, AreKept};
+
+    ghost Value = { TypeState H };
+
+    ghost view = { λ t. record {
+      is_host = t.is_host;
+      granularity = t.granularity;
+      slots = slots_of t.slots.items;
+      room = vec_capacity t.slots;
+    } };
+
+    ghost invariant = { λ t. AreKept t.granularity (slots_of t.slots.items) t.capacity t.general };
+}
+
+impl<H: Copy + Eq> MemoryType<H> {
+    ghost use Rattle.gpu_core.specs.TypeState.{slot_at, capacity_of, shared_count, block_number};
+    ghost use Rattle.gpu_core.specs.TypeTake.{Installs};
+    ghost use Rattle.gpu_core.specs.TypePrepare.{IsPrepared, CanInstall};
+    ghost use Rattle.gpu_core.specs.TypeRelease.{has_several, IsLive, IsFreeRefusal, IsNameRefusal, ReleasesPiece, RenamesPiece};
+
+    /// A memory type without blocks. `is_host` says which of the block sizes are its own; `granularity` is the page size
+    /// of its blocks in bytes: Vulkan's bufferImageGranularity, elsewhere 1.
+    pub fn new(alloc: Global, is_host: bool, granularity: u64) -> Self
+        requires { IsTrue (is_power_of_two granularity) }
+        ensures slots { result.slots ≡ [] }
+        ensures kind { (result.is_host ≡ is_host) × (result.granularity ≡ granularity) }
+    {
+        MemoryType {
+            is_host,
+            granularity,
+            slots: Vec::new(alloc),
+            capacity: 0,
+            general: 0,
+            alloc,
+        }
+    }
+
+    /// Takes a piece of the highest shared block that has a place; else says which new block is needed, with all host
+    /// memory for it at hand. The only refusal is `HostOutOfMemory`, and leaves the slots as they were.
+    pub fn prepare(&mut self, sizes: &AllocationSizes, request: &Request) -> Result<Prepared<H>>
+        requires sized { 0 < request.now.size }
+        requires aligned { IsTrue (is_power_of_two request.now.alignment) }
+        requires piece { request.now.kind ≢ AllocationType.Free }
+        ensures prepared { IfOk result (λ p. IsPrepared self.old sizes.now request.now p self.new) }
+        ensures cause { IfErr result (λ e. e ≡ HostOutOfMemory) }
+        ensures refused { OnErr result (self.new.slots ≡ self.old.slots) }
+        ensures kind { (self.new.is_host ≡ self.old.is_host) × (self.new.granularity ≡ self.old.granularity) }
+    {
+        let next = sizes.memblock_size(self.is_host, self.general);
+        let dedicated = request.dedicated || request.size > next;
+        if !dedicated {
+            if let Some(piece) = take_shared(&mut self.slots, request, self.granularity)? {
+                return Ok(Prepared::Taken(piece));
+            }
+        }
+        reserve_slot(&mut self.slots)?;
+        let size = if dedicated { request.size } else { next };
+        let room = make_room(self.alloc, dedicated, size, self.granularity, request)?;
+        Ok(Prepared::NeedBlock(NeedBlock {
+            size,
+            dedicated,
+            room,
+        }))
+    }
+
+    /// Puts in the block that `prepare` asked for, under the device's number of it, and answers the piece in it. It
+    /// takes no memory and can't be refused.
+    pub fn install(&mut self, need: NeedBlock, number: H) -> Piece<H>
+        requires ready { CanInstall self.old need.size need.dedicated need.room }
+        requires sum { capacity_of self.old.slots + need.size < 2 ^ 64 }
+        ensures installed { Installs self.old.slots need.dedicated need.room number result self.new.slots }
+        ensures capacity { capacity_of self.new.slots ≡ capacity_of self.old.slots + need.size }
+        ensures kind { (self.new.is_host ≡ self.old.is_host) × (self.new.granularity ≡ self.old.granularity) }
+    {
+        let NeedBlock {
+            size,
+            dedicated,
+            room,
+        } = need;
+        let block = LiveBlock {
+            number,
+            sub: room.sub,
+        };
+        let slot = put_block(&mut self.slots, block, dedicated);
+        self.capacity += size;
+        if !dedicated {
+            self.general += 1;
+        }
+        Piece {
+            slot,
+            number: room.number,
+            offset: room.offset,
+            size: room.size,
+            block: number,
+        }
+    }
+
+    /// Gives a piece back, and names the block that went with it, if one did: a dedicated block goes, and so does an
+    /// emptied shared one beside another. It takes no memory. `Internal` where the piece isn't live, and then nothing
+    /// changes.
+    pub fn free(&mut self, piece: &Piece<H>) -> Result<Option<H>>
+        ensures released { IfOk result (λ gone.
+            ReleasesPiece (IsTrue (has_several self.old.slots)) self.old.slots piece.now gone self.new.slots) }
+        ensures live { OnOk result (IsLive H.eq self.old.slots piece.now) }
+        ensures cause { IfErr result (λ e. IsFreeRefusal H.eq piece.now (slot_at self.old.slots piece.now.slot) (refusal_of e)) }
+        ensures refused { OnErr result (self.new ≡ self.old) }
+        ensures kind { (self.new.is_host ≡ self.old.is_host) × (self.new.granularity ≡ self.old.granularity) }
+    {
+        let several = self.general > 1;
+        let Released { gone, size, shared } = free_in(&mut self.slots, piece, several)?;
+        self.capacity -= size;
+        self.general -= shared;
+        Ok(gone)
+    }
+
+    /// Gives a piece another name. `Internal` where the piece isn't live, else `HostOutOfMemory` where the host refused
+    /// memory; then nothing changes.
+    pub fn rename(&mut self, piece: &Piece<H>, name: &str) -> Result<()>
+        ensures renamed { OnOk result (RenamesPiece self.old.slots piece.now name.now self.new.slots) }
+        ensures live { OnOk result (IsLive H.eq self.old.slots piece.now) }
+        ensures cause { IfErr result (λ e. IsNameRefusal H.eq piece.now (slot_at self.old.slots piece.now.slot) (refusal_of e)) }
+        ensures refused { OnErr result (self.new ≡ self.old) }
+        ensures kind { (self.new.is_host ≡ self.old.is_host) × (self.new.granularity ≡ self.old.granularity) }
+    {
+        rename_in(&mut self.slots, piece, name)
+    }
+
+    /// Whether a piece is live: its slot's block is the one named, and has the piece under its number at its place.
+    pub fn is_live(&self, piece: &Piece<H>) -> bool
+        ensures { IsTrue result ↔ IsLive H.eq self.now.slots piece.now }
+    {
+        match self.slots.get(piece.slot) {
+            Some(Some(block)) => match find(block, piece) {
+                Finding::Piece => true,
+                _ => false,
+            },
+            _ => false,
+        }
+    }
+
+    /// The sum of the sizes of the live blocks, in bytes.
+    pub fn capacity(&self) -> u64
+        ensures { result ≡ capacity_of self.now.slots }
+    {
+        self.capacity
+    }
+
+    /// How many live blocks are shared.
+    pub fn active_general_blocks(&self) -> usize
+        ensures { result ≡ shared_count self.now.slots }
+    {
+        self.general
+    }
+
+    /// How many slots there are, the empty ones included.
+    pub fn slots(&self) -> usize
+        ensures { result ≡ length self.now.slots }
+    {
+        self.slots.len()
+    }
+
+    /// The device's number of the block in a slot, or `None` where there is none.
+    pub fn block(&self, slot: usize) -> Option<H>
+        ensures { result ≡ block_number (slot_at self.now.slots slot) }
+    {
+        match self.slots.get(slot) {
+            Some(Some(block)) => Some(block.number),
+            _ => None,
+        }
+    }
+}

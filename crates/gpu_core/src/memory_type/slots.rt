@@ -1,0 +1,188 @@
+//! The slots of a memory type.
+
+ghost use Rattle.std.specs.Prelude.{◌≡◌, ◌≢◌, ℕ, ◌+◌, ◌^◌, ◌<◌, ◌||◌, not, nat_lt, length, vec_capacity, if◌then◌else◌, Some, None, IfOk, IfErr, OnOk, OnErr, IfSome, IsSome, IsNone, IsTrue};
+ghost use Rattle.std.specs.Int.{is_power_of_two};
+ghost use Rattle.std.specs.List.{position};
+ghost use Rattle.std.specs.Option.{is_none, is_some};
+ghost use Rattle.gpu_core.specs.declared.error.AllocationError.TheVariants.{HostOutOfMemory};
+ghost use Rattle.gpu_core.specs.SubAllocator.{block_of};
+ghost use Rattle.gpu_core.specs.Block.{is_general};
+ghost use Rattle.std.specs.Int.NonZero.{non_zero_u64_get};
+ghost use Rattle.gpu_core.specs.Refusal.{refusal_of};
+ghost use Rattle.gpu_core.specs.TypeState.{slot_at, capacity_of, shared_count, lowest_empty, highest_empty};
+ghost use Rattle.gpu_core.specs.TypeRelease.{IsLive, IsFreeRefusal, IsNameRefusal, ReleasesPiece, RenamesPiece};
+ghost use Rattle.gpu_core.specs.TypeTake.{asked, PreparesPiece, NoneServes, new_slot, with_block};
+ghost use Rattle.gpu_core.specs.Slots.{slot_of, slots_of, AreSound, IsEmptyAt};
+
+use super::slot::{LiveBlock, Released, release, rename, take_in};
+use super::{Piece, Request};
+use crate::error::internal_fault;
+use crate::{AllocationType, Result};
+
+/// Takes a piece of the highest shared block that has a place, or answers `None` where none has. The only refusal is
+/// `HostOutOfMemory`.
+pub fn take_shared<H: Copy>(
+    slots: &mut Vec<Option<LiveBlock<H>>>,
+    request: &Request,
+    granularity: u64,
+) -> Result<Option<Piece<H>>>
+    requires sized { 0 < request.now.size }
+    requires aligned { IsTrue (is_power_of_two request.now.alignment) }
+    requires piece { request.now.kind ≢ AllocationType.Free }
+    requires sound { AreSound granularity (slots_of slots.old.items) }
+    ensures took { IfOk result (λ o. IfSome o (λ p.
+        PreparesPiece (slots_of slots.old.items) (asked request.now) p (slots_of slots.new.items))) }
+    ensures none { IfOk result (λ o. IsNone o → NoneServes (slots_of slots.old.items) (asked request.now)
+        × (slots_of slots.new.items ≡ slots_of slots.old.items)) }
+    ensures cause { IfErr result (λ e. e ≡ HostOutOfMemory) }
+    ensures refused { OnErr result (slots_of slots.new.items ≡ slots_of slots.old.items) }
+    ensures room { vec_capacity slots.new ≡ vec_capacity slots.old }
+    ensures kept { AreSound granularity (slots_of slots.new.items) }
+{
+    let mut below = slots.len();
+    while below > 0 {
+        below -= 1;
+        let slot = &mut slots[below];
+        match take_in(slot, request, granularity)? {
+            None => {}
+            Some(taken) => {
+                return Ok(Some(Piece {
+                    slot: below,
+                    number: taken.number,
+                    offset: taken.offset,
+                    size: request.size,
+                    block: taken.block,
+                }));
+            }
+        }
+    }
+    Ok(None)
+}
+
+/// The lowest empty slot.
+#[tactic(auto, using(crate::proofs::EmptySlots::lowest_none))]
+fn lowest_empty<H>(slots: &[Option<LiveBlock<H>>]) -> Option<usize>
+    ensures { result ≡ lowest_empty (slots_of slots.now) }
+{
+    first_none(slots)
+}
+
+fn first_none<H>(slots: &[Option<LiveBlock<H>>]) -> Option<usize>
+    ensures { result ≡ position is_none slots.now }
+{
+    slots.iter().position(|slot| slot.is_none())
+}
+
+/// The highest empty slot.
+fn highest_empty<H>(slots: &[Option<LiveBlock<H>>]) -> Option<usize>
+    ensures { result ≡ highest_empty (slots_of slots.now) }
+{
+    let mut below = slots.len();
+    while below > 0 {
+        below -= 1;
+        if slots[below].is_none() {
+            return Some(below);
+        }
+    }
+    None
+}
+
+/// Makes host memory for one more block. The only refusal is `HostOutOfMemory`.
+pub fn reserve_slot<H>(slots: &mut Vec<Option<LiveBlock<H>>>) -> Result<()>
+    ensures items { slots_of slots.new.items ≡ slots_of slots.old.items }
+    ensures room { OnOk result (IsTrue (is_some (highest_empty (slots_of slots.new.items))
+        || nat_lt (length (slots_of slots.new.items)) (vec_capacity slots.new))) }
+    ensures cause { IfErr result (λ e. e ≡ HostOutOfMemory) }
+{
+    if highest_empty(slots).is_none() {
+        slots.reserve(1)?;
+    }
+    Ok(())
+}
+
+/// The empty slot for a dedicated or for a shared block.
+#[tactic(auto, using(crate::proofs::EmptySlots::empty_lemmas))]
+fn empty_for<H>(slots: &[Option<LiveBlock<H>>], is_dedicated: bool) -> Option<usize>
+    ensures value { result ≡ (if is_dedicated then lowest_empty (slots_of slots.now) else highest_empty (slots_of slots.now)) }
+    ensures found { IfSome result (λ i. IsEmptyAt (slots_of slots.now) i) }
+    ensures missed { IsNone result → highest_empty (slots_of slots.now) ≡ None }
+{
+    if is_dedicated {
+        lowest_empty(slots)
+    } else {
+        highest_empty(slots)
+    }
+}
+
+/// Puts a block where it goes, and answers that slot. It takes no memory.
+#[tactic(auto, using(crate::proofs::Putting::put_lemmas))]
+pub fn put_block<H: Drop>(
+    slots: &mut Vec<Option<LiveBlock<H>>>,
+    block: LiveBlock<H>,
+    is_dedicated: bool,
+) -> usize
+    requires { IsTrue (is_some (highest_empty (slots_of slots.old.items))
+        || nat_lt (length (slots_of slots.old.items)) (vec_capacity slots.old)) }
+    ensures slot { result ≡ new_slot is_dedicated (slots_of slots.old.items) }
+    ensures slots { slots_of slots.new.items ≡ with_block (slots_of slots.old.items) result (slot_of block) }
+    ensures length { length slots.new.items < 2 ^ 64 }
+    ensures room { vec_capacity slots.new ≡ vec_capacity slots.old }
+{
+    match empty_for(slots, is_dedicated) {
+        Some(slot) => {
+            slots[slot] = Some(block);
+            slot
+        }
+        None => {
+            slots.push_reserved(Some(block));
+            slots.len() - 1
+        }
+    }
+}
+
+/// Gives a piece back. It takes no memory; a refusal changes nothing.
+pub fn free_in<H: Copy + Eq>(
+    slots: &mut Vec<Option<LiveBlock<H>>>,
+    piece: &Piece<H>,
+    several: bool,
+) -> Result<Released<H>>
+    requires { (g : ℕ) × AreSound g (slots_of slots.old.items) }
+    ensures released { IfOk result (λ r.
+        ReleasesPiece (IsTrue several) (slots_of slots.old.items) piece.now r.gone (slots_of slots.new.items)) }
+    ensures live { OnOk result (IsLive H.eq (slots_of slots.old.items) piece.now) }
+    ensures size { IfOk result (λ r. capacity_of (slots_of slots.new.items) + r.size ≡ capacity_of (slots_of slots.old.items)) }
+    ensures shared { IfOk result (λ r. shared_count (slots_of slots.new.items) + r.shared ≡ shared_count (slots_of slots.old.items)) }
+    ensures cause { IfErr result (λ e.
+        IsFreeRefusal H.eq piece.now (slot_at (slots_of slots.old.items) piece.now.slot) (refusal_of e)) }
+    ensures refused { OnErr result (slots_of slots.new.items ≡ slots_of slots.old.items) }
+    ensures room { vec_capacity slots.new ≡ vec_capacity slots.old }
+    ensures kept { (g : ℕ) → AreSound g (slots_of slots.old.items) → AreSound g (slots_of slots.new.items) }
+{
+    if piece.slot >= slots.len() {
+        return Err(internal_fault("Memory block must be Some."));
+    }
+    let slot = &mut slots[piece.slot];
+    release(slot, piece, several)
+}
+
+/// Gives a piece another name. A refusal changes nothing.
+pub fn rename_in<H: Copy + Eq>(
+    slots: &mut Vec<Option<LiveBlock<H>>>,
+    piece: &Piece<H>,
+    name: &str,
+) -> Result<()>
+    requires { (g : ℕ) × AreSound g (slots_of slots.old.items) }
+    ensures renamed { OnOk result (RenamesPiece (slots_of slots.old.items) piece.now name.now (slots_of slots.new.items)) }
+    ensures live { OnOk result (IsLive H.eq (slots_of slots.old.items) piece.now) }
+    ensures cause { IfErr result (λ e.
+        IsNameRefusal H.eq piece.now (slot_at (slots_of slots.old.items) piece.now.slot) (refusal_of e)) }
+    ensures refused { OnErr result (slots_of slots.new.items ≡ slots_of slots.old.items) }
+    ensures room { vec_capacity slots.new ≡ vec_capacity slots.old }
+    ensures kept { (g : ℕ) → AreSound g (slots_of slots.old.items) → AreSound g (slots_of slots.new.items) }
+{
+    if piece.slot >= slots.len() {
+        return Err(internal_fault("Memory block must be Some."));
+    }
+    let slot = &mut slots[piece.slot];
+    rename(slot, piece, name)
+}

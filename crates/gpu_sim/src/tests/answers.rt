@@ -1,0 +1,145 @@
+//! The answers of the simulated device, with ample memory and with memory that the host can't back.
+
+use super::{device, info};
+use crate::{Refusal, SimVulkan};
+use gpu_device::vulkan::{
+    AllocationScheme, Buffer, DeviceMemory, MemoryAllocateInfo, MemoryPropertyFlags, VulkanDevice,
+};
+use std::test::Fail;
+
+/// Asks for a memory and then for its bytes, and gives both answers.
+#[tactic(auto, using(gpu_device::proofs::Changes::changes))]
+fn ask_both(
+    device: &mut SimVulkan,
+    size: u64,
+) -> (Result<DeviceMemory, i32>, Option<Result<bool, i32>>) {
+    let answer = device.allocate_memory(&info(size));
+    let mapping = match answer {
+        Ok(memory) => Some(device.map_memory(memory)),
+        Err(_) => None,
+    };
+    (answer, mapping)
+}
+
+#[test]
+fn tells_what_it_was_given(rt: HostRuntime) -> Result<(), Fail> {
+    let sim = device(rt.alloc(), u64::MAX, Vec::new(rt.alloc()))?;
+    assert_eq!(rt; sim.heap_count(), 1);
+    assert_eq!(rt; sim.heap(0).size, 1024);
+    assert_eq!(rt; sim.memory_type_count(), 2);
+    assert!(rt; sim.memory_type(0).property_flags == MemoryPropertyFlags::DEVICE_LOCAL);
+    assert_eq!(rt; sim.memory_type(1).property_flags.0, 6);
+    assert_eq!(rt; sim.buffer_image_granularity(), 64);
+    assert_eq!(rt; sim.held(), 0);
+    assert_eq!(rt; sim.questions(), 0);
+    assert_eq!(rt; sim.refusals(), 0);
+    assert!(rt; sim.last_info().is_none());
+    Ok(())
+}
+
+#[test]
+fn numbers_and_bytes(rt: HostRuntime) -> Result<(), Fail> {
+    let mut sim = device(rt.alloc(), u64::MAX, Vec::new(rt.alloc()))?;
+    assert!(rt; sim.allocate_memory(&info(4)) == Ok(DeviceMemory(1)));
+    assert!(rt; ask_both(&mut sim, 4) == (Ok(DeviceMemory(2)), Some(Ok(true))));
+    assert_eq!(rt; sim.held(), 2);
+    assert_eq!(rt; sim.questions(), 3);
+    assert!(rt; sim.bytes(DeviceMemory(1), 0, 0).is_none());
+    assert!(rt; sim.bytes(DeviceMemory(2), 0, 5).is_none());
+    assert!(rt; sim.bytes(DeviceMemory(2), u64::MAX, 2).is_none());
+    assert!(rt; sim.bytes(DeviceMemory(0), 0, 0).is_none());
+    assert_eq!(rt; sim.bytes(DeviceMemory(2), 4, 0).ok_or("end")?.len(), 0);
+    sim.bytes_mut(DeviceMemory(2), 1, 2).ok_or("range")?.fill(7);
+    assert_eq!(rt;
+        sim.bytes(DeviceMemory(2), 0, 4).ok_or("all")?,
+        [0u8, 7, 7, 0].as_slice()
+    );
+    sim.unmap_memory(DeviceMemory(2));
+    assert!(rt; sim.bytes(DeviceMemory(2), 0, 0).is_none());
+    assert!(rt; sim.bytes_mut(DeviceMemory(2), 0, 0).is_none());
+    sim.free_memory(DeviceMemory(2));
+    sim.free_memory(DeviceMemory(2));
+    sim.unmap_memory(DeviceMemory(9));
+    assert_eq!(rt; sim.held(), 1);
+    assert!(rt; sim.allocate_memory(&info(0)) == Ok(DeviceMemory(3)));
+    assert_eq!(rt; sim.refusals(), 0);
+    assert_eq!(rt; sim.questions(), 4);
+    Ok(())
+}
+
+#[test]
+fn scripted_refusals(rt: HostRuntime) -> Result<(), Fail> {
+    let script = vec![in rt.alloc();
+        (1, Refusal::Code(-9)),
+        (2, Refusal::Null),
+        (4, Refusal::Null),
+        (6, Refusal::Code(-3)),
+        (6, Refusal::Null),
+        (7, Refusal::Code(-1000001004)),
+    ]?;
+    let mut sim = device(rt.alloc(), u64::MAX, script)?;
+    assert!(rt; ask_both(&mut sim, 1) == (Err(-9), None));
+    assert!(rt; ask_both(&mut sim, 2) == (Err(-2), None));
+    assert_eq!(rt; sim.held(), 0);
+    assert!(rt; ask_both(&mut sim, 3) == (Ok(DeviceMemory(1)), Some(Ok(false))));
+    assert!(rt; sim.bytes(DeviceMemory(1), 0, 0).is_none());
+    assert!(rt; ask_both(&mut sim, 4) == (Ok(DeviceMemory(2)), Some(Err(-3))));
+    let dedicated = MemoryAllocateInfo {
+        size: 5,
+        memory_type_index: 7,
+        device_address: false,
+        scheme: AllocationScheme::DedicatedBuffer(Buffer(8)),
+    };
+    assert!(rt; sim.allocate_memory(&dedicated) == Err(-1000001004));
+    assert!(rt; sim.last_info() == Some(dedicated));
+    assert_eq!(rt; sim.refusals(), 5);
+    assert_eq!(rt; sim.questions(), 7);
+    assert_eq!(rt; sim.held(), 2);
+    Ok(())
+}
+
+#[test]
+fn sizes_above_the_limits(rt: HostRuntime) -> Result<(), Fail> {
+    let mut small = device(rt.alloc(), 100, Vec::new(rt.alloc()))?;
+    assert!(rt; small.allocate_memory(&info(101)) == Err(-2));
+    assert!(rt; small.allocate_memory(&info(100)) == Ok(DeviceMemory(1)));
+    let mut large = device(rt.alloc(), u64::MAX, Vec::new(rt.alloc()))?;
+    assert!(rt; ask_both(&mut large, 1 << 63) == (Ok(DeviceMemory(1)), Some(Err(-5))));
+    assert!(rt; ask_both(&mut large, u64::MAX) == (Ok(DeviceMemory(2)), Some(Err(-5))));
+    assert!(rt; ask_both(&mut large, (1 << 63) - 1) == (Ok(DeviceMemory(3)), Some(Err(-1))));
+    assert_eq!(rt; large.refusals(), 3);
+    assert_eq!(rt; large.held(), 3);
+    Ok(())
+}
+
+/// Where the host refuses memory, the answer is code -1, and the counts and the latest question alone tell of it.
+#[test]
+fn refused_by_the_host(rt: HostRuntime) -> Result<(), Fail> {
+    let Ok(mut sim) = device(rt.alloc(), u64::MAX, Vec::new(rt.alloc())) else {
+        return Ok(());
+    };
+    match ask_both(&mut sim, 4) {
+        (Ok(memory), Some(Ok(mapped))) => {
+            assert!(rt; mapped);
+            assert_eq!(rt; memory.0, 1);
+            assert_eq!(rt;
+                sim.bytes(memory, 0, 4).ok_or("bytes")?,
+                [0u8; 4].as_slice()
+            );
+            assert_eq!(rt; sim.refusals(), 0);
+        }
+        (Ok(memory), Some(Err(code))) => {
+            assert_eq!(rt; code, -1);
+            assert!(rt; sim.bytes(memory, 0, 0).is_none());
+            assert_eq!(rt; (sim.held(), sim.questions(), sim.refusals()), (1, 2, 1));
+        }
+        (Err(code), _) => {
+            assert_eq!(rt; code, -1);
+            assert!(rt; sim.last_info() == Some(info(4)));
+            assert_eq!(rt; (sim.held(), sim.questions(), sim.refusals()), (0, 1, 1));
+        }
+        _ => return Err(Fail::from("no mapping was asked for")),
+    }
+    assert!(rt; sim.last_info() == Some(info(4)));
+    Ok(())
+}

@@ -1,0 +1,120 @@
+//! A device of a user's own: it keeps a budget for each memory over another device. It needs no proof by hand.
+
+ghost use Rattle.std.specs.Prelude.{refl};
+
+use super::{device, info};
+use gpu_device::vulkan::{
+    DeviceMemory, MemoryAllocateInfo, MemoryHeap, MemoryTypeInfo, VulkanDevice,
+};
+use std::test::Fail;
+
+/// A device that refuses memory above a limit, without asking the device behind it.
+#[derive(Drop)]
+pub struct Limited<D> {
+    inner: D,
+    limit: u64,
+    refusals: u64,
+    latest: Option<MemoryAllocateInfo>,
+}
+
+impl<D: VulkanDevice> VulkanDevice for Limited<D> {
+    ghost properties = { λ d. D.properties d.inner };
+
+    ghost held = { λ d. D.held d.inner };
+
+    ghost refused = { λ d. d.refusals };
+
+    ghost latest = { λ d. d.latest };
+
+    ghost written = { λ d number start ws. record d { inner = D.written d.inner number start ws } };
+
+    ghost no_null = { λ d. D.no_null d.inner };
+
+    ghost whole = { λ d. D.whole d.inner };
+
+    ghost write_leaves_others = { λ d. D.write_leaves_others d.inner };
+
+    ghost write_counts_nothing = { λ d number start ws. refl };
+
+    ghost write_names_no_question = { λ d number start ws. refl };
+
+    ghost write_constant = { λ d. D.write_constant d.inner };
+
+    fn memory_type_count(&self) -> usize {
+        self.inner.memory_type_count()
+    }
+
+    fn memory_type(&self, index: usize) -> MemoryTypeInfo {
+        self.inner.memory_type(index)
+    }
+
+    fn heap_count(&self) -> usize {
+        self.inner.heap_count()
+    }
+
+    fn heap(&self, index: usize) -> MemoryHeap {
+        self.inner.heap(index)
+    }
+
+    fn buffer_image_granularity(&self) -> u64 {
+        self.inner.buffer_image_granularity()
+    }
+
+    fn refusals(&self) -> u64 {
+        self.refusals
+    }
+
+    fn allocate_memory(&mut self, info: &MemoryAllocateInfo) -> Result<DeviceMemory, i32> {
+        self.latest = Some(*info);
+        let answer = if info.size > self.limit {
+            Err(-2)
+        } else {
+            self.inner.allocate_memory(info)
+        };
+        if answer.is_err() {
+            self.refusals = self.refusals.saturating_add(1);
+        }
+        answer
+    }
+
+    fn map_memory(&mut self, memory: DeviceMemory) -> Result<bool, i32> {
+        let answer = self.inner.map_memory(memory);
+        if answer != Ok(true) {
+            self.refusals = self.refusals.saturating_add(1);
+        }
+        answer
+    }
+
+    fn unmap_memory(&mut self, memory: DeviceMemory) {
+        self.inner.unmap_memory(memory);
+    }
+
+    fn free_memory(&mut self, memory: DeviceMemory) {
+        self.inner.free_memory(memory);
+    }
+
+    fn bytes(&self, memory: DeviceMemory, start: u64, len: u64) -> Option<&[u8]> {
+        self.inner.bytes(memory, start, len)
+    }
+
+    fn range_mut(&mut self, memory: DeviceMemory, start: u64, len: u64) -> &mut [u8] {
+        self.inner.range_mut(memory, start, len)
+    }
+}
+
+#[test]
+fn keeps_the_budget(rt: HostRuntime) -> Result<(), Fail> {
+    let mut limited = Limited {
+        inner: device(rt.alloc(), u64::MAX, Vec::new(rt.alloc()))?,
+        limit: 64,
+        refusals: 0,
+        latest: None,
+    };
+    assert!(rt; limited.allocate_memory(&info(65)) == Err(-2));
+    assert!(rt; limited.allocate_memory(&info(64)) == Ok(DeviceMemory(1)));
+    assert!(rt; limited.bytes_mut(DeviceMemory(1), 0, 1).is_none());
+    limited.free_memory(DeviceMemory(1));
+    assert_eq!(rt; limited.inner.held(), 0);
+    assert_eq!(rt; limited.refusals(), 1);
+    Ok(())
+}
