@@ -55,7 +55,7 @@ Finds eq p s findings.Nothing = (x : Extent) → Contains (extents_of s.block) x
 
 -- a slot's block stays, or goes where it is empty and dedicated or one of several shared ones
 abbrev pub Settles : {H : Type 0} → (several : Type 0) → Option (Slot H) → Option H → Option (Slot H) → Type 0
-Settles several (Some old) gone (Some new) = (gone ≡ None) × (new ≡ old) × (Goes several old.block → ⊥)
-Settles several (Some old) gone None = (gone ≡ Some old.number) × Goes several old.block
-Settles several None gone None = gone ≡ None
-Settles several None gone (Some new) = ⊥
+Settles several (Some old) went (Some new) = (went ≡ None) × (new ≡ old) × (Goes several old.block → ⊥)
+Settles several (Some old) went None = (went ≡ Some old.number) × Goes several old.block
+Settles several None went None = went ≡ None
+Settles several None went (Some new) = ⊥

@@ -43,9 +43,9 @@ Goes several after = (extents_of after ≡ []) × ((is_general after ≡ false) 
 
 -- a slot after the release of a piece: its block stays, or it is empty and the block's number is named
 abbrev pub SlotReleases : {H : Type 0} → (several : Type 0) → ℕ → Option (Slot H) → Option H → Option (Slot H) → Type 0
-SlotReleases several number (Some old) gone (Some new) = (gone ≡ None) × (new.number ≡ old.number) × ReleasesIn old.block number new.block × (Goes several new.block → ⊥)
-SlotReleases several number (Some old) gone None = (gone ≡ Some old.number) × ((after : Block) × ReleasesIn old.block number after × Goes several after)
-SlotReleases several number None gone new = ⊥
+SlotReleases several number (Some old) went (Some new) = (went ≡ None) × (new.number ≡ old.number) × ReleasesIn old.block number new.block × (Goes several new.block → ⊥)
+SlotReleases several number (Some old) went None = (went ≡ Some old.number) × ((after : Block) × ReleasesIn old.block number after × Goes several after)
+SlotReleases several number None went new = ⊥
 
 -- the piece went, and its block with it where that is emptied and goes; no other slot changes
 pub record ReleasesPiece {H : Type 0} (several : Type 0) (old : List (Option (Slot H))) (p : Piece H) (gone : Option H) (new : List (Option (Slot H))) : Type 0 where
