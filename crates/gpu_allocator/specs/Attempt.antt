@@ -1,0 +1,92 @@
+-- What a request comes to at one memory type.
+use Rattle.std.specs.Prelude.{◌≡◌, ℕ, ◌+◌, ◌^◌, ◌<◌, ◌≤◌, Bool, true, false, List, Option, Some, None, Result, Ok, Err}
+use Rattle.std.specs.Option.{unwrap_or}
+use Rattle.gpu_core.specs.Refusal.{Refusal, refusal_of, out_of_memory, host_out_of_memory}
+use Rattle.gpu_core.specs.TypeState.{TypeState, Slot}
+use Rattle.gpu_core.specs.TypeTake.{Ready, has_own_block, PreparesPiece, NeedsBlock, Installs}
+use Rattle.gpu_core.specs.declared.error.AllocationError.{AllocationError}
+use Rattle.gpu_core.specs.declared.memory_type.Piece.{Piece}
+use Rattle.gpu_device.specs.declared.vulkan.device.VulkanDevice.{Ghosts}
+use Rattle.gpu_device.specs.declared.vulkan.types.DeviceMemory.{DeviceMemory}
+use Rattle.gpu_device.specs.declared.vulkan.types.MemoryAllocateInfo.{MemoryAllocateInfo}
+use Rattle.gpu_allocator.specs.Describe.{is_own, request_of}
+use Rattle.gpu_allocator.specs.Setup.{Setup}
+use Rattle.gpu_allocator.specs.BlockAnswer.{BlockAnswer, Declined, Granted, Mapped, NotMapped, IsAnswer, Asks, memory_refusal, map_refusal}
+use Rattle.gpu_allocator.specs.declared.vulkan.describe.AllocationCreateDesc.{AllocationCreateDesc}
+
+-- what an attempt meets with: host memory is enough or not, and the device answers, where it is asked
+pub record Outcome : Type 0 where
+  pub host : Bool
+  pub block : Option BlockAnswer
+
+-- what a memory type makes of a request, before the device is asked
+pub data Plan : Type 0 where
+  -- host memory is refused
+  Short : Plan
+  -- a shared block serves
+  Serves : (piece : Piece DeviceMemory) (after : List (Option (Slot DeviceMemory))) → Plan
+  -- a new block is needed
+  Needs : (size : ℕ) (is_dedicated : Bool) (ready : Ready) → Plan
+
+abbrev pub IsPlan : Setup → TypeState DeviceMemory → AllocationCreateDesc → (host : Bool) → Plan → Type 0
+IsPlan setup t d host Short = host ≡ false
+IsPlan setup t d host (Serves p after) =
+    (host ≡ true) × (has_own_block t setup.sizes (is_own d.allocation_scheme) d.requirements.size ≡ false) × PreparesPiece t.slots (request_of d) p after
+IsPlan setup t d host (Needs size is_dedicated ready) =
+    (host ≡ true) × NeedsBlock t setup.sizes (is_own d.allocation_scheme) (request_of d) size is_dedicated ready
+
+-- what an attempt answers
+pub data Answer : Type 0 where
+  Gave : (piece : Piece DeviceMemory) → Answer
+  Refused : (refusal : Refusal) → Answer
+
+abbrev pub answer_of : Result (Piece DeviceMemory) AllocationError → Answer
+answer_of (Ok p) = Gave p
+answer_of (Err e) = Refused (refusal_of e)
+
+-- the memory of that number
+abbrev pub memory : ℕ → DeviceMemory
+memory number = record { 0 = number }
+
+-- what the device's answer leaves of the slots
+abbrev pub Settles : TypeState DeviceMemory → (is_dedicated : Bool) → Ready → BlockAnswer → Answer → List (Option (Slot DeviceMemory)) → Type 0
+Settles old is_dedicated ready (Declined code) answer new = (answer ≡ Refused (memory_refusal code)) × (new ≡ old.slots)
+Settles old is_dedicated ready (Granted number) answer new =
+    (p : Piece DeviceMemory) × (answer ≡ Gave p) × Installs old.slots is_dedicated ready (memory number) p new
+Settles old is_dedicated ready (Mapped number bytes) answer new =
+    (p : Piece DeviceMemory) × (answer ≡ Gave p) × Installs old.slots is_dedicated ready (memory number) p new
+Settles old is_dedicated ready (NotMapped code) answer new = (answer ≡ Refused (map_refusal code)) × (new ≡ old.slots)
+
+-- what a plan comes to where `used` bytes of blocks are live: the device is asked only for a block that keeps their sum in 64 bits
+abbrev pub Comes : (used : ℕ) → TypeState DeviceMemory → Plan → Option BlockAnswer → Answer → List (Option (Slot DeviceMemory)) → Type 0
+Comes used old Short None answer new = (answer ≡ Refused host_out_of_memory) × (new ≡ old.slots)
+Comes used old Short (Some a) answer new = ⊥
+Comes used old (Serves p after) None answer new = (answer ≡ Gave p) × (new ≡ after)
+Comes used old (Serves p after) (Some a) answer new = ⊥
+Comes used old (Needs size is_dedicated ready) None answer new = (2 ^ 64 ≤ used + size) × (answer ≡ Refused out_of_memory) × (new ≡ old.slots)
+Comes used old (Needs size is_dedicated ready) (Some a) answer new =
+    (used + size < 2 ^ 64) × IsAnswer old.is_host size a × Settles old is_dedicated ready a answer new
+
+abbrev pub size_asked : Plan → ℕ
+size_asked Short = 0
+size_asked (Serves p after) = 0
+size_asked (Needs size is_dedicated ready) = size
+
+-- what the device is asked for
+abbrev pub question : Setup → (t : ℕ) → AllocationCreateDesc → Plan → MemoryAllocateInfo
+question setup t d plan =
+    record { size = size_asked plan; memory_type_index = t; device_address = setup.device_address; scheme = d.allocation_scheme }
+
+-- the device after an attempt: untouched where it wasn't asked
+abbrev pub IsAfter : {D : Type 0} → Ghosts D → (old : D) → MemoryAllocateInfo → (mapped : Bool) → Option BlockAnswer → (new : D) → Type 0
+IsAfter g old info mapped None new = new ≡ old
+IsAfter g old info mapped (Some a) new = Asks g old info mapped a new
+
+-- a request at the t-th memory type, where `used` bytes of blocks are live
+pub record IsTaken {D : Type 0} (g : Ghosts D) (setup : Setup) (used t : ℕ) (d : AllocationCreateDesc) (old : TypeState DeviceMemory) (device : D) (result : Result (Piece DeviceMemory) AllocationError) (new : TypeState DeviceMemory) (after : D) : Type 0 where
+  pub outcome : Outcome
+  pub plan : Plan
+  pub is_plan : IsPlan setup old d outcome.host plan
+  pub comes : Comes used old plan outcome.block (answer_of result) new.slots
+  pub asked : IsAfter g device (question setup t d plan) old.is_host outcome.block after
+  pub kind : (new.is_host ≡ old.is_host) × (new.granularity ≡ old.granularity)

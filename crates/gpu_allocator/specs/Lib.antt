@@ -1,0 +1,6 @@
+pub mod Describe
+pub mod Choice
+pub mod Setup
+pub mod BlockAnswer
+pub mod Blocks
+pub mod Attempt

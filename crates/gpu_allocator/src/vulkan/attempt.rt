@@ -1,0 +1,97 @@
+//! An attempt to serve a request by one memory type.
+
+ghost use Rattle.std.specs.Prelude.{◌≡◌, ◌≢◌, ℕ, ◌+◌, ◌^◌, ◌<◌, ◌≤◌, length, slice_get, Some, IfSome, IsTrue, map};
+ghost use Rattle.std.specs.Int.{is_power_of_two};
+ghost use Rattle.std.specs.List.{sum_by};
+ghost use Rattle.gpu_core.specs.TypeState.{capacity_of};
+ghost use Rattle.gpu_allocator.specs.Blocks.{is_host_visible, total_capacity};
+ghost use Rattle.gpu_allocator.specs.Attempt.{IsTaken};
+
+use super::Allocation;
+use super::block::ask;
+use super::describe::{AllocationCreateDesc, is_own, request_of};
+use super::setup::{Setup, is_mapped};
+use crate::{AllocationError, MemoryType, NeedBlock, Piece, Prepared, Result};
+use gpu_device::vulkan::{DeviceMemory, MemoryAllocateInfo, VulkanDevice};
+use std::alloc::Global;
+
+/// The sum of the sizes of all live blocks, in bytes.
+pub fn total_capacity(types: &[MemoryType<DeviceMemory>]) -> u64
+    requires { total_capacity types.now < 2 ^ 64 }
+    ensures { result ≡ total_capacity types.now }
+{
+    let mut sum = 0;
+    for memory_type in types {
+        sum += memory_type.capacity();
+    }
+    sum
+}
+
+/// A piece of one memory type, where `used` bytes of blocks are live: of a shared block, or of a new one.
+fn take_in<D: VulkanDevice>(
+    setup: &Setup,
+    device: &mut D,
+    blocks: &mut MemoryType<DeviceMemory>,
+    desc: &AllocationCreateDesc,
+    index: usize,
+    used: u64,
+) -> Result<Piece<DeviceMemory>>
+    requires sized { 0 < desc.now.requirements.size }
+    requires aligned { IsTrue (is_power_of_two desc.now.requirements.alignment) }
+    requires there { index < length setup.now.properties.types }
+    requires few { index < 32 }
+    requires kind { IfSome (slice_get setup.now.properties.types index) (λ info. blocks.old.is_host ≡ is_host_visible info) }
+    requires used { capacity_of blocks.old.slots ≤ used }
+    ensures { IsTaken D.VulkanDevice setup.now used index desc.now blocks.old device.old result blocks.new device.new }
+{
+    let need = match blocks.prepare(&setup.settings.sizes, &request_of(desc)) {
+        Err(error) => return Err(error),
+        Ok(Prepared::Taken(piece)) => return Ok(piece),
+        Ok(Prepared::NeedBlock(need)) => need,
+    };
+    if need.size > u64::MAX - used {
+        return Err(AllocationError::OutOfMemory);
+    }
+    let info = MemoryAllocateInfo {
+        size: need.size,
+        memory_type_index: index as u32,
+        device_address: setup.settings.buffer_device_address,
+        scheme: desc.allocation_scheme,
+    };
+    match ask(device, &info, setup.is_mapped(index)) {
+        Err(error) => Err(error),
+        Ok(memory) => Ok(blocks.install(need, memory)),
+    }
+}
+
+/// An allocation in the memory type at `index`.
+pub fn attempt<D: VulkanDevice>(
+    alloc: Global,
+    setup: &Setup,
+    device: &mut D,
+    types: &mut Vec<MemoryType<DeviceMemory>>,
+    desc: &AllocationCreateDesc,
+    index: usize,
+) -> Result<Allocation> {
+    let info = setup.memory_types[index];
+    let heap = setup.heaps[info.heap_index as usize];
+    if desc.requirements.size > heap.size {
+        return Err(AllocationError::OutOfMemory);
+    }
+    let name = String::from_str(alloc, desc.name)?;
+    let used = total_capacity(types);
+    let blocks = &mut types[index];
+    let piece = take_in(setup, device, blocks, desc, index, used)?;
+    Ok(Allocation {
+        chunk_id: Some(piece.number),
+        offset: piece.offset,
+        size: piece.size,
+        memory_block_index: piece.slot,
+        memory_type_index: index,
+        device_memory: piece.block,
+        memory_properties: info.property_flags,
+        mapped: is_mapped(&info),
+        dedicated: is_own(desc.allocation_scheme),
+        name: Some(name),
+    })
+}
