@@ -13,18 +13,19 @@ use Rattle.gpu_device.specs.declared.vulkan.types.DeviceMemory.{DeviceMemory}
 use Rattle.gpu_allocator.specs.Describe.{is_own, request_of}
 use Rattle.gpu_allocator.specs.BlockAnswer.{BlockAnswer, Declined, Granted, Mapped, NotMapped, answer_number, answer_refusal}
 use Rattle.gpu_allocator.specs.Attempt.{Settles, Gave, Refused, memory}
-use Rattle.gpu_allocator.proofs.Taken.{none_some}
+use Rattle.gpu_allocator.proofs.Taken.{none_some, some_same}
 use Rattle.gpu_allocator.specs.declared.vulkan.describe.AllocationCreateDesc.{AllocationCreateDesc}
 
 pub serves : (t : TypeState DeviceMemory) (sizes : Sizes) (r : type_requests.Request) (d : AllocationCreateDesc) (p : Piece DeviceMemory) (new : List (Option (Slot DeviceMemory)))
     → asked r ≡ request_of d → r.dedicated ≡ is_own d.allocation_scheme
     → (has_own_block t sizes r.dedicated r.size ≡ false) × PreparesPiece t.slots (asked r) p new
     → (has_own_block t sizes (is_own d.allocation_scheme) d.requirements.size ≡ false) × PreparesPiece t.slots (request_of d) p new
-serves t sizes r d p new asks own h =
-    (ap (λ b. has_own_block t sizes b d.requirements.size) (sym own)
-    ∙ ap (λ (q : Request). has_own_block t sizes r.dedicated q.size) (sym asks)
-    ∙ h.0,
-    subst (λ (q : Request). PreparesPiece t.slots q p new) asks h.1)
+serves t sizes r d p new asks own h = (
+  ap (λ b. has_own_block t sizes b d.requirements.size) (sym own)
+      ∙ ap (λ (q : Request). has_own_block t sizes r.dedicated q.size) (sym asks)
+      ∙ h.0,
+  subst (λ (q : Request). PreparesPiece t.slots q p new) asks h.1,
+)
 
 -- what `prepare` says of a block that is needed
 abbrev pub IsNeeded : TypeState DeviceMemory → Sizes → type_requests.Request → NeedBlock → TypeState DeviceMemory → Type 0
@@ -38,9 +39,6 @@ pub needs : (t : TypeState DeviceMemory) (sizes : Sizes) (r : type_requests.Requ
 needs t sizes r d size is_dedicated ready asks own h =
     subst (λ b. NeedsBlock t sizes b (request_of d) size is_dedicated ready) own
     (subst (λ (q : Request). NeedsBlock t sizes r.dedicated q size is_dedicated ready) asks h)
-
-some_same : {A : Type 0} (x y : A) → Some x ≡ Some y → x ≡ y
-some_same x y e = cc
 
 -- a refusal of the device settles the attempt
 pub settles_refused : (old : TypeState DeviceMemory) (own : Bool) (ready : Ready) (a : BlockAnswer) (e : Refusal) (new : List (Option (Slot DeviceMemory)))

@@ -1,10 +1,10 @@
 -- Lists that a loop goes through one by one.
-use Rattle.std.proofs.Common.{◌≡◌, ℕ, suc, ◌+◌, ◌<◌, ◌||◌, Bool, true, false, List, [], ◌∷◌, ◌++◌, take, length, Option, Some, slice_get, ap, sym, ◌∙◌, arith, refl, subst, not, IfSome, None, ◌≤◌, ⊎_elim}
+use Rattle.std.proofs.Common.{◌≡◌, ℕ, zero, suc, ◌+◌, ◌<◌, ◌||◌, Bool, true, false, List, [], ◌∷◌, ◌++◌, take, length, Option, Some, slice_get, ap, sym, ◌∙◌, arith, refl, subst, not, IfSome, None, ◌≤◌, ⊎_elim}
 use Rattle.std.specs.List.{list_any}
 use Rattle.std.proofs.Math.Seq.{take-suc}
 use Rattle.std.proofs.Common.{get_or}
 use Rattle.std.proofs.lemmas.List.Folds.{list_any-append, list_any_at}
-use Rattle.std.proofs.lemmas.Option.{slice_get_within, slice_get_cases, get_or_from_slice_get}
+use Rattle.std.proofs.lemmas.Option.{slice_get_within, slice_get_cases, slice_get-get_or, get_or_from_slice_get}
 
 take_next : {A : Type 0} (xs : List A) (i : ℕ) (x : A) → slice_get xs i ≡ Some x → take (i + 1) xs ≡ take i xs ++ x ∷ []
 take_next xs i x at =
@@ -27,6 +27,9 @@ one_passes p xs i x at passes = list_any_at p xs i x (slice_get_within xs i x at
 
 pub none_some : {A : Type 0} (x : A) → None ≡ Some x → ⊥
 none_some x e = cc
+
+pub some_same : {A : Type 0} (x y : A) → Some x ≡ Some y → x ≡ y
+some_same x y e = cc
 
 slice_get_none : {A : Type 0} (xs : List A) (i : ℕ) → slice_get xs i ≡ None → length xs ≤ i
 slice_get_none {A} xs i none =
@@ -74,3 +77,15 @@ pub same_told : {A : Type 0} (f : A → Bool) (xs : List A) (i : ℕ) (a b : Boo
     → IfSome (slice_get xs i) (λ x. a ≡ f x) → IfSome (slice_get xs i) (λ x. b ≡ f x) → a ≡ b
 same_told f xs i a b below h k =
     told_alike f (slice_get xs i) a b h k (λ none. let past = slice_get_none xs i none in absurd (omega (arith, below, past)))
+
+-- the element that an index gives
+pub element_at : {A : Type 0} (xs : List A) (i : ℕ) (x : A) → i < length xs → x ≡ get_or xs i x → slice_get xs i ≡ Some x
+element_at xs i x below is = slice_get-get_or xs i x below ∙ ap Some (sym is)
+
+-- what holds of each element and of one more holds of each element of the longer list
+pub pushed_each : {A : Type 0} (P : A → Type 0) (xs : List A) (x : A) → ((t : ℕ) (s : A) → slice_get xs t ≡ Some s → P s) → P x
+    → (t : ℕ) (s : A) → slice_get (xs ++ x ∷ []) t ≡ Some s → P s
+pushed_each P [] x each it zero s at = subst P (some_same x s at) it
+pushed_each P [] x each it (suc t) s at = absurd (none_some s at)
+pushed_each P (y ∷ ys) x each it zero s at = each zero s at
+pushed_each P (y ∷ ys) x each it (suc t) s at = pushed_each P ys x (λ u r at. each (suc u) r at) it t s at

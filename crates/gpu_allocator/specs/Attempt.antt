@@ -14,10 +14,15 @@ use Rattle.gpu_allocator.specs.Setup.{Setup}
 use Rattle.gpu_allocator.specs.BlockAnswer.{BlockAnswer, Declined, Granted, Mapped, NotMapped, IsAnswer, Asks, memory_refusal, map_refusal}
 use Rattle.gpu_allocator.specs.declared.vulkan.describe.AllocationCreateDesc.{AllocationCreateDesc}
 
+-- what a device was asked for, and how it answered
+pub record Asked : Type 0 where
+  pub info : MemoryAllocateInfo
+  pub answer : BlockAnswer
+
 -- what an attempt meets with: host memory is enough or not, and the device answers, where it is asked
 pub record Outcome : Type 0 where
   pub host : Bool
-  pub block : Option BlockAnswer
+  pub asked : Option Asked
 
 -- what a memory type makes of a request, before the device is asked
 pub data Plan : Type 0 where
@@ -57,36 +62,31 @@ Settles old is_dedicated ready (Mapped number bytes) answer new =
     (p : Piece DeviceMemory) × (answer ≡ Gave p) × Installs old.slots is_dedicated ready (memory number) p new
 Settles old is_dedicated ready (NotMapped code) answer new = (answer ≡ Refused (map_refusal code)) × (new ≡ old.slots)
 
+-- the question for a block of that size in the t-th memory type
+abbrev pub question : Setup → (t : ℕ) → AllocationCreateDesc → (size : ℕ) → MemoryAllocateInfo
+question setup t d size =
+    record { size = size; memory_type_index = t; device_address = setup.device_address; scheme = d.allocation_scheme }
+
 -- what a plan comes to where `used` bytes of blocks are live: the device is asked only for a block that keeps their sum in 64 bits
-abbrev pub Comes : (used : ℕ) → TypeState DeviceMemory → Plan → Option BlockAnswer → Answer → List (Option (Slot DeviceMemory)) → Type 0
-Comes used old Short None answer new = (answer ≡ Refused host_out_of_memory) × (new ≡ old.slots)
-Comes used old Short (Some a) answer new = ⊥
-Comes used old (Serves p after) None answer new = (answer ≡ Gave p) × (new ≡ after)
-Comes used old (Serves p after) (Some a) answer new = ⊥
-Comes used old (Needs size is_dedicated ready) None answer new = (2 ^ 64 ≤ used + size) × (answer ≡ Refused out_of_memory) × (new ≡ old.slots)
-Comes used old (Needs size is_dedicated ready) (Some a) answer new =
-    (used + size < 2 ^ 64) × IsAnswer old.is_host size a × Settles old is_dedicated ready a answer new
-
-abbrev pub size_asked : Plan → ℕ
-size_asked Short = 0
-size_asked (Serves p after) = 0
-size_asked (Needs size is_dedicated ready) = size
-
--- what the device is asked for
-abbrev pub question : Setup → (t : ℕ) → AllocationCreateDesc → Plan → MemoryAllocateInfo
-question setup t d plan =
-    record { size = size_asked plan; memory_type_index = t; device_address = setup.device_address; scheme = d.allocation_scheme }
+abbrev pub Comes : (used : ℕ) → (ask : ℕ → MemoryAllocateInfo) → TypeState DeviceMemory → Plan → Option Asked → Answer → List (Option (Slot DeviceMemory)) → Type 0
+Comes used ask old Short None answer new = (answer ≡ Refused host_out_of_memory) × (new ≡ old.slots)
+Comes used ask old Short (Some a) answer new = ⊥
+Comes used ask old (Serves p after) None answer new = (answer ≡ Gave p) × (new ≡ after)
+Comes used ask old (Serves p after) (Some a) answer new = ⊥
+Comes used ask old (Needs size is_dedicated ready) None answer new = (2 ^ 64 ≤ used + size) × (answer ≡ Refused out_of_memory) × (new ≡ old.slots)
+Comes used ask old (Needs size is_dedicated ready) (Some a) answer new =
+    (used + size < 2 ^ 64) × (a.info ≡ ask size) × IsAnswer old.is_host size a.answer × Settles old is_dedicated ready a.answer answer new
 
 -- the device after an attempt: untouched where it wasn't asked
-abbrev pub IsAfter : {D : Type 0} → Ghosts D → (old : D) → MemoryAllocateInfo → (mapped : Bool) → Option BlockAnswer → (new : D) → Type 0
-IsAfter g old info mapped None new = new ≡ old
-IsAfter g old info mapped (Some a) new = Asks g old info mapped a new
+abbrev pub IsAfter : {D : Type 0} → Ghosts D → (old : D) → (mapped : Bool) → Option Asked → (new : D) → Type 0
+IsAfter g old mapped None new = new ≡ old
+IsAfter g old mapped (Some a) new = Asks g old a.info mapped a.answer new
 
 -- a request at the t-th memory type, where `used` bytes of blocks are live
 pub record IsTaken {D : Type 0} (g : Ghosts D) (setup : Setup) (used t : ℕ) (d : AllocationCreateDesc) (old : TypeState DeviceMemory) (device : D) (result : Result (Piece DeviceMemory) AllocationError) (new : TypeState DeviceMemory) (after : D) : Type 0 where
   pub outcome : Outcome
   pub plan : Plan
   pub is_plan : IsPlan setup old d outcome.host plan
-  pub comes : Comes used old plan outcome.block (answer_of result) new.slots
-  pub asked : IsAfter g device (question setup t d plan) old.is_host outcome.block after
+  pub comes : Comes used (question setup t d) old plan outcome.asked (answer_of result) new.slots
+  pub asked : IsAfter g device old.is_host outcome.asked after
   pub kind : (new.is_host ≡ old.is_host) × (new.granularity ≡ old.granularity)

@@ -72,3 +72,7 @@ pub record HoldsJustLiveBlocks (first held : Held) (types : Types) : Type 0 wher
 -- the blocks of all types are sound
 abbrev pub AreAllSound : Types → Type 0
 AreAllSound types = (t : ℕ) (state : TypeState DeviceMemory) → slice_get types t ≡ Some state → AreSound state.granularity state.slots
+
+-- no memory type has a block
+abbrev pub AreEmpty : Types → Type 0
+AreEmpty types = (t : ℕ) (state : TypeState DeviceMemory) → slice_get types t ≡ Some state → state.slots ≡ []

@@ -4,3 +4,5 @@ pub mod Setup
 pub mod BlockAnswer
 pub mod Blocks
 pub mod Attempt
+pub mod Live
+pub mod Allocate

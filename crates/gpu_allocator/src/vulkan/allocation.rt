@@ -23,6 +23,8 @@ pub struct Allocation {
 }
 
 impl Allocation {
+    ghost use Rattle.gpu_allocator.specs.Live.{piece_of};
+
     /// The number of the piece in its block, or `None` where it is null.
     pub fn chunk_id(&self) -> Option<NonZeroU64>
         ensures { result ≡ self.now.chunk_id }
@@ -94,7 +96,9 @@ impl Allocation {
     }
 
     /// The piece that it stands for, or `None` where it is null.
-    pub(super) fn piece(&self) -> Option<Piece<DeviceMemory>> {
+    pub(super) fn piece(&self) -> Option<Piece<DeviceMemory>>
+        ensures { result ≡ piece_of self.now }
+    {
         match self.chunk_id {
             None => None,
             Some(number) => Some(Piece {

@@ -1,11 +1,14 @@
 //! An attempt to serve a request by one memory type.
 
-ghost use Rattle.std.specs.Prelude.{◌≡◌, ◌≢◌, ℕ, ◌+◌, ◌^◌, ◌<◌, ◌≤◌, length, slice_get, Some, IfSome, IsTrue, map};
+ghost use Rattle.std.specs.Prelude.{◌≡◌, ◌≢◌, ℕ, ◌+◌, ◌^◌, ◌<◌, ◌≤◌, length, slice_get, Some, IfSome, IsTrue, map, string_bytes};
 ghost use Rattle.std.specs.Int.{is_power_of_two};
 ghost use Rattle.std.specs.List.{sum_by};
 ghost use Rattle.gpu_core.specs.TypeState.{capacity_of};
-ghost use Rattle.gpu_allocator.specs.Blocks.{is_host_visible, total_capacity};
+ghost use Rattle.gpu_allocator.specs.Blocks.{is_host_visible, total_capacity, kinds, kinds_told, AreAllSound};
+ghost use Rattle.gpu_core.specs.Slots.{AreSound};
 ghost use Rattle.gpu_allocator.specs.Attempt.{IsTaken};
+ghost use Rattle.gpu_allocator.specs.Allocate.{IsAttempt};
+ghost use Rattle.gpu_allocator.specs.Live.{IsGiven};
 
 use super::Allocation;
 use super::block::ask;
@@ -42,7 +45,8 @@ fn take_in<D: VulkanDevice>(
     requires few { index < 32 }
     requires kind { IfSome (slice_get setup.now.properties.types index) (λ info. blocks.old.is_host ≡ is_host_visible info) }
     requires used { capacity_of blocks.old.slots ≤ used }
-    ensures { IsTaken D.VulkanDevice setup.now used index desc.now blocks.old device.old result blocks.new device.new }
+    ensures taken { IsTaken D.VulkanDevice setup.now used index desc.now blocks.old device.old result blocks.new device.new }
+    ensures sound { AreSound blocks.new.granularity blocks.new.slots }
 {
     let need = match blocks.prepare(&setup.settings.sizes, &request_of(desc)) {
         Err(error) => return Err(error),
@@ -64,25 +68,19 @@ fn take_in<D: VulkanDevice>(
     }
 }
 
-/// An allocation in the memory type at `index`.
-pub fn attempt<D: VulkanDevice>(
-    alloc: Global,
+/// The allocation of a piece of the memory type at `index`.
+fn given(
     setup: &Setup,
-    device: &mut D,
-    types: &mut Vec<MemoryType<DeviceMemory>>,
     desc: &AllocationCreateDesc,
     index: usize,
-) -> Result<Allocation> {
+    piece: Piece<DeviceMemory>,
+    name: String,
+) -> Allocation
+    requires { index < length setup.now.properties.types }
+    ensures { string_bytes name ≡ desc.now.name.now → IsGiven setup.now index desc.now piece result }
+{
     let info = setup.memory_types[index];
-    let heap = setup.heaps[info.heap_index as usize];
-    if desc.requirements.size > heap.size {
-        return Err(AllocationError::OutOfMemory);
-    }
-    let name = String::from_str(alloc, desc.name)?;
-    let used = total_capacity(types);
-    let blocks = &mut types[index];
-    let piece = take_in(setup, device, blocks, desc, index, used)?;
-    Ok(Allocation {
+    Allocation {
         chunk_id: Some(piece.number),
         offset: piece.offset,
         size: piece.size,
@@ -93,5 +91,32 @@ pub fn attempt<D: VulkanDevice>(
         mapped: is_mapped(&info),
         dedicated: is_own(desc.allocation_scheme),
         name: Some(name),
-    })
+    }
+}
+
+/// An allocation in the memory type at `index`. All host memory for it is at hand before the device is asked.
+pub fn attempt<D: VulkanDevice>(
+    alloc: Global,
+    setup: &Setup,
+    device: &mut D,
+    types: &mut Vec<MemoryType<DeviceMemory>>,
+    desc: &AllocationCreateDesc,
+    index: usize,
+) -> Result<Allocation>
+    requires sized { 0 < desc.now.requirements.size }
+    requires aligned { IsTrue (is_power_of_two desc.now.requirements.alignment) }
+    requires there { index < length setup.now.properties.types }
+    requires kinds { kinds types.old.items ≡ kinds_told setup.now.properties }
+    requires sum { total_capacity types.old.items < 2 ^ 64 }
+    ensures attempts { IsAttempt D.VulkanDevice setup.now index desc.now types.old.items device.old result types.new.items device.new }
+    ensures kinds { kinds types.new.items ≡ kinds types.old.items }
+    ensures sound { AreAllSound types.old.items → AreAllSound types.new.items }
+{
+    if desc.requirements.size > setup.heap_size(index) {
+        return Err(AllocationError::OutOfMemory);
+    }
+    let name = String::from_str(alloc, desc.name)?;
+    let used = total_capacity(types);
+    let piece = take_in(setup, device, &mut types[index], desc, index, used)?;
+    Ok(given(setup, desc, index, piece, name))
 }

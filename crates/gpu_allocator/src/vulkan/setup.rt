@@ -6,7 +6,8 @@ ghost use Rattle.std.specs.Option.{option_map};
 ghost use Rattle.std.specs.Int.{is_power_of_two};
 ghost use Rattle.gpu_core.specs.Refusal.{refusal_of, invalid_allocator_create_desc};
 ghost use Rattle.gpu_allocator.specs.Setup.{lacks_heap, setup_fault, IsValid};
-ghost use Rattle.gpu_allocator.specs.Blocks.{is_host_visible, kinds, kinds_told};
+ghost use Rattle.gpu_allocator.specs.Allocate.{heap_size};
+ghost use Rattle.gpu_allocator.specs.Blocks.{is_host_visible, kinds, kinds_told, AreEmpty, AreAllSound};
 
 use crate::{AllocationError, AllocationSizes, AllocatorDebugSettings, Fault, MemoryType, Result};
 use gpu_device::vulkan::{
@@ -134,7 +135,12 @@ pub fn empty_types(
     alloc: Global,
     memory_types: &[MemoryTypeInfo],
     granularity: u64,
-) -> Result<Vec<MemoryType<DeviceMemory>>, AllocError> {
+) -> Result<Vec<MemoryType<DeviceMemory>>, AllocError>
+    requires { IsTrue (is_power_of_two granularity) }
+    ensures kinds { IfOk result (λ v. kinds v.items ≡ map (λ info. (is_host_visible info, granularity)) memory_types.now) }
+    ensures empty { IfOk result (λ v. AreEmpty v.items) }
+    ensures sound { IfOk result (λ v. AreAllSound v.items) }
+{
     let mut types = Vec::with_capacity(alloc, memory_types.len())?;
     for info in memory_types {
         types.push_reserved(MemoryType::new(alloc, is_mapped(info), granularity));
@@ -143,6 +149,15 @@ pub fn empty_types(
 }
 
 impl Setup {
+    /// The size in bytes of the heap that memory of the type at `index` lies in.
+    pub fn heap_size(&self, index: usize) -> u64
+        requires { index < length self.now.properties.types }
+        ensures { result ≡ heap_size self.now.properties index }
+    {
+        let info = self.memory_types[index];
+        self.heaps[info.heap_index as usize].size
+    }
+
     /// Whether memory of the type at `index` is mapped.
     pub fn is_mapped(&self, index: usize) -> bool
         requires { index < length self.now.properties.types }
@@ -165,7 +180,18 @@ pub fn parts_of<D: VulkanDevice>(
     alloc: Global,
     device: &D,
     settings: Settings,
-) -> Result<(Setup, Vec<MemoryType<DeviceMemory>>), AllocError> {
+) -> Result<(Setup, Vec<MemoryType<DeviceMemory>>), AllocError>
+    requires { IsValid (D.properties device.now) }
+    ensures setup { IfOk result (λ parts. parts.0 ≡ record {
+      properties = D.properties device.now;
+      sizes = settings.sizes;
+      debug = settings.debug;
+      device_address = settings.buffer_device_address;
+    }) }
+    ensures kinds { IfOk result (λ parts. kinds parts.1.items ≡ kinds_told (D.properties device.now)) }
+    ensures empty { IfOk result (λ parts. AreEmpty parts.1.items) }
+    ensures sound { IfOk result (λ parts. AreAllSound parts.1.items) }
+{
     let memory_types = memory_types_of(alloc, device)?;
     let heaps = heaps_of(alloc, device)?;
     let granularity = device.buffer_image_granularity();
