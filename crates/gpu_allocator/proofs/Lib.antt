@@ -1,3 +1,5 @@
 pub mod Taken
 pub mod Plans
 pub mod Heaps
+pub mod Types
+pub mod Attempts

@@ -89,3 +89,10 @@ pushed_each P [] x each it zero s at = subst P (some_same x s at) it
 pushed_each P [] x each it (suc t) s at = absurd (none_some s at)
 pushed_each P (y ∷ ys) x each it zero s at = each zero s at
 pushed_each P (y ∷ ys) x each it (suc t) s at = pushed_each P ys x (λ u r at. each (suc u) r at) it t s at
+
+-- an index inside a list has an element
+pub some_at : {A : Type 0} (xs : List A) (i : ℕ) → i < length xs → (x : A) × (slice_get xs i ≡ Some x)
+some_at {A} xs i below =
+    ⊎_elim (λ (h : (x : A) × (i < length xs) × (slice_get xs i ≡ Some x) × (get_or xs i x ≡ x)). (h.0, h.2))
+    (λ past. absurd (omega (arith, below, past.0)))
+    (slice_get_cases xs i).1

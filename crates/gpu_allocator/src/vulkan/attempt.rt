@@ -16,7 +16,7 @@ use super::describe::{AllocationCreateDesc, is_own, request_of};
 use super::setup::{Setup, is_mapped};
 use crate::{AllocationError, MemoryType, NeedBlock, Piece, Prepared, Result};
 use gpu_device::vulkan::{DeviceMemory, MemoryAllocateInfo, VulkanDevice};
-use std::alloc::Global;
+use std::alloc::{AllocError, Global};
 
 /// The sum of the sizes of all live blocks, in bytes.
 pub fn total_capacity(types: &[MemoryType<DeviceMemory>]) -> u64
@@ -115,8 +115,13 @@ pub fn attempt<D: VulkanDevice>(
     if desc.requirements.size > setup.heap_size(index) {
         return Err(AllocationError::OutOfMemory);
     }
-    let name = String::from_str(alloc, desc.name)?;
+    let name = match String::from_str(alloc, desc.name) {
+        Ok(name) => name,
+        Err(AllocError) => return Err(AllocationError::HostOutOfMemory),
+    };
     let used = total_capacity(types);
-    let piece = take_in(setup, device, &mut types[index], desc, index, used)?;
-    Ok(given(setup, desc, index, piece, name))
+    match take_in(setup, device, &mut types[index], desc, index, used) {
+        Ok(piece) => Ok(given(setup, desc, index, piece, name)),
+        Err(error) => Err(error),
+    }
 }

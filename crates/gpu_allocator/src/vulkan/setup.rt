@@ -152,7 +152,8 @@ impl Setup {
     /// The size in bytes of the heap that memory of the type at `index` lies in.
     pub fn heap_size(&self, index: usize) -> u64
         requires { index < length self.now.properties.types }
-        ensures { result ≡ heap_size self.now.properties index }
+        ensures size { result ≡ heap_size self.now.properties index }
+        ensures valid { IsValid self.now.properties }
     {
         let info = self.memory_types[index];
         self.heaps[info.heap_index as usize].size

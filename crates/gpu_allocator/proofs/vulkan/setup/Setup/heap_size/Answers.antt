@@ -7,8 +7,8 @@ use Rattle.gpu_allocator.proofs.Heaps.{heap_there}
 use Rattle.gpu_allocator.proofs.Taken.{element_at}
 use Rattle.gpu_allocator.proofs.vulkan.setup.Setup.heap_size.Goals as goal
 
-pub returns : goal.returns
-returns c =
+pub returns-clause-size : goal.returns-clause-size
+returns-clause-size c =
     let p = (the_view c.self.inside).properties in
     let i = c.args.index in
     let inside : i < length p.types = subst (λ (s : Setup). i < length s.properties.types) (sym c.self.view_is) c.requires in

@@ -1,0 +1,69 @@
+use Rattle.std.proofs.Common.{◌≡◌, ◌∙◌, sym, ap, subst, refl, arith, length, ◌<◌, slice_get, Some, Ok, Err, ℕ}
+use Rattle.gpu_core.specs.TypeState.{TypeState}
+use Rattle.gpu_device.specs.declared.vulkan.types.DeviceMemory.{DeviceMemory}
+use Rattle.gpu_allocator.specs.Attempt.{IsTaken}
+use Rattle.gpu_allocator.specs.Blocks.{Types, total_capacity}
+use Rattle.gpu_allocator.proofs.Attempts.{too_large, short, taken}
+use Rattle.gpu_allocator.proofs.Taken.{element_at, some_at}
+use Rattle.gpu_allocator.proofs.Types.{kind_at, kinds_set, sound_set, as_many}
+use Rattle.gpu_allocator.proofs.vulkan.attempt.attempt.Goals as goal
+use Rattle.gpu_allocator.proofs.vulkan.attempt.attempt.Goals.{After-index_mut}
+
+old_at : (g : _) (c : After-index_mut g) → slice_get c.args.types.now.items c.args.index ≡ Some c.index_mut.result.now
+old_at g c =
+    let types = c.args.types.now.items in
+    let many = as_many c.args.setup.now.properties types c.requires.kinds in
+    element_at types c.args.index c.index_mut.result.now (omega (arith, many, c.requires.there)) c.index_mut.ensures.value
+
+pub take_in-requires-clause-kind : goal.take_in-requires-clause-kind
+take_in-requires-clause-kind g c =
+    kind_at c.args.setup.now.properties c.args.types.now.items c.args.index c.index_mut.result.now c.requires.kinds (old_at g c)
+
+pub returns-then-desc-heap_size-clause-attempts : goal.returns-then-desc-heap_size-clause-attempts
+returns-then-desc-heap_size-clause-attempts g c =
+    too_large g.D.VulkanDevice c.args.setup.now c.args.types.now.items c.args.index c.args.desc.now c.args.device.now (omega (arith, c.if-desc-heap_size.true, c.heap_size.ensures.size))
+
+pub returns-in-Err-clause-attempts : goal.returns-in-Err-clause-attempts
+returns-in-Err-clause-attempts g c =
+    let types = c.args.types.now.items in
+    let many = as_many c.args.setup.now.properties types c.requires.kinds in
+    let old = some_at types c.args.index (omega (arith, many, c.requires.there)) in
+    short g.D.VulkanDevice c.args.setup.now types c.args.index c.args.desc.now c.args.device.now old.0 old.1 (omega (arith, c.if-desc-heap_size.false, c.heap_size.ensures.size))
+
+pub returns-in-Ok-take_in-clause-attempts : goal.returns-in-Ok-take_in-clause-attempts
+returns-in-Ok-take_in-clause-attempts g c =
+    let types = c.args.types.now.items in
+    let used : c.total_capacity-used.result ≡ total_capacity types = c.total_capacity-used.ensures ∙ ap (λ (ts : Types). total_capacity ts) c.deref.ensures.value in
+    taken g.D.VulkanDevice c.args.setup.now types c.args.index c.args.desc.now c.args.device.now
+    c.index_mut.result.now (Ok c.in-Ok-take_in.piece) c.take_in.new.blocks c.take_in.new.device (Ok c.given.result)
+    (old_at g ((goal.at.returns-in-Ok-take_in-clause-attempts g c).After-index_mut))
+    (omega (arith, c.if-desc-heap_size.false, c.heap_size.ensures.size))
+    (subst (λ u. IsTaken g.D.VulkanDevice c.args.setup.now u c.args.index c.args.desc.now c.index_mut.result.now c.args.device.now (Ok c.in-Ok-take_in.piece) c.take_in.new.blocks c.take_in.new.device) used c.in-Ok-take_in.ensures.taken)
+    (c.given.ensures c.in-Ok.ensures.ok)
+
+pub returns-in-Err-take_in-clause-attempts : goal.returns-in-Err-take_in-clause-attempts
+returns-in-Err-take_in-clause-attempts g c =
+    let types = c.args.types.now.items in
+    let used : c.total_capacity-used.result ≡ total_capacity types = c.total_capacity-used.ensures ∙ ap (λ (ts : Types). total_capacity ts) c.deref.ensures.value in
+    taken g.D.VulkanDevice c.args.setup.now types c.args.index c.args.desc.now c.args.device.now
+    c.index_mut.result.now (Err c.in-Err-take_in.error) c.take_in.new.blocks c.take_in.new.device (Err c.in-Err-take_in.error)
+    (old_at g ((goal.at.returns-in-Err-take_in-clause-attempts g c).After-index_mut))
+    (omega (arith, c.if-desc-heap_size.false, c.heap_size.ensures.size))
+    (subst (λ u. IsTaken g.D.VulkanDevice c.args.setup.now u c.args.index c.args.desc.now c.index_mut.result.now c.args.device.now (Err c.in-Err-take_in.error) c.take_in.new.blocks c.take_in.new.device) used c.in-Err-take_in.ensures.taken)
+    refl
+
+pub returns-in-Ok-take_in-clause-kinds : goal.returns-in-Ok-take_in-clause-kinds
+returns-in-Ok-take_in-clause-kinds g c =
+    let old = old_at g ((goal.at.returns-in-Ok-take_in-clause-kinds g c).After-index_mut) in
+    kinds_set c.args.types.now.items c.args.index c.index_mut.result.now c.take_in.new.blocks old c.in-Ok-take_in.ensures.taken.kind.0 c.in-Ok-take_in.ensures.taken.kind.1
+
+pub returns-in-Err-take_in-clause-kinds : goal.returns-in-Err-take_in-clause-kinds
+returns-in-Err-take_in-clause-kinds g c =
+    let old = old_at g ((goal.at.returns-in-Err-take_in-clause-kinds g c).After-index_mut) in
+    kinds_set c.args.types.now.items c.args.index c.index_mut.result.now c.take_in.new.blocks old c.in-Err-take_in.ensures.taken.kind.0 c.in-Err-take_in.ensures.taken.kind.1
+
+pub returns-in-Ok-take_in-clause-sound : goal.returns-in-Ok-take_in-clause-sound
+returns-in-Ok-take_in-clause-sound g c all = sound_set c.args.types.now.items c.args.index c.take_in.new.blocks c.take_in.ensures.sound all
+
+pub returns-in-Err-take_in-clause-sound : goal.returns-in-Err-take_in-clause-sound
+returns-in-Err-take_in-clause-sound g c all = sound_set c.args.types.now.items c.args.index c.take_in.new.blocks c.take_in.ensures.sound all
