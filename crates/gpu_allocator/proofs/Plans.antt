@@ -12,7 +12,8 @@ use Rattle.gpu_core.specs.declared.memory_type.Request as type_requests
 use Rattle.gpu_device.specs.declared.vulkan.types.DeviceMemory.{DeviceMemory}
 use Rattle.gpu_allocator.specs.Describe.{is_own, request_of}
 use Rattle.gpu_allocator.specs.BlockAnswer.{BlockAnswer, Declined, Granted, Mapped, NotMapped, answer_number, answer_refusal}
-use Rattle.gpu_allocator.specs.Attempt.{Settles, Gave, Refused, memory}
+use Rattle.gpu_allocator.specs.Attempt.{Plan, Short, Serves, Needs, IsPlan, Settles, Gave, Refused, memory}
+use Rattle.gpu_allocator.specs.Setup.{Setup}
 use Rattle.gpu_allocator.proofs.Taken.{none_some, some_same}
 use Rattle.gpu_allocator.specs.declared.vulkan.describe.AllocationCreateDesc.{AllocationCreateDesc}
 
@@ -41,17 +42,25 @@ needs t sizes r d size is_dedicated ready asks own h =
     (subst (λ (q : Request). NeedsBlock t sizes r.dedicated q size is_dedicated ready) asks h)
 
 -- a refusal of the device settles the attempt
-pub settles_refused : (old : TypeState DeviceMemory) (own : Bool) (ready : Ready) (a : BlockAnswer) (e : Refusal) (new : List (Option (Slot DeviceMemory)))
-    → answer_refusal a ≡ Some e → new ≡ old.slots → Settles old own ready a (Refused e) new
+pub settles_refused : (old : List (Option (Slot DeviceMemory))) (own : Bool) (ready : Ready) (a : BlockAnswer) (e : Refusal) (new : List (Option (Slot DeviceMemory)))
+    → answer_refusal a ≡ Some e → new ≡ old → Settles old own ready a (Refused e) new
 settles_refused old own ready (Declined code) e new is same = (ap Refused (sym (some_same _ _ is)), same)
 settles_refused old own ready (Granted number) e new is same = absurd (none_some e is)
 settles_refused old own ready (Mapped number bytes) e new is same = absurd (none_some e is)
 settles_refused old own ready (NotMapped code) e new is same = (ap Refused (sym (some_same _ _ is)), same)
 
 -- memory that the device granted takes the block
-pub settles_gave : (old : TypeState DeviceMemory) (own : Bool) (ready : Ready) (a : BlockAnswer) (m : DeviceMemory) (p : Piece DeviceMemory) (new : List (Option (Slot DeviceMemory)))
-    → answer_number a ≡ Some m.0 → Installs old.slots own ready m p new → Settles old own ready a (Gave p) new
+pub settles_gave : (old : List (Option (Slot DeviceMemory))) (own : Bool) (ready : Ready) (a : BlockAnswer) (m : DeviceMemory) (p : Piece DeviceMemory) (new : List (Option (Slot DeviceMemory)))
+    → answer_number a ≡ Some m.0 → Installs old own ready m p new → Settles old own ready a (Gave p) new
 settles_gave old own ready (Declined code) m p new is made = absurd (none_some m.0 is)
-settles_gave old own ready (Granted number) m p new is made = (p, refl, subst (λ k. Installs old.slots own ready (memory k) p new) (sym (some_same _ _ is)) made)
-settles_gave old own ready (Mapped number bytes) m p new is made = (p, refl, subst (λ k. Installs old.slots own ready (memory k) p new) (sym (some_same _ _ is)) made)
+settles_gave old own ready (Granted number) m p new is made = (p, refl, subst (λ k. Installs old own ready (memory k) p new) (sym (some_same _ _ is)) made)
+settles_gave old own ready (Mapped number bytes) m p new is made = (p, refl, subst (λ k. Installs old own ready (memory k) p new) (sym (some_same _ _ is)) made)
 settles_gave old own ready (NotMapped code) m p new is made = absurd (none_some m.0 is)
+
+-- how much room a memory type has for slots plays no part in a plan
+pub roomless : (setup : Setup) (t : TypeState DeviceMemory) (d : AllocationCreateDesc) (host : Bool) (plan : Plan)
+    → IsPlan setup t d host plan → IsPlan setup (record t { room = 0 }) d host plan
+roomless setup t d host Short h = h
+roomless setup t d host (Serves p after) h = h
+roomless setup t d host (Needs size own ready) h =
+    (h.0, record { kind = h.1.kind; size_is = h.1.size_is; none = h.1.none; takes = h.1.takes; piece = h.1.piece })

@@ -54,28 +54,28 @@ abbrev pub memory : ℕ → DeviceMemory
 memory number = record { 0 = number }
 
 -- what the device's answer leaves of the slots
-abbrev pub Settles : TypeState DeviceMemory → (is_dedicated : Bool) → Ready → BlockAnswer → Answer → List (Option (Slot DeviceMemory)) → Type 0
-Settles old is_dedicated ready (Declined code) answer new = (answer ≡ Refused (memory_refusal code)) × (new ≡ old.slots)
+abbrev pub Settles : (old : List (Option (Slot DeviceMemory))) → (is_dedicated : Bool) → Ready → BlockAnswer → Answer → List (Option (Slot DeviceMemory)) → Type 0
+Settles old is_dedicated ready (Declined code) answer new = (answer ≡ Refused (memory_refusal code)) × (new ≡ old)
 Settles old is_dedicated ready (Granted number) answer new =
-    (p : Piece DeviceMemory) × (answer ≡ Gave p) × Installs old.slots is_dedicated ready (memory number) p new
+    (p : Piece DeviceMemory) × (answer ≡ Gave p) × Installs old is_dedicated ready (memory number) p new
 Settles old is_dedicated ready (Mapped number bytes) answer new =
-    (p : Piece DeviceMemory) × (answer ≡ Gave p) × Installs old.slots is_dedicated ready (memory number) p new
-Settles old is_dedicated ready (NotMapped code) answer new = (answer ≡ Refused (map_refusal code)) × (new ≡ old.slots)
+    (p : Piece DeviceMemory) × (answer ≡ Gave p) × Installs old is_dedicated ready (memory number) p new
+Settles old is_dedicated ready (NotMapped code) answer new = (answer ≡ Refused (map_refusal code)) × (new ≡ old)
 
 -- the question for a block of that size in the t-th memory type
 abbrev pub question : Setup → (t : ℕ) → AllocationCreateDesc → (size : ℕ) → MemoryAllocateInfo
 question setup t d size =
     record { size = size; memory_type_index = t; device_address = setup.device_address; scheme = d.allocation_scheme }
 
--- what a plan comes to where `used` bytes of blocks are live: the device is asked only for a block that keeps their sum in 64 bits
-abbrev pub Comes : (used : ℕ) → (ask : ℕ → MemoryAllocateInfo) → TypeState DeviceMemory → Plan → Option Asked → Answer → List (Option (Slot DeviceMemory)) → Type 0
-Comes used ask old Short None answer new = (answer ≡ Refused host_out_of_memory) × (new ≡ old.slots)
-Comes used ask old Short (Some a) answer new = ⊥
-Comes used ask old (Serves p after) None answer new = (answer ≡ Gave p) × (new ≡ after)
-Comes used ask old (Serves p after) (Some a) answer new = ⊥
-Comes used ask old (Needs size is_dedicated ready) None answer new = (2 ^ 64 ≤ used + size) × (answer ≡ Refused out_of_memory) × (new ≡ old.slots)
-Comes used ask old (Needs size is_dedicated ready) (Some a) answer new =
-    (used + size < 2 ^ 64) × (a.info ≡ ask size) × IsAnswer old.is_host size a.answer × Settles old is_dedicated ready a.answer answer new
+-- what a plan comes to where `used` bytes of blocks are live, in memory that is to be mapped or not: the device is asked only for a block that keeps their sum in 64 bits
+abbrev pub Comes : (used : ℕ) → (ask : ℕ → MemoryAllocateInfo) → (mapped : Bool) → (old : List (Option (Slot DeviceMemory))) → Plan → Option Asked → Answer → List (Option (Slot DeviceMemory)) → Type 0
+Comes used ask mapped old Short None answer new = (answer ≡ Refused host_out_of_memory) × (new ≡ old)
+Comes used ask mapped old Short (Some a) answer new = ⊥
+Comes used ask mapped old (Serves p after) None answer new = (answer ≡ Gave p) × (new ≡ after)
+Comes used ask mapped old (Serves p after) (Some a) answer new = ⊥
+Comes used ask mapped old (Needs size is_dedicated ready) None answer new = (2 ^ 64 ≤ used + size) × (answer ≡ Refused out_of_memory) × (new ≡ old)
+Comes used ask mapped old (Needs size is_dedicated ready) (Some a) answer new =
+    (used + size < 2 ^ 64) × (a.info ≡ ask size) × IsAnswer mapped size a.answer × Settles old is_dedicated ready a.answer answer new
 
 -- the device after an attempt: untouched where it wasn't asked
 abbrev pub IsAfter : {D : Type 0} → Ghosts D → (old : D) → (mapped : Bool) → Option Asked → (new : D) → Type 0
@@ -87,6 +87,6 @@ pub record IsTaken {D : Type 0} (g : Ghosts D) (setup : Setup) (used t : ℕ) (d
   pub outcome : Outcome
   pub plan : Plan
   pub is_plan : IsPlan setup old d outcome.host plan
-  pub comes : Comes used (question setup t d) old plan outcome.asked (answer_of result) new.slots
+  pub comes : Comes used (question setup t d) old.is_host old.slots plan outcome.asked (answer_of result) new.slots
   pub asked : IsAfter g device old.is_host outcome.asked after
   pub kind : (new.is_host ≡ old.is_host) × (new.granularity ≡ old.granularity)

@@ -3,6 +3,8 @@ pub mod Choice
 pub mod Setup
 pub mod BlockAnswer
 pub mod Blocks
+pub mod Types
 pub mod Attempt
 pub mod Live
 pub mod Allocate
+pub mod State

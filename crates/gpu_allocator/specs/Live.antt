@@ -4,7 +4,7 @@ use Rattle.std.specs.Option.{option_map}
 use Rattle.gpu_core.specs.TypeRelease.{IsLive as IsLivePiece}
 use Rattle.gpu_core.specs.declared.memory_type.Piece.{Piece}
 use Rattle.gpu_device.specs.declared.vulkan.types.DeviceMemory.{DeviceMemory}
-use Rattle.gpu_allocator.specs.Blocks.{Types, slots_of, is_host_visible}
+use Rattle.gpu_allocator.specs.Blocks.{Slots, slots_at, is_host_visible}
 use Rattle.gpu_allocator.specs.Describe.{is_own}
 use Rattle.gpu_allocator.specs.Setup.{Setup}
 use Rattle.gpu_allocator.specs.declared.vulkan.allocation.Allocation.{Allocation}
@@ -19,13 +19,13 @@ piece_of a =
 abbrev pub is_same_memory : DeviceMemory → DeviceMemory → Bool
 is_same_memory m n = m.0 == n.0
 
-abbrev pub IsLiveIn : Types → (t : ℕ) → Option (Piece DeviceMemory) → Type 0
-IsLiveIn types t None = ⊥
-IsLiveIn types t (Some p) = IsLivePiece is_same_memory (slots_of types t) p
+abbrev pub IsLiveIn : Slots → (t : ℕ) → Option (Piece DeviceMemory) → Type 0
+IsLiveIn slots t None = ⊥
+IsLiveIn slots t (Some p) = IsLivePiece is_same_memory (slots_at slots t) p
 
 -- the allocator has a record with the allocation's type, slot, number, offset, size and memory
-abbrev pub IsLive : Types → Allocation → Type 0
-IsLive types a = IsLiveIn types a.memory_type_index (piece_of a)
+abbrev pub IsLive : Slots → Allocation → Type 0
+IsLive slots a = IsLiveIn slots a.memory_type_index (piece_of a)
 
 -- the allocation that is given for a piece of the t-th memory type
 pub record IsGiven (setup : Setup) (t : ℕ) (d : AllocationCreateDesc) (p : Piece DeviceMemory) (a : Allocation) : Type 0 where

@@ -4,7 +4,8 @@ ghost use Rattle.std.specs.Prelude.{◌≡◌, ◌≢◌, ℕ, ◌+◌, ◌^◌,
 ghost use Rattle.std.specs.Int.{is_power_of_two};
 ghost use Rattle.std.specs.List.{sum_by};
 ghost use Rattle.gpu_core.specs.TypeState.{capacity_of};
-ghost use Rattle.gpu_allocator.specs.Blocks.{is_host_visible, total_capacity, kinds, kinds_told, AreAllSound};
+ghost use Rattle.gpu_allocator.specs.Blocks.{is_host_visible, total_capacity, AreAllSound};
+ghost use Rattle.gpu_allocator.specs.Types.{slots_of, kinds, kinds_told};
 ghost use Rattle.gpu_core.specs.Slots.{AreSound};
 ghost use Rattle.gpu_allocator.specs.Attempt.{IsTaken};
 ghost use Rattle.gpu_allocator.specs.Allocate.{IsAttempt};
@@ -20,8 +21,8 @@ use std::alloc::{AllocError, Global};
 
 /// The sum of the sizes of all live blocks, in bytes.
 pub fn total_capacity(types: &[MemoryType<DeviceMemory>]) -> u64
-    requires { total_capacity types.now < 2 ^ 64 }
-    ensures { result ≡ total_capacity types.now }
+    requires { total_capacity (slots_of types.now) < 2 ^ 64 }
+    ensures { result ≡ total_capacity (slots_of types.now) }
 {
     let mut sum = 0;
     for memory_type in types {
@@ -107,10 +108,10 @@ pub fn attempt<D: VulkanDevice>(
     requires aligned { IsTrue (is_power_of_two desc.now.requirements.alignment) }
     requires there { index < length setup.now.properties.types }
     requires kinds { kinds types.old.items ≡ kinds_told setup.now.properties }
-    requires sum { total_capacity types.old.items < 2 ^ 64 }
-    ensures attempts { IsAttempt D.VulkanDevice setup.now index desc.now types.old.items device.old result types.new.items device.new }
+    requires sum { total_capacity (slots_of types.old.items) < 2 ^ 64 }
+    ensures attempts { IsAttempt D.VulkanDevice setup.now index desc.now (slots_of types.old.items) device.old result (slots_of types.new.items) device.new }
     ensures kinds { kinds types.new.items ≡ kinds types.old.items }
-    ensures sound { AreAllSound types.old.items → AreAllSound types.new.items }
+    ensures sound { AreAllSound setup.now.properties (slots_of types.old.items) → AreAllSound setup.now.properties (slots_of types.new.items) }
 {
     if desc.requirements.size > setup.heap_size(index) {
         return Err(AllocationError::OutOfMemory);

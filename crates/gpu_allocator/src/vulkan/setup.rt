@@ -1,13 +1,14 @@
 //! What an allocator is made with, and never changes.
 
-ghost use Rattle.std.specs.Prelude.{◌≡◌, ◌≤◌, ◌<◌, length, not, Some, None, IfOk, IsTrue, map, slice_get, IfSome};
+ghost use Rattle.std.specs.Prelude.{◌≡◌, ◌≤◌, ◌<◌, length, not, Some, None, IfOk, IsTrue, map, All, [], slice_get, IfSome};
 ghost use Rattle.std.specs.List.{list_any};
 ghost use Rattle.std.specs.Option.{option_map};
 ghost use Rattle.std.specs.Int.{is_power_of_two};
 ghost use Rattle.gpu_core.specs.Refusal.{refusal_of, invalid_allocator_create_desc};
 ghost use Rattle.gpu_allocator.specs.Setup.{lacks_heap, setup_fault, IsValid};
 ghost use Rattle.gpu_allocator.specs.Allocate.{heap_size};
-ghost use Rattle.gpu_allocator.specs.Blocks.{is_host_visible, kinds, kinds_told, AreEmpty, AreAllSound};
+ghost use Rattle.gpu_allocator.specs.Blocks.{is_host_visible};
+ghost use Rattle.gpu_allocator.specs.Types.{slots_of, kinds, kinds_told};
 
 use crate::{AllocationError, AllocationSizes, AllocatorDebugSettings, Fault, MemoryType, Result};
 use gpu_device::vulkan::{
@@ -138,8 +139,7 @@ pub fn empty_types(
 ) -> Result<Vec<MemoryType<DeviceMemory>>, AllocError>
     requires { IsTrue (is_power_of_two granularity) }
     ensures kinds { IfOk result (λ v. kinds v.items ≡ map (λ info. (is_host_visible info, granularity)) memory_types.now) }
-    ensures empty { IfOk result (λ v. AreEmpty v.items) }
-    ensures sound { IfOk result (λ v. AreAllSound v.items) }
+    ensures empty { IfOk result (λ v. All (λ slots. slots ≡ []) (slots_of v.items)) }
 {
     let mut types = Vec::with_capacity(alloc, memory_types.len())?;
     for info in memory_types {
@@ -190,8 +190,7 @@ pub fn parts_of<D: VulkanDevice>(
       device_address = settings.buffer_device_address;
     }) }
     ensures kinds { IfOk result (λ parts. kinds parts.1.items ≡ kinds_told (D.properties device.now)) }
-    ensures empty { IfOk result (λ parts. AreEmpty parts.1.items) }
-    ensures sound { IfOk result (λ parts. AreAllSound parts.1.items) }
+    ensures empty { IfOk result (λ parts. All (λ slots. slots ≡ []) (slots_of parts.1.items)) }
 {
     let memory_types = memory_types_of(alloc, device)?;
     let heaps = heaps_of(alloc, device)?;

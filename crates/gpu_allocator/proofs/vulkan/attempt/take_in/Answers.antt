@@ -73,7 +73,7 @@ returns-in-Err-ask-clause-taken g c =
       outcome = record { host = true; asked = Some (record { info = info; answer = a }) };
       plan = Needs need.size need.dedicated need.room;
       is_plan = (refl, needs t c.setup.inside.settings.sizes r c.args.desc.now need.size need.dedicated need.room c.request_of.ensures.asks c.request_of.ensures.own p.0);
-      comes = (omega (arith, c.if-need-used.false, c.ranges.used), refl, asked.fits, settles_refused t need.dedicated need.room a (refusal_of c.in-Err-ask.error) c.prepare.new.self.slots c.in-Err-ask.ensures.2 p.2);
+      comes = (omega (arith, c.if-need-used.false, c.ranges.used), refl, asked.fits, settles_refused t.slots need.dedicated need.room a (refusal_of c.in-Err-ask.error) c.prepare.new.self.slots c.in-Err-ask.ensures.2 p.2);
       asked = asked;
       kind = c.prepare.ensures.kind;
     })
@@ -96,7 +96,7 @@ returns-in-Ok-clause-taken g c =
       outcome = record { host = true; asked = Some (record { info = info; answer = a }) };
       plan = Needs need.size need.dedicated need.room;
       is_plan = (refl, needs t c.setup.inside.settings.sizes r c.args.desc.now need.size need.dedicated need.room c.request_of.ensures.asks c.request_of.ensures.own p.0);
-      comes = (omega (arith, c.if-need-used.false, c.ranges.used), refl, asked.fits, settles_gave t need.dedicated need.room a c.in-Ok.memory c.install.result c.install.new.self.slots c.in-Ok.ensures.2 made);
+      comes = (omega (arith, c.if-need-used.false, c.ranges.used), refl, asked.fits, settles_gave t.slots need.dedicated need.room a c.in-Ok.memory c.install.result c.install.new.self.slots c.in-Ok.ensures.2 made);
       asked = asked;
       kind = (c.install.ensures.kind.0 ∙ c.prepare.ensures.kind.0, c.install.ensures.kind.1 ∙ c.prepare.ensures.kind.1);
     })

@@ -1,12 +1,13 @@
-use Rattle.std.proofs.Common.{◌≡◌, ◌∙◌, ◌++◌, ◌≤◌, [], ◌∷◌, List, ℕ, Bool, Some, ap, sym, subst, map, take, slice_get, vec_capacity, arith, length, refl, ◌+◌, get_or}
+use Rattle.std.proofs.Common.{◌≡◌, ◌∙◌, ◌++◌, ◌≤◌, [], ◌∷◌, List, ℕ, Bool, Some, ap, sym, subst, map, take, slice_get, vec_capacity, arith, length, refl, ◌+◌, get_or, All}
 use Rattle.std.proofs.lemmas.List.{map-append}
 use Rattle.std.proofs.lemmas.Option.{slice_get-get_or}
 use Rattle.gpu_core.specs.TypeState.{TypeState}
-use Rattle.gpu_core.specs.Slots.{AreSound}
 use Rattle.gpu_device.specs.declared.vulkan.types.DeviceMemory.{DeviceMemory}
 use Rattle.gpu_device.specs.declared.vulkan.types.MemoryTypeInfo.{MemoryTypeInfo}
-use Rattle.gpu_allocator.specs.Blocks.{Types, kinds, is_host_visible, AreEmpty, AreAllSound}
-use Rattle.gpu_allocator.proofs.Taken.{taken_next, pushed_each}
+use Rattle.std.proofs.lemmas.List.Elements.{All-append, All-cons, All-nil}
+use Rattle.gpu_allocator.specs.Blocks.{Slots, is_host_visible}
+use Rattle.gpu_allocator.specs.Types.{Types, slots_of, kinds}
+use Rattle.gpu_allocator.proofs.Taken.{taken_next}
 use Rattle.gpu_allocator.proofs.vulkan.setup.empty_types.Goals as goal
 
 pub loop-info-preserved : goal.loop-info-preserved
@@ -29,7 +30,9 @@ loop-info-preserved c =
           ∙ ap (λ k. map kind (take i infos) ++ k ∷ []) own
           ∙ sym (map-append kind (take i infos) (info ∷ []))
           ∙ ap (map kind) next;
-      empty = subst (λ (ts : Types). AreEmpty ts) (sym pushed) (pushed_each (λ (s : TypeState DeviceMemory). s.slots ≡ []) types t c.loop-info.invariant.empty c.new.ensures.slots);
-      sound = subst (λ (ts : Types). AreAllSound ts) (sym pushed) (pushed_each (λ (s : TypeState DeviceMemory). AreSound s.granularity s.slots) types t c.loop-info.invariant.sound c.new.ensures.sound);
+      empty =
+          subst (λ (ts : Types). All (λ slots. slots ≡ []) (slots_of ts)) (sym pushed)
+          (subst (λ (ss : Slots). All (λ slots. slots ≡ []) ss) (sym (map-append _ types (t ∷ [])))
+          (All-append (λ slots. slots ≡ []) (slots_of types) (t.slots ∷ []) c.loop-info.invariant.empty (All-cons (λ slots. slots ≡ []) t.slots [] c.new.ensures.slots (All-nil (λ slots. slots ≡ [])))));
       room = omega (arith, c.loop-info.invariant.room, c.push_reserved.ensures.capacity);
     }
