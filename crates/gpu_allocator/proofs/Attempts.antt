@@ -51,21 +51,21 @@ module _ {D : Type 0} (g : Ghosts D) (setup : Setup) (i : ℕ) (d : AllocationCr
       → Answers setup i d result (answer_of r)
       → IsAttempt g setup i d (slots_of types) device result (slots_of (slice_set types i new)) after
   taken types old r new after result same at below t answers =
-    let host = host_at setup.properties types i old same at in
-    let used = total_capacity (slots_of types) in
-    record {
-      outcome = t.outcome;
-      answer = answer_of r;
-      attempts = inr (record {
-        below = below;
-        plan = t.plan;
-        is_plan = subst (λ (s : TypeState DeviceMemory). IsPlan setup s d t.outcome.host t.plan) (type_is setup.properties types i old same at) (roomless setup old d t.outcome.host t.plan t.is_plan);
-        after = new.slots;
-        comes =
-            subst (λ m. Comes used (question setup i d) m (slots_at (slots_of types) i) t.plan t.outcome.asked (answer_of r) new.slots) host
-            (subst (λ ss. Comes used (question setup i d) old.is_host ss t.plan t.outcome.asked (answer_of r) new.slots) (slots_are types i old at) t.comes);
-        slots = slots_set types i new;
-      });
-      asked = subst (λ m. IsAfter g device m t.outcome.asked after) host t.asked;
-      answers = answers;
-    }
+      let host = host_at setup.properties types i old same at in
+      let used = total_capacity (slots_of types) in
+      record {
+        outcome = t.outcome;
+        answer = answer_of r;
+        attempts = inr (record {
+          below = below;
+          plan = t.plan;
+          is_plan = subst (λ (s : TypeState DeviceMemory). IsPlan setup s d t.outcome.host t.plan) (type_is setup.properties types i old same at) (roomless setup old d t.outcome.host t.plan t.is_plan);
+          after = new.slots;
+          comes =
+              subst (λ m. Comes used (question setup i d) m (slots_at (slots_of types) i) t.plan t.outcome.asked (answer_of r) new.slots) host
+              (subst (λ ss. Comes used (question setup i d) old.is_host ss t.plan t.outcome.asked (answer_of r) new.slots) (slots_are types i old at) t.comes);
+          slots = slots_set types i new;
+        });
+        asked = subst (λ m. IsAfter g device m t.outcome.asked after) host t.asked;
+        answers = answers;
+      }

@@ -102,3 +102,17 @@ share_below (x ∷ xs) (suc i) t at =
     let rest = share_below xs i t at in
     let split : total_capacity (slots_of (x ∷ xs)) ≡ capacity_of x.slots + total_capacity (slots_of xs) = sum_by-cons (λ s. capacity_of s) x.slots (slots_of xs) in
     omega (arith, rest, split)
+
+-- the sum after the slots of one type were set
+pub total_set : (ss : Slots) (i : ℕ) (x : List (Option (Slot DeviceMemory))) → i < length ss
+    → total_capacity (slice_set ss i x) + capacity_of (slots_at ss i) ≡ total_capacity ss + capacity_of x
+total_set [] i x below = absurd (omega (arith, below))
+total_set (s ∷ ss) zero x below =
+    let new = sum_by-cons (λ s. capacity_of s) x ss in
+    let old = sum_by-cons (λ s. capacity_of s) s ss in
+    omega (arith, new, old)
+total_set (s ∷ ss) (suc i) x below =
+    let rest = total_set ss i x (omega (arith, below)) in
+    let new = sum_by-cons (λ s. capacity_of s) s (slice_set ss i x) in
+    let old = sum_by-cons (λ s. capacity_of s) s ss in
+    omega (arith, rest, new, old)

@@ -8,14 +8,16 @@ ghost use Rattle.gpu_allocator.specs.Blocks.{is_host_visible, total_capacity, Ar
 ghost use Rattle.gpu_allocator.specs.Types.{slots_of, kinds, kinds_told};
 ghost use Rattle.gpu_core.specs.Slots.{AreSound};
 ghost use Rattle.gpu_allocator.specs.Attempt.{IsTaken};
-ghost use Rattle.gpu_allocator.specs.Allocate.{IsAttempt};
+ghost use Rattle.gpu_allocator.specs.Allocate.{IsAttempt, IsServed, next_type};
+ghost use Rattle.gpu_core.specs.Refusal.{refusal_of};
 ghost use Rattle.gpu_allocator.specs.Live.{IsGiven};
 
 use super::Allocation;
 use super::block::ask;
+use super::choice::{first_type, required_flags};
 use super::describe::{AllocationCreateDesc, is_own, request_of};
 use super::setup::{Setup, is_mapped};
-use crate::{AllocationError, MemoryType, NeedBlock, Piece, Prepared, Result};
+use crate::{AllocationError, MemoryLocation, MemoryType, Piece, Prepared, Result};
 use gpu_device::vulkan::{DeviceMemory, MemoryAllocateInfo, VulkanDevice};
 use std::alloc::{AllocError, Global};
 
@@ -48,6 +50,7 @@ fn take_in<D: VulkanDevice>(
     requires used { capacity_of blocks.old.slots ≤ used }
     ensures taken { IsTaken D.VulkanDevice setup.now used index desc.now blocks.old device.old result blocks.new device.new }
     ensures sound { AreSound blocks.new.granularity blocks.new.slots }
+    ensures sum { used + capacity_of blocks.new.slots < 2 ^ 64 + capacity_of blocks.old.slots }
 {
     let need = match blocks.prepare(&setup.settings.sizes, &request_of(desc)) {
         Err(error) => return Err(error),
@@ -112,6 +115,7 @@ pub fn attempt<D: VulkanDevice>(
     ensures attempts { IsAttempt D.VulkanDevice setup.now index desc.now (slots_of types.old.items) device.old result (slots_of types.new.items) device.new }
     ensures kinds { kinds types.new.items ≡ kinds types.old.items }
     ensures sound { AreAllSound setup.now.properties (slots_of types.old.items) → AreAllSound setup.now.properties (slots_of types.new.items) }
+    ensures sum { total_capacity (slots_of types.new.items) < 2 ^ 64 }
 {
     if desc.requirements.size > setup.heap_size(index) {
         return Err(AllocationError::OutOfMemory);
@@ -124,5 +128,48 @@ pub fn attempt<D: VulkanDevice>(
     match take_in(setup, device, &mut types[index], desc, index, used) {
         Ok(piece) => Ok(given(setup, desc, index, piece, name)),
         Err(error) => Err(error),
+    }
+}
+
+/// The memory type that is asked after a refusal: memory for uploads is then taken where the host can write it, be it slow
+/// for the device.
+fn next_type(setup: &Setup, desc: &AllocationCreateDesc, error: &AllocationError) -> Option<usize>
+    ensures next { result ≡ next_type setup.now desc.now (refusal_of error.now) }
+    ensures there { IfSome result (λ index. index < length setup.now.properties.types) }
+{
+    let types = &setup.memory_types;
+    let bits = desc.requirements.memory_type_bits;
+    match (desc.location, error) {
+        (MemoryLocation::CpuToGpu, AllocationError::HostOutOfMemory) => None,
+        (MemoryLocation::CpuToGpu, _) => first_type(types, bits, required_flags(desc.location)),
+        (_, _) => None,
+    }
+}
+
+/// An allocation in the memory type at `index`, or in the one that is asked after a refusal.
+pub fn serve<D: VulkanDevice>(
+    alloc: Global,
+    setup: &Setup,
+    device: &mut D,
+    types: &mut Vec<MemoryType<DeviceMemory>>,
+    desc: &AllocationCreateDesc,
+    index: usize,
+) -> Result<Allocation>
+    requires sized { 0 < desc.now.requirements.size }
+    requires aligned { IsTrue (is_power_of_two desc.now.requirements.alignment) }
+    requires there { index < length setup.now.properties.types }
+    requires kinds { kinds types.old.items ≡ kinds_told setup.now.properties }
+    requires sum { total_capacity (slots_of types.old.items) < 2 ^ 64 }
+    ensures served { IsServed D.VulkanDevice setup.now index desc.now (slots_of types.old.items) device.old result (slots_of types.new.items) device.new }
+    ensures kinds { kinds types.new.items ≡ kinds types.old.items }
+    ensures sound { AreAllSound setup.now.properties (slots_of types.old.items) → AreAllSound setup.now.properties (slots_of types.new.items) }
+    ensures sum { total_capacity (slots_of types.new.items) < 2 ^ 64 }
+{
+    match attempt(alloc, setup, device, types, desc, index) {
+        Ok(allocation) => Ok(allocation),
+        Err(error) => match next_type(setup, desc, &error) {
+            None => Err(error),
+            Some(next) => attempt(alloc, setup, device, types, desc, next),
+        },
     }
 }

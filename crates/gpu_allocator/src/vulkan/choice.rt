@@ -1,6 +1,6 @@
 //! Which memory type serves a location.
 
-ghost use Rattle.std.specs.Prelude.{◌≡◌, ◌==◌};
+ghost use Rattle.std.specs.Prelude.{◌≡◌, ◌==◌, ◌<◌, length, IfSome};
 ghost use Rattle.std.specs.Int.{bit_at};
 ghost use Rattle.gpu_allocator.specs.Choice.{preferred, required, serves, first_type, best_type};
 
@@ -59,7 +59,8 @@ fn serves(info: &MemoryTypeInfo, index: usize, bits: u32, flags: MemoryPropertyF
 
 /// The first memory type whose bit is set and which has all the flags.
 pub fn first_type(types: &[MemoryTypeInfo], bits: u32, flags: MemoryPropertyFlags) -> Option<usize>
-    ensures { result ≡ first_type types.now bits flags.0 }
+    ensures first { result ≡ first_type types.now bits flags.0 }
+    ensures there { IfSome result (λ index. index < length types.now) }
 {
     let mut index = 0;
     for info in types {
@@ -73,7 +74,8 @@ pub fn first_type(types: &[MemoryTypeInfo], bits: u32, flags: MemoryPropertyFlag
 
 /// The memory type that a location takes: the first with all that it prefers, else the first with all that it must have.
 pub fn best_type(types: &[MemoryTypeInfo], bits: u32, location: MemoryLocation) -> Option<usize>
-    ensures { result ≡ best_type types.now bits location }
+    ensures best { result ≡ best_type types.now bits location }
+    ensures there { IfSome result (λ index. index < length types.now) }
 {
     match first_type(types, bits, preferred_flags(location)) {
         Some(index) => Some(index),

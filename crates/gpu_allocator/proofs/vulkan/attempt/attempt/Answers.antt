@@ -1,6 +1,6 @@
-use Rattle.std.proofs.Common.{◌≡◌, ◌∙◌, sym, ap, subst, refl, arith, length, ◌<◌, slice_get, slice_set, Some, Ok, Err, ℕ}
+use Rattle.std.proofs.Common.{◌≡◌, ◌∙◌, sym, ap, subst, refl, arith, length, ◌<◌, slice_get, slice_set, Some, Ok, Err, ℕ, ◌^◌}
 use Rattle.std.proofs.lemmas.List.{length-map}
-use Rattle.gpu_core.specs.TypeState.{TypeState}
+use Rattle.gpu_core.specs.TypeState.{TypeState, capacity_of}
 use Rattle.gpu_core.specs.Slots.{AreSound}
 use Rattle.gpu_device.specs.declared.vulkan.types.DeviceMemory.{DeviceMemory}
 use Rattle.gpu_allocator.specs.Attempt.{IsTaken}
@@ -8,7 +8,7 @@ use Rattle.gpu_allocator.specs.Blocks.{Slots, total_capacity, AreAllSound}
 use Rattle.gpu_allocator.specs.Types.{Types, slots_of}
 use Rattle.gpu_allocator.proofs.Attempts.{too_large, short, taken}
 use Rattle.gpu_allocator.proofs.Taken.{element_at}
-use Rattle.gpu_allocator.proofs.Types.{kind_at, pages_at, kinds_set, sound_set, slots_set, as_many, share_below}
+use Rattle.gpu_allocator.proofs.Types.{kind_at, pages_at, kinds_set, sound_set, slots_set, slots_are, total_set, as_many, share_below}
 use Rattle.gpu_allocator.proofs.vulkan.attempt.attempt.Goals as goal
 use Rattle.gpu_allocator.proofs.vulkan.attempt.attempt.Goals.{After-index_mut, After-take_in}
 
@@ -88,3 +88,23 @@ returns-in-Ok-take_in-clause-sound g c all = sound_after g ((goal.at.returns-in-
 
 pub returns-in-Err-take_in-clause-sound : goal.returns-in-Err-take_in-clause-sound
 returns-in-Err-take_in-clause-sound g c all = sound_after g ((goal.at.returns-in-Err-take_in-clause-sound g c).After-take_in) (old_at g ((goal.at.returns-in-Err-take_in-clause-sound g c).After-index_mut)) all
+
+sum_after : (g : _) (c : After-take_in g) → slice_get c.args.types.now.items c.args.index ≡ Some c.index_mut.result.now
+    → total_capacity (slots_of (slice_set c.args.types.now.items c.args.index c.take_in.new.blocks)) < 2 ^ 64
+sum_after g c old =
+    let types = c.args.types.now.items in
+    let many = as_many c.args.setup.now.properties types c.requires.kinds in
+    let long = length-map types (λ (t : TypeState DeviceMemory). t.slots) in
+    let used : c.total_capacity-used.result ≡ total_capacity (slots_of types) = c.total_capacity-used.ensures ∙ ap (λ (ts : Types). total_capacity (slots_of ts)) c.deref.ensures.value in
+    let new = ap (λ (ss : Slots). total_capacity ss) (slots_set types c.args.index c.take_in.new.blocks) in
+    let same = ap (λ ss. capacity_of ss) (slots_are types c.args.index c.index_mut.result.now old) in
+    let total = total_set (slots_of types) c.args.index c.take_in.new.blocks.slots (omega (arith, many, long, c.requires.there)) in
+    omega (arith, used, new, same, total, c.take_in.ensures.sum)
+
+pub returns-in-Ok-take_in-clause-sum : goal.returns-in-Ok-take_in-clause-sum
+returns-in-Ok-take_in-clause-sum g c =
+    sum_after g ((goal.at.returns-in-Ok-take_in-clause-sum g c).After-take_in) (old_at g ((goal.at.returns-in-Ok-take_in-clause-sum g c).After-index_mut))
+
+pub returns-in-Err-take_in-clause-sum : goal.returns-in-Err-take_in-clause-sum
+returns-in-Err-take_in-clause-sum g c =
+    sum_after g ((goal.at.returns-in-Err-take_in-clause-sum g c).After-take_in) (old_at g ((goal.at.returns-in-Err-take_in-clause-sum g c).After-index_mut))

@@ -22,7 +22,7 @@ loop-info-preserved c =
     let info = get_or infos i none in
     let next : take i infos ++ info ∷ [] ≡ take (i + 1) infos = taken_next infos (take i infos) i info refl (slice_get-get_or infos i none c.loop-info-test.true) in
     let own : (t.is_host, t.granularity) ≡ kind info =
-        ap (λ b. (b, t.granularity)) (c.new.ensures.kind.0 ∙ c.is_mapped.ensures) ∙ ap (λ n. (is_host_visible info, n)) c.new.ensures.kind.1 in
+    ap (λ b. (b, t.granularity)) (c.new.ensures.kind.0 ∙ c.is_mapped.ensures) ∙ ap (λ n. (is_host_visible info, n)) c.new.ensures.kind.1 in
     record {
       kinds_are =
           ap kinds pushed ∙ map-append _ types (t ∷ [])
