@@ -15,7 +15,7 @@ use Rattle.gpu_core.specs.declared.memory_type.Piece.{Piece}
 use Rattle.gpu_core.specs.declared.memory_type.slot.Finding.{Finding}
 use Rattle.gpu_core.specs.declared.memory_type.slot.Finding.TheVariants as findings
 
-only_one : (o : Option Extent) (x y : Extent) → Contains (option_to_list o) x → Contains (option_to_list o) y → x ≡ y
+pub only_one : (o : Option Extent) (x y : Extent) → Contains (option_to_list o) x → Contains (option_to_list o) y → x ≡ y
 only_one None x y h k = (let l = h.1 in absurd (omega arith))
 only_one (Some z) x y h k =
     let all : All (λ w. w ≡ z) (z ∷ []) = All-cons (λ w. w ≡ z) z [] refl (All-nil (λ w. w ≡ z)) in

@@ -17,6 +17,7 @@ mod memory_type;
 mod report;
 mod rows;
 mod sub_allocator;
+pub mod type_laws;
 
 pub use allocation_sizes::AllocationSizes;
 pub use allocation_type::AllocationType;
