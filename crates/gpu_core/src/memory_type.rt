@@ -85,6 +85,7 @@ impl<H: Copy + Eq> Model for MemoryType<H> {
 impl<H: Copy + Eq> MemoryType<H> {
     ghost use Rattle.gpu_core.specs.TypeState.{slot_at, capacity_of, shared_count, block_number, KeepsOneEmptyAtMost};
     ghost use Rattle.gpu_core.specs.TypeTake.{Installs};
+    ghost use Rattle.gpu_core.specs.Slots.{AreSound};
     ghost use Rattle.gpu_core.specs.TypePrepare.{IsPrepared, CanInstall};
     ghost use Rattle.gpu_core.specs.TypeRelease.{has_several, IsLive, IsFreeRefusal, IsNameRefusal, ReleasesPiece, RenamesPiece};
     ghost use Rattle.gpu_core.specs.TypeReport.{leaks_in, with_type};
@@ -96,6 +97,7 @@ impl<H: Copy + Eq> MemoryType<H> {
         requires { IsTrue (is_power_of_two granularity) }
         ensures slots { result.slots ≡ [] }
         ensures kind { (result.is_host ≡ is_host) × (result.granularity ≡ granularity) }
+        ensures sound { AreSound result.granularity result.slots }
         ensures empty { KeepsOneEmptyAtMost result.slots }
     {
         MemoryType {
@@ -118,6 +120,7 @@ impl<H: Copy + Eq> MemoryType<H> {
         ensures cause { IfErr result (λ e. e ≡ HostOutOfMemory) }
         ensures refused { OnErr result (self.new.slots ≡ self.old.slots) }
         ensures kind { (self.new.is_host ≡ self.old.is_host) × (self.new.granularity ≡ self.old.granularity) }
+        ensures sound { AreSound self.new.granularity self.new.slots }
         ensures empty { KeepsOneEmptyAtMost self.new.slots }
     {
         let next = sizes.memblock_size(self.is_host, self.general);
@@ -145,6 +148,7 @@ impl<H: Copy + Eq> MemoryType<H> {
         ensures installed { Installs self.old.slots need.dedicated need.room number result self.new.slots }
         ensures capacity { capacity_of self.new.slots ≡ capacity_of self.old.slots + need.size }
         ensures kind { (self.new.is_host ≡ self.old.is_host) × (self.new.granularity ≡ self.old.granularity) }
+        ensures sound { AreSound self.new.granularity self.new.slots }
         ensures empty { KeepsOneEmptyAtMost self.new.slots }
     {
         let NeedBlock {
@@ -181,6 +185,7 @@ impl<H: Copy + Eq> MemoryType<H> {
         ensures cause { IfErr result (λ e. IsFreeRefusal H.eq piece.now (slot_at self.old.slots piece.now.slot) (refusal_of e)) }
         ensures refused { OnErr result (self.new ≡ self.old) }
         ensures kind { (self.new.is_host ≡ self.old.is_host) × (self.new.granularity ≡ self.old.granularity) }
+        ensures sound { AreSound self.new.granularity self.new.slots }
         ensures empty { KeepsOneEmptyAtMost self.new.slots }
     {
         let several = self.general > 1;
@@ -205,6 +210,7 @@ impl<H: Copy + Eq> MemoryType<H> {
         ensures cause { IfErr result (λ e. IsNameRefusal H.eq piece.now (slot_at self.old.slots piece.now.slot) (refusal_of e)) }
         ensures refused { OnErr result (self.new ≡ self.old) }
         ensures kind { (self.new.is_host ≡ self.old.is_host) × (self.new.granularity ≡ self.old.granularity) }
+        ensures sound { AreSound self.new.granularity self.new.slots }
         ensures empty { KeepsOneEmptyAtMost self.new.slots }
     {
         rename_in(&mut self.slots, piece, name)

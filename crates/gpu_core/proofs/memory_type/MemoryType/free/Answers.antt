@@ -2,7 +2,7 @@ use native.Mathlib.Numerals.{unary_clauses}
 use Rattle.std.proofs.Common.{◌-◌, subst, sym}
 use Rattle.gpu_core.specs.TypeState.{slot_at, KeepsOneEmptyAtMost}
 use Rattle.gpu_core.specs.TypeRelease.{SlotHolds}
-use Rattle.gpu_core.specs.Slots.{slots_of, AreKept, gone_number, gone_size, gone_shared}
+use Rattle.gpu_core.specs.Slots.{slots_of, AreKept, AreSound, gone_number, gone_size, gone_shared}
 use Rattle.gpu_core.proofs.Slotted.{on_err}
 use Rattle.gpu_core.proofs.Dead.{free_dead}
 use Rattle.gpu_core.proofs.Kept.{freed_kept}
@@ -46,3 +46,14 @@ returns-after-gone-clause-empty g c =
 pub returns-in_err-free_in-clause-dead : goal.returns-in_err-free_in-clause-dead
 returns-in_err-free_in-clause-dead g c =
     on_err c.from_residual.result _ (λ live. free_dead g.H.PartialEq.eq c.args.piece.now c.self.inside.granularity (slot_at (slots_of c.self.inside.slots.items) c.args.piece.now.slot) _ (c.self.invariant.sound c.args.piece.now.slot) c.in_err-free_in.ensures.cause (subst (λ t. SlotHolds g.H.PartialEq.eq c.args.piece.now (slot_at t.slots c.args.piece.now.slot)) (sym c.self.view_is) live))
+
+pub returns-in-None-clause-sound : goal.returns-in-None-clause-sound
+returns-in-None-clause-sound g c = (kept g ((goal.at.returns-in-None-clause-sound g c).In_ok-free_in)).sound
+
+pub returns-after-gone-clause-sound : goal.returns-after-gone-clause-sound
+returns-after-gone-clause-sound g c =
+    let after = kept g ((goal.at.returns-after-gone-clause-sound g c).In_ok-free_in) in
+    elim c.if-gone.branch [
+      | then-gone w ↦ subst (λ t. AreSound t.granularity t.slots) (sym w.self-is) after.sound
+      | else-gone w ↦ subst (λ t. AreSound t.granularity t.slots) (sym w.self-is) after.sound
+    ]

@@ -5,7 +5,7 @@ use Rattle.gpu_core.specs.SubAllocator.{block_of}
 use Rattle.gpu_core.specs.Block.{Block, is_general, size_of}
 use Rattle.gpu_core.specs.TypeState.{Slot, capacity_of, KeepsOneEmptyAtMost}
 use Rattle.gpu_core.specs.TypeTake.{with_block}
-use Rattle.gpu_core.specs.Slots.{slot_of, slots_of, AreKept}
+use Rattle.gpu_core.specs.Slots.{slot_of, slots_of, AreKept, AreSound}
 use Rattle.gpu_core.proofs.EmptyBlocks.{holds_some}
 use Rattle.gpu_core.proofs.Kept.{installed_kept, count_le}
 use Rattle.gpu_core.proofs.memory_type.MemoryType.install.Goals as goal
@@ -56,10 +56,16 @@ returns-clause-capacity g c =
 
 pub returns-clause-empty : goal.returns-clause-empty
 returns-clause-empty g c =
-    let slots : c.if-not-dedicated.self.slots ≡ slots_of c.put_block-slot.new.slots.items =
-    elim c.if-not-dedicated.branch [
-      | then-not-dedicated w ↦ ap (λ t. t.slots) w.self-is
-      | else-not-dedicated w ↦ ap (λ t. t.slots) w.self-is
-    ] in
     let kept = kept_with g ((goal.at.returns-clause-empty g c).After-put_block-slot) (cond (not c.args.need.dedicated) 1 0) refl in
-    subst (λ xs. KeepsOneEmptyAtMost xs) (sym slots) kept.empty
+    elim c.if-not-dedicated.branch [
+      | then-not-dedicated w ↦ subst (λ t. KeepsOneEmptyAtMost t.slots) (sym w.self-is) kept.empty
+      | else-not-dedicated w ↦ subst (λ t. KeepsOneEmptyAtMost t.slots) (sym w.self-is) kept.empty
+    ]
+
+pub returns-clause-sound : goal.returns-clause-sound
+returns-clause-sound g c =
+    let kept = kept_with g ((goal.at.returns-clause-sound g c).After-put_block-slot) (cond (not c.args.need.dedicated) 1 0) refl in
+    elim c.if-not-dedicated.branch [
+      | then-not-dedicated w ↦ subst (λ t. AreSound t.granularity t.slots) (sym w.self-is) kept.sound
+      | else-not-dedicated w ↦ subst (λ t. AreSound t.granularity t.slots) (sym w.self-is) kept.sound
+    ]

@@ -26,3 +26,6 @@ returns-clause-empty g c = (kept g ((goal.at.returns-clause-empty g c).After-ren
 pub returns-clause-dead : goal.returns-clause-dead
 returns-clause-dead g c =
     if_error c.rename_in.result _ _ c.rename_in.ensures.cause (λ e cause other live. name_dead g.H.PartialEq.eq c.args.piece.now c.self.inside.granularity (slot_at (slots_of c.self.inside.slots.items) c.args.piece.now.slot) (refusal_of e) (c.self.invariant.sound c.args.piece.now.slot) cause (λ h. other (host_error e h)) (subst (λ t. SlotHolds g.H.PartialEq.eq c.args.piece.now (slot_at t.slots c.args.piece.now.slot)) (sym c.self.view_is) live))
+
+pub returns-clause-sound : goal.returns-clause-sound
+returns-clause-sound g c = c.rename_in.ensures.kept c.self.inside.granularity c.self.invariant.sound
