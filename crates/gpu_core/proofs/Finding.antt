@@ -39,7 +39,7 @@ held_in : (o : Option Extent) (size n : ℕ) → IfSome o (λ x. (x.start ≡ 0)
 held_in None size n whole some one none = false≢true some
 held_in (Some z) size n whole some one none = none z (0, omega arith, refl) (whole.3 ∙ sym one)
 
-dedicated_held : (d : Dedicated) (n : ℕ) → IsWhole d → IsSome d.piece → n ≡ 1 → ((x : Extent) → Contains (held_extents d) x → x.number ≡ n → ⊥) → ⊥
+pub dedicated_held : (d : Dedicated) (n : ℕ) → IsWhole d → IsSome d.piece → n ≡ 1 → ((x : Extent) → Contains (held_extents d) x → x.number ≡ n → ⊥) → ⊥
 dedicated_held d n whole some one none = held_in d.piece d.size n whole some one none
 
 released_held : (b : Block) (n : ℕ) (after : Block) → IsSoundBlock b → ReleasesIn b n after → ((x : Extent) → Contains (extents_of b) x → x.number ≡ n → ⊥) → ⊥

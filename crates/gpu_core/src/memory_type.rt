@@ -207,6 +207,7 @@ impl<H: Copy + Eq> MemoryType<H> {
         ensures renamed { OnOk result (RenamesPiece self.old.slots piece.now name.now self.new.slots) }
         ensures live { OnOk result (IsLive H.eq self.old.slots piece.now) }
         ensures dead { IfErr result (λ e. e ≢ HostOutOfMemory → IsLive H.eq self.old.slots piece.now → ⊥) }
+        ensures starved { IfErr result (λ e. e ≡ HostOutOfMemory → IsLive H.eq self.old.slots piece.now) }
         ensures cause { IfErr result (λ e. IsNameRefusal H.eq piece.now (slot_at self.old.slots piece.now.slot) (refusal_of e)) }
         ensures refused { OnErr result (self.new ≡ self.old) }
         ensures kind { (self.new.is_host ≡ self.old.is_host) × (self.new.granularity ≡ self.old.granularity) }

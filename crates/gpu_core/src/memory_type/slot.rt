@@ -189,6 +189,7 @@ pub fn rename<H: Copy + Eq>(
     ensures renamed { OnOk result (SlotRenames (non_zero_u64_get piece.now.number) name.now
         (option_map slot_of slot.old) (option_map slot_of slot.new)) }
     ensures live { OnOk result (SlotHolds H.eq piece.now (option_map slot_of slot.old)) }
+    ensures starved { IfErr result (λ e. e ≡ HostOutOfMemory → SlotHolds H.eq piece.now (option_map slot_of slot.old)) }
     ensures cause { IfErr result (λ e. IsNameRefusal H.eq piece.now (option_map slot_of slot.old) (refusal_of e)) }
     ensures refused { OnErr result (option_map slot_of slot.new ≡ option_map slot_of slot.old) }
     ensures kept { (g : ℕ) → SlotIsSound g (option_map slot_of slot.old) → SlotIsSound g (option_map slot_of slot.new) }

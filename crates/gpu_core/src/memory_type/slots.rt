@@ -174,6 +174,7 @@ pub fn rename_in<H: Copy + Eq>(
     requires { (g : ℕ) × AreSound g (slots_of slots.old.items) }
     ensures renamed { OnOk result (RenamesPiece (slots_of slots.old.items) piece.now name.now (slots_of slots.new.items)) }
     ensures live { OnOk result (IsLive H.eq (slots_of slots.old.items) piece.now) }
+    ensures starved { IfErr result (λ e. e ≡ HostOutOfMemory → IsLive H.eq (slots_of slots.old.items) piece.now) }
     ensures cause { IfErr result (λ e.
         IsNameRefusal H.eq piece.now (slot_at (slots_of slots.old.items) piece.now.slot) (refusal_of e)) }
     ensures refused { OnErr result (slots_of slots.new.items ≡ slots_of slots.old.items) }
