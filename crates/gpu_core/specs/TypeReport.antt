@@ -13,6 +13,16 @@ abbrev pub leaks_in : {H : Type 0} → (memory_type slot : ℕ) → Option (Slot
 leaks_in memory_type slot None = None
 leaks_in memory_type slot (Some s) = Some (leaks_of memory_type slot s.block)
 
+-- the live pieces of all slots by slot, then in the order of their starts, where the first slot has the index `first`
+abbrev pub leaks_from : {H : Type 0} → (memory_type first : ℕ) → List (Option (Slot H)) → List LeakOf
+leaks_from memory_type first [] = []
+leaks_from memory_type first (None ∷ slots) = leaks_from memory_type (first + 1) slots
+leaks_from memory_type first (Some s ∷ slots) = leaks_of memory_type first s.block ++ leaks_from memory_type (first + 1) slots
+
+-- the live pieces of a type
+abbrev pub type_leaks : {H : Type 0} → (memory_type : ℕ) → List (Option (Slot H)) → List LeakOf
+type_leaks memory_type slots = leaks_from memory_type 0 slots
+
 -- ---- reports
 
 -- the rows of a block's live pieces, in the order of their starts

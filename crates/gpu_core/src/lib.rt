@@ -28,7 +28,7 @@ pub use error::{AllocationError, Fault, Result};
 pub use free_list::FreeListAllocator;
 pub use leaks::{Leak, Leaks};
 pub use memory_location::MemoryLocation;
-pub use memory_type::{MemoryType, NeedBlock, Piece, Prepared, Request, Room};
+pub use memory_type::{MemoryType, NeedBlock, Piece, Prepared, Request, Room, TypeLeaks};
 pub use report::{AllocationReport, AllocatorReport, MemoryBlockReport};
 pub use sub_allocator::SubAllocator;
 

@@ -11,6 +11,7 @@ mod need;
 mod report;
 mod slot;
 mod slots;
+mod type_leaks;
 
 use crate::{AllocationSizes, AllocationType, AllocatorReport, Leaks, Result};
 use need::make_room;
@@ -21,6 +22,7 @@ use slots::{free_in, put_block, rename_in, reserve_slot, take_shared};
 use std::alloc::Global;
 use std::marker::Model;
 use std::num::NonZeroU64;
+pub use type_leaks::TypeLeaks;
 
 /// What is asked of a memory type. Size and alignment are bytes.
 #[derive(Clone, Copy, Debug)]
@@ -88,7 +90,7 @@ impl<H: Copy + Eq> MemoryType<H> {
     ghost use Rattle.gpu_core.specs.Slots.{AreSound};
     ghost use Rattle.gpu_core.specs.TypePrepare.{IsPrepared, CanInstall};
     ghost use Rattle.gpu_core.specs.TypeRelease.{has_several, IsLive, IsFreeRefusal, IsNameRefusal, ReleasesPiece, RenamesPiece};
-    ghost use Rattle.gpu_core.specs.TypeReport.{leaks_in, with_type};
+    ghost use Rattle.gpu_core.specs.TypeReport.{leaks_in, type_leaks, with_type};
     ghost use Rattle.gpu_core.specs.Report.{report_of};
 
     /// A memory type without blocks. `is_host` says which of the block sizes are its own; `granularity` is the page size
@@ -269,6 +271,18 @@ impl<H: Copy + Eq> MemoryType<H> {
         match self.slots.get(slot) {
             Some(Some(block)) => Some(block.sub.leaks(memory_type, slot)),
             _ => None,
+        }
+    }
+
+    /// All live pieces by slot, then in order of offset, as leaks of type `memory_type`. It takes no memory.
+    pub fn all_leaks(&self, memory_type: usize) -> TypeLeaks<'_, H>
+        ensures { result ≡ type_leaks memory_type self.now.slots }
+    {
+        TypeLeaks {
+            memory_type,
+            block: None,
+            next: 0,
+            slots: &self.slots,
         }
     }
 

@@ -54,11 +54,7 @@ pub fn take_in<H: Copy>(
     ensures kept { SlotIsSound granularity (option_map slot_of slot.new) }
 {
     match slot {
-        None => Ok(None),
-        Some(block) => {
-            if !block.sub.supports_general_allocations() {
-                return Ok(None);
-            }
+        Some(block) if block.sub.supports_general_allocations() => {
             let Request {
                 size,
                 alignment,
@@ -76,6 +72,7 @@ pub fn take_in<H: Copy>(
                 Err(error) => Err(error),
             }
         }
+        _ => Ok(None),
     }
 }
 

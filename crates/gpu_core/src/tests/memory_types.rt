@@ -309,6 +309,9 @@ fn a_second_type_is_reported_behind_the_first(rt: HostRuntime) -> Result<(), Fai
     Ok(())
 }
 
+const LEAK_A: &str =
+    "leak detected: {\n    memory type: 3\n    memory block: 0\n    chunk: {\n        chunk_id: 2,\n        size: 0x64,\n        offset: 0x0,\n        allocation_type: Linear,\n        name: a\n    }\n}";
+
 const LEAK_B: &str =
     "leak detected: {\n    memory type: 3\n    memory block: 0\n    chunk: {\n        chunk_id: 3,\n        size: 0xdc,\n        offset: 0x64,\n        allocation_type: Linear,\n        name: b\n    }\n}";
 
@@ -347,5 +350,21 @@ fn leaks_of_a_type_name_their_slot(rt: HostRuntime) -> Result<(), Fail> {
     check_leaks(&rt, alloc, &blocks, 2, 1, LEAK_C)?;
     assert!(rt; blocks.leaks(3, 1).is_none());
     assert!(rt; blocks.leaks(3, 3).is_none());
+    Ok(())
+}
+
+#[test]
+fn all_leaks_of_a_type_come_by_slot_and_offset(rt: HostRuntime) -> Result<(), Fail> {
+    let alloc = rt.alloc();
+    let blocks = three_pieces(&rt, alloc)?;
+    let mut leaks = blocks.all_leaks(3);
+    for want in [LEAK_A, LEAK_B, LEAK_C] {
+        let leak = leaks.next();
+        assert!(rt; leak.is_some(), "{want}");
+        if let Some(leak) = leak {
+            check_text(&rt, alloc, &leak, want)?;
+        }
+    }
+    assert!(rt; leaks.next().is_none());
     Ok(())
 }

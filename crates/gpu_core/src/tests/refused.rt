@@ -137,12 +137,10 @@ fn take_four(rt: &impl Abort, script: &mut Script) -> Result<[Piece<Handle>; 4]>
     Ok([a, b, c, d])
 }
 
-fn count_leaks(b: &MemoryType<Handle>, slot: usize) -> usize {
+fn count_leaks(b: &MemoryType<Handle>) -> usize {
     let mut count: usize = 0;
-    if let Some(leaks) = b.leaks(0, slot) {
-        for _leak in leaks {
-            count = count.saturating_add(1);
-        }
+    for _leak in b.all_leaks(0) {
+        count = count.saturating_add(1);
     }
     count
 }
@@ -151,14 +149,15 @@ fn count_leaks(b: &MemoryType<Handle>, slot: usize) -> usize {
 fn give_three(rt: &impl Abort, script: &mut Script, pieces: &[Piece<Handle>; 4]) -> Result<()> {
     let [a, b, c, d] = pieces;
     let blocks = &mut script.blocks;
-    assert_eq!(rt; count_leaks(blocks, 0), 2);
+    assert_eq!(rt; count_leaks(blocks), 4);
     assert!(rt; blocks.free(a)?.is_none());
     assert!(rt; !blocks.is_live(a) && blocks.is_live(b));
     assert!(rt; blocks.free(a).is_err());
     assert!(rt; blocks.free(b)? == Some(Handle::Red));
     assert!(rt; blocks.free(c)? == Some(Handle::Green));
     assert!(rt; blocks.is_live(d));
-    assert!(rt; blocks.leaks(0, 0).is_none() && blocks.block(0).is_none());
+    assert!(rt; blocks.leaks(0, 0).is_none() && blocks.leaks(0, 2).is_some());
+    assert!(rt; blocks.block(0).is_none());
     assert!(rt; blocks.block(2) == Some(Handle::Blue));
     check_type(rt, blocks, 3, 1, 8 * MB);
     Ok(())
