@@ -15,7 +15,7 @@ use Rattle.gpu_core.specs.declared.memory_type.Piece.{Piece}
 use Rattle.gpu_core.specs.declared.memory_type.slot.Finding.{Finding}
 use Rattle.gpu_core.specs.declared.memory_type.slot.Finding.TheVariants as findings
 
-only_one : (o : Option Extent) (x y : Extent) → Contains (option_to_list o) x → Contains (option_to_list o) y → x ≡ y
+pub only_one : (o : Option Extent) (x y : Extent) → Contains (option_to_list o) x → Contains (option_to_list o) y → x ≡ y
 only_one None x y h k = (let l = h.1 in absurd (omega arith))
 only_one (Some z) x y h k =
     let all : All (λ w. w ≡ z) (z ∷ []) = All-cons (λ w. w ≡ z) z [] refl (All-nil (λ w. w ≡ z)) in
@@ -39,7 +39,7 @@ held_in : (o : Option Extent) (size n : ℕ) → IfSome o (λ x. (x.start ≡ 0)
 held_in None size n whole some one none = false≢true some
 held_in (Some z) size n whole some one none = none z (0, omega arith, refl) (whole.3 ∙ sym one)
 
-dedicated_held : (d : Dedicated) (n : ℕ) → IsWhole d → IsSome d.piece → n ≡ 1 → ((x : Extent) → Contains (held_extents d) x → x.number ≡ n → ⊥) → ⊥
+pub dedicated_held : (d : Dedicated) (n : ℕ) → IsWhole d → IsSome d.piece → n ≡ 1 → ((x : Extent) → Contains (held_extents d) x → x.number ≡ n → ⊥) → ⊥
 dedicated_held d n whole some one none = held_in d.piece d.size n whole some one none
 
 released_held : (b : Block) (n : ℕ) (after : Block) → IsSoundBlock b → ReleasesIn b n after → ((x : Extent) → Contains (extents_of b) x → x.number ≡ n → ⊥) → ⊥

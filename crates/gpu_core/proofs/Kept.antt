@@ -1,15 +1,18 @@
 -- What a memory type keeps by each call: the sums of its slots, and the soundness of their blocks.
-use Rattle.std.proofs.Common.{◌≡◌, ℕ, zero, suc, ◌+◌, ◌-◌, ◌<◌, ◌≤◌, Bool, true, false, cond, List, [], ◌∷◌, ◌++◌, length, refl, sym, ◌∙◌, ap, subst, arith, Option, Some, None, slice_set}
+use Rattle.std.proofs.Common.{◌≡◌, ℕ, ◌+◌, ◌-◌, ◌<◌, ◌≤◌, Bool, true, false, cond, List, [], ◌∷◌, ◌++◌, length, refl, sym, ◌∙◌, ap, subst, arith, Option, Some, None, slice_set}
+use Rattle.std.specs.Prelude.{IsTrue, nat_lt}
+use Rattle.std.proofs.lemmas.Bool.{lt-ltb}
 use Rattle.std.proofs.lemmas.Grind.{common_steps}
 use Rattle.std.specs.Int.NonZero.{non_zero_u64_get}
 use Rattle.gpu_core.specs.Request.{Request}
-use Rattle.gpu_core.specs.Block.{Block, free_list, dedicated, size_of, is_general, TakesIn, RenamesIn}
-use Rattle.gpu_core.specs.TypeState.{Slot, slot_at, slots_sum, slot_size, shared_in, capacity_of, shared_count, lowest_empty, highest_empty}
+use Rattle.gpu_core.specs.Block.{Block, free_list, dedicated, extents_of, size_of, is_general, TakesIn, RenamesIn}
+use Rattle.gpu_core.specs.TypeState.{Slot, slot_at, slots_sum, slot_size, shared_in, capacity_of, shared_count, lowest_empty, highest_empty, KeepsOneEmptyAtMost}
 use Rattle.gpu_core.specs.TypeTake.{PreparesPiece, new_slot, with_block}
-use Rattle.gpu_core.specs.TypeRelease.{RenamesPiece, SlotRenames}
+use Rattle.gpu_core.specs.TypeRelease.{ReleasesPiece, RenamesPiece, SlotRenames}
 use Rattle.gpu_core.specs.Slots.{AreKept, AreSound, SlotIsSound, IsEmptyAt}
 use Rattle.gpu_core.specs.declared.memory_type.Piece.{Piece}
-use Rattle.gpu_core.proofs.Slotted.{sum-set, set_only, sound_after}
+use Rattle.gpu_core.proofs.Slotted.{OnlyAt, sum-set, set_only, sound_after}
+use Rattle.gpu_core.proofs.EmptyBlocks.{at_below, end_only, one_empty_after, prepared_empty, freed_empty, renamed_empty}
 use Rattle.gpu_core.proofs.EmptySlots.{lowest_found, highest_empty_found}
 
 -- a take and a new name keep a block's form and size
@@ -24,11 +27,6 @@ renames_same (free_list old) n name (free_list new) t = (t.same.0, refl)
 renames_same (free_list old) n name (dedicated new) t = absurd t
 renames_same (dedicated old) n name (free_list new) t = absurd t
 renames_same (dedicated old) n name (dedicated new) t = (ap (λ d. d.size) t.2, refl)
-
-at_below : {H : Type 0} (slots : List (Option (Slot H))) (i : ℕ) (s : Slot H) → slot_at slots i ≡ Some s → i < length slots
-at_below [] i s h = absurd (cc)
-at_below (x ∷ xs) zero s h = omega arith
-at_below (x ∷ xs) (suc i) s h = let b = at_below xs i s h in omega arith
 
 -- a slot is replaced by one that counts the same
 sum_same : {H : Type 0} (f : Option (Slot H) → ℕ) (slots : List (Option (Slot H))) (i : ℕ) (s : Slot H) (new : Option (Slot H)) → slot_at slots i ≡ Some s → f new ≡ f (Some s) → slots_sum f (slice_set slots i new) ≡ slots_sum f slots
@@ -46,14 +44,15 @@ prepared_kept {H = H} g slots capacity general r p new kept sound t =
       sound = sound;
       capacity_is = kept.capacity_is ∙ sym (ap capacity_of t.slots ∙ sum_same slot_size slots p.slot t.slot (Some after) t.at same.0);
       general_is = kept.general_is ∙ sym (ap shared_count t.slots ∙ sum_same shared_in slots p.slot t.slot (Some after) t.at (ap (λ b. cond b 1 0) same.1));
+      empty = prepared_empty slots r p new kept.empty t;
     }
 
 -- equal slots keep the same
 pub same_kept : {H : Type 0} (g : ℕ) (slots : List (Option (Slot H))) (capacity general : ℕ) (new : List (Option (Slot H))) → AreKept g slots capacity general → new ≡ slots → AreKept g new capacity general
 same_kept g slots capacity general new kept e = subst (λ xs. AreKept g xs capacity general) (sym e) kept
 
-pub freed_kept : {H : Type 0} (g : ℕ) (slots : List (Option (Slot H))) (capacity general : ℕ) (new : List (Option (Slot H))) (size shared : ℕ) → AreKept g slots capacity general → AreSound g new → capacity_of new + size ≡ capacity_of slots → shared_count new + shared ≡ shared_count slots → AreKept g new (capacity - size) (general - shared)
-freed_kept g slots capacity general new size shared kept sound c s =
+pub freed_kept : {H : Type 0} (g : ℕ) (slots : List (Option (Slot H))) (capacity general : ℕ) (p : Piece H) (went : Option H) (new : List (Option (Slot H))) (size shared : ℕ) → AreKept g slots capacity general → AreSound g new → ReleasesPiece (IsTrue (nat_lt 1 general)) slots p went new → capacity_of new + size ≡ capacity_of slots → shared_count new + shared ≡ shared_count slots → AreKept g new (capacity - size) (general - shared)
+freed_kept g slots capacity general p went new size shared kept sound t c s =
     let cap = kept.capacity_is in
     let gen = kept.general_is in
     record {
@@ -61,35 +60,31 @@ freed_kept g slots capacity general new size shared kept sound c s =
       sound = sound;
       capacity_is = omega arith;
       general_is = omega arith;
+      empty = freed_empty g slots (IsTrue (nat_lt 1 general)) p went new kept.sound kept.empty (λ two. lt-ltb 1 general (omega arith)) t;
     }
 
-renamed_slots : {H : Type 0} (g : ℕ) (slots : List (Option (Slot H))) (capacity general i n : ℕ) (name : List ℕ) (s : Option (Slot H)) (q : Option (Slot H)) (new : List (Option (Slot H))) → AreKept g slots capacity general → AreSound g new → slot_at slots i ≡ s → SlotRenames n name s q → new ≡ slice_set slots i q → AreKept g new capacity general
-renamed_slots g slots capacity general i n name None q new kept sound at t e = absurd t
-renamed_slots g slots capacity general i n name (Some s) None new kept sound at t e = absurd t
-renamed_slots g slots capacity general i n name (Some s) (Some q) new kept sound at t e =
+renamed_slots : {H : Type 0} (g : ℕ) (slots : List (Option (Slot H))) (capacity general i n : ℕ) (name : List ℕ) (s : Option (Slot H)) (q : Option (Slot H)) (new : List (Option (Slot H))) → AreKept g slots capacity general → AreSound g new → KeepsOneEmptyAtMost new → slot_at slots i ≡ s → SlotRenames n name s q → new ≡ slice_set slots i q → AreKept g new capacity general
+renamed_slots g slots capacity general i n name None q new kept sound empty at t e = absurd t
+renamed_slots g slots capacity general i n name (Some s) None new kept sound empty at t e = absurd t
+renamed_slots g slots capacity general i n name (Some s) (Some q) new kept sound empty at t e =
     let same = renames_same s.block n name q.block t.1 in
     record {
       pages = kept.pages;
       sound = sound;
       capacity_is = kept.capacity_is ∙ sym (ap capacity_of e ∙ sum_same slot_size slots i s (Some q) at same.0);
       general_is = kept.general_is ∙ sym (ap shared_count e ∙ sum_same shared_in slots i s (Some q) at (ap (λ b. cond b 1 0) same.1));
+      empty = empty;
     }
 
 pub renamed_kept : {H : Type 0} (g : ℕ) (slots : List (Option (Slot H))) (capacity general : ℕ) (p : Piece H) (name : List ℕ) (new : List (Option (Slot H))) → AreKept g slots capacity general → AreSound g new → RenamesPiece slots p name new → AreKept g new capacity general
 renamed_kept g slots capacity general p name new kept sound t =
-    renamed_slots g slots capacity general p.slot (non_zero_u64_get p.number) name (slot_at slots p.slot) t.slot new kept sound refl t.renames t.slots
+    renamed_slots g slots capacity general p.slot (non_zero_u64_get p.number) name (slot_at slots p.slot) t.slot new kept sound (renamed_empty slots p name new kept.empty t) refl t.renames t.slots
 
 -- ---- a new block
 
 sum_end : {H : Type 0} (f : Option (Slot H) → ℕ) (slots : List (Option (Slot H))) (s : Option (Slot H)) → slots_sum f (slots ++ s ∷ []) ≡ slots_sum f slots + f s
 sum_end f [] s = omega arith
 sum_end f (x ∷ xs) s = let e = sum_end f xs s in omega arith
-
-at_end : {H : Type 0} (g : ℕ) (slots : List (Option (Slot H))) (s : Option (Slot H)) → AreSound g slots → SlotIsSound g s → AreSound g (slots ++ s ∷ [])
-at_end g [] s sound here zero = here
-at_end g [] s sound here (suc i) = tt
-at_end g (x ∷ xs) s sound here zero = sound 0
-at_end g (x ∷ xs) s sound here (suc i) = at_end g xs s (λ j. sound (suc j)) here i
 
 -- a new block's slot is empty, or it is the end
 pub data IsNewSlot {H : Type 0} (slots : List (Option (Slot H))) (i : ℕ) : Type 0 where
@@ -122,16 +117,16 @@ put_sum f slots i s none (empty_slot at) =
     omega arith
 put_sum f slots i s none (the_end at) = ap (slots_sum f) (with_end slots i s at) ∙ sum_end f slots (Some s)
 
-put_sound : {H : Type 0} (g : ℕ) (slots : List (Option (Slot H))) (i : ℕ) (s : Slot H) → AreSound g slots → SlotIsSound g (Some s) → IsNewSlot slots i → AreSound g (with_block slots i s)
-put_sound g slots i s sound here (empty_slot at) =
-    subst (AreSound g) (sym (with_empty slots i s at.below)) (sound_after g slots i (Some s) (slice_set slots i (Some s)) sound (set_only slots i (Some s) at.below) here)
-put_sound g slots i s sound here (the_end at) = subst (AreSound g) (sym (with_end slots i s at)) (at_end g slots (Some s) sound here)
+-- the new block's slot alone is changed
+put_only : {H : Type 0} (slots : List (Option (Slot H))) (i : ℕ) (s : Slot H) → IsNewSlot slots i → OnlyAt slots i (Some s) (with_block slots i s)
+put_only slots i s (empty_slot at) = subst (OnlyAt slots i (Some s)) (sym (with_empty slots i s at.below)) (set_only slots i (Some s) at.below)
+put_only slots i s (the_end at) = subst (OnlyAt slots i (Some s)) (sym (with_end slots i s at)) (subst (λ k. OnlyAt slots k (Some s) (slots ++ Some s ∷ [])) (sym at) (end_only slots (Some s)))
 
 pub installed_capacity : {H : Type 0} (slots : List (Option (Slot H))) (is_dedicated : Bool) (s : Slot H) → capacity_of (with_block slots (new_slot is_dedicated slots) s) ≡ capacity_of slots + size_of s.block
 installed_capacity slots is_dedicated s = put_sum slot_size slots (new_slot is_dedicated slots) s refl (is_new_slot is_dedicated slots)
 
-pub installed_kept : {H : Type 0} (g : ℕ) (slots : List (Option (Slot H))) (capacity general : ℕ) (is_dedicated : Bool) (s : Slot H) (new : List (Option (Slot H))) (size shared : ℕ) → AreKept g slots capacity general → SlotIsSound g (Some s) → new ≡ with_block slots (new_slot is_dedicated slots) s → size_of s.block ≡ size → shared_in (Some s) ≡ shared → AreKept g new (capacity + size) (general + shared)
-installed_kept g slots capacity general is_dedicated s new size shared kept here e sized counted =
+pub installed_kept : {H : Type 0} (g : ℕ) (slots : List (Option (Slot H))) (capacity general : ℕ) (is_dedicated : Bool) (s : Slot H) (new : List (Option (Slot H))) (size shared : ℕ) → AreKept g slots capacity general → SlotIsSound g (Some s) → (extents_of s.block ≡ [] → ⊥) → new ≡ with_block slots (new_slot is_dedicated slots) s → size_of s.block ≡ size → shared_in (Some s) ≡ shared → AreKept g new (capacity + size) (general + shared)
+installed_kept g slots capacity general is_dedicated s new size shared kept here holds e sized counted =
     let at = is_new_slot is_dedicated slots in
     let i = new_slot is_dedicated slots in
     let c = put_sum slot_size slots i s refl at in
@@ -140,11 +135,13 @@ installed_kept g slots capacity general is_dedicated s new size shared kept here
     let gen = kept.general_is in
     let ec = ap capacity_of e in
     let en = ap shared_count e in
+    let only : OnlyAt slots i (Some s) new = subst (OnlyAt slots i (Some s)) (sym e) (put_only slots i s at) in
     record {
       pages = kept.pages;
-      sound = subst (AreSound g) (sym e) (put_sound g slots i s kept.sound here at);
+      sound = sound_after g slots i (Some s) new kept.sound only here;
       capacity_is = omega arith;
       general_is = omega arith;
+      empty = one_empty_after slots i (Some s) new kept.empty only (λ h. absurd (holds h));
     }
 
 at_most_one : (b : Bool) → cond b 1 0 ≤ 1

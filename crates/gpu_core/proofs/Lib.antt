@@ -33,6 +33,8 @@ pub mod Slotted
 pub mod EmptySlots
 pub mod Putting
 pub mod Finding
+pub mod EmptyBlocks
+pub mod Dead
 pub mod Kept
 pub mod Blocks
 pub mod Shared

@@ -42,7 +42,7 @@ filter_keeps p (y ∷ ys) =
 
 -- ---- a take
 
-abbrev piece_of : (old : FreeList) (r : Request) (o n : ℕ) (new : FreeList) → Takes old r o n new → Extent
+abbrev pub piece_of : (old : FreeList) (r : Request) (o n : ℕ) (new : FreeList) → Takes old r o n new → Extent
 piece_of old r o n new t = record { start = t.start; offset = o; end = o + r.size; kind = r.kind; number = n; name = r.name }
 
 pub takes_keeps : (old : FreeList) (r : Request) (o n : ℕ) (new : FreeList) → Takes old r o n new → (x : Extent) → Contains old.extents x → Contains new.extents x
@@ -50,7 +50,7 @@ takes_keeps old r o n new t x h =
     let xs = placed (λ y. y.start) (piece_of old r o n new t) old.extents in
     subst (λ (ys : List Extent). Contains ys x) (sym t.extent) (All-contains (Contains xs) old.extents x (placed_keeps (λ y. y.start) (piece_of old r o n new t) old.extents) h)
 
-piece_held : (old : FreeList) (r : Request) (o n : ℕ) (new : FreeList) → (t : Takes old r o n new) → Contains new.extents (piece_of old r o n new t)
+pub piece_held : (old : FreeList) (r : Request) (o n : ℕ) (new : FreeList) → (t : Takes old r o n new) → Contains new.extents (piece_of old r o n new t)
 piece_held old r o n new t = subst (λ (ys : List Extent). Contains ys (piece_of old r o n new t)) (sym t.extent) (placed_added (λ y. y.start) (piece_of old r o n new t) old.extents)
 
 pub takes_adds : (old : FreeList) (r : Request) (o n : ℕ) (new : FreeList) → Takes old r o n new → SomeExtent new (λ x. x.number ≡ n)

@@ -4,11 +4,13 @@ use Rattle.gpu_core.specs.declared.error.AllocationError.{AllocationError}
 use Rattle.gpu_core.specs.declared.error.AllocationError.TheVariants as errors
 use Rattle.gpu_core.specs.Refusal.{refusal_of, host_out_of_memory, IsTakeRefusal}
 use Rattle.gpu_core.specs.Request.{Request}
+use Rattle.gpu_core.specs.Place.{HasNoPlace}
 use Rattle.gpu_core.specs.FreeList.{fresh_free_list}
 use Rattle.std.specs.Prelude.{IsNone}
-use Rattle.gpu_core.specs.Block.{Block, size_of, is_general, TakesIn, IsTakeRefusalIn}
+use Rattle.gpu_core.specs.Block.{Block, free_list, dedicated, size_of, is_general, TakesIn, IsTakeRefusalIn}
 use Rattle.gpu_core.specs.TypeTake.{fresh_block}
-use Rattle.gpu_core.proofs.Empty.{empty_has_place}
+use Rattle.gpu_core.proofs.Determined.{chosen_once}
+use Rattle.gpu_core.proofs.Empty.{empty_chosen, empty_has_place}
 use Rattle.gpu_core.proofs.Kept.{takes_same}
 use Rattle.std.proofs.lemmas.Bool.{false≢true}
 
@@ -24,11 +26,15 @@ host_error errors.BarrierLayoutNeedsDevice10 h = absurd (cc)
 host_error errors.CastableFormatsRequiresEnhancedBarriers h = absurd (cc)
 host_error errors.CastableFormatsRequiresAtLeastDevice12 h = absurd (cc)
 
-fresh_list_error : (size granularity : ℕ) (r : Request) (e : AllocationError) → 0 < size → r.size ≤ size → IsTakeRefusal (fresh_free_list size granularity 2) r e → e ≡ errors.HostOutOfMemory
-fresh_list_error size granularity r errors.OutOfMemory some le h =
+-- a fresh free list serves every request up to its size
+pub fresh_served : (size granularity : ℕ) (r : Request) → 0 < size → r.size ≤ size → HasNoPlace (fresh_free_list size granularity 2) r → ⊥
+fresh_served size granularity r some le h =
     let n = empty_has_place (fresh_free_list size granularity 2) r refl some le h in
     let last = n.1 in
-    absurd (omega arith)
+    omega arith
+
+fresh_list_error : (size granularity : ℕ) (r : Request) (e : AllocationError) → 0 < size → r.size ≤ size → IsTakeRefusal (fresh_free_list size granularity 2) r e → e ≡ errors.HostOutOfMemory
+fresh_list_error size granularity r errors.OutOfMemory some le h = absurd (fresh_served size granularity r some le h)
 fresh_list_error size granularity r errors.HostOutOfMemory some le h = refl
 fresh_list_error size granularity r (errors.FailedToMap _) some le h = absurd h
 fresh_list_error size granularity r errors.NoCompatibleMemoryTypeFound some le h = absurd h
@@ -53,6 +59,15 @@ fresh_error false size granularity r e exact le some h = fresh_list_error size g
 pub none_of : {A : Type 0} (o : Option A) → ((x : A) → o ≡ Some x → ⊥) → IsNone o
 none_of None h = refl
 none_of (Some x) h = absurd (h x refl)
+
+-- what is taken of a fresh block begins at its start
+pub fresh_begins : (is_dedicated : Bool) (size granularity : ℕ) (r : Request) (o n : ℕ) (new : Block) → 0 < r.size → r.size ≤ size → TakesIn (fresh_block is_dedicated size granularity) r o n new → o ≡ 0
+fresh_begins true size granularity r o n (free_list new) some le t = absurd t
+fresh_begins true size granularity r o n (dedicated new) some le t = t.2
+fresh_begins false size granularity r o n (free_list new) some le t =
+    let b = fresh_free_list size granularity 2 in
+    sym (chosen_once b r 0 t.start size t.end 0 o (empty_chosen b r refl (omega arith) le) t.chosen).offsets
+fresh_begins false size granularity r o n (dedicated new) some le t = absurd t
 
 fresh_size : (is_dedicated : Bool) (size granularity : ℕ) → size_of (fresh_block is_dedicated size granularity) ≡ size
 fresh_size true size granularity = refl

@@ -12,6 +12,7 @@ pub mod TypeState
 pub mod TypeTake
 pub mod TypePrepare
 pub mod TypeRelease
+pub mod TypeReport
 pub mod Slots
 pub mod Chunks
 pub mod Report

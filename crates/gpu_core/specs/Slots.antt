@@ -1,15 +1,16 @@
 -- The slots of a memory type as its code keeps them, and the changes of one slot.
-use Rattle.std.specs.Prelude.{◌≡◌, ℕ, ◌<◌, Bool, true, List, length, Option, Some, None, map, Contains, IsTrue}
+use Rattle.std.specs.Prelude.{◌≡◌, ℕ, ◌<◌, Bool, true, List, length, Option, Some, None, cond, map, Contains, IsTrue}
 use Rattle.std.specs.Option.{option_map}
 use Rattle.std.specs.Int.{is_power_of_two}
 use Rattle.gpu_core.specs.declared.memory_type.slot.LiveBlock.{LiveBlock}
+use Rattle.gpu_core.specs.declared.memory_type.slot.Gone.{Gone}
 use Rattle.gpu_core.specs.declared.memory_type.slot.Finding.{Finding}
 use Rattle.gpu_core.specs.declared.memory_type.slot.Finding.TheVariants as findings
 use Rattle.gpu_core.specs.Request.{Request}
 use Rattle.gpu_core.specs.SubAllocator.{block_of}
 use Rattle.gpu_core.specs.Block.{extents_of, is_general, TakesIn, HasPages, IsSoundBlock}
 use Rattle.gpu_core.specs.FreeList.{Extent}
-use Rattle.gpu_core.specs.TypeState.{Slot, slot_at, capacity_of, shared_count}
+use Rattle.gpu_core.specs.TypeState.{Slot, slot_at, capacity_of, shared_count, KeepsOneEmptyAtMost}
 use Rattle.gpu_core.specs.TypeRelease.{SlotHolds, Goes}
 use Rattle.gpu_core.specs.declared.memory_type.Piece.{Piece}
 use Rattle.std.specs.Int.NonZero.{non_zero_u64_get}
@@ -28,12 +29,13 @@ SlotIsSound granularity (Some s) = HasPages s.block granularity × IsSoundBlock 
 abbrev pub AreSound : {H : Type 0} → ℕ → List (Option (Slot H)) → Type 0
 AreSound granularity slots = (i : ℕ) → SlotIsSound granularity (slot_at slots i)
 
--- the code's sums are those of the slots, the pages are a power of two, and the blocks are sound
+-- the code's sums are those of the slots, the pages are a power of two, the blocks are sound, and at most one is empty
 pub record AreKept {H : Type 0} (granularity : ℕ) (slots : List (Option (Slot H))) (capacity general : ℕ) : Type 0 where
   pub pages : IsTrue (is_power_of_two granularity)
   pub sound : AreSound granularity slots
   pub capacity_is : capacity ≡ capacity_of slots
   pub general_is : general ≡ shared_count slots
+  pub empty : KeepsOneEmptyAtMost slots
 
 -- a piece was taken of a shared block
 abbrev pub SlotTakes : {H : Type 0} → Option (Slot H) → Request → (offset number : ℕ) → H → Option (Slot H) → Type 0
@@ -59,3 +61,16 @@ Settles several (Some old) went (Some new) = (went ≡ None) × (new ≡ old) ×
 Settles several (Some old) went None = (went ≡ Some old.number) × Goes several old.block
 Settles several None went None = went ≡ None
 Settles several None went (Some new) = ⊥
+
+-- of a block that went, if one did: the device's number of it, the bytes that went with it, and 1 where it was shared
+abbrev pub gone_number : {H : Type 0} → Option (Gone H) → Option H
+gone_number None = None
+gone_number (Some went) = Some went.number
+
+abbrev pub gone_size : {H : Type 0} → Option (Gone H) → ℕ
+gone_size None = 0
+gone_size (Some went) = went.size
+
+abbrev pub gone_shared : {H : Type 0} → Option (Gone H) → ℕ
+gone_shared None = 0
+gone_shared (Some went) = cond went.is_shared 1 0

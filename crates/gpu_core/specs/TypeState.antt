@@ -1,7 +1,8 @@
 -- A memory type: its slots, each empty or with a live block, and what the blocks sum up to.
-use Rattle.std.specs.Prelude.{ℕ, zero, suc, ◌+◌, Bool, true, false, List, [], ◌∷◌, length, Option, Some, None, cond}
+use Rattle.std.specs.Prelude.{◌≡◌, ℕ, zero, suc, ◌+◌, Bool, true, false, List, [], ◌∷◌, length, Option, Some, None, cond}
 use Rattle.std.specs.List.{slice_index_or, position}
-use Rattle.gpu_core.specs.Block.{Block, size_of, is_general}
+use Rattle.gpu_core.specs.FreeList.{IsGap}
+use Rattle.gpu_core.specs.Block.{Block, free_list, dedicated, extents_of, size_of, is_general}
 
 -- a live block: the device's number of it, and its pieces
 pub record Slot (H : Type 0) : Type 0 where
@@ -62,3 +63,25 @@ lowest_empty slots = position is_empty_slot slots
 
 abbrev pub highest_empty : {H : Type 0} → List (Option (Slot H)) → Option ℕ
 highest_empty slots = highest_below (λ i. is_empty_slot (slot_at slots i)) (length slots)
+
+-- ---- blocks without pieces
+
+-- a slot whose block has no live piece
+abbrev pub HasEmptyBlock : {H : Type 0} → Option (Slot H) → Type 0
+HasEmptyBlock None = ⊥
+HasEmptyBlock (Some s) = extents_of s.block ≡ []
+
+-- a shared block that is one gap of its whole size
+abbrev pub IsOneGap : Block → Type 0
+IsOneGap (free_list b) = IsGap b 0 b.size × ((start end : ℕ) → IsGap b start end → (start ≡ 0) × (end ≡ b.size))
+IsOneGap (dedicated b) = ⊥
+
+-- a slot whose block is such a one
+abbrev pub HasOneGap : {H : Type 0} → Option (Slot H) → Type 0
+HasOneGap None = ⊥
+HasOneGap (Some s) = IsOneGap s.block
+
+-- at most one block is without pieces, and it is a shared one: one gap of its whole size
+pub record KeepsOneEmptyAtMost {H : Type 0} (slots : List (Option (Slot H))) : Type 0 where
+  pub one : (i j : ℕ) → HasEmptyBlock (slot_at slots i) → HasEmptyBlock (slot_at slots j) → i ≡ j
+  pub whole : (i : ℕ) → HasEmptyBlock (slot_at slots i) → HasOneGap (slot_at slots i)

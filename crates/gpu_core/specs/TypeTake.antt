@@ -62,13 +62,14 @@ pub record Ready : Type 0 where
   pub number : ℕ
   pub size : ℕ
 
--- which block a request needs
+-- which block a request needs; the piece begins at its start
 pub record NeedsBlock {H : Type 0} (t : TypeState H) (sizes : Sizes) (wants_own : Bool) (r : Request) (size : ℕ) (is_dedicated : Bool) (ready : Ready) : Type 0 where
   pub kind : is_dedicated ≡ has_own_block t sizes wants_own r.size
   pub size_is : size ≡ cond is_dedicated r.size (next_shared_size t sizes)
   pub none : is_dedicated ≡ false → NoneServes t.slots r
   pub takes : TakesIn (fresh_block is_dedicated size t.granularity) r ready.offset ready.number ready.block
   pub piece : ready.size ≡ r.size
+  pub begins : ready.offset ≡ 0
 
 -- there is host memory for one more block
 abbrev pub has_room : {H : Type 0} → TypeState H → Bool

@@ -1,6 +1,6 @@
 //! A block that is one piece's own.
 
-ghost use Rattle.std.specs.Prelude.{◌≡◌, ◌<◌, IfOk, OnOk, OnErr, IfErr, IfSome, IsSomeAnd, codes, None, IsTrue, ◌↔◌, ◌≢◌, [], map, true, false, ◌+◌};
+ghost use Rattle.std.specs.Prelude.{◌≡◌, ◌<◌, ◌≤◌, IfOk, OnOk, OnErr, IfErr, IfSome, IsSomeAnd, codes, None, IsTrue, ◌↔◌, ◌≢◌, [], map, true, false, ◌+◌};
 ghost use Rattle.std.specs.Int.NonZero.{non_zero_u64_get};
 ghost use Rattle.gpu_core.specs.Refusal.{refusal_of, internal};
 ghost use Rattle.gpu_core.specs.declared.error.AllocationError.TheVariants.{HostOutOfMemory};
@@ -124,7 +124,8 @@ impl DedicatedBlockAllocator {
 
     /// The bytes of the piece.
     pub fn allocated(&self) -> u64
-        ensures { result ≡ extent_bytes (held_extents self.now) }
+        ensures sum { result ≡ extent_bytes (held_extents self.now) }
+        ensures within { result ≤ self.now.size }
     {
         match &self.piece {
             None => 0,

@@ -203,7 +203,8 @@ impl FreeListAllocator {
 
     /// The bytes of all pieces, padding included.
     pub fn allocated(&self) -> u64
-        ensures { result ≡ extent_bytes self.now.extents }
+        ensures sum { result ≡ extent_bytes self.now.extents }
+        ensures within { result ≤ self.now.size }
     {
         // a field that is read is known to be a u64
         let _size = self.size;

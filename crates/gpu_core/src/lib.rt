@@ -17,6 +17,7 @@ mod memory_type;
 mod report;
 mod rows;
 mod sub_allocator;
+pub mod type_laws;
 
 pub use allocation_sizes::AllocationSizes;
 pub use allocation_type::AllocationType;
@@ -27,7 +28,7 @@ pub use error::{AllocationError, Fault, Result};
 pub use free_list::FreeListAllocator;
 pub use leaks::{Leak, Leaks};
 pub use memory_location::MemoryLocation;
-pub use memory_type::{MemoryType, NeedBlock, Piece, Prepared, Request, Room};
+pub use memory_type::{MemoryType, NeedBlock, Piece, Prepared, Request, Room, TypeLeaks};
 pub use report::{AllocationReport, AllocatorReport, MemoryBlockReport};
 pub use sub_allocator::SubAllocator;
 

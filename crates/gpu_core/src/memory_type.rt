@@ -8,17 +8,21 @@ ghost use Rattle.gpu_core.specs.declared.error.AllocationError.TheVariants.{Host
 ghost use Rattle.gpu_core.specs.Refusal.{refusal_of};
 
 mod need;
+mod report;
 mod slot;
 mod slots;
+mod type_leaks;
 
-use crate::{AllocationSizes, AllocationType, Leaks, Result};
+use crate::{AllocationSizes, AllocationType, AllocatorReport, Leaks, Result};
 use need::make_room;
 pub use need::{NeedBlock, Room};
-use slot::{Finding, LiveBlock, Released, find};
+use report::add_slots;
+use slot::{Finding, LiveBlock, find};
 use slots::{free_in, put_block, rename_in, reserve_slot, take_shared};
 use std::alloc::Global;
 use std::marker::Model;
 use std::num::NonZeroU64;
+pub use type_leaks::TypeLeaks;
 
 /// What is asked of a memory type. Size and alignment are bytes.
 #[derive(Clone, Copy, Debug)]
@@ -81,11 +85,13 @@ impl<H: Copy + Eq> Model for MemoryType<H> {
 }
 
 impl<H: Copy + Eq> MemoryType<H> {
-    ghost use Rattle.gpu_core.specs.TypeState.{slot_at, capacity_of, shared_count, block_number};
+    ghost use Rattle.gpu_core.specs.TypeState.{slot_at, capacity_of, shared_count, block_number, KeepsOneEmptyAtMost};
     ghost use Rattle.gpu_core.specs.TypeTake.{Installs};
     ghost use Rattle.gpu_core.specs.Slots.{AreSound};
     ghost use Rattle.gpu_core.specs.TypePrepare.{IsPrepared, CanInstall};
     ghost use Rattle.gpu_core.specs.TypeRelease.{has_several, IsLive, IsFreeRefusal, IsNameRefusal, ReleasesPiece, RenamesPiece};
+    ghost use Rattle.gpu_core.specs.TypeReport.{leaks_in, type_leaks, with_type};
+    ghost use Rattle.gpu_core.specs.Report.{report_of};
 
     /// A memory type without blocks. `is_host` says which of the block sizes are its own; `granularity` is the page size
     /// of its blocks in bytes: Vulkan's bufferImageGranularity, elsewhere 1.
@@ -94,6 +100,7 @@ impl<H: Copy + Eq> MemoryType<H> {
         ensures slots { result.slots ≡ [] }
         ensures kind { (result.is_host ≡ is_host) × (result.granularity ≡ granularity) }
         ensures sound { AreSound result.granularity result.slots }
+        ensures empty { KeepsOneEmptyAtMost result.slots }
     {
         MemoryType {
             is_host,
@@ -116,6 +123,7 @@ impl<H: Copy + Eq> MemoryType<H> {
         ensures refused { OnErr result (self.new.slots ≡ self.old.slots) }
         ensures kind { (self.new.is_host ≡ self.old.is_host) × (self.new.granularity ≡ self.old.granularity) }
         ensures sound { AreSound self.new.granularity self.new.slots }
+        ensures empty { KeepsOneEmptyAtMost self.new.slots }
     {
         let next = sizes.memblock_size(self.is_host, self.general);
         let dedicated = request.dedicated || request.size > next;
@@ -143,6 +151,7 @@ impl<H: Copy + Eq> MemoryType<H> {
         ensures capacity { capacity_of self.new.slots ≡ capacity_of self.old.slots + need.size }
         ensures kind { (self.new.is_host ≡ self.old.is_host) × (self.new.granularity ≡ self.old.granularity) }
         ensures sound { AreSound self.new.granularity self.new.slots }
+        ensures empty { KeepsOneEmptyAtMost self.new.slots }
     {
         let NeedBlock {
             size,
@@ -174,16 +183,24 @@ impl<H: Copy + Eq> MemoryType<H> {
         ensures released { IfOk result (λ gone.
             ReleasesPiece (IsTrue (has_several self.old.slots)) self.old.slots piece.now gone self.new.slots) }
         ensures live { OnOk result (IsLive H.eq self.old.slots piece.now) }
+        ensures dead { OnErr result (IsLive H.eq self.old.slots piece.now → ⊥) }
         ensures cause { IfErr result (λ e. IsFreeRefusal H.eq piece.now (slot_at self.old.slots piece.now.slot) (refusal_of e)) }
         ensures refused { OnErr result (self.new ≡ self.old) }
         ensures kind { (self.new.is_host ≡ self.old.is_host) × (self.new.granularity ≡ self.old.granularity) }
         ensures sound { AreSound self.new.granularity self.new.slots }
+        ensures empty { KeepsOneEmptyAtMost self.new.slots }
     {
         let several = self.general > 1;
-        let Released { gone, size, shared } = free_in(&mut self.slots, piece, several)?;
-        self.capacity -= size;
-        self.general -= shared;
-        Ok(gone)
+        match free_in(&mut self.slots, piece, several)? {
+            None => Ok(None),
+            Some(gone) => {
+                self.capacity -= gone.size;
+                if gone.is_shared {
+                    self.general -= 1;
+                }
+                Ok(Some(gone.number))
+            }
+        }
     }
 
     /// Gives a piece another name. `Internal` where the piece isn't live, else `HostOutOfMemory` where the host refused
@@ -191,10 +208,13 @@ impl<H: Copy + Eq> MemoryType<H> {
     pub fn rename(&mut self, piece: &Piece<H>, name: &str) -> Result<()>
         ensures renamed { OnOk result (RenamesPiece self.old.slots piece.now name.now self.new.slots) }
         ensures live { OnOk result (IsLive H.eq self.old.slots piece.now) }
+        ensures dead { IfErr result (λ e. e ≢ HostOutOfMemory → IsLive H.eq self.old.slots piece.now → ⊥) }
+        ensures starved { IfErr result (λ e. e ≡ HostOutOfMemory → IsLive H.eq self.old.slots piece.now) }
         ensures cause { IfErr result (λ e. IsNameRefusal H.eq piece.now (slot_at self.old.slots piece.now.slot) (refusal_of e)) }
         ensures refused { OnErr result (self.new ≡ self.old) }
         ensures kind { (self.new.is_host ≡ self.old.is_host) × (self.new.granularity ≡ self.old.granularity) }
         ensures sound { AreSound self.new.granularity self.new.slots }
+        ensures empty { KeepsOneEmptyAtMost self.new.slots }
     {
         rename_in(&mut self.slots, piece, name)
     }
@@ -241,5 +261,40 @@ impl<H: Copy + Eq> MemoryType<H> {
             Some(Some(block)) => Some(block.number),
             _ => None,
         }
+    }
+
+    /// The live pieces of the block in a slot, in order of offset, as leaks of type `memory_type`; `None` where there is
+    /// no block. It takes no memory.
+    pub fn leaks(&self, memory_type: usize, slot: usize) -> Option<Leaks<'_>>
+        ensures { result ≡ leaks_in memory_type slot (slot_at self.now.slots slot) }
+    {
+        match self.slots.get(slot) {
+            Some(Some(block)) => Some(block.sub.leaks(memory_type, slot)),
+            _ => None,
+        }
+    }
+
+    /// All live pieces by slot, then in order of offset, as leaks of type `memory_type`. It takes no memory.
+    pub fn all_leaks(&self, memory_type: usize) -> TypeLeaks<'_, H>
+        ensures { result ≡ type_leaks memory_type self.now.slots }
+    {
+        TypeLeaks {
+            memory_type,
+            block: None,
+            next: 0,
+            slots: &self.slots,
+        }
+    }
+
+    /// Adds the live blocks, their pieces and the sums of both to a report, by slot and then by offset. The only refusal
+    /// is `HostOutOfMemory`, and then the report holds a part of it: drop it.
+    pub fn report(&self, report: &mut AllocatorReport) -> Result<()>
+        requires within { report.old.total_allocated_bytes ≤ report.old.total_capacity_bytes }
+        requires sum { report.old.total_capacity_bytes + capacity_of self.now.slots < 2 ^ 64 }
+        ensures added { OnOk result (report_of report.new ≡ with_type (report_of report.old) self.now.slots) }
+        ensures within { OnOk result (report.new.total_allocated_bytes ≤ report.new.total_capacity_bytes) }
+        ensures cause { IfErr result (λ e. e ≡ HostOutOfMemory) }
+    {
+        add_slots(report, &self.slots)
     }
 }

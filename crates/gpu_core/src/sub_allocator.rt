@@ -1,6 +1,6 @@
 //! A block of either form, under one contract.
 
-ghost use Rattle.std.specs.Prelude.{◌≡◌, ◌≢◌, ℕ, ◌<◌, [], map, string_bytes, IfOk, OnOk, OnErr, IfErr, IsSomeAnd, IsTrue, ◌↔◌};
+ghost use Rattle.std.specs.Prelude.{◌≡◌, ◌≢◌, ℕ, ◌<◌, ◌≤◌, [], map, string_bytes, IfOk, OnOk, OnErr, IfErr, IsSomeAnd, IsTrue, ◌↔◌};
 ghost use Rattle.std.specs.Int.{is_power_of_two};
 ghost use Rattle.std.specs.Int.NonZero.{non_zero_u64_get};
 ghost use Rattle.gpu_core.specs.declared.error.AllocationError.TheVariants.{HostOutOfMemory};
@@ -133,7 +133,8 @@ impl SubAllocator {
 
     /// The bytes of all live pieces, padding included.
     pub fn allocated(&self) -> u64
-        ensures { result ≡ allocated_bytes (block_of self.now) }
+        ensures sum { result ≡ allocated_bytes (block_of self.now) }
+        ensures within { result ≤ size_of (block_of self.now) }
     {
         match self {
             SubAllocator::FreeList(list) => list.allocated(),

@@ -6,6 +6,7 @@ ghost use Rattle.gpu_core.specs.SubAllocator.{block_of};
 ghost use Rattle.std.specs.Int.{is_power_of_two};
 
 mod memory_types;
+mod refused;
 
 use super::*;
 use std::alloc::{AllocError, Global};

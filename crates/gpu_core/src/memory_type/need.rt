@@ -4,7 +4,7 @@ ghost use Rattle.std.specs.Prelude.{◌≡◌, ◌≢◌, ◌<◌, ◌≤◌, If
 ghost use Rattle.std.specs.Int.{is_power_of_two};
 ghost use Rattle.gpu_core.specs.Request.{request};
 ghost use Rattle.gpu_core.specs.SubAllocator.{block_of};
-ghost use Rattle.gpu_core.specs.Block.{size_of, is_general, TakesIn, HasPages, IsSoundBlock};
+ghost use Rattle.gpu_core.specs.Block.{size_of, is_general, TakesIn, HoldsPiece, HasPages, IsSoundBlock};
 ghost use Rattle.gpu_core.specs.TypeTake.{fresh_block, asked};
 ghost use Rattle.gpu_core.specs.declared.error.AllocationError.TheVariants.{HostOutOfMemory};
 
@@ -76,6 +76,8 @@ pub fn make_room(
     ensures takes { IfOk result
         (λ r. TakesIn (fresh_block is_dedicated size granularity) (asked request.now) r.offset r.number r.block) }
     ensures piece { IfOk result (λ r. r.size ≡ request.now.size) }
+    ensures begins { IfOk result (λ r. r.offset ≡ 0) }
+    ensures holds { IfOk result (λ r. HoldsPiece r.block r.number r.offset r.size) }
     ensures sound { IfOk result (λ r. IsSoundBlock r.block) }
     ensures pages { IfOk result (λ r. HasPages r.block granularity) }
     ensures cause { IfErr result (λ e. e ≡ HostOutOfMemory) }

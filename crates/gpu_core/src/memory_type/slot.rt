@@ -12,7 +12,7 @@ ghost use Rattle.gpu_core.specs.SubAllocator.{block_of};
 ghost use Rattle.gpu_core.specs.Block.{IsSoundBlock, HasPages, ReleasesIn};
 ghost use Rattle.gpu_core.specs.TypeState.{slot_size, shared_in};
 ghost use Rattle.gpu_core.specs.TypeRelease.{SlotHolds, IsFreeRefusal, IsNameRefusal, SlotReleases, SlotRenames};
-ghost use Rattle.gpu_core.specs.Slots.{slot_of, SlotTakes, SlotIsSound, Finds, Settles};
+ghost use Rattle.gpu_core.specs.Slots.{slot_of, SlotTakes, SlotIsSound, Finds, Settles, gone_number, gone_size, gone_shared};
 
 use super::{Piece, Request};
 use crate::error::internal_fault;
@@ -54,11 +54,7 @@ pub fn take_in<H: Copy>(
     ensures kept { SlotIsSound granularity (option_map slot_of slot.new) }
 {
     match slot {
-        None => Ok(None),
-        Some(block) => {
-            if !block.sub.supports_general_allocations() {
-                return Ok(None);
-            }
+        Some(block) if block.sub.supports_general_allocations() => {
             let Request {
                 size,
                 alignment,
@@ -76,6 +72,7 @@ pub fn take_in<H: Copy>(
                 Err(error) => Err(error),
             }
         }
+        _ => Ok(None),
     }
 }
 
@@ -108,38 +105,33 @@ pub fn find<H: Copy + Eq>(block: &LiveBlock<H>, piece: &Piece<H>) -> Finding
     }
 }
 
-/// What a release took away: the block that went, its size in bytes, and 1 where it was shared.
+/// A block that went: the device's number of it, its size in bytes, and whether it was shared.
 #[derive(Drop)]
-pub struct Released<H> {
-    pub gone: Option<H>,
+pub struct Gone<H> {
+    pub number: H,
     pub size: u64,
-    pub shared: usize,
+    pub is_shared: bool,
 }
 
 /// Gives the block of a slot up where it is empty and dedicated, or empty and one of several shared ones.
-fn settle<H: Copy>(slot: &mut Option<LiveBlock<H>>, several: bool) -> Released<H>
-    ensures settled { Settles (IsTrue several) (option_map slot_of slot.old) result.gone (option_map slot_of slot.new) }
-    ensures size { slot_size (option_map slot_of slot.new) + result.size ≡ slot_size (option_map slot_of slot.old) }
-    ensures shared { shared_in (option_map slot_of slot.new) + result.shared ≡ shared_in (option_map slot_of slot.old) }
+fn settle<H: Copy>(slot: &mut Option<LiveBlock<H>>, several: bool) -> Option<Gone<H>>
+    ensures settled { Settles (IsTrue several) (option_map slot_of slot.old) (gone_number result) (option_map slot_of slot.new) }
+    ensures size { slot_size (option_map slot_of slot.new) + gone_size result ≡ slot_size (option_map slot_of slot.old) }
+    ensures shared { shared_in (option_map slot_of slot.new) + gone_shared result ≡ shared_in (option_map slot_of slot.old) }
 {
     if let Some(block) = slot {
         let is_shared = block.sub.supports_general_allocations();
         if block.sub.is_empty() && (several || !is_shared) {
-            let gone = block.number;
-            let size = block.sub.size();
-            *slot = None;
-            return Released {
-                gone: Some(gone),
-                size,
-                shared: if is_shared { 1 } else { 0 },
+            let gone = Gone {
+                number: block.number,
+                size: block.sub.size(),
+                is_shared,
             };
+            *slot = None;
+            return Some(gone);
         }
     }
-    Released {
-        gone: None,
-        size: 0,
-        shared: 0,
-    }
+    None
 }
 
 /// Gives a piece back to its block. It takes no memory; a refusal leaves the block as it was.
@@ -164,13 +156,13 @@ pub fn release<H: Copy + Eq>(
     slot: &mut Option<LiveBlock<H>>,
     piece: &Piece<H>,
     several: bool,
-) -> Result<Released<H>>
+) -> Result<Option<Gone<H>>>
     requires { (g : ℕ) × SlotIsSound g (option_map slot_of slot.old) }
-    ensures released { IfOk result (λ r. SlotReleases (IsTrue several) (non_zero_u64_get piece.now.number)
-        (option_map slot_of slot.old) r.gone (option_map slot_of slot.new)) }
+    ensures released { IfOk result (λ went. SlotReleases (IsTrue several) (non_zero_u64_get piece.now.number)
+        (option_map slot_of slot.old) (gone_number went) (option_map slot_of slot.new)) }
     ensures live { OnOk result (SlotHolds H.eq piece.now (option_map slot_of slot.old)) }
-    ensures size { IfOk result (λ r. slot_size (option_map slot_of slot.new) + r.size ≡ slot_size (option_map slot_of slot.old)) }
-    ensures shared { IfOk result (λ r. shared_in (option_map slot_of slot.new) + r.shared ≡ shared_in (option_map slot_of slot.old)) }
+    ensures size { IfOk result (λ went. slot_size (option_map slot_of slot.new) + gone_size went ≡ slot_size (option_map slot_of slot.old)) }
+    ensures shared { IfOk result (λ went. shared_in (option_map slot_of slot.new) + gone_shared went ≡ shared_in (option_map slot_of slot.old)) }
     ensures cause { IfErr result (λ e. IsFreeRefusal H.eq piece.now (option_map slot_of slot.old) (refusal_of e)) }
     ensures refused { OnErr result (option_map slot_of slot.new ≡ option_map slot_of slot.old) }
     ensures kept { (g : ℕ) → SlotIsSound g (option_map slot_of slot.old) → SlotIsSound g (option_map slot_of slot.new) }
@@ -194,6 +186,7 @@ pub fn rename<H: Copy + Eq>(
     ensures renamed { OnOk result (SlotRenames (non_zero_u64_get piece.now.number) name.now
         (option_map slot_of slot.old) (option_map slot_of slot.new)) }
     ensures live { OnOk result (SlotHolds H.eq piece.now (option_map slot_of slot.old)) }
+    ensures starved { IfErr result (λ e. e ≡ HostOutOfMemory → SlotHolds H.eq piece.now (option_map slot_of slot.old)) }
     ensures cause { IfErr result (λ e. IsNameRefusal H.eq piece.now (option_map slot_of slot.old) (refusal_of e)) }
     ensures refused { OnErr result (option_map slot_of slot.new ≡ option_map slot_of slot.old) }
     ensures kept { (g : ℕ) → SlotIsSound g (option_map slot_of slot.old) → SlotIsSound g (option_map slot_of slot.new) }

@@ -12,9 +12,9 @@ ghost use Rattle.gpu_core.specs.Refusal.{refusal_of};
 ghost use Rattle.gpu_core.specs.TypeState.{slot_at, capacity_of, shared_count, lowest_empty, highest_empty};
 ghost use Rattle.gpu_core.specs.TypeRelease.{IsLive, IsFreeRefusal, IsNameRefusal, ReleasesPiece, RenamesPiece};
 ghost use Rattle.gpu_core.specs.TypeTake.{asked, PreparesPiece, NoneServes, new_slot, with_block};
-ghost use Rattle.gpu_core.specs.Slots.{slot_of, slots_of, AreSound, IsEmptyAt};
+ghost use Rattle.gpu_core.specs.Slots.{slot_of, slots_of, AreSound, IsEmptyAt, gone_number, gone_size, gone_shared};
 
-use super::slot::{LiveBlock, Released, release, rename, take_in};
+use super::slot::{Gone, LiveBlock, release, rename, take_in};
 use super::{Piece, Request};
 use crate::error::internal_fault;
 use crate::{AllocationType, Result};
@@ -145,13 +145,13 @@ pub fn free_in<H: Copy + Eq>(
     slots: &mut Vec<Option<LiveBlock<H>>>,
     piece: &Piece<H>,
     several: bool,
-) -> Result<Released<H>>
+) -> Result<Option<Gone<H>>>
     requires { (g : ℕ) × AreSound g (slots_of slots.old.items) }
-    ensures released { IfOk result (λ r.
-        ReleasesPiece (IsTrue several) (slots_of slots.old.items) piece.now r.gone (slots_of slots.new.items)) }
+    ensures released { IfOk result (λ went.
+        ReleasesPiece (IsTrue several) (slots_of slots.old.items) piece.now (gone_number went) (slots_of slots.new.items)) }
     ensures live { OnOk result (IsLive H.eq (slots_of slots.old.items) piece.now) }
-    ensures size { IfOk result (λ r. capacity_of (slots_of slots.new.items) + r.size ≡ capacity_of (slots_of slots.old.items)) }
-    ensures shared { IfOk result (λ r. shared_count (slots_of slots.new.items) + r.shared ≡ shared_count (slots_of slots.old.items)) }
+    ensures size { IfOk result (λ went. capacity_of (slots_of slots.new.items) + gone_size went ≡ capacity_of (slots_of slots.old.items)) }
+    ensures shared { IfOk result (λ went. shared_count (slots_of slots.new.items) + gone_shared went ≡ shared_count (slots_of slots.old.items)) }
     ensures cause { IfErr result (λ e.
         IsFreeRefusal H.eq piece.now (slot_at (slots_of slots.old.items) piece.now.slot) (refusal_of e)) }
     ensures refused { OnErr result (slots_of slots.new.items ≡ slots_of slots.old.items) }
@@ -174,6 +174,7 @@ pub fn rename_in<H: Copy + Eq>(
     requires { (g : ℕ) × AreSound g (slots_of slots.old.items) }
     ensures renamed { OnOk result (RenamesPiece (slots_of slots.old.items) piece.now name.now (slots_of slots.new.items)) }
     ensures live { OnOk result (IsLive H.eq (slots_of slots.old.items) piece.now) }
+    ensures starved { IfErr result (λ e. e ≡ HostOutOfMemory → IsLive H.eq (slots_of slots.old.items) piece.now) }
     ensures cause { IfErr result (λ e.
         IsNameRefusal H.eq piece.now (slot_at (slots_of slots.old.items) piece.now.slot) (refusal_of e)) }
     ensures refused { OnErr result (slots_of slots.new.items ≡ slots_of slots.old.items) }

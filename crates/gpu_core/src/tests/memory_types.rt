@@ -1,8 +1,8 @@
 //! Tests of memory types, with numbers of blocks that the tests make.
 
-ghost use Rattle.std.specs.Prelude.{◌≢◌};
+ghost use Rattle.std.specs.Prelude.{◌≡◌, ◌≢◌};
 
-use super::MB;
+use super::{MB, check_text};
 use crate::*;
 use std::alloc::Global;
 use std::process::Abort;
@@ -10,20 +10,20 @@ use std::test::Fail;
 
 /// The device's number of a block, of a type of the test's own.
 #[derive(Clone, Copy, Debug, PartialEq, Eq)]
-enum Handle {
+pub enum Handle {
     Red,
     Green,
     Blue,
     Grey,
 }
 
-fn memory_type(rt: &impl Abort, alloc: Global, is_host: bool) -> MemoryType<Handle> {
+pub fn memory_type(rt: &impl Abort, alloc: Global, is_host: bool) -> MemoryType<Handle> {
     let granularity: u64 = 1;
     assert!(rt; granularity.is_power_of_two());
     MemoryType::new(alloc, is_host, granularity)
 }
 
-fn linear(size: u64, alignment: u64) -> Request<'static>
+pub fn linear(size: u64, alignment: u64) -> Request<'static>
     ensures { result.kind ≢ AllocationType.Free }
 {
     Request {
@@ -36,7 +36,7 @@ fn linear(size: u64, alignment: u64) -> Request<'static>
 }
 
 /// The piece, from a new block of that number where one is needed.
-fn take(
+pub fn take(
     rt: &impl Abort,
     blocks: &mut MemoryType<Handle>,
     sizes: &AllocationSizes,
@@ -86,7 +86,7 @@ fn needed(
     }
 }
 
-fn check_place(rt: &impl Abort, piece: &Piece<Handle>, slot: usize, offset: u64, number: u64) {
+pub fn check_place(rt: &impl Abort, piece: &Piece<Handle>, slot: usize, offset: u64, number: u64) {
     assert_eq!(rt; piece.slot, slot);
     assert_eq!(rt; piece.offset, offset);
     assert_eq!(rt; piece.number.get(), number);
@@ -194,5 +194,177 @@ fn a_piece_that_is_not_live_is_refused(rt: HostRuntime) -> Result<(), Fail> {
     assert!(rt; b.is_live(&piece));
     assert!(rt; b.free(&piece)?.is_none());
     assert!(rt; b.free(&piece).is_err());
+    Ok(())
+}
+
+// ---- reports and leaks
+
+fn empty_report(alloc: Global) -> AllocatorReport
+    ensures { (result.total_allocated_bytes ≡ 0) × (result.total_capacity_bytes ≡ 0) }
+{
+    AllocatorReport {
+        allocations: Vec::new(alloc),
+        blocks: Vec::new(alloc),
+        total_allocated_bytes: 0,
+        total_capacity_bytes: 0,
+    }
+}
+
+/// The report of a memory type alone.
+pub fn report_of(alloc: Global, blocks: &MemoryType<Handle>) -> Result<AllocatorReport> {
+    let mut report = empty_report(alloc);
+    let _capacity = blocks.capacity();
+    blocks.report(&mut report)?;
+    Ok(report)
+}
+
+pub fn check_row(
+    rt: &impl Abort,
+    report: &AllocatorReport,
+    i: usize,
+    name: &str,
+    offset: u64,
+    size: u64,
+) {
+    assert!(rt; i < report.allocations.len(), "row {i}");
+    let row = &report.allocations[i];
+    assert_eq!(rt; row.name.as_str(), name, "row {i}");
+    assert_eq!(rt; (row.offset, row.size), (offset, size), "row {i}");
+}
+
+pub fn check_block(
+    rt: &impl Abort,
+    report: &AllocatorReport,
+    i: usize,
+    size: u64,
+    start: usize,
+    end: usize,
+) {
+    assert!(rt; i < report.blocks.len(), "block {i}");
+    let block = &report.blocks[i];
+    assert_eq!(rt; block.size, size, "block {i}");
+    assert_eq!(rt;
+        (block.allocations.start, block.allocations.end),
+        (start, end),
+        "block {i}"
+    );
+}
+
+pub fn named(name: &'static str, size: u64, alignment: u64) -> Request<'static>
+    ensures { result.kind ≢ AllocationType.Free }
+{
+    Request {
+        name,
+        ..linear(size, alignment)
+    }
+}
+
+/// Pieces `a` and `b` in slot 0, none in slot 1, and `c` in a block of its own in slot 2.
+fn three_pieces(rt: &impl Abort, alloc: Global) -> Result<MemoryType<Handle>> {
+    let sizes = AllocationSizes::new(4 * MB, 4 * MB);
+    let mut blocks = memory_type(rt, alloc, true);
+    let b = &mut blocks;
+    take(rt, b, &sizes, &named("a", 100, 1), Handle::Red)?;
+    take(rt, b, &sizes, &named("b", 64, 256), Handle::Red)?;
+    let gone = place(rt, b, &sizes, 5 * MB, Handle::Green)?;
+    take(rt, b, &sizes, &named("c", 6 * MB, 1), Handle::Blue)?;
+    assert!(rt; b.free(&gone)? == Some(Handle::Green));
+    Ok(blocks)
+}
+
+#[test]
+fn a_type_reports_by_slot_and_offset(rt: HostRuntime) -> Result<(), Fail> {
+    let blocks = three_pieces(&rt, rt.alloc())?;
+    let report = report_of(rt.alloc(), &blocks)?;
+    assert_eq!(rt; report.allocations.len(), 3);
+    check_row(&rt, &report, 0, "a", 0, 100);
+    check_row(&rt, &report, 1, "b", 256, 64);
+    check_row(&rt, &report, 2, "c", 0, 6 * MB);
+    assert_eq!(rt; report.blocks.len(), 2);
+    check_block(&rt, &report, 0, 4 * MB, 0, 2);
+    check_block(&rt, &report, 1, 6 * MB, 2, 3);
+    assert_eq!(rt; report.total_allocated_bytes, 6_291_776);
+    assert_eq!(rt; report.total_capacity_bytes, 10 * MB);
+    Ok(())
+}
+
+#[test]
+fn a_second_type_is_reported_behind_the_first(rt: HostRuntime) -> Result<(), Fail> {
+    let first = three_pieces(&rt, rt.alloc())?;
+    let second = three_pieces(&rt, rt.alloc())?;
+    let mut report = report_of(rt.alloc(), &first)?;
+    assert!(rt; report.total_allocated_bytes <= report.total_capacity_bytes);
+    assert!(rt;
+        report
+            .total_capacity_bytes
+            .checked_add(second.capacity())
+            .is_some()
+    );
+    second.report(&mut report)?;
+    assert_eq!(rt; (report.allocations.len(), report.blocks.len()), (6, 4));
+    check_row(&rt, &report, 4, "b", 256, 64);
+    check_block(&rt, &report, 2, 4 * MB, 3, 5);
+    check_block(&rt, &report, 3, 6 * MB, 5, 6);
+    assert_eq!(rt; report.total_capacity_bytes, 20 * MB);
+    Ok(())
+}
+
+const LEAK_A: &str =
+    "leak detected: {\n    memory type: 3\n    memory block: 0\n    chunk: {\n        chunk_id: 2,\n        size: 0x64,\n        offset: 0x0,\n        allocation_type: Linear,\n        name: a\n    }\n}";
+
+const LEAK_B: &str =
+    "leak detected: {\n    memory type: 3\n    memory block: 0\n    chunk: {\n        chunk_id: 3,\n        size: 0xdc,\n        offset: 0x64,\n        allocation_type: Linear,\n        name: b\n    }\n}";
+
+const LEAK_C: &str =
+    "leak detected: {\n    memory type: 3\n    memory block: 2\n    dedicated allocation: {\n        size: 0x600000,\n        name: c\n    }\n}";
+
+/// The leaks of a slot: how many there are, and the last one's text.
+fn check_leaks(
+    rt: &impl Abort,
+    alloc: Global,
+    blocks: &MemoryType<Handle>,
+    slot: usize,
+    count: usize,
+    last: &str,
+) -> Result<()> {
+    let leaks = blocks.leaks(3, slot);
+    assert!(rt; leaks.is_some(), "slot {slot} has a block");
+    let mut seen: usize = 0;
+    if let Some(leaks) = leaks {
+        for leak in leaks {
+            seen = seen.saturating_add(1);
+            if seen == count {
+                check_text(rt, alloc, &leak, last)?;
+            }
+        }
+    }
+    assert_eq!(rt; seen, count);
+    Ok(())
+}
+
+#[test]
+fn leaks_of_a_type_name_their_slot(rt: HostRuntime) -> Result<(), Fail> {
+    let alloc = rt.alloc();
+    let blocks = three_pieces(&rt, alloc)?;
+    check_leaks(&rt, alloc, &blocks, 0, 2, LEAK_B)?;
+    check_leaks(&rt, alloc, &blocks, 2, 1, LEAK_C)?;
+    assert!(rt; blocks.leaks(3, 1).is_none());
+    assert!(rt; blocks.leaks(3, 3).is_none());
+    Ok(())
+}
+
+#[test]
+fn all_leaks_of_a_type_come_by_slot_and_offset(rt: HostRuntime) -> Result<(), Fail> {
+    let alloc = rt.alloc();
+    let blocks = three_pieces(&rt, alloc)?;
+    let mut leaks = blocks.all_leaks(3);
+    for want in [LEAK_A, LEAK_B, LEAK_C] {
+        let leak = leaks.next();
+        assert!(rt; leak.is_some(), "{want}");
+        if let Some(leak) = leak {
+            check_text(&rt, alloc, &leak, want)?;
+        }
+    }
+    assert!(rt; leaks.next().is_none());
     Ok(())
 }

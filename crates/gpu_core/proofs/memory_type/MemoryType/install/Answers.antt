@@ -1,11 +1,12 @@
-use Rattle.std.proofs.Common.{◌≡◌, ℕ, ◌+◌, not, cond, List, Option, subst, ap, ◌∙◌, refl, arith}
+use Rattle.std.proofs.Common.{◌≡◌, ℕ, ◌+◌, not, cond, List, Option, subst, sym, ap, ◌∙◌, refl, arith}
 use Rattle.std.proofs.lemmas.List.{length-map}
 use Rattle.std.specs.Option.{option_map}
 use Rattle.gpu_core.specs.SubAllocator.{block_of}
 use Rattle.gpu_core.specs.Block.{Block, is_general, size_of}
-use Rattle.gpu_core.specs.TypeState.{Slot, capacity_of}
+use Rattle.gpu_core.specs.TypeState.{Slot, capacity_of, KeepsOneEmptyAtMost}
 use Rattle.gpu_core.specs.TypeTake.{with_block}
-use Rattle.gpu_core.specs.Slots.{slot_of, slots_of, AreKept}
+use Rattle.gpu_core.specs.Slots.{slot_of, slots_of, AreKept, AreSound}
+use Rattle.gpu_core.proofs.EmptyBlocks.{holds_some}
 use Rattle.gpu_core.proofs.Kept.{installed_kept, count_le}
 use Rattle.gpu_core.proofs.memory_type.MemoryType.install.Goals as goal
 use Rattle.gpu_core.proofs.memory_type.MemoryType.install.Goals.{After-put_block-slot, then-not-dedicated, else-not-dedicated}
@@ -18,7 +19,7 @@ kept_with g c shared counts =
     let same : block ≡ c.args.need.room.block = ap (λ r. r.block) c.room.view_is in
     let put = c.put_block-slot.ensures in
     let s : Slot g.row.H.Denot = record { number = c.args.number; block = block } in
-    installed_kept i.granularity (slots_of i.slots.items) i.capacity i.general c.args.need.dedicated s (slots_of c.put_block-slot.new.slots.items) c.args.need.size shared c.self.invariant (rw same (rw (ap (λ t. t.granularity) c.self.view_is) ready.pages, ready.sound)) (put.slots ∙ ap (λ k. with_block (slots_of i.slots.items) k s) put.slot) (ap size_of same ∙ ready.size_is) (ap (λ b. cond (is_general b) 1 0) same ∙ (ap (λ b. cond b 1 0) ready.kind ∙ counts))
+    installed_kept i.granularity (slots_of i.slots.items) i.capacity i.general c.args.need.dedicated s (slots_of c.put_block-slot.new.slots.items) c.args.need.size shared c.self.invariant (rw same (rw (ap (λ t. t.granularity) c.self.view_is) ready.pages, ready.sound)) (rw same (holds_some c.args.need.room.block c.args.need.room.number c.args.need.room.offset c.args.need.room.size ready.holds)) (put.slots ∙ ap (λ k. with_block (slots_of i.slots.items) k s) put.slot) (ap size_of same ∙ ready.size_is) (ap (λ b. cond (is_general b) 1 0) same ∙ (ap (λ b. cond b 1 0) ready.kind ∙ counts))
 
 pub overflow_add-self-then-not-dedicated : goal.overflow_add-self-then-not-dedicated
 overflow_add-self-then-not-dedicated g c =
@@ -52,3 +53,19 @@ returns-clause-capacity g c =
     let seen : capacity_of (slots_of c.self.inside.slots.items) ≡ capacity_of c.args.self.now.slots = ap (λ t. capacity_of t.slots) c.self.view_is in
     let here : capacity_of c.if-not-dedicated.self.slots ≡ capacity_of after = ap capacity_of slots in
     omega arith
+
+pub returns-clause-empty : goal.returns-clause-empty
+returns-clause-empty g c =
+    let kept = kept_with g ((goal.at.returns-clause-empty g c).After-put_block-slot) (cond (not c.args.need.dedicated) 1 0) refl in
+    elim c.if-not-dedicated.branch [
+      | then-not-dedicated w ↦ subst (λ t. KeepsOneEmptyAtMost t.slots) (sym w.self-is) kept.empty
+      | else-not-dedicated w ↦ subst (λ t. KeepsOneEmptyAtMost t.slots) (sym w.self-is) kept.empty
+    ]
+
+pub returns-clause-sound : goal.returns-clause-sound
+returns-clause-sound g c =
+    let kept = kept_with g ((goal.at.returns-clause-sound g c).After-put_block-slot) (cond (not c.args.need.dedicated) 1 0) refl in
+    elim c.if-not-dedicated.branch [
+      | then-not-dedicated w ↦ subst (λ t. AreSound t.granularity t.slots) (sym w.self-is) kept.sound
+      | else-not-dedicated w ↦ subst (λ t. AreSound t.granularity t.slots) (sym w.self-is) kept.sound
+    ]

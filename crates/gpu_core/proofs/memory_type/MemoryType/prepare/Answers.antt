@@ -8,7 +8,7 @@ use Rattle.gpu_core.specs.Slots.{slots_of, AreKept}
 use Rattle.gpu_core.proofs.Needs.{none_of, fresh_taken}
 use Rattle.gpu_core.proofs.Kept.{prepared_kept, same_kept}
 use Rattle.gpu_core.proofs.memory_type.MemoryType.prepare.Goals as goal
-use Rattle.gpu_core.proofs.memory_type.MemoryType.prepare.Goals.{After-reserve_slot, then-not-dedicated+in_ok-piece+in_default, else-not-dedicated, then-request, else-request, then-dedicated, else-dedicated}
+use Rattle.gpu_core.proofs.memory_type.MemoryType.prepare.Goals.{After-reserve_slot, In-Some, then-not-dedicated+in_ok-piece+in_default, else-not-dedicated, then-request, else-request, then-dedicated, else-dedicated}
 
 inside_kept : (g : _) (c : After-reserve_slot g) → AreKept c.if-not-dedicated.self-inside.granularity (slots_of c.if-not-dedicated.self-inside.slots.items) c.if-not-dedicated.self-inside.capacity c.if-not-dedicated.self-inside.general
 inside_kept g c =
@@ -26,17 +26,34 @@ reserved_kept g c =
     let x = c.if-not-dedicated.self-inside in
     same_kept x.granularity (slots_of x.slots.items) x.capacity x.general (slots_of c.reserve_slot.new.slots.items) (inside_kept g c) c.reserve_slot.ensures.items
 
-pub invariant_of-self-in-Some : goal.invariant_of-self-in-Some
-invariant_of-self-in-Some g c =
+taken_kept : (g : _) (c : In-Some g) → AreKept c.self.inside.granularity (slots_of c.take_shared.new.slots.items) c.self.inside.capacity c.self.inside.general
+taken_kept g c =
     let i = c.self.inside in
     let took : PreparesPiece (slots_of i.slots.items) (asked c.args.request.now) c.in-Some.piece (slots_of c.take_shared.new.slots.items) = rw c.in-Some.is at c.in_ok-piece.ensures.took in
     prepared_kept i.granularity (slots_of i.slots.items) i.capacity i.general (asked c.args.request.now) c.in-Some.piece (slots_of c.take_shared.new.slots.items) c.self.invariant c.take_shared.ensures.kept took
+
+pub invariant_of-self-in-Some : goal.invariant_of-self-in-Some
+invariant_of-self-in-Some g c = taken_kept g ((goal.at.invariant_of-self-in-Some g c).In-Some)
+
+pub returns-in-Some-clause-empty : goal.returns-in-Some-clause-empty
+returns-in-Some-clause-empty g c = (taken_kept g ((goal.at.returns-in-Some-clause-empty g c).In-Some)).empty
 
 pub invariant_of-self-in_err-room : goal.invariant_of-self-in_err-room
 invariant_of-self-in_err-room g c = reserved_kept g ((goal.at.invariant_of-self-in_err-room g c).After-reserve_slot)
 
 pub invariant_of-self-2 : goal.invariant_of-self-2
 invariant_of-self-2 g c = reserved_kept g ((goal.at.invariant_of-self-2 g c).After-reserve_slot)
+
+pub invariant_of-self-in_err-reserve_slot : goal.invariant_of-self-in_err-reserve_slot
+invariant_of-self-in_err-reserve_slot g c =
+    reserved_kept g ((goal.at.invariant_of-self-in_err-reserve_slot g c).After-reserve_slot)
+
+pub returns-in_err-room-clause-empty : goal.returns-in_err-room-clause-empty
+returns-in_err-room-clause-empty g c =
+    (reserved_kept g ((goal.at.returns-in_err-room-clause-empty g c).After-reserve_slot)).empty
+
+pub returns-clause-empty : goal.returns-clause-empty
+returns-clause-empty g c = (reserved_kept g ((goal.at.returns-clause-empty g c).After-reserve_slot)).empty
 
 -- what went before the slot was reserved: a look through the shared blocks that found none, or nothing
 inside_same : (g : _) (c : After-reserve_slot g) → (c.if-not-dedicated.self-inside.granularity ≡ c.self.inside.granularity) × (slots_of c.if-not-dedicated.self-inside.slots.items ≡ slots_of c.self.inside.slots.items) × (c.if-request.dedicated ≡ false → NoneServes (slots_of c.self.inside.slots.items) (asked c.args.request.now))
@@ -81,6 +98,7 @@ returns-clause-prepared g c =
       none = λ h. subst (λ xs. NoneServes xs (asked c.args.request.now)) seen (same.2 h);
       takes = subst (λ n. TakesIn (fresh_block c.if-request.dedicated c.if-dedicated.size n) (asked c.args.request.now) c.in_ok-room.room.offset c.in_ok-room.room.number c.in_ok-room.room.block) pages c.in_ok-room.ensures.takes;
       piece = c.in_ok-room.ensures.piece;
+      begins = c.in_ok-room.ensures.begins;
     } in (
       needs,
       record {
@@ -89,6 +107,7 @@ returns-clause-prepared g c =
         kind = taken.1;
         pages = c.in_ok-room.ensures.pages;
         sound = c.in_ok-room.ensures.sound;
+        holds = c.in_ok-room.ensures.holds;
       },
       c.reserve_slot.ensures.items ∙ (same.1 ∙ seen),
     )
