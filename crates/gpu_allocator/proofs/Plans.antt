@@ -63,4 +63,4 @@ pub roomless : (setup : Setup) (t : TypeState DeviceMemory) (d : AllocationCreat
 roomless setup t d host Short h = h
 roomless setup t d host (Serves p after) h = h
 roomless setup t d host (Needs size own ready) h =
-    (h.0, record { kind = h.1.kind; size_is = h.1.size_is; none = h.1.none; takes = h.1.takes; piece = h.1.piece })
+    (h.0, record { kind = h.1.kind; size_is = h.1.size_is; none = h.1.none; takes = h.1.takes; piece = h.1.piece; begins = h.1.begins })
