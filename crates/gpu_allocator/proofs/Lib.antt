@@ -3,3 +3,7 @@ pub mod Plans
 pub mod Heaps
 pub mod Types
 pub mod Attempts
+pub mod Placed
+pub mod Holding
+pub mod Serving
+pub mod Following
