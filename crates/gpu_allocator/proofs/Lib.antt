@@ -7,3 +7,4 @@ pub mod Placed
 pub mod Holding
 pub mod Serving
 pub mod Following
+pub mod Beginning

@@ -1,6 +1,6 @@
 //! What an allocator is made with, and never changes.
 
-ghost use Rattle.std.specs.Prelude.{◌≡◌, ◌≤◌, ◌<◌, length, not, Some, None, IfOk, IsTrue, map, All, [], slice_get, IfSome};
+ghost use Rattle.std.specs.Prelude.{◌≡◌, ◌≤◌, ◌<◌, length, not, Some, None, IfOk, OnOk, IsTrue, map, All, [], slice_get, IfSome};
 ghost use Rattle.std.specs.List.{list_any};
 ghost use Rattle.std.specs.Option.{option_map};
 ghost use Rattle.std.specs.Int.{is_power_of_two};
@@ -189,6 +189,7 @@ pub fn parts_of<D: VulkanDevice>(
       debug = settings.debug;
       device_address = settings.buffer_device_address;
     }) }
+    ensures valid { OnOk result (IsValid (D.properties device.now)) }
     ensures kinds { IfOk result (λ parts. kinds parts.1.items ≡ kinds_told (D.properties device.now)) }
     ensures empty { IfOk result (λ parts. All (λ slots. slots ≡ []) (slots_of parts.1.items)) }
 {
