@@ -40,9 +40,12 @@ module _ {D : Type 0} (g : Ghosts D) (setup : Setup) (d : AllocationCreateDesc) 
       → ((u : ℕ) → o ≡ Some u → u < length mid) → IsFollowed g setup d o mid between r result new after
       → HoldsJustLiveBlocks setup.properties first (g.held between) mid
       → HoldsJustLiveBlocks setup.properties first (g.held after) new × (g.properties after ≡ g.properties between) × (length new ≡ length mid)
-  followed_holds None mid between r result new after below is h =
-      (subst (λ ss. HoldsJustLiveBlocks setup.properties first (g.held after) ss) (sym is.1)
-      (subst (λ k. HoldsJustLiveBlocks setup.properties first k mid) (sym (ap g.held is.2)) h), ap g.properties is.2, ap length is.1)
+  followed_holds None mid between r result new after below is h = (
+    subst (λ ss. HoldsJustLiveBlocks setup.properties first (g.held after) ss) (sym is.1)
+        (subst (λ k. HoldsJustLiveBlocks setup.properties first k mid) (sym (ap g.held is.2)) h),
+    ap g.properties is.2,
+    ap length is.1,
+  )
   followed_holds (Some u) mid between r result new after below is h = attempt_holds g setup d first u mid (below u refl) between result new after is h
 
   pub served_holds : (t : ℕ) (old : Slots) (device : D) (result : Result Allocation AllocationError) (new : Slots) (after : D) → t < length old
@@ -52,5 +55,5 @@ module _ {D : Type 0} (g : Ghosts D) (setup : Setup) (d : AllocationCreateDesc) 
   served_holds t old device result new after below long s h =
       let x = attempt_holds g setup d first t old below device s.first s.mid s.between s.attempt h in
       let y = followed_holds (next_after setup d s.first) s.mid s.between s.first result new after
-          (λ u is. let inside = next_below setup d s.first u is in omega (arith, inside, x.2, long)) s.followed x.0 in
+      (λ u is. let inside = next_below setup d s.first u is in omega (arith, inside, x.2, long)) s.followed x.0 in
       (y.0, y.1 ∙ x.1, y.2 ∙ x.2)

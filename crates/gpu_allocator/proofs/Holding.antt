@@ -34,9 +34,9 @@ module _ (p : Properties) (first held : Held) (old new : Slots) (t i : ℕ) (a b
   before u j s found =
       ⊎_elim
       (λ here.
-          let there : block_at new t i ≡ Some s = ap (λ k. block_at new k i) (sym here.0) ∙ ap (block_at new u) (sym here.1) ∙ found in
-          let is : b ≡ s = some_same b s (sym only.at ∙ there) in
-          (a, ap (λ k. block_at old k j) here.0 ∙ ap (block_at old t) here.1 ∙ at, sym (ap (λ (x : Slot DeviceMemory). x.number) is) ∙ number, sym (ap (λ (x : Slot DeviceMemory). size_of x.block) is) ∙ size))
+      let there : block_at new t i ≡ Some s = ap (λ k. block_at new k i) (sym here.0) ∙ ap (block_at new u) (sym here.1) ∙ found in
+      let is : b ≡ s = some_same b s (sym only.at ∙ there) in
+      (a, ap (λ k. block_at old k j) here.0 ∙ ap (block_at old t) here.1 ∙ at, sym (ap (λ (x : Slot DeviceMemory). x.number) is) ∙ number, sym (ap (λ (x : Slot DeviceMemory). size_of x.block) is) ∙ size))
       (λ away. (s, sym (only.others u j away) ∙ found, refl, refl))
       (same_place u t j i)
 
@@ -44,9 +44,9 @@ module _ (p : Properties) (first held : Held) (old new : Slots) (t i : ℕ) (a b
   after u j r found =
       ⊎_elim
       (λ here.
-          let there : block_at old t i ≡ Some r = ap (λ k. block_at old k i) (sym here.0) ∙ ap (block_at old u) (sym here.1) ∙ found in
-          let is : a ≡ r = some_same a r (sym at ∙ there) in
-          (b, ap (λ k. block_at new k j) here.0 ∙ ap (block_at new t) here.1 ∙ only.at, number ∙ ap (λ (x : Slot DeviceMemory). x.number) is))
+      let there : block_at old t i ≡ Some r = ap (λ k. block_at old k i) (sym here.0) ∙ ap (block_at old u) (sym here.1) ∙ found in
+      let is : a ≡ r = some_same a r (sym at ∙ there) in
+      (b, ap (λ k. block_at new k j) here.0 ∙ ap (block_at new t) here.1 ∙ only.at, number ∙ ap (λ (x : Slot DeviceMemory). x.number) is))
       (λ away. (r, only.others u j away ∙ found, refl))
       (same_place u t j i)
 
@@ -74,8 +74,8 @@ module _ (p : Properties) (first held now : Held) (old new : Slots) (t i : ℕ) 
   origin u j s found =
       ⊎_elim
       (λ here.
-          let there : block_at new t i ≡ Some s = ap (λ k. block_at new k i) (sym here.0) ∙ ap (block_at new u) (sym here.1) ∙ found in
-          inl (here.0, here.1, sym (some_same b s (sym only.at ∙ there))))
+      let there : block_at new t i ≡ Some s = ap (λ k. block_at new k i) (sym here.0) ∙ ap (block_at new u) (sym here.1) ∙ found in
+      inl (here.0, here.1, sym (some_same b s (sym only.at ∙ there))))
       (λ away. inr (sym (only.others u j away) ∙ found))
       (same_place u t j i)
 
@@ -124,8 +124,8 @@ module _ (p : Properties) (first held now : Held) (old new : Slots) (t i : ℕ) 
       ⊎_elim
       (λ here. absurd (none_some s (sym only.at ∙ (ap (λ k. block_at new k i) (sym here.0) ∙ ap (block_at new u) (sym here.1) ∙ found))))
       (λ away.
-          let was = sym (only.others u j away) ∙ found in
-          (was, λ is. let place = h.one_block u j t i s a was at is in away place.0 place.1))
+      let was = sym (only.others u j away) ∙ found in
+      (was, λ is. let place = h.one_block u j t i s a was at is in away place.0 place.1))
       (same_place u t j i)
 
   kept : (n : ℕ) → n ≢ a.number.0 → get now n ≡ get held n
@@ -140,11 +140,11 @@ module _ (p : Properties) (first held now : Held) (old new : Slots) (t i : ℕ) 
         ⊎_elim
         (λ same. ap (get now) same ∙ ap (λ (m : Held). get m a.number.0) went ∙ get-remove_same held a.number.0 ∙ sym (h.new t i a at) ∙ ap (get first) (sym same))
         (λ ne. kept n ne ∙ h.others n (λ u j r found is.
-            ⊎_elim
-            (λ here.
-                let there : block_at old t i ≡ Some r = ap (λ k. block_at old k i) (sym here.0) ∙ ap (block_at old u) (sym here.1) ∙ found in
-                ne (sym is ∙ ap (λ (z : Slot DeviceMemory). z.number.0) (sym (some_same a r (sym at ∙ there)))))
-            (λ away. out u j r (only.others u j away ∙ found) is)
-            (same_place u t j i)))
+        ⊎_elim
+        (λ here.
+        let there : block_at old t i ≡ Some r = ap (λ k. block_at old k i) (sym here.0) ∙ ap (block_at old u) (sym here.1) ∙ found in
+        ne (sym is ∙ ap (λ (z : Slot DeviceMemory). z.number.0) (sym (some_same a r (sym at ∙ there)))))
+        (λ away. out u j r (only.others u j away ∙ found) is)
+        (same_place u t j i)))
         (cases_eq n a.number.0);
   }

@@ -8,3 +8,5 @@ pub mod Holding
 pub mod Serving
 pub mod Following
 pub mod Beginning
+pub mod Returned
+pub mod Releasing

@@ -37,10 +37,11 @@ made_only : (old : List (Option (Slot DeviceMemory))) (e : Option ℕ) (s : Slot
 made_only old (Some i) s empty =
     let at = empty i refl in
     (at.empty, subst (OnlyAt old i (Some s)) (sym (ap (λ b. cond b (slice_set old i (Some s)) (old ++ Some s ∷ [])) (lt_true i (length old) at.below))) (set_only old i (Some s) at.below))
-made_only old None s empty =
-    (slot_past old (length old) (omega arith),
-    subst (OnlyAt old (length old) (Some s)) (sym (ap (λ b. cond b (slice_set old (length old) (Some s)) (old ++ Some s ∷ [])) (lt_false (length old) (length old) (omega arith))))
-    (record { at = push_at old (Some s); others = push_others old (Some s) }))
+made_only old None s empty = (
+  slot_past old (length old) (omega arith),
+  subst (OnlyAt old (length old) (Some s)) (sym (ap (λ b. cond b (slice_set old (length old) (Some s)) (old ++ Some s ∷ [])) (lt_false (length old) (length old) (omega arith))))
+      (record { at = push_at old (Some s); others = push_others old (Some s) }),
+)
 
 empty_slot : (own : Bool) (old : List (Option (Slot DeviceMemory))) (i : ℕ) → cond own (lowest_empty old) (highest_empty old) ≡ Some i → IsEmptyAt old i
 empty_slot true old i e = lowest_found old i e
@@ -56,7 +57,7 @@ installs_only old own ready number p new h =
     subst (λ i. (slot_at old i ≡ None) × OnlyAt old i (Some s) new) (sym h.slot)
     (made.0, subst (OnlyAt old (new_slot own old) (Some s)) (sym h.slots) made.1)
 
-some_below : {A : Type 0} (xs : List (Option (Slot A))) (i : ℕ) (s : Slot A) → slot_at xs i ≡ Some s → i < length xs
+pub some_below : {A : Type 0} (xs : List (Option (Slot A))) (i : ℕ) (s : Slot A) → slot_at xs i ≡ Some s → i < length xs
 some_below [] i s at = absurd (none_some s at)
 some_below (x ∷ xs) zero s at = omega arith
 some_below (x ∷ xs) (suc i) s at = let rest = some_below xs i s at in omega (arith, rest)

@@ -109,17 +109,18 @@ module _ {D : Type 0} (g : Ghosts D) (setup : Setup) (d : AllocationCreateDesc) 
   pub attempt_holds : (device : D) (result : Result Allocation AllocationError) (new : Slots) (after : D) → IsAttempt g setup t d old device result new after
       → HoldsJustLiveBlocks setup.properties first (g.held device) old
       → HoldsJustLiveBlocks setup.properties first (g.held after) new × (g.properties after ≡ g.properties device) × (length new ≡ length old)
-  attempt_holds device result new after a h =
-      (⊎_elim
-      (λ (large : IsTooLarge setup old t d a.outcome a.answer new).
-          subst (λ ss. HoldsJustLiveBlocks setup.properties first (g.held after) ss) (sym large.same)
-          (subst (λ k. HoldsJustLiveBlocks setup.properties first k old) (sym (ap g.held (untouched a.outcome.asked device after large.asked a.asked))) h))
-      (λ (plan : IsPlanned setup old t d a.outcome a.answer new).
-          subst (λ ss. HoldsJustLiveBlocks setup.properties first (g.held after) ss) (sym plan.slots)
-          (planned_holds plan.plan a.outcome.asked a.outcome.host a.answer plan.after device after plan.is_plan plan.comes a.asked h))
-      a.attempts,
-      after_constant a.outcome.asked device after a.asked,
-      ⊎_elim
-      (λ (large : IsTooLarge setup old t d a.outcome a.answer new). ap length large.same)
-      (λ (plan : IsPlanned setup old t d a.outcome a.answer new). ap length plan.slots ∙ length-set old t plan.after)
-      a.attempts)
+  attempt_holds device result new after a h = (
+    ⊎_elim
+        (λ (large : IsTooLarge setup old t d a.outcome a.answer new).
+        subst (λ ss. HoldsJustLiveBlocks setup.properties first (g.held after) ss) (sym large.same)
+        (subst (λ k. HoldsJustLiveBlocks setup.properties first k old) (sym (ap g.held (untouched a.outcome.asked device after large.asked a.asked))) h))
+        (λ (plan : IsPlanned setup old t d a.outcome a.answer new).
+        subst (λ ss. HoldsJustLiveBlocks setup.properties first (g.held after) ss) (sym plan.slots)
+        (planned_holds plan.plan a.outcome.asked a.outcome.host a.answer plan.after device after plan.is_plan plan.comes a.asked h))
+        a.attempts,
+    after_constant a.outcome.asked device after a.asked,
+    ⊎_elim
+        (λ (large : IsTooLarge setup old t d a.outcome a.answer new). ap length large.same)
+        (λ (plan : IsPlanned setup old t d a.outcome a.answer new). ap length plan.slots ∙ length-set old t plan.after)
+        a.attempts,
+  )

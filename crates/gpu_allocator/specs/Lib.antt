@@ -8,3 +8,5 @@ pub mod Attempt
 pub mod Live
 pub mod Allocate
 pub mod State
+pub mod Free
+pub mod Returning

@@ -6,6 +6,7 @@ ghost use Rattle.gpu_core.specs.Refusal.{refusal_of, host_out_of_memory};
 ghost use Rattle.gpu_allocator.specs.Setup.{setup_fault};
 ghost use Rattle.gpu_allocator.specs.Blocks.{total_capacity};
 ghost use Rattle.gpu_allocator.specs.Allocate.{Allocates};
+ghost use Rattle.gpu_allocator.specs.Free.{Frees};
 ghost use Rattle.gpu_allocator.specs.Live.{IsLive};
 
 use super::Allocation;
@@ -142,5 +143,54 @@ impl<D: VulkanDevice> Allocator<D> {
                 Some(memory_type) => memory_type.is_live(&piece),
             },
         }
+    }
+
+    /// Gives an allocation back, and its block with it where the block is left empty and isn't the only shared one of its
+    /// memory type. A null allocation is nothing to give back; one that isn't live comes back beside `Internal`, and then
+    /// nothing changes. It takes no memory.
+    pub fn free<L: Log>(
+        &mut self,
+        log: &L,
+        allocation: Allocation,
+    ) -> Result<(), (AllocationError, Allocation)>
+        ensures frees { Frees D.VulkanDevice allocation self.old.slots self.old.device result self.new.slots self.new.device }
+        ensures constant { (self.new.first ≡ self.old.first) × (self.new.setup ≡ self.old.setup) }
+    {
+        let _ = log;
+        let Some(piece) = allocation.piece() else {
+            return Ok(());
+        };
+        let index = allocation.memory_type_index;
+        match release(
+            &self.setup,
+            &mut self.device,
+            &mut self.types,
+            index,
+            &piece,
+        ) {
+            Ok(()) => Ok(()),
+            Err(error) => Err((error, allocation)),
+        }
+    }
+
+    /// Gives every block back, and returns the device, which then holds what it held when it was handed in.
+    pub fn destroy<L: Log>(self, log: &L) -> D
+        ensures held { D.held result ≡ D.held self.first }
+        ensures counts_nothing { D.refused result ≡ D.refused self.device }
+        ensures names_no_question { D.latest result ≡ D.latest self.device }
+        ensures constant { D.properties result ≡ D.properties self.first }
+    {
+        let _ = log;
+        let Allocator {
+            mut device,
+            first: _,
+            setup,
+            types,
+            alloc: _,
+        } = self;
+        for index in 0..types.len() {
+            give_back_all(&mut device, &types[index], setup.is_mapped(index));
+        }
+        device
     }
 }
