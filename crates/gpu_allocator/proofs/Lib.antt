@@ -10,3 +10,4 @@ pub mod Following
 pub mod Beginning
 pub mod Returned
 pub mod Releasing
+pub mod Inside

@@ -55,10 +55,11 @@ module _ {D : Type 0} (g : Ghosts D) (p : Properties) (first : Held) (t : ℕ) (
       → HoldsJustLiveBlocks p first (g.held device) old
       → HoldsJustLiveBlocks p first (g.held after) new × (g.properties after ≡ g.properties device) × (length new ≡ length old)
   released_holds piece device new after r h =
-      let here = settled _ _ piece.slot (slot_at (slots_at old t) piece.slot) r.releases.slot r.went device after refl r.releases.releases r.gives_back h in
-      (subst (λ (ss : Slots). HoldsJustLiveBlocks p first (g.held after) ss) (sym (r.slots ∙ ap (slice_set old t) r.releases.slots)) here,
-      back_constant r.went device after r.gives_back,
-      ap length r.slots ∙ length-set old t r.left)
+      let here = settled _ _ piece.slot (slot_at (slots_at old t) piece.slot) r.releases.slot r.went device after refl r.releases.releases r.gives_back h in (
+        subst (λ (ss : Slots). HoldsJustLiveBlocks p first (g.held after) ss) (sym (r.slots ∙ ap (slice_set old t) r.releases.slots)) here,
+        back_constant r.went device after r.gives_back,
+        ap length r.slots ∙ length-set old t r.left,
+      )
 
 -- a live piece's memory type is there
 pub type_below : (ss : Slots) (t : ℕ) (piece : Piece DeviceMemory) → IsLive is_same_memory (slots_at ss t) piece → t < length ss

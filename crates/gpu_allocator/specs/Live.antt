@@ -1,10 +1,12 @@
 -- An allocation, as its owner holds it, and the piece that it stands for.
-use Rattle.std.specs.Prelude.{◌≡◌, ℕ, ◌==◌, Bool, List, slice_get, Option, Some, None, IfSome, string_bytes}
+use Rattle.std.specs.Prelude.{◌≡◌, ℕ, ◌==◌, Bool, true, List, slice_get, Option, Some, None, IfSome, string_bytes}
 use Rattle.std.specs.Option.{option_map}
 use Rattle.gpu_core.specs.TypeRelease.{IsLive as IsLivePiece}
 use Rattle.gpu_core.specs.declared.memory_type.Piece.{Piece}
+use Rattle.gpu_device.specs.Held.{Held, range_of}
+use Rattle.gpu_device.specs.Properties.{Properties}
 use Rattle.gpu_device.specs.declared.vulkan.types.DeviceMemory.{DeviceMemory}
-use Rattle.gpu_allocator.specs.Blocks.{Slots, slots_at, is_host_visible}
+use Rattle.gpu_allocator.specs.Blocks.{Slots, slots_at, is_host_visible, is_mapped}
 use Rattle.gpu_allocator.specs.Describe.{is_own}
 use Rattle.gpu_allocator.specs.Setup.{Setup}
 use Rattle.gpu_allocator.specs.declared.vulkan.allocation.Allocation.{Allocation}
@@ -34,3 +36,11 @@ pub record IsGiven (setup : Setup) (t : ℕ) (d : AllocationCreateDesc) (p : Pie
   pub memory : IfSome (slice_get setup.properties.types t) (λ info. (a.memory_properties ≡ info.property_flags) × (a.mapped ≡ is_host_visible info))
   pub dedicated : a.dedicated ≡ is_own d.allocation_scheme
   pub name : IfSome a.name (λ s. string_bytes s ≡ d.name.now)
+
+-- the allocation is live, and lies in memory that the host can see
+abbrev pub IsMapped : Properties → Slots → Allocation → Type 0
+IsMapped p slots a = IsLive slots a × (is_mapped p a.memory_type_index ≡ true)
+
+-- the bytes at an allocation's place
+abbrev pub bytes_at : Held → Allocation → Option (List ℕ)
+bytes_at held a = range_of held a.device_memory.0 a.offset a.size

@@ -1,13 +1,13 @@
 //! The allocator: blocks of device memory by memory type, and the calls that share them out.
 
-ghost use Rattle.std.specs.Prelude.{◌≡◌, ◌↔◌, [], All, Some, None, IfOk, IfErr, OnOk, OnErr, IsOk, IsTrue, option_map};
+ghost use Rattle.std.specs.Prelude.{◌≡◌, ◌↔◌, [], All, Some, None, IfOk, IfErr, OnOk, OnErr, IsOk, IsSome, IfSome, IsTrue, length, option_map};
 ghost use Rattle.std.specs.Option.{unwrap_or};
 ghost use Rattle.gpu_core.specs.Refusal.{refusal_of, host_out_of_memory};
 ghost use Rattle.gpu_allocator.specs.Setup.{setup_fault};
 ghost use Rattle.gpu_allocator.specs.Blocks.{total_capacity};
 ghost use Rattle.gpu_allocator.specs.Allocate.{Allocates};
 ghost use Rattle.gpu_allocator.specs.Free.{Frees};
-ghost use Rattle.gpu_allocator.specs.Live.{IsLive};
+ghost use Rattle.gpu_allocator.specs.Live.{IsLive, IsMapped, bytes_at};
 
 use super::Allocation;
 use super::attempt::{serve, total_capacity};
@@ -143,6 +143,18 @@ impl<D: VulkanDevice> Allocator<D> {
                 Some(memory_type) => memory_type.is_live(&piece),
             },
         }
+    }
+
+    /// The bytes of a live allocation in mapped memory; else `None`.
+    pub fn mapped_slice(&self, allocation: &Allocation) -> Option<&[u8]>
+        ensures mapped { IsSome result ↔ IsMapped self.now.setup.properties self.now.slots allocation.now }
+        ensures value { IfSome result (λ s. bytes_at (D.held self.now.device) allocation.now ≡ Some s.now) }
+        ensures len { IfSome result (λ s. length s.now ≡ allocation.now.size) }
+    {
+        if !self.is_live(allocation) {
+            return None;
+        }
+        self.device.bytes(allocation.device_memory, allocation.offset, allocation.size)
     }
 
     /// Gives an allocation back, and its block with it where the block is left empty and isn't the only shared one of its

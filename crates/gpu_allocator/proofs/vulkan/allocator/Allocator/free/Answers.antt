@@ -20,20 +20,22 @@ invariant_of-self g c =
     let after = c.release.new.device in
     let Holds : Type 0 = HoldsJustLiveBlocks p first (V.held after) new × (V.properties after ≡ V.properties i.device) × (length new ≡ length old) in
     let holds : Holds =
-        either_way c.release.result (IsReleased V t c.in-Some.piece old i.device new after) (IsLive is_same_memory (slots_at old t) c.in-Some.piece) ((new ≡ old) × (after ≡ i.device)) Holds
-        c.release.ensures.released c.release.ensures.live c.release.ensures.refused
-        (λ released live. released_holds V p first t old (type_below old t c.in-Some.piece live) c.in-Some.piece i.device new after released kept.holds)
-        (λ same.
-        (subst (λ (ss : Slots). HoldsJustLiveBlocks p first (V.held after) ss) (sym same.0) (subst (λ k. HoldsJustLiveBlocks p first k old) (sym (ap V.held same.1)) kept.holds),
-        ap V.properties same.1,
-        ap length same.0)) in
-    (c.release.ensures.kinds ∙ c.self.invariant.0,
-    record {
-      told_is = kept.told_is;
-      constant = holds.1 ∙ kept.constant;
-      valid = kept.valid;
-      types = holds.2 ∙ kept.types;
-      sound = c.release.ensures.sound kept.sound;
-      sum = omega (arith, c.release.ensures.sum, kept.sum);
-      holds = holds.0;
-    })
+    either_way c.release.result (IsReleased V t c.in-Some.piece old i.device new after) (IsLive is_same_memory (slots_at old t) c.in-Some.piece) ((new ≡ old) × (after ≡ i.device)) Holds
+    c.release.ensures.released c.release.ensures.live c.release.ensures.refused
+    (λ released live. released_holds V p first t old (type_below old t c.in-Some.piece live) c.in-Some.piece i.device new after released kept.holds)
+    (λ same. (
+      subst (λ (ss : Slots). HoldsJustLiveBlocks p first (V.held after) ss) (sym same.0) (subst (λ k. HoldsJustLiveBlocks p first k old) (sym (ap V.held same.1)) kept.holds),
+      ap V.properties same.1,
+      ap length same.0,
+    )) in (
+      c.release.ensures.kinds ∙ c.self.invariant.0,
+      record {
+        told_is = kept.told_is;
+        constant = holds.1 ∙ kept.constant;
+        valid = kept.valid;
+        types = holds.2 ∙ kept.types;
+        sound = c.release.ensures.sound kept.sound;
+        sum = omega (arith, c.release.ensures.sum, kept.sum);
+        holds = holds.0;
+      },
+    )
