@@ -99,14 +99,16 @@ module _ (p : Properties) (first held : Held) (ss : Slots) (sound : AreAllSound 
   range_told None m mapped chunk live r told = absurd live
   range_told (Some n) true mapped chunk live r told =
       let piece : Piece DeviceMemory = record { slot = a.memory_block_index; number = n; offset = a.offset; size = a.size; block = a.device_memory } in
-      let there = live_range p first held ss sound h a.memory_type_index piece whole mapped live in
-      (λ some. (subst (λ c. IsLiveIn ss a.memory_type_index (piece_with a c)) (sym chunk) live, mapped),
-      λ _. some_copied r (subst (λ o. IsSome o) (sym told) (range_from (bytes_of held a.device_memory.0) a.offset a.size there)))
+      let there = live_range p first held ss sound h a.memory_type_index piece whole mapped live in (
+        λ some. (subst (λ c. IsLiveIn ss a.memory_type_index (piece_with a c)) (sym chunk) live, mapped),
+        λ _. some_copied r (subst (λ o. IsSome o) (sym told) (range_from (bytes_of held a.device_memory.0) a.offset a.size there)),
+      )
   range_told (Some n) false mapped chunk live r told =
       let piece : Piece DeviceMemory = record { slot = a.memory_block_index; number = n; offset = a.offset; size = a.size; block = a.device_memory } in
-      let none = live_unmapped p first held ss sound h a.memory_type_index piece mapped live in
-      (λ some. absurd (none_copied r (told ∙ no_range (bytes_of held a.device_memory.0) a.offset a.size none) some),
-      λ both. absurd (false_true (sym mapped ∙ both.1)))
+      let none = live_unmapped p first held ss sound h a.memory_type_index piece mapped live in (
+        λ some. absurd (none_copied r (told ∙ no_range (bytes_of held a.device_memory.0) a.offset a.size none) some),
+        λ both. absurd (false_true (sym mapped ∙ both.1)),
+      )
 
   -- what the device lends of a live allocation's place is there exactly where its memory is mapped
   pub lent_where_mapped : IsLive ss a → (r : Option (Bor (List ℕ))) → option_copied r ≡ range_of held a.device_memory.0 a.offset a.size

@@ -1,5 +1,5 @@
 -- An allocation, as its owner holds it, and the piece that it stands for.
-use Rattle.std.specs.Prelude.{◌≡◌, ℕ, ◌==◌, Bool, true, List, slice_get, Option, Some, None, IfSome, string_bytes}
+use Rattle.std.specs.Prelude.{◌≡◌, ℕ, ◌-◌, ◌^◌, ◌==◌, Bool, true, false, List, slice_get, Option, Some, None, IfSome, string_bytes}
 use Rattle.std.specs.Option.{option_map}
 use Rattle.gpu_core.specs.TypeRelease.{IsLive as IsLivePiece}
 use Rattle.gpu_core.specs.declared.memory_type.Piece.{Piece}
@@ -11,6 +11,21 @@ use Rattle.gpu_allocator.specs.Describe.{is_own}
 use Rattle.gpu_allocator.specs.Setup.{Setup}
 use Rattle.gpu_allocator.specs.declared.vulkan.allocation.Allocation.{Allocation}
 use Rattle.gpu_allocator.specs.declared.vulkan.describe.AllocationCreateDesc.{AllocationCreateDesc}
+
+-- no piece
+abbrev pub null_allocation : Allocation
+null_allocation = record {
+  chunk_id = None;
+  offset = 0;
+  size = 0;
+  memory_block_index = 2 ^ 64 - 1;
+  memory_type_index = 2 ^ 64 - 1;
+  device_memory = record { 0 = 0 };
+  memory_properties = record { 0 = 0 };
+  mapped = false;
+  dedicated = false;
+  name = None;
+}
 
 -- the piece that an allocation stands for, None where it is null
 abbrev pub piece_of : Allocation → Option (Piece DeviceMemory)

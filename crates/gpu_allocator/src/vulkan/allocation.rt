@@ -71,7 +71,7 @@ impl Allocation {
     pub fn is_null(&self) -> bool
         ensures { IsTrue result ↔ (self.now.chunk_id ≡ None) }
     {
-        self.chunk_id.is_none()
+        Option::is_none(&self.chunk_id)
     }
 
     /// The index of its memory type.
@@ -114,6 +114,11 @@ impl Allocation {
 
 /// The null allocation.
 impl Default for Allocation {
+    ghost use Rattle.std.specs.Prelude.{◌≡◌};
+    ghost use Rattle.gpu_allocator.specs.Live.{null_allocation};
+
+    ghost is_default = { λ a. a ≡ null_allocation };
+
     fn default() -> Self {
         Allocation {
             chunk_id: None,
