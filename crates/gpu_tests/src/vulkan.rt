@@ -1,68 +1,151 @@
 //! Worked rows of the Vulkan allocator.
 
+mod rows;
+mod setups;
+
 use gpu_allocator::vulkan::*;
-use gpu_allocator::{AllocationError, AllocationSizes, AllocatorDebugSettings, MemoryLocation, Result};
-use gpu_sim::SimVulkan;
+use gpu_allocator::{AllocationSizes, AllocatorDebugSettings, MemoryLocation};
+use gpu_sim::{Refusal, SimVulkan};
 use log::sink::Discard;
 use std::alloc::Global;
-use std::process::Abort;
 use std::test::Fail;
 
 /// Bytes in a megabyte.
-const MB: u64 = 1_048_576;
+pub const MB: u64 = 1_048_576;
 
-/// A device with one memory type of these flags, on a heap of that size.
-fn one_type(alloc: Global, flags: u32, heap: u64) -> std::result::Result<SimVulkan, Fail> {
-    let mut heaps = Vec::new(alloc);
-    heaps.push(MemoryHeap { size: heap, flags: 0 })?;
-    let mut types = Vec::new(alloc);
-    types.push(MemoryTypeInfo { property_flags: MemoryPropertyFlags(flags), heap_index: 0 })?;
-    Ok(SimVulkan::new(alloc, heaps, types, 1, u64::MAX, Vec::new(alloc)))
+/// How a test ends.
+pub type Outcome = std::result::Result<(), Fail>;
+
+/// A device's properties, and what it refuses.
+#[derive(Clone, Copy)]
+pub struct Properties<'a> {
+    /// Sizes in bytes.
+    pub heaps: &'a [u64],
+    /// Flags and heap of each memory type.
+    pub types: &'a [(u32, u32)],
+    pub granularity: u64,
+    /// The largest memory in bytes.
+    pub limit: u64,
+    /// Questions by their number.
+    pub refusals: &'a [(u64, Refusal)],
 }
 
-fn described(device: SimVulkan) -> AllocatorCreateDesc<SimVulkan> {
+/// One memory type of these flags, on a heap of that size, of a device that grants all.
+pub fn one_type(flags: &'static [(u32, u32)], heap: &'static [u64]) -> Properties<'static> {
+    Properties {
+        heaps: heap,
+        types: flags,
+        granularity: 1,
+        limit: u64::MAX,
+        refusals: &[],
+    }
+}
+
+/// The simulated device of these properties.
+pub fn simulated(alloc: Global, properties: &Properties) -> std::result::Result<SimVulkan, Fail> {
+    let mut heaps = Vec::new(alloc);
+    for size in properties.heaps {
+        heaps.push(MemoryHeap {
+            size: *size,
+            flags: 0,
+        })?;
+    }
+    let types = memory_types(alloc, properties)?;
+    let mut refusals = Vec::new(alloc);
+    for refusal in properties.refusals {
+        refusals.push(*refusal)?;
+    }
+    Ok(SimVulkan::new(
+        alloc,
+        heaps,
+        types,
+        properties.granularity,
+        properties.limit,
+        refusals,
+    ))
+}
+
+fn memory_types(
+    alloc: Global,
+    properties: &Properties,
+) -> std::result::Result<Vec<MemoryTypeInfo>, Fail> {
+    let mut types = Vec::new(alloc);
+    for (flags, heap) in properties.types {
+        types.push(MemoryTypeInfo {
+            property_flags: MemoryPropertyFlags(*flags),
+            heap_index: *heap,
+        })?;
+    }
+    Ok(types)
+}
+
+/// What an allocator is made from, with these block sizes.
+pub fn described(device: SimVulkan, sizes: AllocationSizes) -> AllocatorCreateDesc<SimVulkan> {
     AllocatorCreateDesc {
         device,
         physical_device: PhysicalDevice(1),
         debug_settings: AllocatorDebugSettings::default(),
-        buffer_device_address: false,
-        allocation_sizes: AllocationSizes::default(),
+        buffer_device_address: true,
+        allocation_sizes: sizes,
     }
 }
 
-fn managed(size: u64, alignment: u64, location: MemoryLocation) -> AllocationCreateDesc<'static> {
+/// An allocator over a simulated device.
+pub fn made(
+    alloc: Global,
+    properties: &Properties,
+    sizes: AllocationSizes,
+) -> std::result::Result<Allocator<SimVulkan>, Fail> {
+    let device = simulated(alloc, properties)?;
+    match Allocator::new(&Discard, alloc, described(device, sizes)) {
+        Ok(allocator) => Ok(allocator),
+        Err((_, _)) => Err(Fail::from("the allocator can't be made")),
+    }
+}
+
+/// A linear piece of a shared block.
+pub fn managed(
+    size: u64,
+    alignment: u64,
+    location: MemoryLocation,
+) -> AllocationCreateDesc<'static> {
     AllocationCreateDesc {
         name: "piece",
-        requirements: MemoryRequirements { size, alignment, memory_type_bits: u32::MAX },
+        requirements: MemoryRequirements {
+            size,
+            alignment,
+            memory_type_bits: u32::MAX,
+        },
         location,
         linear: true,
         allocation_scheme: AllocationScheme::GpuAllocatorManaged,
     }
 }
 
-fn readme(rt: &impl Abort, a: &mut Allocator<SimVulkan>) -> std::result::Result<(), Fail> {
-    let x = a.allocate(&Discard, &managed(512, 256, MemoryLocation::CpuToGpu)).map_err(|e| Fail::from("allocate"))?;
-    assert_eq!(rt; x.offset(), 0);
-    assert_eq!(rt; x.size(), 512);
-    assert_eq!(rt; a.capacity(), 64 * MB);
-    match a.free(&Discard, x) {
-        Ok(()) => Ok(()),
-        Err((_, _)) => Err(Fail::from("free")),
+/// Takes what must be given.
+pub fn take(
+    a: &mut Allocator<SimVulkan>,
+    desc: &AllocationCreateDesc,
+) -> std::result::Result<Allocation, Fail> {
+    match a.allocate(&Discard, desc) {
+        Ok(allocation) => Ok(allocation),
+        Err(_) => Err(Fail::from("nothing was given")),
     }
 }
 
-#[test]
-fn a_piece_of_a_shared_block(rt: HostRuntime) -> std::result::Result<(), Fail> {
-    let device = one_type(rt.alloc(), 6, 1024 * MB)?;
-    match Allocator::new(&Discard, rt.alloc(), described(device)) {
-        Err((_, _)) => Err(Fail::from("new")),
-        Ok(mut a) => {
-            let done = readme(&rt, &mut a);
-            assert_eq!(&rt; a.capacity(), 64 * MB);
-            let device = a.destroy(&Discard);
-            assert_eq!(&rt; device.held(), 0);
-            assert_eq!(&rt; device.questions(), 2);
-            done
-        }
+/// Gives back what is live.
+pub fn give(a: &mut Allocator<SimVulkan>, allocation: Allocation) -> Outcome {
+    match a.free(&Discard, allocation) {
+        Ok(()) => Ok(()),
+        Err((_, _)) => Err(Fail::from("a live allocation came back")),
     }
+}
+
+/// The slot, offset and number of an allocation.
+pub fn place(allocation: &Allocation) -> (usize, u64, Option<u64>) {
+    let number = match allocation.chunk_id() {
+        Some(number) => Some(number.get()),
+        None => None,
+    };
+    (allocation.memory_block_index(), allocation.offset(), number)
 }

@@ -1,0 +1,241 @@
+//! Pieces and blocks.
+
+use super::*;
+use gpu_allocator::{AllocationError, MemoryLocation};
+use std::process::Abort;
+
+const HOST: &[(u32, u32)] = &[(6, 0)];
+
+const DEVICE: &[(u32, u32)] = &[(1, 0)];
+
+const GIGABYTE: &[u64] = &[1024 * MB];
+
+fn first_piece(rt: &impl Abort, a: &mut Allocator<SimVulkan>) -> Outcome {
+    let x = take(a, &managed(512, 256, MemoryLocation::CpuToGpu))?;
+    assert_eq!(rt; place(&x), (0, 0, Some(2)));
+    assert_eq!(rt; x.size(), 512);
+    assert!(rt; !x.is_dedicated());
+    assert!(rt; x.is_mapped());
+    assert!(rt; !x.is_null());
+    assert!(rt; a.is_live(&x));
+    assert_eq!(rt; x.memory_type_index(), 0);
+    assert_eq!(rt; x.memory(), DeviceMemory(1));
+    assert_eq!(rt; x.memory_properties(), MemoryPropertyFlags(6));
+    assert_eq!(rt; a.capacity(), 64 * MB);
+    give(a, x)
+}
+
+#[test]
+fn a_piece_of_a_shared_block(rt: HostRuntime) -> Outcome {
+    let mut properties = one_type(HOST, GIGABYTE);
+    properties.limit = 64 * MB;
+    let mut a = made(rt.alloc(), &properties, AllocationSizes::default())?;
+    let done = first_piece(&rt, &mut a);
+    let capacity = a.capacity();
+    let device = a.destroy(&Discard);
+    assert_eq!(&rt; capacity, 64 * MB);
+    assert_eq!(&rt; device.questions(), 2);
+    assert_eq!(&rt; device.refusals(), 0);
+    assert_eq!(&rt; device.held(), 0);
+    done
+}
+
+fn past_all_sums(rt: &impl Abort, a: &mut Allocator<SimVulkan>) -> Outcome {
+    let half = managed(9_223_372_036_854_775_808, 1, MemoryLocation::GpuOnly);
+    let x = take(a, &half)?;
+    assert_eq!(rt; place(&x), (0, 0, Some(1)));
+    assert!(rt; !x.is_mapped());
+    assert!(rt; a.mapped_slice(&x).is_none());
+    match a.allocate(&Discard, &half) {
+        Err(AllocationError::OutOfMemory) => {}
+        _ => return Err(Fail::from("the sum of block sizes is past u64::MAX")),
+    }
+    assert_eq!(rt; a.device().questions(), 1);
+    assert_eq!(rt; a.capacity(), 9_223_372_036_854_775_808);
+    Ok(())
+}
+
+#[test]
+fn blocks_past_all_sums_are_out_of_memory(rt: HostRuntime) -> Outcome {
+    let properties = one_type(DEVICE, &[u64::MAX]);
+    let mut a = made(rt.alloc(), &properties, AllocationSizes::default())?;
+    let done = past_all_sums(&rt, &mut a);
+    let device = a.destroy(&Discard);
+    assert_eq!(&rt; device.held(), 0);
+    done
+}
+
+fn upload_type(
+    properties: &Properties,
+    alloc: Global,
+) -> std::result::Result<(Option<usize>, u64), Fail> {
+    let mut a = made(alloc, properties, AllocationSizes::default())?;
+    let answer = match a.allocate(&Discard, &managed(8 * MB, 1, MemoryLocation::CpuToGpu)) {
+        Ok(x) => Some(x.memory_type_index()),
+        Err(AllocationError::OutOfMemory) => None,
+        Err(_) => Some(usize::MAX),
+    };
+    let device = a.destroy(&Discard);
+    Ok((answer, device.questions()))
+}
+
+#[test]
+fn uploads_are_taken_where_the_heap_is_large_enough(rt: HostRuntime) -> Outcome {
+    let mut properties = one_type(&[(6, 0), (7, 1)], &[1024 * MB, 4 * MB]);
+    let second = upload_type(&properties, rt.alloc())?;
+    assert_eq!(&rt; second, (Some(0), 2));
+    properties.types = &[(7, 1), (6, 0)];
+    let none = upload_type(&properties, rt.alloc())?;
+    assert_eq!(&rt; none, (None, 0));
+    Ok(())
+}
+
+fn refused_mapping(rt: &impl Abort, a: &mut Allocator<SimVulkan>) -> Outcome {
+    match a.allocate(&Discard, &managed(512, 256, MemoryLocation::GpuToCpu)) {
+        Err(AllocationError::FailedToMap(fault)) => {
+            assert_eq!(rt; fault.text, "Returned mapped pointer is null");
+            assert!(rt; fault.code.is_none());
+        }
+        _ => return Err(Fail::from("the mapping was null")),
+    }
+    assert_eq!(rt; a.capacity(), 0);
+    assert_eq!(rt; a.device().held(), 0);
+    let x = take(a, &managed(512, 256, MemoryLocation::GpuToCpu))?;
+    assert_eq!(rt; place(&x), (0, 0, Some(2)));
+    Ok(())
+}
+
+#[test]
+fn memory_that_is_not_mapped_goes_back(rt: HostRuntime) -> Outcome {
+    let mut properties = one_type(HOST, GIGABYTE);
+    properties.refusals = &[(2, Refusal::Null)];
+    let mut a = made(rt.alloc(), &properties, AllocationSizes::default())?;
+    let done = refused_mapping(&rt, &mut a);
+    let device = a.destroy(&Discard);
+    assert_eq!(&rt; device.held(), 0);
+    assert_eq!(&rt; device.refusals(), 1);
+    done
+}
+
+fn upload_answer(
+    refusals: &[(u64, Refusal)],
+    alloc: Global,
+) -> std::result::Result<(u64, u64), Fail> {
+    let properties = Properties {
+        refusals,
+        ..one_type(HOST, GIGABYTE)
+    };
+    let mut a = made(alloc, &properties, AllocationSizes::default())?;
+    let taken = take(&mut a, &managed(512, 256, MemoryLocation::CpuToGpu));
+    let device = a.destroy(&Discard);
+    let x = taken?;
+    Ok((x.offset(), device.questions()))
+}
+
+#[test]
+fn uploads_are_asked_for_again_after_a_refusal(rt: HostRuntime) -> Outcome {
+    let unmapped = upload_answer(&[(2, Refusal::Null)], rt.alloc())?;
+    assert_eq!(&rt; unmapped, (0, 4));
+    let declined = upload_answer(&[(1, Refusal::Code(-2))], rt.alloc())?;
+    assert_eq!(&rt; declined, (0, 3));
+    Ok(())
+}
+
+fn own_memory(rt: &impl Abort, a: &mut Allocator<SimVulkan>) -> Outcome {
+    let x = take(a, &managed(300 * MB, 1, MemoryLocation::GpuOnly))?;
+    assert_eq!(rt; place(&x), (0, 0, Some(1)));
+    assert!(rt; !x.is_dedicated());
+    assert_eq!(rt; a.capacity(), 300 * MB);
+    give(a, x)?;
+    assert_eq!(rt; a.capacity(), 0);
+    let mut desc = managed(1000, 1, MemoryLocation::GpuOnly);
+    desc.allocation_scheme = AllocationScheme::DedicatedBuffer(Buffer(7));
+    let y = take(a, &desc)?;
+    assert!(rt; y.is_dedicated());
+    assert_eq!(rt; y.chunk_id().is_some(), true);
+    assert_eq!(rt;
+        a.device().last_info(),
+        Some(MemoryAllocateInfo {
+            size: 1000,
+            memory_type_index: 0,
+            device_address: true,
+            scheme: AllocationScheme::DedicatedBuffer(Buffer(7)),
+        })
+    );
+    Ok(())
+}
+
+#[test]
+fn large_and_dedicated_pieces_have_blocks_of_their_own(rt: HostRuntime) -> Outcome {
+    let properties = one_type(DEVICE, GIGABYTE);
+    let mut a = made(rt.alloc(), &properties, AllocationSizes::default())?;
+    let done = own_memory(&rt, &mut a);
+    let device = a.destroy(&Discard);
+    assert_eq!(&rt; device.held(), 0);
+    done
+}
+
+fn foreign(rt: &impl Abort, a: &mut Allocator<SimVulkan>, b: &mut Allocator<SimVulkan>) -> Outcome {
+    let x = take(a, &managed(256, 1, MemoryLocation::CpuToGpu))?;
+    match b.free(&Discard, x) {
+        Err((AllocationError::Internal(fault), back)) => {
+            assert_eq!(rt; fault.text, "Memory block must be Some.");
+            assert!(rt; a.is_live(&back));
+            let y = take(b, &managed(512, 1, MemoryLocation::CpuToGpu))?;
+            assert!(rt; !b.is_live(&back));
+            assert!(rt; b.mapped_slice(&back).is_none());
+            assert_eq!(rt; y.size(), 512);
+            give(a, back)
+        }
+        _ => Err(Fail::from("a foreign allocation was given back")),
+    }
+}
+
+#[test]
+fn foreign_allocations_come_back(rt: HostRuntime) -> Outcome {
+    let properties = one_type(HOST, GIGABYTE);
+    let mut a = made(rt.alloc(), &properties, AllocationSizes::default())?;
+    match made(rt.alloc(), &properties, AllocationSizes::default()) {
+        Ok(mut b) => {
+            let done = foreign(&rt, &mut a, &mut b);
+            let null = match b.free(&Discard, Allocation::default()) {
+                Ok(()) => true,
+                Err((_, _)) => false,
+            };
+            let _ = b.destroy(&Discard);
+            let _ = a.destroy(&Discard);
+            assert!(&rt; null);
+            done
+        }
+        Err(fail) => {
+            let _ = a.destroy(&Discard);
+            Err(fail)
+        }
+    }
+}
+
+fn is_invalid(a: &mut Allocator<SimVulkan>, size: u64, alignment: u64) -> bool {
+    match a.allocate(
+        &Discard,
+        &managed(size, alignment, MemoryLocation::CpuToGpu),
+    ) {
+        Err(AllocationError::InvalidAllocationCreateDesc) => true,
+        _ => false,
+    }
+}
+
+#[test]
+fn bad_requests_are_refused(rt: HostRuntime) -> Outcome {
+    let properties = one_type(DEVICE, GIGABYTE);
+    let mut a = made(rt.alloc(), &properties, AllocationSizes::default())?;
+    let invalid = is_invalid(&mut a, 0, 1) && is_invalid(&mut a, 1, 3) && is_invalid(&mut a, 1, 0);
+    let none = match a.allocate(&Discard, &managed(1, 1, MemoryLocation::CpuToGpu)) {
+        Err(AllocationError::NoCompatibleMemoryTypeFound) => true,
+        _ => false,
+    };
+    let device = a.destroy(&Discard);
+    assert!(&rt; invalid);
+    assert!(&rt; none);
+    assert_eq!(&rt; device.questions(), 0);
+    Ok(())
+}
