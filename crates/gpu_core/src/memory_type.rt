@@ -122,6 +122,7 @@ impl<H: Copy + Eq> MemoryType<H> {
         ensures cause { IfErr result (λ e. e ≡ HostOutOfMemory) }
         ensures refused { OnErr result (self.new.slots ≡ self.old.slots) }
         ensures kind { (self.new.is_host ≡ self.old.is_host) × (self.new.granularity ≡ self.old.granularity) }
+        ensures capacity { capacity_of self.new.slots ≡ capacity_of self.old.slots }
         ensures sound { AreSound self.new.granularity self.new.slots }
         ensures empty { KeepsOneEmptyAtMost self.new.slots }
     {
@@ -187,6 +188,7 @@ impl<H: Copy + Eq> MemoryType<H> {
         ensures cause { IfErr result (λ e. IsFreeRefusal H.eq piece.now (slot_at self.old.slots piece.now.slot) (refusal_of e)) }
         ensures refused { OnErr result (self.new ≡ self.old) }
         ensures kind { (self.new.is_host ≡ self.old.is_host) × (self.new.granularity ≡ self.old.granularity) }
+        ensures capacity { capacity_of self.new.slots ≤ capacity_of self.old.slots }
         ensures sound { AreSound self.new.granularity self.new.slots }
         ensures empty { KeepsOneEmptyAtMost self.new.slots }
     {
@@ -213,6 +215,7 @@ impl<H: Copy + Eq> MemoryType<H> {
         ensures cause { IfErr result (λ e. IsNameRefusal H.eq piece.now (slot_at self.old.slots piece.now.slot) (refusal_of e)) }
         ensures refused { OnErr result (self.new ≡ self.old) }
         ensures kind { (self.new.is_host ≡ self.old.is_host) × (self.new.granularity ≡ self.old.granularity) }
+        ensures capacity { capacity_of self.new.slots ≡ capacity_of self.old.slots }
         ensures sound { AreSound self.new.granularity self.new.slots }
         ensures empty { KeepsOneEmptyAtMost self.new.slots }
     {

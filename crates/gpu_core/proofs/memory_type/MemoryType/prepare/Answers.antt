@@ -3,6 +3,7 @@ use Rattle.std.proofs.lemmas.Bool.{false≢true}
 use Rattle.std.specs.Prelude.{IsNone}
 use Rattle.gpu_core.specs.Sizes.{shared_block_size}
 use Rattle.gpu_core.specs.Block.{TakesIn}
+use Rattle.gpu_core.specs.TypeState.{capacity_of}
 use Rattle.gpu_core.specs.TypeTake.{asked, fresh_block, PreparesPiece, NoneServes, NeedsBlock, has_own_block, next_shared_size}
 use Rattle.gpu_core.specs.Slots.{slots_of, AreKept}
 use Rattle.gpu_core.proofs.Needs.{none_of, fresh_taken}
@@ -37,6 +38,10 @@ invariant_of-self-in-Some g c = taken_kept g ((goal.at.invariant_of-self-in-Some
 
 pub returns-in-Some-clause-empty : goal.returns-in-Some-clause-empty
 returns-in-Some-clause-empty g c = (taken_kept g ((goal.at.returns-in-Some-clause-empty g c).In-Some)).empty
+
+pub returns-in-Some-clause-capacity : goal.returns-in-Some-clause-capacity
+returns-in-Some-clause-capacity g c =
+    sym (taken_kept g ((goal.at.returns-in-Some-clause-capacity g c).In-Some)).capacity_is ∙ c.self.invariant.capacity_is ∙ ap (λ t. capacity_of t.slots) c.self.view_is
 
 pub invariant_of-self-in_err-room : goal.invariant_of-self-in_err-room
 invariant_of-self-in_err-room g c = reserved_kept g ((goal.at.invariant_of-self-in_err-room g c).After-reserve_slot)

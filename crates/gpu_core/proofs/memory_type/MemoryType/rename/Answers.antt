@@ -1,6 +1,6 @@
-use Rattle.std.proofs.Common.{subst, sym}
+use Rattle.std.proofs.Common.{subst, sym, ap, ◌∙◌}
 use Rattle.gpu_core.specs.Refusal.{refusal_of}
-use Rattle.gpu_core.specs.TypeState.{slot_at}
+use Rattle.gpu_core.specs.TypeState.{slot_at, capacity_of}
 use Rattle.gpu_core.specs.TypeRelease.{SlotHolds}
 use Rattle.gpu_core.specs.Slots.{slots_of, AreKept}
 use Rattle.gpu_core.proofs.Dead.{name_dead}
@@ -29,3 +29,7 @@ returns-clause-dead g c =
 
 pub returns-clause-sound : goal.returns-clause-sound
 returns-clause-sound g c = c.rename_in.ensures.kept c.self.inside.granularity c.self.invariant.sound
+
+pub returns-clause-capacity : goal.returns-clause-capacity
+returns-clause-capacity g c =
+    sym (kept g ((goal.at.returns-clause-capacity g c).After-rename_in)).capacity_is ∙ c.self.invariant.capacity_is ∙ ap (λ t. capacity_of t.slots) c.self.view_is

@@ -1,0 +1,10 @@
+pub mod Taken
+pub mod Plans
+pub mod Heaps
+pub mod Types
+pub mod Attempts
+pub mod Placed
+pub mod Holding
+pub mod Serving
+pub mod Following
+pub mod Beginning

@@ -1,0 +1,36 @@
+-- An allocation, as its owner holds it, and the piece that it stands for.
+use Rattle.std.specs.Prelude.{◌≡◌, ℕ, ◌==◌, Bool, List, slice_get, Option, Some, None, IfSome, string_bytes}
+use Rattle.std.specs.Option.{option_map}
+use Rattle.gpu_core.specs.TypeRelease.{IsLive as IsLivePiece}
+use Rattle.gpu_core.specs.declared.memory_type.Piece.{Piece}
+use Rattle.gpu_device.specs.declared.vulkan.types.DeviceMemory.{DeviceMemory}
+use Rattle.gpu_allocator.specs.Blocks.{Slots, slots_at, is_host_visible}
+use Rattle.gpu_allocator.specs.Describe.{is_own}
+use Rattle.gpu_allocator.specs.Setup.{Setup}
+use Rattle.gpu_allocator.specs.declared.vulkan.allocation.Allocation.{Allocation}
+use Rattle.gpu_allocator.specs.declared.vulkan.describe.AllocationCreateDesc.{AllocationCreateDesc}
+
+-- the piece that an allocation stands for, None where it is null
+abbrev pub piece_of : Allocation → Option (Piece DeviceMemory)
+piece_of a =
+    option_map (λ n. record { slot = a.memory_block_index; number = n; offset = a.offset; size = a.size; block = a.device_memory }) a.chunk_id
+
+-- the memory's number, as the device compares it
+abbrev pub is_same_memory : DeviceMemory → DeviceMemory → Bool
+is_same_memory m n = m.0 == n.0
+
+abbrev pub IsLiveIn : Slots → (t : ℕ) → Option (Piece DeviceMemory) → Type 0
+IsLiveIn slots t None = ⊥
+IsLiveIn slots t (Some p) = IsLivePiece is_same_memory (slots_at slots t) p
+
+-- the allocator has a record with the allocation's type, slot, number, offset, size and memory
+abbrev pub IsLive : Slots → Allocation → Type 0
+IsLive slots a = IsLiveIn slots a.memory_type_index (piece_of a)
+
+-- the allocation that is given for a piece of the t-th memory type
+pub record IsGiven (setup : Setup) (t : ℕ) (d : AllocationCreateDesc) (p : Piece DeviceMemory) (a : Allocation) : Type 0 where
+  pub piece : piece_of a ≡ Some p
+  pub memory_type : a.memory_type_index ≡ t
+  pub memory : IfSome (slice_get setup.properties.types t) (λ info. (a.memory_properties ≡ info.property_flags) × (a.mapped ≡ is_host_visible info))
+  pub dedicated : a.dedicated ≡ is_own d.allocation_scheme
+  pub name : IfSome a.name (λ s. string_bytes s ≡ d.name.now)

@@ -1,0 +1,11 @@
+//! GPU memory allocators: pieces of device memory from a few large blocks, over a device that is handed in.
+#![tactic(auto)]
+
+pub mod vulkan;
+
+pub use gpu_core::{
+    AllocationError, AllocationReport, AllocationSizes, AllocationType, AllocatorDebugSettings,
+    AllocatorReport, DedicatedBlockAllocator, Fault, FreeListAllocator, Leak, Leaks,
+    MemoryBlockReport, MemoryLocation, MemoryType, NeedBlock, Piece, Prepared, Request, Result,
+    Room, SubAllocator, fmt_bytes, laws,
+};

@@ -1,0 +1,18 @@
+//! Vulkan: device memory for buffers and images.
+
+mod allocation;
+mod allocator;
+mod attempt;
+mod block;
+mod choice;
+mod describe;
+mod release;
+mod setup;
+
+pub use allocation::Allocation;
+pub use allocator::Allocator;
+pub use describe::{AllocationCreateDesc, AllocatorCreateDesc};
+pub use gpu_device::vulkan::{
+    AllocationScheme, Buffer, DeviceMemory, Image, MemoryAllocateInfo, MemoryHeap,
+    MemoryPropertyFlags, MemoryRequirements, MemoryTypeInfo, PhysicalDevice, VulkanDevice,
+};

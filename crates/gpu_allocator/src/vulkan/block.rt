@@ -1,0 +1,94 @@
+//! Asking the device for the memory of a block, and giving it back.
+
+ghost use Rattle.std.specs.Prelude.{◌≡◌, ◌≢◌, ℕ, ℤ, List, length, Option, IfErr, OnErr, OnOk};
+ghost use Rattle.std.specs.FinMap.{get, insert, remove};
+ghost use Rattle.gpu_core.specs.Refusal.{refusal_of};
+ghost use Rattle.gpu_device.specs.Held.{IsUnmapped, size_of, mapped_with, raised};
+ghost use Rattle.gpu_allocator.specs.BlockAnswer.{BlockAnswer, Asks, Gives, memory_refusal, map_refusal};
+
+use crate::{AllocationError, Fault, Result};
+use gpu_device::vulkan::{DeviceMemory, MemoryAllocateInfo, VulkanDevice};
+
+/// Vulkan's code for want of device memory (`VK_ERROR_OUT_OF_DEVICE_MEMORY`).
+const OUT_OF_DEVICE_MEMORY: i32 = -2;
+
+/// Why memory was refused.
+fn refusal_of_memory(code: i32) -> AllocationError
+    ensures { refusal_of result ≡ memory_refusal code }
+{
+    if code == OUT_OF_DEVICE_MEMORY {
+        return AllocationError::OutOfMemory;
+    }
+    AllocationError::Internal(Fault {
+        text: "Unexpected error in vkAllocateMemory",
+        code: Some(i64::from(code)),
+    })
+}
+
+#[tactic(auto, using(gpu_device::proofs::Changes::changes))]
+/// Maps memory that is new. Where that is refused or gives null, the memory goes back.
+fn map_new<D: VulkanDevice>(device: &mut D, memory: DeviceMemory) -> Result<()>
+    requires { IsUnmapped (D.held device.old) memory.0 }
+    ensures maps { OnOk result ((xs : List ℕ) × (length xs ≡ size_of (D.held device.old) memory.0) × (D.held device.new ≡ mapped_with (D.held device.old) memory.0 xs)) }
+    ensures counts_no_grant { OnOk result (D.refused device.new ≡ D.refused device.old) }
+    ensures cause { IfErr result (λ e. (code : Option ℤ) × (refusal_of e ≡ map_refusal code)) }
+    ensures gives_back { OnErr result (D.held device.new ≡ remove (D.held device.old) memory.0) }
+    ensures counts_refusal { OnErr result (D.refused device.new ≡ raised (D.refused device.old)) }
+    ensures names_no_question { D.latest device.new ≡ D.latest device.old }
+    ensures constant { D.properties device.new ≡ D.properties device.old }
+{
+    match device.map_memory(memory) {
+        Ok(true) => Ok(()),
+        Ok(false) => {
+            device.free_memory(memory);
+            Err(AllocationError::FailedToMap(Fault {
+                text: "Returned mapped pointer is null",
+                code: None,
+            }))
+        }
+        Err(code) => {
+            device.free_memory(memory);
+            Err(AllocationError::FailedToMap(Fault {
+                text: "vkMapMemory failed",
+                code: Some(i64::from(code)),
+            }))
+        }
+    }
+}
+
+#[tactic(auto, using(gpu_device::proofs::Changes::changes))]
+/// Asks for the memory of a block, and maps it whole where it is to be `mapped`.
+pub fn ask<D: VulkanDevice>(
+    device: &mut D,
+    info: &MemoryAllocateInfo,
+    mapped: bool,
+) -> Result<DeviceMemory>
+    ensures { (answer : BlockAnswer) × Asks D.VulkanDevice device.old info.now mapped answer device.new × Gives result answer }
+{
+    match device.allocate_memory(info) {
+        Err(code) => Err(refusal_of_memory(code)),
+        Ok(memory) => {
+            if !mapped {
+                return Ok(memory);
+            }
+            match map_new(device, memory) {
+                Ok(()) => Ok(memory),
+                Err(error) => Err(error),
+            }
+        }
+    }
+}
+
+#[tactic(auto, using(gpu_device::proofs::Changes::changes))]
+/// Gives the memory of a block back, which is `mapped` or not.
+pub fn give_back<D: VulkanDevice>(device: &mut D, memory: DeviceMemory, mapped: bool)
+    ensures gives_back { D.held device.new ≡ remove (D.held device.old) memory.0 }
+    ensures counts_nothing { D.refused device.new ≡ D.refused device.old }
+    ensures names_no_question { D.latest device.new ≡ D.latest device.old }
+    ensures constant { D.properties device.new ≡ D.properties device.old }
+{
+    if mapped {
+        device.unmap_memory(memory);
+    }
+    device.free_memory(memory);
+}
