@@ -1,6 +1,6 @@
 //! Tests of memory types, with numbers of blocks that the tests make.
 
-ghost use Rattle.std.specs.Prelude.{◌≡◌, ◌≢◌};
+ghost use Rattle.std.specs.Prelude.{◌≡◌, ◌≢◌, ◌≤◌, IfOk};
 
 use super::{MB, check_text};
 use crate::*;
@@ -211,7 +211,9 @@ fn empty_report(alloc: Global) -> AllocatorReport
 }
 
 /// The report of a memory type alone.
-pub fn report_of(alloc: Global, blocks: &MemoryType<Handle>) -> Result<AllocatorReport> {
+pub fn report_of(alloc: Global, blocks: &MemoryType<Handle>) -> Result<AllocatorReport>
+    ensures { IfOk result (λ r. r.total_allocated_bytes ≤ r.total_capacity_bytes) }
+{
     let mut report = empty_report(alloc);
     let _capacity = blocks.capacity();
     blocks.report(&mut report)?;
@@ -293,7 +295,6 @@ fn a_second_type_is_reported_behind_the_first(rt: HostRuntime) -> Result<(), Fai
     let first = three_pieces(&rt, rt.alloc())?;
     let second = three_pieces(&rt, rt.alloc())?;
     let mut report = report_of(rt.alloc(), &first)?;
-    assert!(rt; report.total_allocated_bytes <= report.total_capacity_bytes);
     assert!(rt;
         report
             .total_capacity_bytes

@@ -1,4 +1,4 @@
-use Rattle.std.proofs.Common.{◌≡◌, ◌-◌, ◌≤◌, drop, length}
+use Rattle.std.proofs.Common.{◌≡◌, ◌-◌, drop, length}
 use Rattle.gpu_core.specs.TypeReport.{leaks_from}
 use Rattle.gpu_core.specs.Slots.{slots_of}
 use Rattle.gpu_core.proofs.memory_type.type_leaks.next_from.Given as goal
