@@ -1,9 +1,0 @@
-use Rattle.std.proofs.Common.{List, sym, subst, arith}
-use Rattle.gpu_core.specs.declared.chunk.Chunk.{Chunk}
-use Rattle.gpu_core.specs.Chunks.{IsLaidOut}
-use Rattle.gpu_core.proofs.Placing.{laid_out}
-use Rattle.gpu_core.proofs.free_list.FreeListAllocator.allocated.Goals as goal
-
-pub taken_bytes-requires : goal.taken_bytes-requires
-taken_bytes-requires c =
-    subst (λ (xs : List Chunk). IsLaidOut xs) (sym c.deref.ensures.value) (laid_out c.self.inside.chunks.items c.self.inside.size c.self.inside.counter (omega arith) c.self.invariant.1)
