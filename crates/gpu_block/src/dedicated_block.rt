@@ -22,7 +22,7 @@ pub struct DedicatedBlockAllocator {
 }
 
 impl Model for DedicatedBlockAllocator {
-    ghost use Rattle.std.specs.Prelude.{IfSome, ◌<◌};
+    ghost use Rattle.std.specs.Prelude.{IfSome, ◌<◌, ◌^◌};
     ghost use Rattle.std.specs.Option.{option_map};
     ghost use Rattle.gpu_block.specs.Dedicated.{Dedicated};
     ghost use Rattle.gpu_block.specs.Chunks.{extent, IsWholeChunk};
@@ -31,7 +31,7 @@ impl Model for DedicatedBlockAllocator {
 
     ghost view = { λ a. record { size = a.size; piece = option_map extent a.piece } };
 
-    ghost invariant = { λ a. (0 < a.size) × IfSome a.piece (IsWholeChunk a.size) };
+    ghost invariant = { λ a. (0 < a.size) × (a.size < 2 ^ 64) × IfSome a.piece (IsWholeChunk a.size) };
 }
 
 impl DedicatedBlockAllocator {
@@ -162,8 +162,6 @@ impl DedicatedBlockAllocator {
         ensures rows { IfOk result (λ v. map row_of v.items ≡ map extent_row (held_extents self.now)) }
         ensures cause { IfErr result (λ e. e ≡ HostOutOfMemory) }
     {
-        // a field that is read is known to be a u64
-        let _size = self.size;
         let rows = rows_of(self.alloc, self.piece.as_slice())?;
         Ok(rows)
     }

@@ -37,7 +37,7 @@ pub struct FreeListAllocator {
 }
 
 impl Model for FreeListAllocator {
-    ghost use Rattle.std.specs.Prelude.{IsTrue};
+    ghost use Rattle.std.specs.Prelude.{IsTrue, ◌<◌, ◌^◌};
     ghost use Rattle.std.specs.Int.{is_power_of_two};
     ghost use Rattle.gpu_block.specs.FreeList.{FreeList};
     ghost use Rattle.gpu_block.specs.Chunks.{AreChunks, free_list_of};
@@ -49,7 +49,8 @@ impl Model for FreeListAllocator {
 
     ghost invariant = { λ a. IsTrue (is_power_of_two a.granularity)
         × AreChunks a.chunks.items a.size a.counter
-        × IsPageSeparated (free_list_of a.size a.granularity a.counter a.chunks.items) };
+        × IsPageSeparated (free_list_of a.size a.granularity a.counter a.chunks.items)
+        × (a.size < 2 ^ 64) };
 }
 
 impl FreeListAllocator {
@@ -206,8 +207,6 @@ impl FreeListAllocator {
     pub fn allocated(&self) -> u64
         ensures { result ≡ extent_bytes self.now.extents }
     {
-        // a field that is read is known to be a u64
-        let _size = self.size;
         taken_bytes(&self.chunks)
     }
 
@@ -215,7 +214,6 @@ impl FreeListAllocator {
     pub fn place_of(&self, number: NonZeroU64) -> Option<(u64, u64)>
         ensures { FindsPlace self.now.extents (non_zero_u64_get number) result }
     {
-        let _size = self.size;
         place_of(&self.chunks, number.get())
     }
 
@@ -238,8 +236,6 @@ impl FreeListAllocator {
         ensures rows { IfOk result (λ v. map row_of v.items ≡ map extent_row self.now.extents) }
         ensures cause { IfErr result (λ e. e ≡ HostOutOfMemory) }
     {
-        // a field that is read is known to be a u64
-        let _size = self.size;
         let rows = rows_of(self.alloc, &self.chunks)?;
         Ok(rows)
     }

@@ -14,7 +14,7 @@ found_whole size c number w one =
 
 pub returns-in-Some : goal.returns-in-Some
 returns-in-Some c =
-    let whole : IsWholeChunk c.self.inside.size c.in-Some.chunk = rw c.in-Some.is at c.self.invariant.1 in
+    let whole : IsWholeChunk c.self.inside.size c.in-Some.chunk = rw c.in-Some.is at c.self.invariant.2 in
     let one : non_zero_u64_get c.args.number ≡ 1 = sym c.get.ensures.value ∙ c.if-get-eq1.true in
     let found : FindsPlace (held_extents (record { size = c.self.inside.size; piece = option_map extent c.self.inside.piece })) (non_zero_u64_get c.args.number) (Some (0, c.in-Some.chunk.size)) =
     rw c.in-Some.is (found_whole c.self.inside.size c.in-Some.chunk (non_zero_u64_get c.args.number) whole one) in

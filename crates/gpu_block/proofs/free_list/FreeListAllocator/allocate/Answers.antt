@@ -88,12 +88,12 @@ the_whole c n e is =
 pub invariant_of-self-then-rest-2 : goal.invariant_of-self-then-rest-2
 invariant_of-self-then-rest-2 c =
     let s = the_rest ((goal.at.invariant_of-self-then-rest-2 c).In_ok-number) c.in_ok-number.number refl c.if-rest-2.true in
-    (c.self.invariant.0, s.are, s.separated)
+    (c.self.invariant.0, s.are, s.separated, c.self.invariant.3)
 
 pub invariant_of-self-else-rest-2 : goal.invariant_of-self-else-rest-2
 invariant_of-self-else-rest-2 c =
     let s = the_whole ((goal.at.invariant_of-self-else-rest-2 c).In_ok-number) c.in_ok-number.number refl c.if-rest-2.false in
-    (c.self.invariant.0, s.are, s.separated)
+    (c.self.invariant.0, s.are, s.separated, c.self.invariant.3)
 
 pub non_zero-requires : goal.non_zero-requires
 non_zero-requires c =

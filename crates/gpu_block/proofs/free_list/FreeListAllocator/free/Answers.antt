@@ -27,7 +27,7 @@ returns-in_default-position_of-clause-not_live c =
     (subst (λ (b : FreeList). SomeExtent b (λ x. x.number ≡ non_zero_u64_get c.in-Some.number) → ⊥) c.self.view_is (none_live i.size i.granularity i.counter i.chunks.items (non_zero_u64_get c.in-Some.number) none))
 
 pub invariant_of-self : goal.invariant_of-self
-invariant_of-self c = (c.self.invariant.0, (the_release c).are, releases_separated (free_list_of c.self.inside.size c.self.inside.granularity c.self.inside.counter c.self.inside.chunks.items) (non_zero_u64_get c.in-Some.number) (free_list_of c.self.inside.size c.self.inside.granularity c.self.inside.counter c.release.new.chunks.items) c.self.invariant.2 (the_release c).releases)
+invariant_of-self c = (c.self.invariant.0, (the_release c).are, releases_separated (free_list_of c.self.inside.size c.self.inside.granularity c.self.inside.counter c.self.inside.chunks.items) (non_zero_u64_get c.in-Some.number) (free_list_of c.self.inside.size c.self.inside.granularity c.self.inside.counter c.release.new.chunks.items) c.self.invariant.2 (the_release c).releases, c.self.invariant.3)
 
 pub returns-clause-freed : goal.returns-clause-freed
 returns-clause-freed c =

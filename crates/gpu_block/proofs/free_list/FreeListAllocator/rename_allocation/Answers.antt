@@ -22,7 +22,7 @@ pub invariant_of-self : goal.invariant_of-self
 invariant_of-self c =
     let i = c.self.inside in
     let r = the_rename c in
-    (c.self.invariant.0, r.are, renames_separated (free_list_of i.size i.granularity i.counter i.chunks.items) (non_zero_u64_get c.in-Some.number) c.args.name.now (free_list_of i.size i.granularity i.counter c.name_at.new.chunks.items) c.self.invariant.2 r.renames)
+    (c.self.invariant.0, r.are, renames_separated (free_list_of i.size i.granularity i.counter i.chunks.items) (non_zero_u64_get c.in-Some.number) c.args.name.now (free_list_of i.size i.granularity i.counter c.name_at.new.chunks.items) c.self.invariant.2 r.renames, c.self.invariant.3)
 
 pub returns-clause-renamed : goal.returns-clause-renamed
 returns-clause-renamed c =
