@@ -134,7 +134,7 @@ impl DedicatedBlockAllocator {
     }
 
     /// The offset and the size in bytes of the piece, if one is held and that is its number.
-    pub fn place_of(&self, number: NonZeroU64) -> Option<(u64, u64)>
+    pub(crate) fn place_of(&self, number: NonZeroU64) -> Option<(u64, u64)>
         ensures { FindsPlace (held_extents self.now) (non_zero_u64_get number) result }
     {
         match &self.piece {
@@ -144,7 +144,7 @@ impl DedicatedBlockAllocator {
     }
 
     /// The size of the block in bytes.
-    pub fn size(&self) -> u64
+    pub(crate) fn size(&self) -> u64
         ensures { result ≡ self.now.size }
     {
         self.size

@@ -211,14 +211,14 @@ impl FreeListAllocator {
     }
 
     /// The offset and the size in bytes of the live piece with that number.
-    pub fn place_of(&self, number: NonZeroU64) -> Option<(u64, u64)>
+    pub(crate) fn place_of(&self, number: NonZeroU64) -> Option<(u64, u64)>
         ensures { FindsPlace self.now.extents (non_zero_u64_get number) result }
     {
         place_of(&self.chunks, number.get())
     }
 
     /// The size of the block in bytes.
-    pub fn size(&self) -> u64
+    pub(crate) fn size(&self) -> u64
         ensures { result ≡ self.now.size }
     {
         self.size

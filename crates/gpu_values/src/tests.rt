@@ -128,6 +128,13 @@ fn errors_print_the_text_and_the_code_of_their_fault(rt: HostRuntime) -> Result<
         code: Some(-2005270523),
     };
     check_text(&rt, rt.alloc(), &null, "Returned mapped pointer is null")?;
+    let fault = internal_fault("Memory block must be Some.");
+    check_text(
+        &rt,
+        rt.alloc(),
+        &fault,
+        "Internal error: Memory block must be Some.",
+    )?;
     for (error, want) in [
         (
             AllocationError::FailedToMap(null),
