@@ -1,5 +1,4 @@
-// One block of GPU memory, with no memory of a device at hand: which piece lies where, and what reports and leaks say of
-// it.
+// One block of GPU memory: which piece lies where, and what reports and leaks say of it. It holds no memory of a device.
 #![tactic(auto)]
 
 mod chunk;
