@@ -2,8 +2,8 @@
 use Rattle.std.proofs.Common.{◌≡◌, ◌∙◌, sym, ap, subst, refl, inl, inr, ℕ, ◌<◌, ◌≤◌, false, None, Some, Err, Result, slice_get, slice_set}
 use Rattle.gpu_core.specs.Refusal.{out_of_memory, host_out_of_memory}
 use Rattle.gpu_core.specs.TypeState.{TypeState}
-use Rattle.gpu_core.specs.declared.error.AllocationError.{AllocationError}
-use Rattle.gpu_core.specs.declared.error.AllocationError.TheVariants.{OutOfMemory, HostOutOfMemory}
+use Rattle.gpu_values.specs.declared.error.AllocationError.{AllocationError}
+use Rattle.gpu_values.specs.declared.error.AllocationError.TheVariants.{OutOfMemory, HostOutOfMemory}
 use Rattle.gpu_core.specs.declared.memory_type.Piece.{Piece}
 use Rattle.gpu_device.specs.declared.vulkan.device.VulkanDevice.{Ghosts}
 use Rattle.gpu_device.specs.declared.vulkan.types.DeviceMemory.{DeviceMemory}

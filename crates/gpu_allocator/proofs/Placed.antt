@@ -2,7 +2,7 @@
 use Rattle.std.proofs.Common.{◌≡◌, ◌≢◌, ◌∙◌, ◌⊎◌, refl, sym, ap, subst, ℕ, zero, suc, ◌<◌, ◌≤◌, Bool, true, false, cond, nat_lt, List, [], ◌∷◌, ◌++◌, length, slice_set, Option, Some, None, arith, inl, inr, ⊎_elim}
 use Rattle.std.specs.Option.{unwrap_or}
 use Rattle.std.proofs.lemmas.Bool.{cases_eq}
-use Rattle.gpu_core.proofs.Keyed.{lt_true, lt_false}
+use Rattle.gpu_block.proofs.Keyed.{lt_true, lt_false}
 use Rattle.gpu_core.specs.Slots.{IsEmptyAt}
 use Rattle.gpu_core.specs.Request.{Request}
 use Rattle.gpu_core.specs.TypeState.{Slot, slot_at, lowest_empty, highest_empty}

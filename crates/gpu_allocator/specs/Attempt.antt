@@ -4,7 +4,7 @@ use Rattle.std.specs.Option.{unwrap_or}
 use Rattle.gpu_core.specs.Refusal.{Refusal, refusal_of, out_of_memory, host_out_of_memory}
 use Rattle.gpu_core.specs.TypeState.{TypeState, Slot}
 use Rattle.gpu_core.specs.TypeTake.{Ready, has_own_block, PreparesPiece, NeedsBlock, Installs}
-use Rattle.gpu_core.specs.declared.error.AllocationError.{AllocationError}
+use Rattle.gpu_values.specs.declared.error.AllocationError.{AllocationError}
 use Rattle.gpu_core.specs.declared.memory_type.Piece.{Piece}
 use Rattle.gpu_device.specs.declared.vulkan.device.VulkanDevice.{Ghosts}
 use Rattle.gpu_device.specs.declared.vulkan.types.DeviceMemory.{DeviceMemory}

@@ -3,7 +3,7 @@ use Rattle.std.specs.Prelude.{◌≡◌, ◌≢◌, ℕ, ℤ, negsuc, Bool, true
 use Rattle.std.specs.FinMap.{get, insert}
 use Rattle.std.specs.Ordering.{int_eq}
 use Rattle.gpu_core.specs.Refusal.{Refusal, refusal_of, out_of_memory, failed_to_map, internal}
-use Rattle.gpu_core.specs.declared.error.AllocationError.{AllocationError}
+use Rattle.gpu_values.specs.declared.error.AllocationError.{AllocationError}
 use Rattle.gpu_device.specs.Held.{Held, new_entry, mapped_with, raised}
 use Rattle.gpu_device.specs.declared.vulkan.device.VulkanDevice.{Ghosts}
 use Rattle.gpu_device.specs.declared.vulkan.types.DeviceMemory.{DeviceMemory}

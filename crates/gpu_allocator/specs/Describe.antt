@@ -1,8 +1,8 @@
 -- What a description of an allocation asks of a memory type.
 use Rattle.std.specs.Prelude.{Bool, true, false, if◌then◌else◌}
 use Rattle.gpu_core.specs.Request.{Request}
-use Rattle.gpu_core.specs.declared.allocation_type.AllocationType.{AllocationType}
-use Rattle.gpu_core.specs.declared.allocation_type.AllocationType.TheVariants.{Linear, NonLinear}
+use Rattle.gpu_values.specs.declared.allocation_type.AllocationType.{AllocationType}
+use Rattle.gpu_values.specs.declared.allocation_type.AllocationType.TheVariants.{Linear, NonLinear}
 use Rattle.gpu_device.specs.declared.vulkan.types.AllocationScheme.{AllocationScheme}
 use Rattle.gpu_device.specs.declared.vulkan.types.AllocationScheme.TheVariants.{DedicatedBuffer, DedicatedImage, GpuAllocatorManaged}
 use Rattle.gpu_allocator.specs.declared.vulkan.describe.AllocationCreateDesc.{AllocationCreateDesc}

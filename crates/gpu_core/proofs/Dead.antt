@@ -5,7 +5,8 @@ use Rattle.std.specs.Option.{option_to_list}
 use Rattle.std.specs.Int.NonZero.{non_zero_u64_get}
 use Rattle.std.specs.declared.num.NonZeroU64.{NonZeroU64}
 use Rattle.gpu_core.specs.FreeList.{Extent, FreeList}
-use Rattle.gpu_core.specs.Refusal.{Refusal, internal, host_out_of_memory, rename_fault}
+use Rattle.gpu_core.specs.Refusal.{Refusal, internal, host_out_of_memory}
+use Rattle.gpu_core.specs.BlockRefusal.{rename_fault}
 use Rattle.gpu_core.specs.Dedicated.{Dedicated, IsWhole, IsNotHeld}
 use Rattle.gpu_core.specs.Block.{Block, free_list, dedicated, extents_of, HoldsPiece, IsSoundBlock, IsReleaseRefusalIn, IsRenameRefusalIn}
 use Rattle.gpu_core.specs.TypeState.{Slot}

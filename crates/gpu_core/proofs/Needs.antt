@@ -1,16 +1,17 @@
 -- A fresh block serves the request that it was made for.
 use Rattle.std.proofs.Common.{◌≡◌, ℕ, ◌<◌, ◌≤◌, Bool, true, false, not, Option, Some, None, refl, inl, inr, arith, sym, ◌∙◌}
-use Rattle.gpu_core.specs.declared.error.AllocationError.{AllocationError}
-use Rattle.gpu_core.specs.declared.error.AllocationError.TheVariants as errors
-use Rattle.gpu_core.specs.Refusal.{refusal_of, host_out_of_memory, IsTakeRefusal}
+use Rattle.gpu_values.specs.declared.error.AllocationError.{AllocationError}
+use Rattle.gpu_values.specs.declared.error.AllocationError.TheVariants as errors
+use Rattle.gpu_core.specs.Refusal.{refusal_of, host_out_of_memory}
+use Rattle.gpu_core.specs.BlockRefusal.{IsTakeRefusal}
 use Rattle.gpu_core.specs.Request.{Request}
 use Rattle.gpu_core.specs.Place.{HasNoPlace}
 use Rattle.gpu_core.specs.FreeList.{fresh_free_list}
 use Rattle.std.specs.Prelude.{IsNone}
 use Rattle.gpu_core.specs.Block.{Block, free_list, dedicated, size_of, is_general, TakesIn, IsTakeRefusalIn}
 use Rattle.gpu_core.specs.TypeTake.{fresh_block}
-use Rattle.gpu_core.proofs.Determined.{chosen_once}
-use Rattle.gpu_core.proofs.Empty.{empty_chosen, empty_has_place}
+use Rattle.gpu_block.proofs.Determined.{chosen_once}
+use Rattle.gpu_block.proofs.Empty.{empty_chosen, empty_has_place}
 use Rattle.gpu_core.proofs.Kept.{takes_same}
 use Rattle.std.proofs.lemmas.Bool.{false≢true}
 

@@ -1,9 +1,10 @@
 -- What a memory type shows of its blocks and pieces: leaks, and what it adds to a report.
 use Rattle.std.specs.Prelude.{ℕ, ◌+◌, List, [], ◌∷◌, ◌++◌, map, length, Option, Some, None}
-use Rattle.gpu_core.specs.declared.report.MemoryBlockReport.{MemoryBlockReport}
+use Rattle.gpu_values.specs.declared.report.MemoryBlockReport.{MemoryBlockReport}
 use Rattle.gpu_core.specs.Block.{Block, extents_of, size_of, allocated_bytes}
 use Rattle.gpu_core.specs.Leak.{LeakOf, leaks_of}
-use Rattle.gpu_core.specs.Report.{Row, Report, extent_row}
+use Rattle.gpu_core.specs.Report.{Row, Report}
+use Rattle.gpu_core.specs.Rows.{extent_row}
 use Rattle.gpu_core.specs.TypeState.{Slot, slots_sum, capacity_of}
 
 -- ---- leaks

@@ -2,8 +2,8 @@
 use Rattle.std.specs.Prelude.{◌≡◌, ℕ, ◌<◌, ◌^◌, List, [], ◌∷◌, Option, Some, None, Bool, true, false, codes, string_bytes, IsTrue}
 use Rattle.std.specs.Int.{is_power_of_two}
 use Rattle.std.specs.Fmt.{decimal}
-use Rattle.gpu_core.specs.declared.allocation_type.AllocationType.{AllocationType}
-use Rattle.gpu_core.specs.declared.allocation_type.AllocationType.TheVariants as types
+use Rattle.gpu_values.specs.declared.allocation_type.AllocationType.{AllocationType}
+use Rattle.gpu_values.specs.declared.allocation_type.AllocationType.TheVariants as types
 use Rattle.gpu_session.specs.declared.block.command.Side.{Side}
 use Rattle.gpu_session.specs.declared.block.command.Side.TheVariants.{Device, Host}
 use Rattle.gpu_session.specs.declared.block.command.Kind.{Kind}

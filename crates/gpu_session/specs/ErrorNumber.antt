@@ -1,7 +1,7 @@
 -- The numbers of errors in a trace.
 use Rattle.std.specs.Prelude.{ℕ, List, codes}
-use Rattle.gpu_core.specs.declared.error.AllocationError.{AllocationError}
-use Rattle.gpu_core.specs.declared.error.AllocationError.TheVariants as errors
+use Rattle.gpu_values.specs.declared.error.AllocationError.{AllocationError}
+use Rattle.gpu_values.specs.declared.error.AllocationError.TheVariants as errors
 use Rattle.gpu_session.specs.declared.error_number.ErrorNumber.{ErrorNumber}
 use Rattle.gpu_session.specs.declared.error_number.ErrorNumber.TheVariants.{E1, E2, E3, E4, E5, E6, E7, E8, E9, E10}
 

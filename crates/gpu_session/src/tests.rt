@@ -77,9 +77,18 @@ fn traces_are_answered(rt: HostRuntime) {
 
 // ---- bad lines
 
+/// Runs a trace whose fourth line is this one, which is bad: the line behind it isn't run.
+fn check_bad(rt: &impl Abort, alloc: Global, line: &str) -> Result<(), Fail> {
+    let mut input = Vec::new(alloc);
+    input.extend_from_slice(b"block host 4194304 4194304 0 1\n\n# a remark\n")?;
+    input.extend_from_slice(line.as_bytes())?;
+    input.extend_from_slice(b"\ngive 7\n")?;
+    check(rt, alloc, &input, "block 4194304\nbad line 4\n", 2);
+    Ok(())
+}
+
 #[test]
-fn a_bad_line_ends_the_trace(rt: HostRuntime) -> Result<(), Fail> {
-    let alloc = rt.alloc();
+fn a_bad_take_ends_the_trace(rt: HostRuntime) -> Result<(), Fail> {
     for line in [
         "take 1 1 1  linear a",
         " take 1 1 1 linear a",
@@ -97,6 +106,15 @@ fn a_bad_line_ends_the_trace(rt: HostRuntime) -> Result<(), Fail> {
         "take 18446744073709551616 1 1 linear a",
         "take 1 18446744073709551616 1 linear a",
         "take 1 1 1 linear aaaaaaaaaaaaaaaaaaaaaaaaaaaaaaaaaaaaaaaaaaaaaaaaaaaaaaaaaaaaaaaaa",
+    ] {
+        check_bad(&rt, rt.alloc(), line)?;
+    }
+    Ok(())
+}
+
+#[test]
+fn a_bad_line_ends_the_trace(rt: HostRuntime) -> Result<(), Fail> {
+    for line in [
         "give",
         "give 01",
         "give 1 2",
@@ -108,12 +126,13 @@ fn a_bad_line_ends_the_trace(rt: HostRuntime) -> Result<(), Fail> {
         " # no remark",
         "# \u{e9}",
     ] {
-        let mut input = Vec::new(alloc);
-        input.extend_from_slice(b"block host 4194304 4194304 0 1\n\n# a remark\n")?;
-        input.extend_from_slice(line.as_bytes())?;
-        input.extend_from_slice(b"\ngive 7\n")?;
-        check(&rt, alloc, &input, "block 4194304\nbad line 4\n", 2);
+        check_bad(&rt, rt.alloc(), line)?;
     }
+    Ok(())
+}
+
+#[test]
+fn a_bad_first_line_is_answered_alone(rt: HostRuntime) {
     for line in [
         "take 1 1 1 linear a",
         "give 1",
@@ -125,9 +144,8 @@ fn a_bad_line_ends_the_trace(rt: HostRuntime) -> Result<(), Fail> {
         "heap 1073741824",
         "new",
     ] {
-        check(&rt, alloc, line.as_bytes(), "bad line 1\n", 2);
+        check(&rt, rt.alloc(), line.as_bytes(), "bad line 1\n", 2);
     }
-    Ok(())
 }
 
 #[test]

@@ -6,7 +6,7 @@ ghost use Rattle.gpu_core.specs.Request.{request};
 ghost use Rattle.gpu_core.specs.SubAllocator.{block_of};
 ghost use Rattle.gpu_core.specs.Block.{size_of, is_general, TakesIn, HoldsPiece, HasPages, IsSoundBlock};
 ghost use Rattle.gpu_core.specs.TypeTake.{fresh_block, asked};
-ghost use Rattle.gpu_core.specs.declared.error.AllocationError.TheVariants.{HostOutOfMemory};
+ghost use Rattle.gpu_values.specs.declared.error.AllocationError.TheVariants.{HostOutOfMemory};
 
 use super::Request;
 use crate::{AllocationType, DedicatedBlockAllocator, FreeListAllocator, Result, SubAllocator};

@@ -1,7 +1,7 @@
 //! What a memory type adds to a report.
 
 ghost use Rattle.std.specs.Prelude.{◌≡◌, ◌+◌, ◌++◌, ◌^◌, ◌<◌, ◌≤◌, [], ◌∷◌, length, map, Some, IfErr, OnOk};
-ghost use Rattle.gpu_core.specs.declared.error.AllocationError.TheVariants.{HostOutOfMemory};
+ghost use Rattle.gpu_values.specs.declared.error.AllocationError.TheVariants.{HostOutOfMemory};
 ghost use Rattle.gpu_core.specs.SubAllocator.{block_of};
 ghost use Rattle.gpu_core.specs.Block.{size_of};
 ghost use Rattle.gpu_core.specs.Report.{report_of, row_of};

@@ -4,7 +4,7 @@ ghost use Rattle.std.specs.Prelude.{◌≡◌, ◌≢◌, ℕ, ◌<◌, ◌+◌,
 ghost use Rattle.std.specs.Option.{option_map};
 ghost use Rattle.std.specs.Int.{is_power_of_two};
 ghost use Rattle.std.specs.Int.NonZero.{non_zero_u64_get};
-ghost use Rattle.gpu_core.specs.declared.error.AllocationError.TheVariants.{HostOutOfMemory};
+ghost use Rattle.gpu_values.specs.declared.error.AllocationError.TheVariants.{HostOutOfMemory};
 ghost use Rattle.gpu_core.specs.TypeState.{Slot};
 ghost use Rattle.gpu_core.specs.TypeTake.{asked, CannotServe};
 ghost use Rattle.gpu_core.specs.Refusal.{refusal_of};
@@ -15,8 +15,8 @@ ghost use Rattle.gpu_core.specs.TypeRelease.{SlotHolds, IsFreeRefusal, IsNameRef
 ghost use Rattle.gpu_core.specs.Slots.{slot_of, SlotTakes, SlotIsSound, Finds, Settles, gone_number, gone_size, gone_shared};
 
 use super::{Piece, Request};
-use crate::error::internal_fault;
 use crate::{AllocationError, AllocationType, Result, SubAllocator};
+use gpu_values::internal_fault;
 use std::num::NonZeroU64;
 
 /// A live block: the device's number of it, and its pieces.

@@ -4,7 +4,7 @@ ghost use Rattle.std.specs.Prelude.{◌≡◌, ◌≢◌, ℕ, ◌+◌, ◌^◌,
 ghost use Rattle.std.specs.Int.{is_power_of_two};
 ghost use Rattle.std.specs.List.{position};
 ghost use Rattle.std.specs.Option.{is_none, is_some};
-ghost use Rattle.gpu_core.specs.declared.error.AllocationError.TheVariants.{HostOutOfMemory};
+ghost use Rattle.gpu_values.specs.declared.error.AllocationError.TheVariants.{HostOutOfMemory};
 ghost use Rattle.gpu_core.specs.SubAllocator.{block_of};
 ghost use Rattle.gpu_core.specs.Block.{is_general};
 ghost use Rattle.std.specs.Int.NonZero.{non_zero_u64_get};
@@ -16,8 +16,8 @@ ghost use Rattle.gpu_core.specs.Slots.{slot_of, slots_of, AreSound, IsEmptyAt, g
 
 use super::slot::{Gone, LiveBlock, release, rename, take_in};
 use super::{Piece, Request};
-use crate::error::internal_fault;
 use crate::{AllocationType, Result};
+use gpu_values::internal_fault;
 
 /// Takes a piece of the highest shared block that has a place, or answers `None` where none has. The only refusal is
 /// `HostOutOfMemory`.

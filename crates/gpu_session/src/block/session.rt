@@ -56,7 +56,7 @@ impl BlockSession {
     ghost use Rattle.std.specs.Prelude.{◌≡◌, ◌<◌, IsTrue, IfOk, IfErr};
     ghost use Rattle.std.specs.Int.{is_power_of_two};
     ghost use Rattle.gpu_core.specs.Request.{request};
-    ghost use Rattle.gpu_core.specs.declared.error.AllocationError.TheVariants.{HostOutOfMemory};
+    ghost use Rattle.gpu_values.specs.declared.error.AllocationError.TheVariants.{HostOutOfMemory};
     ghost use Rattle.gpu_session.specs.BlockCommand.{type_of_kind};
     ghost use Rattle.gpu_session.specs.BlockSession.{unused, Taking, Giving, Reporting};
 

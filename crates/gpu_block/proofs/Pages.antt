@@ -1,0 +1,103 @@
+-- Rounding up, and the page rule on the left of a gap.
+use Rattle.std.proofs.Common.{◌≡◌, ◌≢◌, ℕ, ◌+◌, ◌-◌, ◌*◌, ◌/◌, ◌%◌, ◌^◌, ◌<◌, ◌≤◌, Option, Some, None, MatchOption, inl, inr, arith}
+use Rattle.std.specs.Option.{SomeIff}
+use Rattle.std.proofs.lemmas.Nat.{div-add-mod', mul-le, mod_below, le-div}
+use Rattle.std.proofs.Math.Nat.{div-mul-le_self, lt-div-mul-add, mul-mod_left, mod_self, sub-zero, mod-eq_of_lt}
+use Rattle.std.proofs.lemmas.Bool.{cases_eq, cases_lt}
+use Rattle.std.specs.Int.{next_multiple_of}
+use Rattle.gpu_block.specs.Place.{page, MayBegin, IsOffsetIn}
+
+-- y is the least multiple of m that is x or more
+pub record IsRoundedUp (m x y : ℕ) : Type 0 where
+  pub up : x ≤ y
+  pub near : y < x + m
+  pub multiple : y % m ≡ 0
+  pub least : (o : ℕ) → x ≤ o → o % m ≡ 0 → y ≤ o
+
+-- a multiple above q * m is at least the next one
+pub next_multiple_above : (m o q : ℕ) → 0 < m → o % m ≡ 0 → q * m < o → (q + 1) * m ≤ o
+next_multiple_above m o q pos e lt =
+    let whole = div-add-mod' o m in
+    elim (cases_lt q (o / m)) [
+      | inl above ↦ let step : (q + 1) * m ≤ o / m * m = mul-le (q + 1) m (o / m) m (omega arith) (omega arith) in omega arith
+      | inr below ↦ let step : o / m * m ≤ q * m = mul-le (o / m) m q m below (omega arith) in absurd (omega arith)
+    ]
+
+pub next_up : (x m : ℕ) → 0 < m → IsRoundedUp m x (next_multiple_of x m)
+next_up x m pos =
+    let below : x % m < m = mod_below x m pos in
+    let whole = div-add-mod' x m in
+    elim (cases_eq (x % m) 0) [
+      | inl e ↦
+          let inner : (m - x % m) % m ≡ 0 = rw (e, sub-zero) (mod_self m) in
+          let same : next_multiple_of x m ≡ x = omega arith in
+          rw same (record { up = omega arith; near = omega arith; multiple = e; least = λ o le _. le })
+      | inr ne ↦
+          let inner : (m - x % m) % m ≡ m - x % m = mod-eq_of_lt (omega arith) in
+          let next : (x / m + 1) * m ≡ x / m * m + m = omega arith in
+          let same : next_multiple_of x m ≡ (x / m + 1) * m = omega arith in
+          rw same (record { up = omega arith; near = omega arith; multiple = mul-mod_left (x / m + 1) m; least = λ o le e. next_multiple_above m o (x / m) pos e (omega arith) })
+    ]
+
+-- `first` is the least place from s on where a piece may begin but for its alignment
+pub record IsFirst (g : ℕ) (Other : Type 0) (s first : ℕ) : Type 0 where
+  pub low : (o : ℕ) → s ≤ o → (Other → page g o ≢ page g (s - 1)) → first ≤ o
+  pub back : (o : ℕ) → first ≤ o → (s ≤ o) × (Other → page g o ≢ page g (s - 1))
+
+pub first_here : (g : ℕ) (Other : Type 0) (s : ℕ) → (Other → ⊥) → IsFirst g Other s s
+first_here g Other s none = record { low = λ o le _. le; back = λ o le. (le, λ other _. none other) }
+
+pub page_mono : (g a b : ℕ) → 0 < g → a ≤ b → page g a ≤ page g b
+page_mono g a b pos le = le-div (a / g) b g pos (omega (arith, div-mul-le_self a g))
+
+pub first_next : (g : ℕ) (Other : Type 0) (s : ℕ) → 0 < g → 0 < s → Other → IsFirst g Other s (next_multiple_of s g)
+first_next g Other s pos behind other =
+    let r = next_up s g pos in
+    let p = (s - 1) / g in
+    let under : p * g ≤ s - 1 = div-mul-le_self (s - 1) g in
+    let over : s - 1 < p * g + g = lt-div-mul-add pos in
+    let step : (p + 1) * g ≡ p * g + g = omega arith in
+    record {
+      low = λ o le apart.
+          let ne : page g o ≢ p = apart other in
+          let up : p ≤ page g o = page_mono g (s - 1) o pos (omega arith) in
+          let more : (p + 1) * g ≤ o / g * g = mul-le (p + 1) g (o / g) g (omega arith) (omega arith) in
+          let whole = div-mul-le_self o g in
+          let at : next_multiple_of s g ≤ (p + 1) * g = r.least ((p + 1) * g) (omega arith) (mul-mod_left (p + 1) g) in
+          omega arith;
+      back = λ o le.
+          let from : s ≤ o = let u = r.up in omega arith in
+          let more : (p + 1) * g ≤ next_multiple_of s g = next_multiple_above g (next_multiple_of s g) p pos r.multiple (let u = r.up in omega arith) in
+          let page_over : p + 1 ≤ o / g = le-div (p + 1) o g pos (omega arith) in
+          (from, λ _ e. absurd (omega arith));
+    }
+
+pub offset_some : (g a : ℕ) (Other : Type 0) (s first v : ℕ) → 0 < a → IsFirst g Other s first → v ≡ next_multiple_of first a → IsOffsetIn g a Other s v
+offset_some g a Other s first v pos f e =
+    let r = next_up first a pos in
+    let b = f.back v (let u = r.up in omega arith) in
+    record {
+      begins = record { after = b.0; aligned = rw e r.multiple; apart = b.1 };
+      least = λ o m. let l = r.least o (f.low o m.after m.apart) m.aligned in omega arith;
+    }
+
+pub offset_none : (g a : ℕ) (Other : Type 0) (s first : ℕ) → 0 < a → IsFirst g Other s first → ((0 < a) × (next_multiple_of first a < 2 ^ 64) → ⊥) → (o : ℕ) → MayBegin g a Other s o → 2 ^ 64 ≤ o
+offset_none g a Other s first pos f refused o m =
+    let r = next_up first a pos in
+    let l = r.least o (f.low o m.after m.apart) m.aligned in
+    elim (cases_lt (next_multiple_of first a) (2 ^ 64)) [
+      | inl lt ↦ absurd (refused (pos, lt))
+      | inr ge ↦ omega arith
+    ]
+
+pub offset_of_result : (g a : ℕ) (Other : Type 0) (s first : ℕ) (r : Option ℕ) → 0 < a → IsFirst g Other s first → SomeIff r ((0 < a) × (next_multiple_of first a < 2 ^ 64)) (next_multiple_of first a) → MatchOption r ((o : ℕ) → MayBegin g a Other s o → 2 ^ 64 ≤ o) (λ o. IsOffsetIn g a Other s o)
+offset_of_result g a Other s first None pos f h = offset_none g a Other s first pos f h
+offset_of_result g a Other s first (Some v) pos f h = offset_some g a Other s first v pos f h.1
+
+pub no_first : (g a : ℕ) (Other : Type 0) (s : ℕ) → 0 < g → 0 < s → Other → ((0 < g) × (next_multiple_of s g < 2 ^ 64) → ⊥) → (o : ℕ) → MayBegin g a Other s o → 2 ^ 64 ≤ o
+no_first g a Other s pos behind other refused o m =
+    let l = (first_next g Other s pos behind other).low o m.after m.apart in
+    elim (cases_lt (next_multiple_of s g) (2 ^ 64)) [
+      | inl lt ↦ absurd (refused (pos, lt))
+      | inr ge ↦ omega arith
+    ]

@@ -1,0 +1,19 @@
+use Rattle.std.proofs.Common.{IsTrue, sym, ◌∙◌}
+use Rattle.std.proofs.lemmas.Bool.{false≢true}
+use Rattle.gpu_block.proofs.Pages.{IsFirst, first_here, first_next, offset_of_result, no_first}
+use Rattle.gpu_block.proofs.free_list.place.offset_from.Goals as goal
+use Rattle.gpu_block.proofs.free_list.place.offset_from.Goals.{then-other+in_ok-first, else-other}
+
+pub returns-in_err-first : goal.returns-in_err-first
+returns-in_err-first c =
+    rw c.from_residual.ensures (no_first c.args.granularity c.args.alignment (IsTrue c.args.other) c.args.start c.requires.paged (c.requires.behind c.if-other.true) c.if-other.true c.in_err-first.ensures)
+
+pub returns : goal.returns
+returns c =
+    let a = c.args in
+    let first : IsFirst a.granularity (IsTrue a.other) a.start c.if-other.first =
+    elim c.if-other.branch [
+      | then-other+in_ok-first w ↦ rw (w.first-is, w.in_ok-first.ensures.1) (first_next a.granularity (IsTrue a.other) a.start c.requires.paged (c.requires.behind w.if-other.true) w.if-other.true)
+      | else-other w ↦ rw w.first-is (first_here a.granularity (IsTrue a.other) a.start (λ t. false≢true (sym w.if-other.false ∙ t)))
+    ] in
+    offset_of_result a.granularity a.alignment (IsTrue a.other) a.start c.if-other.first c.checked_next_multiple_of-2.result c.requires.aligned first c.checked_next_multiple_of-2.ensures

@@ -1,0 +1,9 @@
+use Rattle.std.proofs.Common.{◌≡◌, length}
+use Rattle.gpu_block.specs.Chunks.{extents_of}
+use Rattle.gpu_block.proofs.leaks.first_piece.Given as goal
+
+abbrev pub invariant-loop-chunk : goal.invariant-loop-chunk
+invariant-loop-chunk l = extents_of l.rest ≡ extents_of l.chunks
+
+abbrev pub decreases-loop-chunk : goal.decreases-loop-chunk
+decreases-loop-chunk l = length l.rest

@@ -1,0 +1,108 @@
+-- A block of memory: one that is cut into pieces, or one that is one piece's own.
+use Rattle.std.specs.Prelude.{◌≡◌, ℕ, ◌+◌, Contains, List, Bool, true, false, Option, IfSome}
+use Rattle.std.specs.Int.NonZero.{non_zero_u64_get}
+use Rattle.std.specs.declared.num.NonZeroU64.{NonZeroU64}
+use Rattle.gpu_values.specs.declared.error.AllocationError.{AllocationError}
+use Rattle.gpu_block.specs.FreeList.{Extent, FreeList, SomeExtent, IsGap, extent_bytes}
+use Rattle.gpu_block.specs.Request.{Request}
+use Rattle.gpu_block.specs.Changes.{Takes, Releases, Renames}
+use Rattle.gpu_values.specs.Refusal.{Refusal, refusal_of}
+use Rattle.gpu_block.specs.BlockRefusal.{IsTakeRefusal, release_refusal, IsRenameRefusal}
+use Rattle.gpu_block.specs.Dedicated.{Dedicated, held_extents, IsWhole, DedicatedTakes, IsDedicatedTakeRefusal, DedicatedReleases, IsDedicatedReleaseRefusal, DedicatedRenames, IsDedicatedRenameRefusal}
+use Rattle.gpu_block.specs.Laws.{IsSound, IsPageSeparated, IsLongEnough, IsForNumbers, IsCovered}
+
+-- either form
+pub data Block : Type 0 where
+  free_list : FreeList → Block
+  dedicated : Dedicated → Block
+
+-- the live pieces, in the order of their starts
+abbrev pub extents_of : Block → List Extent
+extents_of (free_list b) = b.extents
+extents_of (dedicated b) = held_extents b
+
+-- its size in bytes
+abbrev pub size_of : Block → ℕ
+size_of (free_list b) = b.size
+size_of (dedicated b) = b.size
+
+-- the block has a live piece of that number, offset and size
+abbrev pub HoldsPiece : Block → (number offset size : ℕ) → Type 0
+HoldsPiece b number offset size = (x : Extent) × Contains (extents_of b) x × (x.number ≡ number) × (x.offset ≡ offset) × (x.end ≡ offset + size)
+
+-- the bytes of the live pieces, padding included
+abbrev pub allocated_bytes : Block → ℕ
+allocated_bytes b = extent_bytes (extents_of b)
+
+-- whether the block serves requests of any size
+abbrev pub is_general : Block → Bool
+is_general (free_list b) = true
+is_general (dedicated b) = false
+
+-- the page size that a request names is the block's; a dedicated block has none
+abbrev pub HasPages : Block → ℕ → Type 0
+HasPages (free_list b) granularity = granularity ≡ b.granularity
+HasPages (dedicated b) granularity = Unit {0}
+
+-- ---- the changes: a block stays one of its form
+
+-- what a take leaves
+abbrev pub TakesIn : Block → Request → (offset number : ℕ) → Block → Type 0
+TakesIn (free_list old) r offset number (free_list new) = Takes old r offset number new
+TakesIn (free_list old) r offset number (dedicated new) = ⊥
+TakesIn (dedicated old) r offset number (free_list new) = ⊥
+TakesIn (dedicated old) r offset number (dedicated new) = DedicatedTakes old r offset number new
+
+-- what a release leaves
+abbrev pub ReleasesIn : Block → ℕ → Block → Type 0
+ReleasesIn (free_list old) number (free_list new) = Releases old number new
+ReleasesIn (free_list old) number (dedicated new) = ⊥
+ReleasesIn (dedicated old) number (free_list new) = ⊥
+ReleasesIn (dedicated old) number (dedicated new) = DedicatedReleases old number new
+
+-- what a new name leaves
+abbrev pub RenamesIn : Block → ℕ → List ℕ → Block → Type 0
+RenamesIn (free_list old) number name (free_list new) = Renames old number name new
+RenamesIn (free_list old) number name (dedicated new) = ⊥
+RenamesIn (dedicated old) number name (free_list new) = ⊥
+RenamesIn (dedicated old) number name (dedicated new) = DedicatedRenames old number name new
+
+-- ---- why a call is refused
+
+-- why a take is refused
+abbrev pub IsTakeRefusalIn : Block → Request → AllocationError → Type 0
+IsTakeRefusalIn (free_list b) r e = IsTakeRefusal b r e
+IsTakeRefusalIn (dedicated b) r e = IsDedicatedTakeRefusal b r (refusal_of e)
+
+-- why a release is refused
+abbrev pub IsReleaseRefusalIn : Block → Option NonZeroU64 → Refusal → Type 0
+IsReleaseRefusalIn (free_list b) id refusal =
+    (refusal ≡ release_refusal id) × IfSome id (λ n. SomeExtent b (λ x. x.number ≡ non_zero_u64_get n) → ⊥)
+IsReleaseRefusalIn (dedicated b) id refusal = IsDedicatedReleaseRefusal b id refusal
+
+-- why a new name is refused
+abbrev pub IsRenameRefusalIn : Block → Option NonZeroU64 → Refusal → Type 0
+IsRenameRefusalIn (free_list b) id refusal = IsRenameRefusal b id refusal
+IsRenameRefusalIn (dedicated b) id refusal = IsDedicatedRenameRefusal b id refusal
+
+-- ---- laws
+
+-- a free list is sound; a dedicated block's piece is the whole block, with number 1
+abbrev pub IsSoundBlock : Block → Type 0
+IsSoundBlock (free_list b) = IsSound b
+IsSoundBlock (dedicated b) = IsWhole b
+
+-- two live pieces of different kinds share no page; a dedicated block has no two
+abbrev pub HasPagesApart : Block → Type 0
+HasPagesApart (free_list b) = IsPageSeparated b
+HasPagesApart (dedicated b) = Unit {0}
+
+-- a free list's extents and gaps cover it exactly; a dedicated block has no gaps
+abbrev pub IsCoveredBlock : Block → Type 0
+IsCoveredBlock (free_list b) = IsCovered b
+IsCoveredBlock (dedicated b) = Unit {0}
+
+-- in a free list a gap that is long enough is refused for want of numbers or of host memory alone
+abbrev pub IsFitLaw : Block → Request → AllocationError → Type 0
+IsFitLaw (free_list b) r e = (s t : ℕ) → IsGap b s t → IsLongEnough b r s t → IsForNumbers b e
+IsFitLaw (dedicated b) r e = Unit {0}

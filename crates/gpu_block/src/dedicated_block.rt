@@ -1,0 +1,193 @@
+//! A block that is one piece's own.
+
+ghost use Rattle.std.specs.Prelude.{◌≡◌, ◌<◌, ◌≤◌, IfOk, OnOk, OnErr, IfErr, IfSome, IsSomeAnd, codes, None, IsTrue, ◌↔◌, ◌≢◌, [], map, true, false, ◌+◌};
+ghost use Rattle.std.specs.Int.NonZero.{non_zero_u64_get};
+ghost use Rattle.gpu_values.specs.Refusal.{refusal_of, internal};
+ghost use Rattle.gpu_values.specs.declared.error.AllocationError.TheVariants.{HostOutOfMemory};
+
+use crate::Leaks;
+use crate::chunk::Chunk;
+use crate::rows::rows_of;
+use gpu_values::{AllocationError, AllocationReport, AllocationType, Result, internal_fault};
+use std::alloc::Global;
+use std::marker::Model;
+use std::num::NonZeroU64;
+
+/// A block of memory for one piece, which has its size, offset 0 and number 1. It holds no memory of a device.
+#[derive(Drop)]
+pub struct DedicatedBlockAllocator {
+    pub(crate) alloc: Global,
+    size: u64,
+    piece: Option<Chunk>,
+}
+
+impl Model for DedicatedBlockAllocator {
+    ghost use Rattle.std.specs.Prelude.{IfSome, ◌<◌, ◌^◌};
+    ghost use Rattle.std.specs.Option.{option_map};
+    ghost use Rattle.gpu_block.specs.Dedicated.{Dedicated};
+    ghost use Rattle.gpu_block.specs.Chunks.{extent, IsWholeChunk};
+
+    ghost Value = { Dedicated };
+
+    ghost view = { λ a. record { size = a.size; piece = option_map extent a.piece } };
+
+    ghost invariant = { λ a. (0 < a.size) × (a.size < 2 ^ 64) × IfSome a.piece (IsWholeChunk a.size) };
+}
+
+impl DedicatedBlockAllocator {
+    ghost use Rattle.gpu_block.specs.FreeList.{FindsPlace, extent_bytes};
+    ghost use Rattle.gpu_block.specs.Request.{request};
+    ghost use Rattle.gpu_block.specs.Dedicated.{IsWhole, empty_dedicated, held_extents, DedicatedTakes, IsDedicatedTakeRefusal, DedicatedReleases, IsDedicatedReleaseRefusal, DedicatedRenames, IsDedicatedRenameRefusal};
+    ghost use Rattle.gpu_values.specs.Report.{row_of};
+    ghost use Rattle.gpu_block.specs.Rows.{extent_row};
+    ghost use Rattle.gpu_block.specs.Leak.{leak_of};
+
+    /// An empty block of `size` bytes.
+    pub fn new(alloc: Global, size: u64) -> Self
+        requires { 0 < size }
+        ensures { result ≡ empty_dedicated size }
+    {
+        DedicatedBlockAllocator {
+            alloc,
+            size,
+            piece: None,
+        }
+    }
+
+    /// Takes the whole block. `OutOfMemory` where it is taken, else `Internal` on another size, else
+    /// `HostOutOfMemory` where the host refused memory; a refusal leaves the block as it was.
+    pub fn allocate(
+        &mut self,
+        size: u64,
+        kind: AllocationType,
+        name: &str,
+    ) -> Result<(u64, NonZeroU64)>
+        requires piece { kind ≢ AllocationType.Free }
+        ensures took { IfOk result
+            (λ p. DedicatedTakes self.old (request size 1 kind name.now) p.0 (non_zero_u64_get p.1) self.new) }
+        ensures cause { IfErr result
+            (λ e. IsDedicatedTakeRefusal self.old (request size 1 kind name.now) (refusal_of e)) }
+        ensures refused { OnErr result (self.new ≡ self.old) }
+        ensures sound { OnOk result (IsWhole self.new) }
+    {
+        if self.piece.is_some() {
+            return Err(AllocationError::OutOfMemory);
+        }
+        if size != self.size {
+            return Err(internal_fault("DedicatedBlockAllocator size must match allocation size."));
+        }
+        let name = String::from_str(self.alloc, name)?;
+        self.piece = Some(Chunk {
+            start: 0,
+            size,
+            offset: 0,
+            kind,
+            number: 1,
+            name,
+        });
+        Ok((0, NonZeroU64::MIN))
+    }
+
+    /// Gives the piece back. It takes no memory. `Internal` where the number isn't 1, or no piece is held.
+    pub fn free(&mut self, chunk_id: Option<NonZeroU64>) -> Result<()>
+        ensures freed { OnOk result
+            (IsSomeAnd chunk_id (λ n. DedicatedReleases self.old (non_zero_u64_get n) self.new)) }
+        ensures cause { IfErr result (λ e. IsDedicatedReleaseRefusal self.old chunk_id (refusal_of e)) }
+        ensures refused { OnErr result (self.new ≡ self.old) }
+        ensures sound { OnOk result (IsWhole self.new) }
+    {
+        first(chunk_id)?;
+        if self.piece.is_none() {
+            return Err(internal_fault("Attempting to free a freed allocation."));
+        }
+        self.piece = None;
+        Ok(())
+    }
+
+    /// Gives the piece another name. `Internal` where the number isn't 1, or no piece is held, else
+    /// `HostOutOfMemory` where the host refused memory; a refusal leaves the block as it was.
+    pub fn rename_allocation(&mut self, chunk_id: Option<NonZeroU64>, name: &str) -> Result<()>
+        ensures renamed { OnOk result
+            (IsSomeAnd chunk_id (λ n. DedicatedRenames self.old (non_zero_u64_get n) name.now self.new)) }
+        ensures cause { IfErr result (λ e. IsDedicatedRenameRefusal self.old chunk_id (refusal_of e)) }
+        ensures refused { OnErr result (self.new ≡ self.old) }
+        ensures sound { OnOk result (IsWhole self.new) }
+    {
+        first(chunk_id)?;
+        match &mut self.piece {
+            None => Err(internal_fault("Attempting to rename a freed allocation.")),
+            Some(chunk) => {
+                chunk.name = String::from_str(self.alloc, name)?;
+                Ok(())
+            }
+        }
+    }
+
+    /// The bytes of the piece.
+    pub fn allocated(&self) -> u64
+        ensures sum { result ≡ extent_bytes (held_extents self.now) }
+        ensures within { result ≤ self.now.size }
+    {
+        match &self.piece {
+            None => 0,
+            Some(chunk) => chunk.size,
+        }
+    }
+
+    /// The offset and the size in bytes of the piece, if one is held and that is its number.
+    pub(crate) fn place_of(&self, number: NonZeroU64) -> Option<(u64, u64)>
+        ensures { FindsPlace (held_extents self.now) (non_zero_u64_get number) result }
+    {
+        match &self.piece {
+            Some(chunk) if number.get() == 1 => Some((0, chunk.size)),
+            _ => None,
+        }
+    }
+
+    /// The size of the block in bytes.
+    pub(crate) fn size(&self) -> u64
+        ensures { result ≡ self.now.size }
+    {
+        self.size
+    }
+
+    /// Whether no piece is held.
+    pub fn is_empty(&self) -> bool
+        ensures { IsTrue result ↔ held_extents self.now ≡ [] }
+    {
+        self.piece.is_none()
+    }
+
+    /// The piece, if one is held. The only refusal is `HostOutOfMemory`.
+    pub fn report_allocations(&self) -> Result<Vec<AllocationReport>>
+        ensures rows { IfOk result (λ v. map row_of v.items ≡ map extent_row (held_extents self.now)) }
+        ensures cause { IfErr result (λ e. e ≡ HostOutOfMemory) }
+    {
+        let rows = rows_of(self.alloc, self.piece.as_slice())?;
+        Ok(rows)
+    }
+
+    /// The piece, if one is held, in block `memory_block` of type `memory_type`. It takes no memory.
+    pub fn leaks(&self, memory_type: usize, memory_block: usize) -> Leaks<'_>
+        ensures { result ≡ map (leak_of memory_type memory_block false) (held_extents self.now) }
+    {
+        Leaks {
+            memory_type,
+            memory_block,
+            general: false,
+            rest: self.piece.as_slice(),
+        }
+    }
+}
+
+/// The number 1, which alone is a piece's.
+fn first(chunk_id: Option<NonZeroU64>) -> Result<()>
+    ensures is { OnOk result (IsSomeAnd chunk_id (λ n. non_zero_u64_get n ≡ 1)) }
+    ensures cause { IfErr result (λ e. refusal_of e ≡ internal (codes "Chunk ID must be 1.") None) }
+    ensures other { OnErr result (IfSome chunk_id (λ n. non_zero_u64_get n ≢ 1)) }
+{
+    match chunk_id {
+        Some(number) if number.get() == 1 => Ok(()),
+        _ => Err(internal_fault("Chunk ID must be 1.")),
+    }
+}

@@ -1,0 +1,262 @@
+//! A block that is cut into pieces, each in the shortest gap that it fits in.
+
+ghost use Rattle.std.specs.Prelude.{◌≡◌, ◌≢◌, ℕ, ◌+◌, ◌^◌, ◌<◌, ◌≤◌, None, IfOk, OnOk, OnErr, IfErr, IfSome, IsSomeAnd, IsTrue, ◌↔◌, [], map, true, false};
+ghost use Rattle.std.specs.Int.{is_power_of_two};
+ghost use Rattle.std.specs.Int.NonZero.{non_zero_u64_get};
+ghost use Rattle.gpu_values.specs.Refusal.{refusal_of};
+ghost use Rattle.gpu_values.specs.declared.error.AllocationError.TheVariants.{HostOutOfMemory};
+
+mod edit;
+mod place;
+mod search;
+
+use crate::Leaks;
+use crate::chunk::Chunk;
+use crate::rows::rows_of;
+use edit::{
+    has_gap_number, leaves_rest, name_at, none_taken, place_of, position_of, release, take,
+    taken_bytes,
+};
+use gpu_values::{AllocationError, AllocationReport, AllocationType, Result, internal_fault};
+use place::Wanted;
+use search::find_place;
+use std::alloc::{AllocError, Global};
+use std::marker::Model;
+use std::num::NonZeroU64;
+
+/// A block of memory that is cut into pieces. It holds no memory of a device: it says which piece lies where. A piece
+/// lies in the shortest gap that it fits in, of equal ones in the lowest, and linear and other pieces share no page of
+/// the block's granularity.
+#[derive(Drop)]
+pub struct FreeListAllocator {
+    pub(crate) alloc: Global,
+    size: u64,
+    granularity: u64,
+    counter: u64,
+    chunks: Vec<Chunk>,
+}
+
+impl Model for FreeListAllocator {
+    ghost use Rattle.std.specs.Prelude.{IsTrue, ◌<◌, ◌^◌};
+    ghost use Rattle.std.specs.Int.{is_power_of_two};
+    ghost use Rattle.gpu_block.specs.FreeList.{FreeList};
+    ghost use Rattle.gpu_block.specs.Chunks.{AreChunks, free_list_of};
+    ghost use Rattle.gpu_block.specs.Laws.{IsPageSeparated};
+
+    ghost Value = { FreeList };
+
+    ghost view = { λ a. free_list_of a.size a.granularity a.counter a.chunks.items };
+
+    ghost invariant = { λ a. IsTrue (is_power_of_two a.granularity)
+        × AreChunks a.chunks.items a.size a.counter
+        × IsPageSeparated (free_list_of a.size a.granularity a.counter a.chunks.items)
+        × (a.size < 2 ^ 64) };
+}
+
+impl FreeListAllocator {
+    ghost use Rattle.gpu_block.specs.FreeList.{FindsPlace, SomeExtent, IsGap, fresh_free_list, extent_bytes};
+    ghost use Rattle.gpu_block.specs.Request.{request};
+    ghost use Rattle.gpu_block.specs.Changes.{Takes, Releases, Renames};
+    ghost use Rattle.gpu_block.specs.BlockRefusal.{IsTakeRefusal, release_refusal, IsRenameRefusal};
+    ghost use Rattle.gpu_values.specs.Report.{row_of};
+    ghost use Rattle.gpu_block.specs.Rows.{extent_row};
+    ghost use Rattle.gpu_block.specs.Leak.{leak_of};
+    ghost use Rattle.gpu_block.specs.Laws.{IsSound, IsPageSeparated, IsLongEnough, IsForNumbers, IsCovered};
+
+    /// A block of `size` bytes without pieces: one gap with number 1, and 2 is the next new number. `granularity` is the
+    /// page size in bytes: Vulkan's bufferImageGranularity, elsewhere 1. The only refusal is `HostOutOfMemory`.
+    pub fn new(alloc: Global, size: u64, granularity: u64) -> Result<Self>
+        requires sized { 0 < size }
+        requires paged { IsTrue (is_power_of_two granularity) }
+        ensures fresh { IfOk result (λ b. b ≡ fresh_free_list size granularity 2) }
+        ensures sound { IfOk result IsSound }
+        ensures cause { IfErr result (λ e. e ≡ HostOutOfMemory) }
+    {
+        Self::with_counter(alloc, size, granularity, 2)
+    }
+
+    /// The same with another first new number, for tests of the last one.
+    pub fn with_counter(alloc: Global, size: u64, granularity: u64, counter: u64) -> Result<Self>
+        requires sized { 0 < size }
+        requires paged { IsTrue (is_power_of_two granularity) }
+        requires counted { 2 ≤ counter }
+        ensures fresh { IfOk result (λ b. b ≡ fresh_free_list size granularity counter) }
+        ensures sound { IfOk result IsSound }
+        ensures cause { IfErr result (λ e. e ≡ HostOutOfMemory) }
+    {
+        let mut chunks = Vec::new(alloc);
+        let gap = Chunk {
+            start: 0,
+            size,
+            offset: 0,
+            kind: AllocationType::Free,
+            number: 1,
+            name: String::new(alloc),
+        };
+        chunks.push(gap).map_err(AllocError::from)?;
+        Ok(FreeListAllocator {
+            alloc,
+            size,
+            granularity,
+            counter,
+            chunks,
+        })
+    }
+
+    /// Takes the best place for `size` bytes, and answers the piece's offset in bytes and its number. `OutOfMemory` where
+    /// there is no place, else `HostOutOfMemory` where the host refused memory; a refusal leaves the block as it was.
+    /// What the piece's `free` will need is taken here.
+    pub fn allocate(
+        &mut self,
+        size: u64,
+        alignment: u64,
+        kind: AllocationType,
+        granularity: u64,
+        name: &str,
+    ) -> Result<(u64, NonZeroU64)>
+        requires sized { 0 < size }
+        requires aligned { IsTrue (is_power_of_two alignment) }
+        requires piece { kind ≢ AllocationType.Free }
+        requires paged { granularity ≡ self.old.granularity }
+        ensures took { IfOk result
+            (λ p. Takes self.old (request size alignment kind name.now) p.0 (non_zero_u64_get p.1) self.new) }
+        ensures cause { IfErr result
+            (λ e. IsTakeRefusal self.old (request size alignment kind name.now) e) }
+        ensures refused { OnErr result (self.new ≡ self.old) }
+        ensures pages { self.new.granularity ≡ self.old.granularity }
+        // where the pieces lie, for all pairs of them; and a gap that is long enough is never refused
+        ensures sound { OnOk result (IsSound self.new) }
+        ensures separated { OnOk result (IsPageSeparated self.new) }
+        ensures covered { OnOk result (IsCovered self.new) }
+        ensures law { IfErr result (λ e. (s t : ℕ) → IsGap self.old s t
+            → IsLongEnough self.old (request size alignment kind name.now) s t
+            → IsForNumbers self.old e) }
+    {
+        let wanted = Wanted {
+            size,
+            alignment,
+            kind,
+            granularity,
+        };
+        let Some(found) = find_place(&self.chunks, wanted) else {
+            return Err(AllocationError::OutOfMemory);
+        };
+        let rest = leaves_rest(&self.chunks, found, wanted);
+        if rest && self.counter == u64::MAX {
+            return Err(AllocationError::OutOfMemory);
+        }
+        let text = String::from_str(self.alloc, name)?;
+        let number = take(&mut self.chunks, found, wanted, self.counter, text)?;
+        if rest {
+            self.counter += 1;
+        }
+        Ok((found.offset, non_zero(number)))
+    }
+
+    /// Gives a live piece back; its place joins the gaps beside it. It takes no memory. `Internal` where the number is
+    /// missing or is no live piece's, and then the block stays as it was.
+    pub fn free(&mut self, chunk_id: Option<NonZeroU64>) -> Result<()>
+        ensures freed { OnOk result
+            (IsSomeAnd chunk_id (λ n. Releases self.old (non_zero_u64_get n) self.new)) }
+        ensures cause { IfErr result (λ e. refusal_of e ≡ release_refusal chunk_id) }
+        ensures not_live { OnErr result
+            (IfSome chunk_id (λ n. SomeExtent self.old (λ x. x.number ≡ non_zero_u64_get n) → ⊥)) }
+        ensures refused { OnErr result (self.new ≡ self.old) }
+        ensures pages { self.new.granularity ≡ self.old.granularity }
+        ensures sound { OnOk result (IsSound self.new) }
+        ensures separated { OnOk result (IsPageSeparated self.new) }
+        ensures covered { OnOk result (IsCovered self.new) }
+    {
+        let Some(number) = chunk_id else {
+            return Err(internal_fault("Chunk ID must be a valid value."));
+        };
+        let Some(i) = position_of(&self.chunks, number.get()) else {
+            return Err(internal_fault("Attempting to free chunk that is not in chunk list."));
+        };
+        release(&mut self.chunks, i, String::new(self.alloc));
+        Ok(())
+    }
+
+    /// Gives a live piece another name. `Internal` where the number is missing, a gap's or not there, else
+    /// `HostOutOfMemory` where the host refused memory; a refusal leaves the block as it was.
+    pub fn rename_allocation(&mut self, chunk_id: Option<NonZeroU64>, name: &str) -> Result<()>
+        ensures renamed { OnOk result
+            (IsSomeAnd chunk_id (λ n. Renames self.old (non_zero_u64_get n) name.now self.new)) }
+        ensures cause { IfErr result (λ e. IsRenameRefusal self.old chunk_id (refusal_of e)) }
+        ensures refused { OnErr result (self.new ≡ self.old) }
+        ensures pages { self.new.granularity ≡ self.old.granularity }
+        ensures sound { OnOk result (IsSound self.new) }
+        ensures separated { OnOk result (IsPageSeparated self.new) }
+        ensures covered { OnOk result (IsCovered self.new) }
+    {
+        let Some(number) = chunk_id else {
+            return Err(internal_fault("Chunk ID must be a valid value."));
+        };
+        let Some(i) = position_of(&self.chunks, number.get()) else {
+            if has_gap_number(&self.chunks, number.get()) {
+                return Err(internal_fault("Attempting to rename a freed allocation."));
+            }
+            return Err(internal_fault("Attempting to rename chunk that is not in chunk list."));
+        };
+        let text = String::from_str(self.alloc, name)?;
+        name_at(&mut self.chunks, i, text);
+        Ok(())
+    }
+
+    /// The bytes of all pieces, padding included.
+    pub fn allocated(&self) -> u64
+        ensures sum { result ≡ extent_bytes self.now.extents }
+        ensures within { result ≤ self.now.size }
+    {
+        taken_bytes(&self.chunks)
+    }
+
+    /// The offset and the size in bytes of the live piece with that number.
+    pub(crate) fn place_of(&self, number: NonZeroU64) -> Option<(u64, u64)>
+        ensures { FindsPlace self.now.extents (non_zero_u64_get number) result }
+    {
+        place_of(&self.chunks, number.get())
+    }
+
+    /// The size of the block in bytes.
+    pub(crate) fn size(&self) -> u64
+        ensures { result ≡ self.now.size }
+    {
+        self.size
+    }
+
+    /// Whether no piece is live.
+    pub fn is_empty(&self) -> bool
+        ensures { IsTrue result ↔ self.now.extents ≡ [] }
+    {
+        none_taken(&self.chunks)
+    }
+
+    /// The live pieces in order of offset. The only refusal is `HostOutOfMemory`.
+    pub fn report_allocations(&self) -> Result<Vec<AllocationReport>>
+        ensures rows { IfOk result (λ v. map row_of v.items ≡ map extent_row self.now.extents) }
+        ensures cause { IfErr result (λ e. e ≡ HostOutOfMemory) }
+    {
+        let rows = rows_of(self.alloc, &self.chunks)?;
+        Ok(rows)
+    }
+
+    /// The live pieces in order of offset, in block `memory_block` of type `memory_type`. It takes no memory.
+    pub fn leaks(&self, memory_type: usize, memory_block: usize) -> Leaks<'_>
+        ensures { result ≡ map (leak_of memory_type memory_block true) self.now.extents }
+    {
+        Leaks {
+            memory_type,
+            memory_block,
+            general: true,
+            rest: &self.chunks,
+        }
+    }
+}
+
+fn non_zero(n: u64) -> NonZeroU64
+    requires { 0 < n }
+    ensures { non_zero_u64_get result ≡ n }
+{
+    NonZeroU64::new(n).unwrap()
+}

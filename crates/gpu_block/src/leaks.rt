@@ -1,0 +1,198 @@
+//! The pieces of a block that are still live, and their texts.
+
+ghost use Rattle.std.specs.Prelude.{◌≡◌, Some, ◌∷◌, [], MatchOption, map, string_bytes, IfOk, IfErr};
+ghost use Rattle.gpu_values.specs.declared.error.AllocationError.TheVariants.{HostOutOfMemory};
+ghost use Rattle.std.specs.Fmt.{DisplaysOnOk};
+ghost use Rattle.std.specs.Iterator.{YieldsFirst, item_count};
+ghost use Rattle.gpu_block.specs.Chunks.{extent, extents_of};
+ghost use Rattle.gpu_block.specs.Leak.{leak_text, block_lines, piece_text, chunk_text, dedicated_text, number_line, size_line, start_line, kind_line, name_line, kind_name};
+
+use crate::chunk::{Chunk, is_free};
+use gpu_values::{AllocationType, Result};
+use std::alloc::Global;
+use std::fmt;
+use std::marker::Model;
+
+/// A piece that is still live. It prints where its block stands, and the piece's start, padded size, kind and name.
+#[derive(Drop)]
+pub struct Leak<'a> {
+    memory_type: usize,
+    memory_block: usize,
+    general: bool,
+    chunk: &'a Chunk,
+}
+
+impl<'a> Model for Leak<'a> {
+    ghost use Rattle.gpu_block.specs.Chunks.{extent};
+    ghost use Rattle.gpu_block.specs.Leak.{LeakOf, leak_of};
+
+    ghost Value = { LeakOf };
+
+    ghost view = { λ l. leak_of l.memory_type l.memory_block l.general (extent l.chunk.now) };
+}
+
+/// The live pieces of a block in order of offset. It takes no memory.
+#[derive(Drop)]
+pub struct Leaks<'a> {
+    pub(crate) memory_type: usize,
+    pub(crate) memory_block: usize,
+    pub(crate) general: bool,
+    pub(crate) rest: &'a [Chunk],
+}
+
+impl<'a> Model for Leaks<'a> {
+    ghost use Rattle.std.specs.Prelude.{List, map};
+    ghost use Rattle.gpu_block.specs.Chunks.{extents_of};
+    ghost use Rattle.gpu_block.specs.Leak.{LeakOf, leak_of};
+
+    ghost Value = { List LeakOf };
+
+    ghost view = { λ l. map (leak_of l.memory_type l.memory_block l.general) (extents_of l.rest.now) };
+}
+
+/// The first chunk that isn't free, and those behind it.
+fn first_piece(chunks: &[Chunk]) -> Option<(&Chunk, &[Chunk])>
+    ensures { MatchOption result
+        (extents_of chunks.now ≡ [])
+        (λ p. extents_of chunks.now ≡ extent p.0.now ∷ extents_of p.1.now) }
+{
+    let mut rest = chunks;
+    while let Some((chunk, after)) = rest.split_first() {
+        if !is_free(chunk.kind) {
+            return Some((chunk, after));
+        }
+        rest = after;
+    }
+    None
+}
+
+impl<'a> Iterator for Leaks<'a> {
+    type Item = Leak<'a>;
+
+    ghost next_gives = { YieldsFirst (λ s. s) };
+
+    ghost remaining = { item_count (λ s. s) };
+
+    fn next(&mut self) -> Option<Leak<'a>> {
+        let (chunk, rest) = first_piece(self.rest)?;
+        self.rest = rest;
+        Some(Leak {
+            memory_type: self.memory_type,
+            memory_block: self.memory_block,
+            general: self.general,
+            chunk,
+        })
+    }
+}
+
+fn kind_name(kind: AllocationType) -> &'static str
+    ensures { result.now ≡ kind_name kind }
+{
+    match kind {
+        AllocationType::Free => "Free",
+        AllocationType::Linear => "Linear",
+        AllocationType::NonLinear => "NonLinear",
+    }
+}
+
+fn write_number<W: fmt::Write>(chunk: &Chunk, f: &mut fmt::Formatter<W>) -> fmt::Result
+    ensures { DisplaysOnOk W.write_str_gives f.old result (Some (number_line (extent chunk.now))) f.new }
+{
+    let number = chunk.number;
+    write!(f, "    chunk: {{\n        chunk_id: {number},\n")
+}
+
+fn write_size<W: fmt::Write>(chunk: &Chunk, f: &mut fmt::Formatter<W>) -> fmt::Result
+    ensures { DisplaysOnOk W.write_str_gives f.old result (Some (size_line (extent chunk.now))) f.new }
+{
+    let size = chunk.size;
+    write!(f, "        size: 0x{size:x},\n")
+}
+
+fn write_start<W: fmt::Write>(chunk: &Chunk, f: &mut fmt::Formatter<W>) -> fmt::Result
+    ensures { DisplaysOnOk W.write_str_gives f.old result (Some (start_line (extent chunk.now))) f.new }
+{
+    let start = chunk.start;
+    write!(f, "        offset: 0x{start:x},\n")
+}
+
+fn write_kind<W: fmt::Write>(chunk: &Chunk, f: &mut fmt::Formatter<W>) -> fmt::Result
+    ensures { DisplaysOnOk W.write_str_gives f.old result (Some (kind_line (extent chunk.now))) f.new }
+{
+    let kind = kind_name(chunk.kind);
+    write!(f, "        allocation_type: {kind},\n")
+}
+
+fn write_name<W: fmt::Write>(chunk: &Chunk, f: &mut fmt::Formatter<W>) -> fmt::Result
+    ensures { DisplaysOnOk W.write_str_gives f.old result (Some (name_line (extent chunk.now))) f.new }
+{
+    let name = chunk.name.as_str();
+    write!(f, "        name: {name}\n    }}\n")
+}
+
+fn write_chunk<W: fmt::Write>(chunk: &Chunk, f: &mut fmt::Formatter<W>) -> fmt::Result
+    ensures { DisplaysOnOk W.write_str_gives f.old result (Some (chunk_text (extent chunk.now))) f.new }
+{
+    write_number(chunk, f)?;
+    write_size(chunk, f)?;
+    write_start(chunk, f)?;
+    write_kind(chunk, f)?;
+    write_name(chunk, f)
+}
+
+fn write_dedicated<W: fmt::Write>(chunk: &Chunk, f: &mut fmt::Formatter<W>) -> fmt::Result
+    ensures { DisplaysOnOk W.write_str_gives f.old result (Some (dedicated_text (extent chunk.now))) f.new }
+{
+    f.write_str("    dedicated allocation: {\n")?;
+    write_size(chunk, f)?;
+    write_name(chunk, f)
+}
+
+fn write_piece<W: fmt::Write>(
+    general: bool,
+    chunk: &Chunk,
+    f: &mut fmt::Formatter<W>,
+) -> fmt::Result
+    ensures { DisplaysOnOk W.write_str_gives f.old result (Some (piece_text general (extent chunk.now))) f.new }
+{
+    if general {
+        write_chunk(chunk, f)
+    } else {
+        write_dedicated(chunk, f)
+    }
+}
+
+fn write_block<W: fmt::Write>(
+    memory_type: usize,
+    memory_block: usize,
+    f: &mut fmt::Formatter<W>,
+) -> fmt::Result
+    ensures { DisplaysOnOk W.write_str_gives f.old result (Some (block_lines memory_type memory_block)) f.new }
+{
+    write!(
+        f,
+        "leak detected: {{\n    memory type: {memory_type}\n    memory block: {memory_block}\n"
+    )
+}
+
+impl<'a> fmt::Display for Leak<'a> {
+    ghost output = { λ leak. Some (leak_text leak) };
+
+    fn fmt<W: fmt::Write>(&self, f: &mut fmt::Formatter<W>) -> fmt::Result {
+        write_block(self.memory_type, self.memory_block, f)?;
+        write_piece(self.general, self.chunk, f)?;
+        f.write_str("}")
+    }
+}
+
+/// The texts of the pieces, in order.
+pub(crate) fn texts_of(alloc: Global, leaks: Leaks) -> Result<Vec<String>>
+    ensures texts { IfOk result (λ v. map string_bytes v.items ≡ map leak_text leaks.entry) }
+    ensures cause { IfErr result (λ e. e ≡ HostOutOfMemory) }
+{
+    let mut texts = Vec::new(alloc);
+    for leak in leaks {
+        texts.push(leak.to_string(alloc)?)?;
+    }
+    Ok(texts)
+}

@@ -1,0 +1,18 @@
+// One block of GPU memory: which piece lies where, and what reports and leaks say of it. It holds no memory of a device.
+#![tactic(auto)]
+
+mod chunk;
+mod dedicated_block;
+mod free_list;
+pub mod laws;
+mod leaks;
+mod rows;
+mod sub_allocator;
+
+pub use dedicated_block::DedicatedBlockAllocator;
+pub use free_list::FreeListAllocator;
+pub use leaks::{Leak, Leaks};
+pub use sub_allocator::SubAllocator;
+
+#[cfg(test)]
+mod tests;

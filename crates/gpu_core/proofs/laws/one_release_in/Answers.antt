@@ -1,5 +1,0 @@
-use Rattle.gpu_core.proofs.Blocks.{release_once_in}
-use Rattle.gpu_core.proofs.laws.one_release_in.Goals as goal
-
-pub returns : goal.returns
-returns c = release_once_in

@@ -1,5 +1,0 @@
-use Rattle.gpu_core.proofs.Blocks.{rename_once_in}
-use Rattle.gpu_core.proofs.laws.one_rename_in.Goals as goal
-
-pub returns : goal.returns
-returns c = rename_once_in

@@ -1,0 +1,137 @@
+//! The sizes of the blocks that pieces share.
+
+use std::marker::Model;
+
+/// Bytes in a megabyte.
+const MB: u64 = 1_048_576;
+
+/// Block sizes are multiples of this, and at least as large.
+pub(crate) const STEP: u64 = 4 * MB;
+
+/// No block size is larger than this.
+pub(crate) const LARGEST: u64 = 256 * MB;
+
+/// How many times a block size doubles at most.
+pub(crate) const DOUBLINGS: usize = 7;
+
+/// The sizes of the blocks that pieces share, in bytes: one range for memory of the device alone, one for memory that
+/// the host can see. With each live block of a memory type the next one's size doubles, at most seven times, up to the
+/// range's maximum. All four limits lie between 4 MB and 256 MB and are multiples of 4 MB.
+#[derive(Clone, Copy, Debug)]
+pub struct AllocationSizes {
+    min_device_memblock_size: u64,
+    max_device_memblock_size: u64,
+    min_host_memblock_size: u64,
+    max_host_memblock_size: u64,
+}
+
+impl Model for AllocationSizes {
+    ghost use Rattle.gpu_values.specs.Sizes.{Sizes, AreInLimits};
+
+    ghost Value = { Sizes };
+
+    ghost view = { λ s. record {
+      device = record { smallest = s.min_device_memblock_size; largest = s.max_device_memblock_size };
+      host = record { smallest = s.min_host_memblock_size; largest = s.max_host_memblock_size };
+    } };
+
+    ghost invariant = { λ s.
+        AreInLimits (record { smallest = s.min_device_memblock_size; largest = s.max_device_memblock_size })
+        × AreInLimits (record { smallest = s.min_host_memblock_size; largest = s.max_host_memblock_size }) };
+
+    ghost inverse = { λ v. record {
+      min_device_memblock_size = v.device.smallest;
+      max_device_memblock_size = v.device.largest;
+      min_host_memblock_size = v.host.smallest;
+      max_host_memblock_size = v.host.largest;
+    } };
+}
+
+impl AllocationSizes {
+    ghost use Rattle.std.specs.Prelude.{◌≡◌, ◌≤◌};
+    ghost use Rattle.gpu_values.specs.Sizes.{Sizes, only_size, with_largest, shared_block_size};
+
+    /// One size for all blocks of the device's memory, and one for all blocks that the host can see. Each is brought
+    /// into 4 MB to 256 MB and rounded up to a multiple of 4 MB.
+    pub fn new(device_memblock_size: u64, host_memblock_size: u64) -> Self
+        ensures { result ≡ record { device = only_size device_memblock_size; host = only_size host_memblock_size } }
+    {
+        let device = block_size_near(device_memblock_size);
+        let host = block_size_near(host_memblock_size);
+        AllocationSizes {
+            min_device_memblock_size: device,
+            max_device_memblock_size: device,
+            min_host_memblock_size: host,
+            max_host_memblock_size: host,
+        }
+    }
+
+    /// The same with blocks of the device's memory that double up to this size, which is brought into the limits and is
+    /// at least the size they begin with.
+    pub fn with_max_device_memblock_size(self, size: u64) -> Self
+        ensures { result ≡ record self { device = with_largest self.device size } }
+    {
+        AllocationSizes {
+            max_device_memblock_size: block_size_near(size).max(self.min_device_memblock_size),
+            ..self
+        }
+    }
+
+    /// The same with blocks of memory that the host can see that double up to this size, which is brought into the
+    /// limits and is at least the size they begin with.
+    pub fn with_max_host_memblock_size(self, size: u64) -> Self
+        ensures { result ≡ record self { host = with_largest self.host size } }
+    {
+        AllocationSizes {
+            max_host_memblock_size: block_size_near(size).max(self.min_host_memblock_size),
+            ..self
+        }
+    }
+
+    /// The size in bytes of the next block of a memory type with `count` live ones.
+    pub fn memblock_size(&self, is_host: bool, count: usize) -> u64
+        ensures size { result ≡ shared_block_size self.now is_host count }
+        ensures low { STEP ≤ result }
+        ensures high { result ≤ LARGEST }
+    {
+        let (min, max) = if is_host {
+            (self.min_host_memblock_size, self.max_host_memblock_size)
+        } else {
+            (self.min_device_memblock_size, self.max_device_memblock_size)
+        };
+        doubled(min, count).min(max)
+    }
+}
+
+/// Blocks of 256 MB on the device, and of 64 MB where the host can see them.
+impl Default for AllocationSizes {
+    ghost use Rattle.std.specs.Prelude.{◌≡◌, ◌*◌};
+    ghost use Rattle.gpu_values.specs.Sizes.{only_size};
+    ghost use Rattle.gpu_values.specs.declared.allocation_sizes.TheConstants.{MB};
+
+    ghost is_default = { λ s. s ≡ record { device = only_size (256 * MB); host = only_size (64 * MB) } };
+
+    fn default() -> Self {
+        AllocationSizes::new(256 * MB, 64 * MB)
+    }
+}
+
+ghost use Rattle.std.specs.Prelude.{◌≡◌, ◌≤◌, ◌*◌, ◌^◌, min};
+ghost use Rattle.gpu_values.specs.Sizes.{block_size_near};
+
+/// A size between the limits, and a whole number of steps.
+fn block_size_near(size: u64) -> u64
+    ensures value { result ≡ block_size_near size }
+    ensures low { STEP ≤ result }
+    ensures high { result ≤ LARGEST }
+{
+    size.max(STEP).min(LARGEST).next_multiple_of(STEP)
+}
+
+/// A block size doubled `count` times, at most seven times.
+fn doubled(size: u64, count: usize) -> u64
+    requires { size ≤ LARGEST }
+    ensures { result ≡ size * 2 ^ min count DOUBLINGS }
+{
+    size << count.min(DOUBLINGS)
+}
