@@ -89,7 +89,7 @@ no_range : (b : Option (List ℕ)) (o l : ℕ) → b ≡ None → range_in o l b
 no_range None o l e = refl
 no_range (Some xs) o l e = cc
 
-abbrev piece_with : Allocation → Option NonZeroU64 → Option (Piece DeviceMemory)
+abbrev pub piece_with : Allocation → Option NonZeroU64 → Option (Piece DeviceMemory)
 piece_with a chunk = option_map (λ n. record { slot = a.memory_block_index; number = n; offset = a.offset; size = a.size; block = a.device_memory }) chunk
 
 module _ (p : Properties) (first held : Held) (ss : Slots) (sound : AreAllSound p ss) (h : HoldsJustLiveBlocks p first held ss) (whole : (n : ℕ) → IsWhole (get held n)) (a : Allocation) where

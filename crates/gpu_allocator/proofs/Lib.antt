@@ -11,3 +11,4 @@ pub mod Beginning
 pub mod Returned
 pub mod Releasing
 pub mod Inside
+pub mod Writing

@@ -10,3 +10,4 @@ pub mod Allocate
 pub mod State
 pub mod Free
 pub mod Returning
+pub mod Lends

@@ -8,6 +8,7 @@ mod choice;
 mod describe;
 mod release;
 mod setup;
+mod slab;
 
 pub use allocation::Allocation;
 pub use allocator::Allocator;
@@ -16,3 +17,4 @@ pub use gpu_device::vulkan::{
     AllocationScheme, Buffer, DeviceMemory, Image, MemoryAllocateInfo, MemoryHeap,
     MemoryPropertyFlags, MemoryRequirements, MemoryTypeInfo, PhysicalDevice, VulkanDevice,
 };
+pub use slab::MappedAllocationSlab;

@@ -1,20 +1,21 @@
 //! The allocator: blocks of device memory by memory type, and the calls that share them out.
 
-ghost use Rattle.std.specs.Prelude.{◌≡◌, ◌↔◌, [], All, Some, None, IfOk, IfErr, OnOk, OnErr, IsOk, IsSome, IfSome, IsTrue, length, option_map};
+ghost use Rattle.std.specs.Prelude.{◌≡◌, ◌↔◌, [], All, Some, None, IfOk, IfErr, OnOk, OnErr, IsOk, IsSome, IfSome, IsTrue, List, ℕ, length, option_map};
 ghost use Rattle.std.specs.Option.{unwrap_or};
 ghost use Rattle.gpu_core.specs.Refusal.{refusal_of, host_out_of_memory};
 ghost use Rattle.gpu_allocator.specs.Setup.{setup_fault};
 ghost use Rattle.gpu_allocator.specs.Blocks.{total_capacity};
 ghost use Rattle.gpu_allocator.specs.Allocate.{Allocates};
 ghost use Rattle.gpu_allocator.specs.Free.{Frees};
+ghost use Rattle.std.specs.Borrow.{sem};
 ghost use Rattle.gpu_allocator.specs.Live.{IsLive, IsMapped, bytes_at};
 
-use super::Allocation;
 use super::attempt::{serve, total_capacity};
 use super::choice::best_type;
 use super::describe::{AllocationCreateDesc, AllocatorCreateDesc};
 use super::release::{give_back_all, release};
 use super::setup::{Settings, Setup, fault_of, parts_of};
+use super::{Allocation, MappedAllocationSlab};
 use crate::{AllocationError, MemoryType, Result};
 use gpu_device::vulkan::{DeviceMemory, VulkanDevice};
 use log::Log;
@@ -45,6 +46,8 @@ impl<D: VulkanDevice> Model for Allocator<D> {
 }
 
 impl<D: VulkanDevice> Allocator<D> {
+    ghost use Rattle.gpu_allocator.specs.Lends.{lends_piece, written_at, ChangesOnly};
+
     /// An allocator without blocks. Where it can't be made, the device comes back.
     pub fn new<L: Log>(
         log: &L,
@@ -155,6 +158,49 @@ impl<D: VulkanDevice> Allocator<D> {
             return None;
         }
         self.device.bytes(allocation.device_memory, allocation.offset, allocation.size)
+    }
+
+    /// Lends the bytes of a live allocation in mapped memory to be written. `mapped_slice` tells whether there are any.
+    /// A write through them changes this allocation's bytes alone.
+    pub fn slice_mut(&mut self, allocation: &Allocation) -> &mut [u8]
+        requires { IsMapped self.old.setup.properties self.old.slots allocation.now }
+        ensures* lends { sem 𝓛 (lends_piece D.row D.VulkanDevice self.entry allocation.now result) }
+        ensures value { bytes_at (D.held self.old.device) allocation.now ≡ Some result.now }
+        ensures len { length result.now ≡ allocation.now.size }
+        ensures isolated { (ws : List ℕ) → length ws ≡ allocation.now.size
+            → ChangesOnly D.VulkanDevice self.old allocation.now ws (written_at D.VulkanDevice self.old allocation.now ws) }
+    {
+        self.device.range_mut(allocation.device_memory, allocation.offset, allocation.size)
+    }
+
+    /// The same where the allocation is live and in mapped memory; else `None`.
+    pub fn mapped_slice_mut(&mut self, allocation: &Allocation) -> Option<&mut [u8]>
+        ensures mapped { IsSome result ↔ IsMapped self.old.setup.properties self.old.slots allocation.now }
+        ensures value { IfSome result (λ s. bytes_at (D.held self.old.device) allocation.now ≡ Some s.now) }
+        ensures len { IfSome result (λ s. length s.now ≡ allocation.now.size) }
+    {
+        if self.mapped_slice(allocation).is_some() {
+            Some(self.slice_mut(allocation))
+        } else {
+            None
+        }
+    }
+
+    /// The same as a slab.
+    pub fn try_as_mapped_slab(
+        &mut self,
+        allocation: &Allocation,
+    ) -> Option<MappedAllocationSlab<'_>>
+        ensures mapped { IsSome result ↔ IsMapped self.old.setup.properties self.old.slots allocation.now }
+        ensures value { IfSome result (λ s. bytes_at (D.held self.old.device) allocation.now ≡ Some s.bytes.now) }
+        ensures len { IfSome result (λ s. length s.bytes.now ≡ allocation.now.size) }
+    {
+        if self.mapped_slice(allocation).is_some() {
+            let bytes = self.slice_mut(allocation);
+            Some(MappedAllocationSlab { bytes })
+        } else {
+            None
+        }
     }
 
     /// Gives an allocation back, and its block with it where the block is left empty and isn't the only shared one of its
