@@ -7,5 +7,5 @@ pub use gpu_core::{
     AllocationError, AllocationReport, AllocationSizes, AllocationType, AllocatorDebugSettings,
     AllocatorReport, DedicatedBlockAllocator, Fault, FreeListAllocator, Leak, Leaks,
     MemoryBlockReport, MemoryLocation, MemoryType, NeedBlock, Piece, Prepared, Request, Result,
-    Room, SubAllocator, fmt_bytes, laws,
+    Room, SubAllocator, TypeLeaks, fmt_bytes, laws, type_laws,
 };

@@ -1,5 +1,6 @@
 //! Worked rows of the Vulkan allocator.
 
+mod bytes;
 mod rows;
 mod setups;
 
