@@ -1,6 +1,7 @@
 //! Worked rows of the Vulkan allocator.
 
 mod bytes;
+mod refusals;
 mod rows;
 mod setups;
 
