@@ -4,6 +4,7 @@ mod bytes;
 mod refusals;
 mod rows;
 mod setups;
+mod slots;
 
 use gpu_allocator::vulkan::*;
 use gpu_allocator::{AllocationSizes, AllocatorDebugSettings, MemoryLocation};
