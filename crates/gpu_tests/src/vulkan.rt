@@ -2,6 +2,7 @@
 
 mod bytes;
 mod refusals;
+mod refused;
 mod rows;
 mod setups;
 mod slots;
@@ -10,7 +11,7 @@ use gpu_allocator::vulkan::*;
 use gpu_allocator::{AllocationSizes, AllocatorDebugSettings, MemoryLocation};
 use gpu_sim::{Refusal, SimVulkan};
 use log::sink::Discard;
-use std::alloc::Global;
+use std::alloc::{AllocError, Global};
 use std::test::Fail;
 
 /// Bytes in a megabyte.
@@ -45,7 +46,10 @@ pub fn one_type(flags: &'static [(u32, u32)], heap: &'static [u64]) -> Propertie
 }
 
 /// The simulated device of these properties.
-pub fn simulated(alloc: Global, properties: &Properties) -> std::result::Result<SimVulkan, Fail> {
+pub fn simulated(
+    alloc: Global,
+    properties: &Properties,
+) -> std::result::Result<SimVulkan, AllocError> {
     let mut heaps = Vec::new(alloc);
     for size in properties.heaps {
         heaps.push(MemoryHeap {
@@ -71,7 +75,7 @@ pub fn simulated(alloc: Global, properties: &Properties) -> std::result::Result<
 fn memory_types(
     alloc: Global,
     properties: &Properties,
-) -> std::result::Result<Vec<MemoryTypeInfo>, Fail> {
+) -> std::result::Result<Vec<MemoryTypeInfo>, AllocError> {
     let mut types = Vec::new(alloc);
     for (flags, heap) in properties.types {
         types.push(MemoryTypeInfo {
