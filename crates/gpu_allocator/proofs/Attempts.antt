@@ -1,5 +1,5 @@
 -- What a request at one memory type is of an attempt over all.
-use Rattle.std.proofs.Common.{◌≡◌, ◌∙◌, sym, ap, subst, refl, inl, inr, ℕ, ◌<◌, ◌≤◌, false, None, Some, Err, Result, slice_get, slice_set}
+use Rattle.std.proofs.Common.{◌≡◌, sym, subst, refl, inl, inr, ℕ, ◌<◌, ◌≤◌, false, None, Some, Err, Result, slice_get, slice_set}
 use Rattle.gpu_core.specs.Refusal.{out_of_memory, host_out_of_memory}
 use Rattle.gpu_core.specs.TypeState.{TypeState}
 use Rattle.gpu_values.specs.declared.error.AllocationError.{AllocationError}
@@ -9,7 +9,7 @@ use Rattle.gpu_device.specs.declared.vulkan.device.VulkanDevice.{Ghosts}
 use Rattle.gpu_device.specs.declared.vulkan.types.DeviceMemory.{DeviceMemory}
 use Rattle.gpu_allocator.specs.Attempt.{Short, answer_of, Refused, question, IsPlan, Comes, IsTaken, IsAfter}
 use Rattle.gpu_allocator.specs.Allocate.{heap_size, Answers, IsAttempt}
-use Rattle.gpu_allocator.specs.Blocks.{Slots, slots_at, total_capacity, is_mapped, type_at}
+use Rattle.gpu_allocator.specs.Blocks.{Slots, slots_at, total_capacity}
 use Rattle.gpu_allocator.specs.Setup.{Setup}
 use Rattle.gpu_allocator.specs.Types.{Types, slots_of, kinds, kinds_told}
 use Rattle.gpu_allocator.specs.declared.vulkan.allocation.Allocation.{Allocation}

@@ -1,5 +1,5 @@
 -- An allocator without blocks.
-use Rattle.std.proofs.Common.{◌≡◌, ◌∙◌, refl, sym, ap, subst, ℕ, zero, suc, ◌+◌, ◌^◌, ◌<◌, List, [], ◌∷◌, length, Option, Some, None, All, arith}
+use Rattle.std.proofs.Common.{◌≡◌, ◌∙◌, refl, sym, ap, subst, ℕ, zero, suc, [], ◌∷◌, length, Some, All, arith}
 use Rattle.std.proofs.lemmas.List.Elements.{All-head, All-tail}
 use Rattle.std.proofs.lemmas.List.Sums.{sum_by-cons}
 use Rattle.gpu_core.specs.TypeState.{Slot, slot_at, capacity_of}
@@ -7,7 +7,7 @@ use Rattle.gpu_core.specs.Slots.{AreSound}
 use Rattle.gpu_device.specs.Held.{Held}
 use Rattle.gpu_device.specs.Properties.{Properties}
 use Rattle.gpu_device.specs.declared.vulkan.types.DeviceMemory.{DeviceMemory}
-use Rattle.gpu_allocator.specs.Blocks.{Slots, slots_at, block_at, total_capacity, AreAllSound, HoldsJustLiveBlocks}
+use Rattle.gpu_allocator.specs.Blocks.{Slots, slots_at, block_at, total_capacity}
 use Rattle.gpu_allocator.specs.Setup.{Setup, IsValid}
 use Rattle.gpu_allocator.specs.State.{IsKept}
 use Rattle.gpu_allocator.proofs.Taken.{none_some}

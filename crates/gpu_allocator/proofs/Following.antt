@@ -5,7 +5,7 @@ use Rattle.gpu_values.specs.declared.error.AllocationError.{AllocationError}
 use Rattle.gpu_device.specs.Held.{Held}
 use Rattle.gpu_device.specs.declared.vulkan.device.VulkanDevice.{Ghosts}
 use Rattle.gpu_device.specs.declared.vulkan.types.MemoryTypeInfo.{MemoryTypeInfo}
-use Rattle.gpu_allocator.specs.Allocate.{IsFollowed, IsServed, next_type, next_after, is_for_upload, is_short}
+use Rattle.gpu_allocator.specs.Allocate.{IsFollowed, IsServed, next_after, is_for_upload, is_short}
 use Rattle.gpu_allocator.specs.Blocks.{Slots, HoldsJustLiveBlocks}
 use Rattle.gpu_allocator.specs.Choice.{serves, first_from, first_type, required}
 use Rattle.gpu_allocator.specs.Setup.{Setup}

@@ -1,5 +1,5 @@
 -- What a memory type prepares, as a plan of the description.
-use Rattle.std.proofs.Common.{◌≡◌, ◌∙◌, ap, sym, subst, refl, false, Bool, ℕ, List, Option, Some, None}
+use Rattle.std.proofs.Common.{◌≡◌, ◌∙◌, ap, sym, subst, refl, false, Bool, ℕ, List, Option, Some}
 use Rattle.gpu_core.specs.Refusal.{Refusal}
 use Rattle.gpu_core.specs.Request.{Request}
 use Rattle.gpu_core.specs.Sizes.{Sizes}

@@ -1,10 +1,10 @@
 -- What a release leaves of what the device holds.
-use Rattle.std.proofs.Common.{◌≡◌, ◌∙◌, refl, sym, ap, subst, ℕ, zero, suc, ◌<◌, List, [], ◌∷◌, length, slice_set, Option, Some, None, Ok, Err, Result, IsTrue, arith}
+use Rattle.std.proofs.Common.{◌≡◌, ◌∙◌, refl, sym, ap, subst, ℕ, zero, suc, ◌<◌, [], ◌∷◌, length, slice_set, Option, Some, None, Ok, Err, Result, arith}
 use Rattle.std.specs.Prelude.{OnOk, OnErr}
 use Rattle.std.proofs.lemmas.List.{length-set}
 use Rattle.std.specs.FinMap.{remove}
 use Rattle.gpu_core.specs.Block.{Block, free_list, dedicated, size_of, ReleasesIn}
-use Rattle.gpu_core.specs.TypeRelease.{has_several, SlotReleases, ReleasesPiece, IsLive}
+use Rattle.gpu_core.specs.TypeRelease.{SlotReleases, IsLive}
 use Rattle.gpu_core.specs.TypeState.{Slot, slot_at}
 use Rattle.gpu_core.specs.declared.memory_type.Piece.{Piece}
 use Rattle.gpu_core.proofs.Slotted.{set_only}
@@ -13,7 +13,7 @@ use Rattle.gpu_device.specs.Properties.{Properties}
 use Rattle.gpu_device.specs.declared.vulkan.device.VulkanDevice.{Ghosts}
 use Rattle.gpu_device.specs.declared.vulkan.types.DeviceMemory.{DeviceMemory}
 use Rattle.gpu_allocator.specs.Blocks.{Slots, slots_at, HoldsJustLiveBlocks}
-use Rattle.gpu_allocator.specs.Free.{IsWithout, GivesBack, IsReleased}
+use Rattle.gpu_allocator.specs.Free.{GivesBack, IsReleased}
 use Rattle.gpu_allocator.specs.Live.{is_same_memory}
 use Rattle.gpu_allocator.proofs.Holding.{changed_holds, removed_holds}
 use Rattle.gpu_allocator.proofs.Placed.{only_block, some_below}

@@ -1,5 +1,5 @@
 -- What is left of what a device holds, as blocks are given back.
-use Rattle.std.proofs.Common.{◌≡◌, ◌≢◌, ◌∙◌, ◌⊎◌, refl, sym, ap, subst, ℕ, zero, suc, ◌+◌, ◌<◌, List, [], ◌∷◌, ◌++◌, length, take, Option, Some, None, inl, inr, ⊎_elim, arith}
+use Rattle.std.proofs.Common.{◌≡◌, ◌≢◌, ◌∙◌, ◌⊎◌, refl, sym, ap, ℕ, zero, suc, ◌+◌, ◌<◌, List, [], ◌∷◌, length, take, Option, Some, None, inl, inr, ⊎_elim, arith}
 use Rattle.std.proofs.lemmas.Bool.{cases_eq}
 use Rattle.std.specs.FinMap.{get, remove}
 use Rattle.gpu_core.specs.TypeState.{Slot, slot_at, block_number}
@@ -7,7 +7,7 @@ use Rattle.gpu_device.specs.Held.{Held}
 use Rattle.gpu_device.specs.Properties.{Properties}
 use Rattle.gpu_device.specs.declared.vulkan.types.DeviceMemory.{DeviceMemory}
 use Rattle.gpu_device.proofs.Maps.{held_alike, get-remove_same, get-remove_other}
-use Rattle.gpu_allocator.specs.Blocks.{Slots, slots_at, block_at, HoldsJustLiveBlocks}
+use Rattle.gpu_allocator.specs.Blocks.{Slots, slots_at, HoldsJustLiveBlocks}
 use Rattle.gpu_allocator.specs.Returning.{without, without_block, without_all}
 use Rattle.gpu_allocator.proofs.Taken.{none_some, some_same}
 

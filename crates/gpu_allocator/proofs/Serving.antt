@@ -1,5 +1,5 @@
 -- What an attempt leaves of what the device holds.
-use Rattle.std.proofs.Common.{◌≡◌, ◌≢◌, ◌∙◌, ◌⊎◌, refl, sym, ap, subst, ℕ, ◌<◌, Bool, true, false, List, length, slice_set, Option, Some, None, inl, inr, ⊎_elim, Result}
+use Rattle.std.proofs.Common.{◌≡◌, ◌≢◌, ◌∙◌, refl, sym, ap, subst, ℕ, ◌<◌, Bool, true, false, List, length, slice_set, Option, Some, None, ⊎_elim, Result}
 use Rattle.std.specs.Option.{is_some}
 use Rattle.std.specs.FinMap.{get, insert}
 use Rattle.std.proofs.lemmas.List.{length-set}
@@ -8,16 +8,15 @@ use Rattle.gpu_core.specs.Request.{Request}
 use Rattle.gpu_core.specs.TypeState.{Slot}
 use Rattle.gpu_core.specs.TypeTake.{Ready, fresh_block, Installs}
 use Rattle.gpu_values.specs.declared.error.AllocationError.{AllocationError}
-use Rattle.gpu_device.specs.Held.{Held, Entry, new_entry, with_bytes, mapped_with}
-use Rattle.gpu_device.specs.Properties.{Properties}
+use Rattle.gpu_device.specs.Held.{Held, Entry, new_entry, with_bytes}
 use Rattle.gpu_device.specs.declared.vulkan.device.VulkanDevice.{Ghosts}
 use Rattle.gpu_device.specs.declared.vulkan.types.DeviceMemory.{DeviceMemory}
 use Rattle.gpu_device.specs.declared.vulkan.types.MemoryAllocateInfo.{MemoryAllocateInfo}
 use Rattle.gpu_device.proofs.Maps.{get-insert_same, get-insert_other}
 use Rattle.gpu_device.proofs.Changes.{get-mapped_same, get-mapped_other, mapped_entry}
-use Rattle.gpu_allocator.specs.Allocate.{Attempts, IsTooLarge, IsPlanned, IsAttempt}
-use Rattle.gpu_allocator.specs.Attempt.{Outcome, Asked, Plan, Short, Serves, Needs, IsPlan, Answer, Comes, Settles, IsAfter, question, memory}
-use Rattle.gpu_allocator.specs.BlockAnswer.{BlockAnswer, Declined, Granted, Mapped, NotMapped, IsAnswer, Asks}
+use Rattle.gpu_allocator.specs.Allocate.{IsTooLarge, IsPlanned, IsAttempt}
+use Rattle.gpu_allocator.specs.Attempt.{Asked, Plan, Short, Serves, Needs, IsPlan, Answer, Comes, Settles, IsAfter, question, memory}
+use Rattle.gpu_allocator.specs.BlockAnswer.{BlockAnswer, Declined, Granted, Mapped, NotMapped, Asks}
 use Rattle.gpu_allocator.specs.Blocks.{Slots, slots_at, is_mapped, type_at, total_capacity, IsEntryOf, HoldsJustLiveBlocks}
 use Rattle.gpu_allocator.specs.Setup.{Setup}
 use Rattle.gpu_allocator.specs.declared.vulkan.allocation.Allocation.{Allocation}

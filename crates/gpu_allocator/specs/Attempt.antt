@@ -1,6 +1,5 @@
 -- What a request comes to at one memory type.
 use Rattle.std.specs.Prelude.{◌≡◌, ℕ, ◌+◌, ◌^◌, ◌<◌, ◌≤◌, Bool, true, false, List, Option, Some, None, Result, Ok, Err}
-use Rattle.std.specs.Option.{unwrap_or}
 use Rattle.gpu_core.specs.Refusal.{Refusal, refusal_of, out_of_memory, host_out_of_memory}
 use Rattle.gpu_core.specs.TypeState.{TypeState, Slot}
 use Rattle.gpu_core.specs.TypeTake.{Ready, has_own_block, PreparesPiece, NeedsBlock, Installs}

@@ -1,5 +1,5 @@
 -- What callers see of an allocator.
-use Rattle.std.specs.Prelude.{◌≡◌, ℕ, ◌^◌, ◌<◌, length}
+use Rattle.std.specs.Prelude.{◌≡◌, ◌^◌, ◌<◌, length}
 use Rattle.gpu_device.specs.Held.{Held}
 use Rattle.gpu_device.specs.Properties.{Properties}
 use Rattle.gpu_allocator.specs.Blocks.{Slots, total_capacity, AreAllSound, HoldsJustLiveBlocks}

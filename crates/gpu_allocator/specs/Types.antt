@@ -1,7 +1,6 @@
 -- The memory types as the code keeps them, beside their slots: what the device told of each.
-use Rattle.std.specs.Prelude.{◌≡◌, ℕ, Bool, List, map}
+use Rattle.std.specs.Prelude.{ℕ, Bool, List, map}
 use Rattle.gpu_core.specs.TypeState.{TypeState}
-use Rattle.gpu_core.specs.Slots.{AreSound}
 use Rattle.gpu_device.specs.Properties.{Properties}
 use Rattle.gpu_device.specs.declared.vulkan.types.DeviceMemory.{DeviceMemory}
 use Rattle.gpu_allocator.specs.Blocks.{Slots, is_host_visible}

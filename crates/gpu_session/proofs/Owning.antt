@@ -1,7 +1,7 @@
 -- A session's numbers stand for live pieces, each for its own, after a take and after a give.
 use Rattle.std.proofs.Common.{◌≡◌, ◌≢◌, ℕ, ◌<◌, ◌⊎◌, List, [], ◌∷◌, Option, Some, None, Bool, true, false, cond, sym, ap, ◌∙◌, subst, inl, inr, refl, arith}
-use Rattle.std.specs.Prelude.{Contains, nat_lt, ◌==◌}
-use Rattle.std.specs.Ordering.{nat_cmp, is_eq, match_ordering}
+use Rattle.std.specs.Prelude.{Contains}
+use Rattle.std.specs.Ordering.{nat_cmp, match_ordering}
 use Rattle.std.specs.declared.cmp.Ordering.{Ordering}
 use Rattle.std.specs.declared.cmp.Ordering.TheVariants.{Less, Equal, Greater}
 use Rattle.std.specs.Int.NonZero.{non_zero_u64_get}
@@ -15,7 +15,7 @@ use Rattle.gpu_core.specs.FreeList.{Extent}
 use Rattle.gpu_core.specs.Request.{Request}
 use Rattle.gpu_core.specs.Block.{Block, free_list, dedicated, extents_of, size_of, is_general, TakesIn, ReleasesIn, IsSoundBlock}
 use Rattle.gpu_block.proofs.Live.{takes_keeps, takes_adds, takes_new_number, releases_keeps}
-use Rattle.gpu_session.specs.BlockSession.{State, SomePiece, piece_at, Taking, OwnsPieces}
+use Rattle.gpu_session.specs.BlockSession.{State, piece_at, Taking, OwnsPieces}
 use Rattle.gpu_session.specs.declared.block.reply.Reply.{Reply}
 use Rattle.gpu_session.specs.declared.block.reply.Reply.TheVariants as replies
 

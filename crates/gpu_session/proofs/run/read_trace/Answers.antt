@@ -1,4 +1,3 @@
-use Rattle.std.proofs.Common.{◌≡◌}
 use Rattle.gpu_session.proofs.Input.{read_known}
 use Rattle.gpu_session.proofs.run.read_trace.Goals as goal
 

@@ -1,4 +1,4 @@
-use Rattle.std.proofs.Common.{rules, ◌≡◌, ◌∙◌, ap, sym, ◌<◌, ◌≤◌, length, arith}
+use Rattle.std.proofs.Common.{rules, ◌≡◌, ◌∙◌, ap, ◌<◌, ◌≤◌, length}
 use Rattle.gpu_session.specs.Words.{texts}
 use Rattle.gpu_session.specs.Run.{lines_of}
 use Rattle.gpu_session.specs.declared.run.TheConstants.{LIMIT}

@@ -1,7 +1,7 @@
-use Rattle.std.proofs.Common.{◌∙◌, sym, inl, inr, arith, rules, ℕ, ◌≡◌, get_or, ◌≢◌, length, ◌<◌, ◌≤◌}
+use Rattle.std.proofs.Common.{◌∙◌, sym, inl, inr, arith, ◌≡◌, get_or, length, ◌<◌, ◌≤◌}
 use Rattle.std.proofs.lemmas.Grind.{common_steps}
 use Rattle.std.proofs.lemmas.Bool.{cases_lt, false≢true}
-use Rattle.gpu_session.proofs.Numbers.{Front, front, read_option}
+use Rattle.gpu_session.proofs.Numbers.{front, read_option}
 use Rattle.gpu_session.proofs.words.number.Goals as goal
 
 pub returns-then-is_empty : goal.returns-then-is_empty

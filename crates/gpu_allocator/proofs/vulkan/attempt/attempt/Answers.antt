@@ -1,4 +1,4 @@
-use Rattle.std.proofs.Common.{◌≡◌, ◌∙◌, sym, ap, subst, refl, arith, length, ◌<◌, slice_get, slice_set, Some, Ok, Err, ℕ, ◌^◌}
+use Rattle.std.proofs.Common.{◌≡◌, ◌∙◌, sym, ap, subst, refl, arith, ◌<◌, slice_get, slice_set, Some, Ok, Err, ◌^◌}
 use Rattle.std.proofs.lemmas.List.{length-map}
 use Rattle.gpu_core.specs.TypeState.{TypeState, capacity_of}
 use Rattle.gpu_core.specs.Slots.{AreSound}

@@ -1,10 +1,10 @@
-use Rattle.std.proofs.Common.{◌≡◌, ◌∙◌, ap, sym, subst, refl, true, false, Some, None, Ok, Err, arith, Bool}
+use Rattle.std.proofs.Common.{◌≡◌, ◌∙◌, ap, subst, refl, true, false, Some, None, Ok, Err, arith}
 use Rattle.gpu_core.specs.Refusal.{refusal_of}
-use Rattle.gpu_core.specs.TypeTake.{asked, has_own_block, PreparesPiece, NeedsBlock, Installs}
+use Rattle.gpu_core.specs.TypeTake.{asked, has_own_block, PreparesPiece, Installs}
 use Rattle.gpu_core.specs.declared.memory_type.need.NeedBlock.{NeedBlock}
 use Rattle.gpu_values.specs.declared.error.AllocationError.TheVariants.{OutOfMemory}
 use Rattle.gpu_allocator.specs.Setup.{Setup}
-use Rattle.gpu_allocator.specs.Attempt.{Outcome, Short, Serves, Needs, Refused, IsTaken, question}
+use Rattle.gpu_allocator.specs.Attempt.{Short, Serves, Needs, Refused, IsTaken, question}
 use Rattle.gpu_allocator.specs.contracts.vulkan.setup.Setup.{the_view}
 use Rattle.gpu_allocator.specs.BlockAnswer.{Asks}
 use Rattle.gpu_allocator.specs.Blocks.{is_host_visible}

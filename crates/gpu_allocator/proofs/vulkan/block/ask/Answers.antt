@@ -1,9 +1,9 @@
-use Rattle.std.proofs.Common.{◌≡◌, ◌∙◌, sym, ap, Some, refl, to_z, of_z, w32, subst, ℕ}
-use Rattle.std.specs.FinMap.{insert, remove}
-use Rattle.gpu_device.specs.Held.{Held, size_of, new_entry, mapped_with, raised}
+use Rattle.std.proofs.Common.{◌∙◌, sym, ap, Some, refl, to_z, of_z, w32}
+use Rattle.std.specs.FinMap.{remove}
+use Rattle.gpu_device.specs.Held.{Held, size_of, mapped_with, raised}
 use Rattle.gpu_device.proofs.Changes.{size-new}
 use Rattle.gpu_device.proofs.Maps.{remove-insert}
-use Rattle.gpu_allocator.specs.BlockAnswer.{BlockAnswer, Declined, Granted, Mapped, NotMapped, Asks}
+use Rattle.gpu_allocator.specs.BlockAnswer.{Declined, Granted, Mapped, NotMapped}
 use Rattle.gpu_allocator.proofs.vulkan.block.ask.Goals as goal
 
 pub returns-in-Err : goal.returns-in-Err

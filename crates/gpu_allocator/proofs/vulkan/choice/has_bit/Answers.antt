@@ -1,4 +1,4 @@
-use Rattle.std.proofs.Common.{◌≡◌, ◌==◌, ap, sym, arith}
+use Rattle.std.proofs.Common.{◌==◌, ap, sym, arith}
 use Rattle.std.proofs.lemmas.Nat.Bits.{bit_at_above}
 use Rattle.gpu_allocator.proofs.vulkan.choice.has_bit.Goals as goal
 

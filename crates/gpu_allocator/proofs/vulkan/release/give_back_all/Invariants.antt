@@ -1,4 +1,4 @@
-use Rattle.std.proofs.Common.{◌≡◌, ◌≤◌, take, length}
+use Rattle.std.proofs.Common.{◌≡◌, take, length}
 use Rattle.gpu_allocator.specs.Returning.{without}
 use Rattle.gpu_allocator.proofs.vulkan.release.give_back_all.Given as goal
 

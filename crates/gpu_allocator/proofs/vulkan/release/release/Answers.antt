@@ -4,8 +4,8 @@ use Rattle.gpu_core.specs.Slots.{AreSound}
 use Rattle.gpu_core.specs.TypeRelease.{has_several, ReleasesPiece}
 use Rattle.gpu_core.specs.TypeState.{TypeState, capacity_of}
 use Rattle.gpu_device.specs.declared.vulkan.types.DeviceMemory.{DeviceMemory}
-use Rattle.gpu_allocator.specs.Blocks.{Slots, slots_at, total_capacity, AreAllSound}
-use Rattle.gpu_allocator.specs.Types.{Types, slots_of, kinds}
+use Rattle.gpu_allocator.specs.Blocks.{Slots, total_capacity, AreAllSound}
+use Rattle.gpu_allocator.specs.Types.{slots_of, kinds}
 use Rattle.gpu_allocator.proofs.Taken.{element_at}
 use Rattle.gpu_allocator.proofs.Types.{kinds_set, slots_set, slots_are, sound_set, total_set, pages_at}
 use Rattle.gpu_allocator.proofs.vulkan.release.release.Goals as goal

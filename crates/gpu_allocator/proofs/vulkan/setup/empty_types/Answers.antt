@@ -1,4 +1,4 @@
-use Rattle.std.proofs.Common.{◌≡◌, ◌∙◌, ◌++◌, ◌≤◌, [], ◌∷◌, List, ℕ, Bool, Some, ap, sym, subst, map, take, slice_get, vec_capacity, arith, length, refl, ◌+◌, get_or, All}
+use Rattle.std.proofs.Common.{◌≡◌, ◌∙◌, ◌++◌, [], ◌∷◌, ℕ, Bool, ap, sym, subst, map, take, arith, refl, ◌+◌, get_or, All}
 use Rattle.std.proofs.lemmas.List.{map-append}
 use Rattle.std.proofs.lemmas.Option.{slice_get-get_or}
 use Rattle.gpu_core.specs.TypeState.{TypeState}

@@ -1,4 +1,4 @@
-use Rattle.std.proofs.Common.{◌≡◌, ◌≤◌, map, take, All, [], length, vec_capacity, ◌-◌, ◌+◌}
+use Rattle.std.proofs.Common.{◌≡◌, ◌≤◌, map, take, All, [], length, vec_capacity}
 use Rattle.gpu_allocator.specs.Blocks.{is_host_visible}
 use Rattle.gpu_allocator.specs.Types.{slots_of, kinds}
 use Rattle.gpu_allocator.proofs.vulkan.setup.empty_types.Given as goal

@@ -1,4 +1,4 @@
-use Rattle.std.proofs.Common.{◌≡◌, ◌∙◌, sym, subst, ap, IsTrue, arith, ℕ, rules}
+use Rattle.std.proofs.Common.{◌≡◌, ◌∙◌, sym, IsTrue, arith}
 use Rattle.std.specs.Int.{is_power_of_two}
 use Rattle.std.proofs.lemmas.Fmt.{decimal_injective}
 use Rattle.gpu_session.proofs.block.command.granularity_of.Goals as goal

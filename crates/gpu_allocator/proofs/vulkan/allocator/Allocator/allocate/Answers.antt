@@ -1,5 +1,4 @@
-use Rattle.std.proofs.Common.{◌≡◌, ◌∙◌, sym, ap, subst, length, arith}
-use Rattle.gpu_allocator.specs.State.{IsKept}
+use Rattle.std.proofs.Common.{◌∙◌, ap, length, arith}
 use Rattle.gpu_allocator.specs.Types.{slots_of}
 use Rattle.gpu_allocator.proofs.Following.{served_holds}
 use Rattle.gpu_allocator.proofs.vulkan.allocator.Allocator.allocate.Goals as goal

@@ -1,5 +1,3 @@
-use Rattle.std.proofs.Common.{◌≡◌, ◌∙◌, sym, ap, subst, refl}
-use Rattle.gpu_allocator.specs.Live.{IsLive, IsMapped}
 use Rattle.gpu_allocator.specs.Types.{slots_of}
 use Rattle.gpu_allocator.proofs.Inside.{lent_where_mapped}
 use Rattle.gpu_allocator.proofs.vulkan.allocator.Allocator.mapped_slice.Goals as goal

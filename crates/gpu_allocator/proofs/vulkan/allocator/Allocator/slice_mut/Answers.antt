@@ -1,7 +1,7 @@
-use Rattle.std.proofs.Common.{◌≡◌, ◌∙◌, sym, ap, subst, refl, length, List, ℕ}
+use Rattle.std.proofs.Common.{◌∙◌, refl, ℕ}
 use Rattle.gpu_device.proofs.Writes.{range_from, length_of_range}
 use Rattle.gpu_device.specs.Held.{bytes_of}
-use Rattle.gpu_allocator.specs.Live.{IsLive, IsMapped}
+use Rattle.gpu_allocator.specs.Live.{IsMapped}
 use Rattle.gpu_allocator.specs.State.{IsKept}
 use Rattle.gpu_allocator.specs.Types.{slots_of}
 use Rattle.gpu_allocator.proofs.Writing.{allocation_range, allocation_written, own_written, others_kept}

@@ -1,5 +1,4 @@
-use Rattle.std.proofs.Common.{◌≡◌, ◌∙◌, ap, sym, subst, slice_get, length, ◌<◌, Some, arith, ℕ}
-use Rattle.gpu_device.specs.Properties.{Properties}
+use Rattle.std.proofs.Common.{◌≡◌, ◌∙◌, ap, sym, subst, slice_get, length, ◌<◌, Some}
 use Rattle.gpu_allocator.specs.Setup.{Setup}
 use Rattle.gpu_allocator.specs.Allocate.{heap_size, heap_of, size_in}
 use Rattle.gpu_allocator.specs.contracts.vulkan.setup.Setup.{the_view}
