@@ -15,27 +15,27 @@ use std::alloc::{AllocError, Global};
 use std::test::Fail;
 
 /// Bytes in a megabyte.
-pub const MB: u64 = 1_048_576;
+const MB: u64 = 1_048_576;
 
 /// How a test ends.
-pub type Outcome = std::result::Result<(), Fail>;
+type Outcome = std::result::Result<(), Fail>;
 
 /// A device's properties, and what it refuses.
 #[derive(Clone, Copy)]
-pub struct Properties<'a> {
+struct Properties<'a> {
     /// Sizes in bytes.
-    pub heaps: &'a [u64],
+    heaps: &'a [u64],
     /// Flags and heap of each memory type.
-    pub types: &'a [(u32, u32)],
-    pub granularity: u64,
+    types: &'a [(u32, u32)],
+    granularity: u64,
     /// The largest memory in bytes.
-    pub limit: u64,
+    limit: u64,
     /// Questions by their number.
-    pub refusals: &'a [(u64, Refusal)],
+    refusals: &'a [(u64, Refusal)],
 }
 
 /// One memory type of these flags, on a heap of that size, of a device that grants all.
-pub fn one_type(flags: &'static [(u32, u32)], heap: &'static [u64]) -> Properties<'static> {
+fn one_type(flags: &'static [(u32, u32)], heap: &'static [u64]) -> Properties<'static> {
     Properties {
         heaps: heap,
         types: flags,
@@ -46,10 +46,7 @@ pub fn one_type(flags: &'static [(u32, u32)], heap: &'static [u64]) -> Propertie
 }
 
 /// The simulated device of these properties.
-pub fn simulated(
-    alloc: Global,
-    properties: &Properties,
-) -> std::result::Result<SimVulkan, AllocError> {
+fn simulated(alloc: Global, properties: &Properties) -> std::result::Result<SimVulkan, AllocError> {
     let mut heaps = Vec::new(alloc);
     for size in properties.heaps {
         heaps.push(MemoryHeap {
@@ -87,7 +84,7 @@ fn memory_types(
 }
 
 /// What an allocator is made from, with these block sizes.
-pub fn described(device: SimVulkan, sizes: AllocationSizes) -> AllocatorCreateDesc<SimVulkan> {
+fn described(device: SimVulkan, sizes: AllocationSizes) -> AllocatorCreateDesc<SimVulkan> {
     AllocatorCreateDesc {
         device,
         physical_device: PhysicalDevice(1),
@@ -98,7 +95,7 @@ pub fn described(device: SimVulkan, sizes: AllocationSizes) -> AllocatorCreateDe
 }
 
 /// An allocator over a simulated device.
-pub fn made(
+fn made(
     alloc: Global,
     properties: &Properties,
     sizes: AllocationSizes,
@@ -111,11 +108,7 @@ pub fn made(
 }
 
 /// A linear piece of a shared block.
-pub fn managed(
-    size: u64,
-    alignment: u64,
-    location: MemoryLocation,
-) -> AllocationCreateDesc<'static> {
+fn managed(size: u64, alignment: u64, location: MemoryLocation) -> AllocationCreateDesc<'static> {
     AllocationCreateDesc {
         name: "piece",
         requirements: MemoryRequirements {
@@ -130,7 +123,7 @@ pub fn managed(
 }
 
 /// Takes what must be given.
-pub fn take(
+fn take(
     a: &mut Allocator<SimVulkan>,
     desc: &AllocationCreateDesc,
 ) -> std::result::Result<Allocation, Fail> {
@@ -141,7 +134,7 @@ pub fn take(
 }
 
 /// Gives back what is live.
-pub fn give(a: &mut Allocator<SimVulkan>, allocation: Allocation) -> Outcome {
+fn give(a: &mut Allocator<SimVulkan>, allocation: Allocation) -> Outcome {
     match a.free(&Discard, allocation) {
         Ok(()) => Ok(()),
         Err((_, _)) => Err(Fail::from("a live allocation came back")),
@@ -149,7 +142,7 @@ pub fn give(a: &mut Allocator<SimVulkan>, allocation: Allocation) -> Outcome {
 }
 
 /// The slot, offset and number of an allocation.
-pub fn place(allocation: &Allocation) -> (usize, u64, Option<u64>) {
+fn place(allocation: &Allocation) -> (usize, u64, Option<u64>) {
     let number = match allocation.chunk_id() {
         Some(number) => Some(number.get()),
         None => None,

@@ -4,7 +4,7 @@ ghost use Rattle.std.specs.Prelude.{◌≡◌, ◌↔◌, [], All, Some, None, I
 ghost use Rattle.std.specs.Option.{unwrap_or};
 ghost use Rattle.gpu_core.specs.Refusal.{refusal_of, host_out_of_memory};
 ghost use Rattle.gpu_allocator.specs.Setup.{setup_fault};
-ghost use Rattle.gpu_allocator.specs.Blocks.{total_capacity};
+ghost use Rattle.gpu_allocator.specs.Blocks.{total_capacity, HoldsJustLiveBlocks};
 ghost use Rattle.gpu_allocator.specs.Allocate.{Allocates};
 ghost use Rattle.gpu_allocator.specs.Free.{Frees};
 ghost use Rattle.std.specs.Borrow.{sem};
@@ -62,6 +62,7 @@ impl<D: VulkanDevice> Allocator<D> {
           device_address = desc.buffer_device_address;
         }) }
         ensures empty { IfOk result (λ a. All (λ slots. slots ≡ []) a.slots) }
+        ensures types { IfOk result (λ a. length a.slots ≡ length (D.properties desc.device).types) }
         ensures valid { OnOk result (setup_fault desc.physical_device.0 (D.properties desc.device) ≡ None) }
         ensures refused { IfErr result (λ e. e.1 ≡ desc.device) }
         ensures cause { IfErr result (λ e. refusal_of e.0 ≡ unwrap_or (setup_fault desc.physical_device.0 (D.properties desc.device)) host_out_of_memory) }
@@ -103,7 +104,6 @@ impl<D: VulkanDevice> Allocator<D> {
         ensures constant { (self.new.first ≡ self.old.first) × (self.new.setup ≡ self.old.setup) }
     {
         let _ = log;
-        let _ = &self.setup;
         if desc.requirements.size == 0 || !desc.requirements.alignment.is_power_of_two() {
             return Err(AllocationError::InvalidAllocationCreateDesc);
         }
@@ -128,9 +128,11 @@ impl<D: VulkanDevice> Allocator<D> {
         total_capacity(&self.types)
     }
 
-    /// The device, lent.
+    /// The device, lent. It holds what it held when it was handed in, and just the live blocks.
     pub fn device(&self) -> &D
-        ensures { result.now ≡ self.now.device }
+        ensures lent { result.now ≡ self.now.device }
+        ensures holds { HoldsJustLiveBlocks self.now.setup.properties (D.held self.now.first) (D.held self.now.device) self.now.slots }
+        ensures constant { D.properties self.now.device ≡ self.now.setup.properties }
     {
         &self.device
     }
