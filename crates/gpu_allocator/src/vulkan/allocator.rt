@@ -249,7 +249,7 @@ impl<D: VulkanDevice> Allocator<D> {
             alloc: _,
         } = self;
         for index in 0..types.len() {
-            give_back_all(&mut device, &types[index], setup.is_mapped(index));
+            give_back_all(&mut device, &types[index]);
         }
         device
     }
