@@ -12,3 +12,9 @@ pub mod Returned
 pub mod Releasing
 pub mod Inside
 pub mod Writing
+
+pub mod Joins
+pub mod Parts
+pub mod Buffered
+pub mod Stepping
+pub mod Steps

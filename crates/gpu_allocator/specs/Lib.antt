@@ -11,3 +11,5 @@ pub mod State
 pub mod Free
 pub mod Returning
 pub mod Lends
+pub mod Buffers
+pub mod Step

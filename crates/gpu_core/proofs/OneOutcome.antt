@@ -73,7 +73,7 @@ one_element x y (suc i) h e = absurd (omega arith)
 number_of_one : (s k : ℕ) → Contains {X = ℕ × ℕ} ((0, 1) ∷ []) (s, k) → k ≡ 1
 number_of_one s k h = one_element (0, 1) (s, k) h.0 h.1 h.2
 
-fresh_sound : (is_dedicated : Bool) (size g : ℕ) → IsSoundBlock (fresh_block is_dedicated size g)
+pub fresh_sound : (is_dedicated : Bool) (size g : ℕ) → IsSoundBlock (fresh_block is_dedicated size g)
 fresh_sound true size g = tt
 fresh_sound false size g =
     record {

@@ -7,6 +7,7 @@ ghost use Rattle.gpu_allocator.specs.Setup.{setup_fault};
 ghost use Rattle.gpu_allocator.specs.Blocks.{total_capacity, HoldsJustLiveBlocks};
 ghost use Rattle.gpu_allocator.specs.Allocate.{Allocates};
 ghost use Rattle.gpu_allocator.specs.Free.{Frees};
+ghost use Rattle.gpu_allocator.specs.Step.{IsStep, IsAllocateStep, Free, Write, Read, Capacity, Done, Bytes, Sum, freed_as};
 ghost use Rattle.std.specs.Borrow.{sem};
 ghost use Rattle.gpu_allocator.specs.Live.{IsLive, IsMapped, bytes_at};
 
@@ -102,6 +103,7 @@ impl<D: VulkanDevice> Allocator<D> {
     pub fn allocate<L: Log>(&mut self, log: &L, desc: &AllocationCreateDesc) -> Result<Allocation>
         ensures allocates { Allocates D.VulkanDevice self.old.setup desc.now self.old.slots self.old.device result self.new.slots self.new.device }
         ensures constant { (self.new.first ≡ self.old.first) × (self.new.setup ≡ self.old.setup) }
+        ensures step { IsAllocateStep D.VulkanDevice desc.now result self.old self.new }
     {
         let _ = log;
         if desc.requirements.size == 0 || !desc.requirements.alignment.is_power_of_two() {
