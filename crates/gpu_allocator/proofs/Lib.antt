@@ -18,3 +18,4 @@ pub mod Parts
 pub mod Buffered
 pub mod Stepping
 pub mod Steps
+pub mod Freeing
