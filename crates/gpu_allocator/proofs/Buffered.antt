@@ -32,14 +32,14 @@ not_both t i u j ne =
     (λ apart. ap (λ x. x && (i == j)) (eq_false t u apart))
     (cases_eq t u)
 
-same_as : (q : Place) (t i : ℕ) → q.memory_type ≡ t → q.slot ≡ i → place t i q.number ≡ q
+pub same_as : (q : Place) (t i : ℕ) → q.memory_type ≡ t → q.slot ≡ i → place t i q.number ≡ q
 same_as q t i a b =
     let e = sym a in
     let f = sym b in
     λ l. record { memory_type = e l; slot = f l; number = q.number }
 
 -- where a place is another one of the same block, its number is another one
-other_number : (t i n k : ℕ) → is_place (place t i n) (place t i k) ≡ false → k ≢ n
+pub other_number : (t i n k : ℕ) → is_place (place t i n) (place t i k) ≡ false → k ≢ n
 other_number t i n k isnt e = false_true (sym isnt ∙ (ap (λ x. x && ((i == i) && (n == k))) (eq_true t t refl) ∙ (ap (λ x. x && (n == k)) (eq_true i i refl) ∙ eq_true n k (sym e))))
   where
     false_true : false ≡ true → ⊥

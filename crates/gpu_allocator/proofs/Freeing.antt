@@ -153,3 +153,16 @@ module _ {D : Type 0} (g : Ghosts D) (first : Held) (old new : State D) (sound :
         count = s.1;
         latest = s.2;
       }
+
+null_frees : (o : Option (Piece DeviceMemory)) → o ≡ None → (t : ℕ) (s : ModelState) → FreeStep t o Done s s
+null_frees None is t s = refl
+null_frees (Some p) is t s = absurd (none_some p (sym is))
+
+-- a null allocation is nothing to give back
+pub null_step : {D : Type 0} (g : Ghosts D) (s : State D) (a : Allocation) → piece_of a ≡ None → IsStep g (Free a) Done s s
+null_step g s a is = record {
+  outcomes = record { first = nothing_met; second = nothing_met };
+  step = ((refl, refl), null_frees (piece_of a) is a.memory_type_index (model_of g s));
+  count = refl;
+  latest = refl;
+}

@@ -77,9 +77,13 @@ module _ (p : Properties) (first held : Held) (ss : Slots) (sound : AreAllSound 
 false_true : false ≡ true → ⊥
 false_true e = cc
 
-some_copied : (r : Option (Bor (List ℕ))) → IsSome (option_copied r) → IsSome r
+pub some_copied : (r : Option (Bor (List ℕ))) → IsSome (option_copied r) → IsSome r
 some_copied None h = h
 some_copied (Some s) h = refl
+
+pub copied_some : (r : Option (Bor (List ℕ))) → IsSome r → IsSome (option_copied r)
+copied_some None h = h
+copied_some (Some s) h = refl
 
 none_copied : (r : Option (Bor (List ℕ))) → option_copied r ≡ None → IsSome r → ⊥
 none_copied None e some = false_true some

@@ -33,7 +33,7 @@ or_true : (b : Bool) → (b || true) ≡ true
 or_true true = refl
 or_true false = refl
 
-all_of : {X : Type 0} (xs : List X) (P : X → Type 0) → ((x : X) → Contains xs x → P x) → All P xs
+pub all_of : {X : Type 0} (xs : List X) (P : X → Type 0) → ((x : X) → Contains xs x → P x) → All P xs
 all_of xs P each = All-weaker (Contains xs) P each xs (All-contains_itself xs)
 
 -- ---- which piece has a number

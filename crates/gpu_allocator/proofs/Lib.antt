@@ -19,3 +19,4 @@ pub mod Buffered
 pub mod Stepping
 pub mod Steps
 pub mod Freeing
+pub mod Listed

@@ -1,6 +1,6 @@
 //! The allocator: blocks of device memory by memory type, and the calls that share them out.
 
-ghost use Rattle.std.specs.Prelude.{◌≡◌, ◌↔◌, [], All, Some, None, IfOk, IfErr, OnOk, OnErr, IsOk, IsSome, IfSome, IsTrue, List, ℕ, length, option_map};
+ghost use Rattle.std.specs.Prelude.{◌≡◌, ◌↔◌, [], All, Some, None, IfOk, IfErr, OnOk, OnErr, IsOk, IsSome, IfSome, IsTrue, List, ℕ, length, option_map, option_copied};
 ghost use Rattle.std.specs.Option.{unwrap_or};
 ghost use Rattle.gpu_core.specs.Refusal.{refusal_of, host_out_of_memory};
 ghost use Rattle.gpu_allocator.specs.Setup.{setup_fault};
@@ -125,7 +125,8 @@ impl<D: VulkanDevice> Allocator<D> {
 
     /// The sum of the sizes of the live blocks, in bytes.
     pub fn capacity(&self) -> u64
-        ensures { result ≡ total_capacity self.now.slots }
+        ensures sum { result ≡ total_capacity self.now.slots }
+        ensures step { IsStep D.VulkanDevice Capacity (Sum result) self.now self.now }
     {
         total_capacity(&self.types)
     }
@@ -157,6 +158,7 @@ impl<D: VulkanDevice> Allocator<D> {
         ensures mapped { IsSome result ↔ IsMapped self.now.setup.properties self.now.slots allocation.now }
         ensures value { IfSome result (λ s. bytes_at (D.held self.now.device) allocation.now ≡ Some s.now) }
         ensures len { IfSome result (λ s. length s.now ≡ allocation.now.size) }
+        ensures step { IsStep D.VulkanDevice (Read allocation.now) (Bytes (option_copied result)) self.now self.now }
     {
         if !self.is_live(allocation) {
             return None;
@@ -173,6 +175,8 @@ impl<D: VulkanDevice> Allocator<D> {
         ensures len { length result.now ≡ allocation.now.size }
         ensures isolated { (ws : List ℕ) → length ws ≡ allocation.now.size
             → ChangesOnly D.VulkanDevice self.old allocation.now ws (written_at D.VulkanDevice self.old allocation.now ws) }
+        ensures step { (ws : List ℕ) → length ws ≡ allocation.now.size
+            → IsStep D.VulkanDevice (Write allocation.now ws) Done self.old (written_at D.VulkanDevice self.old allocation.now ws) }
     {
         self.device.range_mut(allocation.device_memory, allocation.offset, allocation.size)
     }
@@ -217,6 +221,7 @@ impl<D: VulkanDevice> Allocator<D> {
     ) -> Result<(), (AllocationError, Allocation)>
         ensures frees { Frees D.VulkanDevice allocation self.old.slots self.old.device result self.new.slots self.new.device }
         ensures constant { (self.new.first ≡ self.old.first) × (self.new.setup ≡ self.old.setup) }
+        ensures step { IsStep D.VulkanDevice (Free allocation) (freed_as result) self.old self.new }
     {
         let _ = log;
         let Some(piece) = allocation.piece() else {

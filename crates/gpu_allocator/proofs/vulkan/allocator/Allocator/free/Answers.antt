@@ -1,8 +1,11 @@
-use Rattle.std.proofs.Common.{◌≡◌, ◌∙◌, sym, ap, subst, length, arith}
+use Rattle.std.proofs.Common.{rules, refl, None, ◌≡◌, ◌∙◌, sym, ap, subst, length, arith}
 use Rattle.gpu_core.specs.TypeRelease.{IsLive}
 use Rattle.gpu_allocator.specs.Blocks.{Slots, slots_at, HoldsJustLiveBlocks}
-use Rattle.gpu_allocator.specs.Free.{IsReleased}
-use Rattle.gpu_allocator.specs.Live.{is_same_memory}
+use Rattle.gpu_allocator.specs.Free.{IsReleased, Frees}
+use Rattle.gpu_allocator.specs.Live.{is_same_memory, piece_of}
+use Rattle.gpu_allocator.specs.State.{State}
+use Rattle.gpu_allocator.specs.Step.{IsStep, Free, freed_as}
+use Rattle.gpu_allocator.proofs.Freeing.{free_step, null_step}
 use Rattle.gpu_allocator.specs.Types.{slots_of}
 use Rattle.gpu_allocator.proofs.Releasing.{released_holds, type_below, either_way}
 use Rattle.gpu_allocator.proofs.vulkan.allocator.Allocator.free.Goals as goal
@@ -39,3 +42,19 @@ invariant_of-self g c =
         holds = holds.0;
       },
     )
+
+pub returns-in_default-clause-step : goal.returns-in_default-clause-step
+returns-in_default-clause-step g c =
+    let none : piece_of c.args.allocation ≡ None = search rules in
+    null_step g.D.VulkanDevice c.args.self.now c.args.allocation none
+
+pub returns-clause-step : goal.returns-clause-step
+returns-clause-step g c =
+    let V = g.D.VulkanDevice in
+    let i = c.self.inside in
+    let kept = c.self.invariant.1 in
+    let before : State g.row.D.Denot = record { device = i.device; first = i.first.value; setup = i.setup; slots = slots_of i.types.items } in
+    let after : State g.row.D.Denot = record { device = c.release.new.device; first = i.first.value; setup = i.setup; slots = slots_of c.release.new.types.items } in
+    let frees : Frees V c.args.allocation before.slots before.device c.match-release.result after.slots after.device = search rules in
+    subst (λ (s : State g.row.D.Denot). IsStep V (Free c.args.allocation) (freed_as c.match-release.result) s after) c.self.view_is
+    (free_step V (V.held i.first.value) before after kept.sound kept.holds (λ n. g.met.D.VulkanDevice.whole i.device n) c.args.allocation c.match-release.result frees)
