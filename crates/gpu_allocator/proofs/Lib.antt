@@ -20,3 +20,4 @@ pub mod Stepping
 pub mod Steps
 pub mod Freeing
 pub mod Listed
+pub mod OneStep

@@ -55,7 +55,7 @@ comes_same used ask mapped old (Serves p after) (Some a) r new c = absurd c
 comes_same used ask mapped old (Needs size own ready) None r new c = c.2
 comes_same used ask mapped old (Needs size own ready) (Some a) r new c = settled_same old own ready a.answer r new c.3
 
-refused_same : (setup : Setup) (old : Slots) (t : ℕ) (d : AllocationCreateDesc) (o : Outcome) (r : Refusal) (new : Slots) → Attempts setup old t d o (Refused r) new → new ≡ old
+pub refused_same : (setup : Setup) (old : Slots) (t : ℕ) (d : AllocationCreateDesc) (o : Outcome) (r : Refusal) (new : Slots) → Attempts setup old t d o (Refused r) new → new ≡ old
 refused_same setup old t d o r new a =
     ⊎_elim
     (λ (large : IsTooLarge setup old t d o (Refused r) new). large.same)
@@ -77,7 +77,7 @@ next_same setup t d (Ok a) (Refused r) h = absurd h
 next_same setup t d (Err e) (Gave p) h = absurd h
 next_same setup t d (Err e) (Refused r) h = ap (next_type setup d) h
 
-none_next : (setup : Setup) (d : AllocationCreateDesc) (u : ℕ) (p : Piece DeviceMemory) → next_by setup d (Gave p) ≡ Some u → ⊥
+pub none_next : (setup : Setup) (d : AllocationCreateDesc) (u : ℕ) (p : Piece DeviceMemory) → next_by setup d (Gave p) ≡ Some u → ⊥
 none_next setup d u p e = cc
 
 module _ {D : Type 0} (g : Ghosts D) (whole : (x : D) (n : ℕ) → IsWhole (get (g.held x) n)) (setup : Setup) (d : AllocationCreateDesc) (first : Held) where

@@ -3,16 +3,20 @@ use Rattle.std.proofs.Common.{◌≡◌, ℕ, ◌<◌, Bool, true, false, cond, 
 use Rattle.std.proofs.lemmas.Bool.{false≢true, cases_eq, cases_lt}
 use Rattle.std.proofs.Math.Bridge.{le_prop}
 use Rattle.std.proofs.Math.Path.{to_path_p}
-use Rattle.std.specs.Prelude.{Contains}
+use Rattle.std.specs.Prelude.{Contains, IfSome}
+use Rattle.std.specs.Option.{option_to_list}
 use Rattle.std.specs.Int.NonZero.{non_zero_u64_get}
 use Rattle.std.specs.declared.num.NonZeroU64.{NonZeroU64}
+use Rattle.gpu_core.specs.FreeList.{Extent}
 use Rattle.gpu_core.specs.Request.{Request}
 use Rattle.gpu_core.specs.Sizes.{Sizes}
-use Rattle.gpu_core.specs.Block.{Block, free_list, dedicated, is_general, TakesIn, IsSoundBlock}
+use Rattle.gpu_core.specs.Block.{Block, free_list, dedicated, is_general, TakesIn, IsSoundBlock, IsReleaseRefusalIn, extents_of}
 use Rattle.gpu_core.specs.TypeState.{Slot, TypeState, slot_at}
 use Rattle.gpu_core.specs.TypeTake.{PreparesPiece, CannotServe, BlockCannotServe, Ready, NeedsBlock, Installs, has_own_block, fresh_block, next_shared_size}
-use Rattle.gpu_core.specs.TypeRelease.{Goes, SlotReleases, ReleasesPiece, SlotRenames, RenamesPiece}
+use Rattle.gpu_core.specs.TypeRelease.{IsFreeRefusal, Goes, SlotReleases, ReleasesPiece, SlotRenames, RenamesPiece}
+use Rattle.gpu_core.specs.Refusal.{Refusal}
 use Rattle.gpu_core.specs.Slots.{AreSound, SlotIsSound}
+use Rattle.gpu_core.proofs.Finding.{only_one}
 use Rattle.gpu_core.specs.declared.memory_type.Piece.{Piece}
 use Rattle.gpu_block.proofs.Blocks.{take_once_in, release_once_in, rename_once_in}
 use Rattle.gpu_block.proofs.Determined.{takes_or_none}
@@ -136,3 +140,39 @@ slot_renamed_once n name (Some old) None next t u = absurd t
 pub renamed_once : {H : Type 0} (old : List (Option (Slot H))) (p : Piece H) (name : List ℕ) (new next : List (Option (Slot H))) → RenamesPiece old p name new → RenamesPiece old p name next → new ≡ next
 renamed_once old p name new next t u =
     t.slots ∙ (ap (slice_set old p.slot) (slot_renamed_once (non_zero_u64_get p.number) name (slot_at old p.slot) t.slot u.slot t.renames u.renames) ∙ sym u.slots)
+
+-- ---- why a piece isn't given back
+
+some_in : (o : Option Extent) (n : ℕ) → IfSome o (λ x. x.number ≡ 1) → (x : Extent) → Contains (option_to_list o) x → x.number ≡ n → (n ≡ 1) × (o ≡ None → ⊥)
+some_in None n whole x h e = let l = h.1 in absurd (omega arith)
+some_in (Some y) n whole x h e = (sym e ∙ ap (λ (z : Extent). z.number) (only_one (Some y) x y h (0, omega arith, refl)) ∙ whole, λ none. some_none y none)
+  where
+    some_none : (z : Extent) → Some z ≡ None → ⊥
+    some_none z k = cc
+
+whole_number : (o : Option Extent) (size : ℕ) → IfSome o (λ x. (x.start ≡ 0) × (x.offset ≡ 0) × (x.end ≡ size) × (x.number ≡ 1)) → IfSome o (λ x. x.number ≡ 1)
+whole_number None size w = tt
+whole_number (Some x) size w = w.3
+
+-- no number is both refused by the block and that of a live piece
+refused_not_held : (b : Block) (n : NonZeroU64) (r : Refusal) → IsSoundBlock b → IsReleaseRefusalIn b (Some n) r → (x : Extent) → Contains (extents_of b) x → x.number ≡ non_zero_u64_get n → ⊥
+refused_not_held (free_list b) n r sound h x held e = h.1 (x, held, e)
+refused_not_held (dedicated b) n r sound h x held e =
+    let w = some_in b.piece (non_zero_u64_get n) (whole_number b.piece b.size sound) x held e in
+    elim h [ inl a ↦ a.0 w.0 | inr a ↦ w.1 a.1 ]
+
+block_refusal_once : (b : Block) (n : NonZeroU64) (r s : Refusal) → IsReleaseRefusalIn b (Some n) r → IsReleaseRefusalIn b (Some n) s → r ≡ s
+block_refusal_once (free_list b) n r s h k = h.0 ∙ sym k.0
+block_refusal_once (dedicated b) n r s h k =
+    elim h [
+      | inl a ↦ elim k [ inl c ↦ a.1 ∙ sym c.1 | inr c ↦ absurd (a.0 c.0) ]
+      | inr a ↦ elim k [ inl c ↦ absurd (c.0 a.0) | inr c ↦ a.2 ∙ sym c.2 ]
+    ]
+
+pub refusal_once : {H : Type 0} (eq : H → H → Bool) (g : ℕ) (p : Piece H) (old : Option (Slot H)) (r s : Refusal) → SlotIsSound g old → IsFreeRefusal eq p old r → IsFreeRefusal eq p old s → r ≡ s
+refusal_once eq g p None r s sound h k = h ∙ sym k
+refusal_once eq g p (Some o) r s sound h k =
+    elim h [
+      | inl a ↦ elim k [ inl c ↦ block_refusal_once o.block p.number r s a c | inr c ↦ absurd (refused_not_held o.block p.number r sound.1 a c.1.0 c.1.1 c.1.2) ]
+      | inr a ↦ elim k [ inl c ↦ absurd (refused_not_held o.block p.number s sound.1 c a.1.0 a.1.1 a.1.2) | inr c ↦ a.2 ∙ sym c.2 ]
+    ]
