@@ -1,10 +1,9 @@
 -- The lists and the rest of all blocks, as a piece is given or goes in one block.
-use Rattle.std.proofs.Common.{◌≡◌, ◌≢◌, ◌∙◌, ◌⊎◌, ℕ, ◌+◌, ◌-◌, ◌<◌, refl, sym, ap, subst, Bool, true, false, List, [], ◌∷◌, length, Option, Some, None, arith, inl, inr, ⊎_elim}
+use Rattle.std.proofs.Common.{◌≡◌, ◌≢◌, ◌∙◌, ℕ, ◌-◌, refl, sym, ap, subst, Bool, true, false, List, [], Option, Some, None, ⊎_elim}
 use Rattle.std.specs.Prelude.{if◌then◌else◌, ◌&&◌, ◌==◌}
 use Rattle.std.proofs.lemmas.Bool.{cases_eq, cases_Bool}
 use Rattle.gpu_block.proofs.Keyed.{eq_false, eq_true}
-use Rattle.gpu_core.specs.Block.{Block, extents_of}
-use Rattle.gpu_core.specs.FreeList.{Extent}
+use Rattle.gpu_core.specs.Block.{extents_of}
 use Rattle.gpu_core.specs.TypeState.{Slot}
 use Rattle.gpu_device.specs.Held.{Held, bytes_of}
 use Rattle.gpu_device.specs.declared.vulkan.types.DeviceMemory.{DeviceMemory}

@@ -1,14 +1,13 @@
 -- A free is a step of the model.
-use Rattle.std.proofs.Common.{◌≡◌, ◌≢◌, ◌∙◌, ◌⊎◌, ℕ, ◌+◌, ◌<◌, refl, sym, ap, subst, Bool, true, false, List, [], ◌∷◌, length, slice_set, Option, Some, None, Ok, Err, Result, arith, inl, inr, ⊎_elim, IsTrue}
+use Rattle.std.proofs.Common.{◌≡◌, ◌∙◌, ℕ, ◌+◌, ◌<◌, refl, sym, ap, subst, List, [], length, slice_set, Option, Some, None, Ok, Err, Result}
 use Rattle.std.specs.FinMap.{get}
 use Rattle.std.specs.Prelude.{Contains}
 use Rattle.std.specs.Int.NonZero.{non_zero_u64_get}
 use Rattle.std.proofs.lemmas.Bool.{eqb-true}
 use Rattle.gpu_core.specs.Block.{Block, extents_of, ReleasesIn, IsSoundBlock}
 use Rattle.gpu_core.specs.FreeList.{Extent}
-use Rattle.gpu_core.specs.Refusal.{refusal_of}
 use Rattle.gpu_core.specs.Slots.{SlotIsSound}
-use Rattle.gpu_core.specs.TypeRelease.{has_several, SlotReleases, SlotHolds, ReleasesPiece}
+use Rattle.gpu_core.specs.TypeRelease.{SlotReleases, SlotHolds}
 use Rattle.gpu_core.specs.TypeState.{Slot, slot_at}
 use Rattle.gpu_core.specs.declared.memory_type.Piece.{Piece}
 use Rattle.gpu_core.proofs.Finding.{one_in}
@@ -24,10 +23,10 @@ use Rattle.gpu_allocator.specs.Free.{GivesBack, IsReleased, FreesPiece, Frees}
 use Rattle.gpu_allocator.specs.Live.{piece_of, is_same_memory, IsLiveIn}
 use Rattle.gpu_allocator.specs.Setup.{Setup}
 use Rattle.gpu_allocator.specs.State.{State}
-use Rattle.gpu_allocator.specs.Step.{ModelState, model_of, Free, Fails, Done, place_in, MayDrop, ReleaseStep, FreeStep, IsStep, nothing_met, freed_as}
+use Rattle.gpu_allocator.specs.Step.{ModelState, model_of, Free, Done, place_in, MayDrop, ReleaseStep, FreeStep, IsStep, nothing_met, freed_as}
 use Rattle.gpu_allocator.specs.declared.vulkan.allocation.Allocation.{Allocation}
 use Rattle.gpu_allocator.proofs.Buffered.{released_buffers, dropped_buffers, with_back, with_back_puts}
-use Rattle.gpu_allocator.proofs.Joins.{Joins, OneMore, one_more_released, found_number}
+use Rattle.gpu_allocator.proofs.Joins.{OneMore, one_more_released, found_number}
 use Rattle.gpu_allocator.proofs.Parts.{HasRoom}
 use Rattle.gpu_allocator.proofs.Placed.{only_block, some_below}
 use Rattle.gpu_allocator.proofs.Releasing.{type_below}

@@ -1,14 +1,14 @@
 -- A list of live pieces with one piece more: which number stands for which piece, and which bytes lie in one.
-use Rattle.std.proofs.Common.{◌≡◌, ◌≢◌, ◌∙◌, ◌⊎◌, ℕ, ◌+◌, ◌<◌, ◌≤◌, refl, sym, ap, subst, Bool, true, false, cond, List, [], ◌∷◌, Option, Some, None, Contains, arith, inl, inr, ⊎_elim, nat_le, nat_lt, ltb, not, IfSome, IsSome}
-use Rattle.std.specs.Prelude.{if◌then◌else◌, ◌&&◌, ◌||◌, ◌==◌, All, filter}
-use Rattle.std.specs.List.{find, list_any}
+use Rattle.std.proofs.Common.{◌≡◌, ◌≢◌, ◌∙◌, ◌⊎◌, ℕ, ◌+◌, ◌<◌, ◌≤◌, refl, sym, ap, subst, Bool, true, false, cond, List, [], ◌∷◌, Option, Some, None, Contains, arith, inl, inr, ⊎_elim, ltb, not, IfSome, IsSome}
+use Rattle.std.specs.Prelude.{◌||◌, ◌==◌, All, filter}
+use Rattle.std.specs.List.{list_any}
 use Rattle.std.specs.Option.{option_to_list}
-use Rattle.std.proofs.lemmas.Bool.{cases_eq, cases_lt, cases_Bool, eqb-true}
+use Rattle.std.proofs.lemmas.Bool.{cases_eq, cases_Bool, eqb-true}
 use Rattle.std.proofs.lemmas.Bool.Decides.{nat_tests}
 use Rattle.std.proofs.lemmas.List.Elements.{All-nil, All-cons, All-head, All-tail, All-weaker, All-contains, All-contains_itself}
 use Rattle.gpu_core.specs.Block.{Block, free_list, dedicated, extents_of, IsSoundBlock, TakesIn, ReleasesIn}
 use Rattle.gpu_core.specs.FreeList.{Extent, FreeList}
-use Rattle.gpu_core.specs.Changes.{placed, with_extent, Takes, Releases}
+use Rattle.gpu_core.specs.Changes.{with_extent, Takes, Releases}
 use Rattle.gpu_core.specs.Dedicated.{Dedicated, whole_extent, held_extents}
 use Rattle.gpu_core.specs.Laws.{IsSound}
 use Rattle.gpu_core.specs.Request.{Request}

@@ -21,3 +21,4 @@ pub mod Steps
 pub mod Freeing
 pub mod Listed
 pub mod OneStep
+pub mod Apart

@@ -1,14 +1,13 @@
 -- A live allocation's list is the bytes at its place, and a write at its place changes that list alone.
-use Rattle.std.proofs.Common.{◌≡◌, ◌≢◌, ◌∙◌, ◌⊎◌, ℕ, ◌+◌, ◌-◌, ◌<◌, ◌≤◌, refl, sym, ap, subst, Bool, true, false, List, length, take, drop, slice_get, Option, Some, None, Contains, arith, inl, inr, ⊎_elim, Bor, IsSome, IfSome, option_copied}
-use Rattle.std.specs.Prelude.{All, if◌then◌else◌}
+use Rattle.std.proofs.Common.{◌≡◌, ◌∙◌, ◌⊎◌, ℕ, ◌+◌, ◌-◌, ◌<◌, ◌≤◌, refl, sym, ap, subst, true, false, List, length, take, drop, slice_get, Option, Some, None, Contains, arith, inl, inr, ⊎_elim, Bor, IsSome, IfSome, option_copied}
+use Rattle.std.specs.Prelude.{if◌then◌else◌}
 use Rattle.std.specs.FinMap.{get}
-use Rattle.std.specs.Int.NonZero.{non_zero_u64_get}
 use Rattle.std.proofs.lemmas.Bool.{cases_eq, cases_Bool, cases_lt}
 use Rattle.std.proofs.lemmas.Bool.Decides.{nat_tests}
 use Rattle.gpu_core.specs.Block.{Block, free_list, dedicated, extents_of, IsSoundBlock}
 use Rattle.gpu_core.specs.FreeList.{Extent}
 use Rattle.gpu_core.specs.Slots.{SlotIsSound}
-use Rattle.gpu_core.specs.TypeState.{Slot, slot_at}
+use Rattle.gpu_core.specs.TypeState.{Slot}
 use Rattle.gpu_block.proofs.Separation.{within_of}
 use Rattle.std.specs.Option.{option_to_list}
 use Rattle.gpu_core.proofs.Finding.{one_in, only_one}
@@ -16,16 +15,16 @@ use Rattle.gpu_device.specs.Held.{Held, IsWhole, HasRange, bytes_of, range_in, r
 use Rattle.gpu_device.specs.declared.vulkan.device.VulkanDevice.{Ghosts}
 use Rattle.gpu_device.specs.declared.vulkan.types.DeviceMemory.{DeviceMemory}
 use Rattle.gpu_device.proofs.Writes.{bytes_there, bytes_elsewhere, range_elsewhere, reads_below, reads_above, length_of_range}
-use Rattle.gpu_allocator.specs.Blocks.{Slots, block_at, is_mapped, total_capacity, AreAllSound, HoldsJustLiveBlocks}
-use Rattle.gpu_allocator.specs.Buffers.{Place, is_place, buffers_of, list_in, rest_in, piece_bytes, piece_of_number, covers, is_covered, byte_at, Writes}
+use Rattle.gpu_allocator.specs.Blocks.{Slots, block_at, total_capacity, AreAllSound, HoldsJustLiveBlocks}
+use Rattle.gpu_allocator.specs.Buffers.{is_place, buffers_of, list_in, rest_in, piece_bytes, piece_of_number, covers, is_covered, byte_at, Writes}
 use Rattle.gpu_allocator.specs.Lends.{number_in, written_at}
 use Rattle.gpu_allocator.specs.Live.{IsLive, IsMapped, bytes_at}
 use Rattle.gpu_allocator.specs.State.{State}
 use Rattle.gpu_allocator.specs.Setup.{Setup}
 use Rattle.gpu_allocator.specs.Step.{model_of, place_of, IsRead, IsStep, Write, Read, Bytes, Capacity, Sum, Done, nothing_met}
 use Rattle.gpu_allocator.specs.declared.vulkan.allocation.Allocation.{Allocation}
-use Rattle.gpu_allocator.proofs.Buffered.{place, other_number, same_as}
-use Rattle.gpu_allocator.proofs.Joins.{number_found, found_number, any_of, covers_range, below_or_above, all_of}
+use Rattle.gpu_allocator.proofs.Buffered.{place, other_number}
+use Rattle.gpu_allocator.proofs.Joins.{number_found, found_number, any_of, all_of}
 use Rattle.gpu_allocator.proofs.Parts.{part_get}
 use Rattle.gpu_allocator.proofs.Taken.{some_same}
 use Rattle.gpu_allocator.proofs.Writing.{extents_apart, Stands, stands, allocation_range, own_written}

@@ -1,31 +1,28 @@
 -- The model isn't loose: a state, a call and what it meets with decide the reply and the next state.
-use Rattle.std.proofs.Common.{◌≡◌, ◌≢◌, ◌∙◌, ◌⊎◌, ℕ, zero, suc, ◌+◌, ◌<◌, ◌≤◌, refl, sym, ap, subst, Bool, true, false, List, [], ◌∷◌, length, slice_get, slice_set, Option, Some, None, arith, inl, inr, ⊎_elim, IsTrue}
+use Rattle.std.proofs.Common.{◌≡◌, ◌∙◌, ℕ, suc, refl, sym, ap, subst, Bool, true, false, List, [], ◌∷◌, slice_get, slice_set, Option, Some, None, arith, ⊎_elim, IsTrue}
 use Rattle.std.proofs.lemmas.Bool.{cases_Bool, cases_lt, eqb-true}
 use Rattle.std.proofs.lemmas.Option.{slice_get_past}
-use Rattle.std.specs.Prelude.{if◌then◌else◌, ◌&&◌, ◌==◌}
-use Rattle.std.specs.Int.NonZero.{non_zero_u64_get}
+use Rattle.std.specs.Prelude.{◌&&◌, ◌==◌}
 use Rattle.gpu_core.specs.Refusal.{Refusal}
-use Rattle.gpu_core.specs.TypeRelease.{has_several, ReleasesPiece, IsFreeRefusal}
+use Rattle.gpu_core.specs.TypeRelease.{has_several}
 use Rattle.gpu_core.specs.TypeState.{Slot, slot_at}
-use Rattle.gpu_core.specs.TypeTake.{Ready, has_own_block}
+use Rattle.gpu_core.specs.TypeTake.{Ready}
 use Rattle.gpu_core.specs.declared.memory_type.Piece.{Piece}
 use Rattle.gpu_core.proofs.OneOutcome.{prepared_once, needed_once, serves_or_needs, installed_once, released_once, refusal_once}
 use Rattle.gpu_device.specs.declared.vulkan.types.DeviceMemory.{DeviceMemory}
 use Rattle.gpu_device.specs.declared.vulkan.types.MemoryAllocateInfo.{MemoryAllocateInfo}
-use Rattle.gpu_allocator.specs.Allocate.{Attempts, IsTooLarge, IsPlanned, is_valid, heap_size}
+use Rattle.gpu_allocator.specs.Allocate.{Attempts, IsTooLarge, IsPlanned, is_valid}
 use Rattle.gpu_allocator.specs.Attempt.{Outcome, Asked, Plan, Short, Serves, Needs, IsPlan, Answer, Gave, Refused, Comes, Settles, question, memory}
 use Rattle.gpu_allocator.specs.BlockAnswer.{BlockAnswer, Declined, Granted, Mapped, NotMapped}
 use Rattle.gpu_allocator.specs.Blocks.{Slots, slots_at, is_mapped, type_at, total_capacity, AreAllSound}
-use Rattle.gpu_allocator.specs.Buffers.{Place, is_place, Buffers, IsOutOf, TakesOut, PutsBack, AddsBlock, DropsBlock, Writes, lies_in}
-use Rattle.gpu_allocator.specs.Choice.{best_type}
+use Rattle.gpu_allocator.specs.Buffers.{Place, is_place, Buffers, IsOutOf, TakesOut, PutsBack, AddsBlock, Writes}
 use Rattle.gpu_allocator.specs.Describe.{is_own, request_of}
-use Rattle.gpu_allocator.specs.Live.{piece_of, is_same_memory, IsLiveIn, IsMapped}
+use Rattle.gpu_allocator.specs.Live.{piece_of, is_same_memory}
 use Rattle.gpu_allocator.specs.Setup.{Setup}
-use Rattle.gpu_allocator.specs.Step.{ModelState, Call, Allocate, Free, Write, Read, Capacity, Reply, Given, Fails, Done, Bytes, Sum, Outcomes, MeetsNothing, BytesAfter, AttemptStep, reply_of, next_by, Follows, ServeStep, RefuseStep, FoundStep, AllocateStep, MayDrop, ReleaseStep, FreeStep, WriteStep, IsRead, Step, place_in, place_of}
+use Rattle.gpu_allocator.specs.Step.{ModelState, Call, Allocate, Free, Write, Read, Capacity, Reply, Given, Fails, Done, Bytes, Sum, Outcomes, BytesAfter, AttemptStep, reply_of, next_by, Follows, ServeStep, RefuseStep, FoundStep, AllocateStep, MayDrop, ReleaseStep, FreeStep, WriteStep, IsRead, Step, place_in, place_of}
 use Rattle.gpu_allocator.specs.declared.vulkan.allocation.Allocation.{Allocation}
 use Rattle.gpu_allocator.specs.declared.vulkan.describe.AllocationCreateDesc.{AllocationCreateDesc}
 use Rattle.gpu_allocator.proofs.Steps.{refused_same, none_next}
-use Rattle.gpu_allocator.proofs.Taken.{none_some, some_same}
 
 abbrev SlotList : Type 0
 SlotList = List (Option (Slot DeviceMemory))

@@ -1,5 +1,5 @@
 -- A piece's part of its block's bytes, and what is left of them for the rest.
-use Rattle.std.proofs.Common.{◌≡◌, ◌≢◌, ◌∙◌, ◌⊎◌, ℕ, zero, suc, ◌+◌, ◌-◌, ◌<◌, ◌≤◌, refl, sym, ap, subst, Bool, true, false, cond, List, [], ◌∷◌, length, take, drop, Option, Some, None, arith, inl, inr, ⊎_elim, nat_le, nat_lt, slice_get, length-take, length-drop}
+use Rattle.std.proofs.Common.{◌≡◌, ◌≢◌, ◌∙◌, ℕ, zero, suc, ◌+◌, ◌-◌, ◌<◌, ◌≤◌, refl, sym, ap, subst, Bool, true, false, cond, List, [], ◌∷◌, length, take, drop, Option, Some, None, arith, ⊎_elim, nat_le, nat_lt, slice_get, length-take, length-drop}
 use Rattle.std.specs.Prelude.{if◌then◌else◌, ◌&&◌}
 use Rattle.std.proofs.lemmas.Bool.{cases_Bool}
 use Rattle.std.proofs.lemmas.Bool.Decides.{nat_tests}
@@ -7,7 +7,7 @@ use Rattle.gpu_core.specs.FreeList.{Extent}
 use Rattle.gpu_device.specs.Held.{HasRange, range_in}
 use Rattle.gpu_device.proofs.Writes.{fits_within}
 use Rattle.gpu_allocator.specs.Buffers.{piece_of_number, covers, is_covered, byte_at, piece_bytes, IsOutOf}
-use Rattle.gpu_allocator.proofs.Joins.{Joins, OneMore}
+use Rattle.gpu_allocator.proofs.Joins.{OneMore}
 
 -- ---- lists by index
 

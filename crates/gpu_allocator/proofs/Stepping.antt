@@ -1,28 +1,27 @@
 -- An attempt, and the attempts of an allocation, are steps of the model.
-use Rattle.std.proofs.Common.{◌≡◌, ◌≢◌, ◌∙◌, ◌⊎◌, ℕ, ◌+◌, ◌<◌, refl, sym, ap, subst, Bool, true, false, List, [], ◌∷◌, length, slice_set, Option, Some, None, Ok, Err, Result, arith, inl, inr, ⊎_elim, IsTrue}
+use Rattle.std.proofs.Common.{◌≡◌, ◌≢◌, ◌∙◌, ℕ, ◌<◌, refl, sym, ap, subst, Bool, true, false, List, [], length, slice_set, Option, Some, None, Result, ⊎_elim}
 use Rattle.std.specs.FinMap.{get, insert}
 use Rattle.std.specs.Int.NonZero.{non_zero_u64_get}
-use Rattle.gpu_core.specs.Block.{Block, extents_of, size_of, TakesIn, IsSoundBlock, HoldsPiece}
+use Rattle.gpu_core.specs.Block.{extents_of, TakesIn, IsSoundBlock, HoldsPiece}
 use Rattle.gpu_core.specs.FreeList.{Extent}
-use Rattle.gpu_core.specs.Refusal.{Refusal, refusal_of}
+use Rattle.gpu_core.specs.Refusal.{Refusal}
 use Rattle.gpu_core.specs.Slots.{SlotIsSound}
 use Rattle.gpu_core.specs.TypeRelease.{SlotHolds}
-use Rattle.gpu_core.specs.TypeState.{Slot, slot_at}
+use Rattle.gpu_core.specs.TypeState.{Slot}
 use Rattle.gpu_core.specs.TypeTake.{Ready, fresh_block, PreparesPiece, Installs}
 use Rattle.gpu_core.specs.declared.memory_type.Piece.{Piece}
 use Rattle.gpu_core.proofs.EmptyBlocks.{takes_holds}
 use Rattle.gpu_core.proofs.OneOutcome.{fresh_sound}
 use Rattle.gpu_values.specs.declared.error.AllocationError.{AllocationError}
-use Rattle.gpu_device.specs.Held.{Held, IsWhole, bytes_of, entry_bytes, new_entry, mapped_with, HasRange}
+use Rattle.gpu_device.specs.Held.{Held, IsWhole, bytes_of, entry_bytes, new_entry, HasRange}
 use Rattle.gpu_device.specs.declared.vulkan.device.VulkanDevice.{Ghosts}
 use Rattle.gpu_device.specs.declared.vulkan.types.DeviceMemory.{DeviceMemory}
-use Rattle.gpu_device.specs.declared.vulkan.types.MemoryAllocateInfo.{MemoryAllocateInfo}
 use Rattle.gpu_device.proofs.Maps.{get-insert_same, get-insert_other}
 use Rattle.gpu_device.proofs.Changes.{get-mapped_other, bytes-mapped, new_is_unmapped}
-use Rattle.gpu_allocator.specs.Allocate.{IsTooLarge, IsPlanned, IsAttempt, Answers}
-use Rattle.gpu_allocator.specs.Attempt.{Outcome, Asked, Plan, Short, Serves, Needs, IsPlan, Answer, Gave, Refused, Comes, Settles, IsAfter, question, memory}
+use Rattle.gpu_allocator.specs.Allocate.{IsTooLarge, IsPlanned, IsAttempt}
+use Rattle.gpu_allocator.specs.Attempt.{Asked, Plan, Short, Serves, Needs, IsPlan, Answer, Refused, Comes, Settles, IsAfter, question, memory}
 use Rattle.gpu_allocator.specs.BlockAnswer.{BlockAnswer, Declined, Granted, Mapped, NotMapped, Asks}
-use Rattle.gpu_allocator.specs.Blocks.{Slots, slots_at, block_at, is_mapped, type_at, total_capacity, AreAllSound, IsNoBlock, HoldsJustLiveBlocks}
+use Rattle.gpu_allocator.specs.Blocks.{Slots, slots_at, block_at, is_mapped, type_at, total_capacity, AreAllSound, HoldsJustLiveBlocks}
 use Rattle.gpu_allocator.specs.Buffers.{Buffers, buffers_of, TakesOut, AddsBlock}
 use Rattle.gpu_allocator.specs.Live.{is_same_memory, IsLiveIn}
 use Rattle.gpu_allocator.specs.Setup.{Setup}
@@ -34,7 +33,7 @@ use Rattle.gpu_allocator.proofs.Holding.{not_a_block}
 use Rattle.gpu_allocator.proofs.Inside.{live_range, live_unmapped}
 use Rattle.gpu_allocator.proofs.Joins.{OneMore, one_more_taken}
 use Rattle.gpu_allocator.proofs.Parts.{HasRoom}
-use Rattle.gpu_allocator.proofs.Placed.{OnlyBlock, only_block, installs_only, prepares_only}
+use Rattle.gpu_allocator.proofs.Placed.{only_block, installs_only, prepares_only}
 use Rattle.gpu_allocator.proofs.Serving.{attempt_holds}
 use Rattle.gpu_allocator.proofs.Types.{slots_same}
 use Rattle.gpu_block.proofs.Keyed.{eq_true}

@@ -1,5 +1,5 @@
 -- The calls of an allocator are steps of the model.
-use Rattle.std.proofs.Common.{◌≡◌, ◌≢◌, ◌∙◌, ◌⊎◌, ℕ, ◌<◌, refl, sym, ap, subst, Bool, true, false, List, length, slice_set, Option, Some, None, Ok, Err, Result, arith, inl, inr, ⊎_elim, IsTrue}
+use Rattle.std.proofs.Common.{◌≡◌, ◌∙◌, ℕ, ◌<◌, refl, sym, ap, subst, Bool, true, false, List, length, slice_set, Option, Some, None, Ok, Err, Result, arith, ⊎_elim}
 use Rattle.std.specs.FinMap.{get}
 use Rattle.gpu_core.specs.Refusal.{Refusal, refusal_of, refusal_in, invalid_allocation_create_desc, no_compatible_memory_type_found}
 use Rattle.gpu_core.specs.TypeState.{Slot}
@@ -8,7 +8,7 @@ use Rattle.gpu_values.specs.declared.error.AllocationError.{AllocationError}
 use Rattle.gpu_device.specs.Held.{Held, IsWhole}
 use Rattle.gpu_device.specs.declared.vulkan.device.VulkanDevice.{Ghosts}
 use Rattle.gpu_device.specs.declared.vulkan.types.DeviceMemory.{DeviceMemory}
-use Rattle.gpu_allocator.specs.Allocate.{Attempts, IsTooLarge, IsPlanned, IsAttempt, Answers, IsServed, IsFollowed, IsFound, IsRefused, Allocates, AllocatesBy, is_valid, next_after, next_type}
+use Rattle.gpu_allocator.specs.Allocate.{Attempts, IsTooLarge, IsPlanned, IsAttempt, Answers, IsServed, IsFollowed, is_valid, next_after, next_type}
 use Rattle.gpu_allocator.specs.Attempt.{Outcome, Asked, Plan, Short, Serves, Needs, Answer, Gave, Refused, Comes, Settles, IsAfter, question}
 use Rattle.gpu_allocator.specs.BlockAnswer.{BlockAnswer, Declined, Granted, Mapped, NotMapped}
 use Rattle.gpu_allocator.specs.Blocks.{Slots, slots_at, is_mapped, total_capacity, AreAllSound, HoldsJustLiveBlocks}
@@ -16,7 +16,7 @@ use Rattle.gpu_allocator.specs.Buffers.{buffers_of}
 use Rattle.gpu_allocator.specs.Choice.{best_type}
 use Rattle.gpu_allocator.specs.Setup.{Setup}
 use Rattle.gpu_allocator.specs.State.{State}
-use Rattle.gpu_allocator.specs.Step.{ModelState, model_of, Outcomes, Reply, Fails, Allocate, reply_of, next_by, AttemptStep, Follows, ServeStep, RefuseStep, FoundStep, AllocateStep, IsStep, IsAllocateStep, Replies, nothing_met, count_after, latest_after}
+use Rattle.gpu_allocator.specs.Step.{ModelState, model_of, Outcomes, Reply, Fails, reply_of, next_by, AttemptStep, Follows, ServeStep, RefuseStep, FoundStep, AllocateStep, IsAllocateStep, Replies, nothing_met, count_after, latest_after}
 use Rattle.gpu_allocator.specs.declared.vulkan.allocation.Allocation.{Allocation}
 use Rattle.gpu_allocator.specs.declared.vulkan.describe.AllocationCreateDesc.{AllocationCreateDesc}
 use Rattle.gpu_allocator.proofs.Following.{next_below}

@@ -13,3 +13,4 @@ pub mod Returning
 pub mod Lends
 pub mod Buffers
 pub mod Step
+pub mod Apart

@@ -6,6 +6,7 @@ mod attempt;
 mod block;
 mod choice;
 mod describe;
+pub mod laws;
 mod release;
 mod setup;
 mod slab;

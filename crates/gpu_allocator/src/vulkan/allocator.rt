@@ -1,12 +1,15 @@
 //! The allocator: blocks of device memory by memory type, and the calls that share them out.
 
-ghost use Rattle.std.specs.Prelude.{◌≡◌, ◌↔◌, [], All, Some, None, IfOk, IfErr, OnOk, OnErr, IsOk, IsSome, IfSome, IsTrue, List, ℕ, length, option_map, option_copied};
+ghost use Rattle.std.specs.Prelude.{◌≡◌, ◌↔◌, [], All, Some, None, IfOk, IfErr, OnOk, OnErr, IsOk, IsSome, IfSome, IsTrue, List, ℕ, length, option_map, option_copied, ◌%◌};
 ghost use Rattle.std.specs.Option.{unwrap_or};
 ghost use Rattle.gpu_core.specs.Refusal.{refusal_of, host_out_of_memory};
 ghost use Rattle.gpu_allocator.specs.Setup.{setup_fault};
 ghost use Rattle.gpu_allocator.specs.Blocks.{total_capacity, HoldsJustLiveBlocks};
 ghost use Rattle.gpu_allocator.specs.Allocate.{Allocates};
 ghost use Rattle.gpu_allocator.specs.Free.{Frees};
+ghost use Rattle.gpu_allocator.specs.Apart.{IsInside, SharesNoByte, KeepsPages};
+ghost use Rattle.gpu_allocator.specs.Lends.{IsOther};
+ghost use Rattle.gpu_allocator.specs.declared.vulkan.allocation.Allocation.{Allocation};
 ghost use Rattle.gpu_allocator.specs.Step.{IsStep, IsAllocateStep, Free, Write, Read, Capacity, Done, Bytes, Sum, freed_as};
 ghost use Rattle.std.specs.Borrow.{sem};
 ghost use Rattle.gpu_allocator.specs.Live.{IsLive, IsMapped, bytes_at};
@@ -104,6 +107,7 @@ impl<D: VulkanDevice> Allocator<D> {
         ensures allocates { Allocates D.VulkanDevice self.old.setup desc.now self.old.slots self.old.device result self.new.slots self.new.device }
         ensures constant { (self.new.first ≡ self.old.first) × (self.new.setup ≡ self.old.setup) }
         ensures step { IsAllocateStep D.VulkanDevice desc.now result self.old self.new }
+        ensures aligned { IfOk result (λ a. a.offset % desc.now.requirements.alignment ≡ 0) }
     {
         let _ = log;
         if desc.requirements.size == 0 || !desc.requirements.alignment.is_power_of_two() {
@@ -138,6 +142,17 @@ impl<D: VulkanDevice> Allocator<D> {
         ensures constant { D.properties self.now.device ≡ self.now.setup.properties }
     {
         &self.device
+    }
+
+    /// What holds of live allocations at any time, for callers' proofs: each lies inside its block, no two share a byte, and
+    /// those of different kinds share no page (`bufferImageGranularity`). It does nothing.
+    pub fn allocations_are_apart(&self)
+        ensures inside { (a : Allocation) → IsLive self.now.slots a → IsInside self.now.slots a }
+        ensures apart { (a b : Allocation) → IsLive self.now.slots a → IsLive self.now.slots b → IsOther a b → SharesNoByte a b }
+        ensures pages { (a b : Allocation) → IsLive self.now.slots a → IsLive self.now.slots b
+            → KeepsPages self.now.setup.properties.granularity self.now.slots a b }
+    {
+        let _ = &self.device;
     }
 
     /// Whether an allocation is live: the allocator has a record with its type, slot, number, offset, size and memory.

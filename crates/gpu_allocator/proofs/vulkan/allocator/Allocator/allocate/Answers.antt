@@ -1,9 +1,10 @@
-use Rattle.std.proofs.Common.{rules, ◌≡◌, ◌∙◌, ap, sym, refl, length, arith, true, false, Some, None, subst}
+use Rattle.std.proofs.Common.{rules, ◌≡◌, ◌∙◌, ap, refl, length, arith, true, false, Some, None, subst}
 use Rattle.gpu_allocator.specs.Types.{slots_of}
 use Rattle.gpu_allocator.specs.Allocate.{is_valid}
 use Rattle.gpu_allocator.specs.Choice.{best_type}
 use Rattle.gpu_allocator.specs.State.{State}
 use Rattle.gpu_allocator.specs.Step.{IsAllocateStep}
+use Rattle.gpu_allocator.proofs.Apart.{served_aligned}
 use Rattle.gpu_allocator.proofs.Following.{served_holds}
 use Rattle.gpu_allocator.proofs.Steps.{served, served_step, invalid_step, unfit_step}
 use Rattle.gpu_allocator.proofs.vulkan.allocator.Allocator.allocate.Goals as goal
@@ -62,3 +63,8 @@ returns-in-Some-clause-step g c =
     let after : State g.row.D.Denot = record { device = c.serve.new.device; first = i.first.value; setup = i.setup; slots = slots_of c.serve.new.types.items } in
     subst (λ (s : State g.row.D.Denot). IsAllocateStep V d c.serve.result s after) c.self.view_is
     (served_step V g.met.D.VulkanDevice.whole i.setup d first c.in-Some.index before after c.serve.result refl found valid steps)
+
+pub returns-in-Some-clause-aligned : goal.returns-in-Some-clause-aligned
+returns-in-Some-clause-aligned g c =
+    let i = c.self.inside in
+    served_aligned i.setup c.args.desc.now g.D.VulkanDevice c.in-Some.index (slots_of i.types.items) i.device c.serve.result (slots_of c.serve.new.types.items) c.serve.new.device c.serve.ensures.served

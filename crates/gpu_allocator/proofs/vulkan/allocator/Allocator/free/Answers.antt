@@ -1,4 +1,4 @@
-use Rattle.std.proofs.Common.{rules, refl, None, ◌≡◌, ◌∙◌, sym, ap, subst, length, arith}
+use Rattle.std.proofs.Common.{rules, None, ◌≡◌, ◌∙◌, sym, ap, subst, length, arith}
 use Rattle.gpu_core.specs.TypeRelease.{IsLive}
 use Rattle.gpu_allocator.specs.Blocks.{Slots, slots_at, HoldsJustLiveBlocks}
 use Rattle.gpu_allocator.specs.Free.{IsReleased, Frees}

@@ -1,6 +1,6 @@
 use Rattle.std.proofs.Common.{◌≡◌, ◌∙◌, sym, option_copied, rules}
 use Rattle.gpu_device.specs.Held.{range_of}
-use Rattle.gpu_allocator.specs.Live.{IsLive, IsMapped}
+use Rattle.gpu_allocator.specs.Live.{IsLive}
 use Rattle.gpu_allocator.specs.State.{IsKept}
 use Rattle.gpu_allocator.specs.Types.{slots_of}
 use Rattle.gpu_allocator.proofs.Listed.{read_step, dead_read, lent_length}
