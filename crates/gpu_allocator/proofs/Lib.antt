@@ -12,3 +12,5 @@ pub mod Returned
 pub mod Releasing
 pub mod Inside
 pub mod Writing
+pub mod Renaming
+pub mod Reporting

@@ -11,3 +11,6 @@ pub mod State
 pub mod Free
 pub mod Returning
 pub mod Lends
+pub mod Rename
+pub mod Reports
+pub mod Leaks

@@ -6,7 +6,10 @@ mod attempt;
 mod block;
 mod choice;
 mod describe;
+mod leaks;
 mod release;
+mod rename;
+mod report;
 mod setup;
 mod slab;
 

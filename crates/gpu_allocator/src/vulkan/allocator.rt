@@ -1,22 +1,31 @@
 //! The allocator: blocks of device memory by memory type, and the calls that share them out.
 
-ghost use Rattle.std.specs.Prelude.{◌≡◌, ◌↔◌, [], All, Some, None, IfOk, IfErr, OnOk, OnErr, IsOk, IsSome, IfSome, IsTrue, List, ℕ, length, option_map};
+ghost use Rattle.std.specs.Prelude.{◌≡◌, ◌↔◌, [], All, map, string_bytes, Some, None, IfOk, IfErr, OnOk, OnErr, IsOk, IsSome, IfSome, IsTrue, List, ℕ, length, option_map};
 ghost use Rattle.std.specs.Option.{unwrap_or};
 ghost use Rattle.gpu_core.specs.Refusal.{refusal_of, host_out_of_memory};
 ghost use Rattle.gpu_allocator.specs.Setup.{setup_fault};
 ghost use Rattle.gpu_allocator.specs.Blocks.{total_capacity, HoldsJustLiveBlocks};
 ghost use Rattle.gpu_allocator.specs.Allocate.{Allocates};
 ghost use Rattle.gpu_allocator.specs.Free.{Frees};
+ghost use Rattle.gpu_allocator.specs.Rename.{Renames};
+ghost use Rattle.gpu_allocator.specs.Reports.{whole_report};
+ghost use Rattle.gpu_allocator.specs.Leaks.{all_leaks};
+ghost use Rattle.gpu_core.specs.Leak.{leak_text};
+ghost use Rattle.gpu_core.specs.Report.{report_of};
+ghost use Rattle.gpu_values.specs.declared.error.AllocationError.TheVariants.{HostOutOfMemory};
 ghost use Rattle.std.specs.Borrow.{sem};
 ghost use Rattle.gpu_allocator.specs.Live.{IsLive, IsMapped, bytes_at};
 
 use super::attempt::{serve, total_capacity};
 use super::choice::best_type;
 use super::describe::{AllocationCreateDesc, AllocatorCreateDesc};
+use super::leaks::{all_leaks, texts_of};
 use super::release::{give_back_all, release};
+use super::rename::rename;
+use super::report::report_of;
 use super::setup::{Settings, Setup, fault_of, parts_of};
 use super::{Allocation, MappedAllocationSlab};
-use crate::{AllocationError, MemoryType, Result};
+use crate::{AllocationError, AllocatorReport, MemoryType, Result};
 use gpu_device::vulkan::{DeviceMemory, VulkanDevice};
 use log::Log;
 use std::alloc::{AllocError, Global};
@@ -231,6 +240,35 @@ impl<D: VulkanDevice> Allocator<D> {
             Ok(()) => Ok(()),
             Err(error) => Err((error, allocation)),
         }
+    }
+
+    /// Gives an allocation another name, and with it the record that reports and leaks show. A null allocation has no record.
+    /// `Internal` where the allocation is neither null nor live, else `HostOutOfMemory` where the host refused memory; then
+    /// both names are as they were.
+    pub fn rename_allocation(&mut self, allocation: &mut Allocation, name: &str) -> Result<()>
+        ensures renames { Renames allocation.old name.now self.old.slots result allocation.new self.new.slots }
+        ensures constant { (self.new.device ≡ self.old.device) × (self.new.first ≡ self.old.first) × (self.new.setup ≡ self.old.setup) }
+    {
+        rename(self.alloc, &mut self.types, allocation, name)
+    }
+
+    /// What is allocated: the live blocks and pieces by memory type, then by slot, pieces by offset, and the sums of both.
+    /// The only refusal is `HostOutOfMemory`.
+    pub fn generate_report(&self) -> Result<AllocatorReport>
+        ensures report { IfOk result (λ r. report_of r ≡ whole_report self.now.slots) }
+        ensures capacity { IfOk result (λ r. r.total_capacity_bytes ≡ total_capacity self.now.slots) }
+        ensures cause { IfErr result (λ e. e ≡ HostOutOfMemory) }
+    {
+        report_of(self.alloc, &self.types)
+    }
+
+    /// The texts of all live pieces by memory type, then by slot, then in order of offset. The only refusal is
+    /// `HostOutOfMemory`.
+    pub fn leak_texts(&self) -> Result<Vec<String>>
+        ensures texts { IfOk result (λ v. map string_bytes v.items ≡ map leak_text (all_leaks self.now.slots)) }
+        ensures cause { IfErr result (λ e. e ≡ HostOutOfMemory) }
+    {
+        texts_of(self.alloc, all_leaks(&self.types))
     }
 
     /// Gives every block back, and returns the device, which then holds what it held when it was handed in.
