@@ -7,6 +7,7 @@ mod block;
 mod choice;
 mod describe;
 mod leaks;
+mod logging;
 mod release;
 mod rename;
 mod report;

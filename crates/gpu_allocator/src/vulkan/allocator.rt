@@ -20,6 +20,7 @@ use super::attempt::{serve, total_capacity};
 use super::choice::best_type;
 use super::describe::{AllocationCreateDesc, AllocatorCreateDesc};
 use super::leaks::{all_leaks, texts_of};
+use super::logging::{log_allocate, log_device, log_free, log_last_leaks, log_leaks};
 use super::release::{give_back_all, release};
 use super::rename::rename;
 use super::report::report_of;
@@ -27,7 +28,7 @@ use super::setup::{Settings, Setup, fault_of, parts_of};
 use super::{Allocation, MappedAllocationSlab};
 use crate::{AllocationError, AllocatorReport, MemoryType, Result};
 use gpu_device::vulkan::{DeviceMemory, VulkanDevice};
-use log::Log;
+use log::{Level, Log};
 use std::alloc::{AllocError, Global};
 use std::marker::Model;
 use std::snapshot::Snapshot;
@@ -76,7 +77,6 @@ impl<D: VulkanDevice> Allocator<D> {
         ensures refused { IfErr result (λ e. e.1 ≡ desc.device) }
         ensures cause { IfErr result (λ e. refusal_of e.0 ≡ unwrap_or (setup_fault desc.physical_device.0 (D.properties desc.device)) host_out_of_memory) }
     {
-        let _ = log;
         let AllocatorCreateDesc {
             device,
             physical_device,
@@ -87,6 +87,7 @@ impl<D: VulkanDevice> Allocator<D> {
         if let Some(error) = fault_of(&device, physical_device) {
             return Err((error, device));
         }
+        log_device(log, debug_settings, &device);
         let settings = Settings {
             sizes: allocation_sizes,
             debug: debug_settings,
@@ -112,7 +113,7 @@ impl<D: VulkanDevice> Allocator<D> {
         ensures allocates { Allocates D.VulkanDevice self.old.setup desc.now self.old.slots self.old.device result self.new.slots self.new.device }
         ensures constant { (self.new.first ≡ self.old.first) × (self.new.setup ≡ self.old.setup) }
     {
-        let _ = log;
+        log_allocate(log, self.setup.settings.debug, desc);
         if desc.requirements.size == 0 || !desc.requirements.alignment.is_power_of_two() {
             return Err(AllocationError::InvalidAllocationCreateDesc);
         }
@@ -225,7 +226,7 @@ impl<D: VulkanDevice> Allocator<D> {
         ensures frees { Frees D.VulkanDevice allocation self.old.slots self.old.device result self.new.slots self.new.device }
         ensures constant { (self.new.first ≡ self.old.first) × (self.new.setup ≡ self.old.setup) }
     {
-        let _ = log;
+        log_free(log, self.setup.settings.debug, &allocation);
         let Some(piece) = allocation.piece() else {
             return Ok(());
         };
@@ -271,6 +272,11 @@ impl<D: VulkanDevice> Allocator<D> {
         texts_of(self.alloc, all_leaks(&self.types))
     }
 
+    /// Logs the same texts one by one, each as a message of its own. It takes no memory.
+    pub fn report_memory_leaks<L: Log>(&self, log: &L, level: Level) {
+        log_leaks(log, level, &self.types);
+    }
+
     /// Gives every block back, and returns the device, which then holds what it held when it was handed in.
     pub fn destroy<L: Log>(self, log: &L) -> D
         ensures held { D.held result ≡ D.held self.first }
@@ -278,7 +284,6 @@ impl<D: VulkanDevice> Allocator<D> {
         ensures names_no_question { D.latest result ≡ D.latest self.device }
         ensures constant { D.properties result ≡ D.properties self.first }
     {
-        let _ = log;
         let Allocator {
             mut device,
             first: _,
@@ -286,6 +291,7 @@ impl<D: VulkanDevice> Allocator<D> {
             types,
             alloc: _,
         } = self;
+        log_last_leaks(log, setup.settings.debug, &types);
         for index in 0..types.len() {
             give_back_all(&mut device, &types[index], setup.is_mapped(index));
         }
