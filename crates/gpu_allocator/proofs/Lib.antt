@@ -12,7 +12,6 @@ pub mod Returned
 pub mod Releasing
 pub mod Inside
 pub mod Writing
-
 pub mod Joins
 pub mod Parts
 pub mod Buffered
@@ -22,3 +21,5 @@ pub mod Freeing
 pub mod Listed
 pub mod OneStep
 pub mod Apart
+pub mod Renaming
+pub mod Reporting

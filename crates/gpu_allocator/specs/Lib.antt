@@ -14,3 +14,6 @@ pub mod Lends
 pub mod Buffers
 pub mod Step
 pub mod Apart
+pub mod Rename
+pub mod Reports
+pub mod Leaks

@@ -7,7 +7,11 @@ mod block;
 mod choice;
 mod describe;
 pub mod laws;
+mod leaks;
+mod logging;
 mod release;
+mod rename;
+mod report;
 mod setup;
 mod slab;
 

@@ -1,6 +1,6 @@
 //! The allocator: blocks of device memory by memory type, and the calls that share them out.
 
-ghost use Rattle.std.specs.Prelude.{◌≡◌, ◌↔◌, [], All, Some, None, IfOk, IfErr, OnOk, OnErr, IsOk, IsSome, IfSome, IsTrue, List, ℕ, length, option_map, option_copied, ◌%◌};
+ghost use Rattle.std.specs.Prelude.{◌≡◌, ◌↔◌, [], All, map, string_bytes, Some, None, IfOk, IfErr, OnOk, OnErr, IsOk, IsSome, IfSome, IsTrue, List, ℕ, length, option_map, option_copied, ◌%◌};
 ghost use Rattle.std.specs.Option.{unwrap_or};
 ghost use Rattle.gpu_core.specs.Refusal.{refusal_of, host_out_of_memory};
 ghost use Rattle.gpu_allocator.specs.Setup.{setup_fault};
@@ -11,18 +11,28 @@ ghost use Rattle.gpu_allocator.specs.Apart.{IsInside, SharesNoByte, KeepsPages};
 ghost use Rattle.gpu_allocator.specs.Lends.{IsOther};
 ghost use Rattle.gpu_allocator.specs.declared.vulkan.allocation.Allocation.{Allocation};
 ghost use Rattle.gpu_allocator.specs.Step.{IsStep, IsAllocateStep, Free, Write, Read, Capacity, Done, Bytes, Sum, freed_as};
+ghost use Rattle.gpu_allocator.specs.Rename.{Renames};
+ghost use Rattle.gpu_allocator.specs.Reports.{whole_report};
+ghost use Rattle.gpu_allocator.specs.Leaks.{all_leaks};
+ghost use Rattle.gpu_core.specs.Leak.{leak_text};
+ghost use Rattle.gpu_core.specs.Report.{report_of};
+ghost use Rattle.gpu_values.specs.declared.error.AllocationError.TheVariants.{HostOutOfMemory};
 ghost use Rattle.std.specs.Borrow.{sem};
 ghost use Rattle.gpu_allocator.specs.Live.{IsLive, IsMapped, bytes_at};
 
 use super::attempt::{serve, total_capacity};
 use super::choice::best_type;
 use super::describe::{AllocationCreateDesc, AllocatorCreateDesc};
+use super::leaks::{all_leaks, texts_of};
+use super::logging::{log_allocate, log_device, log_free, log_last_leaks, log_leaks};
 use super::release::{give_back_all, release};
+use super::rename::rename;
+use super::report::report_of;
 use super::setup::{Settings, Setup, fault_of, parts_of};
 use super::{Allocation, MappedAllocationSlab};
-use crate::{AllocationError, MemoryType, Result};
+use crate::{AllocationError, AllocatorReport, MemoryType, Result};
 use gpu_device::vulkan::{DeviceMemory, VulkanDevice};
-use log::Log;
+use log::{Level, Log};
 use std::alloc::{AllocError, Global};
 use std::marker::Model;
 use std::snapshot::Snapshot;
@@ -71,7 +81,6 @@ impl<D: VulkanDevice> Allocator<D> {
         ensures refused { IfErr result (λ e. e.1 ≡ desc.device) }
         ensures cause { IfErr result (λ e. refusal_of e.0 ≡ unwrap_or (setup_fault desc.physical_device.0 (D.properties desc.device)) host_out_of_memory) }
     {
-        let _ = log;
         let AllocatorCreateDesc {
             device,
             physical_device,
@@ -82,6 +91,7 @@ impl<D: VulkanDevice> Allocator<D> {
         if let Some(error) = fault_of(&device, physical_device) {
             return Err((error, device));
         }
+        log_device(log, debug_settings, &device);
         let settings = Settings {
             sizes: allocation_sizes,
             debug: debug_settings,
@@ -109,7 +119,7 @@ impl<D: VulkanDevice> Allocator<D> {
         ensures step { IsAllocateStep D.VulkanDevice desc.now result self.old self.new }
         ensures aligned { IfOk result (λ a. a.offset % desc.now.requirements.alignment ≡ 0) }
     {
-        let _ = log;
+        log_allocate(log, self.setup.settings.debug, desc);
         if desc.requirements.size == 0 || !desc.requirements.alignment.is_power_of_two() {
             return Err(AllocationError::InvalidAllocationCreateDesc);
         }
@@ -238,7 +248,7 @@ impl<D: VulkanDevice> Allocator<D> {
         ensures constant { (self.new.first ≡ self.old.first) × (self.new.setup ≡ self.old.setup) }
         ensures step { IsStep D.VulkanDevice (Free allocation) (freed_as result) self.old self.new }
     {
-        let _ = log;
+        log_free(log, self.setup.settings.debug, &allocation);
         let Some(piece) = allocation.piece() else {
             return Ok(());
         };
@@ -255,6 +265,40 @@ impl<D: VulkanDevice> Allocator<D> {
         }
     }
 
+    /// Gives an allocation another name, and with it the record that reports and leaks show. A null allocation has no record.
+    /// `Internal` where the allocation is neither null nor live, else `HostOutOfMemory` where the host refused memory; then
+    /// both names are as they were.
+    pub fn rename_allocation(&mut self, allocation: &mut Allocation, name: &str) -> Result<()>
+        ensures renames { Renames allocation.old name.now self.old.slots result allocation.new self.new.slots }
+        ensures constant { (self.new.device ≡ self.old.device) × (self.new.first ≡ self.old.first) × (self.new.setup ≡ self.old.setup) }
+    {
+        rename(self.alloc, &mut self.types, allocation, name)
+    }
+
+    /// What is allocated: the live blocks and pieces by memory type, then by slot, pieces by offset, and the sums of both.
+    /// The only refusal is `HostOutOfMemory`.
+    pub fn generate_report(&self) -> Result<AllocatorReport>
+        ensures report { IfOk result (λ r. report_of r ≡ whole_report self.now.slots) }
+        ensures capacity { IfOk result (λ r. r.total_capacity_bytes ≡ total_capacity self.now.slots) }
+        ensures cause { IfErr result (λ e. e ≡ HostOutOfMemory) }
+    {
+        report_of(self.alloc, &self.types)
+    }
+
+    /// The texts of all live pieces by memory type, then by slot, then in order of offset. The only refusal is
+    /// `HostOutOfMemory`.
+    pub fn leak_texts(&self) -> Result<Vec<String>>
+        ensures texts { IfOk result (λ v. map string_bytes v.items ≡ map leak_text (all_leaks self.now.slots)) }
+        ensures cause { IfErr result (λ e. e ≡ HostOutOfMemory) }
+    {
+        texts_of(self.alloc, all_leaks(&self.types))
+    }
+
+    /// Logs the same texts one by one, each as a message of its own. It takes no memory.
+    pub fn report_memory_leaks<L: Log>(&self, log: &L, level: Level) {
+        log_leaks(log, level, &self.types);
+    }
+
     /// Gives every block back, and returns the device, which then holds what it held when it was handed in.
     pub fn destroy<L: Log>(self, log: &L) -> D
         ensures held { D.held result ≡ D.held self.first }
@@ -262,7 +306,6 @@ impl<D: VulkanDevice> Allocator<D> {
         ensures names_no_question { D.latest result ≡ D.latest self.device }
         ensures constant { D.properties result ≡ D.properties self.first }
     {
-        let _ = log;
         let Allocator {
             mut device,
             first: _,
@@ -270,6 +313,7 @@ impl<D: VulkanDevice> Allocator<D> {
             types,
             alloc: _,
         } = self;
+        log_last_leaks(log, setup.settings.debug, &types);
         for index in 0..types.len() {
             give_back_all(&mut device, &types[index]);
         }

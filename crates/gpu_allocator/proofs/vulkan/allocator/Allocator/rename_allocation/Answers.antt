@@ -1,0 +1,24 @@
+use Rattle.std.proofs.Common.{◌∙◌, arith}
+use Rattle.gpu_allocator.specs.Types.{slots_of}
+use Rattle.gpu_allocator.proofs.Renaming.{renamed_holds}
+use Rattle.gpu_allocator.proofs.vulkan.allocator.Allocator.rename_allocation.Goals as goal
+
+pub invariant_of-self : goal.invariant_of-self
+invariant_of-self g c =
+    let V = g.D.VulkanDevice in
+    let i = c.self.inside in
+    let kept = c.self.invariant.1 in
+    let old = slots_of i.types.items in
+    let new = slots_of c.rename.new.types.items in
+    let holds = renamed_holds i.setup.properties (V.held i.first.value) (V.held i.device) old kept.holds c.args.allocation.now c.args.name.now c.rename.result c.rename.new.allocation new c.rename.ensures.renames in (
+      c.rename.ensures.kinds ∙ c.self.invariant.0,
+      record {
+        told_is = kept.told_is;
+        constant = kept.constant;
+        valid = kept.valid;
+        types = holds.1 ∙ kept.types;
+        sound = c.rename.ensures.sound i.setup.properties c.self.invariant.0 kept.sound;
+        sum = omega (arith, c.rename.ensures.sum, kept.sum);
+        holds = holds.0;
+      },
+    )
