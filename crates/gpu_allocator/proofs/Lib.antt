@@ -23,3 +23,4 @@ pub mod OneStep
 pub mod Apart
 pub mod Renaming
 pub mod Reporting
+pub mod Named

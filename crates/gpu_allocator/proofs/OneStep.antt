@@ -1,14 +1,15 @@
 -- The model isn't loose: a state, a call and what it meets with decide the reply and the next state.
-use Rattle.std.proofs.Common.{◌≡◌, ◌∙◌, ℕ, suc, refl, sym, ap, subst, Bool, true, false, List, [], ◌∷◌, slice_get, slice_set, Option, Some, None, arith, ⊎_elim, IsTrue}
+use Rattle.std.proofs.Common.{inr, inl, map, ◌⊎◌, ◌≡◌, ◌∙◌, ℕ, suc, refl, sym, ap, subst, Bool, true, false, List, [], ◌∷◌, slice_get, slice_set, Option, Some, None, arith, ⊎_elim, IsTrue}
 use Rattle.std.proofs.lemmas.Bool.{cases_Bool, cases_lt, eqb-true}
 use Rattle.std.proofs.lemmas.Option.{slice_get_past}
 use Rattle.std.specs.Prelude.{◌&&◌, ◌==◌}
-use Rattle.gpu_core.specs.Refusal.{Refusal}
+use Rattle.gpu_core.specs.Refusal.{Refusal, host_out_of_memory}
+use Rattle.gpu_core.specs.Leak.{leak_text}
 use Rattle.gpu_core.specs.TypeRelease.{has_several}
 use Rattle.gpu_core.specs.TypeState.{Slot, slot_at}
 use Rattle.gpu_core.specs.TypeTake.{Ready}
 use Rattle.gpu_core.specs.declared.memory_type.Piece.{Piece}
-use Rattle.gpu_core.proofs.OneOutcome.{prepared_once, needed_once, serves_or_needs, installed_once, released_once, refusal_once}
+use Rattle.gpu_core.proofs.OneOutcome.{prepared_once, needed_once, serves_or_needs, installed_once, released_once, refusal_once, renamed_once, name_refusal_once}
 use Rattle.gpu_device.specs.declared.vulkan.types.DeviceMemory.{DeviceMemory}
 use Rattle.gpu_device.specs.declared.vulkan.types.MemoryAllocateInfo.{MemoryAllocateInfo}
 use Rattle.gpu_allocator.specs.Allocate.{Attempts, IsTooLarge, IsPlanned, is_valid}
@@ -18,8 +19,10 @@ use Rattle.gpu_allocator.specs.Blocks.{Slots, slots_at, is_mapped, type_at, tota
 use Rattle.gpu_allocator.specs.Buffers.{Place, is_place, Buffers, IsOutOf, TakesOut, PutsBack, AddsBlock, Writes}
 use Rattle.gpu_allocator.specs.Describe.{is_own, request_of}
 use Rattle.gpu_allocator.specs.Live.{piece_of, is_same_memory}
+use Rattle.gpu_allocator.specs.Leaks.{all_leaks}
+use Rattle.gpu_allocator.specs.Reports.{whole_report}
 use Rattle.gpu_allocator.specs.Setup.{Setup}
-use Rattle.gpu_allocator.specs.Step.{ModelState, Call, Allocate, Free, Write, Read, Capacity, Reply, Given, Fails, Done, Bytes, Sum, Outcomes, BytesAfter, AttemptStep, reply_of, next_by, Follows, ServeStep, RefuseStep, FoundStep, AllocateStep, MayDrop, ReleaseStep, FreeStep, WriteStep, IsRead, Step, place_in, place_of}
+use Rattle.gpu_allocator.specs.Step.{ModelState, Call, Allocate, Free, Write, Rename, Report, Leaks, Read, Capacity, Reply, Given, Fails, Done, Bytes, Sum, Shows, Tells, RenameStep, ReportStep, LeaksStep, Outcomes, BytesAfter, AttemptStep, reply_of, next_by, Follows, ServeStep, RefuseStep, FoundStep, AllocateStep, MayDrop, ReleaseStep, FreeStep, WriteStep, IsRead, Step, place_in, place_of}
 use Rattle.gpu_allocator.specs.declared.vulkan.allocation.Allocation.{Allocation}
 use Rattle.gpu_allocator.specs.declared.vulkan.describe.AllocationCreateDesc.{AllocationCreateDesc}
 use Rattle.gpu_allocator.proofs.Steps.{refused_same, none_next}
@@ -227,30 +230,135 @@ release_once setup t p old new next sound a b =
     let other : MayDrop t p.slot a.went a.mid next.buffers = subst (λ m. MayDrop t p.slot a.went m next.buffers) (sym mids) (subst (λ w. MayDrop t p.slot w b.mid next.buffers) (sym went) b.drops) in
     states_alike new next (a.slots ∙ (ap (slice_set old.slots t) once.1 ∙ sym b.slots)) (drops_once t p.slot a.went a.mid new.buffers next.buffers a.drops other)
 
+-- a free is done, or refused
+free_reply : (t : ℕ) (p : Option (Piece DeviceMemory)) (x : Reply) (old new : ModelState) → FreeStep t p x old new
+    → ((x ≡ Done) × FreeStep t p Done old new) ⊎ ((r : Refusal) × (x ≡ Fails r) × FreeStep t p (Fails r) old new)
+free_reply t None (Given u q) old new s = absurd s
+free_reply t None (Fails r) old new s = absurd s
+free_reply t None Done old new s = inl (refl, s)
+free_reply t None (Bytes xs) old new s = absurd s
+free_reply t None (Sum n) old new s = absurd s
+free_reply t None (Shows w) old new s = absurd s
+free_reply t None (Tells zs) old new s = absurd s
+free_reply t (Some p) (Given u q) old new s = absurd s
+free_reply t (Some p) (Fails r) old new s = inr (r, refl, s)
+free_reply t (Some p) Done old new s = inl (refl, s)
+free_reply t (Some p) (Bytes xs) old new s = absurd s
+free_reply t (Some p) (Sum n) old new s = absurd s
+free_reply t (Some p) (Shows w) old new s = absurd s
+free_reply t (Some p) (Tells zs) old new s = absurd s
+
+free_done_once : (setup : Setup) (t : ℕ) (p : Option (Piece DeviceMemory)) (old new next : ModelState) → AreAllSound setup.properties old.slots → FreeStep t p Done old new → FreeStep t p Done old next → new ≡ next
+free_done_once setup t None old new next sound a b = a ∙ sym b
+free_done_once setup t (Some p) old new next sound a b = release_once setup t p old new next sound a.1 b.1
+
+done_or_fails : (t : ℕ) (p : Option (Piece DeviceMemory)) (r : Refusal) (old new next : ModelState) → FreeStep t p Done old new → FreeStep t p (Fails r) old next → ⊥
+done_or_fails t None r old new next a b = b
+done_or_fails t (Some p) r old new next a b = b.0 a.0
+
+free_fails_once : (setup : Setup) (t : ℕ) (p : Option (Piece DeviceMemory)) (r s : Refusal) (old new next : ModelState) → AreAllSound setup.properties old.slots → FreeStep t p (Fails r) old new → FreeStep t p (Fails s) old next → (r ≡ s) × (new ≡ next)
+free_fails_once setup t None r s old new next sound a b = absurd a
+free_fails_once setup t (Some p) r s old new next sound a b =
+    (refusal_once is_same_memory setup.properties.granularity p (slot_at (slots_at old.slots t) p.slot) r s (sound t p.slot) a.1 b.1, a.2 ∙ sym b.2)
+
 free_once : (setup : Setup) (t : ℕ) (p : Option (Piece DeviceMemory)) (x y : Reply) (old new next : ModelState) → AreAllSound setup.properties old.slots → FreeStep t p x old new → FreeStep t p y old next → (x ≡ y) × (new ≡ next)
-free_once setup t None Done Done old new next sound a b = (refl, a ∙ sym b)
-free_once setup t None Done (Given u q) old new next sound a b = absurd b
-free_once setup t None Done (Fails r) old new next sound a b = absurd b
-free_once setup t None Done (Bytes xs) old new next sound a b = absurd b
-free_once setup t None Done (Sum n) old new next sound a b = absurd b
-free_once setup t None (Given u q) y old new next sound a b = absurd a
-free_once setup t None (Fails r) y old new next sound a b = absurd a
-free_once setup t None (Bytes xs) y old new next sound a b = absurd a
-free_once setup t None (Sum n) y old new next sound a b = absurd a
-free_once setup t (Some p) Done Done old new next sound a b = (refl, release_once setup t p old new next sound a.1 b.1)
-free_once setup t (Some p) Done (Fails r) old new next sound a b = absurd (b.0 a.0)
-free_once setup t (Some p) Done (Given u q) old new next sound a b = absurd b
-free_once setup t (Some p) Done (Bytes xs) old new next sound a b = absurd b
-free_once setup t (Some p) Done (Sum n) old new next sound a b = absurd b
-free_once setup t (Some p) (Fails r) Done old new next sound a b = absurd (a.0 b.0)
-free_once setup t (Some p) (Fails r) (Fails s) old new next sound a b =
-    (ap Fails (refusal_once is_same_memory setup.properties.granularity p (slot_at (slots_at old.slots t) p.slot) r s (sound t p.slot) a.1 b.1), a.2 ∙ sym b.2)
-free_once setup t (Some p) (Fails r) (Given u q) old new next sound a b = absurd b
-free_once setup t (Some p) (Fails r) (Bytes xs) old new next sound a b = absurd b
-free_once setup t (Some p) (Fails r) (Sum n) old new next sound a b = absurd b
-free_once setup t (Some p) (Given u q) y old new next sound a b = absurd a
-free_once setup t (Some p) (Bytes xs) y old new next sound a b = absurd a
-free_once setup t (Some p) (Sum n) y old new next sound a b = absurd a
+free_once setup t p x y old new next sound a b =
+    ⊎_elim
+    (λ ok. ⊎_elim
+    (λ also. (ok.0 ∙ sym also.0, free_done_once setup t p old new next sound ok.1 also.1))
+    (λ err. absurd (done_or_fails t p err.0 old new next ok.1 err.2))
+    (free_reply t p y old next b))
+    (λ err. ⊎_elim
+    (λ ok. absurd (done_or_fails t p err.0 old next new ok.1 err.2))
+    (λ also. let once = free_fails_once setup t p err.0 also.0 old new next sound err.2 also.2 in (err.1 ∙ ap Fails once.0 ∙ sym also.1, once.1))
+    (free_reply t p y old next b))
+    (free_reply t p x old new a)
+
+-- ---- a new name
+
+rename_reply : (t : ℕ) (p : Option (Piece DeviceMemory)) (name : List ℕ) (host : Bool) (x : Reply) (old new : ModelState) → RenameStep t p name host x old new
+    → ((x ≡ Done) × RenameStep t p name host Done old new) ⊎ ((r : Refusal) × (x ≡ Fails r) × RenameStep t p name host (Fails r) old new)
+rename_reply t None name host (Given u q) old new s = absurd s
+rename_reply t None name host (Fails r) old new s = inr (r, refl, s)
+rename_reply t None name host Done old new s = inl (refl, s)
+rename_reply t None name host (Bytes xs) old new s = absurd s
+rename_reply t None name host (Sum n) old new s = absurd s
+rename_reply t None name host (Shows w) old new s = absurd s
+rename_reply t None name host (Tells zs) old new s = absurd s
+rename_reply t (Some p) name host (Given u q) old new s = absurd s
+rename_reply t (Some p) name host (Fails r) old new s = inr (r, refl, s)
+rename_reply t (Some p) name host Done old new s = inl (refl, s)
+rename_reply t (Some p) name host (Bytes xs) old new s = absurd s
+rename_reply t (Some p) name host (Sum n) old new s = absurd s
+rename_reply t (Some p) name host (Shows w) old new s = absurd s
+rename_reply t (Some p) name host (Tells zs) old new s = absurd s
+
+rename_done_once : (t : ℕ) (p : Option (Piece DeviceMemory)) (name : List ℕ) (host : Bool) (old new next : ModelState) → RenameStep t p name host Done old new → RenameStep t p name host Done old next → new ≡ next
+rename_done_once t None name host old new next a b = a.1 ∙ sym b.1
+rename_done_once t (Some p) name host old new next a b =
+    let left = renamed_once (slots_at old.slots t) p name a.1.left b.1.left a.1.renames b.1.renames in
+    states_alike new next (a.1.slots ∙ (ap (slice_set old.slots t) left ∙ sym b.1.slots)) (a.2 ∙ sym b.2)
+
+named_or_fails : (t : ℕ) (p : Option (Piece DeviceMemory)) (name : List ℕ) (host : Bool) (r : Refusal) (old new next : ModelState) → RenameStep t p name host Done old new → RenameStep t p name host (Fails r) old next → ⊥
+named_or_fails t None name host r old new next a b = false_true (sym b.0 ∙ a.0)
+named_or_fails t (Some p) name host r old new next a b =
+    ⊎_elim (λ starved. false_true (sym starved.0 ∙ a.0)) (λ dead. dead.0 a.1.live) b.0
+
+rename_fails_once : (setup : Setup) (t : ℕ) (p : Option (Piece DeviceMemory)) (name : List ℕ) (host : Bool) (r s : Refusal) (old new next : ModelState) → AreAllSound setup.properties old.slots
+    → RenameStep t p name host (Fails r) old new → RenameStep t p name host (Fails s) old next → (r ≡ s) × (new ≡ next)
+rename_fails_once setup t None name host r s old new next sound a b = (a.1 ∙ sym b.1, a.2 ∙ sym b.2)
+rename_fails_once setup t (Some p) name host r s old new next sound a b = (
+  ⊎_elim
+      (λ x. ⊎_elim (λ y. x.2 ∙ sym y.2) (λ dead. absurd (dead.0 x.1)) b.0)
+      (λ dead. ⊎_elim
+      (λ y. absurd (dead.0 y.1))
+      (λ also. name_refusal_once is_same_memory setup.properties.granularity p (slot_at (slots_at old.slots t) p.slot) r s (sound t p.slot) dead.1 also.1 dead.2 also.2)
+      b.0)
+      a.0,
+  a.1 ∙ sym b.1,
+)
+
+rename_once : (setup : Setup) (t : ℕ) (p : Option (Piece DeviceMemory)) (name : List ℕ) (host : Bool) (x y : Reply) (old new next : ModelState) → AreAllSound setup.properties old.slots
+    → RenameStep t p name host x old new → RenameStep t p name host y old next → (x ≡ y) × (new ≡ next)
+rename_once setup t p name host x y old new next sound a b =
+    ⊎_elim
+    (λ ok. ⊎_elim
+    (λ also. (ok.0 ∙ sym also.0, rename_done_once t p name host old new next ok.1 also.1))
+    (λ err. absurd (named_or_fails t p name host err.0 old new next ok.1 err.2))
+    (rename_reply t p name host y old next b))
+    (λ err. ⊎_elim
+    (λ ok. absurd (named_or_fails t p name host err.0 old next new ok.1 err.2))
+    (λ also. let once = rename_fails_once setup t p name host err.0 also.0 old new next sound err.2 also.2 in (err.1 ∙ ap Fails once.0 ∙ sym also.1, once.1))
+    (rename_reply t p name host y old next b))
+    (rename_reply t p name host x old new a)
+
+-- ---- what is shown and told
+
+-- a reply to a call that shows something, or wants host memory
+shown_reply : (host : Bool) (x : Reply) (old new : ModelState) → ReportStep host x old new → (new ≡ old) × (((host ≡ true) × (x ≡ Shows (whole_report old.slots))) ⊎ ((host ≡ false) × (x ≡ Fails host_out_of_memory)))
+shown_reply host (Given u q) old new s = absurd s
+shown_reply host (Fails r) old new s = (s.2, inr (s.0, ap Fails s.1))
+shown_reply host Done old new s = absurd s
+shown_reply host (Bytes xs) old new s = absurd s
+shown_reply host (Sum n) old new s = absurd s
+shown_reply host (Shows w) old new s = (s.2, inl (s.0, ap Shows s.1))
+shown_reply host (Tells zs) old new s = absurd s
+
+told_reply : (host : Bool) (x : Reply) (old new : ModelState) → LeaksStep host x old new → (new ≡ old) × (((host ≡ true) × (x ≡ Tells (map leak_text (all_leaks old.slots)))) ⊎ ((host ≡ false) × (x ≡ Fails host_out_of_memory)))
+told_reply host (Given u q) old new s = absurd s
+told_reply host (Fails r) old new s = (s.2, inr (s.0, ap Fails s.1))
+told_reply host Done old new s = absurd s
+told_reply host (Bytes xs) old new s = absurd s
+told_reply host (Sum n) old new s = absurd s
+told_reply host (Shows w) old new s = absurd s
+told_reply host (Tells zs) old new s = (s.2, inl (s.0, ap Tells s.1))
+
+by_host : (host : Bool) (x y a b : Reply) → ((host ≡ true) × (x ≡ a)) ⊎ ((host ≡ false) × (x ≡ b)) → ((host ≡ true) × (y ≡ a)) ⊎ ((host ≡ false) × (y ≡ b)) → x ≡ y
+by_host host x y a b h k =
+    ⊎_elim
+    (λ p. ⊎_elim (λ q. p.1 ∙ sym q.1) (λ q. absurd (false_true (sym q.0 ∙ p.0))) k)
+    (λ p. ⊎_elim (λ q. absurd (false_true (sym p.0 ∙ q.0))) (λ q. p.1 ∙ sym q.1) k)
+    h
 
 -- ---- bytes
 
@@ -269,25 +377,31 @@ read_once setup a s (Some xs) (Some ys) h k = sym h.1 ∙ k.1
 -- ---- the replies that a call may give
 
 write_reply : (setup : Setup) (a : Allocation) (ws : List ℕ) (o : Outcomes) (x : Reply) (old new : ModelState) → Step setup (Write a ws) o x old new → (x ≡ Done) × WriteStep setup a ws old new
-write_reply setup a ws o Done old new s = (refl, s.1)
-write_reply setup a ws o (Given t p) old new s = absurd s
+write_reply setup a ws o (Given u q) old new s = absurd s
 write_reply setup a ws o (Fails r) old new s = absurd s
+write_reply setup a ws o Done old new s = (refl, s.1)
 write_reply setup a ws o (Bytes xs) old new s = absurd s
 write_reply setup a ws o (Sum n) old new s = absurd s
+write_reply setup a ws o (Shows w) old new s = absurd s
+write_reply setup a ws o (Tells zs) old new s = absurd s
 
 read_reply : (setup : Setup) (a : Allocation) (o : Outcomes) (x : Reply) (old new : ModelState) → Step setup (Read a) o x old new → (xs : Option (List ℕ)) × (x ≡ Bytes xs) × IsRead setup a old xs × (new ≡ old)
-read_reply setup a o (Bytes xs) old new s = (xs, refl, s.1, s.2)
-read_reply setup a o (Given t p) old new s = absurd s
+read_reply setup a o (Given u q) old new s = absurd s
 read_reply setup a o (Fails r) old new s = absurd s
 read_reply setup a o Done old new s = absurd s
+read_reply setup a o (Bytes xs) old new s = (xs, refl, s.1, s.2)
 read_reply setup a o (Sum n) old new s = absurd s
+read_reply setup a o (Shows w) old new s = absurd s
+read_reply setup a o (Tells zs) old new s = absurd s
 
 sum_reply : (setup : Setup) (o : Outcomes) (x : Reply) (old new : ModelState) → Step setup Capacity o x old new → (x ≡ Sum (total_capacity old.slots)) × (new ≡ old)
-sum_reply setup o (Sum n) old new s = (ap Sum s.1, s.2)
-sum_reply setup o (Given t p) old new s = absurd s
+sum_reply setup o (Given u q) old new s = absurd s
 sum_reply setup o (Fails r) old new s = absurd s
 sum_reply setup o Done old new s = absurd s
 sum_reply setup o (Bytes xs) old new s = absurd s
+sum_reply setup o (Sum n) old new s = (ap Sum s.1, s.2)
+sum_reply setup o (Shows w) old new s = absurd s
+sum_reply setup o (Tells zs) old new s = absurd s
 
 -- ---- any call
 
@@ -307,3 +421,12 @@ step_once setup Capacity o x y old new next sound a b =
     let p = sum_reply setup o x old new a in
     let q = sum_reply setup o y old next b in
     (p.0 ∙ sym q.0, p.1 ∙ sym q.1)
+step_once setup (Rename f name) o x y old new next sound a b = rename_once setup f.memory_type_index (piece_of f) name o.first.host x y old new next sound a.1 b.1
+step_once setup Report o x y old new next sound a b =
+    let p = shown_reply o.first.host x old new a.1 in
+    let q = shown_reply o.first.host y old next b.1 in
+    (by_host o.first.host x y (Shows (whole_report old.slots)) (Fails host_out_of_memory) p.1 q.1, p.0 ∙ sym q.0)
+step_once setup Leaks o x y old new next sound a b =
+    let p = told_reply o.first.host x old new a.1 in
+    let q = told_reply o.first.host y old next b.1 in
+    (by_host o.first.host x y (Tells (map leak_text (all_leaks old.slots))) (Fails host_out_of_memory) p.1 q.1, p.0 ∙ sym q.0)

@@ -1,10 +1,15 @@
 -- An allocator as a model: what each call makes of its blocks and bytes, and what it answers, given what it met with.
-use Rattle.std.specs.Prelude.{◌≡◌, ℕ, Bool, true, false, List, IsTrue, Option, Some, None, Result, Ok, Err}
+use Rattle.std.specs.Prelude.{◌≡◌, ◌≢◌, ◌⊎◌, ℕ, Vec, String, Bool, true, false, List, map, IsTrue, string_bytes, Option, Some, None, Result, Ok, Err}
+use Rattle.std.specs.Global.{Global}
 use Rattle.std.specs.List.{slice_set}
 use Rattle.std.specs.Int.NonZero.{non_zero_u64_get}
-use Rattle.gpu_core.specs.Refusal.{Refusal, refusal_of, no_compatible_memory_type_found, invalid_allocation_create_desc}
-use Rattle.gpu_core.specs.TypeRelease.{has_several, ReleasesPiece, IsFreeRefusal}
+use Rattle.gpu_core.specs.Refusal.{Refusal, refusal_of, host_out_of_memory, no_compatible_memory_type_found, invalid_allocation_create_desc}
+use Rattle.gpu_core.specs.TypeRelease.{has_several, ReleasesPiece, IsFreeRefusal, IsNameRefusal}
 use Rattle.gpu_core.specs.TypeState.{Slot, slot_at}
+use Rattle.gpu_core.specs.Leak.{leak_text}
+use Rattle.gpu_core.specs.Report as reports
+use Rattle.gpu_core.specs.Report.{report_of}
+use Rattle.gpu_values.specs.declared.report.AllocatorReport.{AllocatorReport}
 use Rattle.gpu_values.specs.declared.error.AllocationError.{AllocationError}
 use Rattle.gpu_core.specs.declared.memory_type.Piece.{Piece}
 use Rattle.gpu_device.specs.declared.vulkan.device.VulkanDevice.{Ghosts}
@@ -18,6 +23,9 @@ use Rattle.gpu_allocator.specs.Buffers.{Place, Buffers, buffers_of, TakesOut, Pu
 use Rattle.gpu_allocator.specs.Choice.{best_type}
 use Rattle.gpu_allocator.specs.Lends.{number_in}
 use Rattle.gpu_allocator.specs.Live.{piece_of, is_same_memory, IsLiveIn, IsGiven, IsMapped}
+use Rattle.gpu_allocator.specs.Leaks.{all_leaks}
+use Rattle.gpu_allocator.specs.Rename.{IsRenamed}
+use Rattle.gpu_allocator.specs.Reports.{whole_report}
 use Rattle.gpu_allocator.specs.Setup.{Setup}
 use Rattle.gpu_allocator.specs.State.{State}
 use Rattle.gpu_allocator.specs.declared.vulkan.allocation.Allocation.{Allocation}
@@ -34,9 +42,12 @@ model_of g s = record { slots = s.slots; buffers = buffers_of (g.held s.device) 
 pub data Call : Type 0 where
   Allocate : (d : AllocationCreateDesc) → Call
   Free : (a : Allocation) → Call
+  Rename : (a : Allocation) (name : List ℕ) → Call
   Write : (a : Allocation) (bytes : List ℕ) → Call
   Read : (a : Allocation) → Call
   Capacity : Call
+  Report : Call
+  Leaks : Call
 
 pub data Reply : Type 0 where
   -- a piece of the t-th memory type
@@ -46,6 +57,8 @@ pub data Reply : Type 0 where
   -- an allocation's bytes, None where it has none
   Bytes : (bytes : Option (List ℕ)) → Reply
   Sum : (bytes : ℕ) → Reply
+  Shows : (report : reports.Report) → Reply
+  Tells : (texts : List (List ℕ)) → Reply
 
 -- what a call meets with at its attempts; only an allocation for an upload may make a second one
 pub record Outcomes : Type 0 where
@@ -55,6 +68,10 @@ pub record Outcomes : Type 0 where
 -- host memory is enough, and no question is asked
 abbrev pub nothing_met : Outcome
 nothing_met = record { host = true; asked = None }
+
+-- host memory is enough or not, and no question is asked
+abbrev pub no_question : Bool → Outcomes
+no_question host = record { first = record { host = host; asked = None }; second = nothing_met }
 
 abbrev pub MeetsNothing : Outcomes → Type 0
 MeetsNothing o = (o.first ≡ nothing_met) × (o.second ≡ nothing_met)
@@ -139,6 +156,36 @@ FreeStep t (Some p) (Fails r) old new =
     (IsLiveIn old.slots t (Some p) → ⊥) × IsFreeRefusal is_same_memory p (slot_at (slots_at old.slots t) p.slot) r × (new ≡ old)
 FreeStep t p _ old new = ⊥
 
+-- ---- a new name
+
+-- a live piece's record has another name, or the null allocation has no record; a refusal, for want of host memory or of a live piece, changes nothing
+abbrev pub RenameStep : (t : ℕ) → Option (Piece DeviceMemory) → (name : List ℕ) → (host : Bool) → Reply → ModelState → ModelState → Type 0
+RenameStep t None name host Done old new = (host ≡ true) × (new ≡ old)
+RenameStep t None name host (Fails r) old new = (host ≡ false) × (r ≡ host_out_of_memory) × (new ≡ old)
+RenameStep t (Some p) name host Done old new = (host ≡ true) × IsRenamed t p name old.slots new.slots × (new.buffers ≡ old.buffers)
+RenameStep t (Some p) name host (Fails r) old new =
+    (((host ≡ false) × IsLiveIn old.slots t (Some p) × (r ≡ host_out_of_memory))
+    ⊎ ((IsLiveIn old.slots t (Some p) → ⊥) × (r ≢ host_out_of_memory) × IsNameRefusal is_same_memory p (slot_at (slots_at old.slots t) p.slot) r))
+    × (new ≡ old)
+RenameStep t p name host _ old new = ⊥
+
+-- the call asks the device nothing
+abbrev pub AsksNothing : Outcomes → Type 0
+AsksNothing o = (o.first.asked ≡ None) × (o.second ≡ nothing_met)
+
+-- ---- reports and leaks
+
+-- what is shown, or want of host memory
+abbrev pub ReportStep : (host : Bool) → Reply → ModelState → ModelState → Type 0
+ReportStep host (Shows r) old new = (host ≡ true) × (r ≡ whole_report old.slots) × (new ≡ old)
+ReportStep host (Fails r) old new = (host ≡ false) × (r ≡ host_out_of_memory) × (new ≡ old)
+ReportStep host _ old new = ⊥
+
+abbrev pub LeaksStep : (host : Bool) → Reply → ModelState → ModelState → Type 0
+LeaksStep host (Tells texts) old new = (host ≡ true) × (texts ≡ map leak_text (all_leaks old.slots)) × (new ≡ old)
+LeaksStep host (Fails r) old new = (host ≡ false) × (r ≡ host_out_of_memory) × (new ≡ old)
+LeaksStep host _ old new = ⊥
+
 -- ---- bytes
 
 abbrev pub place_of : Allocation → Place
@@ -160,6 +207,9 @@ IsRead setup a s (Some xs) = IsMapped setup.properties s.slots a × (s.buffers.l
 abbrev pub Step : Setup → Call → Outcomes → Reply → ModelState → ModelState → Type 0
 Step setup (Allocate d) o reply old new = AllocateStep setup d (is_valid d) o reply old new
 Step setup (Free a) o reply old new = MeetsNothing o × FreeStep a.memory_type_index (piece_of a) reply old new
+Step setup (Rename a name) o reply old new = AsksNothing o × RenameStep a.memory_type_index (piece_of a) name o.first.host reply old new
+Step setup Report o reply old new = AsksNothing o × ReportStep o.first.host reply old new
+Step setup Leaks o reply old new = AsksNothing o × LeaksStep o.first.host reply old new
 Step setup (Write a bytes) o Done old new = MeetsNothing o × WriteStep setup a bytes old new
 Step setup (Read a) o (Bytes xs) old new = MeetsNothing o × IsRead setup a old xs × (new ≡ old)
 Step setup Capacity o (Sum n) old new = MeetsNothing o × (n ≡ total_capacity old.slots) × (new ≡ old)
@@ -197,3 +247,15 @@ pub record IsAllocateStep {D : Type 0} (g : Ghosts D) (d : AllocationCreateDesc)
 abbrev pub freed_as : Result (Unit {0}) (AllocationError × Allocation) → Reply
 freed_as (Ok _) = Done
 freed_as (Err e) = Fails (refusal_of e.0)
+
+abbrev pub renamed_as : Result (Unit {0}) AllocationError → Reply
+renamed_as (Ok _) = Done
+renamed_as (Err e) = Fails (refusal_of e)
+
+abbrev pub shown_as : Result AllocatorReport AllocationError → Reply
+shown_as (Ok r) = Shows (report_of r)
+shown_as (Err e) = Fails (refusal_of e)
+
+abbrev pub told_as : Result (Vec (String Global) Global) AllocationError → Reply
+told_as (Ok v) = Tells (map string_bytes v.items)
+told_as (Err e) = Fails (refusal_of e)

@@ -10,11 +10,11 @@ use Rattle.std.specs.declared.num.NonZeroU64.{NonZeroU64}
 use Rattle.gpu_core.specs.FreeList.{Extent}
 use Rattle.gpu_core.specs.Request.{Request}
 use Rattle.gpu_core.specs.Sizes.{Sizes}
-use Rattle.gpu_core.specs.Block.{Block, free_list, dedicated, is_general, TakesIn, IsSoundBlock, IsReleaseRefusalIn, extents_of}
+use Rattle.gpu_core.specs.Block.{Block, free_list, dedicated, is_general, TakesIn, IsSoundBlock, IsReleaseRefusalIn, IsRenameRefusalIn, extents_of}
 use Rattle.gpu_core.specs.TypeState.{Slot, TypeState, slot_at}
 use Rattle.gpu_core.specs.TypeTake.{PreparesPiece, CannotServe, BlockCannotServe, Ready, NeedsBlock, Installs, has_own_block, fresh_block, next_shared_size}
-use Rattle.gpu_core.specs.TypeRelease.{IsFreeRefusal, Goes, SlotReleases, ReleasesPiece, SlotRenames, RenamesPiece}
-use Rattle.gpu_core.specs.Refusal.{Refusal}
+use Rattle.gpu_core.specs.TypeRelease.{IsFreeRefusal, IsNameRefusal, Goes, SlotReleases, ReleasesPiece, SlotRenames, RenamesPiece}
+use Rattle.gpu_core.specs.Refusal.{Refusal, host_out_of_memory}
 use Rattle.gpu_core.specs.Slots.{AreSound, SlotIsSound}
 use Rattle.gpu_core.proofs.Finding.{only_one}
 use Rattle.gpu_core.specs.declared.memory_type.Piece.{Piece}
@@ -175,4 +175,41 @@ refusal_once eq g p (Some o) r s sound h k =
     elim h [
       | inl a ↦ elim k [ inl c ↦ block_refusal_once o.block p.number r s a c | inr c ↦ absurd (refused_not_held o.block p.number r sound.1 a c.1.0 c.1.1 c.1.2) ]
       | inr a ↦ elim k [ inl c ↦ absurd (refused_not_held o.block p.number s sound.1 c a.1.0 a.1.1 a.1.2) | inr c ↦ a.2 ∙ sym c.2 ]
+    ]
+
+-- ---- why a piece isn't named, where host memory isn't why
+
+block_name_refusal_once : (b : Block) (n : NonZeroU64) (r s : Refusal) → (r ≡ host_out_of_memory → ⊥) → (s ≡ host_out_of_memory → ⊥) → IsRenameRefusalIn b (Some n) r → IsRenameRefusalIn b (Some n) s → r ≡ s
+block_name_refusal_once (free_list b) n r s nr ns h k =
+    elim h [
+      | inl a ↦ elim k [ inl c ↦ a.1 ∙ sym c.1 | inr c ↦ absurd (ns c.1) ]
+      | inr a ↦ absurd (nr a.1)
+    ]
+block_name_refusal_once (dedicated b) n r s nr ns h k =
+    elim h [
+      | inr a ↦ absurd (nr a.2)
+      | inl a ↦ elim k [
+        | inr c ↦ absurd (ns c.2)
+        | inl c ↦ elim a [
+          | inl x ↦ elim c [ inl y ↦ x.1 ∙ sym y.1 | inr y ↦ absurd (x.0 y.0) ]
+          | inr x ↦ elim c [ inl y ↦ absurd (y.0 x.0) | inr y ↦ x.2 ∙ sym y.2 ]
+        ]
+      ]
+    ]
+
+name_not_held : (b : Block) (n : NonZeroU64) (r : Refusal) → IsSoundBlock b → (r ≡ host_out_of_memory → ⊥) → IsRenameRefusalIn b (Some n) r → (x : Extent) → Contains (extents_of b) x → x.number ≡ non_zero_u64_get n → ⊥
+name_not_held (free_list b) n r sound nr h x held e = elim h [ inl a ↦ a.0 (x, held, e) | inr a ↦ nr a.1 ]
+name_not_held (dedicated b) n r sound nr h x held e =
+    let w = some_in b.piece (non_zero_u64_get n) (whole_number b.piece b.size sound) x held e in
+    elim h [
+      | inr a ↦ nr a.2
+      | inl a ↦ elim a [ inl y ↦ y.0 w.0 | inr y ↦ w.1 y.1 ]
+    ]
+
+pub name_refusal_once : {H : Type 0} (eq : H → H → Bool) (g : ℕ) (p : Piece H) (old : Option (Slot H)) (r s : Refusal) → SlotIsSound g old → (r ≡ host_out_of_memory → ⊥) → (s ≡ host_out_of_memory → ⊥) → IsNameRefusal eq p old r → IsNameRefusal eq p old s → r ≡ s
+name_refusal_once eq g p None r s sound nr ns h k = h ∙ sym k
+name_refusal_once eq g p (Some o) r s sound nr ns h k =
+    elim h [
+      | inl a ↦ elim k [ inl c ↦ block_name_refusal_once o.block p.number r s nr ns a c | inr c ↦ absurd (name_not_held o.block p.number r sound.1 nr a c.1.0 c.1.1 c.1.2) ]
+      | inr a ↦ elim k [ inl c ↦ absurd (name_not_held o.block p.number s sound.1 ns c a.1.0 a.1.1 a.1.2) | inr c ↦ a.2 ∙ sym c.2 ]
     ]

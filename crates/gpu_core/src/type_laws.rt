@@ -1,14 +1,14 @@
 //! Laws of memory types, each the contract of a function that does nothing.
 
-ghost use Rattle.std.specs.Prelude.{◌≡◌, ℕ, ◌<◌, ◌≤◌, Bool, List, [], Option, IsTrue, true, false};
+ghost use Rattle.std.specs.Prelude.{◌≡◌, ◌≢◌, ℕ, ◌<◌, ◌≤◌, Bool, List, [], Option, IsTrue, true, false};
 ghost use Rattle.gpu_core.specs.FreeList.{fresh_free_list};
 ghost use Rattle.gpu_core.specs.Request.{Request};
 ghost use Rattle.gpu_core.specs.Place.{IsBestFit, HasNoPlace};
 ghost use Rattle.gpu_core.specs.Block.{Block, extents_of, is_general, TakesIn, ReleasesIn, IsSoundBlock};
 ghost use Rattle.gpu_core.specs.TypeTake.{fresh_block, has_own_block, PreparesPiece, Ready, NeedsBlock, Installs};
 ghost use Rattle.gpu_core.specs.TypeState.{IsOneGap, Slot, TypeState};
-ghost use Rattle.gpu_core.specs.TypeRelease.{IsFreeRefusal, ReleasesPiece, RenamesPiece};
-ghost use Rattle.gpu_core.specs.Refusal.{Refusal};
+ghost use Rattle.gpu_core.specs.TypeRelease.{IsFreeRefusal, IsNameRefusal, ReleasesPiece, RenamesPiece};
+ghost use Rattle.gpu_core.specs.Refusal.{Refusal, host_out_of_memory};
 ghost use Rattle.gpu_core.specs.Slots.{AreSound, SlotIsSound};
 ghost use Rattle.gpu_core.specs.Sizes.{Sizes};
 ghost use Rattle.gpu_core.specs.declared.memory_type.Piece.{Piece};
@@ -49,12 +49,14 @@ pub fn one_block_needed<H: Copy + Eq>()
         → Installs old is_dedicated ready number p new → Installs old is_dedicated ready number q next → (p ≡ q) × (new ≡ next) }
 {}
 
-/// A release of a piece has one outcome, and so have its refusal and a new name.
+/// A release of a piece has one outcome, and so have a new name, and each refusal of one but want of host memory.
 pub fn one_piece_released<H: Copy + Eq>()
     ensures releases { (g : ℕ) (several : Bool) (old : List (Option (Slot H))) (p : Piece H) (went gone : Option H) (new next : List (Option (Slot H)))
         → AreSound g old → ReleasesPiece (IsTrue several) old p went new → ReleasesPiece (IsTrue several) old p gone next → (went ≡ gone) × (new ≡ next) }
     ensures refuses { (eq : H → H → Bool) (g : ℕ) (p : Piece H) (old : Option (Slot H)) (r s : Refusal)
         → SlotIsSound g old → IsFreeRefusal eq p old r → IsFreeRefusal eq p old s → r ≡ s }
+    ensures refuses_names { (eq : H → H → Bool) (g : ℕ) (p : Piece H) (old : Option (Slot H)) (r s : Refusal)
+        → SlotIsSound g old → r ≢ host_out_of_memory → s ≢ host_out_of_memory → IsNameRefusal eq p old r → IsNameRefusal eq p old s → r ≡ s }
     ensures renames { (old : List (Option (Slot H))) (p : Piece H) (name : List ℕ) (new next : List (Option (Slot H)))
         → RenamesPiece old p name new → RenamesPiece old p name next → new ≡ next }
 {}

@@ -10,7 +10,7 @@ ghost use Rattle.gpu_allocator.specs.Free.{Frees};
 ghost use Rattle.gpu_allocator.specs.Apart.{IsInside, SharesNoByte, KeepsPages};
 ghost use Rattle.gpu_allocator.specs.Lends.{IsOther};
 ghost use Rattle.gpu_allocator.specs.declared.vulkan.allocation.Allocation.{Allocation};
-ghost use Rattle.gpu_allocator.specs.Step.{IsStep, IsAllocateStep, Free, Write, Read, Capacity, Done, Bytes, Sum, freed_as};
+ghost use Rattle.gpu_allocator.specs.Step.{IsStep, IsAllocateStep, Free, Rename, Write, Read, Capacity, Report, Leaks, Done, Bytes, Sum, freed_as, renamed_as, shown_as, told_as};
 ghost use Rattle.gpu_allocator.specs.Rename.{Renames};
 ghost use Rattle.gpu_allocator.specs.Reports.{whole_report};
 ghost use Rattle.gpu_allocator.specs.Leaks.{all_leaks};
@@ -270,6 +270,7 @@ impl<D: VulkanDevice> Allocator<D> {
     /// both names are as they were.
     pub fn rename_allocation(&mut self, allocation: &mut Allocation, name: &str) -> Result<()>
         ensures renames { Renames allocation.old name.now self.old.slots result allocation.new self.new.slots }
+        ensures step { IsStep D.VulkanDevice (Rename allocation.old name.now) (renamed_as result) self.old self.new }
         ensures constant { (self.new.device ≡ self.old.device) × (self.new.first ≡ self.old.first) × (self.new.setup ≡ self.old.setup) }
     {
         rename(self.alloc, &mut self.types, allocation, name)
@@ -278,6 +279,7 @@ impl<D: VulkanDevice> Allocator<D> {
     /// What is allocated: the live blocks and pieces by memory type, then by slot, pieces by offset, and the sums of both.
     /// The only refusal is `HostOutOfMemory`.
     pub fn generate_report(&self) -> Result<AllocatorReport>
+        ensures step { IsStep D.VulkanDevice Report (shown_as result) self.now self.now }
         ensures report { IfOk result (λ r. report_of r ≡ whole_report self.now.slots) }
         ensures capacity { IfOk result (λ r. r.total_capacity_bytes ≡ total_capacity self.now.slots) }
         ensures cause { IfErr result (λ e. e ≡ HostOutOfMemory) }
@@ -288,6 +290,7 @@ impl<D: VulkanDevice> Allocator<D> {
     /// The texts of all live pieces by memory type, then by slot, then in order of offset. The only refusal is
     /// `HostOutOfMemory`.
     pub fn leak_texts(&self) -> Result<Vec<String>>
+        ensures step { IsStep D.VulkanDevice Leaks (told_as result) self.now self.now }
         ensures texts { IfOk result (λ v. map string_bytes v.items ≡ map leak_text (all_leaks self.now.slots)) }
         ensures cause { IfErr result (λ e. e ≡ HostOutOfMemory) }
     {

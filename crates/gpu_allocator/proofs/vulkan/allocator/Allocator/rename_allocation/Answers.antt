@@ -1,5 +1,8 @@
-use Rattle.std.proofs.Common.{◌∙◌, arith}
+use Rattle.std.proofs.Common.{◌∙◌, arith, refl, subst}
 use Rattle.gpu_allocator.specs.Types.{slots_of}
+use Rattle.gpu_allocator.specs.State.{State}
+use Rattle.gpu_allocator.specs.Step.{IsStep, Rename, renamed_as}
+use Rattle.gpu_allocator.proofs.Named.{rename_step}
 use Rattle.gpu_allocator.proofs.Renaming.{renamed_holds}
 use Rattle.gpu_allocator.proofs.vulkan.allocator.Allocator.rename_allocation.Goals as goal
 
@@ -22,3 +25,12 @@ invariant_of-self g c =
         holds = holds.0;
       },
     )
+
+pub returns-clause-step : goal.returns-clause-step
+returns-clause-step g c =
+    let V = g.D.VulkanDevice in
+    let i = c.self.inside in
+    let before : State g.row.D.Denot = record { device = i.device; first = i.first.value; setup = i.setup; slots = slots_of i.types.items } in
+    let after : State g.row.D.Denot = record { device = i.device; first = i.first.value; setup = i.setup; slots = slots_of c.rename.new.types.items } in
+    subst (λ (s : State g.row.D.Denot). IsStep V (Rename c.args.allocation.now c.args.name.now) (renamed_as c.rename.result) s after) c.self.view_is
+    (rename_step V before after refl c.args.allocation.now c.rename.new.allocation c.args.name.now c.rename.result c.rename.ensures.renames)
