@@ -24,3 +24,4 @@ pub mod Apart
 pub mod Renaming
 pub mod Reporting
 pub mod Named
+pub mod Owning
