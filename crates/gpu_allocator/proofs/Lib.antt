@@ -13,4 +13,5 @@ pub mod Releasing
 pub mod Inside
 pub mod Writing
 pub mod Renaming
+pub mod Naming
 pub mod Reporting

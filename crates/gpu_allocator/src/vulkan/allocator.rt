@@ -7,7 +7,7 @@ ghost use Rattle.gpu_allocator.specs.Setup.{setup_fault};
 ghost use Rattle.gpu_allocator.specs.Blocks.{total_capacity, HoldsJustLiveBlocks};
 ghost use Rattle.gpu_allocator.specs.Allocate.{Allocates};
 ghost use Rattle.gpu_allocator.specs.Free.{Frees};
-ghost use Rattle.gpu_allocator.specs.Rename.{Renames};
+ghost use Rattle.gpu_allocator.specs.Rename.{Renames, StayLive};
 ghost use Rattle.gpu_allocator.specs.Reports.{whole_report};
 ghost use Rattle.gpu_allocator.specs.Leaks.{all_leaks};
 ghost use Rattle.gpu_core.specs.Leak.{leak_text};
@@ -248,6 +248,7 @@ impl<D: VulkanDevice> Allocator<D> {
     /// both names are as they were.
     pub fn rename_allocation(&mut self, allocation: &mut Allocation, name: &str) -> Result<()>
         ensures renames { Renames allocation.old name.now self.old.slots result allocation.new self.new.slots }
+        ensures live { StayLive self.old.slots self.new.slots }
         ensures constant { (self.new.device ≡ self.old.device) × (self.new.first ≡ self.old.first) × (self.new.setup ≡ self.old.setup) }
     {
         rename(self.alloc, &mut self.types, allocation, name)

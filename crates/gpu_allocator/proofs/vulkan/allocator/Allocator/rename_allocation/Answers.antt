@@ -1,5 +1,7 @@
 use Rattle.std.proofs.Common.{◌∙◌, arith}
+use Rattle.gpu_allocator.specs.Live.{IsLive}
 use Rattle.gpu_allocator.specs.Types.{slots_of}
+use Rattle.gpu_allocator.proofs.Naming.{renamed_lives}
 use Rattle.gpu_allocator.proofs.Renaming.{renamed_holds}
 use Rattle.gpu_allocator.proofs.vulkan.allocator.Allocator.rename_allocation.Goals as goal
 
@@ -22,3 +24,8 @@ invariant_of-self g c =
         holds = holds.0;
       },
     )
+
+pub returns-clause-live : goal.returns-clause-live
+returns-clause-live g c = λ x live.
+    let before : IsLive (slots_of c.self.inside.types.items) x = rw (← c.self.view_is) at live in
+    renamed_lives c.args.allocation.now c.args.name.now (slots_of c.self.inside.types.items) c.rename.result c.rename.new.allocation (slots_of c.rename.new.types.items) c.rename.ensures.renames x before
