@@ -22,6 +22,7 @@ pub mod Listed
 pub mod OneStep
 pub mod Apart
 pub mod Renaming
+pub mod Naming
 pub mod Reporting
 pub mod Named
 pub mod Owning

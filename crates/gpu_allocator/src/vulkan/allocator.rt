@@ -11,7 +11,7 @@ ghost use Rattle.gpu_allocator.specs.Apart.{IsInside, SharesNoByte, KeepsPages};
 ghost use Rattle.gpu_allocator.specs.Lends.{IsOther};
 ghost use Rattle.gpu_allocator.specs.declared.vulkan.allocation.Allocation.{Allocation};
 ghost use Rattle.gpu_allocator.specs.Step.{IsStep, IsAllocateStep, Free, Rename, Write, Read, Capacity, Report, Leaks, Done, Bytes, Sum, freed_as, renamed_as, shown_as, told_as};
-ghost use Rattle.gpu_allocator.specs.Rename.{Renames};
+ghost use Rattle.gpu_allocator.specs.Rename.{Renames, StayLive};
 ghost use Rattle.gpu_allocator.specs.Reports.{whole_report};
 ghost use Rattle.gpu_allocator.specs.Leaks.{all_leaks};
 ghost use Rattle.gpu_core.specs.Leak.{leak_text};
@@ -271,6 +271,7 @@ impl<D: VulkanDevice> Allocator<D> {
     pub fn rename_allocation(&mut self, allocation: &mut Allocation, name: &str) -> Result<()>
         ensures renames { Renames allocation.old name.now self.old.slots result allocation.new self.new.slots }
         ensures step { IsStep D.VulkanDevice (Rename allocation.old name.now) (renamed_as result) self.old self.new }
+        ensures live { StayLive self.old.slots self.new.slots }
         ensures constant { (self.new.device ≡ self.old.device) × (self.new.first ≡ self.old.first) × (self.new.setup ≡ self.old.setup) }
     {
         rename(self.alloc, &mut self.types, allocation, name)

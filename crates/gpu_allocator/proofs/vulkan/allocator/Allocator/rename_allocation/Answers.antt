@@ -3,6 +3,8 @@ use Rattle.gpu_allocator.specs.Types.{slots_of}
 use Rattle.gpu_allocator.specs.State.{State}
 use Rattle.gpu_allocator.specs.Step.{IsStep, Rename, renamed_as}
 use Rattle.gpu_allocator.proofs.Named.{rename_step}
+use Rattle.gpu_allocator.specs.Live.{IsLive}
+use Rattle.gpu_allocator.proofs.Naming.{renamed_lives}
 use Rattle.gpu_allocator.proofs.Renaming.{renamed_holds}
 use Rattle.gpu_allocator.proofs.vulkan.allocator.Allocator.rename_allocation.Goals as goal
 
@@ -34,3 +36,8 @@ returns-clause-step g c =
     let after : State g.row.D.Denot = record { device = i.device; first = i.first.value; setup = i.setup; slots = slots_of c.rename.new.types.items } in
     subst (λ (s : State g.row.D.Denot). IsStep V (Rename c.args.allocation.now c.args.name.now) (renamed_as c.rename.result) s after) c.self.view_is
     (rename_step V before after refl c.args.allocation.now c.rename.new.allocation c.args.name.now c.rename.result c.rename.ensures.renames)
+
+pub returns-clause-live : goal.returns-clause-live
+returns-clause-live g c = λ x live.
+    let before : IsLive (slots_of c.self.inside.types.items) x = rw (← c.self.view_is) at live in
+    renamed_lives c.args.allocation.now c.args.name.now (slots_of c.self.inside.types.items) c.rename.result c.rename.new.allocation (slots_of c.rename.new.types.items) c.rename.ensures.renames x before
