@@ -1,6 +1,6 @@
 -- Which allocations stay live: all of them as one is given, all others as one goes.
 use Rattle.std.proofs.Common.{◌≡◌, ◌≢◌, ◌∙◌, ◌⊎◌, ℕ, ◌+◌, ◌<◌, refl, sym, ap, subst, Bool, true, false, List, [], ◌∷◌, length, slice_set, Option, Some, None, Ok, Err, Result, Contains, IfOk, IfSome, arith, inl, inr, ⊎_elim}
-use Rattle.std.specs.Option.{option_to_list}
+use Rattle.std.specs.Option.{option_to_list, option_map}
 use Rattle.std.specs.Int.NonZero.{non_zero_u64_get}
 use Rattle.std.specs.declared.num.NonZeroU64.{NonZeroU64}
 use Rattle.std.proofs.lemmas.Bool.{cases_eq}
@@ -13,7 +13,7 @@ use Rattle.gpu_core.specs.TypeRelease.{SlotHolds, SlotReleases}
 use Rattle.gpu_core.specs.TypeState.{Slot, slot_at}
 use Rattle.gpu_core.specs.TypeTake.{Ready, fresh_block, PreparesPiece, Installs}
 use Rattle.gpu_core.specs.declared.memory_type.Piece.{Piece}
-use Rattle.gpu_core.proofs.EmptyBlocks.{takes_holds}
+use Rattle.gpu_core.proofs.EmptyBlocks.{takes_holds, holds_some}
 use Rattle.gpu_core.proofs.Finding.{only_one}
 use Rattle.gpu_core.proofs.Slotted.{set_only}
 use Rattle.gpu_block.proofs.Live.{takes_keeps, takes_new_number, releases_keeps}
@@ -27,6 +27,7 @@ use Rattle.gpu_allocator.specs.Blocks.{Slots, slots_at, block_at, is_mapped, typ
 use Rattle.gpu_allocator.specs.Free.{IsReleased, FreesPiece, Frees}
 use Rattle.gpu_allocator.specs.Lends.{IsOther, number_in}
 use Rattle.gpu_allocator.specs.Live.{piece_of, is_same_memory, IsLiveIn, IsLive}
+use Rattle.gpu_allocator.specs.Rename.{StayLive}
 use Rattle.gpu_allocator.specs.Setup.{Setup}
 use Rattle.gpu_allocator.specs.declared.vulkan.allocation.Allocation.{Allocation}
 use Rattle.gpu_allocator.specs.declared.vulkan.describe.AllocationCreateDesc.{AllocationCreateDesc}
@@ -34,6 +35,7 @@ use Rattle.gpu_allocator.proofs.Following.{next_below}
 use Rattle.gpu_allocator.proofs.Placed.{OnlyBlock, only_block, installs_only, prepares_only, some_below, same_place}
 use Rattle.gpu_allocator.proofs.Releasing.{type_below}
 use Rattle.gpu_allocator.proofs.Stepping.{live_at}
+use Rattle.gpu_allocator.proofs.Steps.{next_same, mid_is_old}
 use Rattle.gpu_allocator.proofs.Taken.{none_some, some_same}
 use Rattle.gpu_allocator.proofs.Types.{slots_same}
 
@@ -178,3 +180,136 @@ module _ (setup : Setup) (d : AllocationCreateDesc) (t : ℕ) (old : Slots) (bel
 live_piece : (old new : Slots) (u : ℕ) (o : Option (Piece DeviceMemory)) → ((q : Piece DeviceMemory) → IsLiveIn old u (Some q) → IsLiveIn new u (Some q)) → IsLiveIn old u o → IsLiveIn new u o
 live_piece old new u None keeps live = absurd live
 live_piece old new u (Some q) keeps live = keeps q live
+
+live_in : (old new : Slots) → ((u : ℕ) (q : Piece DeviceMemory) → IsLiveIn old u (Some q) → IsLiveIn new u (Some q)) → StayLive old new
+live_in old new keeps a live = live_piece old new a.memory_type_index (piece_of a) (λ q was. keeps a.memory_type_index q was) live
+
+-- what an allocation that stands for a piece has of it
+pub record Has (a : Allocation) (p : Piece DeviceMemory) : Type 0 where
+  pub slot : a.memory_block_index ≡ p.slot
+  pub number : number_in a.chunk_id ≡ non_zero_u64_get p.number
+
+abbrev piece_under : Allocation → Option NonZeroU64 → Option (Piece DeviceMemory)
+piece_under a chunk = option_map (λ n. record { slot = a.memory_block_index; number = n; offset = a.offset; size = a.size; block = a.device_memory }) chunk
+
+has_by : (a : Allocation) (chunk : Option NonZeroU64) → a.chunk_id ≡ chunk → (p : Piece DeviceMemory) → piece_under a chunk ≡ Some p → Has a p
+has_by a None is p e = absurd (none_some p e)
+has_by a (Some n) is p e =
+    let q : Piece DeviceMemory = record { slot = a.memory_block_index; number = n; offset = a.offset; size = a.size; block = a.device_memory } in
+    let same : q ≡ p = some_same q p e in
+    record {
+      slot = ap (λ (z : Piece DeviceMemory). z.slot) same;
+      number = ap number_in is ∙ ap (λ (z : Piece DeviceMemory). non_zero_u64_get z.number) same;
+    }
+
+pub has : (a : Allocation) (p : Piece DeviceMemory) → piece_of a ≡ Some p → Has a p
+has a p e = has_by a a.chunk_id refl p e
+
+-- a live allocation stands for a live piece
+pub stands_by : (ss : Slots) (b : Allocation) (o : Option (Piece DeviceMemory)) → piece_of b ≡ o → IsLiveIn ss b.memory_type_index o → (q : Piece DeviceMemory) × Has b q × IsLiveIn ss b.memory_type_index (Some q)
+stands_by ss b None is live = absurd live
+stands_by ss b (Some q) is live = (q, has b q is, live)
+
+-- what a result makes of live allocations
+pub record Owns (old new : Slots) (result : Result Allocation AllocationError) : Type 0 where
+  pub keeps : StayLive old new
+  pub gives : IfOk result (λ a. IsLive new a × ((b : Allocation) → IsLive old b → IsOther b a))
+
+answer_owns : (setup : Setup) (d : AllocationCreateDesc) (t : ℕ) (old mid new : Slots) (answer : Answer) (result : Result Allocation AllocationError) → StayLive old mid
+    → ((u : ℕ) (q : Piece DeviceMemory) → IsLiveIn old u (Some q) → IsLiveIn mid u (Some q)) → Keeps t mid new answer → Answers setup t d result answer → Owns old new result
+answer_owns setup d t old mid new (Gave p) (Ok a) stay was k given =
+    let h = has a p given.piece in
+    let type = given.memory_type in
+    record {
+      keeps = λ b live. live_in mid new k.keeps b (stay b live);
+      gives = (
+        subst (λ (o : Option (Piece DeviceMemory)). IsLiveIn new a.memory_type_index o) (sym given.piece) (subst (λ u. IsLiveIn new u (Some p)) (sym type) (k.live p refl)),
+        λ b live types slots numbers.
+            let s = stands_by old b (piece_of b) refl live in
+            k.other p refl b.memory_type_index s.0 (was b.memory_type_index s.0 s.2) (types ∙ type) (sym s.1.slot ∙ slots ∙ h.slot) (sym s.1.number ∙ numbers ∙ h.number),
+      );
+    }
+answer_owns setup d t old mid new (Gave p) (Err e) stay was k given = absurd given
+answer_owns setup d t old mid new (Refused r) (Ok a) stay was k given = absurd given
+answer_owns setup d t old mid new (Refused r) (Err e) stay was k given = record { keeps = λ b live. live_in mid new k.keeps b (stay b live); gives = tt }
+
+module _ {D : Type 0} (g : Ghosts D) (setup : Setup) (d : AllocationCreateDesc) (t : ℕ) (old : Slots) (device : D) (result : Result Allocation AllocationError) (new : Slots) (after : D) (below : t < length old)
+    (long : length old ≡ length setup.properties.types) (sound : AreAllSound setup.properties old) (sound_after : AreAllSound setup.properties new) (s : IsServed g setup t d old device result new after) where
+  abbrev one : IsAttempt g setup t d old device s.first s.mid s.between
+  one = s.attempt
+
+  owns_by : (o : Option ℕ) → next_after setup d s.first ≡ o → IsFollowed g setup d o s.mid s.between s.first result new after → Owns old new result
+  owns_by None is f =
+      let sound_mid : AreAllSound setup.properties s.mid = subst (AreAllSound setup.properties) f.1 sound_after in
+      let k = attempt_keeps setup d t old below sound one.outcome one.answer s.mid one.attempts sound_mid in
+      let here = answer_owns setup d t old old s.mid one.answer s.first (λ b live. live) (λ u q live. live) k one.answers in
+      subst (λ r. Owns old new r) (sym f.0) (subst (λ (ss : Slots). Owns old ss s.first) (sym f.1) here)
+  owns_by (Some u) is two =
+      let next = sym (next_same setup t d s.first one.answer one.answers) ∙ is in
+      let same : s.mid ≡ old = mid_is_old setup d t u old one.outcome one.answer s.mid next one.attempts in
+      let sound_mid : AreAllSound setup.properties s.mid = subst (AreAllSound setup.properties) (sym same) sound in
+      let inside = next_below setup d s.first u is in
+      let far : u < length s.mid = subst (λ (ss : Slots). u < length ss) (sym same) (omega (arith, inside, long)) in
+      let k = attempt_keeps setup d u s.mid far sound_mid two.outcome two.answer new two.attempts sound_after in
+      answer_owns setup d u old s.mid new two.answer result (λ b live. subst (λ (ss : Slots). IsLive ss b) (sym same) live) (λ v q live. subst (λ (ss : Slots). IsLiveIn ss v (Some q)) (sym same) live) k two.answers
+
+  pub served_owns : Owns old new result
+  served_owns = owns_by (next_after setup d s.first) refl s.followed
+
+-- ---- a free
+
+module _ (setup : Setup) (t : ℕ) (old : Slots) (below : t < length old) (sound : AreAllSound setup.properties old) (p : Piece DeviceMemory) where
+  abbrev n : ℕ
+  n = non_zero_u64_get p.number
+
+  left_by : (several : Type 0) (a b : Option (Slot DeviceMemory)) (went : Option DeviceMemory) → block_at old t p.slot ≡ a → SlotReleases several n a went b
+      → (u : ℕ) (q : Piece DeviceMemory) → (u ≡ t → q.slot ≡ p.slot → non_zero_u64_get q.number ≡ n → ⊥) → IsLiveIn old u (Some q) → IsLiveIn (slice_set old t (slice_set (slots_at old t) p.slot b)) u (Some q)
+  left_by several None b went at rel u q other live = absurd rel
+  left_by several (Some a) (Some b) went at rel u q other live =
+      let slots = slots_at old t in
+      let new = slice_set old t (slice_set slots p.slot (Some b)) in
+      let only = only_block old t p.slot (Some b) (slice_set slots p.slot (Some b)) below (set_only slots p.slot (Some b) (some_below slots p.slot a at)) in
+      keeps_by old new t p.slot (Some b) only u q
+      (λ h type slot.
+      let here : SlotHolds is_same_memory q (Some a) = subst (SlotHolds is_same_memory q) at h in
+      (subst (λ (m : DeviceMemory). is_same_memory m q.block ≡ true) (sym rel.1) here.0, released_keeps a.block n b.block (sound_slot setup old t p.slot a sound at) rel.2 (non_zero_u64_get q.number) q.offset q.size (λ e. other type slot e) here.1))
+      live
+  left_by several (Some a) None went at rel u q other live =
+      let slots = slots_at old t in
+      let new = slice_set old t (slice_set slots p.slot None) in
+      let only = only_block old t p.slot None (slice_set slots p.slot None) below (set_only slots p.slot None (some_below slots p.slot a at)) in
+      keeps_by old new t p.slot None only u q
+      (λ h type slot.
+      let here : SlotHolds is_same_memory q (Some a) = subst (SlotHolds is_same_memory q) at h in
+      let left = released_keeps a.block n rel.1.0 (sound_slot setup old t p.slot a sound at) rel.1.1 (non_zero_u64_get q.number) q.offset q.size (λ e. other type slot e) here.1 in
+      holds_some rel.1.0 (non_zero_u64_get q.number) q.offset q.size left rel.1.2.0)
+      live
+
+  pub released_lives : {D : Type 0} (g : Ghosts D) (device : D) (new : Slots) (after : D) → IsReleased g t p old device new after
+      → (u : ℕ) (q : Piece DeviceMemory) → (u ≡ t → q.slot ≡ p.slot → non_zero_u64_get q.number ≡ n → ⊥) → IsLiveIn old u (Some q) → IsLiveIn new u (Some q)
+  released_lives g device new after r u q other live =
+      subst (λ (ss : Slots). IsLiveIn ss u (Some q)) (sym (r.slots ∙ ap (slice_set old t) r.releases.slots))
+      (left_by _ (slot_at (slots_at old t) p.slot) r.releases.slot r.went refl r.releases.releases u q other live)
+
+other_lives : (old new : Slots) (u : ℕ) (b : Allocation) (o : Option (Piece DeviceMemory)) → piece_of b ≡ o
+    → ((q : Piece DeviceMemory) → Has b q → IsLiveIn old u (Some q) → IsLiveIn new u (Some q)) → IsLiveIn old u o → IsLiveIn new u o
+other_lives old new u b None is keeps live = absurd live
+other_lives old new u b (Some q) is keeps live = keeps q (has b q is) live
+
+frees_by : {D : Type 0} (g : Ghosts D) (setup : Setup) (old : Slots) (device : D) (a : Allocation) (o : Option (Piece DeviceMemory)) → piece_of a ≡ o → (result : Result (Unit {0}) (AllocationError × Allocation)) (new : Slots) (after : D)
+    → AreAllSound setup.properties old → FreesPiece g a o old device result new after → (b : Allocation) → IsLive old b → IsOther b a → IsLive new b
+frees_by g setup old device a None is (Ok u) new after sound f b live other = subst (λ (ss : Slots). IsLive ss b) (sym f.0) live
+frees_by g setup old device a None is (Err e) new after sound f b live other = absurd f
+frees_by g setup old device a (Some p) is (Err e) new after sound f b live other = subst (λ (ss : Slots). IsLive ss b) (sym f.3) live
+frees_by g setup old device a (Some p) is (Ok u) new after sound f b live other =
+    let t = a.memory_type_index in
+    let h = has a p is in
+    other_lives old new b.memory_type_index b (piece_of b) refl
+    (λ q hb was. released_lives setup t old (type_below old t p f.0) sound p g device new after f.1 b.memory_type_index q
+    (λ type slot number. other type (hb.slot ∙ slot ∙ sym h.slot) (hb.number ∙ number ∙ sym h.number)) was)
+    live
+
+-- a free leaves every other live allocation live
+pub frees_others : {D : Type 0} (g : Ghosts D) (setup : Setup) (old : Slots) (device : D) (a : Allocation) (result : Result (Unit {0}) (AllocationError × Allocation)) (new : Slots) (after : D)
+    → AreAllSound setup.properties old → Frees g a old device result new after → (b : Allocation) → IsLive old b → IsOther b a → IsLive new b
+frees_others g setup old device a result new after sound f = frees_by g setup old device a (piece_of a) refl result new after sound f

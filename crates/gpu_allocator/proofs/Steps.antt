@@ -71,7 +71,7 @@ replies_of setup t d (Ok a) (Refused r) h = absurd h
 replies_of setup t d (Err e) (Gave p) h = absurd h
 replies_of setup t d (Err e) (Refused r) h = h
 
-next_same : (setup : Setup) (t : ℕ) (d : AllocationCreateDesc) (result : Result Allocation AllocationError) (answer : Answer) → Answers setup t d result answer → next_after setup d result ≡ next_by setup d answer
+pub next_same : (setup : Setup) (t : ℕ) (d : AllocationCreateDesc) (result : Result Allocation AllocationError) (answer : Answer) → Answers setup t d result answer → next_after setup d result ≡ next_by setup d answer
 next_same setup t d (Ok a) (Gave p) h = refl
 next_same setup t d (Ok a) (Refused r) h = absurd h
 next_same setup t d (Err e) (Gave p) h = absurd h
@@ -79,6 +79,11 @@ next_same setup t d (Err e) (Refused r) h = ap (next_type setup d) h
 
 pub none_next : (setup : Setup) (d : AllocationCreateDesc) (u : ℕ) (p : Piece DeviceMemory) → next_by setup d (Gave p) ≡ Some u → ⊥
 none_next setup d u p e = cc
+
+-- a second attempt begins where a refused one left everything
+pub mid_is_old : (setup : Setup) (d : AllocationCreateDesc) (t u : ℕ) (old : Slots) (o : Outcome) (answer : Answer) (mid : Slots) → next_by setup d answer ≡ Some u → Attempts setup old t d o answer mid → mid ≡ old
+mid_is_old setup d t u old o (Gave p) mid is a = absurd (none_next setup d u p is)
+mid_is_old setup d t u old o (Refused r) mid is a = refused_same setup old t d o r mid a
 
 module _ {D : Type 0} (g : Ghosts D) (whole : (x : D) (n : ℕ) → IsWhole (get (g.held x) n)) (setup : Setup) (d : AllocationCreateDesc) (first : Held) where
   abbrev at : D → Slots → ModelState
@@ -89,11 +94,6 @@ module _ {D : Type 0} (g : Ghosts D) (whole : (x : D) (n : ℕ) → IsWhole (get
       → (a : IsAttempt g setup t d old device result new after) → AttemptStep setup t d a.outcome a.answer (at device old) (at after new)
   attempt_step t old device result new after below sound sound_after before a =
       record { slots = a.attempts; bytes = attempt_bytes g setup d first t old below sound device result new after a sound_after before (whole after) }
-
-  -- a second attempt begins where a refused one left everything
-  mid_same : (t u : ℕ) (old : Slots) (o : Outcome) (answer : Answer) (mid : Slots) → next_by setup d answer ≡ Some u → Attempts setup old t d o answer mid → mid ≡ old
-  mid_same t u old o (Gave p) mid is a = absurd (none_next setup d u p is)
-  mid_same t u old o (Refused r) mid is a = refused_same setup old t d o r mid a
 
   pub record Served (t : ℕ) (old : Slots) (device : D) (result : Result Allocation AllocationError) (new : Slots) (after : D) : Type 0 where
     pub outcomes : Outcomes
@@ -129,7 +129,7 @@ module _ {D : Type 0} (g : Ghosts D) (whole : (x : D) (n : ℕ) → IsWhole (get
         }
     served_by (Some u) is two =
         let next : next_by setup d one.answer ≡ Some u = sym (next_same setup t d s.first one.answer one.answers) ∙ is in
-        let sound_mid : AreAllSound setup.properties s.mid = subst (AreAllSound setup.properties) (sym (mid_same t u old one.outcome one.answer s.mid next one.attempts)) sound in
+        let sound_mid : AreAllSound setup.properties s.mid = subst (AreAllSound setup.properties) (sym (mid_is_old setup d t u old one.outcome one.answer s.mid next one.attempts)) sound in
         let here = attempt_step t old device s.first s.mid s.between below sound sound_mid before one in
         let mid = attempt_holds g setup d first t old below device s.first s.mid s.between one before in
         let inside = next_below setup d s.first u is in

@@ -118,6 +118,8 @@ impl<D: VulkanDevice> Allocator<D> {
         ensures constant { (self.new.first ≡ self.old.first) × (self.new.setup ≡ self.old.setup) }
         ensures step { IsAllocateStep D.VulkanDevice desc.now result self.old self.new }
         ensures aligned { IfOk result (λ a. a.offset % desc.now.requirements.alignment ≡ 0) }
+        ensures keeps { StayLive self.old.slots self.new.slots }
+        ensures gives { IfOk result (λ a. IsLive self.new.slots a × ((b : Allocation) → IsLive self.old.slots b → IsOther b a)) }
     {
         log_allocate(log, self.setup.settings.debug, desc);
         if desc.requirements.size == 0 || !desc.requirements.alignment.is_power_of_two() {
@@ -247,6 +249,7 @@ impl<D: VulkanDevice> Allocator<D> {
         ensures frees { Frees D.VulkanDevice allocation self.old.slots self.old.device result self.new.slots self.new.device }
         ensures constant { (self.new.first ≡ self.old.first) × (self.new.setup ≡ self.old.setup) }
         ensures step { IsStep D.VulkanDevice (Free allocation) (freed_as result) self.old self.new }
+        ensures keeps { (b : Allocation) → IsLive self.old.slots b → IsOther b allocation → IsLive self.new.slots b }
     {
         log_free(log, self.setup.settings.debug, &allocation);
         let Some(piece) = allocation.piece() else {

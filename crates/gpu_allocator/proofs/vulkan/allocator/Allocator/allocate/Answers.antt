@@ -6,6 +6,7 @@ use Rattle.gpu_allocator.specs.State.{State}
 use Rattle.gpu_allocator.specs.Step.{IsAllocateStep}
 use Rattle.gpu_allocator.proofs.Apart.{served_aligned}
 use Rattle.gpu_allocator.proofs.Following.{served_holds}
+use Rattle.gpu_allocator.proofs.Owning.{Owns, served_owns}
 use Rattle.gpu_allocator.proofs.Steps.{served, served_step, invalid_step, unfit_step}
 use Rattle.gpu_allocator.proofs.vulkan.allocator.Allocator.allocate.Goals as goal
 use Rattle.gpu_allocator.proofs.vulkan.allocator.Allocator.allocate.Goals.{then-desc-eq0-via-then-desc-eq0, then-desc-eq0-via-else-desc-eq0+then-not-is_power_of_two}
@@ -68,3 +69,19 @@ pub returns-in-Some-clause-aligned : goal.returns-in-Some-clause-aligned
 returns-in-Some-clause-aligned g c =
     let i = c.self.inside in
     served_aligned i.setup c.args.desc.now g.D.VulkanDevice c.in-Some.index (slots_of i.types.items) i.device c.serve.result (slots_of c.serve.new.types.items) c.serve.new.device c.serve.ensures.served
+
+owns : (g : _) (c : goal.After-serve g) → Owns c.args.self.now.slots (slots_of c.serve.new.types.items) c.serve.result
+owns g c =
+    let i = c.self.inside in
+    let old = c.self.invariant.1 in
+    let types = i.types.items in
+    let told = ap (λ s. length s.setup.properties.types) c.self-inside.view_is in
+    let lent = ap length c.deref.ensures.value in
+    let here = served_owns g.D.VulkanDevice i.setup c.args.desc.now c.in-Some.index (slots_of types) i.device c.serve.result (slots_of c.serve.new.types.items) c.serve.new.device (omega (arith, c.in-Some.ensures.there, told, lent, old.types)) old.types old.sound (c.serve.ensures.sound old.sound) c.serve.ensures.served in
+    subst (λ (s : State g.row.D.Denot). Owns s.slots (slots_of c.serve.new.types.items) c.serve.result) c.self.view_is here
+
+pub returns-in-Some-clause-keeps : goal.returns-in-Some-clause-keeps
+returns-in-Some-clause-keeps g c = (owns g c).keeps
+
+pub returns-in-Some-clause-gives : goal.returns-in-Some-clause-gives
+returns-in-Some-clause-gives g c = (owns g c).gives
