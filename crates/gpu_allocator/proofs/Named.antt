@@ -1,5 +1,5 @@
 -- A new name, a report and the leaks' texts are steps of the model.
-use Rattle.std.proofs.Common.{◌≡◌, ◌≢◌, ◌∙◌, ◌⊎◌, ℕ, ◌+◌, ◌-◌, ◌<◌, refl, sym, ap, subst, Bool, true, false, List, [], ◌∷◌, map, length, slice_set, Option, Some, None, Ok, Err, Result, arith, inl, inr, ⊎_elim, IfOk, IfErr}
+use Rattle.std.proofs.Common.{◌≡◌, ◌∙◌, ℕ, ◌-◌, ◌<◌, refl, sym, ap, subst, Bool, true, false, List, [], ◌∷◌, map, length, slice_set, Option, Some, None, Ok, Err, Result, inl, inr, ⊎_elim, IfOk, IfErr}
 use Rattle.std.specs.Prelude.{if◌then◌else◌, ◌||◌, ◌==◌, ◌&&◌, string_bytes, nat_lt, nat_le, Vec, String}
 use Rattle.std.specs.Global.{Global}
 use Rattle.std.specs.Option.{option_map, option_to_list}
@@ -9,9 +9,9 @@ use Rattle.gpu_core.specs.Changes.{with_name}
 use Rattle.gpu_core.specs.Dedicated.{renamed, held_extents}
 use Rattle.gpu_core.specs.FreeList.{Extent}
 use Rattle.gpu_core.specs.Leak.{leak_text}
-use Rattle.gpu_core.specs.Refusal.{refusal_of, host_out_of_memory}
+use Rattle.gpu_core.specs.Refusal.{refusal_of}
 use Rattle.gpu_core.specs.Report.{report_of}
-use Rattle.gpu_core.specs.TypeRelease.{SlotRenames, RenamesPiece}
+use Rattle.gpu_core.specs.TypeRelease.{SlotRenames}
 use Rattle.gpu_core.specs.TypeState.{Slot, slot_at}
 use Rattle.gpu_core.specs.declared.memory_type.Piece.{Piece}
 use Rattle.gpu_core.proofs.Slotted.{set_only}
@@ -22,13 +22,13 @@ use Rattle.gpu_device.specs.Held.{Held, bytes_of, range_in}
 use Rattle.gpu_device.specs.declared.vulkan.device.VulkanDevice.{Ghosts}
 use Rattle.gpu_device.specs.declared.vulkan.types.DeviceMemory.{DeviceMemory}
 use Rattle.gpu_allocator.specs.Blocks.{Slots, slots_at, block_at}
-use Rattle.gpu_allocator.specs.Buffers.{Buffers, buffers_of, list_in, rest_in, piece_bytes, piece_of_number, is_covered, covers, byte_at}
+use Rattle.gpu_allocator.specs.Buffers.{buffers_of, list_in, rest_in, piece_bytes, piece_of_number, is_covered, byte_at}
 use Rattle.gpu_allocator.specs.Leaks.{all_leaks}
-use Rattle.gpu_allocator.specs.Live.{piece_of, IsLiveIn}
+use Rattle.gpu_allocator.specs.Live.{piece_of}
 use Rattle.gpu_allocator.specs.Rename.{IsRenamed, RenamesBy, Renames}
 use Rattle.gpu_allocator.specs.Reports.{whole_report}
 use Rattle.gpu_allocator.specs.State.{State}
-use Rattle.gpu_allocator.specs.Step.{ModelState, model_of, Rename, Report, Leaks, RenameStep, ReportStep, LeaksStep, IsStep, nothing_met, no_question, renamed_as, shown_as, told_as}
+use Rattle.gpu_allocator.specs.Step.{model_of, Rename, Report, Leaks, RenameStep, IsStep, no_question, renamed_as, shown_as, told_as}
 use Rattle.gpu_allocator.specs.declared.vulkan.allocation.Allocation.{Allocation}
 use Rattle.gpu_allocator.proofs.OneStep.{buffers_alike}
 use Rattle.gpu_allocator.proofs.Placed.{OnlyBlock, only_block, some_below, same_place}

@@ -1,11 +1,9 @@
 -- Which allocations stay live: all of them as one is given, all others as one goes.
-use Rattle.std.proofs.Common.{◌≡◌, ◌≢◌, ◌∙◌, ◌⊎◌, ℕ, ◌+◌, ◌<◌, refl, sym, ap, subst, Bool, true, false, List, [], ◌∷◌, length, slice_set, Option, Some, None, Ok, Err, Result, Contains, IfOk, IfSome, arith, inl, inr, ⊎_elim}
+use Rattle.std.proofs.Common.{◌≡◌, ◌≢◌, ◌∙◌, ℕ, ◌<◌, refl, sym, ap, subst, Bool, true, List, length, slice_set, Option, Some, None, Ok, Err, Result, Contains, IfOk, IfSome, arith, ⊎_elim}
 use Rattle.std.specs.Option.{option_to_list, option_map}
 use Rattle.std.specs.Int.NonZero.{non_zero_u64_get}
 use Rattle.std.specs.declared.num.NonZeroU64.{NonZeroU64}
-use Rattle.std.proofs.lemmas.Bool.{cases_eq}
-use Rattle.gpu_core.specs.Block.{Block, free_list, dedicated, extents_of, is_general, TakesIn, ReleasesIn, HoldsPiece, IsSoundBlock}
-use Rattle.gpu_core.specs.Dedicated.{held_extents}
+use Rattle.gpu_core.specs.Block.{Block, free_list, dedicated, is_general, TakesIn, ReleasesIn, HoldsPiece, IsSoundBlock}
 use Rattle.gpu_core.specs.FreeList.{Extent}
 use Rattle.gpu_core.specs.Request.{Request}
 use Rattle.gpu_core.specs.Slots.{SlotIsSound}
