@@ -306,7 +306,8 @@ impl<D: VulkanDevice> Allocator<D> {
         log_leaks(log, level, &self.types);
     }
 
-    /// Gives every block back, and returns the device, which then holds what it held when it was handed in.
+    /// Gives every block back, and returns the device, which then holds what it held when it was handed in. What is still
+    /// live is logged first, as warnings, where the settings ask for it.
     pub fn destroy<L: Log>(self, log: &L) -> D
         ensures held { D.held result ≡ D.held self.first }
         ensures counts_nothing { D.refused result ≡ D.refused self.device }

@@ -15,17 +15,14 @@ ghost use Rattle.gpu_allocator.specs.Types.{slots_of, kinds, kinds_told};
 use super::Allocation;
 use crate::{AllocationError, Fault, MemoryType, Piece, Result};
 use gpu_device::vulkan::DeviceMemory;
-use std::alloc::{AllocError, Global};
+use std::alloc::Global;
 
 /// A name in memory of its own. The only refusal is `HostOutOfMemory`.
 fn own_name(alloc: Global, name: &str) -> Result<String>
     ensures name { IfOk result (λ s. string_bytes s ≡ name.now) }
     ensures cause { IfErr result (λ e. e ≡ HostOutOfMemory) }
 {
-    match String::from_str(alloc, name) {
-        Ok(own) => Ok(own),
-        Err(AllocError) => Err(AllocationError::HostOutOfMemory),
-    }
+    Ok(String::from_str(alloc, name)?)
 }
 
 /// The name in memory of its own where the piece is live. For any other none is taken.
@@ -42,10 +39,7 @@ fn name_for(
     if !blocks.is_live(piece) {
         return Ok(None);
     }
-    match own_name(alloc, name) {
-        Ok(own) => Ok(Some(own)),
-        Err(error) => Err(error),
-    }
+    Ok(Some(own_name(alloc, name)?))
 }
 
 /// Gives the record of a live piece another name. A refusal changes nothing.
@@ -84,14 +78,9 @@ fn rename_in(
     ensures capacity { capacity_of blocks.new.slots ≡ capacity_of blocks.old.slots }
     ensures sound { AreSound blocks.old.granularity blocks.old.slots → AreSound blocks.new.granularity blocks.new.slots }
 {
-    let own = match name_for(alloc, blocks, piece, name) {
-        Ok(own) => own,
-        Err(error) => return Err(error),
-    };
-    match rename_record(blocks, piece, name) {
-        Ok(()) => Ok(own),
-        Err(error) => Err(error),
-    }
+    let own = name_for(alloc, blocks, piece, name)?;
+    rename_record(blocks, piece, name)?;
+    Ok(own)
 }
 
 /// Gives a live piece of the memory type at `index` another name, which is answered in memory of its own. A refusal
@@ -134,10 +123,7 @@ pub fn rename(
     ensures sum { total_capacity (slots_of types.new.items) ≡ total_capacity (slots_of types.old.items) }
 {
     let own = match allocation.piece() {
-        None => match own_name(alloc, name) {
-            Ok(own) => Some(own),
-            Err(error) => return Err(error),
-        },
+        None => Some(own_name(alloc, name)?),
         Some(piece) => {
             match rename_at(alloc, types, allocation.memory_type_index, &piece, name) {
                 Ok(own) => own,

@@ -227,13 +227,34 @@ fn names(
     give(a, x)
 }
 
+/// An allocator that tells what memory there is, before it takes any.
+fn begin_telling(
+    rt: &impl Abort,
+    alloc: Global,
+    device: SimVulkan,
+) -> Option<Allocator<SimVulkan>> {
+    let counting = Counting::new();
+    let mut desc = described(device, AllocationSizes::new(4 * MB, 4 * MB));
+    desc.debug_settings.log_memory_information = true;
+    let made = Allocator::new(&counting, alloc, desc);
+    assert_eq!(rt; counting.counts().0, 4);
+    match made {
+        Ok(a) => Some(a),
+        Err((error, device)) => {
+            assert!(rt; is_want_of_memory(&error));
+            assert_eq!(rt; device.held(), 0);
+            None
+        }
+    }
+}
+
 #[test]
 fn names_and_reports_lose_nothing_where_memory_is_refused(rt: HostRuntime) -> Outcome {
     let properties = one_type(&[(6, 0)], &[1024 * MB]);
     let Ok(device) = simulated(rt.alloc(), &properties) else {
         return Err(Fail::new(TOLD));
     };
-    let Some(mut a) = begin(&rt, rt.alloc(), device) else {
+    let Some(mut a) = begin_telling(&rt, rt.alloc(), device) else {
         return Err(Fail::new(TOLD));
     };
     let mut refused = 0;

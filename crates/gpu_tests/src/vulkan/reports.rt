@@ -281,7 +281,7 @@ fn check_not_named(
 }
 
 /// An allocation of another allocator: where there is no slot, where nothing has its number, where another piece has it,
-/// and where a gap has it. It keeps its name, which `log` is told as it is given back.
+/// and where a gap has it. It keeps its name, which `log` is told each time that it is to be given back.
 fn foreign<L: Log>(
     rt: &impl Abort,
     log: &L,
@@ -301,7 +301,10 @@ fn foreign<L: Log>(
     check_not_named(rt, b, &mut second, freed)?;
     check_row(rt, &report_of(b)?, 0, "own", 0, 10);
     check_report(rt, &report_of(a)?)?;
-    match a.free(log, second) {
+    let Err((AllocationError::Internal(_), back)) = b.free(log, second) else {
+        return Err(Fail::from("a foreign allocation was given back"));
+    };
+    match a.free(log, back) {
         Ok(()) => Ok(()),
         Err((_, _)) => Err(Fail::from("a live allocation came back")),
     }
@@ -325,9 +328,11 @@ fn a_foreign_allocation_keeps_its_name(rt: HostRuntime) -> Outcome {
     let mut settings = AllocatorDebugSettings::default();
     settings.log_frees = true;
     let mut a = logging(rt.alloc(), &Discard, settings)?;
-    let done = over_two(&rt, &sink.with_target("gpu"), &mut a, small(rt.alloc()));
+    let b = logging(rt.alloc(), &Discard, settings);
+    let done = over_two(&rt, &sink.with_target("gpu"), &mut a, b);
     let _ = a.destroy(&Discard);
     done?;
-    check_lines(&rt, &sink.into_lines(), &["[DEBUG gpu] Freeing `b`."]);
+    let line = "[DEBUG gpu] Freeing `b`.";
+    check_lines(&rt, &sink.into_lines(), &[line, line]);
     Ok(())
 }
