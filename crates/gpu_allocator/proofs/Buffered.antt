@@ -109,6 +109,7 @@ same_blocks held now old new t i stay bytes u j away = record {
     same_list : (o : Option (Slot DeviceMemory)) → block_at old u j ≡ o → (k : ℕ) → list_in now o k ≡ list_in held o k
     same_list None e k = refl
     same_list (Some s) e k = ap (λ b. piece_bytes b (piece_of_number (extents_of s.block) k)) (bytes u j s away e)
+
     same_rest : (o : Option (Slot DeviceMemory)) → block_at old u j ≡ o → (at : ℕ) → rest_in now o at ≡ rest_in held o at
     same_rest None e at = refl
     same_rest (Some s) e at = ap (λ b. left_of b (extents_of s.block) at) (bytes u j s away e)

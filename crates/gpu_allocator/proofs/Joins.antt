@@ -189,9 +189,9 @@ joins_released old n new sound t =
     let p : Extent → Bool = λ y. not (y.start == x.start) in
     let from_start : (y : Extent) → Contains old.extents y → y.start ≡ x.start → y ≡ x =
     λ y h e.
-        let wy = within_of old y sound h in
-        let wx = within_of old x sound t.held in
-        ⊎_elim (λ same. same) (λ apart. absurd (⊎_elim (λ a. omega (arith, a, e, wy.0, wy.1)) (λ a. omega (arith, a, e, wx.0, wx.1)) apart)) (sound.apart y x h t.held) in
+    let wy = within_of old y sound h in
+    let wx = within_of old x sound t.held in
+    ⊎_elim (λ same. same) (λ apart. absurd (⊎_elim (λ a. omega (arith, a, e, wy.0, wy.1)) (λ a. omega (arith, a, e, wx.0, wx.1)) apart)) (sound.apart y x h t.held) in
     let stays_or_is : All (λ y. (p y ≡ true) ⊎ (y ≡ x)) old.extents =
     all_of old.extents (λ y. (p y ≡ true) ⊎ (y ≡ x)) (λ y h. ⊎_elim (λ e. inr (from_start y h e)) (λ ne. inl (ap not (eq_false y.start x.start ne))) (cases_eq y.start x.start)) in
     let left : (y : Extent) → Contains (filter p old.extents) y → Contains old.extents y × (y ≡ x → ⊥) =

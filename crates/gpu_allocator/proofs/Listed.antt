@@ -139,6 +139,7 @@ module _ (setup : Setup) (first held : Held) (ss : Slots) (sound : AreAllSound s
       where
         false_true : false ≡ true → ⊥
         false_true e = cc
+
         within_covers : (z : Extent) (k : ℕ) → z.offset ≤ k → k < z.end → covers z k ≡ true
         within_covers z k low high = grind (arith, nat_tests)
 

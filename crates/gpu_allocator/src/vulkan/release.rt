@@ -50,11 +50,7 @@ pub fn release<D: VulkanDevice>(
 }
 
 /// Gives the block in a slot back, if there is one.
-fn give_back_slot<D: VulkanDevice>(
-    device: &mut D,
-    blocks: &MemoryType<DeviceMemory>,
-    slot: usize,
-)
+fn give_back_slot<D: VulkanDevice>(device: &mut D, blocks: &MemoryType<DeviceMemory>, slot: usize)
     ensures held { D.held device.new ≡ without_block (D.held device.old) (block_number (slot_at blocks.now.slots slot)) }
     ensures counts_nothing { D.refused device.new ≡ D.refused device.old }
     ensures names_no_question { D.latest device.new ≡ D.latest device.old }
