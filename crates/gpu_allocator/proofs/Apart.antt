@@ -76,20 +76,18 @@ module _ (p : Properties) (first held : Held) (ss : Slots) (sound : AreAllSound 
       ap (λ (z : Extent). z.kind) same ∙ has.3
 
   pub live_pages : (a b : Allocation) → IsLive ss a → IsLive ss b → KeepsPages p.granularity ss a b
-  live_pages a b live_a live_b = record {
-    apart = λ type slot j k has_j has_k ne before.
-        let x = stands ss a live_a in
-        let y = stands ss b live_b in
-        let same : x.found.s ≡ y.found.s = some_same x.found.s y.found.s (sym (here_is a x) ∙ ((λ i. block_at ss (type i) (slot i)) ∙ here_is b y)) in
-        let y_in : Contains (extents_of x.found.s.block) y.found.x = subst (λ (s : Slot DeviceMemory). Contains (extents_of s.block) y.found.x) (sym same) y.found.held in
-        let good = sound_here a x in
-        let differ : x.found.x.kind ≢ y.found.x.kind = λ e. ne (sym (kind_is a x j has_j) ∙ (e ∙ kind_is b y k has_k)) in
-        let ends : x.found.x.end ≡ a.offset + a.size = omega (arith, x.found.ends, x.offset, x.size) in
-        let begins : y.found.x.offset ≡ b.offset = y.found.begins ∙ y.offset in
-        subst (λ n. page p.granularity (a.offset + a.size - 1) < page p.granularity n) begins
-        (subst (λ n. page p.granularity (n - 1) < page p.granularity y.found.x.offset) ends
-        (kinds_apart p.granularity x.found.s.block good.0 good.1 good.2 x.found.x y.found.x x.found.held y_in differ (omega (arith, ends, begins, before))));
-  }
+  live_pages a b live_a live_b = λ type slot j k has_j has_k ne before.
+      let x = stands ss a live_a in
+      let y = stands ss b live_b in
+      let same : x.found.s ≡ y.found.s = some_same x.found.s y.found.s (sym (here_is a x) ∙ ((λ i. block_at ss (type i) (slot i)) ∙ here_is b y)) in
+      let y_in : Contains (extents_of x.found.s.block) y.found.x = subst (λ (s : Slot DeviceMemory). Contains (extents_of s.block) y.found.x) (sym same) y.found.held in
+      let good = sound_here a x in
+      let differ : x.found.x.kind ≢ y.found.x.kind = λ e. ne (sym (kind_is a x j has_j) ∙ (e ∙ kind_is b y k has_k)) in
+      let ends : x.found.x.end ≡ a.offset + a.size = omega (arith, x.found.ends, x.offset, x.size) in
+      let begins : y.found.x.offset ≡ b.offset = y.found.begins ∙ y.offset in
+      subst (λ n. page p.granularity (a.offset + a.size - 1) < page p.granularity n) begins
+      (subst (λ n. page p.granularity (n - 1) < page p.granularity y.found.x.offset) ends
+      (kinds_apart p.granularity x.found.s.block good.0 good.1 good.2 x.found.x y.found.x x.found.held y_in differ (omega (arith, ends, begins, before))))
 
 -- ---- an allocation that is given is aligned
 

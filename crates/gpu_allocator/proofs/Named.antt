@@ -28,7 +28,7 @@ use Rattle.gpu_allocator.specs.Live.{piece_of}
 use Rattle.gpu_allocator.specs.Rename.{IsRenamed, RenamesBy, Renames}
 use Rattle.gpu_allocator.specs.Reports.{whole_report}
 use Rattle.gpu_allocator.specs.State.{State}
-use Rattle.gpu_allocator.specs.Step.{model_of, Rename, Report, Leaks, RenameStep, IsStep, no_question, renamed_as, shown_as, told_as}
+use Rattle.gpu_allocator.specs.Step.{model_of, Rename, Report, Leaks, RenameStep, IsStep, Outcomes, nothing_met, renamed_as, shown_as, told_as}
 use Rattle.gpu_allocator.specs.declared.vulkan.allocation.Allocation.{Allocation}
 use Rattle.gpu_allocator.proofs.OneStep.{buffers_alike}
 use Rattle.gpu_allocator.proofs.Placed.{OnlyBlock, only_block, some_below, same_place}
@@ -155,6 +155,10 @@ renamed_buffers held t p name old new r =
     (same_place u t j p.slot))
 
 -- ---- the calls
+
+-- what a call meets with that asks the device nothing
+abbrev no_question : Bool → Outcomes
+no_question host = record { first = record { host = host; asked = None }; second = nothing_met }
 
 module _ {D : Type 0} (g : Ghosts D) (old new : State D) (device : new.device ≡ old.device) where
   same_model : new.slots ≡ old.slots → model_of g new ≡ model_of g old

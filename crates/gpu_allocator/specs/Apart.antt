@@ -33,6 +33,7 @@ HasKind slots a kind =
     (x : Extent) × Contains (pieces_in (block_at slots a.memory_type_index a.memory_block_index)) x × (x.number ≡ number_in a.chunk_id) × (x.kind ≡ kind)
 
 -- of two allocations of different kinds in one block, the earlier one's last byte lies on a page before that of the later one's first
-pub record KeepsPages (granularity : ℕ) (slots : Slots) (a b : Allocation) : Type 0 where
-  pub apart : a.memory_type_index ≡ b.memory_type_index → a.memory_block_index ≡ b.memory_block_index → (j k : AllocationType) → HasKind slots a j → HasKind slots b k → j ≢ k
-      → a.offset + a.size ≤ b.offset → page granularity (a.offset + a.size - 1) < page granularity b.offset
+abbrev pub KeepsPages : (granularity : ℕ) → Slots → Allocation → Allocation → Type 0
+KeepsPages granularity slots a b =
+    a.memory_type_index ≡ b.memory_type_index → a.memory_block_index ≡ b.memory_block_index → (j k : AllocationType) → HasKind slots a j → HasKind slots b k → j ≢ k
+    → a.offset + a.size ≤ b.offset → page granularity (a.offset + a.size - 1) < page granularity b.offset

@@ -69,10 +69,6 @@ pub record Outcomes : Type 0 where
 abbrev pub nothing_met : Outcome
 nothing_met = record { host = true; asked = None }
 
--- host memory is enough or not, and no question is asked
-abbrev pub no_question : Bool → Outcomes
-no_question host = record { first = record { host = host; asked = None }; second = nothing_met }
-
 abbrev pub MeetsNothing : Outcomes → Type 0
 MeetsNothing o = (o.first ≡ nothing_met) × (o.second ≡ nothing_met)
 
