@@ -26,3 +26,4 @@ pub mod Naming
 pub mod Reporting
 pub mod Named
 pub mod Owning
+pub mod Alike

@@ -17,3 +17,4 @@ pub mod Apart
 pub mod Rename
 pub mod Reports
 pub mod Leaks
+pub mod Alike
