@@ -4,3 +4,7 @@ pub mod Owning
 pub mod Taking
 pub mod Reading
 pub mod Naming
+pub mod Changes
+pub mod Alike
+pub mod Ranges
+pub mod TwoRuns

@@ -17,10 +17,10 @@ null_dead slots a e live = subst (λ p. IsLiveIn slots a.memory_type_index p) e 
 other_sym : (a b : Allocation) → IsOther a b → IsOther b a
 other_sym a b h = λ x y z. h (sym x) (sym y) (sym z)
 
-none_some : {A : Type 0} (a : A) → None ≡ Some a → ⊥
+pub none_some : {A : Type 0} (a : A) → None ≡ Some a → ⊥
 none_some a e = cc
 
-some_same : {A : Type 0} (a b : A) → Some a ≡ Some b → a ≡ b
+pub some_same : {A : Type 0} (a b : A) → Some a ≡ Some b → a ≡ b
 some_same a b e = cc
 
 module _ (old : SessionState) (own : IsOwn old) where

@@ -1,5 +1,5 @@
 -- What reads and writes under a number come to.
-use Rattle.std.proofs.Common.{◌≡◌, ◌∙◌, ℕ, ◌+◌, ◌≤◌, arith, length-take, length-drop, length-append, List, length, take, drop, Option, Some, Bool, true, false, refl, sym, ap, subst}
+use Rattle.std.proofs.Common.{◌≡◌, ◌∙◌, ℕ, ◌+◌, ◌≤◌, arith, List, length, take, drop, Option, Some, Bool, true, false, refl, sym, ap, subst}
 use Rattle.std.specs.Prelude.{nat_le, if◌then◌else◌}
 use Rattle.std.proofs.lemmas.Bool.Decides.{nat_tests}
 use Rattle.gpu_device.specs.declared.vulkan.device.VulkanDevice.{Ghosts}
@@ -11,6 +11,7 @@ use Rattle.gpu_vulkan_session.specs.Session as orders
 use Rattle.gpu_vulkan_session.specs.Session.{Under, Put, Get, Told, Chances, put_range, read_told, part_told, PutsOver, PutsIn}
 use Rattle.gpu_vulkan_session.specs.Served.{SessionValue, session_of, IsServed}
 use Rattle.gpu_vulkan_session.proofs.Binding.{bindings}
+use Rattle.gpu_vulkan_session.proofs.Ranges.{length_put}
 use Rattle.gpu_vulkan_session.proofs.Serving.{quiet, stayed, served_quietly, serves_at}
 
 -- bytes that are read in the model
@@ -35,10 +36,8 @@ past_told room at size xs e = ap (λ b. if b then part_told room (take size (dro
 pub data_told : (room : Bool) (at size : ℕ) (xs : List ℕ) → nat_le (at + size) (length xs) ≡ true → read_told room at size (Some xs) ≡ part_told room (take size (drop at xs))
 data_told room at size xs e = ap (λ b. if b then part_told room (take size (drop at xs)) else orders.Past) e
 
-length_put : (xs : List ℕ) (at : ℕ) (ws : List ℕ) → nat_le (at + length ws) (length xs) ≡ true → length (put_range xs at ws) ≡ length xs
-length_put xs at ws fits =
-    let le : at + length ws ≤ length xs = grind (arith, nat_tests, fits) in
-    simp (length-append, length-take, length-drop) (omega (arith, le))
+fits_le : (n m : ℕ) → nat_le n m ≡ true → n ≤ m
+fits_le n m fits = grind (arith, nat_tests, fits)
 
 module _ {D : Type 0} (g : Ghosts D) (s : SessionValue D) (key at : ℕ) where
   -- a write over an allocation's bytes
@@ -49,7 +48,7 @@ module _ {D : Type 0} (g : Ghosts D) (s : SessionValue D) (key at : ℕ) where
   puts_bound others a xs ys zs size after found read fits same put long writes constant =
       let is : xs ≡ ys = cc in
       let put_xs : zs ≡ put_range xs at others = put ∙ ap (λ l. put_range l at others) (sym is) in
-      let step = subst (λ l. IsStep g (model.Write a l) model.Done s.allocator after) put_xs (writes (ap length put_xs ∙ length_put xs at others fits ∙ long)) in
+      let step = subst (λ l. IsStep g (model.Write a l) model.Done s.allocator after) put_xs (writes (ap length put_xs ∙ length_put xs at others (fits_le (at + length others) (length xs) fits) ∙ long)) in
       let o : Chances = record { room = true; call = step.outcomes } in
       let new : SessionValue D = record { allocator = after; bound = s.bound } in
       record {
