@@ -3,30 +3,28 @@ use Rattle.std.proofs.Common.{inl, inr, map, ◌⊎◌, ◌≡◌, ◌∙◌, �
 use Rattle.std.specs.Prelude.{◌&&◌, not, if◌then◌else◌}
 use Rattle.gpu_core.specs.Refusal.{Refusal, host_out_of_memory}
 use Rattle.gpu_core.specs.Leak.{leak_text}
-use Rattle.gpu_core.specs.Request.{Request}
 use Rattle.gpu_core.specs.TypeRelease.{has_several, ReleasesPiece, RenamesPiece, IsFreeRefusal, IsNameRefusal}
 use Rattle.gpu_core.specs.TypeState.{Slot, TypeState, slot_at}
 use Rattle.gpu_core.specs.TypeTake.{Ready, has_own_block, PreparesPiece, NeedsBlock}
 use Rattle.gpu_core.specs.declared.memory_type.Piece.{Piece}
-use Rattle.gpu_core.proofs.OneOutcome.{released_once, refusal_once, renamed_once, name_refusal_once}
+use Rattle.gpu_core.proofs.OneOutcome.{released_once, refusal_once, renamed_once}
 use Rattle.gpu_device.specs.declared.vulkan.types.DeviceMemory.{DeviceMemory}
 use Rattle.gpu_device.specs.declared.vulkan.types.MemoryAllocateInfo.{MemoryAllocateInfo}
-use Rattle.gpu_allocator.specs.Allocate.{Attempts, IsTooLarge, IsPlanned, is_valid, is_for_upload, is_short, next_type}
+use Rattle.gpu_allocator.specs.Allocate.{Attempts, IsTooLarge, IsPlanned, is_valid, is_for_upload, is_short}
 use Rattle.gpu_allocator.specs.Alike.{AlikeAnswer, AlikeAsked, AlikeOutcome, AlikeOutcomes, AlikeDescription, AlikeCall, AlikeReply}
 use Rattle.gpu_allocator.specs.Attempt.{Outcome, Asked, Plan, Short, Serves, Needs, IsPlan, Answer, Gave, Refused, Comes, Settles, question}
 use Rattle.gpu_allocator.specs.BlockAnswer.{BlockAnswer, Declined, Granted, Mapped, NotMapped}
 use Rattle.gpu_allocator.specs.Blocks.{Slots, slots_at, is_mapped, type_at, total_capacity, AreAllSound}
-use Rattle.gpu_allocator.specs.Buffers.{Buffers}
 use Rattle.gpu_allocator.specs.Choice.{first_type, required, best_type}
 use Rattle.gpu_allocator.specs.Describe.{is_own, kind_of, request_of}
 use Rattle.gpu_allocator.specs.Live.{piece_of, is_same_memory, IsLiveIn, IsMapped}
 use Rattle.gpu_allocator.specs.Leaks.{all_leaks}
 use Rattle.gpu_allocator.specs.Reports.{whole_report}
 use Rattle.gpu_allocator.specs.Setup.{Setup}
-use Rattle.gpu_allocator.specs.Step.{ModelState, Call, Allocate, Free, Write, Rename, Report, Leaks, Read, Capacity, Reply, Given, Fails, Done, Bytes, Sum, Shows, Tells, RenameStep, ReportStep, LeaksStep, Outcomes, AttemptStep, reply_of, next_by, Follows, ServeStep, RefuseStep, FoundStep, AllocateStep, FreeStep, IsRead, Step}
+use Rattle.gpu_allocator.specs.Step.{ModelState, Call, Allocate, Free, Write, Rename, Report, Leaks, Read, Capacity, Reply, Given, Fails, Done, Bytes, Sum, Shows, Tells, RenameStep, Outcomes, AttemptStep, reply_of, next_by, Follows, ServeStep, RefuseStep, FoundStep, AllocateStep, FreeStep, IsRead, Step}
 use Rattle.gpu_allocator.specs.declared.vulkan.allocation.Allocation.{Allocation}
 use Rattle.gpu_allocator.specs.declared.vulkan.describe.AllocationCreateDesc.{AllocationCreateDesc}
-use Rattle.gpu_allocator.proofs.OneStep.{false_true, plan_once, settles_once, mid_sound, free_reply, done_or_fails, rename_reply, named_or_fails, rename_fails_once, shown_reply, told_reply, by_host, write_reply, read_reply, sum_reply}
+use Rattle.gpu_allocator.proofs.OneStep.{plan_once, settles_once, mid_sound, free_reply, done_or_fails, rename_reply, named_or_fails, rename_fails_once, shown_reply, told_reply, by_host, write_reply, read_reply, sum_reply}
 
 abbrev SlotList : Type 0
 SlotList = List (Option (Slot DeviceMemory))

@@ -27,3 +27,4 @@ pub mod Reporting
 pub mod Named
 pub mod Owning
 pub mod Alike
+pub mod Untouched

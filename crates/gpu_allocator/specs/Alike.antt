@@ -1,5 +1,5 @@
 -- Calls, outcomes and replies that differ at most in bytes.
-use Rattle.std.specs.Prelude.{◌≡◌, List, Option, Some, None}
+use Rattle.std.specs.Prelude.{◌≡◌, Option, Some, None}
 use Rattle.gpu_allocator.specs.Attempt.{Outcome, Asked}
 use Rattle.gpu_allocator.specs.BlockAnswer.{BlockAnswer, Mapped}
 use Rattle.gpu_allocator.specs.Step.{Call, Allocate, Write, Outcomes, Reply, Bytes}

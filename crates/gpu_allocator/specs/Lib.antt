@@ -18,3 +18,4 @@ pub mod Rename
 pub mod Reports
 pub mod Leaks
 pub mod Alike
+pub mod Untouched

@@ -8,3 +8,4 @@ pub mod Changes
 pub mod Alike
 pub mod Ranges
 pub mod TwoRuns
+pub mod Isolation

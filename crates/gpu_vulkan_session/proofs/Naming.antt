@@ -10,6 +10,7 @@ use Rattle.gpu_allocator.specs.Rename.{IsNamed, RenamesBy}
 use Rattle.gpu_allocator.specs.Step as model
 use Rattle.gpu_allocator.specs.Step.{IsStep}
 use Rattle.gpu_allocator.specs.declared.vulkan.allocation.Allocation.{Allocation}
+use Rattle.gpu_allocator.proofs.Untouched.{same_leaves}
 use Rattle.gpu_vulkan_session.specs.Session as orders
 use Rattle.gpu_vulkan_session.specs.Session.{Under, Rename, Told, Chances, bind}
 use Rattle.gpu_vulkan_session.specs.Served.{SessionValue, session_of, IsServed}
@@ -25,7 +26,7 @@ same_of a b None name e old new h = h.1
 same_of a b (Some p) name e old new h = h.1
 
 module _ {D : Type 0} (g : Ghosts D) (old new : SessionValue D) (key : ℕ) (name : List ℕ) (a b : Allocation) (told : Told) (found : bindings old.bound key ≡ Some a)
-    (is : bindings new.bound ≡ bind (bindings old.bound) key (Some b)) (constant : (new.allocator.setup ≡ old.allocator.setup) × (new.allocator.first ≡ old.allocator.first)) where
+    (is : bindings new.bound ≡ bind (bindings old.bound) key (Some b)) (constant : (new.allocator.setup ≡ old.allocator.setup) × (new.allocator.first ≡ old.allocator.first)) (device : new.allocator.device ≡ old.allocator.device) where
   pub renamed : IsNamed a name b → told ≡ orders.Fine → IsStep g (model.Rename a name) model.Done old.allocator new.allocator → IsServed g (Under key (Rename name)) told old new
   renamed named fine step =
       let o : Chances = record { room = true; call = step.outcomes } in
@@ -34,6 +35,7 @@ module _ {D : Type 0} (g : Ghosts D) (old new : SessionValue D) (key : ℕ) (nam
         serves = serves_at old.allocator.setup (session_of g old) (session_of g new) key (Rename name) o told (Some a) found
             (record { reply = model.Done; step = step.step; binds = (fine, (b, named, is)) });
         count = step.count;
+        untouched = λ e2. same_leaves (g.held old.allocator.device) (g.held new.allocator.device) (ap g.held device);
         constant = constant;
       }
 
@@ -46,5 +48,6 @@ module _ {D : Type 0} (g : Ghosts D) (old new : SessionValue D) (key : ℕ) (nam
         serves = serves_at old.allocator.setup (session_of g old) (session_of g new) key (Rename name) o told (Some a) found
             (record { reply = model.Fails (refusal_of e); step = step.step; binds = (fails, unchanged) });
         count = step.count;
+        untouched = λ e2. same_leaves (g.held old.allocator.device) (g.held new.allocator.device) (ap g.held device);
         constant = constant;
       }

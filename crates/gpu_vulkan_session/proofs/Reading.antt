@@ -36,6 +36,9 @@ past_told room at size xs e = ap (λ b. if b then part_told room (take size (dro
 pub data_told : (room : Bool) (at size : ℕ) (xs : List ℕ) → nat_le (at + size) (length xs) ≡ true → read_told room at size (Some xs) ≡ part_told room (take size (drop at xs))
 data_told room at size xs e = ap (λ b. if b then part_told room (take size (drop at xs)) else orders.Past) e
 
+true_false : true ≡ false → ⊥
+true_false e = cc
+
 fits_le : (n m : ℕ) → nat_le n m ≡ true → n ≤ m
 fits_le n m fits = grind (arith, nat_tests, fits)
 
@@ -56,6 +59,7 @@ module _ {D : Type 0} (g : Ghosts D) (s : SessionValue D) (key at : ℕ) where
         serves = serves_at s.allocator.setup (session_of g s) (session_of g new) key (Put at others) o orders.Fine (Some a) found
             (Some xs, read, subst (λ b. PutsIn s.allocator.setup a at others xs b o orders.Fine (session_of g s) (session_of g new)) (sym fits) (refl, step.step, refl));
         count = step.count;
+        untouched = λ e. absurd (true_false e);
         constant = constant;
       }
 

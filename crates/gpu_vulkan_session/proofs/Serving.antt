@@ -7,9 +7,10 @@ use Rattle.gpu_allocator.specs.Setup.{Setup}
 use Rattle.gpu_allocator.specs.State.{State}
 use Rattle.gpu_allocator.specs.Step as model
 use Rattle.gpu_allocator.specs.Step.{Outcomes, nothing_met, MeetsNothing, count_after, IsStep}
+use Rattle.gpu_allocator.proofs.Untouched.{same_leaves}
 use Rattle.gpu_allocator.specs.declared.vulkan.allocation.Allocation.{Allocation}
 use Rattle.gpu_vulkan_session.specs.Session.{SessionState, IsOwn, IsKept, Deed, Order, Told, Chances, Under, Stays, ServesAt, Serves, Runs, Asks, told_by}
-use Rattle.gpu_vulkan_session.specs.Served.{SessionValue, session_of, count_over, IsServed}
+use Rattle.gpu_vulkan_session.specs.Served.{SessionValue, session_of, count_over, IsServed, ServesEach}
 
 -- nothing is met with
 abbrev pub quiet : Chances
@@ -33,6 +34,7 @@ module _ {D : Type 0} (g : Ghosts D) where
     chances = o;
     serves = serves_at old.allocator.setup (session_of g old) (session_of g old) key deed o told found e h;
     count = ap (λ c. count_after (count_after (g.refused old.allocator.device) c.first.asked) c.second.asked) (sym met);
+    untouched = λ e. same_leaves (g.held old.allocator.device) (g.held old.allocator.device) refl;
     constant = (refl, refl);
   }
 
@@ -73,3 +75,11 @@ kept_at g allocator bound s setup is same sound own =
       sound = subst (λ z. AreAllSound z.properties allocator.slots) (ap (λ x. x.allocator.setup) is ∙ same) sound;
       own = own;
     })
+
+-- one command more is served
+pub each_more : {D : Type 0} (g : Ghosts D) (old mid new : SessionValue D) (orders : List Order) (order : Order) (told : List Told) (t : Told) → ServesEach g orders told old mid → IsServed g order t mid new
+    → ServesEach g (orders ++ order ∷ []) (told ++ t ∷ []) old new
+each_more g old mid new [] order [] t same step = (new, subst (λ x. IsServed g order t x new) same step, refl)
+each_more g old mid new [] order (u ∷ told) t run step = absurd run
+each_more g old mid new (o ∷ orders) order [] t run step = absurd run
+each_more g old mid new (o ∷ orders) order (u ∷ told) t run step = (run.0, run.1, each_more g run.0 mid new orders order told t run.2 step)

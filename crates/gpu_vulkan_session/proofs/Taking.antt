@@ -8,6 +8,7 @@ use Rattle.gpu_values.specs.declared.error.AllocationError.{AllocationError}
 use Rattle.gpu_device.specs.declared.vulkan.device.VulkanDevice.{Ghosts}
 use Rattle.gpu_device.specs.declared.vulkan.types.DeviceMemory.{DeviceMemory}
 use Rattle.gpu_device.specs.declared.vulkan.types.MemoryTypeInfo.{MemoryTypeInfo}
+use Rattle.gpu_allocator.specs.Allocate.{Allocates}
 use Rattle.gpu_allocator.specs.Blocks.{is_mapped, mapped_by, is_host_visible}
 use Rattle.gpu_allocator.specs.Describe.{is_own}
 use Rattle.gpu_allocator.specs.Lends.{number_in}
@@ -17,6 +18,7 @@ use Rattle.gpu_allocator.specs.Step as model
 use Rattle.gpu_allocator.specs.Step.{IsAllocateStep, IsStep, Replies}
 use Rattle.gpu_allocator.specs.declared.vulkan.allocation.Allocation.{Allocation}
 use Rattle.gpu_allocator.specs.declared.vulkan.describe.AllocationCreateDesc.{AllocationCreateDesc}
+use Rattle.gpu_allocator.proofs.Untouched.{allocate_leaves}
 use Rattle.gpu_vulkan_session.specs.Session as orders
 use Rattle.gpu_vulkan_session.specs.Session.{Wanted, Describes, Shown, shown, Take, Under, bind, Bindings, AllocatesFor}
 use Rattle.gpu_vulkan_session.specs.Served.{SessionValue, session_of, shown_allocation, IsServed}
@@ -71,9 +73,9 @@ shown_same setup d w t p a wants given =
         }
 
 module _ {D : Type 0} (g : Ghosts D) (old new : SessionValue D) (key : ℕ) (w : Wanted) (d : AllocationCreateDesc) (wants : Describes d w) where
-  pub not_taken : (e : AllocationError) → bindings old.bound key ≡ None → bindings new.bound ≡ bindings old.bound → IsAllocateStep g d (Err e) old.allocator new.allocator
+  pub not_taken : (e : AllocationError) → bindings old.bound key ≡ None → bindings new.bound ≡ bindings old.bound → IsAllocateStep g d (Err e) old.allocator new.allocator → Allocates g old.allocator.setup d old.allocator.slots old.allocator.device (Err e) new.allocator.slots new.allocator.device
       → (new.allocator.first ≡ old.allocator.first) × (new.allocator.setup ≡ old.allocator.setup) → IsServed g (Under key (Take w)) (orders.Fails (refusal_of e)) old new
-  not_taken e none same s constant =
+  not_taken e none same s allocates constant =
       let is = failed_reply old.allocator.setup d e s.reply s.replies in
       let step = subst (λ r. IsStep g (model.Allocate d) r old.allocator new.allocator) is s.step in
       record {
@@ -86,12 +88,13 @@ module _ {D : Type 0} (g : Ghosts D) (old new : SessionValue D) (key : ℕ) (w :
           binds = (refl, same);
         });
         count = step.count;
+        untouched = λ w2. allocate_leaves g old.allocator.setup d old.allocator.slots new.allocator.slots old.allocator.device new.allocator.device (Err e) allocates;
         constant = (constant.1, constant.0);
       }
 
-  pub taken : (a : Allocation) (told : orders.Told) → bindings old.bound key ≡ None → bindings new.bound ≡ bind (bindings old.bound) key (Some a) → IsAllocateStep g d (Ok a) old.allocator new.allocator
+  pub taken : (a : Allocation) (told : orders.Told) → bindings old.bound key ≡ None → bindings new.bound ≡ bind (bindings old.bound) key (Some a) → IsAllocateStep g d (Ok a) old.allocator new.allocator → Allocates g old.allocator.setup d old.allocator.slots old.allocator.device (Ok a) new.allocator.slots new.allocator.device
       → (new.allocator.first ≡ old.allocator.first) × (new.allocator.setup ≡ old.allocator.setup) → told ≡ orders.Given (shown_allocation a) → IsServed g (Under key (Take w)) told old new
-  taken a told none same s constant is_told =
+  taken a told none same s allocates constant is_told =
       let is = given_reply old.allocator.setup d a s.reply s.replies in
       let step = subst (λ r. IsStep g (model.Allocate d) r old.allocator new.allocator) is.2 s.step in
       record {
@@ -104,5 +107,6 @@ module _ {D : Type 0} (g : Ghosts D) (old new : SessionValue D) (key : ℕ) (w :
           binds = (a, is.3, is_told ∙ ap orders.Given (shown_same old.allocator.setup d w is.0 is.1 a wants is.3), same);
         });
         count = step.count;
+        untouched = λ w2. allocate_leaves g old.allocator.setup d old.allocator.slots new.allocator.slots old.allocator.device new.allocator.device (Ok a) allocates;
         constant = (constant.1, constant.0);
       }

@@ -7,7 +7,7 @@ ghost use Rattle.gpu_values.specs.declared.error.AllocationError.TheVariants.{Ho
 ghost use Rattle.gpu_allocator.specs.Blocks.{HoldsJustLiveBlocks};
 ghost use Rattle.gpu_vulkan_session.specs.Session.{IsOwn, Wanted, Describes, Take, TakeNull, Return, Rename, Put, Get, Under, put_range};
 ghost use Rattle.gpu_vulkan_session.specs.Session as orders;
-ghost use Rattle.gpu_vulkan_session.specs.Served.{session_of, order_of, told_of, shown_allocation, IsServed, IsRun};
+ghost use Rattle.gpu_vulkan_session.specs.Served.{session_of, order_of, told_of, shown_allocation, IsServed, IsRun, ServesEach};
 
 use crate::command::Command;
 use crate::reply::{Given, Reply};
@@ -55,6 +55,8 @@ impl<D: VulkanDevice> Session<D> {
     /// which changed nothing.
     pub fn run<L: Log>(&mut self, log: &L, commands: &[Command]) -> Result<Vec<Reply>>
         ensures run { IfOk result (λ replies. IsRun D.VulkanDevice (map order_of commands.now) (map told_of replies.items)
+            self.old self.new) }
+        ensures each { IfOk result (λ replies. ServesEach D.VulkanDevice (map order_of commands.now) (map told_of replies.items)
             self.old self.new) }
         ensures count { IfOk result (λ replies. length replies.items ≡ length commands.now) }
         ensures nothing { OnErr result (self.new ≡ self.old) }

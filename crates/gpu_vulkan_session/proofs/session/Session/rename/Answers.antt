@@ -36,9 +36,9 @@ returns-after-rename_allocation g c =
     subst (λ x. IsServed V (Under c.args.key (Rename c.args.name.now)) told x new) c.self.view_is
     (elim c.match-rename_allocation.branch [
       | in-Ok w ↦
-          renamed V s new c.args.key c.args.name.now a b told found is constant
+          renamed V s new c.args.key c.args.name.now a b told found is constant c.rename_allocation.ensures.constant.0
           (named_of a b (piece_of a) c.args.name.now w.in-Ok.field-0 s.allocator.slots new.allocator.slots w.in-Ok.ensures.renames) (ap told_of w.result-is) w.in-Ok.ensures.step
       | in-Err w ↦
-          not_renamed V s new c.args.key c.args.name.now a b told found is constant w.in-Err.error
+          not_renamed V s new c.args.key c.args.name.now a b told found is constant c.rename_allocation.ensures.constant.0 w.in-Err.error
           (same_of a b (piece_of a) c.args.name.now w.in-Err.error s.allocator.slots new.allocator.slots w.in-Err.ensures.renames) (ap told_of w.result-is) w.in-Err.ensures.step
     ])

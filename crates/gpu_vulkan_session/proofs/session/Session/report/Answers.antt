@@ -2,6 +2,7 @@ use Rattle.std.proofs.Common.{true, refl, subst}
 use Rattle.gpu_core.specs.Refusal.{refusal_of}
 use Rattle.gpu_core.specs.Report.{report_of}
 use Rattle.gpu_allocator.specs.Step as model
+use Rattle.gpu_allocator.proofs.Untouched.{same_leaves}
 use Rattle.gpu_vulkan_session.specs.Session as orders
 use Rattle.gpu_vulkan_session.specs.Served.{SessionValue, IsServed}
 use Rattle.gpu_vulkan_session.proofs.Serving.{asked}
@@ -17,6 +18,7 @@ returns-in-Ok g c =
       chances = record { room = true; call = step.outcomes };
       serves = asked V model.Report (model.Shows (report_of c.in-Ok.report)) told s refl step;
       count = step.count;
+      untouched = λ e. same_leaves (V.held s.allocator.device) (V.held s.allocator.device) refl;
       constant = (refl, refl);
     })
 
@@ -30,5 +32,6 @@ returns-in-Err g c =
       chances = record { room = true; call = step.outcomes };
       serves = asked V model.Report (model.Fails (refusal_of c.in-Err.error)) told s refl step;
       count = step.count;
+      untouched = λ e. same_leaves (V.held s.allocator.device) (V.held s.allocator.device) refl;
       constant = (refl, refl);
     })

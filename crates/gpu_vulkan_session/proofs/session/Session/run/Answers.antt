@@ -3,7 +3,7 @@ use Rattle.std.proofs.lemmas.Grind.{common_steps}
 use Rattle.gpu_allocator.specs.Step.{count_after}
 use Rattle.gpu_vulkan_session.specs.Session.{Serves}
 use Rattle.gpu_vulkan_session.specs.Served.{session_of, order_of, told_of}
-use Rattle.gpu_vulkan_session.proofs.Serving.{runs_more, count_more, map_push, map_take_more, kept_at}
+use Rattle.gpu_vulkan_session.proofs.Serving.{runs_more, each_more, count_more, map_push, map_take_more, kept_at}
 use Rattle.gpu_vulkan_session.proofs.session.Session.run.Goals as goal
 
 pub loop-command-preserved : goal.loop-command-preserved
@@ -31,6 +31,7 @@ loop-command-preserved g c =
             ∙ sym (count_more (V.refused old.allocator.device) before.chances step.chances);
         constant = (step.constant.0 ∙ before.constant.0, step.constant.1 ∙ before.constant.1);
       });
+      each = rw (orders, tolds) (each_more V old mid new (map order_of (take c.loop-command.command-index c.args.commands.now)) order (map told_of c.loop-command.replies.items) told c.loop-command.invariant.each step);
       count = grind (arith, common_steps, c.loop-command.invariant.count);
       room = grind (arith, common_steps, c.loop-command.invariant.room);
     }

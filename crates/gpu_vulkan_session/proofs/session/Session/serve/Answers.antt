@@ -1,5 +1,6 @@
 use Rattle.std.proofs.Common.{true, refl, sym, subst}
 use Rattle.gpu_allocator.specs.Step as model
+use Rattle.gpu_allocator.proofs.Untouched.{same_leaves}
 use Rattle.gpu_vulkan_session.specs.Session as orders
 use Rattle.gpu_vulkan_session.specs.Served.{SessionValue, order_of, IsServed}
 use Rattle.gpu_vulkan_session.proofs.Serving.{asked}
@@ -16,5 +17,6 @@ returns-in-Capacity g c =
       chances = record { room = true; call = step.outcomes };
       serves = asked V model.Capacity (model.Sum c.capacity.result) told s refl step;
       count = step.count;
+      untouched = λ e. same_leaves (V.held s.allocator.device) (V.held s.allocator.device) refl;
       constant = (refl, refl);
     }))

@@ -4,6 +4,7 @@ use Rattle.std.specs.Map.{lookup}
 use Rattle.gpu_allocator.specs.Live.{null_allocation}
 use Rattle.gpu_allocator.specs.Step.{model_of}
 use Rattle.gpu_core.specs.Refusal.{host_out_of_memory}
+use Rattle.gpu_allocator.proofs.Untouched.{same_leaves}
 use Rattle.gpu_vulkan_session.specs.Session as orders
 use Rattle.gpu_vulkan_session.specs.Session.{TakeNull, Under, bind}
 use Rattle.gpu_vulkan_session.specs.Served.{SessionValue, session_of, IsServed}
@@ -30,6 +31,7 @@ returns-then-is_err g c =
       chances = short;
       serves = serves_at s.allocator.setup (session_of V s) (session_of V new) c.args.key TakeNull short told None none ((refl, refl), (refl, same));
       count = refl;
+      untouched = λ e. same_leaves (V.held s.allocator.device) (V.held s.allocator.device) refl;
       constant = (refl, refl);
     })
 
@@ -46,5 +48,6 @@ returns g c =
       chances = quiet;
       serves = serves_at s.allocator.setup (session_of V s) (session_of V new) c.args.key TakeNull quiet orders.Fine None none ((refl, refl), (refl, same));
       count = refl;
+      untouched = λ e. same_leaves (V.held s.allocator.device) (V.held s.allocator.device) refl;
       constant = (refl, refl);
     })
