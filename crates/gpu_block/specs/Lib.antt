@@ -1,10 +1,15 @@
 pub mod FreeList
 pub mod Request
 pub mod Place
+pub mod Search
 pub mod Changes
 pub mod Laws
 pub mod BlockRefusal
 pub mod Chunks
+pub mod Cost
+pub mod Index
+pub mod Chain
+pub mod Indexed
 pub mod Rows
 pub mod Dedicated
 pub mod Block
