@@ -29,7 +29,7 @@ next_chosen : (b : Bool) (o : Option ℕ) (u n : ℕ) → (o ≡ Some u → u < 
 next_chosen true o u n below is = below is
 next_chosen false o u n below is = absurd (none_some u is)
 
-next_below : (setup : Setup) (d : AllocationCreateDesc) (r : Result Allocation AllocationError) (u : ℕ) → next_after setup d r ≡ Some u → u < length setup.properties.types
+pub next_below : (setup : Setup) (d : AllocationCreateDesc) (r : Result Allocation AllocationError) (u : ℕ) → next_after setup d r ≡ Some u → u < length setup.properties.types
 next_below setup d (Ok a) u is = absurd (none_some u is)
 next_below setup d (Err e) u is =
     next_chosen (is_for_upload d.location && not (is_short (refusal_of e))) (first_type setup.properties.types d.requirements.memory_type_bits (required d.location)) u (length setup.properties.types)

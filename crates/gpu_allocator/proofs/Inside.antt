@@ -27,7 +27,7 @@ whole_end None size x whole h = (let l = h.1 in absurd (omega (arith, l)))
 whole_end (Some z) size x whole h = ap (λ (y : Extent). y.end) (only_one (Some z) x z h (0, omega arith, refl)) ∙ whole.2
 
 -- an extent ends inside its block
-extent_inside : (b : Block) (x : Extent) → IsSoundBlock b → Contains (extents_of b) x → x.end ≤ size_of b
+pub extent_inside : (b : Block) (x : Extent) → IsSoundBlock b → Contains (extents_of b) x → x.end ≤ size_of b
 extent_inside (free_list b) x sound within = (All-contains (λ y. (y.start ≤ y.offset) × (y.offset < y.end) × (y.end ≤ b.size)) b.extents x sound.within within).2
 extent_inside (dedicated b) x sound within = let end = whole_end b.piece b.size x sound within in omega (arith, end)
 
@@ -77,9 +77,13 @@ module _ (p : Properties) (first held : Held) (ss : Slots) (sound : AreAllSound 
 false_true : false ≡ true → ⊥
 false_true e = cc
 
-some_copied : (r : Option (Bor (List ℕ))) → IsSome (option_copied r) → IsSome r
+pub some_copied : (r : Option (Bor (List ℕ))) → IsSome (option_copied r) → IsSome r
 some_copied None h = h
 some_copied (Some s) h = refl
+
+pub copied_some : (r : Option (Bor (List ℕ))) → IsSome r → IsSome (option_copied r)
+copied_some None h = h
+copied_some (Some s) h = refl
 
 none_copied : (r : Option (Bor (List ℕ))) → option_copied r ≡ None → IsSome r → ⊥
 none_copied None e some = false_true some

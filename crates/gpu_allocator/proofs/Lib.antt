@@ -12,3 +12,17 @@ pub mod Returned
 pub mod Releasing
 pub mod Inside
 pub mod Writing
+pub mod Joins
+pub mod Parts
+pub mod Buffered
+pub mod Stepping
+pub mod Steps
+pub mod Freeing
+pub mod Listed
+pub mod OneStep
+pub mod Apart
+pub mod Renaming
+pub mod Naming
+pub mod Reporting
+pub mod Named
+pub mod Owning

@@ -25,7 +25,7 @@ use Rattle.gpu_allocator.proofs.Inside.{live_range, piece_with}
 use Rattle.gpu_allocator.proofs.Taken.{some_same}
 
 -- two extents of a block are one, or share no byte
-extents_apart : (b : Block) (x y : Extent) → IsSoundBlock b → Contains (extents_of b) x → Contains (extents_of b) y → (x ≡ y) ⊎ ((x.end ≤ y.offset) ⊎ (y.end ≤ x.offset))
+pub extents_apart : (b : Block) (x y : Extent) → IsSoundBlock b → Contains (extents_of b) x → Contains (extents_of b) y → (x ≡ y) ⊎ ((x.end ≤ y.offset) ⊎ (y.end ≤ x.offset))
 extents_apart (dedicated b) x y sound at there = inl (only_one b.piece x y at there)
 extents_apart (free_list b) x y sound at there =
     let P : Extent → Type 0 = λ z. (z.start ≤ z.offset) × (z.offset < z.end) × (z.end ≤ b.size) in

@@ -11,3 +11,9 @@ pub mod State
 pub mod Free
 pub mod Returning
 pub mod Lends
+pub mod Buffers
+pub mod Step
+pub mod Apart
+pub mod Rename
+pub mod Reports
+pub mod Leaks

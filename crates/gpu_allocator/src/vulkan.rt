@@ -6,7 +6,12 @@ mod attempt;
 mod block;
 mod choice;
 mod describe;
+pub mod laws;
+mod leaks;
+mod logging;
 mod release;
+mod rename;
+mod report;
 mod setup;
 mod slab;
 

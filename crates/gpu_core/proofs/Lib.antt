@@ -6,3 +6,4 @@ pub mod Finding
 pub mod EmptyBlocks
 pub mod Dead
 pub mod Kept
+pub mod OneOutcome

@@ -8,7 +8,7 @@ use Rattle.gpu_core.specs.declared.memory_type.slot.Finding.{Finding}
 use Rattle.gpu_core.specs.declared.memory_type.slot.Finding.TheVariants as findings
 use Rattle.gpu_core.specs.Request.{Request}
 use Rattle.gpu_core.specs.SubAllocator.{block_of}
-use Rattle.gpu_core.specs.Block.{extents_of, is_general, TakesIn, HasPages, IsSoundBlock}
+use Rattle.gpu_core.specs.Block.{extents_of, is_general, TakesIn, HasPages, IsSoundBlock, HasPagesApart}
 use Rattle.gpu_core.specs.FreeList.{Extent}
 use Rattle.gpu_core.specs.TypeState.{Slot, slot_at, capacity_of, shared_count, KeepsOneEmptyAtMost}
 use Rattle.gpu_core.specs.TypeRelease.{SlotHolds, Goes}
@@ -21,10 +21,10 @@ slot_of b = record { number = b.number; block = block_of b.sub }
 abbrev pub slots_of : {H : Type 0} → List (Option (LiveBlock H)) → List (Option (Slot H))
 slots_of slots = map (option_map slot_of) slots
 
--- a slot's block is sound and has the type's pages
+-- a slot's block has the type's pages and is sound, and its pieces of different kinds share no page
 abbrev pub SlotIsSound : {H : Type 0} → ℕ → Option (Slot H) → Type 0
 SlotIsSound granularity None = Unit {0}
-SlotIsSound granularity (Some s) = HasPages s.block granularity × IsSoundBlock s.block
+SlotIsSound granularity (Some s) = HasPages s.block granularity × IsSoundBlock s.block × HasPagesApart s.block
 
 abbrev pub AreSound : {H : Type 0} → ℕ → List (Option (Slot H)) → Type 0
 AreSound granularity slots = (i : ℕ) → SlotIsSound granularity (slot_at slots i)

@@ -1,6 +1,6 @@
 -- What `prepare` answers, and what `install` asks for.
 use Rattle.std.specs.Prelude.{◌≡◌, ℕ, Bool, true, false, not}
-use Rattle.gpu_core.specs.Block.{size_of, is_general, HoldsPiece, HasPages, IsSoundBlock}
+use Rattle.gpu_core.specs.Block.{size_of, is_general, HoldsPiece, HasPages, IsSoundBlock, HasPagesApart}
 use Rattle.gpu_core.specs.Sizes.{Sizes}
 use Rattle.gpu_core.specs.TypeState.{TypeState}
 use Rattle.gpu_core.specs.TypeTake.{asked, has_own_block, PreparesPiece, Ready, NeedsBlock, has_room}
@@ -8,13 +8,14 @@ use Rattle.gpu_core.specs.declared.memory_type.Request as type_requests
 use Rattle.gpu_core.specs.declared.memory_type.Prepared.{Prepared}
 use Rattle.gpu_core.specs.declared.memory_type.Prepared.TheVariants as prepared
 
--- the type can take the block: there is room, and the block is of its size and kind, has the type's pages, is sound, and holds the piece
+-- the type can take the block: there is room, and the block is of its size and kind, has the type's pages, is sound, shares no page between kinds, and holds the piece
 pub record CanInstall {H : Type 0} (t : TypeState H) (size : ℕ) (is_dedicated : Bool) (ready : Ready) : Type 0 where
   pub room : has_room t ≡ true
   pub size_is : size_of ready.block ≡ size
   pub kind : is_general ready.block ≡ not is_dedicated
   pub pages : HasPages ready.block t.granularity
   pub sound : IsSoundBlock ready.block
+  pub separated : HasPagesApart ready.block
   pub holds : HoldsPiece ready.block ready.number ready.offset ready.size
 
 -- what a request comes to: a piece of a shared block, or a new block, which the type can take; then the slots are as before

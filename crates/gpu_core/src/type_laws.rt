@@ -1,12 +1,17 @@
 //! Laws of memory types, each the contract of a function that does nothing.
 
-ghost use Rattle.std.specs.Prelude.{◌≡◌, ℕ, ◌<◌, ◌≤◌, [], true, false};
+ghost use Rattle.std.specs.Prelude.{◌≡◌, ◌≢◌, ℕ, ◌<◌, ◌≤◌, Bool, List, [], Option, IsTrue, true, false};
 ghost use Rattle.gpu_core.specs.FreeList.{fresh_free_list};
 ghost use Rattle.gpu_core.specs.Request.{Request};
 ghost use Rattle.gpu_core.specs.Place.{IsBestFit, HasNoPlace};
 ghost use Rattle.gpu_core.specs.Block.{Block, extents_of, is_general, TakesIn, ReleasesIn, IsSoundBlock};
-ghost use Rattle.gpu_core.specs.TypeTake.{fresh_block};
-ghost use Rattle.gpu_core.specs.TypeState.{IsOneGap};
+ghost use Rattle.gpu_core.specs.TypeTake.{fresh_block, has_own_block, PreparesPiece, Ready, NeedsBlock, Installs};
+ghost use Rattle.gpu_core.specs.TypeState.{IsOneGap, Slot, TypeState};
+ghost use Rattle.gpu_core.specs.TypeRelease.{IsFreeRefusal, IsNameRefusal, ReleasesPiece, RenamesPiece};
+ghost use Rattle.gpu_core.specs.Refusal.{Refusal, host_out_of_memory};
+ghost use Rattle.gpu_core.specs.Slots.{AreSound, SlotIsSound};
+ghost use Rattle.gpu_core.specs.Sizes.{Sizes};
+ghost use Rattle.gpu_core.specs.declared.memory_type.Piece.{Piece};
 
 /// A fresh shared block has a place for every request up to its size, and it begins at 0.
 pub fn fresh_block_has_place()
@@ -22,4 +27,36 @@ pub fn fresh_block_has_place()
 pub fn emptied_block_is_one_gap()
     ensures { (old : Block) (n : ℕ) (new : Block) → IsSoundBlock old → is_general old ≡ true
         → ReleasesIn old n new → extents_of new ≡ [] → IsOneGap new }
+{}
+
+// ---- one outcome
+
+/// A shared block that serves a request has one outcome, and then no block is needed.
+pub fn one_piece_prepared<H: Copy + Eq>()
+    ensures once { (g : ℕ) (old : List (Option (Slot H))) (r : Request) (p q : Piece H) (new next : List (Option (Slot H)))
+        → AreSound g old → PreparesPiece old r p new → PreparesPiece old r q next → (p ≡ q) × (new ≡ next) }
+    ensures serves_or_needs { (t : TypeState H) (sizes : Sizes) (own : Bool) (r : Request) (p : Piece H) (new : List (Option (Slot H)))
+        (size : ℕ) (is_dedicated : Bool) (ready : Ready) → has_own_block t sizes own r.size ≡ false
+        → PreparesPiece t.slots r p new → NeedsBlock t sizes own r size is_dedicated ready → ⊥ }
+{}
+
+/// A request that needs a block needs one of one size and kind, with the piece at one place in it; and a block goes to one slot.
+pub fn one_block_needed<H: Copy + Eq>()
+    ensures needs { (t : TypeState H) (sizes : Sizes) (own : Bool) (r : Request) (size other : ℕ) (is_dedicated kind : Bool) (ready next : Ready)
+        → NeedsBlock t sizes own r size is_dedicated ready → NeedsBlock t sizes own r other kind next
+        → (size ≡ other) × (is_dedicated ≡ kind) × (ready ≡ next) }
+    ensures installs { (old : List (Option (Slot H))) (is_dedicated : Bool) (ready : Ready) (number : H) (p q : Piece H) (new next : List (Option (Slot H)))
+        → Installs old is_dedicated ready number p new → Installs old is_dedicated ready number q next → (p ≡ q) × (new ≡ next) }
+{}
+
+/// A release of a piece has one outcome, and so have a new name, and each refusal of one but want of host memory.
+pub fn one_piece_released<H: Copy + Eq>()
+    ensures releases { (g : ℕ) (several : Bool) (old : List (Option (Slot H))) (p : Piece H) (went gone : Option H) (new next : List (Option (Slot H)))
+        → AreSound g old → ReleasesPiece (IsTrue several) old p went new → ReleasesPiece (IsTrue several) old p gone next → (went ≡ gone) × (new ≡ next) }
+    ensures refuses { (eq : H → H → Bool) (g : ℕ) (p : Piece H) (old : Option (Slot H)) (r s : Refusal)
+        → SlotIsSound g old → IsFreeRefusal eq p old r → IsFreeRefusal eq p old s → r ≡ s }
+    ensures refuses_names { (eq : H → H → Bool) (g : ℕ) (p : Piece H) (old : Option (Slot H)) (r s : Refusal)
+        → SlotIsSound g old → r ≢ host_out_of_memory → s ≢ host_out_of_memory → IsNameRefusal eq p old r → IsNameRefusal eq p old s → r ≡ s }
+    ensures renames { (old : List (Option (Slot H))) (p : Piece H) (name : List ℕ) (new next : List (Option (Slot H)))
+        → RenamesPiece old p name new → RenamesPiece old p name next → new ≡ next }
 {}

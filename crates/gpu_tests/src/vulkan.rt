@@ -1,8 +1,11 @@
 //! Worked rows of the Vulkan allocator.
 
 mod bytes;
+mod counting;
+mod log_lines;
 mod refusals;
 mod refused;
+mod reports;
 mod rows;
 mod setups;
 mod slots;

@@ -1,24 +1,38 @@
 //! The allocator: blocks of device memory by memory type, and the calls that share them out.
 
-ghost use Rattle.std.specs.Prelude.{◌≡◌, ◌↔◌, [], All, Some, None, IfOk, IfErr, OnOk, OnErr, IsOk, IsSome, IfSome, IsTrue, List, ℕ, length, option_map};
+ghost use Rattle.std.specs.Prelude.{◌≡◌, ◌↔◌, [], All, map, string_bytes, Some, None, IfOk, IfErr, OnOk, OnErr, IsOk, IsSome, IfSome, IsTrue, List, ℕ, length, option_map, option_copied, ◌%◌};
 ghost use Rattle.std.specs.Option.{unwrap_or};
 ghost use Rattle.gpu_core.specs.Refusal.{refusal_of, host_out_of_memory};
 ghost use Rattle.gpu_allocator.specs.Setup.{setup_fault};
 ghost use Rattle.gpu_allocator.specs.Blocks.{total_capacity, HoldsJustLiveBlocks};
 ghost use Rattle.gpu_allocator.specs.Allocate.{Allocates};
 ghost use Rattle.gpu_allocator.specs.Free.{Frees};
+ghost use Rattle.gpu_allocator.specs.Apart.{IsInside, SharesNoByte, KeepsPages};
+ghost use Rattle.gpu_allocator.specs.Lends.{IsOther};
+ghost use Rattle.gpu_allocator.specs.declared.vulkan.allocation.Allocation.{Allocation};
+ghost use Rattle.gpu_allocator.specs.Step.{IsStep, IsAllocateStep, Free, Rename, Write, Read, Capacity, Report, Leaks, Done, Bytes, Sum, freed_as, renamed_as, shown_as, told_as};
+ghost use Rattle.gpu_allocator.specs.Rename.{Renames, StayLive};
+ghost use Rattle.gpu_allocator.specs.Reports.{whole_report};
+ghost use Rattle.gpu_allocator.specs.Leaks.{all_leaks};
+ghost use Rattle.gpu_core.specs.Leak.{leak_text};
+ghost use Rattle.gpu_core.specs.Report.{report_of};
+ghost use Rattle.gpu_values.specs.declared.error.AllocationError.TheVariants.{HostOutOfMemory};
 ghost use Rattle.std.specs.Borrow.{sem};
 ghost use Rattle.gpu_allocator.specs.Live.{IsLive, IsMapped, bytes_at};
 
 use super::attempt::{serve, total_capacity};
 use super::choice::best_type;
 use super::describe::{AllocationCreateDesc, AllocatorCreateDesc};
+use super::leaks::{all_leaks, texts_of};
+use super::logging::{log_allocate, log_device, log_free, log_last_leaks, log_leaks};
 use super::release::{give_back_all, release};
+use super::rename::rename;
+use super::report::report_of;
 use super::setup::{Settings, Setup, fault_of, parts_of};
 use super::{Allocation, MappedAllocationSlab};
-use crate::{AllocationError, MemoryType, Result};
+use crate::{AllocationError, AllocatorReport, MemoryType, Result};
 use gpu_device::vulkan::{DeviceMemory, VulkanDevice};
-use log::Log;
+use log::{Level, Log};
 use std::alloc::{AllocError, Global};
 use std::marker::Model;
 use std::snapshot::Snapshot;
@@ -67,7 +81,6 @@ impl<D: VulkanDevice> Allocator<D> {
         ensures refused { IfErr result (λ e. e.1 ≡ desc.device) }
         ensures cause { IfErr result (λ e. refusal_of e.0 ≡ unwrap_or (setup_fault desc.physical_device.0 (D.properties desc.device)) host_out_of_memory) }
     {
-        let _ = log;
         let AllocatorCreateDesc {
             device,
             physical_device,
@@ -78,6 +91,7 @@ impl<D: VulkanDevice> Allocator<D> {
         if let Some(error) = fault_of(&device, physical_device) {
             return Err((error, device));
         }
+        log_device(log, debug_settings, &device);
         let settings = Settings {
             sizes: allocation_sizes,
             debug: debug_settings,
@@ -102,8 +116,12 @@ impl<D: VulkanDevice> Allocator<D> {
     pub fn allocate<L: Log>(&mut self, log: &L, desc: &AllocationCreateDesc) -> Result<Allocation>
         ensures allocates { Allocates D.VulkanDevice self.old.setup desc.now self.old.slots self.old.device result self.new.slots self.new.device }
         ensures constant { (self.new.first ≡ self.old.first) × (self.new.setup ≡ self.old.setup) }
+        ensures step { IsAllocateStep D.VulkanDevice desc.now result self.old self.new }
+        ensures aligned { IfOk result (λ a. a.offset % desc.now.requirements.alignment ≡ 0) }
+        ensures keeps { StayLive self.old.slots self.new.slots }
+        ensures gives { IfOk result (λ a. IsLive self.new.slots a × ((b : Allocation) → IsLive self.old.slots b → IsOther b a)) }
     {
-        let _ = log;
+        log_allocate(log, self.setup.settings.debug, desc);
         if desc.requirements.size == 0 || !desc.requirements.alignment.is_power_of_two() {
             return Err(AllocationError::InvalidAllocationCreateDesc);
         }
@@ -123,7 +141,8 @@ impl<D: VulkanDevice> Allocator<D> {
 
     /// The sum of the sizes of the live blocks, in bytes.
     pub fn capacity(&self) -> u64
-        ensures { result ≡ total_capacity self.now.slots }
+        ensures sum { result ≡ total_capacity self.now.slots }
+        ensures step { IsStep D.VulkanDevice Capacity (Sum result) self.now self.now }
     {
         total_capacity(&self.types)
     }
@@ -135,6 +154,17 @@ impl<D: VulkanDevice> Allocator<D> {
         ensures constant { D.properties self.now.device ≡ self.now.setup.properties }
     {
         &self.device
+    }
+
+    /// What holds of live allocations at any time, for callers' proofs: each lies inside its block, no two share a byte, and
+    /// those of different kinds share no page (`bufferImageGranularity`). It does nothing.
+    pub fn allocations_are_apart(&self)
+        ensures inside { (a : Allocation) → IsLive self.now.slots a → IsInside self.now.slots a }
+        ensures apart { (a b : Allocation) → IsLive self.now.slots a → IsLive self.now.slots b → IsOther a b → SharesNoByte a b }
+        ensures pages { (a b : Allocation) → IsLive self.now.slots a → IsLive self.now.slots b
+            → KeepsPages self.now.setup.properties.granularity self.now.slots a b }
+    {
+        let _ = &self.device;
     }
 
     /// Whether an allocation is live: the allocator has a record with its type, slot, number, offset, size and memory.
@@ -155,6 +185,7 @@ impl<D: VulkanDevice> Allocator<D> {
         ensures mapped { IsSome result ↔ IsMapped self.now.setup.properties self.now.slots allocation.now }
         ensures value { IfSome result (λ s. bytes_at (D.held self.now.device) allocation.now ≡ Some s.now) }
         ensures len { IfSome result (λ s. length s.now ≡ allocation.now.size) }
+        ensures step { IsStep D.VulkanDevice (Read allocation.now) (Bytes (option_copied result)) self.now self.now }
     {
         if !self.is_live(allocation) {
             return None;
@@ -171,6 +202,8 @@ impl<D: VulkanDevice> Allocator<D> {
         ensures len { length result.now ≡ allocation.now.size }
         ensures isolated { (ws : List ℕ) → length ws ≡ allocation.now.size
             → ChangesOnly D.VulkanDevice self.old allocation.now ws (written_at D.VulkanDevice self.old allocation.now ws) }
+        ensures step { (ws : List ℕ) → length ws ≡ allocation.now.size
+            → IsStep D.VulkanDevice (Write allocation.now ws) Done self.old (written_at D.VulkanDevice self.old allocation.now ws) }
     {
         self.device.range_mut(allocation.device_memory, allocation.offset, allocation.size)
     }
@@ -215,8 +248,10 @@ impl<D: VulkanDevice> Allocator<D> {
     ) -> Result<(), (AllocationError, Allocation)>
         ensures frees { Frees D.VulkanDevice allocation self.old.slots self.old.device result self.new.slots self.new.device }
         ensures constant { (self.new.first ≡ self.old.first) × (self.new.setup ≡ self.old.setup) }
+        ensures step { IsStep D.VulkanDevice (Free allocation) (freed_as result) self.old self.new }
+        ensures keeps { (b : Allocation) → IsLive self.old.slots b → IsOther b allocation → IsLive self.new.slots b }
     {
-        let _ = log;
+        log_free(log, self.setup.settings.debug, &allocation);
         let Some(piece) = allocation.piece() else {
             return Ok(());
         };
@@ -233,14 +268,52 @@ impl<D: VulkanDevice> Allocator<D> {
         }
     }
 
-    /// Gives every block back, and returns the device, which then holds what it held when it was handed in.
+    /// Gives an allocation another name, and with it the record that reports and leaks show. A null allocation has no record.
+    /// `Internal` where the allocation is neither null nor live, else `HostOutOfMemory` where the host refused memory; then
+    /// both names are as they were.
+    pub fn rename_allocation(&mut self, allocation: &mut Allocation, name: &str) -> Result<()>
+        ensures renames { Renames allocation.old name.now self.old.slots result allocation.new self.new.slots }
+        ensures step { IsStep D.VulkanDevice (Rename allocation.old name.now) (renamed_as result) self.old self.new }
+        ensures live { StayLive self.old.slots self.new.slots }
+        ensures constant { (self.new.device ≡ self.old.device) × (self.new.first ≡ self.old.first) × (self.new.setup ≡ self.old.setup) }
+    {
+        rename(self.alloc, &mut self.types, allocation, name)
+    }
+
+    /// What is allocated: the live blocks and pieces by memory type, then by slot, pieces by offset, and the sums of both.
+    /// The only refusal is `HostOutOfMemory`.
+    pub fn generate_report(&self) -> Result<AllocatorReport>
+        ensures step { IsStep D.VulkanDevice Report (shown_as result) self.now self.now }
+        ensures report { IfOk result (λ r. report_of r ≡ whole_report self.now.slots) }
+        ensures capacity { IfOk result (λ r. r.total_capacity_bytes ≡ total_capacity self.now.slots) }
+        ensures cause { IfErr result (λ e. e ≡ HostOutOfMemory) }
+    {
+        report_of(self.alloc, &self.types)
+    }
+
+    /// The texts of all live pieces by memory type, then by slot, then in order of offset. The only refusal is
+    /// `HostOutOfMemory`.
+    pub fn leak_texts(&self) -> Result<Vec<String>>
+        ensures step { IsStep D.VulkanDevice Leaks (told_as result) self.now self.now }
+        ensures texts { IfOk result (λ v. map string_bytes v.items ≡ map leak_text (all_leaks self.now.slots)) }
+        ensures cause { IfErr result (λ e. e ≡ HostOutOfMemory) }
+    {
+        texts_of(self.alloc, all_leaks(&self.types))
+    }
+
+    /// Logs the same texts one by one, each as a message of its own. It takes no memory.
+    pub fn report_memory_leaks<L: Log>(&self, log: &L, level: Level) {
+        log_leaks(log, level, &self.types);
+    }
+
+    /// Gives every block back, and returns the device, which then holds what it held when it was handed in. What is still
+    /// live is logged first, as warnings, where the settings ask for it.
     pub fn destroy<L: Log>(self, log: &L) -> D
         ensures held { D.held result ≡ D.held self.first }
         ensures counts_nothing { D.refused result ≡ D.refused self.device }
         ensures names_no_question { D.latest result ≡ D.latest self.device }
         ensures constant { D.properties result ≡ D.properties self.first }
     {
-        let _ = log;
         let Allocator {
             mut device,
             first: _,
@@ -248,8 +321,9 @@ impl<D: VulkanDevice> Allocator<D> {
             types,
             alloc: _,
         } = self;
+        log_last_leaks(log, setup.settings.debug, &types);
         for index in 0..types.len() {
-            give_back_all(&mut device, &types[index], setup.is_mapped(index));
+            give_back_all(&mut device, &types[index]);
         }
         device
     }

@@ -1,9 +1,9 @@
 //! Asking the device for the memory of a block, and giving it back.
 
-ghost use Rattle.std.specs.Prelude.{◌≡◌, ◌≢◌, ℕ, ℤ, List, length, Option, IfErr, OnErr, OnOk};
+ghost use Rattle.std.specs.Prelude.{◌≡◌, ◌≢◌, ℕ, ℤ, List, length, Option, None, IfErr, OnErr, OnOk};
 ghost use Rattle.std.specs.FinMap.{get, insert, remove};
 ghost use Rattle.gpu_core.specs.Refusal.{refusal_of};
-ghost use Rattle.gpu_device.specs.Held.{IsUnmapped, size_of, mapped_with, raised};
+ghost use Rattle.gpu_device.specs.Held.{IsUnmapped, size_of, bytes_of, mapped_with, raised};
 ghost use Rattle.gpu_allocator.specs.BlockAnswer.{BlockAnswer, Asks, Gives, memory_refusal, map_refusal};
 
 use crate::{AllocationError, Fault, Result};
@@ -25,6 +25,17 @@ fn refusal_of_memory(code: i32) -> AllocationError
     })
 }
 
+/// Frees memory. Mapped memory is unmapped before.
+fn free_unmapped<D: VulkanDevice>(device: &mut D, memory: DeviceMemory)
+    requires { bytes_of (D.held device.old) memory.0 ≡ None }
+    ensures gives_back { D.held device.new ≡ remove (D.held device.old) memory.0 }
+    ensures counts_nothing { D.refused device.new ≡ D.refused device.old }
+    ensures names_no_question { D.latest device.new ≡ D.latest device.old }
+    ensures constant { D.properties device.new ≡ D.properties device.old }
+{
+    device.free_memory(memory);
+}
+
 #[tactic(auto, using(gpu_device::proofs::Changes::changes))]
 /// Maps memory that is new. Where that is refused or gives null, the memory goes back.
 fn map_new<D: VulkanDevice>(device: &mut D, memory: DeviceMemory) -> Result<()>
@@ -40,14 +51,14 @@ fn map_new<D: VulkanDevice>(device: &mut D, memory: DeviceMemory) -> Result<()>
     match device.map_memory(memory) {
         Ok(true) => Ok(()),
         Ok(false) => {
-            device.free_memory(memory);
+            free_unmapped(device, memory);
             Err(AllocationError::FailedToMap(Fault {
                 text: "Returned mapped pointer is null",
                 code: None,
             }))
         }
         Err(code) => {
-            device.free_memory(memory);
+            free_unmapped(device, memory);
             Err(AllocationError::FailedToMap(Fault {
                 text: "vkMapMemory failed",
                 code: Some(i64::from(code)),
@@ -80,15 +91,15 @@ pub fn ask<D: VulkanDevice>(
 }
 
 #[tactic(auto, using(gpu_device::proofs::Changes::changes))]
-/// Gives the memory of a block back, which is `mapped` or not.
-pub fn give_back<D: VulkanDevice>(device: &mut D, memory: DeviceMemory, mapped: bool)
+/// Gives the memory of a block back. Whether it is mapped, the device knows.
+pub fn give_back<D: VulkanDevice>(device: &mut D, memory: DeviceMemory)
     ensures gives_back { D.held device.new ≡ remove (D.held device.old) memory.0 }
     ensures counts_nothing { D.refused device.new ≡ D.refused device.old }
     ensures names_no_question { D.latest device.new ≡ D.latest device.old }
     ensures constant { D.properties device.new ≡ D.properties device.old }
 {
-    if mapped {
+    if device.bytes(memory, 0, 0).is_some() {
         device.unmap_memory(memory);
     }
-    device.free_memory(memory);
+    free_unmapped(device, memory);
 }

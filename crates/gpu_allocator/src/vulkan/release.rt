@@ -43,42 +43,33 @@ pub fn release<D: VulkanDevice>(
         Err(error) => Err(error),
         Ok(None) => Ok(()),
         Ok(Some(memory)) => {
-            give_back(device, memory, setup.is_mapped(index));
+            give_back(device, memory);
             Ok(())
         }
     }
 }
 
 /// Gives the block in a slot back, if there is one.
-fn give_back_slot<D: VulkanDevice>(
-    device: &mut D,
-    blocks: &MemoryType<DeviceMemory>,
-    slot: usize,
-    mapped: bool,
-)
+fn give_back_slot<D: VulkanDevice>(device: &mut D, blocks: &MemoryType<DeviceMemory>, slot: usize)
     ensures held { D.held device.new ≡ without_block (D.held device.old) (block_number (slot_at blocks.now.slots slot)) }
     ensures counts_nothing { D.refused device.new ≡ D.refused device.old }
     ensures names_no_question { D.latest device.new ≡ D.latest device.old }
     ensures constant { D.properties device.new ≡ D.properties device.old }
 {
     if let Some(memory) = blocks.block(slot) {
-        give_back(device, memory, mapped);
+        give_back(device, memory);
     }
 }
 
-/// Gives every block of a memory type back, which are mapped or not.
+/// Gives every block of a memory type back.
 #[tactic(auto, using(crate::proofs::Returned::without_next))]
-pub fn give_back_all<D: VulkanDevice>(
-    device: &mut D,
-    blocks: &MemoryType<DeviceMemory>,
-    mapped: bool,
-)
+pub fn give_back_all<D: VulkanDevice>(device: &mut D, blocks: &MemoryType<DeviceMemory>)
     ensures held { D.held device.new ≡ without (D.held device.old) blocks.now.slots }
     ensures counts_nothing { D.refused device.new ≡ D.refused device.old }
     ensures names_no_question { D.latest device.new ≡ D.latest device.old }
     ensures constant { D.properties device.new ≡ D.properties device.old }
 {
     for slot in 0..blocks.slots() {
-        give_back_slot(device, blocks, slot, mapped);
+        give_back_slot(device, blocks, slot);
     }
 }

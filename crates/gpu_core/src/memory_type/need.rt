@@ -4,7 +4,7 @@ ghost use Rattle.std.specs.Prelude.{◌≡◌, ◌≢◌, ◌<◌, ◌≤◌, If
 ghost use Rattle.std.specs.Int.{is_power_of_two};
 ghost use Rattle.gpu_core.specs.Request.{request};
 ghost use Rattle.gpu_core.specs.SubAllocator.{block_of};
-ghost use Rattle.gpu_core.specs.Block.{size_of, is_general, TakesIn, HoldsPiece, HasPages, IsSoundBlock};
+ghost use Rattle.gpu_core.specs.Block.{size_of, is_general, TakesIn, HoldsPiece, HasPages, IsSoundBlock, HasPagesApart};
 ghost use Rattle.gpu_core.specs.TypeTake.{fresh_block, asked};
 ghost use Rattle.gpu_values.specs.declared.error.AllocationError.TheVariants.{HostOutOfMemory};
 
@@ -80,6 +80,7 @@ pub fn make_room(
     ensures holds { IfOk result (λ r. HoldsPiece r.block r.number r.offset r.size) }
     ensures sound { IfOk result (λ r. IsSoundBlock r.block) }
     ensures pages { IfOk result (λ r. HasPages r.block granularity) }
+    ensures separated { IfOk result (λ r. HasPagesApart r.block) }
     ensures cause { IfErr result (λ e. e ≡ HostOutOfMemory) }
 {
     let mut sub = new_block(alloc, is_dedicated, size, granularity)?;

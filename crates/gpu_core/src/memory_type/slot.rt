@@ -9,7 +9,7 @@ ghost use Rattle.gpu_core.specs.TypeState.{Slot};
 ghost use Rattle.gpu_core.specs.TypeTake.{asked, CannotServe};
 ghost use Rattle.gpu_core.specs.Refusal.{refusal_of};
 ghost use Rattle.gpu_core.specs.SubAllocator.{block_of};
-ghost use Rattle.gpu_core.specs.Block.{IsSoundBlock, HasPages, ReleasesIn};
+ghost use Rattle.gpu_core.specs.Block.{IsSoundBlock, HasPages, HasPagesApart, ReleasesIn};
 ghost use Rattle.gpu_core.specs.TypeState.{slot_size, shared_in};
 ghost use Rattle.gpu_core.specs.TypeRelease.{SlotHolds, IsFreeRefusal, IsNameRefusal, SlotReleases, SlotRenames};
 ghost use Rattle.gpu_core.specs.Slots.{slot_of, SlotTakes, SlotIsSound, Finds, Settles, gone_number, gone_size, gone_shared};
@@ -144,6 +144,7 @@ fn give_back<H: Copy + Eq>(block: &mut LiveBlock<H>, piece: &Piece<H>) -> Result
     ensures number { block.new.number ≡ block.old.number }
     ensures pages { (g : ℕ) → HasPages (block_of block.old.sub) g → HasPages (block_of block.new.sub) g }
     ensures sound { IsSoundBlock (block_of block.new.sub) }
+    ensures separated { OnOk result (HasPagesApart (block_of block.new.sub)) }
 {
     match find(block, piece) {
         Finding::Other => Err(internal_fault("Allocation does not belong to this allocator.")),

@@ -19,7 +19,7 @@ kept_with g c shared counts =
     let same : block ≡ c.args.need.room.block = ap (λ r. r.block) c.room.view_is in
     let put = c.put_block-slot.ensures in
     let s : Slot g.row.H.Denot = record { number = c.args.number; block = block } in
-    installed_kept i.granularity (slots_of i.slots.items) i.capacity i.general c.args.need.dedicated s (slots_of c.put_block-slot.new.slots.items) c.args.need.size shared c.self.invariant (rw same (rw (ap (λ t. t.granularity) c.self.view_is) ready.pages, ready.sound)) (rw same (holds_some c.args.need.room.block c.args.need.room.number c.args.need.room.offset c.args.need.room.size ready.holds)) (put.slots ∙ ap (λ k. with_block (slots_of i.slots.items) k s) put.slot) (ap size_of same ∙ ready.size_is) (ap (λ b. cond (is_general b) 1 0) same ∙ (ap (λ b. cond b 1 0) ready.kind ∙ counts))
+    installed_kept i.granularity (slots_of i.slots.items) i.capacity i.general c.args.need.dedicated s (slots_of c.put_block-slot.new.slots.items) c.args.need.size shared c.self.invariant (rw same (rw (ap (λ t. t.granularity) c.self.view_is) ready.pages, ready.sound, ready.separated)) (rw same (holds_some c.args.need.room.block c.args.need.room.number c.args.need.room.offset c.args.need.room.size ready.holds)) (put.slots ∙ ap (λ k. with_block (slots_of i.slots.items) k s) put.slot) (ap size_of same ∙ ready.size_is) (ap (λ b. cond (is_general b) 1 0) same ∙ (ap (λ b. cond b 1 0) ready.kind ∙ counts))
 
 pub overflow_add-self-then-not-dedicated : goal.overflow_add-self-then-not-dedicated
 overflow_add-self-then-not-dedicated g c =

@@ -112,6 +112,7 @@ returns-clause-prepared g c =
         kind = taken.1;
         pages = c.in_ok-room.ensures.pages;
         sound = c.in_ok-room.ensures.sound;
+        separated = c.in_ok-room.ensures.separated;
         holds = c.in_ok-room.ensures.holds;
       },
       c.reserve_slot.ensures.items ∙ (same.1 ∙ seen),

@@ -15,4 +15,5 @@ returns-in_default g c =
       number = refl;
       pages = c.free.ensures.pages;
       sound = either_way c.free.result _ _ c.free.ensures.sound c.free.ensures.refused (λ e. subst IsSoundBlock (sym e) c.requires);
+      separated = c.free.ensures.separated;
     }

@@ -1,8 +1,12 @@
-use Rattle.std.proofs.Common.{◌≡◌, ◌∙◌, sym, ap, subst, length, arith}
-use Rattle.gpu_core.specs.TypeRelease.{IsLive}
+use Rattle.std.proofs.Common.{rules, None, ◌≡◌, ◌∙◌, sym, ap, subst, length, arith}
+use Rattle.gpu_core.specs.TypeRelease.{IsLive as IsLivePiece}
 use Rattle.gpu_allocator.specs.Blocks.{Slots, slots_at, HoldsJustLiveBlocks}
-use Rattle.gpu_allocator.specs.Free.{IsReleased}
-use Rattle.gpu_allocator.specs.Live.{is_same_memory}
+use Rattle.gpu_allocator.specs.Free.{IsReleased, Frees}
+use Rattle.gpu_allocator.specs.Live.{is_same_memory, piece_of, IsLive}
+use Rattle.gpu_allocator.specs.State.{State}
+use Rattle.gpu_allocator.specs.Step.{IsStep, Free, freed_as}
+use Rattle.gpu_allocator.proofs.Owning.{frees_others}
+use Rattle.gpu_allocator.proofs.Freeing.{free_step, null_step}
 use Rattle.gpu_allocator.specs.Types.{slots_of}
 use Rattle.gpu_allocator.proofs.Releasing.{released_holds, type_below, either_way}
 use Rattle.gpu_allocator.proofs.vulkan.allocator.Allocator.free.Goals as goal
@@ -20,7 +24,7 @@ invariant_of-self g c =
     let after = c.release.new.device in
     let Holds : Type 0 = HoldsJustLiveBlocks p first (V.held after) new × (V.properties after ≡ V.properties i.device) × (length new ≡ length old) in
     let holds : Holds =
-    either_way c.release.result (IsReleased V t c.in-Some.piece old i.device new after) (IsLive is_same_memory (slots_at old t) c.in-Some.piece) ((new ≡ old) × (after ≡ i.device)) Holds
+    either_way c.release.result (IsReleased V t c.in-Some.piece old i.device new after) (IsLivePiece is_same_memory (slots_at old t) c.in-Some.piece) ((new ≡ old) × (after ≡ i.device)) Holds
     c.release.ensures.released c.release.ensures.live c.release.ensures.refused
     (λ released live. released_holds V p first t old (type_below old t c.in-Some.piece live) c.in-Some.piece i.device new after released kept.holds)
     (λ same. (
@@ -39,3 +43,28 @@ invariant_of-self g c =
         holds = holds.0;
       },
     )
+
+pub returns-in_default-clause-step : goal.returns-in_default-clause-step
+returns-in_default-clause-step g c =
+    let none : piece_of c.args.allocation ≡ None = search rules in
+    null_step g.D.VulkanDevice c.args.self.now c.args.allocation none
+
+pub returns-clause-step : goal.returns-clause-step
+returns-clause-step g c =
+    let V = g.D.VulkanDevice in
+    let i = c.self.inside in
+    let kept = c.self.invariant.1 in
+    let before : State g.row.D.Denot = record { device = i.device; first = i.first.value; setup = i.setup; slots = slots_of i.types.items } in
+    let after : State g.row.D.Denot = record { device = c.release.new.device; first = i.first.value; setup = i.setup; slots = slots_of c.release.new.types.items } in
+    let frees : Frees V c.args.allocation before.slots before.device c.match-release.result after.slots after.device = search rules in
+    subst (λ (s : State g.row.D.Denot). IsStep V (Free c.args.allocation) (freed_as c.match-release.result) s after) c.self.view_is
+    (free_step V (V.held i.first.value) before after kept.sound kept.holds (λ n. g.met.D.VulkanDevice.whole i.device n) c.args.allocation c.match-release.result frees)
+
+pub returns-clause-keeps : goal.returns-clause-keeps
+returns-clause-keeps g c = λ b live other.
+    let V = g.D.VulkanDevice in
+    let i = c.self.inside in
+    let old = slots_of i.types.items in
+    let frees : Frees V c.args.allocation old i.device c.match-release.result (slots_of c.release.new.types.items) c.release.new.device = search rules in
+    let before : IsLive old b = rw (← c.self.view_is) at live in
+    frees_others V i.setup old i.device c.args.allocation c.match-release.result (slots_of c.release.new.types.items) c.release.new.device c.self.invariant.1.sound frees b before other

@@ -4,6 +4,7 @@ use Rattle.gpu_device.specs.Held.{bytes_of}
 use Rattle.gpu_allocator.specs.Live.{IsMapped}
 use Rattle.gpu_allocator.specs.State.{IsKept}
 use Rattle.gpu_allocator.specs.Types.{slots_of}
+use Rattle.gpu_allocator.proofs.Listed.{write_step}
 use Rattle.gpu_allocator.proofs.Writing.{allocation_range, allocation_written, own_written, others_kept}
 use Rattle.gpu_allocator.proofs.vulkan.allocator.Allocator.slice_mut.Goals as goal
 
@@ -64,5 +65,7 @@ returns g c =
           latest = L.write_names_no_question s.device n a.offset ws;
           constant = L.write_constant s.device n a.offset ws;
         };
+        step = λ ws count. write_step V (V.held s.first) s kept.sound kept.holds whole a (L.write_leaves_others s.device) (L.write_counts_nothing s.device) (L.write_names_no_question s.device)
+            c.requires c.range_mut.result.now (rw (← c.self.view_is) c.range_mut.ensures.value) ws count;
       },
     )

@@ -1,0 +1,10 @@
+use Rattle.std.proofs.Common.{rules, ◌≡◌, IfOk}
+use Rattle.gpu_core.specs.Report.{report_of}
+use Rattle.gpu_allocator.specs.Reports.{whole_report}
+use Rattle.gpu_allocator.proofs.Named.{report_step}
+use Rattle.gpu_allocator.proofs.vulkan.allocator.Allocator.generate_report.Goals as goal
+
+pub returns-clause-step : goal.returns-clause-step
+returns-clause-step g c =
+    let told : IfOk c.report_of.result (λ r. report_of r ≡ whole_report c.args.self.now.slots) = search rules in
+    report_step g.D.VulkanDevice c.args.self.now c.report_of.result told c.report_of.ensures.cause
