@@ -4,13 +4,14 @@ use Rattle.std.specs.Prelude.{Contains}
 use Rattle.std.specs.List.{AllPairs}
 use Rattle.std.proofs.lemmas.List.{get_or_default, length-append}
 use Rattle.std.proofs.lemmas.Bool.{cases_lt}
-use Rattle.gpu_block.specs.declared.chunk.Chunk.{Chunk}
-use Rattle.gpu_block.specs.declared.index.Gap.{Gap}
+use Rattle.gpu_chain.specs.declared.chunk.Chunk.{Chunk}
+use Rattle.gpu_gap_index.specs.declared.index.Gap.{Gap}
 use Rattle.gpu_block.specs.declared.free_list.place.Wanted.{Wanted}
 use Rattle.gpu_block.specs.declared.free_list.search.Found.{Found}
 use Rattle.gpu_values.specs.declared.allocation_type.AllocationType.TheVariants.{Free}
-use Rattle.gpu_block.specs.Chunks.{Covers, last_kind, first_kind, size_at, FitsAt, FoundAt, NoneFits}
-use Rattle.gpu_block.specs.Index.{Before}
+use Rattle.gpu_chain.specs.ChunkList.{Covers}
+use Rattle.gpu_block.specs.Chunks.{last_kind, first_kind, size_at, FitsAt, FoundAt, NoneFits}
+use Rattle.gpu_gap_index.specs.Index.{Before}
 use Rattle.gpu_block.specs.Indexed.{gap_between, kind_or, gaps_between, HasSame, IsGapOf, FitsGap, NoGapFits, IsFirstFit, IsChosen}
 use Rattle.gpu_block.proofs.Tiling.{around, size_at-split}
 use Rattle.gpu_block.proofs.Views.{order_of, earlier, same, later}

@@ -1,13 +1,14 @@
 -- What the search finds among the chunks is the chosen gap of the block.
 use Rattle.std.proofs.Common.{◌≡◌, ◌≢◌, ℕ, suc, ◌+◌, ◌≤◌, List, [], ◌∷◌, ◌++◌, length, refl, sym, ap, ◌∙◌, subst, inl, inr, arith}
 use Rattle.std.proofs.lemmas.List.{append_assoc, length-append}
-use Rattle.gpu_block.specs.declared.chunk.Chunk.{Chunk}
+use Rattle.gpu_chain.specs.declared.chunk.Chunk.{Chunk}
 use Rattle.gpu_block.specs.declared.free_list.place.Wanted.{Wanted}
 use Rattle.gpu_block.specs.Chunks.{FoundAt}
 use Rattle.gpu_values.specs.declared.allocation_type.AllocationType.{AllocationType}
 use Rattle.gpu_values.specs.declared.allocation_type.AllocationType.TheVariants.{Free, Linear, NonLinear}
 use Rattle.gpu_block.specs.Place.{OtherEnds, OtherStarts, FitsBetween, Fits, IsBestFit}
-use Rattle.gpu_block.specs.Chunks.{IsFree, Covers, NoneTouch, last_kind, first_kind, Differ, extent, free_list_of, FitsAt, IsBestOf, NoneFits, size_at}
+use Rattle.gpu_chain.specs.ChunkList.{IsFree, Covers}
+use Rattle.gpu_block.specs.Chunks.{NoneTouch, last_kind, first_kind, Differ, extent, free_list_of, FitsAt, IsBestOf, NoneFits, size_at}
 use Rattle.gpu_block.proofs.Tiling.{Around, around, Covers-le, last_kind-push, size_at-split}
 use Rattle.gpu_block.proofs.Views.{member_of, contains_chunk, earlier, same, later}
 use Rattle.gpu_block.proofs.Gaps.{Placed, placed_at, left_of, order_in, gap_of_chunk, FreeChunk, chunk_of_gap}

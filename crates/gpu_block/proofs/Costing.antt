@@ -5,9 +5,9 @@ use Rattle.std.proofs.lemmas.List.{append_assoc, length-map}
 use Rattle.std.proofs.lemmas.List.Sums.{sum_by-cons}
 use Rattle.std.proofs.lemmas.List.Elements.{All-nil, All-cons, All-head, All-tail, All-append, All-weaker}
 use Rattle.std.proofs.lemmas.Bool.Decides.{nat_tests}
-use Rattle.gpu_block.specs.declared.chunk.Chunk.{Chunk}
-use Rattle.gpu_block.specs.declared.cost.Cost.{Cost}
-use Rattle.gpu_block.specs.declared.index.Gap.{Gap}
+use Rattle.gpu_chain.specs.declared.chunk.Chunk.{Chunk}
+use Rattle.gpu_gap_index.specs.declared.cost.Cost.{Cost}
+use Rattle.gpu_gap_index.specs.declared.index.Gap.{Gap}
 use Rattle.gpu_block.specs.declared.free_list.place.Wanted.{Wanted}
 use Rattle.gpu_block.specs.declared.free_list.search.Found.{Found}
 use Rattle.gpu_values.specs.declared.allocation_type.AllocationType.{AllocationType}
@@ -15,8 +15,9 @@ use Rattle.gpu_values.specs.declared.allocation_type.AllocationType.TheVariants.
 use Rattle.gpu_block.specs.FreeList.{Extent, FreeList}
 use Rattle.gpu_block.specs.Request.{Request, request}
 use Rattle.gpu_block.specs.Place.{Fits, IsBestFit}
-use Rattle.gpu_block.specs.Cost.{Counts, counts_of, digits}
-use Rattle.gpu_block.specs.Chunks.{IsFree, Covers, NotBothFree, NoneTouch, AreChunks, NoneFits, extents_of, gaps_of, extent, free_list_of}
+use Rattle.gpu_gap_index.specs.Cost.{Counts, counts_of, digits}
+use Rattle.gpu_chain.specs.ChunkList.{IsFree, Covers}
+use Rattle.gpu_block.specs.Chunks.{NotBothFree, NoneTouch, AreChunks, NoneFits, extents_of, gaps_of, extent, free_list_of}
 use Rattle.gpu_block.specs.Search.{gap_end, gap_spans, is_long_span, is_tried_span, IsSearch}
 use Rattle.gpu_block.specs.Indexed.{gap_between, kind_or, gaps_between, IsChosen, chosen_at, Spends, tested}
 use Rattle.gpu_block.proofs.Views.{free_or_live, extents-free, extents-live, gaps-free, gaps-live}

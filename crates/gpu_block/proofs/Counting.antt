@@ -1,7 +1,7 @@
 -- Counts over blocks that are written out.
 use Rattle.std.proofs.Common.{◌≡◌, ℕ, [], ◌∷◌, refl, count_by}
 use Rattle.gpu_block.specs.FreeList.{Extent}
-use Rattle.gpu_block.specs.Cost.{digits}
+use Rattle.gpu_gap_index.specs.Cost.{digits}
 use Rattle.gpu_block.specs.Search.{gap_spans, is_tried_span}
 
 pub digits_are : (digits 0 ≡ 0) × (digits 1 ≡ 1) × (digits 3 ≡ 2) × (digits 4 ≡ 3) × (digits 1000 ≡ 10)

@@ -1,9 +1,9 @@
 -- What the changes of a list of chunks leave.
 use Rattle.std.proofs.Common.{◌≡◌, ℕ, ◌+◌, ◌-◌, ◌<◌, List, [], ◌∷◌, ◌++◌, length, refl, ap, ◌∙◌, arith}
-use Rattle.gpu_block.specs.declared.chunk.Chunk.{Chunk}
+use Rattle.gpu_chain.specs.declared.chunk.Chunk.{Chunk}
 use Rattle.gpu_values.specs.declared.allocation_type.AllocationType.{AllocationType}
 use Rattle.gpu_values.specs.declared.allocation_type.AllocationType.TheVariants.{Free, Linear, NonLinear}
-use Rattle.gpu_block.specs.Chunks.{Covers, cut_chunk, joined_chunk, join_front, join_kinds, IsFree}
+use Rattle.gpu_chain.specs.ChunkList.{Covers, cut_chunk, joined_chunk, join_front, join_kinds, IsFree}
 
 pub Covers-swap : (front xs ys : List Chunk) (from to : ℕ) → Covers (front ++ xs) from to → ((m : ℕ) → Covers xs m to → Covers ys m to) → Covers (front ++ ys) from to
 Covers-swap [] xs ys from to h f = f from h

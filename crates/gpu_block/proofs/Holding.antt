@@ -6,27 +6,28 @@ use Rattle.std.proofs.lemmas.List.{length-append}
 use Rattle.std.proofs.lemmas.Bool.{false≢true}
 use Rattle.std.proofs.lemmas.List.Folds.{list_any-append}
 use Rattle.std.proofs.lemmas.List.Elements.{All-head, All-tail, All-weaker}
-use Rattle.gpu_block.specs.declared.chunk.Chunk.{Chunk}
-use Rattle.gpu_block.specs.declared.chain.Around.{Around}
-use Rattle.gpu_block.specs.declared.chain.Beside.{Beside}
-use Rattle.gpu_block.specs.declared.index.Gap.{Gap}
+use Rattle.gpu_chain.specs.declared.chunk.Chunk.{Chunk}
+use Rattle.gpu_chain.specs.declared.chain.Around.{Around}
+use Rattle.gpu_chain.specs.declared.chain.Beside.{Beside}
+use Rattle.gpu_gap_index.specs.declared.index.Gap.{Gap}
 use Rattle.gpu_block.specs.declared.free_list.place.Wanted.{Wanted}
 use Rattle.gpu_block.specs.declared.free_list.search.Found.{Found}
 use Rattle.gpu_values.specs.declared.allocation_type.AllocationType.{AllocationType}
 use Rattle.gpu_values.specs.declared.allocation_type.AllocationType.TheVariants.{Free, Linear, NonLinear}
-use Rattle.gpu_block.specs.Chunks.{IsFree, Covers, NoneTouch, AreDistinct, HoldsNumber, IsNamedAt, IsReleasedAt, IsTaken, AreChunks, IsChunk, join_front, join_back, is_gap_by, extents_of, extent, filled_chunk, named_chunk, cut_chunk}
-use Rattle.gpu_block.specs.Chain.{Name, StandsAt, HasNoNumber, IsSplit, IsFilled, IsReleased, IsAround, front_piece}
+use Rattle.gpu_chain.specs.ChunkList.{IsFree, Covers, AreDistinct, join_front, join_back, filled_chunk, cut_chunk}
+use Rattle.gpu_block.specs.Chunks.{NoneTouch, HoldsNumber, IsNamedAt, IsReleasedAt, IsTaken, AreChunks, IsChunk, is_gap_by, extents_of, extent, named_chunk}
+use Rattle.gpu_chain.specs.Chain.{Name, StandsAt, HasNoNumber, IsSplit, IsFilled, IsReleased, IsAround, front_piece}
 use Rattle.gpu_block.specs.Indexed.{IsListed, IsGapOf, IsChosen, chosen_at, IsPieceAt, IsPieceOf, gaps_between}
 use Rattle.gpu_block.proofs.Numbers.{one_at}
 use Rattle.gpu_block.proofs.Placing.{not_rest}
 use Rattle.gpu_block.proofs.Lists.{same_parts}
 use Rattle.gpu_block.proofs.Tiling.{around, Covers-le}
-use Rattle.gpu_block.proofs.Keyed.{All-parts}
-use Rattle.gpu_block.proofs.Links.{same_test, apart_test}
+use Rattle.gpu_chain.proofs.Parts.{All-parts}
+use Rattle.gpu_chain.proofs.Links.{same_test, apart_test}
 use Rattle.gpu_block.specs.FreeList.{Extent}
 use Rattle.gpu_block.proofs.Views.{extents-split, contains_chunk}
 use Rattle.gpu_block.proofs.Takings.{touching, touch_join}
-use Rattle.gpu_block.proofs.Listing.{stands_once}
+use Rattle.gpu_chain.proofs.Listing.{stands_once}
 use Rattle.gpu_block.proofs.Indexing.{gaps_live, same_to}
 
 -- a free chunk has the number, so no piece has

@@ -7,16 +7,17 @@ use Rattle.std.proofs.lemmas.List.Sums.{sum_by-append, sum_by-remove, sum_by-ins
 use Rattle.std.proofs.lemmas.List.Elements.{All-nil, All-cons, All-weaker, All-contains, All-append}
 use Rattle.std.proofs.lemmas.Bool.{cases_lt}
 use Rattle.std.proofs.lemmas.Bool.Decides.{nat_tests}
-use Rattle.gpu_block.specs.declared.chunk.Chunk.{Chunk}
-use Rattle.gpu_block.specs.declared.index.Gap.{Gap}
+use Rattle.gpu_chain.specs.declared.chunk.Chunk.{Chunk}
+use Rattle.gpu_gap_index.specs.declared.index.Gap.{Gap}
 use Rattle.gpu_values.specs.declared.allocation_type.AllocationType.{AllocationType}
 use Rattle.gpu_values.specs.declared.allocation_type.AllocationType.TheVariants.{Free, Linear, NonLinear}
-use Rattle.gpu_block.specs.Chunks.{IsFree, Covers, NotBothFree, NoneTouch, last_kind, extents_of}
-use Rattle.gpu_block.specs.Index.{Before, HasKey, HasKeyAt, HasNoKey, IsRemoved, IsInserted}
+use Rattle.gpu_chain.specs.ChunkList.{IsFree, Covers}
+use Rattle.gpu_block.specs.Chunks.{NotBothFree, NoneTouch, last_kind, extents_of}
+use Rattle.gpu_gap_index.specs.Index.{Before, HasKey, HasKeyAt, HasNoKey, IsRemoved, IsInserted}
 use Rattle.gpu_block.specs.Indexed.{gap_between, kind_or, gap_first, gaps_between, HasSame, IsGapOf, IsPlaced, ArePlaced}
 use Rattle.gpu_block.proofs.Tiling.{around, Covers-le}
 use Rattle.gpu_block.proofs.Views.{free_or_live, extents-free, extents-live, contains_mid}
-use Rattle.gpu_block.proofs.Links.{same_test}
+use Rattle.gpu_chain.proofs.Links.{same_test}
 
 -- ---- kinds
 

@@ -27,14 +27,6 @@ pub mod Texts
 pub mod Covering
 pub mod Blocks
 pub mod Shared
-pub mod Walks
-pub mod Halving
-pub mod Orders
-pub mod Links
-pub mod Splits
-pub mod Joins
-pub mod Unlinks
-pub mod Listing
 pub mod Searches
 pub mod Indexing
 pub mod Updates

@@ -2,21 +2,22 @@
 use Rattle.std.proofs.Common.{◌≡◌, ℕ, ◌+◌, ◌<◌, ◌≤◌, List, [], ◌∷◌, ◌++◌, length, refl, sym, ap, ◌∙◌, subst, arith, inl, inr, Option, Some, None}
 use Rattle.std.specs.List.{AllPairs, sum_by}
 use Rattle.std.proofs.lemmas.List.{length-append, append_assoc, append-nil}
-use Rattle.gpu_block.specs.declared.chunk.Chunk.{Chunk}
-use Rattle.gpu_block.specs.declared.chain.Beside.{Beside}
-use Rattle.gpu_block.specs.declared.chain.Around.{Around}
-use Rattle.gpu_block.specs.declared.index.Gap.{Gap}
+use Rattle.gpu_chain.specs.declared.chunk.Chunk.{Chunk}
+use Rattle.gpu_chain.specs.declared.chain.Beside.{Beside}
+use Rattle.gpu_chain.specs.declared.chain.Around.{Around}
+use Rattle.gpu_gap_index.specs.declared.index.Gap.{Gap}
 use Rattle.gpu_values.specs.declared.allocation_type.AllocationType.{AllocationType}
 use Rattle.gpu_values.specs.declared.allocation_type.AllocationType.TheVariants.{Free, Linear, NonLinear}
-use Rattle.gpu_block.specs.Chunks.{IsFree, Covers, NotBothFree, NoneTouch, AreDistinct, last_kind, extents_of, extent, filled_chunk, joined_chunk, join_back, join_front}
-use Rattle.gpu_block.specs.Chain.{Name, HasNumber, IsReleased, beside, last_beside, first_beside}
-use Rattle.gpu_block.specs.Index.{Before, HasKeyAt, HasNoKey, IsRemoved, IsInserted}
+use Rattle.gpu_chain.specs.ChunkList.{IsFree, Covers, AreDistinct, filled_chunk, joined_chunk, join_back, join_front}
+use Rattle.gpu_block.specs.Chunks.{NotBothFree, NoneTouch, last_kind, extents_of, extent}
+use Rattle.gpu_chain.specs.Chain.{Name, HasNumber, IsReleased, beside, last_beside, first_beside}
+use Rattle.gpu_gap_index.specs.Index.{Before, HasKeyAt, HasNoKey, IsRemoved, IsInserted}
 use Rattle.gpu_block.specs.Indexed.{gap_between, kind_or, gap_first, gaps_between, HasSame, IsListed, IsPieceAt, Forgets, ForgetsBy, MayForget, MayForgetBy, first_of, first_by}
 use Rattle.gpu_block.proofs.Tiling.{around, last_kind-push}
 use Rattle.gpu_block.proofs.Views.{free_or_live, extents-free, extents-append, extents-split, contains_mid}
 use Rattle.gpu_block.proofs.Edits.{snoc, join_front-push, join_kinds-free, join_kinds-live}
 use Rattle.gpu_block.proofs.Takings.{Touching, touching, touch_join, live_after, live_before}
-use Rattle.gpu_block.proofs.Listing.{stands_once}
+use Rattle.gpu_chain.proofs.Listing.{stands_once}
 use Rattle.gpu_block.proofs.Indexing.{free_is, first_free, gaps_append, gaps_free, gaps_live, after_same, before_same, few_gaps, other_starts, same_member, same_back, same_length, key_there, no_key, same_less, same_more, same_to}
 
 -- ---- what is forgotten of the index

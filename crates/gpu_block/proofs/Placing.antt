@@ -2,7 +2,7 @@
 use Rattle.std.proofs.Common.{◌≡◌, ◌≢◌, ℕ, ◌+◌, ◌-◌, ◌^◌, ◌<◌, ◌≤◌, List, ◌∷◌, ◌++◌, length, refl, sym, ap, ◌∙◌, subst, inl, inr, arith, Bool, true, false}
 use Rattle.std.specs.Prelude.{Contains, String, string_bytes, Result, Ok, Err, IfErr, IsErrAnd}
 use Rattle.std.specs.declared.alloc.Global.{Global}
-use Rattle.gpu_block.specs.declared.chunk.Chunk.{Chunk}
+use Rattle.gpu_chain.specs.declared.chunk.Chunk.{Chunk}
 use Rattle.gpu_block.specs.declared.free_list.place.Wanted.{Wanted}
 use Rattle.gpu_block.specs.Chunks.{FoundAt}
 use Rattle.gpu_values.specs.declared.allocation_type.AllocationType.{AllocationType}
@@ -13,7 +13,8 @@ use Rattle.gpu_block.specs.Changes.{Takes, with_extent, moved_gap, without_gap}
 use Rattle.gpu_block.specs.Place.{IsBestFit, Fits, HasNoPlace}
 use Rattle.gpu_block.specs.Request.{request}
 use Rattle.std.proofs.lemmas.Bool.{cases_lt, false≢true}
-use Rattle.gpu_block.specs.Chunks.{IsFree, AreChunks, IsChunk, free_list_of, extents_of, gaps_of, filled_chunk, piece_of, IsBestOf, NoneFits, TakenFrom, IsTaken, IsLaidOut}
+use Rattle.gpu_chain.specs.ChunkList.{IsFree, filled_chunk}
+use Rattle.gpu_block.specs.Chunks.{AreChunks, IsChunk, free_list_of, extents_of, gaps_of, piece_of, IsBestOf, NoneFits, TakenFrom, IsTaken, IsLaidOut}
 use Rattle.gpu_block.proofs.Takings.{rest_are, rest_extents, rest_gaps, whole_are, whole_extents, whole_gaps, whole_number, each_of}
 use Rattle.gpu_block.proofs.Chosen.{chosen_of_best, none_of_chunks}
 use Rattle.gpu_block.proofs.Determined.{best_has_place}

@@ -5,7 +5,7 @@ use Rattle.std.proofs.lemmas.Option.{slice_get_within, get_or_from_slice_get}
 use Rattle.std.proofs.lemmas.Bool.{cases_lt}
 use Rattle.std.proofs.lemmas.Bool.Decides.{nat_tests}
 use Rattle.gpu_values.specs.declared.allocation_type.AllocationType.TheVariants.{Free}
-use Rattle.gpu_block.specs.declared.index.Gap.{Gap}
+use Rattle.gpu_gap_index.specs.declared.index.Gap.{Gap}
 use Rattle.gpu_block.specs.declared.free_list.place.Wanted.{Wanted}
 use Rattle.gpu_block.specs.Indexed.{FitsGap, is_long}
 

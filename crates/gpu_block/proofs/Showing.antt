@@ -1,11 +1,12 @@
 -- What chunks show, one by one.
 use Rattle.std.proofs.Common.{◌≡◌, ℕ, ◌+◌, ◌≤◌, List, [], ◌∷◌, ◌++◌, map, sym, ap, ◌∙◌, subst}
 use Rattle.std.proofs.lemmas.List.{map-append, append_assoc}
-use Rattle.gpu_block.specs.declared.chunk.Chunk.{Chunk}
+use Rattle.gpu_chain.specs.declared.chunk.Chunk.{Chunk}
 use Rattle.gpu_values.specs.declared.report.AllocationReport.{AllocationReport}
 use Rattle.gpu_values.specs.Report.{Row, row_of}
 use Rattle.gpu_block.specs.Rows.{extent_row}
-use Rattle.gpu_block.specs.Chunks.{IsFree, Covers, extents_of, extent}
+use Rattle.gpu_chain.specs.ChunkList.{IsFree, Covers}
+use Rattle.gpu_block.specs.Chunks.{extents_of, extent}
 use Rattle.gpu_block.proofs.Tiling.{Covers-le}
 use Rattle.gpu_block.proofs.Views.{extents-free, extents-live}
 

@@ -6,14 +6,14 @@ use Rattle.std.proofs.lemmas.List.{take-append-drop, get_or-take, get_or-drop, l
 use Rattle.std.proofs.lemmas.List.Sums.{sum_by-append, sum_by-cons}
 use Rattle.std.proofs.lemmas.Bool.{cases_lt}
 use Rattle.std.proofs.lemmas.Bool.Decides.{nat_tests}
-use Rattle.gpu_block.specs.declared.chunk.Chunk.{Chunk}
-use Rattle.gpu_block.specs.declared.cost.Cost.{Cost}
-use Rattle.gpu_block.specs.declared.index.Gap.{Gap}
+use Rattle.gpu_chain.specs.declared.chunk.Chunk.{Chunk}
+use Rattle.gpu_gap_index.specs.declared.cost.Cost.{Cost}
+use Rattle.gpu_gap_index.specs.declared.index.Gap.{Gap}
 use Rattle.gpu_block.specs.declared.free_list.place.Wanted.{Wanted}
 use Rattle.gpu_block.specs.declared.free_list.search.Found.{Found}
 use Rattle.gpu_values.specs.declared.allocation_type.AllocationType.TheVariants.{Free}
-use Rattle.gpu_block.specs.Cost.{digits}
-use Rattle.gpu_block.specs.Index.{Before}
+use Rattle.gpu_gap_index.specs.Cost.{digits}
+use Rattle.gpu_gap_index.specs.Index.{Before}
 use Rattle.gpu_block.specs.Indexed.{gaps_between, HasSame, NoGapFits, IsFirstFit, Spends, is_long, is_tried, tested}
 use Rattle.gpu_block.proofs.Indexing.{same_length}
 

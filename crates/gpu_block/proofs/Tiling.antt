@@ -1,8 +1,9 @@
 -- Chunks that cover a block, one after another.
 use Rattle.std.proofs.Common.{◌≡◌, ℕ, ◌+◌, ◌<◌, ◌≤◌, List, [], ◌∷◌, ◌++◌, length, refl, sym, arith}
-use Rattle.gpu_block.specs.declared.chunk.Chunk.{Chunk}
+use Rattle.gpu_chain.specs.declared.chunk.Chunk.{Chunk}
 use Rattle.gpu_values.specs.declared.allocation_type.AllocationType.{AllocationType}
-use Rattle.gpu_block.specs.Chunks.{Covers, last_kind, size_at}
+use Rattle.gpu_chain.specs.ChunkList.{Covers}
+use Rattle.gpu_block.specs.Chunks.{last_kind, size_at}
 
 pub Covers-le : (cs : List Chunk) (from to : ℕ) → Covers cs from to → from ≤ to
 Covers-le [] from to h = omega arith

@@ -3,21 +3,22 @@ use Rattle.std.proofs.Common.{◌≡◌, ◌≢◌, ℕ, ◌+◌, ◌-◌, ◌<�
 use Rattle.std.specs.Prelude.{Contains}
 use Rattle.std.specs.List.{AllPairs}
 use Rattle.std.proofs.lemmas.List.{length-append}
-use Rattle.gpu_block.specs.declared.chunk.Chunk.{Chunk}
-use Rattle.gpu_block.specs.declared.chain.Beside.{Beside}
-use Rattle.gpu_block.specs.declared.chain.Around.{Around}
-use Rattle.gpu_block.specs.declared.index.Gap.{Gap}
+use Rattle.gpu_chain.specs.declared.chunk.Chunk.{Chunk}
+use Rattle.gpu_chain.specs.declared.chain.Beside.{Beside}
+use Rattle.gpu_chain.specs.declared.chain.Around.{Around}
+use Rattle.gpu_gap_index.specs.declared.index.Gap.{Gap}
 use Rattle.gpu_values.specs.declared.allocation_type.AllocationType.{AllocationType}
 use Rattle.gpu_values.specs.declared.allocation_type.AllocationType.TheVariants.{Free, Linear}
-use Rattle.gpu_block.specs.Chunks.{IsFree, Covers, NotBothFree, NoneTouch, AreDistinct, last_kind, extents_of, extent, cut_chunk, filled_chunk}
-use Rattle.gpu_block.specs.Chain.{Name, HasNumber, HasNoNumber, IsAround, IsLonger, IsSplit, IsFilled, front_piece, beside, last_beside, first_beside}
-use Rattle.gpu_block.specs.Index.{Before, HasKeyAt, HasNoKey, IsRemoved, IsInserted}
+use Rattle.gpu_chain.specs.ChunkList.{IsFree, Covers, AreDistinct, cut_chunk, filled_chunk}
+use Rattle.gpu_block.specs.Chunks.{NotBothFree, NoneTouch, last_kind, extents_of, extent}
+use Rattle.gpu_chain.specs.Chain.{Name, HasNumber, HasNoNumber, IsAround, IsLonger, IsSplit, IsFilled, front_piece, beside, last_beside, first_beside}
+use Rattle.gpu_gap_index.specs.Index.{Before, HasKeyAt, HasNoKey, IsRemoved, IsInserted}
 use Rattle.gpu_block.specs.Indexed.{gap_between, kind_or, gaps_between, HasSame, IsListed, IsGapOf, beside_kind}
 use Rattle.gpu_block.proofs.Views.{extents-free, extents-append, extents-split}
 use Rattle.gpu_block.proofs.Takings.{Touching, touching, touch_join, live_after, live_before, after_live}
 use Rattle.std.proofs.lemmas.List.Elements.{All-head}
-use Rattle.gpu_block.proofs.Keyed.{All-parts}
-use Rattle.gpu_block.proofs.Listing.{stands_once}
+use Rattle.gpu_chain.proofs.Parts.{All-parts}
+use Rattle.gpu_chain.proofs.Listing.{stands_once}
 use Rattle.gpu_block.proofs.Indexing.{free_is, first_free, gaps_free, gaps_live, after_same, before_same, none_after, other_starts, member_at, same_member, same_back, key_there, no_key, same_less, same_more, same_to}
 
 -- ---- what stands beside a chunk

@@ -5,7 +5,7 @@ use Rattle.std.specs.declared.num.NonZeroU64.{NonZeroU64}
 use Rattle.gpu_values.specs.declared.error.AllocationError.{AllocationError}
 use Rattle.gpu_block.specs.FreeList.{Extent, FreeList, SomeExtent, IsGap, extent_bytes}
 use Rattle.gpu_block.specs.Request.{Request}
-use Rattle.gpu_block.specs.Cost.{Counts}
+use Rattle.gpu_gap_index.specs.Cost.{Counts}
 use Rattle.gpu_block.specs.Search.{IsSearch}
 use Rattle.gpu_block.specs.Changes.{Takes, Releases, Renames}
 use Rattle.gpu_values.specs.Refusal.{Refusal, refusal_of}

@@ -4,15 +4,11 @@ use Rattle.std.specs.declared.alloc.Global.{Global}
 use Rattle.std.specs.List.{filter_map}
 use Rattle.gpu_values.specs.declared.allocation_type.AllocationType.{AllocationType}
 use Rattle.gpu_values.specs.declared.allocation_type.AllocationType.TheVariants.{Free, Linear, NonLinear}
-use Rattle.gpu_block.specs.declared.chunk.Chunk.{Chunk}
+use Rattle.gpu_chain.specs.declared.chunk.Chunk.{Chunk}
+use Rattle.gpu_chain.specs.ChunkList.{IsFree, Covers, AreDistinct, cut_chunk, filled_chunk, join_back, join_front}
 use Rattle.gpu_block.specs.declared.free_list.place.Wanted.{Wanted}
 use Rattle.gpu_block.specs.FreeList.{Extent, FreeList}
 use Rattle.gpu_block.specs.Place.{FitsBetween}
-
-abbrev pub IsFree : AllocationType → Type 0
-IsFree Free = Unit {0}
-IsFree Linear = ⊥
-IsFree NonLinear = ⊥
 
 abbrev pub extent : Chunk → Extent
 extent c = record { start = c.start; offset = c.offset; end = c.start + c.size; kind = c.kind; number = c.number; name = string_bytes c.name }
@@ -35,11 +31,6 @@ gaps_of cs = filter_map (λ c. gap_by c.kind c) cs
 
 abbrev pub free_list_of : ℕ → ℕ → ℕ → List Chunk → FreeList
 free_list_of size granularity counter cs = record { size = size; granularity = granularity; counter = counter; extents = extents_of cs; gap_numbers = gaps_of cs }
-
--- the chunks cover [from, to), one after another, and none is empty
-abbrev pub Covers : List Chunk → ℕ → ℕ → Type 0
-Covers [] from to = from ≡ to
-Covers (c ∷ cs) from to = (c.start ≡ from) × (0 < c.size) × Covers cs (from + c.size) to
 
 abbrev pub NotBothFree : AllocationType → AllocationType → Type 0
 NotBothFree Free Free = ⊥
@@ -66,11 +57,6 @@ pub record IsWholeChunk (size : ℕ) (c : Chunk) : Type 0 where
   pub whole : c.size ≡ size
   pub first : c.number ≡ 1
   pub live : IsFree c.kind → ⊥
-
--- no two chunks have one number
-abbrev pub AreDistinct : List Chunk → Type 0
-AreDistinct [] = Unit {0}
-AreDistinct (c ∷ cs) = All (λ d. d.number ≢ c.number) cs × AreDistinct cs
 
 pub record AreChunks (cs : List Chunk) (size counter : ℕ) : Type 0 where
   pub covers : Covers cs 0 size
@@ -152,39 +138,12 @@ pub record HoldsNumber (cs : List Chunk) (number i : ℕ) : Type 0 where
   pub live : IsFree chunk.kind → ⊥
   pub numbered : chunk.number ≡ number
 
--- what each change of the i-th chunk leaves, however the list is split there
-abbrev pub cut_chunk : Chunk → ℕ → Chunk
-cut_chunk c taken = record c { start = c.start + taken; size = c.size - taken; offset = c.start + taken }
-
-abbrev pub filled_chunk : Chunk → ℕ → AllocationType → String Global → Chunk
-filled_chunk c offset kind name = record c { offset = offset; kind = kind; name = name }
-
 abbrev pub named_chunk : Chunk → String Global → Chunk
 named_chunk c name = record c { name = name }
 
 abbrev pub IsNamedAt : List Chunk → ℕ → String Global → List Chunk → Type 0
 IsNamedAt old i name new =
     (front : List Chunk) (c : Chunk) (back : List Chunk) → old ≡ front ++ c ∷ back → length front ≡ i → new ≡ front ++ named_chunk c name ∷ back
-
-abbrev pub joined_chunk : Chunk → Chunk → Chunk
-joined_chunk a b = record a { size = a.size + b.size }
-
--- a chunk before a list, joined with its first one if that is free
-abbrev pub join_kinds : AllocationType → Chunk → Chunk → List Chunk → List Chunk
-join_kinds Free a b cs = joined_chunk a b ∷ cs
-join_kinds Linear a b cs = a ∷ b ∷ cs
-join_kinds NonLinear a b cs = a ∷ b ∷ cs
-
-abbrev pub join_back : Chunk → List Chunk → List Chunk
-join_back c [] = c ∷ []
-join_back c (b ∷ bs) = join_kinds b.kind c b bs
-
--- a list before a chunk, joined with that one if its last one is free
-abbrev pub join_front : List Chunk → List Chunk → List Chunk
-join_front [] back = back
-join_front (a ∷ []) [] = a ∷ []
-join_front (a ∷ []) (c ∷ back) = join_kinds a.kind a c back
-join_front (a ∷ b ∷ front) back = a ∷ join_front (b ∷ front) back
 
 abbrev pub IsReleasedAt : List Chunk → ℕ → String Global → List Chunk → Type 0
 IsReleasedAt old i empty new =

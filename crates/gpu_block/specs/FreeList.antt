@@ -2,7 +2,7 @@
 use Rattle.std.specs.Prelude.{Option, Some, None, ◌+◌, ◌≡◌, ℕ, ◌<◌, ◌≤◌, ◌⊎◌, ◌-◌, ◌==◌, Bool, List, [], ◌∷◌, All, Contains}
 use Rattle.std.specs.List.{sum_by, list_any}
 use Rattle.gpu_values.specs.declared.allocation_type.AllocationType.{AllocationType}
-use Rattle.gpu_block.specs.Cost.{Counts}
+use Rattle.gpu_gap_index.specs.Cost.{Counts}
 
 -- [start, end) belongs to one live piece, which begins at `offset`; what lies before that is padding
 pub record Extent : Type 0 where

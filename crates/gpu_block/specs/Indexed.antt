@@ -3,18 +3,19 @@ use Rattle.std.specs.Prelude.{◌≡◌, ℕ, ◌+◌, ◌^◌, ◌<◌, ◌≤�
 use Rattle.std.specs.List.{sum_by, count_by}
 use Rattle.gpu_values.specs.declared.allocation_type.AllocationType.{AllocationType}
 use Rattle.gpu_values.specs.declared.allocation_type.AllocationType.TheVariants.{Free, Linear, NonLinear}
-use Rattle.gpu_block.specs.declared.chunk.Chunk.{Chunk}
-use Rattle.gpu_block.specs.declared.chain.Beside.{Beside}
-use Rattle.gpu_block.specs.declared.index.Gap.{Gap}
+use Rattle.gpu_chain.specs.declared.chunk.Chunk.{Chunk}
+use Rattle.gpu_chain.specs.declared.chain.Beside.{Beside}
+use Rattle.gpu_gap_index.specs.declared.index.Gap.{Gap}
 use Rattle.gpu_block.specs.declared.free_list.place.Wanted.{Wanted}
 use Rattle.gpu_block.specs.declared.free_list.search.Found.{Found}
 use Rattle.gpu_block.specs.Place.{FitsBetween}
-use Rattle.gpu_block.specs.Chunks.{IsFree, NoneTouch, Differ, last_kind, extents_of, FoundAt, IsBestOf}
-use Rattle.gpu_block.specs.declared.chain.Around.{Around}
-use Rattle.gpu_block.specs.Chain.{IsAround, StandsAt}
-use Rattle.gpu_block.specs.declared.cost.Cost.{Cost}
-use Rattle.gpu_block.specs.Cost.{digits}
-use Rattle.gpu_block.specs.Index.{IsRemoved, HasKeyAt}
+use Rattle.gpu_chain.specs.ChunkList.{IsFree}
+use Rattle.gpu_block.specs.Chunks.{NoneTouch, Differ, last_kind, extents_of, FoundAt, IsBestOf}
+use Rattle.gpu_chain.specs.declared.chain.Around.{Around}
+use Rattle.gpu_chain.specs.Chain.{IsAround, StandsAt}
+use Rattle.gpu_gap_index.specs.declared.cost.Cost.{Cost}
+use Rattle.gpu_gap_index.specs.Cost.{digits}
+use Rattle.gpu_gap_index.specs.Index.{IsRemoved, HasKeyAt}
 
 -- the entry of a free chunk that stands between these kinds
 abbrev pub gap_between : AllocationType → Chunk → AllocationType → Gap

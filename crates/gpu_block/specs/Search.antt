@@ -4,7 +4,7 @@ use Rattle.std.specs.List.{count_by}
 use Rattle.gpu_block.specs.FreeList.{Extent, FreeList}
 use Rattle.gpu_block.specs.Request.{Request}
 use Rattle.gpu_block.specs.Place.{Fits, IsBestFit}
-use Rattle.gpu_block.specs.Cost.{Counts, digits}
+use Rattle.gpu_gap_index.specs.Cost.{Counts, digits}
 
 -- where the gap that begins at `start` ends: at the next extent, or at the block's end
 abbrev pub gap_end : ℕ → List Extent → ℕ → ℕ

@@ -6,9 +6,9 @@ ghost use Rattle.gpu_values.specs.Refusal.{refusal_of, internal};
 ghost use Rattle.gpu_values.specs.declared.error.AllocationError.TheVariants.{HostOutOfMemory};
 
 use crate::Leaks;
-use crate::chunk::Chunk;
+use gpu_chain::Chunk;
 use crate::rows::rows_of;
-use crate::walk::Walk;
+use gpu_chain::Walk;
 use gpu_values::{AllocationError, AllocationReport, AllocationType, Result, internal_fault};
 use std::alloc::Global;
 use std::marker::Model;

@@ -12,7 +12,7 @@ mod place;
 mod search;
 
 use crate::Leaks;
-use crate::cost::Cost;
+use gpu_gap_index::Cost;
 use crate::rows::rows_of;
 use chunks::{Chunks, taken_bytes};
 use gpu_values::{AllocationError, AllocationReport, AllocationType, Result, internal_fault};
@@ -37,7 +37,7 @@ pub struct FreeListAllocator {
 impl Model for FreeListAllocator {
     ghost use Rattle.std.specs.Prelude.{IsTrue, ◌<◌, ◌^◌};
     ghost use Rattle.std.specs.Int.{is_power_of_two};
-    ghost use Rattle.gpu_block.specs.Cost.{counts_of};
+    ghost use Rattle.gpu_gap_index.specs.Cost.{counts_of};
     ghost use Rattle.gpu_block.specs.FreeList.{Counted};
     ghost use Rattle.gpu_block.specs.Chunks.{AreChunks, free_list_of};
     ghost use Rattle.gpu_block.specs.Laws.{IsPageSeparated};

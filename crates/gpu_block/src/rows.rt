@@ -1,12 +1,13 @@
 //! The rows of a report, one for each piece.
 
 ghost use Rattle.std.specs.Prelude.{◌≡◌, ℕ, ◌+◌, ◌^◌, ◌<◌, [], ◌∷◌, ◌++◌, map, All, IfOk, OnOk, string_bytes};
-ghost use Rattle.gpu_block.specs.Chunks.{Covers, IsChunk, extents_of};
+ghost use Rattle.gpu_chain.specs.ChunkList.{Covers};
+ghost use Rattle.gpu_block.specs.Chunks.{IsChunk, extents_of};
 ghost use Rattle.gpu_values.specs.Report.{row_of};
 ghost use Rattle.gpu_block.specs.Rows.{extent_row};
 
-use crate::chunk::{Chunk, is_free};
-use crate::walk::Walk;
+use gpu_chain::{Chunk, is_free};
+use gpu_chain::Walk;
 use gpu_values::AllocationReport;
 use std::alloc::{AllocError, Global};
 

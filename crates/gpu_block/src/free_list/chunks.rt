@@ -3,18 +3,19 @@
 ghost use Rattle.std.specs.Prelude.{◌≡◌, ◌≢◌, ℕ, ◌+◌, ◌-◌, ◌*◌, ◌^◌, ◌<◌, ◌≤◌, length, All, List, [], IfOk, OnOk, OnErr, MatchOption, IsTrue, ◌↔◌};
 ghost use Rattle.std.specs.List.{list_any};
 ghost use Rattle.gpu_block.specs.FreeList.{extent_bytes};
-ghost use Rattle.gpu_block.specs.Chunks.{IsFree, NoneFits, IsTaken, IsNamedAt, HoldsNumber, extents_of, Covers, is_gap_by};
-ghost use Rattle.gpu_block.specs.Chain.{IsFresh, HasNoNumber, StandsAt, IsReleased};
+ghost use Rattle.gpu_chain.specs.ChunkList.{IsFree, Covers};
+ghost use Rattle.gpu_block.specs.Chunks.{NoneFits, IsTaken, IsNamedAt, HoldsNumber, extents_of, is_gap_by};
+ghost use Rattle.gpu_chain.specs.Chain.{IsFresh, HasNoNumber, StandsAt, IsReleased};
 ghost use Rattle.gpu_block.specs.Indexed.{IsChosen, chosen_at, Spends, IsPieceAt, IsPieceOf};
 
 use super::edit::{release, take_front, take_whole};
 use super::place::Wanted;
 use super::search::{Found, find};
-use crate::chain::{Around, Chain};
-use crate::chunk::{Chunk, is_free};
-use crate::cost::Cost;
-use crate::index::{Gap, GapIndex};
-use crate::walk::Walk;
+use gpu_chain::{Around, Chain};
+use gpu_chain::{Chunk, is_free};
+use gpu_gap_index::Cost;
+use gpu_gap_index::{Gap, GapIndex};
+use gpu_chain::Walk;
 use gpu_values::AllocationType;
 use std::alloc::{AllocError, Global};
 use std::marker::Model;

@@ -2,16 +2,16 @@
 
 ghost use Rattle.std.specs.Prelude.{◌≡◌, ◌≢◌, ℕ, ◌+◌, ◌-◌, ◌^◌, ◌<◌, ◌≤◌, length, ◌++◌, ◌∷◌};
 ghost use Rattle.std.specs.Prelude.{List};
-ghost use Rattle.gpu_block.specs.declared.chunk.Chunk.{Chunk};
+ghost use Rattle.gpu_chain.specs.declared.chunk.Chunk.{Chunk};
 ghost use Rattle.gpu_block.specs.Chunks.{last_kind, extents_of};
-ghost use Rattle.gpu_block.specs.Chain.{HasNumber, HasNoNumber, IsSplit, IsFilled, IsReleased};
+ghost use Rattle.gpu_chain.specs.Chain.{HasNumber, HasNoNumber, IsSplit, IsFilled, IsReleased};
 ghost use Rattle.gpu_block.specs.Indexed.{IsListed, IsGapOf, gap_between, kind_or, Forgets, beside_kind, MayForget, first_of, IsPieceAt};
 
 use super::search::Found;
-use crate::chain::{Around, Beside, Chain};
-use crate::chunk::is_free;
-use crate::cost::Cost;
-use crate::index::{Gap, GapIndex};
+use gpu_chain::{Around, Beside, Chain};
+use gpu_chain::is_free;
+use gpu_gap_index::Cost;
+use gpu_gap_index::{Gap, GapIndex};
 use gpu_values::AllocationType;
 
 /// Gives the front of the found gap to a piece. There is room for it, so no memory is taken.

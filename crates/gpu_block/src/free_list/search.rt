@@ -3,13 +3,13 @@
 
 ghost use Rattle.std.specs.Prelude.{◌≡◌, ℕ, ◌+◌, ◌*◌, ◌-◌, ◌^◌, ◌<◌, ◌≤◌, length, take, MatchOption};
 ghost use Rattle.std.specs.List.{AllPairs, count_by};
-ghost use Rattle.gpu_block.specs.Cost.{digits};
-ghost use Rattle.gpu_block.specs.Index.{Before};
+ghost use Rattle.gpu_gap_index.specs.Cost.{digits};
+ghost use Rattle.gpu_gap_index.specs.Index.{Before};
 ghost use Rattle.gpu_block.specs.Indexed.{FitsGap, NoGapFits, IsFirstFit, IsPlaced, ArePlaced, is_long};
 
 use super::place::{Wanted, place_between};
-use crate::cost::Cost;
-use crate::index::{Gap, GapIndex};
+use gpu_gap_index::Cost;
+use gpu_gap_index::{Gap, GapIndex};
 
 /// A gap that serves, and the piece's offset in it.
 #[derive(Clone, Copy)]

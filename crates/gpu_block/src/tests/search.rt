@@ -4,10 +4,10 @@ ghost use Rattle.std.specs.Prelude.{◌≡◌, ℕ, ◌+◌, ◌≤◌, [], ◌�
 ghost use Rattle.gpu_block.specs.FreeList.{Extent, FreeList};
 ghost use Rattle.gpu_block.specs.Request.{Request};
 ghost use Rattle.gpu_block.specs.Place.{IsBestFit};
-ghost use Rattle.gpu_block.specs.Cost.{Counts, digits};
+ghost use Rattle.gpu_gap_index.specs.Cost.{Counts, digits};
 ghost use Rattle.gpu_block.specs.Search.{IsSearch};
 
-use crate::cost::Cost;
+use gpu_gap_index::Cost;
 
 /// With pieces of 100, 10, 50 and 10 bytes in a block, of which the first and the third were given back, the best of
 /// three gaps is the first that is tested.

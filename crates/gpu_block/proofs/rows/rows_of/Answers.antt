@@ -2,7 +2,7 @@ use Rattle.std.proofs.Common.{◌+◌, ◌∙◌, List, sym, subst, arith, map}
 use Rattle.std.specs.Prelude.{All}
 use Rattle.std.proofs.lemmas.List.Elements.{All-tail}
 use Rattle.std.proofs.lemmas.Bool.{false≢true}
-use Rattle.gpu_block.specs.declared.chunk.Chunk.{Chunk}
+use Rattle.gpu_chain.specs.declared.chunk.Chunk.{Chunk}
 use Rattle.gpu_values.specs.Report.{row_of}
 use Rattle.gpu_block.specs.Chunks.{IsChunk}
 use Rattle.gpu_block.proofs.Showing.{first_covers, rows_free, rows_live}

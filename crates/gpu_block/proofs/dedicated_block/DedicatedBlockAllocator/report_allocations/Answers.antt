@@ -1,7 +1,8 @@
 use Rattle.std.proofs.Common.{List, sym, subst}
 use Rattle.std.specs.Prelude.{All}
-use Rattle.gpu_block.specs.declared.chunk.Chunk.{Chunk}
-use Rattle.gpu_block.specs.Chunks.{Covers, IsChunk}
+use Rattle.gpu_chain.specs.declared.chunk.Chunk.{Chunk}
+use Rattle.gpu_chain.specs.ChunkList.{Covers}
+use Rattle.gpu_block.specs.Chunks.{IsChunk}
 use Rattle.gpu_block.proofs.Whole.{whole_laid_out, whole_each}
 use Rattle.gpu_block.proofs.dedicated_block.DedicatedBlockAllocator.report_allocations.Goals as goal
 

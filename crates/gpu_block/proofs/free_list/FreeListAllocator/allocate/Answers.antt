@@ -15,9 +15,9 @@ use Rattle.gpu_block.proofs.Covering.{sound_covered}
 use Rattle.gpu_block.proofs.Powers.{positive_from_test}
 use Rattle.gpu_block.specs.FreeList.{Counted}
 use Rattle.gpu_block.specs.Chunks.{FoundAt}
-use Rattle.gpu_block.specs.declared.index.Gap.{Gap}
+use Rattle.gpu_gap_index.specs.declared.index.Gap.{Gap}
 use Rattle.gpu_block.specs.Indexed.{chosen_at}
-use Rattle.gpu_block.specs.Cost.{Counts, counts_of}
+use Rattle.gpu_gap_index.specs.Cost.{Counts, counts_of}
 use Rattle.gpu_block.specs.Search.{IsSearch}
 use Rattle.gpu_block.proofs.Costing.{searched}
 use Rattle.gpu_block.proofs.Holding.{chosen_fits, fresh_number, rest_of_chunk, no_rest_of_chunk}

@@ -1,7 +1,8 @@
 use Rattle.std.proofs.Common.{List, sym, ◌∙◌, ap, subst, arith, ℕ, ◌<◌, ◌^◌}
-use Rattle.gpu_block.specs.declared.chunk.Chunk.{Chunk}
+use Rattle.gpu_chain.specs.declared.chunk.Chunk.{Chunk}
 use Rattle.gpu_block.specs.FreeList.{Counted, extent_bytes}
-use Rattle.gpu_block.specs.Chunks.{Covers, extents_of}
+use Rattle.gpu_chain.specs.ChunkList.{Covers}
+use Rattle.gpu_block.specs.Chunks.{extents_of}
 use Rattle.gpu_block.proofs.Holding.{laid_from}
 use Rattle.gpu_block.proofs.Sums.{bytes_below}
 use Rattle.gpu_block.proofs.free_list.FreeListAllocator.allocated.Goals as goal

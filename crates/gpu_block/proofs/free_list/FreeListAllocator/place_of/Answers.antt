@@ -2,7 +2,7 @@ use Rattle.std.proofs.Common.{◌+◌, ◌-◌, ap, sym, subst, arith, Some, Non
 use Rattle.std.specs.Int.NonZero.{non_zero_u64_get}
 use Rattle.gpu_block.specs.FreeList.{Counted, FreeList, FindsPlace}
 use Rattle.gpu_block.specs.Chunks.{HoldsNumber}
-use Rattle.gpu_block.specs.Chain.{StandsAt}
+use Rattle.gpu_chain.specs.Chain.{StandsAt}
 use Rattle.gpu_block.proofs.Releasing.{none_live}
 use Rattle.gpu_block.proofs.Holding.{PlaceShown, place_shown}
 use Rattle.gpu_block.proofs.free_list.FreeListAllocator.place_of.Goals as goal

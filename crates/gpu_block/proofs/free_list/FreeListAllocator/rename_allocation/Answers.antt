@@ -9,7 +9,7 @@ use Rattle.gpu_block.proofs.Covering.{sound_covered}
 use Rattle.gpu_block.proofs.Numbered.{rename_none, rename_live, rename_host, gap_told, none_in_view, live_in_view}
 use Rattle.gpu_block.proofs.Renaming.{Renamed, renamed, renames_separated}
 use Rattle.gpu_block.specs.FreeList.{Counted}
-use Rattle.gpu_block.specs.Chain.{StandsAt}
+use Rattle.gpu_chain.specs.Chain.{StandsAt}
 use Rattle.gpu_block.proofs.Holding.{held_at}
 use Rattle.gpu_block.proofs.free_list.FreeListAllocator.rename_allocation.Goals as goal
 use Rattle.gpu_block.proofs.free_list.FreeListAllocator.rename_allocation.Goals.{After-rename}

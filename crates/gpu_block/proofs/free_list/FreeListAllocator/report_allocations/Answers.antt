@@ -1,7 +1,8 @@
 use Rattle.std.proofs.Common.{List, sym, subst, ℕ, ◌<◌, ◌^◌}
 use Rattle.std.specs.Prelude.{All}
-use Rattle.gpu_block.specs.declared.chunk.Chunk.{Chunk}
-use Rattle.gpu_block.specs.Chunks.{IsChunk, Covers}
+use Rattle.gpu_chain.specs.declared.chunk.Chunk.{Chunk}
+use Rattle.gpu_chain.specs.ChunkList.{Covers}
+use Rattle.gpu_block.specs.Chunks.{IsChunk}
 use Rattle.gpu_block.proofs.Holding.{laid_from}
 use Rattle.gpu_block.proofs.free_list.FreeListAllocator.report_allocations.Goals as goal
 

@@ -1,6 +1,7 @@
 use Rattle.std.proofs.Common.{◌≡◌, ◌+◌, ◌<◌, ◌^◌, ◌≤◌, ℕ, length}
 use Rattle.gpu_block.specs.FreeList.{extent_bytes}
-use Rattle.gpu_block.specs.Chunks.{Covers, extents_of}
+use Rattle.gpu_chain.specs.ChunkList.{Covers}
+use Rattle.gpu_block.specs.Chunks.{extents_of}
 use Rattle.gpu_block.proofs.free_list.chunks.taken_bytes.Given as goal
 
 abbrev pub invariant-loop-chunk : goal.invariant-loop-chunk

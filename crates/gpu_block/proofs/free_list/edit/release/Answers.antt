@@ -1,7 +1,7 @@
 use Rattle.std.proofs.Common.{◌≡◌, ◌∙◌, sym, subst, arith, ℕ}
-use Rattle.gpu_block.specs.declared.index.Gap.{Gap}
-use Rattle.gpu_block.specs.Chain.{HasNumber}
-use Rattle.gpu_block.specs.Index.{HasNoKey}
+use Rattle.gpu_gap_index.specs.declared.index.Gap.{Gap}
+use Rattle.gpu_chain.specs.Chain.{HasNumber}
+use Rattle.gpu_gap_index.specs.Index.{HasNoKey}
 use Rattle.gpu_block.proofs.Merges.{may_before, may_after, gap, gap_split, gap_number, gap_there, entry, no_entry, room_left, release_listed, release_live}
 use Rattle.gpu_block.proofs.free_list.edit.release.Goals as goal
 use Rattle.gpu_block.proofs.free_list.edit.release.Goals.{After-gap_at}

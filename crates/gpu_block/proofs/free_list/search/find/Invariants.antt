@@ -1,8 +1,8 @@
 use Rattle.std.proofs.Common.{◌≡◌, ℕ, ◌+◌, ◌-◌, ◌<◌, ◌≤◌, length, get_or, take}
 use Rattle.std.specs.List.{count_by, AllPairs}
-use Rattle.gpu_block.specs.declared.index.Gap.{Gap}
-use Rattle.gpu_block.specs.Cost.{digits}
-use Rattle.gpu_block.specs.Index.{Before}
+use Rattle.gpu_gap_index.specs.declared.index.Gap.{Gap}
+use Rattle.gpu_gap_index.specs.Cost.{digits}
+use Rattle.gpu_gap_index.specs.Index.{Before}
 use Rattle.gpu_block.specs.Indexed.{FitsGap, is_long}
 use Rattle.gpu_block.proofs.free_list.search.find.Given as goal
 

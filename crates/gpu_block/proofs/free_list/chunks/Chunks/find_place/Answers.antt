@@ -1,5 +1,5 @@
 use Rattle.std.proofs.Common.{ap, subst, arith, List, length, MatchOption}
-use Rattle.gpu_block.specs.declared.chunk.Chunk.{Chunk}
+use Rattle.gpu_chain.specs.declared.chunk.Chunk.{Chunk}
 use Rattle.gpu_block.specs.Chunks.{NoneFits}
 use Rattle.gpu_block.specs.Indexed.{Held, IsChosen, Spends}
 use Rattle.gpu_block.proofs.Indexing.{placed_all}

@@ -1,5 +1,5 @@
 use Rattle.std.proofs.Common.{ap, sym, subst, List}
-use Rattle.gpu_block.specs.declared.chunk.Chunk.{Chunk}
+use Rattle.gpu_chain.specs.declared.chunk.Chunk.{Chunk}
 use Rattle.gpu_block.specs.Chunks.{HoldsNumber}
 use Rattle.gpu_block.specs.Indexed.{Held}
 use Rattle.gpu_block.proofs.Holding.{around_not_held}

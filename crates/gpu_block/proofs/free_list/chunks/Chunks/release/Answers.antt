@@ -1,5 +1,5 @@
 use Rattle.std.proofs.Common.{ap, sym, subst, List, arith}
-use Rattle.gpu_block.specs.declared.chunk.Chunk.{Chunk}
+use Rattle.gpu_chain.specs.declared.chunk.Chunk.{Chunk}
 use Rattle.gpu_block.specs.Indexed.{Held, IsPieceAt}
 use Rattle.gpu_block.proofs.Holding.{piece_counted}
 use Rattle.gpu_block.proofs.free_list.chunks.Chunks.release.Goals as goal

@@ -1,7 +1,7 @@
 use Rattle.std.proofs.Common.{◌∙◌, ap, sym, subst, List, ℕ}
-use Rattle.gpu_block.specs.declared.chunk.Chunk.{Chunk}
+use Rattle.gpu_chain.specs.declared.chunk.Chunk.{Chunk}
 use Rattle.gpu_block.specs.Chunks.{HoldsNumber, IsNamedAt}
-use Rattle.gpu_block.specs.Chain.{HasNumber}
+use Rattle.gpu_chain.specs.Chain.{HasNumber}
 use Rattle.gpu_block.specs.Indexed.{Held, IsPieceOf}
 use Rattle.gpu_block.proofs.Holding.{named_listed, named_live, named_at}
 use Rattle.gpu_block.proofs.free_list.chunks.Chunks.rename.Goals as goal

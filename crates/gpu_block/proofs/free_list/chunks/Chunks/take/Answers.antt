@@ -1,7 +1,7 @@
 use Rattle.std.proofs.Common.{◌∙◌, ◌+◌, ◌-◌, ap, sym, subst, List, length, arith, refl}
-use Rattle.gpu_block.specs.declared.chunk.Chunk.{Chunk}
-use Rattle.gpu_block.specs.Chunks.{AreDistinct}
-use Rattle.gpu_block.specs.Chain.{IsSplit, IsFilled}
+use Rattle.gpu_chain.specs.declared.chunk.Chunk.{Chunk}
+use Rattle.gpu_chain.specs.ChunkList.{AreDistinct}
+use Rattle.gpu_chain.specs.Chain.{IsSplit, IsFilled}
 use Rattle.gpu_block.specs.Indexed.{Held, IsChosen, IsGapOf, gaps_between}
 use Rattle.gpu_values.specs.declared.allocation_type.AllocationType.TheVariants.{Free, Linear}
 use Rattle.gpu_block.proofs.Indexing.{few_gaps, same_length}
