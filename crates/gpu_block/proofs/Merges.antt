@@ -2,6 +2,7 @@
 use Rattle.std.proofs.Common.{◌≡◌, ℕ, ◌+◌, ◌<◌, ◌≤◌, List, [], ◌∷◌, ◌++◌, length, refl, sym, ap, ◌∙◌, subst, arith, inl, inr, Option, Some, None}
 use Rattle.std.specs.List.{AllPairs, sum_by}
 use Rattle.std.proofs.lemmas.List.{length-append, append_assoc, append-nil}
+use Rattle.std.proofs.lemmas.List.Quantifiers.{all_pairs_remove}
 use Rattle.gpu_chain.specs.declared.chunk.Chunk.{Chunk}
 use Rattle.gpu_chain.specs.declared.chain.Beside.{Beside}
 use Rattle.gpu_chain.specs.declared.chain.Around.{Around}
@@ -12,7 +13,7 @@ use Rattle.gpu_chain.specs.ChunkList.{IsFree, Covers, AreDistinct, filled_chunk,
 use Rattle.gpu_block.specs.Chunks.{NotBothFree, NoneTouch, last_kind, extents_of, extent}
 use Rattle.gpu_chain.specs.Chain.{Name, HasNumber, IsReleased, beside, last_beside, first_beside}
 use Rattle.gpu_gap_index.specs.Index.{Before, HasKeyAt, HasNoKey, IsRemoved, IsInserted}
-use Rattle.gpu_block.specs.Indexed.{gap_between, kind_or, gap_first, gaps_between, HasSame, IsListed, IsPieceAt, Forgets, ForgetsBy, MayForget, MayForgetBy, first_of, first_by}
+use Rattle.gpu_block.specs.Indexed.{gap_between, kind_or, gap_first, gaps_between, HasSame, IsListed, IsPieceAt, Forgets, ForgetsBy, IsGapBeside, MayForget, MayForgetBy, first_of, first_by}
 use Rattle.gpu_block.proofs.Tiling.{around, last_kind-push}
 use Rattle.gpu_block.proofs.Views.{free_or_live, extents-free, extents-append, extents-split, contains_mid}
 use Rattle.gpu_block.proofs.Edits.{snoc, join_front-push, join_kinds-free, join_kinds-live}
@@ -21,6 +22,26 @@ use Rattle.gpu_chain.proofs.Listing.{stands_once}
 use Rattle.gpu_block.proofs.Indexing.{free_is, first_free, gaps_append, gaps_free, gaps_live, after_same, before_same, few_gaps, other_starts, same_member, same_back, same_length, key_there, no_key, same_less, same_more, same_to}
 
 -- ---- what is forgotten of the index
+
+ordered_by : (k : AllocationType) (b : Beside) (gs mid : List Gap) → AllPairs Before gs → ForgetsBy k b gs mid → AllPairs Before mid
+ordered_by Free b gs mid o h = subst (λ (xs : List Gap). AllPairs Before xs) (sym h.is) (all_pairs_remove Before gs h.place h.within o)
+ordered_by Linear b gs mid o h = subst (λ (xs : List Gap). AllPairs Before xs) (sym h) o
+ordered_by NonLinear b gs mid o h = subst (λ (xs : List Gap). AllPairs Before xs) (sym h) o
+
+-- what is left is in order
+pub forgets_ordered : (o : Option Beside) (gs mid : List Gap) → AllPairs Before gs → Forgets o gs mid → AllPairs Before mid
+forgets_ordered None gs mid o h = subst (λ (xs : List Gap). AllPairs Before xs) (sym h) o
+forgets_ordered (Some b) gs mid o h = ordered_by b.kind b gs mid o h
+
+self_by : (k : AllocationType) (b : Beside) (gs : List Gap) → (IsFree k → ⊥) → ForgetsBy k b gs gs
+self_by Free b gs l = absurd (l tt)
+self_by Linear b gs l = refl
+self_by NonLinear b gs l = refl
+
+-- where no gap stands, nothing is forgotten
+pub forgets_self : (o : Option Beside) (gs : List Gap) → (IsGapBeside o → ⊥) → Forgets o gs gs
+forgets_self None gs l = refl
+forgets_self (Some b) gs l = self_by b.kind b gs l
 
 -- beside a chunk stands what these gaps say: none, or one
 pub record GoesBy (o : Option Beside) (gone : List Gap) : Type 0 where

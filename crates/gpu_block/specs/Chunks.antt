@@ -1,5 +1,5 @@
 -- The sorted list of chunks behind a block: free chunks are its gaps, the others its extents.
-use Rattle.std.specs.Prelude.{◌≡◌, ◌≢◌, ℕ, ◌+◌, ◌-◌, ◌^◌, ◌<◌, ◌≤◌, ◌⊎◌, zero, suc, length, ◌++◌, List, [], ◌∷◌, All, Option, Some, None, String, string_bytes, Bool, false, ◌==◌}
+use Rattle.std.specs.Prelude.{◌≡◌, ℕ, ◌+◌, ◌-◌, ◌^◌, ◌<◌, ◌≤◌, ◌⊎◌, zero, suc, length, ◌++◌, List, [], ◌∷◌, All, Option, Some, None, String, string_bytes, Bool, false, ◌==◌}
 use Rattle.std.specs.declared.alloc.Global.{Global}
 use Rattle.std.specs.List.{filter_map}
 use Rattle.gpu_values.specs.declared.allocation_type.AllocationType.{AllocationType}

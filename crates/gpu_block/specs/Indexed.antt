@@ -15,7 +15,7 @@ use Rattle.gpu_chain.specs.declared.chain.Around.{Around}
 use Rattle.gpu_chain.specs.Chain.{IsAround, StandsAt}
 use Rattle.gpu_gap_index.specs.declared.cost.Cost.{Cost}
 use Rattle.gpu_gap_index.specs.Cost.{digits}
-use Rattle.gpu_gap_index.specs.Index.{IsRemoved, HasKeyAt}
+use Rattle.gpu_gap_index.specs.Index.{IsRemoved, IsInserted, HasKeyAt}
 
 -- the entry of a free chunk that stands between these kinds
 abbrev pub gap_between : AllocationType → Chunk → AllocationType → Gap
@@ -124,6 +124,24 @@ MayForgetBy NonLinear b gs = Unit {0}
 abbrev pub MayForget : Option Beside → List Gap → Type 0
 MayForget None gs = Unit {0}
 MayForget (Some b) gs = MayForgetBy b.kind b gs
+
+-- a gap came into the index, and what stood beside it went from there if it was one
+pub record IsPut (beside : Option Beside) (gap : Gap) (old new : List Gap) : Type 0 where
+  pub rest : List Gap
+  pub gone : Forgets beside old rest
+  pub put : IsInserted rest gap new
+
+-- the same with what stood on either side
+pub record IsJoined (before after : Option Beside) (gap : Gap) (old new : List Gap) : Type 0 where
+  pub one : List Gap
+  pub two : List Gap
+  pub first : Forgets before old one
+  pub second : Forgets after one two
+  pub put : IsInserted two gap new
+
+abbrev pub IsGapBeside : Option Beside → Type 0
+IsGapBeside None = ⊥
+IsGapBeside (Some b) = IsFree b.kind
 
 abbrev pub beside_kind : Option Beside → AllocationType
 beside_kind None = Free

@@ -1,11 +1,12 @@
 //! The changes of the chunks of a block: each is one of the chain, and beside it one of the index.
 
-ghost use Rattle.std.specs.Prelude.{◌≡◌, ◌≢◌, ℕ, ◌+◌, ◌-◌, ◌^◌, ◌<◌, ◌≤◌, length, ◌++◌, ◌∷◌};
-ghost use Rattle.std.specs.Prelude.{List};
+ghost use Rattle.std.specs.Prelude.{◌≡◌, ◌≢◌, ℕ, ◌+◌, ◌-◌, ◌^◌, ◌<◌, ◌≤◌, length, ◌++◌, ◌∷◌, List, IsTrue, ◌↔◌};
 ghost use Rattle.gpu_chain.specs.declared.chunk.Chunk.{Chunk};
 ghost use Rattle.gpu_block.specs.Chunks.{last_kind, extents_of};
 ghost use Rattle.gpu_chain.specs.Chain.{HasNumber, HasNoNumber, IsSplit, IsFilled, IsReleased};
-ghost use Rattle.gpu_block.specs.Indexed.{IsListed, IsGapOf, gap_between, kind_or, Forgets, beside_kind, MayForget, first_of, IsPieceAt};
+ghost use Rattle.gpu_block.specs.Indexed.{IsListed, IsGapOf, gap_between, kind_or, Forgets, beside_kind, IsGapBeside, MayForget, IsPut, IsJoined, first_of, IsPieceAt};
+ghost use Rattle.gpu_gap_index.specs.declared.index.Gap.{Gap};
+ghost use Rattle.gpu_gap_index.specs.Index.{HasNoKey};
 
 use super::search::Found;
 use gpu_chain::{Around, Beside, Chain};
@@ -39,15 +40,15 @@ pub fn take_front(
     let _size = chain.size();
     let gap = found.gap;
     chain.split_front(gap.number, number, taken, found.offset, kind, name);
-    index.remove(gap.length, gap.start);
-    let _size = chain.size();
-    index.insert(Gap {
+    index.in_order();
+    let rest = Gap {
         length: gap.length - taken,
         start: gap.start + taken,
         number: gap.number,
         before: kind,
         after: gap.after,
-    });
+    };
+    index.replace(gap.length, gap.start, rest);
 }
 
 /// Gives the whole found gap to a piece. It takes no memory.
@@ -82,6 +83,53 @@ fn forget(index: &mut GapIndex, beside: Option<Beside>)
         if is_free(beside.kind) {
             index.remove(beside.size, beside.start);
         }
+    }
+}
+
+/// Whether what stands there is a gap.
+fn is_gap(beside: Option<Beside>) -> bool
+    ensures { IsTrue result ↔ IsGapBeside beside }
+{
+    match beside {
+        Some(beside) => is_free(beside.kind),
+        None => false,
+    }
+}
+
+/// Puts a gap into the index, in the place of what stands beside it if that is one.
+fn put(index: &mut GapIndex, beside: Option<Beside>, gap: Gap)
+    requires there { MayForget beside index.old.gaps }
+    requires fresh { (rest : List Gap) → Forgets beside index.old.gaps rest → HasNoKey rest gap.length gap.start }
+    requires room { (rest : List Gap) → Forgets beside index.old.gaps rest → length rest < index.old.room }
+    ensures gaps { IsPut beside gap index.old.gaps index.new.gaps }
+    ensures room { index.new.room ≡ index.old.room }
+{
+    match beside {
+        Some(beside) => {
+            if is_free(beside.kind) {
+                index.replace(beside.size, beside.start, gap);
+            } else {
+                index.insert(gap);
+            }
+        }
+        None => index.insert(gap),
+    }
+}
+
+/// Puts a gap into the index, in the place of the gaps on both sides of it.
+fn put_joined(index: &mut GapIndex, around: Around, gap: Gap)
+    requires before { MayForget around.before index.old.gaps }
+    requires after { (one : List Gap) → Forgets around.before index.old.gaps one → MayForget around.after one }
+    requires fresh { (one two : List Gap) → Forgets around.before index.old.gaps one → Forgets around.after one two → HasNoKey two gap.length gap.start }
+    requires room { (one two : List Gap) → Forgets around.before index.old.gaps one → Forgets around.after one two → length two < index.old.room }
+    ensures gaps { IsJoined around.before around.after gap index.old.gaps index.new.gaps }
+    ensures room { index.new.room ≡ index.old.room }
+{
+    if is_gap(around.after) {
+        forget(index, around.before);
+        put(index, around.after, gap);
+    } else {
+        put(index, around.before, gap);
     }
 }
 
@@ -150,8 +198,6 @@ pub fn release(
     chain.release(around.here.number, empty);
     let _size = chain.size();
     index.in_order();
-    forget(index, around.before);
-    index.in_order();
-    forget(index, around.after);
-    index.insert(gap_at(chain, first_number(around), cost));
+    let gap = gap_at(chain, first_number(around), cost);
+    put_joined(index, around, gap);
 }
