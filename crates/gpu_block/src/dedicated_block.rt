@@ -6,9 +6,8 @@ ghost use Rattle.gpu_values.specs.Refusal.{refusal_of, internal};
 ghost use Rattle.gpu_values.specs.declared.error.AllocationError.TheVariants.{HostOutOfMemory};
 
 use crate::Leaks;
-use gpu_chain::Chunk;
 use crate::rows::rows_of;
-use gpu_chain::Walk;
+use gpu_chain::{Chunk, Walk};
 use gpu_values::{AllocationError, AllocationReport, AllocationType, Result, internal_fault};
 use std::alloc::Global;
 use std::marker::Model;

@@ -12,9 +12,9 @@ mod place;
 mod search;
 
 use crate::Leaks;
-use gpu_gap_index::Cost;
 use crate::rows::rows_of;
 use chunks::{Chunks, taken_bytes};
+use gpu_gap_index::Cost;
 use gpu_values::{AllocationError, AllocationReport, AllocationType, Result, internal_fault};
 use place::Wanted;
 use search::Found;

@@ -7,8 +7,7 @@ ghost use Rattle.std.specs.Iterator.{YieldsFirst, item_count};
 ghost use Rattle.gpu_block.specs.Chunks.{extent, extents_of};
 ghost use Rattle.gpu_block.specs.Leak.{leak_text, block_lines, piece_text, chunk_text, dedicated_text, number_line, size_line, start_line, kind_line, name_line, kind_name};
 
-use gpu_chain::{Chunk, is_free};
-use gpu_chain::Walk;
+use gpu_chain::{Chunk, Walk, is_free};
 use gpu_values::{AllocationType, Result};
 use std::alloc::Global;
 use std::fmt;

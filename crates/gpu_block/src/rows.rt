@@ -6,8 +6,7 @@ ghost use Rattle.gpu_block.specs.Chunks.{IsChunk, extents_of};
 ghost use Rattle.gpu_values.specs.Report.{row_of};
 ghost use Rattle.gpu_block.specs.Rows.{extent_row};
 
-use gpu_chain::{Chunk, is_free};
-use gpu_chain::Walk;
+use gpu_chain::{Chunk, Walk, is_free};
 use gpu_values::AllocationReport;
 use std::alloc::{AllocError, Global};
 

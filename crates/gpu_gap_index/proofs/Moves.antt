@@ -93,18 +93,18 @@ place_rest xs l s from to within place =
     (λ (lt : from < to). rw (place_later from to lt) (record {
       within = let w = place.within in omega arith;
       below = λ k d h. ⊎_elim
-      (λ (out : k < from). subst (λ (a : Gap). IsBefore a l s) (sym (get_or-remove_below xs from d k out within)) (place.below k d (omega arith)))
-      (λ (mid : from ≤ k). subst (λ (a : Gap). IsBefore a l s) (sym (get_or-remove_above xs from d k mid within)) (place.below (k + 1) d (omega arith)))
-      (cases_lt k from);
+          (λ (out : k < from). subst (λ (a : Gap). IsBefore a l s) (sym (get_or-remove_below xs from d k out within)) (place.below k d (omega arith)))
+          (λ (mid : from ≤ k). subst (λ (a : Gap). IsBefore a l s) (sym (get_or-remove_above xs from d k mid within)) (place.below (k + 1) d (omega arith)))
+          (cases_lt k from);
       from = λ k d le h b. place.from (k + 1) d (omega arith) (omega arith) (subst (λ (a : Gap). IsBefore a l s) (get_or-remove_above xs from d k (omega arith) within) b);
     }))
     (λ (le_to : to ≤ from). rw (place_earlier from to le_to) (record {
       within = omega arith;
       below = λ k d h. subst (λ (a : Gap). IsBefore a l s) (sym (get_or-remove_below xs from d k (omega arith) within)) (place.below k d h);
       from = λ k d le h b. ⊎_elim
-      (λ (out : k < from). place.from k d le (omega arith) (subst (λ (a : Gap). IsBefore a l s) (get_or-remove_below xs from d k out within) b))
-      (λ (mid : from ≤ k). place.from (k + 1) d (omega arith) (omega arith) (subst (λ (a : Gap). IsBefore a l s) (get_or-remove_above xs from d k mid within) b))
-      (cases_lt k from);
+          (λ (out : k < from). place.from k d le (omega arith) (subst (λ (a : Gap). IsBefore a l s) (get_or-remove_below xs from d k out within) b))
+          (λ (mid : from ≤ k). place.from (k + 1) d (omega arith) (omega arith) (subst (λ (a : Gap). IsBefore a l s) (get_or-remove_above xs from d k mid within) b))
+          (cases_lt k from);
     }))
     (cases_lt from to)
 

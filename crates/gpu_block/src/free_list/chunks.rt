@@ -11,11 +11,8 @@ ghost use Rattle.gpu_block.specs.Indexed.{IsChosen, chosen_at, Spends, IsPieceAt
 use super::edit::{release, take_front, take_whole};
 use super::place::Wanted;
 use super::search::{Found, find};
-use gpu_chain::{Around, Chain};
-use gpu_chain::{Chunk, is_free};
-use gpu_gap_index::Cost;
-use gpu_gap_index::{Gap, GapIndex};
-use gpu_chain::Walk;
+use gpu_chain::{Around, Chain, Chunk, Walk, is_free};
+use gpu_gap_index::{Cost, Gap, GapIndex};
 use gpu_values::AllocationType;
 use std::alloc::{AllocError, Global};
 use std::marker::Model;

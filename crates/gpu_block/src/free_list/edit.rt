@@ -9,10 +9,8 @@ ghost use Rattle.gpu_gap_index.specs.declared.index.Gap.{Gap};
 ghost use Rattle.gpu_gap_index.specs.Index.{HasNoKey};
 
 use super::search::Found;
-use gpu_chain::{Around, Beside, Chain};
-use gpu_chain::is_free;
-use gpu_gap_index::Cost;
-use gpu_gap_index::{Gap, GapIndex};
+use gpu_chain::{Around, Beside, Chain, is_free};
+use gpu_gap_index::{Cost, Gap, GapIndex};
 use gpu_values::AllocationType;
 
 /// Gives the front of the found gap to a piece. There is room for it, so no memory is taken.

@@ -8,8 +8,7 @@ ghost use Rattle.gpu_gap_index.specs.Index.{Before};
 ghost use Rattle.gpu_block.specs.Indexed.{FitsGap, NoGapFits, IsFirstFit, IsPlaced, ArePlaced, is_long};
 
 use super::place::{Wanted, place_between};
-use gpu_gap_index::Cost;
-use gpu_gap_index::{Gap, GapIndex};
+use gpu_gap_index::{Cost, Gap, GapIndex};
 
 /// A gap that serves, and the piece's offset in it.
 #[derive(Clone, Copy)]
