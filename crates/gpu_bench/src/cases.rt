@@ -1,4 +1,6 @@
-//! What is timed.
+//! What is timed among many pieces.
+
+ghost use Rattle.std.specs.Prelude.{◌≤◌, ◌<◌, ◌^◌};
 
 use crate::draw::Draw;
 use crate::field::Field;
@@ -11,37 +13,35 @@ const MB: u64 = 1_048_576;
 
 const PIECES: u64 = 10_000;
 
+/// Takes mixed pieces of at most that size.
 fn take_mixed(
     field: &mut Field,
     draw: &mut Draw,
-    count: u64,
+    most: u64,
     numbers: &mut Vec<Option<NonZeroU64>>,
-) -> Result<()> {
-    for _ in 0..count {
-        numbers.push(field.take(draw.mixed()))?;
+) -> Result<()>
+    requires some { 64 ≤ most }
+    requires small { most < 2 ^ 32 }
+{
+    for _ in 0..PIECES {
+        numbers.push(field.take(draw.mixed(most)))?;
     }
     Ok(())
-}
-
-fn give_all_back(field: &mut Field, numbers: &[Option<NonZeroU64>]) {
-    for number in numbers {
-        field.give_back(*number);
-    }
 }
 
 /// Fills a block with mixed pieces, and gives all back, in the order in which they came.
 pub fn fill_and_free(rt: &HostRuntime, rounds: u64) -> Result<()> {
     let mut draw = Draw::new(1);
-    let mut field = Field::new(rt.alloc(), 512 * MB, 1)?;
+    let mut field = Field::new(rt.alloc(), 256 * MB, 1)?;
     let mut taking = Duration::ZERO;
     let mut giving = Duration::ZERO;
     for _ in 0..rounds {
         let mut numbers = Vec::new(rt.alloc());
         let start = Instant::now(rt)?;
-        take_mixed(&mut field, &mut draw, PIECES, &mut numbers)?;
+        take_mixed(&mut field, &mut draw, 32_768, &mut numbers)?;
         taking = taking.saturating_add(start.elapsed(rt)?);
         let start = Instant::now(rt)?;
-        give_all_back(&mut field, &numbers);
+        field.give_all_back(&numbers);
         giving = giving.saturating_add(start.elapsed(rt)?);
     }
     show_tally(rt, "fill and free", &field)?;
@@ -55,7 +55,7 @@ fn exchange(field: &mut Field, draw: &mut Draw, numbers: &mut Vec<Option<NonZero
     let place = draw.between(0, PIECES - 1) as usize;
     if let Some(number) = numbers.get_mut(place) {
         field.give_back(*number);
-        *number = field.take(draw.mixed());
+        *number = field.take(draw.mixed(65_536));
     }
 }
 
@@ -64,7 +64,7 @@ pub fn churn(rt: &HostRuntime, pages: u64, turns: u64) -> Result<()> {
     let mut draw = Draw::new(2);
     let mut field = Field::new(rt.alloc(), 512 * MB, pages)?;
     let mut numbers = Vec::new(rt.alloc());
-    take_mixed(&mut field, &mut draw, PIECES, &mut numbers)?;
+    take_mixed(&mut field, &mut draw, 65_536, &mut numbers)?;
     let start = Instant::now(rt)?;
     for _ in 0..turns {
         exchange(&mut field, &mut draw, &mut numbers);

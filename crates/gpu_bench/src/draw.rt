@@ -36,11 +36,13 @@ impl Draw {
         low + self.source.next_u64() % (high - low + 1)
     }
 
-    /// A piece of 64 bytes to 64 KB, aligned to at most 256 bytes, of either kind.
-    pub fn mixed(&mut self) -> Asked
+    /// A piece of 64 bytes to `most`, aligned to at most 256 bytes, of either kind.
+    pub fn mixed(&mut self, most: u64) -> Asked
+        requires some { 64 ≤ most }
+        requires small { most < 2 ^ 32 }
         ensures { result.kind ≢ AllocationType.Free }
     {
-        let size = self.between(64, 65_536);
+        let size = self.between(64, most);
         let alignment = 1u64 << self.between(0, 8);
         let kind = if self.between(0, 1) == 0 {
             AllocationType::Linear

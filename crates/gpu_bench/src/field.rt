@@ -87,6 +87,13 @@ impl Field {
         }
     }
 
+    /// Gives pieces back, in that order.
+    pub fn give_all_back(&mut self, numbers: &[Option<NonZeroU64>]) {
+        for number in numbers {
+            self.give_back(*number);
+        }
+    }
+
     pub fn tally(&self) -> Tally {
         self.tally
     }

@@ -29,18 +29,12 @@ fn open_gaps(
     Ok(())
 }
 
-fn give_all_back(field: &mut Field, numbers: &[Option<NonZeroU64>]) {
-    for number in numbers {
-        field.give_back(*number);
-    }
-}
-
 /// A field with so many gaps of 64 bytes to 4 KB between pieces, and one behind all of them.
 fn field_of_gaps(rt: &HostRuntime, draw: &mut Draw, count: u64) -> Result<Field> {
     let mut field = Field::new(rt.alloc(), count.wrapping_mul(8_192), 1)?;
     let mut gone = Vec::new(rt.alloc());
     open_gaps(&mut field, draw, count, &mut gone)?;
-    give_all_back(&mut field, &gone);
+    field.give_all_back(&gone);
     Ok(field)
 }
 
@@ -68,7 +62,7 @@ pub fn beside_gaps(rt: &HostRuntime, count: u64, turns: u64) -> Result<()> {
         take_batch(&mut field, &mut draw, &mut numbers)?;
         taking = taking.saturating_add(start.elapsed(rt)?);
         let start = Instant::now(rt)?;
-        give_all_back(&mut field, &numbers);
+        field.give_all_back(&numbers);
         giving = giving.saturating_add(start.elapsed(rt)?);
     }
     show_tally(
@@ -139,7 +133,7 @@ fn field_of_halves(rt: &HostRuntime, pages: u64, count: u64) -> Result<Field> {
         let _ = field.take(half);
         gone.push(field.take(half))?;
     }
-    give_all_back(&mut field, &gone);
+    field.give_all_back(&gone);
     Ok(field)
 }
 
