@@ -3,9 +3,9 @@
 ghost use Rattle.std.specs.Prelude.{◌≢◌};
 
 use crate::draw::{Asked, Draw};
+use crate::error::Result;
 use crate::field::Field;
 use crate::show::{show_tally, show_time};
-use anyhow::Result;
 use gpu_values::AllocationType;
 use std::num::NonZeroU64;
 use std::time::{Duration, Instant};

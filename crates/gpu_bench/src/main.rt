@@ -4,11 +4,12 @@
 
 mod cases;
 mod draw;
+mod error;
 mod field;
 mod gaps;
 mod show;
 
-use anyhow::Result;
+use crate::error::Result;
 use cases::{churn, fill_and_free};
 use gaps::{beside_gaps, misaligned, never_fits, of_another_page, too_long};
 use std::env;
