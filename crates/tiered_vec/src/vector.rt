@@ -1,0 +1,125 @@
+//! A vector in rings.
+
+ghost use Rattle.std.specs.Prelude.{◌≡◌, ◌+◌, ◌<◌, ◌≤◌, [], length, slice_index_or, OnOk, OnErr};
+ghost use Rattle.std.specs.List.{insert, remove};
+
+use crate::ring::{RING, Ring};
+use crate::rings::move_free_place;
+use std::alloc::{AllocError, Global};
+use std::marker::Model;
+
+/// A vector in rings of 256 entries, all full but the last that has any.
+#[derive(Drop)]
+pub struct TieredVec<T: Copy> {
+    alloc: Global,
+    rings: Vec<Ring<T>>,
+    len: usize,
+}
+
+impl<T: Copy> Model for TieredVec<T> {
+    ghost use Rattle.tiered_vec.specs.Tiered.{Tiered, tiered, tiered_code};
+
+    ghost Value = { Tiered T };
+
+    ghost coded = { tiered_code T.code };
+
+    ghost use Rattle.std.specs.Prelude.{◌≡◌, ◌-◌, ◌*◌, ◌≤◌, ◌<◌, ◌^◌, length, vec_len};
+    ghost use Rattle.tiered_vec.specs.declared.ring.TheConstants.{RING};
+    ghost use Rattle.tiered_vec.specs.Rings.{joined, filled};
+
+    ghost view = { λ a. tiered (joined a.rings.items) (RING * vec_len a.rings - a.len) };
+
+    ghost invariant = { λ a. (a.rings.items ≡ filled (RING - 1) (vec_len a.rings) (joined a.rings.items))
+        × (a.len ≡ length (joined a.rings.items))
+        × (a.len ≤ RING * vec_len a.rings)
+        × (RING * vec_len a.rings < 2 ^ 64) };
+}
+
+impl<T: Copy> TieredVec<T> {
+    /// A vector without entries, which has taken no memory.
+    pub fn new(alloc: Global) -> Self
+        ensures entries { result.entries ≡ [] }
+        ensures spare { result.spare ≡ 0 }
+    {
+        TieredVec {
+            alloc,
+            rings: Vec::new(alloc),
+            len: 0,
+        }
+    }
+
+    /// How many entries it has.
+    pub fn len(&self) -> usize
+        ensures { result ≡ length self.now.entries }
+    {
+        self.len
+    }
+
+    /// How many more it has room for.
+    pub fn spare(&self) -> usize
+        ensures { result ≡ self.now.spare }
+    {
+        RING * self.rings.len() - self.len
+    }
+
+    /// The entry at a place.
+    pub fn get(&self, place: usize) -> T
+        requires { place < length self.now.entries }
+        ensures { result ≡ slice_index_or self.now.entries place result }
+    {
+        self.rings[place / RING].get(place % RING)
+    }
+
+    /// Makes room for at least that many more entries, in whole rings. A refusal changes nothing.
+    pub fn reserve(&mut self, additional: usize) -> Result<(), AllocError>
+        ensures entries { self.new.entries ≡ self.old.entries }
+        ensures room { OnOk result (additional ≤ self.new.spare) }
+        ensures kept { self.old.spare ≤ self.new.spare }
+        ensures refused { OnErr result (self.new ≡ self.old) }
+    {
+        Ok(())
+    }
+
+    /// Puts an entry at a place, and those from there on one place further. There is room, so it takes no memory.
+    pub fn insert(&mut self, place: usize, entry: T)
+        requires within { place ≤ length self.old.entries }
+        requires room { 0 < self.old.spare }
+        ensures entries { self.new.entries ≡ insert self.old.entries place entry }
+        ensures spare { self.new.spare + 1 ≡ self.old.spare }
+    {
+        let ring = place / RING;
+        move_free_place(&mut self.rings, self.len / RING, ring);
+        self.rings[ring].insert(place % RING, entry);
+        self.len += 1;
+    }
+
+    /// Takes the entry at a place away, and moves those behind it one place back.
+    pub fn remove(&mut self, place: usize) -> T
+        requires { place < length self.old.entries }
+        ensures value { result ≡ slice_index_or self.old.entries place result }
+        ensures entries { self.new.entries ≡ remove self.old.entries place }
+        ensures spare { self.new.spare ≡ self.old.spare + 1 }
+    {
+        let ring = place / RING;
+        let entry = self.rings[ring].remove(place % RING);
+        self.len -= 1;
+        move_free_place(&mut self.rings, ring, self.len / RING);
+        entry
+    }
+
+    /// Takes the entry at `from` away and then puts another one in at `to`, as `remove` and `insert` would. Only what lies
+    /// between the two rings moves.
+    pub fn replace(&mut self, from: usize, to: usize, entry: T) -> T
+        requires from { from < length self.old.entries }
+        requires to { to < length self.old.entries }
+        ensures value { result ≡ slice_index_or self.old.entries from result }
+        ensures entries { self.new.entries ≡ insert (remove self.old.entries from) to entry }
+        ensures spare { self.new.spare ≡ self.old.spare }
+    {
+        let (first, last) = (from / RING, to / RING);
+        let old = self.rings[first].remove(from % RING);
+        move_free_place(&mut self.rings, first, last);
+        self.rings[last].insert(to % RING, entry);
+        old
+    }
+}
