@@ -1,6 +1,7 @@
 -- Entries dealt to rings: what each ring holds, and what the rings hold after one of them changed.
-use Rattle.std.proofs.Common.{◌≡◌, ◌≢◌, ℕ, zero, suc, ◌+◌, ◌*◌, ◌-◌, ◌<◌, ◌≤◌, List, [], ◌∷◌, ◌++◌, length, take, drop, get_or, set, refl, sym, ap, subst, ◌∙◌, arith}
+use Rattle.std.proofs.Common.{◌≡◌, ◌≢◌, ℕ, zero, suc, ◌+◌, ◌*◌, ◌/◌, ◌%◌, ◌<◌, ◌≤◌, List, [], ◌∷◌, ◌++◌, length, take, drop, get_or, set, refl, sym, ap, ◌∙◌, add-one, arith}
 use Rattle.std.proofs.lemmas.List.{take-append-drop, length-take, length-drop, length-append, drop-drop, get_or-take, get_or-drop, get_or_default, get_or-set_other}
+use Rattle.std.proofs.lemmas.List.Edits.{length-insert, length-remove}
 use Rattle.std.specs.List.{insert, remove}
 use Rattle.tiered_vec.specs.Rings.{joined, filled, filled_around}
 use Rattle.tiered_vec.proofs.Edits.{take_one_more, drop_one_more, take_of_remove, drop_of_remove, take_of_insert, drop_of_insert, take_before_remove, drop_before_remove, take_before_insert, drop_before_insert, same_fronts, same_lasts, take_all, drop_all}
@@ -51,6 +52,20 @@ module _ {X : Type 0} where
   filled_as_around v (suc g) (suc n) xs h l =
       let k : length (drop (suc v) xs) < suc v * suc g = few v (suc g) xs (omega arith) l in
       ap (λ l. take (suc v) xs ∷ l) (filled_as_around v g n (drop (suc v) xs) (omega arith) k)
+
+  -- ---- more rings, and fewer
+
+  pub another_ring : (v n : ℕ) (xs : List X) → length xs ≤ suc v * n → filled v n xs ++ [] ∷ [] ≡ filled v (suc n) xs
+  another_ring v zero [] h = refl
+  another_ring v zero (x ∷ xs) h = absurd (omega arith)
+  another_ring v (suc n) xs h =
+      let l : length (drop (suc v) xs) ≤ suc v * n = omega (arith, length-drop (suc v) xs) in
+      ap (λ l. take (suc v) xs ∷ l) (another_ring v n (drop (suc v) xs) l)
+
+  pub fewer_rings : (v n m : ℕ) (xs : List X) → n ≤ m → take n (filled v m xs) ≡ filled v n xs
+  fewer_rings v zero m xs h = refl
+  fewer_rings v (suc n) zero xs h = absurd (omega arith)
+  fewer_rings v (suc n) (suc m) xs h = ap (λ l. take (suc v) xs ∷ l) (fewer_rings v n m (drop (suc v) xs) (omega arith))
 
   -- ---- one ring
 
@@ -173,6 +188,29 @@ module _ {X : Type 0} where
       let ys = drop (suc v * g) xs in
       omega (arith, ap (λ l. length (get_or l g [])) e, ap length (ring-before v g n xs h), length-take (suc v) ys, length-drop (suc v * g) xs)
 
+  -- ---- how many entries the rings have
+
+  pub few_filled : (v n : ℕ) (xs : List X) → length (joined (filled v n xs)) ≤ suc v * n
+  few_filled v zero xs = omega arith
+  few_filled v (suc n) xs =
+      let ys = joined (filled v n (drop (suc v) xs)) in
+      omega (arith, few_filled v n (drop (suc v) xs), length-append (take (suc v) xs) ys, length-take (suc v) xs)
+
+  pub few_around : (v g n : ℕ) (xs : List X) → g < n → length (joined (filled_around v g n xs)) < suc v * n
+  few_around v g zero xs h = absurd (omega arith)
+  few_around v zero (suc n) xs h =
+      let ys = joined (filled v n (drop v xs)) in
+      omega (arith, few_filled v n (drop v xs), length-append (take v xs) ys, length-take v xs)
+  few_around v (suc g) (suc n) xs h =
+      let ys = joined (filled_around v g n (drop (suc v) xs)) in
+      omega (arith, few_around v g n (drop (suc v) xs) (omega arith), length-append (take (suc v) xs) ys, length-take (suc v) xs)
+
+  pub few_in : (v n : ℕ) (rs : List (List X)) → rs ≡ filled v n (joined rs) → length (joined rs) ≤ suc v * n
+  few_in v n rs e = omega (arith, few_filled v n (joined rs), ap (λ l. length (joined l)) e)
+
+  pub few_in_around : (v g n : ℕ) (rs : List (List X)) → g < n → rs ≡ filled_around v g n (joined rs) → length (joined rs) < suc v * n
+  few_in_around v g n rs h e = omega (arith, few_around v g n (joined rs) h, ap (λ l. length (joined l)) e)
+
   -- ---- the same, as code does it: what it reads and what it writes
 
   pub pulled_at : (v k j n : ℕ) (rs : List (List X)) (xs : List X) (e : X) (next rest at new : List X) → j ≡ suc k → j < n → rs ≡ filled_around v k n xs
@@ -206,3 +244,120 @@ module _ {X : Type 0} where
       ∙ (ap (λ l. set (set (filled_around v (suc k) n xs) k front) j l) t
       ∙ (ap (λ i. set (set (filled_around v (suc k) n xs) k front) i (e ∷ get_or (filled_around v (suc k) n xs) (suc k) [])) is
       ∙ pushed v k n xs e front (omega arith) y m))
+
+  -- a read of the ring k of rings that are filled with xs, at the place p in it
+  pub record Reads (v k p n i : ℕ) (rs : List (List X)) (xs at : List X) : Type 0 where
+    pub from : rs ≡ filled v n xs
+    pub read : at ≡ get_or rs k at
+    pub ring : k < n
+    pub place : p ≤ v
+    pub whole : i ≡ suc v * k + p
+    pub within : i < length xs
+
+  reads : (v k p n i : ℕ) (rs : List (List X)) (xs at : List X) → Reads v k p n i rs xs at → at ≡ get_or (filled v n xs) k []
+  reads v k p n i rs xs at r =
+      let len : length rs ≡ n = ap length r.from ∙ length-filled v n xs in
+      let lt : k < length rs = omega (arith, len, r.ring) in
+      r.read ∙ (get_or_default rs k at [] lt ∙ ap (λ l. get_or l k []) r.from)
+
+  pub reads_within : (v k p n i : ℕ) (rs : List (List X)) (xs at : List X) → Reads v k p n i rs xs at → p < length at
+  reads_within v k p n i rs xs at r =
+      omega (arith, r.place, r.whole, r.within, ap length (reads v k p n i rs xs at r), ap length (ring-filled v k n xs r.ring), length-take (suc v) (drop (suc v * k) xs), length-drop (suc v * k) xs)
+
+  pub reads_value : (v k p n i : ℕ) (rs : List (List X)) (xs at : List X) (x : X) → Reads v k p n i rs xs at → x ≡ get_or at p x → x ≡ get_or xs i x
+  reads_value v k p n i rs xs at x r h =
+      h ∙ (ap (λ l. get_or l p x) (reads v k p n i rs xs at r) ∙ (get-filled v k p n xs x r.ring r.place ∙ ap (λ m. get_or xs m x) (sym r.whole)))
+
+  pub taken_out : (v k p n i : ℕ) (rs : List (List X)) (xs at new : List X) → Reads v k p n i rs xs at → new ≡ remove at p → set rs k new ≡ filled_around v k n (remove xs i)
+  taken_out v k p n i rs xs at new r h =
+      ap (λ l. set l k new) r.from
+      ∙ (ap (λ l. set (filled v n xs) k l) (h ∙ ap (λ l. remove l p) (reads v k p n i rs xs at r))
+      ∙ removed v k p n i xs r.ring r.place r.whole r.within)
+
+  -- a read of the ring k that has the free place
+  pub record ReadsFree (v k p n i : ℕ) (rs : List (List X)) (xs at : List X) : Type 0 where
+    pub from : rs ≡ filled_around v k n xs
+    pub read : at ≡ get_or rs k at
+    pub ring : k < n
+    pub place : p ≤ v
+    pub whole : i ≡ suc v * k + p
+    pub within : i ≤ length xs
+
+  reads_free : (v k p n i : ℕ) (rs : List (List X)) (xs at : List X) → ReadsFree v k p n i rs xs at → at ≡ get_or (filled_around v k n xs) k []
+  reads_free v k p n i rs xs at r =
+      let len : length rs ≡ n = ap length r.from ∙ length-filled_around v k n xs in
+      let lt : k < length rs = omega (arith, len, r.ring) in
+      r.read ∙ (get_or_default rs k at [] lt ∙ ap (λ l. get_or l k []) r.from)
+
+  pub free_within : (v k p n i : ℕ) (rs : List (List X)) (xs at : List X) → ReadsFree v k p n i rs xs at → (p ≤ length at) × (length at < suc v)
+  free_within v k p n i rs xs at r =
+      let e : length at ≡ length (take v (drop (suc v * k) xs)) = ap length (reads_free v k p n i rs xs at r ∙ ring-free v k n xs r.ring) in (
+        omega (arith, e, r.place, r.whole, r.within, length-take v (drop (suc v * k) xs), length-drop (suc v * k) xs),
+        omega (arith, e, length-take v (drop (suc v * k) xs)),
+      )
+
+  pub put_into : (v k p n i : ℕ) (rs : List (List X)) (xs at new : List X) (x : X) → ReadsFree v k p n i rs xs at → new ≡ insert at p x → set rs k new ≡ filled v n (insert xs i x)
+  put_into v k p n i rs xs at new x r h =
+      ap (λ l. set l k new) r.from
+      ∙ (ap (λ l. set (filled_around v k n xs) k l) (h ∙ ap (λ l. insert l p x) (reads_free v k p n i rs xs at r))
+      ∙ inserted v k p n i xs x r.ring r.place r.whole r.within)
+
+  -- ---- in rings of 256
+
+  pub reads_at : (n i : ℕ) (rs : List (List X)) (at : List X) → rs ≡ filled 255 n (joined rs) → i < length (joined rs) → at ≡ get_or rs (i / 256) at
+      → Reads 255 (i / 256) (i % 256) n i rs (joined rs) at
+  reads_at n i rs at e h r =
+      let few : length (joined rs) ≤ 256 * n = few_in 255 n rs e in
+      record { from = e; read = r; ring = omega arith; place = omega arith; whole = omega arith; within = h }
+
+  pub reads_free_at : (n i : ℕ) (rs : List (List X)) (at : List X) → rs ≡ filled_around 255 (i / 256) n (joined rs) → i / 256 < n → i ≤ length (joined rs) → at ≡ get_or rs (i / 256) at
+      → ReadsFree 255 (i / 256) (i % 256) n i rs (joined rs) at
+  reads_free_at n i rs at e k h r = record { from = e; read = r; ring = k; place = omega arith; whole = omega arith; within = h }
+
+  -- the rings rs have become new, and hold the entries xs around a free place in ring k
+  pub record Around (n k : ℕ) (new : List (List X)) (xs : List X) : Type 0 where
+    pub entries : joined new ≡ xs
+    pub rings : new ≡ filled_around 255 k n (joined new)
+
+  pub record Filled (n : ℕ) (new : List (List X)) (xs : List X) : Type 0 where
+    pub entries : joined new ≡ xs
+    pub rings : new ≡ filled 255 n (joined new)
+
+  pub take_out_at : (n i : ℕ) (rs : List (List X)) (at new : List X) → rs ≡ filled 255 n (joined rs) → i < length (joined rs) → at ≡ get_or rs (i / 256) at
+      → new ≡ remove at (i % 256) → Around n (i / 256) (set rs (i / 256) new) (remove (joined rs) i)
+  take_out_at n i rs at new e h r m =
+      let few : length (joined rs) ≤ 256 * n = few_in 255 n rs e in
+      let less : length (remove (joined rs) i) < 256 * n = omega (arith, length-remove (joined rs) i h) in
+      let is = taken_out 255 (i / 256) (i % 256) n i rs (joined rs) at new (reads_at n i rs at e h r) m in
+      let same = ap joined is ∙ joined-filled_around 255 (i / 256) n (remove (joined rs) i) (omega arith) less in
+      record { entries = same; rings = is ∙ ap (λ l. filled_around 255 (i / 256) n l) (sym same) }
+
+  pub put_in_at : (n i : ℕ) (rs : List (List X)) (at new : List X) (x : X) → rs ≡ filled_around 255 (i / 256) n (joined rs) → i / 256 < n → i ≤ length (joined rs)
+      → at ≡ get_or rs (i / 256) at → new ≡ insert at (i % 256) x → Filled n (set rs (i / 256) new) (insert (joined rs) i x)
+  put_in_at n i rs at new x e k h r m =
+      let few : length (joined rs) < 256 * n = few_in_around 255 (i / 256) n rs k e in
+      let more : length (insert (joined rs) i x) ≤ 256 * n = omega (arith, length-insert (joined rs) i x h) in
+      let is = put_into 255 (i / 256) (i % 256) n i rs (joined rs) at new x (reads_free_at n i rs at e k h r) m in
+      let same = ap joined is ∙ joined-filled 255 n (insert (joined rs) i x) more in
+      record { entries = same; rings = is ∙ ap (λ l. filled 255 n l) (sym same) }
+
+  pub grown : (n m : ℕ) (was new : List (List X)) → was ≡ filled 255 n (joined was) → n ≤ m → new ≡ filled 255 m (joined was) → Filled m new (joined was)
+  grown n m was new e h f =
+      let few : length (joined was) ≤ 256 * n = few_in 255 n was e in
+      let same = ap joined f ∙ joined-filled 255 m (joined was) (omega arith) in
+      record { entries = same; rings = f ∙ ap (λ l. filled 255 m l) (sym same) }
+
+  pub one_more : (n m : ℕ) (was rs new : List (List X)) → was ≡ filled 255 n (joined was) → n ≤ m → rs ≡ filled 255 m (joined was) → new ≡ rs ++ [] ∷ []
+      → new ≡ filled 255 (m + 1) (joined was)
+  one_more n m was rs new e h f a =
+      let few : length (joined was) ≤ 256 * n = few_in 255 n was e in
+      rw add-one (a ∙ (ap (λ l. l ++ [] ∷ []) f ∙ another_ring 255 m (joined was) (omega arith)))
+
+  pub taken_back : (n m : ℕ) (was rs new : List (List X)) → was ≡ filled 255 n (joined was) → n ≤ m → rs ≡ filled 255 m (joined was) → new ≡ take n rs → Filled n new (joined was)
+  taken_back n m was rs new e h f a =
+      grown n n was new e (omega arith) (a ∙ (ap (λ l. take n l) f ∙ fewer_rings 255 n m (joined was) h))
+
+  pub moved : (n k g : ℕ) (was new : List (List X)) → k < n → g < n → was ≡ filled_around 255 k n (joined was) → new ≡ filled_around 255 g n (joined was) → Around n g new (joined was)
+  moved n k g was new h i e f =
+      let same = ap joined f ∙ joined-filled_around 255 g n (joined was) i (few_in_around 255 k n was h e) in
+      record { entries = same; rings = f ∙ ap (λ l. filled_around 255 g n l) (sym same) }

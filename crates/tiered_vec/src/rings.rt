@@ -1,9 +1,44 @@
-//! Rings in a row, each full but one: the place that is free in that ring goes along the row.
+//! Rings in a row: each is full until the entries end. One place may be free before that, and it goes along the row.
 
-ghost use Rattle.std.specs.Prelude.{◌≡◌, ◌+◌, ◌-◌, ◌*◌, ◌<◌, ◌≤◌, List, length, vec_len};
-ghost use Rattle.tiered_vec.specs.Rings.{joined, filled_around, ring_at};
+ghost use Rattle.std.specs.Prelude.{◌≡◌, ◌+◌, ◌-◌, ◌*◌, ◌/◌, ◌<◌, ◌≤◌, List, [], ◌∷◌, ◌++◌, length, vec_len, slice_index_or, max, OnOk, OnErr, IsOk};
+ghost use Rattle.std.specs.List.{insert, remove};
+ghost use Rattle.tiered_vec.specs.Rings.{joined, filled, filled_around, ring_at};
 
 use crate::ring::{RING, Ring};
+use std::alloc::{AllocError, Global};
+
+/// Puts empty rings behind the others until there are `count`. A refusal takes away again what it put there.
+pub(crate) fn grow_to<T: Copy>(
+    rings: &mut Vec<Ring<T>>,
+    alloc: Global,
+    count: usize,
+) -> Result<(), AllocError>
+    requires before { rings.old.items ≡ filled (RING - 1) (vec_len rings.old) (joined rings.old.items) }
+    ensures entries { joined rings.new.items ≡ joined rings.old.items }
+    ensures after { rings.new.items ≡ filled (RING - 1) (vec_len rings.new) (joined rings.new.items) }
+    ensures made { OnOk result (vec_len rings.new ≡ max (vec_len rings.old) count) }
+    ensures refused { OnErr result (vec_len rings.new ≡ vec_len rings.old) }
+    ensures enough { count ≤ vec_len rings.old → IsOk result }
+{
+    let before = rings.len();
+    while rings.len() < count {
+        if let Err(error) = add_ring(rings, alloc) {
+            rings.truncate(before);
+            return Err(error);
+        }
+    }
+    Ok(())
+}
+
+// Puts an empty ring behind the others.
+fn add_ring<T: Copy>(rings: &mut Vec<Ring<T>>, alloc: Global) -> Result<(), AllocError>
+    ensures made { OnOk result (rings.new.items ≡ rings.old.items ++ [] ∷ []) }
+    ensures count { OnOk result (vec_len rings.new ≡ vec_len rings.old + 1) }
+    ensures refused { OnErr result ((rings.new.items ≡ rings.old.items) × (vec_len rings.new ≡ vec_len rings.old)) }
+{
+    let ring = Ring::new(alloc)?;
+    rings.push(ring).map_err(AllocError::from)
+}
 
 // Ring `ring` has a free place, and takes the first entry of the next one.
 fn pull<T: Copy>(rings: &mut Vec<Ring<T>>, ring: usize)
@@ -67,11 +102,36 @@ pub(crate) fn move_free_place<T: Copy>(rings: &mut Vec<Ring<T>>, from: usize, to
     requires reached { (RING * from ≤ length (joined rings.old.items)) × (RING * to ≤ length (joined rings.old.items)) }
     requires before { rings.old.items ≡ filled_around (RING - 1) from (vec_len rings.old) (joined rings.old.items) }
     ensures rings { vec_len rings.new ≡ vec_len rings.old }
-    ensures after { rings.new.items ≡ filled_around (RING - 1) to (vec_len rings.old) (joined rings.old.items) }
+    ensures entries { joined rings.new.items ≡ joined rings.old.items }
+    ensures after { rings.new.items ≡ filled_around (RING - 1) to (vec_len rings.new) (joined rings.new.items) }
 {
     if from < to {
         move_on(rings, from, to);
     } else {
         move_back(rings, from, to);
     }
+}
+
+/// Takes the entry at a place away, and leaves a free place in its ring.
+pub(crate) fn take_out<T: Copy>(rings: &mut Vec<Ring<T>>, place: usize) -> T
+    requires within { place < length (joined rings.old.items) }
+    requires before { rings.old.items ≡ filled (RING - 1) (vec_len rings.old) (joined rings.old.items) }
+    ensures rings { vec_len rings.new ≡ vec_len rings.old }
+    ensures value { result ≡ slice_index_or (joined rings.old.items) place result }
+    ensures entries { joined rings.new.items ≡ remove (joined rings.old.items) place }
+    ensures after { rings.new.items ≡ filled_around (RING - 1) (place / RING) (vec_len rings.new) (joined rings.new.items) }
+{
+    rings[place / RING].remove(place % RING)
+}
+
+/// Puts an entry at a place, in whose ring one is free.
+pub(crate) fn put_in<T: Copy>(rings: &mut Vec<Ring<T>>, place: usize, entry: T)
+    requires within { place ≤ length (joined rings.old.items) }
+    requires ring { place / RING < vec_len rings.old }
+    requires before { rings.old.items ≡ filled_around (RING - 1) (place / RING) (vec_len rings.old) (joined rings.old.items) }
+    ensures rings { vec_len rings.new ≡ vec_len rings.old }
+    ensures entries { joined rings.new.items ≡ insert (joined rings.old.items) place entry }
+    ensures after { rings.new.items ≡ filled (RING - 1) (vec_len rings.new) (joined rings.new.items) }
+{
+    rings[place / RING].insert(place % RING, entry);
 }

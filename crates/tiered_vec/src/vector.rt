@@ -1,10 +1,10 @@
 //! A vector in rings.
 
-ghost use Rattle.std.specs.Prelude.{◌≡◌, ◌+◌, ◌<◌, ◌≤◌, [], length, slice_index_or, OnOk, OnErr};
+ghost use Rattle.std.specs.Prelude.{◌≡◌, ◌+◌, ◌<◌, ◌≤◌, [], length, slice_index_or, max, OnOk, OnErr, IsOk};
 ghost use Rattle.std.specs.List.{insert, remove};
 
 use crate::ring::{RING, Ring};
-use crate::rings::move_free_place;
+use crate::rings::{grow_to, move_free_place, put_in, take_out};
 use std::alloc::{AllocError, Global};
 use std::marker::Model;
 
@@ -74,10 +74,18 @@ impl<T: Copy> TieredVec<T> {
     pub fn reserve(&mut self, additional: usize) -> Result<(), AllocError>
         ensures entries { self.new.entries ≡ self.old.entries }
         ensures room { OnOk result (additional ≤ self.new.spare) }
+        ensures most { OnOk result (self.new.spare < max (self.old.spare + 1) (additional + RING)) }
         ensures kept { self.old.spare ≤ self.new.spare }
+        ensures enough { additional ≤ self.old.spare → IsOk result × (self.new ≡ self.old) }
         ensures refused { OnErr result (self.new ≡ self.old) }
     {
-        Ok(())
+        let Some(wanted) = self.len.checked_add(additional) else {
+            return Err(AllocError);
+        };
+        let Some(places) = wanted.checked_next_multiple_of(RING) else {
+            return Err(AllocError);
+        };
+        grow_to(&mut self.rings, self.alloc, places / RING)
     }
 
     /// Puts an entry at a place, and those from there on one place further. There is room, so it takes no memory.
@@ -87,9 +95,8 @@ impl<T: Copy> TieredVec<T> {
         ensures entries { self.new.entries ≡ insert self.old.entries place entry }
         ensures spare { self.new.spare + 1 ≡ self.old.spare }
     {
-        let ring = place / RING;
-        move_free_place(&mut self.rings, self.len / RING, ring);
-        self.rings[ring].insert(place % RING, entry);
+        move_free_place(&mut self.rings, self.len / RING, place / RING);
+        put_in(&mut self.rings, place, entry);
         self.len += 1;
     }
 
@@ -100,10 +107,9 @@ impl<T: Copy> TieredVec<T> {
         ensures entries { self.new.entries ≡ remove self.old.entries place }
         ensures spare { self.new.spare ≡ self.old.spare + 1 }
     {
-        let ring = place / RING;
-        let entry = self.rings[ring].remove(place % RING);
+        let entry = take_out(&mut self.rings, place);
         self.len -= 1;
-        move_free_place(&mut self.rings, ring, self.len / RING);
+        move_free_place(&mut self.rings, place / RING, self.len / RING);
         entry
     }
 
@@ -116,10 +122,9 @@ impl<T: Copy> TieredVec<T> {
         ensures entries { self.new.entries ≡ insert (remove self.old.entries from) to entry }
         ensures spare { self.new.spare ≡ self.old.spare }
     {
-        let (first, last) = (from / RING, to / RING);
-        let old = self.rings[first].remove(from % RING);
-        move_free_place(&mut self.rings, first, last);
-        self.rings[last].insert(to % RING, entry);
+        let old = take_out(&mut self.rings, from);
+        move_free_place(&mut self.rings, from / RING, to / RING);
+        put_in(&mut self.rings, to, entry);
         old
     }
 }

@@ -12,11 +12,14 @@ pub push-requires-clause-full : goal.push-requires-clause-full
 push-requires-clause-full g c =
     let same : c.loop-free.free ≡ suc (c.loop-free.free - 1) = omega arith in
     is_full 255 (c.loop-free.free - 1) (vec_len c.args.rings.now) c.loop-free.rings.items (joined c.args.rings.now.items) (omega arith)
-        (c.loop-free.invariant.3 ∙ ap (λ k. filled_around 255 k (vec_len c.args.rings.now) (joined c.args.rings.now.items)) same) (omega arith)
+    (c.loop-free.invariant.3 ∙ ap (λ k. filled_around 255 k (vec_len c.args.rings.now) (joined c.args.rings.now.items)) same) (omega arith)
 
 pub loop-free-preserved : goal.loop-free-preserved
 loop-free-preserved g c =
     let same : c.loop-free.free ≡ c.loop-free.free - 1 + 1 = omega arith in
-    let was = c.loop-free.invariant.3 ∙ ap (λ k. filled_around 255 k (vec_len c.args.rings.now) (joined c.args.rings.now.items)) same in
-    (omega arith, omega arith, c.push.ensures.rings ∙ c.loop-free.invariant.2,
-        rw (← c.loop-free.invariant.2) (c.push.ensures.place (joined c.args.rings.now.items) (rw c.loop-free.invariant.2 was)))
+    let was = c.loop-free.invariant.3 ∙ ap (λ k. filled_around 255 k (vec_len c.args.rings.now) (joined c.args.rings.now.items)) same in (
+      omega arith,
+      omega arith,
+      c.push.ensures.rings ∙ c.loop-free.invariant.2,
+      rw (← c.loop-free.invariant.2) (c.push.ensures.place (joined c.args.rings.now.items) (rw c.loop-free.invariant.2 was)),
+    )
