@@ -1,5 +1,7 @@
--- Rings in a row that hold a list of entries. A full ring has one more than `most` entries.
-use Rattle.std.specs.Prelude.{ℕ, zero, suc, List, [], ◌∷◌, ◌++◌, take, drop, slice_index_or}
+-- Rings in a row that hold a list of entries.
+use Rattle.std.specs.Prelude.{◌≡◌, ℕ, zero, suc, ◌-◌, List, [], ◌∷◌, ◌++◌, take, drop, slice_index_or, Vec, vec_len}
+use Rattle.std.specs.declared.alloc.Global.{Global}
+use Rattle.tiered_vec.specs.declared.ring.TheConstants.{RING}
 
 module _ {X : Type 0} where
   -- the entries of all rings, in order
@@ -7,7 +9,7 @@ module _ {X : Type 0} where
   joined [] = []
   joined (r ∷ rs) = r ++ joined rs
 
-  -- n rings with these entries, each full until there are no more
+  -- n rings with these entries, in each one more than `most` until there are no more
   abbrev pub filled : ℕ → ℕ → List X → List (List X)
   filled most zero xs = []
   filled most (suc n) xs = take (suc most) xs ∷ filled most n (drop (suc most) xs)
@@ -21,3 +23,11 @@ module _ {X : Type 0} where
   -- the entries of ring k
   abbrev pub ring_at : List (List X) → ℕ → List X
   ring_at rs k = slice_index_or rs k []
+
+  -- no place is free before the last entry
+  abbrev pub AreFilled : Vec (List X) Global → Type 0
+  AreFilled rs = rs.items ≡ filled (RING - 1) (vec_len rs) (joined rs.items)
+
+  -- no place is free before the last entry but one in ring g
+  abbrev pub HaveFreePlaceIn : ℕ → Vec (List X) Global → Type 0
+  HaveFreePlaceIn g rs = rs.items ≡ filled_around (RING - 1) g (vec_len rs) (joined rs.items)

@@ -2,7 +2,7 @@
 
 ghost use Rattle.std.specs.Prelude.{◌≡◌, ◌+◌, ◌-◌, ◌*◌, ◌/◌, ◌<◌, ◌≤◌, List, [], ◌∷◌, ◌++◌, length, vec_len, slice_index_or, max, OnOk, OnErr, IsOk};
 ghost use Rattle.std.specs.List.{insert, remove};
-ghost use Rattle.tiered_vec.specs.Rings.{joined, filled, filled_around, ring_at};
+ghost use Rattle.tiered_vec.specs.Rings.{joined, filled_around, ring_at, AreFilled, HaveFreePlaceIn};
 
 use crate::ring::{RING, Ring};
 use std::alloc::{AllocError, Global};
@@ -13,9 +13,9 @@ pub(crate) fn grow_to<T: Copy>(
     alloc: Global,
     count: usize,
 ) -> Result<(), AllocError>
-    requires before { rings.old.items ≡ filled (RING - 1) (vec_len rings.old) (joined rings.old.items) }
+    requires before { AreFilled rings.old }
     ensures entries { joined rings.new.items ≡ joined rings.old.items }
-    ensures after { rings.new.items ≡ filled (RING - 1) (vec_len rings.new) (joined rings.new.items) }
+    ensures after { AreFilled rings.new }
     ensures made { OnOk result (vec_len rings.new ≡ max (vec_len rings.old) count) }
     ensures refused { OnErr result (vec_len rings.new ≡ vec_len rings.old) }
     ensures enough { count ≤ vec_len rings.old → IsOk result }
@@ -70,7 +70,7 @@ fn push<T: Copy>(rings: &mut Vec<Ring<T>>, ring: usize)
 fn move_on<T: Copy>(rings: &mut Vec<Ring<T>>, from: usize, to: usize)
     requires on { (from ≤ to) × (to < vec_len rings.old) }
     requires reached { RING * to ≤ length (joined rings.old.items) }
-    requires before { rings.old.items ≡ filled_around (RING - 1) from (vec_len rings.old) (joined rings.old.items) }
+    requires before { HaveFreePlaceIn from rings.old }
     ensures rings { vec_len rings.new ≡ vec_len rings.old }
     ensures after { rings.new.items ≡ filled_around (RING - 1) to (vec_len rings.old) (joined rings.old.items) }
 {
@@ -85,7 +85,7 @@ fn move_on<T: Copy>(rings: &mut Vec<Ring<T>>, from: usize, to: usize)
 fn move_back<T: Copy>(rings: &mut Vec<Ring<T>>, from: usize, to: usize)
     requires back { (to ≤ from) × (from < vec_len rings.old) }
     requires reached { RING * from ≤ length (joined rings.old.items) }
-    requires before { rings.old.items ≡ filled_around (RING - 1) from (vec_len rings.old) (joined rings.old.items) }
+    requires before { HaveFreePlaceIn from rings.old }
     ensures rings { vec_len rings.new ≡ vec_len rings.old }
     ensures after { rings.new.items ≡ filled_around (RING - 1) to (vec_len rings.old) (joined rings.old.items) }
 {
@@ -100,10 +100,10 @@ fn move_back<T: Copy>(rings: &mut Vec<Ring<T>>, from: usize, to: usize)
 pub(crate) fn move_free_place<T: Copy>(rings: &mut Vec<Ring<T>>, from: usize, to: usize)
     requires within { (from < vec_len rings.old) × (to < vec_len rings.old) }
     requires reached { (RING * from ≤ length (joined rings.old.items)) × (RING * to ≤ length (joined rings.old.items)) }
-    requires before { rings.old.items ≡ filled_around (RING - 1) from (vec_len rings.old) (joined rings.old.items) }
+    requires before { HaveFreePlaceIn from rings.old }
     ensures rings { vec_len rings.new ≡ vec_len rings.old }
     ensures entries { joined rings.new.items ≡ joined rings.old.items }
-    ensures after { rings.new.items ≡ filled_around (RING - 1) to (vec_len rings.new) (joined rings.new.items) }
+    ensures after { HaveFreePlaceIn to rings.new }
 {
     if from < to {
         move_on(rings, from, to);
@@ -115,11 +115,11 @@ pub(crate) fn move_free_place<T: Copy>(rings: &mut Vec<Ring<T>>, from: usize, to
 /// Takes the entry at a place away, and leaves a free place in its ring.
 pub(crate) fn take_out<T: Copy>(rings: &mut Vec<Ring<T>>, place: usize) -> T
     requires within { place < length (joined rings.old.items) }
-    requires before { rings.old.items ≡ filled (RING - 1) (vec_len rings.old) (joined rings.old.items) }
+    requires before { AreFilled rings.old }
     ensures rings { vec_len rings.new ≡ vec_len rings.old }
     ensures value { result ≡ slice_index_or (joined rings.old.items) place result }
     ensures entries { joined rings.new.items ≡ remove (joined rings.old.items) place }
-    ensures after { rings.new.items ≡ filled_around (RING - 1) (place / RING) (vec_len rings.new) (joined rings.new.items) }
+    ensures after { HaveFreePlaceIn (place / RING) rings.new }
 {
     rings[place / RING].remove(place % RING)
 }
@@ -128,10 +128,10 @@ pub(crate) fn take_out<T: Copy>(rings: &mut Vec<Ring<T>>, place: usize) -> T
 pub(crate) fn put_in<T: Copy>(rings: &mut Vec<Ring<T>>, place: usize, entry: T)
     requires within { place ≤ length (joined rings.old.items) }
     requires ring { place / RING < vec_len rings.old }
-    requires before { rings.old.items ≡ filled_around (RING - 1) (place / RING) (vec_len rings.old) (joined rings.old.items) }
+    requires before { HaveFreePlaceIn (place / RING) rings.old }
     ensures rings { vec_len rings.new ≡ vec_len rings.old }
     ensures entries { joined rings.new.items ≡ insert (joined rings.old.items) place entry }
-    ensures after { rings.new.items ≡ filled (RING - 1) (vec_len rings.new) (joined rings.new.items) }
+    ensures after { AreFilled rings.new }
 {
     rings[place / RING].insert(place % RING, entry);
 }

@@ -1,6 +1,6 @@
 //! A vector in rings.
 
-ghost use Rattle.std.specs.Prelude.{◌≡◌, ◌+◌, ◌<◌, ◌≤◌, [], length, slice_index_or, max, OnOk, OnErr, IsOk};
+ghost use Rattle.std.specs.Prelude.{◌≡◌, ◌+◌, ◌-◌, ◌<◌, ◌≤◌, [], length, slice_index_or, max, OnOk, OnErr, IsOk};
 ghost use Rattle.std.specs.List.{insert, remove};
 
 use crate::ring::{RING, Ring};
@@ -25,11 +25,11 @@ impl<T: Copy> Model for TieredVec<T> {
 
     ghost use Rattle.std.specs.Prelude.{◌≡◌, ◌-◌, ◌*◌, ◌≤◌, ◌<◌, ◌^◌, length, vec_len};
     ghost use Rattle.tiered_vec.specs.declared.ring.TheConstants.{RING};
-    ghost use Rattle.tiered_vec.specs.Rings.{joined, filled};
+    ghost use Rattle.tiered_vec.specs.Rings.{joined, AreFilled};
 
     ghost view = { λ a. tiered (joined a.rings.items) (RING * vec_len a.rings - a.len) };
 
-    ghost invariant = { λ a. (a.rings.items ≡ filled (RING - 1) (vec_len a.rings) (joined a.rings.items))
+    ghost invariant = { λ a. AreFilled a.rings
         × (a.len ≡ length (joined a.rings.items))
         × (a.len ≤ RING * vec_len a.rings)
         × (RING * vec_len a.rings < 2 ^ 64) };
@@ -74,7 +74,7 @@ impl<T: Copy> TieredVec<T> {
     pub fn reserve(&mut self, additional: usize) -> Result<(), AllocError>
         ensures entries { self.new.entries ≡ self.old.entries }
         ensures room { OnOk result (additional ≤ self.new.spare) }
-        ensures most { OnOk result (self.new.spare < max (self.old.spare + 1) (additional + RING)) }
+        ensures whole { OnOk result (self.new.spare ≤ max self.old.spare (additional + (RING - 1))) }
         ensures kept { self.old.spare ≤ self.new.spare }
         ensures enough { additional ≤ self.old.spare → IsOk result × (self.new ≡ self.old) }
         ensures refused { OnErr result (self.new ≡ self.old) }
