@@ -1,6 +1,6 @@
 -- Entries dealt to rings: what each ring holds, and what the rings hold after one of them changed.
 use Rattle.std.proofs.Common.{◌≡◌, ◌≢◌, ℕ, zero, suc, ◌+◌, ◌*◌, ◌/◌, ◌%◌, ◌<◌, ◌≤◌, List, [], ◌∷◌, ◌++◌, length, take, drop, get_or, set, refl, sym, ap, ◌∙◌, add-one, arith}
-use Rattle.std.proofs.lemmas.List.{take-append-drop, length-take, length-drop, length-append, drop-drop, get_or-take, get_or-drop, get_or_default, get_or-set_other}
+use Rattle.std.proofs.lemmas.List.{take-append-drop, length-take, length-drop, length-append, drop-drop, get_or-take, get_or-drop, get_or_default, get_or-set_other, get_or-set_same, set-set}
 use Rattle.std.proofs.lemmas.List.Edits.{length-insert, length-remove}
 use Rattle.std.specs.List.{insert, remove}
 use Rattle.tiered_vec.specs.Rings.{joined, filled, filled_around}
@@ -361,3 +361,22 @@ module _ {X : Type 0} where
   moved n k g was new h i e f =
       let same = ap joined f ∙ joined-filled_around 255 g n (joined was) i (few_in_around 255 k n was h e) in
       record { entries = same; rings = f ∙ ap (λ l. filled_around 255 g n l) (sym same) }
+
+  pub replaced_at : (n i j : ℕ) (rs : List (List X)) (at new : List X) (x : X) → rs ≡ filled 255 n (joined rs) → i < length (joined rs) → j < length (joined rs) → i / 256 ≡ j / 256
+      → at ≡ get_or rs (i / 256) at → new ≡ insert (remove at (i % 256)) (j % 256) x → Filled n (set rs (i / 256) new) (insert (remove (joined rs) i) j x)
+  replaced_at n i j rs at new x e h l same r m =
+      let k = i / 256 in
+      let rest = remove at (i % 256) in
+      let mid = set rs k rest in
+      let few : length (joined rs) ≤ 256 * n = few_in 255 n rs e in
+      let ring : k < length rs = omega (arith, ap length e, length-filled 255 n (joined rs)) in
+      let a = take_out_at n i rs at rest e h r refl in
+      let there : j ≤ length (joined mid) = omega (arith, ap length a.entries, length-remove (joined rs) i h) in
+      let read : rest ≡ get_or mid (j / 256) rest = sym (get_or-set_same rs k rest rest ring) ∙ ap (λ m. get_or mid m rest) same in
+      let free : mid ≡ filled_around 255 (j / 256) n (joined mid) = a.rings ∙ ap (λ m. filled_around 255 m n (joined mid)) same in
+      let b = put_in_at n j mid rest new x free (omega arith) there read m in
+      let is : set mid (j / 256) new ≡ set rs k new = ap (λ m. set mid m new) (sym same) ∙ set-set rs k rest new in
+      record {
+        entries = ap joined (sym is) ∙ (b.entries ∙ ap (λ l. insert l j x) a.entries);
+        rings = sym is ∙ (b.rings ∙ ap (λ l. filled 255 n (joined l)) is);
+      }

@@ -1,2 +1,3 @@
 mod Edits
 mod Dealing
+mod Shifts

@@ -67,6 +67,23 @@ impl<T: Copy> Ring<T> {
         self.slots.remove(place).unwrap()
     }
 
+    /// Takes the entry at `from` away and then puts another one in at `to`. Where the entries lie in one piece, only those
+    /// between the two places move.
+    pub(crate) fn replace(&mut self, from: usize, to: usize, entry: T) -> T
+        requires from { from < length self.old }
+        requires to { to < length self.old }
+        ensures value { result ≡ slice_index_or self.old from result }
+        ensures entries { self.new ≡ insert (remove self.old from) to entry }
+    {
+        if self.slots.as_slices().1.is_empty() {
+            shift(self.slots.make_contiguous(), from, to, entry)
+        } else {
+            let old = self.remove(from);
+            self.insert(to, entry);
+            old
+        }
+    }
+
     /// Puts an entry before the first one of a ring that has room.
     pub(crate) fn push_front(&mut self, entry: T)
         requires { length self.old < RING }
@@ -98,4 +115,21 @@ impl<T: Copy> Ring<T> {
     {
         self.slots.pop_back().unwrap()
     }
+}
+
+// Takes the entry at `from` out and puts another one in at `to`: those between them move by one place.
+fn shift<T: Copy>(entries: &mut [T], from: usize, to: usize, entry: T) -> T
+    requires from { from < length entries.old }
+    requires to { to < length entries.old }
+    ensures value { result ≡ slice_index_or entries.old from result }
+    ensures entries { entries.new ≡ insert (remove entries.old from) to entry }
+{
+    let old = entries[from];
+    if from < to {
+        entries.copy_within(from + 1..to + 1, from);
+    } else {
+        entries.copy_within(to..from, to + 1);
+    }
+    entries[to] = entry;
+    old
 }

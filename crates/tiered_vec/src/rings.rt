@@ -135,3 +135,22 @@ pub(crate) fn put_in<T: Copy>(rings: &mut Vec<Ring<T>>, place: usize, entry: T)
 {
     rings[place / RING].insert(place % RING, entry);
 }
+
+/// Takes the entry at `from` away and then puts another one in at `to`, a place in the same ring.
+pub(crate) fn replace_in_ring<T: Copy>(
+    rings: &mut Vec<Ring<T>>,
+    from: usize,
+    to: usize,
+    entry: T,
+) -> T
+    requires from { from < length (joined rings.old.items) }
+    requires to { to < length (joined rings.old.items) }
+    requires ring { from / RING ≡ to / RING }
+    requires before { AreFilled rings.old }
+    ensures rings { vec_len rings.new ≡ vec_len rings.old }
+    ensures value { result ≡ slice_index_or (joined rings.old.items) from result }
+    ensures entries { joined rings.new.items ≡ insert (remove (joined rings.old.items) from) to entry }
+    ensures after { AreFilled rings.new }
+{
+    rings[from / RING].replace(from % RING, to % RING, entry)
+}

@@ -4,11 +4,12 @@ ghost use Rattle.std.specs.Prelude.{◌≡◌, ◌+◌, ◌-◌, ◌<◌, ◌≤
 ghost use Rattle.std.specs.List.{insert, remove};
 
 use crate::ring::{RING, Ring};
-use crate::rings::{grow_to, move_free_place, put_in, take_out};
+use crate::rings::{grow_to, move_free_place, put_in, replace_in_ring, take_out};
 use std::alloc::{AllocError, Global};
 use std::marker::Model;
 
-/// A vector in rings of 256 entries, all full but the last that has any.
+/// A vector in rings of 256 entries, all full but the last that has any. An insert or a remove moves at most half a ring,
+/// and one entry of each ring between that one and the last. A vector that fits in one ring is a flat one.
 #[derive(Drop)]
 pub struct TieredVec<T: Copy> {
     alloc: Global,
@@ -113,8 +114,8 @@ impl<T: Copy> TieredVec<T> {
         entry
     }
 
-    /// Takes the entry at `from` away and then puts another one in at `to`, as `remove` and `insert` would. Only what lies
-    /// between the two rings moves.
+    /// Takes the entry at `from` away and then puts another one in at `to`, as `remove` and `insert` would. It goes from the
+    /// one ring to the other, and not on to the last.
     pub fn replace(&mut self, from: usize, to: usize, entry: T) -> T
         requires from { from < length self.old.entries }
         requires to { to < length self.old.entries }
@@ -122,6 +123,9 @@ impl<T: Copy> TieredVec<T> {
         ensures entries { self.new.entries ≡ insert (remove self.old.entries from) to entry }
         ensures spare { self.new.spare ≡ self.old.spare }
     {
+        if from / RING == to / RING {
+            return replace_in_ring(&mut self.rings, from, to, entry);
+        }
         let old = take_out(&mut self.rings, from);
         move_free_place(&mut self.rings, from / RING, to / RING);
         put_in(&mut self.rings, to, entry);
