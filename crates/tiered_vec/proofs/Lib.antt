@@ -1,3 +1,4 @@
 mod Edits
 mod Dealing
+mod Steps
 mod Shifts

@@ -1,2 +1,2 @@
 pub mod Rings
-pub mod Tiered
+pub mod TieredVec

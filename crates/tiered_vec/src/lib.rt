@@ -3,9 +3,9 @@
 
 mod ring;
 mod rings;
-mod vector;
+mod tiered_vec;
 
-pub use vector::TieredVec;
+pub use tiered_vec::TieredVec;
 
 #[cfg(test)]
 mod tests;

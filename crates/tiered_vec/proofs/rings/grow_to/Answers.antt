@@ -1,5 +1,5 @@
 use Rattle.std.proofs.Common.{◌≡◌, ◌∙◌, ap, arith, take, vec_len}
-use Rattle.tiered_vec.proofs.Dealing.{grown, one_more, taken_back}
+use Rattle.tiered_vec.proofs.Steps.{grown, one_more, taken_back}
 use Rattle.tiered_vec.proofs.rings.grow_to.Goals as goal
 
 pub returns-in-Err-clause-entries : goal.returns-in-Err-clause-entries

@@ -1,5 +1,5 @@
 use Rattle.std.proofs.Common.{vec_len}
-use Rattle.tiered_vec.proofs.Dealing.{moved}
+use Rattle.tiered_vec.proofs.Steps.{moved}
 use Rattle.tiered_vec.proofs.rings.move_free_place.Goals as goal
 
 pub returns-then-from-to-clause-entries : goal.returns-then-from-to-clause-entries

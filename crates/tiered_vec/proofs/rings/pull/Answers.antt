@@ -1,5 +1,5 @@
 use Rattle.std.proofs.Common.{◌+◌, arith, vec_len}
-use Rattle.tiered_vec.proofs.Dealing.{pulled_at}
+use Rattle.tiered_vec.proofs.Steps.{pulled_at}
 use Rattle.tiered_vec.proofs.rings.pull.Goals as goal
 
 pub returns-clause-place : goal.returns-clause-place

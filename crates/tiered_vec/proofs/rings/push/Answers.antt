@@ -1,5 +1,5 @@
 use Rattle.std.proofs.Common.{◌+◌, arith, vec_len}
-use Rattle.tiered_vec.proofs.Dealing.{pushed_at}
+use Rattle.tiered_vec.proofs.Steps.{pushed_at}
 use Rattle.tiered_vec.proofs.rings.push.Goals as goal
 
 pub returns-clause-place : goal.returns-clause-place

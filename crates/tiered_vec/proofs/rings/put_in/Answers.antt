@@ -1,6 +1,6 @@
 use Rattle.std.proofs.Common.{◌/◌, ◌%◌, vec_len}
 use Rattle.tiered_vec.specs.Rings.{joined}
-use Rattle.tiered_vec.proofs.Dealing.{reads_free_at, free_within, put_in_at}
+use Rattle.tiered_vec.proofs.Steps.{reads_free_at, free_within, put_in_at}
 use Rattle.tiered_vec.proofs.rings.put_in.Goals as goal
 
 pub insert-requires-clause-within : goal.insert-requires-clause-within

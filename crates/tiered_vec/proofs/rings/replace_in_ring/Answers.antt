@@ -1,6 +1,7 @@
 use Rattle.std.proofs.Common.{◌/◌, ◌%◌, ◌∙◌, ap, arith, get_or, vec_len}
 use Rattle.tiered_vec.specs.Rings.{joined}
-use Rattle.tiered_vec.proofs.Dealing.{few_in, reads_at, reads_within, reads_value, replaced_at}
+use Rattle.tiered_vec.proofs.Dealing.{few_in}
+use Rattle.tiered_vec.proofs.Steps.{reads_at, reads_within, reads_value, replaced_at}
 use Rattle.tiered_vec.proofs.rings.replace_in_ring.Goals as goal
 
 pub index_mut-requires : goal.index_mut-requires

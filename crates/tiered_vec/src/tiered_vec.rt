@@ -18,7 +18,7 @@ pub struct TieredVec<T: Copy> {
 }
 
 impl<T: Copy> Model for TieredVec<T> {
-    ghost use Rattle.tiered_vec.specs.Tiered.{Tiered, tiered, tiered_code};
+    ghost use Rattle.tiered_vec.specs.TieredVec.{Tiered, tiered, tiered_code};
 
     ghost Value = { Tiered T };
 
