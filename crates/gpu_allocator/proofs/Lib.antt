@@ -26,3 +26,5 @@ pub mod Naming
 pub mod Reporting
 pub mod Named
 pub mod Owning
+pub mod Alike
+pub mod Untouched

@@ -30,12 +30,12 @@ use Rattle.gpu_allocator.proofs.Steps.{refused_same, none_next}
 abbrev SlotList : Type 0
 SlotList = List (Option (Slot DeviceMemory))
 
-false_true : false ≡ true → ⊥
+pub false_true : false ≡ true → ⊥
 false_true e = cc
 
 -- ---- plans
 
-plan_once : (setup : Setup) (old : Slots) (t : ℕ) (d : AllocationCreateDesc) (host : Bool) (a b : Plan) → AreAllSound setup.properties old
+pub plan_once : (setup : Setup) (old : Slots) (t : ℕ) (d : AllocationCreateDesc) (host : Bool) (a b : Plan) → AreAllSound setup.properties old
     → IsPlan setup (type_at setup.properties old t) d host a → IsPlan setup (type_at setup.properties old t) d host b → a ≡ b
 plan_once setup old t d host Short Short sound x y = refl
 plan_once setup old t d host Short (Serves p taken) sound x y = absurd (false_true (sym x ∙ y.0))
@@ -60,7 +60,7 @@ plan_once setup old t d host (Needs size own ready) (Needs other kind next) soun
 
 -- ---- answers
 
-settles_once : (old : SlotList) (own : Bool) (ready : Ready) (b : BlockAnswer) (x y : Answer) (new next : SlotList) → Settles old own ready b x new → Settles old own ready b y next → (x ≡ y) × (new ≡ next)
+pub settles_once : (old : SlotList) (own : Bool) (ready : Ready) (b : BlockAnswer) (x y : Answer) (new next : SlotList) → Settles old own ready b x new → Settles old own ready b y next → (x ≡ y) × (new ≡ next)
 settles_once old own ready (Declined code) x y new next s r = (s.0 ∙ sym r.0, s.1 ∙ sym r.1)
 settles_once old own ready (NotMapped code) x y new next s r = (s.0 ∙ sym r.0, s.1 ∙ sym r.1)
 settles_once old own ready (Granted n) x y new next s r =
@@ -191,7 +191,7 @@ follows_once setup d (Some u) o t first mid x y new next sound a b =
     let once = attempt_once setup u d o a.0 b.0 mid new next (sound u refl) a.1 b.1 in
     (a.2 ∙ ap (reply_of u) once.0 ∙ sym b.2, once.1)
 
-mid_sound : (setup : Setup) (t u : ℕ) (d : AllocationCreateDesc) (o : Outcome) (answer : Answer) (old mid : ModelState) → AreAllSound setup.properties old.slots → AttemptStep setup t d o answer old mid
+pub mid_sound : (setup : Setup) (t u : ℕ) (d : AllocationCreateDesc) (o : Outcome) (answer : Answer) (old mid : ModelState) → AreAllSound setup.properties old.slots → AttemptStep setup t d o answer old mid
     → next_by setup d answer ≡ Some u → AreAllSound setup.properties mid.slots
 mid_sound setup t u d o (Gave p) old mid sound a is = absurd (none_next setup d u p is)
 mid_sound setup t u d o (Refused r) old mid sound a is = subst (AreAllSound setup.properties) (sym (refused_same setup old.slots t d o r mid.slots a.slots)) sound
@@ -231,7 +231,7 @@ release_once setup t p old new next sound a b =
     states_alike new next (a.slots ∙ (ap (slice_set old.slots t) once.1 ∙ sym b.slots)) (drops_once t p.slot a.went a.mid new.buffers next.buffers a.drops other)
 
 -- a free is done, or refused
-free_reply : (t : ℕ) (p : Option (Piece DeviceMemory)) (x : Reply) (old new : ModelState) → FreeStep t p x old new
+pub free_reply : (t : ℕ) (p : Option (Piece DeviceMemory)) (x : Reply) (old new : ModelState) → FreeStep t p x old new
     → ((x ≡ Done) × FreeStep t p Done old new) ⊎ ((r : Refusal) × (x ≡ Fails r) × FreeStep t p (Fails r) old new)
 free_reply t None (Given u q) old new s = absurd s
 free_reply t None (Fails r) old new s = absurd s
@@ -252,7 +252,7 @@ free_done_once : (setup : Setup) (t : ℕ) (p : Option (Piece DeviceMemory)) (ol
 free_done_once setup t None old new next sound a b = a ∙ sym b
 free_done_once setup t (Some p) old new next sound a b = release_once setup t p old new next sound a.1 b.1
 
-done_or_fails : (t : ℕ) (p : Option (Piece DeviceMemory)) (r : Refusal) (old new next : ModelState) → FreeStep t p Done old new → FreeStep t p (Fails r) old next → ⊥
+pub done_or_fails : (t : ℕ) (p : Option (Piece DeviceMemory)) (r : Refusal) (old new next : ModelState) → FreeStep t p Done old new → FreeStep t p (Fails r) old next → ⊥
 done_or_fails t None r old new next a b = b
 done_or_fails t (Some p) r old new next a b = b.0 a.0
 
@@ -276,7 +276,7 @@ free_once setup t p x y old new next sound a b =
 
 -- ---- a new name
 
-rename_reply : (t : ℕ) (p : Option (Piece DeviceMemory)) (name : List ℕ) (host : Bool) (x : Reply) (old new : ModelState) → RenameStep t p name host x old new
+pub rename_reply : (t : ℕ) (p : Option (Piece DeviceMemory)) (name : List ℕ) (host : Bool) (x : Reply) (old new : ModelState) → RenameStep t p name host x old new
     → ((x ≡ Done) × RenameStep t p name host Done old new) ⊎ ((r : Refusal) × (x ≡ Fails r) × RenameStep t p name host (Fails r) old new)
 rename_reply t None name host (Given u q) old new s = absurd s
 rename_reply t None name host (Fails r) old new s = inr (r, refl, s)
@@ -299,12 +299,12 @@ rename_done_once t (Some p) name host old new next a b =
     let left = renamed_once (slots_at old.slots t) p name a.1.left b.1.left a.1.renames b.1.renames in
     states_alike new next (a.1.slots ∙ (ap (slice_set old.slots t) left ∙ sym b.1.slots)) (a.2 ∙ sym b.2)
 
-named_or_fails : (t : ℕ) (p : Option (Piece DeviceMemory)) (name : List ℕ) (host : Bool) (r : Refusal) (old new next : ModelState) → RenameStep t p name host Done old new → RenameStep t p name host (Fails r) old next → ⊥
+pub named_or_fails : (t : ℕ) (p : Option (Piece DeviceMemory)) (name : List ℕ) (host : Bool) (r : Refusal) (old new next : ModelState) → RenameStep t p name host Done old new → RenameStep t p name host (Fails r) old next → ⊥
 named_or_fails t None name host r old new next a b = false_true (sym b.0 ∙ a.0)
 named_or_fails t (Some p) name host r old new next a b =
     ⊎_elim (λ starved. false_true (sym starved.0 ∙ a.0)) (λ dead. dead.0 a.1.live) b.0
 
-rename_fails_once : (setup : Setup) (t : ℕ) (p : Option (Piece DeviceMemory)) (name : List ℕ) (host : Bool) (r s : Refusal) (old new next : ModelState) → AreAllSound setup.properties old.slots
+pub rename_fails_once : (setup : Setup) (t : ℕ) (p : Option (Piece DeviceMemory)) (name : List ℕ) (host : Bool) (r s : Refusal) (old new next : ModelState) → AreAllSound setup.properties old.slots
     → RenameStep t p name host (Fails r) old new → RenameStep t p name host (Fails s) old next → (r ≡ s) × (new ≡ next)
 rename_fails_once setup t None name host r s old new next sound a b = (a.1 ∙ sym b.1, a.2 ∙ sym b.2)
 rename_fails_once setup t (Some p) name host r s old new next sound a b = (
@@ -335,7 +335,7 @@ rename_once setup t p name host x y old new next sound a b =
 -- ---- what is shown and told
 
 -- a reply to a call that shows something, or wants host memory
-shown_reply : (host : Bool) (x : Reply) (old new : ModelState) → ReportStep host x old new → (new ≡ old) × (((host ≡ true) × (x ≡ Shows (whole_report old.slots))) ⊎ ((host ≡ false) × (x ≡ Fails host_out_of_memory)))
+pub shown_reply : (host : Bool) (x : Reply) (old new : ModelState) → ReportStep host x old new → (new ≡ old) × (((host ≡ true) × (x ≡ Shows (whole_report old.slots))) ⊎ ((host ≡ false) × (x ≡ Fails host_out_of_memory)))
 shown_reply host (Given u q) old new s = absurd s
 shown_reply host (Fails r) old new s = (s.2, inr (s.0, ap Fails s.1))
 shown_reply host Done old new s = absurd s
@@ -344,7 +344,7 @@ shown_reply host (Sum n) old new s = absurd s
 shown_reply host (Shows w) old new s = (s.2, inl (s.0, ap Shows s.1))
 shown_reply host (Tells zs) old new s = absurd s
 
-told_reply : (host : Bool) (x : Reply) (old new : ModelState) → LeaksStep host x old new → (new ≡ old) × (((host ≡ true) × (x ≡ Tells (map leak_text (all_leaks old.slots)))) ⊎ ((host ≡ false) × (x ≡ Fails host_out_of_memory)))
+pub told_reply : (host : Bool) (x : Reply) (old new : ModelState) → LeaksStep host x old new → (new ≡ old) × (((host ≡ true) × (x ≡ Tells (map leak_text (all_leaks old.slots)))) ⊎ ((host ≡ false) × (x ≡ Fails host_out_of_memory)))
 told_reply host (Given u q) old new s = absurd s
 told_reply host (Fails r) old new s = (s.2, inr (s.0, ap Fails s.1))
 told_reply host Done old new s = absurd s
@@ -353,7 +353,7 @@ told_reply host (Sum n) old new s = absurd s
 told_reply host (Shows w) old new s = absurd s
 told_reply host (Tells zs) old new s = (s.2, inl (s.0, ap Tells s.1))
 
-by_host : (host : Bool) (x y a b : Reply) → ((host ≡ true) × (x ≡ a)) ⊎ ((host ≡ false) × (x ≡ b)) → ((host ≡ true) × (y ≡ a)) ⊎ ((host ≡ false) × (y ≡ b)) → x ≡ y
+pub by_host : (host : Bool) (x y a b : Reply) → ((host ≡ true) × (x ≡ a)) ⊎ ((host ≡ false) × (x ≡ b)) → ((host ≡ true) × (y ≡ a)) ⊎ ((host ≡ false) × (y ≡ b)) → x ≡ y
 by_host host x y a b h k =
     ⊎_elim
     (λ p. ⊎_elim (λ q. p.1 ∙ sym q.1) (λ q. absurd (false_true (sym q.0 ∙ p.0))) k)
@@ -376,7 +376,7 @@ read_once setup a s (Some xs) (Some ys) h k = sym h.1 ∙ k.1
 
 -- ---- the replies that a call may give
 
-write_reply : (setup : Setup) (a : Allocation) (ws : List ℕ) (o : Outcomes) (x : Reply) (old new : ModelState) → Step setup (Write a ws) o x old new → (x ≡ Done) × WriteStep setup a ws old new
+pub write_reply : (setup : Setup) (a : Allocation) (ws : List ℕ) (o : Outcomes) (x : Reply) (old new : ModelState) → Step setup (Write a ws) o x old new → (x ≡ Done) × WriteStep setup a ws old new
 write_reply setup a ws o (Given u q) old new s = absurd s
 write_reply setup a ws o (Fails r) old new s = absurd s
 write_reply setup a ws o Done old new s = (refl, s.1)
@@ -385,7 +385,7 @@ write_reply setup a ws o (Sum n) old new s = absurd s
 write_reply setup a ws o (Shows w) old new s = absurd s
 write_reply setup a ws o (Tells zs) old new s = absurd s
 
-read_reply : (setup : Setup) (a : Allocation) (o : Outcomes) (x : Reply) (old new : ModelState) → Step setup (Read a) o x old new → (xs : Option (List ℕ)) × (x ≡ Bytes xs) × IsRead setup a old xs × (new ≡ old)
+pub read_reply : (setup : Setup) (a : Allocation) (o : Outcomes) (x : Reply) (old new : ModelState) → Step setup (Read a) o x old new → (xs : Option (List ℕ)) × (x ≡ Bytes xs) × IsRead setup a old xs × (new ≡ old)
 read_reply setup a o (Given u q) old new s = absurd s
 read_reply setup a o (Fails r) old new s = absurd s
 read_reply setup a o Done old new s = absurd s
@@ -394,7 +394,7 @@ read_reply setup a o (Sum n) old new s = absurd s
 read_reply setup a o (Shows w) old new s = absurd s
 read_reply setup a o (Tells zs) old new s = absurd s
 
-sum_reply : (setup : Setup) (o : Outcomes) (x : Reply) (old new : ModelState) → Step setup Capacity o x old new → (x ≡ Sum (total_capacity old.slots)) × (new ≡ old)
+pub sum_reply : (setup : Setup) (o : Outcomes) (x : Reply) (old new : ModelState) → Step setup Capacity o x old new → (x ≡ Sum (total_capacity old.slots)) × (new ≡ old)
 sum_reply setup o (Given u q) old new s = absurd s
 sum_reply setup o (Fails r) old new s = absurd s
 sum_reply setup o Done old new s = absurd s

@@ -17,3 +17,5 @@ pub mod Apart
 pub mod Rename
 pub mod Reports
 pub mod Leaks
+pub mod Alike
+pub mod Untouched

@@ -1,5 +1,5 @@
 -- An allocation, as its owner holds it, and the piece that it stands for.
-use Rattle.std.specs.Prelude.{◌≡◌, ℕ, ◌-◌, ◌^◌, ◌==◌, Bool, true, false, List, slice_get, Option, Some, None, IfSome, IsSomeAnd, string_bytes}
+use Rattle.std.specs.Prelude.{◌≡◌, ℕ, ◌-◌, ◌^◌, ◌==◌, Bool, true, false, List, slice_get, Option, Some, None, IsSomeAnd, string_bytes}
 use Rattle.std.specs.Option.{option_map}
 use Rattle.gpu_core.specs.TypeRelease.{IsLive as IsLivePiece}
 use Rattle.gpu_core.specs.declared.memory_type.Piece.{Piece}
@@ -48,7 +48,7 @@ IsLive slots a = IsLiveIn slots a.memory_type_index (piece_of a)
 pub record IsGiven (setup : Setup) (t : ℕ) (d : AllocationCreateDesc) (p : Piece DeviceMemory) (a : Allocation) : Type 0 where
   pub piece : piece_of a ≡ Some p
   pub memory_type : a.memory_type_index ≡ t
-  pub memory : IfSome (slice_get setup.properties.types t) (λ info. (a.memory_properties ≡ info.property_flags) × (a.mapped ≡ is_host_visible info))
+  pub memory : IsSomeAnd (slice_get setup.properties.types t) (λ info. (a.memory_properties ≡ info.property_flags) × (a.mapped ≡ is_host_visible info))
   pub dedicated : a.dedicated ≡ is_own d.allocation_scheme
   pub name : IsSomeAnd a.name (λ s. string_bytes s ≡ d.name.now)
 

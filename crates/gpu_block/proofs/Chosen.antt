@@ -1,13 +1,14 @@
 -- What the search finds among the chunks is the chosen gap of the block.
 use Rattle.std.proofs.Common.{◌≡◌, ◌≢◌, ℕ, suc, ◌+◌, ◌≤◌, List, [], ◌∷◌, ◌++◌, length, refl, sym, ap, ◌∙◌, subst, inl, inr, arith}
 use Rattle.std.proofs.lemmas.List.{append_assoc, length-append}
-use Rattle.gpu_block.specs.declared.chunk.Chunk.{Chunk}
+use Rattle.gpu_chain.specs.declared.chunk.Chunk.{Chunk}
 use Rattle.gpu_block.specs.declared.free_list.place.Wanted.{Wanted}
-use Rattle.gpu_block.specs.declared.free_list.search.Found.{Found}
+use Rattle.gpu_block.specs.Chunks.{FoundAt}
 use Rattle.gpu_values.specs.declared.allocation_type.AllocationType.{AllocationType}
 use Rattle.gpu_values.specs.declared.allocation_type.AllocationType.TheVariants.{Free, Linear, NonLinear}
 use Rattle.gpu_block.specs.Place.{OtherEnds, OtherStarts, FitsBetween, Fits, IsBestFit}
-use Rattle.gpu_block.specs.Chunks.{IsFree, Covers, NoneTouch, last_kind, first_kind, Differ, extent, free_list_of, FitsAt, IsBestOf, NoneFits, size_at}
+use Rattle.gpu_chain.specs.ChunkList.{IsFree, Covers}
+use Rattle.gpu_block.specs.Chunks.{NoneTouch, last_kind, first_kind, Differ, extent, free_list_of, FitsAt, IsBestOf, NoneFits, size_at}
 use Rattle.gpu_block.proofs.Tiling.{Around, around, Covers-le, last_kind-push, size_at-split}
 use Rattle.gpu_block.proofs.Views.{member_of, contains_chunk, earlier, same, later}
 use Rattle.gpu_block.proofs.Gaps.{Placed, placed_at, left_of, order_in, gap_of_chunk, FreeChunk, chunk_of_gap}
@@ -21,7 +22,7 @@ differ_from NonLinear Free live piece ne = piece refl
 differ_from NonLinear Linear live piece ne = tt
 differ_from NonLinear NonLinear live piece ne = ne refl
 
-differ_live : (k kind : AllocationType) → Differ k kind → IsFree k → ⊥
+pub differ_live : (k kind : AllocationType) → Differ k kind → IsFree k → ⊥
 differ_live Free kind d f = d
 differ_live Linear kind d f = f
 differ_live NonLinear kind d f = f
@@ -174,7 +175,7 @@ module _ (cs : List Chunk) (size n : ℕ) (w : Wanted) (name : List ℕ) (covers
       let len : length cs ≡ length c.0.front + suc (length c.0.back) = ap length c.0.split ∙ length-append c.0.front (c.0.chunk ∷ c.0.back) in
       none (length c.0.front) o (omega arith) c.1
 
-  pub chosen_of_best : (f : Found) → (b : IsBestOf cs w (length cs) f) → IsBestFit (free_list_of size w.granularity n cs) (record { size = w.size; alignment = w.alignment; kind = w.kind; name = name }) b.fits.chunk.start (b.fits.chunk.start + b.fits.chunk.size) f.offset
+  pub chosen_of_best : (f : FoundAt) → (b : IsBestOf cs w (length cs) f) → IsBestFit (free_list_of size w.granularity n cs) (record { size = w.size; alignment = w.alignment; kind = w.kind; name = name }) b.fits.chunk.start (b.fits.chunk.start + b.fits.chunk.size) f.offset
   chosen_of_best f b =
       let x = b.fits.chunk in
       let fsize : f.size ≡ x.size = b.size ∙ (ap (size_at cs) (sym b.fits.index) ∙ (ap (λ ys. size_at ys (length b.fits.front)) b.fits.split ∙ size_at-split b.fits.front x b.fits.back)) in

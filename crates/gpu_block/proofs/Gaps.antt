@@ -3,11 +3,12 @@ use Rattle.std.proofs.Common.{◌≡◌, ℕ, ◌+◌, ◌<◌, ◌≤◌, ◌�
 use Rattle.std.proofs.lemmas.List.{append_assoc}
 use Rattle.std.proofs.lemmas.List.Elements.{All-weaker, All-contains}
 use Rattle.std.proofs.lemmas.Bool.{cases_lt}
-use Rattle.gpu_block.specs.declared.chunk.Chunk.{Chunk}
+use Rattle.gpu_chain.specs.declared.chunk.Chunk.{Chunk}
 use Rattle.gpu_values.specs.declared.allocation_type.AllocationType.{AllocationType}
 use Rattle.gpu_values.specs.declared.allocation_type.AllocationType.TheVariants.{Free, Linear, NonLinear}
 use Rattle.gpu_block.specs.FreeList.{Extent, SomeExtent, IsGap}
-use Rattle.gpu_block.specs.Chunks.{IsFree, Covers, NotBothFree, NoneTouch, extent, extents_of, free_list_of}
+use Rattle.gpu_chain.specs.ChunkList.{IsFree, Covers}
+use Rattle.gpu_block.specs.Chunks.{NotBothFree, NoneTouch, extent, extents_of, free_list_of}
 use Rattle.gpu_block.proofs.Tiling.{Around, around, Covers-le}
 use Rattle.gpu_block.proofs.Edits.{snoc}
 use Rattle.gpu_block.proofs.Views.{free_or_live, Member, all_members, member_of, contains_chunk, Order, earlier, same, later, order_of}

@@ -1,7 +1,7 @@
 -- Lists in the order of a key, and edits of them.
 use Rattle.std.proofs.Common.{◌≡◌, ◌≢◌, ℕ, ◌<◌, ◌≤◌, List, [], ◌∷◌, ◌++◌, refl, ap, ◌∙◌, arith, true, false, cond, ltb, eqb, map}
 use Rattle.std.specs.Prelude.{All, filter, not}
-use Rattle.std.proofs.lemmas.List.Elements.{All-nil, All-cons, All-head, All-tail}
+use Rattle.std.proofs.lemmas.List.Elements.{All-head, All-tail}
 use Rattle.std.proofs.lemmas.Bool.Decides.{nat_tests}
 use Rattle.gpu_block.specs.Changes.{placed}
 
@@ -16,12 +16,6 @@ eq_false a b h = grind (arith, nat_tests)
 
 pub eq_true : (a b : ℕ) → a ≡ b → eqb a b ≡ true
 eq_true a b h = grind (arith, nat_tests)
-
-pub All-parts : {X : Type 0} (P : X → Type 0) (xs ys : List X) → All P (xs ++ ys) → All P xs × All P ys
-All-parts P [] ys h = (All-nil P, h)
-All-parts P (x ∷ xs) ys h =
-    let r = All-parts P xs ys (All-tail P x (xs ++ ys) h) in
-    (All-cons P x xs (All-head P x (xs ++ ys) h) r.0, r.1)
 
 module _ {X : Type 0} (key : X → ℕ) where
   pub placed-below : (x : X) (xs ys : List X) → All (λ y. key y < key x) xs → placed key x (xs ++ ys) ≡ xs ++ placed key x ys

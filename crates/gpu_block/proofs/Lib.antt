@@ -1,14 +1,12 @@
 pub mod Pages
 pub mod Lists
 pub mod Tiling
-pub mod Best
 pub mod Edits
 pub mod Views
 pub mod Gaps
 pub mod Chosen
 pub mod Keyed
 pub mod Takings
-pub mod Found
 pub mod Placing
 pub mod Releasing
 pub mod Separation
@@ -29,3 +27,12 @@ pub mod Texts
 pub mod Covering
 pub mod Blocks
 pub mod Shared
+pub mod Searches
+pub mod Indexing
+pub mod Updates
+pub mod Merges
+pub mod Choosing
+pub mod Spending
+pub mod Holding
+pub mod Costing
+pub mod Counting

@@ -9,7 +9,7 @@ use Rattle.gpu_values.specs.declared.error.AllocationError.{AllocationError}
 use Rattle.gpu_values.specs.declared.error.AllocationError.TheVariants.{HostOutOfMemory}
 use Rattle.gpu_values.specs.Refusal.{Refusal, refusal_of, internal, host_out_of_memory}
 use Rattle.gpu_block.specs.BlockRefusal.{IsRenameRefusal}
-use Rattle.gpu_block.specs.declared.chunk.Chunk.{Chunk}
+use Rattle.gpu_chain.specs.declared.chunk.Chunk.{Chunk}
 use Rattle.gpu_values.specs.declared.allocation_type.AllocationType.{AllocationType}
 use Rattle.gpu_values.specs.declared.allocation_type.AllocationType.TheVariants.{Free, Linear, NonLinear}
 use Rattle.gpu_block.specs.Chunks.{is_gap_by, gap_by, gaps_of, free_list_of, extent, HoldsNumber}

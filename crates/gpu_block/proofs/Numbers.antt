@@ -2,9 +2,10 @@
 use Rattle.std.proofs.Common.{◌≡◌, ◌≢◌, ℕ, ◌≤◌, List, [], ◌∷◌, ◌++◌, sym, ◌∙◌, subst, arith}
 use Rattle.std.specs.Prelude.{All}
 use Rattle.std.proofs.lemmas.List.Elements.{All-nil, All-cons, All-head, All-tail, All-weaker, All-append}
-use Rattle.gpu_block.specs.declared.chunk.Chunk.{Chunk}
-use Rattle.gpu_block.specs.Chunks.{AreDistinct, IsChunk, joined_chunk, cut_chunk}
-use Rattle.gpu_block.proofs.Keyed.{All-parts}
+use Rattle.gpu_chain.specs.declared.chunk.Chunk.{Chunk}
+use Rattle.gpu_chain.specs.ChunkList.{AreDistinct, joined_chunk, cut_chunk}
+use Rattle.gpu_block.specs.Chunks.{IsChunk}
+use Rattle.gpu_chain.proofs.Parts.{All-parts}
 
 abbrev pub Not : ℕ → Chunk → Type 0
 Not k d = d.number ≢ k

@@ -1,5 +1,5 @@
 -- Rounding up, and the page rule on the left of a gap.
-use Rattle.std.proofs.Common.{◌≡◌, ◌≢◌, ℕ, ◌+◌, ◌-◌, ◌*◌, ◌/◌, ◌%◌, ◌^◌, ◌<◌, ◌≤◌, Option, Some, None, MatchOption, inl, inr, arith}
+use Rattle.std.proofs.Common.{◌≡◌, ◌≢◌, ℕ, ◌+◌, ◌-◌, ◌*◌, ◌/◌, ◌%◌, ◌^◌, ◌<◌, ◌≤◌, Option, Some, None, MatchOption, ◌∙◌, inl, inr, arith}
 use Rattle.std.specs.Option.{SomeIff}
 use Rattle.std.proofs.lemmas.Nat.{div-add-mod', mul-le, mod_below, le-div}
 use Rattle.std.proofs.Math.Nat.{div-mul-le_self, lt-div-mul-add, mul-mod_left, mod_self, sub-zero, mod-eq_of_lt}
@@ -38,6 +38,19 @@ next_up x m pos =
           let same : next_multiple_of x m ≡ (x / m + 1) * m = omega arith in
           rw same (record { up = omega arith; near = omega arith; multiple = mul-mod_left (x / m + 1) m; least = λ o le e. next_multiple_above m o (x / m) pos e (omega arith) })
     ]
+
+over : (x m r : ℕ) → 0 < m → r ≡ x % m → (r ≡ 0 → ⊥) → x + (m - r) ≡ next_multiple_of x m
+over x m r pos e some =
+    let below : x % m < m = mod_below x m pos in
+    elim (cases_eq r 0) [
+      | inl none ↦ absurd (some none)
+      | inr ne ↦ let inner : (m - x % m) % m ≡ m - x % m = mod-eq_of_lt (omega arith) in omega arith
+    ]
+
+-- a sum that is the next multiple, if it is a `u64`
+pub up_some : (x m r : ℕ) (o : Option ℕ) → 0 < m → r ≡ x % m → (r ≡ 0 → ⊥) → SomeIff o (x + (m - r) < 2 ^ 64) (x + (m - r)) → SomeIff o ((0 < m) × (next_multiple_of x m < 2 ^ 64)) (next_multiple_of x m)
+up_some x m r None pos e some h = λ q. let s = over x m r pos e some in h (let l = q.1 in omega arith)
+up_some x m r (Some v) pos e some h = let s = over x m r pos e some in ((pos, let l = h.0 in omega arith), h.1 ∙ s)
 
 -- `first` is the least place from s on where a piece may begin but for its alignment
 pub record IsFirst (g : ℕ) (Other : Type 0) (s first : ℕ) : Type 0 where

@@ -2,9 +2,9 @@
 use Rattle.std.proofs.Common.{◌≡◌, ◌≢◌, ℕ, ◌+◌, ◌-◌, ◌^◌, ◌<◌, ◌≤◌, List, ◌∷◌, ◌++◌, length, refl, sym, ap, ◌∙◌, subst, inl, inr, arith, Bool, true, false}
 use Rattle.std.specs.Prelude.{Contains, String, string_bytes, Result, Ok, Err, IfErr, IsErrAnd}
 use Rattle.std.specs.declared.alloc.Global.{Global}
-use Rattle.gpu_block.specs.declared.chunk.Chunk.{Chunk}
+use Rattle.gpu_chain.specs.declared.chunk.Chunk.{Chunk}
 use Rattle.gpu_block.specs.declared.free_list.place.Wanted.{Wanted}
-use Rattle.gpu_block.specs.declared.free_list.search.Found.{Found}
+use Rattle.gpu_block.specs.Chunks.{FoundAt}
 use Rattle.gpu_values.specs.declared.allocation_type.AllocationType.{AllocationType}
 use Rattle.gpu_values.specs.declared.allocation_type.AllocationType.TheVariants.{Free, Linear, NonLinear}
 use Rattle.gpu_block.specs.FreeList.{Extent, FreeList}
@@ -13,7 +13,8 @@ use Rattle.gpu_block.specs.Changes.{Takes, with_extent, moved_gap, without_gap}
 use Rattle.gpu_block.specs.Place.{IsBestFit, Fits, HasNoPlace}
 use Rattle.gpu_block.specs.Request.{request}
 use Rattle.std.proofs.lemmas.Bool.{cases_lt, false≢true}
-use Rattle.gpu_block.specs.Chunks.{IsFree, AreChunks, IsChunk, free_list_of, extents_of, gaps_of, filled_chunk, piece_of, IsBestOf, NoneFits, TakenFrom, IsTaken, IsLaidOut}
+use Rattle.gpu_chain.specs.ChunkList.{IsFree, filled_chunk}
+use Rattle.gpu_block.specs.Chunks.{AreChunks, IsChunk, free_list_of, extents_of, gaps_of, piece_of, IsBestOf, NoneFits, TakenFrom, IsTaken, IsLaidOut}
 use Rattle.gpu_block.proofs.Takings.{rest_are, rest_extents, rest_gaps, whole_are, whole_extents, whole_gaps, whole_number, each_of}
 use Rattle.gpu_block.proofs.Chosen.{chosen_of_best, none_of_chunks}
 use Rattle.gpu_block.proofs.Determined.{best_has_place}
@@ -32,7 +33,7 @@ are_at cs ds size counter e h = subst (λ (xs : List Chunk). AreChunks xs size c
 pub laid_out : (cs : List Chunk) (size counter : ℕ) → size < 2 ^ 64 → AreChunks cs size counter → IsLaidOut cs
 laid_out cs size counter lt h = (size, lt, h.covers)
 
-module _ (cs new : List Chunk) (size counter : ℕ) (w : Wanted) (f : Found) (name : String Global) (number : ℕ) (are : AreChunks cs size counter) (pos : 0 < w.size) (piece : w.kind ≢ Free) (best : IsBestOf cs w (length cs) f) (taken : IsTaken cs f w counter name number new) where
+module _ (cs new : List Chunk) (size counter : ℕ) (w : Wanted) (f : FoundAt) (name : String Global) (number : ℕ) (are : AreChunks cs size counter) (pos : 0 < w.size) (piece : w.kind ≢ Free) (best : IsBestOf cs w (length cs) f) (taken : IsTaken cs f w counter name number new) where
   the_taken : TakenFrom best.fits.front best.fits.chunk best.fits.back f w counter name number new
   the_taken = taken best.fits.front best.fits.chunk best.fits.back best.fits.split best.fits.index
 
@@ -137,7 +138,7 @@ pub no_place_none : (cs : List Chunk) (size counter : ℕ) (w : Wanted) (v : Fre
 no_place_none cs size counter w v text are piece e none =
     inl (subst (λ b. (s e' o : ℕ) → Fits b (request w.size w.alignment w.kind text) s e' o → ⊥) e (none_of_chunks cs size counter w text are.covers are.none_touch piece none))
 
-pub no_place_counter : (cs : List Chunk) (size counter : ℕ) (w : Wanted) (v : FreeList) (text : List ℕ) (f : Found) → AreChunks cs size counter → w.kind ≢ Free → free_list_of size w.granularity counter cs ≡ v → (b : IsBestOf cs w (length cs) f) → f.offset + w.size < b.fits.chunk.start + b.fits.chunk.size → counter ≡ 2 ^ 64 - 1 → HasNoPlace v (request w.size w.alignment w.kind text)
+pub no_place_counter : (cs : List Chunk) (size counter : ℕ) (w : Wanted) (v : FreeList) (text : List ℕ) (f : FoundAt) → AreChunks cs size counter → w.kind ≢ Free → free_list_of size w.granularity counter cs ≡ v → (b : IsBestOf cs w (length cs) f) → f.offset + w.size < b.fits.chunk.start + b.fits.chunk.size → counter ≡ 2 ^ 64 - 1 → HasNoPlace v (request w.size w.alignment w.kind text)
 no_place_counter cs size counter w v text f are piece e b rest last =
     inr (
       b.fits.chunk.start,
@@ -158,7 +159,7 @@ Takes-at size g k counter after cs new v r o n number e h m t =
 pub not_rest : (rest : Bool) (a b : ℕ) → rest ≡ false → (a < b → rest ≡ true) → b ≤ a
 not_rest rest a b e h = elim (cases_lt a b) [ inl lt ↦ absurd (false≢true (sym e ∙ h lt)) | inr ge ↦ ge ]
 
-pub has_place : (cs : List Chunk) (size counter : ℕ) (w : Wanted) (v : FreeList) (text : List ℕ) (f : Found) → AreChunks cs size counter → w.kind ≢ Free → free_list_of size w.granularity counter cs ≡ v → (b : IsBestOf cs w (length cs) f) → (f.offset + w.size < b.fits.chunk.start + b.fits.chunk.size → counter < 2 ^ 64 - 1) → HasNoPlace v (request w.size w.alignment w.kind text) → ⊥
+pub has_place : (cs : List Chunk) (size counter : ℕ) (w : Wanted) (v : FreeList) (text : List ℕ) (f : FoundAt) → AreChunks cs size counter → w.kind ≢ Free → free_list_of size w.granularity counter cs ≡ v → (b : IsBestOf cs w (length cs) f) → (f.offset + w.size < b.fits.chunk.start + b.fits.chunk.size → counter < 2 ^ 64 - 1) → HasNoPlace v (request w.size w.alignment w.kind text) → ⊥
 has_place cs size counter w v text f are piece e b left =
     best_has_place v (request w.size w.alignment w.kind text) b.fits.chunk.start (b.fits.chunk.start + b.fits.chunk.size) f.offset
     (subst (λ x. IsBestFit x (request w.size w.alignment w.kind text) b.fits.chunk.start (b.fits.chunk.start + b.fits.chunk.size) f.offset) e (chosen_of_best cs size counter w text are.covers are.none_touch piece f b))

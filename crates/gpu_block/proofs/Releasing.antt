@@ -4,12 +4,13 @@ use Rattle.std.specs.Prelude.{All, String, not}
 use Rattle.std.specs.declared.alloc.Global.{Global}
 use Rattle.std.proofs.lemmas.List.{append_assoc, append-nil}
 use Rattle.std.proofs.lemmas.List.Elements.{All-nil, All-cons, All-head, All-tail, All-weaker, All-append, All-contains, filter-append}
-use Rattle.gpu_block.specs.declared.chunk.Chunk.{Chunk}
+use Rattle.gpu_chain.specs.declared.chunk.Chunk.{Chunk}
 use Rattle.gpu_values.specs.declared.allocation_type.AllocationType.{AllocationType}
 use Rattle.gpu_values.specs.declared.allocation_type.AllocationType.TheVariants.{Free, Linear, NonLinear}
 use Rattle.gpu_block.specs.FreeList.{Extent, IsGap, SomeExtent}
 use Rattle.gpu_block.specs.Changes.{with_gap, without_gap, without_extent, Releases}
-use Rattle.gpu_block.specs.Chunks.{IsFree, Covers, NotBothFree, NoneTouch, last_kind, AreChunks, IsChunk, extent, extents_of, gaps_of, free_list_of, filled_chunk, joined_chunk, join_back, join_front, HoldsNumber, IsReleasedAt, AreDistinct}
+use Rattle.gpu_chain.specs.ChunkList.{IsFree, Covers, filled_chunk, joined_chunk, join_back, join_front, AreDistinct}
+use Rattle.gpu_block.specs.Chunks.{NotBothFree, NoneTouch, last_kind, AreChunks, IsChunk, extent, extents_of, gaps_of, free_list_of, HoldsNumber, IsReleasedAt}
 use Rattle.gpu_block.proofs.Numbers.{Not, distinct_less, same_number, same_distinct, joined_number, joined_distinct}
 use Rattle.gpu_block.proofs.Tiling.{Around, around, Covers-join, last_kind-push}
 use Rattle.gpu_block.proofs.Edits.{join_front-push, join_kinds-free, join_kinds-live}

@@ -2,10 +2,11 @@
 use Rattle.std.proofs.Common.{◌≡◌, ℕ, ◌+◌, ◌<◌, ◌≤◌, List, [], ◌∷◌, ◌++◌, get_or, refl, sym, ap, ◌∙◌, subst, inl, inr, arith}
 use Rattle.std.specs.Prelude.{All, Contains}
 use Rattle.std.proofs.lemmas.List.Elements.{All-weaker, All-nil, All-cons, All-contains, Contains-append_cases}
-use Rattle.gpu_block.specs.declared.chunk.Chunk.{Chunk}
+use Rattle.gpu_chain.specs.declared.chunk.Chunk.{Chunk}
 use Rattle.gpu_block.specs.FreeList.{Extent}
 use Rattle.gpu_block.specs.Laws.{IsSound}
-use Rattle.gpu_block.specs.Chunks.{Covers, AreChunks, IsChunk, extent, extents_of, gaps_of, free_list_of, AreDistinct}
+use Rattle.gpu_chain.specs.ChunkList.{Covers, AreDistinct}
+use Rattle.gpu_block.specs.Chunks.{AreChunks, IsChunk, extent, extents_of, gaps_of, free_list_of}
 use Rattle.gpu_block.proofs.Tiling.{around, Covers-le}
 use Rattle.gpu_block.proofs.Views.{free_or_live, gaps-free, gaps-live, contains_mid, Member, all_members, member_of, earlier, same, later}
 use Rattle.gpu_block.proofs.Gaps.{order_in}

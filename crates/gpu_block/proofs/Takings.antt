@@ -2,17 +2,19 @@
 use Rattle.std.proofs.Common.{◌≡◌, ◌≢◌, ℕ, ◌+◌, ◌<◌, ◌≤◌, List, [], ◌∷◌, ◌++◌, refl, sym, ap, ◌∙◌, subst, inl, inr, arith}
 use Rattle.std.specs.Prelude.{All, Contains}
 use Rattle.std.proofs.lemmas.List.Elements.{All-nil, All-cons, All-head, All-tail, All-weaker, All-append}
-use Rattle.gpu_block.specs.declared.chunk.Chunk.{Chunk}
+use Rattle.gpu_chain.specs.declared.chunk.Chunk.{Chunk}
 use Rattle.gpu_values.specs.declared.allocation_type.AllocationType.{AllocationType}
 use Rattle.gpu_values.specs.declared.allocation_type.AllocationType.TheVariants.{Free, Linear, NonLinear}
 use Rattle.gpu_block.specs.FreeList.{Extent}
 use Rattle.gpu_block.specs.Changes.{with_extent, without_gap, moved_gap}
-use Rattle.gpu_block.specs.Chunks.{IsFree, Covers, NotBothFree, NoneTouch, last_kind, AreChunks, IsChunk, extent, extents_of, gaps_of, cut_chunk}
+use Rattle.gpu_chain.specs.ChunkList.{IsFree, Covers, cut_chunk}
+use Rattle.gpu_block.specs.Chunks.{NotBothFree, NoneTouch, last_kind, AreChunks, IsChunk, extent, extents_of, gaps_of}
 use Rattle.gpu_block.proofs.Tiling.{Around, around, Covers-le}
 use Rattle.gpu_block.proofs.Edits.{Covers-cut, Covers-like}
 use Rattle.gpu_block.proofs.Views.{free_or_live, extents-free, extents-live, gaps-free, gaps-live, extents-append, gaps-append, extents-split, contains_mid}
 use Rattle.gpu_block.proofs.Numbers.{distinct_cut, distinct_less, same_number, same_distinct}
-use Rattle.gpu_block.proofs.Keyed.{All-parts, placed-mid, kept_mid, changed_mid}
+use Rattle.gpu_chain.proofs.Parts.{All-parts}
+use Rattle.gpu_block.proofs.Keyed.{placed-mid, kept_mid, changed_mid}
 
 -- ---- where the extents and the gaps of a run of chunks lie
 

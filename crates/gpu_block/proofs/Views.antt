@@ -4,11 +4,12 @@ use Rattle.std.specs.Prelude.{All, Contains}
 use Rattle.std.specs.List.{cons_option}
 use Rattle.std.proofs.lemmas.List.{length-append, get_or_at}
 use Rattle.std.proofs.lemmas.List.Elements.{filter_map-append, All-nil, All-cons, All-weaker, All-contains}
-use Rattle.gpu_block.specs.declared.chunk.Chunk.{Chunk}
+use Rattle.gpu_chain.specs.declared.chunk.Chunk.{Chunk}
 use Rattle.gpu_values.specs.declared.allocation_type.AllocationType.{AllocationType}
 use Rattle.gpu_values.specs.declared.allocation_type.AllocationType.TheVariants.{Free, Linear, NonLinear}
 use Rattle.gpu_block.specs.FreeList.{Extent}
-use Rattle.gpu_block.specs.Chunks.{IsFree, Covers, extent, extent_by, gap_by, extents_of, gaps_of}
+use Rattle.gpu_chain.specs.ChunkList.{IsFree, Covers}
+use Rattle.gpu_block.specs.Chunks.{extent, extent_by, gap_by, extents_of, gaps_of}
 use Rattle.gpu_block.proofs.Tiling.{around, Covers-le}
 
 pub free_or_live : (k : AllocationType) → IsFree k ⊎ (IsFree k → ⊥)

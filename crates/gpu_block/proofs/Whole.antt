@@ -2,7 +2,7 @@
 use Rattle.std.proofs.Common.{◌≡◌, ℕ, ◌^◌, ◌<◌, List, [], ◌∷◌, refl, sym, subst, arith, Option, Some, None, MatchOption, IfSome}
 use Rattle.std.specs.Prelude.{All}
 use Rattle.std.proofs.lemmas.List.Elements.{All-nil, All-cons}
-use Rattle.gpu_block.specs.declared.chunk.Chunk.{Chunk}
+use Rattle.gpu_chain.specs.declared.chunk.Chunk.{Chunk}
 use Rattle.gpu_block.specs.Chunks.{IsLaidOut, IsChunk, IsWholeChunk}
 
 pub whole_laid_out : (o : Option Chunk) (cs : List Chunk) (size : ℕ) → MatchOption o (cs ≡ []) (λ c. cs ≡ c ∷ []) → 0 < size → size < 2 ^ 64 → IfSome o (IsWholeChunk size) → IsLaidOut cs

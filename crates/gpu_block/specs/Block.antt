@@ -5,6 +5,8 @@ use Rattle.std.specs.declared.num.NonZeroU64.{NonZeroU64}
 use Rattle.gpu_values.specs.declared.error.AllocationError.{AllocationError}
 use Rattle.gpu_block.specs.FreeList.{Extent, FreeList, SomeExtent, IsGap, extent_bytes}
 use Rattle.gpu_block.specs.Request.{Request}
+use Rattle.gpu_gap_index.specs.Cost.{Counts}
+use Rattle.gpu_block.specs.Search.{IsSearch}
 use Rattle.gpu_block.specs.Changes.{Takes, Releases, Renames}
 use Rattle.gpu_values.specs.Refusal.{Refusal, refusal_of}
 use Rattle.gpu_block.specs.BlockRefusal.{IsTakeRefusal, release_refusal, IsRenameRefusal}
@@ -106,3 +108,8 @@ IsCoveredBlock (dedicated b) = Unit {0}
 abbrev pub IsFitLaw : Block → Request → AllocationError → Type 0
 IsFitLaw (free_list b) r e = (s t : ℕ) → IsGap b s t → IsLongEnough b r s t → IsForNumbers b e
 IsFitLaw (dedicated b) r e = Unit {0}
+
+-- a search of a free list; a dedicated block is not searched
+unfoldable pub IsSearchIn : Block → Request → Counts → Counts → Type 0
+IsSearchIn (free_list b) r old new = IsSearch b r old new
+IsSearchIn (dedicated b) r old new = new ≡ old

@@ -1,19 +1,14 @@
 -- The sorted list of chunks behind a block: free chunks are its gaps, the others its extents.
-use Rattle.std.specs.Prelude.{◌≡◌, ◌≢◌, ℕ, ◌+◌, ◌-◌, ◌^◌, ◌<◌, ◌≤◌, ◌⊎◌, zero, suc, nat_lt, if◌then◌else◌, length, ◌++◌, List, [], ◌∷◌, All, Option, Some, None, String, string_bytes, Bool, false, ◌==◌, IsTrue, ◌↔◌}
+use Rattle.std.specs.Prelude.{◌≡◌, ℕ, ◌+◌, ◌-◌, ◌^◌, ◌<◌, ◌≤◌, ◌⊎◌, zero, suc, length, ◌++◌, List, [], ◌∷◌, All, Option, Some, None, String, string_bytes, Bool, false, ◌==◌}
 use Rattle.std.specs.declared.alloc.Global.{Global}
 use Rattle.std.specs.List.{filter_map}
 use Rattle.gpu_values.specs.declared.allocation_type.AllocationType.{AllocationType}
 use Rattle.gpu_values.specs.declared.allocation_type.AllocationType.TheVariants.{Free, Linear, NonLinear}
-use Rattle.gpu_block.specs.declared.chunk.Chunk.{Chunk}
+use Rattle.gpu_chain.specs.declared.chunk.Chunk.{Chunk}
+use Rattle.gpu_chain.specs.ChunkList.{IsFree, Covers, AreDistinct, cut_chunk, filled_chunk, join_back, join_front}
 use Rattle.gpu_block.specs.declared.free_list.place.Wanted.{Wanted}
-use Rattle.gpu_block.specs.declared.free_list.search.Found.{Found}
 use Rattle.gpu_block.specs.FreeList.{Extent, FreeList}
 use Rattle.gpu_block.specs.Place.{FitsBetween}
-
-abbrev pub IsFree : AllocationType → Type 0
-IsFree Free = Unit {0}
-IsFree Linear = ⊥
-IsFree NonLinear = ⊥
 
 abbrev pub extent : Chunk → Extent
 extent c = record { start = c.start; offset = c.offset; end = c.start + c.size; kind = c.kind; number = c.number; name = string_bytes c.name }
@@ -36,11 +31,6 @@ gaps_of cs = filter_map (λ c. gap_by c.kind c) cs
 
 abbrev pub free_list_of : ℕ → ℕ → ℕ → List Chunk → FreeList
 free_list_of size granularity counter cs = record { size = size; granularity = granularity; counter = counter; extents = extents_of cs; gap_numbers = gaps_of cs }
-
--- the chunks cover [from, to), one after another, and none is empty
-abbrev pub Covers : List Chunk → ℕ → ℕ → Type 0
-Covers [] from to = from ≡ to
-Covers (c ∷ cs) from to = (c.start ≡ from) × (0 < c.size) × Covers cs (from + c.size) to
 
 abbrev pub NotBothFree : AllocationType → AllocationType → Type 0
 NotBothFree Free Free = ⊥
@@ -68,11 +58,6 @@ pub record IsWholeChunk (size : ℕ) (c : Chunk) : Type 0 where
   pub first : c.number ≡ 1
   pub live : IsFree c.kind → ⊥
 
--- no two chunks have one number
-abbrev pub AreDistinct : List Chunk → Type 0
-AreDistinct [] = Unit {0}
-AreDistinct (c ∷ cs) = All (λ d. d.number ≢ c.number) cs × AreDistinct cs
-
 pub record AreChunks (cs : List Chunk) (size counter : ℕ) : Type 0 where
   pub covers : Covers cs 0 size
   pub none_touch : NoneTouch Linear cs
@@ -80,6 +65,12 @@ pub record AreChunks (cs : List Chunk) (size counter : ℕ) : Type 0 where
   pub distinct : AreDistinct cs
 
 -- ---- the search
+
+-- a chunk in which a request fits: its place in the list, the request's offset, and the chunk's length
+pub record FoundAt : Type 0 where
+  pub index : ℕ
+  pub offset : ℕ
+  pub size : ℕ
 
 -- pieces of these two kinds may not share a page
 abbrev pub Differ : AllocationType → AllocationType → Type 0
@@ -117,16 +108,11 @@ pub record FitsAt (cs : List Chunk) (w : Wanted) (i offset : ℕ) : Type 0 where
   pub between : FitsBetween w.granularity w.alignment w.size (Differ (last_kind Free front) w.kind) (Differ (first_kind back) w.kind) chunk.start (chunk.start + chunk.size) offset
 
 -- of the first n chunks, the shortest one in which the request fits, and of equal ones the first
-pub record IsBestOf (cs : List Chunk) (w : Wanted) (n : ℕ) (f : Found) : Type 0 where
+pub record IsBestOf (cs : List Chunk) (w : Wanted) (n : ℕ) (f : FoundAt) : Type 0 where
   pub below : f.index < n
   pub size : f.size ≡ size_at cs f.index
   pub fits : FitsAt cs w f.index f.offset
   pub best : (k o : ℕ) → k < n → FitsAt cs w k o → (f.size < size_at cs k) ⊎ ((f.size ≡ size_at cs k) × (f.index ≤ k))
-
--- the shorter of the two, and the earlier one where they are equal
-abbrev pub shorter_of : Option Found → Found → Found
-shorter_of None f = f
-shorter_of (Some b) f = if nat_lt f.size b.size then f else b
 
 abbrev pub NoneFits : List Chunk → Wanted → ℕ → Type 0
 NoneFits cs w n = (k o : ℕ) → k < n → FitsAt cs w k o → ⊥
@@ -152,21 +138,6 @@ pub record HoldsNumber (cs : List Chunk) (number i : ℕ) : Type 0 where
   pub live : IsFree chunk.kind → ⊥
   pub numbered : chunk.number ≡ number
 
--- what each change of the i-th chunk leaves, however the list is split there
-abbrev pub cut_chunk : Chunk → ℕ → Chunk
-cut_chunk c taken = record c { start = c.start + taken; size = c.size - taken; offset = c.start + taken }
-
-abbrev pub IsCutAt : List Chunk → ℕ → Chunk → List Chunk → Type 0
-IsCutAt old i piece new =
-    (front : List Chunk) (c : Chunk) (back : List Chunk) → old ≡ front ++ c ∷ back → length front ≡ i → new ≡ front ++ piece ∷ cut_chunk c piece.size ∷ back
-
-abbrev pub filled_chunk : Chunk → ℕ → AllocationType → String Global → Chunk
-filled_chunk c offset kind name = record c { offset = offset; kind = kind; name = name }
-
-abbrev pub IsFilledAt : List Chunk → ℕ → ℕ → AllocationType → String Global → List Chunk → Type 0
-IsFilledAt old i offset kind name new =
-    (front : List Chunk) (c : Chunk) (back : List Chunk) → old ≡ front ++ c ∷ back → length front ≡ i → new ≡ front ++ filled_chunk c offset kind name ∷ back
-
 abbrev pub named_chunk : Chunk → String Global → Chunk
 named_chunk c name = record c { name = name }
 
@@ -174,57 +145,19 @@ abbrev pub IsNamedAt : List Chunk → ℕ → String Global → List Chunk → T
 IsNamedAt old i name new =
     (front : List Chunk) (c : Chunk) (back : List Chunk) → old ≡ front ++ c ∷ back → length front ≡ i → new ≡ front ++ named_chunk c name ∷ back
 
-abbrev pub joined_chunk : Chunk → Chunk → Chunk
-joined_chunk a b = record a { size = a.size + b.size }
-
-abbrev pub IsJoinedAt : List Chunk → ℕ → List Chunk → Type 0
-IsJoinedAt old i new =
-    (front : List Chunk) (a b : Chunk) (back : List Chunk) → old ≡ front ++ a ∷ b ∷ back → length front ≡ i → new ≡ front ++ joined_chunk a b ∷ back
-
--- a chunk before a list, joined with its first one if that is free
-abbrev pub join_kinds : AllocationType → Chunk → Chunk → List Chunk → List Chunk
-join_kinds Free a b cs = joined_chunk a b ∷ cs
-join_kinds Linear a b cs = a ∷ b ∷ cs
-join_kinds NonLinear a b cs = a ∷ b ∷ cs
-
-abbrev pub join_back : Chunk → List Chunk → List Chunk
-join_back c [] = c ∷ []
-join_back c (b ∷ bs) = join_kinds b.kind c b bs
-
--- a list before a chunk, joined with that one if its last one is free
-abbrev pub join_front : List Chunk → List Chunk → List Chunk
-join_front [] back = back
-join_front (a ∷ []) [] = a ∷ []
-join_front (a ∷ []) (c ∷ back) = join_kinds a.kind a c back
-join_front (a ∷ b ∷ front) back = a ∷ join_front (b ∷ front) back
-
-abbrev pub IsJoinedBehind : List Chunk → ℕ → List Chunk → Type 0
-IsJoinedBehind old i new =
-    (front : List Chunk) (c : Chunk) (back : List Chunk) → old ≡ front ++ c ∷ back → length front ≡ i → new ≡ front ++ join_back c back
-
-abbrev pub IsJoinedBefore : List Chunk → ℕ → List Chunk → Type 0
-IsJoinedBefore old i new =
-    (front : List Chunk) (c : Chunk) (back : List Chunk) → old ≡ front ++ c ∷ back → length front ≡ i → new ≡ join_front front (c ∷ back)
-
 abbrev pub IsReleasedAt : List Chunk → ℕ → String Global → List Chunk → Type 0
 IsReleasedAt old i empty new =
     (front : List Chunk) (c : Chunk) (back : List Chunk) → old ≡ front ++ c ∷ back → length front ≡ i →
     new ≡ join_front front (join_back (filled_chunk c c.start Free empty) back)
 
--- whether the piece ends before its chunk does
-abbrev pub LeavesRest : List Chunk → Found → Wanted → Bool → Type 0
-LeavesRest cs f w rest =
-    (front : List Chunk) (c : Chunk) (back : List Chunk) → cs ≡ front ++ c ∷ back → length front ≡ f.index →
-    IsTrue rest ↔ (f.offset + w.size < c.start + c.size)
-
-abbrev pub piece_of : Chunk → Found → Wanted → ℕ → String Global → Chunk
+abbrev pub piece_of : Chunk → FoundAt → Wanted → ℕ → String Global → Chunk
 piece_of c f w number name = record { start = c.start; size = f.offset + w.size - c.start; offset = f.offset; kind = w.kind; number = number; name = name }
 
 -- the chunk c between front and back was given to the piece, or its front was
-pub record TakenFrom (front : List Chunk) (c : Chunk) (back : List Chunk) (f : Found) (w : Wanted) (counter : ℕ) (name : String Global) (number : ℕ) (new : List Chunk) : Type 0 where
+pub record TakenFrom (front : List Chunk) (c : Chunk) (back : List Chunk) (f : FoundAt) (w : Wanted) (counter : ℕ) (name : String Global) (number : ℕ) (new : List Chunk) : Type 0 where
   pub rest : f.offset + w.size < c.start + c.size → (number ≡ counter) × (new ≡ front ++ piece_of c f w counter name ∷ cut_chunk c (f.offset + w.size - c.start) ∷ back)
   pub whole : c.start + c.size ≤ f.offset + w.size → (number ≡ c.number) × (new ≡ front ++ filled_chunk c f.offset w.kind name ∷ back)
 
-abbrev pub IsTaken : List Chunk → Found → Wanted → ℕ → String Global → ℕ → List Chunk → Type 0
+abbrev pub IsTaken : List Chunk → FoundAt → Wanted → ℕ → String Global → ℕ → List Chunk → Type 0
 IsTaken old f w counter name number new =
     (front : List Chunk) (c : Chunk) (back : List Chunk) → old ≡ front ++ c ∷ back → length front ≡ f.index → TakenFrom front c back f w counter name number new

@@ -2,6 +2,7 @@
 use Rattle.std.specs.Prelude.{Option, Some, None, ◌+◌, ◌≡◌, ℕ, ◌<◌, ◌≤◌, ◌⊎◌, ◌-◌, ◌==◌, Bool, List, [], ◌∷◌, All, Contains}
 use Rattle.std.specs.List.{sum_by, list_any}
 use Rattle.gpu_values.specs.declared.allocation_type.AllocationType.{AllocationType}
+use Rattle.gpu_gap_index.specs.Cost.{Counts}
 
 -- [start, end) belongs to one live piece, which begins at `offset`; what lies before that is padding
 pub record Extent : Type 0 where
@@ -19,6 +20,11 @@ pub record FreeList : Type 0 where
   pub counter : ℕ
   pub extents : List Extent
   pub gap_numbers : List (ℕ × ℕ)
+
+-- a block, and what its searches cost so far
+pub record Counted : Type 0 where
+  pub block : FreeList
+  pub cost : Counts
 
 -- a block without pieces is one gap, with number 1
 abbrev pub fresh_free_list : ℕ → ℕ → ℕ → FreeList

@@ -6,8 +6,8 @@ ghost use Rattle.gpu_values.specs.Refusal.{refusal_of, internal};
 ghost use Rattle.gpu_values.specs.declared.error.AllocationError.TheVariants.{HostOutOfMemory};
 
 use crate::Leaks;
-use crate::chunk::Chunk;
 use crate::rows::rows_of;
+use gpu_chain::{Chunk, Walk};
 use gpu_values::{AllocationError, AllocationReport, AllocationType, Result, internal_fault};
 use std::alloc::Global;
 use std::marker::Model;
@@ -163,7 +163,7 @@ impl DedicatedBlockAllocator {
         ensures rows { IfOk result (λ v. map row_of v.items ≡ map extent_row (held_extents self.now)) }
         ensures cause { IfErr result (λ e. e ≡ HostOutOfMemory) }
     {
-        let rows = rows_of(self.alloc, self.piece.as_slice())?;
+        let rows = rows_of(self.alloc, Walk::of_list(self.piece.as_slice()))?;
         Ok(rows)
     }
 
@@ -175,7 +175,7 @@ impl DedicatedBlockAllocator {
             memory_type,
             memory_block,
             general: false,
-            rest: self.piece.as_slice(),
+            rest: Walk::of_list(self.piece.as_slice()),
         }
     }
 }

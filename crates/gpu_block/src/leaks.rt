@@ -7,7 +7,7 @@ ghost use Rattle.std.specs.Iterator.{YieldsFirst, item_count};
 ghost use Rattle.gpu_block.specs.Chunks.{extent, extents_of};
 ghost use Rattle.gpu_block.specs.Leak.{leak_text, block_lines, piece_text, chunk_text, dedicated_text, number_line, size_line, start_line, kind_line, name_line, kind_name};
 
-use crate::chunk::{Chunk, is_free};
+use gpu_chain::{Chunk, Walk, is_free};
 use gpu_values::{AllocationType, Result};
 use std::alloc::Global;
 use std::fmt;
@@ -37,7 +37,7 @@ pub struct Leaks<'a> {
     pub(crate) memory_type: usize,
     pub(crate) memory_block: usize,
     pub(crate) general: bool,
-    pub(crate) rest: &'a [Chunk],
+    pub(crate) rest: Walk<'a>,
 }
 
 impl<'a> Model for Leaks<'a> {
@@ -47,21 +47,19 @@ impl<'a> Model for Leaks<'a> {
 
     ghost Value = { List LeakOf };
 
-    ghost view = { λ l. map (leak_of l.memory_type l.memory_block l.general) (extents_of l.rest.now) };
+    ghost view = { λ l. map (leak_of l.memory_type l.memory_block l.general) (extents_of l.rest) };
 }
 
-/// The first chunk that isn't free, and those behind it.
-fn first_piece(chunks: &[Chunk]) -> Option<(&Chunk, &[Chunk])>
+/// The first chunk that isn't free; those behind it are left.
+fn first_piece<'a>(chunks: &mut Walk<'a>) -> Option<&'a Chunk>
     ensures { MatchOption result
-        (extents_of chunks.now ≡ [])
-        (λ p. extents_of chunks.now ≡ extent p.0.now ∷ extents_of p.1.now) }
+        ((extents_of chunks.old ≡ []) × (extents_of chunks.new ≡ []))
+        (λ c. extents_of chunks.old ≡ extent c.now ∷ extents_of chunks.new) }
 {
-    let mut rest = chunks;
-    while let Some((chunk, after)) = rest.split_first() {
+    while let Some(chunk) = chunks.next() {
         if !is_free(chunk.kind) {
-            return Some((chunk, after));
+            return Some(chunk);
         }
-        rest = after;
     }
     None
 }
@@ -74,8 +72,7 @@ impl<'a> Iterator for Leaks<'a> {
     ghost remaining = { item_count (λ s. s) };
 
     fn next(&mut self) -> Option<Leak<'a>> {
-        let (chunk, rest) = first_piece(self.rest)?;
-        self.rest = rest;
+        let chunk = first_piece(&mut self.rest)?;
         Some(Leak {
             memory_type: self.memory_type,
             memory_block: self.memory_block,

@@ -1,7 +1,6 @@
 // One block of GPU memory: which piece lies where, and what reports and leaks say of it. It holds no memory of a device.
 #![tactic(auto)]
 
-mod chunk;
 mod dedicated_block;
 mod free_list;
 pub mod laws;

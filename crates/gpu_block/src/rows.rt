@@ -1,11 +1,12 @@
 //! The rows of a report, one for each piece.
 
-ghost use Rattle.std.specs.Prelude.{◌≡◌, ℕ, ◌+◌, [], ◌∷◌, ◌++◌, map, All, IfOk, OnOk, string_bytes};
-ghost use Rattle.gpu_block.specs.Chunks.{IsLaidOut, IsChunk, extents_of};
+ghost use Rattle.std.specs.Prelude.{◌≡◌, ℕ, ◌+◌, ◌^◌, ◌<◌, [], ◌∷◌, ◌++◌, map, All, IfOk, OnOk, string_bytes};
+ghost use Rattle.gpu_chain.specs.ChunkList.{Covers};
+ghost use Rattle.gpu_block.specs.Chunks.{IsChunk, extents_of};
 ghost use Rattle.gpu_values.specs.Report.{row_of};
 ghost use Rattle.gpu_block.specs.Rows.{extent_row};
 
-use crate::chunk::{Chunk, is_free};
+use gpu_chain::{Chunk, Walk, is_free};
 use gpu_values::AllocationReport;
 use std::alloc::{AllocError, Global};
 
@@ -29,13 +30,14 @@ fn add(rows: &mut Vec<AllocationReport>, row: AllocationReport) -> Result<(), Al
 }
 
 /// One row for each piece, in the order of the chunks.
-pub fn rows_of(alloc: Global, chunks: &[Chunk]) -> Result<Vec<AllocationReport>, AllocError>
-    requires laid_out { IsLaidOut chunks.now }
-    requires each { (counter : ℕ) × All (IsChunk counter) chunks.now }
-    ensures { IfOk result (λ v. map row_of v.items ≡ map extent_row (extents_of chunks.now)) }
+pub fn rows_of(alloc: Global, chunks: Walk<'_>) -> Result<Vec<AllocationReport>, AllocError>
+    requires laid_out { (from : ℕ) × (to : ℕ) × (to < 2 ^ 64) × Covers chunks from to }
+    requires each { (counter : ℕ) × All (IsChunk counter) chunks }
+    ensures { IfOk result (λ v. map row_of v.items ≡ map extent_row (extents_of chunks.entry)) }
 {
+    let mut chunks = chunks;
     let mut rows = Vec::new(alloc);
-    for chunk in chunks {
+    while let Some(chunk) = chunks.next() {
         if !is_free(chunk.kind) {
             let row = row_of(alloc, chunk, chunk.start + chunk.size - chunk.offset)?;
             add(&mut rows, row)?;

@@ -22,15 +22,16 @@ pub enum SubAllocator {
 }
 
 impl SubAllocator {
-    ghost use Rattle.gpu_block.specs.SubAllocator.{block_of};
+    ghost use Rattle.gpu_block.specs.SubAllocator.{block_of, cost_of};
     ghost use Rattle.gpu_block.specs.FreeList.{FindsPlace};
     ghost use Rattle.gpu_block.specs.Leak.{leaks_of, leak_text};
-    ghost use Rattle.gpu_block.specs.Block.{extents_of, size_of, allocated_bytes, is_general, HasPages, TakesIn, IsTakeRefusalIn, ReleasesIn, IsReleaseRefusalIn, RenamesIn, IsRenameRefusalIn, IsSoundBlock, HasPagesApart, IsCoveredBlock, IsFitLaw};
+    ghost use Rattle.gpu_block.specs.Block.{extents_of, size_of, allocated_bytes, is_general, HasPages, TakesIn, IsTakeRefusalIn, ReleasesIn, IsReleaseRefusalIn, RenamesIn, IsRenameRefusalIn, IsSoundBlock, HasPagesApart, IsCoveredBlock, IsFitLaw, IsSearchIn};
 
     /// Takes a place for `size` bytes, and answers the piece's offset and number. A free list takes the least place in
     /// the shortest gap that fits, and refuses by `OutOfMemory` where there is none. A dedicated block takes a piece of
     /// its own size alone: `OutOfMemory` where it is taken, else `Internal` on another size. `HostOutOfMemory` comes
     /// only where there is a place. A refusal leaves the block as it was.
+    #[tactic(auto, unfolding(crate::specs::Block::IsSearchIn))]
     pub fn allocate(
         &mut self,
         size: u64,
@@ -54,6 +55,8 @@ impl SubAllocator {
         ensures separated { OnOk result (HasPagesApart (block_of self.new)) }
         ensures covered { OnOk result (IsCoveredBlock (block_of self.new)) }
         ensures law { IfErr result (λ e. IsFitLaw (block_of self.old) (request size alignment kind name.now) e) }
+        // what the search for the place cost
+        ensures cost { IsSearchIn (block_of self.old) (request size alignment kind name.now) (cost_of self.old) (cost_of self.new) }
     {
         match self {
             SubAllocator::FreeList(list) => list.allocate(size, alignment, kind, granularity, name),

@@ -7,6 +7,7 @@ ghost use Rattle.std.specs.Int.{is_power_of_two};
 
 mod free_list;
 mod leaks;
+mod search;
 mod sub_allocator;
 
 use super::*;
@@ -25,7 +26,7 @@ fn check_text<D: Display>(rt: &impl Abort, alloc: Global, value: &D, want: &str)
 }
 
 fn block_of(rt: &impl Abort, alloc: Global, granularity: u64) -> Result<FreeListAllocator>
-    ensures { IfOk result (λ b. b.granularity ≡ granularity) }
+    ensures { IfOk result (λ b. b.block.granularity ≡ granularity) }
 {
     assert!(rt; granularity.is_power_of_two());
     FreeListAllocator::new(alloc, 4 * MB, granularity)

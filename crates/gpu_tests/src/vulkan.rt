@@ -7,6 +7,7 @@ mod refusals;
 mod refused;
 mod reports;
 mod rows;
+mod sessions;
 mod setups;
 mod slots;
 

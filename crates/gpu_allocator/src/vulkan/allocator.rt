@@ -4,7 +4,7 @@ ghost use Rattle.std.specs.Prelude.{◌≡◌, ◌↔◌, [], All, map, string_b
 ghost use Rattle.std.specs.Option.{unwrap_or};
 ghost use Rattle.gpu_core.specs.Refusal.{refusal_of, host_out_of_memory};
 ghost use Rattle.gpu_allocator.specs.Setup.{setup_fault};
-ghost use Rattle.gpu_allocator.specs.Blocks.{total_capacity, HoldsJustLiveBlocks};
+ghost use Rattle.gpu_allocator.specs.Blocks.{total_capacity, AreAllSound, HoldsJustLiveBlocks};
 ghost use Rattle.gpu_allocator.specs.Allocate.{Allocates};
 ghost use Rattle.gpu_allocator.specs.Free.{Frees};
 ghost use Rattle.gpu_allocator.specs.Apart.{IsInside, SharesNoByte, KeepsPages};
@@ -157,8 +157,9 @@ impl<D: VulkanDevice> Allocator<D> {
     }
 
     /// What holds of live allocations at any time, for callers' proofs: each lies inside its block, no two share a byte, and
-    /// those of different kinds share no page (`bufferImageGranularity`). It does nothing.
+    /// those of different kinds share no page (`bufferImageGranularity`). All blocks are sound. It does nothing.
     pub fn allocations_are_apart(&self)
+        ensures sound { AreAllSound self.now.setup.properties self.now.slots }
         ensures inside { (a : Allocation) → IsLive self.now.slots a → IsInside self.now.slots a }
         ensures apart { (a b : Allocation) → IsLive self.now.slots a → IsLive self.now.slots b → IsOther a b → SharesNoByte a b }
         ensures pages { (a b : Allocation) → IsLive self.now.slots a → IsLive self.now.slots b

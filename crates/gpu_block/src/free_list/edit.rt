@@ -1,227 +1,201 @@
-//! The changes of a list of chunks.
+//! The changes of the chunks of a block: each is one of the chain, and beside it one of the index.
 
-ghost use Rattle.std.specs.Prelude.{◌≡◌, ◌≢◌, ℕ, ◌+◌, ◌-◌, ◌^◌, ◌<◌, ◌≤◌, [], ◌∷◌, ◌++◌, length, vec_len, insert, IfOk, OnOk, OnErr, MatchOption, IsTrue, ◌↔◌, All};
-ghost use Rattle.gpu_block.specs.Chunks.{IsLaidOut, size_at, HoldsNumber, IsCutAt, IsFilledAt, IsNamedAt, is_gap_by, IsJoinedAt, IsJoinedBehind, IsJoinedBefore, IsReleasedAt, FitsAt, LeavesRest, IsTaken, IsChunk, extents_of};
-ghost use Rattle.gpu_block.specs.FreeList.{extent_bytes, FindsPlace};
-ghost use Rattle.std.specs.List.{list_any};
+ghost use Rattle.std.specs.Prelude.{◌≡◌, ◌≢◌, ℕ, ◌+◌, ◌-◌, ◌^◌, ◌<◌, ◌≤◌, length, ◌++◌, ◌∷◌, List, IsTrue, ◌↔◌};
+ghost use Rattle.gpu_chain.specs.declared.chunk.Chunk.{Chunk};
+ghost use Rattle.gpu_block.specs.Chunks.{last_kind, extents_of};
+ghost use Rattle.gpu_chain.specs.Chain.{HasNumber, HasNoNumber, IsSplit, IsFilled, IsReleased};
+ghost use Rattle.gpu_block.specs.Indexed.{IsListed, IsGapOf, gap_between, kind_or, Forgets, beside_kind, IsGapBeside, MayForget, IsPut, IsJoined, first_of, IsPieceAt};
+ghost use Rattle.gpu_gap_index.specs.declared.index.Gap.{Gap};
+ghost use Rattle.gpu_gap_index.specs.Index.{HasNoKey};
 
-use super::place::Wanted;
 use super::search::Found;
-use crate::chunk::{Chunk, is_free};
+use gpu_chain::{Around, Beside, Chain, is_free};
+use gpu_gap_index::{Cost, Gap, GapIndex};
 use gpu_values::AllocationType;
-use std::alloc::AllocError;
 
-/// The place of the piece with that number.
-pub fn position_of(chunks: &[Chunk], number: u64) -> Option<usize>
-    ensures { MatchOption result ((k : ℕ) → HoldsNumber chunks.now number k → ⊥) (λ i. HoldsNumber chunks.now number i) }
-{
-    for i in 0..chunks.len() {
-        let chunk = &chunks[i];
-        if chunk.number == number && !is_free(chunk.kind) {
-            return Some(i);
-        }
-    }
-    None
-}
-
-fn is_gap_of(chunk: &Chunk, number: u64) -> bool
-    ensures { result ≡ is_gap_by chunk.now.kind number chunk.now }
-{
-    match chunk.kind {
-        AllocationType::Free => chunk.number == number,
-        AllocationType::Linear | AllocationType::NonLinear => false,
-    }
-}
-
-/// Whether a gap has that number.
-pub fn has_gap_number(chunks: &[Chunk], number: u64) -> bool
-    ensures { result ≡ list_any (λ c. is_gap_by c.kind number c) chunks.now }
-{
-    chunks.iter().any(|chunk| is_gap_of(chunk, number))
-}
-
-fn put(chunks: &mut Vec<Chunk>, i: usize, piece: Chunk) -> Result<(), AllocError>
-    requires { i ≤ vec_len chunks.old }
-    ensures done { OnOk result (chunks.new.items ≡ insert chunks.old.items i piece) }
-    ensures len { OnOk result (vec_len chunks.new ≡ vec_len chunks.old + 1) }
-    ensures refused { OnErr result (chunks.new.items ≡ chunks.old.items) }
-{
-    match chunks.insert(i, piece) {
-        Ok(()) => Ok(()),
-        Err(failed) => Err(AllocError::from(failed)),
-    }
-}
-
-/// Puts a piece before the i-th chunk, which loses that much of its front.
-pub fn cut(chunks: &mut Vec<Chunk>, i: usize, piece: Chunk) -> Result<(), AllocError>
-    requires within { i < vec_len chunks.old }
-    requires laid_out { IsLaidOut chunks.old.items }
-    requires shorter { piece.size < size_at chunks.old.items i }
-    ensures done { OnOk result (IsCutAt chunks.old.items i piece chunks.new.items) }
-    ensures refused { OnErr result (chunks.new.items ≡ chunks.old.items) }
-{
-    let taken = piece.size;
-    put(chunks, i, piece)?;
-    let chunk = &mut chunks[i + 1];
-    let start = chunk.start + taken;
-    chunk.start = start;
-    chunk.size -= taken;
-    chunk.offset = start;
-    Ok(())
-}
-
-/// Gives the i-th chunk another kind, offset and name.
-pub fn fill(chunks: &mut Vec<Chunk>, i: usize, offset: u64, kind: AllocationType, name: String)
-    requires within { i < vec_len chunks.old }
-    ensures filled { IsFilledAt chunks.old.items i offset kind name chunks.new.items }
-    ensures len { vec_len chunks.new ≡ vec_len chunks.old }
-    ensures still { IsLaidOut chunks.old.items → IsLaidOut chunks.new.items }
-{
-    let chunk = &mut chunks[i];
-    chunk.offset = offset;
-    chunk.kind = kind;
-    chunk.name = name;
-}
-
-/// Gives the i-th chunk another name.
-pub fn name_at(chunks: &mut Vec<Chunk>, i: usize, text: String)
-    requires within { i < vec_len chunks.old }
-    ensures { IsNamedAt chunks.old.items i text chunks.new.items }
-{
-    let chunk = &mut chunks[i];
-    chunk.name = text;
-}
-
-/// Makes one chunk of the i-th and the next.
-pub fn join_next(chunks: &mut Vec<Chunk>, i: usize)
-    requires within { i + 1 < vec_len chunks.old }
-    requires laid_out { IsLaidOut chunks.old.items }
-    ensures joined { IsJoinedAt chunks.old.items i chunks.new.items }
-    ensures len { vec_len chunks.new + 1 ≡ vec_len chunks.old }
-    ensures still { IsLaidOut chunks.new.items }
-{
-    let next = chunks.remove(i + 1);
-    let chunk = &mut chunks[i];
-    chunk.size += next.size;
-}
-
-/// Joins the i-th chunk with the next one, if that is free.
-fn join_after(chunks: &mut Vec<Chunk>, i: usize)
-    requires within { i < vec_len chunks.old }
-    requires laid_out { IsLaidOut chunks.old.items }
-    ensures joined { IsJoinedBehind chunks.old.items i chunks.new.items }
-    ensures still { IsLaidOut chunks.new.items }
-    ensures within { i < vec_len chunks.new }
-{
-    if i + 1 < chunks.len() && is_free(chunks[i + 1].kind) {
-        join_next(chunks, i);
-    }
-}
-
-/// Joins the i-th chunk with the one before it, if that is free.
-fn join_before(chunks: &mut Vec<Chunk>, i: usize)
-    requires within { i < vec_len chunks.old }
-    requires laid_out { IsLaidOut chunks.old.items }
-    ensures { IsJoinedBefore chunks.old.items i chunks.new.items }
-{
-    if i > 0 && is_free(chunks[i - 1].kind) {
-        join_next(chunks, i - 1);
-    }
-}
-
-/// Frees the i-th chunk, and joins it with the free chunks beside it.
-pub fn release(chunks: &mut Vec<Chunk>, i: usize, empty: String)
-    requires within { i < vec_len chunks.old }
-    requires laid_out { IsLaidOut chunks.old.items }
-    ensures { IsReleasedAt chunks.old.items i empty chunks.new.items }
-{
-    let start = chunks[i].start;
-    fill(chunks, i, start, AllocationType::Free, empty);
-    join_after(chunks, i);
-    join_before(chunks, i);
-}
-
-/// Whether a piece at the found place leaves a rest of its chunk.
-pub fn leaves_rest(chunks: &[Chunk], found: Found, wanted: Wanted) -> bool
-    requires laid_out { IsLaidOut chunks.now }
-    requires fits { FitsAt chunks.now wanted found.index found.offset }
-    ensures { LeavesRest chunks.now found wanted result }
-{
-    let chunk = &chunks[found.index];
-    found.offset + wanted.size < chunk.start + chunk.size
-}
-
-/// Gives the found chunk, or its front, to a piece, and tells the piece's number.
-pub fn take(
-    chunks: &mut Vec<Chunk>,
+/// Gives the front of the found gap to a piece. There is room for it, so no memory is taken.
+pub fn take_front(
+    chain: &mut Chain,
+    index: &mut GapIndex,
     found: Found,
-    wanted: Wanted,
-    counter: u64,
+    taken: u64,
+    kind: AllocationType,
+    number: u64,
     name: String,
-) -> Result<u64, AllocError>
-    requires laid_out { IsLaidOut chunks.old.items }
-    requires fits { FitsAt chunks.old.items wanted found.index found.offset }
-    ensures taken { IfOk result
-        (λ number. IsTaken chunks.old.items found wanted counter name number chunks.new.items) }
-    ensures refused { OnErr result (chunks.new.items ≡ chunks.old.items) }
+)
+    requires listed { IsListed chain.old.chunks index.old.gaps }
+    requires gap { IsGapOf chain.old.chunks found.gap }
+    requires some { 0 < taken }
+    requires shorter { taken < found.gap.length }
+    requires piece { kind ≢ AllocationType.Free }
+    requires fresh { HasNoNumber chain.old.chunks number }
+    requires room { (0 < chain.old.room) × (length index.old.gaps ≤ index.old.room) }
+    ensures chunks { IsSplit chain.old.chunks found.gap.number taken number found.offset kind name chain.new.chunks }
+    ensures listed { IsListed chain.new.chunks index.new.gaps }
+    ensures live { length (extents_of chain.new.chunks) ≡ length (extents_of chain.old.chunks) + 1 }
+    ensures size { (chain.new.size ≡ chain.old.size) × (index.new.room ≡ index.old.room) }
 {
-    let chunk = &chunks[found.index];
-    let start = chunk.start;
-    let number = chunk.number;
-    let length = found.offset + wanted.size - start;
-    if length < chunk.size {
-        let piece = Chunk {
-            start,
-            size: length,
-            offset: found.offset,
-            kind: wanted.kind,
-            number: counter,
-            name,
-        };
-        cut(chunks, found.index, piece)?;
-        return Ok(counter);
-    }
-    fill(chunks, found.index, found.offset, wanted.kind, name);
-    Ok(number)
+    let _size = chain.size();
+    let gap = found.gap;
+    chain.split_front(gap.number, number, taken, found.offset, kind, name);
+    index.in_order();
+    let rest = Gap {
+        length: gap.length - taken,
+        start: gap.start + taken,
+        number: gap.number,
+        before: kind,
+        after: gap.after,
+    };
+    index.replace(gap.length, gap.start, rest);
 }
 
-/// The bytes of all chunks that aren't free.
-pub fn taken_bytes(chunks: &[Chunk]) -> u64
-    requires { IsLaidOut chunks.now }
-    ensures { result ≡ extent_bytes (extents_of chunks.now) }
+/// Gives the whole found gap to a piece. It takes no memory.
+pub fn take_whole(
+    chain: &mut Chain,
+    index: &mut GapIndex,
+    found: Found,
+    kind: AllocationType,
+    name: String,
+)
+    requires listed { IsListed chain.old.chunks index.old.gaps }
+    requires gap { IsGapOf chain.old.chunks found.gap }
+    requires piece { kind ≢ AllocationType.Free }
+    ensures chunks { IsFilled chain.old.chunks found.gap.number found.offset kind name chain.new.chunks }
+    ensures listed { IsListed chain.new.chunks index.new.gaps }
+    ensures live { length (extents_of chain.new.chunks) ≡ length (extents_of chain.old.chunks) + 1 }
+    ensures size { (chain.new.size ≡ chain.old.size) × (index.new.room ≡ index.old.room) }
 {
-    let mut sum = 0;
-    for chunk in chunks {
-        if !is_free(chunk.kind) {
-            sum += chunk.size;
-        }
-    }
-    sum
+    let _size = chain.size();
+    let gap = found.gap;
+    index.remove(gap.length, gap.start);
+    chain.fill(gap.number, found.offset, kind, name);
 }
 
-/// Whether all chunks are free.
-pub fn none_taken(chunks: &[Chunk]) -> bool
-    ensures { IsTrue result ↔ extents_of chunks.now ≡ [] }
+/// Takes the gap beside a chunk out of the index, if what stands there is one.
+fn forget(index: &mut GapIndex, beside: Option<Beside>)
+    requires there { MayForget beside index.old.gaps }
+    ensures gaps { Forgets beside index.old.gaps index.new.gaps }
+    ensures room { index.new.room ≡ index.old.room }
 {
-    for chunk in chunks {
-        if !is_free(chunk.kind) {
-            return false;
+    if let Some(beside) = beside {
+        if is_free(beside.kind) {
+            index.remove(beside.size, beside.start);
         }
     }
-    true
 }
 
-/// The offset and the size in bytes of the live piece with that number.
-pub fn place_of(chunks: &[Chunk], number: u64) -> Option<(u64, u64)>
-    requires laid_out { IsLaidOut chunks.now }
-    requires each { (counter : ℕ) × All (IsChunk counter) chunks.now }
-    ensures { FindsPlace (extents_of chunks.now) number result }
+/// Whether what stands there is a gap.
+fn is_gap(beside: Option<Beside>) -> bool
+    ensures { IsTrue result ↔ IsGapBeside beside }
 {
-    match position_of(chunks, number) {
-        Some(i) => {
-            let chunk = &chunks[i];
-            Some((chunk.offset, chunk.start + chunk.size - chunk.offset))
-        }
-        None => None,
+    match beside {
+        Some(beside) => is_free(beside.kind),
+        None => false,
     }
+}
+
+/// Puts a gap into the index, in the place of what stands beside it if that is one.
+fn put(index: &mut GapIndex, beside: Option<Beside>, gap: Gap)
+    requires there { MayForget beside index.old.gaps }
+    requires fresh { (rest : List Gap) → Forgets beside index.old.gaps rest → HasNoKey rest gap.length gap.start }
+    requires room { (rest : List Gap) → Forgets beside index.old.gaps rest → length rest < index.old.room }
+    ensures gaps { IsPut beside gap index.old.gaps index.new.gaps }
+    ensures room { index.new.room ≡ index.old.room }
+{
+    match beside {
+        Some(beside) => {
+            if is_free(beside.kind) {
+                index.replace(beside.size, beside.start, gap);
+            } else {
+                index.insert(gap);
+            }
+        }
+        None => index.insert(gap),
+    }
+}
+
+/// Puts a gap into the index, in the place of the gaps on both sides of it.
+fn put_joined(index: &mut GapIndex, around: Around, gap: Gap)
+    requires before { MayForget around.before index.old.gaps }
+    requires after { (one : List Gap) → Forgets around.before index.old.gaps one → MayForget around.after one }
+    requires fresh { (one two : List Gap) → Forgets around.before index.old.gaps one → Forgets around.after one two → HasNoKey two gap.length gap.start }
+    requires room { (one two : List Gap) → Forgets around.before index.old.gaps one → Forgets around.after one two → length two < index.old.room }
+    ensures gaps { IsJoined around.before around.after gap index.old.gaps index.new.gaps }
+    ensures room { index.new.room ≡ index.old.room }
+{
+    if is_gap(around.after) {
+        forget(index, around.before);
+        put(index, around.after, gap);
+    } else {
+        put(index, around.before, gap);
+    }
+}
+
+/// The kind of what stands there, and `Free` at an end of the block.
+fn kind_of(beside: Option<Beside>) -> AllocationType
+    ensures { result ≡ beside_kind beside }
+{
+    match beside {
+        Some(beside) => beside.kind,
+        None => AllocationType::Free,
+    }
+}
+
+/// The entry of the free chunk of that number.
+fn gap_at(chain: &Chain, number: u64, cost: &mut Cost) -> Gap
+    requires there { HasNumber chain.now.chunks number }
+    ensures { (front : List Chunk) (c : Chunk) (back : List Chunk) → chain.now.chunks ≡ front ++ c ∷ back → c.number ≡ number
+        → result ≡ gap_between (last_kind AllocationType.Free front) c (kind_or back AllocationType.Free) }
+{
+    let _size = chain.size();
+    let Some(around) = chain.around(number, cost) else {
+        unreachable!();
+    };
+    Gap {
+        length: around.here.size,
+        start: around.here.start,
+        number: around.here.number,
+        before: kind_of(around.before),
+        after: kind_of(around.after),
+    }
+}
+
+/// The number of the gap that the chunk becomes: that of the gap before it, if there is one.
+fn first_number(around: Around) -> u64
+    ensures { result ≡ first_of around.before around.here.number }
+{
+    match around.before {
+        Some(beside) => {
+            if is_free(beside.kind) {
+                beside.number
+            } else {
+                around.here.number
+            }
+        }
+        None => around.here.number,
+    }
+}
+
+/// Frees a piece, and joins it with the gaps beside it. It takes no memory.
+pub fn release(
+    chain: &mut Chain,
+    index: &mut GapIndex,
+    around: Around,
+    empty: String,
+    cost: &mut Cost,
+)
+    requires listed { IsListed chain.old.chunks index.old.gaps }
+    requires piece { IsPieceAt chain.old.chunks around }
+    requires room { length (extents_of chain.old.chunks) + 1 ≤ index.old.room }
+    ensures chunks { IsReleased chain.old.chunks around.here.number empty chain.new.chunks }
+    ensures listed { IsListed chain.new.chunks index.new.gaps }
+    ensures live { length (extents_of chain.new.chunks) + 1 ≡ length (extents_of chain.old.chunks) }
+    ensures size { (chain.new.size ≡ chain.old.size) × (index.new.room ≡ index.old.room) }
+{
+    let _size = chain.size();
+    chain.release(around.here.number, empty);
+    let _size = chain.size();
+    index.in_order();
+    let gap = gap_at(chain, first_number(around), cost);
+    put_joined(index, around, gap);
 }

@@ -1,6 +1,8 @@
 //! Where a request begins in a gap.
 
-ghost use Rattle.std.specs.Prelude.{◌≡◌, ◌≢◌, ℕ, ◌+◌, ◌^◌, ◌<◌, ◌≤◌, IsTrue, ◌↔◌, MatchOption};
+ghost use Rattle.std.specs.Prelude.{◌≡◌, ◌≢◌, ℕ, ◌+◌, ◌%◌, ◌^◌, ◌<◌, ◌≤◌, IsTrue, ◌↔◌, MatchOption};
+ghost use Rattle.std.specs.Option.{SomeIff};
+ghost use Rattle.std.specs.Int.{next_multiple_of};
 ghost use Rattle.gpu_block.specs.Place.{page, MayBegin, IsOffsetIn, FitsBetween};
 ghost use Rattle.gpu_block.specs.Chunks.{Differ};
 
@@ -26,6 +28,30 @@ pub fn differ(left: AllocationType, right: AllocationType) -> bool
     }
 }
 
+/// How far a place is past the last multiple of `step`; of a power of two, without a division.
+fn past(place: u64, step: u64) -> u64
+    requires { 0 < step }
+    ensures { result ≡ place % step }
+{
+    if step.is_power_of_two() {
+        place & (step - 1)
+    } else {
+        place % step
+    }
+}
+
+/// The least multiple of `step` from a place on, if it is a `u64`.
+fn round_up(place: u64, step: u64) -> Option<u64>
+    requires { 0 < step }
+    ensures { SomeIff result ((0 < step) × (next_multiple_of place step < 2 ^ 64)) (next_multiple_of place step) }
+{
+    let over = past(place, step);
+    if over == 0 {
+        return Some(place);
+    }
+    place.checked_add(step - over)
+}
+
 /// The least place for a piece from `start` on, if it is a `u64`.
 pub fn offset_from(start: u64, alignment: u64, granularity: u64, other: bool) -> Option<u64>
     requires aligned { 0 < alignment }
@@ -36,11 +62,11 @@ pub fn offset_from(start: u64, alignment: u64, granularity: u64, other: bool) ->
         (λ o. IsOffsetIn granularity alignment (IsTrue other) start o) }
 {
     let first = if other {
-        start.checked_next_multiple_of(granularity)?
+        round_up(start, granularity)?
     } else {
         start
     };
-    first.checked_next_multiple_of(alignment)
+    round_up(first, alignment)
 }
 
 /// The place of a request between two neighbours, if it fits there.

@@ -18,9 +18,9 @@ fn take(
     granularity: u64,
     want: Option<(u64, u64)>,
 )
-    requires paged { granularity ≡ block.old.granularity }
+    requires paged { granularity ≡ block.old.block.granularity }
     requires piece { kind ≢ AllocationType.Free }
-    ensures { block.new.granularity ≡ block.old.granularity }
+    ensures { block.new.block.granularity ≡ block.old.block.granularity }
 {
     let (size, alignment) = asked;
     assert!(rt; size > 0);
@@ -36,14 +36,14 @@ fn take(
 }
 
 fn linear(rt: &impl Abort, block: &mut FreeListAllocator, size: u64, want: Option<(u64, u64)>)
-    requires paged { block.old.granularity ≡ 1 }
-    ensures { block.new.granularity ≡ block.old.granularity }
+    requires paged { block.old.block.granularity ≡ 1 }
+    ensures { block.new.block.granularity ≡ block.old.block.granularity }
 {
     take(rt, block, (size, 1), AllocationType::Linear, 1, want)
 }
 
 fn give(rt: &impl Abort, block: &mut FreeListAllocator, number: u64)
-    ensures { block.new.granularity ≡ block.old.granularity }
+    ensures { block.new.block.granularity ≡ block.old.block.granularity }
 {
     assert!(rt; block.free(NonZeroU64::new(number)).is_ok());
 }
@@ -55,7 +55,7 @@ fn refuse(
     number: u64,
     want: &str,
 ) -> Result<()>
-    ensures { block.new.granularity ≡ block.old.granularity }
+    ensures { block.new.block.granularity ≡ block.old.block.granularity }
 {
     match block.free(NonZeroU64::new(number)) {
         Ok(()) => assert!(rt; false, "{number} was given back"),
@@ -174,9 +174,9 @@ fn on_pages(
     kind: AllocationType,
     want: Option<(u64, u64)>,
 )
-    requires paged { block.old.granularity ≡ 1024 }
+    requires paged { block.old.block.granularity ≡ 1024 }
     requires piece { kind ≢ AllocationType.Free }
-    ensures { block.new.granularity ≡ block.old.granularity }
+    ensures { block.new.block.granularity ≡ block.old.block.granularity }
 {
     take(rt, block, (size, 1), kind, 1024, want)
 }

@@ -3,7 +3,7 @@ use Rattle.gpu_block.specs.Chunks.{extents_of}
 use Rattle.gpu_block.proofs.leaks.first_piece.Given as goal
 
 abbrev pub invariant-loop-chunk : goal.invariant-loop-chunk
-invariant-loop-chunk l = extents_of l.rest ≡ extents_of l.chunks
+invariant-loop-chunk l = extents_of l.chunks ≡ extents_of l.fn.chunks
 
 abbrev pub decreases-loop-chunk : goal.decreases-loop-chunk
-decreases-loop-chunk l = length l.rest
+decreases-loop-chunk l = length l.chunks

@@ -1,18 +1,38 @@
-use Rattle.std.proofs.Common.{sym, ◌∙◌, arith}
+use Rattle.std.proofs.Common.{◌+◌, ◌∙◌, List, sym, subst, arith, map}
+use Rattle.std.specs.Prelude.{All}
+use Rattle.std.proofs.lemmas.List.Elements.{All-tail}
 use Rattle.std.proofs.lemmas.Bool.{false≢true}
-use Rattle.gpu_block.proofs.Showing.{chunk_fits, rows_free, rows_live}
+use Rattle.gpu_chain.specs.declared.chunk.Chunk.{Chunk}
+use Rattle.gpu_values.specs.Report.{row_of}
+use Rattle.gpu_block.specs.Chunks.{IsChunk}
+use Rattle.gpu_block.proofs.Showing.{first_covers, rows_free, rows_live}
 use Rattle.gpu_block.proofs.rows.rows_of.Goals as goal
-use Rattle.gpu_block.proofs.rows.rows_of.Goals.{then-not-is_free+in_ok-row+in_ok-add, else-not-is_free}
 
 pub overflow_add-chunk : goal.overflow_add-chunk
 overflow_add-chunk c =
-    let f = chunk_fits c.args.chunks.now c.loop-chunk.chunk-index c.chunk-item.result c.requires.laid_out c.loop-chunk-test.true c.chunk-item.is in
-    omega arith
+    let l = c.loop-chunk.invariant.laid_out in
+    let h = first_covers c.loop-chunk.chunks c.next.new.self c.in-Some.chunk.now l.0 l.1 c.in-Some.ensures l.3 in
+    let lt = l.2 in
+    omega (arith, h.0, h.2)
+
+pub loop-chunk-preserved-in-Continue-branch-2 : goal.loop-chunk-preserved-in-Continue-branch-2
+loop-chunk-preserved-in-Continue-branch-2 c =
+    let l = c.loop-chunk.invariant.laid_out in
+    let h = first_covers c.loop-chunk.chunks c.next.new.self c.in-Some.chunk.now l.0 l.1 c.in-Some.ensures l.3 in
+    let e = c.loop-chunk.invariant.each in
+    record {
+      rows = rows_live c.loop-chunk.chunks c.next.new.self c.in-Some.chunk.now c.loop-chunk.rows.items c.add.new.rows.items c.in_ok-row.row _ c.in-Some.ensures (λ f. false≢true (sym c.if-not-is_free.true ∙ c.is_free.ensures.1 f)) c.in_ok-row.ensures c.in_ok-add.ensures c.loop-chunk.invariant.rows;
+      laid_out = (l.0 + c.in-Some.chunk.now.size, l.1, l.2, h.1);
+      each = (e.0, All-tail (IsChunk e.0) c.in-Some.chunk.now c.next.new.self (subst (λ (xs : List Chunk). All (IsChunk e.0) xs) c.in-Some.ensures e.1));
+    }
 
 pub loop-chunk-preserved : goal.loop-chunk-preserved
 loop-chunk-preserved c =
-    let cs = c.args.chunks.now in let i = c.loop-chunk.chunk-index in let x = c.chunk-item.result in
-    elim c.if-not-is_free.branch [
-      | then-not-is_free+in_ok-row+in_ok-add w ↦ rw w.rows-is (rows_live cs i x c.loop-chunk.rows.items w.add.new.rows.items w.in_ok-row.row c.loop-chunk-test.true c.chunk-item.is (λ f. false≢true (sym w.if-not-is_free.true ∙ c.is_free.ensures.1 f)) c.loop-chunk.invariant w.in_ok-row.ensures w.in_ok-add.ensures)
-      | else-not-is_free w ↦ rw w.rows-is (c.loop-chunk.invariant ∙ sym (rows_free cs i x c.loop-chunk-test.true c.chunk-item.is (c.is_free.ensures.0 w.if-not-is_free.false)))
-    ]
+    let l = c.loop-chunk.invariant.laid_out in
+    let h = first_covers c.loop-chunk.chunks c.next.new.self c.in-Some.chunk.now l.0 l.1 c.in-Some.ensures l.3 in
+    let e = c.loop-chunk.invariant.each in
+    record {
+      rows = rows_free c.loop-chunk.chunks c.next.new.self c.in-Some.chunk.now (map row_of c.loop-chunk.rows.items) _ c.in-Some.ensures (c.is_free.ensures.0 c.if-not-is_free.false) c.loop-chunk.invariant.rows;
+      laid_out = (l.0 + c.in-Some.chunk.now.size, l.1, l.2, h.1);
+      each = (e.0, All-tail (IsChunk e.0) c.in-Some.chunk.now c.next.new.self (subst (λ (xs : List Chunk). All (IsChunk e.0) xs) c.in-Some.ensures e.1));
+    }

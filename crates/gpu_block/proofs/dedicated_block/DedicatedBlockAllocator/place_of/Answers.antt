@@ -4,7 +4,7 @@ use Rattle.std.specs.Option.{option_map}
 use Rattle.gpu_block.specs.Dedicated.{held_extents}
 use Rattle.gpu_block.specs.FreeList.{FindsPlace}
 use Rattle.gpu_block.specs.Chunks.{extent, IsWholeChunk}
-use Rattle.gpu_block.specs.declared.chunk.Chunk.{Chunk}
+use Rattle.gpu_chain.specs.declared.chunk.Chunk.{Chunk}
 use Rattle.gpu_block.proofs.dedicated_block.DedicatedBlockAllocator.place_of.Goals as goal
 
 found_whole : (size : ℕ) (c : Chunk) (number : ℕ) → IsWholeChunk size c → number ≡ 1 → FindsPlace (extent c ∷ []) number (Some (0, c.size))

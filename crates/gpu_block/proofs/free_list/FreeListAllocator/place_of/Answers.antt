@@ -1,22 +1,30 @@
-use Rattle.std.proofs.Common.{List, sym, subst}
-use Rattle.std.specs.Prelude.{All}
+use Rattle.std.proofs.Common.{◌+◌, ◌-◌, ap, sym, subst, arith, Some, None}
 use Rattle.std.specs.Int.NonZero.{non_zero_u64_get}
-use Rattle.gpu_block.specs.declared.chunk.Chunk.{Chunk}
-use Rattle.gpu_block.specs.FreeList.{FindsPlace}
-use Rattle.gpu_block.specs.Chunks.{IsChunk, IsLaidOut, extents_of}
-use Rattle.gpu_block.proofs.Placing.{laid_out}
+use Rattle.gpu_block.specs.FreeList.{Counted, FreeList, FindsPlace}
+use Rattle.gpu_block.specs.Chunks.{HoldsNumber}
+use Rattle.gpu_chain.specs.Chain.{StandsAt}
+use Rattle.gpu_block.proofs.Releasing.{none_live}
+use Rattle.gpu_block.proofs.Holding.{PlaceShown, place_shown}
 use Rattle.gpu_block.proofs.free_list.FreeListAllocator.place_of.Goals as goal
+use Rattle.gpu_block.proofs.free_list.FreeListAllocator.place_of.Goals.{In-Some}
 
-pub place_of-requires-clause-laid_out : goal.place_of-requires-clause-laid_out
-place_of-requires-clause-laid_out c =
-    subst (λ (xs : List Chunk). IsLaidOut xs) (sym c.deref.ensures.value) (laid_out c.self.inside.chunks.items c.self.inside.size c.self.inside.counter c.self.invariant.3 c.self.invariant.1)
+shown : (c : In-Some) → PlaceShown c.self.inside.chunks.items c.in-Some.piece.now (non_zero_u64_get c.args.number)
+shown c =
+    let e = c.in-Some.ensures in
+    place_shown c.self.inside.chunks.items c.self.inside.chunks.size c.self.inside.counter c.in-Some.piece.now (non_zero_u64_get c.args.number) c.self.invariant.1 c.self.invariant.3 e.0
+    (subst (λ n. StandsAt c.self.inside.chunks.items n c.in-Some.piece.now) c.get.ensures.value e.1)
 
-pub place_of-requires-clause-each : goal.place_of-requires-clause-each
-place_of-requires-clause-each c =
-    (c.self.inside.counter, subst (λ (xs : List Chunk). All (IsChunk c.self.inside.counter) xs) (sym c.deref.ensures.value) c.self.invariant.1.each)
+pub overflow_add-result : goal.overflow_add-result
+overflow_add-result c = let f = (shown c).fits in omega arith
 
-pub returns : goal.returns
-returns c =
-    let found : FindsPlace (extents_of c.self.inside.chunks.items) (non_zero_u64_get c.args.number) c.place_of.result =
-    subst (λ n. FindsPlace (extents_of c.self.inside.chunks.items) n c.place_of.result) c.get.ensures.value (subst (λ (cs : List Chunk). FindsPlace (extents_of cs) c.get.result c.place_of.result) c.deref.ensures.value c.place_of.ensures) in
-    subst (λ b. FindsPlace b.extents (non_zero_u64_get c.args.number) c.place_of.result) c.self.view_is found
+pub overflow_sub-result : goal.overflow_sub-result
+overflow_sub-result c = let f = (shown c).inside in omega arith
+
+pub returns-in-Some : goal.returns-in-Some
+returns-in-Some c =
+    subst (λ (b : FreeList). FindsPlace b.extents (non_zero_u64_get c.args.number) (Some (c.in-Some.piece.now.offset, c.in-Some.piece.now.start + c.in-Some.piece.now.size - c.in-Some.piece.now.offset))) (ap (λ (v : Counted). v.block) c.self.view_is) (shown c).found
+
+pub returns-in-None : goal.returns-in-None
+returns-in-None c =
+    subst (λ (b : FreeList). FindsPlace b.extents (non_zero_u64_get c.args.number) None) (ap (λ (v : Counted). v.block) c.self.view_is)
+    (λ x held is. none_live 0 1 0 c.self.inside.chunks.items (non_zero_u64_get c.args.number) (λ k h. c.in-None.ensures k (subst (λ n. HoldsNumber c.self.inside.chunks.items n k) (sym c.get.ensures.value) h)) (x, held, is))

@@ -16,4 +16,4 @@ returns c =
       | then-other+in_ok-first w ↦ rw (w.first-is, w.in_ok-first.ensures.1) (first_next a.granularity (IsTrue a.other) a.start c.requires.paged (c.requires.behind w.if-other.true) w.if-other.true)
       | else-other w ↦ rw w.first-is (first_here a.granularity (IsTrue a.other) a.start (λ t. false≢true (sym w.if-other.false ∙ t)))
     ] in
-    offset_of_result a.granularity a.alignment (IsTrue a.other) a.start c.if-other.first c.checked_next_multiple_of-2.result c.requires.aligned first c.checked_next_multiple_of-2.ensures
+    offset_of_result a.granularity a.alignment (IsTrue a.other) a.start c.if-other.first c.round_up-2.result c.requires.aligned first c.round_up-2.ensures

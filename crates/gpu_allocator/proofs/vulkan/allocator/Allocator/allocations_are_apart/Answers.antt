@@ -2,6 +2,13 @@ use Rattle.gpu_allocator.specs.State.{IsKept}
 use Rattle.gpu_allocator.proofs.Apart.{live_inside, live_apart, live_pages}
 use Rattle.gpu_allocator.proofs.vulkan.allocator.Allocator.allocations_are_apart.Goals as goal
 
+pub returns-clause-sound : goal.returns-clause-sound
+returns-clause-sound g c =
+    let V = g.D.VulkanDevice in
+    let s = c.args.self.now in
+    let kept : IsKept (V.properties s.first) (V.properties s.device) (V.held s.first) (V.held s.device) s.setup s.slots = rw (← c.self.view_is) c.self.invariant.1 in
+    kept.sound
+
 pub returns-clause-inside : goal.returns-clause-inside
 returns-clause-inside g c =
     let V = g.D.VulkanDevice in

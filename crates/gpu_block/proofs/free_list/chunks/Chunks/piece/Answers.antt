@@ -1,0 +1,11 @@
+use Rattle.std.proofs.Common.{ap, sym, subst, List}
+use Rattle.gpu_chain.specs.declared.chunk.Chunk.{Chunk}
+use Rattle.gpu_block.specs.Chunks.{HoldsNumber}
+use Rattle.gpu_block.specs.Indexed.{Held}
+use Rattle.gpu_block.proofs.Holding.{not_held}
+use Rattle.gpu_block.proofs.free_list.chunks.Chunks.piece.Goals as goal
+
+pub returns-then-is_free : goal.returns-then-is_free
+returns-then-is_free c = λ k h.
+    not_held c.self.inside.chain.chunks c.in_ok-chunk.chunk.now c.args.number c.size-size.ensures.distinct c.in_ok-chunk.ensures.value.at (c.is_free.ensures.0 c.if-is_free.true) k
+    (subst (λ (xs : List Chunk). HoldsNumber xs c.args.number k) (sym (ap (λ (v : Held). v.items) c.self.view_is)) h)

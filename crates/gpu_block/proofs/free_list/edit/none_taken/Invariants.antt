@@ -1,6 +1,0 @@
-use Rattle.std.proofs.Common.{◌≡◌, [], take}
-use Rattle.gpu_block.specs.Chunks.{extents_of}
-use Rattle.gpu_block.proofs.free_list.edit.none_taken.Given as goal
-
-abbrev pub invariant-loop-chunk : goal.invariant-loop-chunk
-invariant-loop-chunk l = extents_of (take l.chunk-index l.chunks) ≡ []

@@ -1,0 +1,3 @@
+pub mod ChunkList
+pub mod Chain
+pub use Rattle.gpu_gap_index.specs.Cost

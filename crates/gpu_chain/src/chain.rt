@@ -1,0 +1,241 @@
+//! The chunks of a block, in a hashed map by number, each linked to the ones beside it.
+
+ghost use Rattle.std.specs.Prelude.{◌≡◌, ◌≢◌, ℕ, nat_eq, ◌+◌, ◌-◌, ◌^◌, ◌<◌, ◌≤◌, IsSome, IfOk, IfSome, OnOk, MatchOption, Some, None, [], ◌∷◌, ◌++◌};
+ghost use Rattle.std.specs.Option.{option_copied};
+ghost use Rattle.std.specs.HashMap.{get, spare};
+ghost use Rattle.gpu_gap_index.specs.Cost.{RisesBy};
+ghost use Rattle.gpu_chain.specs.ChunkList.{Covers, AreDistinct};
+ghost use Rattle.gpu_chain.specs.Chain.{StandsAt, HasNumber, HasNoNumber, IsAround, IsSplit, IsFilled, IsReleased, from_number, beside, beside_of, first_after, IsChunkAt, IsFresh, IsLonger};
+
+mod node;
+
+use crate::chunk::Chunk;
+use gpu_gap_index::Cost;
+use gpu_values::AllocationType;
+use node::{Node, cut_front, ends_of, join_left, join_right, put, set_next_of, set_use};
+use std::alloc::{AllocError, Global};
+use std::collections::HashMap;
+use std::marker::Model;
+
+/// A chunk without its name.
+#[derive(Clone, Copy)]
+pub struct Beside {
+    pub start: u64,
+    pub size: u64,
+    pub kind: AllocationType,
+    pub number: u64,
+}
+
+/// A chunk, and what stands before and behind it.
+#[derive(Clone, Copy)]
+pub struct Around {
+    pub here: Beside,
+    pub before: Option<Beside>,
+    pub after: Option<Beside>,
+}
+
+/// The chunks of a block, from its start to its end. They cover it without overlap, and no two have one number.
+#[derive(Drop)]
+pub struct Chain {
+    nodes: HashMap<u64, Node>,
+    first: u64,
+    size: u64,
+}
+
+impl Model for Chain {
+    ghost use Rattle.std.specs.Prelude.{nat_eq, Some};
+    ghost use Rattle.std.specs.HashMap.{get, spare};
+    ghost use Rattle.gpu_chain.specs.Chain.{Linked, IsChain, walk, chunks_in};
+
+    ghost Value = { Linked };
+
+    ghost view = { λ s. record {
+      chunks = chunks_in (walk s.size (get nat_eq s.nodes) (Some s.first));
+      size = s.size;
+      room = spare s.nodes;
+    } };
+
+    ghost invariant = { λ s. IsChain (get nat_eq s.nodes) s.first s.size (walk s.size (get nat_eq s.nodes) (Some s.first)) };
+}
+
+/// The one way to read a chunk by its number.
+fn node_at<'a>(nodes: &'a HashMap<u64, Node>, number: u64, cost: &mut Cost) -> Option<&'a Node>
+    ensures value { option_copied result ≡ get nat_eq nodes.now number }
+    ensures counted { cost.new.lookups ≡ cost.old.lookups + 1 }
+    ensures others { (cost.new.comparisons ≡ cost.old.comparisons) × (cost.new.tests ≡ cost.old.tests) }
+{
+    cost.look_up();
+    nodes.get(&number)
+}
+
+fn short(chunk: &Chunk) -> Beside
+    ensures { result ≡ beside chunk.now }
+{
+    Beside {
+        start: chunk.start,
+        size: chunk.size,
+        kind: chunk.kind,
+        number: chunk.number,
+    }
+}
+
+/// The chunk of a number, where there is one.
+fn beside_at(nodes: &HashMap<u64, Node>, number: Option<u64>, cost: &mut Cost) -> Option<Beside>
+    ensures value { result ≡ beside_of (get nat_eq nodes.now) number }
+    ensures counted { RisesBy 0 0 1 cost.old cost.new }
+{
+    let number = number?;
+    let node = node_at(nodes, number, cost)?;
+    Some(short(&node.chunk))
+}
+
+/// The number of the first chunk, after one was put behind `prev`.
+fn first_of(prev: Option<u64>, number: u64, first: u64) -> u64
+    ensures { result ≡ first_after prev number first }
+{
+    match prev {
+        Some(_) => first,
+        None => number,
+    }
+}
+
+impl Chain {
+    /// A block of `size` bytes that is one free chunk, with number 1.
+    pub fn new(alloc: Global, size: u64) -> Result<Chain, AllocError>
+        requires { 0 < size }
+        ensures { IfOk result (λ c. (c.size ≡ size) × IsFresh c.chunks size) }
+    {
+        let mut nodes = HashMap::with_capacity(alloc, 1)?;
+        let chunk = Chunk {
+            start: 0,
+            size,
+            offset: 0,
+            kind: AllocationType::Free,
+            number: 1,
+            name: String::new(alloc),
+        };
+        let node = Node {
+            chunk,
+            prev: None,
+            next: None,
+        };
+        put(&mut nodes, 1, node);
+        Ok(Chain {
+            nodes,
+            first: 1,
+            size,
+        })
+    }
+
+    /// The size of the block in bytes.
+    pub fn size(&self) -> u64
+        ensures value { result ≡ self.now.size }
+        ensures covers { Covers self.now.chunks 0 self.now.size }
+        ensures distinct { AreDistinct self.now.chunks }
+    {
+        self.size
+    }
+
+    /// The number of the chunk at the block's start.
+    pub fn first(&self) -> u64
+        ensures { from_number (Some result) self.now.chunks ≡ self.now.chunks }
+    {
+        self.first
+    }
+
+    /// The chunk of that number, and the number of the next one.
+    pub fn chunk(&self, number: u64, cost: &mut Cost) -> Option<(&Chunk, Option<u64>)>
+        ensures value { MatchOption result (HasNoNumber self.now.chunks number) (λ p. IsChunkAt self.now.chunks number p.0.now p.1) }
+        ensures counted { RisesBy 0 0 1 cost.old cost.new }
+    {
+        let _size = self.size;
+        let node = node_at(&self.nodes, number, cost)?;
+        Some((&node.chunk, node.next))
+    }
+
+    /// The chunk of that number, and what stands beside it.
+    pub fn around(&self, number: u64, cost: &mut Cost) -> Option<Around>
+        ensures value { MatchOption result (HasNoNumber self.now.chunks number) (λ a. IsAround self.now.chunks number a) }
+        ensures counted { RisesBy 0 0 3 cost.old cost.new }
+    {
+        let _size = self.size;
+        let node = node_at(&self.nodes, number, cost)?;
+        let before = beside_at(&self.nodes, node.prev, cost);
+        let after = beside_at(&self.nodes, node.next, cost);
+        Some(Around {
+            here: short(&node.chunk),
+            before,
+            after,
+        })
+    }
+
+    /// Makes room for that many more chunks.
+    pub fn reserve(&mut self, more: usize) -> Result<(), AllocError>
+        ensures same { (self.new.chunks ≡ self.old.chunks) × (self.new.size ≡ self.old.size) }
+        ensures room { OnOk result (more ≤ self.new.room) }
+        ensures kept { self.old.room ≤ self.new.room }
+    {
+        self.nodes.reserve(more)
+    }
+
+    /// Cuts a piece off the front of a chunk, under a new number. There is room for it, so no memory is taken.
+    pub fn split_front(
+        &mut self,
+        number: u64,
+        new: u64,
+        taken: u64,
+        offset: u64,
+        kind: AllocationType,
+        name: String,
+    )
+        requires longer { IsLonger self.old.chunks number taken }
+        requires positive { 0 < taken }
+        requires fresh { HasNoNumber self.old.chunks new }
+        requires room { 0 < self.old.room }
+        ensures chunks { IsSplit self.old.chunks number taken new offset kind name self.new.chunks }
+        ensures size { self.new.size ≡ self.old.size }
+    {
+        let _size = self.size;
+        let ends = ends_of(&self.nodes, number);
+        cut_front(&mut self.nodes, number, taken, Some(new));
+        let chunk = Chunk {
+            start: ends.start,
+            size: taken,
+            offset,
+            kind,
+            number: new,
+            name,
+        };
+        let node = Node {
+            chunk,
+            prev: ends.prev,
+            next: Some(number),
+        };
+        put(&mut self.nodes, new, node);
+        set_next_of(&mut self.nodes, ends.prev, Some(new));
+        self.first = first_of(ends.prev, new, self.first);
+    }
+
+    /// Gives a chunk another offset, kind and name. It takes no memory.
+    pub fn fill(&mut self, number: u64, offset: u64, kind: AllocationType, name: String)
+        requires there { HasNumber self.old.chunks number }
+        ensures chunks { IsFilled self.old.chunks number offset kind name self.new.chunks }
+        ensures size { self.new.size ≡ self.old.size }
+    {
+        set_use(&mut self.nodes, number, offset, kind, name);
+        let _size = self.size;
+    }
+
+    /// Frees a chunk, and joins it with the free chunks beside it. It takes no memory.
+    pub fn release(&mut self, number: u64, empty: String)
+        requires there { HasNumber self.old.chunks number }
+        ensures chunks { IsReleased self.old.chunks number empty self.new.chunks }
+        ensures size { self.new.size ≡ self.old.size }
+    {
+        let _size = self.size;
+        let start = ends_of(&self.nodes, number).start;
+        set_use(&mut self.nodes, number, start, AllocationType::Free, empty);
+        join_right(&mut self.nodes, number);
+        join_left(&mut self.nodes, number);
+    }
+}

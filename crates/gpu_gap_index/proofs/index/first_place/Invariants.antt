@@ -1,0 +1,18 @@
+use Rattle.std.proofs.Common.{◌≡◌, ◌-◌, ◌+◌, ◌^◌, ◌<◌, ◌≤◌, ℕ, length, get_or}
+use Rattle.gpu_gap_index.specs.declared.index.Gap.{Gap}
+use Rattle.gpu_gap_index.specs.Cost.{digits}
+use Rattle.gpu_gap_index.proofs.index.first_place.Given as goal
+
+abbrev pub invariant-loop-low : goal.invariant-loop-low
+invariant-loop-low l = record {
+  within : (l.low ≤ l.high) × (l.high ≤ length l.entries);
+  below : (k : ℕ) (d : Gap) → k < l.low → (get_or l.entries k d).length < l.size;
+  from : (k : ℕ) (d : Gap) → l.high ≤ k → k < length l.entries → l.size ≤ (get_or l.entries k d).length;
+  left : (e : ℕ) × (l.high - l.low < 2 ^ e) × (l.cost.comparisons + e ≤ l.initial.cost.comparisons + digits (length l.entries));
+  rises : l.initial.cost.comparisons ≤ l.cost.comparisons;
+  tests : l.cost.tests ≡ l.initial.cost.tests;
+  lookups : l.cost.lookups ≡ l.initial.cost.lookups;
+}
+
+abbrev pub decreases-loop-low : goal.decreases-loop-low
+decreases-loop-low l = l.high - l.low

@@ -1,0 +1,19 @@
+use Rattle.std.proofs.Common.{arith, rules}
+use Rattle.gpu_gap_index.specs.Index.{Before, IsBefore}
+use Rattle.gpu_gap_index.proofs.Halving.{holds_to, fails_from}
+use Rattle.gpu_gap_index.proofs.Orders.{before_falls}
+use Rattle.gpu_gap_index.proofs.index.place_of.Goals as goal
+
+pub loop-low-preserved-then-is_before : goal.loop-low-preserved-then-is_before
+loop-low-preserved-then-is_before c = record {
+  within = omega arith;
+  below = holds_to Before (λ a. IsBefore a c.args.size c.args.start) c.args.entries.now c.requires (λ a b. before_falls a b c.args.size c.args.start) _ _ (omega arith) (c.is_before.ensures.before (search rules));
+  from = c.loop-low.invariant.from;
+}
+
+pub loop-low-preserved : goal.loop-low-preserved
+loop-low-preserved c = record {
+  within = omega arith;
+  below = c.loop-low.invariant.below;
+  from = fails_from Before (λ a. IsBefore a c.args.size c.args.start) c.args.entries.now c.requires (λ a b. before_falls a b c.args.size c.args.start) _ _ (omega arith) (λ h. let t = c.is_before.ensures.told h in absurd (search (rules, t)));
+}

@@ -1,0 +1,197 @@
+//! The gaps of a block in the order of length and start.
+ghost use Rattle.std.specs.Prelude.{◌≡◌, ℕ, ◌+◌, ◌^◌, ◌<◌, ◌≤◌, List, [], length, slice_index_or, vec_capacity, OnOk, IfSome, IsTrue, is_some, if◌then◌else◌};
+ghost use Rattle.std.specs.List.{AllPairs, slice_get, insert, remove};
+ghost use Rattle.gpu_gap_index.specs.Cost.{digits, RisesBy};
+ghost use Rattle.gpu_gap_index.specs.Index.{Before, IsBefore, IsPlaceOf, HasNoKey, HasKeyAt, IsInserted, IsRemoved, IsReplaced, place_without};
+
+use crate::cost::Cost;
+use gpu_values::AllocationType;
+use std::alloc::{AllocError, Global};
+use std::marker::Model;
+
+/// A gap of a block, with what a test of it reads: the kinds of the pieces beside it, `Free` at an end of the block.
+#[derive(Clone, Copy)]
+pub struct Gap {
+    pub length: u64,
+    pub start: u64,
+    pub number: u64,
+    pub before: AllocationType,
+    pub after: AllocationType,
+}
+
+/// The gaps of a block, of which the first that is long enough is found by halving.
+#[derive(Drop)]
+pub struct GapIndex {
+    entries: Vec<Gap>,
+}
+
+impl Model for GapIndex {
+    ghost use Rattle.std.specs.Prelude.{vec_capacity};
+    ghost use Rattle.std.specs.List.{AllPairs};
+    ghost use Rattle.gpu_gap_index.specs.Index.{Before, Index};
+
+    ghost Value = { Index };
+
+    ghost view = { λ s. record { gaps = s.entries.items; room = vec_capacity s.entries } };
+
+    ghost invariant = { λ s. AllPairs Before s.entries.items };
+}
+
+fn is_before(gap: &Gap, size: u64, start: u64) -> bool
+    ensures before { IsTrue result → IsBefore gap.now size start }
+    ensures told { IsBefore gap.now size start → IsTrue result }
+{
+    gap.length < size || gap.length == size && gap.start < start
+}
+
+/// The place of the key among entries in order.
+fn place_of(entries: &[Gap], size: u64, start: u64) -> usize
+    requires { AllPairs Before entries.now }
+    ensures { IsPlaceOf entries.now size start result }
+{
+    let mut low = 0;
+    let mut high = entries.len();
+    while low < high {
+        let middle = low + (high - low) / 2;
+        if is_before(&entries[middle], size, start) {
+            low = middle + 1;
+        } else {
+            high = middle;
+        }
+    }
+    low
+}
+
+/// The place of the first entry of at least that length, among entries in order.
+fn first_place(entries: &[Gap], size: u64, cost: &mut Cost) -> usize
+    requires { AllPairs Before entries.now }
+    ensures within { result ≤ length entries.now }
+    ensures below { (k : ℕ) (d : Gap) → k < result → (slice_index_or entries.now k d).length < size }
+    ensures from { (k : ℕ) (d : Gap) → result ≤ k → k < length entries.now → size ≤ (slice_index_or entries.now k d).length }
+    ensures counted { RisesBy (digits (length entries.now)) 0 0 cost.old cost.new }
+{
+    let mut low = 0;
+    let mut high = entries.len();
+    while low < high {
+        let middle = low + (high - low) / 2;
+        cost.compare();
+        if entries[middle].length < size {
+            low = middle + 1;
+        } else {
+            high = middle;
+        }
+    }
+    low
+}
+
+/// Puts the gap at the place `to`, and the entry at `from` away: only the entries between the two move.
+fn move_entry(entries: &mut Vec<Gap>, from: usize, to: usize, gap: Gap)
+    requires from { from < length entries.old.items }
+    requires to { to ≤ length entries.old.items }
+    ensures items { entries.new.items ≡ insert (remove entries.old.items from) (place_without from to) gap }
+    ensures room { vec_capacity entries.new ≡ vec_capacity entries.old }
+{
+    if from < to {
+        entries.copy_within(from + 1..to, from);
+        entries[to - 1] = gap;
+    } else {
+        entries.copy_within(to..from, to + 1);
+        entries[to] = gap;
+    }
+}
+
+impl GapIndex {
+    /// An index without gaps.
+    pub fn new(alloc: Global) -> GapIndex
+        ensures { result.gaps ≡ [] }
+    {
+        GapIndex {
+            entries: Vec::new(alloc),
+        }
+    }
+
+    /// Tells proofs that the gaps are in order; it does nothing.
+    pub fn in_order(&self)
+        ensures { AllPairs Before self.now.gaps }
+    {
+        let _ = self.entries.len();
+    }
+
+    /// Makes room for that many gaps in all.
+    pub fn reserve_to(&mut self, count: usize) -> Result<(), AllocError>
+        ensures same { self.new.gaps ≡ self.old.gaps }
+        ensures room { OnOk result (count ≤ self.new.room) }
+        ensures kept { self.old.room ≤ self.new.room }
+    {
+        let len = self.entries.len();
+        if len < count {
+            self.entries.reserve(count - len)?;
+        }
+        let _ = self.entries.capacity();
+        Ok(())
+    }
+
+    /// The place of the first gap of at least that length.
+    pub fn first_at_least(&self, size: u64, cost: &mut Cost) -> usize
+        ensures within { result ≤ length self.now.gaps }
+        ensures below { (k : ℕ) (d : Gap) → k < result → (slice_index_or self.now.gaps k d).length < size }
+        ensures from { (k : ℕ) (d : Gap) → result ≤ k → k < length self.now.gaps → size ≤ (slice_index_or self.now.gaps k d).length }
+        ensures ordered { AllPairs Before self.now.gaps }
+        ensures counted { RisesBy (digits (length self.now.gaps)) 0 0 cost.old cost.new }
+    {
+        first_place(&self.entries, size, cost)
+    }
+
+    /// The gap at a place, to be tested.
+    pub fn get(&self, place: usize, cost: &mut Cost) -> Option<Gap>
+        ensures gap { result ≡ slice_get self.now.gaps place }
+        ensures fits { IfSome result (λ _. place + 1 < 2 ^ 64) }
+        ensures counted { cost.new.tests ≡ cost.old.tests + (if is_some result then 1 else 0) }
+        ensures others { (cost.new.comparisons ≡ cost.old.comparisons) × (cost.new.lookups ≡ cost.old.lookups) }
+    {
+        if place < self.entries.len() {
+            cost.test();
+            Some(self.entries[place])
+        } else {
+            None
+        }
+    }
+
+    /// Puts a gap in its place. There is room for it, so no memory is taken.
+    pub fn insert(&mut self, gap: Gap)
+        requires room { length self.old.gaps < self.old.room }
+        requires fresh { HasNoKey self.old.gaps gap.length gap.start }
+        ensures gaps { IsInserted self.old.gaps gap self.new.gaps }
+        ensures room { self.new.room ≡ self.old.room }
+    {
+        let place = place_of(&self.entries, gap.length, gap.start);
+        match self.entries.insert(place, gap) {
+            Ok(()) => {}
+            Err(_) => unreachable!(),
+        }
+    }
+
+    /// Takes the gap of that length and start away.
+    pub fn remove(&mut self, size: u64, start: u64)
+        requires { HasKeyAt self.old.gaps size start }
+        ensures gaps { IsRemoved self.old.gaps size start self.new.gaps }
+        ensures ordered { AllPairs Before self.old.gaps }
+        ensures room { self.new.room ≡ self.old.room }
+    {
+        let place = place_of(&self.entries, size, start);
+        let _ = self.entries.remove(place);
+    }
+
+    /// Puts a gap in its place, and the one of that length and start away. It takes no memory.
+    pub fn replace(&mut self, size: u64, start: u64, gap: Gap)
+        requires there { HasKeyAt self.old.gaps size start }
+        requires fresh { (rest : List Gap) → IsRemoved self.old.gaps size start rest → HasNoKey rest gap.length gap.start }
+        ensures gaps { IsReplaced self.old.gaps size start gap self.new.gaps }
+        ensures ordered { AllPairs Before self.old.gaps }
+        ensures room { self.new.room ≡ self.old.room }
+    {
+        let from = place_of(&self.entries, size, start);
+        let to = place_of(&self.entries, gap.length, gap.start);
+        move_entry(&mut self.entries, from, to, gap);
+    }
+}

@@ -1,0 +1,11 @@
+pub mod Binding
+pub mod Serving
+pub mod Owning
+pub mod Taking
+pub mod Reading
+pub mod Naming
+pub mod Changes
+pub mod Alike
+pub mod Ranges
+pub mod TwoRuns
+pub mod Isolation

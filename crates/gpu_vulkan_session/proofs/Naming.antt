@@ -1,0 +1,53 @@
+-- What a new name under a number comes to.
+use Rattle.std.proofs.Common.{◌≡◌, ◌∙◌, ℕ, List, Option, Some, None, Ok, Err, true, sym, ap}
+use Rattle.gpu_core.specs.Refusal.{refusal_of}
+use Rattle.gpu_core.specs.declared.memory_type.Piece.{Piece}
+use Rattle.gpu_values.specs.declared.error.AllocationError.{AllocationError}
+use Rattle.gpu_device.specs.declared.vulkan.device.VulkanDevice.{Ghosts}
+use Rattle.gpu_device.specs.declared.vulkan.types.DeviceMemory.{DeviceMemory}
+use Rattle.gpu_allocator.specs.Blocks.{Slots}
+use Rattle.gpu_allocator.specs.Rename.{IsNamed, RenamesBy}
+use Rattle.gpu_allocator.specs.Step as model
+use Rattle.gpu_allocator.specs.Step.{IsStep}
+use Rattle.gpu_allocator.specs.declared.vulkan.allocation.Allocation.{Allocation}
+use Rattle.gpu_allocator.proofs.Untouched.{same_leaves}
+use Rattle.gpu_vulkan_session.specs.Session as orders
+use Rattle.gpu_vulkan_session.specs.Session.{Under, Rename, Told, Chances, bind}
+use Rattle.gpu_vulkan_session.specs.Served.{SessionValue, session_of, IsServed}
+use Rattle.gpu_vulkan_session.proofs.Binding.{bindings, bind_same}
+use Rattle.gpu_vulkan_session.proofs.Serving.{serves_at}
+
+pub named_of : (a b : Allocation) (p : Option (Piece DeviceMemory)) (name : List ℕ) (u : Unit {0}) (old new : Slots) → RenamesBy a p name old (Ok u) b new → IsNamed a name b
+named_of a b None name u old new h = h.0
+named_of a b (Some p) name u old new h = h.0
+
+pub same_of : (a b : Allocation) (p : Option (Piece DeviceMemory)) (name : List ℕ) (e : AllocationError) (old new : Slots) → RenamesBy a p name old (Err e) b new → b ≡ a
+same_of a b None name e old new h = h.1
+same_of a b (Some p) name e old new h = h.1
+
+module _ {D : Type 0} (g : Ghosts D) (old new : SessionValue D) (key : ℕ) (name : List ℕ) (a b : Allocation) (told : Told) (found : bindings old.bound key ≡ Some a)
+    (is : bindings new.bound ≡ bind (bindings old.bound) key (Some b)) (constant : (new.allocator.setup ≡ old.allocator.setup) × (new.allocator.first ≡ old.allocator.first)) (device : new.allocator.device ≡ old.allocator.device) where
+  pub renamed : IsNamed a name b → told ≡ orders.Fine → IsStep g (model.Rename a name) model.Done old.allocator new.allocator → IsServed g (Under key (Rename name)) told old new
+  renamed named fine step =
+      let o : Chances = record { room = true; call = step.outcomes } in
+      record {
+        chances = o;
+        serves = serves_at old.allocator.setup (session_of g old) (session_of g new) key (Rename name) o told (Some a) found
+            (record { reply = model.Done; step = step.step; binds = (fine, (b, named, is)) });
+        count = step.count;
+        untouched = λ e2. same_leaves (g.held old.allocator.device) (g.held new.allocator.device) (ap g.held device);
+        constant = constant;
+      }
+
+  pub not_renamed : (e : AllocationError) → b ≡ a → told ≡ orders.Fails (refusal_of e) → IsStep g (model.Rename a name) (model.Fails (refusal_of e)) old.allocator new.allocator → IsServed g (Under key (Rename name)) told old new
+  not_renamed e same fails step =
+      let o : Chances = record { room = true; call = step.outcomes } in
+      let unchanged : bindings new.bound ≡ bindings old.bound = is ∙ bind_same (bindings old.bound) key (Some b) (found ∙ ap Some (sym same)) in
+      record {
+        chances = o;
+        serves = serves_at old.allocator.setup (session_of g old) (session_of g new) key (Rename name) o told (Some a) found
+            (record { reply = model.Fails (refusal_of e); step = step.step; binds = (fails, unchanged) });
+        count = step.count;
+        untouched = λ e2. same_leaves (g.held old.allocator.device) (g.held new.allocator.device) (ap g.held device);
+        constant = constant;
+      }

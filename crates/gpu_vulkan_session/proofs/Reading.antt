@@ -1,0 +1,71 @@
+-- What reads and writes under a number come to.
+use Rattle.std.proofs.Common.{◌≡◌, ◌∙◌, ℕ, ◌+◌, ◌≤◌, arith, List, length, take, drop, Option, Some, Bool, true, false, refl, sym, ap, subst}
+use Rattle.std.specs.Prelude.{nat_le, if◌then◌else◌}
+use Rattle.std.proofs.lemmas.Bool.Decides.{nat_tests}
+use Rattle.gpu_device.specs.declared.vulkan.device.VulkanDevice.{Ghosts}
+use Rattle.gpu_allocator.specs.State.{State}
+use Rattle.gpu_allocator.specs.Step as model
+use Rattle.gpu_allocator.specs.Step.{IsRead, IsStep}
+use Rattle.gpu_allocator.specs.declared.vulkan.allocation.Allocation.{Allocation}
+use Rattle.gpu_vulkan_session.specs.Session as orders
+use Rattle.gpu_vulkan_session.specs.Session.{Under, Put, Get, Told, Chances, put_range, read_told, part_told, PutsOver, PutsIn}
+use Rattle.gpu_vulkan_session.specs.Served.{SessionValue, session_of, IsServed}
+use Rattle.gpu_vulkan_session.proofs.Binding.{bindings}
+use Rattle.gpu_vulkan_session.proofs.Ranges.{length_put}
+use Rattle.gpu_vulkan_session.proofs.Serving.{quiet, stayed, served_quietly, serves_at}
+
+-- bytes that are read in the model
+pub read_of : {D : Type 0} (g : Ghosts D) (s : SessionValue D) (a : Allocation) (bytes : Option (List ℕ)) → IsStep g (model.Read a) (model.Bytes bytes) s.allocator s.allocator → IsRead s.allocator.setup a (session_of g s).model bytes
+read_of g s a bytes step = step.step.1
+
+module _ {D : Type 0} (g : Ghosts D) (s : SessionValue D) (key at : ℕ) where
+  -- a read that is told something, with room for its bytes or not
+  pub gets_bound : (size : ℕ) (a : Allocation) (bytes : Option (List ℕ)) (o : Chances) (told : Told) → bindings s.bound key ≡ Some a → IsRead s.allocator.setup a (session_of g s).model bytes
+      → o.call ≡ quiet.call → told ≡ read_told o.room at size bytes → IsServed g (Under key (Get at size)) told s s
+  gets_bound size a bytes o told found read met is =
+      served_quietly g key (Get at size) told s o (Some a) met found (bytes, read, is, (subst (λ c. model.MeetsNothing c) (sym met) (refl, refl), refl))
+
+  -- a write that is told that nothing was done
+  pub puts_nothing : (others : List ℕ) (a : Allocation) (bytes : Option (List ℕ)) (told : Told) → bindings s.bound key ≡ Some a → IsRead s.allocator.setup a (session_of g s).model bytes
+      → PutsOver s.allocator.setup a at others bytes quiet told (session_of g s) (session_of g s) → IsServed g (Under key (Put at others)) told s s
+  puts_nothing others a bytes told found read puts = served_quietly g key (Put at others) told s quiet (Some a) refl found (bytes, read, puts)
+
+pub past_told : (room : Bool) (at size : ℕ) (xs : List ℕ) → nat_le (at + size) (length xs) ≡ false → read_told room at size (Some xs) ≡ orders.Past
+past_told room at size xs e = ap (λ b. if b then part_told room (take size (drop at xs)) else orders.Past) e
+
+pub data_told : (room : Bool) (at size : ℕ) (xs : List ℕ) → nat_le (at + size) (length xs) ≡ true → read_told room at size (Some xs) ≡ part_told room (take size (drop at xs))
+data_told room at size xs e = ap (λ b. if b then part_told room (take size (drop at xs)) else orders.Past) e
+
+true_false : true ≡ false → ⊥
+true_false e = cc
+
+fits_le : (n m : ℕ) → nat_le n m ≡ true → n ≤ m
+fits_le n m fits = grind (arith, nat_tests, fits)
+
+module _ {D : Type 0} (g : Ghosts D) (s : SessionValue D) (key at : ℕ) where
+  -- a write over an allocation's bytes
+  pub puts_bound : (others : List ℕ) (a : Allocation) (xs ys zs : List ℕ) (size : ℕ) (after : State D) → bindings s.bound key ≡ Some a → IsRead s.allocator.setup a (session_of g s).model (Some xs)
+      → nat_le (at + length others) (length xs) ≡ true → Some xs ≡ Some ys → zs ≡ put_range ys at others → length xs ≡ size
+      → (length zs ≡ size → IsStep g (model.Write a zs) model.Done s.allocator after) → (after.setup ≡ s.allocator.setup) × (after.first ≡ s.allocator.first)
+      → IsServed g (Under key (Put at others)) orders.Fine s (record { allocator = after; bound = s.bound })
+  puts_bound others a xs ys zs size after found read fits same put long writes constant =
+      let is : xs ≡ ys = cc in
+      let put_xs : zs ≡ put_range xs at others = put ∙ ap (λ l. put_range l at others) (sym is) in
+      let step = subst (λ l. IsStep g (model.Write a l) model.Done s.allocator after) put_xs (writes (ap length put_xs ∙ length_put xs at others (fits_le (at + length others) (length xs) fits) ∙ long)) in
+      let o : Chances = record { room = true; call = step.outcomes } in
+      let new : SessionValue D = record { allocator = after; bound = s.bound } in
+      record {
+        chances = o;
+        serves = serves_at s.allocator.setup (session_of g s) (session_of g new) key (Put at others) o orders.Fine (Some a) found
+            (Some xs, read, subst (λ b. PutsIn s.allocator.setup a at others xs b o orders.Fine (session_of g s) (session_of g new)) (sym fits) (refl, step.step, refl));
+        count = step.count;
+        untouched = λ e. absurd (true_false e);
+        constant = constant;
+      }
+
+  -- a write past the end
+  pub puts_past : (others : List ℕ) (a : Allocation) (xs : List ℕ) → bindings s.bound key ≡ Some a → IsRead s.allocator.setup a (session_of g s).model (Some xs)
+      → nat_le (at + length others) (length xs) ≡ false → IsServed g (Under key (Put at others)) orders.Past s s
+  puts_past others a xs found read past =
+      puts_nothing g s key at others a (Some xs) orders.Past found read
+      (subst (λ b. PutsIn s.allocator.setup a at others xs b quiet orders.Past (session_of g s) (session_of g s)) (sym past) (refl, stayed (session_of g s)))

@@ -1,0 +1,37 @@
+use Rattle.std.proofs.Common.{true, refl, subst}
+use Rattle.gpu_core.specs.Refusal.{refusal_of}
+use Rattle.std.specs.Prelude.{map, string_bytes}
+use Rattle.gpu_allocator.specs.Step as model
+use Rattle.gpu_allocator.proofs.Untouched.{same_leaves}
+use Rattle.gpu_vulkan_session.specs.Session as orders
+use Rattle.gpu_vulkan_session.specs.Served.{SessionValue, IsServed}
+use Rattle.gpu_vulkan_session.proofs.Serving.{asked}
+use Rattle.gpu_vulkan_session.proofs.session.Session.leaks.Goals as goal
+
+pub returns-in-Ok : goal.returns-in-Ok
+returns-in-Ok g c =
+    let V = g.D.VulkanDevice in
+    let s : SessionValue g.row.D.Denot = record { allocator = c.self.inside.allocator; bound = c.self.inside.bound.entries } in
+    let told = orders.Tells (map (λ s. string_bytes s) c.in-Ok.texts.items) in
+    let step = c.in-Ok.ensures.step in
+    subst (λ x. IsServed V orders.Leaks told x x) c.self.view_is (record {
+      chances = record { room = true; call = step.outcomes };
+      serves = asked V model.Leaks (model.Tells (map (λ s. string_bytes s) c.in-Ok.texts.items)) told s refl step;
+      count = step.count;
+      untouched = λ e. same_leaves (V.held s.allocator.device) (V.held s.allocator.device) refl;
+      constant = (refl, refl);
+    })
+
+pub returns-in-Err : goal.returns-in-Err
+returns-in-Err g c =
+    let V = g.D.VulkanDevice in
+    let s : SessionValue g.row.D.Denot = record { allocator = c.self.inside.allocator; bound = c.self.inside.bound.entries } in
+    let told = orders.Fails (refusal_of c.in-Err.error) in
+    let step = c.in-Err.ensures.step in
+    subst (λ x. IsServed V orders.Leaks told x x) c.self.view_is (record {
+      chances = record { room = true; call = step.outcomes };
+      serves = asked V model.Leaks (model.Fails (refusal_of c.in-Err.error)) told s refl step;
+      count = step.count;
+      untouched = λ e. same_leaves (V.held s.allocator.device) (V.held s.allocator.device) refl;
+      constant = (refl, refl);
+    })

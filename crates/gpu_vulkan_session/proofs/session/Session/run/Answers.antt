@@ -1,0 +1,37 @@
+use Rattle.std.proofs.Common.{[], ◌∷◌, ◌++◌, take, map, ap, sym, subst, ◌∙◌, arith}
+use Rattle.std.proofs.lemmas.Grind.{common_steps}
+use Rattle.gpu_allocator.specs.Step.{count_after}
+use Rattle.gpu_vulkan_session.specs.Session.{Serves}
+use Rattle.gpu_vulkan_session.specs.Served.{session_of, order_of, told_of}
+use Rattle.gpu_vulkan_session.proofs.Serving.{runs_more, each_more, count_more, map_push, map_take_more, kept_at}
+use Rattle.gpu_vulkan_session.proofs.session.Session.run.Goals as goal
+
+pub loop-command-preserved : goal.loop-command-preserved
+loop-command-preserved g c =
+    let V = g.D.VulkanDevice in
+    let before = c.loop-command.invariant.run in
+    let step = c.serve-reply.ensures in
+    let old = c.args.self.now in
+    let mid = c.loop-command.self in
+    let new = c.serve-reply.new.self in
+    let setup = old.allocator.setup in
+    let order = order_of c.command-item.result in
+    let told = told_of c.serve-reply.result in
+    let serves = subst (λ z. Serves z order step.chances told (session_of V mid) (session_of V new)) before.constant.0 step.serves in
+    let kept = kept_at V c.self-in-loop-command.inside.allocator c.self-in-loop-command.inside.bound.entries new setup c.self-in-loop-command.view_is (step.constant.0 ∙ before.constant.0)
+    c.allocations_are_apart.ensures.sound c.self-in-loop-command.invariant in
+    let orders = map_take_more order_of c.args.commands.now c.loop-command.command-index c.command-item.result c.loop-command-test.true c.command-item.is in
+    let tolds = ap (map told_of) c.push_reserved.ensures.items ∙ map_push told_of c.loop-command.replies.items c.serve-reply.result in
+    record {
+      run = rw (orders, tolds) (record {
+        chances = before.chances ++ step.chances ∷ [];
+        runs = runs_more setup (session_of V old) (session_of V mid) (session_of V new) (map order_of (take c.loop-command.command-index c.args.commands.now)) order before.chances step.chances
+            (map told_of c.loop-command.replies.items) told before.runs serves kept;
+        count = step.count ∙ ap (λ n. count_after (count_after n step.chances.call.first.asked) step.chances.call.second.asked) before.count
+            ∙ sym (count_more (V.refused old.allocator.device) before.chances step.chances);
+        constant = (step.constant.0 ∙ before.constant.0, step.constant.1 ∙ before.constant.1);
+      });
+      each = rw (orders, tolds) (each_more V old mid new (map order_of (take c.loop-command.command-index c.args.commands.now)) order (map told_of c.loop-command.replies.items) told c.loop-command.invariant.each step);
+      count = grind (arith, common_steps, c.loop-command.invariant.count);
+      room = grind (arith, common_steps, c.loop-command.invariant.room);
+    }

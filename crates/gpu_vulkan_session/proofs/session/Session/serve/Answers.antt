@@ -1,0 +1,22 @@
+use Rattle.std.proofs.Common.{true, refl, sym, subst}
+use Rattle.gpu_allocator.specs.Step as model
+use Rattle.gpu_allocator.proofs.Untouched.{same_leaves}
+use Rattle.gpu_vulkan_session.specs.Session as orders
+use Rattle.gpu_vulkan_session.specs.Served.{SessionValue, order_of, IsServed}
+use Rattle.gpu_vulkan_session.proofs.Serving.{asked}
+use Rattle.gpu_vulkan_session.proofs.session.Session.serve.Goals as goal
+
+pub returns-in-Capacity : goal.returns-in-Capacity
+returns-in-Capacity g c =
+    let V = g.D.VulkanDevice in
+    let s : SessionValue g.row.D.Denot = record { allocator = c.self.inside.allocator; bound = c.self.inside.bound.entries } in
+    let told = orders.Sum c.capacity.result in
+    let step = c.capacity.ensures.step in
+    subst (λ o. IsServed V (order_of o) told c.args.self.now c.args.self.now) (sym c.in-Capacity.is)
+    (subst (λ x. IsServed V orders.Capacity told x x) c.self.view_is (record {
+      chances = record { room = true; call = step.outcomes };
+      serves = asked V model.Capacity (model.Sum c.capacity.result) told s refl step;
+      count = step.count;
+      untouched = λ e. same_leaves (V.held s.allocator.device) (V.held s.allocator.device) refl;
+      constant = (refl, refl);
+    }))

@@ -1,0 +1,106 @@
+-- What a session's calls say in the model.
+use Rattle.std.specs.Prelude.{◌≡◌, ℕ, Bool, true, false, List, [], ◌∷◌, nat_eq, map, string_bytes}
+use Rattle.std.specs.Map.{lookup}
+use Rattle.std.specs.Int.NonZero.{non_zero_u64_get}
+use Rattle.gpu_core.specs.Refusal.{refusal_of}
+use Rattle.gpu_core.specs.Report.{report_of}
+use Rattle.gpu_device.specs.declared.vulkan.device.VulkanDevice.{Ghosts}
+use Rattle.gpu_allocator.specs.Lends.{number_in}
+use Rattle.gpu_allocator.specs.State.{State}
+use Rattle.gpu_allocator.specs.Untouched.{LeavesMemory}
+use Rattle.gpu_allocator.specs.Step.{model_of, count_after}
+use Rattle.gpu_allocator.specs.declared.vulkan.allocation.Allocation.{Allocation}
+use Rattle.gpu_vulkan_session.specs.Session.{SessionState, Order, Shown, Told, Chances, Take, TakeNull, Return, Rename, Put, Get, Under, Report, Leaks, Capacity, Given, Fine, Data, Shows, Tells, Sum, Busy, Unbound, Unmapped, Past, Fails, Serves, Runs}
+use Rattle.gpu_vulkan_session.specs.declared.command.Command.{Command}
+use Rattle.gpu_vulkan_session.specs.declared.command.Command.TheVariants as commands
+use Rattle.gpu_vulkan_session.specs.declared.reply.Reply.{Reply}
+use Rattle.gpu_vulkan_session.specs.declared.reply.Reply.TheVariants as replies
+use Rattle.gpu_vulkan_session.specs.declared.reply.Given.{Given as GivenPiece}
+
+abbrev pub order_of : Command → Order
+order_of (commands.Alloc key requirements location linear scheme name) =
+    Under key (Take (record { requirements = requirements; location = location; linear = linear; scheme = scheme; name = string_bytes name }))
+order_of (commands.Null key) = Under key TakeNull
+order_of (commands.Free key) = Under key Return
+order_of (commands.Rename key name) = Under key (Rename (string_bytes name))
+order_of (commands.Write key at bytes) = Under key (Put at bytes.items)
+order_of (commands.Read key at size) = Under key (Get at size)
+order_of commands.Report = Report
+order_of commands.Leaks = Leaks
+order_of commands.Capacity = Capacity
+
+abbrev pub shown_of : GivenPiece → Shown
+shown_of g = record {
+  memory_type = g.memory_type;
+  slot = g.slot;
+  offset = g.offset;
+  size = g.size;
+  number = non_zero_u64_get g.chunk;
+  dedicated = g.dedicated;
+  mapped = g.mapped;
+}
+
+-- what is shown of an allocation
+abbrev pub shown_allocation : Allocation → Shown
+shown_allocation a = record {
+  memory_type = a.memory_type_index;
+  slot = a.memory_block_index;
+  offset = a.offset;
+  size = a.size;
+  number = number_in a.chunk_id;
+  dedicated = a.dedicated;
+  mapped = a.mapped;
+}
+
+abbrev pub told_of : Reply → Told
+told_of (replies.Given g) = Given (shown_of g)
+told_of replies.Done = Fine
+told_of (replies.Bytes bytes) = Data bytes.items
+told_of (replies.Report report) = Shows (report_of report)
+told_of (replies.Leaks texts) = Tells (map string_bytes texts.items)
+told_of (replies.Capacity n) = Sum n
+told_of replies.Busy = Busy
+told_of replies.Unbound = Unbound
+told_of replies.Unmapped = Unmapped
+told_of replies.OutOfRange = Past
+told_of (replies.Error e) = Fails (refusal_of e)
+
+-- what callers see of a session: the allocator, and what the numbers stand for
+pub record SessionValue (D : Type 0) : Type 0 where
+  pub allocator : State D
+  pub bound : List (ℕ × Allocation)
+
+-- the session's state in the model
+abbrev pub session_of : {D : Type 0} → Ghosts D → SessionValue D → SessionState
+session_of g s = record { bound = λ key. lookup (nat_eq key) s.bound; model = model_of g s.allocator }
+
+-- the device's count of refusals after all questions of a run
+abbrev pub count_over : ℕ → List Chances → ℕ
+count_over count [] = count
+count_over count (o ∷ os) = count_over (count_after (count_after count o.call.first.asked) o.call.second.asked) os
+
+abbrev pub is_write : Order → Bool
+is_write (Under key (Put at bytes)) = true
+is_write order = false
+
+-- A command is served at some chances, and their refusals are what the device counts. Unless it is a write, it changes no byte of
+-- memory that is held before and after.
+pub record IsServed {D : Type 0} (g : Ghosts D) (order : Order) (told : Told) (old new : SessionValue D) : Type 0 where
+  pub chances : Chances
+  pub serves : Serves old.allocator.setup order chances told (session_of g old) (session_of g new)
+  pub count : g.refused new.allocator.device ≡ count_after (count_after (g.refused old.allocator.device) chances.call.first.asked) chances.call.second.asked
+  pub untouched : is_write order ≡ false → LeavesMemory (g.held old.allocator.device) (g.held new.allocator.device)
+  pub constant : (new.allocator.setup ≡ old.allocator.setup) × (new.allocator.first ≡ old.allocator.first)
+
+-- the replies are those of a run at some chances, whose refusals are what the device counts
+pub record IsRun {D : Type 0} (g : Ghosts D) (orders : List Order) (told : List Told) (old new : SessionValue D) : Type 0 where
+  pub chances : List Chances
+  pub runs : Runs old.allocator.setup (session_of g old) orders chances told (session_of g new)
+  pub count : g.refused new.allocator.device ≡ count_over (g.refused old.allocator.device) chances
+  pub constant : (new.allocator.setup ≡ old.allocator.setup) × (new.allocator.first ≡ old.allocator.first)
+
+-- the commands are served one after another
+abbrev pub ServesEach : {D : Type 0} → Ghosts D → List Order → List Told → (old new : SessionValue D) → Type 0
+ServesEach g [] [] old new = new ≡ old
+ServesEach {D} g (order ∷ orders) (told ∷ tolds) old new = (mid : SessionValue D) × IsServed g order told old mid × ServesEach g orders tolds mid new
+ServesEach g _ _ old new = ⊥

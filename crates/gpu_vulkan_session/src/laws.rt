@@ -1,0 +1,25 @@
+//! Laws of sessions, each the contract of a function that does nothing.
+
+ghost use Rattle.std.specs.Prelude.{◌≡◌, ◌≢◌, ℕ, List, Some};
+ghost use Rattle.gpu_allocator.specs.Live.{IsLive};
+ghost use Rattle.gpu_allocator.specs.Setup.{Setup};
+ghost use Rattle.gpu_allocator.specs.Step.{place_of};
+ghost use Rattle.gpu_allocator.specs.declared.vulkan.allocation.Allocation.{Allocation};
+ghost use Rattle.gpu_vulkan_session.specs.Session.{SessionState, IsOwn, Under, Put, Chances, Told, Serves};
+ghost use Rattle.gpu_vulkan_session.specs.Laws.{TwoRuns};
+
+/// What others write changes nothing of ours. Take a set of the caller's numbers, ours, and two lists of commands that differ
+/// only in the bytes of writes to other numbers. In two runs from one state, with refusals that are the same and new blocks that
+/// may hold other bytes, all replies are equal but for the bytes that reads give; and a read under a number of ours gives
+/// equal bytes at each place that was written under it since its allocation was given, and at every place, if it was live at the
+/// beginning. That stands although our pieces may lie where others' lay, and then begin with their bytes.
+pub fn two_runs()
+    ensures { TwoRuns }
+{}
+
+/// A write under one number leaves the bytes of every other number's live allocation.
+pub fn writes_are_apart()
+    ensures { (setup : Setup) (key other at : ℕ) (bytes : List ℕ) (o : Chances) (told : Told) (old new : SessionState) (b : Allocation) → IsOwn old
+        → Serves setup (Under key (Put at bytes)) o told old new → key ≢ other → old.bound other ≡ Some b → IsLive old.model.slots b
+        → new.model.buffers.lists (place_of b) ≡ old.model.buffers.lists (place_of b) }
+{}
