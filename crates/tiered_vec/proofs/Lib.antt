@@ -1,0 +1,4 @@
+mod Edits
+mod Dealing
+mod Steps
+mod Shifts

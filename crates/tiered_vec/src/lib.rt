@@ -1,0 +1,11 @@
+//! A vector that stays quick when it is long: an insert or a remove moves about the square root of its entries.
+#![tactic(auto)]
+
+mod ring;
+mod rings;
+mod tiered_vec;
+
+pub use tiered_vec::TieredVec;
+
+#[cfg(test)]
+mod tests;
