@@ -8,10 +8,7 @@ use std::process::Abort;
 /// A session over one memory type that the host can see.
 fn session(alloc: Global) -> std::result::Result<Session<SimVulkan>, Fail> {
     let properties = one_type(&[(6, 0)], &[1024 * MB]);
-    Ok(Session::new(
-        alloc,
-        made(alloc, &properties, AllocationSizes::default())?,
-    ))
+    Ok(Session::new(alloc, made(alloc, &properties, AllocationSizes::default())?))
 }
 
 /// A request for a piece of `size` bytes that the host writes.
@@ -142,11 +139,21 @@ fn refusals(rt: &impl Abort, s: &mut Session<SimVulkan>, alloc: Global) -> Outco
     assert!(rt; is_done(&one(s, Command::Null { key: 1 }, alloc)?));
     assert!(rt; matches!(one(s, Command::Null { key: 1 }, alloc)?, Reply::Busy));
     assert!(rt; matches!(one(s, alloc_of(alloc, 1, 0, "a")?, alloc)?, Reply::Busy));
-    assert!(rt; matches!(one(s, write_of(alloc, 1, 9, &[1])?, alloc)?, Reply::Unmapped));
+    assert!(rt;
+        matches!(
+            one(s, write_of(alloc, 1, 9, &[1])?, alloc)?,
+            Reply::Unmapped
+        )
+    );
     let name = "n".to_string(alloc)?;
     assert!(rt; is_done(&one(s, Command::Rename { key: 1, name }, alloc)?));
     let name = "n".to_string(alloc)?;
-    assert!(rt; matches!(one(s, Command::Rename { key: 2, name }, alloc)?, Reply::Unbound));
+    assert!(rt;
+        matches!(
+            one(s, Command::Rename { key: 2, name }, alloc)?,
+            Reply::Unbound
+        )
+    );
     assert!(rt; is_done(&one(s, Command::Free { key: 1 }, alloc)?));
     match one(s, alloc_of(alloc, 1, 0, "a")?, alloc)? {
         Reply::Error(error) => {
@@ -154,8 +161,16 @@ fn refusals(rt: &impl Abort, s: &mut Session<SimVulkan>, alloc: Global) -> Outco
         }
         _ => return Err(Fail::from("a request for nothing was not refused")),
     }
-    assert_eq!(rt; given_at(&one(s, alloc_of(alloc, 1, 4, "a")?, alloc)?), Some((0, 4, 2)));
-    assert!(rt; matches!(one(s, write_of(alloc, 1, 3, &[1, 2])?, alloc)?, Reply::OutOfRange));
+    assert_eq!(rt;
+        given_at(&one(s, alloc_of(alloc, 1, 4, "a")?, alloc)?),
+        Some((0, 4, 2))
+    );
+    assert!(rt;
+        matches!(
+            one(s, write_of(alloc, 1, 3, &[1, 2])?, alloc)?,
+            Reply::OutOfRange
+        )
+    );
     let read = Command::Read {
         key: 1,
         at: 1,
@@ -175,14 +190,20 @@ fn each_refusal_is_told(rt: HostRuntime) -> Outcome {
 }
 
 fn shown(rt: &impl Abort, s: &mut Session<SimVulkan>, alloc: Global) -> Outcome {
-    assert_eq!(rt; given_at(&one(s, alloc_of(alloc, 7, 100, "a")?, alloc)?), Some((0, 100, 2)));
+    assert_eq!(rt;
+        given_at(&one(s, alloc_of(alloc, 7, 100, "a")?, alloc)?),
+        Some((0, 100, 2))
+    );
     let name = "b".to_string(alloc)?;
     assert!(rt; is_done(&one(s, Command::Rename { key: 7, name }, alloc)?));
     match one(s, Command::Report, alloc)? {
         Reply::Report(report) => {
             assert_eq!(rt; report.allocations.len(), 1);
             assert_eq!(rt; report.allocations[0].name.as_str(), "b");
-            assert_eq!(rt; (report.total_allocated_bytes, report.total_capacity_bytes), (100, 64 * MB));
+            assert_eq!(rt;
+                (report.total_allocated_bytes, report.total_capacity_bytes),
+                (100, 64 * MB)
+            );
         }
         _ => return Err(Fail::from("no report was made")),
     }
