@@ -94,21 +94,19 @@ place_is xs l s p ordered place h d =
     (cases_lt h.at p)
 
 -- after an insert at a gap's place
-pub stays_ordered : (xs ys gs new : List Gap) (g : Gap) (p : ℕ) → ys ≡ xs → gs ≡ xs → AllPairs Before xs → IsPlaceOf ys g.length g.start p → HasNoKey gs g.length g.start → new ≡ insert xs p g → AllPairs Before new
-stays_ordered xs ys gs new g p ey eg ordered place_ys fresh_gs is =
-    let place = subst (λ (zs : List Gap). IsPlaceOf zs g.length g.start p) ey place_ys in
+pub stays_ordered : (xs gs new : List Gap) (g : Gap) (p : ℕ) → gs ≡ xs → AllPairs Before xs → IsPlaceOf xs g.length g.start p → HasNoKey gs g.length g.start → new ≡ insert xs p g → AllPairs Before new
+stays_ordered xs gs new g p eg ordered place fresh_gs is =
     let fresh = subst (λ (zs : List Gap). HasNoKey zs g.length g.start) eg fresh_gs in
     subst (λ (zs : List Gap). AllPairs Before zs) (sym is)
     (all_pairs_insert Before xs p g place.within ordered place.below (λ k d le lt. after_key (get_or xs k d) g (place.from k d le lt) (fresh k d lt)))
 
-pub place_within : (xs ys gs : List Gap) (l s p : ℕ) (d : Gap) → ys ≡ xs → gs ≡ xs → AllPairs Before xs → IsPlaceOf ys l s p → HasKeyAt gs l s → (p < length xs) × ((e : Gap) → HasKey (get_or xs p e) l s)
-place_within xs ys gs l s p d ey eg ordered place_ys has_gs =
-    let place = subst (λ (zs : List Gap). IsPlaceOf zs l s p) ey place_ys in
+pub place_within : (xs gs : List Gap) (l s p : ℕ) (d : Gap) → gs ≡ xs → AllPairs Before xs → IsPlaceOf xs l s p → HasKeyAt gs l s → (p < length xs) × ((e : Gap) → HasKey (get_or xs p e) l s)
+place_within xs gs l s p d eg ordered place has_gs =
     let has = subst (λ (zs : List Gap). HasKeyAt zs l s) eg has_gs in
     let e = place_is xs l s p ordered place has d in
     (rw e has.at_within, λ f. rw e (has.at_key f))
 
-pub is_removed : (xs ys gs new : List Gap) (l s p : ℕ) (d : Gap) → ys ≡ xs → gs ≡ xs → AllPairs Before xs → IsPlaceOf ys l s p → HasKeyAt gs l s → new ≡ remove xs p → IsRemoved gs l s new
-is_removed xs ys gs new l s p d ey eg ordered place_ys has_gs is =
-    let w = place_within xs ys gs l s p d ey eg ordered place_ys has_gs in
+pub is_removed : (xs gs new : List Gap) (l s p : ℕ) (d : Gap) → gs ≡ xs → AllPairs Before xs → IsPlaceOf xs l s p → HasKeyAt gs l s → new ≡ remove xs p → IsRemoved gs l s new
+is_removed xs gs new l s p d eg ordered place has_gs is =
+    let w = place_within xs gs l s p d eg ordered place has_gs in
     subst (λ (zs : List Gap). IsRemoved zs l s new) (sym eg) (record { place = p; within = w.0; key = w.1; is = is })

@@ -1,5 +1,5 @@
 //! The gaps of a block in the order of length and start.
-ghost use Rattle.std.specs.Prelude.{◌≡◌, ℕ, ◌+◌, ◌^◌, ◌<◌, ◌≤◌, List, [], length, slice_index_or, vec_capacity, OnOk, IfSome, IsTrue, is_some, if◌then◌else◌};
+ghost use Rattle.std.specs.Prelude.{◌≡◌, ℕ, ◌+◌, ◌^◌, ◌<◌, ◌≤◌, List, [], length, slice_index_or, OnOk, IfSome, IsTrue, is_some, if◌then◌else◌};
 ghost use Rattle.std.specs.List.{AllPairs, slice_get, insert, remove};
 ghost use Rattle.gpu_gap_index.specs.Cost.{digits, RisesBy};
 ghost use Rattle.gpu_gap_index.specs.Index.{Before, IsBefore, IsPlaceOf, HasNoKey, HasKeyAt, IsInserted, IsRemoved, IsReplaced, place_without};
@@ -8,6 +8,7 @@ use crate::cost::Cost;
 use gpu_values::AllocationType;
 use std::alloc::{AllocError, Global};
 use std::marker::Model;
+use tiered_vec::TieredVec;
 
 /// A gap of a block, with what a test of it reads: the kinds of the pieces beside it, `Free` at an end of the block.
 #[derive(Clone, Copy)]
@@ -22,19 +23,19 @@ pub struct Gap {
 /// The gaps of a block, of which the first that is long enough is found by halving.
 #[derive(Drop)]
 pub struct GapIndex {
-    entries: Vec<Gap>,
+    entries: TieredVec<Gap>,
 }
 
 impl Model for GapIndex {
-    ghost use Rattle.std.specs.Prelude.{vec_capacity};
+    ghost use Rattle.std.specs.Prelude.{◌+◌, length};
     ghost use Rattle.std.specs.List.{AllPairs};
     ghost use Rattle.gpu_gap_index.specs.Index.{Before, Index};
 
     ghost Value = { Index };
 
-    ghost view = { λ s. record { gaps = s.entries.items; room = vec_capacity s.entries } };
+    ghost view = { λ s. record { gaps = s.entries.entries; room = length s.entries.entries + s.entries.spare } };
 
-    ghost invariant = { λ s. AllPairs Before s.entries.items };
+    ghost invariant = { λ s. AllPairs Before s.entries.entries };
 }
 
 fn is_before(gap: &Gap, size: u64, start: u64) -> bool
@@ -45,15 +46,15 @@ fn is_before(gap: &Gap, size: u64, start: u64) -> bool
 }
 
 /// The place of the key among entries in order.
-fn place_of(entries: &[Gap], size: u64, start: u64) -> usize
-    requires { AllPairs Before entries.now }
-    ensures { IsPlaceOf entries.now size start result }
+fn place_of(entries: &TieredVec<Gap>, size: u64, start: u64) -> usize
+    requires { AllPairs Before entries.now.entries }
+    ensures { IsPlaceOf entries.now.entries size start result }
 {
     let mut low = 0;
     let mut high = entries.len();
     while low < high {
         let middle = low + (high - low) / 2;
-        if is_before(&entries[middle], size, start) {
+        if is_before(&entries.get(middle), size, start) {
             low = middle + 1;
         } else {
             high = middle;
@@ -63,19 +64,19 @@ fn place_of(entries: &[Gap], size: u64, start: u64) -> usize
 }
 
 /// The place of the first entry of at least that length, among entries in order.
-fn first_place(entries: &[Gap], size: u64, cost: &mut Cost) -> usize
-    requires { AllPairs Before entries.now }
-    ensures within { result ≤ length entries.now }
-    ensures below { (k : ℕ) (d : Gap) → k < result → (slice_index_or entries.now k d).length < size }
-    ensures from { (k : ℕ) (d : Gap) → result ≤ k → k < length entries.now → size ≤ (slice_index_or entries.now k d).length }
-    ensures counted { RisesBy (digits (length entries.now)) 0 0 cost.old cost.new }
+fn first_place(entries: &TieredVec<Gap>, size: u64, cost: &mut Cost) -> usize
+    requires { AllPairs Before entries.now.entries }
+    ensures within { result ≤ length entries.now.entries }
+    ensures below { (k : ℕ) (d : Gap) → k < result → (slice_index_or entries.now.entries k d).length < size }
+    ensures from { (k : ℕ) (d : Gap) → result ≤ k → k < length entries.now.entries → size ≤ (slice_index_or entries.now.entries k d).length }
+    ensures counted { RisesBy (digits (length entries.now.entries)) 0 0 cost.old cost.new }
 {
     let mut low = 0;
     let mut high = entries.len();
     while low < high {
         let middle = low + (high - low) / 2;
         cost.compare();
-        if entries[middle].length < size {
+        if entries.get(middle).length < size {
             low = middle + 1;
         } else {
             high = middle;
@@ -84,20 +85,15 @@ fn first_place(entries: &[Gap], size: u64, cost: &mut Cost) -> usize
     low
 }
 
-/// Puts the gap at the place `to`, and the entry at `from` away: only the entries between the two move.
-fn move_entry(entries: &mut Vec<Gap>, from: usize, to: usize, gap: Gap)
-    requires from { from < length entries.old.items }
-    requires to { to ≤ length entries.old.items }
-    ensures items { entries.new.items ≡ insert (remove entries.old.items from) (place_without from to) gap }
-    ensures room { vec_capacity entries.new ≡ vec_capacity entries.old }
+/// Puts the gap at the place `to`, and the entry at `from` away. The place counts among all entries, also that at `from`.
+fn move_entry(entries: &mut TieredVec<Gap>, from: usize, to: usize, gap: Gap)
+    requires from { from < length entries.old.entries }
+    requires to { to ≤ length entries.old.entries }
+    ensures gaps { entries.new.entries ≡ insert (remove entries.old.entries from) (place_without from to) gap }
+    ensures spare { entries.new.spare ≡ entries.old.spare }
 {
-    if from < to {
-        entries.copy_within(from + 1..to, from);
-        entries[to - 1] = gap;
-    } else {
-        entries.copy_within(to..from, to + 1);
-        entries[to] = gap;
-    }
+    let place = if from < to { to - 1 } else { to };
+    let _ = entries.replace(from, place, gap);
 }
 
 impl GapIndex {
@@ -106,7 +102,7 @@ impl GapIndex {
         ensures { result.gaps ≡ [] }
     {
         GapIndex {
-            entries: Vec::new(alloc),
+            entries: TieredVec::new(alloc),
         }
     }
 
@@ -127,7 +123,6 @@ impl GapIndex {
         if len < count {
             self.entries.reserve(count - len)?;
         }
-        let _ = self.entries.capacity();
         Ok(())
     }
 
@@ -151,7 +146,7 @@ impl GapIndex {
     {
         if place < self.entries.len() {
             cost.test();
-            Some(self.entries[place])
+            Some(self.entries.get(place))
         } else {
             None
         }
@@ -165,10 +160,7 @@ impl GapIndex {
         ensures room { self.new.room ≡ self.old.room }
     {
         let place = place_of(&self.entries, gap.length, gap.start);
-        match self.entries.insert(place, gap) {
-            Ok(()) => {}
-            Err(_) => unreachable!(),
-        }
+        self.entries.insert(place, gap);
     }
 
     /// Takes the gap of that length and start away.

@@ -4,6 +4,7 @@
 ghost use Rattle.std.specs.Prelude.{◌≡◌, ◌<◌, ◌≤◌, [], ◌∷◌, ◌++◌, length, slice_index_or, IfOk};
 ghost use Rattle.std.specs.List.{insert, remove};
 
+use crate::flat::shift;
 use std::alloc::{AllocError, Global};
 use std::collections::VecDeque;
 use std::marker::Model;
@@ -115,21 +116,4 @@ impl<T: Copy> Ring<T> {
     {
         self.slots.pop_back().unwrap()
     }
-}
-
-// Takes the entry at `from` out and puts another one in at `to`: those between them move by one place.
-fn shift<T: Copy>(entries: &mut [T], from: usize, to: usize, entry: T) -> T
-    requires from { from < length entries.old }
-    requires to { to < length entries.old }
-    ensures value { result ≡ slice_index_or entries.old from result }
-    ensures entries { entries.new ≡ insert (remove entries.old from) to entry }
-{
-    let old = entries[from];
-    if from < to {
-        entries.copy_within(from + 1..to + 1, from);
-    } else {
-        entries.copy_within(to..from, to + 1);
-    }
-    entries[to] = entry;
-    old
 }

@@ -38,11 +38,11 @@ fn each_call_once(rt: HostRuntime) -> Result<(), Fail> {
     v.reserve(0)?;
     assert_eq!(rt; v.spare(), 0);
     v.reserve(1)?;
-    assert_eq!(rt; v.spare(), 256);
+    assert_eq!(rt; v.spare(), 4);
     put(&rt, &mut v, 0, 10);
     put(&rt, &mut v, 1, 30);
     put(&rt, &mut v, 1, 20);
-    assert_eq!(rt; v.spare(), 253);
+    assert_eq!(rt; v.spare(), 1);
     check_entries(&rt, &v, &[10, 20, 30]);
     assert_eq!(rt; change(&rt, &mut v, 0, 2, 40), 10);
     check_entries(&rt, &v, &[20, 30, 40]);
@@ -50,10 +50,25 @@ fn each_call_once(rt: HostRuntime) -> Result<(), Fail> {
     check_entries(&rt, &v, &[5, 20, 30]);
     assert_eq!(rt; take(&rt, &mut v, 1), 20);
     check_entries(&rt, &v, &[5, 30]);
+    Ok(())
+}
+
+#[test]
+fn room_doubles_up_to_a_ring_and_then_comes_in_rings(rt: HostRuntime) -> Result<(), Fail> {
+    let mut v: TieredVec<u32> = TieredVec::new(rt.alloc());
+    for (asked, room) in [(1, 4), (5, 8), (17, 17), (18, 34), (200, 200), (201, 256)] {
+        v.reserve(asked)?;
+        assert_eq!(rt; v.spare(), room);
+    }
+    put(&rt, &mut v, 0, 10);
+    put(&rt, &mut v, 1, 20);
     v.reserve(254)?;
     assert_eq!(rt; v.spare(), 254);
     v.reserve(255)?;
     assert_eq!(rt; v.spare(), 510);
+    check_entries(&rt, &v, &[10, 20]);
+    v.reserve(511)?;
+    assert_eq!(rt; v.spare(), 766);
     Ok(())
 }
 
@@ -64,7 +79,11 @@ fn more_than_memory_can_hold_is_refused(rt: HostRuntime) -> Result<(), Fail> {
     put(&rt, &mut v, 0, 10);
     assert!(rt; v.reserve(usize::MAX).is_err());
     assert!(rt; v.reserve(usize::MAX - 1).is_err());
-    assert_eq!(rt; v.spare(), 255);
+    assert_eq!(rt; v.spare(), 3);
+    v.reserve(256)?;
+    assert!(rt; v.reserve(usize::MAX).is_err());
+    assert!(rt; v.reserve(usize::MAX - 1).is_err());
+    assert_eq!(rt; v.spare(), 511);
     check_entries(&rt, &v, &[10]);
     Ok(())
 }

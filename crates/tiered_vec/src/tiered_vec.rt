@@ -1,20 +1,23 @@
-//! A vector in rings.
+//! A vector that lies in one piece while it is short, and in rings once it is long.
 
 ghost use Rattle.std.specs.Prelude.{◌≡◌, ◌+◌, ◌-◌, ◌<◌, ◌≤◌, [], length, slice_index_or, max, OnOk, OnErr, IsOk};
 ghost use Rattle.std.specs.List.{insert, remove};
 
-use crate::ring::{RING, Ring};
-use crate::rings::{grow_to, move_free_place, put_in, replace_in_ring, take_out};
+use crate::flat::{grow, laid_out, put_in, shift};
+use crate::ring::RING;
+use crate::tiers::Tiers;
 use std::alloc::{AllocError, Global};
 use std::marker::Model;
 
-/// A vector in rings of 256 entries, all full but the last that has any. An insert or a remove moves at most half a ring,
-/// and one entry of each ring between that one and the last. A vector that fits in one ring is a flat one.
+/// A vector whose inserts and removes stay quick when it is long: they move at most half a ring of 256 entries, and one
+/// entry of each ring behind it. Up to 256 entries it is a flat one, whose room doubles.
 #[derive(Drop)]
 pub struct TieredVec<T: Copy> {
     alloc: Global,
-    rings: Vec<Ring<T>>,
-    len: usize,
+    // which of the two holds the entries
+    is_flat: bool,
+    flat: Vec<T>,
+    tiers: Tiers<T>,
 }
 
 impl<T: Copy> Model for TieredVec<T> {
@@ -24,16 +27,11 @@ impl<T: Copy> Model for TieredVec<T> {
 
     ghost coded = { tiered_code T.code };
 
-    ghost use Rattle.std.specs.Prelude.{◌≡◌, ◌-◌, ◌*◌, ◌≤◌, ◌<◌, ◌^◌, length, vec_len};
-    ghost use Rattle.tiered_vec.specs.declared.ring.TheConstants.{RING};
-    ghost use Rattle.tiered_vec.specs.Rings.{joined, AreFilled};
+    ghost use Rattle.std.specs.Prelude.{◌-◌, ◌≤◌, if◌then◌else◌, vec_len, vec_capacity};
 
-    ghost view = { λ a. tiered (joined a.rings.items) (RING * vec_len a.rings - a.len) };
+    ghost view = { λ a. if a.is_flat then tiered a.flat.items (vec_capacity a.flat - vec_len a.flat) else a.tiers };
 
-    ghost invariant = { λ a. AreFilled a.rings
-        × (a.len ≡ length (joined a.rings.items))
-        × (a.len ≤ RING * vec_len a.rings)
-        × (RING * vec_len a.rings < 2 ^ 64) };
+    ghost invariant = { λ a. vec_len a.flat ≤ vec_capacity a.flat };
 }
 
 impl<T: Copy> TieredVec<T> {
@@ -44,8 +42,9 @@ impl<T: Copy> TieredVec<T> {
     {
         TieredVec {
             alloc,
-            rings: Vec::new(alloc),
-            len: 0,
+            is_flat: true,
+            flat: Vec::new(alloc),
+            tiers: Tiers::new(alloc),
         }
     }
 
@@ -53,14 +52,22 @@ impl<T: Copy> TieredVec<T> {
     pub fn len(&self) -> usize
         ensures { result ≡ length self.now.entries }
     {
-        self.len
+        if self.is_flat {
+            self.flat.len()
+        } else {
+            self.tiers.len()
+        }
     }
 
     /// How many more it has room for.
     pub fn spare(&self) -> usize
         ensures { result ≡ self.now.spare }
     {
-        RING * self.rings.len() - self.len
+        if self.is_flat {
+            self.flat.capacity() - self.flat.len()
+        } else {
+            self.tiers.spare()
+        }
     }
 
     /// The entry at a place.
@@ -68,10 +75,14 @@ impl<T: Copy> TieredVec<T> {
         requires { place < length self.now.entries }
         ensures { result ≡ slice_index_or self.now.entries place result }
     {
-        self.rings[place / RING].get(place % RING)
+        if self.is_flat {
+            self.flat[place]
+        } else {
+            self.tiers.get(place)
+        }
     }
 
-    /// Makes room for at least that many more entries, in whole rings. A refusal changes nothing.
+    /// Makes room for at least that many more entries, beyond the first 256 in whole rings. A refusal changes nothing.
     pub fn reserve(&mut self, additional: usize) -> Result<(), AllocError>
         ensures entries { self.new.entries ≡ self.old.entries }
         ensures room { OnOk result (additional ≤ self.new.spare) }
@@ -80,13 +91,23 @@ impl<T: Copy> TieredVec<T> {
         ensures enough { additional ≤ self.old.spare → IsOk result × (self.new ≡ self.old) }
         ensures refused { OnErr result (self.new ≡ self.old) }
     {
-        let Some(wanted) = self.len.checked_add(additional) else {
+        if !self.is_flat {
+            return self.tiers.reserve(additional);
+        }
+        let len = self.flat.len();
+        if additional <= self.flat.capacity() - len {
+            return Ok(());
+        }
+        let Some(wanted) = len.checked_add(additional) else {
             return Err(AllocError);
         };
-        let Some(places) = wanted.checked_next_multiple_of(RING) else {
-            return Err(AllocError);
-        };
-        grow_to(&mut self.rings, self.alloc, places / RING)
+        if wanted <= RING {
+            return grow(&mut self.flat, wanted);
+        }
+        self.tiers = laid_out(&self.flat, self.alloc, wanted)?;
+        self.flat = Vec::new(self.alloc);
+        self.is_flat = false;
+        Ok(())
     }
 
     /// Puts an entry at a place, and those from there on one place further. There is room, so it takes no memory.
@@ -96,9 +117,11 @@ impl<T: Copy> TieredVec<T> {
         ensures entries { self.new.entries ≡ insert self.old.entries place entry }
         ensures spare { self.new.spare + 1 ≡ self.old.spare }
     {
-        move_free_place(&mut self.rings, self.len / RING, place / RING);
-        put_in(&mut self.rings, place, entry);
-        self.len += 1;
+        if self.is_flat {
+            put_in(&mut self.flat, place, entry);
+        } else {
+            self.tiers.insert(place, entry);
+        }
     }
 
     /// Takes the entry at a place away, and moves those behind it one place back.
@@ -108,14 +131,15 @@ impl<T: Copy> TieredVec<T> {
         ensures entries { self.new.entries ≡ remove self.old.entries place }
         ensures spare { self.new.spare ≡ self.old.spare + 1 }
     {
-        let entry = take_out(&mut self.rings, place);
-        self.len -= 1;
-        move_free_place(&mut self.rings, place / RING, self.len / RING);
-        entry
+        if self.is_flat {
+            self.flat.remove(place)
+        } else {
+            self.tiers.remove(place)
+        }
     }
 
-    /// Takes the entry at `from` away and then puts another one in at `to`, as `remove` and `insert` would. It goes from the
-    /// one ring to the other, and not on to the last.
+    /// Takes the entry at `from` away and then puts another one in at `to`, as `remove` and `insert` would. Only the entries
+    /// between the two places move, or one of each ring between theirs.
     pub fn replace(&mut self, from: usize, to: usize, entry: T) -> T
         requires from { from < length self.old.entries }
         requires to { to < length self.old.entries }
@@ -123,12 +147,10 @@ impl<T: Copy> TieredVec<T> {
         ensures entries { self.new.entries ≡ insert (remove self.old.entries from) to entry }
         ensures spare { self.new.spare ≡ self.old.spare }
     {
-        if from / RING == to / RING {
-            return replace_in_ring(&mut self.rings, from, to, entry);
+        if self.is_flat {
+            shift(&mut self.flat, from, to, entry)
+        } else {
+            self.tiers.replace(from, to, entry)
         }
-        let old = take_out(&mut self.rings, from);
-        move_free_place(&mut self.rings, from / RING, to / RING);
-        put_in(&mut self.rings, to, entry);
-        old
     }
 }

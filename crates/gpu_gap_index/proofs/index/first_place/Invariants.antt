@@ -5,10 +5,10 @@ use Rattle.gpu_gap_index.proofs.index.first_place.Given as goal
 
 abbrev pub invariant-loop-low : goal.invariant-loop-low
 invariant-loop-low l = record {
-  within : (l.low ≤ l.high) × (l.high ≤ length l.entries);
-  below : (k : ℕ) (d : Gap) → k < l.low → (get_or l.entries k d).length < l.size;
-  from : (k : ℕ) (d : Gap) → l.high ≤ k → k < length l.entries → l.size ≤ (get_or l.entries k d).length;
-  left : (e : ℕ) × (l.high - l.low < 2 ^ e) × (l.cost.comparisons + e ≤ l.initial.cost.comparisons + digits (length l.entries));
+  within : (l.low ≤ l.high) × (l.high ≤ length l.entries.entries);
+  below : (k : ℕ) (d : Gap) → k < l.low → (get_or l.entries.entries k d).length < l.size;
+  from : (k : ℕ) (d : Gap) → l.high ≤ k → k < length l.entries.entries → l.size ≤ (get_or l.entries.entries k d).length;
+  left : (e : ℕ) × (l.high - l.low < 2 ^ e) × (l.cost.comparisons + e ≤ l.initial.cost.comparisons + digits (length l.entries.entries));
   rises : l.initial.cost.comparisons ≤ l.cost.comparisons;
   tests : l.cost.tests ≡ l.initial.cost.tests;
   lookups : l.cost.lookups ≡ l.initial.cost.lookups;

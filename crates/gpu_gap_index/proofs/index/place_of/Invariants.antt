@@ -5,9 +5,9 @@ use Rattle.gpu_gap_index.proofs.index.place_of.Given as goal
 
 abbrev pub invariant-loop-low : goal.invariant-loop-low
 invariant-loop-low l = record {
-  within : (l.low ≤ l.high) × (l.high ≤ length l.entries);
-  below : (k : ℕ) (d : Gap) → k < l.low → IsBefore (get_or l.entries k d) l.size l.start;
-  from : (k : ℕ) (d : Gap) → l.high ≤ k → k < length l.entries → IsBefore (get_or l.entries k d) l.size l.start → ⊥;
+  within : (l.low ≤ l.high) × (l.high ≤ length l.entries.entries);
+  below : (k : ℕ) (d : Gap) → k < l.low → IsBefore (get_or l.entries.entries k d) l.size l.start;
+  from : (k : ℕ) (d : Gap) → l.high ≤ k → k < length l.entries.entries → IsBefore (get_or l.entries.entries k d) l.size l.start → ⊥;
 }
 
 abbrev pub decreases-loop-low : goal.decreases-loop-low

@@ -1,7 +1,7 @@
 use Rattle.std.proofs.Common.{◌/◌, ◌%◌, ◌∙◌, ap, get_or, length, arith, vec_len}
 use Rattle.tiered_vec.specs.Rings.{joined}
 use Rattle.tiered_vec.proofs.Steps.{reads_at, reads_within, reads_value}
-use Rattle.tiered_vec.proofs.tiered_vec.TieredVec.get.Goals as goal
+use Rattle.tiered_vec.proofs.tiers.Tiers.get.Goals as goal
 
 pub get-requires : goal.get-requires
 get-requires g c =

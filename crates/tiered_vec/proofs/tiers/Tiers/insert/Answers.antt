@@ -1,7 +1,7 @@
 use Rattle.std.proofs.Common.{◌/◌, ◌∙◌, ap, arith, vec_len}
 use Rattle.tiered_vec.specs.Rings.{joined}
 use Rattle.tiered_vec.proofs.Dealing.{filled_as_around}
-use Rattle.tiered_vec.proofs.tiered_vec.TieredVec.insert.Goals as goal
+use Rattle.tiered_vec.proofs.tiers.Tiers.insert.Goals as goal
 
 pub move_free_place-requires-clause-before : goal.move_free_place-requires-clause-before
 move_free_place-requires-clause-before g c =

@@ -1,7 +1,7 @@
 use Rattle.std.proofs.Common.{◌∙◌, ap, set}
 use Rattle.tiered_vec.proofs.Shifts.{shifted_up, shifted_down}
-use Rattle.tiered_vec.proofs.ring.shift.Goals as goal
-use Rattle.tiered_vec.proofs.ring.shift.Goals.{then-from-to, else-from-to}
+use Rattle.tiered_vec.proofs.flat.shift.Goals as goal
+use Rattle.tiered_vec.proofs.flat.shift.Goals.{then-from-to, else-from-to}
 
 pub returns-clause-entries : goal.returns-clause-entries
 returns-clause-entries g c = elim c.if-from-to.branch [

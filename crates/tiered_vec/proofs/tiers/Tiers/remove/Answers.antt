@@ -2,7 +2,7 @@ use Rattle.std.proofs.Common.{◌≡◌, ◌<◌, ◌-◌, ◌+◌, ◌/◌, ◌
 use Rattle.std.proofs.lemmas.List.Edits.{length-remove}
 use Rattle.tiered_vec.specs.Rings.{joined}
 use Rattle.tiered_vec.proofs.Dealing.{filled_as_around}
-use Rattle.tiered_vec.proofs.tiered_vec.TieredVec.remove.Goals as goal
+use Rattle.tiered_vec.proofs.tiers.Tiers.remove.Goals as goal
 
 pub invariant_of-self : goal.invariant_of-self
 invariant_of-self g c =
