@@ -261,12 +261,14 @@ fn our_read(
     let Ok(replies) = ran else {
         return Err(Fail::from("the session refused to run"));
     };
-    assert_eq!(rt; replies.len(), commands.len());
-    let Some((offset, _, _)) = given_at(&replies[4]) else {
+    let [_, _, _, _, given, _, _, ours, capacity] = replies.as_slice() else {
+        return Err(Fail::from("there is another count of replies"));
+    };
+    let Some((offset, _, _)) = given_at(given) else {
         return Err(Fail::from("nothing was given to us"));
     };
-    assert!(rt; matches!(&replies[8], Reply::Capacity(67_108_864)));
-    let Reply::Bytes(bytes) = &replies[7] else {
+    assert!(rt; matches!(capacity, Reply::Capacity(67_108_864)));
+    let Reply::Bytes(bytes) = ours else {
         return Err(Fail::from("nothing was read"));
     };
     let mut read = [0; 8];
