@@ -153,7 +153,7 @@ fn run(rt: &impl Abort, alloc: Global, count: u32) -> Result<(), AllocError> {
 }
 
 #[test]
-fn a_run_in_one_ring_and_in_several(rt: HostRuntime) -> Result<(), Fail> {
+fn a_run_in_one_piece_and_in_rings(rt: HostRuntime) -> Result<(), Fail> {
     for count in [200, 256, 257, 512, 1500] {
         run(&rt, rt.alloc(), count)?;
     }
