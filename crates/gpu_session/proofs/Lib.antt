@@ -3,3 +3,7 @@ pub mod Commands
 pub mod Runs
 pub mod Input
 pub mod Owning
+pub mod Hexed
+pub mod Canonical
+pub mod Settings
+pub mod Sorts

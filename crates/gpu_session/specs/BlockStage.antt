@@ -12,6 +12,7 @@ use Rattle.gpu_session.specs.declared.block.reply.Reply.TheVariants as replies
 use Rattle.gpu_session.specs.declared.block.stage.Stage.{Stage}
 use Rattle.gpu_session.specs.declared.block.stage.Stage.TheVariants.{Before, Open, Closed}
 use Rattle.gpu_session.specs.BlockCommand.{is_host, type_of_kind}
+use Rattle.gpu_session.specs.Sort.{Sort, opens_block, uses_block, reports}
 use Rattle.gpu_session.specs.BlockSession.{unused, Taking, Giving, Reporting}
 
 -- blocks of `min` bytes that double up to `max` on one side
@@ -24,16 +25,11 @@ abbrev pub block_size : Side → ℕ → ℕ → ℕ → ℕ
 block_size side min max count = shared_block_size (sizes_of side min max) (is_host side) count
 
 -- the block comes first and once; where host memory refused it, nothing follows
-abbrev pub Admits : Stage → Command → Type 0
-Admits Before (Block side min max count granularity) = Unit {0}
-Admits Before (Take key size alignment kind name) = ⊥
-Admits Before (Give key) = ⊥
-Admits Before Report = ⊥
-Admits (Open s) (Block side min max count granularity) = ⊥
-Admits (Open s) (Take key size alignment kind name) = Unit {0}
-Admits (Open s) (Give key) = Unit {0}
-Admits (Open s) Report = Unit {0}
-Admits Closed c = ⊥
+abbrev pub Admits : Stage → Sort → Type 0
+Admits Before opens_block = Unit {0}
+Admits (Open s) uses_block = Unit {0}
+Admits (Open s) reports = Unit {0}
+Admits _ _ = ⊥
 
 -- the block is made, or host memory is refused
 abbrev pub Opening : ℕ → ℕ → Reply → Stage → Type 0

@@ -6,3 +6,11 @@ pub mod BlockSession
 pub mod BlockStage
 pub mod Line
 pub mod Run
+pub mod Hex
+pub mod Sort
+pub mod Setting
+pub mod Ask
+pub mod DeviceReply
+pub mod Configuration
+pub mod Reply
+pub mod Stage

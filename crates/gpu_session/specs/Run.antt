@@ -3,35 +3,34 @@ use Rattle.std.specs.Prelude.{◌≡◌, ℕ, suc, ◌<◌, ◌≤◌, ◌⊎◌
 use Rattle.std.specs.List.{flat_map, slice_split}
 use Rattle.std.specs.Fmt.{decimal}
 use Rattle.std.specs.Io.KnownBytes.{Appends}
-use Rattle.gpu_session.specs.declared.block.command.Command.{Command}
-use Rattle.gpu_session.specs.declared.block.reply.Reply.{Reply}
-use Rattle.gpu_session.specs.declared.block.stage.Stage.{Stage}
-use Rattle.gpu_session.specs.declared.block.stage.Stage.TheVariants.{Before}
+use Rattle.gpu_session.specs.declared.line.Line.{Line}
+use Rattle.gpu_session.specs.declared.reply.Reply.{Reply}
 use Rattle.gpu_session.specs.declared.run.TheConstants.{LIMIT}
-use Rattle.gpu_session.specs.declared.run.Outcome.{Outcome}
-use Rattle.gpu_session.specs.declared.run.Outcome.TheVariants.{Nothing, Replied, Bad}
-use Rattle.gpu_session.specs.Line.{IsBlank, IsCommand}
-use Rattle.gpu_session.specs.BlockReply.{reply_line}
-use Rattle.gpu_session.specs.BlockStage.{Admits, Step}
+use Rattle.gpu_session.specs.declared.stage.Outcome.{Outcome}
+use Rattle.gpu_session.specs.declared.stage.Outcome.TheVariants.{Nothing, Replied, Bad}
+use Rattle.gpu_session.specs.declared.stage.Stage.{Stage}
+use Rattle.gpu_session.specs.declared.stage.Stage.TheVariants.{Before}
+use Rattle.gpu_session.specs.Line.{Means}
+use Rattle.gpu_session.specs.Reply.{reply_line}
+use Rattle.gpu_session.specs.Stage.{Admits, Quietly, Step}
 
--- a line that gives nothing and says no command that may come next
-pub record IsBad (stage : Stage) (line : List ℕ) : Type 0 where
-  pub gives : IsBlank line → ⊥
-  pub says : (c : Command) → IsCommand line c → Admits stage c → ⊥
+-- a line that may not come next, however it is read
+abbrev pub IsBad : Stage → List ℕ → Type 0
+IsBad stage line = (l : Line) → Means line l → Admits stage l → ⊥
 
 -- what one line does
 abbrev pub Serves : Stage → List ℕ → Outcome → Stage → Type 0
-Serves old line Nothing new = IsBlank line × (new ≡ old)
-Serves old line (Replied r) new = (c : Command) × IsCommand line c × Step old c r new
+Serves old line Nothing new = (l : Line) × Means line l × Quietly old l new
+Serves old line (Replied r) new = (l : Line) × Means line l × Step old l r new
 Serves old line Bad new = IsBad old line
 
 -- From this stage on the lines number n, n + 1 .. get these replies, and the run stops at the first bad line, if there is one.
 pub data Runs : Stage → ℕ → List (List ℕ) → List Reply → Option ℕ → Type 0 where
   ends : {stage : Stage} {n : ℕ} → Runs stage n [] [] None
-  blank : {stage : Stage} {n : ℕ} {line : List ℕ} {lines : List (List ℕ)} {rs : List Reply} {bad : Option ℕ}
-      → IsBlank line → Runs stage (suc n) lines rs bad → Runs stage n (line ∷ lines) rs bad
-  serves : {old new : Stage} {n : ℕ} {line : List ℕ} {lines : List (List ℕ)} {c : Command} {r : Reply} {rs : List Reply} {bad : Option ℕ}
-      → IsCommand line c → Step old c r new → Runs new (suc n) lines rs bad → Runs old n (line ∷ lines) (r ∷ rs) bad
+  quiet : {old new : Stage} {n : ℕ} {line : List ℕ} {lines : List (List ℕ)} {rs : List Reply} {bad : Option ℕ}
+      → (l : Line) → Means line l → Quietly old l new → Runs new (suc n) lines rs bad → Runs old n (line ∷ lines) rs bad
+  serves : {old new : Stage} {n : ℕ} {line : List ℕ} {lines : List (List ℕ)} {r : Reply} {rs : List Reply} {bad : Option ℕ}
+      → (l : Line) → Means line l → Step old l r new → Runs new (suc n) lines rs bad → Runs old n (line ∷ lines) (r ∷ rs) bad
   stops : {stage : Stage} {n : ℕ} {line : List ℕ} {lines : List (List ℕ)}
       → IsBad stage line → Runs stage n (line ∷ lines) [] (Some n)
 
@@ -46,6 +45,12 @@ RunsTrace text rs bad = ((LIMIT < length text) × (rs ≡ []) × (bad ≡ Some 1
 abbrev pub bad_text : Option ℕ → List ℕ
 bad_text None = []
 bad_text (Some n) = codes "bad line " ++ (decimal n ++ 10 ∷ [])
+
+-- what is written for the line of that number
+abbrev pub outcome_text : ℕ → Outcome → List ℕ
+outcome_text n Nothing = []
+outcome_text n (Replied r) = reply_line r
+outcome_text n Bad = bad_text (Some n)
 
 -- what is written for a run
 abbrev pub output : List Reply → Option ℕ → List ℕ

@@ -2,9 +2,13 @@
 #![tactic(auto)]
 
 mod block;
+mod device;
 mod error_number;
+mod hex;
 mod line;
+mod reply;
 mod run;
+mod stage;
 mod words;
 
 pub use run::run_trace;

@@ -3,13 +3,12 @@
 ghost use Rattle.std.specs.Prelude.{◌≡◌, ◌≤◌, ℕ, ◌+◌, Some, IfOk, OnOk, IfSome, take};
 ghost use Rattle.std.specs.Io.KnownBytes.{Appends};
 ghost use Rattle.gpu_session.specs.Words.{texts};
-ghost use Rattle.gpu_session.specs.BlockReply.{reply_line};
-ghost use Rattle.gpu_session.specs.Run.{Serves, HasRun, Answers, bad_text, lines_of};
+ghost use Rattle.gpu_session.specs.Reply.{reply_line};
+ghost use Rattle.gpu_session.specs.Run.{Serves, HasRun, Answers, bad_text, outcome_text, lines_of};
 
-use crate::block::reply::Reply;
-use crate::block::stage::Stage;
 use crate::line;
-use crate::line::Line;
+use crate::reply::Reply;
+use crate::stage::{Outcome, Stage};
 use log::Log;
 use std::alloc::{AllocError, Global};
 use std::io;
@@ -30,14 +29,6 @@ enum TraceError {
     Memory(#[from(alloc)] AllocError),
 }
 
-/// What a line did.
-#[derive(Drop)]
-pub enum Outcome {
-    Nothing,
-    Replied(Reply),
-    Bad,
-}
-
 /// Reads a trace, and one byte more where it is too long.
 fn read_trace<R: Read>(alloc: Global, reader: &mut R) -> Result<Vec<u8>, TraceError>
     ensures { IfOk result (λ v. IfSome (R.remaining reader.old) (λ input. v.items ≡ take (LIMIT + 1) input)) }
@@ -56,16 +47,21 @@ fn lines_in(alloc: Global, text: &[u8]) -> Result<Vec<&[u8]>, AllocError>
     text.split(|b| *b == b'\n').collect(alloc)
 }
 
-fn serve(alloc: Global, stage: &mut Stage, line: &[u8]) -> Result<Outcome, AllocError>
-    ensures { IfOk result (λ outcome. Serves stage.old line.now outcome stage.new) }
+/// Reads a line and serves what it says.
+fn serve<L: Log>(
+    log: &L,
+    alloc: Global,
+    stage: Stage,
+    line: &[u8],
+) -> Result<(Stage, Outcome), AllocError>
+    ensures { IfOk result (λ r. Serves stage line.now r.1 r.0) }
 {
-    match line::read(alloc, line)? {
-        Line::Blank => Ok(Outcome::Nothing),
-        Line::Bad => Ok(Outcome::Bad),
-        Line::Says(command) => match stage.serve(alloc, &command) {
-            Some(reply) => Ok(Outcome::Replied(reply)),
-            None => Ok(Outcome::Bad),
-        },
+    match line::read(alloc, line) {
+        Ok(line) => stage.serve(log, alloc, line),
+        Err(error) => {
+            stage.end(log);
+            Err(error)
+        }
     }
 }
 
@@ -81,8 +77,20 @@ fn write_bad<W: Write>(writer: &mut W, number: u64) -> io::Result<()>
     writeln!(writer, "bad line {number}")
 }
 
+/// Writes what the line of that number did.
+fn write_outcome<W: Write>(writer: &mut W, outcome: &Outcome, number: u64) -> io::Result<()>
+    ensures { OnOk result (Appends (W.contents writer.old) (W.contents writer.new) (outcome_text number outcome.now)) }
+{
+    match outcome {
+        Outcome::Nothing => Ok(()),
+        Outcome::Replied(reply) => write_reply(writer, reply),
+        Outcome::Bad => write_bad(writer, number),
+    }
+}
+
 /// Serves the lines up to the first bad one, and answers its number, counted from 1.
-fn run_lines<W: Write>(
+fn run_lines<W: Write, L: Log>(
+    log: &L,
     alloc: Global,
     lines: &[&[u8]],
     writer: &mut W,
@@ -91,20 +99,24 @@ fn run_lines<W: Write>(
 {
     let mut stage = Stage::Before;
     for (i, line) in lines.iter().enumerate() {
-        match serve(alloc, &mut stage, line)? {
-            Outcome::Nothing => {}
-            Outcome::Replied(reply) => write_reply(writer, &reply)?,
-            Outcome::Bad => {
-                let number = i as u64 + 1;
-                write_bad(writer, number)?;
-                return Ok(Some(number));
-            }
+        let (next, outcome) = serve(log, alloc, stage, line)?;
+        stage = next;
+        let number = i as u64 + 1;
+        if let Err(error) = write_outcome(writer, &outcome, number) {
+            stage.end(log);
+            return Err(TraceError::Write(error));
+        }
+        if outcome.is_bad() {
+            stage.end(log);
+            return Ok(Some(number));
         }
     }
+    stage.end(log);
     Ok(None)
 }
 
-fn run<R: Read, W: Write>(
+fn run<R: Read, W: Write, L: Log>(
+    log: &L,
     alloc: Global,
     reader: &mut R,
     writer: &mut W,
@@ -119,7 +131,7 @@ fn run<R: Read, W: Write>(
         return Ok(Some(1));
     }
     let lines = lines_in(alloc, &text)?;
-    let bad = run_lines(alloc, &lines, writer)?;
+    let bad = run_lines(log, alloc, &lines, writer)?;
     writer.flush()?;
     Ok(bad)
 }
@@ -128,9 +140,8 @@ fn run<R: Read, W: Write>(
 /// docs/TRACE.md. Answers the exit status: 0 where each line was read; 2 where one could not be, and then
 /// `bad line N` is written behind the earlier replies; 1 where a read or a write failed, or memory for the trace
 /// itself was refused. Replies are written one by one and flushed at the end, so hand in a writer with a buffer.
-/// A block trace logs nothing.
 pub fn run_trace<R: Read, W: Write, L: Log>(
-    _log: &L,
+    log: &L,
     alloc: Global,
     reader: &mut R,
     writer: &mut W,
@@ -141,7 +152,7 @@ pub fn run_trace<R: Read, W: Write, L: Log>(
     ensures bad { result ≡ 2 → IfSome (R.remaining reader.old) (λ input. (n : ℕ) ×
         Answers input (W.contents writer.old) (W.contents writer.new) (Some n)) }
 {
-    match run(alloc, reader, writer) {
+    match run(log, alloc, reader, writer) {
         Ok(None) => 0,
         Ok(Some(_)) => 2,
         Err(_) => 1,

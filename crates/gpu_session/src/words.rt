@@ -1,7 +1,8 @@
 //! The words that commands are made of.
 
-ghost use Rattle.std.specs.Prelude.{◌≡◌, ◌≢◌, ℕ, ◌<◌, ◌^◌, ◌↔◌, length, slice_index, IsTrue, MatchOption, IfOk};
-ghost use Rattle.std.specs.Fmt.{decimal};
+ghost use Rattle.std.specs.Prelude.{◌≡◌, ◌≢◌, ℕ, ◌<◌, ◌^◌, ◌↔◌, length, slice_index, IsTrue, MatchOption, IfOk, ℤ, FitsSigned};
+ghost use Rattle.std.specs.Int.{w32};
+ghost use Rattle.std.specs.Fmt.{decimal, signed_decimal};
 ghost use Rattle.gpu_session.specs.Words.{texts, words_of, IsName};
 
 use std::alloc::{AllocError, Global};
@@ -28,6 +29,33 @@ pub fn number(word: &str) -> Option<u64>
         return None;
     }
     word.parse().ok()
+}
+
+/// The same of 32 bits.
+pub fn small_number(word: &str) -> Option<u32>
+    ensures { MatchOption result ((n : ℕ) → n < 2 ^ 32 → word.now ≢ decimal n) (λ n. word.now ≡ decimal n) }
+{
+    let number = number(word)?;
+    if number <= u32::MAX as u64 {
+        Some(number as u32)
+    } else {
+        None
+    }
+}
+
+/// The signed number of 32 bits that a word spells in decimal, without leading zeros.
+pub fn code(alloc: Global, word: &str) -> Result<Option<i32>, AllocError>
+    ensures { IfOk result (λ found. MatchOption found ((z : ℤ) → FitsSigned w32 z → word.now ≢ signed_decimal z) (λ z. word.now ≡ signed_decimal z)) }
+{
+    let Ok(number) = word.parse::<i32>() else {
+        return Ok(None);
+    };
+    let again = number.to_string(alloc)?;
+    if again.as_str() == word {
+        Ok(Some(number))
+    } else {
+        Ok(None)
+    }
 }
 
 /// Whether the first of several digits is a zero.

@@ -91,7 +91,8 @@ impl<D: VulkanDevice> Session<D> {
         allocator.destroy(log)
     }
 
-    fn serve<L: Log>(&mut self, log: &L, command: &Command) -> Reply
+    /// Serves one command. For want of memory it answers `Error(HostOutOfMemory)`, and then the command changed nothing.
+    pub fn serve<L: Log>(&mut self, log: &L, command: &Command) -> Reply
         ensures { IsServed D.VulkanDevice (order_of command.now) (told_of result) self.old self.new }
     {
         match command {

@@ -177,7 +177,7 @@ fn report(arguments: &[&str]) -> Option<Command>
     Some(Command::Report)
 }
 
-fn by_verb(alloc: Global, verb: &str, arguments: &[&str]) -> Result<Option<Command>, AllocError>
+pub fn by_verb(alloc: Global, verb: &str, arguments: &[&str]) -> Result<Option<Command>, AllocError>
     ensures { IfOk result (λ found. Says (verb.now ∷ texts arguments.now) found) }
 {
     match verb {

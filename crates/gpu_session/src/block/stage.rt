@@ -24,12 +24,13 @@ pub enum Stage {
 impl Stage {
     ghost use Rattle.std.specs.Prelude.{MatchOption};
     ghost use Rattle.gpu_session.specs.BlockCommand.{Fits};
+    ghost use Rattle.gpu_session.specs.Sort.{sort_of_command};
     ghost use Rattle.gpu_session.specs.BlockStage.{Admits, Step, Opening};
 
     /// Serves a command, or answers `None` to one that is out of its order.
     pub fn serve(&mut self, alloc: Global, command: &Command) -> Option<Reply>
         requires { Fits command.now }
-        ensures { MatchOption result (Admits self.old command.now → ⊥) (λ r. Step self.old command.now r self.new) }
+        ensures { MatchOption result (Admits self.old (sort_of_command command.now) → ⊥) (λ r. Step self.old command.now r self.new) }
     {
         match self {
             Stage::Before => match command {
