@@ -1,9 +1,8 @@
 -- Bytes that hexadecimal digits spell.
-use Rattle.std.proofs.Common.{◌≡◌, ◌∙◌, ℕ, zero, suc, ◌+◌, ◌*◌, ◌<◌, ◌≤◌, List, [], ◌∷◌, ◌++◌, length, take, drop, get_or, refl, sym, ap, arith, append_assoc}
+use Rattle.std.proofs.Common.{◌≡◌, ◌∙◌, ℕ, zero, suc, ◌+◌, ◌*◌, ◌<◌, List, [], ◌∷◌, ◌++◌, length, take, get_or, refl, ap, arith, append_assoc}
 use Rattle.std.proofs.lemmas.List.{take_more}
 use Rattle.std.proofs.lemmas.Bool.Decides.{nat_tests}
-use Rattle.std.specs.Prelude.{slice_get, ◌/◌, ◌%◌}
-use Rattle.std.specs.List.{All}
+use Rattle.std.specs.Prelude.{◌/◌, ◌%◌}
 use Rattle.gpu_session.specs.Hex.{hex_digit, hex, AreBytes}
 
 pub hex_length : (bs : List ℕ) → length (hex bs) ≡ 2 * length bs

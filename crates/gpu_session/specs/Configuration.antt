@@ -1,10 +1,11 @@
 -- The configuration of a device trace: the simulated device and the block sizes that its lines describe.
-use Rattle.std.specs.Prelude.{ℕ, ◌*◌, List, [], ◌∷◌, ◌++◌, Option, Some, None}
+use Rattle.std.specs.Prelude.{ℕ, ◌-◌, ◌*◌, ◌^◌, List, [], ◌∷◌, ◌++◌, Option, Some, None}
 use Rattle.std.specs.Option.{unwrap_or}
 use Rattle.gpu_core.specs.Sizes.{Sizes, only_size, with_largest}
 use Rattle.gpu_device.specs.Properties.{Properties}
 use Rattle.gpu_device.specs.declared.vulkan.types.MemoryHeap.{MemoryHeap}
 use Rattle.gpu_device.specs.declared.vulkan.types.MemoryTypeInfo.{MemoryTypeInfo}
+use Rattle.gpu_sim.specs.Plan.{Plan}
 use Rattle.gpu_sim.specs.declared.refusal.Refusal.{Refusal}
 use Rattle.gpu_session.specs.declared.device.setting.Setting.{Setting}
 use Rattle.gpu_session.specs.declared.device.setting.Setting.TheVariants.{Heap, MemoryType, Granularity, Sizes as BlockSizes, Refuse}
@@ -42,6 +43,10 @@ configured_by c (Refuse question refusal) = Some (record c { refusals = c.refusa
 
 abbrev pub properties_by : Configured → Properties
 properties_by c = record { types = c.types; heaps = c.heaps; granularity = unwrap_or c.granularity 1 }
+
+-- the device refuses the questions that the lines name, and no memory for its size
+abbrev pub plan_by : Configured → Plan
+plan_by c = record { properties = properties_by c; limit = 2 ^ 64 - 1; script = c.refusals; questions = 0; issued = 0 }
 
 -- 256 MB of the device's memory, 64 MB of memory that the host can see
 abbrev pub default_sizes : Sizes

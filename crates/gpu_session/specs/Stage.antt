@@ -1,12 +1,12 @@
 -- A trace from its first line on: which line may come, its reply, and the stage that it leaves.
-use Rattle.std.specs.Prelude.{◌≡◌, ◌≢◌, ℕ, Bool, true, false, List, [], All, Option, Some, None}
+use Rattle.std.specs.Prelude.{◌≡◌, Bool, true, false, [], All, Option, Some, None}
 use Rattle.std.specs.FinMap.{empty, len as map_len}
 use Rattle.std.specs.Option.{unwrap_or}
 use Rattle.gpu_core.specs.Refusal.{refusal_of, host_out_of_memory}
 use Rattle.gpu_values.specs.declared.error.AllocationError.{AllocationError}
 use Rattle.gpu_values.specs.declared.allocator_debug_settings.AllocatorDebugSettings.{AllocatorDebugSettings}
 use Rattle.gpu_device.specs.declared.vulkan.device.VulkanDevice.{Ghosts}
-use Rattle.gpu_sim.specs.Simulation.{held_of, properties_of, refused_of, latest_of, written_sim}
+use Rattle.gpu_sim.specs.Simulation.{held_of, properties_of, plan_of, refused_of, latest_of, written_sim}
 use Rattle.gpu_sim.specs.declared.sim_vulkan.SimVulkan.{SimVulkan}
 use Rattle.gpu_allocator.specs.Setup.{setup_fault}
 use Rattle.gpu_vulkan_session.specs.Session as orders
@@ -27,7 +27,7 @@ use Rattle.gpu_session.specs.declared.stage.Stage.TheVariants.{Before, Block, Co
 use Rattle.gpu_session.specs.BlockCommand.{Fits as FitsBlock}
 use Rattle.gpu_session.specs.BlockStage as block
 use Rattle.gpu_session.specs.Sort.{Sort, opens_block, reports, describes, sets_page, sets_sizes, makes, asks, destroys, sort_of}
-use Rattle.gpu_session.specs.Configuration.{Configured, nothing_configured, configured_by, properties_by, sizes_by}
+use Rattle.gpu_session.specs.Configuration.{Configured, nothing_configured, configured_by, properties_by, plan_by, sizes_by}
 use Rattle.gpu_session.specs.ErrorNumber.{number_of}
 
 -- what contracts see of the simulated device
@@ -44,8 +44,10 @@ pub record IsFresh (c : Configured) (s : SessionValue SimVulkan) : Type 0 where
   pub setup : s.allocator.setup ≡ record { properties = properties_by c; sizes = sizes_by c; debug = silent; device_address = false }
   pub empty_types : All (λ slots. slots ≡ []) s.allocator.slots
   pub first : s.allocator.device ≡ s.allocator.first
+  pub plan : plan_of s.allocator.first ≡ plan_by c
   pub holds_nothing : held_of s.allocator.first ≡ empty
   pub refused_nothing : refused_of s.allocator.first ≡ 0
+  pub not_asked : latest_of s.allocator.first ≡ None
 
 -- the allocator is made, or refused by the named cause
 abbrev pub Begins : Configured → device_replies.Reply → Stage → Type 0

@@ -58,7 +58,7 @@ fn alone(verb: &str, arguments: &[&str]) -> Line
 fn said(alloc: Global, verb: &str, arguments: &[&str]) -> Result<Line, AllocError>
     ensures { IfOk result (Reads (verb.now ∷ texts arguments.now)) }
 {
-    if let Some(command) = block::by_verb(alloc, verb, arguments)? {
+    if let Some(command) = block::command_of(alloc, verb, arguments)? {
         return Ok(Line::Says(command));
     }
     if let Some(setting) = setting_of(alloc, verb, arguments)? {

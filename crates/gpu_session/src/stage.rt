@@ -62,10 +62,7 @@ fn serve_block(mut stage: block::Stage, alloc: Global, command: Command) -> (Sta
     ensures { Does (Stage.Block stage) (Line.Says command) result.1 result.0 }
 {
     match stage.serve(alloc, &command) {
-        Some(reply) => (
-            Stage::Block(stage),
-            Outcome::Replied(Reply::Block(reply)),
-        ),
+        Some(reply) => (Stage::Block(stage), Outcome::Replied(Reply::Block(reply))),
         None => (Stage::Block(stage), Outcome::Bad),
     }
 }
@@ -92,10 +89,7 @@ fn make<L: Log>(log: &L, alloc: Global, configuration: Configuration) -> (Stage,
             Stage::Device(Session::new(alloc, allocator)),
             device::Reply::Made,
         ),
-        Err((error, _)) => (
-            Stage::Closed,
-            device::Reply::Refused(number_of(&error)),
-        ),
+        Err((error, _)) => (Stage::Closed, device::Reply::Refused(number_of(&error))),
     }
 }
 
@@ -114,11 +108,7 @@ fn configure(
 }
 
 /// Serves one command of a device trace.
-fn serve_ask<L: Log>(
-    log: &L,
-    mut session: Session<SimVulkan>,
-    command: &Ask,
-) -> (Stage, Outcome)
+fn serve_ask<L: Log>(log: &L, mut session: Session<SimVulkan>, command: &Ask) -> (Stage, Outcome)
     ensures { MatchServed session (order_of command.now) result }
 {
     let reply = session.serve(log, command);
@@ -129,11 +119,7 @@ fn serve_ask<L: Log>(
 }
 
 /// Serves a line of a device trace whose allocator is made.
-fn serve_device<L: Log>(
-    log: &L,
-    session: Session<SimVulkan>,
-    line: Line,
-) -> (Stage, Outcome)
+fn serve_device<L: Log>(log: &L, session: Session<SimVulkan>, line: Line) -> (Stage, Outcome)
     ensures { Does (Stage.Device session) line result.1 result.0 }
 {
     match line {
@@ -194,11 +180,7 @@ impl Stage {
 }
 
 /// Serves the first line that isn't blank.
-fn serve_first<L: Log>(
-    log: &L,
-    alloc: Global,
-    line: Line,
-) -> Result<(Stage, Outcome), AllocError>
+fn serve_first<L: Log>(log: &L, alloc: Global, line: Line) -> Result<(Stage, Outcome), AllocError>
     requires { FitsLine line }
     ensures { IfOk result (λ r. Does Stage.Before line r.1 r.0) }
 {

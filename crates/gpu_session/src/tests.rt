@@ -75,6 +75,95 @@ fn traces_are_answered(rt: HostRuntime) {
     }
 }
 
+const DEVICE: &str = "heap 1073741824
+type 6 0
+sizes 4194304 4194304 4194304 4194304
+refuse 5 null
+# the allocator
+new
+alloc 1 100 1 1 CpuToGpu linear managed a
+alloc 1 100 1 1 CpuToGpu linear managed a
+null 2
+write 1 98 0fa0
+read 1 98 2
+read 1 99 2
+read 2 0 1
+read 3 0 1
+rename 1 b
+alloc 4 1000 1 1 GpuToCpu nonlinear image:7 c
+alloc 5 1000 1 1 GpuToCpu nonlinear buffer:8 d
+alloc 6 0 1 1 Unknown linear managed e
+alloc 6 1 1 2 Unknown linear managed e
+report
+leaks
+capacity
+free 4
+free 4
+destroy
+";
+
+const DEVICE_REPLIES: &str = "ok
+ok type 0 slot 0 offset 0 size 100 chunk 2 dedicated false mapped true
+busy
+ok
+ok
+0fa0
+range
+none
+unbound
+ok
+ok type 0 slot 1 offset 0 size 1000 chunk 1 dedicated true mapped true
+error E1
+error E4
+error E3
+piece b 0 100
+piece c 0 1000
+block 4194304 0 1
+block 1000 1 2
+total 1100 capacity 4195304
+leak detected: {
+    memory type: 0
+    memory block: 0
+    chunk: {
+        chunk_id: 2,
+        size: 0x64,
+        offset: 0x0,
+        allocation_type: Linear,
+        name: b
+    }
+}
+leak detected: {
+    memory type: 0
+    memory block: 1
+    dedicated allocation: {
+        size: 0x3e8,
+        name: c
+    }
+}
+leaks 2
+4195304
+ok
+unbound
+held 0
+";
+
+#[test]
+fn a_device_trace_is_answered(rt: HostRuntime) {
+    let alloc = rt.alloc();
+    check(&rt, alloc, DEVICE.as_bytes(), DEVICE_REPLIES, 0);
+    for (input, output) in [
+        (
+            "heap 1\ntype 6 0\nrefuse 1 -2147483648\nrefuse 18446744073709551615 2147483647",
+            "",
+        ),
+        ("granularity 3\nnew\n\n# nothing", "error E5\n"),
+        ("new\ndestroy\n# nothing\n\n", "ok\nheld 0\n"),
+        ("new", "ok\n"),
+    ] {
+        check(&rt, alloc, input.as_bytes(), output, 0);
+    }
+}
+
 // ---- bad lines
 
 /// Runs a trace whose fourth line is this one, which is bad: the line behind it isn't run.
@@ -131,6 +220,84 @@ fn a_bad_line_ends_the_trace(rt: HostRuntime) -> Result<(), Fail> {
     Ok(())
 }
 
+/// Runs a device trace whose fifth line is this one, which is bad: the line behind it isn't run.
+fn check_bad_in_device(rt: &impl Abort, alloc: Global, line: &str) -> Result<(), Fail> {
+    let mut input = Vec::new(alloc);
+    input.extend_from_slice(b"heap 1073741824\ntype 6 0\nnew\nnull 1\n")?;
+    input.extend_from_slice(line.as_bytes())?;
+    input.extend_from_slice(b"\nfree 1\n")?;
+    check(rt, alloc, &input, "ok\nok\nbad line 5\n", 2);
+    Ok(())
+}
+
+#[test]
+fn a_bad_line_ends_a_device_trace(rt: HostRuntime) -> Result<(), Fail> {
+    for line in [
+        "new",
+        "heap 1",
+        "type 6 0",
+        "granularity 1",
+        "sizes 1 1 1 1",
+        "refuse 1 null",
+        "block host 4194304 4194304 0 1",
+        "take 1 1 1 linear a",
+        "give 1",
+        "null",
+        "null 01",
+        "free 1 1",
+        "read 1 0 0",
+        "read 1 0 4097",
+        "write 1 0",
+        "write 1 0 0",
+        "write 1 0 0A",
+        "write 1 0 0g",
+        "rename 1 ",
+        "rename 1 a b",
+        "report all",
+        "leaks 1",
+        "capacity 1",
+        "destroy 1",
+        "budget",
+        " capacity",
+    ] {
+        check_bad_in_device(&rt, rt.alloc(), line)?;
+    }
+    Ok(())
+}
+
+#[test]
+fn a_bad_request_ends_a_device_trace(rt: HostRuntime) -> Result<(), Fail> {
+    for line in [
+        "alloc 2 1 1 1 GpuOnly linear managed",
+        "alloc 2 1 1 1 GpuOnly linear managed a b",
+        "alloc 2 1 1 4294967296 GpuOnly linear managed a",
+        "alloc 2 1 1 1 gpuonly linear managed a",
+        "alloc 2 1 1 1 GpuOnly free managed a",
+        "alloc 2 1 1 1 GpuOnly linear Managed a",
+        "alloc 2 1 1 1 GpuOnly linear buffer: a",
+        "alloc 2 1 1 1 GpuOnly linear buffer:01 a",
+        "alloc 2 1 1 1 GpuOnly linear image:18446744073709551616 a",
+        "alloc -2 1 1 1 GpuOnly linear managed a",
+    ] {
+        check_bad_in_device(&rt, rt.alloc(), line)?;
+    }
+    Ok(())
+}
+
+#[test]
+fn nothing_follows_the_end_of_a_device_trace(rt: HostRuntime) {
+    for (input, output) in [
+        ("new\ndestroy\nnew\n", "ok\nheld 0\nbad line 3\n"),
+        ("granularity 3\nnew\ncapacity\n", "error E5\nbad line 3\n"),
+        ("granularity 1\ngranularity 1\nnew\n", "bad line 2\n"),
+        ("sizes 1 1 1 1\nsizes 1 1 1 1\nnew\n", "bad line 2\n"),
+        ("heap 1\ndestroy\n", "bad line 2\n"),
+        ("heap 1\nreport\n", "bad line 2\n"),
+    ] {
+        check(&rt, rt.alloc(), input.as_bytes(), output, 2);
+    }
+}
+
 #[test]
 fn a_bad_first_line_is_answered_alone(rt: HostRuntime) {
     for line in [
@@ -141,8 +308,23 @@ fn a_bad_first_line_is_answered_alone(rt: HostRuntime) {
         "block both 4194304 4194304 0 1",
         "block host 4194304 4194304 0",
         "block host 4194304 4194304 0 1 1",
-        "heap 1073741824",
-        "new",
+        "heap",
+        "heap 1 1",
+        "heap 18446744073709551616",
+        "type 4294967296 0",
+        "type 6",
+        "granularity -1",
+        "sizes 1 1 1",
+        "refuse 0 null",
+        "refuse 1 2147483648",
+        "refuse 1 +1",
+        "refuse 1 -0",
+        "refuse 1 -01",
+        "refuse 1 Null",
+        "new 1",
+        "capacity",
+        "alloc 1 1 1 1 GpuOnly linear managed a",
+        "destroy",
     ] {
         check(&rt, rt.alloc(), line.as_bytes(), "bad line 1\n", 2);
     }
@@ -232,9 +414,39 @@ const DAMAGED: &str = "block host 4194304 4194304 0 1\ntake 1 1 1 linear a\ngive
 
 const DAMAGED_REPLIES: &str = "block 4194304\nok offset 0 chunk 2\nok\nbad line 4\n";
 
+const BUFFER: &str = "heap 4096
+type 6 0
+new
+alloc 1 8 1 1 CpuToGpu linear buffer:1 a
+write 1 7 ff
+read 1 7 1
+report
+leaks
+destroy
+";
+
+const BUFFER_REPLIES: &str = "ok
+ok type 0 slot 0 offset 0 size 8 chunk 1 dedicated true mapped true
+ok
+ff
+piece a 0 8
+block 8 0 1
+total 8 capacity 8
+leak detected: {
+    memory type: 0
+    memory block: 0
+    dedicated allocation: {
+        size: 0x8,
+        name: a
+    }
+}
+leaks 1
+held 0
+";
+
 #[test]
 fn a_failed_read_ends_the_trace_unanswered(rt: HostRuntime) {
-    for input in [BEST_FIT, DAMAGED] {
+    for input in [BEST_FIT, DAMAGED, BUFFER] {
         for left in 0..input.len() {
             let mut reader = Breaking {
                 bytes: input.as_bytes(),
@@ -250,7 +462,11 @@ fn a_failed_read_ends_the_trace_unanswered(rt: HostRuntime) {
 
 #[test]
 fn a_failed_write_ends_the_trace(rt: HostRuntime) {
-    for (input, output) in [(BEST_FIT, BEST_FIT_REPLIES), (DAMAGED, DAMAGED_REPLIES)] {
+    for (input, output) in [
+        (BEST_FIT, BEST_FIT_REPLIES),
+        (DAMAGED, DAMAGED_REPLIES),
+        (BUFFER, BUFFER_REPLIES),
+    ] {
         for left in 0..output.len() {
             let mut reader = input.as_bytes();
             let mut out = Full {
@@ -267,7 +483,7 @@ fn a_failed_write_ends_the_trace(rt: HostRuntime) {
 
 #[test]
 fn a_failed_flush_is_a_failed_write(rt: HostRuntime) {
-    for input in [BEST_FIT, DAMAGED, ""] {
+    for input in [BEST_FIT, DAMAGED, BUFFER, ""] {
         let mut reader = input.as_bytes();
         let mut out = Full {
             held: Vec::new(rt.alloc()),

@@ -2,12 +2,12 @@
 
 ghost use Rattle.std.specs.Prelude.{◌≡◌, ◌≢◌, ℕ, ◌<◌, ◌^◌, ◌∷◌, [], IfOk, MatchOption, codes};
 ghost use Rattle.std.specs.Fmt.{decimal};
-ghost use Rattle.gpu_session.specs.Words.{texts, words_of};
+ghost use Rattle.gpu_session.specs.Words.{texts};
 ghost use Rattle.gpu_session.specs.BlockCommand.{IsPowerOfTwo, side_word, kind_word, is_host, type_of_kind, Says};
 ghost use Rattle.gpu_session.specs.declared.block.command.Side.{Side};
 ghost use Rattle.gpu_session.specs.declared.block.command.Kind.{Kind};
 
-use crate::words::{is_name, number, words};
+use crate::words::{is_name, number};
 use gpu_core::AllocationType;
 use std::alloc::{AllocError, Global};
 
@@ -177,7 +177,12 @@ fn report(arguments: &[&str]) -> Option<Command>
     Some(Command::Report)
 }
 
-pub fn by_verb(alloc: Global, verb: &str, arguments: &[&str]) -> Result<Option<Command>, AllocError>
+/// The command that a line's words say, or `None` where they say none. Only host memory can be refused.
+pub fn command_of(
+    alloc: Global,
+    verb: &str,
+    arguments: &[&str],
+) -> Result<Option<Command>, AllocError>
     ensures { IfOk result (λ found. Says (verb.now ∷ texts arguments.now) found) }
 {
     match verb {
@@ -186,16 +191,5 @@ pub fn by_verb(alloc: Global, verb: &str, arguments: &[&str]) -> Result<Option<C
         "give" => Ok(give(arguments)),
         "report" => Ok(report(arguments)),
         _ => Ok(None),
-    }
-}
-
-/// The command that a line says, or `None` where it says none. Only host memory can be refused.
-pub fn parse(alloc: Global, line: &str) -> Result<Option<Command>, AllocError>
-    ensures { IfOk result (λ found. Says (words_of line.now) found) }
-{
-    let words = words(alloc, line)?;
-    match words.as_slice() {
-        [verb, arguments @ ..] => by_verb(alloc, verb, arguments),
-        [] => Ok(None),
     }
 }

@@ -37,7 +37,10 @@ pub struct Report {
     pub capacity: u64,
 }
 
-pub fn write_piece<W: fmt::Write>(piece: &AllocationReport, f: &mut fmt::Formatter<W>) -> fmt::Result
+pub fn write_piece<W: fmt::Write>(
+    piece: &AllocationReport,
+    f: &mut fmt::Formatter<W>,
+) -> fmt::Result
     ensures { DisplaysOnOk W.write_str_gives f.old result (Some (piece_line (row_of piece.now))) f.new }
 {
     let name = piece.name.as_str();

@@ -45,8 +45,8 @@ fn sizes_of(device: u64, host: u64, max_device: u64, max_host: u64) -> Allocatio
 impl Configuration {
     ghost use Rattle.std.specs.Prelude.{◌≡◌, IfOk, Some, None, true, false};
     ghost use Rattle.std.specs.FinMap.{empty};
-    ghost use Rattle.gpu_sim.specs.Simulation.{held_of, properties_of, refused_of};
-    ghost use Rattle.gpu_session.specs.Configuration.{nothing_configured, configured_by, properties_by, sizes_by};
+    ghost use Rattle.gpu_sim.specs.Simulation.{held_of, plan_of, refused_of, latest_of};
+    ghost use Rattle.gpu_session.specs.Configuration.{nothing_configured, configured_by, plan_by, sizes_by};
 
     /// Nothing is configured.
     pub fn new(alloc: Global) -> Configuration
@@ -101,9 +101,10 @@ impl Configuration {
 
     /// The device.
     pub fn device(self, alloc: Global) -> SimVulkan
-        ensures properties { properties_of result ≡ properties_by self }
+        ensures plan { plan_of result ≡ plan_by self }
         ensures held { held_of result ≡ empty }
         ensures refused { refused_of result ≡ 0 }
+        ensures latest { latest_of result ≡ None }
     {
         let Configuration {
             heaps,

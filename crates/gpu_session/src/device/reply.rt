@@ -48,7 +48,10 @@ fn write_given<W: fmt::Write>(given: &Given, f: &mut fmt::Formatter<W>) -> fmt::
     let chunk = chunk.get();
     let dedicated = word_of(dedicated);
     let mapped = word_of(mapped);
-    write!(f, "ok type {memory_type} slot {slot} offset {offset} size {size}")?;
+    write!(
+        f,
+        "ok type {memory_type} slot {slot} offset {offset} size {size}"
+    )?;
     write!(f, " chunk {chunk} dedicated {dedicated} mapped {mapped}")
 }
 
@@ -106,10 +109,7 @@ fn write_pieces<W: fmt::Write>(
     Ok(())
 }
 
-fn write_block<W: fmt::Write>(
-    block: &MemoryBlockReport,
-    f: &mut fmt::Formatter<W>,
-) -> fmt::Result
+fn write_block<W: fmt::Write>(block: &MemoryBlockReport, f: &mut fmt::Formatter<W>) -> fmt::Result
     ensures { DisplaysOnOk W.write_str_gives f.old result (Some (block_line block.now)) f.new }
 {
     let size = block.size;
@@ -130,10 +130,7 @@ fn write_blocks<W: fmt::Write>(
     Ok(())
 }
 
-fn write_report<W: fmt::Write>(
-    report: &AllocatorReport,
-    f: &mut fmt::Formatter<W>,
-) -> fmt::Result
+fn write_report<W: fmt::Write>(report: &AllocatorReport, f: &mut fmt::Formatter<W>) -> fmt::Result
     ensures { DisplaysOnOk W.write_str_gives f.old result (Some (report_text report.now)) f.new }
 {
     write_pieces(&report.allocations, f)?;

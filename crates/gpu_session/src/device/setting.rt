@@ -14,11 +14,18 @@ use std::alloc::{AllocError, Global};
 #[derive(Clone, Copy, Debug)]
 pub enum Setting {
     /// A heap of the device.
-    Heap { size: u64 },
+    Heap {
+        size: u64,
+    },
     /// A memory type of the device, in the heap of that index.
-    MemoryType { flags: u32, heap: u32 },
+    MemoryType {
+        flags: u32,
+        heap: u32,
+    },
     /// The size of a page (`bufferImageGranularity`).
-    Granularity { bytes: u64 },
+    Granularity {
+        bytes: u64,
+    },
     /// The sizes of blocks.
     Sizes {
         device: u64,
@@ -27,7 +34,10 @@ pub enum Setting {
         max_host: u64,
     },
     /// The device refuses its question of that number, counted from 1.
-    Refuse { question: u64, refusal: Refusal },
+    Refuse {
+        question: u64,
+        refusal: Refusal,
+    },
 }
 
 fn heap(arguments: &[&str]) -> Option<Setting>

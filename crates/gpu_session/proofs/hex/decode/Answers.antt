@@ -1,4 +1,4 @@
-use Rattle.std.proofs.Common.{◌≡◌, ◌∷◌, [], ◌++◌, ◌+◌, ◌*◌, ◌<◌, ℕ, List, ap, sym, length, take, get_or, arith, ◌∙◌, refl}
+use Rattle.std.proofs.Common.{◌≡◌, ◌∷◌, [], ◌++◌, ◌+◌, ◌*◌, ◌<◌, ℕ, List, ap, sym, length, take, get_or, arith, ◌∙◌}
 use Rattle.std.proofs.lemmas.Grind.{common_steps}
 use Rattle.gpu_session.specs.Hex.{hex}
 use Rattle.gpu_session.proofs.Hexed.{hex_length, hex_at, hex_push, take_two}

@@ -1,6 +1,5 @@
-use Rattle.std.proofs.Common.{take, map}
+use Rattle.std.proofs.Common.{take}
 use Rattle.std.specs.List.{flat_map}
-use Rattle.std.specs.Prelude.{string_bytes}
 use Rattle.std.specs.Fmt.{HasWritten, IsPlainFormatter}
 use Rattle.gpu_session.specs.DeviceReply.{block_line}
 use Rattle.gpu_session.proofs.device.reply.write_blocks.Given as goal

@@ -1,6 +1,5 @@
 use Rattle.std.proofs.Common.{take, map}
 use Rattle.std.specs.List.{flat_map}
-use Rattle.std.specs.Prelude.{string_bytes}
 use Rattle.std.specs.Fmt.{HasWritten, IsPlainFormatter}
 use Rattle.gpu_core.specs.Report.{row_of}
 use Rattle.gpu_session.specs.BlockReply.{piece_line}
