@@ -127,6 +127,7 @@ fn script(rt: &impl Abort, s: &mut Session<SimVulkan>, alloc: Global) -> Outcome
 fn a_place_is_used_again(rt: HostRuntime) -> Outcome {
     let mut s = session(rt.alloc())?;
     let done = script(&rt, &mut s, rt.alloc());
+    s.numbers_own_their_pieces();
     let device = s.destroy(&Discard);
     assert_eq!(&rt; device.held(), 0);
     done
