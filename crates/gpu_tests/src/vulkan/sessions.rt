@@ -1,5 +1,7 @@
 //! Sessions: lists of commands, each with its reply.
 
+mod refused;
+
 use super::*;
 use gpu_allocator::{AllocationError, MemoryLocation};
 use gpu_vulkan_session::{Command, Given, Reply, Session};
