@@ -35,6 +35,7 @@ module _ {D : Type 0} (g : Ghosts D) (old new : SessionValue D) (key : ℕ) (nam
         serves = serves_at old.allocator.setup (session_of g old) (session_of g new) key (Rename name) o told (Some a) found
             (record { reply = model.Done; step = step.step; binds = (fine, (b, named, is)) });
         count = step.count;
+        latest = step.latest;
         untouched = λ e2. same_leaves (g.held old.allocator.device) (g.held new.allocator.device) (ap g.held device);
         constant = constant;
       }
@@ -48,6 +49,7 @@ module _ {D : Type 0} (g : Ghosts D) (old new : SessionValue D) (key : ℕ) (nam
         serves = serves_at old.allocator.setup (session_of g old) (session_of g new) key (Rename name) o told (Some a) found
             (record { reply = model.Fails (refusal_of e); step = step.step; binds = (fails, unchanged) });
         count = step.count;
+        latest = step.latest;
         untouched = λ e2. same_leaves (g.held old.allocator.device) (g.held new.allocator.device) (ap g.held device);
         constant = constant;
       }

@@ -59,6 +59,7 @@ module _ {D : Type 0} (g : Ghosts D) (s : SessionValue D) (key at : ℕ) where
         serves = serves_at s.allocator.setup (session_of g s) (session_of g new) key (Put at others) o orders.Fine (Some a) found
             (Some xs, read, subst (λ b. PutsIn s.allocator.setup a at others xs b o orders.Fine (session_of g s) (session_of g new)) (sym fits) (refl, step.step, refl));
         count = step.count;
+        latest = step.latest;
         untouched = λ e. absurd (true_false e);
         constant = constant;
       }

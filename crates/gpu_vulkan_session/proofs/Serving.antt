@@ -2,15 +2,16 @@
 use Rattle.std.proofs.Common.{◌≡◌, ◌+◌, ℕ, List, [], ◌∷◌, ◌++◌, ◌<◌, length, take, map, Option, Some, true, false, refl, ap, sym, subst, ◌∙◌, get_or}
 use Rattle.std.proofs.lemmas.List.{take_more}
 use Rattle.gpu_device.specs.declared.vulkan.device.VulkanDevice.{Ghosts}
+use Rattle.gpu_device.specs.declared.vulkan.types.MemoryAllocateInfo.{MemoryAllocateInfo}
 use Rattle.gpu_allocator.specs.Blocks.{AreAllSound}
 use Rattle.gpu_allocator.specs.Setup.{Setup}
 use Rattle.gpu_allocator.specs.State.{State}
 use Rattle.gpu_allocator.specs.Step as model
-use Rattle.gpu_allocator.specs.Step.{Outcomes, nothing_met, MeetsNothing, count_after, IsStep}
+use Rattle.gpu_allocator.specs.Step.{Outcomes, nothing_met, MeetsNothing, count_after, latest_after, IsStep}
 use Rattle.gpu_allocator.proofs.Untouched.{same_leaves}
 use Rattle.gpu_allocator.specs.declared.vulkan.allocation.Allocation.{Allocation}
 use Rattle.gpu_vulkan_session.specs.Session.{SessionState, IsOwn, IsKept, Deed, Order, Told, Chances, Under, Stays, ServesAt, Serves, Runs, Asks, told_by}
-use Rattle.gpu_vulkan_session.specs.Served.{SessionValue, session_of, count_over, IsServed, ServesEach}
+use Rattle.gpu_vulkan_session.specs.Served.{SessionValue, session_of, count_over, latest_over, IsServed, ServesEach}
 
 -- nothing is met with
 abbrev pub quiet : Chances
@@ -34,6 +35,7 @@ module _ {D : Type 0} (g : Ghosts D) where
     chances = o;
     serves = serves_at old.allocator.setup (session_of g old) (session_of g old) key deed o told found e h;
     count = ap (λ c. count_after (count_after (g.refused old.allocator.device) c.first.asked) c.second.asked) (sym met);
+    latest = ap (λ c. latest_after (latest_after (g.latest old.allocator.device) c.first.asked) c.second.asked) (sym met);
     untouched = λ e. same_leaves (g.held old.allocator.device) (g.held old.allocator.device) refl;
     constant = (refl, refl);
   }
@@ -59,6 +61,11 @@ runs_more setup s mid new (order2 ∷ orders) order (o2 ∷ chances) o (t2 ∷ t
 pub count_more : (n : ℕ) (cs : List Chances) (o : Chances) → count_over n (cs ++ o ∷ []) ≡ count_after (count_after (count_over n cs) o.call.first.asked) o.call.second.asked
 count_more n [] o = refl
 count_more n (c ∷ cs) o = count_more (count_after (count_after n c.call.first.asked) c.call.second.asked) cs o
+
+pub latest_more : (latest : Option MemoryAllocateInfo) (cs : List Chances) (o : Chances)
+    → latest_over latest (cs ++ o ∷ []) ≡ latest_after (latest_after (latest_over latest cs) o.call.first.asked) o.call.second.asked
+latest_more latest [] o = refl
+latest_more latest (c ∷ cs) o = latest_more (latest_after (latest_after latest c.call.first.asked) c.call.second.asked) cs o
 
 pub map_push : {A B : Type 0} (f : A → B) (xs : List A) (x : A) → map f (xs ++ x ∷ []) ≡ map f xs ++ f x ∷ []
 map_push f [] x = refl

@@ -88,6 +88,7 @@ module _ {D : Type 0} (g : Ghosts D) (old new : SessionValue D) (key : ℕ) (w :
           binds = (refl, same);
         });
         count = step.count;
+        latest = step.latest;
         untouched = λ w2. allocate_leaves g old.allocator.setup d old.allocator.slots new.allocator.slots old.allocator.device new.allocator.device (Err e) allocates;
         constant = (constant.1, constant.0);
       }
@@ -107,6 +108,7 @@ module _ {D : Type 0} (g : Ghosts D) (old new : SessionValue D) (key : ℕ) (w :
           binds = (a, is.3, is_told ∙ ap orders.Given (shown_same old.allocator.setup d w is.0 is.1 a wants is.3), same);
         });
         count = step.count;
+        latest = step.latest;
         untouched = λ w2. allocate_leaves g old.allocator.setup d old.allocator.slots new.allocator.slots old.allocator.device new.allocator.device (Ok a) allocates;
         constant = (constant.1, constant.0);
       }

@@ -1,14 +1,15 @@
 -- What a session's calls say in the model.
-use Rattle.std.specs.Prelude.{◌≡◌, ℕ, Bool, true, false, List, [], ◌∷◌, nat_eq, map, string_bytes}
+use Rattle.std.specs.Prelude.{◌≡◌, ℕ, Bool, true, false, List, [], ◌∷◌, Option, nat_eq, map, string_bytes}
 use Rattle.std.specs.Map.{lookup}
 use Rattle.std.specs.Int.NonZero.{non_zero_u64_get}
 use Rattle.gpu_core.specs.Refusal.{refusal_of}
 use Rattle.gpu_core.specs.Report.{report_of}
 use Rattle.gpu_device.specs.declared.vulkan.device.VulkanDevice.{Ghosts}
+use Rattle.gpu_device.specs.declared.vulkan.types.MemoryAllocateInfo.{MemoryAllocateInfo}
 use Rattle.gpu_allocator.specs.Lends.{number_in}
 use Rattle.gpu_allocator.specs.State.{State}
 use Rattle.gpu_allocator.specs.Untouched.{LeavesMemory}
-use Rattle.gpu_allocator.specs.Step.{model_of, count_after}
+use Rattle.gpu_allocator.specs.Step.{model_of, count_after, latest_after}
 use Rattle.gpu_allocator.specs.declared.vulkan.allocation.Allocation.{Allocation}
 use Rattle.gpu_vulkan_session.specs.Session.{SessionState, Order, Shown, Told, Chances, Take, TakeNull, Return, Rename, Put, Get, Under, Report, Leaks, Capacity, Given, Fine, Data, Shows, Tells, Sum, Busy, Unbound, Unmapped, Past, Fails, Serves, Runs}
 use Rattle.gpu_vulkan_session.specs.declared.command.Command.{Command}
@@ -79,24 +80,31 @@ abbrev pub count_over : ℕ → List Chances → ℕ
 count_over count [] = count
 count_over count (o ∷ os) = count_over (count_after (count_after count o.call.first.asked) o.call.second.asked) os
 
+-- the device's latest question after all questions of a run
+abbrev pub latest_over : Option MemoryAllocateInfo → List Chances → Option MemoryAllocateInfo
+latest_over latest [] = latest
+latest_over latest (o ∷ os) = latest_over (latest_after (latest_after latest o.call.first.asked) o.call.second.asked) os
+
 abbrev pub is_write : Order → Bool
 is_write (Under key (Put at bytes)) = true
 is_write order = false
 
--- A command is served at some chances, and their refusals are what the device counts. Unless it is a write, it changes no byte of
--- memory that is held before and after.
+-- A command is served at some chances, and their refusals and questions are what the device counts and names. Unless it is a
+-- write, it changes no byte of memory that is held before and after.
 pub record IsServed {D : Type 0} (g : Ghosts D) (order : Order) (told : Told) (old new : SessionValue D) : Type 0 where
   pub chances : Chances
   pub serves : Serves old.allocator.setup order chances told (session_of g old) (session_of g new)
   pub count : g.refused new.allocator.device ≡ count_after (count_after (g.refused old.allocator.device) chances.call.first.asked) chances.call.second.asked
+  pub latest : g.latest new.allocator.device ≡ latest_after (latest_after (g.latest old.allocator.device) chances.call.first.asked) chances.call.second.asked
   pub untouched : is_write order ≡ false → LeavesMemory (g.held old.allocator.device) (g.held new.allocator.device)
   pub constant : (new.allocator.setup ≡ old.allocator.setup) × (new.allocator.first ≡ old.allocator.first)
 
--- the replies are those of a run at some chances, whose refusals are what the device counts
+-- the replies are those of a run at some chances, whose refusals and questions are what the device counts and names
 pub record IsRun {D : Type 0} (g : Ghosts D) (orders : List Order) (told : List Told) (old new : SessionValue D) : Type 0 where
   pub chances : List Chances
   pub runs : Runs old.allocator.setup (session_of g old) orders chances told (session_of g new)
   pub count : g.refused new.allocator.device ≡ count_over (g.refused old.allocator.device) chances
+  pub latest : g.latest new.allocator.device ≡ latest_over (g.latest old.allocator.device) chances
   pub constant : (new.allocator.setup ≡ old.allocator.setup) × (new.allocator.first ≡ old.allocator.first)
 
 -- the commands are served one after another

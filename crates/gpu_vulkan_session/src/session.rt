@@ -5,7 +5,7 @@ ghost use Rattle.std.specs.Map.{lookup};
 ghost use Rattle.std.specs.HashMap.{spare};
 ghost use Rattle.gpu_values.specs.declared.error.AllocationError.TheVariants.{HostOutOfMemory};
 ghost use Rattle.gpu_allocator.specs.Blocks.{HoldsJustLiveBlocks};
-ghost use Rattle.gpu_vulkan_session.specs.Session.{IsOwn, Wanted, Describes, Take, TakeNull, Return, Rename, Put, Get, Under, put_range};
+ghost use Rattle.gpu_vulkan_session.specs.Session.{IsOwn, IsKept, Wanted, Describes, Take, TakeNull, Return, Rename, Put, Get, Under, put_range};
 ghost use Rattle.gpu_vulkan_session.specs.Session as orders;
 ghost use Rattle.gpu_vulkan_session.specs.Served.{session_of, order_of, told_of, shown_allocation, IsServed, IsRun, ServesEach};
 
@@ -75,6 +75,14 @@ impl<D: VulkanDevice> Session<D> {
         }
         let _ = self.allocator.device();
         Ok(replies)
+    }
+
+    /// At any time the blocks are sound, each number stands for a live allocation or a null one, and no two for one piece: the
+    /// state from which the laws of sessions speak. It does nothing.
+    pub fn numbers_own_their_pieces(&self)
+        ensures { IsKept self.now.allocator.setup (session_of D.VulkanDevice self.now) }
+    {
+        self.allocator.allocations_are_apart();
     }
 
     /// Gives every block back, and returns the device, which then holds what it held when the allocator was made.

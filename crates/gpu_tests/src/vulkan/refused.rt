@@ -10,10 +10,10 @@ use log::Level;
 use std::process::Abort;
 
 /// What a run ends with in which one request was refused.
-const TOLD: &str = "one call was refused, and nothing was lost";
+pub(super) const TOLD: &str = "one call was refused, and nothing was lost";
 
 /// Whether the host refused memory: the allocator, or the device, whose code for it is -1.
-fn is_want_of_memory(error: &AllocationError) -> bool {
+pub(super) fn is_want_of_memory(error: &AllocationError) -> bool {
     match error {
         AllocationError::HostOutOfMemory => true,
         AllocationError::Internal(fault) | AllocationError::FailedToMap(fault) => {
@@ -162,8 +162,21 @@ fn run(rt: &impl Abort, mut a: Allocator<SimVulkan>) -> std::result::Result<u64,
     Ok(refused)
 }
 
+/// How a test ends in which so many calls were refused.
+pub(super) fn ends(refused: u64) -> Outcome {
+    match refused {
+        0 => Ok(()),
+        1 => Err(Fail::new(TOLD)),
+        _ => Err(Fail::new("more than one call was refused")),
+    }
+}
+
 /// An allocator; else the device came back as it was.
-fn begin(rt: &impl Abort, alloc: Global, device: SimVulkan) -> Option<Allocator<SimVulkan>> {
+pub(super) fn begin(
+    rt: &impl Abort,
+    alloc: Global,
+    device: SimVulkan,
+) -> Option<Allocator<SimVulkan>> {
     let sizes = AllocationSizes::new(4 * MB, 4 * MB);
     match Allocator::new(&Discard, alloc, described(device, sizes)) {
         Ok(a) => Some(a),
@@ -184,11 +197,7 @@ fn the_vulkan_allocator_loses_nothing_where_memory_is_refused(rt: HostRuntime) -
     let Some(a) = begin(&rt, rt.alloc(), device) else {
         return Err(Fail::new(TOLD));
     };
-    match run(&rt, a)? {
-        0 => Ok(()),
-        1 => Err(Fail::new(TOLD)),
-        _ => Err(Fail::new("more than one call was refused")),
-    }
+    ends(run(&rt, a)?)
 }
 
 /// A piece for downloads: uploads are asked for again where the device lacks host memory.
@@ -264,9 +273,5 @@ fn names_and_reports_lose_nothing_where_memory_is_refused(rt: HostRuntime) -> Ou
     done?;
     assert_eq!(&rt; counting.counts(), (1, SECOND.len()));
     assert_eq!(&rt; device.held(), 0);
-    match refused {
-        0 => Ok(()),
-        1 => Err(Fail::new(TOLD)),
-        _ => Err(Fail::new("more than one call was refused")),
-    }
+    ends(refused)
 }

@@ -1,5 +1,7 @@
 //! Sessions: lists of commands, each with its reply.
 
+mod refused;
+
 use super::*;
 use gpu_allocator::{AllocationError, MemoryLocation};
 use gpu_vulkan_session::{Command, Given, Reply, Session};
@@ -127,13 +129,14 @@ fn script(rt: &impl Abort, s: &mut Session<SimVulkan>, alloc: Global) -> Outcome
 fn a_place_is_used_again(rt: HostRuntime) -> Outcome {
     let mut s = session(rt.alloc())?;
     let done = script(&rt, &mut s, rt.alloc());
+    s.numbers_own_their_pieces();
     let device = s.destroy(&Discard);
     assert_eq!(&rt; device.held(), 0);
     done
 }
 
-/// What is told where nothing is done.
-fn refusals(rt: &impl Abort, s: &mut Session<SimVulkan>, alloc: Global) -> Outcome {
+/// What is told under numbers that stand for nothing, or for a null allocation.
+fn told_of_numbers(rt: &impl Abort, s: &mut Session<SimVulkan>, alloc: Global) -> Outcome {
     assert!(rt; matches!(one(s, Command::Free { key: 1 }, alloc)?, Reply::Unbound));
     assert!(rt; matches!(one(s, write_of(alloc, 1, 9, &[1])?, alloc)?, Reply::Unbound));
     assert!(rt; is_done(&one(s, Command::Null { key: 1 }, alloc)?));
@@ -155,6 +158,21 @@ fn refusals(rt: &impl Abort, s: &mut Session<SimVulkan>, alloc: Global) -> Outco
         )
     );
     assert!(rt; is_done(&one(s, Command::Free { key: 1 }, alloc)?));
+    assert!(rt; matches!(one(s, Command::Free { key: 1 }, alloc)?, Reply::Unbound));
+    Ok(())
+}
+
+#[test]
+fn each_number_out_of_place_is_told(rt: HostRuntime) -> Outcome {
+    let mut s = session(rt.alloc())?;
+    let done = told_of_numbers(&rt, &mut s, rt.alloc());
+    let device = s.destroy(&Discard);
+    assert_eq!(&rt; device.held(), 0);
+    done
+}
+
+/// What is told of a request for nothing, which leaves its number free, and of ranges that end past a piece.
+fn told_of_sizes(rt: &impl Abort, s: &mut Session<SimVulkan>, alloc: Global) -> Outcome {
     match one(s, alloc_of(alloc, 1, 0, "a")?, alloc)? {
         Reply::Error(error) => {
             assert!(rt; matches!(error, AllocationError::InvalidAllocationCreateDesc))
@@ -181,9 +199,9 @@ fn refusals(rt: &impl Abort, s: &mut Session<SimVulkan>, alloc: Global) -> Outco
 }
 
 #[test]
-fn each_refusal_is_told(rt: HostRuntime) -> Outcome {
+fn each_size_out_of_range_is_told(rt: HostRuntime) -> Outcome {
     let mut s = session(rt.alloc())?;
-    let done = refusals(&rt, &mut s, rt.alloc());
+    let done = told_of_sizes(&rt, &mut s, rt.alloc());
     let device = s.destroy(&Discard);
     assert_eq!(&rt; device.held(), 0);
     done

@@ -18,6 +18,7 @@ returns-in-None g c =
       chances = quiet;
       serves = serves_at s.allocator.setup (session_of V s) (session_of V new) c.args.key Return quiet orders.Unbound None none (refl, ((refl, refl), ap (session_of V) same));
       count = refl;
+      latest = refl;
       untouched = λ e. same_leaves (V.held s.allocator.device) (V.held s.allocator.device) refl;
       constant = (refl, refl);
     })
@@ -35,6 +36,7 @@ returns-in-Ok g c =
       serves = serves_at s.allocator.setup (session_of V s) (session_of V new) c.args.key Return o orders.Fine (Some c.in-Some.allocation) some
           (record { fine = refl; step = step.step; bound = rebound s.bound new.bound c.args.key None c.remove.ensures.updates.0 });
       count = step.count;
+      latest = step.latest;
       untouched = λ e. free_leaves V c.in-Some.allocation s.allocator.slots new.allocator.slots s.allocator.device new.allocator.device c.free.result c.free.ensures.frees;
       constant = (c.free.ensures.constant.1, c.free.ensures.constant.0);
     })

@@ -18,6 +18,7 @@ returns-in-Ok g c =
       chances = record { room = true; call = step.outcomes };
       serves = asked V model.Report (model.Shows (report_of c.in-Ok.report)) told s refl step;
       count = step.count;
+      latest = step.latest;
       untouched = λ e. same_leaves (V.held s.allocator.device) (V.held s.allocator.device) refl;
       constant = (refl, refl);
     })
@@ -32,6 +33,7 @@ returns-in-Err g c =
       chances = record { room = true; call = step.outcomes };
       serves = asked V model.Report (model.Fails (refusal_of c.in-Err.error)) told s refl step;
       count = step.count;
+      latest = step.latest;
       untouched = λ e. same_leaves (V.held s.allocator.device) (V.held s.allocator.device) refl;
       constant = (refl, refl);
     })

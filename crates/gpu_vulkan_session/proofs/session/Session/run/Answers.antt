@@ -1,9 +1,9 @@
 use Rattle.std.proofs.Common.{[], ◌∷◌, ◌++◌, take, map, ap, sym, subst, ◌∙◌, arith}
 use Rattle.std.proofs.lemmas.Grind.{common_steps}
-use Rattle.gpu_allocator.specs.Step.{count_after}
+use Rattle.gpu_allocator.specs.Step.{count_after, latest_after}
 use Rattle.gpu_vulkan_session.specs.Session.{Serves}
 use Rattle.gpu_vulkan_session.specs.Served.{session_of, order_of, told_of}
-use Rattle.gpu_vulkan_session.proofs.Serving.{runs_more, each_more, count_more, map_push, map_take_more, kept_at}
+use Rattle.gpu_vulkan_session.proofs.Serving.{runs_more, each_more, count_more, latest_more, map_push, map_take_more, kept_at}
 use Rattle.gpu_vulkan_session.proofs.session.Session.run.Goals as goal
 
 pub loop-command-preserved : goal.loop-command-preserved
@@ -29,6 +29,8 @@ loop-command-preserved g c =
             (map told_of c.loop-command.replies.items) told before.runs serves kept;
         count = step.count ∙ ap (λ n. count_after (count_after n step.chances.call.first.asked) step.chances.call.second.asked) before.count
             ∙ sym (count_more (V.refused old.allocator.device) before.chances step.chances);
+        latest = step.latest ∙ ap (λ q. latest_after (latest_after q step.chances.call.first.asked) step.chances.call.second.asked) before.latest
+            ∙ sym (latest_more (V.latest old.allocator.device) before.chances step.chances);
         constant = (step.constant.0 ∙ before.constant.0, step.constant.1 ∙ before.constant.1);
       });
       each = rw (orders, tolds) (each_more V old mid new (map order_of (take c.loop-command.command-index c.args.commands.now)) order (map told_of c.loop-command.replies.items) told c.loop-command.invariant.each step);

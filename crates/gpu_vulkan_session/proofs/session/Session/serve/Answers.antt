@@ -17,6 +17,7 @@ returns-in-Capacity g c =
       chances = record { room = true; call = step.outcomes };
       serves = asked V model.Capacity (model.Sum c.capacity.result) told s refl step;
       count = step.count;
+      latest = step.latest;
       untouched = λ e. same_leaves (V.held s.allocator.device) (V.held s.allocator.device) refl;
       constant = (refl, refl);
     }))

@@ -32,6 +32,7 @@ returns-then-is_err g c =
       chances = short;
       serves = serves_at s.allocator.setup (session_of V s) (session_of V new) c.args.key (Take w) short told None none ((refl, refl), refl, same);
       count = refl;
+      latest = refl;
       untouched = λ e. same_leaves (V.held s.allocator.device) (V.held s.allocator.device) refl;
       constant = (refl, refl);
     })

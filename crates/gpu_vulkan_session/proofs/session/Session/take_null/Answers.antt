@@ -31,6 +31,7 @@ returns-then-is_err g c =
       chances = short;
       serves = serves_at s.allocator.setup (session_of V s) (session_of V new) c.args.key TakeNull short told None none ((refl, refl), (refl, same));
       count = refl;
+      latest = refl;
       untouched = λ e. same_leaves (V.held s.allocator.device) (V.held s.allocator.device) refl;
       constant = (refl, refl);
     })
@@ -48,6 +49,7 @@ returns g c =
       chances = quiet;
       serves = serves_at s.allocator.setup (session_of V s) (session_of V new) c.args.key TakeNull quiet orders.Fine None none ((refl, refl), (refl, same));
       count = refl;
+      latest = refl;
       untouched = λ e. same_leaves (V.held s.allocator.device) (V.held s.allocator.device) refl;
       constant = (refl, refl);
     })

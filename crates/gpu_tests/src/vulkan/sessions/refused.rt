@@ -1,0 +1,284 @@
+//! A session's commands, while the host refuses one request for memory. With ample memory the test passes. Where one request
+//! was refused it fails with a text of its own, after all else held: `tools/check_refused` refuses each in turn, and looks
+//! for that text.
+
+use super::super::refused::{TOLD, begin, ends, is_want_of_memory};
+use super::super::reports::check_row;
+use super::*;
+use gpu_allocator::AllocatorReport;
+
+/// A request for a piece that the host reads: uploads are asked for again where the device lacks host memory.
+fn download_of(
+    alloc: Global,
+    key: u64,
+    size: u64,
+    alignment: u64,
+    name: &str,
+) -> std::result::Result<Command, AllocError> {
+    Ok(Command::Alloc {
+        key,
+        requirements: MemoryRequirements {
+            size,
+            alignment,
+            memory_type_bits: 1,
+        },
+        location: MemoryLocation::GpuToCpu,
+        linear: true,
+        scheme: AllocationScheme::GpuAllocatorManaged,
+        name: name.to_string(alloc)?,
+    })
+}
+
+fn rename_of(alloc: Global, key: u64, name: &str) -> std::result::Result<Command, AllocError> {
+    let name = name.to_string(alloc)?;
+    Ok(Command::Rename { key, name })
+}
+
+fn read_of(key: u64, at: u64, size: u64) -> Command {
+    Command::Read { key, at, size }
+}
+
+/// Two pieces of a block of 4 MB and a null allocation, and then a piece of 5 MB. Two pieces stay.
+fn commands(alloc: Global) -> std::result::Result<Vec<Command>, AllocError> {
+    let mut commands = Vec::new(alloc);
+    commands.push(download_of(alloc, 1, 100, 1, "first")?)?;
+    commands.push(download_of(alloc, 2, 64, 256, "second")?)?;
+    commands.push(write_of(alloc, 1, 0, &[1, 2, 3, 4])?)?;
+    commands.push(write_of(alloc, 2, 60, &[5, 6, 7, 8])?)?;
+    commands.push(read_of(1, 1, 4))?;
+    commands.push(read_of(2, 59, 5))?;
+    commands.push(rename_of(alloc, 2, "b")?)?;
+    commands.push(Command::Null { key: 3 })?;
+    commands.push(rename_of(alloc, 3, "nothing")?)?;
+    commands.push(Command::Report)?;
+    commands.push(Command::Leaks)?;
+    commands.push(Command::Capacity)?;
+    commands.push(Command::Free { key: 1 })?;
+    commands.push(Command::Free { key: 3 })?;
+    commands.push(download_of(alloc, 4, 5 * MB, 1, "large")?)?;
+    commands.push(Command::Capacity)?;
+    Ok(commands)
+}
+
+/// What stands under the numbers, as their replies tell.
+#[derive(Clone, Copy)]
+struct Standing {
+    first: bool,
+    second: bool,
+    /// Whether the second piece has its new name.
+    named: bool,
+    null: bool,
+}
+
+/// Whether a command was answered. Else the host refused memory for it, which is counted.
+fn is_answered(rt: &impl Abort, reply: &Reply, refused: &mut u64) -> bool {
+    match reply {
+        Reply::Error(error) => {
+            assert!(rt; matches!(error, AllocationError::HostOutOfMemory));
+            *refused = refused.saturating_add(1);
+            false
+        }
+        _ => true,
+    }
+}
+
+/// Whether a piece was given; then its offset, size and number are these. Else the host refused memory, to the allocator or
+/// to the device.
+fn is_given(rt: &impl Abort, reply: &Reply, want: (u64, u64, u64), refused: &mut u64) -> bool {
+    match reply {
+        Reply::Error(error) => {
+            assert!(rt; is_want_of_memory(error));
+            *refused = refused.saturating_add(1);
+            false
+        }
+        _ => {
+            assert_eq!(rt; given_at(reply), Some(want));
+            true
+        }
+    }
+}
+
+/// Whether a command was done under a number that stands for something; else it was told that nothing stands there, or the
+/// host refused memory.
+fn is_done_under(rt: &impl Abort, reply: &Reply, bound: bool, refused: &mut u64) -> bool {
+    if !bound {
+        assert!(rt; matches!(reply, Reply::Unbound));
+        return false;
+    }
+    let answered = is_answered(rt, reply, refused);
+    if answered {
+        assert!(rt; is_done(reply));
+    }
+    answered
+}
+
+/// The reply to a write or a free, which take no memory.
+fn check_done(rt: &impl Abort, reply: &Reply, bound: bool) {
+    if bound {
+        assert!(rt; is_done(reply));
+    } else {
+        assert!(rt; matches!(reply, Reply::Unbound));
+    }
+}
+
+fn check_read(rt: &impl Abort, reply: &Reply, bound: bool, bytes: &[u8], refused: &mut u64) {
+    if !bound {
+        assert!(rt; matches!(reply, Reply::Unbound));
+    } else if is_answered(rt, reply, refused) {
+        assert!(rt; is_bytes(reply, bytes));
+    }
+}
+
+/// Pieces with other names, and what was written and read there.
+fn check_pieces(
+    rt: &impl Abort,
+    replies: &[Reply],
+    refused: &mut u64,
+) -> std::result::Result<Standing, Fail> {
+    let [
+        first,
+        second,
+        written,
+        also_written,
+        read,
+        also_read,
+        named,
+        null,
+        null_named,
+    ] = replies
+    else {
+        return Err(Fail::from("there is another count of replies"));
+    };
+    let first = is_given(rt, first, (0, 100, 2), refused);
+    let place = if first { (256, 64, 3) } else { (0, 64, 2) };
+    let second = is_given(rt, second, place, refused);
+    check_done(rt, written, first);
+    check_done(rt, also_written, second);
+    check_read(rt, read, first, &[2, 3, 4, 0], refused);
+    check_read(rt, also_read, second, &[0, 5, 6, 7, 8], refused);
+    let named = is_done_under(rt, named, second, refused);
+    let null = is_done_under(rt, null, true, refused);
+    let _ = is_done_under(rt, null_named, null, refused);
+    Ok(Standing {
+        first,
+        second,
+        named,
+        null,
+    })
+}
+
+fn check_report(rt: &impl Abort, report: &AllocatorReport, standing: &Standing) {
+    let name = if standing.named { "b" } else { "second" };
+    match (standing.first, standing.second) {
+        (true, true) => {
+            assert_eq!(rt; report.allocations.len(), 2);
+            check_row(rt, report, 0, "first", 0, 100);
+            check_row(rt, report, 1, name, 256, 64);
+            assert_eq!(rt; report.total_allocated_bytes, 320);
+        }
+        (true, false) => {
+            assert_eq!(rt; report.allocations.len(), 1);
+            check_row(rt, report, 0, "first", 0, 100);
+            assert_eq!(rt; report.total_allocated_bytes, 100);
+        }
+        (false, true) => {
+            assert_eq!(rt; report.allocations.len(), 1);
+            check_row(rt, report, 0, name, 0, 64);
+            assert_eq!(rt; report.total_allocated_bytes, 64);
+        }
+        (false, false) => panic!(rt; "two requests were refused"),
+    }
+    assert_eq!(rt; report.total_capacity_bytes, 4 * MB);
+}
+
+fn check_leaks(rt: &impl Abort, texts: &[String], standing: &Standing) {
+    let live = if standing.first && standing.second {
+        2
+    } else {
+        1
+    };
+    assert_eq!(rt; texts.len(), live);
+}
+
+/// What is told of all pieces; then one piece and the null allocation go, and a large piece comes.
+fn check_all(
+    rt: &impl Abort,
+    replies: &[Reply],
+    standing: &Standing,
+    refused: &mut u64,
+) -> Outcome {
+    let [report, leaks, capacity, freed, null_freed, large, last] = replies else {
+        return Err(Fail::from("there is another count of replies"));
+    };
+    if is_answered(rt, report, refused) {
+        match report {
+            Reply::Report(report) => check_report(rt, report, standing),
+            _ => return Err(Fail::from("no report was made")),
+        }
+    }
+    if is_answered(rt, leaks, refused) {
+        match leaks {
+            Reply::Leaks(texts) => check_leaks(rt, texts, standing),
+            _ => return Err(Fail::from("no leaks were told")),
+        }
+    }
+    assert!(rt; matches!(capacity, Reply::Capacity(4_194_304)));
+    check_done(rt, freed, standing.first);
+    check_done(rt, null_freed, standing.null);
+    if is_given(rt, large, (0, 5 * MB, 1), refused) {
+        assert!(rt; matches!(last, Reply::Capacity(9_437_184)));
+    } else {
+        assert!(rt; matches!(last, Reply::Capacity(4_194_304)));
+    }
+    Ok(())
+}
+
+/// Runs all commands; where the host refused memory for the replies none has run, and they are run once more.
+fn run_again(
+    s: &mut Session<SimVulkan>,
+    commands: &[Command],
+    refused: &mut u64,
+) -> std::result::Result<Vec<Reply>, Fail> {
+    match s.run(&Discard, commands) {
+        Ok(replies) => return Ok(replies),
+        Err(AllocationError::HostOutOfMemory) => *refused = refused.saturating_add(1),
+        Err(_) => return Err(Fail::from("a run was refused for another cause")),
+    }
+    match s.run(&Discard, commands) {
+        Ok(replies) => Ok(replies),
+        Err(_) => Err(Fail::from("a run was refused again")),
+    }
+}
+
+fn served(
+    rt: &impl Abort,
+    s: &mut Session<SimVulkan>,
+    commands: &[Command],
+    refused: &mut u64,
+) -> Outcome {
+    let replies = run_again(s, commands, refused)?;
+    assert_eq!(rt; replies.len(), 16);
+    let standing = check_pieces(rt, &replies[..9], refused)?;
+    check_all(rt, &replies[9..], &standing, refused)
+}
+
+#[test]
+fn a_session_loses_nothing_where_memory_is_refused(rt: HostRuntime) -> Outcome {
+    let properties = one_type(&[(6, 0)], &[1024 * MB]);
+    let Ok(commands) = commands(rt.alloc()) else {
+        return Err(Fail::new(TOLD));
+    };
+    let Ok(device) = simulated(rt.alloc(), &properties) else {
+        return Err(Fail::new(TOLD));
+    };
+    let Some(a) = begin(&rt, rt.alloc(), device) else {
+        return Err(Fail::new(TOLD));
+    };
+    let mut s = Session::new(rt.alloc(), a);
+    let mut refused = 0;
+    let done = served(&rt, &mut s, &commands, &mut refused);
+    let device = s.destroy(&Discard);
+    done?;
+    assert_eq!(&rt; device.held(), 0);
+    ends(refused)
+}
