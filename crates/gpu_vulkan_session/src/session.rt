@@ -89,6 +89,7 @@ impl<D: VulkanDevice> Session<D> {
     pub fn destroy<L: Log>(self, log: &L) -> D
         ensures held { D.held result ≡ D.held self.allocator.first }
         ensures counts_nothing { D.refused result ≡ D.refused self.allocator.device }
+        ensures names_no_question { D.latest result ≡ D.latest self.allocator.device }
         ensures constant { D.properties result ≡ D.properties self.allocator.first }
     {
         let Session {
