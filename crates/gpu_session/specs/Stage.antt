@@ -8,9 +8,10 @@ use Rattle.gpu_values.specs.declared.allocator_debug_settings.AllocatorDebugSett
 use Rattle.gpu_device.specs.declared.vulkan.device.VulkanDevice.{Ghosts}
 use Rattle.gpu_sim.specs.Simulation.{held_of, properties_of, plan_of, refused_of, latest_of, written_sim}
 use Rattle.gpu_sim.specs.declared.sim_vulkan.SimVulkan.{SimVulkan}
+use Rattle.gpu_allocator.specs.Blocks.{HoldsJustLiveBlocks}
 use Rattle.gpu_allocator.specs.Setup.{setup_fault}
 use Rattle.gpu_vulkan_session.specs.Session as orders
-use Rattle.gpu_vulkan_session.specs.Served.{SessionValue, order_of, told_of, IsServed}
+use Rattle.gpu_vulkan_session.specs.Served.{SessionValue, order_of, told_of, session_of, IsServed}
 use Rattle.gpu_session.specs.declared.block.command.Command as block_commands
 use Rattle.gpu_session.specs.declared.block.command.Command.TheVariants as commands
 use Rattle.gpu_session.specs.declared.block.stage.Stage.TheVariants as block_stages
@@ -38,6 +39,12 @@ simulated = record { properties = properties_of; held = held_of; refused = refus
 abbrev pub silent : AllocatorDebugSettings
 silent = record { log_memory_information = false; log_leaks_on_shutdown = false; log_allocations = false; log_frees = false }
 
+-- what holds of a session at any time: the blocks are sound, each number owns its piece, and the device holds what it held at
+-- first and just the live blocks
+pub record IsSound (s : SessionValue SimVulkan) : Type 0 where
+  pub kept : orders.IsKept s.allocator.setup (session_of simulated s)
+  pub holds : HoldsJustLiveBlocks s.allocator.setup.properties (held_of s.allocator.first) (held_of s.allocator.device) s.allocator.slots
+
 -- a session in which no number stands for anything, over a fresh allocator of that configuration
 pub record IsFresh (c : Configured) (s : SessionValue SimVulkan) : Type 0 where
   pub unbound : s.bound ≡ []
@@ -51,13 +58,13 @@ pub record IsFresh (c : Configured) (s : SessionValue SimVulkan) : Type 0 where
 
 -- the allocator is made, or refused by the named cause
 abbrev pub Begins : Configured → device_replies.Reply → Stage → Type 0
-Begins c Made (Device s) = IsFresh c s
+Begins c Made (Device s) = IsFresh c s × IsSound s
 Begins c (Refused number) Closed = (e : AllocationError) × (number ≡ number_of e) × (refusal_of e ≡ unwrap_or (setup_fault 1 (properties_by c)) host_out_of_memory)
 Begins c _ _ = ⊥
 
 -- a command that a session serves
 abbrev pub Serves : SessionValue SimVulkan → orders.Order → device_replies.Reply → Stage → Type 0
-Serves s order (Served told) (Device t) = IsServed simulated order (told_of told) s t
+Serves s order (Served told) (Device t) = IsServed simulated order (told_of told) s t × IsSound t
 Serves s order _ _ = ⊥
 
 abbrev pub Ends : SessionValue SimVulkan → device_replies.Reply → Stage → Type 0

@@ -4,7 +4,7 @@ ghost use Rattle.std.specs.Prelude.{◌≡◌, IfOk, MatchOption};
 ghost use Rattle.gpu_session.specs.BlockCommand.{Fits};
 ghost use Rattle.gpu_session.specs.Configuration.{nothing_configured};
 ghost use Rattle.gpu_vulkan_session.specs.Served.{order_of};
-ghost use Rattle.gpu_session.specs.Stage.{Begins, Does, MatchServed, FitsLine, is_bad};
+ghost use Rattle.gpu_session.specs.Stage.{IsSound, Begins, Does, MatchServed, FitsLine, is_bad};
 ghost use Rattle.gpu_session.specs.declared.block.stage.Stage.TheVariants as block_stages;
 
 use crate::block::command::Command;
@@ -67,6 +67,14 @@ fn serve_block(mut stage: block::Stage, alloc: Global, command: Command) -> (Sta
     }
 }
 
+/// What holds of a session at any time. It does nothing.
+fn show_sound(session: &Session<SimVulkan>)
+    ensures { IsSound session.now }
+{
+    session.numbers_own_their_pieces();
+    let _ = session.device();
+}
+
 /// Makes the allocator of a device trace.
 fn make<L: Log>(log: &L, alloc: Global, configuration: Configuration) -> (Stage, device::Reply)
     ensures { Begins configuration result.1 result.0 }
@@ -85,10 +93,11 @@ fn make<L: Log>(log: &L, alloc: Global, configuration: Configuration) -> (Stage,
         allocation_sizes,
     };
     match Allocator::new(log, alloc, desc) {
-        Ok(allocator) => (
-            Stage::Device(Session::new(alloc, allocator)),
-            device::Reply::Made,
-        ),
+        Ok(allocator) => {
+            let session = Session::new(alloc, allocator);
+            show_sound(&session);
+            (Stage::Device(session), device::Reply::Made)
+        }
         Err((error, _)) => (Stage::Closed, device::Reply::Refused(number_of(&error))),
     }
 }
@@ -112,6 +121,7 @@ fn serve_ask<L: Log>(log: &L, mut session: Session<SimVulkan>, command: &Ask) ->
     ensures { MatchServed session (order_of command.now) result }
 {
     let reply = session.serve(log, command);
+    show_sound(&session);
     (
         Stage::Device(session),
         Outcome::Replied(Reply::Device(device::Reply::Served(reply))),

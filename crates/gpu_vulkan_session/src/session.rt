@@ -77,6 +77,15 @@ impl<D: VulkanDevice> Session<D> {
         Ok(replies)
     }
 
+    /// The device, lent. It holds what it held when the allocator was made, and just the live blocks.
+    pub fn device(&self) -> &D
+        ensures lent { result.now ≡ self.now.allocator.device }
+        ensures holds { HoldsJustLiveBlocks self.now.allocator.setup.properties (D.held self.now.allocator.first)
+            (D.held self.now.allocator.device) self.now.allocator.slots }
+    {
+        self.allocator.device()
+    }
+
     /// At any time the blocks are sound, each number stands for a live allocation or a null one, and no two for one piece: the
     /// state from which the laws of sessions speak. It does nothing.
     pub fn numbers_own_their_pieces(&self)
