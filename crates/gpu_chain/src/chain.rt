@@ -1,6 +1,6 @@
 //! The chunks of a block, in a hashed map by number, each linked to the ones beside it.
 
-ghost use Rattle.std.specs.Prelude.{◌≡◌, ◌≢◌, ℕ, nat_eq, ◌+◌, ◌-◌, ◌^◌, ◌<◌, ◌≤◌, IsSome, IfOk, IfSome, OnOk, MatchOption, Some, None, [], ◌∷◌, ◌++◌};
+ghost use Rattle.std.specs.Prelude.{◌≡◌, ◌≢◌, ℕ, nat_eq, ◌+◌, ◌-◌, ◌^◌, ◌<◌, ◌≤◌, IsSome, IfOk, IfSome, OnOk, IsOk, MatchOption, Some, None, [], ◌∷◌, ◌++◌};
 ghost use Rattle.std.specs.Option.{option_copied};
 ghost use Rattle.std.specs.HashMap.{get, spare};
 ghost use Rattle.gpu_gap_index.specs.Cost.{RisesBy};
@@ -169,12 +169,16 @@ impl Chain {
         })
     }
 
-    /// Makes room for that many more chunks.
+    /// Makes room for that many more chunks, where there isn't room enough. A refusal changes no chunk.
     pub fn reserve(&mut self, more: usize) -> Result<(), AllocError>
         ensures same { (self.new.chunks ≡ self.old.chunks) × (self.new.size ≡ self.old.size) }
         ensures room { OnOk result (more ≤ self.new.room) }
         ensures kept { self.old.room ≤ self.new.room }
+        ensures enough { more ≤ self.old.room → IsOk result × (self.new ≡ self.old) }
     {
+        if more <= self.nodes.capacity() - self.nodes.len() {
+            return Ok(());
+        }
         self.nodes.reserve(more)
     }
 

@@ -1,5 +1,5 @@
 //! The gaps of a block in the order of length and start.
-ghost use Rattle.std.specs.Prelude.{◌≡◌, ℕ, ◌+◌, ◌^◌, ◌<◌, ◌≤◌, List, [], length, slice_index_or, OnOk, IfSome, IsTrue, is_some, if◌then◌else◌};
+ghost use Rattle.std.specs.Prelude.{◌≡◌, ℕ, ◌+◌, ◌^◌, ◌<◌, ◌≤◌, List, [], length, slice_index_or, OnOk, OnErr, IsOk, IfSome, IsTrue, is_some, if◌then◌else◌};
 ghost use Rattle.std.specs.List.{AllPairs, slice_get, insert, remove};
 ghost use Rattle.gpu_gap_index.specs.Cost.{digits, RisesBy};
 ghost use Rattle.gpu_gap_index.specs.Index.{Before, IsBefore, IsPlaceOf, HasNoKey, HasKeyAt, IsInserted, IsRemoved, IsReplaced, place_without};
@@ -97,9 +97,10 @@ fn move_entry(entries: &mut TieredVec<Gap>, from: usize, to: usize, gap: Gap)
 }
 
 impl GapIndex {
-    /// An index without gaps.
+    /// An index without gaps, which has taken no memory.
     pub fn new(alloc: Global) -> GapIndex
-        ensures { result.gaps ≡ [] }
+        ensures gaps { result.gaps ≡ [] }
+        ensures room { result.room ≡ 0 }
     {
         GapIndex {
             entries: TieredVec::new(alloc),
@@ -113,11 +114,13 @@ impl GapIndex {
         let _ = self.entries.len();
     }
 
-    /// Makes room for that many gaps in all.
+    /// Makes room for that many gaps in all. A refusal changes nothing.
     pub fn reserve_to(&mut self, count: usize) -> Result<(), AllocError>
         ensures same { self.new.gaps ≡ self.old.gaps }
         ensures room { OnOk result (count ≤ self.new.room) }
         ensures kept { self.old.room ≤ self.new.room }
+        ensures enough { count ≤ self.old.room → IsOk result × (self.new ≡ self.old) }
+        ensures refused { OnErr result (self.new ≡ self.old) }
     {
         let len = self.entries.len();
         if len < count {

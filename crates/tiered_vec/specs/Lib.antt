@@ -1,2 +1,3 @@
+pub mod Body
 pub mod Rings
 pub mod TieredVec

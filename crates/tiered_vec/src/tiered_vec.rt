@@ -9,29 +9,32 @@ use crate::tiers::Tiers;
 use std::alloc::{AllocError, Global};
 use std::marker::Model;
 
+/// Where the entries lie: in one piece while they are few, then in rings.
+#[derive(Drop)]
+enum Body<T: Copy> {
+    Flat(Vec<T>),
+    Tiers(Tiers<T>),
+}
+
 /// A vector whose inserts and removes stay quick when it is long: they move at most half a ring of 256 entries, and one
 /// entry of each ring behind it. Up to 256 entries it is a flat one, whose room doubles.
 #[derive(Drop)]
 pub struct TieredVec<T: Copy> {
     alloc: Global,
-    // which of the two holds the entries
-    is_flat: bool,
-    flat: Vec<T>,
-    tiers: Tiers<T>,
+    body: Body<T>,
 }
 
 impl<T: Copy> Model for TieredVec<T> {
-    ghost use Rattle.tiered_vec.specs.TieredVec.{Tiered, tiered, tiered_code};
+    ghost use Rattle.tiered_vec.specs.TieredVec.{Tiered, tiered_code};
+    ghost use Rattle.tiered_vec.specs.Body.{body_view, IsSound};
 
     ghost Value = { Tiered T };
 
     ghost coded = { tiered_code T.code };
 
-    ghost use Rattle.std.specs.Prelude.{◌-◌, ◌≤◌, if◌then◌else◌, vec_len, vec_capacity};
+    ghost view = { λ a. body_view a.body };
 
-    ghost view = { λ a. if a.is_flat then tiered a.flat.items (vec_capacity a.flat - vec_len a.flat) else a.tiers };
-
-    ghost invariant = { λ a. vec_len a.flat ≤ vec_capacity a.flat };
+    ghost invariant = { λ a. IsSound a.body };
 }
 
 impl<T: Copy> TieredVec<T> {
@@ -42,9 +45,7 @@ impl<T: Copy> TieredVec<T> {
     {
         TieredVec {
             alloc,
-            is_flat: true,
-            flat: Vec::new(alloc),
-            tiers: Tiers::new(alloc),
+            body: Body::Flat(Vec::new(alloc)),
         }
     }
 
@@ -52,10 +53,9 @@ impl<T: Copy> TieredVec<T> {
     pub fn len(&self) -> usize
         ensures { result ≡ length self.now.entries }
     {
-        if self.is_flat {
-            self.flat.len()
-        } else {
-            self.tiers.len()
+        match &self.body {
+            Body::Flat(flat) => flat.len(),
+            Body::Tiers(tiers) => tiers.len(),
         }
     }
 
@@ -63,10 +63,9 @@ impl<T: Copy> TieredVec<T> {
     pub fn spare(&self) -> usize
         ensures { result ≡ self.now.spare }
     {
-        if self.is_flat {
-            self.flat.capacity() - self.flat.len()
-        } else {
-            self.tiers.spare()
+        match &self.body {
+            Body::Flat(flat) => flat.capacity() - flat.len(),
+            Body::Tiers(tiers) => tiers.spare(),
         }
     }
 
@@ -75,10 +74,9 @@ impl<T: Copy> TieredVec<T> {
         requires { place < length self.now.entries }
         ensures { result ≡ slice_index_or self.now.entries place result }
     {
-        if self.is_flat {
-            self.flat[place]
-        } else {
-            self.tiers.get(place)
+        match &self.body {
+            Body::Flat(flat) => flat[place],
+            Body::Tiers(tiers) => tiers.get(place),
         }
     }
 
@@ -91,23 +89,23 @@ impl<T: Copy> TieredVec<T> {
         ensures enough { additional ≤ self.old.spare → IsOk result × (self.new ≡ self.old) }
         ensures refused { OnErr result (self.new ≡ self.old) }
     {
-        if !self.is_flat {
-            return self.tiers.reserve(additional);
-        }
-        let len = self.flat.len();
-        if additional <= self.flat.capacity() - len {
+        if additional <= self.spare() {
             return Ok(());
         }
-        let Some(wanted) = len.checked_add(additional) else {
+        let Some(wanted) = self.len().checked_add(additional) else {
             return Err(AllocError);
         };
-        if wanted <= RING {
-            return grow(&mut self.flat, wanted);
+        if let Body::Flat(flat) = &self.body
+            && RING < wanted
+        {
+            let tiers = laid_out(flat, self.alloc, wanted)?;
+            self.body = Body::Tiers(tiers);
+            return Ok(());
         }
-        self.tiers = laid_out(&self.flat, self.alloc, wanted)?;
-        self.flat = Vec::new(self.alloc);
-        self.is_flat = false;
-        Ok(())
+        match &mut self.body {
+            Body::Flat(flat) => grow(flat, wanted),
+            Body::Tiers(tiers) => tiers.reserve(additional),
+        }
     }
 
     /// Puts an entry at a place, and those from there on one place further. There is room, so it takes no memory.
@@ -117,10 +115,9 @@ impl<T: Copy> TieredVec<T> {
         ensures entries { self.new.entries ≡ insert self.old.entries place entry }
         ensures spare { self.new.spare + 1 ≡ self.old.spare }
     {
-        if self.is_flat {
-            put_in(&mut self.flat, place, entry);
-        } else {
-            self.tiers.insert(place, entry);
+        match &mut self.body {
+            Body::Flat(flat) => put_in(flat, place, entry),
+            Body::Tiers(tiers) => tiers.insert(place, entry),
         }
     }
 
@@ -131,10 +128,9 @@ impl<T: Copy> TieredVec<T> {
         ensures entries { self.new.entries ≡ remove self.old.entries place }
         ensures spare { self.new.spare ≡ self.old.spare + 1 }
     {
-        if self.is_flat {
-            self.flat.remove(place)
-        } else {
-            self.tiers.remove(place)
+        match &mut self.body {
+            Body::Flat(flat) => flat.remove(place),
+            Body::Tiers(tiers) => tiers.remove(place),
         }
     }
 
@@ -147,10 +143,9 @@ impl<T: Copy> TieredVec<T> {
         ensures entries { self.new.entries ≡ insert (remove self.old.entries from) to entry }
         ensures spare { self.new.spare ≡ self.old.spare }
     {
-        if self.is_flat {
-            shift(&mut self.flat, from, to, entry)
-        } else {
-            self.tiers.replace(from, to, entry)
+        match &mut self.body {
+            Body::Flat(flat) => shift(flat, from, to, entry),
+            Body::Tiers(tiers) => tiers.replace(from, to, entry),
         }
     }
 }
