@@ -1,9 +1,3 @@
-pub mod Numbers
-pub mod Commands
 pub mod Runs
 pub mod Input
-pub mod Owning
-pub mod Hexed
-pub mod Canonical
-pub mod Settings
 pub mod Sorts

@@ -6,15 +6,15 @@ use Rattle.std.specs.Io.KnownBytes.{Appends, Keeps}
 use Rattle.std.proofs.lemmas.List.{append-nil, length-map, get_or-map}
 use Rattle.std.proofs.lemmas.List.Concat.{flat_map-append}
 use Rattle.std.proofs.Math.ListN.{drop_of_length-le}
-use Rattle.gpu_session.specs.declared.line.Line.{Line}
-use Rattle.gpu_session.specs.declared.reply.Reply.{Reply}
+use Rattle.gpu_trace_lines.specs.declared.line.Line.{Line}
+use Rattle.gpu_trace_lines.specs.declared.reply.Reply.{Reply}
 use Rattle.gpu_session.specs.declared.stage.Outcome.{Outcome}
 use Rattle.gpu_session.specs.declared.stage.Outcome.TheVariants.{Nothing, Replied, Bad}
 use Rattle.gpu_session.specs.declared.stage.Stage.{Stage}
 use Rattle.gpu_session.specs.declared.stage.Stage.TheVariants.{Before}
-use Rattle.gpu_session.specs.Words.{texts}
-use Rattle.gpu_session.specs.Line.{Means}
-use Rattle.gpu_session.specs.Reply.{reply_line}
+use Rattle.gpu_trace_lines.specs.Words.{texts}
+use Rattle.gpu_trace_lines.specs.Line.{Means}
+use Rattle.gpu_trace_lines.specs.Reply.{reply_line}
 use Rattle.gpu_session.specs.Stage.{Step, Quietly, is_bad}
 use Rattle.gpu_session.specs.Run.{Runs, ends, quiet, serves, stops, IsBad, Serves, HasRun, bad_text, outcome_text}
 

@@ -3,23 +3,23 @@ use Rattle.std.proofs.Common.{◌≡◌, refl, sym, ap, ◌∙◌, subst, Bool, 
 use Rattle.std.specs.Prelude.{codes}
 use Rattle.std.specs.List.{onto_first}
 use Rattle.std.specs.Str.{bytes_eq}
-use Rattle.gpu_vulkan_session.specs.declared.command.Command as asks_commands
-use Rattle.gpu_vulkan_session.specs.declared.command.Command.TheVariants as asked
-use Rattle.gpu_session.specs.declared.block.command.Command as block_commands
-use Rattle.gpu_session.specs.declared.block.command.Command.TheVariants as blocks
-use Rattle.gpu_session.specs.declared.device.setting.Setting as settings
-use Rattle.gpu_session.specs.declared.device.setting.Setting.TheVariants.{Heap, MemoryType, Granularity, Sizes, Refuse}
-use Rattle.gpu_session.specs.declared.line.Line.{Line}
-use Rattle.gpu_session.specs.declared.line.Line.TheVariants as lines
+use Rattle.gpu_session_values.specs.declared.command.Command as asks_commands
+use Rattle.gpu_session_values.specs.declared.command.Command.TheVariants as asked
+use Rattle.gpu_trace_lines.specs.declared.block.command.Command as block_commands
+use Rattle.gpu_trace_lines.specs.declared.block.command.Command.TheVariants as blocks
+use Rattle.gpu_trace_lines.specs.declared.device.setting.Setting as settings
+use Rattle.gpu_trace_lines.specs.declared.device.setting.Setting.TheVariants.{Heap, MemoryType, Granularity, Sizes, Refuse}
+use Rattle.gpu_trace_lines.specs.declared.line.Line.{Line}
+use Rattle.gpu_trace_lines.specs.declared.line.Line.TheVariants as lines
 use Rattle.gpu_session.specs.declared.stage.Outcome.{Outcome}
 use Rattle.gpu_session.specs.declared.stage.Outcome.TheVariants.{Nothing, Replied, Bad}
 use Rattle.gpu_session.specs.declared.stage.Stage.{Stage}
-use Rattle.gpu_session.specs.Words.{words_of}
-use Rattle.gpu_session.specs.BlockCommand as block
-use Rattle.gpu_session.specs.Setting as setting
-use Rattle.gpu_session.specs.Ask as ask
-use Rattle.gpu_session.specs.Line.{IsBlank, IsRemark, IsSaid, Reads, Means}
-use Rattle.gpu_session.specs.Sort.{Sort, opens_block, uses_block, reports, describes, sets_page, sets_sizes, makes, asks, destroys, says_nothing, sort_of, sort_of_command, sort_of_setting}
+use Rattle.gpu_trace_lines.specs.Words.{words_of}
+use Rattle.gpu_trace_lines.specs.BlockCommand as block
+use Rattle.gpu_trace_lines.specs.Setting as setting
+use Rattle.gpu_trace_lines.specs.Ask as ask
+use Rattle.gpu_trace_lines.specs.Line.{IsBlank, IsRemark, IsSaid, Reads, Means}
+use Rattle.gpu_trace_lines.specs.Sort.{Sort, opens_block, uses_block, reports, describes, sets_page, sets_sizes, makes, asks, destroys, says_nothing, sort_of, sort_of_command, sort_of_setting}
 use Rattle.gpu_session.specs.Stage.{Admits, AdmitsSort, Does}
 use Rattle.gpu_session.specs.Run.{Serves}
 

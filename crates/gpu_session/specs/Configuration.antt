@@ -7,8 +7,8 @@ use Rattle.gpu_device.specs.declared.vulkan.types.MemoryHeap.{MemoryHeap}
 use Rattle.gpu_device.specs.declared.vulkan.types.MemoryTypeInfo.{MemoryTypeInfo}
 use Rattle.gpu_sim.specs.Plan.{Plan}
 use Rattle.gpu_sim.specs.declared.refusal.Refusal.{Refusal}
-use Rattle.gpu_session.specs.declared.device.setting.Setting.{Setting}
-use Rattle.gpu_session.specs.declared.device.setting.Setting.TheVariants.{Heap, MemoryType, Granularity, Sizes as BlockSizes, Refuse}
+use Rattle.gpu_trace_lines.specs.declared.device.setting.Setting.{Setting}
+use Rattle.gpu_trace_lines.specs.declared.device.setting.Setting.TheVariants.{Heap, MemoryType, Granularity, Sizes as BlockSizes, Refuse}
 
 pub record Configured : Type 0 where
   pub heaps : List MemoryHeap

@@ -1,16 +1,3 @@
-pub mod Words
-pub mod ErrorNumber
-pub mod BlockCommand
-pub mod BlockReply
-pub mod BlockSession
-pub mod BlockStage
-pub mod Line
-pub mod Run
-pub mod Hex
-pub mod Sort
-pub mod Setting
-pub mod Ask
-pub mod DeviceReply
 pub mod Configuration
-pub mod Reply
 pub mod Stage
+pub mod Run

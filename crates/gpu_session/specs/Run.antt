@@ -3,15 +3,15 @@ use Rattle.std.specs.Prelude.{◌≡◌, ℕ, suc, ◌<◌, ◌≤◌, ◌⊎◌
 use Rattle.std.specs.List.{flat_map, slice_split}
 use Rattle.std.specs.Fmt.{decimal}
 use Rattle.std.specs.Io.KnownBytes.{Appends}
-use Rattle.gpu_session.specs.declared.line.Line.{Line}
-use Rattle.gpu_session.specs.declared.reply.Reply.{Reply}
+use Rattle.gpu_trace_lines.specs.declared.line.Line.{Line}
+use Rattle.gpu_trace_lines.specs.declared.reply.Reply.{Reply}
 use Rattle.gpu_session.specs.declared.run.TheConstants.{LIMIT}
 use Rattle.gpu_session.specs.declared.stage.Outcome.{Outcome}
 use Rattle.gpu_session.specs.declared.stage.Outcome.TheVariants.{Nothing, Replied, Bad}
 use Rattle.gpu_session.specs.declared.stage.Stage.{Stage}
 use Rattle.gpu_session.specs.declared.stage.Stage.TheVariants.{Before}
-use Rattle.gpu_session.specs.Line.{Means}
-use Rattle.gpu_session.specs.Reply.{reply_line}
+use Rattle.gpu_trace_lines.specs.Line.{Means}
+use Rattle.gpu_trace_lines.specs.Reply.{reply_line}
 use Rattle.gpu_session.specs.Stage.{Admits, Quietly, Step}
 
 -- a line that may not come next, however it is read

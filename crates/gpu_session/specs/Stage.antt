@@ -1,5 +1,5 @@
 -- A trace from its first line on: which line may come, its reply, and the stage that it leaves.
-use Rattle.std.specs.Prelude.{◌≡◌, Bool, true, false, [], All, Option, Some, None}
+use Rattle.std.specs.Prelude.{◌≡◌, Bool, true, false, [], length, All, Option, Some, None}
 use Rattle.std.specs.FinMap.{empty, len as map_len}
 use Rattle.std.specs.Option.{unwrap_or}
 use Rattle.gpu_core.specs.Refusal.{refusal_of, host_out_of_memory}
@@ -12,24 +12,24 @@ use Rattle.gpu_allocator.specs.Blocks.{HoldsJustLiveBlocks}
 use Rattle.gpu_allocator.specs.Setup.{setup_fault}
 use Rattle.gpu_vulkan_session.specs.Session as orders
 use Rattle.gpu_vulkan_session.specs.Served.{SessionValue, order_of, told_of, session_of, IsServed}
-use Rattle.gpu_session.specs.declared.block.command.Command as block_commands
-use Rattle.gpu_session.specs.declared.block.command.Command.TheVariants as commands
-use Rattle.gpu_session.specs.declared.block.stage.Stage.TheVariants as block_stages
-use Rattle.gpu_session.specs.declared.device.reply.Reply as device_replies
-use Rattle.gpu_session.specs.declared.device.reply.Reply.TheVariants.{Made, Served, Held, Refused}
-use Rattle.gpu_session.specs.declared.line.Line.{Line}
-use Rattle.gpu_session.specs.declared.line.Line.TheVariants as lines
-use Rattle.gpu_session.specs.declared.reply.Reply.{Reply}
-use Rattle.gpu_session.specs.declared.reply.Reply.TheVariants as replies
+use Rattle.gpu_trace_lines.specs.declared.block.command.Command as block_commands
+use Rattle.gpu_trace_lines.specs.declared.block.command.Command.TheVariants as commands
+use Rattle.gpu_block_session.specs.declared.stage.Stage.TheVariants as block_stages
+use Rattle.gpu_trace_lines.specs.declared.device.reply.Reply as device_replies
+use Rattle.gpu_trace_lines.specs.declared.device.reply.Reply.TheVariants.{Made, Served, Held, Refused}
+use Rattle.gpu_trace_lines.specs.declared.line.Line.{Line}
+use Rattle.gpu_trace_lines.specs.declared.line.Line.TheVariants as lines
+use Rattle.gpu_trace_lines.specs.declared.reply.Reply.{Reply}
+use Rattle.gpu_trace_lines.specs.declared.reply.Reply.TheVariants as replies
 use Rattle.gpu_session.specs.declared.stage.Outcome.{Outcome}
 use Rattle.gpu_session.specs.declared.stage.Outcome.TheVariants.{Nothing, Replied, Bad}
 use Rattle.gpu_session.specs.declared.stage.Stage.{Stage}
 use Rattle.gpu_session.specs.declared.stage.Stage.TheVariants.{Before, Block, Configuring, Device, Closed}
-use Rattle.gpu_session.specs.BlockCommand.{Fits as FitsBlock}
-use Rattle.gpu_session.specs.BlockStage as block
-use Rattle.gpu_session.specs.Sort.{Sort, opens_block, reports, describes, sets_page, sets_sizes, makes, asks, destroys, sort_of}
+use Rattle.gpu_trace_lines.specs.BlockCommand.{Fits as FitsBlock}
+use Rattle.gpu_block_session.specs.BlockStage as block
+use Rattle.gpu_trace_lines.specs.Sort.{Sort, opens_block, reports, describes, sets_page, sets_sizes, makes, asks, destroys, sort_of}
 use Rattle.gpu_session.specs.Configuration.{Configured, nothing_configured, configured_by, properties_by, plan_by, sizes_by}
-use Rattle.gpu_session.specs.ErrorNumber.{number_of}
+use Rattle.gpu_trace_lines.specs.ErrorNumber.{number_of}
 
 -- what contracts see of the simulated device
 abbrev pub simulated : Ghosts SimVulkan
@@ -47,8 +47,10 @@ pub record IsSound (s : SessionValue SimVulkan) : Type 0 where
 
 -- a session in which no number stands for anything, over a fresh allocator of that configuration
 pub record IsFresh (c : Configured) (s : SessionValue SimVulkan) : Type 0 where
+  pub valid : setup_fault 1 (properties_by c) ≡ None
   pub unbound : s.bound ≡ []
   pub setup : s.allocator.setup ≡ record { properties = properties_by c; sizes = sizes_by c; debug = silent; device_address = false }
+  pub types : length s.allocator.slots ≡ length c.types
   pub empty_types : All (λ slots. slots ≡ []) s.allocator.slots
   pub first : s.allocator.device ≡ s.allocator.first
   pub plan : plan_of s.allocator.first ≡ plan_by c

@@ -2,13 +2,12 @@
 
 ghost use Rattle.std.specs.Prelude.{◌≡◌, ◌≤◌, ℕ, ◌+◌, Some, IfOk, OnOk, IfSome, take};
 ghost use Rattle.std.specs.Io.KnownBytes.{Appends};
-ghost use Rattle.gpu_session.specs.Words.{texts};
-ghost use Rattle.gpu_session.specs.Reply.{reply_line};
+ghost use Rattle.gpu_trace_lines.specs.Words.{texts};
+ghost use Rattle.gpu_trace_lines.specs.Reply.{reply_line};
 ghost use Rattle.gpu_session.specs.Run.{Serves, HasRun, Answers, bad_text, outcome_text, lines_of};
 
-use crate::line;
-use crate::reply::Reply;
 use crate::stage::{Outcome, Stage};
+use gpu_trace_lines::{Reply, read};
 use log::Log;
 use std::alloc::{AllocError, Global};
 use std::io;
@@ -56,7 +55,7 @@ fn serve<L: Log>(
 ) -> Result<(Stage, Outcome), AllocError>
     ensures { IfOk result (λ r. Serves stage line.now r.1 r.0) }
 {
-    match line::read(alloc, line) {
+    match read(alloc, line) {
         Ok(line) => stage.serve(log, alloc, line),
         Err(error) => {
             stage.end(log);

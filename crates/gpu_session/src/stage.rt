@@ -1,30 +1,28 @@
 //! How far a trace has come.
 
 ghost use Rattle.std.specs.Prelude.{◌≡◌, IfOk, MatchOption};
-ghost use Rattle.gpu_session.specs.BlockCommand.{Fits};
+ghost use Rattle.gpu_trace_lines.specs.BlockCommand.{Fits};
 ghost use Rattle.gpu_session.specs.Configuration.{nothing_configured};
 ghost use Rattle.gpu_vulkan_session.specs.Served.{order_of};
 ghost use Rattle.gpu_session.specs.Stage.{IsSound, Begins, Does, MatchServed, FitsLine, is_bad};
-ghost use Rattle.gpu_session.specs.declared.block.stage.Stage.TheVariants as block_stages;
+ghost use Rattle.gpu_block_session.specs.declared.stage.Stage.TheVariants as block_stages;
 
-use crate::block::command::Command;
-use crate::block::stage as block;
-use crate::device::configuration::Configuration;
-use crate::device::reply as device;
-use crate::device::setting::Setting;
-use crate::error_number::number_of;
-use crate::line::Line;
-use crate::reply::Reply;
+use crate::configuration::Configuration;
 use gpu_allocator::AllocatorDebugSettings;
 use gpu_allocator::vulkan::{Allocator, AllocatorCreateDesc, PhysicalDevice};
+use gpu_block_session as block;
 use gpu_sim::SimVulkan;
+use gpu_trace_lines::block::command::Command;
+use gpu_trace_lines::device::reply as device;
+use gpu_trace_lines::device::setting::Setting;
+use gpu_trace_lines::{Line, Reply, number_of};
 use gpu_vulkan_session::{Command as Ask, Session};
 use log::Log;
 use std::alloc::{AllocError, Global};
 
 /// How far a trace has come. It must be ended.
 pub enum Stage {
-    /// No command came yet.
+    /// Only blank lines came yet.
     Before,
     /// In a block trace.
     Block(block::Stage),
@@ -32,7 +30,7 @@ pub enum Stage {
     Configuring(Configuration),
     /// In a device trace whose allocator is made.
     Device(Session<SimVulkan>),
-    /// Nothing may follow.
+    /// Only blank lines may follow.
     Closed,
 }
 
@@ -45,7 +43,7 @@ pub enum Outcome {
 }
 
 impl Outcome {
-    /// Whether the trace ends here.
+    /// Whether the line is bad, so that the trace stops here.
     pub fn is_bad(&self) -> bool
         ensures { result ≡ is_bad self.now }
     {

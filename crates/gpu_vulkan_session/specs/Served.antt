@@ -12,11 +12,11 @@ use Rattle.gpu_allocator.specs.Untouched.{LeavesMemory}
 use Rattle.gpu_allocator.specs.Step.{model_of, count_after, latest_after}
 use Rattle.gpu_allocator.specs.declared.vulkan.allocation.Allocation.{Allocation}
 use Rattle.gpu_vulkan_session.specs.Session.{SessionState, Order, Shown, Told, Chances, Take, TakeNull, Return, Rename, Put, Get, Under, Report, Leaks, Capacity, Given, Fine, Data, Shows, Tells, Sum, Busy, Unbound, Unmapped, Past, Fails, Serves, Runs}
-use Rattle.gpu_vulkan_session.specs.declared.command.Command.{Command}
-use Rattle.gpu_vulkan_session.specs.declared.command.Command.TheVariants as commands
-use Rattle.gpu_vulkan_session.specs.declared.reply.Reply.{Reply}
-use Rattle.gpu_vulkan_session.specs.declared.reply.Reply.TheVariants as replies
-use Rattle.gpu_vulkan_session.specs.declared.reply.Given.{Given as GivenPiece}
+use Rattle.gpu_session_values.specs.declared.command.Command.{Command}
+use Rattle.gpu_session_values.specs.declared.command.Command.TheVariants as commands
+use Rattle.gpu_session_values.specs.declared.reply.Reply.{Reply}
+use Rattle.gpu_session_values.specs.declared.reply.Reply.TheVariants as replies
+use Rattle.gpu_session_values.specs.declared.reply.Given.{Given as GivenPiece}
 
 abbrev pub order_of : Command → Order
 order_of (commands.Alloc key requirements location linear scheme name) =

@@ -1,11 +1,8 @@
 //! Sessions: a Vulkan allocator whose allocations stand under the caller's own numbers, and that serves lists of commands.
 #![tactic(auto)]
 
-mod command;
 pub mod laws;
-mod reply;
 mod session;
 
-pub use command::Command;
-pub use reply::{Given, Reply};
+pub use gpu_session_values::{Command, Given, Reply};
 pub use session::Session;

@@ -9,10 +9,9 @@ ghost use Rattle.gpu_vulkan_session.specs.Session.{IsOwn, IsKept, Wanted, Descri
 ghost use Rattle.gpu_vulkan_session.specs.Session as orders;
 ghost use Rattle.gpu_vulkan_session.specs.Served.{session_of, order_of, told_of, shown_allocation, IsServed, IsRun, ServesEach};
 
-use crate::command::Command;
-use crate::reply::{Given, Reply};
 use gpu_allocator::vulkan::{Allocation, AllocationCreateDesc, Allocator, VulkanDevice};
 use gpu_allocator::{AllocationError, Result};
+use gpu_session_values::{Command, Given, Reply};
 use log::Log;
 use std::alloc::Global;
 use std::collections::HashMap;

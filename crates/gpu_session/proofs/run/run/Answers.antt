@@ -1,5 +1,5 @@
 use Rattle.std.proofs.Common.{rules, ◌≡◌, ◌∙◌, ap, ◌<◌, ◌≤◌, length}
-use Rattle.gpu_session.specs.Words.{texts}
+use Rattle.gpu_trace_lines.specs.Words.{texts}
 use Rattle.gpu_session.specs.Run.{lines_of}
 use Rattle.gpu_session.specs.declared.run.TheConstants.{LIMIT}
 use Rattle.gpu_session.proofs.Input.{too_long, all_read}

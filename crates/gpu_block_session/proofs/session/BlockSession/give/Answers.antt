@@ -1,0 +1,28 @@
+use Rattle.std.proofs.Common.{◌≡◌, ◌∙◌, sym, subst, Some}
+use Rattle.std.specs.Int.NonZero.{non_zero_u64_get}
+use Rattle.gpu_core.specs.Block.{ReleasesIn, IsSoundBlock}
+use Rattle.gpu_core.specs.SubAllocator.{block_of}
+use Rattle.gpu_block_session.specs.BlockSession.{State, piece_at, Giving}
+use Rattle.gpu_trace_lines.specs.declared.block.reply.Reply.TheVariants.{Given}
+use Rattle.gpu_block_session.proofs.Owning.{owns_released, released_size}
+use Rattle.gpu_block_session.proofs.session.BlockSession.give.Goals as goal
+use Rattle.gpu_block_session.proofs.session.BlockSession.give.Goals.{After-unwrap}
+
+abbrev before : After-unwrap → State
+before c = record { block = block_of c.self.inside.block; bound = c.self.inside.bound.entries }
+
+bound_before : (c : After-unwrap) → piece_at (before c) c.args.key ≡ Some c.in-Some.chunk
+bound_before c = sym c.remove.ensures.value ∙ c.in-Some.is
+
+the_release : (c : After-unwrap) → ReleasesIn (block_of c.self.inside.block) (non_zero_u64_get c.in-Some.chunk) (block_of c.free.new.self)
+the_release c = rw c.unwrap.ensures at c.free.ensures.freed
+
+the_soundness : (c : After-unwrap) → IsSoundBlock (block_of c.free.new.self)
+the_soundness c = rw c.unwrap.ensures at c.free.ensures.sound
+
+pub invariant_of-self : goal.invariant_of-self
+invariant_of-self c = (released_size (block_of c.self.inside.block) (non_zero_u64_get c.in-Some.chunk) (block_of c.free.new.self) (the_release c) ∙ c.self.invariant.0, c.free.ensures.pages c.self.inside.granularity c.self.invariant.1, owns_released (before c) c.args.key c.in-Some.chunk (block_of c.free.new.self) c.remove.new.self.entries c.self.invariant.2 (bound_before c) (the_release c) (the_soundness c) c.remove.ensures.updates.0)
+
+pub returns-in-Some : goal.returns-in-Some
+returns-in-Some c =
+    subst (λ s. Giving s c.args.key Given (record { block = block_of c.free.new.self; bound = c.remove.new.self.entries })) c.self.view_is (c.in-Some.chunk, bound_before c, the_release c, c.remove.ensures.entries)

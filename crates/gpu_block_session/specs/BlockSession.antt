@@ -1,0 +1,96 @@
+-- A block whose pieces are bound to numbers of the caller's, and what may be answered.
+use Rattle.std.specs.Prelude.{◌≡◌, ◌≢◌, ℕ, ◌<◌, List, [], Option, Some, None, IsTrue, Contains, map, true}
+use Rattle.std.specs.Ordering.{nat_cmp}
+use Rattle.std.specs.Int.{is_power_of_two}
+use Rattle.std.specs.Int.NonZero.{non_zero_u64_get}
+use Rattle.std.specs.declared.num.NonZeroU64.{NonZeroU64}
+use Rattle.std.specs.BTreeMap.{insert_entry, is_at}
+use Rattle.std.specs.Map.{lookup, remove_entry}
+use Rattle.gpu_values.specs.declared.error.AllocationError.TheVariants.{OutOfMemory}
+use Rattle.gpu_core.specs.FreeList.{Extent, fresh_free_list}
+use Rattle.gpu_core.specs.Request.{Request}
+use Rattle.gpu_core.specs.Block.{Block, free_list, extents_of, size_of, allocated_bytes, is_general, TakesIn, ReleasesIn, IsTakeRefusalIn, IsSoundBlock}
+use Rattle.gpu_core.specs.Report.{row_of}
+use Rattle.gpu_core.specs.Rows.{extent_row}
+use Rattle.gpu_trace_lines.specs.declared.block.reply.Report.{Report}
+use Rattle.gpu_trace_lines.specs.declared.error_number.ErrorNumber.{ErrorNumber}
+use Rattle.gpu_trace_lines.specs.declared.error_number.ErrorNumber.TheVariants.{E1, E2, E3, E4, E5, E6, E7, E8, E9, E10}
+use Rattle.gpu_trace_lines.specs.declared.block.reply.Reply.{Reply}
+use Rattle.gpu_trace_lines.specs.declared.block.reply.Reply.TheVariants as replies
+
+-- the block, and the numbers of its pieces by the caller's numbers, in the order of these
+pub record State : Type 0 where
+  pub block : Block
+  pub bound : List (ℕ × NonZeroU64)
+
+abbrev pub unused : ℕ → ℕ → State
+unused size granularity = record { block = free_list (fresh_free_list size granularity 2); bound = [] }
+
+-- the piece that a number of the caller's stands for
+abbrev pub piece_at : State → ℕ → Option NonZeroU64
+piece_at s key = lookup (is_at (nat_cmp key)) s.bound
+
+abbrev pub SomePiece : State → (Extent → Type 0) → Type 0
+SomePiece s P = (x : Extent) × Contains (extents_of s.block) x × P x
+
+-- each bound number is a live piece's, and no two of the caller's numbers stand for one piece
+pub record OwnsPieces (s : State) : Type 0 where
+  pub general : is_general s.block ≡ true
+  pub sound : IsSoundBlock s.block
+  pub live : (key : ℕ) (n : NonZeroU64) → piece_at s key ≡ Some n → SomePiece s (λ x. x.number ≡ non_zero_u64_get n)
+  pub apart : (j k : ℕ) (n m : NonZeroU64) → piece_at s j ≡ Some n → piece_at s k ≡ Some m → non_zero_u64_get n ≡ non_zero_u64_get m → j ≡ k
+
+-- what may be asked of a block
+abbrev pub IsValid : Request → Type 0
+IsValid r = (0 < r.size) × IsTrue (is_power_of_two r.alignment)
+
+-- which errors a request may meet
+abbrev pub RefusesTake : Block → Request → ErrorNumber → Type 0
+RefusesTake b r E1 = IsValid r × IsTakeRefusalIn b r OutOfMemory
+RefusesTake b r E4 = IsValid r → ⊥
+RefusesTake b r E10 = IsValid r
+RefusesTake b r E2 = ⊥
+RefusesTake b r E3 = ⊥
+RefusesTake b r E5 = ⊥
+RefusesTake b r E6 = ⊥
+RefusesTake b r E7 = ⊥
+RefusesTake b r E8 = ⊥
+RefusesTake b r E9 = ⊥
+
+-- a request under a number of the caller's, its reply, and the state that it leaves
+abbrev pub Taking : State → ℕ → Request → Reply → State → Type 0
+Taking old key r replies.Busy new = (piece_at old key ≢ None) × (new ≡ old)
+Taking old key r (replies.Taken offset chunk) new = (piece_at old key ≡ None) × IsValid r
+    × TakesIn old.block r offset (non_zero_u64_get chunk) new.block × (new.bound ≡ insert_entry nat_cmp old.bound key chunk)
+Taking old key r (replies.Refused number) new = (piece_at old key ≡ None) × RefusesTake old.block r number × (new ≡ old)
+Taking old key r (replies.Block size) new = ⊥
+Taking old key r replies.Given new = ⊥
+Taking old key r replies.Unbound new = ⊥
+Taking old key r (replies.Report report) new = ⊥
+
+-- a piece is given back, if the number stands for one
+abbrev pub Giving : State → ℕ → Reply → State → Type 0
+Giving old key replies.Given new = (chunk : NonZeroU64) × (piece_at old key ≡ Some chunk)
+    × ReleasesIn old.block (non_zero_u64_get chunk) new.block × (new.bound ≡ remove_entry (is_at (nat_cmp key)) old.bound)
+Giving old key replies.Unbound new = (piece_at old key ≡ None) × (new ≡ old)
+Giving old key (replies.Taken offset chunk) new = ⊥
+Giving old key (replies.Refused number) new = ⊥
+Giving old key (replies.Block size) new = ⊥
+Giving old key replies.Busy new = ⊥
+Giving old key (replies.Report report) new = ⊥
+
+-- the live pieces by offset, the bytes that they take with their padding, and the size of the block
+pub record Shows (s : State) (r : Report) : Type 0 where
+  pub pieces : map row_of r.pieces.items ≡ map extent_row (extents_of s.block)
+  pub total : r.total ≡ allocated_bytes s.block
+  pub capacity : r.capacity ≡ size_of s.block
+
+-- a report changes nothing; host memory for it may be refused
+abbrev pub Reporting : State → Reply → Type 0
+Reporting s (replies.Report report) = Shows s report
+Reporting s (replies.Refused number) = number ≡ E10
+Reporting s (replies.Taken offset chunk) = ⊥
+Reporting s (replies.Block size) = ⊥
+Reporting s replies.Given = ⊥
+Reporting s replies.Busy = ⊥
+Reporting s replies.Unbound = ⊥

@@ -1,0 +1,2 @@
+pub mod BlockSession
+pub mod BlockStage

@@ -1,0 +1,164 @@
+//! A block whose pieces are bound to numbers of the caller's.
+
+ghost use Rattle.std.specs.Prelude.{◌≡◌, ◌≢◌, ℕ, ◌<◌, IsTrue, None, true};
+ghost use Rattle.std.specs.Ordering.{nat_cmp};
+ghost use Rattle.std.specs.Int.{is_power_of_two};
+ghost use Rattle.std.specs.BTreeMap.{get};
+ghost use Rattle.gpu_core.specs.Request.{request};
+ghost use Rattle.gpu_core.specs.Block.{is_general, HasPages, IsSoundBlock};
+ghost use Rattle.gpu_core.specs.SubAllocator.{block_of};
+ghost use Rattle.gpu_block_session.specs.BlockSession.{Taking};
+
+use gpu_core::{AllocationType, FreeListAllocator, SubAllocator};
+use gpu_trace_lines::block::command::Kind;
+use gpu_trace_lines::block::reply::{Reply, Report};
+use gpu_trace_lines::{ErrorNumber, number_of};
+use std::alloc::Global;
+use std::collections::BTreeMap;
+use std::collections::btree_map::Entry;
+use std::marker::Model;
+use std::num::NonZeroU64;
+
+/// What is asked of a block, but for the name. Sizes are bytes.
+#[derive(Clone, Copy)]
+struct Wanted {
+    size: u64,
+    alignment: u64,
+    kind: AllocationType,
+    granularity: u64,
+}
+
+/// A block whose pieces are bound to numbers of the caller's. It gives back its own pieces alone, so giving back
+/// always succeeds.
+#[derive(Drop)]
+pub struct BlockSession {
+    size: u64,
+    granularity: u64,
+    block: SubAllocator,
+    bound: BTreeMap<u64, NonZeroU64>,
+}
+
+impl Model for BlockSession {
+    ghost use Rattle.std.specs.Prelude.{◌≡◌};
+    ghost use Rattle.gpu_block_session.specs.BlockSession.{State, OwnsPieces};
+    ghost use Rattle.gpu_core.specs.Block.{size_of, HasPages};
+    ghost use Rattle.gpu_core.specs.SubAllocator.{block_of};
+
+    ghost Value = { State };
+
+    ghost view = { λ s. record { block = block_of s.block; bound = s.bound.entries } };
+
+    ghost invariant = { λ s. (size_of (block_of s.block) ≡ s.size) × HasPages (block_of s.block) s.granularity
+        × OwnsPieces (record { block = block_of s.block; bound = s.bound.entries }) };
+}
+
+impl BlockSession {
+    ghost use Rattle.std.specs.Prelude.{◌≡◌, ◌<◌, IsTrue, IfOk, IfErr};
+    ghost use Rattle.std.specs.Int.{is_power_of_two};
+    ghost use Rattle.gpu_core.specs.Request.{request};
+    ghost use Rattle.gpu_values.specs.declared.error.AllocationError.TheVariants.{HostOutOfMemory};
+    ghost use Rattle.gpu_trace_lines.specs.BlockCommand.{type_of_kind};
+    ghost use Rattle.gpu_block_session.specs.BlockSession.{unused, Taking, Giving, Reporting};
+
+    /// A block of `size` bytes without pieces. The only refusal is `HostOutOfMemory`.
+    pub fn new(alloc: Global, size: u64, granularity: u64) -> gpu_core::Result<BlockSession>
+        requires sized { 0 < size }
+        requires paged { IsTrue (is_power_of_two granularity) }
+        ensures fresh { IfOk result (λ s. s ≡ unused size granularity) }
+        ensures cause { IfErr result (λ e. e ≡ HostOutOfMemory) }
+    {
+        Ok(BlockSession {
+            size,
+            granularity,
+            block: SubAllocator::FreeList(FreeListAllocator::new(alloc, size, granularity)?),
+            bound: BTreeMap::new(alloc),
+        })
+    }
+
+    /// Takes a piece under the caller's number.
+    pub fn take(&mut self, key: u64, size: u64, alignment: u64, kind: Kind, name: &str) -> Reply
+        ensures { Taking self.old key (request size alignment (type_of_kind kind) name.now) result self.new }
+    {
+        if self.bound.contains_key(&key) {
+            return Reply::Busy;
+        }
+        if size == 0 || !alignment.is_power_of_two() {
+            return Reply::Refused(ErrorNumber::E4);
+        }
+        let wanted = Wanted {
+            size,
+            alignment,
+            kind: kind.allocation_type(),
+            granularity: self.granularity,
+        };
+        take_unbound(&mut self.block, &mut self.bound, key, wanted, name)
+    }
+
+    /// Gives back the piece that the caller's number stands for. It takes no memory.
+    pub fn give(&mut self, key: u64) -> Reply
+        ensures { Giving self.old key result self.new }
+    {
+        match self.bound.remove(&key) {
+            Some(chunk) => {
+                self.block.free(Some(chunk)).unwrap();
+                Reply::Given
+            }
+            None => Reply::Unbound,
+        }
+    }
+
+    /// The live pieces, and the sums.
+    pub fn report(&self) -> Reply
+        ensures { Reporting self.now result }
+    {
+        let Ok(pieces) = self.block.report_allocations() else {
+            return Reply::Refused(ErrorNumber::E10);
+        };
+        Reply::Report(Report {
+            pieces,
+            total: self.block.allocated(),
+            capacity: self.size,
+        })
+    }
+}
+
+/// Takes a piece, and binds the key, which stands for none, to it. Room for the key is made first.
+fn take_unbound(
+    block: &mut SubAllocator,
+    bound: &mut BTreeMap<u64, NonZeroU64>,
+    key: u64,
+    wanted: Wanted,
+    name: &str,
+) -> Reply
+    requires sized { 0 < wanted.size }
+    requires aligned { IsTrue (is_power_of_two wanted.alignment) }
+    requires piece { wanted.kind ≢ AllocationType.Free }
+    requires paged { HasPages (block_of block.old) wanted.granularity }
+    requires general { is_general (block_of block.old) ≡ true }
+    requires unbound { get nat_cmp bound.old key ≡ None }
+    ensures taking { Taking (record { block = block_of block.old; bound = bound.old.entries }) key
+        (request wanted.size wanted.alignment wanted.kind name.now) result
+        (record { block = block_of block.new; bound = bound.new.entries }) }
+    ensures sound { IsSoundBlock (block_of block.old) → IsSoundBlock (block_of block.new) }
+    ensures pages { (g : ℕ) → HasPages (block_of block.old) g → HasPages (block_of block.new) g }
+{
+    match bound.entry(key) {
+        Err(_) => Reply::Refused(ErrorNumber::E10),
+        Ok(Entry::Occupied(_)) => unreachable!(),
+        Ok(Entry::Vacant(place)) => {
+            let Wanted {
+                size,
+                alignment,
+                kind,
+                granularity,
+            } = wanted;
+            match block.allocate(size, alignment, kind, granularity, name) {
+                Ok((offset, chunk)) => {
+                    place.insert(chunk);
+                    Reply::Taken { offset, chunk }
+                }
+                Err(error) => Reply::Refused(number_of(&error)),
+            }
+        }
+    }
+}

@@ -1,0 +1,5 @@
+pub mod Numbers
+pub mod Commands
+pub mod Hexed
+pub mod Canonical
+pub mod Settings

@@ -1,0 +1,11 @@
+pub mod Words
+pub mod ErrorNumber
+pub mod BlockCommand
+pub mod BlockReply
+pub mod Hex
+pub mod Setting
+pub mod Ask
+pub mod DeviceReply
+pub mod Line
+pub mod Sort
+pub mod Reply

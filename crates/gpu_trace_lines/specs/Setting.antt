@@ -1,0 +1,41 @@
+-- What a configuration line of a device trace says. Each has one spelling: its words, with decimal numbers and no leading zeros.
+use Rattle.std.specs.Prelude.{◌≡◌, ℕ, ◌<◌, ◌^◌, List, [], ◌∷◌, Option, Some, None, codes, FitsSigned}
+use Rattle.std.specs.Int.{w32}
+use Rattle.std.specs.Fmt.{decimal, signed_decimal}
+use Rattle.gpu_sim.specs.declared.refusal.Refusal.{Refusal}
+use Rattle.gpu_sim.specs.declared.refusal.Refusal.TheVariants.{Code, Null}
+use Rattle.gpu_trace_lines.specs.declared.device.setting.Setting.{Setting}
+use Rattle.gpu_trace_lines.specs.declared.device.setting.Setting.TheVariants.{Heap, MemoryType, Granularity, Sizes, Refuse}
+
+abbrev pub refusal_word : Refusal → List ℕ
+refusal_word (Code code) = signed_decimal code
+refusal_word Null = codes "null"
+
+abbrev pub words : Setting → List (List ℕ)
+words (Heap size) = codes "heap" ∷ decimal size ∷ []
+words (MemoryType flags heap) = codes "type" ∷ decimal flags ∷ decimal heap ∷ []
+words (Granularity bytes) = codes "granularity" ∷ decimal bytes ∷ []
+words (Sizes device host max_device max_host) = codes "sizes" ∷ decimal device ∷ decimal host ∷ decimal max_device ∷ decimal max_host ∷ []
+words (Refuse question refusal) = codes "refuse" ∷ decimal question ∷ refusal_word refusal ∷ []
+
+abbrev pub FitsRefusal : Refusal → Type 0
+FitsRefusal (Code code) = FitsSigned w32 code
+FitsRefusal Null = Unit {0}
+
+-- what its numbers may be; questions are counted from 1
+abbrev pub Fits : Setting → Type 0
+Fits (Heap size) = size < 2 ^ 64
+Fits (MemoryType flags heap) = (flags < 2 ^ 32) × (heap < 2 ^ 32)
+Fits (Granularity bytes) = bytes < 2 ^ 64
+Fits (Sizes device host max_device max_host) = (device < 2 ^ 64) × (host < 2 ^ 64) × (max_device < 2 ^ 64) × (max_host < 2 ^ 64)
+Fits (Refuse question refusal) = (0 < question) × (question < 2 ^ 64) × FitsRefusal refusal
+
+-- these words are the setting's
+pub record Spells (line : List (List ℕ)) (s : Setting) : Type 0 where
+  pub is : line ≡ words s
+  pub fits : Fits s
+
+-- the words are this setting's, or no setting's
+abbrev pub Says : List (List ℕ) → Option Setting → Type 0
+Says line (Some s) = Spells line s
+Says line None = (s : Setting) → Spells line s → ⊥

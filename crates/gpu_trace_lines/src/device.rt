@@ -1,0 +1,7 @@
+//! Device traces: configuration lines, commands to an allocator over the simulated device, and the replies.
+
+mod ask;
+pub mod reply;
+pub mod setting;
+
+pub(crate) use ask::command_of;

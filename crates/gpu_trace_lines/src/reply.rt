@@ -1,0 +1,26 @@
+//! What is answered to a line of a trace.
+
+use crate::block::reply as block;
+use crate::device::reply as device;
+use std::fmt;
+
+/// The answer to a line of a trace.
+#[derive(Drop)]
+pub enum Reply {
+    Block(block::Reply),
+    Device(device::Reply),
+}
+
+impl fmt::Display for Reply {
+    ghost use Rattle.std.specs.Prelude.{Some};
+    ghost use Rattle.gpu_trace_lines.specs.Reply.{reply_text};
+
+    ghost output = { λ r. Some (reply_text r) };
+
+    fn fmt<W: fmt::Write>(&self, f: &mut fmt::Formatter<W>) -> fmt::Result {
+        match self {
+            Reply::Block(reply) => write!(f, "{reply}"),
+            Reply::Device(reply) => write!(f, "{reply}"),
+        }
+    }
+}
