@@ -73,6 +73,13 @@ abbrev pub Ends : SessionValue SimVulkan → device_replies.Reply → Stage → 
 Ends s (Held count) Closed = count ≡ map_len (held_of s.allocator.first)
 Ends s _ _ = ⊥
 
+-- an allocator that is still there has given every block back
+abbrev pub Ended : Stage → Option SimVulkan → Type 0
+Ended (Device s) (Some device) = held_of device ≡ held_of s.allocator.first
+Ended (Device s) None = ⊥
+Ended _ (Some device) = ⊥
+Ended _ None = Unit {0}
+
 -- ---- a line with a reply
 
 abbrev pub ServesSaid : SessionValue SimVulkan → block_commands.Command → device_replies.Reply → Stage → Type 0

@@ -1,7 +1,7 @@
 //! The configuration of a device trace.
 
-ghost use Rattle.std.specs.Prelude.{◌≡◌, Some, None, IfOk, MatchOption};
-ghost use Rattle.gpu_session.specs.Configuration.{nothing_configured, configured_by, sizes_of, properties_by, sizes_by};
+ghost use Rattle.std.specs.Prelude.{◌≡◌};
+ghost use Rattle.gpu_session.specs.Configuration.{sizes_of};
 
 use gpu_allocator::AllocationSizes;
 use gpu_allocator::vulkan::{MemoryHeap, MemoryPropertyFlags, MemoryTypeInfo};
@@ -43,7 +43,7 @@ fn sizes_of(device: u64, host: u64, max_device: u64, max_host: u64) -> Allocatio
 }
 
 impl Configuration {
-    ghost use Rattle.std.specs.Prelude.{◌≡◌, IfOk, Some, None, true, false};
+    ghost use Rattle.std.specs.Prelude.{◌≡◌, IfOk, OnErr, Some, None, true, false};
     ghost use Rattle.std.specs.FinMap.{empty};
     ghost use Rattle.gpu_sim.specs.Simulation.{held_of, plan_of, refused_of, latest_of};
     ghost use Rattle.gpu_session.specs.Configuration.{nothing_configured, configured_by, plan_by, sizes_by};
@@ -61,9 +61,11 @@ impl Configuration {
         }
     }
 
-    /// Sets what a line says. Answers whether it could: a page size and block sizes are set once.
+    /// Sets what a line says. Answers whether it could: a page size and block sizes are set once. A refusal changes nothing.
     pub fn set(&mut self, setting: &Setting) -> Result<bool, AllocError>
-        ensures { IfOk result (λ set. (set ≡ true → configured_by self.old setting.now ≡ Some self.new) × (set ≡ false → (configured_by self.old setting.now ≡ None) × (self.new ≡ self.old))) }
+        ensures set { IfOk result (λ set. set ≡ true → configured_by self.old setting.now ≡ Some self.new) }
+        ensures not_set { IfOk result (λ set. set ≡ false → (configured_by self.old setting.now ≡ None) × (self.new ≡ self.old)) }
+        ensures refused { OnErr result (self.new ≡ self.old) }
     {
         match *setting {
             Setting::Heap { size } => self.heaps.push(MemoryHeap { size, flags: 0 })?,

@@ -58,7 +58,7 @@ fn serve<L: Log>(
     match read(alloc, line) {
         Ok(line) => stage.serve(log, alloc, line),
         Err(error) => {
-            stage.end(log);
+            let _ = stage.end(log);
             Err(error)
         }
     }
@@ -102,15 +102,15 @@ fn run_lines<W: Write, L: Log>(
         stage = next;
         let number = i as u64 + 1;
         if let Err(error) = write_outcome(writer, &outcome, number) {
-            stage.end(log);
+            let _ = stage.end(log);
             return Err(TraceError::Write(error));
         }
         if outcome.is_bad() {
-            stage.end(log);
+            let _ = stage.end(log);
             return Ok(Some(number));
         }
     }
-    stage.end(log);
+    let _ = stage.end(log);
     Ok(None)
 }
 

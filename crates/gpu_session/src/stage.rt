@@ -1,10 +1,9 @@
 //! How far a trace has come.
 
-ghost use Rattle.std.specs.Prelude.{◌≡◌, IfOk, MatchOption};
+ghost use Rattle.std.specs.Prelude.{◌≡◌, IfOk};
 ghost use Rattle.gpu_trace_lines.specs.BlockCommand.{Fits};
-ghost use Rattle.gpu_session.specs.Configuration.{nothing_configured};
 ghost use Rattle.gpu_vulkan_session.specs.Served.{order_of};
-ghost use Rattle.gpu_session.specs.Stage.{IsSound, Begins, Does, MatchServed, FitsLine, is_bad};
+ghost use Rattle.gpu_session.specs.Stage.{IsSound, Begins, Does, MatchServed, Ended, FitsLine, is_bad};
 ghost use Rattle.gpu_block_session.specs.declared.stage.Stage.TheVariants as block_stages;
 
 use crate::configuration::Configuration;
@@ -176,13 +175,13 @@ impl Stage {
         }
     }
 
-    /// Ends the trace: an allocator that is still there is destroyed.
-    pub fn end<L: Log>(self, log: &L) {
+    /// Ends the trace: an allocator that is still there is destroyed, and its device answered.
+    pub fn end<L: Log>(self, log: &L) -> Option<SimVulkan>
+        ensures { Ended self result }
+    {
         match self {
-            Stage::Before | Stage::Block(_) | Stage::Configuring(_) | Stage::Closed => {}
-            Stage::Device(session) => {
-                let _ = session.destroy(log);
-            }
+            Stage::Before | Stage::Block(_) | Stage::Configuring(_) | Stage::Closed => None,
+            Stage::Device(session) => Some(session.destroy(log)),
         }
     }
 }

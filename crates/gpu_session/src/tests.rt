@@ -1,6 +1,10 @@
 //! Tests of what no contract says: worked traces, bad lines, and readers and writers that fail.
 
 use crate::run::{LIMIT, run_trace};
+use crate::{Command, Reply, Session};
+use gpu_allocator::vulkan::{Allocator, AllocatorCreateDesc, PhysicalDevice};
+use gpu_allocator::{AllocationSizes, AllocatorDebugSettings};
+use gpu_sim::SimVulkan;
 use log::sink::Discard;
 use std::alloc::{AllocError, Global};
 use std::io;
@@ -14,6 +18,57 @@ fn check(rt: &impl Abort, alloc: Global, input: &[u8], output: &str, status: u8)
     let got = run_trace(&Discard, alloc, &mut reader, &mut written);
     assert_eq!(rt; written.as_slice(), output.as_bytes());
     assert_eq!(rt; got, status);
+}
+
+// ---- a session of one's own
+
+/// A session over a device without memory types.
+fn session(alloc: Global) -> Result<Session<SimVulkan>, Fail> {
+    let heaps = Vec::new(alloc);
+    let types = Vec::new(alloc);
+    let desc = AllocatorCreateDesc {
+        device: SimVulkan::new(alloc, heaps, types, 1, u64::MAX, Vec::new(alloc)),
+        physical_device: PhysicalDevice(1),
+        debug_settings: AllocatorDebugSettings::default(),
+        buffer_device_address: false,
+        allocation_sizes: AllocationSizes::default(),
+    };
+    match Allocator::new(&Discard, alloc, desc) {
+        Ok(allocator) => Ok(Session::new(alloc, allocator)),
+        Err((_, _)) => Err(Fail::from("the allocator can't be made")),
+    }
+}
+
+#[test]
+fn a_session_is_run_by_its_names_here(rt: HostRuntime) -> Result<(), Fail> {
+    let alloc = rt.alloc();
+    let mut commands = Vec::new(alloc);
+    for key in [1, 2, 1] {
+        commands.push(Command::Null { key })?;
+    }
+    for key in [1, 1] {
+        commands.push(Command::Free { key })?;
+    }
+    let mut session = session(alloc)?;
+    let replies = session.run(&Discard, &commands);
+    let device = session.destroy(&Discard);
+    assert_eq!(rt; device.held(), 0);
+    let Ok(replies) = replies else {
+        return Err(Fail::from("the session refused to run"));
+    };
+    assert!(rt;
+        matches!(
+            replies.as_slice(),
+            [
+                Reply::Done,
+                Reply::Done,
+                Reply::Busy,
+                Reply::Done,
+                Reply::Unbound
+            ]
+        )
+    );
+    Ok(())
 }
 
 // ---- whole traces

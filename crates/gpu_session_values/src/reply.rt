@@ -19,7 +19,8 @@ pub struct Given {
 }
 
 /// The reply to a command. Any but `Done` of `Free` and `Write`, `Capacity`, `Busy`, `Unbound`, `Unmapped` and `OutOfRange` may
-/// in its place be `Error(HostOutOfMemory)`; then the command changed nothing.
+/// in its place be `Error(HostOutOfMemory)`; then the command changed nothing but what the device counts of questions that it
+/// was asked before.
 #[derive(Drop)]
 pub enum Reply {
     /// The number stands for a new allocation.

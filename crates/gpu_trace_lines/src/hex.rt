@@ -1,7 +1,6 @@
 //! Bytes as lower-case hexadecimal digits.
 
 ghost use Rattle.std.specs.Prelude.{◌≡◌, ◌≢◌, ℕ, ◌+◌, ◌*◌, ◌<◌, List, [], ◌∷◌, Some, IfOk, MatchOption};
-ghost use Rattle.std.specs.Fmt.{DisplaysOnOk};
 ghost use Rattle.gpu_trace_lines.specs.Hex.{hex_digit, hex_byte, hex, AreBytes};
 
 use std::alloc::{AllocError, Global};

@@ -1,6 +1,6 @@
 //! What a line says.
 
-ghost use Rattle.std.specs.Prelude.{◌≡◌, ◌≢◌, ◌∷◌, [], IfOk, MatchOption};
+ghost use Rattle.std.specs.Prelude.{◌≡◌, ◌∷◌, [], IfOk, MatchOption};
 ghost use Rattle.std.specs.Str.{IsAscii};
 ghost use Rattle.gpu_trace_lines.specs.Line.{Means, Reads, ReadsAlone};
 ghost use Rattle.gpu_trace_lines.specs.Words.{texts, words_of};

@@ -1,6 +1,6 @@
 //! Sessions.
 
-ghost use Rattle.std.specs.Prelude.{◌≡◌, ◌≢◌, ◌≤◌, ◌<◌, ◌+◌, ℕ, List, [], length, map, take, drop, nat_eq, nat_le, cond, Some, None, IfOk, IfErr, OnErr, MatchOption, string_bytes};
+ghost use Rattle.std.specs.Prelude.{◌≡◌, ◌≢◌, ◌≤◌, ◌<◌, ◌+◌, ℕ, [], length, map, take, nat_eq, nat_le, cond, Some, None, IfOk, IfErr, OnErr};
 ghost use Rattle.std.specs.Map.{lookup};
 ghost use Rattle.std.specs.HashMap.{spare};
 ghost use Rattle.gpu_values.specs.declared.error.AllocationError.TheVariants.{HostOutOfMemory};
@@ -51,7 +51,7 @@ impl<D: VulkanDevice> Session<D> {
 
     /// Serves commands one after another, and answers a reply for each. Room for all replies is made first: where it is
     /// refused, the answer is `HostOutOfMemory` and nothing has run. Any later want of memory is the reply of its command,
-    /// which changed nothing.
+    /// which changed nothing but what the device counts of questions that it was asked before.
     pub fn run<L: Log>(&mut self, log: &L, commands: &[Command]) -> Result<Vec<Reply>>
         ensures run { IfOk result (λ replies. IsRun D.VulkanDevice (map order_of commands.now) (map told_of replies.items)
             self.old self.new) }
@@ -108,7 +108,8 @@ impl<D: VulkanDevice> Session<D> {
         allocator.destroy(log)
     }
 
-    /// Serves one command. For want of memory it answers `Error(HostOutOfMemory)`, and then the command changed nothing.
+    /// Serves one command. For want of memory it answers `Error(HostOutOfMemory)`, and then the command changed nothing but
+    /// what the device counts of questions that it was asked before.
     pub fn serve<L: Log>(&mut self, log: &L, command: &Command) -> Reply
         ensures { IsServed D.VulkanDevice (order_of command.now) (told_of result) self.old self.new }
     {
