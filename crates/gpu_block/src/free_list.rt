@@ -1,6 +1,6 @@
 //! A block that is cut into pieces, each in the shortest gap that it fits in.
 
-ghost use Rattle.std.specs.Prelude.{◌≡◌, ◌≢◌, ℕ, ◌+◌, ◌^◌, ◌<◌, ◌≤◌, None, IfOk, OnOk, OnErr, IfErr, IfSome, IsSomeAnd, IsTrue, ◌↔◌, [], map, true, false};
+ghost use Rattle.std.specs.Prelude.{◌≡◌, ◌≢◌, ℕ, ◌+◌, ◌^◌, ◌<◌, ◌≤◌, None, IfOk, OnOk, OnErr, IfErr, IfSome, IsSomeAnd, IsTrue, ◌↔◌, [], map, true};
 ghost use Rattle.std.specs.Int.{is_power_of_two};
 ghost use Rattle.std.specs.Int.NonZero.{non_zero_u64_get};
 ghost use Rattle.gpu_values.specs.Refusal.{refusal_of};
@@ -142,7 +142,9 @@ impl FreeListAllocator {
             return Err(AllocationError::OutOfMemory);
         }
         let text = String::from_str(self.alloc, name)?;
-        let number = self.chunks.take(found, wanted, self.counter, text)?;
+        let number = self
+            .chunks
+            .take(self.alloc, found, wanted, self.counter, text)?;
         if rest {
             self.counter += 1;
         }

@@ -1,20 +1,23 @@
 //! The chunks of a block, in a hashed map by number, each linked to the ones beside it.
 
-ghost use Rattle.std.specs.Prelude.{◌≡◌, ◌≢◌, ℕ, nat_eq, ◌+◌, ◌-◌, ◌^◌, ◌<◌, ◌≤◌, IsSome, IfOk, IfSome, OnOk, IsOk, MatchOption, Some, None, [], ◌∷◌, ◌++◌};
+ghost use Rattle.std.specs.Prelude.{◌≡◌, ◌+◌, ◌-◌, ◌<◌, ◌≤◌, IfOk, OnOk, IsOk, MatchOption, Some, None};
 ghost use Rattle.std.specs.Option.{option_copied};
-ghost use Rattle.std.specs.HashMap.{get, spare};
 ghost use Rattle.gpu_gap_index.specs.Cost.{RisesBy};
+ghost use Rattle.gpu_chain.specs.Nodes.{held_at};
 ghost use Rattle.gpu_chain.specs.ChunkList.{Covers, AreDistinct};
-ghost use Rattle.gpu_chain.specs.Chain.{StandsAt, HasNumber, HasNoNumber, IsAround, IsSplit, IsFilled, IsReleased, from_number, beside, beside_of, first_after, IsChunkAt, IsFresh, IsLonger};
+ghost use Rattle.gpu_chain.specs.Chain.{HasNumber, HasNoNumber, IsAround, IsSplit, IsFilled, IsReleased, from_number, beside, beside_of, first_after, IsChunkAt, IsFresh, IsLonger};
 
+mod new_chunk;
 mod node;
+mod nodes;
 
 use crate::chunk::Chunk;
 use gpu_gap_index::Cost;
 use gpu_values::AllocationType;
-use node::{Node, cut_front, ends_of, join_left, join_right, put, set_next_of, set_use};
+pub use new_chunk::NewChunk;
+use node::{Node, cut_front, ends_of, join_left, join_right, set_next_of, set_use};
+use nodes::Nodes;
 use std::alloc::{AllocError, Global};
-use std::collections::HashMap;
 use std::marker::Model;
 
 /// A chunk without its name.
@@ -37,35 +40,35 @@ pub struct Around {
 /// The chunks of a block, from its start to its end. They cover it without overlap, and no two have one number.
 #[derive(Drop)]
 pub struct Chain {
-    nodes: HashMap<u64, Node>,
+    nodes: Nodes,
     first: u64,
     size: u64,
 }
 
 impl Model for Chain {
-    ghost use Rattle.std.specs.Prelude.{nat_eq, Some};
-    ghost use Rattle.std.specs.HashMap.{get, spare};
+    ghost use Rattle.std.specs.Prelude.{Some};
     ghost use Rattle.gpu_chain.specs.Chain.{Linked, IsChain, walk, chunks_in};
+    ghost use Rattle.gpu_chain.specs.Nodes.{held_at, room_of};
 
     ghost Value = { Linked };
 
     ghost view = { λ s. record {
-      chunks = chunks_in (walk s.size (get nat_eq s.nodes) (Some s.first));
+      chunks = chunks_in (walk s.size (held_at s.nodes) (Some s.first));
       size = s.size;
-      room = spare s.nodes;
+      room = room_of s.nodes;
     } };
 
-    ghost invariant = { λ s. IsChain (get nat_eq s.nodes) s.first s.size (walk s.size (get nat_eq s.nodes) (Some s.first)) };
+    ghost invariant = { λ s. IsChain (held_at s.nodes) s.first s.size (walk s.size (held_at s.nodes) (Some s.first)) };
 }
 
 /// The one way to read a chunk by its number.
-fn node_at<'a>(nodes: &'a HashMap<u64, Node>, number: u64, cost: &mut Cost) -> Option<&'a Node>
-    ensures value { option_copied result ≡ get nat_eq nodes.now number }
+fn node_at<'a>(nodes: &'a Nodes, number: u64, cost: &mut Cost) -> Option<&'a Node>
+    ensures value { option_copied result ≡ held_at nodes.now number }
     ensures counted { cost.new.lookups ≡ cost.old.lookups + 1 }
     ensures others { (cost.new.comparisons ≡ cost.old.comparisons) × (cost.new.tests ≡ cost.old.tests) }
 {
     cost.look_up();
-    nodes.get(&number)
+    nodes.get(number)
 }
 
 fn short(chunk: &Chunk) -> Beside
@@ -80,8 +83,8 @@ fn short(chunk: &Chunk) -> Beside
 }
 
 /// The chunk of a number, where there is one.
-fn beside_at(nodes: &HashMap<u64, Node>, number: Option<u64>, cost: &mut Cost) -> Option<Beside>
-    ensures value { result ≡ beside_of (get nat_eq nodes.now) number }
+fn beside_at(nodes: &Nodes, number: Option<u64>, cost: &mut Cost) -> Option<Beside>
+    ensures value { result ≡ beside_of (held_at nodes.now) number }
     ensures counted { RisesBy 0 0 1 cost.old cost.new }
 {
     let number = number?;
@@ -105,21 +108,15 @@ impl Chain {
         requires { 0 < size }
         ensures { IfOk result (λ c. (c.size ≡ size) × IsFresh c.chunks size) }
     {
-        let mut nodes = HashMap::with_capacity(alloc, 1)?;
-        let chunk = Chunk {
+        let mut nodes = Nodes::with_capacity(alloc, 1)?;
+        let here = Beside {
             start: 0,
             size,
-            offset: 0,
             kind: AllocationType::Free,
             number: 1,
-            name: String::new(alloc),
         };
-        let node = Node {
-            chunk,
-            prev: None,
-            next: None,
-        };
-        put(&mut nodes, 1, node);
+        let chunk = NewChunk::new(alloc, String::new(alloc))?;
+        nodes.put(1, chunk.node(here, 0, None, None));
         Ok(Chain {
             nodes,
             first: 1,
@@ -176,7 +173,7 @@ impl Chain {
         ensures kept { self.old.room ≤ self.new.room }
         ensures enough { more ≤ self.old.room → IsOk result × (self.new ≡ self.old) }
     {
-        if more <= self.nodes.capacity() - self.nodes.len() {
+        if more <= self.nodes.room() {
             return Ok(());
         }
         self.nodes.reserve(more)
@@ -190,32 +187,26 @@ impl Chain {
         taken: u64,
         offset: u64,
         kind: AllocationType,
-        name: String,
+        chunk: NewChunk,
     )
         requires longer { IsLonger self.old.chunks number taken }
         requires positive { 0 < taken }
         requires fresh { HasNoNumber self.old.chunks new }
         requires room { 0 < self.old.room }
-        ensures chunks { IsSplit self.old.chunks number taken new offset kind name self.new.chunks }
+        ensures chunks { IsSplit self.old.chunks number taken new offset kind chunk self.new.chunks }
         ensures size { self.new.size ≡ self.old.size }
     {
         let _size = self.size;
         let ends = ends_of(&self.nodes, number);
         cut_front(&mut self.nodes, number, taken, Some(new));
-        let chunk = Chunk {
+        let here = Beside {
             start: ends.start,
             size: taken,
-            offset,
             kind,
             number: new,
-            name,
         };
-        let node = Node {
-            chunk,
-            prev: ends.prev,
-            next: Some(number),
-        };
-        put(&mut self.nodes, new, node);
+        self.nodes
+            .put(new, chunk.node(here, offset, ends.prev, Some(number)));
         set_next_of(&mut self.nodes, ends.prev, Some(new));
         self.first = first_of(ends.prev, new, self.first);
     }

@@ -5,6 +5,6 @@ mod chain;
 mod chunk;
 mod walk;
 
-pub use chain::{Around, Beside, Chain};
+pub use chain::{Around, Beside, Chain, NewChunk};
 pub use chunk::{Chunk, is_free};
 pub use walk::Walk;

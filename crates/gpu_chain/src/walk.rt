@@ -1,7 +1,7 @@
 //! Chunks one after another, in the order of their starts.
 
 ghost use Rattle.std.specs.Prelude.{◌≡◌, ◌∷◌, ◌++◌, [], Some, None, MatchOption};
-ghost use Rattle.gpu_chain.specs.Chain.{from_number, walked};
+ghost use Rattle.gpu_chain.specs.Chain.{walked};
 
 use crate::chain::Chain;
 use crate::chunk::Chunk;

@@ -1,6 +1,6 @@
 //! The chunks of a block: a chain of all of them, and an index of the gaps.
 
-ghost use Rattle.std.specs.Prelude.{◌≡◌, ◌≢◌, ℕ, ◌+◌, ◌-◌, ◌*◌, ◌^◌, ◌<◌, ◌≤◌, length, All, List, [], IfOk, OnOk, OnErr, MatchOption, IsTrue, ◌↔◌};
+ghost use Rattle.std.specs.Prelude.{◌≡◌, ◌≢◌, ℕ, ◌+◌, ◌-◌, ◌^◌, ◌<◌, ◌≤◌, length, All, [], IfOk, OnOk, OnErr, MatchOption, IsTrue, ◌↔◌};
 ghost use Rattle.std.specs.List.{list_any};
 ghost use Rattle.gpu_block.specs.FreeList.{extent_bytes};
 ghost use Rattle.gpu_chain.specs.ChunkList.{IsFree, Covers};
@@ -11,7 +11,7 @@ ghost use Rattle.gpu_block.specs.Indexed.{IsChosen, chosen_at, Spends, IsPieceAt
 use super::edit::{release, take_front, take_whole};
 use super::place::Wanted;
 use super::search::{Found, find};
-use gpu_chain::{Around, Chain, Chunk, Walk, is_free};
+use gpu_chain::{Around, Chain, Chunk, NewChunk, Walk, is_free};
 use gpu_gap_index::{Cost, Gap, GapIndex};
 use gpu_values::AllocationType;
 use std::alloc::{AllocError, Global};
@@ -79,10 +79,11 @@ impl Chunks {
         find(&self.index, wanted, cost)
     }
 
-    /// Gives the found gap, or its front, to a piece, and tells the piece's number. Room for what the piece's release
-    /// will need is made first.
+    /// Gives the found gap, or its front, to a piece, and tells the piece's number. All memory is taken first, also for what
+    /// the piece's release will need.
     pub fn take(
         &mut self,
+        alloc: Global,
         found: Found,
         wanted: Wanted,
         counter: u64,
@@ -100,8 +101,9 @@ impl Chunks {
         let _size = self.chain.size();
         make_room(&mut self.chain, &mut self.index, self.live)?;
         let taken = found.offset + wanted.size - found.gap.start;
-        self.live += 1;
         if taken < found.gap.length {
+            let chunk = NewChunk::new(alloc, name)?;
+            self.live += 1;
             take_front(
                 &mut self.chain,
                 &mut self.index,
@@ -109,10 +111,11 @@ impl Chunks {
                 taken,
                 wanted.kind,
                 counter,
-                name,
+                chunk,
             );
             return Ok(counter);
         }
+        self.live += 1;
         take_whole(&mut self.chain, &mut self.index, found, wanted.kind, name);
         Ok(found.gap.number)
     }

@@ -1,6 +1,6 @@
 //! The changes of the chunks of a block: each is one of the chain, and beside it one of the index.
 
-ghost use Rattle.std.specs.Prelude.{◌≡◌, ◌≢◌, ℕ, ◌+◌, ◌-◌, ◌^◌, ◌<◌, ◌≤◌, length, ◌++◌, ◌∷◌, List, IsTrue, ◌↔◌};
+ghost use Rattle.std.specs.Prelude.{◌≡◌, ◌≢◌, ◌+◌, ◌-◌, ◌<◌, ◌≤◌, length, ◌++◌, ◌∷◌, List, IsTrue, ◌↔◌};
 ghost use Rattle.gpu_chain.specs.declared.chunk.Chunk.{Chunk};
 ghost use Rattle.gpu_block.specs.Chunks.{last_kind, extents_of};
 ghost use Rattle.gpu_chain.specs.Chain.{HasNumber, HasNoNumber, IsSplit, IsFilled, IsReleased};
@@ -9,7 +9,7 @@ ghost use Rattle.gpu_gap_index.specs.declared.index.Gap.{Gap};
 ghost use Rattle.gpu_gap_index.specs.Index.{HasNoKey};
 
 use super::search::Found;
-use gpu_chain::{Around, Beside, Chain, is_free};
+use gpu_chain::{Around, Beside, Chain, NewChunk, is_free};
 use gpu_gap_index::{Cost, Gap, GapIndex};
 use gpu_values::AllocationType;
 
@@ -21,7 +21,7 @@ pub fn take_front(
     taken: u64,
     kind: AllocationType,
     number: u64,
-    name: String,
+    chunk: NewChunk,
 )
     requires listed { IsListed chain.old.chunks index.old.gaps }
     requires gap { IsGapOf chain.old.chunks found.gap }
@@ -30,14 +30,14 @@ pub fn take_front(
     requires piece { kind ≢ AllocationType.Free }
     requires fresh { HasNoNumber chain.old.chunks number }
     requires room { (0 < chain.old.room) × (length index.old.gaps ≤ index.old.room) }
-    ensures chunks { IsSplit chain.old.chunks found.gap.number taken number found.offset kind name chain.new.chunks }
+    ensures chunks { IsSplit chain.old.chunks found.gap.number taken number found.offset kind chunk chain.new.chunks }
     ensures listed { IsListed chain.new.chunks index.new.gaps }
     ensures live { length (extents_of chain.new.chunks) ≡ length (extents_of chain.old.chunks) + 1 }
     ensures size { (chain.new.size ≡ chain.old.size) × (index.new.room ≡ index.old.room) }
 {
     let _size = chain.size();
     let gap = found.gap;
-    chain.split_front(gap.number, number, taken, found.offset, kind, name);
+    chain.split_front(gap.number, number, taken, found.offset, kind, chunk);
     index.in_order();
     let rest = Gap {
         length: gap.length - taken,

@@ -1,6 +1,6 @@
 //! Where a request begins in a gap.
 
-ghost use Rattle.std.specs.Prelude.{◌≡◌, ◌≢◌, ℕ, ◌+◌, ◌%◌, ◌^◌, ◌<◌, ◌≤◌, IsTrue, ◌↔◌, MatchOption};
+ghost use Rattle.std.specs.Prelude.{◌≡◌, ℕ, ◌%◌, ◌^◌, ◌<◌, ◌≤◌, IsTrue, ◌↔◌, MatchOption};
 ghost use Rattle.std.specs.Option.{SomeIff};
 ghost use Rattle.std.specs.Int.{next_multiple_of};
 ghost use Rattle.gpu_block.specs.Place.{page, MayBegin, IsOffsetIn, FitsBetween};

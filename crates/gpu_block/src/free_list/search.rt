@@ -1,7 +1,7 @@
 //! The search for the chosen gap: the first that is long enough is found by halving, and from there gaps are tested in
 //! the index's order up to the first that fits.
 
-ghost use Rattle.std.specs.Prelude.{◌≡◌, ℕ, ◌+◌, ◌*◌, ◌-◌, ◌^◌, ◌<◌, ◌≤◌, length, take, MatchOption};
+ghost use Rattle.std.specs.Prelude.{◌≡◌, ℕ, ◌+◌, ◌-◌, ◌<◌, ◌≤◌, length, take, MatchOption};
 ghost use Rattle.std.specs.List.{AllPairs, count_by};
 ghost use Rattle.gpu_gap_index.specs.Cost.{digits};
 ghost use Rattle.gpu_gap_index.specs.Index.{Before};

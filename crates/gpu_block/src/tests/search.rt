@@ -1,6 +1,6 @@
 //! Tests of what a search costs, as contracts over blocks that are written out.
 
-ghost use Rattle.std.specs.Prelude.{◌≡◌, ℕ, ◌+◌, ◌≤◌, [], ◌∷◌};
+ghost use Rattle.std.specs.Prelude.{◌≡◌, ◌+◌, ◌≤◌, [], ◌∷◌};
 ghost use Rattle.gpu_block.specs.FreeList.{Extent, FreeList};
 ghost use Rattle.gpu_block.specs.Request.{Request};
 ghost use Rattle.gpu_block.specs.Place.{IsBestFit};

@@ -1,38 +1,38 @@
-use Rattle.std.proofs.Common.{nat_eq, ap, arith}
-use Rattle.std.specs.HashMap.{get}
+use Rattle.std.proofs.Common.{ap, arith}
 use Rattle.gpu_chain.specs.Chain.{Linked}
 use Rattle.gpu_chain.proofs.Unlinks.{opened_has, right_ready, left_ready}
 use Rattle.gpu_chain.proofs.Listing.{open_at, released}
+use Rattle.gpu_chain.specs.Nodes.{held_at}
 use Rattle.gpu_chain.proofs.chain.Chain.release.Goals as goal
 
 pub ends_of-start-requires : goal.ends_of-start-requires
 ends_of-start-requires c =
-    opened_has (get nat_eq c.self.inside.nodes) c.self.inside.first c.self.inside.size _ c.args.number
-    (open_at (get nat_eq c.self.inside.nodes) c.self.inside.first c.self.inside.size _ c.args.self.now.chunks c.self.invariant (ap (λ (v : Linked). v.chunks) c.self.view_is) c.args.number c.requires.there)
+    opened_has (held_at c.self.inside.nodes) c.self.inside.first c.self.inside.size _ c.args.number
+    (open_at (held_at c.self.inside.nodes) c.self.inside.first c.self.inside.size _ c.args.self.now.chunks c.self.invariant (ap (λ (v : Linked). v.chunks) c.self.view_is) c.args.number c.requires.there)
 
 pub set_use-requires : goal.set_use-requires
 set_use-requires c =
-    opened_has (get nat_eq c.self.inside.nodes) c.self.inside.first c.self.inside.size _ c.args.number
-    (open_at (get nat_eq c.self.inside.nodes) c.self.inside.first c.self.inside.size _ c.args.self.now.chunks c.self.invariant (ap (λ (v : Linked). v.chunks) c.self.view_is) c.args.number c.requires.there)
+    opened_has (held_at c.self.inside.nodes) c.self.inside.first c.self.inside.size _ c.args.number
+    (open_at (held_at c.self.inside.nodes) c.self.inside.first c.self.inside.size _ c.args.self.now.chunks c.self.invariant (ap (λ (v : Linked). v.chunks) c.self.view_is) c.args.number c.requires.there)
 
 pub join_right-requires : goal.join_right-requires
 join_right-requires c =
-    right_ready (get nat_eq c.self.inside.nodes) (get nat_eq c.set_use.new.nodes) c.self.inside.first c.self.inside.size _ c.args.number c.ends_of-start.result.start c.args.empty
-    (open_at (get nat_eq c.self.inside.nodes) c.self.inside.first c.self.inside.size _ c.args.self.now.chunks c.self.invariant (ap (λ (v : Linked). v.chunks) c.self.view_is) c.args.number c.requires.there)
+    right_ready (held_at c.self.inside.nodes) (held_at c.set_use.new.nodes) c.self.inside.first c.self.inside.size _ c.args.number c.ends_of-start.result.start c.args.empty
+    (open_at (held_at c.self.inside.nodes) c.self.inside.first c.self.inside.size _ c.args.self.now.chunks c.self.invariant (ap (λ (v : Linked). v.chunks) c.self.view_is) c.args.number c.requires.there)
     (λ n h. (c.ends_of-start.ensures n h).0) c.set_use.ensures.changes (omega arith)
 
 pub join_left-requires : goal.join_left-requires
 join_left-requires c =
-    left_ready (get nat_eq c.self.inside.nodes) (get nat_eq c.set_use.new.nodes) c.self.inside.first c.self.inside.size _ c.args.number c.ends_of-start.result.start c.args.empty
-    (open_at (get nat_eq c.self.inside.nodes) c.self.inside.first c.self.inside.size _ c.args.self.now.chunks c.self.invariant (ap (λ (v : Linked). v.chunks) c.self.view_is) c.args.number c.requires.there)
-    (λ n h. (c.ends_of-start.ensures n h).0) c.set_use.ensures.changes (get nat_eq c.join_right.new.nodes) c.join_right.ensures.joins (omega arith)
+    left_ready (held_at c.self.inside.nodes) (held_at c.set_use.new.nodes) c.self.inside.first c.self.inside.size _ c.args.number c.ends_of-start.result.start c.args.empty
+    (open_at (held_at c.self.inside.nodes) c.self.inside.first c.self.inside.size _ c.args.self.now.chunks c.self.invariant (ap (λ (v : Linked). v.chunks) c.self.view_is) c.args.number c.requires.there)
+    (λ n h. (c.ends_of-start.ensures n h).0) c.set_use.ensures.changes (held_at c.join_right.new.nodes) c.join_right.ensures.joins (omega arith)
 
 pub invariant_of-self : goal.invariant_of-self
 invariant_of-self c =
-    (released (get nat_eq c.self.inside.nodes) c.self.inside.first c.self.inside.size _ c.args.self.now.chunks c.self.invariant (ap (λ (v : Linked). v.chunks) c.self.view_is)
-    (get nat_eq c.set_use.new.nodes) (get nat_eq c.join_right.new.nodes) (get nat_eq c.join_left.new.nodes) c.args.number c.ends_of-start.result.start c.args.empty c.requires.there (λ n h. (c.ends_of-start.ensures n h).0) c.set_use.ensures.changes c.join_right.ensures.joins c.join_left.ensures.joins).0
+    (released (held_at c.self.inside.nodes) c.self.inside.first c.self.inside.size _ c.args.self.now.chunks c.self.invariant (ap (λ (v : Linked). v.chunks) c.self.view_is)
+    (held_at c.set_use.new.nodes) (held_at c.join_right.new.nodes) (held_at c.join_left.new.nodes) c.args.number c.ends_of-start.result.start c.args.empty c.requires.there (λ n h. (c.ends_of-start.ensures n h).0) c.set_use.ensures.changes c.join_right.ensures.joins c.join_left.ensures.joins).0
 
 pub returns-clause-chunks : goal.returns-clause-chunks
 returns-clause-chunks c =
-    (released (get nat_eq c.self.inside.nodes) c.self.inside.first c.self.inside.size _ c.args.self.now.chunks c.self.invariant (ap (λ (v : Linked). v.chunks) c.self.view_is)
-    (get nat_eq c.set_use.new.nodes) (get nat_eq c.join_right.new.nodes) (get nat_eq c.join_left.new.nodes) c.args.number c.ends_of-start.result.start c.args.empty c.requires.there (λ n h. (c.ends_of-start.ensures n h).0) c.set_use.ensures.changes c.join_right.ensures.joins c.join_left.ensures.joins).1
+    (released (held_at c.self.inside.nodes) c.self.inside.first c.self.inside.size _ c.args.self.now.chunks c.self.invariant (ap (λ (v : Linked). v.chunks) c.self.view_is)
+    (held_at c.set_use.new.nodes) (held_at c.join_right.new.nodes) (held_at c.join_left.new.nodes) c.args.number c.ends_of-start.result.start c.args.empty c.requires.there (λ n h. (c.ends_of-start.ensures n h).0) c.set_use.ensures.changes c.join_right.ensures.joins c.join_left.ensures.joins).1
