@@ -73,9 +73,10 @@ abbrev pub Ends : SessionValue SimVulkan → device_replies.Reply → Stage → 
 Ends s (Held count) Closed = count ≡ map_len (held_of s.allocator.first)
 Ends s _ _ = ⊥
 
--- an allocator that is still there has given every block back
+-- an allocator that is still there has given every block back, and its device was asked for nothing more
 abbrev pub Ended : Stage → Option SimVulkan → Type 0
-Ended (Device s) (Some device) = held_of device ≡ held_of s.allocator.first
+Ended (Device s) (Some device) = (held_of device ≡ held_of s.allocator.first)
+    × (refused_of device ≡ refused_of s.allocator.device) × (latest_of device ≡ latest_of s.allocator.device)
 Ended (Device s) None = ⊥
 Ended _ (Some device) = ⊥
 Ended _ None = Unit {0}
