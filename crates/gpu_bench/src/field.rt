@@ -27,7 +27,7 @@ pub struct Field {
 }
 
 impl Model for Field {
-    ghost use Rattle.std.specs.Prelude.{◌≡◌, ℕ, ◌<◌, ◌^◌};
+    ghost use Rattle.std.specs.Prelude.{◌≡◌, ℕ, ◌<◌};
 
     ghost Value = { ℕ };
 

@@ -1,5 +1,5 @@
 -- Rounding up, and the page rule on the left of a gap.
-use Rattle.std.proofs.Common.{◌≡◌, ◌≢◌, ℕ, ◌+◌, ◌-◌, ◌*◌, ◌/◌, ◌%◌, ◌^◌, ◌<◌, ◌≤◌, Option, Some, None, MatchOption, ◌∙◌, inl, inr, arith}
+use Rattle.std.proofs.Common.{◌≡◌, ◌≢◌, ℕ, ◌+◌, ◌-◌, ◌*◌, ◌/◌, ◌%◌, ◌<◌, ◌≤◌, Option, Some, None, MatchOption, inl, inr, arith}
 use Rattle.std.specs.Option.{SomeIff}
 use Rattle.std.proofs.lemmas.Nat.{div-add-mod', mul-le, mod_below, le-div}
 use Rattle.std.proofs.Math.Nat.{div-mul-le_self, lt-div-mul-add, mul-mod_left, mod_self, sub-zero, mod-eq_of_lt}
@@ -39,18 +39,20 @@ next_up x m pos =
           rw same (record { up = omega arith; near = omega arith; multiple = mul-mod_left (x / m + 1) m; least = λ o le e. next_multiple_above m o (x / m) pos e (omega arith) })
     ]
 
-over : (x m r : ℕ) → 0 < m → r ≡ x % m → (r ≡ 0 → ⊥) → x + (m - r) ≡ next_multiple_of x m
+-- where the last multiple up to l isn't before x, the next one from x on is at most l
+pub up_within : (x l m r : ℕ) → 0 < m → x ≤ l → (r ≡ l % m) → r ≤ l - x → next_multiple_of x m ≤ l
+up_within x l m r pos order e near =
+    let whole = div-add-mod' l m in
+    let multiple : next_multiple_of x m ≤ l / m * m = (next_up x m pos).least (l / m * m) (omega arith) (mul-mod_left (l / m) m) in
+    omega arith
+
+pub over : (x m r : ℕ) → 0 < m → r ≡ x % m → (r ≡ 0 → ⊥) → x + (m - r) ≡ next_multiple_of x m
 over x m r pos e some =
     let below : x % m < m = mod_below x m pos in
     elim (cases_eq r 0) [
       | inl none ↦ absurd (some none)
       | inr ne ↦ let inner : (m - x % m) % m ≡ m - x % m = mod-eq_of_lt (omega arith) in omega arith
     ]
-
--- a sum that is the next multiple, if it is a `u64`
-pub up_some : (x m r : ℕ) (o : Option ℕ) → 0 < m → r ≡ x % m → (r ≡ 0 → ⊥) → SomeIff o (x + (m - r) < 2 ^ 64) (x + (m - r)) → SomeIff o ((0 < m) × (next_multiple_of x m < 2 ^ 64)) (next_multiple_of x m)
-up_some x m r None pos e some h = λ q. let s = over x m r pos e some in h (let l = q.1 in omega arith)
-up_some x m r (Some v) pos e some h = let s = over x m r pos e some in ((pos, let l = h.0 in omega arith), h.1 ∙ s)
 
 -- `first` is the least place from s on where a piece may begin but for its alignment
 pub record IsFirst (g : ℕ) (Other : Type 0) (s first : ℕ) : Type 0 where
@@ -94,23 +96,23 @@ offset_some g a Other s first v pos f e =
       least = λ o m. let l = r.least o (f.low o m.after m.apart) m.aligned in omega arith;
     }
 
-pub offset_none : (g a : ℕ) (Other : Type 0) (s first : ℕ) → 0 < a → IsFirst g Other s first → ((0 < a) × (next_multiple_of first a < 2 ^ 64) → ⊥) → (o : ℕ) → MayBegin g a Other s o → 2 ^ 64 ≤ o
-offset_none g a Other s first pos f refused o m =
-    let r = next_up first a pos in
-    let l = r.least o (f.low o m.after m.apart) m.aligned in
-    elim (cases_lt (next_multiple_of first a) (2 ^ 64)) [
-      | inl lt ↦ absurd (refused (pos, lt))
-      | inr ge ↦ omega arith
+-- no place up to `last` serves where the next multiple is behind it
+none_within : (g a last : ℕ) (Other : Type 0) (s first : ℕ) → 0 < a → IsFirst g Other s first → (next_multiple_of first a ≤ last → ⊥) → (o : ℕ) → MayBegin g a Other s o → last < o
+none_within g a last Other s first pos f refused o m =
+    let l = (next_up first a pos).least o (f.low o m.after m.apart) m.aligned in
+    elim (cases_lt last (next_multiple_of first a)) [
+      | inl lt ↦ omega arith
+      | inr le ↦ absurd (refused le)
     ]
 
-pub offset_of_result : (g a : ℕ) (Other : Type 0) (s first : ℕ) (r : Option ℕ) → 0 < a → IsFirst g Other s first → SomeIff r ((0 < a) × (next_multiple_of first a < 2 ^ 64)) (next_multiple_of first a) → MatchOption r ((o : ℕ) → MayBegin g a Other s o → 2 ^ 64 ≤ o) (λ o. IsOffsetIn g a Other s o)
-offset_of_result g a Other s first None pos f h = offset_none g a Other s first pos f h
-offset_of_result g a Other s first (Some v) pos f h = offset_some g a Other s first v pos f h.1
+pub offset_within : (g a last : ℕ) (Other : Type 0) (s first : ℕ) (r : Option ℕ) → 0 < a → IsFirst g Other s first → SomeIff r (next_multiple_of first a ≤ last) (next_multiple_of first a) → MatchOption r ((o : ℕ) → MayBegin g a Other s o → last < o) (λ o. IsOffsetIn g a Other s o × (o ≤ last))
+offset_within g a last Other s first None pos f h = none_within g a last Other s first pos f h
+offset_within g a last Other s first (Some v) pos f h = (offset_some g a Other s first v pos f h.1, rw h.1 h.0)
 
-pub no_first : (g a : ℕ) (Other : Type 0) (s : ℕ) → 0 < g → 0 < s → Other → ((0 < g) × (next_multiple_of s g < 2 ^ 64) → ⊥) → (o : ℕ) → MayBegin g a Other s o → 2 ^ 64 ≤ o
-no_first g a Other s pos behind other refused o m =
+pub no_first_within : (g a last : ℕ) (Other : Type 0) (s : ℕ) → 0 < g → 0 < s → Other → (next_multiple_of s g ≤ last → ⊥) → (o : ℕ) → MayBegin g a Other s o → last < o
+no_first_within g a last Other s pos behind other refused o m =
     let l = (first_next g Other s pos behind other).low o m.after m.apart in
-    elim (cases_lt (next_multiple_of s g) (2 ^ 64)) [
-      | inl lt ↦ absurd (refused (pos, lt))
-      | inr ge ↦ omega arith
+    elim (cases_lt last (next_multiple_of s g)) [
+      | inl lt ↦ omega arith
+      | inr le ↦ absurd (refused le)
     ]

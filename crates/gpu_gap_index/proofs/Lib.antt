@@ -2,3 +2,4 @@ pub mod Walks
 pub mod Halving
 pub mod Orders
 pub mod Moves
+pub mod Scans

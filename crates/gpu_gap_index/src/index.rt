@@ -1,10 +1,11 @@
 //! The gaps of a block in the order of length and start.
-ghost use Rattle.std.specs.Prelude.{◌≡◌, ℕ, ◌+◌, ◌^◌, ◌<◌, ◌≤◌, List, [], length, slice_index_or, OnOk, OnErr, IsOk, IfSome, IsTrue, is_some, if◌then◌else◌};
-ghost use Rattle.std.specs.List.{AllPairs, slice_get, insert, remove};
+ghost use Rattle.std.specs.Prelude.{◌≡◌, ℕ, ◌+◌, ◌<◌, ◌≤◌, List, [], length, slice_index_or, OnOk, OnErr, IsOk, IsTrue};
+ghost use Rattle.std.specs.List.{AllPairs, insert, remove};
 ghost use Rattle.gpu_gap_index.specs.Cost.{digits, RisesBy};
 ghost use Rattle.gpu_gap_index.specs.Index.{Before, IsBefore, IsPlaceOf, HasNoKey, HasKeyAt, IsInserted, IsRemoved, IsReplaced, place_without};
 
 use crate::cost::Cost;
+use crate::scan::Scan;
 use gpu_values::AllocationType;
 use std::alloc::{AllocError, Global};
 use std::marker::Model;
@@ -140,19 +141,12 @@ impl GapIndex {
         first_place(&self.entries, size, cost)
     }
 
-    /// The gap at a place, to be tested.
-    pub fn get(&self, place: usize, cost: &mut Cost) -> Option<Gap>
-        ensures gap { result ≡ slice_get self.now.gaps place }
-        ensures fits { IfSome result (λ _. place + 1 < 2 ^ 64) }
-        ensures counted { cost.new.tests ≡ cost.old.tests + (if is_some result then 1 else 0) }
-        ensures others { (cost.new.comparisons ≡ cost.old.comparisons) × (cost.new.lookups ≡ cost.old.lookups) }
+    /// The gaps from a place on, to be tested one after another.
+    pub fn scan(&self, place: usize) -> Scan<'_>
+        requires { place ≤ length self.now.gaps }
+        ensures { result ≡ record { gaps = self.now.gaps; place = place } }
     {
-        if place < self.entries.len() {
-            cost.test();
-            Some(self.entries.get(place))
-        } else {
-            None
-        }
+        Scan::new(&self.entries, place)
     }
 
     /// Puts a gap in its place. There is room for it, so no memory is taken.

@@ -3,6 +3,8 @@
 
 mod cost;
 mod index;
+mod scan;
 
 pub use cost::Cost;
 pub use index::{Gap, GapIndex};
+pub use scan::Scan;

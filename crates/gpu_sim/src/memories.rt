@@ -1,9 +1,9 @@
 //! The memories of a simulated device, by number.
 
-ghost use Rattle.std.specs.Prelude.{◌≡◌, ◌+◌, ◌<◌, List, length, vec_len, Some, None, IsSome, IfSome, IfOk, OnErr, option_copied, count_by};
+ghost use Rattle.std.specs.Prelude.{◌≡◌, ◌+◌, ◌<◌, length, vec_len, Some, None, IsSome, IfSome, IfOk, OnErr, option_copied, count_by};
 ghost use Rattle.std.specs.Borrow.{sem};
 ghost use Rattle.std.specs.FinMap.{empty, get, insert, remove, len as map_len};
-ghost use Rattle.gpu_device.specs.Held.{new_entry, size_of, range_of, IsUnmapped, mapped_with, unmapped};
+ghost use Rattle.gpu_device.specs.Held.{new_entry, size_of, range_of, mapped_with, unmapped};
 ghost use Rattle.gpu_sim.specs.Memory.{is_held};
 ghost use Rattle.gpu_sim.specs.Memories.{held_in, issued, lends_memories};
 

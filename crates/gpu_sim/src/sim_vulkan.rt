@@ -1,8 +1,8 @@
 //! A simulated Vulkan device.
 
-ghost use Rattle.std.specs.Prelude.{◌≡◌, ◌≢◌, ℕ, ◌+◌, ◌^◌, ◌<◌, List, length, slice_get, replicate, refl, Some, None, IsSome, IfSome, IfOk, IfErr, OnErr, OnOk, true, false, option_copied};
+ghost use Rattle.std.specs.Prelude.{◌≡◌, ◌≢◌, ℕ, ◌+◌, ◌^◌, ◌<◌, List, length, replicate, refl, Some, None, IfSome, IfOk, IfErr, OnErr, OnOk, true, false};
 ghost use Rattle.std.specs.FinMap.{empty, get, insert, remove, len as map_len};
-ghost use Rattle.gpu_device.specs.Held.{new_entry, size_of, range_of, IsUnmapped, mapped_with, unmapped, raised};
+ghost use Rattle.gpu_device.specs.Held.{new_entry, size_of, IsUnmapped, mapped_with, unmapped, raised};
 ghost use Rattle.gpu_sim.specs.Plan.{asked, given, next_refusal, planned_code, planned_answer};
 ghost use Rattle.gpu_sim.specs.Simulation.{held_of, properties_of, plan_of, refused_of, latest_of, written_sim};
 ghost use Rattle.gpu_sim.specs.SimulationLaws.{no_null as no_null_law, whole as whole_law, written_held as written_held_law};

@@ -1,6 +1,6 @@
 //! What a caller knows who writes through one allocation and reads another, over any device.
 
-ghost use Rattle.std.specs.Prelude.{◌≡◌, Some, replicate, IsTrue, ◌↔◌};
+ghost use Rattle.std.specs.Prelude.{◌≡◌, Some, replicate};
 ghost use Rattle.gpu_allocator.specs.Live.{IsLive, IsMapped, bytes_at};
 ghost use Rattle.gpu_allocator.specs.Lends.{IsOther};
 

@@ -1,7 +1,7 @@
 //! The text of an amount of bytes.
 
-ghost use Rattle.std.specs.Prelude.{◌≡◌, ℕ, ◌+◌, ◌*◌, ◌^◌, ◌<◌, ◌≤◌, IfOk, IfErr, string_bytes};
-ghost use Rattle.gpu_values.specs.Bytes.{IsNearest, IsDivided, unit_text, hundredths_text, IsBytesText};
+ghost use Rattle.std.specs.Prelude.{◌≡◌, ◌+◌, ◌*◌, ◌<◌, ◌≤◌, IfOk, IfErr, string_bytes};
+ghost use Rattle.gpu_values.specs.Bytes.{IsNearest, IsDivided, unit_text, IsBytesText};
 ghost use Rattle.gpu_values.specs.declared.error.AllocationError.TheVariants.{HostOutOfMemory};
 
 use crate::Result;

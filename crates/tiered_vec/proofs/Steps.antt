@@ -4,6 +4,7 @@ use Rattle.std.proofs.lemmas.List.{length-take, length-drop, length-append, get_
 use Rattle.std.proofs.lemmas.List.Edits.{length-insert, length-remove}
 use Rattle.std.specs.List.{insert, remove}
 use Rattle.tiered_vec.specs.Rings.{joined, filled, filled_around}
+use Rattle.tiered_vec.specs.TieredVec.{IsPieceFrom}
 use Rattle.tiered_vec.proofs.Dealing.{another_ring, few_in, few_in_around, fewer_rings, get-filled, inserted, joined-filled, joined-filled_around, length-filled, length-filled_around, pulled, pushed, removed, ring-filled, ring-free}
 
 module _ {X : Type 0} where
@@ -61,6 +62,25 @@ module _ {X : Type 0} where
   pub reads_value : (v k p n i : ℕ) (rs : List (List X)) (xs at : List X) (x : X) → Reads v k p n i rs xs at → x ≡ get_or at p x → x ≡ get_or xs i x
   reads_value v k p n i rs xs at x r h =
       h ∙ (ap (λ l. get_or l p x) (reads v k p n i rs xs at r) ∙ (get-filled v k p n xs x r.ring r.place ∙ ap (λ m. get_or xs m x) (sym r.whole)))
+
+  -- and what a piece of that ring is of the whole list
+  pub reads_piece : (v k p n i : ℕ) (rs : List (List X)) (xs at ys : List X) → Reads v k p n i rs xs at → IsPieceFrom at p ys → IsPieceFrom xs i ys
+  reads_piece v k p n i rs xs at ys r h =
+      let e = reads v k p n i rs xs at r in
+      let l = ap length e in
+      let m = ap length (ring-filled v k n xs r.ring) in
+      let t = length-take (suc v) (drop (suc v * k) xs) in
+      let d = length-drop (suc v * k) xs in
+      let w = h.within in
+      let s = r.whole in
+      let b = r.within in
+      record {
+        within = omega arith;
+        same = λ j x lt.
+            let small : p + j ≤ v = omega arith in
+            let place : suc v * k + (p + j) ≡ i + j = omega arith in
+            h.same j x lt ∙ (ap (λ q. get_or q (p + j) x) e ∙ (get-filled v k (p + j) n xs x r.ring small ∙ ap (λ q. get_or xs q x) place));
+      }
 
   pub taken_out : (v k p n i : ℕ) (rs : List (List X)) (xs at new : List X) → Reads v k p n i rs xs at → new ≡ remove at p → set rs k new ≡ filled_around v k n (remove xs i)
   taken_out v k p n i rs xs at new r h =

@@ -3,6 +3,7 @@
 
 ghost use Rattle.std.specs.Prelude.{◌≡◌, ◌<◌, ◌≤◌, [], ◌∷◌, ◌++◌, length, slice_index_or, IfOk};
 ghost use Rattle.std.specs.List.{insert, remove};
+ghost use Rattle.tiered_vec.specs.TieredVec.{IsPieceFrom};
 
 use crate::flat::shift;
 use std::alloc::{AllocError, Global};
@@ -45,6 +46,20 @@ impl<T: Copy> Ring<T> {
         ensures { result ≡ slice_index_or self.now place result }
     {
         self.slots[place]
+    }
+
+    /// The entries from a place on, as many as lie in one piece.
+    pub(crate) fn piece_from(&self, place: usize) -> &[T]
+        requires { place < length self.now }
+        ensures some { 0 < length result.now }
+        ensures piece { IsPieceFrom self.now place result.now }
+    {
+        let (front, back) = self.slots.as_slices();
+        if place < front.len() {
+            &front[place..]
+        } else {
+            &back[place - front.len()..]
+        }
     }
 
     /// Puts an entry at a place of a ring that has room.

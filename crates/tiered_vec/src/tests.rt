@@ -27,6 +27,9 @@ fn check_entries(rt: &impl Abort, v: &TieredVec<u32>, want: &[u32]) {
     for (i, entry) in want.iter().enumerate() {
         assert!(rt; i < v.len());
         assert_eq!(rt; v.get(i), *entry, "at {i}");
+        let piece = v.piece_from(i);
+        assert!(rt; !piece.is_empty(), "from {i}");
+        assert!(rt; want[i..].starts_with(piece), "from {i}");
     }
 }
 

@@ -2,6 +2,7 @@
 
 ghost use Rattle.std.specs.Prelude.{◌≡◌, ◌+◌, ◌-◌, ◌<◌, ◌≤◌, [], length, slice_index_or, max, OnOk, OnErr, IsOk};
 ghost use Rattle.std.specs.List.{insert, remove};
+ghost use Rattle.tiered_vec.specs.TieredVec.{IsPieceFrom};
 
 use crate::flat::{grow, laid_out, put_in, shift};
 use crate::ring::RING;
@@ -77,6 +78,18 @@ impl<T: Copy> TieredVec<T> {
         match &self.body {
             Body::Flat(flat) => flat[place],
             Body::Tiers(tiers) => tiers.get(place),
+        }
+    }
+
+    /// The entries from a place on, as many as lie in one piece of memory: of a vector of at most 256 entries all of them.
+    pub fn piece_from(&self, place: usize) -> &[T]
+        requires { place < length self.now.entries }
+        ensures some { 0 < length result.now }
+        ensures piece { IsPieceFrom self.now.entries place result.now }
+    {
+        match &self.body {
+            Body::Flat(flat) => &flat[place..],
+            Body::Tiers(tiers) => tiers.piece_from(place),
         }
     }
 

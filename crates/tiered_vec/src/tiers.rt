@@ -2,6 +2,7 @@
 
 ghost use Rattle.std.specs.Prelude.{◌≡◌, ◌+◌, ◌-◌, ◌<◌, ◌≤◌, [], length, slice_index_or, max, OnOk, OnErr, IsOk};
 ghost use Rattle.std.specs.List.{insert, remove};
+ghost use Rattle.tiered_vec.specs.TieredVec.{IsPieceFrom};
 
 use crate::ring::{RING, Ring};
 use crate::rings::{grow_to, move_free_place, put_in, replace_in_ring, take_out};
@@ -69,6 +70,15 @@ impl<T: Copy> Tiers<T> {
         ensures { result ≡ slice_index_or self.now.entries place result }
     {
         self.rings[place / RING].get(place % RING)
+    }
+
+    /// The entries from a place on, as many as lie in one piece.
+    pub(crate) fn piece_from(&self, place: usize) -> &[T]
+        requires { place < length self.now.entries }
+        ensures some { 0 < length result.now }
+        ensures piece { IsPieceFrom self.now.entries place result.now }
+    {
+        self.rings[place / RING].piece_from(place % RING)
     }
 
     /// Makes room for at least that many more entries, in whole rings. A refusal changes nothing.

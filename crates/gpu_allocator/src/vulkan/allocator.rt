@@ -1,6 +1,6 @@
 //! The allocator: blocks of device memory by memory type, and the calls that share them out.
 
-ghost use Rattle.std.specs.Prelude.{◌≡◌, ◌↔◌, [], All, map, string_bytes, Some, None, IfOk, IfErr, OnOk, OnErr, IsOk, IsSome, IfSome, IsTrue, List, ℕ, length, option_map, option_copied, ◌%◌};
+ghost use Rattle.std.specs.Prelude.{◌≡◌, ◌↔◌, [], All, map, string_bytes, Some, None, IfOk, IfErr, OnOk, IsSome, IfSome, IsTrue, List, ℕ, length, option_copied, ◌%◌};
 ghost use Rattle.std.specs.Option.{unwrap_or};
 ghost use Rattle.gpu_core.specs.Refusal.{refusal_of, host_out_of_memory};
 ghost use Rattle.gpu_allocator.specs.Setup.{setup_fault};

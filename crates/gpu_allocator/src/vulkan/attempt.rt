@@ -1,8 +1,7 @@
 //! An attempt to serve a request by one memory type.
 
-ghost use Rattle.std.specs.Prelude.{◌≡◌, ◌≢◌, ℕ, ◌+◌, ◌^◌, ◌<◌, ◌≤◌, length, slice_get, Some, IfSome, IsTrue, map, string_bytes};
+ghost use Rattle.std.specs.Prelude.{◌≡◌, ◌+◌, ◌^◌, ◌<◌, ◌≤◌, length, slice_get, Some, IfSome, IsTrue, string_bytes};
 ghost use Rattle.std.specs.Int.{is_power_of_two};
-ghost use Rattle.std.specs.List.{sum_by};
 ghost use Rattle.gpu_core.specs.TypeState.{capacity_of};
 ghost use Rattle.gpu_allocator.specs.Blocks.{is_host_visible, total_capacity, AreAllSound};
 ghost use Rattle.gpu_allocator.specs.Types.{slots_of, kinds, kinds_told};

@@ -1,7 +1,7 @@
 //! Asking the device for the memory of a block, and giving it back.
 
-ghost use Rattle.std.specs.Prelude.{◌≡◌, ◌≢◌, ℕ, ℤ, List, length, Option, None, IfErr, OnErr, OnOk};
-ghost use Rattle.std.specs.FinMap.{get, insert, remove};
+ghost use Rattle.std.specs.Prelude.{◌≡◌, ℕ, ℤ, List, length, Option, None, IfErr, OnErr, OnOk};
+ghost use Rattle.std.specs.FinMap.{remove};
 ghost use Rattle.gpu_core.specs.Refusal.{refusal_of};
 ghost use Rattle.gpu_device.specs.Held.{IsUnmapped, size_of, bytes_of, mapped_with, raised};
 ghost use Rattle.gpu_allocator.specs.BlockAnswer.{BlockAnswer, Asks, Gives, memory_refusal, map_refusal};

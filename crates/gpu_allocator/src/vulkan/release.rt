@@ -1,7 +1,7 @@
 //! Giving pieces back, and with them their blocks.
 
-ghost use Rattle.std.specs.Prelude.{◌≡◌, ◌≤◌, IfErr, OnOk, OnErr, length};
-ghost use Rattle.gpu_core.specs.Refusal.{refusal_of, internal};
+ghost use Rattle.std.specs.Prelude.{◌≡◌, ◌≤◌, IfErr, OnOk, OnErr};
+ghost use Rattle.gpu_core.specs.Refusal.{refusal_of};
 ghost use Rattle.gpu_core.specs.TypeRelease.{IsFreeRefusal, IsLive};
 ghost use Rattle.gpu_core.specs.TypeState.{slot_at, block_number};
 ghost use Rattle.gpu_allocator.specs.Blocks.{slots_at, total_capacity, AreAllSound};

@@ -1,6 +1,6 @@
 //! What an allocator is made with, and never changes.
 
-ghost use Rattle.std.specs.Prelude.{◌≡◌, ◌≤◌, ◌<◌, length, not, Some, None, IfOk, OnOk, IsTrue, map, All, [], slice_get, IfSome};
+ghost use Rattle.std.specs.Prelude.{◌≡◌, ◌<◌, length, not, Some, None, IfOk, OnOk, IsTrue, map, All, [], slice_get, IfSome};
 ghost use Rattle.std.specs.List.{list_any};
 ghost use Rattle.std.specs.Option.{option_map};
 ghost use Rattle.std.specs.Int.{is_power_of_two};

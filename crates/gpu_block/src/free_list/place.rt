@@ -1,6 +1,6 @@
 //! Where a request begins in a gap.
 
-ghost use Rattle.std.specs.Prelude.{◌≡◌, ℕ, ◌%◌, ◌^◌, ◌<◌, ◌≤◌, IsTrue, ◌↔◌, MatchOption};
+ghost use Rattle.std.specs.Prelude.{◌≡◌, ℕ, ◌+◌, ◌%◌, ◌^◌, ◌<◌, ◌≤◌, IsTrue, ◌↔◌, MatchOption};
 ghost use Rattle.std.specs.Option.{SomeIff};
 ghost use Rattle.std.specs.Int.{next_multiple_of};
 ghost use Rattle.gpu_block.specs.Place.{page, MayBegin, IsOffsetIn, FitsBetween};
@@ -21,10 +21,11 @@ pub struct Wanted {
 pub fn differ(left: AllocationType, right: AllocationType) -> bool
     ensures { IsTrue result ↔ Differ left right }
 {
-    match (left, right) {
-        (AllocationType::Linear, AllocationType::NonLinear) => true,
-        (AllocationType::NonLinear, AllocationType::Linear) => true,
-        _ => false,
+    // The request's kind comes last and is the same for each gap, so it is looked at first.
+    match right {
+        AllocationType::Linear => left == AllocationType::NonLinear,
+        AllocationType::NonLinear => left == AllocationType::Linear,
+        AllocationType::Free => false,
     }
 }
 
@@ -40,62 +41,78 @@ fn past(place: u64, step: u64) -> u64
     }
 }
 
-/// The least multiple of `step` from a place on, if it is a `u64`.
-fn round_up(place: u64, step: u64) -> Option<u64>
-    requires { 0 < step }
-    ensures { SomeIff result ((0 < step) × (next_multiple_of place step < 2 ^ 64)) (next_multiple_of place step) }
+/// The least multiple of `step` from a place on, if it isn't behind `last`.
+fn round_up(place: u64, last: u64, step: u64) -> Option<u64>
+    requires order { place ≤ last }
+    requires some { 0 < step }
+    ensures { SomeIff result (next_multiple_of place step ≤ last) (next_multiple_of place step) }
 {
-    let over = past(place, step);
-    if over == 0 {
-        return Some(place);
+    // Then the greatest multiple up to `last` lies before the place. Most gaps that don't fit end here, and no sum can overflow.
+    if last - place < past(last, step) {
+        return None;
     }
-    place.checked_add(step - over)
+    let over = past(place, step);
+    Some(if over == 0 {
+        place
+    } else {
+        place + (step - over)
+    })
 }
 
-/// The least place for a piece from `start` on, if it is a `u64`.
-pub fn offset_from(start: u64, alignment: u64, granularity: u64, other: bool) -> Option<u64>
+/// The least place for a piece from `start` on, if it isn't behind `last`.
+fn offset_from(start: u64, last: u64, alignment: u64, granularity: u64, other: bool) -> Option<u64>
+    requires order { start ≤ last }
     requires aligned { 0 < alignment }
     requires paged { 0 < granularity }
     requires behind { IsTrue other → 0 < start }
     ensures { MatchOption result
-        ((o : ℕ) → MayBegin granularity alignment (IsTrue other) start o → 2 ^ 64 ≤ o)
-        (λ o. IsOffsetIn granularity alignment (IsTrue other) start o) }
+        ((o : ℕ) → MayBegin granularity alignment (IsTrue other) start o → last < o)
+        (λ o. IsOffsetIn granularity alignment (IsTrue other) start o × (o ≤ last)) }
 {
     let first = if other {
-        round_up(start, granularity)?
+        round_up(start, last, granularity)?
     } else {
         start
     };
-    round_up(first, alignment)
+    round_up(first, last, alignment)
 }
 
-/// The place of a request between two neighbours, if it fits there.
+/// Whether two places lie on one page.
+fn share_page(place: u64, end: u64, granularity: u64) -> bool
+    requires order { place ≤ end }
+    requires paged { 0 < granularity }
+    ensures { IsTrue result ↔ page granularity place ≡ page granularity end }
+{
+    end - place <= past(end, granularity)
+}
+
+/// The place of a request from `start` on in so many bytes between two neighbours, if it fits there.
 pub fn place_between(
     start: u64,
-    end: u64,
+    length: u64,
     left: AllocationType,
     right: AllocationType,
     wanted: Wanted,
 ) -> Option<u64>
+    requires bounded { start + length < 2 ^ 64 }
     requires sized { 0 < wanted.size }
     requires aligned { 0 < wanted.alignment }
     requires paged { 0 < wanted.granularity }
     requires behind { Differ left wanted.kind → 0 < start }
     ensures { MatchOption result
-        ((o : ℕ) → FitsBetween wanted.granularity wanted.alignment wanted.size (Differ left wanted.kind) (Differ right wanted.kind) start end o → ⊥)
-        (λ o. FitsBetween wanted.granularity wanted.alignment wanted.size (Differ left wanted.kind) (Differ right wanted.kind) start end o) }
+        ((o : ℕ) → FitsBetween wanted.granularity wanted.alignment wanted.size (Differ left wanted.kind) (Differ right wanted.kind) start (start + length) o → ⊥)
+        (λ o. FitsBetween wanted.granularity wanted.alignment wanted.size (Differ left wanted.kind) (Differ right wanted.kind) start (start + length) o) }
 {
+    let spare = length.checked_sub(wanted.size)?;
     let offset = offset_from(
         start,
+        start + spare,
         wanted.alignment,
         wanted.granularity,
         differ(left, wanted.kind),
     )?;
-    let last = offset.checked_add(wanted.size - 1)?;
-    if last >= end {
-        return None;
-    }
-    if differ(right, wanted.kind) && last / wanted.granularity == end / wanted.granularity {
+    let last = offset + (wanted.size - 1);
+    if differ(right, wanted.kind) && share_page(last, start + length, wanted.granularity) {
         return None;
     }
     Some(offset)

@@ -25,13 +25,7 @@ fn place_in(gap: Gap, wanted: Wanted) -> Option<u64>
     requires paged { 0 < wanted.granularity }
     ensures { MatchOption result ((o : ℕ) → FitsGap wanted gap o → ⊥) (λ o. FitsGap wanted gap o) }
 {
-    place_between(
-        gap.start,
-        gap.start + gap.length,
-        gap.before,
-        gap.after,
-        wanted,
-    )
+    place_between(gap.start, gap.length, gap.before, gap.after, wanted)
 }
 
 /// The first gap of the index in which the request fits.
@@ -49,12 +43,12 @@ pub fn find(index: &GapIndex, wanted: Wanted, cost: &mut Cost) -> Option<Found>
         × (cost.new.comparisons ≤ cost.old.comparisons + digits (length index.now.gaps)) }
     ensures lookups { cost.new.lookups ≡ cost.old.lookups }
 {
-    let mut place = index.first_at_least(wanted.size, cost);
-    while let Some(gap) = index.get(place, cost) {
+    let place = index.first_at_least(wanted.size, cost);
+    let mut scan = index.scan(place);
+    while let Some(gap) = scan.next(cost) {
         if let Some(offset) = place_in(gap, wanted) {
             return Some(Found { gap, offset });
         }
-        place += 1;
     }
     None
 }

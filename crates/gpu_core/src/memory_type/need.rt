@@ -4,7 +4,7 @@ ghost use Rattle.std.specs.Prelude.{◌≡◌, ◌≢◌, ◌<◌, ◌≤◌, If
 ghost use Rattle.std.specs.Int.{is_power_of_two};
 ghost use Rattle.gpu_core.specs.Request.{request};
 ghost use Rattle.gpu_core.specs.SubAllocator.{block_of};
-ghost use Rattle.gpu_core.specs.Block.{size_of, is_general, TakesIn, HoldsPiece, HasPages, IsSoundBlock, HasPagesApart};
+ghost use Rattle.gpu_core.specs.Block.{TakesIn, HoldsPiece, HasPages, IsSoundBlock, HasPagesApart};
 ghost use Rattle.gpu_core.specs.TypeTake.{fresh_block, asked};
 ghost use Rattle.gpu_values.specs.declared.error.AllocationError.TheVariants.{HostOutOfMemory};
 

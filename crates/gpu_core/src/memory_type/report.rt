@@ -1,12 +1,12 @@
 //! What a memory type adds to a report.
 
-ghost use Rattle.std.specs.Prelude.{◌≡◌, ◌+◌, ◌++◌, ◌^◌, ◌<◌, ◌≤◌, [], ◌∷◌, length, map, Some, IfErr, OnOk};
+ghost use Rattle.std.specs.Prelude.{◌≡◌, ◌+◌, ◌^◌, ◌<◌, ◌≤◌, [], ◌∷◌, Some, IfErr, OnOk};
 ghost use Rattle.gpu_values.specs.declared.error.AllocationError.TheVariants.{HostOutOfMemory};
 ghost use Rattle.gpu_core.specs.SubAllocator.{block_of};
 ghost use Rattle.gpu_core.specs.Block.{size_of};
-ghost use Rattle.gpu_core.specs.Report.{report_of, row_of};
+ghost use Rattle.gpu_core.specs.Report.{report_of};
 ghost use Rattle.gpu_core.specs.TypeState.{capacity_of};
-ghost use Rattle.gpu_core.specs.TypeReport.{block_rows, with_type};
+ghost use Rattle.gpu_core.specs.TypeReport.{with_type};
 ghost use Rattle.gpu_core.specs.Slots.{slot_of, slots_of};
 
 use super::slot::LiveBlock;

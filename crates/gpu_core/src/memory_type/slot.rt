@@ -1,11 +1,10 @@
 //! One slot of a memory type.
 
-ghost use Rattle.std.specs.Prelude.{◌≡◌, ◌≢◌, ℕ, ◌<◌, ◌+◌, ◌↔◌, Some, IfOk, OnOk, IfErr, IfSome, IsNone, OnErr, IsTrue};
+ghost use Rattle.std.specs.Prelude.{◌≡◌, ◌≢◌, ℕ, ◌<◌, ◌+◌, Some, IfOk, OnOk, IfErr, IfSome, IsNone, OnErr, IsTrue};
 ghost use Rattle.std.specs.Option.{option_map};
 ghost use Rattle.std.specs.Int.{is_power_of_two};
 ghost use Rattle.std.specs.Int.NonZero.{non_zero_u64_get};
 ghost use Rattle.gpu_values.specs.declared.error.AllocationError.TheVariants.{HostOutOfMemory};
-ghost use Rattle.gpu_core.specs.TypeState.{Slot};
 ghost use Rattle.gpu_core.specs.TypeTake.{asked, CannotServe};
 ghost use Rattle.gpu_core.specs.Refusal.{refusal_of};
 ghost use Rattle.gpu_core.specs.SubAllocator.{block_of};

@@ -1,13 +1,10 @@
 //! The slots of a memory type.
 
-ghost use Rattle.std.specs.Prelude.{◌≡◌, ◌≢◌, ℕ, ◌+◌, ◌^◌, ◌<◌, ◌||◌, not, nat_lt, length, vec_capacity, if◌then◌else◌, Some, None, IfOk, IfErr, OnOk, OnErr, IfSome, IsSome, IsNone, IsTrue};
+ghost use Rattle.std.specs.Prelude.{◌≡◌, ◌≢◌, ℕ, ◌+◌, ◌^◌, ◌<◌, ◌||◌, nat_lt, length, vec_capacity, if◌then◌else◌, Some, None, IfOk, IfErr, OnOk, OnErr, IfSome, IsNone, IsTrue};
 ghost use Rattle.std.specs.Int.{is_power_of_two};
 ghost use Rattle.std.specs.List.{position};
 ghost use Rattle.std.specs.Option.{is_none, is_some};
 ghost use Rattle.gpu_values.specs.declared.error.AllocationError.TheVariants.{HostOutOfMemory};
-ghost use Rattle.gpu_core.specs.SubAllocator.{block_of};
-ghost use Rattle.gpu_core.specs.Block.{is_general};
-ghost use Rattle.std.specs.Int.NonZero.{non_zero_u64_get};
 ghost use Rattle.gpu_core.specs.Refusal.{refusal_of};
 ghost use Rattle.gpu_core.specs.TypeState.{slot_at, capacity_of, shared_count, lowest_empty, highest_empty};
 ghost use Rattle.gpu_core.specs.TypeRelease.{IsLive, IsFreeRefusal, IsNameRefusal, ReleasesPiece, RenamesPiece};

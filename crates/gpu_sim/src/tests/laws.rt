@@ -1,8 +1,8 @@
 //! The laws in use, at any device, and each run on the simulated one.
 
-ghost use Rattle.std.specs.Prelude.{◌≡◌, ◌≢◌, ℕ, ◌+◌, ◌≤◌, ◌<◌, ◌⊎◌, List, length, Some, None, IsSome, IfSome, IfOk, OnErr, OnOk, true, option_copied, replicate, slice_get};
-ghost use Rattle.std.specs.FinMap.{get, insert};
-ghost use Rattle.gpu_device.specs.Held.{range_of, bytes_of, size_of, with_range, HasRange, new_entry, raised};
+ghost use Rattle.std.specs.Prelude.{◌≡◌, ◌≢◌, ◌+◌, ◌≤◌, ◌<◌, ◌⊎◌, length, Some, None, IsSome, IfSome, true, option_copied, slice_get};
+ghost use Rattle.std.specs.FinMap.{get};
+ghost use Rattle.gpu_device.specs.Held.{range_of, bytes_of, size_of, with_range, HasRange, raised};
 
 use super::{device, info};
 use crate::Refusal;

@@ -1,12 +1,12 @@
 use Rattle.std.proofs.Common.{IsTrue, sym, ◌∙◌}
 use Rattle.std.proofs.lemmas.Bool.{false≢true}
-use Rattle.gpu_block.proofs.Pages.{IsFirst, first_here, first_next, offset_of_result, no_first}
+use Rattle.gpu_block.proofs.Pages.{IsFirst, first_here, first_next, offset_within, no_first_within}
 use Rattle.gpu_block.proofs.free_list.place.offset_from.Goals as goal
 use Rattle.gpu_block.proofs.free_list.place.offset_from.Goals.{then-other+in_ok-first, else-other}
 
 pub returns-in_err-first : goal.returns-in_err-first
 returns-in_err-first c =
-    rw c.from_residual.ensures (no_first c.args.granularity c.args.alignment (IsTrue c.args.other) c.args.start c.requires.paged (c.requires.behind c.if-other.true) c.if-other.true c.in_err-first.ensures)
+    rw c.from_residual.ensures (no_first_within c.args.granularity c.args.alignment c.args.last (IsTrue c.args.other) c.args.start c.requires.paged (c.requires.behind c.if-other.true) c.if-other.true c.in_err-first.ensures)
 
 pub returns : goal.returns
 returns c =
@@ -16,4 +16,4 @@ returns c =
       | then-other+in_ok-first w ↦ rw (w.first-is, w.in_ok-first.ensures.1) (first_next a.granularity (IsTrue a.other) a.start c.requires.paged (c.requires.behind w.if-other.true) w.if-other.true)
       | else-other w ↦ rw w.first-is (first_here a.granularity (IsTrue a.other) a.start (λ t. false≢true (sym w.if-other.false ∙ t)))
     ] in
-    offset_of_result a.granularity a.alignment (IsTrue a.other) a.start c.if-other.first c.round_up-2.result c.requires.aligned first c.round_up-2.ensures
+    offset_within a.granularity a.alignment a.last (IsTrue a.other) a.start c.if-other.first c.round_up-2.result c.requires.aligned first c.round_up-2.ensures

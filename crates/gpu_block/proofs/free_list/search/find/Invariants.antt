@@ -8,14 +8,15 @@ use Rattle.gpu_block.proofs.free_list.search.find.Given as goal
 
 abbrev pub invariant-loop-gap : goal.invariant-loop-gap
 invariant-loop-gap l = record {
-  within : l.place ≤ length l.index.gaps;
-  past : (k o : ℕ) (d : Gap) → k < l.place → FitsGap l.wanted (get_or l.index.gaps k d) o → ⊥;
-  from : (k : ℕ) (d : Gap) → l.place ≤ k → k < length l.index.gaps → (l.wanted).size ≤ (get_or l.index.gaps k d).length;
+  same : (l.scan).gaps ≡ l.index.gaps;
+  within : (l.scan).place ≤ length l.index.gaps;
+  past : (k o : ℕ) (d : Gap) → k < (l.scan).place → FitsGap l.wanted (get_or l.index.gaps k d) o → ⊥;
+  from : (k : ℕ) (d : Gap) → (l.scan).place ≤ k → k < length l.index.gaps → (l.wanted).size ≤ (get_or l.index.gaps k d).length;
   comparisons : ((l.fn.cost).comparisons ≤ l.cost.comparisons) × (l.cost.comparisons ≤ (l.fn.cost).comparisons + digits (length l.index.gaps));
-  tests : l.cost.tests ≡ (l.fn.cost).tests + count_by (is_long (l.wanted).size) (take l.place l.index.gaps);
+  tests : l.cost.tests ≡ (l.fn.cost).tests + count_by (is_long (l.wanted).size) (take (l.scan).place l.index.gaps);
   lookups : l.cost.lookups ≡ (l.fn.cost).lookups;
   ordered : AllPairs Before l.index.gaps;
 }
 
 abbrev pub decreases-loop-gap : goal.decreases-loop-gap
-decreases-loop-gap l = length l.index.gaps - l.place
+decreases-loop-gap l = length l.index.gaps - (l.scan).place

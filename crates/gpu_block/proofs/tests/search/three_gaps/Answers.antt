@@ -1,4 +1,4 @@
-use Rattle.std.proofs.Common.{◌≡◌, ◌+◌, ◌≤◌, ◌∙◌, ℕ, ap, subst}
+use Rattle.std.proofs.Common.{◌+◌, ◌≤◌, ◌∙◌, ap, subst}
 use Rattle.gpu_block.proofs.Counting.{digits_are, one_test}
 use Rattle.gpu_block.proofs.tests.search.three_gaps.Goals as goal
 

@@ -1,4 +1,4 @@
-use Rattle.std.proofs.Common.{◌≡◌, ◌+◌, ◌≤◌, ◌∙◌, ℕ, ap, subst}
+use Rattle.std.proofs.Common.{◌+◌, ◌≤◌, ◌∙◌, ap, subst}
 use Rattle.gpu_block.proofs.Counting.{digits_two, two_tests}
 use Rattle.gpu_block.proofs.tests.search.two_gaps_on_pages.Goals as goal
 
