@@ -81,7 +81,7 @@ impl<T: Copy> TieredVec<T> {
         }
     }
 
-    /// The entries from a place on, as many as lie in one piece of memory: of a vector of at most 256 entries all of them.
+    /// The entries from a place on, as many as lie in one piece of memory, and at least one.
     pub fn piece_from(&self, place: usize) -> &[T]
         requires { place < length self.now.entries }
         ensures some { 0 < length result.now }
