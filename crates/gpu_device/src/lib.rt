@@ -1,6 +1,8 @@
 //! The devices that memory is asked from, each as a trait with laws, and the plain types of their calls.
 #![tactic(auto)]
 
+pub mod d3d12;
+pub mod metal;
 #[cfg(test)]
 mod tests;
 pub mod vulkan;

@@ -2,6 +2,5 @@ pub mod Memories
 pub mod Memory
 pub mod Numbers
 pub mod Plan
-pub mod Script
 pub mod Simulation
 pub mod SimulationLaws

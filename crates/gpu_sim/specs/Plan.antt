@@ -2,10 +2,10 @@
 use Rattle.std.specs.Prelude.{ℕ, ◌+◌, ◌^◌, ℤ, Bool, false, nat_lt, if◌then◌else◌, List, Option, Some, None, Result, Ok, Err}
 use Rattle.gpu_device.specs.Held.{raised}
 use Rattle.gpu_device.specs.Properties.{Properties}
-use Rattle.gpu_sim.specs.declared.refusal.Refusal.{Refusal}
-use Rattle.gpu_sim.specs.declared.refusal.Refusal.TheVariants.{Code, Null}
+use Rattle.gpu_sim_base.specs.declared.script.Refusal.{Refusal}
+use Rattle.gpu_sim_base.specs.declared.script.Refusal.TheVariants.{Code, Null}
 use Rattle.gpu_sim.specs.declared.refusal.TheConstants.{MAPPING_FAILED, OUT_OF_DEVICE_MEMORY}
-use Rattle.gpu_sim.specs.Script.{refusal_at}
+use Rattle.gpu_sim_base.specs.Script.{refusal_at}
 
 pub record Plan : Type 0 where
   pub properties : Properties

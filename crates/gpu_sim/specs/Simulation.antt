@@ -17,14 +17,14 @@ abbrev pub plan_of : SimVulkan → Plan
 plan_of s = record {
   properties = properties_of s;
   limit = s.limit;
-  script = s.script.items;
-  questions = s.questions;
+  script = s.script.entries.items;
+  questions = s.script.questions;
   issued = issued s.memories;
 }
 
 -- how many questions it refused
 abbrev pub refused_of : SimVulkan → ℕ
-refused_of s = s.refusals
+refused_of s = s.script.refusals
 
 -- its latest question for memory
 abbrev pub latest_of : SimVulkan → Option MemoryAllocateInfo

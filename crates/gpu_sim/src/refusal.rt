@@ -1,8 +1,9 @@
-//! Refusals: those that a simulated device is told to give, and its own.
+//! Refusals of a simulated Vulkan device: how it gives those that its script names, and its own.
 
 ghost use Rattle.std.specs.Prelude.{◌≡◌};
-ghost use Rattle.gpu_sim.specs.Script.{refusal_at};
 ghost use Rattle.gpu_sim.specs.Plan.{code_for_memory, answer_for_mapping};
+
+use gpu_sim_base::Refusal;
 
 /// The host refused memory, or no number is left (`VK_ERROR_OUT_OF_HOST_MEMORY`).
 pub(crate) const OUT_OF_HOST_MEMORY: i32 = -1;
@@ -12,27 +13,6 @@ pub(crate) const OUT_OF_DEVICE_MEMORY: i32 = -2;
 
 /// The host can't see so many bytes (`VK_ERROR_MEMORY_MAP_FAILED`).
 pub(crate) const MAPPING_FAILED: i32 = -5;
-
-/// A refusal.
-#[derive(Clone, Copy, Debug, PartialEq, Eq)]
-pub enum Refusal {
-    /// This error code.
-    Code(i32),
-    /// A null answer without an error.
-    Null,
-}
-
-/// The refusal that the script has for a question: of two at one number the first counts.
-pub(crate) fn refusal_at(script: &[(u64, Refusal)], question: u64) -> Option<Refusal>
-    ensures { result ≡ refusal_at script.now question }
-{
-    for (number, refusal) in script {
-        if *number == question {
-            return Some(*refusal);
-        }
-    }
-    None
-}
 
 /// The code with which script or limit refuse a question for memory.
 pub(crate) fn code_for_memory(refusal: Option<Refusal>, size: u64, limit: u64) -> Option<i32>

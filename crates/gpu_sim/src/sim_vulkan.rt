@@ -3,17 +3,16 @@
 ghost use Rattle.std.specs.Prelude.{◌≡◌, ◌≢◌, ℕ, ◌+◌, ◌^◌, ◌<◌, List, length, replicate, refl, Some, None, IfSome, IfOk, IfErr, OnErr, OnOk, true, false};
 ghost use Rattle.std.specs.FinMap.{empty, get, insert, remove, len as map_len};
 ghost use Rattle.gpu_device.specs.Held.{new_entry, size_of, IsUnmapped, mapped_with, unmapped, raised};
-ghost use Rattle.gpu_sim.specs.Plan.{asked, given, next_refusal, planned_code, planned_answer};
+ghost use Rattle.gpu_sim.specs.Plan.{asked, given, planned_code, planned_answer};
 ghost use Rattle.gpu_sim.specs.Simulation.{held_of, properties_of, plan_of, refused_of, latest_of, written_sim};
 ghost use Rattle.gpu_sim.specs.SimulationLaws.{no_null as no_null_law, whole as whole_law, written_held as written_held_law};
 
 use crate::memories::Memories;
-use crate::refusal::{
-    OUT_OF_HOST_MEMORY, Refusal, answer_for_mapping, code_for_memory, refusal_at,
-};
+use crate::refusal::{OUT_OF_HOST_MEMORY, answer_for_mapping, code_for_memory};
 use gpu_device::vulkan::{
     DeviceMemory, MemoryAllocateInfo, MemoryHeap, MemoryTypeInfo, VulkanDevice,
 };
+use gpu_sim_base::{Refusal, Script};
 use std::alloc::Global;
 
 /// A Vulkan device without a GPU: its memories have the numbers 1, 2 and so on, and bytes while they are mapped, zeros
@@ -27,10 +26,8 @@ pub struct SimVulkan {
     types: Vec<MemoryTypeInfo>,
     granularity: u64,
     limit: u64,
-    script: Vec<(u64, Refusal)>,
+    script: Script,
     memories: Memories,
-    questions: u64,
-    refusals: u64,
     last_info: Option<MemoryAllocateInfo>,
 }
 
@@ -62,10 +59,8 @@ impl SimVulkan {
             types,
             granularity,
             limit,
-            script: refusals,
+            script: Script::new(refusals),
             memories: Memories::new(alloc),
-            questions: 0,
-            refusals: 0,
             last_info: None,
         }
     }
@@ -81,7 +76,7 @@ impl SimVulkan {
     pub fn questions(&self) -> u64
         ensures { result ≡ (plan_of self.now).questions }
     {
-        self.questions
+        self.script.questions()
     }
 
     /// The latest question for memory, granted or refused.
@@ -89,22 +84,6 @@ impl SimVulkan {
         ensures { result ≡ latest_of self.now }
     {
         self.last_info
-    }
-
-    /// Counts a question, and gives the refusal that the script has for it.
-    fn ask(&mut self) -> Option<Refusal>
-        ensures refusal { result ≡ next_refusal (plan_of self.old) }
-        ensures counted { self.new ≡ record self.old { questions = raised self.old.questions } }
-    {
-        self.questions = self.questions.saturating_add(1);
-        refusal_at(&self.script, self.questions)
-    }
-
-    /// Counts a refusal.
-    fn refuse(&mut self)
-        ensures { self.new ≡ record self.old { refusals = raised self.old.refusals } }
-    {
-        self.refusals = self.refusals.saturating_add(1);
     }
 }
 
@@ -152,7 +131,7 @@ impl VulkanDevice for SimVulkan {
     }
 
     fn refusals(&self) -> u64 {
-        self.refusals
+        self.script.refusals()
     }
 
     fn allocate_memory(&mut self, info: &MemoryAllocateInfo) -> Result<DeviceMemory, i32>
@@ -169,16 +148,16 @@ impl VulkanDevice for SimVulkan {
         ensures plan_granted { OnOk result (plan_of self.new ≡ given (plan_of self.old)) }
         ensures plan_refused { OnErr result (plan_of self.new ≡ asked (plan_of self.old)) }
     {
-        let refusal = self.ask();
+        let refusal = self.script.ask();
         self.last_info = Some(*info);
         if let Some(code) = code_for_memory(refusal, info.size, self.limit) {
-            self.refuse();
+            self.script.refuse();
             return Err(code);
         }
         match self.memories.add(info) {
             Ok(number) => Ok(DeviceMemory(number)),
             Err(_) => {
-                self.refuse();
+                self.script.refuse();
                 Err(OUT_OF_HOST_MEMORY)
             }
         }
@@ -203,10 +182,10 @@ impl VulkanDevice for SimVulkan {
         ensures null_by_plan { planned_answer (plan_of self.old) (size_of (held_of self.old) memory.0) ≡ None → result ≢ Ok false }
         ensures plan { plan_of self.new ≡ asked (plan_of self.old) }
     {
-        let refusal = self.ask();
+        let refusal = self.script.ask();
         let size = self.memories.size(memory.0);
         if let Some(answer) = answer_for_mapping(refusal, size) {
-            self.refuse();
+            self.script.refuse();
             return answer;
         }
         match vec![in self.alloc; 0u8; size as usize] {
@@ -215,7 +194,7 @@ impl VulkanDevice for SimVulkan {
                 Ok(true)
             }
             Err(_) => {
-                self.refuse();
+                self.script.refuse();
                 Err(OUT_OF_HOST_MEMORY)
             }
         }

@@ -1,0 +1,5 @@
+//! DirectX 12.
+
+pub mod laws;
+#[cfg(test)]
+mod tests;

@@ -1,0 +1,220 @@
+//! The answers of the simulated DirectX 12 device, with ample memory and with memory refused.
+
+use super::laws::make_and_release;
+use gpu_device::d3d12::{
+    ClearValue, CpuPageProperty, D3D12Device, Format, HeapContent, HeapDesc, HeapFlags,
+    HeapProperties, HeapType, ID3D12Heap, ID3D12Resource, MemoryPool, ResourceDesc, ResourceDesc1,
+    ResourceDimension, ResourceHeapTier,
+};
+use gpu_sim::SimD3D12;
+use gpu_sim_base::Refusal;
+use std::test::Fail;
+
+const PROPERTIES: HeapProperties = HeapProperties {
+    heap_type: HeapType::Custom,
+    cpu_page_property: CpuPageProperty::WriteCombine,
+    memory_pool_preference: MemoryPool::L0,
+    creation_node_mask: 0,
+    visible_node_mask: 0,
+};
+
+const HEAP: HeapDesc = HeapDesc {
+    size: 4 << 20,
+    properties: PROPERTIES,
+    alignment: 4 << 20,
+    content: HeapContent::Buffers,
+};
+
+const CLEAR: ClearValue = ClearValue {
+    format: Format(28),
+    value: [1, 2, 3, 4],
+};
+
+/// A buffer of this many bytes.
+fn buffer(width: u64) -> ResourceDesc {
+    ResourceDesc {
+        dimension: ResourceDimension::Buffer,
+        alignment: 0,
+        width,
+        height: 1,
+        depth_or_array_size: 1,
+        mip_levels: 1,
+        format: Format(0),
+        sample_count: 1,
+        sample_quality: 0,
+        layout: 1,
+        flags: 0,
+    }
+}
+
+/// The same for the later calls.
+fn buffer1(width: u64) -> ResourceDesc1 {
+    ResourceDesc1 {
+        desc: buffer(width),
+        sampler_feedback_mip_region: [0; 3],
+    }
+}
+
+#[test]
+fn tells_what_it_was_given(rt: HostRuntime) {
+    let sim = SimD3D12::new(
+        rt.alloc(),
+        Ok(ResourceHeapTier::Tier1),
+        Vec::new(rt.alloc()),
+    );
+    assert!(rt; sim.resource_heap_tier() == Ok(ResourceHeapTier::Tier1));
+    assert_eq!(rt; sim.device_removed_reason(), -2005270523);
+    assert_eq!(rt; (sim.held(), sim.questions(), sim.refusals()), (0, 0, 0));
+    assert!(rt; sim.last_heap().is_none());
+    assert!(rt; sim.last_formats().is_none());
+    assert!(rt; sim.last_clear().is_none());
+    let none = SimD3D12::new(rt.alloc(), Err(-5), Vec::new(rt.alloc()));
+    assert!(rt; none.resource_heap_tier() == Err(-5));
+}
+
+#[test]
+fn sizes(rt: HostRuntime) {
+    let sim = SimD3D12::new(
+        rt.alloc(),
+        Ok(ResourceHeapTier::Tier2),
+        Vec::new(rt.alloc()),
+    );
+    for (width, size) in [
+        (0, 65536),
+        (1, 65536),
+        (65536, 65536),
+        (65537, 131072),
+        (70000, 131072),
+        (u64::MAX - 65535, u64::MAX - 65535),
+        (u64::MAX, u64::MAX - 65535),
+    ] {
+        let info = sim.resource_allocation_info(&buffer(width));
+        assert_eq!(rt; info.size_in_bytes, size);
+        assert_eq!(rt; info.alignment, 65536);
+        assert!(rt; sim.resource_allocation_info3(&buffer1(width), &[Format(28)]) == info);
+    }
+}
+
+#[test]
+fn numbers_after_a_refusal(rt: HostRuntime) -> Result<(), Fail> {
+    let refusals = vec![in rt.alloc();
+        (2, Refusal::Code(-7)),
+        (2, Refusal::Null),
+        (4, Refusal::Null),
+    ]?;
+    let mut sim = SimD3D12::new(rt.alloc(), Ok(ResourceHeapTier::Tier2), refusals);
+    assert!(rt; sim.create_heap(&HEAP) == Ok(Some(ID3D12Heap(1))));
+    let small = HeapDesc {
+        size: 65536,
+        ..HEAP
+    };
+    assert!(rt; sim.create_heap(&small) == Err(-7));
+    assert!(rt; sim.last_heap() == Some(small));
+    let placed = sim.create_placed_resource(ID3D12Heap(1), 0, &buffer(1), 0, Some(&CLEAR));
+    assert!(rt; placed == Ok(Some(ID3D12Resource(2))));
+    assert!(rt; sim.last_clear() == Some(CLEAR));
+    assert!(rt; sim.create_heap(&HEAP) == Ok(None));
+    assert_eq!(rt; (sim.held(), sim.questions(), sim.refusals()), (2, 4, 2));
+    sim.release_heap(ID3D12Heap(2));
+    sim.release_resource(ID3D12Resource(1));
+    sim.release_resource(ID3D12Resource(9));
+    assert_eq!(rt; sim.held(), 2);
+    sim.release_resource(ID3D12Resource(2));
+    sim.release_heap(ID3D12Heap(1));
+    sim.release_heap(ID3D12Heap(1));
+    assert_eq!(rt; sim.held(), 0);
+    assert!(rt; sim.create_heap(&HEAP) == Ok(Some(ID3D12Heap(3))));
+    Ok(())
+}
+
+#[test]
+fn a_null_heap(rt: HostRuntime) -> Result<(), Fail> {
+    let refusals = vec![in rt.alloc(); (2, Refusal::Null)]?;
+    let mut sim = SimD3D12::new(rt.alloc(), Ok(ResourceHeapTier::Tier2), refusals);
+    assert!(rt; sim.create_heap(&HEAP) == Ok(Some(ID3D12Heap(1))));
+    assert!(rt; sim.create_heap(&HEAP) == Ok(None));
+    assert!(rt; sim.create_heap(&HEAP) == Ok(Some(ID3D12Heap(2))));
+    assert_eq!(rt; (sim.held(), sim.questions(), sim.refusals()), (2, 3, 1));
+    Ok(())
+}
+
+#[test]
+fn formats_and_clear_values(rt: HostRuntime) {
+    let mut sim = SimD3D12::new(
+        rt.alloc(),
+        Ok(ResourceHeapTier::Tier2),
+        Vec::new(rt.alloc()),
+    );
+    let flags = HeapFlags(0);
+    let committed = sim.create_committed_resource(&PROPERTIES, flags, &buffer(1), 0, Some(&CLEAR));
+    assert!(rt; committed == Ok(Some(ID3D12Resource(1))));
+    assert!(rt; sim.last_formats().is_none());
+    assert!(rt; sim.last_clear() == Some(CLEAR));
+    let formats = [Format(28), Format(29)];
+    let later = sim.create_committed_resource3(
+        &PROPERTIES,
+        flags,
+        &buffer1(1),
+        0,
+        None,
+        Some(&formats),
+    );
+    assert!(rt; later == Ok(Some(ID3D12Resource(2))));
+    assert!(rt; sim.last_formats() == Some(2));
+    assert!(rt; sim.last_clear().is_none());
+    let placed = sim.create_placed_resource2(
+        ID3D12Heap(7),
+        65536,
+        &buffer1(1),
+        0,
+        Some(&CLEAR),
+        Some(&[]),
+    );
+    assert!(rt; placed == Ok(Some(ID3D12Resource(3))));
+    assert!(rt; sim.last_formats() == Some(0));
+    assert!(rt; sim.last_clear() == Some(CLEAR));
+    let early = sim.create_placed_resource2(ID3D12Heap(7), 0, &buffer1(1), 0, None, None);
+    assert!(rt; early == Ok(Some(ID3D12Resource(4))));
+    assert!(rt; sim.last_formats().is_none());
+    assert!(rt; sim.last_heap().is_none());
+    assert_eq!(rt; (sim.held(), sim.questions(), sim.refusals()), (4, 4, 0));
+}
+
+#[test]
+fn made_and_released(rt: HostRuntime) -> Result<(), Fail> {
+    let refusals = vec![in rt.alloc(); (4, Refusal::Null), (5, Refusal::Code(-1))]?;
+    let mut sim = SimD3D12::new(rt.alloc(), Ok(ResourceHeapTier::Tier2), refusals);
+    for (granted, questions, refused) in [
+        (true, 2, 0),
+        (false, 4, 1),
+        (false, 5, 2),
+        (true, 7, 2),
+    ] {
+        assert_eq!(rt; make_and_release(&mut sim, &HEAP, &buffer(512)), granted);
+        assert_eq!(rt; (sim.questions(), sim.refusals()), (questions, refused));
+        assert_eq!(rt; sim.held(), 0);
+    }
+    Ok(())
+}
+
+/// Where the host refuses memory, the answer is code -2147024882, and the counts and the latest question alone tell of
+/// it.
+#[test]
+fn refused_by_the_host(rt: HostRuntime) {
+    let mut sim = SimD3D12::new(
+        rt.alloc(),
+        Ok(ResourceHeapTier::Tier2),
+        Vec::new(rt.alloc()),
+    );
+    match sim.create_heap(&HEAP) {
+        Ok(heap) => {
+            assert!(rt; heap == Some(ID3D12Heap(1)));
+            assert_eq!(rt; (sim.held(), sim.questions(), sim.refusals()), (1, 1, 0));
+        }
+        Err(code) => {
+            assert_eq!(rt; code, -2147024882);
+            assert_eq!(rt; (sim.held(), sim.questions(), sim.refusals()), (0, 1, 1));
+        }
+    }
+    assert!(rt; sim.last_heap() == Some(HEAP));
+}

@@ -1,0 +1,5 @@
+//! Metal.
+
+pub mod laws;
+#[cfg(test)]
+mod tests;

@@ -1,0 +1,4 @@
+pub mod Numbers
+pub mod NumbersLaws
+pub mod Script
+pub mod Sizes

@@ -1,0 +1,310 @@
+//! A simulated DirectX 12 device.
+
+ghost use Rattle.std.specs.Prelude.{◌≡◌, ◌+◌, length, Some, None, option_copied, option_map};
+ghost use Rattle.std.specs.FinMap.{empty, len as map_len};
+ghost use Rattle.gpu_device.specs.D3D12.{Heap, Committed, Placed, told_size, told_size1, granted_heap, granted_resource, without_heap, without_resource};
+ghost use Rattle.gpu_device.specs.Granted.{IsNew, with_granted, counted};
+ghost use Rattle.gpu_sim_d3d12.specs.Objects.{IsAnswer, entry_of};
+ghost use Rattle.gpu_sim_d3d12.specs.Simulation.{held_of, info_for, properties_of, refused_of, removal_reason_of, plan_of, planned, answered};
+ghost use Rattle.gpu_sim_d3d12.specs.SimulationLaws.{no_null as no_null_law};
+
+use crate::objects::{Object, Objects};
+use gpu_device::d3d12::{
+    ClearValue, D3D12Device, Format, HeapDesc, HeapFlags, HeapProperties, ID3D12Heap,
+    ID3D12Resource, ResourceAllocationInfo, ResourceDesc, ResourceDesc1, ResourceHeapTier,
+};
+use gpu_sim_base::{Refusal, rounded_up};
+use std::alloc::Global;
+
+/// In bytes (`D3D12_DEFAULT_RESOURCE_PLACEMENT_ALIGNMENT`).
+const ALIGNMENT: u64 = 65536;
+
+/// Why a simulated device was removed (`DXGI_ERROR_DEVICE_REMOVED`, 0x887a0005).
+const REMOVAL_REASON: i32 = -2005270523;
+
+/// A DirectX 12 device without a GPU: heaps and resources have the numbers 1, 2 and so on, and no number twice. A
+/// resource takes its width rounded up to a multiple of 65,536 bytes, at least one. It refuses the questions that its
+/// script names by their number, the first question being 1, and what the host refuses it, with code -2147024882. Heaps
+/// may lie in any memory, and resources anywhere in a heap: it checks no place.
+#[derive(Drop)]
+pub struct SimD3D12 {
+    tier: Result<ResourceHeapTier, i32>,
+    objects: Objects,
+    last_heap: Option<HeapDesc>,
+    last_formats: Option<usize>,
+    last_clear: Option<ClearValue>,
+}
+
+impl SimD3D12 {
+    /// A device that holds nothing, with its heap tier or the code with which that can't be told. `refusals` names
+    /// questions by their number, and of two at one number the first counts.
+    pub fn new(
+        alloc: Global,
+        tier: Result<ResourceHeapTier, i32>,
+        refusals: Vec<(u64, Refusal)>,
+    ) -> Self
+        ensures held { held_of result ≡ empty }
+        ensures tier { (properties_of result).tier ≡ tier }
+        ensures plan { plan_of result ≡ record { script = refusals.items; questions = 0; issued = 0 } }
+        ensures refused { refused_of result ≡ 0 }
+        ensures no_heap { result.last_heap ≡ None }
+        ensures no_formats { result.last_formats ≡ None }
+        ensures no_clear_value { result.last_clear ≡ None }
+    {
+        SimD3D12 {
+            tier,
+            objects: Objects::new(alloc, refusals),
+            last_heap: None,
+            last_formats: None,
+            last_clear: None,
+        }
+    }
+
+    /// How many heaps and resources it holds.
+    pub fn held(&self) -> usize
+        ensures { result ≡ map_len (held_of self.now) }
+    {
+        self.objects.count()
+    }
+
+    /// How many questions came, for heaps and for resources, granted or refused. The count stays at `u64::MAX`.
+    pub fn questions(&self) -> u64
+        ensures { result ≡ (plan_of self.now).questions }
+    {
+        self.objects.script.questions()
+    }
+
+    /// The latest question for a heap, granted or refused.
+    pub fn last_heap(&self) -> Option<HeapDesc>
+        ensures { result ≡ self.now.last_heap }
+    {
+        self.last_heap
+    }
+
+    /// How many castable formats came with the latest question for a resource, where a list of them came.
+    pub fn last_formats(&self) -> Option<usize>
+        ensures { result ≡ self.now.last_formats }
+    {
+        self.last_formats
+    }
+
+    /// The clear value of the latest question for a resource.
+    pub fn last_clear(&self) -> Option<ClearValue>
+        ensures { result ≡ self.now.last_clear }
+    {
+        self.last_clear
+    }
+
+    /// Answers a question for a resource.
+    fn create_resource(
+        &mut self,
+        object: Object,
+        castable_formats: Option<&[Format]>,
+        clear_value: Option<&ClearValue>,
+    ) -> Result<Option<ID3D12Resource>, i32>
+        ensures number { IsNew (held_of self.old) (granted_resource result) }
+        ensures holds { held_of self.new ≡ with_granted (held_of self.old) (granted_resource result) (entry_of object) }
+        ensures counts { refused_of self.new ≡ counted (refused_of self.old) (granted_resource result) }
+        ensures heap { self.new.last_heap ≡ self.old.last_heap }
+        ensures formats { self.new.last_formats ≡ option_map length (option_copied castable_formats.entry) }
+        ensures clear_value { self.new.last_clear ≡ option_copied clear_value.entry }
+        ensures tier { self.new.tier ≡ self.old.tier }
+        ensures answer { IsAnswer (λ resource. resource.0) (planned (plan_of self.old)) ((plan_of self.old).issued + 1) result }
+        ensures plan { plan_of self.new ≡ answered (plan_of self.old) (granted_resource result) }
+    {
+        self.last_formats = match castable_formats {
+            Some(formats) => Some(formats.len()),
+            None => None,
+        };
+        self.last_clear = clear_value.copied();
+        let Some(number) = self.objects.hold(object)? else {
+            return Ok(None);
+        };
+        Ok(Some(ID3D12Resource(number)))
+    }
+}
+
+impl D3D12Device for SimD3D12 {
+    ghost properties = { properties_of };
+
+    ghost held = { held_of };
+
+    ghost refused = { refused_of };
+
+    ghost latest_heap = { λ s. s.last_heap };
+
+    ghost latest_formats = { λ s. s.last_formats };
+
+    ghost latest_clear = { λ s. s.last_clear };
+
+    ghost removal_reason = { removal_reason_of };
+
+    ghost no_null = { no_null_law };
+
+    fn resource_heap_tier(&self) -> Result<ResourceHeapTier, i32> {
+        self.tier
+    }
+
+    fn resource_allocation_info(&self, desc: &ResourceDesc) -> ResourceAllocationInfo
+        ensures { result ≡ info_for desc.now.width }
+    {
+        ResourceAllocationInfo {
+            size_in_bytes: rounded_up(desc.width, ALIGNMENT),
+            alignment: ALIGNMENT,
+        }
+    }
+
+    fn resource_allocation_info3(
+        &self,
+        desc: &ResourceDesc1,
+        castable_formats: &[Format],
+    ) -> ResourceAllocationInfo {
+        self.resource_allocation_info(&desc.desc)
+    }
+
+    fn device_removed_reason(&self) -> i32 {
+        REMOVAL_REASON
+    }
+
+    fn refusals(&self) -> u64 {
+        self.objects.script.refusals()
+    }
+
+    fn create_heap(&mut self, desc: &HeapDesc) -> Result<Option<ID3D12Heap>, i32>
+        ensures number { IsNew (held_of self.old) (granted_heap result) }
+        ensures holds { held_of self.new ≡ with_granted (held_of self.old) (granted_heap result) (Heap desc.now) }
+        ensures counts { refused_of self.new ≡ counted (refused_of self.old) (granted_heap result) }
+        ensures names_heap { self.new.last_heap ≡ Some desc.now }
+        ensures names_no_formats { self.new.last_formats ≡ self.old.last_formats }
+        ensures names_no_clear_value { self.new.last_clear ≡ self.old.last_clear }
+        ensures constant { properties_of self.new ≡ properties_of self.old }
+        ensures answer { IsAnswer (λ heap. heap.0) (planned (plan_of self.old)) ((plan_of self.old).issued + 1) result }
+        ensures plan { plan_of self.new ≡ answered (plan_of self.old) (granted_heap result) }
+    {
+        self.last_heap = Some(*desc);
+        let Some(number) = self.objects.hold(Object::Heap(*desc))? else {
+            return Ok(None);
+        };
+        Ok(Some(ID3D12Heap(number)))
+    }
+
+    fn create_committed_resource(
+        &mut self,
+        heap_properties: &HeapProperties,
+        heap_flags: HeapFlags,
+        desc: &ResourceDesc,
+        initial_state: u32,
+        clear_value: Option<&ClearValue>,
+    ) -> Result<Option<ID3D12Resource>, i32>
+        ensures number { IsNew (held_of self.old) (granted_resource result) }
+        ensures holds { held_of self.new ≡ with_granted (held_of self.old) (granted_resource result) (Committed (told_size (properties_of self.old) desc.now)) }
+        ensures counts { refused_of self.new ≡ counted (refused_of self.old) (granted_resource result) }
+        ensures names_no_heap { self.new.last_heap ≡ self.old.last_heap }
+        ensures names_formats { self.new.last_formats ≡ None }
+        ensures names_clear_value { self.new.last_clear ≡ option_copied clear_value.entry }
+        ensures constant { properties_of self.new ≡ properties_of self.old }
+        ensures answer { IsAnswer (λ resource. resource.0) (planned (plan_of self.old)) ((plan_of self.old).issued + 1) result }
+        ensures plan { plan_of self.new ≡ answered (plan_of self.old) (granted_resource result) }
+    {
+        let size = self.resource_allocation_info(desc).size_in_bytes;
+        self.create_resource(Object::Committed { size }, None, clear_value)
+    }
+
+    fn create_committed_resource3(
+        &mut self,
+        heap_properties: &HeapProperties,
+        heap_flags: HeapFlags,
+        desc: &ResourceDesc1,
+        initial_layout: u32,
+        clear_value: Option<&ClearValue>,
+        castable_formats: Option<&[Format]>,
+    ) -> Result<Option<ID3D12Resource>, i32>
+        ensures number { IsNew (held_of self.old) (granted_resource result) }
+        ensures holds { held_of self.new ≡ with_granted (held_of self.old) (granted_resource result)
+            (Committed (told_size1 (properties_of self.old) desc.now (option_copied castable_formats.entry))) }
+        ensures counts { refused_of self.new ≡ counted (refused_of self.old) (granted_resource result) }
+        ensures names_no_heap { self.new.last_heap ≡ self.old.last_heap }
+        ensures names_formats { self.new.last_formats ≡ option_map length (option_copied castable_formats.entry) }
+        ensures names_clear_value { self.new.last_clear ≡ option_copied clear_value.entry }
+        ensures constant { properties_of self.new ≡ properties_of self.old }
+        ensures answer { IsAnswer (λ resource. resource.0) (planned (plan_of self.old)) ((plan_of self.old).issued + 1) result }
+        ensures plan { plan_of self.new ≡ answered (plan_of self.old) (granted_resource result) }
+    {
+        let size = self.resource_allocation_info(&desc.desc).size_in_bytes;
+        self.create_resource(Object::Committed { size }, castable_formats, clear_value)
+    }
+
+    fn create_placed_resource(
+        &mut self,
+        heap: ID3D12Heap,
+        offset: u64,
+        desc: &ResourceDesc,
+        initial_state: u32,
+        clear_value: Option<&ClearValue>,
+    ) -> Result<Option<ID3D12Resource>, i32>
+        ensures number { IsNew (held_of self.old) (granted_resource result) }
+        ensures holds { held_of self.new ≡ with_granted (held_of self.old) (granted_resource result) (Placed heap.0 offset (told_size (properties_of self.old) desc.now)) }
+        ensures counts { refused_of self.new ≡ counted (refused_of self.old) (granted_resource result) }
+        ensures names_no_heap { self.new.last_heap ≡ self.old.last_heap }
+        ensures names_formats { self.new.last_formats ≡ None }
+        ensures names_clear_value { self.new.last_clear ≡ option_copied clear_value.entry }
+        ensures constant { properties_of self.new ≡ properties_of self.old }
+        ensures answer { IsAnswer (λ resource. resource.0) (planned (plan_of self.old)) ((plan_of self.old).issued + 1) result }
+        ensures plan { plan_of self.new ≡ answered (plan_of self.old) (granted_resource result) }
+    {
+        let size = self.resource_allocation_info(desc).size_in_bytes;
+        self.create_resource(Object::Placed { heap, offset, size }, None, clear_value)
+    }
+
+    fn create_placed_resource2(
+        &mut self,
+        heap: ID3D12Heap,
+        offset: u64,
+        desc: &ResourceDesc1,
+        initial_layout: u32,
+        clear_value: Option<&ClearValue>,
+        castable_formats: Option<&[Format]>,
+    ) -> Result<Option<ID3D12Resource>, i32>
+        ensures number { IsNew (held_of self.old) (granted_resource result) }
+        ensures holds { held_of self.new ≡ with_granted (held_of self.old) (granted_resource result)
+            (Placed heap.0 offset (told_size1 (properties_of self.old) desc.now (option_copied castable_formats.entry))) }
+        ensures counts { refused_of self.new ≡ counted (refused_of self.old) (granted_resource result) }
+        ensures names_no_heap { self.new.last_heap ≡ self.old.last_heap }
+        ensures names_formats { self.new.last_formats ≡ option_map length (option_copied castable_formats.entry) }
+        ensures names_clear_value { self.new.last_clear ≡ option_copied clear_value.entry }
+        ensures constant { properties_of self.new ≡ properties_of self.old }
+        ensures answer { IsAnswer (λ resource. resource.0) (planned (plan_of self.old)) ((plan_of self.old).issued + 1) result }
+        ensures plan { plan_of self.new ≡ answered (plan_of self.old) (granted_resource result) }
+    {
+        let size = self.resource_allocation_info(&desc.desc).size_in_bytes;
+        self.create_resource(
+            Object::Placed { heap, offset, size },
+            castable_formats,
+            clear_value,
+        )
+    }
+
+    fn release_heap(&mut self, heap: ID3D12Heap)
+        ensures gives_back { held_of self.new ≡ without_heap (held_of self.old) heap.0 }
+        ensures counts_nothing { refused_of self.new ≡ refused_of self.old }
+        ensures names_no_heap { self.new.last_heap ≡ self.old.last_heap }
+        ensures names_no_formats { self.new.last_formats ≡ self.old.last_formats }
+        ensures names_no_clear_value { self.new.last_clear ≡ self.old.last_clear }
+        ensures constant { properties_of self.new ≡ properties_of self.old }
+        ensures plan { plan_of self.new ≡ plan_of self.old }
+    {
+        self.objects.release_heap(heap.0);
+    }
+
+    fn release_resource(&mut self, resource: ID3D12Resource)
+        ensures gives_back { held_of self.new ≡ without_resource (held_of self.old) resource.0 }
+        ensures counts_nothing { refused_of self.new ≡ refused_of self.old }
+        ensures names_no_heap { self.new.last_heap ≡ self.old.last_heap }
+        ensures names_no_formats { self.new.last_formats ≡ self.old.last_formats }
+        ensures names_no_clear_value { self.new.last_clear ≡ self.old.last_clear }
+        ensures constant { properties_of self.new ≡ properties_of self.old }
+        ensures plan { plan_of self.new ≡ plan_of self.old }
+    {
+        self.objects.release_resource(resource.0);
+    }
+}

@@ -1,0 +1,18 @@
+use Rattle.std.proofs.Common.{sym, ap, subst, ◌∙◌, length}
+use Rattle.std.specs.Prelude.{List, Option}
+use Rattle.gpu_sim_metal.specs.Objects.{held_by, AllHaveRoom}
+use Rattle.gpu_sim_metal.specs.declared.objects.Object.{Object}
+use Rattle.gpu_sim_metal.proofs.Sets.{heap_removed, heap_not_there, roomy_removed}
+use Rattle.gpu_sim_metal.proofs.objects.Objects.release_heap.Goals as goal
+
+pub invariant_of-self : goal.invariant_of-self
+invariant_of-self c = record {
+  roomy = subst (λ (l : List (Option Object)). AllHaveRoom (length l) l) (sym c.remove.ensures) (roomy_removed c.args.self.now.numbers.slots.items c.args.number c.args.self.now.roomy);
+}
+
+pub returns-then-is_heap-clause-held : goal.returns-then-is_heap-clause-held
+returns-then-is_heap-clause-held c =
+    ap held_by c.remove.ensures ∙ heap_removed c.args.self.now.numbers.slots.items c.args.number (sym c.is_heap.ensures ∙ c.if-is_heap.true)
+
+pub returns-else-is_heap-clause-held : goal.returns-else-is_heap-clause-held
+returns-else-is_heap-clause-held c = heap_not_there c.args.self.now.numbers.slots.items c.args.number (sym c.is_heap.ensures ∙ c.if-is_heap.false)

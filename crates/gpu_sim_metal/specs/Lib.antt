@@ -1,0 +1,4 @@
+pub mod Objects
+pub mod ResidencySet
+pub mod Simulation
+pub mod SimulationLaws
