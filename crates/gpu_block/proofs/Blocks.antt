@@ -3,11 +3,11 @@ use Rattle.std.proofs.Common.{◌≡◌, ℕ, List, sym, ap, ◌∙◌, inl, inr
 use Rattle.std.specs.Prelude.{IsSome}
 use Rattle.std.proofs.lemmas.Bool.{false≢true}
 use Rattle.gpu_values.specs.declared.error.AllocationError.TheVariants.{OutOfMemory}
-use Rattle.gpu_block.specs.FreeList.{FreeList}
-use Rattle.gpu_block.specs.Request.{Request}
-use Rattle.gpu_block.specs.Changes.{Renames}
+use Rattle.gpu_block_pieces.specs.FreeList.{FreeList}
+use Rattle.gpu_block_pieces.specs.Request.{Request}
+use Rattle.gpu_block_pieces.specs.Changes.{Renames}
 use Rattle.gpu_block.specs.Block.{Block, free_list, dedicated, TakesIn, ReleasesIn, RenamesIn, IsTakeRefusalIn, IsSoundBlock}
-use Rattle.gpu_block.proofs.Determined.{takes_once, takes_or_none, releases_once, same_block}
+use Rattle.gpu_block_pieces.proofs.Determined.{takes_once, takes_or_none, releases_once, same_block}
 
 pub take_once_in : (old : Block) (r : Request) (o p n m : ℕ) (new next : Block) → IsSoundBlock old → TakesIn old r o n new → TakesIn old r p m next → (o ≡ p) × (n ≡ m) × (new ≡ next)
 take_once_in (free_list old) r o p n m (free_list new) (free_list next) sound t u =

@@ -1,14 +1,14 @@
 -- What chunks show, one by one.
 use Rattle.std.proofs.Common.{◌≡◌, ℕ, ◌+◌, ◌≤◌, List, [], ◌∷◌, ◌++◌, map, sym, ap, ◌∙◌, subst}
 use Rattle.std.proofs.lemmas.List.{map-append, append_assoc}
-use Rattle.gpu_chain.specs.declared.chunk.Chunk.{Chunk}
+use Rattle.gpu_block_chunks.specs.declared.chunk.Chunk.{Chunk}
 use Rattle.gpu_values.specs.declared.report.AllocationReport.{AllocationReport}
 use Rattle.gpu_values.specs.Report.{Row, row_of}
 use Rattle.gpu_block.specs.Rows.{extent_row}
-use Rattle.gpu_chain.specs.ChunkList.{IsFree, Covers}
-use Rattle.gpu_block.specs.Chunks.{extents_of, extent}
-use Rattle.gpu_block.proofs.Tiling.{Covers-le}
-use Rattle.gpu_block.proofs.Views.{extents-free, extents-live}
+use Rattle.gpu_block_chunks.specs.ChunkList.{IsFree, Covers}
+use Rattle.gpu_block_pieces.specs.Chunks.{extents_of, extent}
+use Rattle.gpu_block_pieces.proofs.Tiling.{Covers-le}
+use Rattle.gpu_block_pieces.proofs.Views.{extents-free, extents-live}
 
 -- the first of chunks that cover a range
 pub first_covers : (cs rest : List Chunk) (c : Chunk) (from to : ℕ) → cs ≡ c ∷ rest → Covers cs from to → (c.start ≡ from) × Covers rest (from + c.size) to × (from + c.size ≤ to)

@@ -1,11 +1,11 @@
 -- The bytes of the extents of a run of chunks.
 use Rattle.std.proofs.Common.{◌≡◌, ℕ, ◌+◌, ◌-◌, ◌≤◌, List, [], ◌∷◌, ap, ◌∙◌, inl, inr, arith}
 use Rattle.std.proofs.lemmas.List.Sums.{sum_by-append}
-use Rattle.gpu_chain.specs.declared.chunk.Chunk.{Chunk}
-use Rattle.gpu_block.specs.FreeList.{extent_bytes}
-use Rattle.gpu_chain.specs.ChunkList.{Covers}
-use Rattle.gpu_block.specs.Chunks.{extents_of, extent}
-use Rattle.gpu_block.proofs.Views.{free_or_live, extents-free, extents-live}
+use Rattle.gpu_block_chunks.specs.declared.chunk.Chunk.{Chunk}
+use Rattle.gpu_block_pieces.specs.FreeList.{extent_bytes}
+use Rattle.gpu_block_chunks.specs.ChunkList.{Covers}
+use Rattle.gpu_block_pieces.specs.Chunks.{extents_of, extent}
+use Rattle.gpu_block_pieces.proofs.Views.{free_or_live, extents-free, extents-live}
 
 pub bytes_below : (cs : List Chunk) (from to : ℕ) → Covers cs from to → from + extent_bytes (extents_of cs) ≤ to
 bytes_below [] from to h = omega arith

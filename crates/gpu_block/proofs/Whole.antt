@@ -2,8 +2,8 @@
 use Rattle.std.proofs.Common.{◌≡◌, ℕ, ◌^◌, ◌<◌, List, [], ◌∷◌, refl, sym, subst, arith, Option, Some, None, MatchOption, IfSome}
 use Rattle.std.specs.Prelude.{All}
 use Rattle.std.proofs.lemmas.List.Elements.{All-nil, All-cons}
-use Rattle.gpu_chain.specs.declared.chunk.Chunk.{Chunk}
-use Rattle.gpu_block.specs.Chunks.{IsLaidOut, IsChunk, IsWholeChunk}
+use Rattle.gpu_block_chunks.specs.declared.chunk.Chunk.{Chunk}
+use Rattle.gpu_block_pieces.specs.Chunks.{IsLaidOut, IsChunk, IsWholeChunk}
 
 pub whole_laid_out : (o : Option Chunk) (cs : List Chunk) (size : ℕ) → MatchOption o (cs ≡ []) (λ c. cs ≡ c ∷ []) → 0 < size → size < 2 ^ 64 → IfSome o (IsWholeChunk size) → IsLaidOut cs
 whole_laid_out None cs size e some fits w = subst (λ (xs : List Chunk). IsLaidOut xs) (sym e) (0, omega arith, refl)

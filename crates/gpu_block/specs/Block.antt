@@ -3,15 +3,15 @@ use Rattle.std.specs.Prelude.{◌≡◌, ℕ, ◌+◌, Contains, List, Bool, tru
 use Rattle.std.specs.Int.NonZero.{non_zero_u64_get}
 use Rattle.std.specs.declared.num.NonZeroU64.{NonZeroU64}
 use Rattle.gpu_values.specs.declared.error.AllocationError.{AllocationError}
-use Rattle.gpu_block.specs.FreeList.{Extent, FreeList, SomeExtent, IsGap, extent_bytes}
-use Rattle.gpu_block.specs.Request.{Request}
-use Rattle.gpu_gap_index.specs.Cost.{Counts}
-use Rattle.gpu_block.specs.Search.{IsSearch}
-use Rattle.gpu_block.specs.Changes.{Takes, Releases, Renames}
+use Rattle.gpu_block_pieces.specs.FreeList.{Extent, FreeList, SomeExtent, IsGap, extent_bytes}
+use Rattle.gpu_block_pieces.specs.Request.{Request}
+use Rattle.gpu_cost.specs.Cost.{Counts, Rises}
+use Rattle.gpu_block_pieces.specs.Search.{IsSearch}
+use Rattle.gpu_block_pieces.specs.Changes.{Takes, Releases, Renames}
 use Rattle.gpu_values.specs.Refusal.{Refusal, refusal_of}
-use Rattle.gpu_block.specs.BlockRefusal.{IsTakeRefusal, release_refusal, IsRenameRefusal}
+use Rattle.gpu_block_pieces.specs.BlockRefusal.{IsTakeRefusal, release_refusal, IsRenameRefusal}
 use Rattle.gpu_block.specs.Dedicated.{Dedicated, held_extents, IsWhole, DedicatedTakes, IsDedicatedTakeRefusal, DedicatedReleases, IsDedicatedReleaseRefusal, DedicatedRenames, IsDedicatedRenameRefusal}
-use Rattle.gpu_block.specs.Laws.{IsSound, IsPageSeparated, IsLongEnough, IsForNumbers, IsCovered}
+use Rattle.gpu_block_pieces.specs.Laws.{IsSound, IsInOrder, IsPageSeparated, IsLongEnough, IsForNumbers, IsCovered}
 
 -- either form
 pub data Block : Type 0 where
@@ -94,6 +94,11 @@ abbrev pub IsSoundBlock : Block → Type 0
 IsSoundBlock (free_list b) = IsSound b
 IsSoundBlock (dedicated b) = IsWhole b
 
+-- a free list's extents and gaps stand in order; a dedicated block has one piece at most
+abbrev pub IsOrderedBlock : Block → Type 0
+IsOrderedBlock (free_list b) = IsInOrder b
+IsOrderedBlock (dedicated b) = Unit {0}
+
 -- two live pieces of different kinds share no page; a dedicated block has no two
 abbrev pub HasPagesApart : Block → Type 0
 HasPagesApart (free_list b) = IsPageSeparated b
@@ -113,3 +118,7 @@ IsFitLaw (dedicated b) r e = Unit {0}
 unfoldable pub IsSearchIn : Block → Request → Counts → Counts → Type 0
 IsSearchIn (free_list b) r old new = IsSearch b r old new
 IsSearchIn (dedicated b) r old new = new ≡ old
+
+-- no count of a block's searches falls
+unfoldable pub CountsRise : Counts → Counts → Type 0
+CountsRise old new = Rises old new

@@ -3,8 +3,8 @@ use Rattle.std.specs.Prelude.{◌≡◌, ◌≢◌, ◌⊎◌, ℕ, List, Option
 use Rattle.std.specs.Option.{option_map, option_to_list}
 use Rattle.std.specs.Int.NonZero.{non_zero_u64_get}
 use Rattle.std.specs.declared.num.NonZeroU64.{NonZeroU64}
-use Rattle.gpu_block.specs.FreeList.{Extent}
-use Rattle.gpu_block.specs.Request.{Request}
+use Rattle.gpu_block_pieces.specs.FreeList.{Extent}
+use Rattle.gpu_block_pieces.specs.Request.{Request}
 use Rattle.gpu_values.specs.Refusal.{Refusal, internal, out_of_memory, host_out_of_memory}
 
 -- its size in bytes, and the piece that it holds, if any

@@ -1,7 +1,7 @@
 -- The rows that reports show of a block.
 use Rattle.std.specs.Prelude.{◌-◌}
 use Rattle.gpu_values.specs.Report.{Row}
-use Rattle.gpu_block.specs.FreeList.{Extent}
+use Rattle.gpu_block_pieces.specs.FreeList.{Extent}
 
 -- the row of a live piece
 abbrev pub extent_row : Extent → Row

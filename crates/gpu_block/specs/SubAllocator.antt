@@ -1,7 +1,7 @@
 -- The block that a sub-allocator holds.
 use Rattle.gpu_block.specs.declared.sub_allocator.SubAllocator.{SubAllocator}
 use Rattle.gpu_block.specs.declared.sub_allocator.SubAllocator.TheVariants as variants
-use Rattle.gpu_gap_index.specs.Cost.{Counts}
+use Rattle.gpu_cost.specs.Cost.{Counts}
 use Rattle.gpu_block.specs.Block.{Block, free_list, dedicated}
 
 -- by its form

@@ -1,14 +1,11 @@
 //! A block that is one piece's own.
 
-ghost use Rattle.std.specs.Prelude.{◌≡◌, ◌<◌, ◌≤◌, IfOk, OnOk, OnErr, IfErr, IfSome, IsSomeAnd, codes, None, IsTrue, ◌↔◌, ◌≢◌, [], map, false};
+ghost use Rattle.std.specs.Prelude.{◌≡◌, ◌<◌, ◌≤◌, IfOk, OnOk, OnErr, IfErr, IfSome, IsSomeAnd, codes, None, IsTrue, ◌↔◌, ◌≢◌, []};
 ghost use Rattle.std.specs.Int.NonZero.{non_zero_u64_get};
 ghost use Rattle.gpu_values.specs.Refusal.{refusal_of, internal};
-ghost use Rattle.gpu_values.specs.declared.error.AllocationError.TheVariants.{HostOutOfMemory};
 
-use crate::Leaks;
-use crate::rows::rows_of;
-use gpu_chain::{Chunk, Walk};
-use gpu_values::{AllocationError, AllocationReport, AllocationType, Result, internal_fault};
+use gpu_block_chunks::Chunk;
+use gpu_values::{AllocationError, AllocationType, Result, internal_fault};
 use std::alloc::Global;
 use std::marker::Model;
 use std::num::NonZeroU64;
@@ -18,14 +15,14 @@ use std::num::NonZeroU64;
 pub struct DedicatedBlockAllocator {
     pub(crate) alloc: Global,
     size: u64,
-    piece: Option<Chunk>,
+    pub(crate) piece: Option<Chunk>,
 }
 
 impl Model for DedicatedBlockAllocator {
     ghost use Rattle.std.specs.Prelude.{IfSome, ◌<◌, ◌^◌};
     ghost use Rattle.std.specs.Option.{option_map};
     ghost use Rattle.gpu_block.specs.Dedicated.{Dedicated};
-    ghost use Rattle.gpu_block.specs.Chunks.{extent, IsWholeChunk};
+    ghost use Rattle.gpu_block_pieces.specs.Chunks.{extent, IsWholeChunk};
 
     ghost Value = { Dedicated };
 
@@ -35,12 +32,9 @@ impl Model for DedicatedBlockAllocator {
 }
 
 impl DedicatedBlockAllocator {
-    ghost use Rattle.gpu_block.specs.FreeList.{FindsPlace, extent_bytes};
-    ghost use Rattle.gpu_block.specs.Request.{request};
+    ghost use Rattle.gpu_block_pieces.specs.FreeList.{FindsPlace, extent_bytes};
+    ghost use Rattle.gpu_block_pieces.specs.Request.{request};
     ghost use Rattle.gpu_block.specs.Dedicated.{IsWhole, empty_dedicated, held_extents, DedicatedTakes, IsDedicatedTakeRefusal, DedicatedReleases, IsDedicatedReleaseRefusal, DedicatedRenames, IsDedicatedRenameRefusal};
-    ghost use Rattle.gpu_values.specs.Report.{row_of};
-    ghost use Rattle.gpu_block.specs.Rows.{extent_row};
-    ghost use Rattle.gpu_block.specs.Leak.{leak_of};
 
     /// An empty block of `size` bytes.
     pub fn new(alloc: Global, size: u64) -> Self
@@ -156,27 +150,6 @@ impl DedicatedBlockAllocator {
         ensures { IsTrue result ↔ held_extents self.now ≡ [] }
     {
         self.piece.is_none()
-    }
-
-    /// The piece, if one is held. The only refusal is `HostOutOfMemory`.
-    pub fn report_allocations(&self) -> Result<Vec<AllocationReport>>
-        ensures rows { IfOk result (λ v. map row_of v.items ≡ map extent_row (held_extents self.now)) }
-        ensures cause { IfErr result (λ e. e ≡ HostOutOfMemory) }
-    {
-        let rows = rows_of(self.alloc, Walk::of_list(self.piece.as_slice()))?;
-        Ok(rows)
-    }
-
-    /// The piece, if one is held, in block `memory_block` of type `memory_type`. It takes no memory.
-    pub fn leaks(&self, memory_type: usize, memory_block: usize) -> Leaks<'_>
-        ensures { result ≡ map (leak_of memory_type memory_block false) (held_extents self.now) }
-    {
-        Leaks {
-            memory_type,
-            memory_block,
-            general: false,
-            rest: Walk::of_list(self.piece.as_slice()),
-        }
     }
 }
 

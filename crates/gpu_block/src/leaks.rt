@@ -4,10 +4,11 @@ ghost use Rattle.std.specs.Prelude.{◌≡◌, Some, ◌∷◌, [], MatchOption,
 ghost use Rattle.gpu_values.specs.declared.error.AllocationError.TheVariants.{HostOutOfMemory};
 ghost use Rattle.std.specs.Fmt.{DisplaysOnOk};
 ghost use Rattle.std.specs.Iterator.{YieldsFirst, item_count};
-ghost use Rattle.gpu_block.specs.Chunks.{extent, extents_of};
+ghost use Rattle.gpu_block_pieces.specs.Chunks.{extent, extents_of};
 ghost use Rattle.gpu_block.specs.Leak.{leak_text, block_lines, piece_text, chunk_text, dedicated_text, number_line, size_line, start_line, kind_line, name_line, kind_name};
 
-use gpu_chain::{Chunk, Walk, is_free};
+use gpu_block_chunks::{Chunk, Walk, is_free};
+use gpu_cost::Cost;
 use gpu_values::{AllocationType, Result};
 use std::alloc::Global;
 use std::fmt;
@@ -23,7 +24,7 @@ pub struct Leak<'a> {
 }
 
 impl<'a> Model for Leak<'a> {
-    ghost use Rattle.gpu_block.specs.Chunks.{extent};
+    ghost use Rattle.gpu_block_pieces.specs.Chunks.{extent};
     ghost use Rattle.gpu_block.specs.Leak.{LeakOf, leak_of};
 
     ghost Value = { LeakOf };
@@ -38,11 +39,12 @@ pub struct Leaks<'a> {
     pub(crate) memory_block: usize,
     pub(crate) general: bool,
     pub(crate) rest: Walk<'a>,
+    pub(crate) cost: Cost,
 }
 
 impl<'a> Model for Leaks<'a> {
     ghost use Rattle.std.specs.Prelude.{List, map};
-    ghost use Rattle.gpu_block.specs.Chunks.{extents_of};
+    ghost use Rattle.gpu_block_pieces.specs.Chunks.{extents_of};
     ghost use Rattle.gpu_block.specs.Leak.{LeakOf, leak_of};
 
     ghost Value = { List LeakOf };
@@ -51,12 +53,12 @@ impl<'a> Model for Leaks<'a> {
 }
 
 /// The first chunk that isn't free; those behind it are left.
-fn first_piece<'a>(chunks: &mut Walk<'a>) -> Option<&'a Chunk>
+fn first_piece<'a>(chunks: &mut Walk<'a>, cost: &mut Cost) -> Option<&'a Chunk>
     ensures { MatchOption result
         ((extents_of chunks.old ≡ []) × (extents_of chunks.new ≡ []))
         (λ c. extents_of chunks.old ≡ extent c.now ∷ extents_of chunks.new) }
 {
-    while let Some(chunk) = chunks.next() {
+    while let Some(chunk) = chunks.next(cost) {
         if !is_free(chunk.kind) {
             return Some(chunk);
         }
@@ -72,7 +74,7 @@ impl<'a> Iterator for Leaks<'a> {
     ghost remaining = { item_count (λ s. s) };
 
     fn next(&mut self) -> Option<Leak<'a>> {
-        let chunk = first_piece(&mut self.rest)?;
+        let chunk = first_piece(&mut self.rest, &mut self.cost)?;
         Some(Leak {
             memory_type: self.memory_type,
             memory_block: self.memory_block,

@@ -5,6 +5,7 @@ mod dedicated_block;
 mod free_list;
 pub mod laws;
 mod leaks;
+mod readings;
 mod rows;
 mod sub_allocator;
 
@@ -12,6 +13,3 @@ pub use dedicated_block::DedicatedBlockAllocator;
 pub use free_list::FreeListAllocator;
 pub use leaks::{Leak, Leaks};
 pub use sub_allocator::SubAllocator;
-
-#[cfg(test)]
-mod tests;

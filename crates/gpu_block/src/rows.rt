@@ -1,12 +1,14 @@
-//! The rows of a report, one for each piece.
+//! The rows of a report, one for each piece, and the sum of their bytes.
 
 ghost use Rattle.std.specs.Prelude.{◌≡◌, ℕ, ◌+◌, ◌^◌, ◌<◌, [], ◌∷◌, ◌++◌, map, All, IfOk, OnOk, string_bytes};
-ghost use Rattle.gpu_chain.specs.ChunkList.{Covers};
-ghost use Rattle.gpu_block.specs.Chunks.{IsChunk, extents_of};
+ghost use Rattle.gpu_block_chunks.specs.ChunkList.{Covers};
+ghost use Rattle.gpu_block_pieces.specs.Chunks.{IsChunk, extents_of};
+ghost use Rattle.gpu_block_pieces.specs.FreeList.{extent_bytes};
 ghost use Rattle.gpu_values.specs.Report.{row_of};
 ghost use Rattle.gpu_block.specs.Rows.{extent_row};
 
-use gpu_chain::{Chunk, Walk, is_free};
+use gpu_block_chunks::{Chunk, Walk, is_free};
+use gpu_cost::Cost;
 use gpu_values::AllocationReport;
 use std::alloc::{AllocError, Global};
 
@@ -30,18 +32,37 @@ fn add(rows: &mut Vec<AllocationReport>, row: AllocationReport) -> Result<(), Al
 }
 
 /// One row for each piece, in the order of the chunks.
-pub fn rows_of(alloc: Global, chunks: Walk<'_>) -> Result<Vec<AllocationReport>, AllocError>
+pub fn rows_of(
+    alloc: Global,
+    chunks: Walk<'_>,
+    cost: &mut Cost,
+) -> Result<Vec<AllocationReport>, AllocError>
     requires laid_out { (from : ℕ) × (to : ℕ) × (to < 2 ^ 64) × Covers chunks from to }
     requires each { (counter : ℕ) × All (IsChunk counter) chunks }
     ensures { IfOk result (λ v. map row_of v.items ≡ map extent_row (extents_of chunks.entry)) }
 {
     let mut chunks = chunks;
     let mut rows = Vec::new(alloc);
-    while let Some(chunk) = chunks.next() {
+    while let Some(chunk) = chunks.next(cost) {
         if !is_free(chunk.kind) {
             let row = row_of(alloc, chunk, chunk.start + chunk.size - chunk.offset)?;
             add(&mut rows, row)?;
         }
     }
     Ok(rows)
+}
+
+/// The bytes of all chunks that aren't free.
+pub fn taken_bytes(chunks: Walk<'_>, cost: &mut Cost) -> u64
+    requires { (from : ℕ) × (to : ℕ) × (to < 2 ^ 64) × Covers chunks from to }
+    ensures { result ≡ extent_bytes (extents_of chunks.entry) }
+{
+    let mut chunks = chunks;
+    let mut sum = 0;
+    while let Some(chunk) = chunks.next(cost) {
+        if !is_free(chunk.kind) {
+            sum += chunk.size;
+        }
+    }
+    sum
 }

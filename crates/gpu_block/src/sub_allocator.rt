@@ -5,7 +5,7 @@ ghost use Rattle.std.specs.Int.{is_power_of_two};
 ghost use Rattle.std.specs.Int.NonZero.{non_zero_u64_get};
 ghost use Rattle.gpu_values.specs.declared.error.AllocationError.TheVariants.{HostOutOfMemory};
 ghost use Rattle.gpu_values.specs.Refusal.{refusal_of};
-ghost use Rattle.gpu_block.specs.Request.{request};
+ghost use Rattle.gpu_block_pieces.specs.Request.{request};
 ghost use Rattle.gpu_values.specs.Report.{row_of};
 ghost use Rattle.gpu_block.specs.Rows.{extent_row};
 
@@ -23,9 +23,9 @@ pub enum SubAllocator {
 
 impl SubAllocator {
     ghost use Rattle.gpu_block.specs.SubAllocator.{block_of, cost_of};
-    ghost use Rattle.gpu_block.specs.FreeList.{FindsPlace};
+    ghost use Rattle.gpu_block_pieces.specs.FreeList.{FindsPlace};
     ghost use Rattle.gpu_block.specs.Leak.{leaks_of, leak_text};
-    ghost use Rattle.gpu_block.specs.Block.{extents_of, size_of, allocated_bytes, is_general, HasPages, TakesIn, IsTakeRefusalIn, ReleasesIn, IsReleaseRefusalIn, RenamesIn, IsRenameRefusalIn, IsSoundBlock, HasPagesApart, IsCoveredBlock, IsFitLaw, IsSearchIn};
+    ghost use Rattle.gpu_block.specs.Block.{extents_of, size_of, allocated_bytes, is_general, HasPages, TakesIn, IsTakeRefusalIn, ReleasesIn, IsReleaseRefusalIn, RenamesIn, IsRenameRefusalIn, IsSoundBlock, IsOrderedBlock, HasPagesApart, IsCoveredBlock, IsFitLaw, IsSearchIn, CountsRise};
 
     /// Takes a place for `size` bytes, and answers the piece's offset and number. A free list takes the least place in
     /// the shortest gap that fits, and refuses by `OutOfMemory` where there is none. A dedicated block takes a piece of
@@ -52,10 +52,11 @@ impl SubAllocator {
         ensures pages { (g : ℕ) → HasPages (block_of self.old) g → HasPages (block_of self.new) g }
         // where the pieces lie, for all pairs of them; and a gap that is long enough is never refused
         ensures sound { OnOk result (IsSoundBlock (block_of self.new)) }
+        ensures ordered { OnOk result (IsOrderedBlock (block_of self.new)) }
         ensures separated { OnOk result (HasPagesApart (block_of self.new)) }
         ensures covered { OnOk result (IsCoveredBlock (block_of self.new)) }
         ensures law { IfErr result (λ e. IsFitLaw (block_of self.old) (request size alignment kind name.now) e) }
-        // what the search for the place cost
+        // what the search for the place cost, and its taking
         ensures cost { IsSearchIn (block_of self.old) (request size alignment kind name.now) (cost_of self.old) (cost_of self.new) }
     {
         match self {
@@ -66,6 +67,7 @@ impl SubAllocator {
 
     /// Gives a live piece back. It takes no memory. `Internal` where the number is missing or is no live piece's, and
     /// then the block stays as it was.
+    #[tactic(auto, unfolding(crate::specs::Block::CountsRise))]
     pub fn free(&mut self, chunk_id: Option<NonZeroU64>) -> Result<()>
         ensures freed { OnOk result
             (IsSomeAnd chunk_id (λ n. ReleasesIn (block_of self.old) (non_zero_u64_get n) (block_of self.new))) }
@@ -73,8 +75,10 @@ impl SubAllocator {
         ensures refused { OnErr result (block_of self.new ≡ block_of self.old) }
         ensures pages { (g : ℕ) → HasPages (block_of self.old) g → HasPages (block_of self.new) g }
         ensures sound { OnOk result (IsSoundBlock (block_of self.new)) }
+        ensures ordered { OnOk result (IsOrderedBlock (block_of self.new)) }
         ensures separated { OnOk result (HasPagesApart (block_of self.new)) }
         ensures covered { OnOk result (IsCoveredBlock (block_of self.new)) }
+        ensures cost { CountsRise (cost_of self.old) (cost_of self.new) }
     {
         match self {
             SubAllocator::FreeList(list) => list.free(chunk_id),
@@ -84,6 +88,7 @@ impl SubAllocator {
 
     /// Gives a live piece another name. `Internal` where the number is missing or is no live piece's, else
     /// `HostOutOfMemory` where the host refused memory; a refusal leaves the block as it was.
+    #[tactic(auto, unfolding(crate::specs::Block::CountsRise))]
     pub fn rename_allocation(&mut self, chunk_id: Option<NonZeroU64>, name: &str) -> Result<()>
         ensures renamed { OnOk result
             (IsSomeAnd chunk_id (λ n. RenamesIn (block_of self.old) (non_zero_u64_get n) name.now (block_of self.new))) }
@@ -91,8 +96,10 @@ impl SubAllocator {
         ensures refused { OnErr result (block_of self.new ≡ block_of self.old) }
         ensures pages { (g : ℕ) → HasPages (block_of self.old) g → HasPages (block_of self.new) g }
         ensures sound { OnOk result (IsSoundBlock (block_of self.new)) }
+        ensures ordered { OnOk result (IsOrderedBlock (block_of self.new)) }
         ensures separated { OnOk result (HasPagesApart (block_of self.new)) }
         ensures covered { OnOk result (IsCoveredBlock (block_of self.new)) }
+        ensures cost { CountsRise (cost_of self.old) (cost_of self.new) }
     {
         match self {
             SubAllocator::FreeList(list) => list.rename_allocation(chunk_id, name),

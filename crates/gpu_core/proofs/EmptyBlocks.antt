@@ -13,9 +13,9 @@ use Rattle.gpu_core.specs.TypeTake.{PreparesPiece}
 use Rattle.gpu_core.specs.TypeRelease.{Goes, SlotReleases, ReleasesPiece, SlotRenames, RenamesPiece}
 use Rattle.gpu_core.specs.Slots.{AreSound, SlotIsSound}
 use Rattle.gpu_core.specs.declared.memory_type.Piece.{Piece}
-use Rattle.gpu_block.proofs.Empty.{empty_gap, empty_only}
-use Rattle.gpu_block.proofs.Live.{piece_held, piece_of}
-use Rattle.gpu_block.proofs.Separation.{within_of}
+use Rattle.gpu_block_pieces.proofs.Empty.{empty_gap, empty_only}
+use Rattle.gpu_block_pieces.proofs.Live.{piece_held, piece_of}
+use Rattle.gpu_block_pieces.proofs.Separation.{within_of}
 use Rattle.gpu_core.proofs.Slotted.{OnlyAt, set_only}
 
 -- ---- blocks that hold a piece

@@ -19,7 +19,7 @@ use Rattle.gpu_core.specs.Slots.{AreSound, SlotIsSound}
 use Rattle.gpu_core.proofs.Finding.{only_one}
 use Rattle.gpu_core.specs.declared.memory_type.Piece.{Piece}
 use Rattle.gpu_block.proofs.Blocks.{take_once_in, release_once_in, rename_once_in}
-use Rattle.gpu_block.proofs.Determined.{takes_or_none}
+use Rattle.gpu_block_pieces.proofs.Determined.{takes_or_none}
 
 numbers_alike : (a b : NonZeroU64) → non_zero_u64_get a ≡ non_zero_u64_get b → a ≡ b
 numbers_alike a b e = λ i. record { value = e i; ok = to_path_p (λ j. 1 ≤ e j) {a = a.ok} {b = b.ok} (le_prop _ b.ok) i }

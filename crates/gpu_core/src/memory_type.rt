@@ -112,7 +112,7 @@ impl<H: Copy + Eq> MemoryType<H> {
 
     /// Takes a piece of the highest shared block that has a place; else says which new block is needed, with all host
     /// memory for it at hand. The only refusal is `HostOutOfMemory`, and leaves the slots as they were.
-    pub fn prepare(&mut self, sizes: &AllocationSizes, request: &Request) -> Result<Prepared<H>>
+    pub fn prepare(&mut self, request: &Request, sizes: &AllocationSizes) -> Result<Prepared<H>>
         requires sized { 0 < request.now.size }
         requires aligned { IsTrue (is_power_of_two request.now.alignment) }
         requires piece { request.now.kind ≢ AllocationType.Free }

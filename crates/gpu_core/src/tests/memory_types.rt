@@ -47,7 +47,7 @@ pub fn take(
 {
     assert!(rt; request.size > 0);
     assert!(rt; request.alignment.is_power_of_two());
-    match blocks.prepare(sizes, request)? {
+    match blocks.prepare(request, sizes)? {
         Prepared::Taken(piece) => Ok(piece),
         Prepared::NeedBlock(need) => {
             assert!(rt; blocks.capacity().checked_add(need.size).is_some());
@@ -80,7 +80,7 @@ fn needed(
     };
     assert!(rt; asked.size > 0);
     assert!(rt; asked.alignment.is_power_of_two());
-    match blocks.prepare(sizes, &asked)? {
+    match blocks.prepare(&asked, sizes)? {
         Prepared::Taken(_) => Ok(None),
         Prepared::NeedBlock(need) => Ok(Some(need.size)),
     }

@@ -92,7 +92,7 @@ fn prepared_size(
 {
     assert!(rt; request.size > 0);
     assert!(rt; request.alignment.is_power_of_two());
-    match blocks.prepare(sizes, request)? {
+    match blocks.prepare(request, sizes)? {
         Prepared::Taken(_) => Ok(None),
         Prepared::NeedBlock(need) => Ok(Some(need.size)),
     }

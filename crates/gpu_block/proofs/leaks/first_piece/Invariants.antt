@@ -1,5 +1,5 @@
 use Rattle.std.proofs.Common.{◌≡◌, length}
-use Rattle.gpu_block.specs.Chunks.{extents_of}
+use Rattle.gpu_block_pieces.specs.Chunks.{extents_of}
 use Rattle.gpu_block.proofs.leaks.first_piece.Given as goal
 
 abbrev pub invariant-loop-chunk : goal.invariant-loop-chunk

@@ -1,7 +1,7 @@
 use Rattle.std.proofs.Common.{◌≡◌, ◌++◌, ◌<◌, ◌^◌, ℕ, map, length}
 use Rattle.std.specs.Prelude.{All}
-use Rattle.gpu_chain.specs.ChunkList.{Covers}
-use Rattle.gpu_block.specs.Chunks.{IsChunk, extents_of}
+use Rattle.gpu_block_chunks.specs.ChunkList.{Covers}
+use Rattle.gpu_block_pieces.specs.Chunks.{IsChunk, extents_of}
 use Rattle.gpu_values.specs.Report.{row_of}
 use Rattle.gpu_block.specs.Rows.{extent_row}
 use Rattle.gpu_block.proofs.rows.rows_of.Given as goal

@@ -2,9 +2,9 @@ use Rattle.std.proofs.Common.{◌≡◌, ◌∙◌, ℕ, [], ◌∷◌, sym, sub
 use Rattle.std.specs.Int.NonZero.{non_zero_u64_get}
 use Rattle.std.specs.Option.{option_map}
 use Rattle.gpu_block.specs.Dedicated.{held_extents}
-use Rattle.gpu_block.specs.FreeList.{FindsPlace}
-use Rattle.gpu_block.specs.Chunks.{extent, IsWholeChunk}
-use Rattle.gpu_chain.specs.declared.chunk.Chunk.{Chunk}
+use Rattle.gpu_block_pieces.specs.FreeList.{FindsPlace}
+use Rattle.gpu_block_pieces.specs.Chunks.{extent, IsWholeChunk}
+use Rattle.gpu_block_chunks.specs.declared.chunk.Chunk.{Chunk}
 use Rattle.gpu_block.proofs.dedicated_block.DedicatedBlockAllocator.place_of.Goals as goal
 
 found_whole : (size : ℕ) (c : Chunk) (number : ℕ) → IsWholeChunk size c → number ≡ 1 → FindsPlace (extent c ∷ []) number (Some (0, c.size))

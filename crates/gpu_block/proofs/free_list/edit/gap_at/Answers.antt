@@ -1,9 +1,0 @@
-use Rattle.gpu_block.proofs.Updates.{gap_here, none_stands}
-use Rattle.gpu_block.proofs.free_list.edit.gap_at.Goals as goal
-
-pub unreachable-requires : goal.unreachable-requires
-unreachable-requires c = none_stands c.args.chain.now.chunks c.args.number c.in_default.ensures.value c.requires.there
-
-pub returns : goal.returns
-returns c = λ front d back p n.
-    gap_here c.args.chain.now.chunks front back d c.args.number c.in-Some.around c.kind_of.result c.kind_of-2.result c.size-size.ensures.distinct c.in-Some.ensures.value c.kind_of.ensures c.kind_of-2.ensures p n

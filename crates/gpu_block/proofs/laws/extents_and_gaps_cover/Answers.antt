@@ -1,5 +1,0 @@
-use Rattle.gpu_block.proofs.Covering.{sound_covered}
-use Rattle.gpu_block.proofs.laws.extents_and_gaps_cover.Goals as goal
-
-pub returns : goal.returns
-returns c = sound_covered

@@ -1,5 +1,0 @@
-use Rattle.gpu_block.proofs.Shared.{no_shared_page}
-use Rattle.gpu_block.proofs.laws.kinds_share_no_page.Goals as goal
-
-pub returns : goal.returns
-returns c = no_shared_page

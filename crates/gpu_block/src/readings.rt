@@ -1,0 +1,123 @@
+//! Where counters are made: one for a new block, and one for each call that changes nothing, whose look-ups are told to
+//! nobody. Calls that change a block are in other modules, and count in the block's own counter.
+
+ghost use Rattle.std.specs.Prelude.{◌≡◌, ◌<◌, ◌≤◌, IfOk, IfErr, IsTrue, map, true, false};
+ghost use Rattle.std.specs.Int.{is_power_of_two};
+ghost use Rattle.std.specs.Int.NonZero.{non_zero_u64_get};
+ghost use Rattle.gpu_values.specs.declared.error.AllocationError.TheVariants.{HostOutOfMemory};
+ghost use Rattle.gpu_values.specs.Report.{row_of};
+ghost use Rattle.gpu_block.specs.Rows.{extent_row};
+ghost use Rattle.gpu_block.specs.Leak.{leak_of};
+
+use crate::rows::{rows_of, taken_bytes};
+use crate::{DedicatedBlockAllocator, FreeListAllocator, Leaks};
+use gpu_block_chunks::Walk;
+use gpu_block_pieces::CutBlock;
+use gpu_cost::{BeginsCount, Cost};
+use gpu_values::{AllocationReport, Result};
+use std::alloc::Global;
+use std::num::NonZeroU64;
+
+/// What begins a count. Nothing outside this module has it.
+struct Reading;
+
+impl BeginsCount for Reading {}
+
+impl FreeListAllocator {
+    ghost use Rattle.gpu_block_pieces.specs.FreeList.{FindsPlace, fresh_free_list, extent_bytes};
+    ghost use Rattle.gpu_block_pieces.specs.Laws.{IsSound, IsInOrder};
+
+    /// A block of `size` bytes without pieces: one gap with number 1, and 2 is the next new number. `granularity` is the
+    /// page size in bytes: Vulkan's bufferImageGranularity, elsewhere 1. The only refusal is `HostOutOfMemory`.
+    pub fn new(alloc: Global, size: u64, granularity: u64) -> Result<Self>
+        requires sized { 0 < size }
+        requires paged { IsTrue (is_power_of_two granularity) }
+        ensures fresh { IfOk result (λ b. b.block ≡ fresh_free_list size granularity 2) }
+        ensures sound { IfOk result (λ b. IsSound b.block) }
+        ensures ordered { IfOk result (λ b. IsInOrder b.block) }
+        ensures cause { IfErr result (λ e. e ≡ HostOutOfMemory) }
+    {
+        Self::with_counter(alloc, size, granularity, 2)
+    }
+
+    /// The same with another first new number, for tests of the last one.
+    pub fn with_counter(alloc: Global, size: u64, granularity: u64, counter: u64) -> Result<Self>
+        requires sized { 0 < size }
+        requires paged { IsTrue (is_power_of_two granularity) }
+        requires counted { 2 ≤ counter }
+        ensures fresh { IfOk result (λ b. b.block ≡ fresh_free_list size granularity counter) }
+        ensures sound { IfOk result (λ b. IsSound b.block) }
+        ensures ordered { IfOk result (λ b. IsInOrder b.block) }
+        ensures cause { IfErr result (λ e. e ≡ HostOutOfMemory) }
+    {
+        Ok(FreeListAllocator {
+            alloc,
+            pieces: CutBlock::new(alloc, size, granularity, counter)?,
+            cost: Cost::begin(&Reading),
+        })
+    }
+
+    /// The bytes of all pieces, padding included.
+    pub fn allocated(&self) -> u64
+        ensures sum { result ≡ extent_bytes self.now.block.extents }
+        ensures within { result ≤ self.now.block.size }
+    {
+        taken_bytes(self.pieces.walk(), &mut Cost::begin(&Reading))
+    }
+
+    /// The offset and the size in bytes of the live piece with that number.
+    pub(crate) fn place_of(&self, number: NonZeroU64) -> Option<(u64, u64)>
+        ensures { FindsPlace self.now.block.extents (non_zero_u64_get number) result }
+    {
+        self.pieces.place_of(number, &mut Cost::begin(&Reading))
+    }
+
+    /// The live pieces in order of offset. The only refusal is `HostOutOfMemory`.
+    pub fn report_allocations(&self) -> Result<Vec<AllocationReport>>
+        ensures rows { IfOk result (λ v. map row_of v.items ≡ map extent_row self.now.block.extents) }
+        ensures cause { IfErr result (λ e. e ≡ HostOutOfMemory) }
+    {
+        let rows = rows_of(self.alloc, self.pieces.walk(), &mut Cost::begin(&Reading))?;
+        Ok(rows)
+    }
+
+    /// The live pieces in order of offset, in block `memory_block` of type `memory_type`. It takes no memory.
+    pub fn leaks(&self, memory_type: usize, memory_block: usize) -> Leaks<'_>
+        ensures { result ≡ map (leak_of memory_type memory_block true) self.now.block.extents }
+    {
+        Leaks {
+            memory_type,
+            memory_block,
+            general: true,
+            rest: self.pieces.walk(),
+            cost: Cost::begin(&Reading),
+        }
+    }
+}
+
+impl DedicatedBlockAllocator {
+    ghost use Rattle.gpu_block.specs.Dedicated.{held_extents};
+
+    /// The piece, if one is held. The only refusal is `HostOutOfMemory`.
+    pub fn report_allocations(&self) -> Result<Vec<AllocationReport>>
+        ensures rows { IfOk result (λ v. map row_of v.items ≡ map extent_row (held_extents self.now)) }
+        ensures cause { IfErr result (λ e. e ≡ HostOutOfMemory) }
+    {
+        let chunks = Walk::of_list(self.piece.as_slice());
+        let rows = rows_of(self.alloc, chunks, &mut Cost::begin(&Reading))?;
+        Ok(rows)
+    }
+
+    /// The piece, if one is held, in block `memory_block` of type `memory_type`. It takes no memory.
+    pub fn leaks(&self, memory_type: usize, memory_block: usize) -> Leaks<'_>
+        ensures { result ≡ map (leak_of memory_type memory_block false) (held_extents self.now) }
+    {
+        Leaks {
+            memory_type,
+            memory_block,
+            general: false,
+            rest: Walk::of_list(self.piece.as_slice()),
+            cost: Cost::begin(&Reading),
+        }
+    }
+}

@@ -1,0 +1,13 @@
+use Rattle.std.proofs.Common.{ap, refl}
+use Rattle.gpu_block_chunks.specs.Chain.{chunks_in}
+use Rattle.gpu_block_chunks.proofs.Unlinks.{fresh_chain}
+use Rattle.gpu_block_chunks.specs.Nodes.{held_at}
+use Rattle.gpu_block_chunks.proofs.chain.Chain.new.Goals as goal
+
+pub invariant_of-result : goal.invariant_of-result
+invariant_of-result c =
+    (fresh_chain (held_at c.in_ok-nodes.nodes) (held_at c.put.new.self) c.args.size _ c.in_ok-nodes.ensures.none (rw c.node.ensures at c.put.ensures.sets) c.requires refl refl refl).0
+
+pub returns : goal.returns
+returns c =
+    (refl, (c.in_ok-chunk.chunk, ap chunks_in (fresh_chain (held_at c.in_ok-nodes.nodes) (held_at c.put.new.self) c.args.size _ c.in_ok-nodes.ensures.none (rw c.node.ensures at c.put.ensures.sets) c.requires refl refl refl).1))

@@ -1,0 +1,284 @@
+-- Chunks that a map holds by number, linked to their neighbours' numbers, and the list that they make.
+use Rattle.std.specs.Prelude.{◌≡◌, ◌≢◌, ℕ, ◌+◌, ◌^◌, ◌<◌, ◌⊎◌, zero, suc, List, [], ◌∷◌, ◌++◌, All, Option, Some, None, is_some, if◌then◌else◌, Bool, true, false, cond, ◌==◌, String}
+use Rattle.std.specs.Borrow.{Bor}
+use Rattle.std.specs.Option.{option_map}
+use Rattle.std.specs.declared.alloc.Global.{Global}
+use Rattle.gpu_values.specs.declared.allocation_type.AllocationType.{AllocationType}
+use Rattle.gpu_values.specs.declared.allocation_type.AllocationType.TheVariants.{Free, Linear, NonLinear}
+use Rattle.gpu_block_chunks.specs.declared.chunk.Chunk.{Chunk}
+use Rattle.gpu_block_chunks.specs.declared.chain.node.Node.{Node}
+use Rattle.gpu_block_chunks.specs.declared.chain.Beside.{Beside}
+use Rattle.gpu_block_chunks.specs.declared.chain.Around.{Around}
+use Rattle.gpu_block_chunks.specs.ChunkList.{Covers, cut_chunk, filled_chunk, join_back, join_front}
+
+abbrev pub Name : Type 0
+Name = String Global
+
+-- what a contract sees of a chain: its chunks in order, the block's size, and for how many more chunks it has room
+pub record Linked : Type 0 where
+  pub chunks : List Chunk
+  pub size : ℕ
+  pub room : ℕ
+
+-- ---- what a call changes or tells of the list
+
+-- the chunk of that number stands between front and back
+pub record StandsAt (cs : List Chunk) (number : ℕ) (c : Chunk) : Type 0 where
+  pub front : List Chunk
+  pub back : List Chunk
+  pub split : cs ≡ front ++ c ∷ back
+  pub numbered : c.number ≡ number
+
+-- some chunk has the number
+abbrev pub HasNumber : List Chunk → ℕ → Type 0
+HasNumber cs number = (c : Chunk) × StandsAt cs number c
+
+abbrev pub HasNoNumber : List Chunk → ℕ → Type 0
+HasNoNumber cs number = All (λ c. c.number ≢ number) cs
+
+abbrev pub beside : Chunk → Beside
+beside c = record { start = c.start; size = c.size; kind = c.kind; number = c.number }
+
+abbrev pub last_beside : Option Beside → List Chunk → Option Beside
+last_beside before [] = before
+last_beside before (c ∷ cs) = last_beside (Some (beside c)) cs
+
+abbrev pub first_beside : List Chunk → Option Beside
+first_beside [] = None
+first_beside (c ∷ cs) = Some (beside c)
+
+-- the chunk of that number, and what stands beside it
+pub record IsAround (cs : List Chunk) (number : ℕ) (a : Around) : Type 0 where
+  pub chunk : Chunk
+  pub at : StandsAt cs number chunk
+  pub here : a.here ≡ beside chunk
+  pub before : a.before ≡ last_beside None at.front
+  pub after : a.after ≡ first_beside at.back
+
+-- how many stand beside a chunk
+abbrev pub neighbours : Option Around → ℕ
+neighbours None = 0
+neighbours (Some a) = (if is_some a.before then 1 else 0) + (if is_some a.after then 1 else 0)
+
+-- the chunks from that number on; none without a number
+abbrev pub from_number : Option ℕ → List Chunk → List Chunk
+from_number None cs = []
+from_number (Some k) [] = []
+from_number (Some k) (c ∷ cs) = cond (c.number == k) (c ∷ cs) (from_number (Some k) cs)
+
+-- those of a chain, if there is one
+abbrev pub walked : Option (Bor Linked) → Option ℕ → List Chunk
+walked None at = []
+walked (Some chain) at = from_number at (chain.now).chunks
+
+-- the chunk of that number, and the number of the next one
+pub record IsChunkAt (cs : List Chunk) (number : ℕ) (c : Chunk) (next : Option ℕ) : Type 0 where
+  pub at : StandsAt cs number c
+  pub from : from_number (Some number) cs ≡ c ∷ from_number next cs
+
+-- the chunk of that number is longer than `taken`
+pub record IsLonger (cs : List Chunk) (number taken : ℕ) : Type 0 where
+  pub chunk : Chunk
+  pub at : StandsAt cs number chunk
+  pub longer : taken < chunk.size
+
+-- a block that is one free chunk, with number 1
+abbrev pub IsFresh : List Chunk → ℕ → Type 0
+IsFresh cs size = (name : Name) × (cs ≡ record { start = 0; size = size; offset = 0; kind = Free; number = 1; name = name } ∷ [])
+
+-- a piece of that size, offset, kind, number and name at the front of a chunk
+abbrev pub front_piece : Chunk → (taken offset : ℕ) → AllocationType → ℕ → Name → Chunk
+front_piece c taken offset kind number name =
+    record { start = c.start; size = taken; offset = offset; kind = kind; number = number; name = name }
+
+-- the chunk of number k gave its front to a piece
+pub record IsSplit (old : List Chunk) (k taken number offset : ℕ) (kind : AllocationType) (name : Name) (new : List Chunk) : Type 0 where
+  pub chunk : Chunk
+  pub at : StandsAt old k chunk
+  pub is : new ≡ at.front ++ front_piece chunk taken offset kind number name ∷ cut_chunk chunk taken ∷ at.back
+
+-- the chunk of number k is in another use
+pub record IsFilled (old : List Chunk) (k offset : ℕ) (kind : AllocationType) (name : Name) (new : List Chunk) : Type 0 where
+  pub chunk : Chunk
+  pub at : StandsAt old k chunk
+  pub is : new ≡ at.front ++ filled_chunk chunk offset kind name ∷ at.back
+
+-- the chunk of number k is free, and one with the free chunks beside it
+pub record IsReleased (old : List Chunk) (k : ℕ) (empty : Name) (new : List Chunk) : Type 0 where
+  pub chunk : Chunk
+  pub at : StandsAt old k chunk
+  pub is : new ≡ join_front at.front (join_back (filled_chunk chunk chunk.start Free empty) at.back)
+
+-- ---- how the map holds the list: each chunk beside the number that it is held under
+
+-- the first number of a list, or else what follows it
+abbrev pub first_or : List (ℕ × Chunk) → Option ℕ → Option ℕ
+first_or [] after = after
+first_or (x ∷ xs) after = Some x.0
+
+-- the last number of a list, or else what stands before it
+abbrev pub last_or : Option ℕ → List (ℕ × Chunk) → Option ℕ
+last_or before [] = before
+last_or before (x ∷ xs) = last_or (Some x.0) xs
+
+abbrev pub node_of : Chunk → Option ℕ → Option ℕ → Node
+node_of c before after = record { chunk = c; prev = before; next = after }
+
+-- each chunk of the list is held under its number, linked to its neighbours
+abbrev pub Held : (ℕ → Option Node) → Option ℕ → List (ℕ × Chunk) → Option ℕ → Type 0
+Held f before [] after = Unit {0}
+Held f before (x ∷ xs) after = (f x.0 ≡ Some (node_of x.1 before (first_or xs after))) × Held f (Some x.0) xs after
+
+abbrev pub chunks_in : List (ℕ × Chunk) → List Chunk
+chunks_in [] = []
+chunks_in (x ∷ xs) = x.1 ∷ chunks_in xs
+
+-- each chunk has the number that it is held under
+abbrev pub Numbered : List (ℕ × Chunk) → Type 0
+Numbered [] = Unit {0}
+Numbered (x ∷ xs) = ((x.1).number ≡ x.0) × Numbered xs
+
+-- no chunk of the list has the number
+abbrev pub Apart : ℕ → List (ℕ × Chunk) → Type 0
+Apart k [] = Unit {0}
+Apart k (x ∷ xs) = (k ≡ x.0 → ⊥) × Apart k xs
+
+-- no two chunks have one number
+abbrev pub Distinct : List (ℕ × Chunk) → Type 0
+Distinct [] = Unit {0}
+Distinct (x ∷ xs) = Apart x.0 xs × Distinct xs
+
+-- the chunk stands in the list under that number
+pub record Stands (cs : List (ℕ × Chunk)) (k : ℕ) (c : Chunk) : Type 0 where
+  pub front : List (ℕ × Chunk)
+  pub back : List (ℕ × Chunk)
+  pub is : cs ≡ front ++ (k, c) ∷ back
+
+-- the list has the chunk under that number
+abbrev pub Among : ℕ → Chunk → List (ℕ × Chunk) → Type 0
+Among k c [] = ⊥
+Among k c (x ∷ xs) = ((x.0 ≡ k) × (x.1 ≡ c)) ⊎ Among k c xs
+
+-- following `next` from the first chunk meets every entry once, `prev` is its inverse, and the chunks cover the block
+pub record IsChain (f : ℕ → Option Node) (first size : ℕ) (cs : List (ℕ × Chunk)) : Type 0 where
+  pub held : Held f None cs None
+  pub starts : first_or cs None ≡ Some first
+  pub covers : Covers (chunks_in cs) 0 size
+  pub distinct : Distinct cs
+  pub numbered : Numbered cs
+  pub every : (k : ℕ) (n : Node) → f k ≡ Some n → Among k n.chunk cs
+
+-- the chunks that are met from a number on, along `next`
+abbrev pub met : Option Node → ℕ → (Option ℕ → List (ℕ × Chunk)) → List (ℕ × Chunk)
+met None k rest = []
+met (Some n) k rest = (k, n.chunk) ∷ rest n.next
+
+abbrev pub walk : ℕ → (ℕ → Option Node) → Option ℕ → List (ℕ × Chunk)
+walk zero f at = []
+walk (suc most) f None = []
+walk (suc most) f (Some k) = met (f k) k (walk most f)
+
+-- the first number, after one was put behind `prev`
+abbrev pub first_after : Option ℕ → ℕ → ℕ → ℕ
+first_after None number first = number
+first_after (Some p) number first = first
+
+abbrev pub longer : Chunk → ℕ → Chunk
+longer c more = record c { size = c.size + more }
+
+-- the chunk under `left` and the next one, under `right`, may become one
+pub record CanJoin (f : ℕ → Option Node) (left right : ℕ) : Type 0 where
+  pub first : ℕ
+  pub size : ℕ
+  pub front : List (ℕ × Chunk)
+  pub chunk : Chunk
+  pub next : Chunk
+  pub back : List (ℕ × Chunk)
+  pub linked : IsChain f first size (front ++ (left, chunk) ∷ (right, next) ∷ back)
+  pub fits : size < 2 ^ 64
+
+-- whatever list the chunks made, they make the list with the two in one
+abbrev pub JoinsNext : ℕ → ℕ → (ℕ → Option Node) → (ℕ → Option Node) → Type 0
+JoinsNext left right f g =
+    (first size : ℕ) (front : List (ℕ × Chunk)) (c d : Chunk) (back : List (ℕ × Chunk))
+    → IsChain f first size (front ++ (left, c) ∷ (right, d) ∷ back) → IsChain g first size (front ++ (left, longer c d.size) ∷ back)
+
+abbrev pub is_free_kind : AllocationType → Bool
+is_free_kind Free = true
+is_free_kind Linear = false
+is_free_kind NonLinear = false
+
+-- a free chunk takes in the next one, if that is free
+abbrev pub right_chunk : Chunk → List (ℕ × Chunk) → Chunk
+right_chunk c [] = c
+right_chunk c (y ∷ ys) = cond (is_free_kind (y.1).kind) (longer c (y.1).size) c
+
+abbrev pub right_rest : List (ℕ × Chunk) → List (ℕ × Chunk)
+right_rest [] = []
+right_rest (y ∷ ys) = cond (is_free_kind (y.1).kind) ys (y ∷ ys)
+
+-- and the one before takes it in, if that is free
+abbrev pub glue_left : List (ℕ × Chunk) → ℕ → Chunk → List (ℕ × Chunk) → List (ℕ × Chunk)
+glue_left [] k c back = (k, c) ∷ back
+glue_left (x ∷ []) k c back = cond (is_free_kind (x.1).kind) ((x.0, longer x.1 c.size) ∷ back) (x ∷ (k, c) ∷ back)
+glue_left (x ∷ (y ∷ ys)) k c back = x ∷ glue_left (y ∷ ys) k c back
+
+-- the chunk under that number stands in some list
+pub record LinkedAt (f : ℕ → Option Node) (k : ℕ) : Type 0 where
+  pub first : ℕ
+  pub size : ℕ
+  pub front : List (ℕ × Chunk)
+  pub chunk : Chunk
+  pub back : List (ℕ × Chunk)
+  pub linked : IsChain f first size (front ++ (k, chunk) ∷ back)
+  pub fits : size < 2 ^ 64
+
+-- whatever list the chunks made, what list they make
+abbrev pub JoinsRight : ℕ → (ℕ → Option Node) → (ℕ → Option Node) → Type 0
+JoinsRight k f g =
+    (first size : ℕ) (front : List (ℕ × Chunk)) (c : Chunk) (back : List (ℕ × Chunk))
+    → IsChain f first size (front ++ (k, c) ∷ back) → IsChain g first size (front ++ (k, right_chunk c back) ∷ right_rest back)
+
+abbrev pub JoinsLeft : ℕ → (ℕ → Option Node) → (ℕ → Option Node) → Type 0
+JoinsLeft k f g =
+    (first size : ℕ) (front : List (ℕ × Chunk)) (c : Chunk) (back : List (ℕ × Chunk))
+    → IsChain f first size (front ++ (k, c) ∷ back) → IsChain g first size (glue_left front k c back)
+
+-- ---- what a step changes of the map
+
+abbrev pub with_next : Option ℕ → Node → Node
+with_next next n = record { chunk = n.chunk; prev = n.prev; next = next }
+
+abbrev pub with_prev : Option ℕ → Node → Node
+with_prev prev n = record { chunk = n.chunk; prev = prev; next = n.next }
+
+-- g is f with the node at k changed
+abbrev pub ChangesAt : ℕ → (Node → Node) → (ℕ → Option Node) → (ℕ → Option Node) → Type 0
+ChangesAt k change f g = (q : ℕ) → g q ≡ cond (k == q) (option_map change (f q)) (f q)
+
+-- what is known beside a chunk from the map alone
+abbrev pub beside_of : (ℕ → Option Node) → Option ℕ → Option Beside
+beside_of f None = None
+beside_of f (Some k) = option_map (λ n. beside n.chunk) (f k)
+
+abbrev pub cut_node : ℕ → Option ℕ → Node → Node
+cut_node taken prev n = record { chunk = cut_chunk n.chunk taken; prev = prev; next = n.next }
+
+abbrev pub joined_node : ℕ → Option ℕ → Node → Node
+joined_node more next n = record { chunk = longer n.chunk more; prev = n.prev; next = next }
+
+-- g is f with that at k
+abbrev pub SetsAt : ℕ → Option Node → (ℕ → Option Node) → (ℕ → Option Node) → Type 0
+SetsAt k o f g = (q : ℕ) → g q ≡ cond (k == q) o (f q)
+
+-- whether the number is that one
+abbrev pub is_at : Option ℕ → ℕ → Bool
+is_at None q = false
+is_at (Some k) q = k == q
+
+-- g is f with the node at k changed, if k is a number
+abbrev pub ChangesAtOpt : Option ℕ → (Node → Node) → (ℕ → Option Node) → (ℕ → Option Node) → Type 0
+ChangesAtOpt o change f g = (q : ℕ) → g q ≡ cond (is_at o q) (option_map change (f q)) (f q)
+
+abbrev pub used_node : ℕ → AllocationType → Name → Node → Node
+used_node offset kind name n = record { chunk = filled_chunk n.chunk offset kind name; prev = n.prev; next = n.next }

@@ -1,0 +1,254 @@
+//! The chunks of a block, in a hashed map by number, each linked to the ones beside it.
+
+ghost use Rattle.std.specs.Prelude.{◌≡◌, ◌+◌, ◌-◌, ◌<◌, ◌≤◌, is_some, if◌then◌else◌, IfOk, OnOk, IsOk, MatchOption, Some, None};
+ghost use Rattle.std.specs.Option.{option_copied};
+ghost use Rattle.gpu_cost.specs.Cost.{LooksUp, LooksUpBetween};
+ghost use Rattle.gpu_block_chunks.specs.Nodes.{held_at};
+ghost use Rattle.gpu_block_chunks.specs.ChunkList.{Covers, AreDistinct};
+ghost use Rattle.gpu_block_chunks.specs.Chain.{HasNumber, HasNoNumber, IsAround, neighbours, IsSplit, IsFilled, IsReleased, from_number, beside, beside_of, first_after, IsChunkAt, IsFresh, IsLonger};
+
+mod new_chunk;
+mod node;
+mod nodes;
+
+use crate::chunk::Chunk;
+use gpu_cost::Cost;
+use gpu_values::AllocationType;
+pub use new_chunk::NewChunk;
+use node::{Node, cut_front, ends_of, join_left, join_right, set_next_of, set_use};
+use nodes::Nodes;
+use std::alloc::{AllocError, Global};
+use std::marker::Model;
+
+/// A chunk without its name.
+#[derive(Clone, Copy)]
+pub struct Beside {
+    pub start: u64,
+    pub size: u64,
+    pub kind: AllocationType,
+    pub number: u64,
+}
+
+/// A chunk, and what stands before and behind it.
+#[derive(Clone, Copy)]
+pub struct Around {
+    pub here: Beside,
+    pub before: Option<Beside>,
+    pub after: Option<Beside>,
+}
+
+/// The chunks of a block, from its start to its end. They cover it without overlap, and no two have one number.
+#[derive(Drop)]
+pub struct Chain {
+    nodes: Nodes,
+    first: u64,
+    size: u64,
+}
+
+impl Model for Chain {
+    ghost use Rattle.std.specs.Prelude.{Some};
+    ghost use Rattle.gpu_block_chunks.specs.Chain.{Linked, IsChain, walk, chunks_in};
+    ghost use Rattle.gpu_block_chunks.specs.Nodes.{held_at, room_of};
+
+    ghost Value = { Linked };
+
+    ghost view = { λ s. record {
+      chunks = chunks_in (walk s.size (held_at s.nodes) (Some s.first));
+      size = s.size;
+      room = room_of s.nodes;
+    } };
+
+    ghost invariant = { λ s. IsChain (held_at s.nodes) s.first s.size (walk s.size (held_at s.nodes) (Some s.first)) };
+}
+
+/// The one way to read a chunk by its number.
+fn node_at<'a>(nodes: &'a Nodes, number: u64, cost: &mut Cost) -> Option<&'a Node>
+    ensures value { option_copied result ≡ held_at nodes.now number }
+    ensures counted { LooksUp 1 cost.old cost.new }
+{
+    cost.look_up();
+    nodes.get(number)
+}
+
+fn short(chunk: &Chunk) -> Beside
+    ensures { result ≡ beside chunk.now }
+{
+    Beside {
+        start: chunk.start,
+        size: chunk.size,
+        kind: chunk.kind,
+        number: chunk.number,
+    }
+}
+
+/// The chunk of a number, where there is one.
+fn beside_at(nodes: &Nodes, number: Option<u64>, cost: &mut Cost) -> Option<Beside>
+    ensures value { result ≡ beside_of (held_at nodes.now) number }
+    ensures counted { LooksUp (if is_some number then 1 else 0) cost.old cost.new }
+{
+    let number = number?;
+    let node = node_at(nodes, number, cost)?;
+    Some(short(&node.chunk))
+}
+
+/// The number of the first chunk, after one was put behind `prev`.
+fn first_of(prev: Option<u64>, number: u64, first: u64) -> u64
+    ensures { result ≡ first_after prev number first }
+{
+    match prev {
+        Some(_) => first,
+        None => number,
+    }
+}
+
+impl Chain {
+    /// A block of `size` bytes that is one free chunk, with number 1.
+    pub fn new(alloc: Global, size: u64) -> Result<Chain, AllocError>
+        requires { 0 < size }
+        ensures { IfOk result (λ c. (c.size ≡ size) × IsFresh c.chunks size) }
+    {
+        let mut nodes = Nodes::with_capacity(alloc, 1)?;
+        let here = Beside {
+            start: 0,
+            size,
+            kind: AllocationType::Free,
+            number: 1,
+        };
+        let chunk = NewChunk::new(alloc, String::new(alloc))?;
+        nodes.put(1, chunk.node(here, 0, None, None));
+        Ok(Chain {
+            nodes,
+            first: 1,
+            size,
+        })
+    }
+
+    /// The size of the block in bytes.
+    pub fn size(&self) -> u64
+        ensures value { result ≡ self.now.size }
+        ensures covers { Covers self.now.chunks 0 self.now.size }
+        ensures distinct { AreDistinct self.now.chunks }
+    {
+        self.size
+    }
+
+    /// The number of the chunk at the block's start.
+    pub(crate) fn first(&self) -> u64
+        ensures { from_number (Some result) self.now.chunks ≡ self.now.chunks }
+    {
+        self.first
+    }
+
+    /// The chunk of that number, and the number of the next one.
+    pub fn chunk(&self, number: u64, cost: &mut Cost) -> Option<(&Chunk, Option<u64>)>
+        ensures value { MatchOption result (HasNoNumber self.now.chunks number) (λ p. IsChunkAt self.now.chunks number p.0.now p.1) }
+        ensures counted { LooksUp 1 cost.old cost.new }
+    {
+        let _size = self.size;
+        let node = node_at(&self.nodes, number, cost)?;
+        Some((&node.chunk, node.next))
+    }
+
+    /// The chunk of that number, and what stands beside it.
+    pub fn around(&self, number: u64, cost: &mut Cost) -> Option<Around>
+        ensures value { MatchOption result (HasNoNumber self.now.chunks number) (λ a. IsAround self.now.chunks number a) }
+        ensures counted { LooksUp (1 + neighbours result) cost.old cost.new }
+    {
+        let _size = self.size;
+        let node = node_at(&self.nodes, number, cost)?;
+        let before = beside_at(&self.nodes, node.prev, cost);
+        let after = beside_at(&self.nodes, node.next, cost);
+        Some(Around {
+            here: short(&node.chunk),
+            before,
+            after,
+        })
+    }
+
+    /// Makes room for that many more chunks, where there isn't room enough. A refusal changes no chunk.
+    pub fn reserve(&mut self, more: usize) -> Result<(), AllocError>
+        ensures same { (self.new.chunks ≡ self.old.chunks) × (self.new.size ≡ self.old.size) }
+        ensures room { OnOk result (more ≤ self.new.room) }
+        ensures kept { self.old.room ≤ self.new.room }
+        ensures enough { more ≤ self.old.room → IsOk result × (self.new ≡ self.old) }
+    {
+        if more <= self.nodes.room() {
+            return Ok(());
+        }
+        self.nodes.reserve(more)
+    }
+
+    /// Cuts a piece off the front of a chunk, under a new number. There is room for it, so no memory is taken.
+    pub fn split_front(
+        &mut self,
+        number: u64,
+        new: u64,
+        taken: u64,
+        offset: u64,
+        kind: AllocationType,
+        chunk: NewChunk,
+        cost: &mut Cost,
+    )
+        requires longer { IsLonger self.old.chunks number taken }
+        requires positive { 0 < taken }
+        requires fresh { HasNoNumber self.old.chunks new }
+        requires room { 0 < self.old.room }
+        ensures chunks { IsSplit self.old.chunks number taken new offset kind chunk self.new.chunks }
+        ensures size { self.new.size ≡ self.old.size }
+        ensures counted { LooksUpBetween 3 4 cost.old cost.new }
+    {
+        let _size = self.size;
+        let ends = ends_of(&self.nodes, number, cost);
+        cut_front(&mut self.nodes, number, taken, Some(new), cost);
+        let here = Beside {
+            start: ends.start,
+            size: taken,
+            kind,
+            number: new,
+        };
+        cost.look_up();
+        self.nodes
+            .put(new, chunk.node(here, offset, ends.prev, Some(number)));
+        set_next_of(&mut self.nodes, ends.prev, Some(new), cost);
+        self.first = first_of(ends.prev, new, self.first);
+    }
+
+    /// Gives a chunk another offset, kind and name. It takes no memory.
+    pub fn fill(
+        &mut self,
+        number: u64,
+        offset: u64,
+        kind: AllocationType,
+        name: String,
+        cost: &mut Cost,
+    )
+        requires there { HasNumber self.old.chunks number }
+        ensures chunks { IsFilled self.old.chunks number offset kind name self.new.chunks }
+        ensures size { self.new.size ≡ self.old.size }
+        ensures counted { LooksUp 1 cost.old cost.new }
+    {
+        set_use(&mut self.nodes, number, offset, kind, name, cost);
+        let _size = self.size;
+    }
+
+    /// Frees a chunk, and joins it with the free chunks beside it. It takes no memory.
+    pub fn release(&mut self, number: u64, empty: String, cost: &mut Cost)
+        requires there { HasNumber self.old.chunks number }
+        ensures chunks { IsReleased self.old.chunks number empty self.new.chunks }
+        ensures size { self.new.size ≡ self.old.size }
+        ensures counted { LooksUpBetween 4 12 cost.old cost.new }
+    {
+        let _size = self.size;
+        let start = ends_of(&self.nodes, number, cost).start;
+        set_use(
+            &mut self.nodes,
+            number,
+            start,
+            AllocationType::Free,
+            empty,
+            cost,
+        );
+        join_right(&mut self.nodes, number, cost);
+        join_left(&mut self.nodes, number, cost);
+    }
+}

@@ -1,0 +1,4 @@
+pub mod Halving
+pub mod Orders
+pub mod Moves
+pub mod Scans

@@ -1,0 +1,3 @@
+pub mod Index
+pub mod Scan
+pub use Rattle.gpu_cost.specs.Cost

@@ -1,0 +1,8 @@
+// The gaps of a block in the order of length and start.
+#![tactic(auto)]
+
+mod index;
+mod scan;
+
+pub use index::{Gap, GapIndex};
+pub use scan::Scan;

@@ -1,0 +1,83 @@
+-- What a new name leaves.
+use Rattle.std.proofs.Common.{◌≡◌, ◌≢◌, ℕ, List, [], ◌∷◌, ◌++◌, map, refl, sym, ap, ◌∙◌, subst, inl, inr, arith, Bool, true, false, cond, eqb}
+use Rattle.std.specs.Prelude.{All, Contains, String, string_bytes}
+use Rattle.std.specs.declared.alloc.Global.{Global}
+use Rattle.std.proofs.lemmas.List.Elements.{All-nil, All-cons, All-head, All-tail, All-append, All-contains, All-weaker, All-contains_itself, All-map}
+use Rattle.gpu_block_chunks.specs.declared.chunk.Chunk.{Chunk}
+use Rattle.gpu_values.specs.declared.allocation_type.AllocationType.TheVariants.{Linear}
+use Rattle.gpu_block_pieces.specs.FreeList.{Extent, FreeList}
+use Rattle.gpu_block_pieces.specs.Changes.{with_name, Renames}
+use Rattle.gpu_block_pieces.specs.Laws.{IsPageSeparated}
+use Rattle.gpu_block_pieces.specs.Chunks.{AreChunks, IsChunk, extent, extents_of, gaps_of, free_list_of, named_chunk, HoldsNumber, IsNamedAt}
+use Rattle.gpu_block_pieces.proofs.Edits.{Covers-like}
+use Rattle.gpu_block_pieces.proofs.Views.{free_or_live, extents-free, extents-live, extents-split, gaps-live, gaps-append, contains_chunk}
+use Rattle.gpu_block_pieces.proofs.Takings.{touching, touch_join, each_of}
+use Rattle.gpu_block_pieces.proofs.Numbers.{Not, one_at, distinct_less, same_number, same_distinct}
+use Rattle.gpu_block_pieces.proofs.Keyed.{changed_mid}
+
+numbers_shown : (k : ℕ) (cs : List Chunk) → All (Not k) cs → All (λ (x : Extent). x.number ≢ k) (extents_of cs)
+numbers_shown k [] h = All-nil (λ (x : Extent). x.number ≢ k)
+numbers_shown k (c ∷ cs) h =
+    let rest = numbers_shown k cs (All-tail (Not k) c cs h) in
+    elim (free_or_live c.kind) [
+      | inl f ↦ subst (λ (xs : List Extent). All (λ (x : Extent). x.number ≢ k) xs) (sym (extents-free c cs f)) rest
+      | inr l ↦ subst (λ (xs : List Extent). All (λ (x : Extent). x.number ≢ k) xs) (sym (extents-live c cs l)) (All-cons (λ (x : Extent). x.number ≢ k) (extent c) (extents_of cs) (All-head (Not k) c cs h) rest)
+    ]
+
+pub record Renamed (size g counter : ℕ) (cs new : List Chunk) (number : ℕ) (text : List ℕ) : Type 0 where
+  pub are : AreChunks new size counter
+  pub renames : Renames (free_list_of size g counter cs) number text (free_list_of size g counter new)
+
+pub renamed : (size g counter : ℕ) (cs new : List Chunk) (i number : ℕ) (name : String Global) (text : List ℕ) → string_bytes name ≡ text → AreChunks cs size counter → HoldsNumber cs number i → IsNamedAt cs i name new → Renamed size g counter cs new number text
+renamed size g counter cs new i number name text et are h named =
+    let f = h.front in let c = h.chunk in let b = h.back in
+    let d = named_chunk c name in
+    let is = named f c b h.split h.index in
+    let parts : AreChunks (f ++ c ∷ b) size counter = subst (λ (xs : List Chunk). AreChunks xs size counter) h.split are in
+    let t = touching Linear f c b parts.none_touch in
+    let e = each_of counter f c b parts.each in
+    let one = one_at f b c parts.distinct in
+    let here : Extent → Extent = λ x. record x { name = text } in
+    let old_list : extents_of cs ≡ extents_of f ++ extent c ∷ extents_of b = ap extents_of h.split ∙ extents-split f b c h.live in
+    let new_list : extents_of new ≡ extents_of f ++ extent d ∷ extents_of b = ap extents_of is ∙ extents-split f b d h.live in
+    let mapped = changed_mid (λ (x : Extent). x.number) c.number here (extent c) (extents_of f) (extents_of b) refl (numbers_shown c.number f one.0) (numbers_shown c.number b one.1) in
+    record {
+      are = subst (λ (xs : List Chunk). AreChunks xs size counter) (sym is) (record {
+        covers = Covers-like f b c d 0 size refl refl parts.covers;
+        none_touch = touch_join Linear f d b (record { before = t.before; at = t.at; after = t.after });
+        each = All-append (IsChunk counter) f (d ∷ b) e.before (All-cons (IsChunk counter) d b (record { after = e.at.after; before = e.at.before; positive = e.at.positive; given = e.at.given }) e.after);
+        distinct = distinct_less f (c ∷ b) (d ∷ b) (same_number c d b refl) (same_distinct c d b refl) parts.distinct;
+      });
+      renames = record {
+        held = (extent c, contains_chunk cs f b c h.split h.live, h.numbered);
+        extents = new_list ∙ (ap (λ k. extents_of f ++ record (extent c) { name = k } ∷ extents_of b) et ∙ (sym mapped ∙ (ap (λ ys. map (with_name c.number text) ys) (sym old_list) ∙ ap (λ k. map (with_name k text) (extents_of cs)) h.numbered)));
+        same = (refl, refl, refl, ap gaps_of is ∙ (gaps-append f (d ∷ b) ∙ (ap (λ ys. gaps_of f ++ ys) (gaps-live d b h.live ∙ sym (gaps-live c b h.live)) ∙ (sym (gaps-append f (c ∷ b)) ∙ ap gaps_of (sym h.split)))));
+      };
+    }
+
+-- ---- page separation
+
+record Shown (xs : List Extent) (x : Extent) : Type 0 where
+  from : Extent
+  held : Contains xs from
+  kind : x.kind ≡ from.kind
+  start : x.start ≡ from.start
+  end : x.end ≡ from.end
+  offset : x.offset ≡ from.offset
+
+shown_by : (xs : List Extent) (r : Bool) (text : List ℕ) (x : Extent) → Contains xs x → Shown xs (cond r (record x { name = text }) x)
+shown_by xs true text x h = record { from = x; held = h; kind = refl; start = refl; end = refl; offset = refl }
+shown_by xs false text x h = record { from = x; held = h; kind = refl; start = refl; end = refl; offset = refl }
+
+shown_of : (xs : List Extent) (number : ℕ) (text : List ℕ) (x : Extent) → Contains (map (with_name number text) xs) x → Shown xs x
+shown_of xs number text x h =
+    All-contains (Shown xs) (map (with_name number text) xs) x
+    (All-map (Shown xs) (with_name number text) xs (All-weaker (Contains xs) (λ y. Shown xs (with_name number text y)) (λ y q. shown_by xs (eqb y.number number) text y q) xs (All-contains_itself xs))) h
+
+pub renames_separated : (old : FreeList) (n : ℕ) (text : List ℕ) (new : FreeList) → IsPageSeparated old → Renames old n text new → IsPageSeparated new
+renames_separated old n text new apart t = λ x y hx hy ne le.
+    let a = shown_of old.extents n text x (subst (λ (xs : List Extent). Contains xs x) t.extents hx) in
+    let b = shown_of old.extents n text y (subst (λ (xs : List Extent). Contains xs y) t.extents hy) in
+    let ae = a.end in let bs = b.start in
+    let r = apart a.from b.from a.held b.held (λ q. ne (a.kind ∙ (q ∙ sym b.kind))) (omega arith) in
+    rw (t.same.1, a.end, b.offset) r

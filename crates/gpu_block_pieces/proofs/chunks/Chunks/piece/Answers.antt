@@ -1,0 +1,11 @@
+use Rattle.std.proofs.Common.{ap, sym, subst, List}
+use Rattle.gpu_block_chunks.specs.declared.chunk.Chunk.{Chunk}
+use Rattle.gpu_block_pieces.specs.Chunks.{HoldsNumber}
+use Rattle.gpu_block_pieces.specs.Indexed.{LaidChunks}
+use Rattle.gpu_block_pieces.proofs.Holding.{not_held}
+use Rattle.gpu_block_pieces.proofs.chunks.Chunks.piece.Goals as goal
+
+pub returns-then-is_free-clause-piece : goal.returns-then-is_free-clause-piece
+returns-then-is_free-clause-piece c = λ k h.
+    not_held c.self.inside.chain.chunks c.in_ok-chunk.chunk.now c.args.number c.size-size.ensures.distinct c.in_ok-chunk.ensures.value.at (c.is_free.ensures.0 c.if-is_free.true) k
+    (subst (λ (xs : List Chunk). HoldsNumber xs c.args.number k) (sym (ap (λ (v : LaidChunks). v.items) c.self.view_is)) h)

@@ -1,0 +1,230 @@
+use Rattle.std.proofs.Common.{◌≡◌, ℕ, ◌+◌, ◌-◌, ◌^◌, ◌<◌, refl, sym, ◌∙◌, subst, arith, true, false}
+use Rattle.std.proofs.lemmas.Bool.{false≢true}
+use Rattle.gpu_block_pieces.specs.declared.place.Wanted.{Wanted}
+use Rattle.gpu_block_pieces.specs.Request.{Request}
+use Rattle.gpu_block_pieces.specs.Place.{HasNoPlace}
+use Rattle.gpu_block_pieces.specs.Request.{request}
+use Rattle.gpu_values.specs.declared.error.AllocationError.TheVariants.{OutOfMemory}
+use Rattle.gpu_block_pieces.specs.Chunks.{free_list_of}
+use Rattle.gpu_block_pieces.proofs.Placing.{view_at, no_place_none, no_place_counter, has_place, host_refusal, rest_taken_are, whole_taken_are, rest_takes, whole_takes, some_number}
+use Rattle.gpu_block_pieces.proofs.Keeping.{law_at, Stepped, stepped, granularity_of}
+use Rattle.std.specs.Prelude.{IsTrue}
+use Rattle.std.specs.Int.{is_power_of_two}
+use Rattle.gpu_block_pieces.proofs.Sound.{sound_block}
+use Rattle.gpu_block_pieces.proofs.Ordered.{ordered_block}
+use Rattle.gpu_block_pieces.proofs.Covering.{sound_covered}
+use Rattle.gpu_block_pieces.proofs.Powers.{positive_from_test}
+use Rattle.gpu_block_pieces.specs.Chunks.{FoundAt}
+use Rattle.gpu_block_gaps.specs.declared.index.Gap.{Gap}
+use Rattle.gpu_block_pieces.specs.Indexed.{chosen_at}
+use Rattle.gpu_cost.specs.Cost.{counts_of}
+use Rattle.gpu_cost.specs.declared.cost.Cost.{Cost}
+use Rattle.gpu_block_pieces.specs.Search.{IsSearch}
+use Rattle.gpu_block_pieces.proofs.Costing.{Taking, searched, nothing_taken, not_taken, place_taken}
+use Rattle.gpu_block_pieces.proofs.Holding.{chosen_fits, fresh_number, rest_of_chunk, no_rest_of_chunk}
+use Rattle.gpu_block_pieces.proofs.cut_block.CutBlock.allocate.Goals as goal
+use Rattle.gpu_block_pieces.proofs.cut_block.CutBlock.allocate.Goals.{In-Some, In_ok-number, After-find_place, After-leaves_rest-rest, In_default, then-rest-2, else-rest-2, else-rest-via-then-rest+else-self, else-rest-via-else-rest}
+
+-- what is asked, and of whom
+abbrev asked : After-find_place → Wanted
+asked c = record { size = c.args.size; alignment = c.args.alignment; kind = c.args.kind; granularity = c.args.granularity }
+
+abbrev the_request : After-find_place → Request
+the_request c = request c.args.size c.args.alignment c.args.kind c.args.name.now
+
+the_view : (c : After-find_place) → free_list_of c.self.inside.chunks.size c.args.granularity c.self.inside.counter c.self.inside.chunks.items ≡ c.args.self.now
+the_view c = view_at c.self.inside.chunks.size c.self.inside.granularity c.self.inside.counter c.self.inside.chunks.items c.args.self.now c.self.view_is c.args.granularity c.requires.paged
+
+the_none : (c : In_default) → HasNoPlace c.args.self.now (request c.args.size c.args.alignment c.args.kind c.args.name.now)
+the_none c =
+    let w : Wanted = record { size = c.args.size; alignment = c.args.alignment; kind = c.args.kind; granularity = c.args.granularity } in
+    no_place_none c.self.inside.chunks.items c.self.inside.chunks.size c.self.inside.counter w c.args.self.now c.args.name.now c.self.invariant.1 c.requires.piece
+    (view_at c.self.inside.chunks.size c.self.inside.granularity c.self.inside.counter c.self.inside.chunks.items c.args.self.now c.self.view_is c.args.granularity c.requires.paged)
+    c.in_default.ensures.found
+
+pub returns-in_default-clause-cause : goal.returns-in_default-clause-cause
+returns-in_default-clause-cause c = the_none c
+
+pub returns-in_default-clause-law : goal.returns-in_default-clause-law
+returns-in_default-clause-law c = λ s t gap long.
+    let at = (goal.at.returns-in_default-clause-law c).After-find_place in
+    law_at c.self.inside.chunks.size c.self.inside.granularity c.self.inside.counter c.self.inside.chunks.items c.args.self.now (the_request at) OutOfMemory c.self.view_is c.self.invariant.1 c.self.invariant.0 c.requires.aligned c.requires.sized (the_none c) s t gap long
+
+-- the gap that the search found
+abbrev the_found : (c : In-Some) → FoundAt
+the_found c = chosen_at c.self.inside.chunks.items (record { size = c.args.size; alignment = c.args.alignment; kind = c.args.kind; granularity = c.args.granularity }) c.in-Some.found c.in-Some.ensures.found
+
+pub returns-then-self-clause-cause : goal.returns-then-self-clause-cause
+returns-then-self-clause-cause c =
+    let at = (goal.at.returns-then-self-clause-cause c).After-find_place in
+    let h = c.in-Some.ensures.found in
+    no_place_counter c.self.inside.chunks.items c.self.inside.chunks.size c.self.inside.counter (asked at) c.args.self.now c.args.name.now (the_found ((goal.at.returns-then-self-clause-cause c).In-Some)) c.self.invariant.1 c.requires.piece (the_view at) h.best
+    (rest_of_chunk c.self.inside.chunks.items (asked at) c.in-Some.found h (c.leaves_rest-rest.ensures.0 c.if-rest.true)) c.if-self.true
+
+-- ---- the two outcomes
+
+abbrev Steps : In_ok-number → ℕ → ℕ → Type 0
+Steps c n after = Stepped c.args.self.now (request c.args.size c.args.alignment c.args.kind c.args.name.now) c.in-Some.found.offset n c.self.inside.chunks.size c.self.inside.granularity after c.take.new.self.items
+
+the_rest : (c : In_ok-number) (n : ℕ) → n ≡ c.in_ok-number.number → c.leaves_rest-rest.result ≡ true → Steps c n (c.self.inside.counter + 1)
+the_rest c n e is =
+    let i = c.self.inside in
+    let w : Wanted = record { size = c.args.size; alignment = c.args.alignment; kind = c.args.kind; granularity = c.args.granularity } in
+    let h = c.in-Some.ensures.found in
+    let f = chosen_at i.chunks.items w c.in-Some.found h in
+    let rest = rest_of_chunk i.chunks.items w c.in-Some.found h (c.leaves_rest-rest.ensures.0 is) in
+    let left : c.self.inside.counter < 2 ^ 64 - 1 = elim c.else-rest.branch [
+      | else-rest-via-then-rest+else-self v ↦ (let ne = v.if-self.false in omega arith)
+      | else-rest-via-else-rest v ↦ absurd (false≢true (sym v.if-rest.false ∙ is))
+    ] in
+    stepped c.args.self.now (request c.args.size c.args.alignment c.args.kind c.args.name.now) c.in-Some.found.offset n c.in_ok-number.number i.chunks.size i.granularity c.args.granularity i.counter (i.counter + 1) i.chunks.items c.take.new.self.items c.self.view_is c.requires.paged e c.self.invariant.0 c.requires.sized c.self.invariant.1 c.self.invariant.2
+    (rest_taken_are i.chunks.items c.take.new.self.items i.chunks.size i.counter w f c.in_ok-text.text c.in_ok-number.number c.self.invariant.1 c.requires.sized c.requires.piece h.best (c.in_ok-number.ensures.taken h) rest)
+    (rest_takes i.chunks.items c.take.new.self.items i.chunks.size i.counter w f c.in_ok-text.text c.in_ok-number.number c.self.invariant.1 c.requires.sized c.requires.piece h.best (c.in_ok-number.ensures.taken h) rest c.args.name.now c.in_ok-text.ensures.ok left)
+
+the_whole : (c : In_ok-number) (n : ℕ) → n ≡ c.in_ok-number.number → c.leaves_rest-rest.result ≡ false → Steps c n c.self.inside.counter
+the_whole c n e is =
+    let i = c.self.inside in
+    let w : Wanted = record { size = c.args.size; alignment = c.args.alignment; kind = c.args.kind; granularity = c.args.granularity } in
+    let h = c.in-Some.ensures.found in
+    let f = chosen_at i.chunks.items w c.in-Some.found h in
+    let whole = no_rest_of_chunk i.chunks.items w c.in-Some.found c.leaves_rest-rest.result h is c.leaves_rest-rest.ensures.1 in
+    stepped c.args.self.now (request c.args.size c.args.alignment c.args.kind c.args.name.now) c.in-Some.found.offset n c.in_ok-number.number i.chunks.size i.granularity c.args.granularity i.counter i.counter i.chunks.items c.take.new.self.items c.self.view_is c.requires.paged e c.self.invariant.0 c.requires.sized c.self.invariant.1 c.self.invariant.2
+    (whole_taken_are i.chunks.items c.take.new.self.items i.chunks.size i.counter w f c.in_ok-text.text c.in_ok-number.number c.self.invariant.1 c.requires.sized c.requires.piece h.best (c.in_ok-number.ensures.taken h) whole)
+    (whole_takes i.chunks.items c.take.new.self.items i.chunks.size i.counter w f c.in_ok-text.text c.in_ok-number.number c.self.invariant.1 c.requires.sized c.requires.piece h.best (c.in_ok-number.ensures.taken h) whole c.args.name.now c.in_ok-text.ensures.ok)
+
+pub invariant_of-self-then-rest-2 : goal.invariant_of-self-then-rest-2
+invariant_of-self-then-rest-2 c =
+    let s = the_rest ((goal.at.invariant_of-self-then-rest-2 c).In_ok-number) c.in_ok-number.number refl c.if-rest-2.true in
+    rw c.in_ok-number.ensures.size (c.self.invariant.0, s.are, s.separated, c.self.invariant.3)
+
+pub invariant_of-self-else-rest-2 : goal.invariant_of-self-else-rest-2
+invariant_of-self-else-rest-2 c =
+    let s = the_whole ((goal.at.invariant_of-self-else-rest-2 c).In_ok-number) c.in_ok-number.number refl c.if-rest-2.false in
+    rw c.in_ok-number.ensures.size (c.self.invariant.0, s.are, s.separated, c.self.invariant.3)
+
+pub non_zero-requires : goal.non_zero-requires
+non_zero-requires c =
+    let at = (goal.at.non_zero-requires c).After-find_place in
+    let h = c.in-Some.ensures.found in
+    some_number c.self.inside.chunks.items c.take.new.self.items c.self.inside.chunks.size c.self.inside.counter (asked at) (the_found ((goal.at.non_zero-requires c).In-Some)) c.in_ok-text.text c.in_ok-number.number c.self.invariant.1 c.requires.sized c.requires.piece h.best (c.in_ok-number.ensures.taken h)
+
+pub returns-clause-took : goal.returns-clause-took
+returns-clause-took c =
+    let at = (goal.at.returns-clause-took c).In_ok-number in
+    elim c.if-rest-2.branch [
+      | then-rest-2 w ↦ rw (w.self-is, c.in_ok-number.ensures.size) (the_rest at _ c.non_zero.ensures w.if-rest-2.true).takes
+      | else-rest-2 w ↦ rw (w.self-is, c.in_ok-number.ensures.size) (the_whole at _ c.non_zero.ensures w.if-rest-2.false).takes
+    ]
+
+pub returns-clause-sound : goal.returns-clause-sound
+returns-clause-sound c =
+    let at = (goal.at.returns-clause-sound c).In_ok-number in
+    let i = c.self.inside in
+    elim c.if-rest-2.branch [
+      | then-rest-2 w ↦ rw (w.self-is, c.in_ok-number.ensures.size) (sound_block c.take.new.self.items i.chunks.size i.granularity (i.counter + 1) (the_rest at c.in_ok-number.number refl w.if-rest-2.true).are)
+      | else-rest-2 w ↦ rw (w.self-is, c.in_ok-number.ensures.size) (sound_block c.take.new.self.items i.chunks.size i.granularity i.counter (the_whole at c.in_ok-number.number refl w.if-rest-2.false).are)
+    ]
+
+pub returns-clause-covered : goal.returns-clause-covered
+returns-clause-covered c =
+    let at = (goal.at.returns-clause-covered c).In_ok-number in
+    let i = c.self.inside in
+    let ds = c.take.new.self.items in
+    elim c.if-rest-2.branch [
+      | then-rest-2 w ↦ rw (w.self-is, c.in_ok-number.ensures.size) (sound_covered (free_list_of i.chunks.size i.granularity (i.counter + 1) ds) (sound_block ds i.chunks.size i.granularity (i.counter + 1) (the_rest at c.in_ok-number.number refl w.if-rest-2.true).are))
+      | else-rest-2 w ↦ rw (w.self-is, c.in_ok-number.ensures.size) (sound_covered (free_list_of i.chunks.size i.granularity i.counter ds) (sound_block ds i.chunks.size i.granularity i.counter (the_whole at c.in_ok-number.number refl w.if-rest-2.false).are))
+    ]
+
+pub returns-clause-separated : goal.returns-clause-separated
+returns-clause-separated c =
+    let at = (goal.at.returns-clause-separated c).In_ok-number in
+    elim c.if-rest-2.branch [
+      | then-rest-2 w ↦ rw w.self-is (the_rest at c.in_ok-number.number refl w.if-rest-2.true).separated
+      | else-rest-2 w ↦ rw w.self-is (the_whole at c.in_ok-number.number refl w.if-rest-2.false).separated
+    ]
+
+pub find_place-requires-clause-aligned : goal.find_place-requires-clause-aligned
+find_place-requires-clause-aligned c = positive_from_test c.args.alignment c.requires.aligned
+
+pub find_place-requires-clause-paged : goal.find_place-requires-clause-paged
+find_place-requires-clause-paged c = positive_from_test c.args.granularity (subst (λ k. IsTrue (is_power_of_two k)) (sym (granularity_of c.self.inside.chunks.size c.self.inside.granularity c.self.inside.counter c.self.inside.chunks.items c.args.self.now c.args.granularity c.self.view_is c.requires.paged)) c.self.invariant.0)
+
+-- ---- host memory is refused where there is a place
+
+pub returns-in_err-text-clause-cause : goal.returns-in_err-text-clause-cause
+returns-in_err-text-clause-cause c =
+    let at = (goal.at.returns-in_err-text-clause-cause c).After-find_place in
+    let i = c.self.inside in
+    let h = c.in-Some.ensures.found in
+    host_refusal c.from_residual.result c.args.self.now (the_request at) c.from_residual.ensures.1
+    (has_place i.chunks.items i.chunks.size i.counter (asked at) c.args.self.now c.args.name.now (chosen_at i.chunks.items (asked at) c.in-Some.found h) c.self.invariant.1 c.requires.piece (the_view at) h.best (λ lt.
+    let is = c.leaves_rest-rest.ensures.1 (subst (λ (g : Gap). c.in-Some.found.offset + c.args.size < g.start + g.length) (sym h.gap) lt) in
+    elim c.else-rest.branch [
+      | else-rest-via-then-rest+else-self v ↦ (let ne = v.if-self.false in omega arith)
+      | else-rest-via-else-rest v ↦ absurd (false≢true (sym v.if-rest.false ∙ is))
+    ]))
+
+pub returns-in_err-number-clause-cause : goal.returns-in_err-number-clause-cause
+returns-in_err-number-clause-cause c =
+    let at = (goal.at.returns-in_err-number-clause-cause c).After-find_place in
+    let i = c.self.inside in
+    let h = c.in-Some.ensures.found in
+    host_refusal c.from_residual-in_err-number.result c.args.self.now (the_request at) c.from_residual-in_err-number.ensures.1
+    (has_place i.chunks.items i.chunks.size i.counter (asked at) c.args.self.now c.args.name.now (chosen_at i.chunks.items (asked at) c.in-Some.found h) c.self.invariant.1 c.requires.piece (the_view at) h.best (λ lt.
+    let is = c.leaves_rest-rest.ensures.1 (subst (λ (g : Gap). c.in-Some.found.offset + c.args.size < g.start + g.length) (sym h.gap) lt) in
+    elim c.else-rest.branch [
+      | else-rest-via-then-rest+else-self v ↦ (let ne = v.if-self.false in omega arith)
+      | else-rest-via-else-rest v ↦ absurd (false≢true (sym v.if-rest.false ∙ is))
+    ]))
+
+pub leaves_rest-rest-requires : goal.leaves_rest-rest-requires
+leaves_rest-rest-requires c =
+    let w : Wanted = record { size = c.args.size; alignment = c.args.alignment; kind = c.args.kind; granularity = c.args.granularity } in
+    let f = chosen_fits c.self.inside.chunks.items w c.in-Some.found c.self.inside.chunks.size c.self.invariant.1.covers c.self.invariant.3 c.in-Some.ensures.found in
+    (omega (arith, f.high, f.ends), f.ends)
+
+pub take-requires-clause-fresh : goal.take-requires-clause-fresh
+take-requires-clause-fresh c = fresh_number c.self.inside.counter c.self.inside.chunks.items c.self.invariant.1.each
+
+-- ---- what the search and the taking cost
+
+searched_at : (c : After-find_place) (last : Cost) → Taking (asked c) c.find_place.result c.find_place.new.cost last → IsSearch c.args.self.now (the_request c) (counts_of c.args.cost.now) (counts_of last)
+searched_at c last taking =
+    searched c.self.inside.chunks.items c.self.inside.chunks.size c.args.granularity c.self.inside.counter (asked c) c.args.name.now c.args.self.now c.self.invariant.1 c.requires.piece (the_view c)
+    c.find_place.result c.args.cost.now c.find_place.new.cost last _ _ c.find_place.ensures.found c.find_place.ensures.cost taking refl refl
+
+pub returns-in_default-clause-cost : goal.returns-in_default-clause-cost
+returns-in_default-clause-cost c =
+    let at = (goal.at.returns-in_default-clause-cost c).After-find_place in
+    searched_at at _ (not_taken (asked at) _ _)
+
+pub returns-then-self-clause-cost : goal.returns-then-self-clause-cost
+returns-then-self-clause-cost c =
+    let at = (goal.at.returns-then-self-clause-cost c).After-find_place in
+    searched_at at _ (not_taken (asked at) _ _)
+
+pub returns-in_err-text-clause-cost : goal.returns-in_err-text-clause-cost
+returns-in_err-text-clause-cost c =
+    let at = (goal.at.returns-in_err-text-clause-cost c).After-find_place in
+    searched_at at _ (not_taken (asked at) _ _)
+
+pub returns-in_err-number-clause-cost : goal.returns-in_err-number-clause-cost
+returns-in_err-number-clause-cost c =
+    let at = (goal.at.returns-in_err-number-clause-cost c).After-find_place in
+    searched_at at c.take.new.cost (nothing_taken (asked at) _ _ _ c.in_err-number.ensures.none)
+
+pub returns-clause-cost : goal.returns-clause-cost
+returns-clause-cost c =
+    let at = (goal.at.returns-clause-cost c).After-find_place in
+    searched_at at c.take.new.cost (place_taken (asked at) c.find_place.result c.in-Some.found _ _ c.in-Some.is c.in_ok-number.ensures.front c.in_ok-number.ensures.whole)
+
+-- ---- the order of the lists
+
+pub returns-clause-ordered : goal.returns-clause-ordered
+returns-clause-ordered c =
+    let at = (goal.at.returns-clause-ordered c).In_ok-number in
+    let i = c.self.inside in
+    elim c.if-rest-2.branch [
+      | then-rest-2 w ↦ rw (w.self-is, c.in_ok-number.ensures.size) (ordered_block c.take.new.self.items i.chunks.size i.granularity (i.counter + 1) (the_rest at c.in_ok-number.number refl w.if-rest-2.true).are)
+      | else-rest-2 w ↦ rw (w.self-is, c.in_ok-number.ensures.size) (ordered_block c.take.new.self.items i.chunks.size i.granularity i.counter (the_whole at c.in_ok-number.number refl w.if-rest-2.false).are)
+    ]

@@ -1,0 +1,53 @@
+use Rattle.std.proofs.Common.{◌≡◌, ◌∙◌, ℕ, sym, subst}
+use Rattle.std.specs.Int.NonZero.{non_zero_u64_get}
+use Rattle.gpu_block_pieces.specs.FreeList.{FreeList, SomeExtent}
+use Rattle.gpu_block_pieces.specs.Changes.{Releases}
+use Rattle.gpu_block_pieces.specs.Chunks.{HoldsNumber, free_list_of}
+use Rattle.gpu_block_pieces.proofs.Releasing.{Released, released_at, none_live}
+use Rattle.gpu_block_pieces.proofs.Separation.{releases_separated}
+use Rattle.gpu_block_pieces.proofs.Sound.{sound_block}
+use Rattle.gpu_block_pieces.proofs.Ordered.{ordered_block}
+use Rattle.gpu_block_pieces.proofs.Covering.{sound_covered}
+use Rattle.gpu_block_pieces.proofs.Holding.{released_there}
+use Rattle.gpu_block_pieces.proofs.cut_block.CutBlock.free.Goals as goal
+use Rattle.gpu_block_pieces.proofs.cut_block.CutBlock.free.Goals.{After-release}
+use Rattle.std.specs.Prelude.{IfSome, IsSomeAnd}
+
+the_release : (c : After-release) → Released c.self.inside.chunks.size c.self.inside.granularity c.self.inside.counter c.self.inside.chunks.items c.release.new.self.items (non_zero_u64_get c.in-Some.number)
+the_release c =
+    let e = c.in-Some-piece_around.ensures.piece in
+    let r = released_there c.self.inside.chunks.items c.release.new.self.items c.in-Some-piece_around.around (non_zero_u64_get c.in-Some.number) c.new-empty.result c.self.invariant.1.distinct (e.0 ∙ c.get.ensures.value) e.1 c.release.ensures.released in
+    released_at c.self.inside.chunks.size c.self.inside.granularity c.self.inside.counter c.self.inside.chunks.items c.release.new.self.items r.index (non_zero_u64_get c.in-Some.number) c.new-empty.result c.self.invariant.1 r.held r.released
+
+pub returns-in_default-piece_around-clause-not_live : goal.returns-in_default-piece_around-clause-not_live
+returns-in_default-piece_around-clause-not_live c =
+    let i = c.self.inside in
+    let none : (k : ℕ) → HoldsNumber i.chunks.items (non_zero_u64_get c.in-Some.number) k → ⊥ =
+    λ k h. c.in_default-piece_around.ensures.piece k (subst (λ n. HoldsNumber i.chunks.items n k) (sym c.get.ensures.value) h) in
+    subst (λ o. IfSome o (λ n. SomeExtent c.args.self.now (λ x. x.number ≡ non_zero_u64_get n) → ⊥)) (sym c.in-Some.is)
+    (subst (λ (b : FreeList). SomeExtent b (λ x. x.number ≡ non_zero_u64_get c.in-Some.number) → ⊥) c.self.view_is (none_live i.chunks.size i.granularity i.counter i.chunks.items (non_zero_u64_get c.in-Some.number) none))
+
+pub invariant_of-self : goal.invariant_of-self
+invariant_of-self c = rw c.release.ensures.size (c.self.invariant.0, (the_release c).are, releases_separated (free_list_of c.self.inside.chunks.size c.self.inside.granularity c.self.inside.counter c.self.inside.chunks.items) (non_zero_u64_get c.in-Some.number) (free_list_of c.self.inside.chunks.size c.self.inside.granularity c.self.inside.counter c.release.new.self.items) c.self.invariant.2 (the_release c).releases, c.self.invariant.3)
+
+pub returns-clause-freed : goal.returns-clause-freed
+returns-clause-freed c =
+    let i = c.self.inside in
+    let new = free_list_of i.chunks.size i.granularity i.counter c.release.new.self.items in
+    rw c.release.ensures.size (subst (λ o. IsSomeAnd o (λ n. Releases c.args.self.now (non_zero_u64_get n) new)) (sym c.in-Some.is)
+    (subst (λ b. Releases b (non_zero_u64_get c.in-Some.number) new) c.self.view_is (the_release c).releases))
+
+pub returns-clause-sound : goal.returns-clause-sound
+returns-clause-sound c = rw c.release.ensures.size (sound_block c.release.new.self.items c.self.inside.chunks.size c.self.inside.granularity c.self.inside.counter (the_release c).are)
+
+pub returns-clause-separated : goal.returns-clause-separated
+returns-clause-separated c = releases_separated (free_list_of c.self.inside.chunks.size c.self.inside.granularity c.self.inside.counter c.self.inside.chunks.items) (non_zero_u64_get c.in-Some.number) (free_list_of c.self.inside.chunks.size c.self.inside.granularity c.self.inside.counter c.release.new.self.items) c.self.invariant.2 (the_release c).releases
+
+pub returns-clause-covered : goal.returns-clause-covered
+returns-clause-covered c =
+    let at = (goal.at.returns-clause-covered c).After-release in
+    let i = c.self.inside in
+    rw c.release.ensures.size (sound_covered (free_list_of i.chunks.size i.granularity i.counter c.release.new.self.items) (sound_block c.release.new.self.items i.chunks.size i.granularity i.counter (the_release at).are))
+
+pub returns-clause-ordered : goal.returns-clause-ordered
+returns-clause-ordered c = rw c.release.ensures.size (ordered_block c.release.new.self.items c.self.inside.chunks.size c.self.inside.granularity c.self.inside.counter (the_release c).are)

@@ -1,0 +1,91 @@
+use Rattle.std.proofs.Common.{length, refl, sym, ◌∙◌, subst, true, false}
+use Rattle.std.specs.Prelude.{IsSomeAnd}
+use Rattle.std.specs.Int.NonZero.{non_zero_u64_get}
+use Rattle.gpu_block_pieces.specs.Changes.{Renames}
+use Rattle.gpu_block_pieces.specs.Chunks.{HoldsNumber, free_list_of}
+use Rattle.gpu_values.specs.Refusal.{host_out_of_memory}
+use Rattle.gpu_block_pieces.proofs.Sound.{sound_block}
+use Rattle.gpu_block_pieces.proofs.Ordered.{ordered_block}
+use Rattle.gpu_block_pieces.proofs.Covering.{sound_covered}
+use Rattle.gpu_block_pieces.proofs.Numbered.{rename_none, rename_live, rename_host, gap_told, none_in_view, live_in_view}
+use Rattle.gpu_block_pieces.proofs.Renaming.{Renamed, renamed, renames_separated}
+use Rattle.gpu_block_chunks.specs.Chain.{StandsAt}
+use Rattle.gpu_block_pieces.proofs.Holding.{held_at}
+use Rattle.gpu_block_pieces.proofs.cut_block.CutBlock.rename.Goals as goal
+use Rattle.gpu_block_pieces.proofs.cut_block.CutBlock.rename.Goals.{After-rename}
+
+the_rename : (c : After-rename) → Renamed c.self.inside.chunks.size c.self.inside.granularity c.self.inside.counter c.self.inside.chunks.items c.rename.new.self.items (non_zero_u64_get c.in-Some.number) c.args.name.now
+the_rename c =
+    let e = c.in-Some-piece.ensures.piece in
+    let h = held_at c.self.inside.chunks.items c.in-Some-piece.piece.now c.get.result e.0 e.1 in
+    renamed c.self.inside.chunks.size c.self.inside.granularity c.self.inside.counter c.self.inside.chunks.items c.rename.new.self.items (length e.1.front) (non_zero_u64_get c.in-Some.number) c.in_ok-text.text c.args.name.now c.in_ok-text.ensures.ok c.self.invariant.1
+    (subst (λ n. HoldsNumber c.self.inside.chunks.items n (length e.1.front)) c.get.ensures.value h) (c.rename.ensures.named (length e.1.front) (subst (λ n. HoldsNumber c.self.inside.chunks.items n (length e.1.front)) (c.get.ensures.value ∙ sym c.get-2.ensures.value) h))
+
+pub invariant_of-self : goal.invariant_of-self
+invariant_of-self c =
+    let i = c.self.inside in
+    let r = the_rename c in
+    rw c.rename.ensures.size (c.self.invariant.0, r.are, renames_separated (free_list_of i.chunks.size i.granularity i.counter i.chunks.items) (non_zero_u64_get c.in-Some.number) c.args.name.now (free_list_of i.chunks.size i.granularity i.counter c.rename.new.self.items) c.self.invariant.2 r.renames, c.self.invariant.3)
+
+pub returns-clause-renamed : goal.returns-clause-renamed
+returns-clause-renamed c =
+    let i = c.self.inside in
+    let new = free_list_of i.chunks.size i.granularity i.counter c.rename.new.self.items in
+    rw c.rename.ensures.size (subst (λ o. IsSomeAnd o (λ n. Renames c.args.self.now (non_zero_u64_get n) c.args.name.now new)) (sym c.in-Some.is)
+    (subst (λ b. Renames b (non_zero_u64_get c.in-Some.number) c.args.name.now new) c.self.view_is (the_rename c).renames))
+
+pub returns-clause-sound : goal.returns-clause-sound
+returns-clause-sound c =
+    let at = (goal.at.returns-clause-sound c).After-rename in
+    rw c.rename.ensures.size (sound_block c.rename.new.self.items c.self.inside.chunks.size c.self.inside.granularity c.self.inside.counter (the_rename at).are)
+
+pub returns-clause-separated : goal.returns-clause-separated
+returns-clause-separated c =
+    let at = (goal.at.returns-clause-separated c).After-rename in
+    let i = c.self.inside in
+    renames_separated (free_list_of i.chunks.size i.granularity i.counter i.chunks.items) (non_zero_u64_get c.in-Some.number) c.args.name.now (free_list_of i.chunks.size i.granularity i.counter c.rename.new.self.items) c.self.invariant.2 (the_rename at).renames
+
+-- ---- the refusals
+
+pub returns-then-has_gap-clause-cause : goal.returns-then-has_gap-clause-cause
+returns-then-has_gap-clause-cause c =
+    let i = c.self.inside in
+    let n = non_zero_u64_get c.in-Some.number in
+    rename_none c.args.self.now c.args.chunk_id c.in-Some.number _ true c.in-Some.is
+    (none_in_view i.chunks.size i.granularity i.counter i.chunks.items i.chunks.items c.args.self.now n c.get.result c.self.view_is refl c.get.ensures.value c.in_default-piece.ensures.piece)
+    (gap_told i.chunks.size i.granularity i.counter i.chunks.items i.chunks.items c.args.self.now n c.get-in_default-piece.result c.has_gap.result c.self.view_is refl c.get-in_default-piece.ensures.value c.has_gap.ensures.gap ∙ c.if-has_gap.true)
+    c.internal_fault-then-has_gap.ensures
+
+pub returns-in_default-piece-clause-cause : goal.returns-in_default-piece-clause-cause
+returns-in_default-piece-clause-cause c =
+    let i = c.self.inside in
+    let n = non_zero_u64_get c.in-Some.number in
+    rename_none c.args.self.now c.args.chunk_id c.in-Some.number _ false c.in-Some.is
+    (none_in_view i.chunks.size i.granularity i.counter i.chunks.items i.chunks.items c.args.self.now n c.get.result c.self.view_is refl c.get.ensures.value c.in_default-piece.ensures.piece)
+    (gap_told i.chunks.size i.granularity i.counter i.chunks.items i.chunks.items c.args.self.now n c.get-in_default-piece.result c.has_gap.result c.self.view_is refl c.get-in_default-piece.ensures.value c.has_gap.ensures.gap ∙ c.if-has_gap.false)
+    c.internal_fault-in_default-piece.ensures
+
+pub returns-in_err-text-clause-cause : goal.returns-in_err-text-clause-cause
+returns-in_err-text-clause-cause c =
+    let i = c.self.inside in
+    let n = non_zero_u64_get c.in-Some.number in
+    let e = c.in-Some-piece.ensures.piece in
+    let h = subst (λ k. HoldsNumber i.chunks.items k (length e.1.front)) c.get.ensures.value (held_at i.chunks.items c.in-Some-piece.piece.now c.get.result e.0 e.1) in
+    rename_host c.from_residual.result c.args.self.now c.args.chunk_id c.from_residual.ensures.1
+    (rename_live c.args.self.now c.args.chunk_id c.in-Some.number host_out_of_memory c.in-Some.is (live_in_view i.chunks.size i.granularity i.counter i.chunks.items c.args.self.now n (length e.1.front) c.self.view_is h) refl)
+
+pub returns-clause-covered : goal.returns-clause-covered
+returns-clause-covered c =
+    let at = (goal.at.returns-clause-covered c).After-rename in
+    let i = c.self.inside in
+    rw c.rename.ensures.size (sound_covered (free_list_of i.chunks.size i.granularity i.counter c.rename.new.self.items) (sound_block c.rename.new.self.items i.chunks.size i.granularity i.counter (the_rename at).are))
+
+pub rename-requires : goal.rename-requires
+rename-requires c =
+    let e = c.in-Some-piece.ensures.piece in
+    record { piece = record { chunk = c.in-Some-piece.piece.now; at = subst (λ n. StandsAt c.self.inside.chunks.items n c.in-Some-piece.piece.now) (c.get.ensures.value ∙ sym c.get-2.ensures.value) e.1; live = e.0; offset_is = refl; kind_is = refl } }
+
+pub returns-clause-ordered : goal.returns-clause-ordered
+returns-clause-ordered c =
+    let at = (goal.at.returns-clause-ordered c).After-rename in
+    rw c.rename.ensures.size (ordered_block c.rename.new.self.items c.self.inside.chunks.size c.self.inside.granularity c.self.inside.counter (the_rename at).are)

@@ -1,0 +1,75 @@
+use Rattle.std.proofs.Common.{◌≡◌, ◌∙◌, ◌+◌, List, get_or, refl, sym, ap, arith, slice_get}
+use Rattle.std.proofs.lemmas.List.{take_all}
+use Rattle.std.proofs.lemmas.Option.{slice_get_within, get_or_from_slice_get}
+use Rattle.gpu_block_gaps.specs.declared.index.Gap.{Gap}
+use Rattle.gpu_block_pieces.proofs.Searches.{past_end, counts_long, counts_short, short_fails, one_more_past}
+use Rattle.gpu_block_pieces.proofs.search.find.Goals as goal
+
+pub loop-gap-init : goal.loop-gap-init
+loop-gap-init c =
+    let z = counts_short c.args.index.now.gaps c.args.wanted.size c.first_at_least-place.result c.first_at_least-place.ensures.within c.first_at_least-place.ensures.below in
+    let n = c.first_at_least-place.ensures.counted in
+    let first = c.first_at_least-place.ensures in
+    rw c.scan-scan.ensures (record {
+      same = refl;
+      within = first.within;
+      past = λ k o d lt f. short_fails c.args.wanted (get_or c.args.index.now.gaps k d) o (first.below k d lt) f;
+      from = first.from;
+      comparisons = (n.rises, n.from, n.to);
+      tests = omega (arith, z, n.tests);
+      lookups = n.lookups;
+      ordered = first.ordered;
+    })
+
+pub loop-gap-preserved : goal.loop-gap-preserved
+loop-gap-preserved c =
+    let i = c.loop-gap.invariant in
+    let at = c.in-Some.ensures.gap ∙ ap (λ (gs : List Gap). slice_get gs c.loop-gap.scan.place) i.same in
+    let n = counts_long c.args.index.now.gaps c.args.wanted.size c.loop-gap.scan.place c.in-Some.gap at i.from in
+    let t : c.next.new.cost.tests ≡ c.loop-gap.cost.tests + 1 = c.in-Some.ensures.counted in
+    let p : c.next.new.self.place ≡ c.loop-gap.scan.place + 1 = c.in-Some.ensures.place in
+    let w = slice_get_within c.args.index.now.gaps c.loop-gap.scan.place c.in-Some.gap (sym at) in
+    let o = c.in-Some.ensures.others in
+    record {
+      same = c.in-Some.ensures.gaps ∙ i.same;
+      within = omega arith;
+      past = rw p (one_more_past c.args.index.now.gaps c.args.wanted c.loop-gap.scan.place c.in-Some.gap at c.in_default-place_in.ensures i.past);
+      from = λ k d le lt. i.from k d (omega (arith, p)) lt;
+      comparisons = (omega (arith, o.0, i.comparisons.0), omega (arith, o.0, i.comparisons.1), omega (arith, o.0, i.comparisons.2));
+      tests = rw p (omega (arith, i.tests));
+      lookups = o.1 ∙ i.lookups;
+      ordered = i.ordered;
+    }
+
+pub loop-gap-smaller : goal.loop-gap-smaller
+loop-gap-smaller c =
+    let at = c.in-Some.ensures.gap ∙ ap (λ (gs : List Gap). slice_get gs c.loop-gap.scan.place) c.loop-gap.invariant.same in
+    let p : c.next.new.self.place ≡ c.loop-gap.scan.place + 1 = c.in-Some.ensures.place in
+    let w = slice_get_within c.args.index.now.gaps c.loop-gap.scan.place c.in-Some.gap (sym at) in omega arith
+
+pub returns-in-Some-place_in-clause-found : goal.returns-in-Some-place_in-clause-found
+returns-in-Some-place_in-clause-found c =
+    let i = c.loop-gap.invariant in
+    let at = c.in-Some.ensures.gap ∙ ap (λ (gs : List Gap). slice_get gs c.loop-gap.scan.place) i.same in
+    let n = counts_long c.args.index.now.gaps c.args.wanted.size c.loop-gap.scan.place c.in-Some.gap at i.from in
+    let t : c.next.new.cost.tests ≡ c.loop-gap.cost.tests + 1 = c.in-Some.ensures.counted in (
+      c.loop-gap.scan.place,
+      record {
+        within = slice_get_within c.args.index.now.gaps c.loop-gap.scan.place c.in-Some.gap (sym at);
+        is = λ d. get_or_from_slice_get c.args.index.now.gaps c.loop-gap.scan.place c.in-Some.gap d (sym at);
+        fits = c.in-Some-place_in.ensures;
+        earlier = i.past;
+      },
+      omega (arith, i.tests),
+    )
+
+pub returns-clause-found : goal.returns-clause-found
+returns-clause-found c =
+    let i = c.loop-gap.invariant in
+    let at = c.in_default.ensures.gap ∙ ap (λ (gs : List Gap). slice_get gs c.loop-gap.scan.place) i.same in
+    let p = past_end c.args.index.now.gaps c.loop-gap.scan.place at in
+    let t : c.next.new.cost.tests ≡ c.loop-gap.cost.tests + 0 = c.in_default.ensures.counted in
+    let all = take_all c.loop-gap.scan.place c.args.index.now.gaps p in (
+      λ k o d lt. i.past k o d (omega arith),
+      t ∙ omega (arith, rw all at (i.tests)),
+    )

@@ -1,0 +1,40 @@
+-- Why a call on a block is refused.
+use Rattle.std.specs.Prelude.{◌≡◌, ◌⊎◌, ℕ, if◌then◌else◌, Option, Some, None, codes}
+use Rattle.std.specs.Int.NonZero.{non_zero_u64_get}
+use Rattle.std.specs.declared.num.NonZeroU64.{NonZeroU64}
+use Rattle.gpu_values.specs.declared.error.AllocationError.{AllocationError}
+use Rattle.gpu_values.specs.declared.error.AllocationError.TheVariants as errors
+use Rattle.gpu_values.specs.Refusal.{Refusal, internal, host_out_of_memory}
+use Rattle.gpu_block_pieces.specs.FreeList.{FreeList, SomeExtent, has_gap_number}
+use Rattle.gpu_block_pieces.specs.Request.{Request}
+use Rattle.gpu_block_pieces.specs.Place.{HasNoPlace}
+
+-- why a take is refused: the request has no place, or it has one and the host's memory was refused
+abbrev pub IsTakeRefusal : FreeList → Request → AllocationError → Type 0
+IsTakeRefusal b r errors.OutOfMemory = HasNoPlace b r
+IsTakeRefusal b r errors.HostOutOfMemory = HasNoPlace b r → ⊥
+IsTakeRefusal b r (errors.FailedToMap _) = ⊥
+IsTakeRefusal b r errors.NoCompatibleMemoryTypeFound = ⊥
+IsTakeRefusal b r errors.InvalidAllocationCreateDesc = ⊥
+IsTakeRefusal b r (errors.InvalidAllocatorCreateDesc _) = ⊥
+IsTakeRefusal b r (errors.Internal _) = ⊥
+IsTakeRefusal b r errors.BarrierLayoutNeedsDevice10 = ⊥
+IsTakeRefusal b r errors.CastableFormatsRequiresEnhancedBarriers = ⊥
+IsTakeRefusal b r errors.CastableFormatsRequiresAtLeastDevice12 = ⊥
+
+-- why a release is refused: the number is missing, or it is no live piece's
+abbrev pub release_refusal : Option NonZeroU64 → Refusal
+release_refusal None = internal (codes "Chunk ID must be a valid value.") None
+release_refusal (Some _) = internal (codes "Attempting to free chunk that is not in chunk list.") None
+
+-- why no piece of that number is renamed: a gap has it, or nothing has it
+abbrev pub rename_fault : FreeList → ℕ → Refusal
+rename_fault b n =
+    internal (if has_gap_number b n then codes "Attempting to rename a freed allocation." else codes "Attempting to rename chunk that is not in chunk list.") None
+
+-- why a new name is refused: the number is missing, or it is no live piece's, or it is one's and the host's memory was refused
+abbrev pub IsRenameRefusal : FreeList → Option NonZeroU64 → Refusal → Type 0
+IsRenameRefusal b None refusal = refusal ≡ internal (codes "Chunk ID must be a valid value.") None
+IsRenameRefusal b (Some n) refusal =
+    ((SomeExtent b (λ x. x.number ≡ non_zero_u64_get n) → ⊥) × (refusal ≡ rename_fault b (non_zero_u64_get n)))
+    ⊎ (SomeExtent b (λ x. x.number ≡ non_zero_u64_get n) × (refusal ≡ host_out_of_memory))

@@ -1,0 +1,55 @@
+-- What a take, a release and a new name leave of a block.
+use Rattle.std.specs.Prelude.{◌≡◌, ℕ, ◌+◌, ◌-◌, ◌^◌, ◌<◌, ◌⊎◌, ◌==◌, not, nat_lt, if◌then◌else◌, List, [], ◌∷◌, map, filter, Contains}
+use Rattle.gpu_block_pieces.specs.FreeList.{Extent, FreeList, SomeExtent, IsGap}
+use Rattle.gpu_block_pieces.specs.Request.{Request}
+use Rattle.gpu_block_pieces.specs.Place.{IsBestFit}
+
+-- x among the elements of xs, in the order of the keys
+abbrev pub placed : {A : Type 0} → (A → ℕ) → A → List A → List A
+placed key x [] = x ∷ []
+placed key x (y ∷ ys) = if nat_lt (key y) (key x) then y ∷ placed key x ys else x ∷ y ∷ ys
+
+abbrev pub with_extent : Extent → List Extent → List Extent
+with_extent x xs = placed (λ y. y.start) x xs
+
+abbrev pub without_extent : ℕ → List Extent → List Extent
+without_extent start xs = filter (λ y. not (y.start == start)) xs
+
+-- the numbers of the gaps with one more gap, with one less, and with one that begins elsewhere
+abbrev pub with_gap : ℕ → ℕ → List (ℕ × ℕ) → List (ℕ × ℕ)
+with_gap start number gaps = placed (λ g. g.0) (start, number) gaps
+
+abbrev pub without_gap : ℕ → List (ℕ × ℕ) → List (ℕ × ℕ)
+without_gap start gaps = filter (λ g. not (g.0 == start)) gaps
+
+abbrev pub moved_gap : ℕ → ℕ → List (ℕ × ℕ) → List (ℕ × ℕ)
+moved_gap start to gaps = map (λ g. if g.0 == start then (to, g.1) else g) gaps
+
+-- the request took [start, offset + size) of the best gap: with a rest, the piece has a new number and the rest keeps the gap's
+pub record Takes (old : FreeList) (r : Request) (offset number : ℕ) (new : FreeList) : Type 0 where
+  pub start : ℕ
+  pub end : ℕ
+  pub chosen : IsBestFit old r start end offset
+  pub extent : let x : Extent = record { start = start; offset = offset; end = offset + r.size; kind = r.kind; number = number; name = r.name } in new.extents ≡ with_extent x old.extents
+  pub rest : offset + r.size < end → (number ≡ old.counter) × (new.counter ≡ old.counter + 1) × (new.gap_numbers ≡ moved_gap start (offset + r.size) old.gap_numbers) × (old.counter < 2 ^ 64 - 1)
+  pub no_rest : offset + r.size ≡ end → Contains old.gap_numbers (start, number) × (new.counter ≡ old.counter) × (new.gap_numbers ≡ without_gap start old.gap_numbers)
+  pub same : (new.size ≡ old.size) × (new.granularity ≡ old.granularity)
+
+-- the extent of that number went, and its place joined the gaps on both sides: the number stays that of a gap which ended at its start, and else is the extent's
+pub record Releases (old : FreeList) (number : ℕ) (new : FreeList) : Type 0 where
+  pub gone : Extent
+  pub held : Contains old.extents gone
+  pub numbered : gone.number ≡ number
+  pub extents : new.extents ≡ without_extent gone.start old.extents
+  pub numbers : ((s : ℕ) × IsGap old s gone.start × (new.gap_numbers ≡ without_gap gone.end old.gap_numbers)) ⊎ (((s : ℕ) → IsGap old s gone.start → ⊥) × (new.gap_numbers ≡ with_gap gone.start number (without_gap gone.end old.gap_numbers)))
+  pub same : (new.size ≡ old.size) × (new.granularity ≡ old.granularity) × (new.counter ≡ old.counter)
+
+-- the extent with the name, if it has the number
+abbrev pub with_name : ℕ → List ℕ → Extent → Extent
+with_name number name x = if x.number == number then record x { name = name } else x
+
+-- the extent of that number has another name
+pub record Renames (old : FreeList) (number : ℕ) (name : List ℕ) (new : FreeList) : Type 0 where
+  pub held : SomeExtent old (λ x. x.number ≡ number)
+  pub extents : new.extents ≡ map (with_name number name) old.extents
+  pub same : (new.size ≡ old.size) × (new.granularity ≡ old.granularity) × (new.counter ≡ old.counter) × (new.gap_numbers ≡ old.gap_numbers)

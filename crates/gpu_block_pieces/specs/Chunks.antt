@@ -1,0 +1,163 @@
+-- The sorted list of chunks behind a block: free chunks are its gaps, the others its extents.
+use Rattle.std.specs.Prelude.{◌≡◌, ℕ, ◌+◌, ◌-◌, ◌^◌, ◌<◌, ◌≤◌, ◌⊎◌, zero, suc, length, ◌++◌, List, [], ◌∷◌, All, Option, Some, None, String, string_bytes, Bool, false, ◌==◌}
+use Rattle.std.specs.declared.alloc.Global.{Global}
+use Rattle.std.specs.List.{filter_map}
+use Rattle.gpu_values.specs.declared.allocation_type.AllocationType.{AllocationType}
+use Rattle.gpu_values.specs.declared.allocation_type.AllocationType.TheVariants.{Free, Linear, NonLinear}
+use Rattle.gpu_block_chunks.specs.declared.chunk.Chunk.{Chunk}
+use Rattle.gpu_block_chunks.specs.ChunkList.{IsFree, Covers, AreDistinct, cut_chunk, filled_chunk, join_back, join_front}
+use Rattle.gpu_block_pieces.specs.declared.place.Wanted.{Wanted}
+use Rattle.gpu_block_pieces.specs.FreeList.{Extent, FreeList}
+use Rattle.gpu_block_pieces.specs.Place.{FitsBetween}
+
+abbrev pub extent : Chunk → Extent
+extent c = record { start = c.start; offset = c.offset; end = c.start + c.size; kind = c.kind; number = c.number; name = string_bytes c.name }
+
+abbrev pub extent_by : AllocationType → Chunk → Option Extent
+extent_by Free c = None
+extent_by Linear c = Some (extent c)
+extent_by NonLinear c = Some (extent c)
+
+abbrev pub gap_by : AllocationType → Chunk → Option (ℕ × ℕ)
+gap_by Free c = Some (c.start, c.number)
+gap_by Linear c = None
+gap_by NonLinear c = None
+
+abbrev pub extents_of : List Chunk → List Extent
+extents_of cs = filter_map (λ c. extent_by c.kind c) cs
+
+abbrev pub gaps_of : List Chunk → List (ℕ × ℕ)
+gaps_of cs = filter_map (λ c. gap_by c.kind c) cs
+
+abbrev pub free_list_of : ℕ → ℕ → ℕ → List Chunk → FreeList
+free_list_of size granularity counter cs = record { size = size; granularity = granularity; counter = counter; extents = extents_of cs; gap_numbers = gaps_of cs }
+
+abbrev pub NotBothFree : AllocationType → AllocationType → Type 0
+NotBothFree Free Free = ⊥
+NotBothFree Free Linear = Unit {0}
+NotBothFree Free NonLinear = Unit {0}
+NotBothFree Linear next = Unit {0}
+NotBothFree NonLinear next = Unit {0}
+
+-- no two free chunks touch, where a chunk of the given kind stands before them
+abbrev pub NoneTouch : AllocationType → List Chunk → Type 0
+NoneTouch before [] = Unit {0}
+NoneTouch before (c ∷ cs) = NotBothFree before c.kind × NoneTouch c.kind cs
+
+-- the chunk's offset lies in it, and its number has been given out
+pub record IsChunk (counter : ℕ) (c : Chunk) : Type 0 where
+  pub after : c.start ≤ c.offset
+  pub before : c.offset < c.start + c.size
+  pub positive : 0 < c.number
+  pub given : c.number < counter
+
+-- the chunk is a whole block of that size, and its piece
+pub record IsWholeChunk (size : ℕ) (c : Chunk) : Type 0 where
+  pub starts : (c.start ≡ 0) × (c.offset ≡ 0)
+  pub whole : c.size ≡ size
+  pub first : c.number ≡ 1
+  pub live : IsFree c.kind → ⊥
+
+pub record AreChunks (cs : List Chunk) (size counter : ℕ) : Type 0 where
+  pub covers : Covers cs 0 size
+  pub none_touch : NoneTouch Linear cs
+  pub each : All (IsChunk counter) cs
+  pub distinct : AreDistinct cs
+
+-- ---- the search
+
+-- a chunk in which a request fits: its place in the list, the request's offset, and the chunk's length
+pub record FoundAt : Type 0 where
+  pub index : ℕ
+  pub offset : ℕ
+  pub size : ℕ
+
+-- pieces of these two kinds may not share a page
+abbrev pub Differ : AllocationType → AllocationType → Type 0
+Differ Free kind = ⊥
+Differ Linear Free = ⊥
+Differ Linear Linear = ⊥
+Differ Linear NonLinear = Unit {0}
+Differ NonLinear Free = ⊥
+Differ NonLinear Linear = Unit {0}
+Differ NonLinear NonLinear = ⊥
+
+-- the kind of the last chunk, and of the first, where there is one
+abbrev pub last_kind : AllocationType → List Chunk → AllocationType
+last_kind before [] = before
+last_kind before (c ∷ cs) = last_kind c.kind cs
+
+abbrev pub first_kind : List Chunk → AllocationType
+first_kind [] = Free
+first_kind (c ∷ cs) = c.kind
+
+-- the length of the i-th chunk
+abbrev pub size_at : List Chunk → ℕ → ℕ
+size_at [] i = 0
+size_at (c ∷ cs) zero = c.size
+size_at (c ∷ cs) (suc i) = size_at cs i
+
+-- the request fits in the i-th chunk, which is free, at `offset`
+pub record FitsAt (cs : List Chunk) (w : Wanted) (i offset : ℕ) : Type 0 where
+  pub front : List Chunk
+  pub chunk : Chunk
+  pub back : List Chunk
+  pub split : cs ≡ front ++ chunk ∷ back
+  pub index : length front ≡ i
+  pub free : IsFree chunk.kind
+  pub between : FitsBetween w.granularity w.alignment w.size (Differ (last_kind Free front) w.kind) (Differ (first_kind back) w.kind) chunk.start (chunk.start + chunk.size) offset
+
+-- of the first n chunks, the shortest one in which the request fits, and of equal ones the first
+pub record IsBestOf (cs : List Chunk) (w : Wanted) (n : ℕ) (f : FoundAt) : Type 0 where
+  pub below : f.index < n
+  pub size : f.size ≡ size_at cs f.index
+  pub fits : FitsAt cs w f.index f.offset
+  pub best : (k o : ℕ) → k < n → FitsAt cs w k o → (f.size < size_at cs k) ⊎ ((f.size ≡ size_at cs k) × (f.index ≤ k))
+
+abbrev pub NoneFits : List Chunk → Wanted → ℕ → Type 0
+NoneFits cs w n = (k o : ℕ) → k < n → FitsAt cs w k o → ⊥
+
+abbrev pub IsLaidOut : List Chunk → Type 0
+IsLaidOut cs = (size : ℕ) × (size < 2 ^ 64) × Covers cs 0 size
+
+-- the chunk is a gap with that number
+abbrev pub is_gap_by : AllocationType → ℕ → Chunk → Bool
+is_gap_by Free number c = c.number == number
+is_gap_by Linear number c = false
+is_gap_by NonLinear number c = false
+
+-- ---- the changes
+
+-- the i-th chunk is the piece with that number
+pub record HoldsNumber (cs : List Chunk) (number i : ℕ) : Type 0 where
+  pub front : List Chunk
+  pub chunk : Chunk
+  pub back : List Chunk
+  pub split : cs ≡ front ++ chunk ∷ back
+  pub index : length front ≡ i
+  pub live : IsFree chunk.kind → ⊥
+  pub numbered : chunk.number ≡ number
+
+abbrev pub named_chunk : Chunk → String Global → Chunk
+named_chunk c name = record c { name = name }
+
+abbrev pub IsNamedAt : List Chunk → ℕ → String Global → List Chunk → Type 0
+IsNamedAt old i name new =
+    (front : List Chunk) (c : Chunk) (back : List Chunk) → old ≡ front ++ c ∷ back → length front ≡ i → new ≡ front ++ named_chunk c name ∷ back
+
+abbrev pub IsReleasedAt : List Chunk → ℕ → String Global → List Chunk → Type 0
+IsReleasedAt old i empty new =
+    (front : List Chunk) (c : Chunk) (back : List Chunk) → old ≡ front ++ c ∷ back → length front ≡ i →
+    new ≡ join_front front (join_back (filled_chunk c c.start Free empty) back)
+
+abbrev pub piece_of : Chunk → FoundAt → Wanted → ℕ → String Global → Chunk
+piece_of c f w number name = record { start = c.start; size = f.offset + w.size - c.start; offset = f.offset; kind = w.kind; number = number; name = name }
+
+-- the chunk c between front and back was given to the piece, or its front was
+pub record TakenFrom (front : List Chunk) (c : Chunk) (back : List Chunk) (f : FoundAt) (w : Wanted) (counter : ℕ) (name : String Global) (number : ℕ) (new : List Chunk) : Type 0 where
+  pub rest : f.offset + w.size < c.start + c.size → (number ≡ counter) × (new ≡ front ++ piece_of c f w counter name ∷ cut_chunk c (f.offset + w.size - c.start) ∷ back)
+  pub whole : c.start + c.size ≤ f.offset + w.size → (number ≡ c.number) × (new ≡ front ++ filled_chunk c f.offset w.kind name ∷ back)
+
+abbrev pub IsTaken : List Chunk → FoundAt → Wanted → ℕ → String Global → ℕ → List Chunk → Type 0
+IsTaken old f w counter name number new =
+    (front : List Chunk) (c : Chunk) (back : List Chunk) → old ≡ front ++ c ∷ back → length front ≡ f.index → TakenFrom front c back f w counter name number new

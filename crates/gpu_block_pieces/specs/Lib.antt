@@ -1,0 +1,14 @@
+pub mod FreeList
+pub mod Request
+pub mod Place
+pub mod Search
+pub mod Changes
+pub mod Laws
+pub mod BlockRefusal
+pub mod Chunks
+pub mod Indexed
+pub use Rattle.gpu_cost.specs.Cost
+pub use Rattle.gpu_block_gaps.specs.Index
+pub use Rattle.gpu_block_chunks.specs.ChunkList
+pub use Rattle.gpu_block_chunks.specs.Chain
+pub use Rattle.gpu_values.specs.Refusal

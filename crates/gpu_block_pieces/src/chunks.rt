@@ -1,0 +1,236 @@
+//! The chunks of a block: a chain of all of them, and an index of the gaps.
+
+ghost use Rattle.std.specs.Prelude.{◌≡◌, ◌≢◌, ℕ, ◌+◌, ◌-◌, ◌^◌, ◌<◌, ◌≤◌, length, [], IfOk, OnOk, OnErr, MatchOption, IsTrue, ◌↔◌};
+ghost use Rattle.std.specs.List.{list_any};
+ghost use Rattle.gpu_cost.specs.Cost.{LooksUp, LooksUpBetween};
+ghost use Rattle.gpu_block_chunks.specs.ChunkList.{IsFree};
+ghost use Rattle.gpu_block_pieces.specs.Chunks.{NoneFits, IsTaken, IsNamedAt, HoldsNumber, extents_of, is_gap_by};
+ghost use Rattle.gpu_block_chunks.specs.Chain.{IsFresh, HasNoNumber, StandsAt, IsReleased};
+ghost use Rattle.gpu_block_pieces.specs.Indexed.{IsChosen, chosen_at, Spends, IsPieceAt, IsPieceOf};
+
+use crate::edit::{release, take_front, take_whole};
+use crate::place::Wanted;
+use crate::search::{Found, find};
+use gpu_block_chunks::{Around, Chain, Chunk, NewChunk, Walk, is_free};
+use gpu_block_gaps::{Gap, GapIndex};
+use gpu_cost::Cost;
+use gpu_values::AllocationType;
+use std::alloc::{AllocError, Global};
+use std::marker::Model;
+
+/// The chunks of a block, from its start to its end: they cover it, and no two gaps touch.
+#[derive(Drop)]
+pub struct Chunks {
+    chain: Chain,
+    index: GapIndex,
+    live: usize,
+}
+
+impl Model for Chunks {
+    ghost use Rattle.gpu_block_pieces.specs.Indexed.{LaidChunks, IsIndexed};
+
+    ghost Value = { LaidChunks };
+
+    ghost view = { λ s. record { items = s.chain.chunks; size = s.chain.size } };
+
+    ghost invariant = { λ s. IsIndexed s.chain.chunks s.index.gaps s.live s.index.room };
+}
+
+impl Chunks {
+    /// A block of `size` bytes that is one gap, with number 1.
+    pub fn new(alloc: Global, size: u64) -> Result<Chunks, AllocError>
+        requires { 0 < size }
+        ensures { IfOk result (λ c. (c.size ≡ size) × IsFresh c.items size) }
+    {
+        let chain = Chain::new(alloc, size)?;
+        let mut index = GapIndex::new(alloc);
+        index.reserve_to(1)?;
+        index.insert(Gap {
+            length: size,
+            start: 0,
+            number: 1,
+            before: AllocationType::Free,
+            after: AllocationType::Free,
+        });
+        Ok(Chunks {
+            chain,
+            index,
+            live: 0,
+        })
+    }
+
+    /// The size of the block in bytes.
+    pub fn size(&self) -> u64
+        ensures { result ≡ self.now.size }
+    {
+        self.chain.size()
+    }
+
+    /// The shortest gap in which the request fits, and of equal ones the lowest.
+    pub fn find_place(&self, wanted: Wanted, cost: &mut Cost) -> Option<Found>
+        requires sized { 0 < wanted.size }
+        requires aligned { 0 < wanted.alignment }
+        requires paged { 0 < wanted.granularity }
+        ensures found { MatchOption result
+            (NoneFits self.now.items wanted (length self.now.items)) (λ f. IsChosen self.now.items wanted f) }
+        ensures cost { Spends self.now.items wanted.size result cost.old cost.new }
+    {
+        let _live = self.live;
+        let _size = self.chain.size();
+        find(&self.index, wanted, cost)
+    }
+
+    /// Gives the found gap, or its front, to a piece, and tells the piece's number. All memory is taken first, also for what
+    /// the piece's release will need.
+    pub fn take(
+        &mut self,
+        alloc: Global,
+        found: Found,
+        wanted: Wanted,
+        counter: u64,
+        name: String,
+        cost: &mut Cost,
+    ) -> Result<u64, AllocError>
+        requires chosen { IsChosen self.old.items wanted found }
+        requires sized { 0 < wanted.size }
+        requires piece { wanted.kind ≢ AllocationType.Free }
+        requires fresh { HasNoNumber self.old.items counter }
+        ensures taken { IfOk result (λ number. (h : IsChosen self.old.items wanted found)
+            → IsTaken self.old.items (chosen_at self.old.items wanted found h) wanted counter name number self.new.items) }
+        ensures refused { OnErr result (self.new.items ≡ self.old.items) }
+        ensures size { self.new.size ≡ self.old.size }
+        // three or four look-ups where a rest is left, and one where none is
+        ensures front { OnOk result (found.offset + wanted.size < found.gap.start + found.gap.length → LooksUpBetween 3 4 cost.old cost.new) }
+        ensures whole { OnOk result (found.gap.start + found.gap.length ≤ found.offset + wanted.size → LooksUp 1 cost.old cost.new) }
+        ensures none { OnErr result (LooksUp 0 cost.old cost.new) }
+    {
+        let _size = self.chain.size();
+        make_room(&mut self.chain, &mut self.index, self.live)?;
+        let taken = found.offset + wanted.size - found.gap.start;
+        if taken < found.gap.length {
+            let chunk = NewChunk::new(alloc, name)?;
+            self.live += 1;
+            take_front(
+                &mut self.chain,
+                &mut self.index,
+                found,
+                taken,
+                wanted.kind,
+                counter,
+                chunk,
+                cost,
+            );
+            return Ok(counter);
+        }
+        self.live += 1;
+        take_whole(
+            &mut self.chain,
+            &mut self.index,
+            found,
+            wanted.kind,
+            name,
+            cost,
+        );
+        Ok(found.gap.number)
+    }
+
+    /// The live piece of that number, and what stands beside it.
+    pub fn piece_around(&self, number: u64, cost: &mut Cost) -> Option<Around>
+        ensures piece { MatchOption result
+            ((k : ℕ) → HoldsNumber self.now.items number k → ⊥) (λ a. (a.here.number ≡ number) × IsPieceAt self.now.items a) }
+        ensures counted { LooksUpBetween 1 3 cost.old cost.new }
+    {
+        let _live = self.live;
+        let _size = self.chain.size();
+        let around = self.chain.around(number, cost)?;
+        if is_free(around.here.kind) {
+            return None;
+        }
+        Some(around)
+    }
+
+    /// Frees a live piece, and joins its place with the gaps beside it. It takes no memory.
+    pub fn release(&mut self, around: Around, empty: String, cost: &mut Cost)
+        requires piece { IsPieceAt self.old.items around }
+        ensures released { IsReleased self.old.items around.here.number empty self.new.items }
+        ensures size { self.new.size ≡ self.old.size }
+        ensures counted { LooksUpBetween 5 15 cost.old cost.new }
+    {
+        let _size = self.chain.size();
+        self.live -= 1;
+        release(&mut self.chain, &mut self.index, around, empty, cost);
+    }
+
+    /// The live piece of that number.
+    pub fn piece(&self, number: u64, cost: &mut Cost) -> Option<&Chunk>
+        ensures counted { LooksUp 1 cost.old cost.new }
+        ensures piece { MatchOption result
+            ((k : ℕ) → HoldsNumber self.now.items number k → ⊥) (λ c. (IsFree c.now.kind → ⊥) × StandsAt self.now.items number c.now) }
+    {
+        let _live = self.live;
+        let _size = self.chain.size();
+        let (chunk, _) = self.chain.chunk(number, cost)?;
+        if is_free(chunk.kind) {
+            return None;
+        }
+        Some(chunk)
+    }
+
+    /// Whether a gap has that number.
+    pub fn has_gap(&self, number: u64, cost: &mut Cost) -> bool
+        ensures gap { result ≡ list_any (λ c. is_gap_by c.kind number c) self.now.items }
+        ensures counted { LooksUp 1 cost.old cost.new }
+    {
+        let _size = self.chain.size();
+        match self.chain.chunk(number, cost) {
+            Some((chunk, _)) => is_free(chunk.kind),
+            None => false,
+        }
+    }
+
+    /// Gives the live piece of that number another name.
+    pub fn rename(
+        &mut self,
+        number: u64,
+        offset: u64,
+        kind: AllocationType,
+        text: String,
+        cost: &mut Cost,
+    )
+        requires piece { IsPieceOf self.old.items number offset kind }
+        ensures named { (i : ℕ) → HoldsNumber self.old.items number i → IsNamedAt self.old.items i text self.new.items }
+        ensures size { self.new.size ≡ self.old.size }
+        ensures counted { LooksUp 1 cost.old cost.new }
+    {
+        let _size = self.chain.size();
+        let _live = self.live;
+        self.chain.fill(number, offset, kind, text, cost);
+    }
+
+    /// All chunks, from the block's start on.
+    pub fn walk(&self) -> Walk<'_>
+        ensures { result ≡ self.now.items }
+    {
+        Walk::of_chain(&self.chain)
+    }
+
+    /// Whether all chunks are free.
+    pub fn none_taken(&self) -> bool
+        ensures { IsTrue result ↔ extents_of self.now.items ≡ [] }
+    {
+        self.live == 0
+    }
+}
+
+/// Makes room for one piece more, and for what its release will need.
+fn make_room(chain: &mut Chain, index: &mut GapIndex, live: usize) -> Result<(), AllocError>
+    ensures chain { (chain.new.chunks ≡ chain.old.chunks) × (chain.new.size ≡ chain.old.size) }
+    ensures index { (index.new.gaps ≡ index.old.gaps) × (index.old.room ≤ index.new.room) }
+    ensures room { OnOk result ((live + 2 < 2 ^ 64) × (live + 2 ≤ index.new.room) × (0 < chain.new.room)) }
+{
+    let Some(gaps) = live.checked_add(2) else {
+        return Err(AllocError);
+    };
+    index.reserve_to(gaps)?;
+    chain.reserve(1)
+}

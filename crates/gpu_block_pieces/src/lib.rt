@@ -1,0 +1,12 @@
+// The pieces of a block: how a place is found for one, and how it is taken, given back and renamed. Whatever is looked at
+// for that is counted in a counter that the caller hands in, and no counter can be made here.
+#![tactic(auto)]
+
+mod chunks;
+mod cut_block;
+mod edit;
+pub mod laws;
+mod place;
+mod search;
+
+pub use cut_block::CutBlock;

@@ -1,0 +1,119 @@
+//! Where a request begins in a gap.
+
+ghost use Rattle.std.specs.Prelude.{◌≡◌, ℕ, ◌+◌, ◌%◌, ◌^◌, ◌<◌, ◌≤◌, IsTrue, ◌↔◌, MatchOption};
+ghost use Rattle.std.specs.Option.{SomeIff};
+ghost use Rattle.std.specs.Int.{next_multiple_of};
+ghost use Rattle.gpu_block_pieces.specs.Place.{page, MayBegin, IsOffsetIn, FitsBetween};
+ghost use Rattle.gpu_block_pieces.specs.Chunks.{Differ};
+
+use gpu_values::AllocationType;
+
+/// What is asked of a gap.
+#[derive(Clone, Copy)]
+pub struct Wanted {
+    pub size: u64,
+    pub alignment: u64,
+    pub kind: AllocationType,
+    pub granularity: u64,
+}
+
+/// Whether pieces of the two kinds may not share a page.
+pub fn differ(left: AllocationType, right: AllocationType) -> bool
+    ensures { IsTrue result ↔ Differ left right }
+{
+    // The request's kind comes last and is the same for each gap, so it is looked at first.
+    match right {
+        AllocationType::Linear => left == AllocationType::NonLinear,
+        AllocationType::NonLinear => left == AllocationType::Linear,
+        AllocationType::Free => false,
+    }
+}
+
+/// How far a place is past the last multiple of `step`; of a power of two, without a division.
+fn remainder(place: u64, step: u64) -> u64
+    requires { 0 < step }
+    ensures { result ≡ place % step }
+{
+    if step.is_power_of_two() {
+        place & (step - 1)
+    } else {
+        place % step
+    }
+}
+
+/// The least multiple of `step` from a place on, if it isn't behind `last`.
+fn round_up(place: u64, last: u64, step: u64) -> Option<u64>
+    requires order { place ≤ last }
+    requires some { 0 < step }
+    ensures { SomeIff result (next_multiple_of place step ≤ last) (next_multiple_of place step) }
+{
+    // Then the greatest multiple up to `last` lies before the place. Most gaps that don't fit end here, and no sum can overflow.
+    if last - place < remainder(last, step) {
+        return None;
+    }
+    let over = remainder(place, step);
+    Some(if over == 0 {
+        place
+    } else {
+        place + (step - over)
+    })
+}
+
+/// The least place for a piece from `start` on, if it isn't behind `last`.
+fn offset_from(start: u64, last: u64, alignment: u64, granularity: u64, other: bool) -> Option<u64>
+    requires order { start ≤ last }
+    requires aligned { 0 < alignment }
+    requires paged { 0 < granularity }
+    requires behind { IsTrue other → 0 < start }
+    ensures { MatchOption result
+        ((o : ℕ) → MayBegin granularity alignment (IsTrue other) start o → last < o)
+        (λ o. IsOffsetIn granularity alignment (IsTrue other) start o × (o ≤ last)) }
+{
+    let first = if other {
+        round_up(start, last, granularity)?
+    } else {
+        start
+    };
+    round_up(first, last, alignment)
+}
+
+/// Whether two places lie on one page.
+fn share_page(place: u64, end: u64, granularity: u64) -> bool
+    requires order { place ≤ end }
+    requires paged { 0 < granularity }
+    ensures { IsTrue result ↔ page granularity place ≡ page granularity end }
+{
+    end - place <= remainder(end, granularity)
+}
+
+/// The place of a request from `start` on in so many bytes between two neighbours, if it fits there.
+pub fn place_between(
+    start: u64,
+    length: u64,
+    left: AllocationType,
+    right: AllocationType,
+    wanted: Wanted,
+) -> Option<u64>
+    requires bounded { start + length < 2 ^ 64 }
+    requires sized { 0 < wanted.size }
+    requires aligned { 0 < wanted.alignment }
+    requires paged { 0 < wanted.granularity }
+    requires behind { Differ left wanted.kind → 0 < start }
+    ensures { MatchOption result
+        ((o : ℕ) → FitsBetween wanted.granularity wanted.alignment wanted.size (Differ left wanted.kind) (Differ right wanted.kind) start (start + length) o → ⊥)
+        (λ o. FitsBetween wanted.granularity wanted.alignment wanted.size (Differ left wanted.kind) (Differ right wanted.kind) start (start + length) o) }
+{
+    let spare = length.checked_sub(wanted.size)?;
+    let offset = offset_from(
+        start,
+        start + spare,
+        wanted.alignment,
+        wanted.granularity,
+        differ(left, wanted.kind),
+    )?;
+    let last = offset + (wanted.size - 1);
+    if differ(right, wanted.kind) && share_page(last, start + length, wanted.granularity) {
+        return None;
+    }
+    Some(offset)
+}

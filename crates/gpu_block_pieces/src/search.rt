@@ -1,0 +1,56 @@
+//! The search for the chosen gap: the first that is long enough is found by halving, and from there gaps are tested in
+//! the index's order up to the first that fits.
+
+ghost use Rattle.std.specs.Prelude.{◌≡◌, ℕ, ◌+◌, ◌-◌, ◌<◌, ◌≤◌, length, take, MatchOption};
+ghost use Rattle.std.specs.List.{AllPairs, count_by};
+ghost use Rattle.gpu_cost.specs.Cost.{digits};
+ghost use Rattle.gpu_block_gaps.specs.Index.{Before};
+ghost use Rattle.gpu_block_pieces.specs.Indexed.{FitsGap, NoGapFits, IsFirstFit, IsPlaced, ArePlaced, is_long};
+
+use crate::place::{Wanted, place_between};
+use gpu_block_gaps::{Gap, GapIndex};
+use gpu_cost::Cost;
+
+/// A gap that serves, and the piece's offset in it.
+#[derive(Clone, Copy)]
+pub struct Found {
+    pub gap: Gap,
+    pub offset: u64,
+}
+
+/// The place of the request in the gap, if it fits.
+fn place_in(gap: Gap, wanted: Wanted) -> Option<u64>
+    requires placed { IsPlaced gap }
+    requires sized { 0 < wanted.size }
+    requires aligned { 0 < wanted.alignment }
+    requires paged { 0 < wanted.granularity }
+    ensures { MatchOption result ((o : ℕ) → FitsGap wanted gap o → ⊥) (λ o. FitsGap wanted gap o) }
+{
+    place_between(gap.start, gap.length, gap.before, gap.after, wanted)
+}
+
+/// The first gap of the index in which the request fits.
+pub fn find(index: &GapIndex, wanted: Wanted, cost: &mut Cost) -> Option<Found>
+    requires placed { ArePlaced index.now.gaps }
+    requires sized { 0 < wanted.size }
+    requires aligned { 0 < wanted.alignment }
+    requires paged { 0 < wanted.granularity }
+    ensures found { MatchOption result
+        (NoGapFits index.now.gaps wanted × (cost.new.tests ≡ cost.old.tests + count_by (is_long wanted.size) index.now.gaps))
+        (λ f. (place : ℕ) × IsFirstFit index.now.gaps wanted f place
+        × (cost.new.tests ≡ cost.old.tests + count_by (is_long wanted.size) (take (place + 1) index.now.gaps))) }
+    ensures ordered { AllPairs Before index.now.gaps }
+    ensures comparisons { (cost.old.comparisons ≤ cost.new.comparisons)
+        × (cost.old.comparisons + digits (length index.now.gaps) ≤ cost.new.comparisons + 1)
+        × (cost.new.comparisons ≤ cost.old.comparisons + digits (length index.now.gaps)) }
+    ensures lookups { cost.new.lookups ≡ cost.old.lookups }
+{
+    let place = index.first_at_least(wanted.size, cost);
+    let mut scan = index.scan(place);
+    while let Some(gap) = scan.next(cost) {
+        if let Some(offset) = place_in(gap, wanted) {
+            return Some(Found { gap, offset });
+        }
+    }
+    None
+}

@@ -1,0 +1,225 @@
+//! Tests of a block that is cut into pieces.
+
+ghost use Rattle.std.specs.Prelude.{◌≡◌, ◌≢◌};
+
+use super::{MB, block_of, check_text, granularity_one};
+use gpu_block::FreeListAllocator;
+use gpu_values::{AllocationError, AllocationType, Result};
+use std::alloc::Global;
+use std::num::NonZeroU64;
+use std::process::Abort;
+use std::test::Fail;
+
+fn take(
+    rt: &impl Abort,
+    block: &mut FreeListAllocator,
+    asked: (u64, u64),
+    kind: AllocationType,
+    granularity: u64,
+    want: Option<(u64, u64)>,
+)
+    requires paged { granularity ≡ block.old.block.granularity }
+    requires piece { kind ≢ AllocationType.Free }
+    ensures { block.new.block.granularity ≡ block.old.block.granularity }
+{
+    let (size, alignment) = asked;
+    assert!(rt; size > 0);
+    assert!(rt; alignment.is_power_of_two());
+    let got = match block.allocate(size, alignment, kind, granularity, "a") {
+        Ok((offset, number)) => Some((offset, number.get())),
+        Err(error) => {
+            assert!(rt; matches!(error, AllocationError::OutOfMemory));
+            None
+        }
+    };
+    assert_eq!(rt; got, want, "{size} bytes at alignment {alignment}");
+}
+
+fn linear(rt: &impl Abort, block: &mut FreeListAllocator, size: u64, want: Option<(u64, u64)>)
+    requires paged { block.old.block.granularity ≡ 1 }
+    ensures { block.new.block.granularity ≡ block.old.block.granularity }
+{
+    take(rt, block, (size, 1), AllocationType::Linear, 1, want)
+}
+
+fn give(rt: &impl Abort, block: &mut FreeListAllocator, number: u64)
+    ensures { block.new.block.granularity ≡ block.old.block.granularity }
+{
+    assert!(rt; block.free(NonZeroU64::new(number)).is_ok());
+}
+
+fn refuse(
+    rt: &impl Abort,
+    alloc: Global,
+    block: &mut FreeListAllocator,
+    number: u64,
+    want: &str,
+) -> Result<()>
+    ensures { block.new.block.granularity ≡ block.old.block.granularity }
+{
+    match block.free(NonZeroU64::new(number)) {
+        Ok(()) => assert!(rt; false, "{number} was given back"),
+        Err(error) => check_text(rt, alloc, &error, want)?,
+    }
+    Ok(())
+}
+
+#[test]
+fn the_shortest_gap_that_fits_is_taken(rt: HostRuntime) -> Result<(), Fail> {
+    for (size, want) in [(40, (110, 6)), (50, (110, 4))] {
+        let mut block = block_of(&rt, rt.alloc(), 1)?;
+        let b = &mut block;
+        linear(&rt, b, 100, Some((0, 2)));
+        linear(&rt, b, 10, Some((100, 3)));
+        linear(&rt, b, 50, Some((110, 4)));
+        linear(&rt, b, 10, Some((160, 5)));
+        give(&rt, b, 2);
+        give(&rt, b, 4);
+        linear(&rt, b, size, Some(want));
+    }
+    Ok(())
+}
+
+#[test]
+fn of_equal_gaps_the_lowest_is_taken(rt: HostRuntime) -> Result<(), Fail> {
+    let mut block = block_of(&rt, rt.alloc(), 1)?;
+    let b = &mut block;
+    linear(&rt, b, 10, Some((0, 2)));
+    linear(&rt, b, 5, Some((10, 3)));
+    linear(&rt, b, 10, Some((15, 4)));
+    linear(&rt, b, 5, Some((25, 5)));
+    give(&rt, b, 2);
+    give(&rt, b, 4);
+    linear(&rt, b, 10, Some((0, 2)));
+    Ok(())
+}
+
+#[test]
+fn gaps_that_touch_are_one(rt: HostRuntime) -> Result<(), Fail> {
+    let mut block = block_of(&rt, rt.alloc(), 1)?;
+    let b = &mut block;
+    linear(&rt, b, 10, Some((0, 2)));
+    linear(&rt, b, 10, Some((10, 3)));
+    linear(&rt, b, 10, Some((20, 4)));
+    give(&rt, b, 3);
+    give(&rt, b, 2);
+    give(&rt, b, 4);
+    linear(&rt, b, 10, Some((0, 5)));
+    linear(&rt, b, 4 * MB, None);
+    give(&rt, b, 5);
+    linear(&rt, b, 4 * MB, Some((0, 5)));
+    Ok(())
+}
+
+#[test]
+fn sizes_and_alignments_may_be_as_large_as_they_like(rt: HostRuntime) -> Result<(), Fail> {
+    let mut block = block_of(&rt, rt.alloc(), 1)?;
+    let b = &mut block;
+    linear(&rt, b, u64::MAX, None);
+    let half = 9_223_372_036_854_775_808;
+    take(&rt, b, (1, half), AllocationType::Linear, 1, Some((0, 2)));
+    take(&rt, b, (1, half), AllocationType::Linear, 1, None);
+    take(
+        &rt,
+        b,
+        (64, 256),
+        AllocationType::NonLinear,
+        1,
+        Some((256, 3)),
+    );
+    let mut whole = FreeListAllocator::new(rt.alloc(), u64::MAX, granularity_one(&rt))?;
+    linear(&rt, &mut whole, u64::MAX - 1, Some((0, 2)));
+    linear(&rt, &mut whole, 1, Some((u64::MAX - 1, 1)));
+    linear(&rt, &mut whole, 1, None);
+    Ok(())
+}
+
+#[test]
+fn pages_are_of_one_kind(rt: HostRuntime) -> Result<(), Fail> {
+    let mut block = block_of(&rt, rt.alloc(), 1024)?;
+    let b = &mut block;
+    take(&rt, b, (16, 16), AllocationType::Linear, 1024, Some((0, 2)));
+    take(
+        &rt,
+        b,
+        (64, 16),
+        AllocationType::NonLinear,
+        1024,
+        Some((1024, 3)),
+    );
+    take(
+        &rt,
+        b,
+        (16, 16),
+        AllocationType::Linear,
+        1024,
+        Some((2048, 4)),
+    );
+    give(&rt, b, 2);
+    take(
+        &rt,
+        b,
+        (16, 16),
+        AllocationType::Linear,
+        1024,
+        Some((2064, 5)),
+    );
+    Ok(())
+}
+
+fn on_pages(
+    rt: &impl Abort,
+    block: &mut FreeListAllocator,
+    size: u64,
+    kind: AllocationType,
+    want: Option<(u64, u64)>,
+)
+    requires paged { block.old.block.granularity ≡ 1024 }
+    requires piece { kind ≢ AllocationType.Free }
+    ensures { block.new.block.granularity ≡ block.old.block.granularity }
+{
+    take(rt, block, (size, 1), kind, 1024, want)
+}
+
+#[test]
+fn a_gap_that_ends_on_a_page_of_the_other_kind_is_passed_over(rt: HostRuntime) -> Result<(), Fail> {
+    let mut block = block_of(&rt, rt.alloc(), 1024)?;
+    let b = &mut block;
+    on_pages(&rt, b, 2000, AllocationType::Linear, Some((0, 2)));
+    on_pages(&rt, b, 100, AllocationType::NonLinear, Some((2048, 3)));
+    give(&rt, b, 2);
+    on_pages(&rt, b, 1024, AllocationType::Linear, Some((0, 4)));
+    on_pages(&rt, b, 976, AllocationType::Linear, Some((3072, 5)));
+    on_pages(&rt, b, 976, AllocationType::NonLinear, Some((1024, 2)));
+    Ok(())
+}
+
+#[test]
+fn the_last_number_is_given_once(rt: HostRuntime) -> Result<(), Fail> {
+    let last = u64::MAX - 1;
+    let granularity = granularity_one(&rt);
+    let mut block = FreeListAllocator::with_counter(rt.alloc(), 4 * MB, granularity, last)?;
+    let b = &mut block;
+    linear(&rt, b, 10, Some((0, last)));
+    linear(&rt, b, 10, None);
+    linear(&rt, b, 4 * MB - 10, Some((10, 1)));
+    give(&rt, b, last);
+    linear(&rt, b, 10, Some((0, last)));
+    Ok(())
+}
+
+#[test]
+fn a_number_that_is_not_live_is_refused(rt: HostRuntime) -> Result<(), Fail> {
+    let mut block = block_of(&rt, rt.alloc(), 1)?;
+    let b = &mut block;
+    let missing = "Internal error: Chunk ID must be a valid value.";
+    let unknown = "Internal error: Attempting to free chunk that is not in chunk list.";
+    linear(&rt, b, 10, Some((0, 2)));
+    refuse(&rt, rt.alloc(), b, 0, missing)?;
+    refuse(&rt, rt.alloc(), b, 1, unknown)?;
+    refuse(&rt, rt.alloc(), b, 3, unknown)?;
+    give(&rt, b, 2);
+    refuse(&rt, rt.alloc(), b, 2, unknown)?;
+    linear(&rt, b, 10, Some((0, 3)));
+    Ok(())
+}

@@ -1,9 +1,0 @@
-use Rattle.std.proofs.Common.{ap}
-use Rattle.gpu_chain.specs.Chain.{Linked}
-use Rattle.gpu_chain.proofs.Listing.{distinct_listed}
-use Rattle.gpu_chain.specs.Nodes.{held_at}
-use Rattle.gpu_chain.proofs.chain.Chain.size.Goals as goal
-
-pub returns-clause-distinct : goal.returns-clause-distinct
-returns-clause-distinct c =
-    distinct_listed (held_at c.self.inside.nodes) c.self.inside.first c.self.inside.size _ c.args.self.now.chunks c.self.invariant (ap (λ (v : Linked). v.chunks) c.self.view_is)

@@ -1,4 +1,0 @@
-pub mod ChunkList
-pub mod Chain
-pub mod Nodes
-pub use Rattle.gpu_gap_index.specs.Cost

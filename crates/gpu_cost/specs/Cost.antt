@@ -1,0 +1,48 @@
+-- What a search costs: whole numbers that contracts alone see.
+use Rattle.std.specs.Prelude.{◌≡◌, ℕ, ◌+◌, ◌/◌, ◌==◌, ◌≤◌, zero, suc, if◌then◌else◌}
+use Rattle.gpu_cost.specs.declared.cost.Cost.{Cost}
+
+-- how often a length was compared, a gap was tested, and a chunk was looked up by its number
+pub record Counts : Type 0 where
+  pub comparisons : ℕ
+  pub tests : ℕ
+  pub lookups : ℕ
+
+abbrev pub counts_of : Cost → Counts
+counts_of c = record { comparisons = c.comparisons; tests = c.tests; lookups = c.lookups }
+
+-- the binary digits of n, of which there are at most `most`
+abbrev pub digits_up_to : ℕ → ℕ → ℕ
+digits_up_to zero n = 0
+digits_up_to (suc most) n = if n == 0 then 0 else digits_up_to most (n / 2) + 1
+
+-- how many binary digits n has; 0 has none
+unfoldable pub digits : ℕ → ℕ
+digits n = digits_up_to n n
+
+-- n lengths were halved: a comparison for each binary digit of n, or one less, and nothing else is counted
+pub record Halves (n : ℕ) (old new : Cost) : Type 0 where
+  pub rises : old.comparisons ≤ new.comparisons
+  pub from : old.comparisons + digits n ≤ new.comparisons + 1
+  pub to : new.comparisons ≤ old.comparisons + digits n
+  pub tests : new.tests ≡ old.tests
+  pub lookups : new.lookups ≡ old.lookups
+
+-- just so many chunks were looked up, and nothing else is counted
+pub record LooksUp (n : ℕ) (old new : Cost) : Type 0 where
+  pub comparisons : new.comparisons ≡ old.comparisons
+  pub tests : new.tests ≡ old.tests
+  pub lookups : new.lookups ≡ old.lookups + n
+
+-- so many chunks were looked up at least and at most, and nothing else is counted
+pub record LooksUpBetween (least most : ℕ) (old new : Cost) : Type 0 where
+  pub comparisons : new.comparisons ≡ old.comparisons
+  pub tests : new.tests ≡ old.tests
+  pub from : old.lookups + least ≤ new.lookups
+  pub to : new.lookups ≤ old.lookups + most
+
+-- no count falls
+pub record Rises (old new : Counts) : Type 0 where
+  pub comparisons : old.comparisons ≤ new.comparisons
+  pub tests : old.tests ≤ new.tests
+  pub lookups : old.lookups ≤ new.lookups

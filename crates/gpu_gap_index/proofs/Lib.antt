@@ -1,5 +1,0 @@
-pub mod Walks
-pub mod Halving
-pub mod Orders
-pub mod Moves
-pub mod Scans

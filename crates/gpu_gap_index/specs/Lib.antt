@@ -1,3 +1,0 @@
-pub mod Cost
-pub mod Index
-pub mod Scan
