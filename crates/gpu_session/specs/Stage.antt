@@ -8,8 +8,8 @@ use Rattle.gpu_values.specs.declared.allocator_debug_settings.AllocatorDebugSett
 use Rattle.gpu_device.specs.declared.vulkan.device.VulkanDevice.{Ghosts}
 use Rattle.gpu_sim.specs.Simulation.{held_of, properties_of, plan_of, refused_of, latest_of, written_sim}
 use Rattle.gpu_sim.specs.declared.sim_vulkan.SimVulkan.{SimVulkan}
-use Rattle.gpu_allocator.specs.Blocks.{HoldsJustLiveBlocks}
-use Rattle.gpu_allocator.specs.Setup.{setup_fault}
+use Rattle.gpu_vulkan.specs.Blocks.{HoldsJustLiveBlocks}
+use Rattle.gpu_vulkan.specs.Setup.{setup_fault}
 use Rattle.gpu_vulkan_session.specs.Session as orders
 use Rattle.gpu_vulkan_session.specs.Served.{SessionValue, order_of, told_of, session_of, IsServed}
 use Rattle.gpu_trace_lines.specs.declared.block.command.Command as block_commands
@@ -42,7 +42,7 @@ silent = record { log_memory_information = false; log_leaks_on_shutdown = false;
 -- what holds of a session at any time: the blocks are sound, each number owns its piece, and the device holds what it held at
 -- first and just the live blocks
 pub record IsSound (s : SessionValue SimVulkan) : Type 0 where
-  pub kept : orders.IsKept s.allocator.setup (session_of simulated s)
+  pub kept : orders.SessionInvariant s.allocator.setup (session_of simulated s)
   pub holds : HoldsJustLiveBlocks s.allocator.setup.properties (held_of s.allocator.first) (held_of s.allocator.device) s.allocator.slots
 
 -- a session in which no number stands for anything, over a fresh allocator of that configuration

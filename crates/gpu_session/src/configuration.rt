@@ -3,10 +3,11 @@
 ghost use Rattle.std.specs.Prelude.{◌≡◌};
 ghost use Rattle.gpu_session.specs.Configuration.{sizes_of};
 
-use gpu_allocator::AllocationSizes;
-use gpu_allocator::vulkan::{MemoryHeap, MemoryPropertyFlags, MemoryTypeInfo};
-use gpu_sim::{Refusal, SimVulkan};
+use gpu_device::vulkan::{MemoryHeap, MemoryPropertyFlags, MemoryTypeInfo};
+use gpu_sim::SimVulkan;
+use gpu_sim_base::Refusal;
 use gpu_trace_lines::device::setting::Setting;
+use gpu_values::AllocationSizes;
 use std::alloc::{AllocError, Global};
 use std::marker::Model;
 

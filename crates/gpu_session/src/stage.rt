@@ -7,14 +7,15 @@ ghost use Rattle.gpu_session.specs.Stage.{IsSound, Begins, Does, MatchServed, En
 ghost use Rattle.gpu_block_session.specs.declared.stage.Stage.TheVariants as block_stages;
 
 use crate::configuration::Configuration;
-use gpu_allocator::AllocatorDebugSettings;
-use gpu_allocator::vulkan::{Allocator, AllocatorCreateDesc, PhysicalDevice};
 use gpu_block_session as block;
+use gpu_device::vulkan::PhysicalDevice;
 use gpu_sim::SimVulkan;
 use gpu_trace_lines::block::command::Command;
 use gpu_trace_lines::device::reply as device;
 use gpu_trace_lines::device::setting::Setting;
 use gpu_trace_lines::{Line, Reply, number_of};
+use gpu_values::AllocatorDebugSettings;
+use gpu_vulkan::{Allocator, AllocatorCreateDesc};
 use gpu_vulkan_session::{Command as Ask, Session};
 use log::Log;
 use std::alloc::{AllocError, Global};

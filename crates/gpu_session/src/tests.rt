@@ -2,9 +2,10 @@
 
 use crate::run::{LIMIT, run_trace};
 use crate::{Command, Reply, Session};
-use gpu_allocator::vulkan::{Allocator, AllocatorCreateDesc, PhysicalDevice};
-use gpu_allocator::{AllocationSizes, AllocatorDebugSettings};
+use gpu_device::vulkan::PhysicalDevice;
 use gpu_sim::SimVulkan;
+use gpu_values::{AllocationSizes, AllocatorDebugSettings};
+use gpu_vulkan::{Allocator, AllocatorCreateDesc};
 use log::sink::Discard;
 use std::alloc::{AllocError, Global};
 use std::io;

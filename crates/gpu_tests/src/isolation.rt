@@ -1,10 +1,11 @@
 //! What a caller knows who writes through one allocation and reads another, over any device.
 
 ghost use Rattle.std.specs.Prelude.{◌≡◌, Some, replicate};
-ghost use Rattle.gpu_allocator.specs.Live.{IsLive, IsMapped, bytes_at};
-ghost use Rattle.gpu_allocator.specs.Lends.{IsOther};
+ghost use Rattle.gpu_vulkan.specs.Live.{IsLive, IsMapped, bytes_at};
+ghost use Rattle.gpu_vulkan.specs.Lends.{AreDistinct};
 
-use gpu_allocator::vulkan::{Allocation, Allocator, VulkanDevice};
+use gpu_device::vulkan::VulkanDevice;
+use gpu_vulkan::{Allocation, Allocator};
 
 /// Fills one allocation: another one has the bytes that it had.
 pub fn fill_one_of_two<D: VulkanDevice>(
@@ -15,7 +16,7 @@ pub fn fill_one_of_two<D: VulkanDevice>(
 )
     requires mapped { IsMapped a.old.setup.properties a.old.slots x.now }
     requires live { IsLive a.old.slots y.now }
-    requires other { IsOther y.now x.now }
+    requires other { AreDistinct y.now x.now }
     ensures written { bytes_at (D.held a.new.device) x.now ≡ Some (replicate x.now.size byte) }
     ensures kept { bytes_at (D.held a.new.device) y.now ≡ bytes_at (D.held a.old.device) y.now }
     ensures live { IsLive a.new.slots y.now }

@@ -12,8 +12,9 @@ mod setups;
 mod slots;
 
 use gpu_allocator::vulkan::*;
-use gpu_allocator::{AllocationSizes, AllocatorDebugSettings, MemoryLocation};
-use gpu_sim::{Refusal, SimVulkan};
+use gpu_sim::SimVulkan;
+use gpu_sim_base::Refusal;
+use gpu_values::{AllocationSizes, AllocatorDebugSettings, MemoryLocation};
 use log::sink::Discard;
 use std::alloc::{AllocError, Global};
 use std::test::Fail;

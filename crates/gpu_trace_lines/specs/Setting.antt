@@ -2,8 +2,8 @@
 use Rattle.std.specs.Prelude.{◌≡◌, ℕ, ◌<◌, ◌^◌, List, [], ◌∷◌, Option, Some, None, codes, FitsSigned}
 use Rattle.std.specs.Int.{w32}
 use Rattle.std.specs.Fmt.{decimal, signed_decimal}
-use Rattle.gpu_sim.specs.declared.refusal.Refusal.{Refusal}
-use Rattle.gpu_sim.specs.declared.refusal.Refusal.TheVariants.{Code, Null}
+use Rattle.gpu_sim_base.specs.declared.script.Refusal.{Refusal}
+use Rattle.gpu_sim_base.specs.declared.script.Refusal.TheVariants.{Code, Null}
 use Rattle.gpu_trace_lines.specs.declared.device.setting.Setting.{Setting}
 use Rattle.gpu_trace_lines.specs.declared.device.setting.Setting.TheVariants.{Heap, MemoryType, Granularity, Sizes, Refuse}
 

@@ -6,14 +6,14 @@ use Rattle.std.proofs.lemmas.Bool.{cases_eq, cases_Bool, eqb-true}
 use Rattle.std.proofs.lemmas.Bool.Decides.{nat_tests}
 use Rattle.gpu_core.specs.declared.memory_type.Piece.{Piece}
 use Rattle.gpu_device.specs.declared.vulkan.types.DeviceMemory.{DeviceMemory}
-use Rattle.gpu_allocator.specs.Blocks.{Slots}
-use Rattle.gpu_allocator.specs.Buffers.{Place, is_place, Buffers, Writes}
-use Rattle.gpu_allocator.specs.Lends.{IsOther}
-use Rattle.gpu_allocator.specs.Live.{piece_of, IsLiveIn, IsLive}
-use Rattle.gpu_allocator.specs.Setup.{Setup}
-use Rattle.gpu_allocator.specs.Step.{place_of}
-use Rattle.gpu_allocator.specs.declared.vulkan.allocation.Allocation.{Allocation}
-use Rattle.gpu_vulkan_session.specs.Session.{SessionState, IsKept, bind, put_range}
+use Rattle.gpu_vulkan.specs.Blocks.{Slots}
+use Rattle.gpu_vulkan.specs.ByteView.{AllocationId, is_same_id, ByteView, Writes}
+use Rattle.gpu_vulkan.specs.Lends.{AreDistinct}
+use Rattle.gpu_vulkan.specs.Live.{piece_of, IsLiveIn, IsLive}
+use Rattle.gpu_vulkan.specs.Setup.{Setup}
+use Rattle.gpu_vulkan.specs.Step.{id_of}
+use Rattle.gpu_vulkan.specs.declared.allocation.Allocation.{Allocation}
+use Rattle.gpu_vulkan_session.specs.Session.{SessionState, SessionInvariant, bind, put_range}
 use Rattle.gpu_vulkan_session.specs.Laws.{Written}
 use Rattle.gpu_vulkan_session.proofs.Binding.{bound_here, bound_other, eq_true, eq_false}
 use Rattle.gpu_vulkan_session.proofs.Owning.{was_live, null_dead, some_same, none_some}
@@ -41,13 +41,13 @@ live_by slots h = IsLiveIn slots h.memory_type h.piece
 pub record Alike (ours : ℕ → Bool) (written : Written) (s t : SessionState) : Type 0 where
   pub bound : (k : ℕ) → option_map handle (s.bound k) ≡ option_map handle (t.bound k)
   pub slots : s.model.slots ≡ t.model.slots
-  pub sizes : (q : Place) → option_map length (s.model.buffers.lists q) ≡ option_map length (t.model.buffers.lists q)
+  pub sizes : (q : AllocationId) → option_map length (s.model.buffers.lists q) ≡ option_map length (t.model.buffers.lists q)
   pub bytes : (key : ℕ) (a : Allocation) → ours key ≡ true → s.bound key ≡ Some a → IsLive s.model.slots a → (i : ℕ) → written key i ≡ true
-      → byte_of (s.model.buffers.lists (place_of a)) i ≡ byte_of (t.model.buffers.lists (place_of a)) i
+      → byte_of (s.model.buffers.lists (id_of a)) i ≡ byte_of (t.model.buffers.lists (id_of a)) i
 
 -- ---- places
 
-pub is_place_same : (p : Place) → is_place p p ≡ true
+pub is_place_same : (p : AllocationId) → is_same_id p p ≡ true
 is_place_same p = grind (arith, nat_tests)
 
 both_true : (a b : Bool) → (a && b) ≡ true → (a ≡ true) × (b ≡ true)
@@ -55,7 +55,7 @@ both_true true true e = (refl, refl)
 both_true true false e = cc
 both_true false b e = cc
 
-pub same_place : (p q : Place) → is_place p q ≡ true → p ≡ q
+pub same_place : (p q : AllocationId) → is_same_id p q ≡ true → p ≡ q
 same_place p q e =
     let a = both_true (p.memory_type == q.memory_type) ((p.slot == q.slot) && (p.number == q.number)) e in
     let b = both_true (p.slot == q.slot) (p.number == q.number) a.1 in
@@ -65,25 +65,25 @@ same_place p q e =
     λ i. record { memory_type = types i; slot = slots i; number = numbers i }
 
 -- different pieces have different places
-pub other_place : (a b : Allocation) → IsOther a b → is_place (place_of a) (place_of b) ≡ false
+pub other_place : (a b : Allocation) → AreDistinct a b → is_same_id (id_of a) (id_of b) ≡ false
 other_place a b other = ⊎_elim
     (λ same.
-    let e = same_place (place_of a) (place_of b) same in
+    let e = same_place (id_of a) (id_of b) same in
     absurd (other (ap (λ p. p.memory_type) e) (ap (λ p. p.slot) e) (ap (λ p. p.number) e)))
     (λ apart. apart)
-    (cases_Bool (is_place (place_of a) (place_of b)))
+    (cases_Bool (is_same_id (id_of a) (id_of b)))
 
 -- a list at one place has one length in both, and others are as they were
-pub sizes_at : (q : Place) (s t new next : Buffers) → ((r : Place) → option_map length (s.lists r) ≡ option_map length (t.lists r)) → option_map length (new.lists q) ≡ option_map length (next.lists q)
-    → ((r : Place) → is_place q r ≡ false → new.lists r ≡ s.lists r) → ((r : Place) → is_place q r ≡ false → next.lists r ≡ t.lists r) → (r : Place) → option_map length (new.lists r) ≡ option_map length (next.lists r)
+pub sizes_at : (q : AllocationId) (s t new next : ByteView) → ((r : AllocationId) → option_map length (s.lists r) ≡ option_map length (t.lists r)) → option_map length (new.lists q) ≡ option_map length (next.lists q)
+    → ((r : AllocationId) → is_same_id q r ≡ false → new.lists r ≡ s.lists r) → ((r : AllocationId) → is_same_id q r ≡ false → next.lists r ≡ t.lists r) → (r : AllocationId) → option_map length (new.lists r) ≡ option_map length (next.lists r)
 sizes_at q s t new next old here a b r = ⊎_elim
     (λ same. subst (λ x. option_map length (new.lists x) ≡ option_map length (next.lists x)) (same_place q r same) here)
     (λ apart. ap (option_map length) (a r apart) ∙ old r ∙ sym (ap (option_map length) (b r apart)))
-    (cases_Bool (is_place q r))
+    (cases_Bool (is_same_id q r))
 
 -- ---- bytes
 
-module _ (ours : ℕ → Bool) (written : Written) (setup : Setup) (s t new next : SessionState) (kept : IsKept setup s) (kept_new : IsKept setup new) (a : Alike ours written s t) where
+module _ (ours : ℕ → Bool) (written : Written) (setup : Setup) (s t new next : SessionState) (kept : SessionInvariant setup s) (kept_new : SessionInvariant setup new) (a : Alike ours written s t) where
   -- the bindings and bytes of neither change
   pub alike_kept : new.bound ≡ s.bound → next.bound ≡ t.bound → new.model.slots ≡ next.model.slots → new.model.buffers ≡ s.model.buffers → next.model.buffers ≡ t.model.buffers → Alike ours written new next
   alike_kept b c slots m n = record {
@@ -92,8 +92,8 @@ module _ (ours : ℕ → Bool) (written : Written) (setup : Setup) (s t new next
     sizes = λ q. ap (λ x. option_map length (x.lists q)) m ∙ a.sizes q ∙ sym (ap (λ x. option_map length (x.lists q)) n);
     bytes = λ key d mine e live i w.
         let was = sym (ap (λ f. f key) b) ∙ e in
-        ap (λ x. byte_of (x.lists (place_of d)) i) m ∙ a.bytes key d mine was (was_live s kept.own key d new.model.slots was live) i w
-        ∙ sym (ap (λ x. byte_of (x.lists (place_of d)) i) n);
+        ap (λ x. byte_of (x.lists (id_of d)) i) m ∙ a.bytes key d mine was (was_live s kept.own key d new.model.slots was live) i w
+        ∙ sym (ap (λ x. byte_of (x.lists (id_of d)) i) n);
   }
 
   -- a number stands for something else in both, with the same handle
@@ -110,18 +110,18 @@ module _ (ours : ℕ → Bool) (written : Written) (setup : Setup) (s t new next
 
   -- the bytes of a number whose list is as it was in both
   kept_bytes : (k : ℕ) (d : Allocation) → ours k ≡ true → s.bound k ≡ Some d → IsLive s.model.slots d → (i : ℕ) → written k i ≡ true
-      → new.model.buffers.lists (place_of d) ≡ s.model.buffers.lists (place_of d) → next.model.buffers.lists (place_of d) ≡ t.model.buffers.lists (place_of d)
-      → byte_of (new.model.buffers.lists (place_of d)) i ≡ byte_of (next.model.buffers.lists (place_of d)) i
+      → new.model.buffers.lists (id_of d) ≡ s.model.buffers.lists (id_of d) → next.model.buffers.lists (id_of d) ≡ t.model.buffers.lists (id_of d)
+      → byte_of (new.model.buffers.lists (id_of d)) i ≡ byte_of (next.model.buffers.lists (id_of d)) i
   kept_bytes k d mine was live i w m n = ap (λ o. byte_of o i) m ∙ a.bytes k d mine was live i w ∙ sym (ap (λ o. byte_of o i) n)
 
   -- a number stands for a new piece of the same place in both
   pub alike_given : (key : ℕ) (b c : Allocation) (mapped : Bool) (size : ℕ) → new.bound ≡ bind s.bound key (Some b) → next.bound ≡ bind t.bound key (Some c) → handle b ≡ handle c
-      → IsLive new.model.slots b → new.model.slots ≡ next.model.slots → Gained mapped (place_of b) size s.model.buffers new.model.buffers → Gained mapped (place_of b) size t.model.buffers next.model.buffers
+      → IsLive new.model.slots b → new.model.slots ≡ next.model.slots → Gained mapped (id_of b) size s.model.buffers new.model.buffers → Gained mapped (id_of b) size t.model.buffers next.model.buffers
       → Alike ours (λ k i. if key == k then false else written k i) new next
   alike_given key b c mapped size is is_too same live slots m n = record {
     bound = rebound_alike key (Some b) (Some c) is is_too (ap Some same);
     slots = slots;
-    sizes = sizes_at (place_of b) s.model.buffers t.model.buffers new.model.buffers next.model.buffers a.sizes (m.here ∙ sym n.here) m.others n.others;
+    sizes = sizes_at (id_of b) s.model.buffers t.model.buffers new.model.buffers next.model.buffers a.sizes (m.here ∙ sym n.here) m.others n.others;
     bytes = λ k d mine e live_d i w. elim (cases_eq key k) [
       | inl here ↦ absurd (let f = ap (λ z. if z then false else written k i) (eq_true key k here) in let g = sym f ∙ w in cc)
       | inr apart ↦
@@ -129,7 +129,7 @@ module _ (ours : ℕ → Bool) (written : Written) (setup : Setup) (s t new next
           let was : s.bound k ≡ Some d = sym (ap (λ f. f k) is ∙ bound_other s.bound key k (Some b) apart) ∙ e in
           let b_here : new.bound key ≡ Some b = ap (λ f. f key) is ∙ bound_here s.bound key key (Some b) refl in
           let other = other_place b d (kept_new.own.apart key k b d b_here e live live_d apart) in
-          kept_bytes k d mine was (was_live s kept.own k d new.model.slots was live_d) i w2 (m.others (place_of d) other) (n.others (place_of d) other)
+          kept_bytes k d mine was (was_live s kept.own k d new.model.slots was live_d) i w2 (m.others (id_of d) other) (n.others (id_of d) other)
     ];
   }
 
@@ -146,12 +146,12 @@ module _ (ours : ℕ → Bool) (written : Written) (setup : Setup) (s t new next
           absurd (null_dead new.model.slots d (ap piece_of (sym (some_same b d f)) ∙ null) live)
       | inr apart ↦
           let was : s.bound k ≡ Some d = sym (ap (λ f. f k) is ∙ bound_other s.bound key k (Some b) apart) ∙ e in
-          kept_bytes k d mine was (was_live s kept.own k d new.model.slots was live) i w (ap (λ x. x.lists (place_of d)) m) (ap (λ x. x.lists (place_of d)) n)
+          kept_bytes k d mine was (was_live s kept.own k d new.model.slots was live) i w (ap (λ x. x.lists (id_of d)) m) (ap (λ x. x.lists (id_of d)) n)
     ];
   }
 
   -- a number's allocation has another name in both
-  pub alike_named : (key : ℕ) (b b2 c2 : Allocation) → s.bound key ≡ Some b → new.bound ≡ bind s.bound key (Some b2) → next.bound ≡ bind t.bound key (Some c2) → handle b2 ≡ handle c2 → handle b2 ≡ handle b → place_of b2 ≡ place_of b
+  pub alike_named : (key : ℕ) (b b2 c2 : Allocation) → s.bound key ≡ Some b → new.bound ≡ bind s.bound key (Some b2) → next.bound ≡ bind t.bound key (Some c2) → handle b2 ≡ handle c2 → handle b2 ≡ handle b → id_of b2 ≡ id_of b
       → new.model.slots ≡ next.model.slots → new.model.buffers ≡ s.model.buffers → next.model.buffers ≡ t.model.buffers → Alike ours written new next
   alike_named key b b2 c2 found is is_too same stays place slots m n = record {
     bound = rebound_alike key (Some b2) (Some c2) is is_too (ap Some same);
@@ -164,29 +164,29 @@ module _ (ours : ℕ → Bool) (written : Written) (setup : Setup) (s t new next
           let was : s.bound k ≡ Some b = ap s.bound (sym here) ∙ found in
           let L : Handle → Type 0 = λ h. live_by new.model.slots h in
           let live_b : IsLive new.model.slots b = subst L (ap handle (sym is_b2) ∙ stays) live in
-          let at : place_of d ≡ place_of b = ap place_of (sym is_b2) ∙ place in
+          let at : id_of d ≡ id_of b = ap id_of (sym is_b2) ∙ place in
           subst (λ q. byte_of (new.model.buffers.lists q) i ≡ byte_of (next.model.buffers.lists q) i) (sym at)
-          (kept_bytes k b mine was (was_live s kept.own k b new.model.slots was live_b) i w (ap (λ x. x.lists (place_of b)) m) (ap (λ x. x.lists (place_of b)) n))
+          (kept_bytes k b mine was (was_live s kept.own k b new.model.slots was live_b) i w (ap (λ x. x.lists (id_of b)) m) (ap (λ x. x.lists (id_of b)) n))
       | inr apart ↦
           let was : s.bound k ≡ Some d = sym (ap (λ f. f k) is ∙ bound_other s.bound key k (Some b2) apart) ∙ e in
-          kept_bytes k d mine was (was_live s kept.own k d new.model.slots was live) i w (ap (λ x. x.lists (place_of d)) m) (ap (λ x. x.lists (place_of d)) n)
+          kept_bytes k d mine was (was_live s kept.own k d new.model.slots was live) i w (ap (λ x. x.lists (id_of d)) m) (ap (λ x. x.lists (id_of d)) n)
     ];
   }
 
   -- a number stands for nothing any more, and its live piece went in both
   pub alike_returned : (key : ℕ) (b : Allocation) → s.bound key ≡ Some b → IsLive s.model.slots b → new.bound ≡ bind s.bound key None → next.bound ≡ bind t.bound key None
-      → new.model.slots ≡ next.model.slots → Lost (place_of b) s.model.buffers new.model.buffers → Lost (place_of b) t.model.buffers next.model.buffers → Alike ours written new next
+      → new.model.slots ≡ next.model.slots → Lost (id_of b) s.model.buffers new.model.buffers → Lost (id_of b) t.model.buffers next.model.buffers → Alike ours written new next
   alike_returned key b found live is is_too slots m n = record {
     bound = rebound_alike key None None is is_too refl;
     slots = slots;
-    sizes = sizes_at (place_of b) s.model.buffers t.model.buffers new.model.buffers next.model.buffers a.sizes (ap (option_map length) m.gone ∙ sym (ap (option_map length) n.gone)) m.others n.others;
+    sizes = sizes_at (id_of b) s.model.buffers t.model.buffers new.model.buffers next.model.buffers a.sizes (ap (option_map length) m.gone ∙ sym (ap (option_map length) n.gone)) m.others n.others;
     bytes = λ k d mine e live_d i w. elim (cases_eq key k) [
       | inl here ↦ absurd (none_some d (sym (ap (λ g. g k) is ∙ bound_here s.bound key k None here) ∙ e))
       | inr apart ↦
           let was : s.bound k ≡ Some d = sym (ap (λ f. f k) is ∙ bound_other s.bound key k None apart) ∙ e in
           let live_was = was_live s kept.own k d new.model.slots was live_d in
           let other = other_place b d (kept.own.apart key k b d found was live live_was apart) in
-          kept_bytes k d mine was live_was i w (m.others (place_of d) other) (n.others (place_of d) other)
+          kept_bytes k d mine was live_was i w (m.others (id_of d) other) (n.others (id_of d) other)
     ];
   }
 
@@ -201,17 +201,17 @@ module _ (ours : ℕ → Bool) (written : Written) (setup : Setup) (s t new next
       | inl here ↦ absurd (none_some d (sym (ap (λ g. g k) is ∙ bound_here s.bound key k None here) ∙ e))
       | inr apart ↦
           let was : s.bound k ≡ Some d = sym (ap (λ f. f k) is ∙ bound_other s.bound key k None apart) ∙ e in
-          kept_bytes k d mine was (was_live s kept.own k d new.model.slots was live) i w (ap (λ x. x.lists (place_of d)) m) (ap (λ x. x.lists (place_of d)) n)
+          kept_bytes k d mine was (was_live s kept.own k d new.model.slots was live) i w (ap (λ x. x.lists (id_of d)) m) (ap (λ x. x.lists (id_of d)) n)
     ];
   }
 
   -- as many bytes were put over the same range of one number's list in both, and the same ones if the number is ours
   pub alike_written : (key at : ℕ) (b : Allocation) (ws vs xs ys : List ℕ) → s.bound key ≡ Some b → IsLive s.model.slots b → new.bound ≡ s.bound → next.bound ≡ t.bound → new.model.slots ≡ next.model.slots
-      → length ws ≡ length vs → (ours key ≡ true → ws ≡ vs) → s.model.buffers.lists (place_of b) ≡ Some xs → t.model.buffers.lists (place_of b) ≡ Some ys → at + length ws ≤ length xs → at + length vs ≤ length ys
-      → Writes (place_of b) (put_range xs at ws) s.model.buffers new.model.buffers → Writes (place_of b) (put_range ys at vs) t.model.buffers next.model.buffers
+      → length ws ≡ length vs → (ours key ≡ true → ws ≡ vs) → s.model.buffers.lists (id_of b) ≡ Some xs → t.model.buffers.lists (id_of b) ≡ Some ys → at + length ws ≤ length xs → at + length vs ≤ length ys
+      → Writes (id_of b) (put_range xs at ws) s.model.buffers new.model.buffers → Writes (id_of b) (put_range ys at vs) t.model.buffers next.model.buffers
       → Alike ours (λ k i. if (key == k) && (nat_le at i && nat_lt i (at + length ws)) then true else written k i) new next
   alike_written key at b ws vs xs ys found live is is_too slots as_many same_bytes here there fits fits_too m n =
-      let q = place_of b in
+      let q = id_of b in
       let long : length xs ≡ length ys = (let e : Some (length xs) ≡ Some (length ys) = sym (ap (option_map length) here) ∙ a.sizes q ∙ ap (option_map length) there in some_same (length xs) (length ys) e) in
       record {
         bound = λ k. ap (λ f. option_map handle (f k)) is ∙ a.bound k ∙ sym (ap (λ f. option_map handle (f k)) is_too);
@@ -224,7 +224,7 @@ module _ (ours : ℕ → Bool) (written : Written) (setup : Setup) (s t new next
             elim (cases_eq key k) [
               | inl same ↦
                   let f : Some b ≡ Some d = sym found ∙ ap s.bound same ∙ was in
-                  let at_b : place_of d ≡ q = ap place_of (sym (some_same b d f)) in
+                  let at_b : id_of d ≡ q = ap id_of (sym (some_same b d f)) in
                   let mine_too : ours key ≡ true = ap ours same ∙ mine in
                   let old : written k i ≡ true → slice_get xs i ≡ slice_get ys i = λ w2.
                   sym (ap (λ o. byte_of o i) here) ∙ ap (λ r. byte_of (s.model.buffers.lists r) i) (sym at_b) ∙ a.bytes k d mine was live_was i w2
@@ -235,6 +235,6 @@ module _ (ours : ℕ → Bool) (written : Written) (setup : Setup) (s t new next
               | inr apart ↦
                   let w2 : written k i ≡ true = sym (ap (λ z. if z && (nat_le at i && nat_lt i (at + length ws)) then true else written k i) (eq_false key k apart)) ∙ w in
                   let other = other_place b d (kept.own.apart key k b d found was live live_was apart) in
-                  kept_bytes k d mine was live_was i w2 (m.others (place_of d) other) (n.others (place_of d) other)
+                  kept_bytes k d mine was live_was i w2 (m.others (id_of d) other) (n.others (id_of d) other)
             ];
       }

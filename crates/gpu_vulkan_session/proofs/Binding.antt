@@ -5,7 +5,7 @@ use Rattle.std.specs.Map.{lookup}
 use Rattle.std.specs.Option.{is_some}
 use Rattle.std.proofs.lemmas.Bool.{cases_eq}
 use Rattle.std.proofs.lemmas.Bool.Decides.{nat_tests}
-use Rattle.gpu_allocator.specs.declared.vulkan.allocation.Allocation.{Allocation}
+use Rattle.gpu_vulkan.specs.declared.allocation.Allocation.{Allocation}
 use Rattle.gpu_vulkan_session.specs.Session.{Bindings, bind}
 
 pub eq_true : (key k : ℕ) → key ≡ k → (key == k) ≡ true

@@ -6,43 +6,43 @@ use Rattle.std.specs.declared.num.NonZeroU64.{NonZeroU64}
 use Rattle.gpu_core.specs.Refusal.{Refusal}
 use Rattle.gpu_core.specs.declared.memory_type.Piece.{Piece}
 use Rattle.gpu_device.specs.declared.vulkan.types.DeviceMemory.{DeviceMemory}
-use Rattle.gpu_allocator.specs.Allocate.{is_valid}
-use Rattle.gpu_allocator.specs.Attempt.{Outcome, Asked, Answer, Gave, Refused}
-use Rattle.gpu_allocator.specs.Blocks.{is_mapped}
-use Rattle.gpu_allocator.specs.Buffers.{Place, is_place, Buffers, IsOutOf, TakesOut}
-use Rattle.gpu_allocator.specs.Live.{piece_of}
-use Rattle.gpu_allocator.specs.Setup.{Setup}
-use Rattle.gpu_allocator.specs.Step.{ModelState, Outcomes, Reply, Given, Fails, Done, Bytes, Sum, Shows, Tells, Step, Allocate, Free, Rename, Report, Leaks, Capacity, place_in, place_of, BytesAfter, AttemptStep, Follows, next_by, FoundStep, AllocateStep, MayDrop, FreeStep, RenameStep, reply_of}
-use Rattle.gpu_allocator.specs.declared.vulkan.allocation.Allocation.{Allocation}
-use Rattle.gpu_allocator.specs.declared.vulkan.describe.AllocationCreateDesc.{AllocationCreateDesc}
+use Rattle.gpu_vulkan.specs.Allocate.{is_valid}
+use Rattle.gpu_vulkan.specs.Attempt.{AttemptEnvironment, Asked, Answer, Gave, Refused}
+use Rattle.gpu_vulkan.specs.Blocks.{is_mapped}
+use Rattle.gpu_vulkan.specs.ByteView.{AllocationId, is_same_id, ByteView, IsOutOf, TakesOut}
+use Rattle.gpu_vulkan.specs.Live.{piece_of}
+use Rattle.gpu_vulkan.specs.Setup.{Setup}
+use Rattle.gpu_vulkan.specs.Step.{ModelState, CallEnvironment, Reply, Given, Fails, Done, Bytes, Sum, Shows, Tells, Step, Allocate, Free, Rename, Report, Leaks, Capacity, id_in, id_of, BytesAfter, AttemptStep, Follows, next_by, FoundStep, AllocateStep, MayDrop, FreeStep, RenameStep, reply_of}
+use Rattle.gpu_vulkan.specs.declared.allocation.Allocation.{Allocation}
+use Rattle.gpu_vulkan.specs.declared.describe.AllocationCreateDesc.{AllocationCreateDesc}
 
 -- a place of a live piece comes in, with a list of that size where its memory is mapped
-pub record Gained (mapped : Bool) (q : Place) (size : ℕ) (old new : Buffers) : Type 0 where
+pub record Gained (mapped : Bool) (q : AllocationId) (size : ℕ) (old new : ByteView) : Type 0 where
   pub here : option_map length (new.lists q) ≡ (if mapped then Some size else None)
-  pub others : (r : Place) → is_place q r ≡ false → new.lists r ≡ old.lists r
+  pub others : (r : AllocationId) → is_same_id q r ≡ false → new.lists r ≡ old.lists r
 
 -- a place of a live piece goes
-pub record Lost (q : Place) (old new : Buffers) : Type 0 where
+pub record Lost (q : AllocationId) (old new : ByteView) : Type 0 where
   pub gone : new.lists q ≡ None
-  pub others : (r : Place) → is_place q r ≡ false → new.lists r ≡ old.lists r
+  pub others : (r : AllocationId) → is_same_id q r ≡ false → new.lists r ≡ old.lists r
 
 as_long_as : (mapped : Bool) (rest : ℕ → Option ℕ) (start size : ℕ) (list : Option (List ℕ)) → IsOutOf mapped rest start size list → option_map length list ≡ (if mapped then Some size else None)
 as_long_as false rest start size list h = ap (option_map length) h
 as_long_as true rest start size None h = absurd h
 as_long_as true rest start size (Some xs) h = ap Some h.0
 
-taken_out : (mapped : Bool) (q : Place) (start size : ℕ) (old mid new : Buffers) → ((r : Place) → mid.lists r ≡ old.lists r) → TakesOut mapped q start size mid new → Gained mapped q size old new
+taken_out : (mapped : Bool) (q : AllocationId) (start size : ℕ) (old mid new : ByteView) → ((r : AllocationId) → mid.lists r ≡ old.lists r) → TakesOut mapped q start size mid new → Gained mapped q size old new
 taken_out mapped q start size old mid new same t = record {
   here = as_long_as mapped (mid.rest q.memory_type q.slot) start size (new.lists q) t.list;
   others = λ r apart. t.others r apart ∙ same r;
 }
 
-attempt_gained : (mapped : Bool) (t : ℕ) (asked : Option Asked) (p : Piece DeviceMemory) (old new : Buffers) → BytesAfter mapped t asked (Gave p) old new → Gained mapped (place_in t p) p.size old new
-attempt_gained mapped t None p old new h = taken_out mapped (place_in t p) p.offset p.size old old new (λ r. refl) h
-attempt_gained mapped t (Some a) p old new h = taken_out mapped (place_in t p) p.offset p.size old h.0 new h.1.lists h.2
+attempt_gained : (mapped : Bool) (t : ℕ) (asked : Option Asked) (p : Piece DeviceMemory) (old new : ByteView) → BytesAfter mapped t asked (Gave p) old new → Gained mapped (id_in t p) p.size old new
+attempt_gained mapped t None p old new h = taken_out mapped (id_in t p) p.offset p.size old old new (λ r. refl) h
+attempt_gained mapped t (Some a) p old new h = taken_out mapped (id_in t p) p.offset p.size old h.0 new h.1.lists h.2
 
 -- a refused attempt leaves the bytes
-attempt_refused : (mapped : Bool) (t : ℕ) (asked : Option Asked) (r : Refusal) (old new : Buffers) → BytesAfter mapped t asked (Refused r) old new → new ≡ old
+attempt_refused : (mapped : Bool) (t : ℕ) (asked : Option Asked) (r : Refusal) (old new : ByteView) → BytesAfter mapped t asked (Refused r) old new → new ≡ old
 attempt_refused mapped t None r old new h = h
 attempt_refused mapped t (Some a) r old new h = h
 
@@ -57,98 +57,98 @@ fails_given t p r e = absurd (cc)
 
 module _ (setup : Setup) (d : AllocationCreateDesc) where
   -- an attempt that gives what was told
-  given_by : (u t : ℕ) (o : Outcome) (answer : Answer) (p : Piece DeviceMemory) (old new : ModelState) → Given t p ≡ reply_of u answer → AttemptStep setup u d o answer old new
-      → Gained (is_mapped setup.properties t) (place_in t p) p.size old.buffers new.buffers
+  given_by : (u t : ℕ) (o : AttemptEnvironment) (answer : Answer) (p : Piece DeviceMemory) (old new : ModelState) → Given t p ≡ reply_of u answer → AttemptStep setup u d o answer old new
+      → Gained (is_mapped setup.properties t) (id_in t p) p.size old.buffers new.buffers
   given_by u t o (Gave q) p old new e a =
       let same = given_same t u p q e in
       let here = attempt_gained (is_mapped setup.properties u) u o.asked q old.buffers new.buffers a.bytes in
-      let G : ℕ → Type 0 = λ x. Gained (is_mapped setup.properties x) (place_in x q) q.size old.buffers new.buffers in
-      let H : Piece DeviceMemory → Type 0 = λ x. Gained (is_mapped setup.properties t) (place_in t x) x.size old.buffers new.buffers in
+      let G : ℕ → Type 0 = λ x. Gained (is_mapped setup.properties x) (id_in x q) q.size old.buffers new.buffers in
+      let H : Piece DeviceMemory → Type 0 = λ x. Gained (is_mapped setup.properties t) (id_in t x) x.size old.buffers new.buffers in
       subst H (sym same.1) (subst G (sym same.0) here)
   given_by u t o (Refused r) p old new e a = given_fails t p r e
 
-  given_after : (next : Option ℕ) (t u : ℕ) (o : Outcome) (r : Refusal) (p : Piece DeviceMemory) (old mid new : ModelState) → mid.buffers ≡ old.buffers → Follows setup d next o u (Refused r) mid (Given t p) new
-      → Gained (is_mapped setup.properties t) (place_in t p) p.size old.buffers new.buffers
+  given_after : (next : Option ℕ) (t u : ℕ) (o : AttemptEnvironment) (r : Refusal) (p : Piece DeviceMemory) (old mid new : ModelState) → mid.buffers ≡ old.buffers → Follows setup d next o u (Refused r) mid (Given t p) new
+      → Gained (is_mapped setup.properties t) (id_in t p) p.size old.buffers new.buffers
   given_after None t u o r p old mid new same f = given_fails t p r f.1
   given_after (Some v) t u o r p old mid new same f =
-      let G : Buffers → Type 0 = λ b. Gained (is_mapped setup.properties t) (place_in t p) p.size b new.buffers in
+      let G : ByteView → Type 0 = λ b. Gained (is_mapped setup.properties t) (id_in t p) p.size b new.buffers in
       subst G same (given_by v t o f.0 p mid new f.2 f.1)
 
-  served_given : (u t : ℕ) (o : Outcomes) (answer : Answer) (p : Piece DeviceMemory) (old mid new : ModelState) → AttemptStep setup u d o.first answer old mid
-      → Follows setup d (next_by setup d answer) o.second u answer mid (Given t p) new → Gained (is_mapped setup.properties t) (place_in t p) p.size old.buffers new.buffers
+  served_given : (u t : ℕ) (o : CallEnvironment) (answer : Answer) (p : Piece DeviceMemory) (old mid new : ModelState) → AttemptStep setup u d o.first answer old mid
+      → Follows setup d (next_by setup d answer) o.second u answer mid (Given t p) new → Gained (is_mapped setup.properties t) (id_in t p) p.size old.buffers new.buffers
   served_given u t o (Gave q) p old mid new a f =
-      let G : ModelState → Type 0 = λ s. Gained (is_mapped setup.properties t) (place_in t p) p.size old.buffers s.buffers in
+      let G : ModelState → Type 0 = λ s. Gained (is_mapped setup.properties t) (id_in t p) p.size old.buffers s.buffers in
       subst G (sym f.2) (given_by u t o.first (Gave q) p old mid f.1 a)
   served_given u t o (Refused r) p old mid new a f =
       given_after (next_by setup d (Refused r)) t u o.second r p old mid new (attempt_refused (is_mapped setup.properties u) u o.first.asked r old.buffers mid.buffers a.bytes) f
 
-  found_given : (found : Option ℕ) (t : ℕ) (o : Outcomes) (p : Piece DeviceMemory) (old new : ModelState) → FoundStep setup d found o (Given t p) old new
-      → Gained (is_mapped setup.properties t) (place_in t p) p.size old.buffers new.buffers
+  found_given : (found : Option ℕ) (t : ℕ) (o : CallEnvironment) (p : Piece DeviceMemory) (old new : ModelState) → FoundStep setup d found o (Given t p) old new
+      → Gained (is_mapped setup.properties t) (id_in t p) p.size old.buffers new.buffers
   found_given None t o p old new h = given_fails t p _ h.reply_is
   found_given (Some u) t o p old new h = served_given u t o h.answer p old h.mid new h.attempt h.follows
 
-  valid_given : (valid : Bool) (t : ℕ) (o : Outcomes) (p : Piece DeviceMemory) (old new : ModelState) → AllocateStep setup d valid o (Given t p) old new
-      → Gained (is_mapped setup.properties t) (place_in t p) p.size old.buffers new.buffers
+  valid_given : (valid : Bool) (t : ℕ) (o : CallEnvironment) (p : Piece DeviceMemory) (old new : ModelState) → AllocateStep setup d valid o (Given t p) old new
+      → Gained (is_mapped setup.properties t) (id_in t p) p.size old.buffers new.buffers
   valid_given false t o p old new h = given_fails t p _ h.reply_is
   valid_given true t o p old new h = found_given _ t o p old new h
 
-  pub gained : (t : ℕ) (o : Outcomes) (p : Piece DeviceMemory) (old new : ModelState) → Step setup (Allocate d) o (Given t p) old new → Gained (is_mapped setup.properties t) (place_in t p) p.size old.buffers new.buffers
+  pub gained : (t : ℕ) (o : CallEnvironment) (p : Piece DeviceMemory) (old new : ModelState) → Step setup (Allocate d) o (Given t p) old new → Gained (is_mapped setup.properties t) (id_in t p) p.size old.buffers new.buffers
   gained t o p old new h = valid_given (is_valid d) t o p old new h
 
   -- ---- a refusal leaves the bytes
 
-  failed_by : (u : ℕ) (o : Outcome) (answer : Answer) (r : Refusal) (old new : ModelState) → Fails r ≡ reply_of u answer → AttemptStep setup u d o answer old new → new.buffers ≡ old.buffers
+  failed_by : (u : ℕ) (o : AttemptEnvironment) (answer : Answer) (r : Refusal) (old new : ModelState) → Fails r ≡ reply_of u answer → AttemptStep setup u d o answer old new → new.buffers ≡ old.buffers
   failed_by u o (Gave q) r old new e a = fails_given u q r e
   failed_by u o (Refused s) r old new e a = attempt_refused (is_mapped setup.properties u) u o.asked s old.buffers new.buffers a.bytes
 
-  failed_after : (next : Option ℕ) (u : ℕ) (o : Outcome) (s r : Refusal) (old mid new : ModelState) → mid.buffers ≡ old.buffers → Follows setup d next o u (Refused s) mid (Fails r) new → new.buffers ≡ old.buffers
+  failed_after : (next : Option ℕ) (u : ℕ) (o : AttemptEnvironment) (s r : Refusal) (old mid new : ModelState) → mid.buffers ≡ old.buffers → Follows setup d next o u (Refused s) mid (Fails r) new → new.buffers ≡ old.buffers
   failed_after None u o s r old mid new same f = ap (λ x. x.buffers) f.2 ∙ same
   failed_after (Some v) u o s r old mid new same f = failed_by v o f.0 r mid new f.2 f.1 ∙ same
 
-  served_failed : (u : ℕ) (o : Outcomes) (answer : Answer) (r : Refusal) (old mid new : ModelState) → AttemptStep setup u d o.first answer old mid
+  served_failed : (u : ℕ) (o : CallEnvironment) (answer : Answer) (r : Refusal) (old mid new : ModelState) → AttemptStep setup u d o.first answer old mid
       → Follows setup d (next_by setup d answer) o.second u answer mid (Fails r) new → new.buffers ≡ old.buffers
   served_failed u o (Gave q) r old mid new a f = fails_given u q r f.1
   served_failed u o (Refused s) r old mid new a f =
       failed_after (next_by setup d (Refused s)) u o.second s r old mid new (attempt_refused (is_mapped setup.properties u) u o.first.asked s old.buffers mid.buffers a.bytes) f
 
-  found_failed : (found : Option ℕ) (o : Outcomes) (r : Refusal) (old new : ModelState) → FoundStep setup d found o (Fails r) old new → new.buffers ≡ old.buffers
+  found_failed : (found : Option ℕ) (o : CallEnvironment) (r : Refusal) (old new : ModelState) → FoundStep setup d found o (Fails r) old new → new.buffers ≡ old.buffers
   found_failed None o r old new h = ap (λ x. x.buffers) h.same
   found_failed (Some u) o r old new h = served_failed u o h.answer r old h.mid new h.attempt h.follows
 
-  valid_failed : (valid : Bool) (o : Outcomes) (r : Refusal) (old new : ModelState) → AllocateStep setup d valid o (Fails r) old new → new.buffers ≡ old.buffers
+  valid_failed : (valid : Bool) (o : CallEnvironment) (r : Refusal) (old new : ModelState) → AllocateStep setup d valid o (Fails r) old new → new.buffers ≡ old.buffers
   valid_failed false o r old new h = ap (λ x. x.buffers) h.same
   valid_failed true o r old new h = found_failed _ o r old new h
 
-  pub not_gained : (o : Outcomes) (r : Refusal) (old new : ModelState) → Step setup (Allocate d) o (Fails r) old new → new.buffers ≡ old.buffers
+  pub not_gained : (o : CallEnvironment) (r : Refusal) (old new : ModelState) → Step setup (Allocate d) o (Fails r) old new → new.buffers ≡ old.buffers
   not_gained o r old new h = valid_failed (is_valid d) o r old new h
 
 -- ---- places
 
 -- the place of a piece's allocation is the piece's
-place_by : (a : Allocation) (chunk : Option NonZeroU64) (p : Piece DeviceMemory) → a.chunk_id ≡ chunk → piece_of a ≡ Some p → place_of a ≡ place_in a.memory_type_index p
+place_by : (a : Allocation) (chunk : Option NonZeroU64) (p : Piece DeviceMemory) → a.chunk_id ≡ chunk → piece_of a ≡ Some p → id_of a ≡ id_in a.memory_type_index p
 place_by a None p e is = absurd (let f = sym (ap (λ n. piece_of (record a { chunk_id = n })) e) ∙ is in cc)
 place_by a (Some n) p e is =
     let there : piece_of (record a { chunk_id = Some n }) ≡ Some p = sym (ap (λ c. piece_of (record a { chunk_id = c })) e) ∙ is in
     let q : Piece DeviceMemory = record { slot = a.memory_block_index; number = n; offset = a.offset; size = a.size; block = a.device_memory } in
     let same : q ≡ p = (let f : Some q ≡ Some p = there in cc) in
-    ap (λ c. place_of (record a { chunk_id = c })) e ∙ ap (place_in a.memory_type_index) same
+    ap (λ c. id_of (record a { chunk_id = c })) e ∙ ap (id_in a.memory_type_index) same
 
-pub place_piece : (a : Allocation) (p : Piece DeviceMemory) → piece_of a ≡ Some p → place_of a ≡ place_in a.memory_type_index p
+pub place_piece : (a : Allocation) (p : Piece DeviceMemory) → piece_of a ≡ Some p → id_of a ≡ id_in a.memory_type_index p
 place_piece a p is = place_by a a.chunk_id p refl is
 
 -- ---- a free
 
-dropped : (t i : ℕ) (went : Option DeviceMemory) (mid new : Buffers) → MayDrop t i went mid new → (r : Place) → new.lists r ≡ mid.lists r
+dropped : (t i : ℕ) (went : Option DeviceMemory) (mid new : ByteView) → MayDrop t i went mid new → (r : AllocationId) → new.lists r ≡ mid.lists r
 dropped t i None mid new h r = ap (λ b. b.lists r) h
 dropped t i (Some m) mid new h r = h.lists r
 
-pub lost : (setup : Setup) (a : Allocation) (o : Outcomes) (p : Piece DeviceMemory) (old new : ModelState) → Step setup (Free a) o Done old new → piece_of a ≡ Some p → Lost (place_in a.memory_type_index p) old.buffers new.buffers
+pub lost : (setup : Setup) (a : Allocation) (o : CallEnvironment) (p : Piece DeviceMemory) (old new : ModelState) → Step setup (Free a) o Done old new → piece_of a ≡ Some p → Lost (id_in a.memory_type_index p) old.buffers new.buffers
 lost setup a o p old new step is =
     let freed = subst (λ z. FreeStep a.memory_type_index z Done old new) is step.1 in
     let release = freed.1 in
     let same = dropped a.memory_type_index p.slot release.went release.mid new.buffers release.drops in
     record {
-      gone = same (place_in a.memory_type_index p) ∙ release.back.gone;
+      gone = same (id_in a.memory_type_index p) ∙ release.back.gone;
       others = λ r apart. same r ∙ release.back.others r apart;
     }
 
@@ -170,10 +170,10 @@ renamed_bytes t (Some p) name host (Sum n) old new h = absurd h
 renamed_bytes t (Some p) name host (Shows w) old new h = absurd h
 renamed_bytes t (Some p) name host (Tells zs) old new h = absurd h
 
-pub named_bytes : (setup : Setup) (a : Allocation) (name : List ℕ) (o : Outcomes) (reply : Reply) (old new : ModelState) → Step setup (Rename a name) o reply old new → new.buffers ≡ old.buffers
+pub named_bytes : (setup : Setup) (a : Allocation) (name : List ℕ) (o : CallEnvironment) (reply : Reply) (old new : ModelState) → Step setup (Rename a name) o reply old new → new.buffers ≡ old.buffers
 named_bytes setup a name o reply old new h = renamed_bytes a.memory_type_index (piece_of a) name o.first.host reply old new h.1
 
-pub shown_same : (setup : Setup) (o : Outcomes) (reply : Reply) (old new : ModelState) → Step setup Report o reply old new → new ≡ old
+pub shown_same : (setup : Setup) (o : CallEnvironment) (reply : Reply) (old new : ModelState) → Step setup Report o reply old new → new ≡ old
 shown_same setup o (Shows r) old new h = h.1.2
 shown_same setup o (Fails r) old new h = h.1.2
 shown_same setup o (Given t p) old new h = absurd h.1
@@ -182,7 +182,7 @@ shown_same setup o (Bytes xs) old new h = absurd h.1
 shown_same setup o (Sum n) old new h = absurd h.1
 shown_same setup o (Tells ts) old new h = absurd h.1
 
-pub told_same : (setup : Setup) (o : Outcomes) (reply : Reply) (old new : ModelState) → Step setup Leaks o reply old new → new ≡ old
+pub told_same : (setup : Setup) (o : CallEnvironment) (reply : Reply) (old new : ModelState) → Step setup Leaks o reply old new → new ≡ old
 told_same setup o (Tells ts) old new h = h.1.2
 told_same setup o (Fails r) old new h = h.1.2
 told_same setup o (Given t p) old new h = absurd h.1
@@ -191,7 +191,7 @@ told_same setup o (Bytes xs) old new h = absurd h.1
 told_same setup o (Sum n) old new h = absurd h.1
 told_same setup o (Shows r) old new h = absurd h.1
 
-pub summed_same : (setup : Setup) (o : Outcomes) (reply : Reply) (old new : ModelState) → Step setup Capacity o reply old new → new ≡ old
+pub summed_same : (setup : Setup) (o : CallEnvironment) (reply : Reply) (old new : ModelState) → Step setup Capacity o reply old new → new ≡ old
 summed_same setup o (Sum n) old new h = h.2
 summed_same setup o (Given t p) old new h = absurd h
 summed_same setup o (Fails r) old new h = absurd h

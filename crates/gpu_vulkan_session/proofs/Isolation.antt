@@ -1,23 +1,23 @@
 -- A write reaches one list.
 use Rattle.std.proofs.Common.{◌≡◌, ℕ, ◌+◌, List, length, Option, Some, None, Bool, true, false, ap}
 use Rattle.std.specs.Prelude.{◌≢◌, nat_le}
-use Rattle.gpu_allocator.specs.Live.{IsLive}
-use Rattle.gpu_allocator.specs.Setup.{Setup}
-use Rattle.gpu_allocator.specs.Step.{place_of}
-use Rattle.gpu_allocator.specs.declared.vulkan.allocation.Allocation.{Allocation}
-use Rattle.gpu_vulkan_session.specs.Session.{SessionState, IsOwn, Put, Chances, Told, PutsIn, PutsOver, ServesAt}
+use Rattle.gpu_vulkan.specs.Live.{IsLive}
+use Rattle.gpu_vulkan.specs.Setup.{Setup}
+use Rattle.gpu_vulkan.specs.Step.{id_of}
+use Rattle.gpu_vulkan.specs.declared.allocation.Allocation.{Allocation}
+use Rattle.gpu_vulkan_session.specs.Session.{SessionState, IsOwn, Put, CommandEnvironment, Told, PutsIn, PutsOver, ServesAt}
 use Rattle.gpu_vulkan_session.proofs.Alike.{other_place}
 
-module _ (setup : Setup) (key other at : ℕ) (bytes : List ℕ) (o : Chances) (told : Told) (old new : SessionState) (b : Allocation) (own : IsOwn old) (apart : key ≢ other) (bound : old.bound other ≡ Some b) (live : IsLive old.model.slots b) where
+module _ (setup : Setup) (key other at : ℕ) (bytes : List ℕ) (o : CommandEnvironment) (told : Told) (old new : SessionState) (b : Allocation) (own : IsOwn old) (apart : key ≢ other) (bound : old.bound other ≡ Some b) (live : IsLive old.model.slots b) where
   abbrev Leaves : Type 0
-  Leaves = new.model.buffers.lists (place_of b) ≡ old.model.buffers.lists (place_of b)
+  Leaves = new.model.buffers.lists (id_of b) ≡ old.model.buffers.lists (id_of b)
 
   unchanged : new ≡ old → Leaves
-  unchanged e = ap (λ s. s.model.buffers.lists (place_of b)) e
+  unchanged e = ap (λ s. s.model.buffers.lists (id_of b)) e
 
   put_in : (a : Allocation) (xs : List ℕ) (fits : Bool) → old.bound key ≡ Some a → PutsIn setup a at bytes xs fits o told old new → Leaves
   put_in a xs false found h = unchanged h.1.1
-  put_in a xs true found h = let one = h.1.1 in one.writes.others (place_of b) (other_place a b (own.apart key other a b found bound one.live.0 live apart))
+  put_in a xs true found h = let one = h.1.1 in one.writes.others (id_of b) (other_place a b (own.apart key other a b found bound one.live.0 live apart))
 
   put_over : (a : Allocation) (read : Option (List ℕ)) → old.bound key ≡ Some a → PutsOver setup a at bytes read o told old new → Leaves
   put_over a None found h = unchanged h.1.1

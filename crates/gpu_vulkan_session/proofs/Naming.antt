@@ -5,14 +5,14 @@ use Rattle.gpu_core.specs.declared.memory_type.Piece.{Piece}
 use Rattle.gpu_values.specs.declared.error.AllocationError.{AllocationError}
 use Rattle.gpu_device.specs.declared.vulkan.device.VulkanDevice.{Ghosts}
 use Rattle.gpu_device.specs.declared.vulkan.types.DeviceMemory.{DeviceMemory}
-use Rattle.gpu_allocator.specs.Blocks.{Slots}
-use Rattle.gpu_allocator.specs.Rename.{IsNamed, RenamesBy}
-use Rattle.gpu_allocator.specs.Step as model
-use Rattle.gpu_allocator.specs.Step.{IsStep}
-use Rattle.gpu_allocator.specs.declared.vulkan.allocation.Allocation.{Allocation}
-use Rattle.gpu_allocator.proofs.Untouched.{same_leaves}
+use Rattle.gpu_vulkan.specs.Blocks.{Slots}
+use Rattle.gpu_vulkan.specs.Rename.{IsNamed, RenamesBy}
+use Rattle.gpu_vulkan.specs.Step as model
+use Rattle.gpu_vulkan.specs.Step.{IsStep}
+use Rattle.gpu_vulkan.specs.declared.allocation.Allocation.{Allocation}
+use Rattle.gpu_vulkan.proofs.Untouched.{same_leaves}
 use Rattle.gpu_vulkan_session.specs.Session as orders
-use Rattle.gpu_vulkan_session.specs.Session.{Under, Rename, Told, Chances, bind}
+use Rattle.gpu_vulkan_session.specs.Session.{Under, Rename, Told, CommandEnvironment, bind}
 use Rattle.gpu_vulkan_session.specs.Served.{SessionValue, session_of, IsServed}
 use Rattle.gpu_vulkan_session.proofs.Binding.{bindings, bind_same}
 use Rattle.gpu_vulkan_session.proofs.Serving.{serves_at}
@@ -29,9 +29,9 @@ module _ {D : Type 0} (g : Ghosts D) (old new : SessionValue D) (key : ℕ) (nam
     (is : bindings new.bound ≡ bind (bindings old.bound) key (Some b)) (constant : (new.allocator.setup ≡ old.allocator.setup) × (new.allocator.first ≡ old.allocator.first)) (device : new.allocator.device ≡ old.allocator.device) where
   pub renamed : IsNamed a name b → told ≡ orders.Fine → IsStep g (model.Rename a name) model.Done old.allocator new.allocator → IsServed g (Under key (Rename name)) told old new
   renamed named fine step =
-      let o : Chances = record { room = true; call = step.outcomes } in
+      let o : CommandEnvironment = record { room = true; call = step.environment } in
       record {
-        chances = o;
+        environment = o;
         serves = serves_at old.allocator.setup (session_of g old) (session_of g new) key (Rename name) o told (Some a) found
             (record { reply = model.Done; step = step.step; binds = (fine, (b, named, is)) });
         count = step.count;
@@ -42,10 +42,10 @@ module _ {D : Type 0} (g : Ghosts D) (old new : SessionValue D) (key : ℕ) (nam
 
   pub not_renamed : (e : AllocationError) → b ≡ a → told ≡ orders.Fails (refusal_of e) → IsStep g (model.Rename a name) (model.Fails (refusal_of e)) old.allocator new.allocator → IsServed g (Under key (Rename name)) told old new
   not_renamed e same fails step =
-      let o : Chances = record { room = true; call = step.outcomes } in
+      let o : CommandEnvironment = record { room = true; call = step.environment } in
       let unchanged : bindings new.bound ≡ bindings old.bound = is ∙ bind_same (bindings old.bound) key (Some b) (found ∙ ap Some (sym same)) in
       record {
-        chances = o;
+        environment = o;
         serves = serves_at old.allocator.setup (session_of g old) (session_of g new) key (Rename name) o told (Some a) found
             (record { reply = model.Fails (refusal_of e); step = step.step; binds = (fails, unchanged) });
         count = step.count;

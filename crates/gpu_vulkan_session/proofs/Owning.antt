@@ -1,20 +1,20 @@
 -- The numbers go on owning their pieces.
 use Rattle.std.proofs.Common.{◌≡◌, ◌⊎◌, ℕ, List, Option, Some, None, ap, sym, subst, ◌∙◌, inl, inr, ⊎_elim}
 use Rattle.std.proofs.lemmas.Bool.{cases_eq}
-use Rattle.gpu_allocator.specs.Blocks.{Slots}
-use Rattle.gpu_allocator.specs.Lends.{IsOther}
-use Rattle.gpu_allocator.specs.Live.{piece_of, null_allocation, IsLiveIn, IsLive}
-use Rattle.gpu_allocator.specs.Rename.{IsNamed, StayLive}
-use Rattle.gpu_allocator.specs.Setup.{Setup}
-use Rattle.gpu_allocator.specs.Step.{ModelState, Outcomes, Done, Step, Free, FreeStep}
-use Rattle.gpu_allocator.specs.declared.vulkan.allocation.Allocation.{Allocation}
+use Rattle.gpu_vulkan.specs.Blocks.{Slots}
+use Rattle.gpu_vulkan.specs.Lends.{AreDistinct}
+use Rattle.gpu_vulkan.specs.Live.{piece_of, null_allocation, IsLiveIn, IsLive}
+use Rattle.gpu_vulkan.specs.Rename.{IsNamed, StayLive}
+use Rattle.gpu_vulkan.specs.Setup.{Setup}
+use Rattle.gpu_vulkan.specs.Step.{ModelState, CallEnvironment, Done, Step, Free, FreeStep}
+use Rattle.gpu_vulkan.specs.declared.allocation.Allocation.{Allocation}
 use Rattle.gpu_vulkan_session.specs.Session.{SessionState, IsOwn, bind}
 use Rattle.gpu_vulkan_session.proofs.Binding.{bound_here, bound_other}
 
 pub null_dead : (slots : Slots) (a : Allocation) → piece_of a ≡ None → IsLive slots a → ⊥
 null_dead slots a e live = subst (λ p. IsLiveIn slots a.memory_type_index p) e live
 
-other_sym : (a b : Allocation) → IsOther a b → IsOther b a
+other_sym : (a b : Allocation) → AreDistinct a b → AreDistinct b a
 other_sym a b h = λ x y z. h (sym x) (sym y) (sym z)
 
 pub none_some : {A : Type 0} (a : A) → None ≡ Some a → ⊥
@@ -45,7 +45,7 @@ module _ (old : SessionState) (own : IsOwn old) where
   pub own_changed : (new : SessionState) (key : ℕ) (to : Option Allocation) → new.bound ≡ bind old.bound key to
       → ((k : ℕ) (a : Allocation) → (key ≡ k → ⊥) → old.bound k ≡ Some a → IsLive old.model.slots a → IsLive new.model.slots a)
       → ((a : Allocation) → to ≡ Some a → (piece_of a ≡ None) ⊎ IsLive new.model.slots a)
-      → ((k : ℕ) (a b : Allocation) → (key ≡ k → ⊥) → to ≡ Some a → old.bound k ≡ Some b → IsLive new.model.slots a → IsLive old.model.slots b → IsOther a b)
+      → ((k : ℕ) (a b : Allocation) → (key ≡ k → ⊥) → to ≡ Some a → old.bound k ≡ Some b → IsLive new.model.slots a → IsLive old.model.slots b → AreDistinct a b)
       → IsOwn new
   own_changed new key to is keeps here others =
       let at : (k : ℕ) → new.bound k ≡ bind old.bound key to k = λ k. ap (λ b. b k) is in
@@ -73,12 +73,12 @@ module _ (old : SessionState) (own : IsOwn old) where
 
   -- a number stands for a new allocation
   pub own_given : (new : SessionState) (key : ℕ) (a : Allocation) → new.bound ≡ bind old.bound key (Some a) → StayLive old.model.slots new.model.slots
-      → IsLive new.model.slots a → ((b : Allocation) → IsLive old.model.slots b → IsOther b a) → IsOwn new
+      → IsLive new.model.slots a → ((b : Allocation) → IsLive old.model.slots b → AreDistinct b a) → IsOwn new
   own_given new key a is keeps live gives =
       own_changed new key (Some a) is
       (λ k b apart was x. keeps b x)
       (λ b e. inr (subst (IsLive new.model.slots) (some_same a b e) live))
-      (λ k b c apart e was x y. subst (λ z. IsOther z c) (some_same a b e) (other_sym c a (gives c y)))
+      (λ k b c apart e was x y. subst (λ z. AreDistinct z c) (some_same a b e) (other_sym c a (gives c y)))
 
   -- a number stands for a null allocation
   pub own_null : (new : SessionState) (key : ℕ) → new.model ≡ old.model → new.bound ≡ bind old.bound key (Some null_allocation) → IsOwn new
@@ -90,7 +90,7 @@ module _ (old : SessionState) (own : IsOwn old) where
 
   -- a number stands for nothing any more, and its piece has gone
   pub own_returned : (new : SessionState) (key : ℕ) (a : Allocation) → old.bound key ≡ Some a → new.bound ≡ bind old.bound key None
-      → (IsLive old.model.slots a → (b : Allocation) → IsLive old.model.slots b → IsOther b a → IsLive new.model.slots b)
+      → (IsLive old.model.slots a → (b : Allocation) → IsLive old.model.slots b → AreDistinct b a → IsLive new.model.slots b)
       → (piece_of a ≡ None → new.model ≡ old.model) → IsOwn new
   own_returned new key a was is keeps null =
       own_changed new key None is
@@ -118,8 +118,8 @@ module _ (old : SessionState) (own : IsOwn old) where
       let is_b = some_same b c e in
       let x_a = live_a new.model.slots (subst (IsLive new.model.slots) (sym is_b) x) in
       let apart_a = own.apart key k a d was bound (was_live key a new.model.slots was x_a) y apart in
-      subst (λ z. IsOther z d) is_b (subst (λ z. IsOther z d) (sym alike) apart_a))
+      subst (λ z. AreDistinct z d) is_b (subst (λ z. AreDistinct z d) (sym alike) apart_a))
 
 -- a null allocation's free changes nothing
-pub freed_null : (setup : Setup) (a : Allocation) (o : Outcomes) (old new : ModelState) → Step setup (Free a) o Done old new → piece_of a ≡ None → new ≡ old
+pub freed_null : (setup : Setup) (a : Allocation) (o : CallEnvironment) (old new : ModelState) → Step setup (Free a) o Done old new → piece_of a ≡ None → new ≡ old
 freed_null setup a o old new step e = subst (λ p. FreeStep a.memory_type_index p Done old new) e step.1

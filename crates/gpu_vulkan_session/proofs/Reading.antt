@@ -3,12 +3,12 @@ use Rattle.std.proofs.Common.{◌≡◌, ◌∙◌, ℕ, ◌+◌, ◌≤◌, ari
 use Rattle.std.specs.Prelude.{nat_le, if◌then◌else◌}
 use Rattle.std.proofs.lemmas.Bool.Decides.{nat_tests}
 use Rattle.gpu_device.specs.declared.vulkan.device.VulkanDevice.{Ghosts}
-use Rattle.gpu_allocator.specs.State.{State}
-use Rattle.gpu_allocator.specs.Step as model
-use Rattle.gpu_allocator.specs.Step.{IsRead, IsStep}
-use Rattle.gpu_allocator.specs.declared.vulkan.allocation.Allocation.{Allocation}
+use Rattle.gpu_vulkan.specs.State.{State}
+use Rattle.gpu_vulkan.specs.Step as model
+use Rattle.gpu_vulkan.specs.Step.{IsRead, IsStep}
+use Rattle.gpu_vulkan.specs.declared.allocation.Allocation.{Allocation}
 use Rattle.gpu_vulkan_session.specs.Session as orders
-use Rattle.gpu_vulkan_session.specs.Session.{Under, Put, Get, Told, Chances, put_range, read_told, part_told, PutsOver, PutsIn}
+use Rattle.gpu_vulkan_session.specs.Session.{Under, Put, Get, Told, CommandEnvironment, put_range, read_told, part_told, PutsOver, PutsIn}
 use Rattle.gpu_vulkan_session.specs.Served.{SessionValue, session_of, IsServed}
 use Rattle.gpu_vulkan_session.proofs.Binding.{bindings}
 use Rattle.gpu_vulkan_session.proofs.Ranges.{length_put}
@@ -20,7 +20,7 @@ read_of g s a bytes step = step.step.1
 
 module _ {D : Type 0} (g : Ghosts D) (s : SessionValue D) (key at : ℕ) where
   -- a read that is told something, with room for its bytes or not
-  pub gets_bound : (size : ℕ) (a : Allocation) (bytes : Option (List ℕ)) (o : Chances) (told : Told) → bindings s.bound key ≡ Some a → IsRead s.allocator.setup a (session_of g s).model bytes
+  pub gets_bound : (size : ℕ) (a : Allocation) (bytes : Option (List ℕ)) (o : CommandEnvironment) (told : Told) → bindings s.bound key ≡ Some a → IsRead s.allocator.setup a (session_of g s).model bytes
       → o.call ≡ quiet.call → told ≡ read_told o.room at size bytes → IsServed g (Under key (Get at size)) told s s
   gets_bound size a bytes o told found read met is =
       served_quietly g key (Get at size) told s o (Some a) met found (bytes, read, is, (subst (λ c. model.MeetsNothing c) (sym met) (refl, refl), refl))
@@ -52,10 +52,10 @@ module _ {D : Type 0} (g : Ghosts D) (s : SessionValue D) (key at : ℕ) where
       let is : xs ≡ ys = cc in
       let put_xs : zs ≡ put_range xs at others = put ∙ ap (λ l. put_range l at others) (sym is) in
       let step = subst (λ l. IsStep g (model.Write a l) model.Done s.allocator after) put_xs (writes (ap length put_xs ∙ length_put xs at others (fits_le (at + length others) (length xs) fits) ∙ long)) in
-      let o : Chances = record { room = true; call = step.outcomes } in
+      let o : CommandEnvironment = record { room = true; call = step.environment } in
       let new : SessionValue D = record { allocator = after; bound = s.bound } in
       record {
-        chances = o;
+        environment = o;
         serves = serves_at s.allocator.setup (session_of g s) (session_of g new) key (Put at others) o orders.Fine (Some a) found
             (Some xs, read, subst (λ b. PutsIn s.allocator.setup a at others xs b o orders.Fine (session_of g s) (session_of g new)) (sym fits) (refl, step.step, refl));
         count = step.count;

@@ -3,36 +3,36 @@ use Rattle.std.proofs.Common.{◌≡◌, ◌+◌, ℕ, List, [], ◌∷◌, ◌+
 use Rattle.std.proofs.lemmas.List.{take_more}
 use Rattle.gpu_device.specs.declared.vulkan.device.VulkanDevice.{Ghosts}
 use Rattle.gpu_device.specs.declared.vulkan.types.MemoryAllocateInfo.{MemoryAllocateInfo}
-use Rattle.gpu_allocator.specs.Blocks.{AreAllSound}
-use Rattle.gpu_allocator.specs.Setup.{Setup}
-use Rattle.gpu_allocator.specs.State.{State}
-use Rattle.gpu_allocator.specs.Step as model
-use Rattle.gpu_allocator.specs.Step.{Outcomes, nothing_met, MeetsNothing, count_after, latest_after, IsStep}
-use Rattle.gpu_allocator.proofs.Untouched.{same_leaves}
-use Rattle.gpu_allocator.specs.declared.vulkan.allocation.Allocation.{Allocation}
-use Rattle.gpu_vulkan_session.specs.Session.{SessionState, IsOwn, IsKept, Deed, Order, Told, Chances, Under, Stays, ServesAt, Serves, Runs, Asks, told_by}
+use Rattle.gpu_memory_types.specs.Blocks.{BlocksWellFormed}
+use Rattle.gpu_vulkan.specs.Setup.{Setup}
+use Rattle.gpu_vulkan.specs.State.{State}
+use Rattle.gpu_vulkan.specs.Step as model
+use Rattle.gpu_vulkan.specs.Step.{CallEnvironment, nothing_met, MeetsNothing, count_after, latest_after, IsStep}
+use Rattle.gpu_vulkan.proofs.Untouched.{same_leaves}
+use Rattle.gpu_vulkan.specs.declared.allocation.Allocation.{Allocation}
+use Rattle.gpu_vulkan_session.specs.Session.{SessionState, IsOwn, SessionInvariant, Deed, Order, Told, CommandEnvironment, Under, Stays, ServesAt, Serves, Runs, Asks, told_by}
 use Rattle.gpu_vulkan_session.specs.Served.{SessionValue, session_of, count_over, latest_over, IsServed, ServesEach}
 
 -- nothing is met with
-abbrev pub quiet : Chances
+abbrev pub quiet : CommandEnvironment
 quiet = record { room = true; call = record { first = nothing_met; second = nothing_met } }
 
 -- no room for the session's own
-abbrev pub short : Chances
+abbrev pub short : CommandEnvironment
 short = record { room = false; call = record { first = nothing_met; second = nothing_met } }
 
 pub stayed : (s : SessionState) → Stays quiet s s
 stayed s = ((refl, refl), refl)
 
-pub serves_at : (setup : Setup) (s new : SessionState) (key : ℕ) (deed : Deed) (o : Chances) (told : Told) (found : Option Allocation) → s.bound key ≡ found → ServesAt setup key found deed o told s new → Serves setup (Under key deed) o told s new
+pub serves_at : (setup : Setup) (s new : SessionState) (key : ℕ) (deed : Deed) (o : CommandEnvironment) (told : Told) (found : Option Allocation) → s.bound key ≡ found → ServesAt setup key found deed o told s new → Serves setup (Under key deed) o told s new
 serves_at setup s new key deed o told found e h = subst (λ f. ServesAt setup key f deed o told s new) (sym e) h
 
 module _ {D : Type 0} (g : Ghosts D) where
   -- nothing is asked and nothing changes
-  pub served_quietly : (key : ℕ) (deed : Deed) (told : Told) (old : SessionValue D) (o : Chances) (found : Option Allocation) → o.call ≡ quiet.call → (session_of g old).bound key ≡ found
+  pub served_quietly : (key : ℕ) (deed : Deed) (told : Told) (old : SessionValue D) (o : CommandEnvironment) (found : Option Allocation) → o.call ≡ quiet.call → (session_of g old).bound key ≡ found
       → ServesAt old.allocator.setup key found deed o told (session_of g old) (session_of g old) → IsServed g (Under key deed) told old old
   served_quietly key deed told old o found met e h = record {
-    chances = o;
+    environment = o;
     serves = serves_at old.allocator.setup (session_of g old) (session_of g old) key deed o told found e h;
     count = ap (λ c. count_after (count_after (g.refused old.allocator.device) c.first.asked) c.second.asked) (sym met);
     latest = ap (λ c. latest_after (latest_after (g.latest old.allocator.device) c.first.asked) c.second.asked) (sym met);
@@ -42,27 +42,27 @@ module _ {D : Type 0} (g : Ghosts D) where
 
   -- a call that is no one number's
   pub asked : (call : model.Call) (reply : model.Reply) (told : Told) (old : SessionValue D) → told_by reply ≡ Some told → (step : IsStep g call reply old.allocator old.allocator)
-      → Asks old.allocator.setup call step.outcomes told (session_of g old) (session_of g old)
+      → Asks old.allocator.setup call step.environment told (session_of g old) (session_of g old)
   asked call reply told old is step = record { reply = reply; step = step.step; told_is = is; bound = refl }
 
 -- ---- runs
 
 -- a run goes on by one command
-pub runs_more : (setup : Setup) (s mid new : SessionState) (orders : List Order) (order : Order) (chances : List Chances) (o : Chances) (told : List Told) (t : Told)
-    → Runs setup s orders chances told mid → Serves setup order o t mid new → IsKept setup new → Runs setup s (orders ++ order ∷ []) (chances ++ o ∷ []) (told ++ t ∷ []) new
+pub runs_more : (setup : Setup) (s mid new : SessionState) (orders : List Order) (order : Order) (environment : List CommandEnvironment) (o : CommandEnvironment) (told : List Told) (t : Told)
+    → Runs setup s orders environment told mid → Serves setup order o t mid new → SessionInvariant setup new → Runs setup s (orders ++ order ∷ []) (environment ++ o ∷ []) (told ++ t ∷ []) new
 runs_more setup s mid new [] order [] o [] t same step own = (new, subst (λ x. Serves setup order o t x new) same step, own, refl)
 runs_more setup s mid new [] order [] o (t2 ∷ told) t run step own = absurd run
-runs_more setup s mid new [] order (o2 ∷ chances) o told t run step own = absurd run
+runs_more setup s mid new [] order (o2 ∷ environment) o told t run step own = absurd run
 runs_more setup s mid new (order2 ∷ orders) order [] o told t run step own = absurd run
-runs_more setup s mid new (order2 ∷ orders) order (o2 ∷ chances) o [] t run step own = absurd run
-runs_more setup s mid new (order2 ∷ orders) order (o2 ∷ chances) o (t2 ∷ told) t run step own =
-    (run.0, run.1, run.2, runs_more setup run.0 mid new orders order chances o told t run.3 step own)
+runs_more setup s mid new (order2 ∷ orders) order (o2 ∷ environment) o [] t run step own = absurd run
+runs_more setup s mid new (order2 ∷ orders) order (o2 ∷ environment) o (t2 ∷ told) t run step own =
+    (run.0, run.1, run.2, runs_more setup run.0 mid new orders order environment o told t run.3 step own)
 
-pub count_more : (n : ℕ) (cs : List Chances) (o : Chances) → count_over n (cs ++ o ∷ []) ≡ count_after (count_after (count_over n cs) o.call.first.asked) o.call.second.asked
+pub count_more : (n : ℕ) (cs : List CommandEnvironment) (o : CommandEnvironment) → count_over n (cs ++ o ∷ []) ≡ count_after (count_after (count_over n cs) o.call.first.asked) o.call.second.asked
 count_more n [] o = refl
 count_more n (c ∷ cs) o = count_more (count_after (count_after n c.call.first.asked) c.call.second.asked) cs o
 
-pub latest_more : (latest : Option MemoryAllocateInfo) (cs : List Chances) (o : Chances)
+pub latest_more : (latest : Option MemoryAllocateInfo) (cs : List CommandEnvironment) (o : CommandEnvironment)
     → latest_over latest (cs ++ o ∷ []) ≡ latest_after (latest_after (latest_over latest cs) o.call.first.asked) o.call.second.asked
 latest_more latest [] o = refl
 latest_more latest (c ∷ cs) o = latest_more (latest_after (latest_after latest c.call.first.asked) c.call.second.asked) cs o
@@ -76,10 +76,10 @@ map_take_more f xs i x lt at = ap (map f) (take_more xs i x lt ∙ ap (λ y. tak
 
 -- the blocks are sound and the numbers own their pieces, in the words of callers
 pub kept_at : {D : Type 0} (g : Ghosts D) (allocator : State D) (bound : List (ℕ × Allocation)) (s : SessionValue D) (setup : Setup) → record { allocator = allocator; bound = bound } ≡ s → s.allocator.setup ≡ setup
-    → AreAllSound allocator.setup.properties allocator.slots → IsOwn (session_of g (record { allocator = allocator; bound = bound })) → IsKept setup (session_of g s)
+    → BlocksWellFormed allocator.setup.properties.granularity allocator.slots → IsOwn (session_of g (record { allocator = allocator; bound = bound })) → SessionInvariant setup (session_of g s)
 kept_at g allocator bound s setup is same sound own =
-    subst (λ x. IsKept setup (session_of g x)) is (record {
-      sound = subst (λ z. AreAllSound z.properties allocator.slots) (ap (λ x. x.allocator.setup) is ∙ same) sound;
+    subst (λ x. SessionInvariant setup (session_of g x)) is (record {
+      sound = subst (λ z. BlocksWellFormed z.properties.granularity allocator.slots) (ap (λ x. x.allocator.setup) is ∙ same) sound;
       own = own;
     })
 

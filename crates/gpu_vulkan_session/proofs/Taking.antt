@@ -8,17 +8,17 @@ use Rattle.gpu_values.specs.declared.error.AllocationError.{AllocationError}
 use Rattle.gpu_device.specs.declared.vulkan.device.VulkanDevice.{Ghosts}
 use Rattle.gpu_device.specs.declared.vulkan.types.DeviceMemory.{DeviceMemory}
 use Rattle.gpu_device.specs.declared.vulkan.types.MemoryTypeInfo.{MemoryTypeInfo}
-use Rattle.gpu_allocator.specs.Allocate.{Allocates}
-use Rattle.gpu_allocator.specs.Blocks.{is_mapped, mapped_by, is_host_visible}
-use Rattle.gpu_allocator.specs.Describe.{is_own}
-use Rattle.gpu_allocator.specs.Lends.{number_in}
-use Rattle.gpu_allocator.specs.Live.{piece_of, IsGiven}
-use Rattle.gpu_allocator.specs.Setup.{Setup}
-use Rattle.gpu_allocator.specs.Step as model
-use Rattle.gpu_allocator.specs.Step.{IsAllocateStep, IsStep, Replies}
-use Rattle.gpu_allocator.specs.declared.vulkan.allocation.Allocation.{Allocation}
-use Rattle.gpu_allocator.specs.declared.vulkan.describe.AllocationCreateDesc.{AllocationCreateDesc}
-use Rattle.gpu_allocator.proofs.Untouched.{allocate_leaves}
+use Rattle.gpu_vulkan.specs.Allocate.{Allocates}
+use Rattle.gpu_vulkan.specs.Blocks.{is_mapped, mapped_by, is_host_visible}
+use Rattle.gpu_vulkan.specs.Describe.{is_own}
+use Rattle.gpu_vulkan.specs.Lends.{number_in}
+use Rattle.gpu_vulkan.specs.Live.{piece_of, IsGiven}
+use Rattle.gpu_vulkan.specs.Setup.{Setup}
+use Rattle.gpu_vulkan.specs.Step as model
+use Rattle.gpu_vulkan.specs.Step.{IsAllocateStep, IsStep, Replies}
+use Rattle.gpu_vulkan.specs.declared.allocation.Allocation.{Allocation}
+use Rattle.gpu_vulkan.specs.declared.describe.AllocationCreateDesc.{AllocationCreateDesc}
+use Rattle.gpu_vulkan.proofs.Untouched.{allocate_leaves}
 use Rattle.gpu_vulkan_session.specs.Session as orders
 use Rattle.gpu_vulkan_session.specs.Session.{Wanted, Describes, Shown, shown, Take, Under, bind, Bindings, AllocatesFor}
 use Rattle.gpu_vulkan_session.specs.Served.{SessionValue, session_of, shown_allocation, IsServed}
@@ -79,8 +79,8 @@ module _ {D : Type 0} (g : Ghosts D) (old new : SessionValue D) (key : ℕ) (w :
       let is = failed_reply old.allocator.setup d e s.reply s.replies in
       let step = subst (λ r. IsStep g (model.Allocate d) r old.allocator new.allocator) is s.step in
       record {
-        chances = record { room = true; call = step.outcomes };
-        serves = serves_at old.allocator.setup (session_of g old) (session_of g new) key (Take w) (record { room = true; call = step.outcomes }) (orders.Fails (refusal_of e)) None none (record {
+        environment = record { room = true; call = step.environment };
+        serves = serves_at old.allocator.setup (session_of g old) (session_of g new) key (Take w) (record { room = true; call = step.environment }) (orders.Fails (refusal_of e)) None none (record {
           description = d;
           describes = wants;
           reply = model.Fails (refusal_of e);
@@ -99,8 +99,8 @@ module _ {D : Type 0} (g : Ghosts D) (old new : SessionValue D) (key : ℕ) (w :
       let is = given_reply old.allocator.setup d a s.reply s.replies in
       let step = subst (λ r. IsStep g (model.Allocate d) r old.allocator new.allocator) is.2 s.step in
       record {
-        chances = record { room = true; call = step.outcomes };
-        serves = serves_at old.allocator.setup (session_of g old) (session_of g new) key (Take w) (record { room = true; call = step.outcomes }) told None none (record {
+        environment = record { room = true; call = step.environment };
+        serves = serves_at old.allocator.setup (session_of g old) (session_of g new) key (Take w) (record { room = true; call = step.environment }) told None none (record {
           description = d;
           describes = wants;
           reply = model.Given is.0 is.1;

@@ -7,19 +7,19 @@ use Rattle.std.proofs.lemmas.Bool.Decides.{nat_tests}
 use Rattle.gpu_core.specs.Refusal.{Refusal, host_out_of_memory}
 use Rattle.gpu_core.specs.declared.memory_type.Piece.{Piece}
 use Rattle.gpu_device.specs.declared.vulkan.types.DeviceMemory.{DeviceMemory}
-use Rattle.gpu_allocator.specs.Alike.{AlikeDescription, AlikeCall, AlikeReply}
-use Rattle.gpu_allocator.specs.Blocks.{Slots, is_mapped}
-use Rattle.gpu_allocator.specs.Buffers.{Place, Writes}
-use Rattle.gpu_allocator.specs.Live.{piece_of, null_allocation, IsLiveIn, IsLive, IsMapped}
-use Rattle.gpu_allocator.specs.Rename.{IsNamed}
-use Rattle.gpu_allocator.specs.Setup.{Setup}
-use Rattle.gpu_allocator.specs.Step as model
-use Rattle.gpu_allocator.specs.Step.{ModelState, Outcomes, Step, IsRead, place_of, place_in, FreeStep, RenameStep, WriteStep}
-use Rattle.gpu_allocator.specs.declared.vulkan.allocation.Allocation.{Allocation}
-use Rattle.gpu_allocator.specs.declared.vulkan.describe.AllocationCreateDesc.{AllocationCreateDesc}
-use Rattle.gpu_allocator.proofs.Alike.{step_alike}
-use Rattle.gpu_vulkan_session.specs.Session.{SessionState, IsKept, Wanted, Describes, Deed, Take, TakeNull, Return, Rename, Put, Get, Order, Under, Report, Leaks, Capacity, shown, Told, Given, Fine, Data, Busy, Unbound, Unmapped, Past, Fails, Chances, Stays, Binds, Takes, TakesNull, Returns, BindsNamed, Names, put_range, PutsIn, PutsOver, Puts, part_told, read_told, Gets, ServesBound, ServesFree, ServesAt, told_by, Asks, Serves, Runs}
-use Rattle.gpu_vulkan_session.specs.Laws.{AlikeDeed, AlikeOrder, AlikeChances, Written, everything, written_after, AlikeTold, AlikeReplies, TwoRuns}
+use Rattle.gpu_vulkan.specs.Alike.{AlikeDescription, AlikeCall, AlikeReply}
+use Rattle.gpu_vulkan.specs.Blocks.{Slots, is_mapped}
+use Rattle.gpu_vulkan.specs.ByteView.{AllocationId, Writes}
+use Rattle.gpu_vulkan.specs.Live.{piece_of, null_allocation, IsLiveIn, IsLive, IsMapped}
+use Rattle.gpu_vulkan.specs.Rename.{IsNamed}
+use Rattle.gpu_vulkan.specs.Setup.{Setup}
+use Rattle.gpu_vulkan.specs.Step as model
+use Rattle.gpu_vulkan.specs.Step.{ModelState, CallEnvironment, Step, IsRead, id_of, id_in, FreeStep, RenameStep, WriteStep}
+use Rattle.gpu_vulkan.specs.declared.allocation.Allocation.{Allocation}
+use Rattle.gpu_vulkan.specs.declared.describe.AllocationCreateDesc.{AllocationCreateDesc}
+use Rattle.gpu_vulkan.proofs.Alike.{step_alike}
+use Rattle.gpu_vulkan_session.specs.Session.{SessionState, SessionInvariant, Wanted, Describes, Deed, Take, TakeNull, Return, Rename, Put, Get, Order, Under, Report, Leaks, Capacity, shown, Told, Given, Fine, Data, Busy, Unbound, Unmapped, Past, Fails, CommandEnvironment, Stays, Binds, Takes, TakesNull, Returns, BindsNamed, Names, put_range, PutsIn, PutsOver, Puts, part_told, read_told, Gets, ServesBound, ServesFree, ServesAt, told_by, Asks, Serves, Runs}
+use Rattle.gpu_vulkan_session.specs.Laws.{AlikeDeed, AlikeOrder, AlikeCommandEnvironment, Written, everything, written_after, AlikeTold, AlikeReplies, TwoRuns}
 use Rattle.gpu_vulkan_session.proofs.Binding.{bound_here}
 use Rattle.gpu_vulkan_session.proofs.Owning.{null_dead, some_same, none_some, freed_null}
 use Rattle.gpu_vulkan_session.proofs.Changes.{Gained, Lost, gained, not_gained, place_piece, lost, named_bytes, shown_same, told_same, summed_same}
@@ -33,23 +33,23 @@ live_piece a None slots e live = absurd (null_dead slots a e live)
 live_piece a (Some p) slots e live = (p, e)
 
 -- a live piece's place is its handle's
-same_place_of : (a b : Allocation) (slots : Slots) → handle a ≡ handle b → IsLive slots a → place_of a ≡ place_of b
+same_place_of : (a b : Allocation) (slots : Slots) → handle a ≡ handle b → IsLive slots a → id_of a ≡ id_of b
 same_place_of a b slots same live =
     let p = live_piece a (piece_of a) slots refl live in
     let q : piece_of b ≡ Some p.0 = sym (ap (λ h. h.piece) same) ∙ p.1 in
-    place_piece a p.0 p.1 ∙ ap (λ t. place_in t p.0) (ap (λ h. h.memory_type) same) ∙ sym (place_piece b p.0 q)
+    place_piece a p.0 p.1 ∙ ap (λ t. id_in t p.0) (ap (λ h. h.memory_type) same) ∙ sym (place_piece b p.0 q)
 
-free_as : (setup : Setup) (a b : Allocation) (o : Outcomes) (s new : ModelState) → handle a ≡ handle b → Step setup (model.Free b) o model.Done s new → Step setup (model.Free a) o model.Done s new
+free_as : (setup : Setup) (a b : Allocation) (o : CallEnvironment) (s new : ModelState) → handle a ≡ handle b → Step setup (model.Free b) o model.Done s new → Step setup (model.Free a) o model.Done s new
 free_as setup a b o s new same h = (h.0, subst (λ z. FreeStep z.memory_type z.piece model.Done s new) (sym same) h.1)
 
-rename_as : (setup : Setup) (a b : Allocation) (name : List ℕ) (o : Outcomes) (reply : model.Reply) (s new : ModelState) → handle a ≡ handle b → Step setup (model.Rename b name) o reply s new → Step setup (model.Rename a name) o reply s new
+rename_as : (setup : Setup) (a b : Allocation) (name : List ℕ) (o : CallEnvironment) (reply : model.Reply) (s new : ModelState) → handle a ≡ handle b → Step setup (model.Rename b name) o reply s new → Step setup (model.Rename a name) o reply s new
 rename_as setup a b name o reply s new same h = (h.0, subst (λ z. RenameStep z.memory_type z.piece name o.first.host reply s new) (sym same) h.1)
 
 named_handle : (a b : Allocation) (name : List ℕ) → IsNamed a name b → handle b ≡ handle a
 named_handle a b name h = ap handle h.others
 
-named_place : (a b : Allocation) (name : List ℕ) → IsNamed a name b → place_of b ≡ place_of a
-named_place a b name h = ap place_of h.others
+named_place : (a b : Allocation) (name : List ℕ) → IsNamed a name b → id_of b ≡ id_of a
+named_place a b name h = ap id_of h.others
 
 same_description : (d e : AllocationCreateDesc) (w : Wanted) → Describes d w → Describes e w → AlikeDescription d e
 same_description d e w x y = record {
@@ -69,13 +69,13 @@ pub record BothRead (s t : SessionState) (a b : Allocation) (x y : Option (List 
   pub left : x ≡ Some xs
   pub right : y ≡ Some ys
   pub live : IsLive s.model.slots a
-  pub here : s.model.buffers.lists (place_of a) ≡ Some xs
-  pub there : t.model.buffers.lists (place_of a) ≡ Some ys
-  pub place : place_of a ≡ place_of b
+  pub here : s.model.buffers.lists (id_of a) ≡ Some xs
+  pub there : t.model.buffers.lists (id_of a) ≡ Some ys
+  pub place : id_of a ≡ id_of b
   pub long : length xs ≡ length ys
 
 module _ (setup : Setup) (s t : SessionState) (a b : Allocation) (same : handle a ≡ handle b) (slots : s.model.slots ≡ t.model.slots)
-    (sizes : (q : Place) → option_map length (s.model.buffers.lists q) ≡ option_map length (t.model.buffers.lists q)) where
+    (sizes : (q : AllocationId) → option_map length (s.model.buffers.lists q) ≡ option_map length (t.model.buffers.lists q)) where
   mapped_there : IsMapped setup.properties s.model.slots a → IsMapped setup.properties t.model.slots b
   mapped_there m = (
     subst (λ z. IsLiveIn t.model.slots z.memory_type z.piece) same (subst (λ z. IsLive z a) slots m.0),
@@ -104,7 +104,7 @@ module _ (setup : Setup) (s t : SessionState) (a b : Allocation) (same : handle 
         here = h.1;
         there = there;
         place = place;
-        long = some_same (length xs) (length ys) (sym (ap (option_map length) h.1) ∙ sizes (place_of a) ∙ ap (option_map length) there);
+        long = some_same (length xs) (length ys) (sym (ap (option_map length) h.1) ∙ sizes (id_of a) ∙ ap (option_map length) there);
       })
 
 -- ---- one command of each run
@@ -113,7 +113,7 @@ pub record Next (ours : ℕ → Bool) (written : Written) (order : Order) (told 
   pub told_alike : AlikeTold ours written order told untold
   pub alike : Alike ours (written_after order told written) new next
 
-module _ (ours : ℕ → Bool) (written : Written) (setup : Setup) (s t new next : SessionState) (o p : Chances) (told untold : Told) (kept : IsKept setup s) (kept_new : IsKept setup new) (alike : Alike ours written s t) (met : AlikeChances o p) where
+module _ (ours : ℕ → Bool) (written : Written) (setup : Setup) (s t new next : SessionState) (o p : CommandEnvironment) (told untold : Told) (kept : SessionInvariant setup s) (kept_new : SessionInvariant setup new) (alike : Alike ours written s t) (met : AlikeCommandEnvironment o p) where
   next_at : (order : Order) (x y : Told) → told ≡ x → untold ≡ y → AlikeTold ours written order x y → Alike ours (written_after order x written) new next → Next ours written order told untold new next
   next_at order x y e f same now =
       subst (λ z. Next ours written order z untold new next) (sym e) (subst (λ z. Next ours written order x z new next) (sym f) (record { told_alike = same; alike = now }))
@@ -132,7 +132,7 @@ module _ (ours : ℕ → Bool) (written : Written) (setup : Setup) (s t new next
   given_both key u w d e q slots h k b c =
       let one = b.0 in
       let two = c.0 in
-      let place : place_of one ≡ place_in u q = place_piece one q b.1.piece ∙ ap (λ z. place_in z q) b.1.memory_type in
+      let place : id_of one ≡ id_in u q = place_piece one q b.1.piece ∙ ap (λ z. id_in z q) b.1.memory_type in
       let same : handle one ≡ handle two = (λ i. record { memory_type = (b.1.memory_type ∙ sym c.1.memory_type) i; piece = (b.1.piece ∙ sym c.1.piece) i }) in
       let m = subst (λ r. Gained (is_mapped setup.properties u) r q.size s.model.buffers new.model.buffers) (sym place) (gained setup d u o.call q s.model new.model h) in
       let n = subst (λ r. Gained (is_mapped setup.properties u) r q.size t.model.buffers next.model.buffers) (sym place) (gained setup e u p.call q t.model next.model k) in
@@ -342,7 +342,7 @@ module _ (ours : ℕ → Bool) (written : Written) (setup : Setup) (s t new next
   told_both model.Done y u v same e f = absurd (none_some u e)
   told_both (model.Bytes xs) y u v same e f = absurd (none_some u e)
 
-  asks_both : (call : model.Call) → ((o : Outcomes) (reply : model.Reply) (old now : ModelState) → Step setup call o reply old now → now ≡ old)
+  asks_both : (call : model.Call) → ((o : CallEnvironment) (reply : model.Reply) (old now : ModelState) → Step setup call o reply old now → now ≡ old)
       → ((x y : model.Reply) → Step setup call o.call x s.model new.model → Step setup call p.call y t.model next.model → AlikeReply x y × (new.model.slots ≡ next.model.slots))
       → Asks setup call o.call told s new → Asks setup call p.call untold t next → (told ≡ untold) × Alike ours written new next
   asks_both call stays law h k =
@@ -376,8 +376,8 @@ module _ (ours : ℕ → Bool) (written : Written) (setup : Setup) (s t new next
 
 -- ---- whole runs
 
-runs_alike : (ours : ℕ → Bool) (written : Written) (setup : Setup) (s t end other_end : SessionState) (orders others : List Order) (o p : List Chances) (told untold : List Told) → IsKept setup s → Alike ours written s t
-    → AllZip (AlikeOrder ours) orders others → AllZip AlikeChances o p → Runs setup s orders o told end → Runs setup t others p untold other_end → AlikeReplies ours written orders told untold
+runs_alike : (ours : ℕ → Bool) (written : Written) (setup : Setup) (s t end other_end : SessionState) (orders others : List Order) (o p : List CommandEnvironment) (told untold : List Told) → SessionInvariant setup s → Alike ours written s t
+    → AllZip (AlikeOrder ours) orders others → AllZip AlikeCommandEnvironment o p → Runs setup s orders o told end → Runs setup t others p untold other_end → AlikeReplies ours written orders told untold
 runs_alike ours written setup s t end other_end [] [] [] [] [] [] kept a x c h k = tt
 runs_alike ours written setup s t end other_end [] [] [] [] [] (v ∷ untold) kept a x c h k = absurd k
 runs_alike ours written setup s t end other_end [] [] [] [] (u ∷ told) untold kept a x c h k = absurd h

@@ -1,9 +1,9 @@
 -- Two runs that differ in the bytes of others alone.
 use Rattle.std.specs.Prelude.{◌≡◌, ℕ, ◌+◌, ◌<◌, ◌==◌, ◌&&◌, nat_le, nat_lt, List, [], ◌∷◌, length, slice_get, Bool, true, false, if◌then◌else◌}
 use Rattle.std.specs.List.{AllZip}
-use Rattle.gpu_allocator.specs.Alike.{AlikeOutcomes}
-use Rattle.gpu_allocator.specs.Setup.{Setup}
-use Rattle.gpu_vulkan_session.specs.Session.{SessionState, IsKept, Deed, Take, Put, Get, Order, Under, Told, Given, Fine, Data, Chances, Runs}
+use Rattle.gpu_vulkan.specs.Alike.{AlikeCallEnvironment}
+use Rattle.gpu_vulkan.specs.Setup.{Setup}
+use Rattle.gpu_vulkan_session.specs.Session.{SessionState, SessionInvariant, Deed, Take, Put, Get, Order, Under, Told, Given, Fine, Data, CommandEnvironment, Runs}
 
 -- the same, or a write of as many bytes, which are the same under a number that is ours
 abbrev pub AlikeDeed : (ours : Bool) → Deed → Deed → Type 0
@@ -14,10 +14,10 @@ abbrev pub AlikeOrder : (ours : ℕ → Bool) → Order → Order → Type 0
 AlikeOrder ours (Under key deed) (Under other to) = (key ≡ other) × AlikeDeed (ours key) deed to
 AlikeOrder ours order other = order ≡ other
 
--- the same chances, but for the bytes that newly mapped blocks hold
-pub record AlikeChances (o p : Chances) : Type 0 where
+-- the same environment, but for the bytes that newly mapped blocks hold
+pub record AlikeCommandEnvironment (o p : CommandEnvironment) : Type 0 where
   pub room : o.room ≡ p.room
-  pub call : AlikeOutcomes o.call p.call
+  pub call : AlikeCallEnvironment o.call p.call
 
 -- Of which places of the allocations under which numbers the bytes were written under that number since the allocation was given.
 -- An allocation that is live at the beginning counts as written throughout.
@@ -49,10 +49,10 @@ AlikeReplies ours written _ _ _ = ⊥
 
 abbrev pub TwoRuns : Type 0
 TwoRuns =
-    (ours : ℕ → Bool) (setup : Setup) (start end other_end : SessionState) (orders others : List Order) (o p : List Chances) (told untold : List Told)
-    → IsKept setup start
+    (ours : ℕ → Bool) (setup : Setup) (start end other_end : SessionState) (orders others : List Order) (o p : List CommandEnvironment) (told untold : List Told)
+    → SessionInvariant setup start
     → AllZip (AlikeOrder ours) orders others
-    → AllZip AlikeChances o p
+    → AllZip AlikeCommandEnvironment o p
     → Runs setup start orders o told end
     → Runs setup start others p untold other_end
     → AlikeReplies ours everything orders told untold

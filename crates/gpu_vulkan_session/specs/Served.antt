@@ -6,12 +6,12 @@ use Rattle.gpu_core.specs.Refusal.{refusal_of}
 use Rattle.gpu_core.specs.Report.{report_of}
 use Rattle.gpu_device.specs.declared.vulkan.device.VulkanDevice.{Ghosts}
 use Rattle.gpu_device.specs.declared.vulkan.types.MemoryAllocateInfo.{MemoryAllocateInfo}
-use Rattle.gpu_allocator.specs.Lends.{number_in}
-use Rattle.gpu_allocator.specs.State.{State}
-use Rattle.gpu_allocator.specs.Untouched.{LeavesMemory}
-use Rattle.gpu_allocator.specs.Step.{model_of, count_after, latest_after}
-use Rattle.gpu_allocator.specs.declared.vulkan.allocation.Allocation.{Allocation}
-use Rattle.gpu_vulkan_session.specs.Session.{SessionState, Order, Shown, Told, Chances, Take, TakeNull, Return, Rename, Put, Get, Under, Report, Leaks, Capacity, Given, Fine, Data, Shows, Tells, Sum, Busy, Unbound, Unmapped, Past, Fails, Serves, Runs}
+use Rattle.gpu_vulkan.specs.Lends.{number_in}
+use Rattle.gpu_vulkan.specs.State.{State}
+use Rattle.gpu_vulkan.specs.Untouched.{LeavesMemory}
+use Rattle.gpu_vulkan.specs.Step.{model_of, count_after, latest_after}
+use Rattle.gpu_vulkan.specs.declared.allocation.Allocation.{Allocation}
+use Rattle.gpu_vulkan_session.specs.Session.{SessionState, Order, Shown, Told, CommandEnvironment, Take, TakeNull, Return, Rename, Put, Get, Under, Report, Leaks, Capacity, Given, Fine, Data, Shows, Tells, Sum, Busy, Unbound, Unmapped, Past, Fails, Serves, Runs}
 use Rattle.gpu_session_values.specs.declared.command.Command.{Command}
 use Rattle.gpu_session_values.specs.declared.command.Command.TheVariants as commands
 use Rattle.gpu_session_values.specs.declared.reply.Reply.{Reply}
@@ -76,12 +76,12 @@ abbrev pub session_of : {D : Type 0} → Ghosts D → SessionValue D → Session
 session_of g s = record { bound = λ key. lookup (nat_eq key) s.bound; model = model_of g s.allocator }
 
 -- the device's count of refusals after all questions of a run
-abbrev pub count_over : ℕ → List Chances → ℕ
+abbrev pub count_over : ℕ → List CommandEnvironment → ℕ
 count_over count [] = count
 count_over count (o ∷ os) = count_over (count_after (count_after count o.call.first.asked) o.call.second.asked) os
 
 -- the device's latest question after all questions of a run
-abbrev pub latest_over : Option MemoryAllocateInfo → List Chances → Option MemoryAllocateInfo
+abbrev pub latest_over : Option MemoryAllocateInfo → List CommandEnvironment → Option MemoryAllocateInfo
 latest_over latest [] = latest
 latest_over latest (o ∷ os) = latest_over (latest_after (latest_after latest o.call.first.asked) o.call.second.asked) os
 
@@ -89,22 +89,22 @@ abbrev pub is_write : Order → Bool
 is_write (Under key (Put at bytes)) = true
 is_write order = false
 
--- A command is served at some chances, and their refusals and questions are what the device counts and names. Unless it is a
+-- A command is served at some environment, and their refusals and questions are what the device counts and names. Unless it is a
 -- write, it changes no byte of memory that is held before and after.
 pub record IsServed {D : Type 0} (g : Ghosts D) (order : Order) (told : Told) (old new : SessionValue D) : Type 0 where
-  pub chances : Chances
-  pub serves : Serves old.allocator.setup order chances told (session_of g old) (session_of g new)
-  pub count : g.refused new.allocator.device ≡ count_after (count_after (g.refused old.allocator.device) chances.call.first.asked) chances.call.second.asked
-  pub latest : g.latest new.allocator.device ≡ latest_after (latest_after (g.latest old.allocator.device) chances.call.first.asked) chances.call.second.asked
+  pub environment : CommandEnvironment
+  pub serves : Serves old.allocator.setup order environment told (session_of g old) (session_of g new)
+  pub count : g.refused new.allocator.device ≡ count_after (count_after (g.refused old.allocator.device) environment.call.first.asked) environment.call.second.asked
+  pub latest : g.latest new.allocator.device ≡ latest_after (latest_after (g.latest old.allocator.device) environment.call.first.asked) environment.call.second.asked
   pub untouched : is_write order ≡ false → LeavesMemory (g.held old.allocator.device) (g.held new.allocator.device)
   pub constant : (new.allocator.setup ≡ old.allocator.setup) × (new.allocator.first ≡ old.allocator.first)
 
--- the replies are those of a run at some chances, whose refusals and questions are what the device counts and names
+-- the replies are those of a run at some environment, whose refusals and questions are what the device counts and names
 pub record IsRun {D : Type 0} (g : Ghosts D) (orders : List Order) (told : List Told) (old new : SessionValue D) : Type 0 where
-  pub chances : List Chances
-  pub runs : Runs old.allocator.setup (session_of g old) orders chances told (session_of g new)
-  pub count : g.refused new.allocator.device ≡ count_over (g.refused old.allocator.device) chances
-  pub latest : g.latest new.allocator.device ≡ latest_over (g.latest old.allocator.device) chances
+  pub environment : List CommandEnvironment
+  pub runs : Runs old.allocator.setup (session_of g old) orders environment told (session_of g new)
+  pub count : g.refused new.allocator.device ≡ count_over (g.refused old.allocator.device) environment
+  pub latest : g.latest new.allocator.device ≡ latest_over (g.latest old.allocator.device) environment
   pub constant : (new.allocator.setup ≡ old.allocator.setup) × (new.allocator.first ≡ old.allocator.first)
 
 -- the commands are served one after another

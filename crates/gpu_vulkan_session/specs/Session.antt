@@ -8,16 +8,17 @@ use Rattle.gpu_core.specs.declared.memory_type.Piece.{Piece}
 use Rattle.gpu_device.specs.declared.vulkan.types.AllocationScheme.{AllocationScheme}
 use Rattle.gpu_device.specs.declared.vulkan.types.DeviceMemory.{DeviceMemory}
 use Rattle.gpu_device.specs.declared.vulkan.types.MemoryRequirements.{MemoryRequirements}
-use Rattle.gpu_allocator.specs.Blocks.{is_mapped, AreAllSound}
-use Rattle.gpu_allocator.specs.Describe.{is_own}
-use Rattle.gpu_allocator.specs.Lends.{IsOther}
-use Rattle.gpu_allocator.specs.Live.{piece_of, null_allocation, IsLive, IsGiven}
-use Rattle.gpu_allocator.specs.Rename.{IsNamed}
-use Rattle.gpu_allocator.specs.Setup.{Setup}
-use Rattle.gpu_allocator.specs.Step as model
-use Rattle.gpu_allocator.specs.Step.{ModelState, Outcomes, MeetsNothing, IsRead, Step}
-use Rattle.gpu_allocator.specs.declared.vulkan.allocation.Allocation.{Allocation}
-use Rattle.gpu_allocator.specs.declared.vulkan.describe.AllocationCreateDesc.{AllocationCreateDesc}
+use Rattle.gpu_vulkan.specs.Blocks.{is_mapped}
+use Rattle.gpu_memory_types.specs.Blocks.{BlocksWellFormed}
+use Rattle.gpu_vulkan.specs.Describe.{is_own}
+use Rattle.gpu_vulkan.specs.Lends.{AreDistinct}
+use Rattle.gpu_vulkan.specs.Live.{piece_of, null_allocation, IsLive, IsGiven}
+use Rattle.gpu_vulkan.specs.Rename.{IsNamed}
+use Rattle.gpu_vulkan.specs.Setup.{Setup}
+use Rattle.gpu_vulkan.specs.Step as model
+use Rattle.gpu_vulkan.specs.Step.{ModelState, CallEnvironment, MeetsNothing, IsRead, Step}
+use Rattle.gpu_vulkan.specs.declared.allocation.Allocation.{Allocation}
+use Rattle.gpu_vulkan.specs.declared.describe.AllocationCreateDesc.{AllocationCreateDesc}
 
 -- ---- states
 
@@ -40,7 +41,7 @@ bind bound key to k = if key == k then to else bound k
 pub record IsOwn (s : SessionState) : Type 0 where
   pub live : (key : ℕ) (a : Allocation) → s.bound key ≡ Some a → (piece_of a ≡ None) ⊎ IsLive s.model.slots a
   pub apart : (key other : ℕ) (a b : Allocation) → s.bound key ≡ Some a → s.bound other ≡ Some b
-      → IsLive s.model.slots a → IsLive s.model.slots b → key ≢ other → IsOther a b
+      → IsLive s.model.slots a → IsLive s.model.slots b → key ≢ other → AreDistinct a b
 
 -- ---- what is asked and told
 
@@ -112,14 +113,14 @@ pub data Told : Type 0 where
   Fails : (refusal : Refusal) → Told
 
 -- what a command meets with: host memory for the session's own room, and what its call of the allocator meets with
-pub record Chances : Type 0 where
+pub record CommandEnvironment : Type 0 where
   pub room : Bool
-  pub call : Outcomes
+  pub call : CallEnvironment
 
 -- ---- commands
 
 -- no call is made, and nothing changes
-abbrev pub Stays : Chances → SessionState → SessionState → Type 0
+abbrev pub Stays : CommandEnvironment → SessionState → SessionState → Type 0
 Stays o old new = MeetsNothing o.call × (new ≡ old)
 
 -- what the allocator's reply to a request binds and tells
@@ -128,7 +129,7 @@ Binds setup key w d (model.Given t p) told old new = (a : Allocation) × IsGiven
 Binds setup key w d (model.Fails r) told old new = (told ≡ Fails r) × (new ≡ old)
 Binds setup key w d _ told old new = ⊥
 
-pub record AllocatesFor (setup : Setup) (key : ℕ) (w : Wanted) (o : Outcomes) (told : Told) (old new : SessionState) : Type 0 where
+pub record AllocatesFor (setup : Setup) (key : ℕ) (w : Wanted) (o : CallEnvironment) (told : Told) (old new : SessionState) : Type 0 where
   pub description : AllocationCreateDesc
   pub describes : Describes description w
   pub reply : model.Reply
@@ -136,7 +137,7 @@ pub record AllocatesFor (setup : Setup) (key : ℕ) (w : Wanted) (o : Outcomes) 
   pub binds : Binds setup key w description reply told old.bound new.bound
 
 -- a request under a free number: first room is made for the number
-abbrev pub Takes : Setup → (key : ℕ) → Wanted → (room : Bool) → Outcomes → Told → SessionState → SessionState → Type 0
+abbrev pub Takes : Setup → (key : ℕ) → Wanted → (room : Bool) → CallEnvironment → Told → SessionState → SessionState → Type 0
 Takes setup key w false o told old new = MeetsNothing o × (told ≡ Fails host_out_of_memory) × (new ≡ old)
 Takes setup key w true o told old new = AllocatesFor setup key w o told old new
 
@@ -145,7 +146,7 @@ abbrev pub TakesNull : (key : ℕ) → (room : Bool) → Told → SessionState �
 TakesNull key false told old new = (told ≡ Fails host_out_of_memory) × (new ≡ old)
 TakesNull key true told old new = (told ≡ Fine) × (new ≡ record old { bound = bind old.bound key (Some null_allocation) })
 
-pub record Returns (setup : Setup) (key : ℕ) (a : Allocation) (o : Outcomes) (told : Told) (old new : SessionState) : Type 0 where
+pub record Returns (setup : Setup) (key : ℕ) (a : Allocation) (o : CallEnvironment) (told : Told) (old new : SessionState) : Type 0 where
   pub fine : told ≡ Fine
   pub step : Step setup (model.Free a) o model.Done old.model new.model
   pub bound : new.bound ≡ bind old.bound key None
@@ -156,7 +157,7 @@ BindsNamed key a name model.Done told old new = (told ≡ Fine) × ((b : Allocat
 BindsNamed key a name (model.Fails r) told old new = (told ≡ Fails r) × (new ≡ old)
 BindsNamed key a name _ told old new = ⊥
 
-pub record Names (setup : Setup) (key : ℕ) (a : Allocation) (name : List ℕ) (o : Outcomes) (told : Told) (old new : SessionState) : Type 0 where
+pub record Names (setup : Setup) (key : ℕ) (a : Allocation) (name : List ℕ) (o : CallEnvironment) (told : Told) (old new : SessionState) : Type 0 where
   pub reply : model.Reply
   pub step : Step setup (model.Rename a name) o reply old.model new.model
   pub binds : BindsNamed key a name reply told old.bound new.bound
@@ -166,16 +167,16 @@ abbrev pub put_range : List ℕ → (at : ℕ) → List ℕ → List ℕ
 put_range bytes at others = take at bytes ++ (others ++ drop (at + length others) bytes)
 
 -- other bytes over those of an allocation, where they fit
-abbrev pub PutsIn : Setup → Allocation → (at : ℕ) → List ℕ → List ℕ → (fits : Bool) → Chances → Told → SessionState → SessionState → Type 0
+abbrev pub PutsIn : Setup → Allocation → (at : ℕ) → List ℕ → List ℕ → (fits : Bool) → CommandEnvironment → Told → SessionState → SessionState → Type 0
 PutsIn setup a at others bytes false o told old new = (told ≡ Past) × Stays o old new
 PutsIn setup a at others bytes true o told old new =
     (told ≡ Fine) × Step setup (model.Write a (put_range bytes at others)) o.call model.Done old.model new.model × (new.bound ≡ old.bound)
 
-abbrev pub PutsOver : Setup → Allocation → (at : ℕ) → List ℕ → Option (List ℕ) → Chances → Told → SessionState → SessionState → Type 0
+abbrev pub PutsOver : Setup → Allocation → (at : ℕ) → List ℕ → Option (List ℕ) → CommandEnvironment → Told → SessionState → SessionState → Type 0
 PutsOver setup a at others None o told old new = (told ≡ Unmapped) × Stays o old new
 PutsOver setup a at others (Some bytes) o told old new = PutsIn setup a at others bytes (nat_le (at + length others) (length bytes)) o told old new
 
-abbrev pub Puts : Setup → Allocation → (at : ℕ) → List ℕ → Chances → Told → SessionState → SessionState → Type 0
+abbrev pub Puts : Setup → Allocation → (at : ℕ) → List ℕ → CommandEnvironment → Told → SessionState → SessionState → Type 0
 Puts setup a at others o told old new = (bytes : Option (List ℕ)) × IsRead setup a old.model bytes × PutsOver setup a at others bytes o told old new
 
 -- what a read is told, where there is room for its bytes or isn't
@@ -187,11 +188,11 @@ abbrev pub read_told : (room : Bool) → (at size : ℕ) → Option (List ℕ) �
 read_told room at size None = Unmapped
 read_told room at size (Some bytes) = if nat_le (at + size) (length bytes) then part_told room (take size (drop at bytes)) else Past
 
-abbrev pub Gets : Setup → Allocation → (at size : ℕ) → Chances → Told → SessionState → SessionState → Type 0
+abbrev pub Gets : Setup → Allocation → (at size : ℕ) → CommandEnvironment → Told → SessionState → SessionState → Type 0
 Gets setup a at size o told old new = (bytes : Option (List ℕ)) × IsRead setup a old.model bytes × (told ≡ read_told o.room at size bytes) × Stays o old new
 
 -- under a number that stands for an allocation
-abbrev pub ServesBound : Setup → (key : ℕ) → Allocation → Deed → Chances → Told → SessionState → SessionState → Type 0
+abbrev pub ServesBound : Setup → (key : ℕ) → Allocation → Deed → CommandEnvironment → Told → SessionState → SessionState → Type 0
 ServesBound setup key a (Take w) o told old new = (told ≡ Busy) × Stays o old new
 ServesBound setup key a TakeNull o told old new = (told ≡ Busy) × Stays o old new
 ServesBound setup key a Return o told old new = Returns setup key a o.call told old new
@@ -200,7 +201,7 @@ ServesBound setup key a (Put at bytes) o told old new = Puts setup a at bytes o 
 ServesBound setup key a (Get at size) o told old new = Gets setup a at size o told old new
 
 -- under a number that stands for nothing
-abbrev pub ServesFree : Setup → (key : ℕ) → Deed → Chances → Told → SessionState → SessionState → Type 0
+abbrev pub ServesFree : Setup → (key : ℕ) → Deed → CommandEnvironment → Told → SessionState → SessionState → Type 0
 ServesFree setup key (Take w) o told old new = Takes setup key w o.room o.call told old new
 ServesFree setup key TakeNull o told old new = MeetsNothing o.call × TakesNull key o.room told old new
 ServesFree setup key Return o told old new = (told ≡ Unbound) × Stays o old new
@@ -208,7 +209,7 @@ ServesFree setup key (Rename name) o told old new = (told ≡ Unbound) × Stays 
 ServesFree setup key (Put at bytes) o told old new = (told ≡ Unbound) × Stays o old new
 ServesFree setup key (Get at size) o told old new = (told ≡ Unbound) × Stays o old new
 
-abbrev pub ServesAt : Setup → (key : ℕ) → Option Allocation → Deed → Chances → Told → SessionState → SessionState → Type 0
+abbrev pub ServesAt : Setup → (key : ℕ) → Option Allocation → Deed → CommandEnvironment → Told → SessionState → SessionState → Type 0
 ServesAt setup key None deed o told old new = ServesFree setup key deed o told old new
 ServesAt setup key (Some a) deed o told old new = ServesBound setup key a deed o told old new
 
@@ -222,14 +223,14 @@ told_by (model.Sum n) = Some (Sum n)
 told_by (model.Shows report) = Some (Shows report)
 told_by (model.Tells texts) = Some (Tells texts)
 
-pub record Asks (setup : Setup) (call : model.Call) (o : Outcomes) (told : Told) (old new : SessionState) : Type 0 where
+pub record Asks (setup : Setup) (call : model.Call) (o : CallEnvironment) (told : Told) (old new : SessionState) : Type 0 where
   pub reply : model.Reply
   pub step : Step setup call o reply old.model new.model
   pub told_is : told_by reply ≡ Some told
   pub bound : new.bound ≡ old.bound
 
--- from old, the command may be told this and leave new, where it meets with these chances
-abbrev pub Serves : Setup → Order → Chances → Told → SessionState → SessionState → Type 0
+-- from old, the command may be told this and leave new, where it meets with these environment
+abbrev pub Serves : Setup → Order → CommandEnvironment → Told → SessionState → SessionState → Type 0
 Serves setup (Under key deed) o told old new = ServesAt setup key (old.bound key) deed o told old new
 Serves setup Report o told old new = Asks setup model.Report o.call told old new
 Serves setup Leaks o told old new = Asks setup model.Leaks o.call told old new
@@ -238,12 +239,12 @@ Serves setup Capacity o told old new = Asks setup model.Capacity o.call told old
 -- ---- runs
 
 -- the blocks are sound, and the numbers own their pieces
-pub record IsKept (setup : Setup) (s : SessionState) : Type 0 where
-  pub sound : AreAllSound setup.properties s.model.slots
+pub record SessionInvariant (setup : Setup) (s : SessionState) : Type 0 where
+  pub sound : BlocksWellFormed setup.properties.granularity s.model.slots
   pub own : IsOwn s
 
 -- a list of commands, each from the state that the one before it left
-abbrev pub Runs : Setup → SessionState → List Order → List Chances → List Told → SessionState → Type 0
+abbrev pub Runs : Setup → SessionState → List Order → List CommandEnvironment → List Told → SessionState → Type 0
 Runs setup old [] [] [] new = new ≡ old
-Runs setup old (order ∷ orders) (o ∷ os) (told ∷ tolds) new = (mid : SessionState) × Serves setup order o told old mid × IsKept setup mid × Runs setup mid orders os tolds new
+Runs setup old (order ∷ orders) (o ∷ os) (told ∷ tolds) new = (mid : SessionState) × Serves setup order o told old mid × SessionInvariant setup mid × Runs setup mid orders os tolds new
 Runs setup old _ _ _ new = ⊥

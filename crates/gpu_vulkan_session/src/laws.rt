@@ -1,11 +1,11 @@
 //! Laws of sessions, each the contract of a function that does nothing.
 
 ghost use Rattle.std.specs.Prelude.{◌≡◌, ◌≢◌, ℕ, List, Some};
-ghost use Rattle.gpu_allocator.specs.Live.{IsLive};
-ghost use Rattle.gpu_allocator.specs.Setup.{Setup};
-ghost use Rattle.gpu_allocator.specs.Step.{place_of};
-ghost use Rattle.gpu_allocator.specs.declared.vulkan.allocation.Allocation.{Allocation};
-ghost use Rattle.gpu_vulkan_session.specs.Session.{SessionState, IsOwn, Under, Put, Chances, Told, Serves};
+ghost use Rattle.gpu_vulkan.specs.Live.{IsLive};
+ghost use Rattle.gpu_vulkan.specs.Setup.{Setup};
+ghost use Rattle.gpu_vulkan.specs.Step.{id_of};
+ghost use Rattle.gpu_vulkan.specs.declared.allocation.Allocation.{Allocation};
+ghost use Rattle.gpu_vulkan_session.specs.Session.{SessionState, IsOwn, Under, Put, CommandEnvironment, Told, Serves};
 ghost use Rattle.gpu_vulkan_session.specs.Laws.{TwoRuns};
 
 /// What others write changes nothing of ours. Take a set of the caller's numbers, ours, and two lists of commands that differ
@@ -19,7 +19,7 @@ pub fn two_runs()
 
 /// A write under one number leaves the bytes of every other number's live allocation.
 pub fn writes_are_apart()
-    ensures { (setup : Setup) (key other at : ℕ) (bytes : List ℕ) (o : Chances) (told : Told) (old new : SessionState) (b : Allocation) → IsOwn old
+    ensures { (setup : Setup) (key other at : ℕ) (bytes : List ℕ) (o : CommandEnvironment) (told : Told) (old new : SessionState) (b : Allocation) → IsOwn old
         → Serves setup (Under key (Put at bytes)) o told old new → key ≢ other → old.bound other ≡ Some b → IsLive old.model.slots b
-        → new.model.buffers.lists (place_of b) ≡ old.model.buffers.lists (place_of b) }
+        → new.model.buffers.lists (id_of b) ≡ old.model.buffers.lists (id_of b) }
 {}

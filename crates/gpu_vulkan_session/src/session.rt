@@ -4,14 +4,15 @@ ghost use Rattle.std.specs.Prelude.{◌≡◌, ◌≢◌, ◌≤◌, ◌<◌, �
 ghost use Rattle.std.specs.Map.{lookup};
 ghost use Rattle.std.specs.HashMap.{spare};
 ghost use Rattle.gpu_values.specs.declared.error.AllocationError.TheVariants.{HostOutOfMemory};
-ghost use Rattle.gpu_allocator.specs.Blocks.{HoldsJustLiveBlocks};
-ghost use Rattle.gpu_vulkan_session.specs.Session.{IsOwn, IsKept, Wanted, Describes, Take, TakeNull, Return, Rename, Put, Get, Under, put_range};
+ghost use Rattle.gpu_vulkan.specs.Blocks.{HoldsJustLiveBlocks};
+ghost use Rattle.gpu_vulkan_session.specs.Session.{IsOwn, SessionInvariant, Wanted, Describes, Take, TakeNull, Return, Rename, Put, Get, Under, put_range};
 ghost use Rattle.gpu_vulkan_session.specs.Session as orders;
 ghost use Rattle.gpu_vulkan_session.specs.Served.{session_of, order_of, told_of, shown_allocation, IsServed, IsRun, ServesEach};
 
-use gpu_allocator::vulkan::{Allocation, AllocationCreateDesc, Allocator, VulkanDevice};
-use gpu_allocator::{AllocationError, Result};
+use gpu_device::vulkan::VulkanDevice;
 use gpu_session_values::{Command, Given, Reply};
+use gpu_values::{AllocationError, Result};
+use gpu_vulkan::{Allocation, AllocationCreateDesc, Allocator};
 use log::Log;
 use std::alloc::Global;
 use std::collections::HashMap;
@@ -88,7 +89,7 @@ impl<D: VulkanDevice> Session<D> {
     /// At any time the blocks are sound, each number stands for a live allocation or a null one, and no two for one piece: the
     /// state from which the laws of sessions speak. It does nothing.
     pub fn numbers_own_their_pieces(&self)
-        ensures { IsKept self.now.allocator.setup (session_of D.VulkanDevice self.now) }
+        ensures { SessionInvariant self.now.allocator.setup (session_of D.VulkanDevice self.now) }
     {
         self.allocator.allocations_are_apart();
     }

@@ -1,7 +1,7 @@
 //! Bytes of mapped allocations.
 
 use super::*;
-use gpu_allocator::MemoryLocation;
+use gpu_values::MemoryLocation;
 use std::process::Abort;
 
 /// Writes over the whole of an allocation.

@@ -2,7 +2,7 @@
 
 use super::reports::{FIRST, SECOND, named, two_pieces};
 use super::*;
-use gpu_allocator::AllocationError;
+use gpu_values::AllocationError;
 use log::sink::{Lines, Memory};
 use log::{Level, Log};
 use std::process::Abort;

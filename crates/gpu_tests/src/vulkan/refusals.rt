@@ -1,7 +1,7 @@
 //! A script run again and again, with another question refused each time, beside a plain account of what must be there.
 
 use super::*;
-use gpu_allocator::MemoryLocation;
+use gpu_values::MemoryLocation;
 use std::process::Abort;
 
 /// The size of shared blocks in this script, in bytes.

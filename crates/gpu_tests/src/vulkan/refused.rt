@@ -5,7 +5,7 @@
 use super::counting::Counting;
 use super::reports::{FIRST, SECOND, check_block, check_row};
 use super::*;
-use gpu_allocator::{AllocationError, AllocatorReport, MemoryLocation};
+use gpu_values::{AllocationError, AllocatorReport, MemoryLocation};
 use log::Level;
 use std::process::Abort;
 

@@ -2,7 +2,7 @@
 
 use super::log_lines::{check_lines, logging};
 use super::*;
-use gpu_allocator::{AllocationError, AllocatorReport, MemoryLocation};
+use gpu_values::{AllocationError, AllocatorReport, MemoryLocation};
 use log::Log;
 use log::sink::Memory;
 use std::process::Abort;

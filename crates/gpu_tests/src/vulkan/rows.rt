@@ -1,7 +1,7 @@
 //! Pieces and blocks.
 
 use super::*;
-use gpu_allocator::{AllocationError, MemoryLocation};
+use gpu_values::{AllocationError, MemoryLocation};
 use std::process::Abort;
 
 const HOST: &[(u32, u32)] = &[(6, 0)];

@@ -3,7 +3,7 @@
 mod refused;
 
 use super::*;
-use gpu_allocator::{AllocationError, MemoryLocation};
+use gpu_values::{AllocationError, MemoryLocation};
 use gpu_vulkan_session::{Command, Given, Reply, Session};
 use std::process::Abort;
 

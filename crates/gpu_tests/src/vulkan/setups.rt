@@ -1,7 +1,7 @@
 //! Devices that no allocator is made of.
 
 use super::*;
-use gpu_allocator::AllocationError;
+use gpu_values::AllocationError;
 use std::process::Abort;
 
 /// The text with which an allocator over this device is refused.

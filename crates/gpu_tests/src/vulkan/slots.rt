@@ -1,7 +1,7 @@
 //! Which slot a block takes, and which memory type.
 
 use super::*;
-use gpu_allocator::{AllocationError, MemoryLocation};
+use gpu_values::{AllocationError, MemoryLocation};
 use std::process::Abort;
 
 /// Shared blocks of 4 MB.

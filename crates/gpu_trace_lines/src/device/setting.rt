@@ -2,12 +2,12 @@
 
 ghost use Rattle.std.specs.Prelude.{◌≡◌, ◌≢◌, ℕ, ◌<◌, ◌^◌, ◌∷◌, IfOk, MatchOption, codes};
 ghost use Rattle.std.specs.Fmt.{decimal};
-ghost use Rattle.gpu_sim.specs.declared.refusal.Refusal.{Refusal};
+ghost use Rattle.gpu_sim_base.specs.declared.script.Refusal.{Refusal};
 ghost use Rattle.gpu_trace_lines.specs.Words.{texts};
 ghost use Rattle.gpu_trace_lines.specs.Setting.{refusal_word, FitsRefusal, Says};
 
 use crate::words::{code, number, small_number};
-use gpu_sim::Refusal;
+use gpu_sim_base::Refusal;
 use std::alloc::{AllocError, Global};
 
 /// A configuration line of a device trace. Sizes are bytes.

@@ -5,7 +5,7 @@
 use super::super::refused::{TOLD, begin, ends, is_want_of_memory};
 use super::super::reports::check_row;
 use super::*;
-use gpu_allocator::AllocatorReport;
+use gpu_values::AllocatorReport;
 
 /// A request for a piece that the host reads: uploads are asked for again where the device lacks host memory.
 fn download_of(

@@ -1,8 +1,8 @@
 use Rattle.std.proofs.Common.{true, refl, subst}
 use Rattle.gpu_core.specs.Refusal.{refusal_of}
 use Rattle.std.specs.Prelude.{map, string_bytes}
-use Rattle.gpu_allocator.specs.Step as model
-use Rattle.gpu_allocator.proofs.Untouched.{same_leaves}
+use Rattle.gpu_vulkan.specs.Step as model
+use Rattle.gpu_vulkan.proofs.Untouched.{same_leaves}
 use Rattle.gpu_vulkan_session.specs.Session as orders
 use Rattle.gpu_vulkan_session.specs.Served.{SessionValue, IsServed}
 use Rattle.gpu_vulkan_session.proofs.Serving.{asked}
@@ -15,7 +15,7 @@ returns-in-Ok g c =
     let told = orders.Tells (map (λ s. string_bytes s) c.in-Ok.texts.items) in
     let step = c.in-Ok.ensures.step in
     subst (λ x. IsServed V orders.Leaks told x x) c.self.view_is (record {
-      chances = record { room = true; call = step.outcomes };
+      environment = record { room = true; call = step.environment };
       serves = asked V model.Leaks (model.Tells (map (λ s. string_bytes s) c.in-Ok.texts.items)) told s refl step;
       count = step.count;
       latest = step.latest;
@@ -30,7 +30,7 @@ returns-in-Err g c =
     let told = orders.Fails (refusal_of c.in-Err.error) in
     let step = c.in-Err.ensures.step in
     subst (λ x. IsServed V orders.Leaks told x x) c.self.view_is (record {
-      chances = record { room = true; call = step.outcomes };
+      environment = record { room = true; call = step.environment };
       serves = asked V model.Leaks (model.Fails (refusal_of c.in-Err.error)) told s refl step;
       count = step.count;
       latest = step.latest;

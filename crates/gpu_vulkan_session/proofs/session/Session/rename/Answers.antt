@@ -1,6 +1,6 @@
 use Rattle.std.proofs.Common.{◌≡◌, Some, None, refl, ap, sym, subst}
 use Rattle.std.specs.Prelude.{IsSome}
-use Rattle.gpu_allocator.specs.Live.{piece_of}
+use Rattle.gpu_vulkan.specs.Live.{piece_of}
 use Rattle.gpu_vulkan_session.specs.Session.{Rename, Under}
 use Rattle.gpu_vulkan_session.specs.Session as orders
 use Rattle.gpu_vulkan_session.specs.Served.{SessionValue, session_of, told_of, IsServed}

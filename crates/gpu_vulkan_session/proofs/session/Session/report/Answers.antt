@@ -1,8 +1,8 @@
 use Rattle.std.proofs.Common.{true, refl, subst}
 use Rattle.gpu_core.specs.Refusal.{refusal_of}
 use Rattle.gpu_core.specs.Report.{report_of}
-use Rattle.gpu_allocator.specs.Step as model
-use Rattle.gpu_allocator.proofs.Untouched.{same_leaves}
+use Rattle.gpu_vulkan.specs.Step as model
+use Rattle.gpu_vulkan.proofs.Untouched.{same_leaves}
 use Rattle.gpu_vulkan_session.specs.Session as orders
 use Rattle.gpu_vulkan_session.specs.Served.{SessionValue, IsServed}
 use Rattle.gpu_vulkan_session.proofs.Serving.{asked}
@@ -15,7 +15,7 @@ returns-in-Ok g c =
     let told = orders.Shows (report_of c.in-Ok.report) in
     let step = c.in-Ok.ensures.step in
     subst (λ x. IsServed V orders.Report told x x) c.self.view_is (record {
-      chances = record { room = true; call = step.outcomes };
+      environment = record { room = true; call = step.environment };
       serves = asked V model.Report (model.Shows (report_of c.in-Ok.report)) told s refl step;
       count = step.count;
       latest = step.latest;
@@ -30,7 +30,7 @@ returns-in-Err g c =
     let told = orders.Fails (refusal_of c.in-Err.error) in
     let step = c.in-Err.ensures.step in
     subst (λ x. IsServed V orders.Report told x x) c.self.view_is (record {
-      chances = record { room = true; call = step.outcomes };
+      environment = record { room = true; call = step.environment };
       serves = asked V model.Report (model.Fails (refusal_of c.in-Err.error)) told s refl step;
       count = step.count;
       latest = step.latest;

@@ -1,6 +1,6 @@
 use Rattle.std.proofs.Common.{true, refl, sym, subst}
-use Rattle.gpu_allocator.specs.Step as model
-use Rattle.gpu_allocator.proofs.Untouched.{same_leaves}
+use Rattle.gpu_vulkan.specs.Step as model
+use Rattle.gpu_vulkan.proofs.Untouched.{same_leaves}
 use Rattle.gpu_vulkan_session.specs.Session as orders
 use Rattle.gpu_vulkan_session.specs.Served.{SessionValue, order_of, IsServed}
 use Rattle.gpu_vulkan_session.proofs.Serving.{asked}
@@ -14,7 +14,7 @@ returns-in-Capacity g c =
     let step = c.capacity.ensures.step in
     subst (λ o. IsServed V (order_of o) told c.args.self.now c.args.self.now) (sym c.in-Capacity.is)
     (subst (λ x. IsServed V orders.Capacity told x x) c.self.view_is (record {
-      chances = record { room = true; call = step.outcomes };
+      environment = record { room = true; call = step.environment };
       serves = asked V model.Capacity (model.Sum c.capacity.result) told s refl step;
       count = step.count;
       latest = step.latest;

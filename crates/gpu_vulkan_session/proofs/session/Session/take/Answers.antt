@@ -2,9 +2,9 @@ use Rattle.std.proofs.Common.{◌≡◌, Some, None, refl, ap, subst}
 use Rattle.std.specs.Prelude.{nat_eq}
 use Rattle.std.specs.Map.{lookup}
 use Rattle.gpu_core.specs.Refusal.{refusal_of, host_out_of_memory}
-use Rattle.gpu_allocator.specs.Step.{model_of}
+use Rattle.gpu_vulkan.specs.Step.{model_of}
 use Rattle.gpu_vulkan_session.specs.Session.{Take, Under, bind}
-use Rattle.gpu_allocator.proofs.Untouched.{same_leaves}
+use Rattle.gpu_vulkan.proofs.Untouched.{same_leaves}
 use Rattle.gpu_vulkan_session.specs.Session as orders
 use Rattle.gpu_vulkan_session.specs.Served.{SessionValue, session_of, told_of, IsServed}
 use Rattle.gpu_vulkan_session.proofs.Binding.{some_bound, none_bound, same_bindings, bound_after}
@@ -29,7 +29,7 @@ returns-then-is_err g c =
     let told = orders.Fails host_out_of_memory in
     let same : session_of V new ≡ session_of V s = ap (λ b. record { bound = b; model = model_of V s.allocator }) (same_bindings s.bound new.bound (c.reserve.ensures.entries.2)) in
     λ w d. subst (λ x. IsServed V (Under c.args.key (Take w)) told x new) c.self.view_is (record {
-      chances = short;
+      environment = short;
       serves = serves_at s.allocator.setup (session_of V s) (session_of V new) c.args.key (Take w) short told None none ((refl, refl), refl, same);
       count = refl;
       latest = refl;

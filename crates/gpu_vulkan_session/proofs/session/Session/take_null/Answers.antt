@@ -1,10 +1,10 @@
 use Rattle.std.proofs.Common.{◌≡◌, ℕ, Some, None, refl, ap, subst}
 use Rattle.std.specs.Prelude.{nat_eq, cond}
 use Rattle.std.specs.Map.{lookup}
-use Rattle.gpu_allocator.specs.Live.{null_allocation}
-use Rattle.gpu_allocator.specs.Step.{model_of}
+use Rattle.gpu_vulkan.specs.Live.{null_allocation}
+use Rattle.gpu_vulkan.specs.Step.{model_of}
 use Rattle.gpu_core.specs.Refusal.{host_out_of_memory}
-use Rattle.gpu_allocator.proofs.Untouched.{same_leaves}
+use Rattle.gpu_vulkan.proofs.Untouched.{same_leaves}
 use Rattle.gpu_vulkan_session.specs.Session as orders
 use Rattle.gpu_vulkan_session.specs.Session.{TakeNull, Under, bind}
 use Rattle.gpu_vulkan_session.specs.Served.{SessionValue, session_of, IsServed}
@@ -28,7 +28,7 @@ returns-then-is_err g c =
     let told = orders.Fails host_out_of_memory in
     let same : session_of V new ≡ session_of V s = ap (λ b. record { bound = b; model = model_of V s.allocator }) (same_bindings s.bound new.bound (c.reserve.ensures.entries.2)) in
     subst (λ x. IsServed V (Under c.args.key TakeNull) told x new) c.self.view_is (record {
-      chances = short;
+      environment = short;
       serves = serves_at s.allocator.setup (session_of V s) (session_of V new) c.args.key TakeNull short told None none ((refl, refl), (refl, same));
       count = refl;
       latest = refl;
@@ -46,7 +46,7 @@ returns g c =
     let is = bound_after s.bound c.reserve.new.self.entries new.bound c.args.key (Some null_allocation) (c.reserve.ensures.entries.2) put in
     let same : session_of V new ≡ record (session_of V s) { bound = bind (bindings s.bound) c.args.key (Some null_allocation) } = ap (λ b. record { bound = b; model = model_of V s.allocator }) is in
     subst (λ x. IsServed V (Under c.args.key TakeNull) orders.Fine x new) c.self.view_is (record {
-      chances = quiet;
+      environment = quiet;
       serves = serves_at s.allocator.setup (session_of V s) (session_of V new) c.args.key TakeNull quiet orders.Fine None none ((refl, refl), (refl, same));
       count = refl;
       latest = refl;

@@ -1,5 +1,5 @@
 use Rattle.std.proofs.Common.{◌≡◌, ◌∙◌, Some, None, refl, sym, subst}
-use Rattle.gpu_allocator.specs.Lends.{written_at}
+use Rattle.gpu_vulkan.specs.Lends.{written_at}
 use Rattle.gpu_vulkan_session.specs.Session.{Put, Under}
 use Rattle.gpu_vulkan_session.specs.Session as orders
 use Rattle.gpu_vulkan_session.specs.Served.{SessionValue, session_of, IsServed}

@@ -1,9 +1,0 @@
-use Rattle.std.proofs.Common.{◌≡◌, rules}
-use Rattle.gpu_allocator.specs.Blocks.{total_capacity}
-use Rattle.gpu_allocator.proofs.Listed.{sum_step}
-use Rattle.gpu_allocator.proofs.vulkan.allocator.Allocator.capacity.Goals as goal
-
-pub returns-clause-step : goal.returns-clause-step
-returns-clause-step g c =
-    let is : c.total_capacity.result ≡ total_capacity c.args.self.now.slots = search rules in
-    sum_step g.D.VulkanDevice c.args.self.now c.total_capacity.result is

@@ -1,0 +1,36 @@
+use Rattle.std.proofs.Common.{◌≡◌, ◌+◌, Some, subst, arith, slice_get, slice_set, IfOk, ◌∙◌, ap}
+use Rattle.std.specs.Prelude.{Option}
+use Rattle.gpu_core.specs.declared.memory_type.Piece.{Piece}
+use Rattle.gpu_memory_types.specs.Release.{ReleasesAt}
+use Rattle.gpu_memory_types.specs.Types.{Types, slots_of, kinds, MemoryTypesInvariant}
+use Rattle.gpu_memory_types.proofs.Changed.{element_at, released}
+use Rattle.gpu_memory_types.proofs.Types.{invariant_set, kinds_set, share_below}
+use Rattle.gpu_memory_types.proofs.memory_types.MemoryTypes.free.Goals as goal
+use Rattle.gpu_memory_types.proofs.memory_types.MemoryTypes.free.Goals.{After-free}
+
+old_at : (g : _) (c : After-free g) → slice_get c.self.inside.types.items c.args.index ≡ Some c.index_mut.result.now
+old_at g c = element_at c.self.inside.types.items c.args.index c.index_mut.result.now (omega (arith, c.if-index-len.false, c.len.ensures)) c.index_mut.ensures.value
+
+kept_after : (g : _) (c : After-free g) → MemoryTypesInvariant (slice_set c.self.inside.types.items c.args.index c.free.new.self)
+kept_after g c =
+    let at = old_at g c in
+    let sum = c.self.invariant.sum in
+    let share = share_below c.self.inside.types.items c.args.index c.index_mut.result.now at in
+    invariant_set c.self.inside.types.items c.args.index c.index_mut.result.now c.free.new.self at (omega (arith, c.if-index-len.false, c.len.ensures)) c.self.invariant c.free.ensures.sound
+    (omega (arith, sum, share, c.free.ensures.capacity))
+
+pub invariant_of-self : goal.invariant_of-self
+invariant_of-self g c = kept_after g ((goal.at.invariant_of-self g c).After-free)
+
+pub returns-clause-kept : goal.returns-clause-kept
+returns-clause-kept g c = kept_after g ((goal.at.returns-clause-kept g c).After-free)
+
+pub returns-clause-released : goal.returns-clause-released
+returns-clause-released g c =
+    let at = old_at g ((goal.at.returns-clause-released g c).After-free) in
+    rw (← c.self.view_is) (released c.self.inside.types.items c.args.index c.index_mut.result.now c.free.new.self at c.args.piece.now c.free.result c.free.ensures.released)
+
+pub returns-clause-kinds : goal.returns-clause-kinds
+returns-clause-kinds g c =
+    let at = old_at g ((goal.at.returns-clause-kinds g c).After-free) in
+    kinds_set c.self.inside.types.items c.args.index c.index_mut.result.now c.free.new.self at c.free.ensures.kind.0 c.free.ensures.kind.1 ∙ ap kinds c.self.view_is

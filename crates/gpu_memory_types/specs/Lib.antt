@@ -1,0 +1,9 @@
+pub mod Blocks
+pub mod Types
+pub mod Live
+pub mod Requests
+pub mod Release
+pub mod Rename
+pub mod Reports
+pub mod Leaks
+pub mod Held

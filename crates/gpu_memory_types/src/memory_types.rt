@@ -1,0 +1,224 @@
+//! The memory types of one allocator: one of them prepares a request, takes a new block in, or gives a piece back.
+
+ghost use Rattle.std.specs.Prelude.{◌≡◌, ◌≢◌, ◌+◌, ◌^◌, ◌<◌, ◌≤◌, ◌↔◌, [], All, length, Some, None, IfOk, IfErr, OnOk, OnErr, IsTrue, map, string_bytes, codes};
+ghost use Rattle.std.specs.Int.{is_power_of_two};
+ghost use Rattle.std.specs.List.{slice_set};
+ghost use Rattle.gpu_values.specs.declared.error.AllocationError.TheVariants.{HostOutOfMemory};
+ghost use Rattle.gpu_values.specs.Refusal.{refusal_of, internal, out_of_memory};
+ghost use Rattle.gpu_memory_types.specs.Requests.{FitsSum, PassesSum};
+ghost use Rattle.gpu_values.specs.Report.{report_of};
+
+use crate::capacity::total_capacity;
+use crate::leaks::{AllLeaks, all_leaks, texts_of};
+use crate::report::report_of;
+use gpu_core::{MemoryType, NeedBlock, Piece, Prepared, Request};
+use gpu_values::{
+    AllocationError, AllocationSizes, AllocationType, AllocatorReport, Fault, Result,
+};
+use std::alloc::Global;
+use std::marker::Model;
+
+/// The blocks of all memory types of an allocator and the pieces in them. It holds no memory of a device: `H` is the
+/// device's number of a block. Sizes are bytes; their sum over all blocks has 64 bits.
+#[derive(Drop)]
+pub struct MemoryTypes<H: Copy + Eq> {
+    types: Vec<MemoryType<H>>,
+}
+
+impl<H: Copy + Eq> Model for MemoryTypes<H> {
+    ghost use Rattle.gpu_memory_types.specs.Types.{Types, MemoryTypesInvariant};
+
+    ghost Value = { Types H };
+
+    ghost view = { λ m. m.types.items };
+
+    ghost invariant = { λ m. MemoryTypesInvariant m.types.items };
+}
+
+/// What a memory type prepared, where its new block, if it needs one, keeps the sum of all blocks' sizes in 64 bits; else
+/// `OutOfMemory`. `used` is the sum so far, in bytes.
+fn within_sum<H: Copy + Eq>(used: u64, prepared: Prepared<H>) -> Result<Prepared<H>>
+    ensures same { IfOk result (λ p. p ≡ prepared) }
+    ensures fits { OnOk result (FitsSum used prepared) }
+    ensures passes { OnErr result (PassesSum used prepared) }
+    ensures cause { IfErr result (λ e. refusal_of e ≡ out_of_memory) }
+{
+    if let Prepared::NeedBlock(need) = &prepared {
+        if need.size > u64::MAX - used {
+            return Err(AllocationError::OutOfMemory);
+        }
+    }
+    Ok(prepared)
+}
+
+/// Why a piece of a memory type that isn't there is refused.
+fn missing_type() -> AllocationError
+    ensures { refusal_of result ≡ internal (codes "Memory block must be Some.") None }
+{
+    AllocationError::Internal(Fault {
+        text: "Memory block must be Some.",
+        code: None,
+    })
+}
+
+impl<H: Copy + Eq> MemoryTypes<H> {
+    ghost use Rattle.gpu_core.specs.TypePrepare.{CanInstall};
+    ghost use Rattle.gpu_core.specs.TypeState.{slot_at, block_number};
+    ghost use Rattle.gpu_core.specs.Slots.{AreSound};
+    ghost use Rattle.gpu_block.specs.Leak.{leak_text};
+    ghost use Rattle.gpu_memory_types.specs.Blocks.{slots_at, total_capacity};
+    ghost use Rattle.gpu_memory_types.specs.Leaks.{all_leaks};
+    ghost use Rattle.gpu_memory_types.specs.Live.{IsLiveIn};
+    ghost use Rattle.gpu_memory_types.specs.Release.{ReleasesAt, IsReleaseRefusal};
+    ghost use Rattle.gpu_memory_types.specs.Rename.{IsNotNamed, IsRenamed};
+    ghost use Rattle.gpu_memory_types.specs.Reports.{whole_report};
+    ghost use Rattle.gpu_memory_types.specs.Requests.{PreparesAt, IsPrepareRefusal, InstallsAt};
+    ghost use Rattle.gpu_memory_types.specs.Types.{kinds, slots_of, type_of, MemoryTypesInvariant};
+
+    /// The memory types of a new allocator: none has a block.
+    pub fn new(types: Vec<MemoryType<H>>) -> Self
+        requires { All (λ slots. slots ≡ []) (slots_of types.items) }
+        ensures types { result ≡ types.items }
+        ensures kept { MemoryTypesInvariant result }
+    {
+        MemoryTypes { types }
+    }
+
+    /// How many memory types there are.
+    pub fn count(&self) -> usize
+        ensures { result ≡ length self.now }
+    {
+        self.types.len()
+    }
+
+    /// The sum of the sizes of all live blocks, in bytes.
+    pub fn capacity(&self) -> u64
+        ensures sum { result ≡ total_capacity (slots_of self.now) }
+        ensures kept { MemoryTypesInvariant self.now }
+    {
+        total_capacity(&self.types)
+    }
+
+    /// Whether a piece of the memory type at `index` is live.
+    pub fn is_live(&self, index: usize, piece: &Piece<H>) -> bool
+        ensures { IsTrue result ↔ IsLiveIn H.eq (slots_of self.now) index (Some piece.now) }
+    {
+        match self.types.get(index) {
+            None => false,
+            Some(memory_type) => memory_type.is_live(piece),
+        }
+    }
+
+    /// Takes a piece of the memory type at `index`, or says which new block is needed for it, as `MemoryType::prepare`
+    /// does. `HostOutOfMemory` where the host refused memory; `OutOfMemory` where a new block would carry the sum of all
+    /// blocks' sizes past `u64::MAX`; a refusal leaves the slots as they were.
+    pub fn prepare(
+        &mut self,
+        index: usize,
+        request: &Request,
+        sizes: &AllocationSizes,
+    ) -> Result<Prepared<H>>
+        requires there { index < length self.old }
+        requires sized { 0 < request.now.size }
+        requires aligned { IsTrue (is_power_of_two request.now.alignment) }
+        requires piece { request.now.kind ≢ AllocationType.Free }
+        ensures prepared { IfOk result (λ p. PreparesAt index self.old sizes.now request.now p self.new) }
+        ensures cause { IfErr result (λ e. IsPrepareRefusal index self.old sizes.now request.now (refusal_of e)) }
+        ensures refused { OnErr result (slots_of self.new ≡ slots_of self.old) }
+        ensures kinds { kinds self.new ≡ kinds self.old }
+        ensures kept { MemoryTypesInvariant self.new }
+    {
+        let used = self.capacity();
+        let prepared = self.types[index].prepare(request, sizes)?;
+        within_sum(used, prepared)
+    }
+
+    /// Puts in the block that `prepare` asked for, under the device's number of it, and answers the piece in it. It
+    /// takes no memory and can't be refused.
+    pub fn install(&mut self, index: usize, need: NeedBlock, number: H) -> Piece<H>
+        requires there { index < length self.old }
+        requires ready { CanInstall (type_of self.old index) need.size need.dedicated need.room }
+        requires sum { total_capacity (slots_of self.old) + need.size < 2 ^ 64 }
+        ensures installed { InstallsAt index (slots_of self.old) need.dedicated need.room number result (slots_of self.new) }
+        ensures kinds { kinds self.new ≡ kinds self.old }
+        ensures kept { MemoryTypesInvariant self.new }
+    {
+        self.types[index].install(need, number)
+    }
+
+    /// Gives a piece of the memory type at `index` back, and names the block that went with it, if one did. It takes no
+    /// memory. `Internal` where the piece isn't live, and then nothing changes.
+    pub fn free(&mut self, index: usize, piece: &Piece<H>) -> Result<Option<H>>
+        ensures released { IfOk result (λ went. ReleasesAt index piece.now (slots_of self.old) went (slots_of self.new)) }
+        ensures live { OnOk result (IsLiveIn H.eq (slots_of self.old) index (Some piece.now)) }
+        ensures dead { OnErr result (IsLiveIn H.eq (slots_of self.old) index (Some piece.now) → ⊥) }
+        ensures cause { IfErr result (λ e. IsReleaseRefusal H.eq index (slots_of self.old) piece.now (refusal_of e)) }
+        ensures refused { OnErr result (self.new ≡ self.old) }
+        ensures kinds { kinds self.new ≡ kinds self.old }
+        ensures kept { MemoryTypesInvariant self.new }
+    {
+        if index >= self.types.len() {
+            return Err(missing_type());
+        }
+        self.types[index].free(piece)
+    }
+
+    /// Gives a piece of the memory type at `index` another name. `Internal` where the piece isn't live, else
+    /// `HostOutOfMemory` where the host refused memory; then nothing changes.
+    pub fn rename(&mut self, index: usize, piece: &Piece<H>, name: &str) -> Result<()>
+        ensures renamed { OnOk result (IsRenamed H.eq index piece.now name.now (slots_of self.old) (slots_of self.new)) }
+        ensures cause { IfErr result (λ e. IsNotNamed H.eq (slots_at (slots_of self.old) index) piece.now (refusal_of e)) }
+        ensures refused { OnErr result (self.new ≡ self.old) }
+        ensures kinds { kinds self.new ≡ kinds self.old }
+        ensures kept { MemoryTypesInvariant self.new }
+    {
+        if index >= self.types.len() {
+            return Err(missing_type());
+        }
+        self.types[index].rename(piece, name)
+    }
+
+    /// How many slots the memory type at `index` has, the empty ones included; none where it isn't there.
+    pub fn slots(&self, index: usize) -> usize
+        ensures { result ≡ length (slots_at (slots_of self.now) index) }
+    {
+        match self.types.get(index) {
+            None => 0,
+            Some(memory_type) => memory_type.slots(),
+        }
+    }
+
+    /// The device's number of the block in a slot of the memory type at `index`, or `None` where there is none.
+    pub fn block(&self, index: usize, slot: usize) -> Option<H>
+        ensures { result ≡ block_number (slot_at (slots_at (slots_of self.now) index) slot) }
+    {
+        match self.types.get(index) {
+            None => None,
+            Some(memory_type) => memory_type.block(slot),
+        }
+    }
+
+    /// What is allocated: the live blocks and pieces by memory type, then by slot, pieces by offset, and the sums of
+    /// both. The only refusal is `HostOutOfMemory`.
+    pub fn report(&self, alloc: Global) -> Result<AllocatorReport>
+        ensures report { IfOk result (λ r. report_of r ≡ whole_report (slots_of self.now)) }
+        ensures cause { IfErr result (λ e. e ≡ HostOutOfMemory) }
+    {
+        report_of(alloc, &self.types)
+    }
+
+    /// The live pieces by memory type, then by slot, then in order of offset. It takes no memory.
+    pub fn leaks(&self) -> AllLeaks<'_, H>
+        ensures { result ≡ all_leaks (slots_of self.now) }
+    {
+        all_leaks(&self.types)
+    }
+
+    /// The texts of all live pieces in the same order. The only refusal is `HostOutOfMemory`.
+    pub fn leak_texts(&self, alloc: Global) -> Result<Vec<String>>
+        ensures texts { IfOk result (λ v. map string_bytes v.items ≡ map leak_text (all_leaks (slots_of self.now))) }
+        ensures cause { IfErr result (λ e. e ≡ HostOutOfMemory) }
+    {
+        texts_of(alloc, self.leaks())
+    }
+}

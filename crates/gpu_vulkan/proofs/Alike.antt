@@ -1,0 +1,350 @@
+-- Calls that differ at most in bytes get the same reply but for bytes, and leave the same blocks.
+use Rattle.std.proofs.Common.{inl, inr, map, ◌⊎◌, ◌≡◌, ◌∙◌, ℕ, refl, sym, ap, subst, Bool, true, false, List, slice_set, Option, Some, None, arith, ⊎_elim, IsTrue}
+use Rattle.std.specs.Prelude.{◌&&◌, not, if◌then◌else◌}
+use Rattle.gpu_core.specs.Refusal.{Refusal, host_out_of_memory}
+use Rattle.gpu_core.specs.Leak.{leak_text}
+use Rattle.gpu_core.specs.TypeRelease.{has_several, ReleasesPiece, RenamesPiece, IsFreeRefusal, IsNameRefusal}
+use Rattle.gpu_core.specs.TypeState.{Slot, TypeState, slot_at}
+use Rattle.gpu_core.specs.TypeTake.{Ready, has_own_block, PreparesPiece, NeedsBlock}
+use Rattle.gpu_core.specs.declared.memory_type.Piece.{Piece}
+use Rattle.gpu_core.proofs.OneOutcome.{released_once, refusal_once, renamed_once}
+use Rattle.gpu_device.specs.declared.vulkan.types.DeviceMemory.{DeviceMemory}
+use Rattle.gpu_device.specs.declared.vulkan.types.MemoryAllocateInfo.{MemoryAllocateInfo}
+use Rattle.gpu_vulkan.specs.Allocate.{Attempts, IsTooLarge, IsPlanned, is_valid, is_for_upload, is_short}
+use Rattle.gpu_vulkan.specs.Alike.{AlikeAnswer, AlikeAsked, AlikeAttemptEnvironment, AlikeCallEnvironment, AlikeDescription, AlikeCall, AlikeReply}
+use Rattle.gpu_vulkan.specs.Attempt.{AttemptEnvironment, Asked, Plan, Short, Serves, Needs, IsPlan, Answer, Gave, Refused, Comes, Settles, question}
+use Rattle.gpu_vulkan.specs.BlockAnswer.{BlockAnswer, Declined, Granted, Mapped, NotMapped}
+use Rattle.gpu_vulkan.specs.Blocks.{Slots, is_mapped, type_at}
+use Rattle.gpu_memory_types.specs.Blocks.{slots_at, total_capacity, BlocksWellFormed}
+use Rattle.gpu_vulkan.specs.Choice.{first_type, required, best_type}
+use Rattle.gpu_vulkan.specs.Describe.{is_own, kind_of, request_of}
+use Rattle.gpu_vulkan.specs.Live.{piece_of, is_same_memory, IsLiveIn, IsMapped}
+use Rattle.gpu_memory_types.specs.Leaks.{all_leaks}
+use Rattle.gpu_memory_types.specs.Reports.{whole_report}
+use Rattle.gpu_vulkan.specs.Setup.{Setup}
+use Rattle.gpu_vulkan.specs.Step.{ModelState, Call, Allocate, Free, Write, Rename, Report, Leaks, Read, Capacity, Reply, Given, Fails, Done, Bytes, Sum, Shows, Tells, RenameStep, CallEnvironment, AttemptStep, reply_of, next_by, Follows, ServeStep, RefuseStep, FoundStep, AllocateStep, FreeStep, IsRead, Step}
+use Rattle.gpu_vulkan.specs.declared.allocation.Allocation.{Allocation}
+use Rattle.gpu_vulkan.specs.declared.describe.AllocationCreateDesc.{AllocationCreateDesc}
+use Rattle.gpu_vulkan.proofs.OneStep.{plan_once, settles_once, mid_sound, free_reply, done_or_fails, rename_reply, named_or_fails, rename_fails_once, shown_reply, told_reply, by_host, write_reply, read_reply, sum_reply}
+
+abbrev SlotList : Type 0
+SlotList = List (Option (Slot DeviceMemory))
+
+-- ---- descriptions that ask for the same
+
+same_request : (d e : AllocationCreateDesc) → AlikeDescription d e → request_of d ≡ request_of e
+same_request d e a = λ i. record { size = (a.requirements i).size; alignment = (a.requirements i).alignment; kind = kind_of (a.linear i); name = a.name i }
+
+plan_alike : (setup : Setup) (ts : TypeState DeviceMemory) (d e : AllocationCreateDesc) (host other : Bool) (y : Plan) → AlikeDescription d e → host ≡ other → IsPlan setup ts e other y → IsPlan setup ts d host y
+plan_alike setup ts d e host other Short a same h = same ∙ h
+plan_alike setup ts d e host other (Serves p after) a same h = (
+  same ∙ h.0,
+  (λ i. has_own_block ts setup.sizes (is_own (a.scheme i)) (a.requirements i).size) ∙ h.1,
+  subst (λ r. PreparesPiece ts.slots r p after) (sym (same_request d e a)) h.2,
+)
+plan_alike setup ts d e host other (Needs size own ready) a same h = (
+  same ∙ h.0,
+  subst (λ s. NeedsBlock ts setup.sizes (is_own s) (request_of d) size own ready) (sym a.scheme)
+      (subst (λ r. NeedsBlock ts setup.sizes (is_own e.allocation_scheme) r size own ready) (sym (same_request d e a)) h.1),
+)
+
+next_alike : (setup : Setup) (d e : AllocationCreateDesc) (answer : Answer) → AlikeDescription d e → next_by setup d answer ≡ next_by setup e answer
+next_alike setup d e (Gave p) a = refl
+next_alike setup d e (Refused r) a =
+    λ i. if is_for_upload (a.location i) && not (is_short r) then first_type setup.properties.types (a.requirements i).memory_type_bits (required (a.location i)) else None
+
+-- ---- answers that differ in bytes alone
+
+settles_alike : (old : SlotList) (own : Bool) (ready : Ready) (a b : BlockAnswer) (y : Answer) (next : SlotList) → AlikeAnswer a b → Settles old own ready b y next → Settles old own ready a y next
+settles_alike old own ready (Mapped n xs) (Mapped m ys) y next same h = subst (λ k. Settles old own ready (Mapped k xs) y next) (sym same) h
+settles_alike old own ready (Mapped n xs) (Declined code) y next same h = subst (λ z. Settles old own ready z y next) (sym same) h
+settles_alike old own ready (Mapped n xs) (Granted m) y next same h = subst (λ z. Settles old own ready z y next) (sym same) h
+settles_alike old own ready (Mapped n xs) (NotMapped code) y next same h = subst (λ z. Settles old own ready z y next) (sym same) h
+settles_alike old own ready (Declined code) b y next same h = subst (λ z. Settles old own ready z y next) (sym same) h
+settles_alike old own ready (Granted n) b y next same h = subst (λ z. Settles old own ready z y next) (sym same) h
+settles_alike old own ready (NotMapped code) b y next same h = subst (λ z. Settles old own ready z y next) (sym same) h
+
+comes_alike : (used : ℕ) (ask other_ask : ℕ → MemoryAllocateInfo) (mapped : Bool) (old : SlotList) (plan : Plan) (o p : Option Asked) (x y : Answer) (new next : SlotList)
+    → AlikeAsked o p → Comes used ask mapped old plan o x new → Comes used other_ask mapped old plan p y next → (x ≡ y) × (new ≡ next)
+comes_alike used ask other_ask mapped old Short None None x y new next same c d = (c.0 ∙ sym d.0, c.1 ∙ sym d.1)
+comes_alike used ask other_ask mapped old (Serves q after) None None x y new next same c d = (c.0 ∙ sym d.0, c.1 ∙ sym d.1)
+comes_alike used ask other_ask mapped old (Needs size own ready) None None x y new next same c d = (c.1 ∙ sym d.1, c.2 ∙ sym d.2)
+comes_alike used ask other_ask mapped old plan None (Some b) x y new next same c d = absurd same
+comes_alike used ask other_ask mapped old plan (Some a) None x y new next same c d = absurd same
+comes_alike used ask other_ask mapped old Short (Some a) (Some b) x y new next same c d = absurd c
+comes_alike used ask other_ask mapped old (Serves q after) (Some a) (Some b) x y new next same c d = absurd c
+comes_alike used ask other_ask mapped old (Needs size own ready) (Some a) (Some b) x y new next same c d =
+    settles_once old own ready a.answer x y new next c.3 (settles_alike old own ready a.answer b.answer y next same.1 d.3)
+
+-- ---- an attempt
+
+module _ (setup : Setup) (d e : AllocationCreateDesc) (same : AlikeDescription d e) where
+  same_size : d.requirements.size ≡ e.requirements.size
+  same_size = ap (λ r. r.size) same.requirements
+
+  planned_alike : (old : Slots) (t : ℕ) (o p : AttemptEnvironment) (x y : Answer) (new next : Slots) → BlocksWellFormed setup.properties.granularity old → AlikeAttemptEnvironment o p
+      → IsPlanned setup old t d o x new → IsPlanned setup old t e p y next → (x ≡ y) × (new ≡ next)
+  planned_alike old t o p x y new next sound met a b =
+      let ts = type_at setup.properties old t in
+      let plans = plan_once setup old t d o.host a.plan b.plan sound a.is_plan (plan_alike setup ts d e o.host p.host b.plan same met.host b.is_plan) in
+      let C : Plan → Type 0 = λ z. Comes (total_capacity old) (question setup t e) (is_mapped setup.properties t) (slots_at old t) z p.asked y b.after in
+      let other : C a.plan = subst C (sym plans) b.comes in
+      let once = comes_alike (total_capacity old) (question setup t d) (question setup t e) (is_mapped setup.properties t) (slots_at old t) a.plan o.asked p.asked x y a.after b.after met.asked a.comes other in
+      (once.0, a.slots ∙ (ap (slice_set old t) once.1 ∙ sym b.slots))
+
+  attempts_alike : (old : Slots) (t : ℕ) (o p : AttemptEnvironment) (x y : Answer) (new next : Slots) → BlocksWellFormed setup.properties.granularity old → AlikeAttemptEnvironment o p
+      → Attempts setup old t d o x new → Attempts setup old t e p y next → (x ≡ y) × (new ≡ next)
+  attempts_alike old t o p x y new next sound met a b =
+      ⊎_elim
+      (λ (la : IsTooLarge setup old t d o x new).
+      ⊎_elim
+      (λ (lb : IsTooLarge setup old t e p y next). (la.answer_is ∙ sym lb.answer_is, la.same ∙ sym lb.same))
+      (λ (pb : IsPlanned setup old t e p y next). let above = la.above in let below = pb.below in absurd (omega (arith, above, below, same_size)))
+      b)
+      (λ (pa : IsPlanned setup old t d o x new).
+      ⊎_elim
+      (λ (lb : IsTooLarge setup old t e p y next). let above = lb.above in let below = pa.below in absurd (omega (arith, above, below, same_size)))
+      (λ (pb : IsPlanned setup old t e p y next). planned_alike old t o p x y new next sound met pa pb)
+      b)
+      a
+
+  -- the same from two states with the same blocks
+  attempt_alike : (t : ℕ) (o p : AttemptEnvironment) (x y : Answer) (old new twin next : ModelState) → BlocksWellFormed setup.properties.granularity old.slots → old.slots ≡ twin.slots → AlikeAttemptEnvironment o p
+      → AttemptStep setup t d o x old new → AttemptStep setup t e p y twin next → (x ≡ y) × (new.slots ≡ next.slots)
+  attempt_alike t o p x y old new twin next sound slots met a b =
+      attempts_alike old.slots t o p x y new.slots next.slots sound met a.slots (subst (λ z. Attempts setup z t e p y next.slots) (sym slots) b.slots)
+
+  follows_alike : (u : Option ℕ) (o p : AttemptEnvironment) (t : ℕ) (first : Answer) (mid twin : ModelState) (x y : Reply) (new next : ModelState) → ((v : ℕ) → u ≡ Some v → BlocksWellFormed setup.properties.granularity mid.slots)
+      → mid.slots ≡ twin.slots → AlikeAttemptEnvironment o p → Follows setup d u o t first mid x new → Follows setup e u p t first twin y next → (x ≡ y) × (new.slots ≡ next.slots)
+  follows_alike None o p t first mid twin x y new next sound slots met a b = (a.1 ∙ sym b.1, ap (λ s. s.slots) a.2 ∙ slots ∙ sym (ap (λ s. s.slots) b.2))
+  follows_alike (Some u) o p t first mid twin x y new next sound slots met a b =
+      let once = attempt_alike u o p a.0 b.0 mid new twin next (sound u refl) slots met a.1 b.1 in
+      (a.2 ∙ ap (reply_of u) once.0 ∙ sym b.2, once.1)
+
+  serve_alike : (t : ℕ) (o p : CallEnvironment) (x y : Reply) (old new twin next : ModelState) → BlocksWellFormed setup.properties.granularity old.slots → old.slots ≡ twin.slots → AlikeCallEnvironment o p
+      → ServeStep setup t d o x old new → ServeStep setup t e p y twin next → (x ≡ y) × (new.slots ≡ next.slots)
+  serve_alike t o p x y old new twin next sound slots met a b =
+      let first = attempt_alike t o.first p.first a.answer b.answer old a.mid twin b.mid sound slots met.first a.attempt b.attempt in
+      let answers = first.0 in
+      let named : Follows setup e (next_by setup e a.answer) p.second t a.answer b.mid y next =
+      subst (λ w. Follows setup e (next_by setup e w) p.second t w b.mid y next) (sym answers) b.follows in
+      let other : Follows setup e (next_by setup d a.answer) p.second t a.answer b.mid y next =
+      subst (λ u. Follows setup e u p.second t a.answer b.mid y next) (sym (next_alike setup d e a.answer same)) named in
+      follows_alike (next_by setup d a.answer) o.second p.second t a.answer a.mid b.mid x y new next (λ v is. mid_sound setup t v d o.first a.answer old a.mid sound a.attempt is) first.1 met.second a.follows other
+
+  refuse_alike : (r : Refusal) (o p : CallEnvironment) (x y : Reply) (old new twin next : ModelState) → old.slots ≡ twin.slots → RefuseStep r o x old new → RefuseStep r p y twin next → (x ≡ y) × (new.slots ≡ next.slots)
+  refuse_alike r o p x y old new twin next slots a b = (a.reply_is ∙ sym b.reply_is, ap (λ s. s.slots) a.same ∙ slots ∙ sym (ap (λ s. s.slots) b.same))
+
+  found_alike : (t : Option ℕ) (o p : CallEnvironment) (x y : Reply) (old new twin next : ModelState) → BlocksWellFormed setup.properties.granularity old.slots → old.slots ≡ twin.slots → AlikeCallEnvironment o p
+      → FoundStep setup d t o x old new → FoundStep setup e t p y twin next → (x ≡ y) × (new.slots ≡ next.slots)
+  found_alike None o p x y old new twin next sound slots met a b = refuse_alike _ o p x y old new twin next slots a b
+  found_alike (Some t) o p x y old new twin next sound slots met a b = serve_alike t o p x y old new twin next sound slots met a b
+
+  allocate_alike : (valid : Bool) (o p : CallEnvironment) (x y : Reply) (old new twin next : ModelState) → BlocksWellFormed setup.properties.granularity old.slots → old.slots ≡ twin.slots → AlikeCallEnvironment o p
+      → AllocateStep setup d valid o x old new → AllocateStep setup e valid p y twin next → (x ≡ y) × (new.slots ≡ next.slots)
+  allocate_alike false o p x y old new twin next sound slots met a b = refuse_alike _ o p x y old new twin next slots a b
+  allocate_alike true o p x y old new twin next sound slots met a b =
+      let types : best_type setup.properties.types d.requirements.memory_type_bits d.location ≡ best_type setup.properties.types e.requirements.memory_type_bits e.location =
+      λ i. best_type setup.properties.types (same.requirements i).memory_type_bits (same.location i) in
+      found_alike _ o p x y old new twin next sound slots met a (subst (λ t. FoundStep setup e t p y twin next) (sym types) b)
+
+  valid_alike : is_valid d ≡ is_valid e
+  valid_alike = ap (λ r. is_valid (record d { requirements = r })) same.requirements
+
+-- ---- a free
+
+module _ (setup : Setup) (t : ℕ) where
+  free_done_alike : (p : Option (Piece DeviceMemory)) (old new twin next : ModelState) → BlocksWellFormed setup.properties.granularity old.slots → old.slots ≡ twin.slots → FreeStep t p Done old new → FreeStep t p Done twin next → new.slots ≡ next.slots
+  free_done_alike None old new twin next sound slots a b = ap (λ s. s.slots) a ∙ slots ∙ sym (ap (λ s. s.slots) b)
+  free_done_alike (Some p) old new twin next sound slots a b =
+      let here = a.1 in
+      let there = b.1 in
+      let R : Slots → Type 0 = λ z. ReleasesPiece (IsTrue (has_several (slots_at z t))) (slots_at z t) p there.went there.left in
+      let other : R old.slots = subst R (sym slots) there.releases in
+      let once = released_once setup.properties.granularity (IsTrue (has_several (slots_at old.slots t))) (slots_at old.slots t) p here.went there.went here.left there.left (sound t) here.releases other in
+      here.slots ∙ (ap (slice_set old.slots t) once.1 ∙ (ap (λ z. slice_set z t there.left) slots ∙ sym there.slots))
+
+  free_fails_alike : (p : Option (Piece DeviceMemory)) (r s : Refusal) (old new next : ModelState) → BlocksWellFormed setup.properties.granularity old.slots → FreeStep t p (Fails r) old new → FreeStep t p (Fails s) old next → r ≡ s
+  free_fails_alike None r s old new next sound a b = absurd a
+  free_fails_alike (Some p) r s old new next sound a b = refusal_once is_same_memory setup.properties.granularity p (slot_at (slots_at old.slots t) p.slot) r s (sound t p.slot) a.1 b.1
+
+  failed_same : (p : Option (Piece DeviceMemory)) (r : Refusal) (old new : ModelState) → FreeStep t p (Fails r) old new → new.slots ≡ old.slots
+  failed_same None r old new a = absurd a
+  failed_same (Some p) r old new a = ap (λ s. s.slots) a.2
+
+  -- a refusal depends on the blocks alone
+  failed_twin : (p : Option (Piece DeviceMemory)) (r : Refusal) (old twin next : ModelState) → old.slots ≡ twin.slots → FreeStep t p (Fails r) twin next → FreeStep t p (Fails r) old old
+  failed_twin None r old twin next slots a = absurd a
+  failed_twin (Some p) r old twin next slots a = (
+    (λ live. a.0 (subst (λ z. IsLiveIn z t (Some p)) slots live)),
+    subst (λ z. IsFreeRefusal is_same_memory p (slot_at (slots_at z t) p.slot) r) (sym slots) a.1,
+    refl,
+  )
+
+  done_or_failed : (p : Option (Piece DeviceMemory)) (r : Refusal) (old new twin next : ModelState) → old.slots ≡ twin.slots → FreeStep t p Done old new → FreeStep t p (Fails r) twin next → ⊥
+  done_or_failed p r old new twin next slots a b = done_or_fails t p r old new old a (failed_twin p r old twin next slots b)
+
+  free_alike : (p : Option (Piece DeviceMemory)) (x y : Reply) (old new twin next : ModelState) → BlocksWellFormed setup.properties.granularity old.slots → old.slots ≡ twin.slots → FreeStep t p x old new → FreeStep t p y twin next → (x ≡ y) × (new.slots ≡ next.slots)
+  free_alike p x y old new twin next sound slots a b =
+      ⊎_elim
+      (λ ok. ⊎_elim
+      (λ also. (ok.0 ∙ sym also.0, free_done_alike p old new twin next sound slots ok.1 also.1))
+      (λ err. absurd (done_or_failed p err.0 old new twin next slots ok.1 err.2))
+      (free_reply t p y twin next b))
+      (λ err. ⊎_elim
+      (λ ok. absurd (done_or_failed p err.0 twin next old new (sym slots) ok.1 err.2))
+      (λ also.
+      let once = free_fails_alike p err.0 also.0 old new old sound err.2 (failed_twin p also.0 old twin next slots also.2) in
+      (err.1 ∙ ap Fails once ∙ sym also.1, failed_same p err.0 old new err.2 ∙ slots ∙ sym (failed_same p also.0 twin next also.2)))
+      (free_reply t p y twin next b))
+      (free_reply t p x old new a)
+
+-- ---- a new name
+
+module _ (setup : Setup) (t : ℕ) (name : List ℕ) where
+  -- what the step says of the blocks, as if all else had stayed
+  rename_done_alike : (p : Option (Piece DeviceMemory)) (host : Bool) (old new twin next : ModelState) → old.slots ≡ twin.slots → RenameStep t p name host Done old new → RenameStep t p name host Done twin next → new.slots ≡ next.slots
+  rename_done_alike None host old new twin next slots a b = ap (λ s. s.slots) a.1 ∙ slots ∙ sym (ap (λ s. s.slots) b.1)
+  rename_done_alike (Some p) host old new twin next slots a b =
+      let other = subst (λ z. RenamesPiece (slots_at z t) p name b.1.left) (sym slots) b.1.renames in
+      let left = renamed_once (slots_at old.slots t) p name a.1.left b.1.left a.1.renames other in
+      a.1.slots ∙ (ap (slice_set old.slots t) left ∙ (ap (λ z. slice_set z t b.1.left) slots ∙ sym b.1.slots))
+
+  named_same : (p : Option (Piece DeviceMemory)) (host : Bool) (r : Refusal) (old new : ModelState) → RenameStep t p name host (Fails r) old new → new.slots ≡ old.slots
+  named_same None host r old new a = ap (λ s. s.slots) a.2
+  named_same (Some p) host r old new a = ap (λ s. s.slots) a.1
+
+  named_twin : (p : Option (Piece DeviceMemory)) (host other : Bool) (r : Refusal) (old twin next : ModelState) → host ≡ other → old.slots ≡ twin.slots → RenameStep t p name other (Fails r) twin next → RenameStep t p name host (Fails r) old old
+  named_twin None host other r old twin next same slots a = (same ∙ a.0, a.1, refl)
+  named_twin (Some p) host other r old twin next same slots a = (
+    ⊎_elim
+        (λ starved. inl (same ∙ starved.0, subst (λ z. IsLiveIn z t (Some p)) (sym slots) starved.1, starved.2))
+        (λ dead. inr (
+          (λ live. dead.0 (subst (λ z. IsLiveIn z t (Some p)) slots live)),
+          dead.1,
+          subst (λ z. IsNameRefusal is_same_memory p (slot_at (slots_at z t) p.slot) r) (sym slots) dead.2,
+        ))
+        a.0,
+    refl,
+  )
+
+  named_or_failed : (p : Option (Piece DeviceMemory)) (host other : Bool) (r : Refusal) (old new twin next : ModelState) → host ≡ other → old.slots ≡ twin.slots
+      → RenameStep t p name host Done old new → RenameStep t p name other (Fails r) twin next → ⊥
+  named_or_failed p host other r old new twin next same slots a b = named_or_fails t p name host r old new old a (named_twin p host other r old twin next same slots b)
+
+  rename_alike : (p : Option (Piece DeviceMemory)) (host other : Bool) (x y : Reply) (old new twin next : ModelState) → BlocksWellFormed setup.properties.granularity old.slots → host ≡ other → old.slots ≡ twin.slots
+      → RenameStep t p name host x old new → RenameStep t p name other y twin next → (x ≡ y) × (new.slots ≡ next.slots)
+  rename_alike p host other x y old new twin next sound same slots a b =
+      ⊎_elim
+      (λ ok. ⊎_elim
+      (λ also. (ok.0 ∙ sym also.0, rename_done_alike p host old new twin next slots ok.1 (subst (λ h. RenameStep t p name h Done twin next) (sym same) also.1)))
+      (λ err. absurd (named_or_failed p host other err.0 old new twin next same slots ok.1 err.2))
+      (rename_reply t p name other y twin next b))
+      (λ err. ⊎_elim
+      (λ ok. absurd (named_or_failed p other host err.0 twin next old new (sym same) (sym slots) ok.1 err.2))
+      (λ also.
+      let once = rename_fails_once setup t p name host err.0 also.0 old new old sound err.2 (named_twin p host other also.0 old twin next same slots also.2) in
+      (err.1 ∙ ap Fails once.0 ∙ sym also.1, named_same p host err.0 old new err.2 ∙ slots ∙ sym (named_same p other also.0 twin next also.2)))
+      (rename_reply t p name other y twin next b))
+      (rename_reply t p name host x old new a)
+
+-- ---- bytes
+
+read_alike : (setup : Setup) (a : Allocation) (s t : ModelState) (x y : Option (List ℕ)) → s.slots ≡ t.slots → IsRead setup a s x → IsRead setup a t y → AlikeReply (Bytes x) (Bytes y)
+read_alike setup a s t None None slots h k = refl
+read_alike setup a s t None (Some ys) slots h k = absurd (h (subst (λ z. IsMapped setup.properties z a) (sym slots) k.0))
+read_alike setup a s t (Some xs) None slots h k = absurd (k (subst (λ z. IsMapped setup.properties z a) slots h.0))
+read_alike setup a s t (Some xs) (Some ys) slots h k = tt
+
+bytes_alike : (x y : Reply) (xs ys : Option (List ℕ)) → x ≡ Bytes xs → y ≡ Bytes ys → AlikeReply (Bytes xs) (Bytes ys) → AlikeReply x y
+bytes_alike x y xs ys e f h = subst (λ z. AlikeReply z y) (sym e) (subst (λ z. AlikeReply (Bytes xs) z) (sym f) h)
+
+-- the same reply is alike
+same_alike : (x y : Reply) → x ≡ y → AlikeReply x y
+same_alike (Bytes (Some xs)) (Bytes (Some ys)) e = tt
+same_alike (Bytes (Some xs)) (Bytes None) e = e
+same_alike (Bytes (Some xs)) (Given t p) e = e
+same_alike (Bytes (Some xs)) (Fails r) e = e
+same_alike (Bytes (Some xs)) Done e = e
+same_alike (Bytes (Some xs)) (Sum n) e = e
+same_alike (Bytes (Some xs)) (Shows r) e = e
+same_alike (Bytes (Some xs)) (Tells ts) e = e
+same_alike (Bytes None) y e = e
+same_alike (Given t p) y e = e
+same_alike (Fails r) y e = e
+same_alike Done y e = e
+same_alike (Sum n) y e = e
+same_alike (Shows r) y e = e
+same_alike (Tells ts) y e = e
+
+-- ---- any call
+
+module _ (setup : Setup) (o p : CallEnvironment) (x y : Reply) (old new twin next : ModelState) (sound : BlocksWellFormed setup.properties.granularity old.slots) (slots : old.slots ≡ twin.slots) (met : AlikeCallEnvironment o p) where
+  -- the same call
+  same_call : (call : Call) → Step setup call o x old new → Step setup call p y twin next → AlikeReply x y × (new.slots ≡ next.slots)
+  same_call (Allocate d) a b =
+      let once = allocate_alike setup d d (record { requirements = refl; location = refl; linear = refl; scheme = refl; name = refl }) (is_valid d) o p x y old new twin next sound slots met a b in
+      (same_alike x y once.0, once.1)
+  same_call (Free f) a b =
+      let once = free_alike setup f.memory_type_index (piece_of f) x y old new twin next sound slots a.1 b.1 in
+      (same_alike x y once.0, once.1)
+  same_call (Rename f name) a b =
+      let once = rename_alike setup f.memory_type_index name (piece_of f) o.first.host p.first.host x y old new twin next sound met.first.host slots a.1 b.1 in
+      (same_alike x y once.0, once.1)
+  same_call (Write w ws) a b =
+      let h = write_reply setup w ws o x old new a in
+      let k = write_reply setup w ws p y twin next b in
+      (same_alike x y (h.0 ∙ sym k.0), h.1.slots ∙ slots ∙ sym k.1.slots)
+  same_call (Read r) a b =
+      let h = read_reply setup r o x old new a in
+      let k = read_reply setup r p y twin next b in
+      (bytes_alike x y h.0 k.0 h.1 k.1 (read_alike setup r old twin h.0 k.0 slots h.2 k.2), ap (λ s. s.slots) h.3 ∙ slots ∙ sym (ap (λ s. s.slots) k.3))
+  same_call Capacity a b =
+      let h = sum_reply setup o x old new a in
+      let k = sum_reply setup p y twin next b in
+      (same_alike x y (h.0 ∙ ap (λ z. Sum (total_capacity z)) slots ∙ sym k.0), ap (λ s. s.slots) h.1 ∙ slots ∙ sym (ap (λ s. s.slots) k.1))
+  same_call Report a b =
+      let h = shown_reply o.first.host x old new a.1 in
+      let k = shown_reply p.first.host y twin next b.1 in
+      let there = subst (λ z. ((z ≡ true) × (y ≡ Shows (whole_report old.slots))) ⊎ ((z ≡ false) × (y ≡ Fails host_out_of_memory))) (sym met.first.host)
+      (subst (λ z. ((p.first.host ≡ true) × (y ≡ Shows (whole_report z))) ⊎ ((p.first.host ≡ false) × (y ≡ Fails host_out_of_memory))) (sym slots) k.1) in
+      (same_alike x y (by_host o.first.host x y (Shows (whole_report old.slots)) (Fails host_out_of_memory) h.1 there), ap (λ s. s.slots) h.0 ∙ slots ∙ sym (ap (λ s. s.slots) k.0))
+  same_call Leaks a b =
+      let h = told_reply o.first.host x old new a.1 in
+      let k = told_reply p.first.host y twin next b.1 in
+      let there = subst (λ z. ((z ≡ true) × (y ≡ Tells (map leak_text (all_leaks old.slots)))) ⊎ ((z ≡ false) × (y ≡ Fails host_out_of_memory))) (sym met.first.host)
+      (subst (λ z. ((p.first.host ≡ true) × (y ≡ Tells (map leak_text (all_leaks z)))) ⊎ ((p.first.host ≡ false) × (y ≡ Fails host_out_of_memory))) (sym slots) k.1) in
+      (same_alike x y (by_host o.first.host x y (Tells (map leak_text (all_leaks old.slots))) (Fails host_out_of_memory) h.1 there), ap (λ s. s.slots) h.0 ∙ slots ∙ sym (ap (λ s. s.slots) k.0))
+
+  to_same : (call other : Call) → call ≡ other → Step setup call o x old new → Step setup other p y twin next → AlikeReply x y × (new.slots ≡ next.slots)
+  to_same call other e a b = same_call call a (subst (λ c. Step setup c p y twin next) (sym e) b)
+
+  pub step_alike : (call other : Call) → AlikeCall call other → Step setup call o x old new → Step setup other p y twin next → AlikeReply x y × (new.slots ≡ next.slots)
+  step_alike (Allocate d) (Allocate e) same a b =
+      let once = allocate_alike setup d e same (is_valid d) o p x y old new twin next sound slots met a
+      (subst (λ v. AllocateStep setup e v p y twin next) (sym (valid_alike setup d e same)) b) in
+      (same_alike x y once.0, once.1)
+  step_alike (Write w ws) (Write v vs) same a b =
+      let h = write_reply setup w ws o x old new a in
+      let k = write_reply setup v vs p y twin next b in
+      (same_alike x y (h.0 ∙ sym k.0), h.1.slots ∙ slots ∙ sym k.1.slots)
+  step_alike (Allocate d) (Free f) same a b = to_same (Allocate d) (Free f) same a b
+  step_alike (Allocate d) (Rename f name) same a b = to_same (Allocate d) (Rename f name) same a b
+  step_alike (Allocate d) (Write w ws) same a b = to_same (Allocate d) (Write w ws) same a b
+  step_alike (Allocate d) (Read r) same a b = to_same (Allocate d) (Read r) same a b
+  step_alike (Allocate d) Capacity same a b = to_same (Allocate d) Capacity same a b
+  step_alike (Allocate d) Report same a b = to_same (Allocate d) Report same a b
+  step_alike (Allocate d) Leaks same a b = to_same (Allocate d) Leaks same a b
+  step_alike (Write w ws) (Allocate d) same a b = to_same (Write w ws) (Allocate d) same a b
+  step_alike (Write w ws) (Free f) same a b = to_same (Write w ws) (Free f) same a b
+  step_alike (Write w ws) (Rename f name) same a b = to_same (Write w ws) (Rename f name) same a b
+  step_alike (Write w ws) (Read r) same a b = to_same (Write w ws) (Read r) same a b
+  step_alike (Write w ws) Capacity same a b = to_same (Write w ws) Capacity same a b
+  step_alike (Write w ws) Report same a b = to_same (Write w ws) Report same a b
+  step_alike (Write w ws) Leaks same a b = to_same (Write w ws) Leaks same a b
+  step_alike (Free f) other same a b = to_same (Free f) other same a b
+  step_alike (Rename f name) other same a b = to_same (Rename f name) other same a b
+  step_alike (Read r) other same a b = to_same (Read r) other same a b
+  step_alike Capacity other same a b = to_same Capacity other same a b
+  step_alike Report other same a b = to_same Report other same a b
+  step_alike Leaks other same a b = to_same Leaks other same a b

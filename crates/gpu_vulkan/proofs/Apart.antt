@@ -1,0 +1,161 @@
+-- Live allocations lie inside their blocks, share no byte, and keep to pages of their kind; and each is aligned when it is given.
+use Rattle.std.proofs.Common.{◌≡◌, ◌≢◌, ◌∙◌, ℕ, ◌+◌, ◌-◌, ◌%◌, ◌<◌, ◌≤◌, sym, ap, subst, Bool, List, Option, Some, None, Ok, Err, Result, Contains, arith, inl, inr, ⊎_elim, IfOk}
+use Rattle.std.specs.Option.{option_map}
+use Rattle.std.specs.declared.num.NonZeroU64.{NonZeroU64}
+use Rattle.gpu_core.specs.Block.{Block, free_list, dedicated, extents_of, TakesIn, IsSoundBlock, HasPages, HasPagesApart}
+use Rattle.gpu_core.specs.FreeList.{Extent}
+use Rattle.gpu_core.specs.Place.{page}
+use Rattle.gpu_core.specs.Request.{Request}
+use Rattle.gpu_core.specs.Slots.{SlotIsSound}
+use Rattle.gpu_core.specs.TypeState.{Slot}
+use Rattle.gpu_core.specs.TypeTake.{Ready}
+use Rattle.gpu_core.specs.declared.memory_type.Piece.{Piece}
+use Rattle.gpu_core.proofs.Finding.{one_in, only_one}
+use Rattle.gpu_block_pieces.proofs.Separation.{within_of}
+use Rattle.gpu_values.specs.declared.allocation_type.AllocationType.{AllocationType}
+use Rattle.gpu_values.specs.declared.error.AllocationError.{AllocationError}
+use Rattle.gpu_device.specs.Held.{Held}
+use Rattle.gpu_device.specs.Properties.{Properties}
+use Rattle.gpu_device.specs.declared.vulkan.device.VulkanDevice.{Ghosts}
+use Rattle.gpu_device.specs.declared.vulkan.types.DeviceMemory.{DeviceMemory}
+use Rattle.gpu_vulkan.specs.Allocate.{Attempts, IsTooLarge, IsPlanned, Answers, IsServed, IsFollowed, next_after}
+use Rattle.gpu_vulkan.specs.Apart.{EndsInside, IsInside, SharesNoByte, pieces_in, HasKind, KeepsPages}
+use Rattle.gpu_vulkan.specs.Attempt.{AttemptEnvironment, Asked, Plan, Short, Serves, Needs, IsPlan, Answer, Gave, Refused, Comes, Settles, question}
+use Rattle.gpu_vulkan.specs.BlockAnswer.{BlockAnswer, Declined, Granted, Mapped, NotMapped}
+use Rattle.gpu_vulkan.specs.Blocks.{Slots, is_mapped, type_at, HoldsJustLiveBlocks}
+use Rattle.gpu_memory_types.specs.Blocks.{slots_at, block_at, total_capacity, BlocksWellFormed}
+use Rattle.gpu_vulkan.specs.Lends.{AreDistinct}
+use Rattle.gpu_vulkan.specs.Live.{IsLive}
+use Rattle.gpu_vulkan.specs.Setup.{Setup}
+use Rattle.gpu_vulkan.specs.declared.allocation.Allocation.{Allocation}
+use Rattle.gpu_vulkan.specs.declared.describe.AllocationCreateDesc.{AllocationCreateDesc}
+use Rattle.gpu_vulkan.proofs.Inside.{extent_inside}
+use Rattle.gpu_memory_types.proofs.Options.{none_some, some_same}
+use Rattle.gpu_vulkan.proofs.Writing.{Stands, stands, allocations_apart}
+
+-- ---- all live allocations
+
+-- pieces of different kinds in one block
+kinds_apart : (g : ℕ) (b : Block) → HasPages b g → IsSoundBlock b → HasPagesApart b → (x y : Extent) → Contains (extents_of b) x → Contains (extents_of b) y → x.kind ≢ y.kind → x.end ≤ y.offset
+    → page g (x.end - 1) < page g y.offset
+kinds_apart g (dedicated b) pages sound apart x y hx hy ne before = absurd (ne (ap (λ (z : Extent). z.kind) (only_one b.piece x y hx hy)))
+kinds_apart g (free_list b) pages sound apart x y hx hy ne before =
+    let wx = within_of b x sound hx in
+    let wy = within_of b y sound hy in
+    let first : x.end ≤ y.start =
+    ⊎_elim
+    (λ same. absurd (ne (ap (λ (z : Extent). z.kind) same)))
+    (λ either. ⊎_elim (λ low. low) (λ high. absurd (omega (arith, high, before, wx.0, wx.1, wy.1))) either)
+    (sound.apart x y hx hy) in
+    subst (λ k. page k (x.end - 1) < page k y.offset) (sym pages) (apart x y hx hy ne first)
+
+module _ (p : Properties) (first held : Held) (ss : Slots) (sound : BlocksWellFormed p.granularity ss) (h : HoldsJustLiveBlocks p first held ss) where
+  here_is : (a : Allocation) (x : Stands ss a) → block_at ss a.memory_type_index a.memory_block_index ≡ Some x.found.s
+  here_is a x = ap (block_at ss a.memory_type_index) (sym x.slot) ∙ x.found.at
+
+  sound_here : (a : Allocation) (x : Stands ss a) → SlotIsSound p.granularity (Some x.found.s)
+  sound_here a x = subst (SlotIsSound p.granularity) (here_is a x) (sound a.memory_type_index a.memory_block_index)
+
+  pub live_inside : (a : Allocation) → IsLive ss a → IsInside ss a
+  live_inside a live =
+      let x = stands ss a live in
+      let fits = extent_inside x.found.s.block x.found.x (sound_here a x).1 x.found.held in
+      subst (λ o. EndsInside o (a.offset + a.size)) (sym (here_is a x)) (omega (arith, fits, x.found.ends, x.offset, x.size))
+
+  pub live_apart : (a b : Allocation) → IsLive ss a → IsLive ss b → AreDistinct a b → SharesNoByte a b
+  live_apart a b live_a live_b other =
+      ⊎_elim
+      (λ ne. inl (λ e. ne e))
+      (λ apart. inr apart)
+      (allocations_apart p first held ss sound h b a live_b live_a other)
+
+  -- the kind of an allocation is that of the piece that it stands for
+  kind_is : (a : Allocation) (x : Stands ss a) (k : AllocationType) → HasKind ss a k → x.found.x.kind ≡ k
+  kind_is a x k has =
+      let held_there : Contains (extents_of x.found.s.block) has.0 = subst (λ o. Contains (pieces_in o) has.0) (here_is a x) has.1 in
+      let same : x.found.x ≡ has.0 = one_in x.found.s.block x.found.x has.0 (sound_here a x).1 x.found.held held_there (x.found.numbered ∙ x.number ∙ sym has.2) in
+      ap (λ (z : Extent). z.kind) same ∙ has.3
+
+  pub live_pages : (a b : Allocation) → IsLive ss a → IsLive ss b → KeepsPages p.granularity ss a b
+  live_pages a b live_a live_b = λ type slot j k has_j has_k ne before.
+      let x = stands ss a live_a in
+      let y = stands ss b live_b in
+      let same : x.found.s ≡ y.found.s = some_same x.found.s y.found.s (sym (here_is a x) ∙ ((λ i. block_at ss (type i) (slot i)) ∙ here_is b y)) in
+      let y_in : Contains (extents_of x.found.s.block) y.found.x = subst (λ (s : Slot DeviceMemory). Contains (extents_of s.block) y.found.x) (sym same) y.found.held in
+      let good = sound_here a x in
+      let differ : x.found.x.kind ≢ y.found.x.kind = λ e. ne (sym (kind_is a x j has_j) ∙ (e ∙ kind_is b y k has_k)) in
+      let ends : x.found.x.end ≡ a.offset + a.size = omega (arith, x.found.ends, x.offset, x.size) in
+      let begins : y.found.x.offset ≡ b.offset = y.found.begins ∙ y.offset in
+      subst (λ n. page p.granularity (a.offset + a.size - 1) < page p.granularity n) begins
+      (subst (λ n. page p.granularity (n - 1) < page p.granularity y.found.x.offset) ends
+      (kinds_apart p.granularity x.found.s.block good.0 good.1 good.2 x.found.x y.found.x x.found.held y_in differ (omega (arith, ends, begins, before))))
+
+-- ---- an allocation that is given is aligned
+
+abbrev IsAligned : (offset alignment : ℕ) → Type 0
+IsAligned offset alignment = offset % alignment ≡ 0
+
+takes_aligned : (old : Block) (r : Request) (o n : ℕ) (new : Block) → TakesIn old r o n new → IsAligned o r.alignment
+takes_aligned (free_list old) r o n (free_list new) t = t.chosen.fits.between.begins.begins.aligned
+takes_aligned (free_list old) r o n (dedicated new) t = absurd t
+takes_aligned (dedicated old) r o n (free_list new) t = absurd t
+takes_aligned (dedicated old) r o n (dedicated new) t = subst (λ k. IsAligned k r.alignment) (sym t.2) (zero_aligned r.alignment)
+  where
+    zero_aligned : (a : ℕ) → IsAligned 0 a
+    zero_aligned a = omega arith
+
+gave_same : (p q : Piece DeviceMemory) → Gave p ≡ Gave q → p ≡ q
+gave_same p q e = cc
+
+refused_gave : (r : _) (p : Piece DeviceMemory) → Gave p ≡ Refused r → ⊥
+refused_gave r p e = cc
+
+module _ (setup : Setup) (d : AllocationCreateDesc) where
+  abbrev a : ℕ
+  a = d.requirements.alignment
+
+  settled_aligned : (old : List (Option (Slot DeviceMemory))) (own : Bool) (ready : Ready) (b : BlockAnswer) (p : Piece DeviceMemory) (new : List (Option (Slot DeviceMemory))) → IsAligned ready.offset a → Settles old own ready b (Gave p) new → IsAligned p.offset a
+  settled_aligned old own ready (Declined code) p new fits s = absurd (refused_gave _ p s.0)
+  settled_aligned old own ready (NotMapped code) p new fits s = absurd (refused_gave _ p s.0)
+  settled_aligned old own ready (Granted n) p new fits s = subst (λ k. IsAligned k a) (sym (ap (λ (q : Piece DeviceMemory). q.offset) (gave_same p s.0 s.1) ∙ s.2.piece.0)) fits
+  settled_aligned old own ready (Mapped n bytes) p new fits s = subst (λ k. IsAligned k a) (sym (ap (λ (q : Piece DeviceMemory). q.offset) (gave_same p s.0 s.1) ∙ s.2.piece.0)) fits
+
+  planned_aligned : (t : ℕ) (old : Slots) (plan : Plan) (host : Bool) (o : Option Asked) (p : Piece DeviceMemory) (x : List (Option (Slot DeviceMemory))) → IsPlan setup (type_at setup.properties old t) d host plan
+      → Comes (total_capacity old) (question setup t d) (is_mapped setup.properties t) (slots_at old t) plan o (Gave p) x → IsAligned p.offset a
+  planned_aligned t old Short host None p x plan comes = absurd (refused_gave _ p comes.0)
+  planned_aligned t old Short host (Some q) p x plan comes = absurd comes
+  planned_aligned t old (Serves q taken) host None p x plan comes =
+      subst (λ k. IsAligned k a) (sym (ap (λ (z : Piece DeviceMemory). z.offset) (gave_same p q comes.0))) (takes_aligned _ _ _ _ _ plan.2.takes)
+  planned_aligned t old (Serves q taken) host (Some w) p x plan comes = absurd comes
+  planned_aligned t old (Needs size own ready) host None p x plan comes = absurd (refused_gave _ p comes.1)
+  planned_aligned t old (Needs size own ready) host (Some q) p x plan comes = settled_aligned (slots_at old t) own ready q.answer p x (takes_aligned _ _ _ _ _ plan.1.takes) comes.3
+
+  attempt_aligned : (t : ℕ) (old : Slots) (o : AttemptEnvironment) (p : Piece DeviceMemory) (new : Slots) → Attempts setup old t d o (Gave p) new → IsAligned p.offset a
+  attempt_aligned t old o p new at =
+      ⊎_elim
+      (λ (large : IsTooLarge setup old t d o (Gave p) new). absurd (refused_gave _ p large.answer_is))
+      (λ (plan : IsPlanned setup old t d o (Gave p) new). planned_aligned t old plan.plan o.host o.asked p plan.after plan.is_plan plan.comes)
+      at
+
+  given_offset : (x : Allocation) (chunk : Option NonZeroU64) (p : Piece DeviceMemory)
+      → option_map (λ n. record { slot = x.memory_block_index; number = n; offset = x.offset; size = x.size; block = x.device_memory }) chunk ≡ Some p → x.offset ≡ p.offset
+  given_offset x None p e = absurd (none_some p e)
+  given_offset x (Some n) p e = ap (λ (q : Piece DeviceMemory). q.offset) (some_same _ p e)
+
+  answer_aligned : (t : ℕ) (old : Slots) (o : AttemptEnvironment) (answer : Answer) (new : Slots) (result : Result Allocation AllocationError) → Attempts setup old t d o answer new → Answers setup t d result answer
+      → IfOk result (λ x. IsAligned x.offset a)
+  answer_aligned t old o (Gave p) new (Ok x) at given = subst (λ k. IsAligned k a) (sym (given_offset x x.chunk_id p given.piece)) (attempt_aligned t old o p new at)
+  answer_aligned t old o (Gave p) new (Err e) at given = absurd given
+  answer_aligned t old o (Refused r) new (Ok x) at given = absurd given
+  answer_aligned t old o (Refused r) new (Err e) at given = tt
+
+  followed_aligned : {D : Type 0} (g : Ghosts D) (o : Option ℕ) (mid : Slots) (between : D) (r result : Result Allocation AllocationError) (new : Slots) (after : D) → IfOk r (λ x. IsAligned x.offset a)
+      → IsFollowed g setup d o mid between r result new after → IfOk result (λ x. IsAligned x.offset a)
+  followed_aligned g None mid between r result new after first is = subst (λ z. IfOk z (λ x. IsAligned x.offset a)) (sym is.0) first
+  followed_aligned g (Some u) mid between r result new after first two = answer_aligned u mid two.environment two.answer new result two.attempts two.answers
+
+  pub served_aligned : {D : Type 0} (g : Ghosts D) (t : ℕ) (old : Slots) (device : D) (result : Result Allocation AllocationError) (new : Slots) (after : D) → IsServed g setup t d old device result new after
+      → IfOk result (λ x. x.offset % d.requirements.alignment ≡ 0)
+  served_aligned g t old device result new after s =
+      followed_aligned g (next_after setup d s.first) s.mid s.between s.first result new after
+      (answer_aligned t old s.attempt.environment s.attempt.answer s.mid s.first s.attempt.attempts s.attempt.answers) s.followed

@@ -1,0 +1,433 @@
+-- The model isn't loose: a state, a call and what it meets with decide the reply and the next state.
+use Rattle.std.proofs.Common.{inr, inl, map, ◌⊎◌, ◌≡◌, ◌∙◌, ℕ, suc, refl, sym, ap, subst, Bool, true, false, List, [], ◌∷◌, slice_get, slice_set, Option, Some, None, arith, ⊎_elim, IsTrue}
+use Rattle.std.proofs.lemmas.Bool.{cases_Bool, cases_lt, eqb-true}
+use Rattle.std.proofs.lemmas.Option.{slice_get_past}
+use Rattle.std.specs.Prelude.{◌&&◌, ◌==◌}
+use Rattle.gpu_core.specs.Refusal.{Refusal, host_out_of_memory}
+use Rattle.gpu_core.specs.Leak.{leak_text}
+use Rattle.gpu_core.specs.TypeRelease.{has_several}
+use Rattle.gpu_core.specs.TypeState.{Slot, slot_at}
+use Rattle.gpu_core.specs.TypeTake.{Ready}
+use Rattle.gpu_core.specs.declared.memory_type.Piece.{Piece}
+use Rattle.gpu_core.proofs.OneOutcome.{prepared_once, needed_once, serves_or_needs, installed_once, released_once, refusal_once, renamed_once, name_refusal_once}
+use Rattle.gpu_device.specs.declared.vulkan.types.DeviceMemory.{DeviceMemory}
+use Rattle.gpu_device.specs.declared.vulkan.types.MemoryAllocateInfo.{MemoryAllocateInfo}
+use Rattle.gpu_vulkan.specs.Allocate.{Attempts, IsTooLarge, IsPlanned, is_valid}
+use Rattle.gpu_vulkan.specs.Attempt.{AttemptEnvironment, Asked, Plan, Short, Serves, Needs, IsPlan, Answer, Gave, Refused, Comes, Settles, question, memory}
+use Rattle.gpu_vulkan.specs.BlockAnswer.{BlockAnswer, Declined, Granted, Mapped, NotMapped}
+use Rattle.gpu_vulkan.specs.Blocks.{Slots, is_mapped, type_at}
+use Rattle.gpu_memory_types.specs.Blocks.{slots_at, total_capacity, BlocksWellFormed}
+use Rattle.gpu_vulkan.specs.ByteView.{AllocationId, is_same_id, ByteView, IsOutOf, TakesOut, PutsBack, AddsBlock, Writes}
+use Rattle.gpu_vulkan.specs.Describe.{is_own, request_of}
+use Rattle.gpu_vulkan.specs.Live.{piece_of, is_same_memory}
+use Rattle.gpu_memory_types.specs.Leaks.{all_leaks}
+use Rattle.gpu_memory_types.specs.Reports.{whole_report}
+use Rattle.gpu_vulkan.specs.Setup.{Setup}
+use Rattle.gpu_vulkan.specs.Step.{ModelState, Call, Allocate, Free, Write, Rename, Report, Leaks, Read, Capacity, Reply, Given, Fails, Done, Bytes, Sum, Shows, Tells, RenameStep, ReportStep, LeaksStep, CallEnvironment, BytesAfter, AttemptStep, reply_of, next_by, Follows, ServeStep, RefuseStep, FoundStep, AllocateStep, MayDrop, ReleaseStep, FreeStep, WriteStep, IsRead, Step, id_in, id_of}
+use Rattle.gpu_vulkan.specs.declared.allocation.Allocation.{Allocation}
+use Rattle.gpu_vulkan.specs.declared.describe.AllocationCreateDesc.{AllocationCreateDesc}
+use Rattle.gpu_vulkan.proofs.Steps.{refused_same, none_next}
+
+abbrev SlotList : Type 0
+SlotList = List (Option (Slot DeviceMemory))
+
+pub false_true : false ≡ true → ⊥
+false_true e = cc
+
+-- ---- plans
+
+pub plan_once : (setup : Setup) (old : Slots) (t : ℕ) (d : AllocationCreateDesc) (host : Bool) (a b : Plan) → BlocksWellFormed setup.properties.granularity old
+    → IsPlan setup (type_at setup.properties old t) d host a → IsPlan setup (type_at setup.properties old t) d host b → a ≡ b
+plan_once setup old t d host Short Short sound x y = refl
+plan_once setup old t d host Short (Serves p taken) sound x y = absurd (false_true (sym x ∙ y.0))
+plan_once setup old t d host Short (Needs size own ready) sound x y = absurd (false_true (sym x ∙ y.0))
+plan_once setup old t d host (Serves p taken) Short sound x y = absurd (false_true (sym y ∙ x.0))
+plan_once setup old t d host (Serves p taken) (Serves q other) sound x y =
+    let once = prepared_once setup.properties.granularity (slots_at old t) (request_of d) p q taken other (sound t) x.2 y.2 in
+    let pieces = once.0 in
+    let lists = once.1 in
+    λ i. Serves (pieces i) (lists i)
+plan_once setup old t d host (Serves p taken) (Needs size own ready) sound x y =
+    absurd (serves_or_needs (type_at setup.properties old t) setup.sizes (is_own d.allocation_scheme) (request_of d) p taken size own ready x.1 x.2 y.1)
+plan_once setup old t d host (Needs size own ready) Short sound x y = absurd (false_true (sym y ∙ x.0))
+plan_once setup old t d host (Needs size own ready) (Serves p taken) sound x y =
+    absurd (serves_or_needs (type_at setup.properties old t) setup.sizes (is_own d.allocation_scheme) (request_of d) p taken size own ready y.1 y.2 x.1)
+plan_once setup old t d host (Needs size own ready) (Needs other kind next) sound x y =
+    let once = needed_once (type_at setup.properties old t) setup.sizes (is_own d.allocation_scheme) (request_of d) size other own kind ready next x.1 y.1 in
+    let sizes = once.0 in
+    let kinds = once.1 in
+    let readies = once.2 in
+    λ i. Needs (sizes i) (kinds i) (readies i)
+
+-- ---- answers
+
+pub settles_once : (old : SlotList) (own : Bool) (ready : Ready) (b : BlockAnswer) (x y : Answer) (new next : SlotList) → Settles old own ready b x new → Settles old own ready b y next → (x ≡ y) × (new ≡ next)
+settles_once old own ready (Declined code) x y new next s r = (s.0 ∙ sym r.0, s.1 ∙ sym r.1)
+settles_once old own ready (NotMapped code) x y new next s r = (s.0 ∙ sym r.0, s.1 ∙ sym r.1)
+settles_once old own ready (Granted n) x y new next s r =
+    let once = installed_once old own ready (memory n) s.0 r.0 new next s.2 r.2 in
+    (s.1 ∙ ap Gave once.0 ∙ sym r.1, once.1)
+settles_once old own ready (Mapped n bytes) x y new next s r =
+    let once = installed_once old own ready (memory n) s.0 r.0 new next s.2 r.2 in
+    (s.1 ∙ ap Gave once.0 ∙ sym r.1, once.1)
+
+comes_once : (used : ℕ) (ask : ℕ → MemoryAllocateInfo) (mapped : Bool) (old : SlotList) (plan : Plan) (o : Option Asked) (x y : Answer) (new next : SlotList)
+    → Comes used ask mapped old plan o x new → Comes used ask mapped old plan o y next → (x ≡ y) × (new ≡ next)
+comes_once used ask mapped old Short None x y new next c d = (c.0 ∙ sym d.0, c.1 ∙ sym d.1)
+comes_once used ask mapped old Short (Some a) x y new next c d = absurd c
+comes_once used ask mapped old (Serves p after) None x y new next c d = (c.0 ∙ sym d.0, c.1 ∙ sym d.1)
+comes_once used ask mapped old (Serves p after) (Some a) x y new next c d = absurd c
+comes_once used ask mapped old (Needs size own ready) None x y new next c d = (c.1 ∙ sym d.1, c.2 ∙ sym d.2)
+comes_once used ask mapped old (Needs size own ready) (Some a) x y new next c d = settles_once old own ready a.answer x y new next c.3 d.3
+
+attempts_once : (setup : Setup) (old : Slots) (t : ℕ) (d : AllocationCreateDesc) (o : AttemptEnvironment) (x y : Answer) (new next : Slots) → BlocksWellFormed setup.properties.granularity old
+    → Attempts setup old t d o x new → Attempts setup old t d o y next → (x ≡ y) × (new ≡ next)
+attempts_once setup old t d o x y new next sound a b =
+    ⊎_elim
+    (λ (la : IsTooLarge setup old t d o x new).
+    ⊎_elim
+    (λ (lb : IsTooLarge setup old t d o y next). (la.answer_is ∙ sym lb.answer_is, la.same ∙ sym lb.same))
+    (λ (pb : IsPlanned setup old t d o y next). let above = la.above in let below = pb.below in absurd (omega (arith, above, below)))
+    b)
+    (λ (pa : IsPlanned setup old t d o x new).
+    ⊎_elim
+    (λ (lb : IsTooLarge setup old t d o y next). let above = lb.above in let below = pa.below in absurd (omega (arith, above, below)))
+    (λ (pb : IsPlanned setup old t d o y next). planned_once pa pb)
+    b)
+    a
+  where
+    planned_once : (pa : IsPlanned setup old t d o x new) (pb : IsPlanned setup old t d o y next) → (x ≡ y) × (new ≡ next)
+    planned_once pa pb =
+        let same = plan_once setup old t d o.host pa.plan pb.plan sound pa.is_plan pb.is_plan in
+        let C : Plan → Type 0 = λ p. Comes (total_capacity old) (question setup t d) (is_mapped setup.properties t) (slots_at old t) p o.asked y pb.after in
+        let other : C pa.plan = subst C (sym same) pb.comes in
+        let once = comes_once (total_capacity old) (question setup t d) (is_mapped setup.properties t) (slots_at old t) pa.plan o.asked x y pa.after pb.after pa.comes other in
+        (once.0, pa.slots ∙ (ap (slice_set old t) once.1 ∙ sym pb.slots))
+
+-- ---- bytes
+
+ext_get : (xs ys : List ℕ) → ((i : ℕ) → slice_get xs i ≡ slice_get ys i) → xs ≡ ys
+ext_get [] [] h = refl
+ext_get [] (y ∷ ys) h = let e = h 0 in cc
+ext_get (x ∷ xs) [] h = let e = h 0 in cc
+ext_get (x ∷ xs) (y ∷ ys) h = let e = h 0 in let tails : xs ≡ ys = ext_get xs ys (λ i. h (suc i)) in cc
+
+out_once : (mapped : Bool) (rest : ℕ → Option ℕ) (start size : ℕ) (a b : Option (List ℕ)) → IsOutOf mapped rest start size a → IsOutOf mapped rest start size b → a ≡ b
+out_once false rest start size a b x y = x ∙ sym y
+out_once true rest start size None b x y = absurd x
+out_once true rest start size (Some xs) None x y = absurd y
+out_once true rest start size (Some xs) (Some ys) x y =
+    ap Some (ext_get xs ys (λ i.
+    ⊎_elim
+    (λ lt. x.1 i lt ∙ sym (y.1 i lt))
+    (λ ge. slice_get_past xs i (let l = x.0 in omega (arith, l, ge)) ∙ sym (slice_get_past ys i (let l = y.0 in omega (arith, l, ge))))
+    (cases_lt i size)))
+
+pub buffers_alike : (a b : ByteView) → ((q : AllocationId) → a.lists q ≡ b.lists q) → ((t i at : ℕ) → a.rest t i at ≡ b.rest t i at) → a ≡ b
+buffers_alike a b lists rest = λ l. record { lists = λ q. lists q l; rest = λ t i at. rest t i at l }
+
+both_true : (a b : Bool) → (a && b) ≡ true → (a ≡ true) × (b ≡ true)
+both_true true true e = (refl, refl)
+both_true true false e = cc
+both_true false b e = cc
+
+place_same : (p q : AllocationId) → is_same_id p q ≡ true → p ≡ q
+place_same p q e =
+    let a = both_true (p.memory_type == q.memory_type) ((p.slot == q.slot) && (p.number == q.number)) e in
+    let b = both_true (p.slot == q.slot) (p.number == q.number) a.1 in
+    let types = eqb-true p.memory_type q.memory_type a.0 in
+    let slots = eqb-true p.slot q.slot b.0 in
+    let numbers = eqb-true p.number q.number b.1 in
+    λ i. record { memory_type = types i; slot = slots i; number = numbers i }
+
+lists_alike : (p : AllocationId) (old new next : ByteView) → new.lists p ≡ next.lists p → ((q : AllocationId) → is_same_id p q ≡ false → new.lists q ≡ old.lists q) → ((q : AllocationId) → is_same_id p q ≡ false → next.lists q ≡ old.lists q)
+    → (q : AllocationId) → new.lists q ≡ next.lists q
+lists_alike p old new next here a b q =
+    ⊎_elim
+    (λ is. subst (λ r. new.lists r ≡ next.lists r) (place_same p q is) here)
+    (λ isnt. a q isnt ∙ sym (b q isnt))
+    (cases_Bool (is_same_id p q))
+
+takes_out_once : (mapped : Bool) (p : AllocationId) (start size : ℕ) (old new next : ByteView) → TakesOut mapped p start size old new → TakesOut mapped p start size old next → new ≡ next
+takes_out_once mapped p start size old new next a b =
+    buffers_alike new next
+    (lists_alike p old new next (out_once mapped (old.rest p.memory_type p.slot) start size (new.lists p) (next.lists p) a.list b.list) a.others b.others)
+    (λ t i at. a.rest t i at ∙ sym (b.rest t i at))
+
+puts_back_once : (p : AllocationId) (start size : ℕ) (old new next : ByteView) → PutsBack p start size old new → PutsBack p start size old next → new ≡ next
+puts_back_once p start size old new next a b =
+    buffers_alike new next (lists_alike p old new next (a.gone ∙ sym b.gone) a.others b.others) (λ t i at. a.rest t i at ∙ sym (b.rest t i at))
+
+adds_once : (t i : ℕ) (bytes : Option (List ℕ)) (old new next : ByteView) → AddsBlock t i bytes old new → AddsBlock t i bytes old next → new ≡ next
+adds_once t i bytes old new next a b = buffers_alike new next (λ q. a.lists q ∙ sym (b.lists q)) (λ u j at. a.rest u j at ∙ sym (b.rest u j at))
+
+drops_once : (t i : ℕ) (went : Option DeviceMemory) (old new next : ByteView) → MayDrop t i went old new → MayDrop t i went old next → new ≡ next
+drops_once t i None old new next a b = a ∙ sym b
+drops_once t i (Some m) old new next a b = buffers_alike new next (λ q. a.lists q ∙ sym (b.lists q)) (λ u j at. a.rest u j at ∙ sym (b.rest u j at))
+
+bytes_once : (mapped : Bool) (t : ℕ) (o : Option Asked) (answer : Answer) (old new next : ByteView) → BytesAfter mapped t o answer old new → BytesAfter mapped t o answer old next → new ≡ next
+bytes_once mapped t None (Refused r) old new next a b = a ∙ sym b
+bytes_once mapped t (Some asked) (Refused r) old new next a b = a ∙ sym b
+bytes_once mapped t None (Gave p) old new next a b = takes_out_once mapped (id_in t p) p.offset p.size old new next a b
+bytes_once mapped t (Some asked) (Gave p) old new next a b =
+    let mids = adds_once t p.slot _ old a.0 b.0 a.1 b.1 in
+    takes_out_once mapped (id_in t p) p.offset p.size a.0 new next a.2 (subst (λ m. TakesOut mapped (id_in t p) p.offset p.size m next) (sym mids) b.2)
+
+states_alike : (a b : ModelState) → a.slots ≡ b.slots → a.buffers ≡ b.buffers → a ≡ b
+states_alike a b slots buffers = λ i. record { slots = slots i; buffers = buffers i }
+
+attempt_once : (setup : Setup) (t : ℕ) (d : AllocationCreateDesc) (o : AttemptEnvironment) (x y : Answer) (old new next : ModelState) → BlocksWellFormed setup.properties.granularity old.slots
+    → AttemptStep setup t d o x old new → AttemptStep setup t d o y old next → (x ≡ y) × (new ≡ next)
+attempt_once setup t d o x y old new next sound a b =
+    let once = attempts_once setup old.slots t d o x y new.slots next.slots sound a.slots b.slots in
+    let other : BytesAfter (is_mapped setup.properties t) t o.asked x old.buffers next.buffers = subst (λ w. BytesAfter (is_mapped setup.properties t) t o.asked w old.buffers next.buffers) (sym once.0) b.bytes in
+    (once.0, states_alike new next once.1 (bytes_once (is_mapped setup.properties t) t o.asked x old.buffers new.buffers next.buffers a.bytes other))
+
+-- ---- an allocation
+
+follows_once : (setup : Setup) (d : AllocationCreateDesc) (u : Option ℕ) (o : AttemptEnvironment) (t : ℕ) (first : Answer) (mid : ModelState) (x y : Reply) (new next : ModelState)
+    → ((v : ℕ) → u ≡ Some v → BlocksWellFormed setup.properties.granularity mid.slots) → Follows setup d u o t first mid x new → Follows setup d u o t first mid y next → (x ≡ y) × (new ≡ next)
+follows_once setup d None o t first mid x y new next sound a b = (a.1 ∙ sym b.1, a.2 ∙ sym b.2)
+follows_once setup d (Some u) o t first mid x y new next sound a b =
+    let once = attempt_once setup u d o a.0 b.0 mid new next (sound u refl) a.1 b.1 in
+    (a.2 ∙ ap (reply_of u) once.0 ∙ sym b.2, once.1)
+
+pub mid_sound : (setup : Setup) (t u : ℕ) (d : AllocationCreateDesc) (o : AttemptEnvironment) (answer : Answer) (old mid : ModelState) → BlocksWellFormed setup.properties.granularity old.slots → AttemptStep setup t d o answer old mid
+    → next_by setup d answer ≡ Some u → BlocksWellFormed setup.properties.granularity mid.slots
+mid_sound setup t u d o (Gave p) old mid sound a is = absurd (none_next setup d u p is)
+mid_sound setup t u d o (Refused r) old mid sound a is = subst (BlocksWellFormed setup.properties.granularity) (sym (refused_same setup old.slots t d o r mid.slots a.slots)) sound
+
+serve_once : (setup : Setup) (t : ℕ) (d : AllocationCreateDesc) (o : CallEnvironment) (x y : Reply) (old new next : ModelState) → BlocksWellFormed setup.properties.granularity old.slots
+    → ServeStep setup t d o x old new → ServeStep setup t d o y old next → (x ≡ y) × (new ≡ next)
+serve_once setup t d o x y old new next sound a b =
+    let first = attempt_once setup t d o.first a.answer b.answer old a.mid b.mid sound a.attempt b.attempt in
+    let answers = first.0 in
+    let mids = first.1 in
+    let other : Follows setup d (next_by setup d a.answer) o.second t a.answer a.mid y next =
+    subst (λ m. Follows setup d (next_by setup d a.answer) o.second t a.answer m y next) (sym mids)
+    (subst (λ w. Follows setup d (next_by setup d w) o.second t w b.mid y next) (sym answers) b.follows) in
+    follows_once setup d (next_by setup d a.answer) o.second t a.answer a.mid x y new next (λ v is. mid_sound setup t v d o.first a.answer old a.mid sound a.attempt is) a.follows other
+
+refuse_once : (r : Refusal) (o : CallEnvironment) (x y : Reply) (old new next : ModelState) → RefuseStep r o x old new → RefuseStep r o y old next → (x ≡ y) × (new ≡ next)
+refuse_once r o x y old new next a b = (a.reply_is ∙ sym b.reply_is, a.same ∙ sym b.same)
+
+found_once : (setup : Setup) (d : AllocationCreateDesc) (t : Option ℕ) (o : CallEnvironment) (x y : Reply) (old new next : ModelState) → BlocksWellFormed setup.properties.granularity old.slots
+    → FoundStep setup d t o x old new → FoundStep setup d t o y old next → (x ≡ y) × (new ≡ next)
+found_once setup d None o x y old new next sound a b = refuse_once _ o x y old new next a b
+found_once setup d (Some t) o x y old new next sound a b = serve_once setup t d o x y old new next sound a b
+
+allocate_once : (setup : Setup) (d : AllocationCreateDesc) (valid : Bool) (o : CallEnvironment) (x y : Reply) (old new next : ModelState) → BlocksWellFormed setup.properties.granularity old.slots
+    → AllocateStep setup d valid o x old new → AllocateStep setup d valid o y old next → (x ≡ y) × (new ≡ next)
+allocate_once setup d false o x y old new next sound a b = refuse_once _ o x y old new next a b
+allocate_once setup d true o x y old new next sound a b = found_once setup d _ o x y old new next sound a b
+
+-- ---- a free
+
+release_once : (setup : Setup) (t : ℕ) (p : Piece DeviceMemory) (old new next : ModelState) → BlocksWellFormed setup.properties.granularity old.slots → ReleaseStep t p old new → ReleaseStep t p old next → new ≡ next
+release_once setup t p old new next sound a b =
+    let once = released_once setup.properties.granularity (IsTrue (has_several (slots_at old.slots t))) (slots_at old.slots t) p a.went b.went a.left b.left (sound t) a.releases b.releases in
+    let mids = puts_back_once (id_in t p) p.offset p.size old.buffers a.mid b.mid a.back b.back in
+    let went = once.0 in
+    let other : MayDrop t p.slot a.went a.mid next.buffers = subst (λ m. MayDrop t p.slot a.went m next.buffers) (sym mids) (subst (λ w. MayDrop t p.slot w b.mid next.buffers) (sym went) b.drops) in
+    states_alike new next (a.slots ∙ (ap (slice_set old.slots t) once.1 ∙ sym b.slots)) (drops_once t p.slot a.went a.mid new.buffers next.buffers a.drops other)
+
+-- a free is done, or refused
+pub free_reply : (t : ℕ) (p : Option (Piece DeviceMemory)) (x : Reply) (old new : ModelState) → FreeStep t p x old new
+    → ((x ≡ Done) × FreeStep t p Done old new) ⊎ ((r : Refusal) × (x ≡ Fails r) × FreeStep t p (Fails r) old new)
+free_reply t None (Given u q) old new s = absurd s
+free_reply t None (Fails r) old new s = absurd s
+free_reply t None Done old new s = inl (refl, s)
+free_reply t None (Bytes xs) old new s = absurd s
+free_reply t None (Sum n) old new s = absurd s
+free_reply t None (Shows w) old new s = absurd s
+free_reply t None (Tells zs) old new s = absurd s
+free_reply t (Some p) (Given u q) old new s = absurd s
+free_reply t (Some p) (Fails r) old new s = inr (r, refl, s)
+free_reply t (Some p) Done old new s = inl (refl, s)
+free_reply t (Some p) (Bytes xs) old new s = absurd s
+free_reply t (Some p) (Sum n) old new s = absurd s
+free_reply t (Some p) (Shows w) old new s = absurd s
+free_reply t (Some p) (Tells zs) old new s = absurd s
+
+free_done_once : (setup : Setup) (t : ℕ) (p : Option (Piece DeviceMemory)) (old new next : ModelState) → BlocksWellFormed setup.properties.granularity old.slots → FreeStep t p Done old new → FreeStep t p Done old next → new ≡ next
+free_done_once setup t None old new next sound a b = a ∙ sym b
+free_done_once setup t (Some p) old new next sound a b = release_once setup t p old new next sound a.1 b.1
+
+pub done_or_fails : (t : ℕ) (p : Option (Piece DeviceMemory)) (r : Refusal) (old new next : ModelState) → FreeStep t p Done old new → FreeStep t p (Fails r) old next → ⊥
+done_or_fails t None r old new next a b = b
+done_or_fails t (Some p) r old new next a b = b.0 a.0
+
+free_fails_once : (setup : Setup) (t : ℕ) (p : Option (Piece DeviceMemory)) (r s : Refusal) (old new next : ModelState) → BlocksWellFormed setup.properties.granularity old.slots → FreeStep t p (Fails r) old new → FreeStep t p (Fails s) old next → (r ≡ s) × (new ≡ next)
+free_fails_once setup t None r s old new next sound a b = absurd a
+free_fails_once setup t (Some p) r s old new next sound a b =
+    (refusal_once is_same_memory setup.properties.granularity p (slot_at (slots_at old.slots t) p.slot) r s (sound t p.slot) a.1 b.1, a.2 ∙ sym b.2)
+
+free_once : (setup : Setup) (t : ℕ) (p : Option (Piece DeviceMemory)) (x y : Reply) (old new next : ModelState) → BlocksWellFormed setup.properties.granularity old.slots → FreeStep t p x old new → FreeStep t p y old next → (x ≡ y) × (new ≡ next)
+free_once setup t p x y old new next sound a b =
+    ⊎_elim
+    (λ ok. ⊎_elim
+    (λ also. (ok.0 ∙ sym also.0, free_done_once setup t p old new next sound ok.1 also.1))
+    (λ err. absurd (done_or_fails t p err.0 old new next ok.1 err.2))
+    (free_reply t p y old next b))
+    (λ err. ⊎_elim
+    (λ ok. absurd (done_or_fails t p err.0 old next new ok.1 err.2))
+    (λ also. let once = free_fails_once setup t p err.0 also.0 old new next sound err.2 also.2 in (err.1 ∙ ap Fails once.0 ∙ sym also.1, once.1))
+    (free_reply t p y old next b))
+    (free_reply t p x old new a)
+
+-- ---- a new name
+
+pub rename_reply : (t : ℕ) (p : Option (Piece DeviceMemory)) (name : List ℕ) (host : Bool) (x : Reply) (old new : ModelState) → RenameStep t p name host x old new
+    → ((x ≡ Done) × RenameStep t p name host Done old new) ⊎ ((r : Refusal) × (x ≡ Fails r) × RenameStep t p name host (Fails r) old new)
+rename_reply t None name host (Given u q) old new s = absurd s
+rename_reply t None name host (Fails r) old new s = inr (r, refl, s)
+rename_reply t None name host Done old new s = inl (refl, s)
+rename_reply t None name host (Bytes xs) old new s = absurd s
+rename_reply t None name host (Sum n) old new s = absurd s
+rename_reply t None name host (Shows w) old new s = absurd s
+rename_reply t None name host (Tells zs) old new s = absurd s
+rename_reply t (Some p) name host (Given u q) old new s = absurd s
+rename_reply t (Some p) name host (Fails r) old new s = inr (r, refl, s)
+rename_reply t (Some p) name host Done old new s = inl (refl, s)
+rename_reply t (Some p) name host (Bytes xs) old new s = absurd s
+rename_reply t (Some p) name host (Sum n) old new s = absurd s
+rename_reply t (Some p) name host (Shows w) old new s = absurd s
+rename_reply t (Some p) name host (Tells zs) old new s = absurd s
+
+rename_done_once : (t : ℕ) (p : Option (Piece DeviceMemory)) (name : List ℕ) (host : Bool) (old new next : ModelState) → RenameStep t p name host Done old new → RenameStep t p name host Done old next → new ≡ next
+rename_done_once t None name host old new next a b = a.1 ∙ sym b.1
+rename_done_once t (Some p) name host old new next a b =
+    let left = renamed_once (slots_at old.slots t) p name a.1.left b.1.left a.1.renames b.1.renames in
+    states_alike new next (a.1.slots ∙ (ap (slice_set old.slots t) left ∙ sym b.1.slots)) (a.2 ∙ sym b.2)
+
+pub named_or_fails : (t : ℕ) (p : Option (Piece DeviceMemory)) (name : List ℕ) (host : Bool) (r : Refusal) (old new next : ModelState) → RenameStep t p name host Done old new → RenameStep t p name host (Fails r) old next → ⊥
+named_or_fails t None name host r old new next a b = false_true (sym b.0 ∙ a.0)
+named_or_fails t (Some p) name host r old new next a b =
+    ⊎_elim (λ starved. false_true (sym starved.0 ∙ a.0)) (λ dead. dead.0 a.1.live) b.0
+
+pub rename_fails_once : (setup : Setup) (t : ℕ) (p : Option (Piece DeviceMemory)) (name : List ℕ) (host : Bool) (r s : Refusal) (old new next : ModelState) → BlocksWellFormed setup.properties.granularity old.slots
+    → RenameStep t p name host (Fails r) old new → RenameStep t p name host (Fails s) old next → (r ≡ s) × (new ≡ next)
+rename_fails_once setup t None name host r s old new next sound a b = (a.1 ∙ sym b.1, a.2 ∙ sym b.2)
+rename_fails_once setup t (Some p) name host r s old new next sound a b = (
+  ⊎_elim
+      (λ x. ⊎_elim (λ y. x.2 ∙ sym y.2) (λ dead. absurd (dead.0 x.1)) b.0)
+      (λ dead. ⊎_elim
+      (λ y. absurd (dead.0 y.1))
+      (λ also. name_refusal_once is_same_memory setup.properties.granularity p (slot_at (slots_at old.slots t) p.slot) r s (sound t p.slot) dead.1 also.1 dead.2 also.2)
+      b.0)
+      a.0,
+  a.1 ∙ sym b.1,
+)
+
+rename_once : (setup : Setup) (t : ℕ) (p : Option (Piece DeviceMemory)) (name : List ℕ) (host : Bool) (x y : Reply) (old new next : ModelState) → BlocksWellFormed setup.properties.granularity old.slots
+    → RenameStep t p name host x old new → RenameStep t p name host y old next → (x ≡ y) × (new ≡ next)
+rename_once setup t p name host x y old new next sound a b =
+    ⊎_elim
+    (λ ok. ⊎_elim
+    (λ also. (ok.0 ∙ sym also.0, rename_done_once t p name host old new next ok.1 also.1))
+    (λ err. absurd (named_or_fails t p name host err.0 old new next ok.1 err.2))
+    (rename_reply t p name host y old next b))
+    (λ err. ⊎_elim
+    (λ ok. absurd (named_or_fails t p name host err.0 old next new ok.1 err.2))
+    (λ also. let once = rename_fails_once setup t p name host err.0 also.0 old new next sound err.2 also.2 in (err.1 ∙ ap Fails once.0 ∙ sym also.1, once.1))
+    (rename_reply t p name host y old next b))
+    (rename_reply t p name host x old new a)
+
+-- ---- what is shown and told
+
+-- a reply to a call that shows something, or wants host memory
+pub shown_reply : (host : Bool) (x : Reply) (old new : ModelState) → ReportStep host x old new → (new ≡ old) × (((host ≡ true) × (x ≡ Shows (whole_report old.slots))) ⊎ ((host ≡ false) × (x ≡ Fails host_out_of_memory)))
+shown_reply host (Given u q) old new s = absurd s
+shown_reply host (Fails r) old new s = (s.2, inr (s.0, ap Fails s.1))
+shown_reply host Done old new s = absurd s
+shown_reply host (Bytes xs) old new s = absurd s
+shown_reply host (Sum n) old new s = absurd s
+shown_reply host (Shows w) old new s = (s.2, inl (s.0, ap Shows s.1))
+shown_reply host (Tells zs) old new s = absurd s
+
+pub told_reply : (host : Bool) (x : Reply) (old new : ModelState) → LeaksStep host x old new → (new ≡ old) × (((host ≡ true) × (x ≡ Tells (map leak_text (all_leaks old.slots)))) ⊎ ((host ≡ false) × (x ≡ Fails host_out_of_memory)))
+told_reply host (Given u q) old new s = absurd s
+told_reply host (Fails r) old new s = (s.2, inr (s.0, ap Fails s.1))
+told_reply host Done old new s = absurd s
+told_reply host (Bytes xs) old new s = absurd s
+told_reply host (Sum n) old new s = absurd s
+told_reply host (Shows w) old new s = absurd s
+told_reply host (Tells zs) old new s = (s.2, inl (s.0, ap Tells s.1))
+
+pub by_host : (host : Bool) (x y a b : Reply) → ((host ≡ true) × (x ≡ a)) ⊎ ((host ≡ false) × (x ≡ b)) → ((host ≡ true) × (y ≡ a)) ⊎ ((host ≡ false) × (y ≡ b)) → x ≡ y
+by_host host x y a b h k =
+    ⊎_elim
+    (λ p. ⊎_elim (λ q. p.1 ∙ sym q.1) (λ q. absurd (false_true (sym q.0 ∙ p.0))) k)
+    (λ p. ⊎_elim (λ q. absurd (false_true (sym p.0 ∙ q.0))) (λ q. p.1 ∙ sym q.1) k)
+    h
+
+-- ---- bytes
+
+writes_once : (p : AllocationId) (ws : List ℕ) (old new next : ByteView) → Writes p ws old new → Writes p ws old next → new ≡ next
+writes_once p ws old new next a b = buffers_alike new next (lists_alike p old new next (a.list ∙ sym b.list) a.others b.others) (λ t i at. a.rest t i at ∙ sym (b.rest t i at))
+
+write_once : (setup : Setup) (a : Allocation) (ws : List ℕ) (old new next : ModelState) → WriteStep setup a ws old new → WriteStep setup a ws old next → new ≡ next
+write_once setup a ws old new next x y = states_alike new next (x.slots ∙ sym y.slots) (writes_once (id_of a) ws old.buffers new.buffers next.buffers x.writes y.writes)
+
+read_once : (setup : Setup) (a : Allocation) (s : ModelState) (x y : Option (List ℕ)) → IsRead setup a s x → IsRead setup a s y → x ≡ y
+read_once setup a s None None h k = refl
+read_once setup a s None (Some ys) h k = absurd (h k.0)
+read_once setup a s (Some xs) None h k = absurd (k h.0)
+read_once setup a s (Some xs) (Some ys) h k = sym h.1 ∙ k.1
+
+-- ---- the replies that a call may give
+
+pub write_reply : (setup : Setup) (a : Allocation) (ws : List ℕ) (o : CallEnvironment) (x : Reply) (old new : ModelState) → Step setup (Write a ws) o x old new → (x ≡ Done) × WriteStep setup a ws old new
+write_reply setup a ws o (Given u q) old new s = absurd s
+write_reply setup a ws o (Fails r) old new s = absurd s
+write_reply setup a ws o Done old new s = (refl, s.1)
+write_reply setup a ws o (Bytes xs) old new s = absurd s
+write_reply setup a ws o (Sum n) old new s = absurd s
+write_reply setup a ws o (Shows w) old new s = absurd s
+write_reply setup a ws o (Tells zs) old new s = absurd s
+
+pub read_reply : (setup : Setup) (a : Allocation) (o : CallEnvironment) (x : Reply) (old new : ModelState) → Step setup (Read a) o x old new → (xs : Option (List ℕ)) × (x ≡ Bytes xs) × IsRead setup a old xs × (new ≡ old)
+read_reply setup a o (Given u q) old new s = absurd s
+read_reply setup a o (Fails r) old new s = absurd s
+read_reply setup a o Done old new s = absurd s
+read_reply setup a o (Bytes xs) old new s = (xs, refl, s.1, s.2)
+read_reply setup a o (Sum n) old new s = absurd s
+read_reply setup a o (Shows w) old new s = absurd s
+read_reply setup a o (Tells zs) old new s = absurd s
+
+pub sum_reply : (setup : Setup) (o : CallEnvironment) (x : Reply) (old new : ModelState) → Step setup Capacity o x old new → (x ≡ Sum (total_capacity old.slots)) × (new ≡ old)
+sum_reply setup o (Given u q) old new s = absurd s
+sum_reply setup o (Fails r) old new s = absurd s
+sum_reply setup o Done old new s = absurd s
+sum_reply setup o (Bytes xs) old new s = absurd s
+sum_reply setup o (Sum n) old new s = (ap Sum s.1, s.2)
+sum_reply setup o (Shows w) old new s = absurd s
+sum_reply setup o (Tells zs) old new s = absurd s
+
+-- ---- any call
+
+pub step_once : (setup : Setup) (call : Call) (o : CallEnvironment) (x y : Reply) (old new next : ModelState) → BlocksWellFormed setup.properties.granularity old.slots
+    → Step setup call o x old new → Step setup call o y old next → (x ≡ y) × (new ≡ next)
+step_once setup (Allocate d) o x y old new next sound a b = allocate_once setup d (is_valid d) o x y old new next sound a b
+step_once setup (Free f) o x y old new next sound a b = free_once setup f.memory_type_index (piece_of f) x y old new next sound a.1 b.1
+step_once setup (Write w ws) o x y old new next sound a b =
+    let p = write_reply setup w ws o x old new a in
+    let q = write_reply setup w ws o y old next b in
+    (p.0 ∙ sym q.0, write_once setup w ws old new next p.1 q.1)
+step_once setup (Read r) o x y old new next sound a b =
+    let p = read_reply setup r o x old new a in
+    let q = read_reply setup r o y old next b in
+    (p.1 ∙ ap Bytes (read_once setup r old p.0 q.0 p.2 q.2) ∙ sym q.1, p.3 ∙ sym q.3)
+step_once setup Capacity o x y old new next sound a b =
+    let p = sum_reply setup o x old new a in
+    let q = sum_reply setup o y old next b in
+    (p.0 ∙ sym q.0, p.1 ∙ sym q.1)
+step_once setup (Rename f name) o x y old new next sound a b = rename_once setup f.memory_type_index (piece_of f) name o.first.host x y old new next sound a.1 b.1
+step_once setup Report o x y old new next sound a b =
+    let p = shown_reply o.first.host x old new a.1 in
+    let q = shown_reply o.first.host y old next b.1 in
+    (by_host o.first.host x y (Shows (whole_report old.slots)) (Fails host_out_of_memory) p.1 q.1, p.0 ∙ sym q.0)
+step_once setup Leaks o x y old new next sound a b =
+    let p = told_reply o.first.host x old new a.1 in
+    let q = told_reply o.first.host y old next b.1 in
+    (by_host o.first.host x y (Tells (map leak_text (all_leaks old.slots))) (Fails host_out_of_memory) p.1 q.1, p.0 ∙ sym q.0)

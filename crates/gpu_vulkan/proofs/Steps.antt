@@ -1,0 +1,210 @@
+-- The calls of an allocator are steps of the model.
+use Rattle.std.proofs.Common.{◌≡◌, ◌∙◌, ℕ, ◌<◌, refl, sym, ap, subst, Bool, true, false, List, length, slice_set, Option, Some, None, Ok, Err, Result, arith, ⊎_elim}
+use Rattle.std.specs.FinMap.{get}
+use Rattle.gpu_core.specs.Refusal.{Refusal, refusal_of, refusal_in, invalid_allocation_create_desc, no_compatible_memory_type_found}
+use Rattle.gpu_core.specs.TypeState.{Slot}
+use Rattle.gpu_core.specs.declared.memory_type.Piece.{Piece}
+use Rattle.gpu_values.specs.declared.error.AllocationError.{AllocationError}
+use Rattle.gpu_device.specs.Held.{Held, IsWhole}
+use Rattle.gpu_device.specs.declared.vulkan.device.VulkanDevice.{Ghosts}
+use Rattle.gpu_device.specs.declared.vulkan.types.DeviceMemory.{DeviceMemory}
+use Rattle.gpu_vulkan.specs.Allocate.{Attempts, IsTooLarge, IsPlanned, IsAttempt, Answers, IsServed, IsFollowed, is_valid, next_after, next_type}
+use Rattle.gpu_vulkan.specs.Attempt.{AttemptEnvironment, Asked, Plan, Short, Serves, Needs, Answer, Gave, Refused, Comes, Settles, IsAfter, question}
+use Rattle.gpu_vulkan.specs.BlockAnswer.{BlockAnswer, Declined, Granted, Mapped, NotMapped}
+use Rattle.gpu_vulkan.specs.Blocks.{Slots, is_mapped, HoldsJustLiveBlocks}
+use Rattle.gpu_memory_types.specs.Blocks.{slots_at, total_capacity, BlocksWellFormed}
+use Rattle.gpu_vulkan.specs.ByteView.{byte_view_of}
+use Rattle.gpu_vulkan.specs.Choice.{best_type}
+use Rattle.gpu_vulkan.specs.Setup.{Setup}
+use Rattle.gpu_vulkan.specs.State.{State}
+use Rattle.gpu_vulkan.specs.Step.{ModelState, model_of, CallEnvironment, Reply, Fails, reply_of, next_by, AttemptStep, Follows, ServeStep, RefuseStep, FoundStep, AllocateStep, IsAllocateStep, Replies, nothing_met, count_after, latest_after}
+use Rattle.gpu_vulkan.specs.declared.allocation.Allocation.{Allocation}
+use Rattle.gpu_vulkan.specs.declared.describe.AllocationCreateDesc.{AllocationCreateDesc}
+use Rattle.gpu_vulkan.proofs.Following.{next_below}
+use Rattle.gpu_vulkan.proofs.Serving.{attempt_holds}
+use Rattle.gpu_vulkan.proofs.Stepping.{attempt_bytes}
+use Rattle.gpu_memory_types.proofs.Options.{none_some, some_same}
+use Rattle.gpu_memory_types.proofs.Types.{slots_same}
+
+-- ---- what the device counts and names
+
+counted : {D : Type 0} (g : Ghosts D) (mapped : Bool) (o : Option Asked) (device after : D) → IsAfter g device mapped o after → g.refused after ≡ count_after (g.refused device) o
+counted g mapped None device after is = ap g.refused is
+counted g mapped (Some a) device after is = is.count
+
+named : {D : Type 0} (g : Ghosts D) (mapped : Bool) (o : Option Asked) (device after : D) → IsAfter g device mapped o after → g.latest after ≡ latest_after (g.latest device) o
+named g mapped None device after is = ap g.latest is
+named g mapped (Some a) device after is = is.latest
+
+-- ---- a refused attempt leaves the slots
+
+gave_refused : (p : Piece DeviceMemory) (r : Refusal) → Refused r ≡ Gave p → ⊥
+gave_refused p r e = cc
+
+settled_same : (old : List (Option (Slot DeviceMemory))) (own : Bool) (ready : _) (b : BlockAnswer) (r : Refusal) (new : List (Option (Slot DeviceMemory))) → Settles old own ready b (Refused r) new → new ≡ old
+settled_same old own ready (Declined code) r new s = s.1
+settled_same old own ready (Granted n) r new s = absurd (gave_refused s.0 r s.1)
+settled_same old own ready (Mapped n bytes) r new s = absurd (gave_refused s.0 r s.1)
+settled_same old own ready (NotMapped code) r new s = s.1
+
+comes_same : (used : ℕ) (ask : _) (mapped : Bool) (old : List (Option (Slot DeviceMemory))) (plan : Plan) (o : Option Asked) (r : Refusal) (new : List (Option (Slot DeviceMemory)))
+    → Comes used ask mapped old plan o (Refused r) new → new ≡ old
+comes_same used ask mapped old Short None r new c = c.1
+comes_same used ask mapped old Short (Some a) r new c = absurd c
+comes_same used ask mapped old (Serves p after) None r new c = absurd (gave_refused p r c.0)
+comes_same used ask mapped old (Serves p after) (Some a) r new c = absurd c
+comes_same used ask mapped old (Needs size own ready) None r new c = c.2
+comes_same used ask mapped old (Needs size own ready) (Some a) r new c = settled_same old own ready a.answer r new c.3
+
+pub refused_same : (setup : Setup) (old : Slots) (t : ℕ) (d : AllocationCreateDesc) (o : AttemptEnvironment) (r : Refusal) (new : Slots) → Attempts setup old t d o (Refused r) new → new ≡ old
+refused_same setup old t d o r new a =
+    ⊎_elim
+    (λ (large : IsTooLarge setup old t d o (Refused r) new). large.same)
+    (λ (plan : IsPlanned setup old t d o (Refused r) new).
+    plan.slots ∙ ap (slice_set old t) (comes_same (total_capacity old) (question setup t d) (is_mapped setup.properties t) (slots_at old t) plan.plan o.asked r plan.after plan.comes) ∙ slots_same old t)
+    a
+
+-- ---- what the caller gets
+
+replies_of : (setup : Setup) (t : ℕ) (d : AllocationCreateDesc) (result : Result Allocation AllocationError) (answer : Answer) → Answers setup t d result answer → Replies setup d result (reply_of t answer)
+replies_of setup t d (Ok a) (Gave p) h = h
+replies_of setup t d (Ok a) (Refused r) h = absurd h
+replies_of setup t d (Err e) (Gave p) h = absurd h
+replies_of setup t d (Err e) (Refused r) h = h
+
+pub next_same : (setup : Setup) (t : ℕ) (d : AllocationCreateDesc) (result : Result Allocation AllocationError) (answer : Answer) → Answers setup t d result answer → next_after setup d result ≡ next_by setup d answer
+next_same setup t d (Ok a) (Gave p) h = refl
+next_same setup t d (Ok a) (Refused r) h = absurd h
+next_same setup t d (Err e) (Gave p) h = absurd h
+next_same setup t d (Err e) (Refused r) h = ap (next_type setup d) h
+
+pub none_next : (setup : Setup) (d : AllocationCreateDesc) (u : ℕ) (p : Piece DeviceMemory) → next_by setup d (Gave p) ≡ Some u → ⊥
+none_next setup d u p e = cc
+
+-- a second attempt begins where a refused one left everything
+pub mid_is_old : (setup : Setup) (d : AllocationCreateDesc) (t u : ℕ) (old : Slots) (o : AttemptEnvironment) (answer : Answer) (mid : Slots) → next_by setup d answer ≡ Some u → Attempts setup old t d o answer mid → mid ≡ old
+mid_is_old setup d t u old o (Gave p) mid is a = absurd (none_next setup d u p is)
+mid_is_old setup d t u old o (Refused r) mid is a = refused_same setup old t d o r mid a
+
+module _ {D : Type 0} (g : Ghosts D) (whole : (x : D) (n : ℕ) → IsWhole (get (g.held x) n)) (setup : Setup) (d : AllocationCreateDesc) (first : Held) where
+  abbrev at : D → Slots → ModelState
+  at device slots = record { slots = slots; buffers = byte_view_of (g.held device) slots }
+
+  attempt_step : (t : ℕ) (old : Slots) (device : D) (result : Result Allocation AllocationError) (new : Slots) (after : D) → t < length old
+      → BlocksWellFormed setup.properties.granularity old → BlocksWellFormed setup.properties.granularity new → HoldsJustLiveBlocks setup.properties first (g.held device) old
+      → (a : IsAttempt g setup t d old device result new after) → AttemptStep setup t d a.environment a.answer (at device old) (at after new)
+  attempt_step t old device result new after below sound sound_after before a =
+      record { slots = a.attempts; bytes = attempt_bytes g setup d first t old below sound device result new after a sound_after before (whole after) }
+
+  pub record Served (t : ℕ) (old : Slots) (device : D) (result : Result Allocation AllocationError) (new : Slots) (after : D) : Type 0 where
+    pub environment : CallEnvironment
+    pub reply : Reply
+    pub step : ServeStep setup t d environment reply (at device old) (at after new)
+    pub count : g.refused after ≡ count_after (count_after (g.refused device) environment.first.asked) environment.second.asked
+    pub latest : g.latest after ≡ latest_after (latest_after (g.latest device) environment.first.asked) environment.second.asked
+    pub replies : Replies setup d result reply
+
+  module _ (t : ℕ) (old : Slots) (device : D) (result : Result Allocation AllocationError) (new : Slots) (after : D) (below : t < length old) (long : length old ≡ length setup.properties.types)
+      (sound : BlocksWellFormed setup.properties.granularity old) (sound_after : BlocksWellFormed setup.properties.granularity new) (before : HoldsJustLiveBlocks setup.properties first (g.held device) old) (s : IsServed g setup t d old device result new after) where
+    abbrev one : IsAttempt g setup t d old device s.first s.mid s.between
+    one = s.attempt
+
+    served_by : (o : Option ℕ) → next_after setup d s.first ≡ o → IsFollowed g setup d o s.mid s.between s.first result new after → Served t old device result new after
+    served_by None is f =
+        let sound_mid : BlocksWellFormed setup.properties.granularity s.mid = subst (BlocksWellFormed setup.properties.granularity) f.1 sound_after in
+        let here = attempt_step t old device s.first s.mid s.between below sound sound_mid before one in
+        let next : next_by setup d one.answer ≡ None = sym (next_same setup t d s.first one.answer one.answers) ∙ is in
+        record {
+          environment = record { first = one.environment; second = nothing_met };
+          reply = reply_of t one.answer;
+          step = record {
+            answer = one.answer;
+            mid = at s.between s.mid;
+            attempt = here;
+            follows = subst (λ o. Follows setup d o nothing_met t one.answer (at s.between s.mid) (reply_of t one.answer) (at after new)) (sym next)
+                (refl, refl, (λ i. at (f.2 i) (f.1 i)));
+          };
+          count = ap g.refused f.2 ∙ counted g (is_mapped setup.properties t) one.environment.asked device s.between one.asked;
+          latest = ap g.latest f.2 ∙ named g (is_mapped setup.properties t) one.environment.asked device s.between one.asked;
+          replies = subst (λ r. Replies setup d r (reply_of t one.answer)) (sym f.0) (replies_of setup t d s.first one.answer one.answers);
+        }
+    served_by (Some u) is two =
+        let next : next_by setup d one.answer ≡ Some u = sym (next_same setup t d s.first one.answer one.answers) ∙ is in
+        let sound_mid : BlocksWellFormed setup.properties.granularity s.mid = subst (BlocksWellFormed setup.properties.granularity) (sym (mid_is_old setup d t u old one.environment one.answer s.mid next one.attempts)) sound in
+        let here = attempt_step t old device s.first s.mid s.between below sound sound_mid before one in
+        let mid = attempt_holds g setup d first t old below device s.first s.mid s.between one before in
+        let inside = next_below setup d s.first u is in
+        let there = attempt_step u s.mid s.between result new after (omega (arith, inside, mid.2, long)) sound_mid sound_after mid.0 two in
+        record {
+          environment = record { first = one.environment; second = two.environment };
+          reply = reply_of u two.answer;
+          step = record {
+            answer = one.answer;
+            mid = at s.between s.mid;
+            attempt = here;
+            follows = subst (λ o. Follows setup d o two.environment t one.answer (at s.between s.mid) (reply_of u two.answer) (at after new)) (sym next) (two.answer, there, refl);
+          };
+          count = counted g (is_mapped setup.properties u) two.environment.asked s.between after two.asked ∙ ap (λ n. count_after n two.environment.asked) (counted g (is_mapped setup.properties t) one.environment.asked device s.between one.asked);
+          latest = named g (is_mapped setup.properties u) two.environment.asked s.between after two.asked ∙ ap (λ n. latest_after n two.environment.asked) (named g (is_mapped setup.properties t) one.environment.asked device s.between one.asked);
+          replies = replies_of setup u d result two.answer two.answers;
+        }
+
+    pub served : Served t old device result new after
+    served = served_by (next_after setup d s.first) refl s.followed
+
+  -- an allocation that was served is a step
+  pub served_step : (t : ℕ) (old new : State D) (result : Result Allocation AllocationError) → old.setup ≡ setup
+      → best_type setup.properties.types d.requirements.memory_type_bits d.location ≡ Some t → is_valid d ≡ true
+      → Served t old.slots old.device result new.slots new.device → IsAllocateStep g d result old new
+  served_step t old new result is found valid s =
+      record {
+        reply = s.reply;
+        step = record {
+          environment = s.environment;
+          step = subst (λ (k : Setup). AllocateStep k d (is_valid d) s.environment s.reply (model_of g old) (model_of g new)) (sym is)
+              (subst (λ v. AllocateStep setup d v s.environment s.reply (model_of g old) (model_of g new)) (sym valid)
+              (subst (λ o. FoundStep setup d o s.environment s.reply (model_of g old) (model_of g new)) (sym found) s.step));
+          count = s.count;
+          latest = s.latest;
+        };
+        replies = subst (λ (k : Setup). Replies k d result s.reply) (sym is) s.replies;
+      }
+
+-- ---- a refusal before any attempt
+
+refused_replies : (setup : Setup) (d : AllocationCreateDesc) (result : Result Allocation AllocationError) (r : Refusal) → refusal_in result ≡ Some r → Replies setup d result (Fails r)
+refused_replies setup d (Ok a) r is = absurd (none_some r is)
+refused_replies setup d (Err e) r is = some_same (refusal_of e) r is
+
+module _ {D : Type 0} (g : Ghosts D) (d : AllocationCreateDesc) (old new : State D) (result : Result Allocation AllocationError) (device : new.device ≡ old.device) (slots : new.slots ≡ old.slots) where
+  refused_with : (r : Refusal) → RefuseStep r (record { first = nothing_met; second = nothing_met }) (Fails r) (model_of g old) (model_of g new)
+  refused_with r = record {
+    met = (refl, refl);
+    reply_is = refl;
+    same = λ i. record { slots = slots i; buffers = byte_view_of (g.held (device i)) (slots i) };
+  }
+
+  refused_by : (r : Refusal) → refusal_in result ≡ Some r
+      → AllocateStep old.setup d (is_valid d) (record { first = nothing_met; second = nothing_met }) (Fails r) (model_of g old) (model_of g new) → IsAllocateStep g d result old new
+  refused_by r is step = record {
+    reply = Fails r;
+    step = record {
+      environment = record { first = nothing_met; second = nothing_met };
+      step = step;
+      count = ap g.refused device;
+      latest = ap g.latest device;
+    };
+    replies = refused_replies old.setup d result r is;
+  }
+
+  pub invalid_step : refusal_in result ≡ Some invalid_allocation_create_desc → is_valid d ≡ false → IsAllocateStep g d result old new
+  invalid_step is invalid =
+      refused_by invalid_allocation_create_desc is
+      (subst (λ v. AllocateStep old.setup d v (record { first = nothing_met; second = nothing_met }) (Fails invalid_allocation_create_desc) (model_of g old) (model_of g new)) (sym invalid) (refused_with invalid_allocation_create_desc))
+
+  pub unfit_step : refusal_in result ≡ Some no_compatible_memory_type_found → is_valid d ≡ true
+      → best_type old.setup.properties.types d.requirements.memory_type_bits d.location ≡ None → IsAllocateStep g d result old new
+  unfit_step is valid none =
+      refused_by no_compatible_memory_type_found is
+      (subst (λ v. AllocateStep old.setup d v (record { first = nothing_met; second = nothing_met }) (Fails no_compatible_memory_type_found) (model_of g old) (model_of g new)) (sym valid)
+      (subst (λ o. FoundStep old.setup d o (record { first = nothing_met; second = nothing_met }) (Fails no_compatible_memory_type_found) (model_of g old) (model_of g new)) (sym none) (refused_with no_compatible_memory_type_found)))

@@ -1,0 +1,9 @@
+use Rattle.std.proofs.Common.{◌≡◌, rules}
+use Rattle.gpu_memory_types.specs.Blocks.{total_capacity}
+use Rattle.gpu_vulkan.proofs.Listed.{sum_step}
+use Rattle.gpu_vulkan.proofs.allocator.Allocator.capacity.Goals as goal
+
+pub returns-clause-step : goal.returns-clause-step
+returns-clause-step g c =
+    let is : c.capacity.result ≡ total_capacity c.args.self.now.slots = search rules in
+    sum_step g.D.VulkanDevice c.args.self.now c.capacity.result is

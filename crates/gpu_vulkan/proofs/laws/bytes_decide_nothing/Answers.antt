@@ -1,0 +1,5 @@
+use Rattle.gpu_vulkan.proofs.Alike.{step_alike}
+use Rattle.gpu_vulkan.proofs.laws.bytes_decide_nothing.Goals as goal
+
+pub returns : goal.returns
+returns c = λ setup call other met meets a b old new twin next sound slots environment alike x y. step_alike setup met meets a b old new twin next sound slots environment call other alike x y

@@ -1,0 +1,138 @@
+-- An allocation: which memory types are asked, and what each attempt comes to.
+use Rattle.std.specs.Prelude.{◌≡◌, ℕ, ◌<◌, ◌≤◌, ◌⊎◌, ◌==◌, ◌&&◌, not, Bool, true, false, if◌then◌else◌, List, slice_get, Option, Some, None, Result, Ok, Err}
+use Rattle.std.specs.Int.{is_power_of_two}
+use Rattle.std.specs.List.{slice_set}
+use Rattle.gpu_core.specs.Refusal.{Refusal, refusal_of, refusal_in, out_of_memory, failed_to_map, no_compatible_memory_type_found, invalid_allocation_create_desc, invalid_allocator_create_desc, internal, barrier_layout_needs_device10, castable_formats_requires_enhanced_barriers, castable_formats_requires_at_least_device12, host_out_of_memory}
+use Rattle.gpu_values.specs.declared.memory_location.MemoryLocation.{MemoryLocation}
+use Rattle.gpu_values.specs.declared.memory_location.MemoryLocation.TheVariants.{Unknown, GpuOnly, CpuToGpu, GpuToCpu}
+use Rattle.gpu_core.specs.TypeState.{Slot}
+use Rattle.gpu_values.specs.declared.error.AllocationError.{AllocationError}
+use Rattle.gpu_device.specs.Properties.{Properties}
+use Rattle.gpu_device.specs.declared.vulkan.device.VulkanDevice.{Ghosts}
+use Rattle.gpu_device.specs.declared.vulkan.types.DeviceMemory.{DeviceMemory}
+use Rattle.gpu_device.specs.declared.vulkan.types.MemoryTypeInfo.{MemoryTypeInfo}
+use Rattle.gpu_device.specs.declared.vulkan.types.MemoryHeap.{MemoryHeap}
+use Rattle.gpu_vulkan.specs.Attempt.{AttemptEnvironment, Plan, IsPlan, Answer, Gave, Refused, question, Comes, IsAfter}
+use Rattle.gpu_vulkan.specs.Blocks.{Slots, is_mapped, type_at}
+use Rattle.gpu_memory_types.specs.Blocks.{slots_at, total_capacity}
+use Rattle.gpu_vulkan.specs.Choice.{required, first_type, best_type}
+use Rattle.gpu_vulkan.specs.Live.{IsGiven}
+use Rattle.gpu_vulkan.specs.Setup.{Setup}
+use Rattle.gpu_vulkan.specs.declared.allocation.Allocation.{Allocation}
+use Rattle.gpu_vulkan.specs.declared.describe.AllocationCreateDesc.{AllocationCreateDesc}
+
+abbrev pub size_in : Option MemoryHeap → ℕ
+size_in None = 0
+size_in (Some heap) = heap.size
+
+abbrev pub heap_of : Properties → Option MemoryTypeInfo → ℕ
+heap_of p None = 0
+heap_of p (Some info) = size_in (slice_get p.heaps info.heap_index)
+
+-- the size of the heap that memory of the t-th type lies in
+abbrev pub heap_size : Properties → (t : ℕ) → ℕ
+heap_size p t = heap_of p (slice_get p.types t)
+
+-- the request is above its heap: the device isn't asked
+pub record IsTooLarge (setup : Setup) (old : Slots) (t : ℕ) (d : AllocationCreateDesc) (o : AttemptEnvironment) (answer : Answer) (new : Slots) : Type 0 where
+  pub above : heap_size setup.properties t < d.requirements.size
+  pub asked : o.asked ≡ None
+  pub answer_is : answer ≡ Refused out_of_memory
+  pub same : new ≡ old
+
+-- the memory type makes a plan of the request, and that comes to the answer
+pub record IsPlanned (setup : Setup) (old : Slots) (t : ℕ) (d : AllocationCreateDesc) (o : AttemptEnvironment) (answer : Answer) (new : Slots) : Type 0 where
+  pub below : d.requirements.size ≤ heap_size setup.properties t
+  pub plan : Plan
+  pub is_plan : IsPlan setup (type_at setup.properties old t) d o.host plan
+  pub after : List (Option (Slot DeviceMemory))
+  pub comes : Comes (total_capacity old) (question setup t d) (is_mapped setup.properties t) (slots_at old t) plan o.asked answer after
+  pub slots : new ≡ slice_set old t after
+
+-- an attempt at the t-th memory type
+abbrev pub Attempts : Setup → Slots → (t : ℕ) → AllocationCreateDesc → AttemptEnvironment → Answer → Slots → Type 0
+Attempts setup old t d o answer new = IsTooLarge setup old t d o answer new ⊎ IsPlanned setup old t d o answer new
+
+-- ---- over a device
+
+-- what the caller of an attempt gets
+abbrev pub Answers : Setup → (t : ℕ) → AllocationCreateDesc → Result Allocation AllocationError → Answer → Type 0
+Answers setup t d (Ok a) (Gave p) = IsGiven setup t d p a
+Answers setup t d (Ok a) (Refused e) = ⊥
+Answers setup t d (Err e) (Gave p) = ⊥
+Answers setup t d (Err e) (Refused r) = refusal_of e ≡ r
+
+-- an attempt over a device
+pub record IsAttempt {D : Type 0} (g : Ghosts D) (setup : Setup) (t : ℕ) (d : AllocationCreateDesc) (old : Slots) (device : D) (result : Result Allocation AllocationError) (new : Slots) (after : D) : Type 0 where
+  pub environment : AttemptEnvironment
+  pub answer : Answer
+  pub attempts : Attempts setup old t d environment answer new
+  pub asked : IsAfter g device (is_mapped setup.properties t) environment.asked after
+  pub answers : Answers setup t d result answer
+
+-- ---- two attempts
+
+-- host memory was refused
+abbrev pub is_short : Refusal → Bool
+is_short host_out_of_memory = true
+is_short out_of_memory = false
+is_short (failed_to_map text code) = false
+is_short no_compatible_memory_type_found = false
+is_short invalid_allocation_create_desc = false
+is_short (invalid_allocator_create_desc text code) = false
+is_short (internal text code) = false
+is_short barrier_layout_needs_device10 = false
+is_short castable_formats_requires_enhanced_barriers = false
+is_short castable_formats_requires_at_least_device12 = false
+
+abbrev pub is_for_upload : MemoryLocation → Bool
+is_for_upload Unknown = false
+is_for_upload GpuOnly = false
+is_for_upload CpuToGpu = true
+is_for_upload GpuToCpu = false
+
+-- the memory type that is asked after a refusal: for uploads the first that has what they must have, but not where host memory was refused
+abbrev pub next_type : Setup → AllocationCreateDesc → Refusal → Option ℕ
+next_type setup d r =
+    if is_for_upload d.location && not (is_short r) then first_type setup.properties.types d.requirements.memory_type_bits (required d.location) else None
+
+abbrev pub next_after : Setup → AllocationCreateDesc → Result Allocation AllocationError → Option ℕ
+next_after setup d (Ok a) = None
+next_after setup d (Err e) = next_type setup d (refusal_of e)
+
+-- the second attempt, where there is one, answers
+abbrev pub IsFollowed : {D : Type 0} → Ghosts D → Setup → AllocationCreateDesc → Option ℕ → (mid : Slots) → (between : D) → (first result : Result Allocation AllocationError) → (new : Slots) → (after : D) → Type 0
+IsFollowed g setup d None mid between first result new after = (result ≡ first) × (new ≡ mid) × (after ≡ between)
+IsFollowed g setup d (Some t) mid between first result new after = IsAttempt g setup t d mid between result new after
+
+-- the attempts that begin at the t-th memory type
+pub record IsServed {D : Type 0} (g : Ghosts D) (setup : Setup) (t : ℕ) (d : AllocationCreateDesc) (old : Slots) (device : D) (result : Result Allocation AllocationError) (new : Slots) (after : D) : Type 0 where
+  pub first : Result Allocation AllocationError
+  pub mid : Slots
+  pub between : D
+  pub attempt : IsAttempt g setup t d old device first mid between
+  pub followed : IsFollowed g setup d (next_after setup d first) mid between first result new after
+
+-- a refusal before anything is taken or asked
+pub record IsRefused {D : Type 0} (refusal : Refusal) (old : Slots) (device : D) (result : Result Allocation AllocationError) (new : Slots) (after : D) : Type 0 where
+  pub cause : refusal_in result ≡ Some refusal
+  pub slots : new ≡ old
+  pub device_is : after ≡ device
+
+-- the size isn't 0, and the alignment is a power of two
+abbrev pub is_valid : AllocationCreateDesc → Bool
+is_valid d = not (d.requirements.size == 0) && is_power_of_two d.requirements.alignment
+
+-- an allocation in the memory type that suits, if one does
+abbrev pub IsFound : {D : Type 0} → Ghosts D → Setup → AllocationCreateDesc → Option ℕ → Slots → D → Result Allocation AllocationError → Slots → D → Type 0
+IsFound g setup d None old device result new after = IsRefused no_compatible_memory_type_found old device result new after
+IsFound g setup d (Some t) old device result new after = IsServed g setup t d old device result new after
+
+-- what an allocation comes to, where the description is valid or isn't
+abbrev pub AllocatesBy : {D : Type 0} → Ghosts D → Setup → AllocationCreateDesc → (valid : Bool) → Slots → D → Result Allocation AllocationError → Slots → D → Type 0
+AllocatesBy g setup d false old device result new after = IsRefused invalid_allocation_create_desc old device result new after
+AllocatesBy g setup d true old device result new after =
+    IsFound g setup d (best_type setup.properties.types d.requirements.memory_type_bits d.location) old device result new after
+
+abbrev pub Allocates : {D : Type 0} → Ghosts D → Setup → AllocationCreateDesc → Slots → D → Result Allocation AllocationError → Slots → D → Type 0
+Allocates g setup d old device result new after = AllocatesBy g setup d (is_valid d) old device result new after

@@ -1,0 +1,43 @@
+-- The live blocks of all memory types, and what the device holds of them.
+use Rattle.std.specs.Prelude.{◌≡◌, ℕ, Bool, false, slice_get, Option, Some, None}
+use Rattle.std.specs.Option.{is_some}
+use Rattle.gpu_core.specs.TypeState.{TypeState}
+use Rattle.gpu_device.specs.Held.{Held, Entry}
+use Rattle.gpu_device.specs.Properties.{Properties}
+use Rattle.gpu_device.specs.declared.vulkan.types.DeviceMemory.{DeviceMemory}
+use Rattle.gpu_device.specs.declared.vulkan.types.MemoryTypeInfo.{MemoryTypeInfo}
+use Rattle.gpu_memory_types.specs.Blocks as all
+use Rattle.gpu_memory_types.specs.Blocks.{slots_at}
+use Rattle.gpu_memory_types.specs.Held.{HoldsBlocks}
+use Rattle.gpu_vulkan.specs.Choice.{has_flags}
+
+-- the slots of each memory type
+abbrev pub Slots : Type 0
+Slots = all.Slots DeviceMemory
+
+abbrev pub is_host_visible : MemoryTypeInfo → Bool
+is_host_visible info = has_flags info 2
+
+abbrev pub mapped_by : Option MemoryTypeInfo → Bool
+mapped_by None = false
+mapped_by (Some info) = is_host_visible info
+
+-- blocks of the t-th memory type are mapped: the host can see its memory
+abbrev pub is_mapped : Properties → (t : ℕ) → Bool
+is_mapped p t = mapped_by (slice_get p.types t)
+
+-- the t-th memory type
+abbrev pub type_at : Properties → Slots → (t : ℕ) → TypeState DeviceMemory
+type_at p slots t = record { is_host = is_mapped p t; granularity = p.granularity; slots = slots_at slots t; room = 0 }
+
+-- the device's number of a memory
+abbrev pub memory_number : DeviceMemory → ℕ
+memory_number memory = memory.0
+
+-- the device's entry of a block: of its size and type, and mapped where blocks of its type are
+abbrev pub IsBlockEntry : Properties → (t size : ℕ) → Entry → Type 0
+IsBlockEntry p t size e = (e.size ≡ size) × (e.memory_type_index ≡ t) × (is_some e.bytes ≡ is_mapped p t)
+
+-- the device holds what it held at first, and just the live blocks
+abbrev pub HoldsJustLiveBlocks : Properties → (first held : Held) → Slots → Type 0
+HoldsJustLiveBlocks p first held slots = HoldsBlocks memory_number (IsBlockEntry p) first held slots

@@ -1,0 +1,258 @@
+-- An allocator as a model: what each call makes of its blocks and bytes, and what it answers, given what it met with.
+use Rattle.std.specs.Prelude.{◌≡◌, ◌≢◌, ◌⊎◌, ℕ, Vec, String, Bool, true, false, List, map, IsTrue, string_bytes, Option, Some, None, Result, Ok, Err}
+use Rattle.std.specs.Global.{Global}
+use Rattle.std.specs.List.{slice_set}
+use Rattle.std.specs.Int.NonZero.{non_zero_u64_get}
+use Rattle.gpu_core.specs.Refusal.{Refusal, refusal_of, host_out_of_memory, no_compatible_memory_type_found, invalid_allocation_create_desc}
+use Rattle.gpu_core.specs.TypeRelease.{has_several, ReleasesPiece, IsFreeRefusal, IsNameRefusal}
+use Rattle.gpu_core.specs.TypeState.{Slot, slot_at}
+use Rattle.gpu_core.specs.Leak.{leak_text}
+use Rattle.gpu_core.specs.Report as reports
+use Rattle.gpu_core.specs.Report.{report_of}
+use Rattle.gpu_values.specs.declared.report.AllocatorReport.{AllocatorReport}
+use Rattle.gpu_values.specs.declared.error.AllocationError.{AllocationError}
+use Rattle.gpu_core.specs.declared.memory_type.Piece.{Piece}
+use Rattle.gpu_device.specs.declared.vulkan.device.VulkanDevice.{Ghosts}
+use Rattle.gpu_device.specs.declared.vulkan.types.DeviceMemory.{DeviceMemory}
+use Rattle.gpu_device.specs.declared.vulkan.types.MemoryAllocateInfo.{MemoryAllocateInfo}
+use Rattle.gpu_vulkan.specs.Allocate.{Attempts, next_type, is_valid}
+use Rattle.gpu_vulkan.specs.Attempt.{AttemptEnvironment, Asked, Answer, Gave, Refused}
+use Rattle.gpu_vulkan.specs.BlockAnswer.{BlockAnswer, Declined, Granted, Mapped, NotMapped, refused_after}
+use Rattle.gpu_vulkan.specs.Blocks.{Slots, is_mapped}
+use Rattle.gpu_memory_types.specs.Blocks.{slots_at, total_capacity}
+use Rattle.gpu_vulkan.specs.ByteView.{AllocationId, ByteView, byte_view_of, TakesOut, PutsBack, AddsBlock, DropsBlock, Writes}
+use Rattle.gpu_vulkan.specs.Choice.{best_type}
+use Rattle.gpu_vulkan.specs.Lends.{number_in}
+use Rattle.gpu_vulkan.specs.Live.{piece_of, is_same_memory, IsLiveIn, IsGiven, IsMapped}
+use Rattle.gpu_memory_types.specs.Leaks.{all_leaks}
+use Rattle.gpu_memory_types.specs.Rename.{IsRenamed}
+use Rattle.gpu_memory_types.specs.Reports.{whole_report}
+use Rattle.gpu_vulkan.specs.Setup.{Setup}
+use Rattle.gpu_vulkan.specs.State.{State}
+use Rattle.gpu_vulkan.specs.declared.allocation.Allocation.{Allocation}
+use Rattle.gpu_vulkan.specs.declared.describe.AllocationCreateDesc.{AllocationCreateDesc}
+
+-- the blocks with their pieces, and the bytes
+pub record ModelState : Type 0 where
+  pub slots : Slots
+  pub buffers : ByteView
+
+abbrev pub model_of : {D : Type 0} → Ghosts D → State D → ModelState
+model_of g s = record { slots = s.slots; buffers = byte_view_of (g.held s.device) s.slots }
+
+pub data Call : Type 0 where
+  Allocate : (d : AllocationCreateDesc) → Call
+  Free : (a : Allocation) → Call
+  Rename : (a : Allocation) (name : List ℕ) → Call
+  Write : (a : Allocation) (bytes : List ℕ) → Call
+  Read : (a : Allocation) → Call
+  Capacity : Call
+  Report : Call
+  Leaks : Call
+
+pub data Reply : Type 0 where
+  -- a piece of the t-th memory type
+  Given : (t : ℕ) (piece : Piece DeviceMemory) → Reply
+  Fails : (refusal : Refusal) → Reply
+  Done : Reply
+  -- an allocation's bytes, None where it has none
+  Bytes : (bytes : Option (List ℕ)) → Reply
+  Sum : (bytes : ℕ) → Reply
+  Shows : (report : reports.Report) → Reply
+  Tells : (texts : List (List ℕ)) → Reply
+
+-- what a call meets with at its attempts; only an allocation for an upload may make a second one
+pub record CallEnvironment : Type 0 where
+  pub first : AttemptEnvironment
+  pub second : AttemptEnvironment
+
+-- host memory is enough, and no question is asked
+abbrev pub nothing_met : AttemptEnvironment
+nothing_met = record { host = true; asked = None }
+
+abbrev pub MeetsNothing : CallEnvironment → Type 0
+MeetsNothing o = (o.first ≡ nothing_met) × (o.second ≡ nothing_met)
+
+-- ---- an allocation
+
+abbrev pub id_in : (t : ℕ) → Piece DeviceMemory → AllocationId
+id_in t p = record { memory_type = t; slot = p.slot; number = non_zero_u64_get p.number }
+
+-- the bytes of the new block, where it is mapped
+abbrev pub answer_bytes : BlockAnswer → Option (List ℕ)
+answer_bytes (Declined code) = None
+answer_bytes (Granted number) = None
+answer_bytes (Mapped number bytes) = Some bytes
+answer_bytes (NotMapped code) = None
+
+-- what an attempt at the t-th memory type leaves of the bytes: a refusal leaves them, and a piece's list comes out of the rest, to which a new block's bytes are added before
+abbrev pub BytesAfter : (mapped : Bool) → (t : ℕ) → Option Asked → Answer → ByteView → ByteView → Type 0
+BytesAfter mapped t asked (Refused r) old new = new ≡ old
+BytesAfter mapped t None (Gave p) old new = TakesOut mapped (id_in t p) p.offset p.size old new
+BytesAfter mapped t (Some a) (Gave p) old new =
+    (mid : ByteView) × AddsBlock t p.slot (answer_bytes a.answer) old mid × TakesOut mapped (id_in t p) p.offset p.size mid new
+
+pub record AttemptStep (setup : Setup) (t : ℕ) (d : AllocationCreateDesc) (o : AttemptEnvironment) (answer : Answer) (old new : ModelState) : Type 0 where
+  pub slots : Attempts setup old.slots t d o answer new.slots
+  pub bytes : BytesAfter (is_mapped setup.properties t) t o.asked answer old.buffers new.buffers
+
+abbrev pub reply_of : (t : ℕ) → Answer → Reply
+reply_of t (Gave p) = Given t p
+reply_of t (Refused r) = Fails r
+
+-- the memory type of the second attempt, where there is one
+abbrev pub next_by : Setup → AllocationCreateDesc → Answer → Option ℕ
+next_by setup d (Gave p) = None
+next_by setup d (Refused r) = next_type setup d r
+
+-- after the first answer, at the t-th memory type, the second one counts, where there is one
+abbrev pub Follows : Setup → AllocationCreateDesc → Option ℕ → AttemptEnvironment → (t : ℕ) → Answer → ModelState → Reply → ModelState → Type 0
+Follows setup d None o t first mid reply new = (o ≡ nothing_met) × (reply ≡ reply_of t first) × (new ≡ mid)
+Follows setup d (Some u) o t first mid reply new = (answer : Answer) × AttemptStep setup u d o answer mid new × (reply ≡ reply_of u answer)
+
+pub record ServeStep (setup : Setup) (t : ℕ) (d : AllocationCreateDesc) (o : CallEnvironment) (reply : Reply) (old new : ModelState) : Type 0 where
+  pub answer : Answer
+  pub mid : ModelState
+  pub attempt : AttemptStep setup t d o.first answer old mid
+  pub follows : Follows setup d (next_by setup d answer) o.second t answer mid reply new
+
+pub record RefuseStep (refusal : Refusal) (o : CallEnvironment) (reply : Reply) (old new : ModelState) : Type 0 where
+  pub met : MeetsNothing o
+  pub reply_is : reply ≡ Fails refusal
+  pub same : new ≡ old
+
+abbrev pub FoundStep : Setup → AllocationCreateDesc → Option ℕ → CallEnvironment → Reply → ModelState → ModelState → Type 0
+FoundStep setup d None o reply old new = RefuseStep no_compatible_memory_type_found o reply old new
+FoundStep setup d (Some t) o reply old new = ServeStep setup t d o reply old new
+
+abbrev pub AllocateStep : Setup → AllocationCreateDesc → (valid : Bool) → CallEnvironment → Reply → ModelState → ModelState → Type 0
+AllocateStep setup d false o reply old new = RefuseStep invalid_allocation_create_desc o reply old new
+AllocateStep setup d true o reply old new = FoundStep setup d (best_type setup.properties.types d.requirements.memory_type_bits d.location) o reply old new
+
+-- ---- a free
+
+-- the block goes, or it stays
+abbrev pub MayDrop : (t i : ℕ) → Option DeviceMemory → ByteView → ByteView → Type 0
+MayDrop t i None mid new = new ≡ mid
+MayDrop t i (Some memory) mid new = DropsBlock t i mid new
+
+-- a live piece goes, and its list back into the rest
+pub record ReleaseStep (t : ℕ) (p : Piece DeviceMemory) (old new : ModelState) : Type 0 where
+  pub went : Option DeviceMemory
+  pub left : List (Option (Slot DeviceMemory))
+  pub releases : ReleasesPiece (IsTrue (has_several (slots_at old.slots t))) (slots_at old.slots t) p went left
+  pub slots : new.slots ≡ slice_set old.slots t left
+  pub mid : ByteView
+  pub back : PutsBack (id_in t p) p.offset p.size old.buffers mid
+  pub drops : MayDrop t p.slot went mid new.buffers
+
+abbrev pub FreeStep : (t : ℕ) → Option (Piece DeviceMemory) → Reply → ModelState → ModelState → Type 0
+FreeStep t None Done old new = new ≡ old
+FreeStep t (Some p) Done old new = IsLiveIn old.slots t (Some p) × ReleaseStep t p old new
+FreeStep t (Some p) (Fails r) old new =
+    (IsLiveIn old.slots t (Some p) → ⊥) × IsFreeRefusal is_same_memory p (slot_at (slots_at old.slots t) p.slot) r × (new ≡ old)
+FreeStep t p _ old new = ⊥
+
+-- ---- a new name
+
+-- a live piece's record has another name, or the null allocation has no record; a refusal, for want of host memory or of a live piece, changes nothing
+abbrev pub RenameStep : (t : ℕ) → Option (Piece DeviceMemory) → (name : List ℕ) → (host : Bool) → Reply → ModelState → ModelState → Type 0
+RenameStep t None name host Done old new = (host ≡ true) × (new ≡ old)
+RenameStep t None name host (Fails r) old new = (host ≡ false) × (r ≡ host_out_of_memory) × (new ≡ old)
+RenameStep t (Some p) name host Done old new = (host ≡ true) × IsRenamed is_same_memory t p name old.slots new.slots × (new.buffers ≡ old.buffers)
+RenameStep t (Some p) name host (Fails r) old new =
+    (((host ≡ false) × IsLiveIn old.slots t (Some p) × (r ≡ host_out_of_memory))
+    ⊎ ((IsLiveIn old.slots t (Some p) → ⊥) × (r ≢ host_out_of_memory) × IsNameRefusal is_same_memory p (slot_at (slots_at old.slots t) p.slot) r))
+    × (new ≡ old)
+RenameStep t p name host _ old new = ⊥
+
+-- the call asks the device nothing
+abbrev pub AsksNothing : CallEnvironment → Type 0
+AsksNothing o = (o.first.asked ≡ None) × (o.second ≡ nothing_met)
+
+-- ---- reports and leaks
+
+-- what is shown, or want of host memory
+abbrev pub ReportStep : (host : Bool) → Reply → ModelState → ModelState → Type 0
+ReportStep host (Shows r) old new = (host ≡ true) × (r ≡ whole_report old.slots) × (new ≡ old)
+ReportStep host (Fails r) old new = (host ≡ false) × (r ≡ host_out_of_memory) × (new ≡ old)
+ReportStep host _ old new = ⊥
+
+abbrev pub LeaksStep : (host : Bool) → Reply → ModelState → ModelState → Type 0
+LeaksStep host (Tells texts) old new = (host ≡ true) × (texts ≡ map leak_text (all_leaks old.slots)) × (new ≡ old)
+LeaksStep host (Fails r) old new = (host ≡ false) × (r ≡ host_out_of_memory) × (new ≡ old)
+LeaksStep host _ old new = ⊥
+
+-- ---- bytes
+
+abbrev pub id_of : Allocation → AllocationId
+id_of a = record { memory_type = a.memory_type_index; slot = a.memory_block_index; number = number_in a.chunk_id }
+
+pub record WriteStep (setup : Setup) (a : Allocation) (bytes : List ℕ) (old new : ModelState) : Type 0 where
+  pub live : IsMapped setup.properties old.slots a
+  pub slots : new.slots ≡ old.slots
+  pub writes : Writes (id_of a) bytes old.buffers new.buffers
+
+-- a live allocation in mapped memory reads as its list, and any other has no bytes
+abbrev pub IsRead : Setup → Allocation → ModelState → Option (List ℕ) → Type 0
+IsRead setup a s None = IsMapped setup.properties s.slots a → ⊥
+IsRead setup a s (Some xs) = IsMapped setup.properties s.slots a × (s.buffers.lists (id_of a) ≡ Some xs)
+
+-- ---- any call
+
+-- from old, the call may give this reply and leave new, where it meets with these environment
+abbrev pub Step : Setup → Call → CallEnvironment → Reply → ModelState → ModelState → Type 0
+Step setup (Allocate d) o reply old new = AllocateStep setup d (is_valid d) o reply old new
+Step setup (Free a) o reply old new = MeetsNothing o × FreeStep a.memory_type_index (piece_of a) reply old new
+Step setup (Rename a name) o reply old new = AsksNothing o × RenameStep a.memory_type_index (piece_of a) name o.first.host reply old new
+Step setup Report o reply old new = AsksNothing o × ReportStep o.first.host reply old new
+Step setup Leaks o reply old new = AsksNothing o × LeaksStep o.first.host reply old new
+Step setup (Write a bytes) o Done old new = MeetsNothing o × WriteStep setup a bytes old new
+Step setup (Read a) o (Bytes xs) old new = MeetsNothing o × IsRead setup a old xs × (new ≡ old)
+Step setup Capacity o (Sum n) old new = MeetsNothing o × (n ≡ total_capacity old.slots) × (new ≡ old)
+Step setup _ o _ old new = ⊥
+
+-- ---- over a device
+
+-- the count of refusals and the latest question after an attempt
+abbrev pub count_after : ℕ → Option Asked → ℕ
+count_after count None = count
+count_after count (Some a) = refused_after count a.answer
+
+abbrev pub latest_after : Option MemoryAllocateInfo → Option Asked → Option MemoryAllocateInfo
+latest_after latest None = latest
+latest_after latest (Some a) = Some a.info
+
+-- the call is a step of the model at some environment, and their refusals and questions are what the device counts and names
+pub record IsStep {D : Type 0} (g : Ghosts D) (call : Call) (reply : Reply) (old new : State D) : Type 0 where
+  pub environment : CallEnvironment
+  pub step : Step old.setup call environment reply (model_of g old) (model_of g new)
+  pub count : g.refused new.device ≡ count_after (count_after (g.refused old.device) environment.first.asked) environment.second.asked
+  pub latest : g.latest new.device ≡ latest_after (latest_after (g.latest old.device) environment.first.asked) environment.second.asked
+
+-- what an allocation's caller gets is what the model replies
+abbrev pub Replies : Setup → AllocationCreateDesc → Result Allocation AllocationError → Reply → Type 0
+Replies setup d (Ok a) (Given t p) = IsGiven setup t d p a
+Replies setup d (Err e) (Fails r) = refusal_of e ≡ r
+Replies setup d _ _ = ⊥
+
+pub record IsAllocateStep {D : Type 0} (g : Ghosts D) (d : AllocationCreateDesc) (result : Result Allocation AllocationError) (old new : State D) : Type 0 where
+  pub reply : Reply
+  pub step : IsStep g (Allocate d) reply old new
+  pub replies : Replies old.setup d result reply
+
+abbrev pub freed_as : Result (Unit {0}) (AllocationError × Allocation) → Reply
+freed_as (Ok _) = Done
+freed_as (Err e) = Fails (refusal_of e.0)
+
+abbrev pub renamed_as : Result (Unit {0}) AllocationError → Reply
+renamed_as (Ok _) = Done
+renamed_as (Err e) = Fails (refusal_of e)
+
+abbrev pub shown_as : Result AllocatorReport AllocationError → Reply
+shown_as (Ok r) = Shows (report_of r)
+shown_as (Err e) = Fails (refusal_of e)
+
+abbrev pub told_as : Result (Vec (String Global) Global) AllocationError → Reply
+told_as (Ok v) = Tells (map string_bytes v.items)
+told_as (Err e) = Fails (refusal_of e)

@@ -1,0 +1,324 @@
+//! The allocator: blocks of device memory by memory type, and the calls that share them out.
+
+ghost use Rattle.std.specs.Prelude.{◌≡◌, ◌↔◌, [], All, map, string_bytes, Some, None, IfOk, IfErr, OnOk, IsSome, IfSome, IsTrue, List, ℕ, length, option_copied, ◌%◌};
+ghost use Rattle.std.specs.Option.{unwrap_or};
+ghost use Rattle.gpu_core.specs.Refusal.{refusal_of, host_out_of_memory};
+ghost use Rattle.gpu_vulkan.specs.Setup.{setup_fault};
+ghost use Rattle.gpu_memory_types.specs.Blocks.{total_capacity, BlocksWellFormed};
+ghost use Rattle.gpu_vulkan.specs.Blocks.{HoldsJustLiveBlocks};
+ghost use Rattle.gpu_vulkan.specs.Allocate.{Allocates};
+ghost use Rattle.gpu_vulkan.specs.Free.{Frees};
+ghost use Rattle.gpu_vulkan.specs.Apart.{IsInside, SharesNoByte, KeepsPages};
+ghost use Rattle.gpu_vulkan.specs.Lends.{AreDistinct};
+ghost use Rattle.gpu_vulkan.specs.declared.allocation.Allocation.{Allocation};
+ghost use Rattle.gpu_vulkan.specs.Step.{IsStep, IsAllocateStep, Free, Rename, Write, Read, Capacity, Report, Leaks, Done, Bytes, Sum, freed_as, renamed_as, shown_as, told_as};
+ghost use Rattle.gpu_vulkan.specs.Rename.{Renames, StayLive};
+ghost use Rattle.gpu_memory_types.specs.Reports.{whole_report};
+ghost use Rattle.gpu_memory_types.specs.Leaks.{all_leaks};
+ghost use Rattle.gpu_core.specs.Leak.{leak_text};
+ghost use Rattle.gpu_core.specs.Report.{report_of};
+ghost use Rattle.gpu_values.specs.declared.error.AllocationError.TheVariants.{HostOutOfMemory};
+ghost use Rattle.std.specs.Borrow.{sem};
+ghost use Rattle.gpu_vulkan.specs.Live.{IsLive, IsMapped, bytes_at};
+
+use super::attempt::allocate_with_fallback;
+use super::choice::best_type;
+use super::describe::{AllocationCreateDesc, AllocatorCreateDesc};
+use super::logging::{log_allocate, log_device, log_free, log_last_leaks, log_leaks};
+use super::release::{free_blocks, release};
+use super::rename::rename;
+use super::setup::{Settings, Setup, fault_of, parts_of};
+use super::{Allocation, MappedAllocationSlab};
+use gpu_device::vulkan::{DeviceMemory, VulkanDevice};
+use gpu_memory_types::MemoryTypes;
+use gpu_values::{AllocationError, AllocatorReport, Result};
+use log::{Level, Log};
+use std::alloc::{AllocError, Global};
+use std::marker::Model;
+use std::snapshot::Snapshot;
+
+/// Allocates pieces of device memory from a few large blocks. It must be spent by `destroy`.
+pub struct Allocator<D: VulkanDevice> {
+    device: D,
+    first: Snapshot<D>,
+    setup: Setup,
+    types: MemoryTypes<DeviceMemory>,
+    alloc: Global,
+}
+
+impl<D: VulkanDevice> Model for Allocator<D> {
+    ghost use Rattle.std.specs.Prelude.{◌≡◌};
+    ghost use Rattle.gpu_vulkan.specs.State.{State, AllocatorInvariant};
+    ghost use Rattle.gpu_memory_types.specs.Types.{slots_of, kinds, MemoryTypesInvariant};
+    ghost use Rattle.gpu_vulkan.specs.Types.{kinds_told};
+
+    ghost Value = { State D };
+
+    ghost view = { λ a. record { device = a.device; first = a.first.value; setup = a.setup; slots = slots_of a.types } };
+
+    ghost invariant = { λ a. (kinds a.types ≡ kinds_told a.setup.properties)
+        × AllocatorInvariant (D.properties a.first.value) (D.properties a.device) (D.held a.first.value) (D.held a.device) a.setup (slots_of a.types)
+        × MemoryTypesInvariant a.types };
+}
+
+impl<D: VulkanDevice> Allocator<D> {
+    ghost use Rattle.gpu_vulkan.specs.Lends.{lends_piece, written_at, ChangesOnly};
+
+    /// An allocator without blocks. Where it can't be made, the device comes back.
+    pub fn new<L: Log>(
+        log: &L,
+        alloc: Global,
+        desc: AllocatorCreateDesc<D>,
+    ) -> Result<Self, (AllocationError, D)>
+        ensures device { IfOk result (λ a. (a.device ≡ desc.device) × (a.first ≡ desc.device)) }
+        ensures setup { IfOk result (λ a. a.setup ≡ record {
+          properties = D.properties desc.device;
+          sizes = desc.allocation_sizes;
+          debug = desc.debug_settings;
+          device_address = desc.buffer_device_address;
+        }) }
+        ensures empty { IfOk result (λ a. All (λ slots. slots ≡ []) a.slots) }
+        ensures types { IfOk result (λ a. length a.slots ≡ length (D.properties desc.device).types) }
+        ensures valid { OnOk result (setup_fault desc.physical_device.0 (D.properties desc.device) ≡ None) }
+        ensures refused { IfErr result (λ e. e.1 ≡ desc.device) }
+        ensures cause { IfErr result (λ e. refusal_of e.0 ≡ unwrap_or (setup_fault desc.physical_device.0 (D.properties desc.device)) host_out_of_memory) }
+    {
+        let AllocatorCreateDesc {
+            device,
+            physical_device,
+            debug_settings,
+            buffer_device_address,
+            allocation_sizes,
+        } = desc;
+        if let Some(error) = fault_of(&device, physical_device) {
+            return Err((error, device));
+        }
+        log_device(log, debug_settings, &device);
+        let settings = Settings {
+            sizes: allocation_sizes,
+            debug: debug_settings,
+            buffer_device_address,
+        };
+        match parts_of(alloc, &device, settings) {
+            Err(AllocError) => Err((AllocationError::HostOutOfMemory, device)),
+            Ok((setup, types)) => {
+                let first = Snapshot::of(&device);
+                Ok(Allocator {
+                    device,
+                    first,
+                    setup,
+                    types,
+                    alloc,
+                })
+            }
+        }
+    }
+
+    /// Takes a piece of device memory.
+    pub fn allocate<L: Log>(&mut self, log: &L, desc: &AllocationCreateDesc) -> Result<Allocation>
+        ensures allocates { Allocates D.VulkanDevice self.old.setup desc.now self.old.slots self.old.device result self.new.slots self.new.device }
+        ensures constant { (self.new.first ≡ self.old.first) × (self.new.setup ≡ self.old.setup) }
+        ensures step { IsAllocateStep D.VulkanDevice desc.now result self.old self.new }
+        ensures aligned { IfOk result (λ a. a.offset % desc.now.requirements.alignment ≡ 0) }
+        ensures keeps { StayLive self.old.slots self.new.slots }
+        ensures gives { IfOk result (λ a. IsLive self.new.slots a × ((b : Allocation) → IsLive self.old.slots b → AreDistinct b a)) }
+    {
+        log_allocate(log, self.setup.settings.debug, desc);
+        if desc.requirements.size == 0 || !desc.requirements.alignment.is_power_of_two() {
+            return Err(AllocationError::InvalidAllocationCreateDesc);
+        }
+        let bits = desc.requirements.memory_type_bits;
+        match best_type(&self.setup.memory_types, bits, desc.location) {
+            None => Err(AllocationError::NoCompatibleMemoryTypeFound),
+            Some(index) => allocate_with_fallback(
+                self.alloc,
+                &self.setup,
+                &mut self.device,
+                &mut self.types,
+                desc,
+                index,
+            ),
+        }
+    }
+
+    /// The sum of the sizes of the live blocks, in bytes.
+    pub fn capacity(&self) -> u64
+        ensures sum { result ≡ total_capacity self.now.slots }
+        ensures step { IsStep D.VulkanDevice Capacity (Sum result) self.now self.now }
+    {
+        self.types.capacity()
+    }
+
+    /// The device, lent. It holds what it held when it was handed in, and just the live blocks.
+    pub fn device(&self) -> &D
+        ensures lent { result.now ≡ self.now.device }
+        ensures holds { HoldsJustLiveBlocks self.now.setup.properties (D.held self.now.first) (D.held self.now.device) self.now.slots }
+        ensures constant { D.properties self.now.device ≡ self.now.setup.properties }
+    {
+        &self.device
+    }
+
+    /// What holds of live allocations at any time, for callers' proofs: each lies inside its block, no two share a byte, and
+    /// those of different kinds share no page (`bufferImageGranularity`). All blocks are sound. It does nothing.
+    pub fn allocations_are_apart(&self)
+        ensures sound { BlocksWellFormed self.now.setup.properties.granularity self.now.slots }
+        ensures inside { (a : Allocation) → IsLive self.now.slots a → IsInside self.now.slots a }
+        ensures apart { (a b : Allocation) → IsLive self.now.slots a → IsLive self.now.slots b → AreDistinct a b → SharesNoByte a b }
+        ensures pages { (a b : Allocation) → IsLive self.now.slots a → IsLive self.now.slots b
+            → KeepsPages self.now.setup.properties.granularity self.now.slots a b }
+    {
+        let _ = &self.device;
+    }
+
+    /// Whether an allocation is live: the allocator has a record with its type, slot, number, offset, size and memory.
+    pub fn is_live(&self, allocation: &Allocation) -> bool
+        ensures { IsTrue result ↔ IsLive self.now.slots allocation.now }
+    {
+        match allocation.piece() {
+            None => false,
+            Some(piece) => self.types.is_live(allocation.memory_type_index, &piece),
+        }
+    }
+
+    /// The bytes of a live allocation in mapped memory; else `None`.
+    pub fn mapped_slice(&self, allocation: &Allocation) -> Option<&[u8]>
+        ensures mapped { IsSome result ↔ IsMapped self.now.setup.properties self.now.slots allocation.now }
+        ensures value { IfSome result (λ s. bytes_at (D.held self.now.device) allocation.now ≡ Some s.now) }
+        ensures len { IfSome result (λ s. length s.now ≡ allocation.now.size) }
+        ensures step { IsStep D.VulkanDevice (Read allocation.now) (Bytes (option_copied result)) self.now self.now }
+    {
+        if !self.is_live(allocation) {
+            return None;
+        }
+        self.device.bytes(allocation.device_memory, allocation.offset, allocation.size)
+    }
+
+    /// Lends the bytes of a live allocation in mapped memory to be written. `mapped_slice` tells whether there are any.
+    /// A write through them changes this allocation's bytes alone.
+    pub fn slice_mut(&mut self, allocation: &Allocation) -> &mut [u8]
+        requires { IsMapped self.old.setup.properties self.old.slots allocation.now }
+        ensures* lends { sem 𝓛 (lends_piece D.row D.VulkanDevice self.entry allocation.now result) }
+        ensures value { bytes_at (D.held self.old.device) allocation.now ≡ Some result.now }
+        ensures len { length result.now ≡ allocation.now.size }
+        ensures isolated { (ws : List ℕ) → length ws ≡ allocation.now.size
+            → ChangesOnly D.VulkanDevice self.old allocation.now ws (written_at D.VulkanDevice self.old allocation.now ws) }
+        ensures step { (ws : List ℕ) → length ws ≡ allocation.now.size
+            → IsStep D.VulkanDevice (Write allocation.now ws) Done self.old (written_at D.VulkanDevice self.old allocation.now ws) }
+    {
+        self.device.range_mut(allocation.device_memory, allocation.offset, allocation.size)
+    }
+
+    /// The same where the allocation is live and in mapped memory; else `None`.
+    pub fn mapped_slice_mut(&mut self, allocation: &Allocation) -> Option<&mut [u8]>
+        ensures mapped { IsSome result ↔ IsMapped self.old.setup.properties self.old.slots allocation.now }
+        ensures value { IfSome result (λ s. bytes_at (D.held self.old.device) allocation.now ≡ Some s.now) }
+        ensures len { IfSome result (λ s. length s.now ≡ allocation.now.size) }
+    {
+        if self.mapped_slice(allocation).is_some() {
+            Some(self.slice_mut(allocation))
+        } else {
+            None
+        }
+    }
+
+    /// The same as a slab.
+    pub fn try_as_mapped_slab(
+        &mut self,
+        allocation: &Allocation,
+    ) -> Option<MappedAllocationSlab<'_>>
+        ensures mapped { IsSome result ↔ IsMapped self.old.setup.properties self.old.slots allocation.now }
+        ensures value { IfSome result (λ s. bytes_at (D.held self.old.device) allocation.now ≡ Some s.bytes.now) }
+        ensures len { IfSome result (λ s. length s.bytes.now ≡ allocation.now.size) }
+    {
+        if self.mapped_slice(allocation).is_some() {
+            let bytes = self.slice_mut(allocation);
+            Some(MappedAllocationSlab { bytes })
+        } else {
+            None
+        }
+    }
+
+    /// Gives an allocation back, and its block with it where the block is left empty and isn't the only shared one of its
+    /// memory type. A null allocation is nothing to give back; one that isn't live comes back beside `Internal`, and then
+    /// nothing changes. It takes no memory.
+    pub fn free<L: Log>(
+        &mut self,
+        log: &L,
+        allocation: Allocation,
+    ) -> Result<(), (AllocationError, Allocation)>
+        ensures frees { Frees D.VulkanDevice allocation self.old.slots self.old.device result self.new.slots self.new.device }
+        ensures constant { (self.new.first ≡ self.old.first) × (self.new.setup ≡ self.old.setup) }
+        ensures step { IsStep D.VulkanDevice (Free allocation) (freed_as result) self.old self.new }
+        ensures keeps { (b : Allocation) → IsLive self.old.slots b → AreDistinct b allocation → IsLive self.new.slots b }
+    {
+        log_free(log, self.setup.debug(), &allocation);
+        let Some(piece) = allocation.piece() else {
+            return Ok(());
+        };
+        let index = allocation.memory_type_index;
+        match release(&mut self.device, &mut self.types, index, &piece) {
+            Ok(()) => Ok(()),
+            Err(error) => Err((error, allocation)),
+        }
+    }
+
+    /// Gives an allocation another name, and with it the record that reports and leaks show. A null allocation has no record.
+    /// `Internal` where the allocation is neither null nor live, else `HostOutOfMemory` where the host refused memory; then
+    /// both names are as they were.
+    pub fn rename_allocation(&mut self, allocation: &mut Allocation, name: &str) -> Result<()>
+        ensures renames { Renames allocation.old name.now self.old.slots result allocation.new self.new.slots }
+        ensures step { IsStep D.VulkanDevice (Rename allocation.old name.now) (renamed_as result) self.old self.new }
+        ensures live { StayLive self.old.slots self.new.slots }
+        ensures constant { (self.new.device ≡ self.old.device) × (self.new.first ≡ self.old.first) × (self.new.setup ≡ self.old.setup) }
+    {
+        rename(self.alloc, &mut self.types, allocation, name)
+    }
+
+    /// What is allocated: the live blocks and pieces by memory type, then by slot, pieces by offset, and the sums of both.
+    /// The only refusal is `HostOutOfMemory`.
+    pub fn generate_report(&self) -> Result<AllocatorReport>
+        ensures step { IsStep D.VulkanDevice Report (shown_as result) self.now self.now }
+        ensures report { IfOk result (λ r. report_of r ≡ whole_report self.now.slots) }
+        ensures capacity { IfOk result (λ r. r.total_capacity_bytes ≡ total_capacity self.now.slots) }
+        ensures cause { IfErr result (λ e. e ≡ HostOutOfMemory) }
+    {
+        self.types.report(self.alloc)
+    }
+
+    /// The texts of all live pieces by memory type, then by slot, then in order of offset. The only refusal is
+    /// `HostOutOfMemory`.
+    pub fn leak_texts(&self) -> Result<Vec<String>>
+        ensures step { IsStep D.VulkanDevice Leaks (told_as result) self.now self.now }
+        ensures texts { IfOk result (λ v. map string_bytes v.items ≡ map leak_text (all_leaks self.now.slots)) }
+        ensures cause { IfErr result (λ e. e ≡ HostOutOfMemory) }
+    {
+        self.types.leak_texts(self.alloc)
+    }
+
+    /// Logs the same texts one by one, each as a message of its own. It takes no memory.
+    pub fn report_memory_leaks<L: Log>(&self, log: &L, level: Level) {
+        log_leaks(log, level, &self.types);
+    }
+
+    /// Gives every block back, and returns the device, which then holds what it held when it was handed in. What is still
+    /// live is logged first, as warnings, where the settings ask for it.
+    pub fn destroy<L: Log>(self, log: &L) -> D
+        ensures held { D.held result ≡ D.held self.first }
+        ensures counts_nothing { D.refused result ≡ D.refused self.device }
+        ensures names_no_question { D.latest result ≡ D.latest self.device }
+        ensures constant { D.properties result ≡ D.properties self.first }
+    {
+        let Allocator {
+            mut device,
+            first: _,
+            setup,
+            types,
+            alloc: _,
+        } = self;
+        log_last_leaks(log, setup.settings.debug, &types);
+        for index in 0..types.count() {
+            free_blocks(&mut device, &types, index);
+        }
+        device
+    }
+}

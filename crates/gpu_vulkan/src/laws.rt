@@ -1,0 +1,40 @@
+//! Laws of the definitions, each the contract of a function that does nothing.
+
+ghost use Rattle.std.specs.Prelude.{◌≡◌, Result};
+ghost use Rattle.gpu_vulkan.specs.Allocate.{Allocates};
+ghost use Rattle.gpu_vulkan.specs.Blocks.{Slots};
+ghost use Rattle.gpu_memory_types.specs.Blocks.{BlocksWellFormed};
+ghost use Rattle.gpu_vulkan.specs.Free.{Frees};
+ghost use Rattle.gpu_vulkan.specs.Untouched.{LeavesMemory};
+ghost use Rattle.gpu_vulkan.specs.declared.allocation.Allocation.{Allocation};
+ghost use Rattle.gpu_vulkan.specs.declared.describe.AllocationCreateDesc.{AllocationCreateDesc};
+ghost use Rattle.gpu_values.specs.declared.error.AllocationError.{AllocationError};
+ghost use Rattle.gpu_vulkan.specs.Setup.{Setup};
+ghost use Rattle.gpu_vulkan.specs.Step.{ModelState, Call, CallEnvironment, Reply, Step};
+ghost use Rattle.gpu_vulkan.specs.Alike.{AlikeCallEnvironment, AlikeCall, AlikeReply};
+
+use gpu_device::vulkan::VulkanDevice;
+
+/// The model isn't loose: a state, a call, and what the device and the host answered it decide the reply and the next state.
+pub fn one_step()
+    ensures { (setup : Setup) (call : Call) (met : CallEnvironment) (a b : Reply) (old new next : ModelState) → BlocksWellFormed setup.properties.granularity old.slots
+        → Step setup call met a old new → Step setup call met b old next → (a ≡ b) × (new ≡ next) }
+{}
+
+/// Bytes decide nothing but bytes: from two states with the same blocks, calls that differ at most in the bytes of a write, with
+/// environment that differ at most in the bytes of newly mapped blocks, get the same reply but for the bytes of a read, and leave
+/// the same blocks.
+pub fn bytes_decide_nothing()
+    ensures { (setup : Setup) (call other : Call) (met meets : CallEnvironment) (a b : Reply) (old new twin next : ModelState) → BlocksWellFormed setup.properties.granularity old.slots
+        → old.slots ≡ twin.slots → AlikeCallEnvironment met meets → AlikeCall call other → Step setup call met a old new → Step setup other meets b twin next
+        → AlikeReply a b × (new.slots ≡ next.slots) }
+{}
+
+/// No allocation and no free changes a byte of memory that is held before and after. (A new name, a report, a list of leaks and a
+/// read leave the device as it was; a write is told by `slice_mut`.)
+pub fn memory_is_left<D: VulkanDevice>()
+    ensures allocate { (setup : Setup) (d : AllocationCreateDesc) (old new : Slots) (device after : D) (result : Result Allocation AllocationError)
+        → Allocates D.VulkanDevice setup d old device result new after → LeavesMemory (D.held device) (D.held after) }
+    ensures free { (a : Allocation) (old new : Slots) (device after : D) (result : Result (Unit {0}) (AllocationError × Allocation))
+        → Frees D.VulkanDevice a old device result new after → LeavesMemory (D.held device) (D.held after) }
+{}
