@@ -6,3 +6,9 @@ pub mod Reporting
 pub mod Placed
 pub mod Holding
 pub mod Returned
+pub mod OneOutcome
+pub mod StayLive
+pub mod Granting
+pub mod Releasing
+pub mod Prepared
+pub mod Aligned

@@ -5,7 +5,7 @@ use Rattle.std.specs.Option.{option_map}
 use Rattle.std.proofs.lemmas.List.{map-set, set-get_or, length-map}
 use Rattle.std.proofs.lemmas.List.Elements.{All-nil, All-cons, All-head, All-tail}
 use Rattle.std.proofs.lemmas.List.Sums.{sum_by-cons}
-use Rattle.std.proofs.lemmas.Option.{slice_get-map, get_or_from_slice_get}
+use Rattle.std.proofs.lemmas.Option.{slice_get-map, slice_get-get_or, get_or_from_slice_get}
 use Rattle.std.proofs.Math.Seq.{map-set_same}
 use Rattle.gpu_core.specs.TypeState.{TypeState, Slot, capacity_of}
 use Rattle.gpu_core.specs.Slots.{AreSound}
@@ -125,3 +125,9 @@ invariant_empty types empty = record { well_formed = formed types empty; sum = n
         let here : capacity_of t.slots ≡ 0 = ap (λ ss. capacity_of ss) (All-head (λ slots. slots ≡ []) t.slots (slots_of ts) empty) in
         let split = sum_by-cons (λ s. capacity_of s) t.slots (slots_of ts) in
         omega (arith, rest, here, split)
+
+pub type_there : {H : Type 0} (types : Types H) (i : ℕ) → i < length types → slice_get types i ≡ Some (type_of types i)
+type_there types i below = slice_get-get_or types i no_type below
+
+pub slots_here : {H : Type 0} (types : Types H) (i : ℕ) → i < length types → (type_of types i).slots ≡ slots_at (slots_of types) i
+slots_here types i below = slots_are types i (type_of types i) (type_there types i below)

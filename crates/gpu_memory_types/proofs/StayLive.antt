@@ -1,0 +1,206 @@
+-- Which pieces stay live: all of them where one is given, all others where one goes.
+use Rattle.std.proofs.Common.{◌≡◌, ◌≢◌, ◌∙◌, ℕ, ◌<◌, refl, sym, ap, subst, Bool, true, List, length, slice_set, Option, Some, None, Contains, IfSome, arith, ⊎_elim}
+use Rattle.std.specs.Option.{option_to_list}
+use Rattle.std.specs.Int.NonZero.{non_zero_u64_get}
+use Rattle.gpu_core.specs.Block.{Block, free_list, dedicated, is_general, TakesIn, ReleasesIn, HoldsPiece, IsSoundBlock}
+use Rattle.gpu_core.specs.FreeList.{Extent}
+use Rattle.gpu_core.specs.Refusal.{Refusal}
+use Rattle.gpu_core.specs.Request.{Request}
+use Rattle.gpu_core.specs.Slots.{SlotIsSound}
+use Rattle.gpu_core.specs.TypeRelease.{SlotHolds, SlotReleases, ReleasesPiece}
+use Rattle.gpu_core.specs.TypeState.{Slot, slot_at}
+use Rattle.gpu_core.specs.TypeTake.{Ready, fresh_block, PreparesPiece, Installs}
+use Rattle.gpu_core.specs.declared.memory_type.Piece.{Piece}
+use Rattle.gpu_core.proofs.EmptyBlocks.{takes_holds, holds_some}
+use Rattle.gpu_core.proofs.Finding.{only_one}
+use Rattle.gpu_core.proofs.Slotted.{set_only}
+use Rattle.gpu_block_pieces.proofs.Live.{takes_keeps, takes_new_number, releases_keeps}
+use Rattle.gpu_memory_types.specs.Attempt.{RequestAt, type_asked, BlockResult, Allocated, NotAllocated, AskedBlock, Plan, NoHostMemory, SharedBlock, NewBlock, IsPlan, Answer, Gave, Refused, IsAfterResult, IsCarriedOut, AllocatesInType}
+use Rattle.gpu_memory_types.specs.Blocks.{Slots, slots_at, block_at, total_capacity, BlocksWellFormed}
+use Rattle.gpu_memory_types.specs.Live.{IsLiveIn}
+use Rattle.gpu_memory_types.proofs.OneOutcome.{gave_refused}
+use Rattle.gpu_memory_types.proofs.Placed.{OnlyBlock, only_block, installs_only, prepares_only, some_below, same_place}
+use Rattle.gpu_memory_types.proofs.Types.{slots_same}
+
+-- ---- one block
+
+taken_keeps : (old : Block) (r : Request) (o n : ℕ) (new : Block) → is_general old ≡ true → TakesIn old r o n new → (k off size : ℕ) → HoldsPiece old k off size → HoldsPiece new k off size
+taken_keeps (free_list old) r o n (free_list new) shared t k off size h = (h.0, takes_keeps old r o n new t h.0 h.1, h.2, h.3, h.4)
+taken_keeps (free_list old) r o n (dedicated new) shared t k off size h = absurd t
+taken_keeps (dedicated old) r o n new shared t k off size h = cc
+
+-- the number of a piece that is taken is no other live piece's
+taken_number : (old : Block) (r : Request) (o n : ℕ) (new : Block) → is_general old ≡ true → IsSoundBlock old → IsSoundBlock new → TakesIn old r o n new
+    → (k off size : ℕ) → HoldsPiece old k off size → k ≡ n → ⊥
+taken_number (free_list old) r o n (free_list new) shared before after t k off size h e = takes_new_number old r o n new before after t (h.0, h.1, h.2 ∙ e)
+taken_number (free_list old) r o n (dedicated new) shared before after t k off size h e = t
+taken_number (dedicated old) r o n new shared before after t k off size h e = cc
+
+held_one : (o : Option Extent) (size : ℕ) → IfSome o (λ x. (x.start ≡ 0) × (x.offset ≡ 0) × (x.end ≡ size) × (x.number ≡ 1)) → (x : Extent) → Contains (option_to_list o) x → x.number ≡ 1
+held_one None size whole x h = let l = h.1 in absurd (omega (arith, l))
+held_one (Some y) size whole x h = ap (λ (z : Extent). z.number) (only_one (Some y) x y h (0, omega arith, refl)) ∙ whole.3
+
+released_keeps : (old : Block) (n : ℕ) (new : Block) → IsSoundBlock old → ReleasesIn old n new → (k off size : ℕ) → k ≢ n → HoldsPiece old k off size → HoldsPiece new k off size
+released_keeps (free_list old) n (free_list new) sound t k off size ne h = (h.0, releases_keeps old n new sound t h.0 h.1 (λ e. ne (sym h.2 ∙ e)), h.2, h.3, h.4)
+released_keeps (free_list old) n (dedicated new) sound t k off size ne h = absurd t
+released_keeps (dedicated old) n (free_list new) sound t k off size ne h = absurd t
+released_keeps (dedicated old) n (dedicated new) sound t k off size ne h = absurd (ne (sym h.2 ∙ held_one old.piece old.size sound h.0 h.1 ∙ sym t.1))
+
+pub sound_slot : {H : Type 0} (granularity : ℕ) (ss : Slots H) (t i : ℕ) (s : Slot H) → BlocksWellFormed granularity ss → block_at ss t i ≡ Some s → IsSoundBlock s.block
+sound_slot granularity ss t i s sound at = (subst (SlotIsSound granularity) at (sound t i)).1
+
+-- ---- one block among all
+
+module _ {H : Type 0} (eq : H → H → Bool) (old new : Slots H) (t i : ℕ) (s : Option (Slot H)) (only : OnlyBlock old t i s new) where
+  -- a piece of another block stays, and one of this block where the change keeps it
+  pub keeps_by : (u : ℕ) (p : Piece H) → (SlotHolds eq p (block_at old t i) → u ≡ t → p.slot ≡ i → SlotHolds eq p s) → IsLiveIn eq old u (Some p) → IsLiveIn eq new u (Some p)
+  keeps_by u p here live =
+      ⊎_elim
+      (λ at.
+      let live_here : SlotHolds eq p (block_at old t i) = subst (λ j. SlotHolds eq p (block_at old t j)) at.1 (subst (λ v. SlotHolds eq p (block_at old v p.slot)) at.0 live) in
+      let there : SlotHolds eq p (block_at new t i) = subst (SlotHolds eq p) (sym only.at) (here live_here at.0 at.1) in
+      subst (λ v. SlotHolds eq p (block_at new v p.slot)) (sym at.0) (subst (λ j. SlotHolds eq p (block_at new t j)) (sym at.1) there))
+      (λ away. subst (SlotHolds eq p) (sym (only.others u p.slot away)) live)
+      (same_place u t p.slot i)
+
+-- a piece of a block that stands in its slot is live
+pub live_at : {H : Type 0} (eq : H → H → Bool) (same : (h : H) → eq h h ≡ true) (ss : Slots H) (t : ℕ) (p : Piece H) (b : Slot H)
+    → block_at ss t p.slot ≡ Some b → b.number ≡ p.block → HoldsPiece b.block (non_zero_u64_get p.number) p.offset p.size → IsLiveIn eq ss t (Some p)
+live_at eq same ss t p b at number holds =
+    subst (SlotHolds eq p) (sym at) (subst (λ n. eq b.number n ≡ true) number (same b.number), holds)
+
+-- ---- a request
+
+-- what an answer makes of live pieces: all stay live, and a piece that is given is live and is none of them
+pub record KeepsPieces {H : Type 0} (eq : H → H → Bool) (t : ℕ) (old new : Slots H) (answer : Answer H) : Type 0 where
+  pub keeps : (u : ℕ) (q : Piece H) → IsLiveIn eq old u (Some q) → IsLiveIn eq new u (Some q)
+  pub live : (p : Piece H) → answer ≡ Gave p → IsLiveIn eq new t (Some p)
+  pub other : (p : Piece H) → answer ≡ Gave p → (u : ℕ) (q : Piece H) → IsLiveIn eq old u (Some q) → u ≡ t → q.slot ≡ p.slot → non_zero_u64_get q.number ≢ non_zero_u64_get p.number
+
+pub gave_same : {H : Type 0} (p q : Piece H) → Gave p ≡ Gave q → p ≡ q
+gave_same p q e = cc
+
+keeps_all : {H : Type 0} (eq : H → H → Bool) (t : ℕ) (old new : Slots H) (r : Refusal) (answer : Answer H) → answer ≡ Refused r → new ≡ old → KeepsPieces eq t old new answer
+keeps_all {H} eq t old new r answer refused same = record {
+  keeps = λ u q live. subst (λ (ss : Slots H). IsLiveIn eq ss u (Some q)) (sym same) live;
+  live = λ p e. absurd (gave_refused p r (sym e ∙ refused));
+  other = λ p e u q live type slot number. gave_refused p r (sym e ∙ refused);
+}
+
+module _ {H : Type 0} (eq : H → H → Bool) (same : (h : H) → eq h h ≡ true) (q : RequestAt) (old : Slots H) (below : q.memory_type < length old) (sound : BlocksWellFormed q.granularity old) where
+  abbrev t : ℕ
+  t = q.memory_type
+
+  served_keeps : (p : Piece H) (taken : List (Option (Slot H))) → PreparesPiece (slots_at old t) q.request p taken → BlocksWellFormed q.granularity (slice_set old t taken)
+      → KeepsPieces eq t old (slice_set old t taken) (Gave p)
+  served_keeps p taken s after =
+      let r = q.request in
+      let new = slice_set old t taken in
+      let b : Slot H = record s.slot { block = s.after } in
+      let n = non_zero_u64_get p.number in
+      let only = only_block old t p.slot (Some b) taken below (prepares_only (slots_at old t) r p taken s) in
+      let holds_piece : HoldsPiece s.after n p.offset p.size = subst (HoldsPiece s.after n p.offset) (sym s.size) (takes_holds s.slot.block r p.offset n s.after s.takes) in
+      let live = live_at eq same new t p b only.at (sym s.number) holds_piece in
+      let held : (z : Piece H) → SlotHolds eq z (block_at old t p.slot) → SlotHolds eq z (Some s.slot) = λ z h. subst (SlotHolds eq z) s.at h in
+      record {
+        keeps = λ u z was. keeps_by eq old new t p.slot (Some b) only u z
+            (λ h type slot. ((held z h).0, taken_keeps s.slot.block r p.offset n s.after s.shared s.takes (non_zero_u64_get z.number) z.offset z.size (held z h).1)) was;
+        live = λ z e. subst (λ (y : Piece H). IsLiveIn eq new t (Some y)) (gave_same p z e) live;
+        other = λ y e u z was type slot number.
+            let one = gave_same p y e in
+            let here : SlotHolds eq z (block_at old t p.slot) =
+            subst (λ j. SlotHolds eq z (block_at old t j)) (slot ∙ ap (λ (x : Piece H). x.slot) (sym one)) (subst (λ v. SlotHolds eq z (block_at old v z.slot)) type was) in
+            taken_number s.slot.block r p.offset n s.after s.shared (sound_slot q.granularity old t p.slot s.slot sound s.at) (sound_slot q.granularity new t p.slot b after only.at) s.takes
+            (non_zero_u64_get z.number) z.offset z.size (held z here).1 (number ∙ ap (λ (x : Piece H). non_zero_u64_get x.number) (sym one));
+      }
+
+  installed_keeps : (own : Bool) (size : ℕ) (ready : Ready) (n : H) (p : Piece H) (x : List (Option (Slot H)))
+      → TakesIn (fresh_block own size q.granularity) q.request ready.offset ready.number ready.block → ready.size ≡ q.request.size → Installs (slots_at old t) own ready n p x
+      → KeepsPieces eq t old (slice_set old t x) (Gave p)
+  installed_keeps own size ready n p x takes sized made =
+      let r = q.request in
+      let new = slice_set old t x in
+      let b : Slot H = record { number = n; block = ready.block } in
+      let k = non_zero_u64_get p.number in
+      let only_at = installs_only (slots_at old t) own ready n p x made in
+      let only = only_block old t p.slot (Some b) x below only_at.1 in
+      let none : block_at old t p.slot ≡ None = only_at.0 in
+      let taken : HoldsPiece ready.block ready.number ready.offset r.size = takes_holds (fresh_block own size q.granularity) r ready.offset ready.number ready.block takes in
+      let long : p.size ≡ r.size = made.piece.2 ∙ sized in
+      let at_number : HoldsPiece ready.block k ready.offset r.size = subst (λ m. HoldsPiece ready.block m ready.offset r.size) (sym made.piece.1) taken in
+      let at_offset : HoldsPiece ready.block k p.offset r.size = subst (λ o. HoldsPiece ready.block k o r.size) (sym made.piece.0) at_number in
+      let holds_piece : HoldsPiece ready.block k p.offset p.size = subst (HoldsPiece ready.block k p.offset) (sym long) at_offset in
+      let live = live_at eq same new t p b only.at (sym made.piece.3) holds_piece in
+      let nothing : (z : Piece H) → SlotHolds eq z (block_at old t p.slot) → ⊥ = λ z h. subst (SlotHolds eq z) none h in
+      record {
+        keeps = λ u z was. keeps_by eq old new t p.slot (Some b) only u z (λ h type slot. absurd (nothing z h)) was;
+        live = λ z e. subst (λ (y : Piece H). IsLiveIn eq new t (Some y)) (gave_same p z e) live;
+        other = λ y e u z was type slot number.
+            let here : SlotHolds eq z (block_at old t z.slot) = subst (λ v. SlotHolds eq z (block_at old v z.slot)) type was in
+            nothing z (subst (λ j. SlotHolds eq z (block_at old t j)) (slot ∙ ap (λ (x : Piece H). x.slot) (sym (gave_same p y e))) here);
+      }
+
+  slots_kept : (x : List (Option (Slot H))) → x ≡ slots_at old t → slice_set old t x ≡ old
+  slots_kept x is = ap (slice_set old t) is ∙ slots_same old t
+
+  granted_keeps : (own : Bool) (size : ℕ) (ready : Ready) (g : BlockResult H) (answer : Answer H) (x : List (Option (Slot H)))
+      → TakesIn (fresh_block own size q.granularity) q.request ready.offset ready.number ready.block → ready.size ≡ q.request.size → IsAfterResult (slots_at old t) own ready g answer x
+      → KeepsPieces eq t old (slice_set old t x) answer
+  granted_keeps own size ready (NotAllocated refusal) answer x takes sized s = keeps_all eq t old (slice_set old t x) refusal answer s.0 (slots_kept x s.1)
+  granted_keeps own size ready (Allocated n) answer x takes sized s = subst (KeepsPieces eq t old (slice_set old t x)) (sym s.1) (installed_keeps own size ready n s.0 x takes sized s.2)
+
+  planned_keeps : (plan : Plan H) (host : Bool) (o : Option (AskedBlock H)) (answer : Answer H) (x : List (Option (Slot H))) → IsPlan q (type_asked q old) host plan
+      → IsCarriedOut (total_capacity old) (slots_at old t) plan o answer x → BlocksWellFormed q.granularity (slice_set old t x) → KeepsPieces eq t old (slice_set old t x) answer
+  planned_keeps NoHostMemory host None answer x plan comes after = keeps_all eq t old (slice_set old t x) _ answer comes.0 (slots_kept x comes.1)
+  planned_keeps NoHostMemory host (Some a) answer x plan comes after = absurd comes
+  planned_keeps (SharedBlock p taken) host (Some a) answer x plan comes after = absurd comes
+  planned_keeps (SharedBlock p taken) host None answer x plan comes after =
+      subst (λ w. KeepsPieces eq t old (slice_set old t x) w) (sym comes.0)
+      (subst (λ (ss : List (Option (Slot H))). KeepsPieces eq t old (slice_set old t ss) (Gave p)) (sym comes.1)
+      (served_keeps p taken plan.2 (subst (λ (ss : List (Option (Slot H))). BlocksWellFormed q.granularity (slice_set old t ss)) comes.1 after)))
+  planned_keeps (NewBlock size own ready) host None answer x plan comes after = keeps_all eq t old (slice_set old t x) _ answer comes.1 (slots_kept x comes.2)
+  planned_keeps (NewBlock size own ready) host (Some a) answer x plan comes after = granted_keeps own size ready a.result answer x plan.1.takes plan.1.piece comes.2
+
+  -- a request leaves every live piece live, and what it gives is live and none of them
+  pub allocates_keeps : (host : Bool) (asked : Option (AskedBlock H)) (answer : Answer H) (new : Slots H) → AllocatesInType q old host asked answer new → BlocksWellFormed q.granularity new
+      → KeepsPieces eq t old new answer
+  allocates_keeps host asked answer new a after =
+      subst (λ (ss : Slots H). KeepsPieces eq t old ss answer) (sym a.slots)
+      (planned_keeps a.plan host asked answer a.left a.is_plan a.is_carried_out (subst (BlocksWellFormed q.granularity) a.slots after))
+
+-- ---- a release
+
+module _ {H : Type 0} (eq : H → H → Bool) (granularity t : ℕ) (old : Slots H) (below : t < length old) (sound : BlocksWellFormed granularity old) (p : Piece H) where
+  abbrev n : ℕ
+  n = non_zero_u64_get p.number
+
+  left_by : (several : Type 0) (a b : Option (Slot H)) (went : Option H) → block_at old t p.slot ≡ a → SlotReleases several n a went b
+      → (u : ℕ) (z : Piece H) → (u ≡ t → z.slot ≡ p.slot → non_zero_u64_get z.number ≡ n → ⊥) → IsLiveIn eq old u (Some z) → IsLiveIn eq (slice_set old t (slice_set (slots_at old t) p.slot b)) u (Some z)
+  left_by several None b went at rel u z other live = absurd rel
+  left_by several (Some a) (Some b) went at rel u z other live =
+      let slots = slots_at old t in
+      let new = slice_set old t (slice_set slots p.slot (Some b)) in
+      let only = only_block old t p.slot (Some b) (slice_set slots p.slot (Some b)) below (set_only slots p.slot (Some b) (some_below slots p.slot a at)) in
+      keeps_by eq old new t p.slot (Some b) only u z
+      (λ h type slot.
+      let here : SlotHolds eq z (Some a) = subst (SlotHolds eq z) at h in
+      let kept = released_keeps a.block n b.block (sound_slot granularity old t p.slot a sound at) rel.2 (non_zero_u64_get z.number) z.offset z.size (λ e. other type slot e) here.1 in
+      (subst (λ (m : H). eq m z.block ≡ true) (sym rel.1) here.0, kept))
+      live
+  left_by several (Some a) None went at rel u z other live =
+      let slots = slots_at old t in
+      let new = slice_set old t (slice_set slots p.slot None) in
+      let only = only_block old t p.slot None (slice_set slots p.slot None) below (set_only slots p.slot None (some_below slots p.slot a at)) in
+      keeps_by eq old new t p.slot None only u z
+      (λ h type slot.
+      let here : SlotHolds eq z (Some a) = subst (SlotHolds eq z) at h in
+      let left = released_keeps a.block n rel.1.0 (sound_slot granularity old t p.slot a sound at) rel.1.1 (non_zero_u64_get z.number) z.offset z.size (λ e. other type slot e) here.1 in
+      holds_some rel.1.0 (non_zero_u64_get z.number) z.offset z.size left rel.1.2.0)
+      live
+
+  -- a release leaves every other live piece live
+  pub released_keeps_others : (several : Type 0) (went : Option H) (left : List (Option (Slot H))) → ReleasesPiece several (slots_at old t) p went left
+      → (u : ℕ) (z : Piece H) → (u ≡ t → z.slot ≡ p.slot → non_zero_u64_get z.number ≡ n → ⊥) → IsLiveIn eq old u (Some z) → IsLiveIn eq (slice_set old t left) u (Some z)
+  released_keeps_others several went left r u z other live =
+      subst (λ (x : List (Option (Slot H))). IsLiveIn eq (slice_set old t x) u (Some z)) (sym r.slots)
+      (left_by several (slot_at (slots_at old t) p.slot) r.slot went refl r.releases u z other live)
