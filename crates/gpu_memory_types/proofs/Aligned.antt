@@ -1,12 +1,11 @@
 -- A piece that is given begins at a multiple of the alignment that was asked for.
 use Rattle.std.proofs.Common.{◌≡◌, ◌∙◌, ℕ, ◌%◌, refl, sym, ap, subst, Bool, List, Option, Some, None, arith}
 use Rattle.gpu_core.specs.Block.{Block, free_list, dedicated, TakesIn}
-use Rattle.gpu_core.specs.Refusal.{Refusal}
 use Rattle.gpu_core.specs.Request.{Request}
 use Rattle.gpu_core.specs.TypeState.{Slot}
 use Rattle.gpu_core.specs.TypeTake.{Ready}
 use Rattle.gpu_core.specs.declared.memory_type.Piece.{Piece}
-use Rattle.gpu_memory_types.specs.Attempt.{RequestAt, type_asked, BlockResult, Allocated, NotAllocated, AskedBlock, Plan, NoHostMemory, SharedBlock, NewBlock, IsPlan, Gave, Refused, IsAfterResult, IsCarriedOut, AllocatesInType}
+use Rattle.gpu_memory_types.specs.Attempt.{RequestAt, type_asked, BlockResult, Allocated, NotAllocated, AskedBlock, Plan, NoHostMemory, SharedBlock, NewBlock, IsPlan, Gave, IsAfterResult, IsCarriedOut, AllocatesInType}
 use Rattle.gpu_memory_types.specs.Blocks.{Slots, slots_at, total_capacity}
 use Rattle.gpu_memory_types.proofs.OneOutcome.{gave_refused}
 use Rattle.gpu_memory_types.proofs.StayLive.{gave_same}

@@ -1,13 +1,12 @@
 -- What a call of one memory type is among all of them.
-use Rattle.std.proofs.Common.{◌≡◌, ◌≢◌, ◌∙◌, refl, sym, ap, subst, ℕ, zero, suc, [], ◌∷◌, ◌+◌, ◌<◌, ◌≤◌, ◌^◌, Bool, true, List, length, slice_get, slice_set, Option, Some, None, Ok, Err, Result, arith, inl, inr, IsTrue, IfOk, IfErr, OnOk, OnErr}
+use Rattle.std.proofs.Common.{◌≡◌, ◌≢◌, ◌∙◌, refl, sym, ap, subst, ℕ, zero, suc, [], ◌∷◌, ◌<◌, Bool, List, length, slice_get, slice_set, Option, Some, Ok, Err, Result, arith, inl, inr, IsTrue, IfOk, IfErr, OnOk, OnErr}
 use Rattle.std.proofs.Common.{get_or}
-use Rattle.std.proofs.lemmas.List.{length-map}
 use Rattle.std.proofs.lemmas.Option.{slice_get-get_or}
-use Rattle.gpu_values.specs.Refusal.{Refusal, refusal_of, out_of_memory, host_out_of_memory}
+use Rattle.gpu_values.specs.Refusal.{refusal_of, out_of_memory}
 use Rattle.gpu_values.specs.Sizes.{Sizes}
 use Rattle.gpu_values.specs.declared.error.AllocationError.{AllocationError}
 use Rattle.gpu_values.specs.declared.error.AllocationError.TheVariants as errors
-use Rattle.gpu_core.specs.TypeState.{TypeState, Slot, slot_at, capacity_of}
+use Rattle.gpu_core.specs.TypeState.{TypeState, Slot, slot_at}
 use Rattle.gpu_core.specs.TypeRelease.{has_several, ReleasesPiece, RenamesPiece, IsLive, IsNameRefusal}
 use Rattle.gpu_core.specs.TypeTake.{Ready, Installs, asked, NeedsBlock}
 use Rattle.gpu_core.specs.TypePrepare.{IsPrepared}
@@ -15,11 +14,11 @@ use Rattle.gpu_core.specs.declared.memory_type.Piece.{Piece}
 use Rattle.gpu_core.specs.declared.memory_type.Prepared.{Prepared}
 use Rattle.gpu_core.specs.declared.memory_type.Prepared.TheVariants as prepared
 use Rattle.gpu_core.specs.declared.memory_type.Request as type_requests
-use Rattle.gpu_memory_types.specs.Blocks.{Slots, slots_at, total_capacity}
+use Rattle.gpu_memory_types.specs.Blocks.{slots_at, total_capacity}
 use Rattle.gpu_memory_types.specs.Release.{ReleasesAt}
 use Rattle.gpu_memory_types.specs.Rename.{IsRenamed, IsNotNamed}
 use Rattle.gpu_memory_types.specs.Requests.{FitsSum, PassesSum, PreparesAt, NeedsTooMuch, IsPrepareRefusal, InstallsAt}
-use Rattle.gpu_memory_types.specs.Types.{Types, slots_of, kinds, type_of, no_type}
+use Rattle.gpu_memory_types.specs.Types.{Types, slots_of, type_of}
 use Rattle.gpu_memory_types.proofs.Types.{slots_set, slots_are, slots_same, type_is}
 
 -- what was set is there

@@ -1,5 +1,5 @@
 -- None and Some are never the same, and Some of two values only where these are.
-use Rattle.std.proofs.Common.{◌≡◌, Option, Some, None, Ok, Err, Result, OnErr}
+use Rattle.std.proofs.Common.{◌≡◌, Some, None, Ok, Err, Result, OnErr}
 
 pub none_some : {A : Type 0} (x : A) → None ≡ Some x → ⊥
 none_some x e = cc

@@ -1,14 +1,14 @@
 -- What `prepare` and `install` answer, as what a request comes to at its memory type.
-use Rattle.std.proofs.Common.{◌≡◌, ◌∙◌, refl, sym, ap, subst, ◌⊎◌, ⊎_elim, ℕ, ◌<◌, Bool, true, false, List, length, slice_set, Option, Some, None}
+use Rattle.std.proofs.Common.{◌≡◌, ◌∙◌, refl, sym, ap, subst, ⊎_elim, ℕ, ◌<◌, Bool, true, false, length, slice_set, Some, None}
 use Rattle.gpu_core.specs.Refusal.{Refusal, out_of_memory, host_out_of_memory}
 use Rattle.gpu_core.specs.Sizes.{Sizes}
-use Rattle.gpu_core.specs.TypeState.{TypeState, Slot}
+use Rattle.gpu_core.specs.TypeState.{TypeState}
 use Rattle.gpu_core.specs.TypeTake.{asked, Ready, NeedsBlock, Installs}
 use Rattle.gpu_core.specs.declared.memory_type.Piece.{Piece}
 use Rattle.gpu_core.specs.declared.memory_type.Prepared.TheVariants as prepared
 use Rattle.gpu_core.specs.declared.memory_type.Request as type_requests
 use Rattle.gpu_core.specs.declared.memory_type.need.NeedBlock.{NeedBlock}
-use Rattle.gpu_memory_types.specs.Attempt.{RequestAt, type_asked, Allocated, NotAllocated, AskedBlock, Plan, NoHostMemory, SharedBlock, NewBlock, IsPlan, Gave, Refused, AllocatesInType}
+use Rattle.gpu_memory_types.specs.Attempt.{RequestAt, type_asked, Allocated, NotAllocated, NoHostMemory, SharedBlock, NewBlock, IsPlan, Gave, Refused, AllocatesInType}
 use Rattle.gpu_memory_types.specs.Blocks.{Slots, slots_at}
 use Rattle.gpu_memory_types.specs.Requests.{PreparesAt, IsPrepareRefusal, NeedsTooMuch, InstallsAt}
 use Rattle.gpu_memory_types.specs.Types.{Types, slots_of, type_of}
@@ -23,6 +23,16 @@ request_at i types sizes r = record {
   sizes = sizes;
   wants_own = r.dedicated;
   request = asked r;
+}
+
+-- host memory was refused before the memory type was asked
+pub starved : {H : Type 0} (q : RequestAt) (ss : Slots H) → AllocatesInType q ss false None (Refused host_out_of_memory) ss
+starved q ss = record {
+  plan = NoHostMemory;
+  is_plan = refl;
+  left = slots_at ss q.memory_type;
+  is_carried_out = (refl, refl);
+  slots = sym (slots_same ss q.memory_type);
 }
 
 module _ {H : Type 0} (i : ℕ) (types : Types H) (sizes : Sizes) (r : type_requests.Request) (below : i < length types) where

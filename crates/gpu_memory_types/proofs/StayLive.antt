@@ -80,7 +80,7 @@ pub record KeepsPieces {H : Type 0} (eq : H → H → Bool) (t : ℕ) (old new :
 pub gave_same : {H : Type 0} (p q : Piece H) → Gave p ≡ Gave q → p ≡ q
 gave_same p q e = cc
 
-keeps_all : {H : Type 0} (eq : H → H → Bool) (t : ℕ) (old new : Slots H) (r : Refusal) (answer : Answer H) → answer ≡ Refused r → new ≡ old → KeepsPieces eq t old new answer
+pub keeps_all : {H : Type 0} (eq : H → H → Bool) (t : ℕ) (old new : Slots H) (r : Refusal) (answer : Answer H) → answer ≡ Refused r → new ≡ old → KeepsPieces eq t old new answer
 keeps_all {H} eq t old new r answer refused same = record {
   keeps = λ u q live. subst (λ (ss : Slots H). IsLiveIn eq ss u (Some q)) (sym same) live;
   live = λ p e. absurd (gave_refused p r (sym e ∙ refused));

@@ -3,9 +3,9 @@ use Rattle.std.specs.Prelude.{◌≡◌, ℕ, ◌+◌, ◌^◌, ◌<◌, ◌≤�
 use Rattle.std.specs.List.{slice_set}
 use Rattle.gpu_core.specs.Refusal.{Refusal, out_of_memory, host_out_of_memory}
 use Rattle.gpu_core.specs.Sizes.{Sizes}
-use Rattle.gpu_core.specs.TypeState.{TypeState, Slot}
+use Rattle.gpu_core.specs.TypeState.{Slot}
 use Rattle.gpu_core.specs.TypeTake.{asked, NeedsBlock, Installs, Ready}
-use Rattle.gpu_core.specs.TypePrepare.{IsPrepared, CanInstall}
+use Rattle.gpu_core.specs.TypePrepare.{IsPrepared}
 use Rattle.gpu_core.specs.declared.memory_type.Piece.{Piece}
 use Rattle.gpu_core.specs.declared.memory_type.Prepared.{Prepared}
 use Rattle.gpu_core.specs.declared.memory_type.Prepared.TheVariants as prepared

@@ -4,17 +4,18 @@ use Rattle.std.specs.Prelude.{◌&&◌, not, if◌then◌else◌}
 use Rattle.gpu_core.specs.Refusal.{Refusal, host_out_of_memory}
 use Rattle.gpu_core.specs.Leak.{leak_text}
 use Rattle.gpu_core.specs.TypeRelease.{has_several, ReleasesPiece, RenamesPiece, IsFreeRefusal, IsNameRefusal}
-use Rattle.gpu_core.specs.TypeState.{Slot, TypeState, slot_at}
-use Rattle.gpu_core.specs.TypeTake.{Ready, has_own_block, PreparesPiece, NeedsBlock}
+use Rattle.gpu_core.specs.TypeState.{slot_at}
 use Rattle.gpu_core.specs.declared.memory_type.Piece.{Piece}
 use Rattle.gpu_core.proofs.OneOutcome.{released_once, refusal_once, renamed_once}
 use Rattle.gpu_device.specs.declared.vulkan.types.DeviceMemory.{DeviceMemory}
 use Rattle.gpu_device.specs.declared.vulkan.types.MemoryAllocateInfo.{MemoryAllocateInfo}
-use Rattle.gpu_vulkan.specs.Allocate.{Attempts, IsTooLarge, IsPlanned, is_valid, is_for_upload, is_short}
+use Rattle.gpu_vulkan.specs.Allocate.{Attempts, IsTooLarge, IsWithinHeap, is_valid, is_for_upload, is_short}
 use Rattle.gpu_vulkan.specs.Alike.{AlikeAnswer, AlikeAsked, AlikeAttemptEnvironment, AlikeCallEnvironment, AlikeDescription, AlikeCall, AlikeReply}
-use Rattle.gpu_vulkan.specs.Attempt.{AttemptEnvironment, Asked, Plan, Short, Serves, Needs, IsPlan, Answer, Gave, Refused, Comes, Settles, question}
+use Rattle.gpu_memory_types.specs.Attempt.{RequestAt, Allocated, AllocatesInType, Gave, Refused}
+use Rattle.gpu_memory_types.proofs.OneOutcome.{allocates_once}
+use Rattle.gpu_vulkan.specs.Attempt.{AttemptEnvironment, Asked, Answer, asked_block, block_result, request_at}
 use Rattle.gpu_vulkan.specs.BlockAnswer.{BlockAnswer, Declined, Granted, Mapped, NotMapped}
-use Rattle.gpu_vulkan.specs.Blocks.{Slots, is_mapped, type_at}
+use Rattle.gpu_vulkan.specs.Blocks.{Slots, is_mapped}
 use Rattle.gpu_memory_types.specs.Blocks.{slots_at, total_capacity, BlocksWellFormed}
 use Rattle.gpu_vulkan.specs.Choice.{first_type, required, best_type}
 use Rattle.gpu_vulkan.specs.Describe.{is_own, kind_of, request_of}
@@ -25,28 +26,12 @@ use Rattle.gpu_vulkan.specs.Setup.{Setup}
 use Rattle.gpu_vulkan.specs.Step.{ModelState, Call, Allocate, Free, Write, Rename, Report, Leaks, Read, Capacity, Reply, Given, Fails, Done, Bytes, Sum, Shows, Tells, RenameStep, CallEnvironment, AttemptStep, reply_of, next_by, Follows, ServeStep, RefuseStep, FoundStep, AllocateStep, FreeStep, IsRead, Step}
 use Rattle.gpu_vulkan.specs.declared.allocation.Allocation.{Allocation}
 use Rattle.gpu_vulkan.specs.declared.describe.AllocationCreateDesc.{AllocationCreateDesc}
-use Rattle.gpu_vulkan.proofs.OneStep.{plan_once, settles_once, mid_sound, free_reply, done_or_fails, rename_reply, named_or_fails, rename_fails_once, shown_reply, told_reply, by_host, write_reply, read_reply, sum_reply}
-
-abbrev SlotList : Type 0
-SlotList = List (Option (Slot DeviceMemory))
+use Rattle.gpu_vulkan.proofs.OneStep.{mid_sound, free_reply, done_or_fails, rename_reply, named_or_fails, rename_fails_once, shown_reply, told_reply, by_host, write_reply, read_reply, sum_reply}
 
 -- ---- descriptions that ask for the same
 
 same_request : (d e : AllocationCreateDesc) → AlikeDescription d e → request_of d ≡ request_of e
 same_request d e a = λ i. record { size = (a.requirements i).size; alignment = (a.requirements i).alignment; kind = kind_of (a.linear i); name = a.name i }
-
-plan_alike : (setup : Setup) (ts : TypeState DeviceMemory) (d e : AllocationCreateDesc) (host other : Bool) (y : Plan) → AlikeDescription d e → host ≡ other → IsPlan setup ts e other y → IsPlan setup ts d host y
-plan_alike setup ts d e host other Short a same h = same ∙ h
-plan_alike setup ts d e host other (Serves p after) a same h = (
-  same ∙ h.0,
-  (λ i. has_own_block ts setup.sizes (is_own (a.scheme i)) (a.requirements i).size) ∙ h.1,
-  subst (λ r. PreparesPiece ts.slots r p after) (sym (same_request d e a)) h.2,
-)
-plan_alike setup ts d e host other (Needs size own ready) a same h = (
-  same ∙ h.0,
-  subst (λ s. NeedsBlock ts setup.sizes (is_own s) (request_of d) size own ready) (sym a.scheme)
-      (subst (λ r. NeedsBlock ts setup.sizes (is_own e.allocation_scheme) r size own ready) (sym (same_request d e a)) h.1),
-)
 
 next_alike : (setup : Setup) (d e : AllocationCreateDesc) (answer : Answer) → AlikeDescription d e → next_by setup d answer ≡ next_by setup e answer
 next_alike setup d e (Gave p) a = refl
@@ -55,26 +40,23 @@ next_alike setup d e (Refused r) a =
 
 -- ---- answers that differ in bytes alone
 
-settles_alike : (old : SlotList) (own : Bool) (ready : Ready) (a b : BlockAnswer) (y : Answer) (next : SlotList) → AlikeAnswer a b → Settles old own ready b y next → Settles old own ready a y next
-settles_alike old own ready (Mapped n xs) (Mapped m ys) y next same h = subst (λ k. Settles old own ready (Mapped k xs) y next) (sym same) h
-settles_alike old own ready (Mapped n xs) (Declined code) y next same h = subst (λ z. Settles old own ready z y next) (sym same) h
-settles_alike old own ready (Mapped n xs) (Granted m) y next same h = subst (λ z. Settles old own ready z y next) (sym same) h
-settles_alike old own ready (Mapped n xs) (NotMapped code) y next same h = subst (λ z. Settles old own ready z y next) (sym same) h
-settles_alike old own ready (Declined code) b y next same h = subst (λ z. Settles old own ready z y next) (sym same) h
-settles_alike old own ready (Granted n) b y next same h = subst (λ z. Settles old own ready z y next) (sym same) h
-settles_alike old own ready (NotMapped code) b y next same h = subst (λ z. Settles old own ready z y next) (sym same) h
+result_alike : (a b : BlockAnswer) → AlikeAnswer a b → block_result a ≡ block_result b
+result_alike (Mapped n xs) (Mapped m ys) same = ap (λ k. Allocated (record { 0 = k })) same
+result_alike (Mapped n xs) (Declined code) same = ap block_result same
+result_alike (Mapped n xs) (Granted m) same = ap block_result same
+result_alike (Mapped n xs) (NotMapped code) same = ap block_result same
+result_alike (Declined code) b same = ap block_result same
+result_alike (Granted n) b same = ap block_result same
+result_alike (NotMapped code) b same = ap block_result same
 
-comes_alike : (used : ℕ) (ask other_ask : ℕ → MemoryAllocateInfo) (mapped : Bool) (old : SlotList) (plan : Plan) (o p : Option Asked) (x y : Answer) (new next : SlotList)
-    → AlikeAsked o p → Comes used ask mapped old plan o x new → Comes used other_ask mapped old plan p y next → (x ≡ y) × (new ≡ next)
-comes_alike used ask other_ask mapped old Short None None x y new next same c d = (c.0 ∙ sym d.0, c.1 ∙ sym d.1)
-comes_alike used ask other_ask mapped old (Serves q after) None None x y new next same c d = (c.0 ∙ sym d.0, c.1 ∙ sym d.1)
-comes_alike used ask other_ask mapped old (Needs size own ready) None None x y new next same c d = (c.1 ∙ sym d.1, c.2 ∙ sym d.2)
-comes_alike used ask other_ask mapped old plan None (Some b) x y new next same c d = absurd same
-comes_alike used ask other_ask mapped old plan (Some a) None x y new next same c d = absurd same
-comes_alike used ask other_ask mapped old Short (Some a) (Some b) x y new next same c d = absurd c
-comes_alike used ask other_ask mapped old (Serves q after) (Some a) (Some b) x y new next same c d = absurd c
-comes_alike used ask other_ask mapped old (Needs size own ready) (Some a) (Some b) x y new next same c d =
-    settles_once old own ready a.answer x y new next c.3 (settles_alike old own ready a.answer b.answer y next same.1 d.3)
+asked_alike : (o p : Option Asked) → AlikeAsked o p → asked_block o ≡ asked_block p
+asked_alike None None same = refl
+asked_alike None (Some b) same = absurd same
+asked_alike (Some a) None same = absurd same
+asked_alike (Some a) (Some b) same =
+    let sizes : a.info.size ≡ b.info.size = ap (λ (i : MemoryAllocateInfo). i.size) same.0 in
+    let results = result_alike a.answer b.answer same.1 in
+    λ j. Some (record { size = sizes j; result = results j })
 
 -- ---- an attempt
 
@@ -82,15 +64,26 @@ module _ (setup : Setup) (d e : AllocationCreateDesc) (same : AlikeDescription d
   same_size : d.requirements.size ≡ e.requirements.size
   same_size = ap (λ r. r.size) same.requirements
 
-  planned_alike : (old : Slots) (t : ℕ) (o p : AttemptEnvironment) (x y : Answer) (new next : Slots) → BlocksWellFormed setup.properties.granularity old → AlikeAttemptEnvironment o p
-      → IsPlanned setup old t d o x new → IsPlanned setup old t e p y next → (x ≡ y) × (new ≡ next)
-  planned_alike old t o p x y new next sound met a b =
-      let ts = type_at setup.properties old t in
-      let plans = plan_once setup old t d o.host a.plan b.plan sound a.is_plan (plan_alike setup ts d e o.host p.host b.plan same met.host b.is_plan) in
-      let C : Plan → Type 0 = λ z. Comes (total_capacity old) (question setup t e) (is_mapped setup.properties t) (slots_at old t) z p.asked y b.after in
-      let other : C a.plan = subst C (sym plans) b.comes in
-      let once = comes_alike (total_capacity old) (question setup t d) (question setup t e) (is_mapped setup.properties t) (slots_at old t) a.plan o.asked p.asked x y a.after b.after met.asked a.comes other in
-      (once.0, a.slots ∙ (ap (slice_set old t) once.1 ∙ sym b.slots))
+  same_request_at : (t : ℕ) → request_at setup t d ≡ request_at setup t e
+  same_request_at t =
+      let requests = same_request d e same in
+      λ j. record {
+        memory_type = t;
+        is_host = is_mapped setup.properties t;
+        granularity = setup.properties.granularity;
+        sizes = setup.sizes;
+        wants_own = is_own (same.scheme j);
+        request = requests j;
+      }
+
+  within_alike : (old : Slots) (t : ℕ) (o p : AttemptEnvironment) (x y : Answer) (new next : Slots) → BlocksWellFormed setup.properties.granularity old → AlikeAttemptEnvironment o p
+      → IsWithinHeap setup old t d o x new → IsWithinHeap setup old t e p y next → (x ≡ y) × (new ≡ next)
+  within_alike old t o p x y new next sound met a b =
+      let other : AllocatesInType (request_at setup t d) old o.host (asked_block o.asked) y next =
+      subst (λ (q : RequestAt). AllocatesInType q old o.host (asked_block o.asked) y next) (sym (same_request_at t))
+      (subst (λ k. AllocatesInType (request_at setup t e) old k (asked_block o.asked) y next) (sym met.host)
+      (subst (λ k. AllocatesInType (request_at setup t e) old p.host k y next) (sym (asked_alike o.asked p.asked met.asked)) b.allocates)) in
+      allocates_once (request_at setup t d) old o.host (asked_block o.asked) x y new next sound a.allocates other
 
   attempts_alike : (old : Slots) (t : ℕ) (o p : AttemptEnvironment) (x y : Answer) (new next : Slots) → BlocksWellFormed setup.properties.granularity old → AlikeAttemptEnvironment o p
       → Attempts setup old t d o x new → Attempts setup old t e p y next → (x ≡ y) × (new ≡ next)
@@ -99,12 +92,12 @@ module _ (setup : Setup) (d e : AllocationCreateDesc) (same : AlikeDescription d
       (λ (la : IsTooLarge setup old t d o x new).
       ⊎_elim
       (λ (lb : IsTooLarge setup old t e p y next). (la.answer_is ∙ sym lb.answer_is, la.same ∙ sym lb.same))
-      (λ (pb : IsPlanned setup old t e p y next). let above = la.above in let below = pb.below in absurd (omega (arith, above, below, same_size)))
+      (λ (pb : IsWithinHeap setup old t e p y next). let above = la.above in let below = pb.below in absurd (omega (arith, above, below, same_size)))
       b)
-      (λ (pa : IsPlanned setup old t d o x new).
+      (λ (pa : IsWithinHeap setup old t d o x new).
       ⊎_elim
       (λ (lb : IsTooLarge setup old t e p y next). let above = lb.above in let below = pa.below in absurd (omega (arith, above, below, same_size)))
-      (λ (pb : IsPlanned setup old t e p y next). planned_alike old t o p x y new next sound met pa pb)
+      (λ (pb : IsWithinHeap setup old t e p y next). within_alike old t o p x y new next sound met pa pb)
       b)
       a
 

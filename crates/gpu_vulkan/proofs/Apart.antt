@@ -1,14 +1,12 @@
 -- Live allocations lie inside their blocks, share no byte, and keep to pages of their kind; and each is aligned when it is given.
-use Rattle.std.proofs.Common.{◌≡◌, ◌≢◌, ◌∙◌, ℕ, ◌+◌, ◌-◌, ◌%◌, ◌<◌, ◌≤◌, sym, ap, subst, Bool, List, Option, Some, None, Ok, Err, Result, Contains, arith, inl, inr, ⊎_elim, IfOk}
+use Rattle.std.proofs.Common.{◌≡◌, ◌≢◌, ◌∙◌, ℕ, ◌+◌, ◌-◌, ◌%◌, ◌<◌, ◌≤◌, sym, ap, subst, Option, Some, None, Ok, Err, Result, Contains, arith, inl, inr, ⊎_elim, IfOk}
 use Rattle.std.specs.Option.{option_map}
 use Rattle.std.specs.declared.num.NonZeroU64.{NonZeroU64}
-use Rattle.gpu_core.specs.Block.{Block, free_list, dedicated, extents_of, TakesIn, IsSoundBlock, HasPages, HasPagesApart}
+use Rattle.gpu_core.specs.Block.{Block, free_list, dedicated, extents_of, IsSoundBlock, HasPages, HasPagesApart}
 use Rattle.gpu_core.specs.FreeList.{Extent}
 use Rattle.gpu_core.specs.Place.{page}
-use Rattle.gpu_core.specs.Request.{Request}
 use Rattle.gpu_core.specs.Slots.{SlotIsSound}
 use Rattle.gpu_core.specs.TypeState.{Slot}
-use Rattle.gpu_core.specs.TypeTake.{Ready}
 use Rattle.gpu_core.specs.declared.memory_type.Piece.{Piece}
 use Rattle.gpu_core.proofs.Finding.{one_in, only_one}
 use Rattle.gpu_block_pieces.proofs.Separation.{within_of}
@@ -18,12 +16,14 @@ use Rattle.gpu_device.specs.Held.{Held}
 use Rattle.gpu_device.specs.Properties.{Properties}
 use Rattle.gpu_device.specs.declared.vulkan.device.VulkanDevice.{Ghosts}
 use Rattle.gpu_device.specs.declared.vulkan.types.DeviceMemory.{DeviceMemory}
-use Rattle.gpu_vulkan.specs.Allocate.{Attempts, IsTooLarge, IsPlanned, Answers, IsServed, IsFollowed, next_after}
+use Rattle.gpu_vulkan.specs.Allocate.{Attempts, IsTooLarge, IsWithinHeap, Answers, IsServed, IsFollowed, next_after}
 use Rattle.gpu_vulkan.specs.Apart.{EndsInside, IsInside, SharesNoByte, pieces_in, HasKind, KeepsPages}
-use Rattle.gpu_vulkan.specs.Attempt.{AttemptEnvironment, Asked, Plan, Short, Serves, Needs, IsPlan, Answer, Gave, Refused, Comes, Settles, question}
-use Rattle.gpu_vulkan.specs.BlockAnswer.{BlockAnswer, Declined, Granted, Mapped, NotMapped}
-use Rattle.gpu_vulkan.specs.Blocks.{Slots, is_mapped, type_at, HoldsJustLiveBlocks}
-use Rattle.gpu_memory_types.specs.Blocks.{slots_at, block_at, total_capacity, BlocksWellFormed}
+use Rattle.gpu_memory_types.specs.Attempt.{Gave, Refused}
+use Rattle.gpu_memory_types.proofs.Aligned.{allocates_aligned}
+use Rattle.gpu_memory_types.proofs.OneOutcome.{gave_refused}
+use Rattle.gpu_vulkan.specs.Attempt.{AttemptEnvironment, Answer, asked_block, request_at}
+use Rattle.gpu_vulkan.specs.Blocks.{Slots, HoldsJustLiveBlocks}
+use Rattle.gpu_memory_types.specs.Blocks.{block_at, BlocksWellFormed}
 use Rattle.gpu_vulkan.specs.Lends.{AreDistinct}
 use Rattle.gpu_vulkan.specs.Live.{IsLive}
 use Rattle.gpu_vulkan.specs.Setup.{Setup}
@@ -95,46 +95,15 @@ module _ (p : Properties) (first held : Held) (ss : Slots) (sound : BlocksWellFo
 abbrev IsAligned : (offset alignment : ℕ) → Type 0
 IsAligned offset alignment = offset % alignment ≡ 0
 
-takes_aligned : (old : Block) (r : Request) (o n : ℕ) (new : Block) → TakesIn old r o n new → IsAligned o r.alignment
-takes_aligned (free_list old) r o n (free_list new) t = t.chosen.fits.between.begins.begins.aligned
-takes_aligned (free_list old) r o n (dedicated new) t = absurd t
-takes_aligned (dedicated old) r o n (free_list new) t = absurd t
-takes_aligned (dedicated old) r o n (dedicated new) t = subst (λ k. IsAligned k r.alignment) (sym t.2) (zero_aligned r.alignment)
-  where
-    zero_aligned : (a : ℕ) → IsAligned 0 a
-    zero_aligned a = omega arith
-
-gave_same : (p q : Piece DeviceMemory) → Gave p ≡ Gave q → p ≡ q
-gave_same p q e = cc
-
-refused_gave : (r : _) (p : Piece DeviceMemory) → Gave p ≡ Refused r → ⊥
-refused_gave r p e = cc
-
 module _ (setup : Setup) (d : AllocationCreateDesc) where
   abbrev a : ℕ
   a = d.requirements.alignment
 
-  settled_aligned : (old : List (Option (Slot DeviceMemory))) (own : Bool) (ready : Ready) (b : BlockAnswer) (p : Piece DeviceMemory) (new : List (Option (Slot DeviceMemory))) → IsAligned ready.offset a → Settles old own ready b (Gave p) new → IsAligned p.offset a
-  settled_aligned old own ready (Declined code) p new fits s = absurd (refused_gave _ p s.0)
-  settled_aligned old own ready (NotMapped code) p new fits s = absurd (refused_gave _ p s.0)
-  settled_aligned old own ready (Granted n) p new fits s = subst (λ k. IsAligned k a) (sym (ap (λ (q : Piece DeviceMemory). q.offset) (gave_same p s.0 s.1) ∙ s.2.piece.0)) fits
-  settled_aligned old own ready (Mapped n bytes) p new fits s = subst (λ k. IsAligned k a) (sym (ap (λ (q : Piece DeviceMemory). q.offset) (gave_same p s.0 s.1) ∙ s.2.piece.0)) fits
-
-  planned_aligned : (t : ℕ) (old : Slots) (plan : Plan) (host : Bool) (o : Option Asked) (p : Piece DeviceMemory) (x : List (Option (Slot DeviceMemory))) → IsPlan setup (type_at setup.properties old t) d host plan
-      → Comes (total_capacity old) (question setup t d) (is_mapped setup.properties t) (slots_at old t) plan o (Gave p) x → IsAligned p.offset a
-  planned_aligned t old Short host None p x plan comes = absurd (refused_gave _ p comes.0)
-  planned_aligned t old Short host (Some q) p x plan comes = absurd comes
-  planned_aligned t old (Serves q taken) host None p x plan comes =
-      subst (λ k. IsAligned k a) (sym (ap (λ (z : Piece DeviceMemory). z.offset) (gave_same p q comes.0))) (takes_aligned _ _ _ _ _ plan.2.takes)
-  planned_aligned t old (Serves q taken) host (Some w) p x plan comes = absurd comes
-  planned_aligned t old (Needs size own ready) host None p x plan comes = absurd (refused_gave _ p comes.1)
-  planned_aligned t old (Needs size own ready) host (Some q) p x plan comes = settled_aligned (slots_at old t) own ready q.answer p x (takes_aligned _ _ _ _ _ plan.1.takes) comes.3
-
   attempt_aligned : (t : ℕ) (old : Slots) (o : AttemptEnvironment) (p : Piece DeviceMemory) (new : Slots) → Attempts setup old t d o (Gave p) new → IsAligned p.offset a
   attempt_aligned t old o p new at =
       ⊎_elim
-      (λ (large : IsTooLarge setup old t d o (Gave p) new). absurd (refused_gave _ p large.answer_is))
-      (λ (plan : IsPlanned setup old t d o (Gave p) new). planned_aligned t old plan.plan o.host o.asked p plan.after plan.is_plan plan.comes)
+      (λ (large : IsTooLarge setup old t d o (Gave p) new). absurd (gave_refused p _ large.answer_is))
+      (λ (within : IsWithinHeap setup old t d o (Gave p) new). allocates_aligned (request_at setup t d) old o.host (asked_block o.asked) p new within.allocates)
       at
 
   given_offset : (x : Allocation) (chunk : Option NonZeroU64) (p : Piece DeviceMemory)

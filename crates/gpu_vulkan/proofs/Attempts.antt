@@ -1,124 +1,108 @@
 -- What a request at one memory type is of an attempt over all.
-use Rattle.std.proofs.Common.{◌≡◌, ◌∙◌, sym, ap, subst, refl, inl, inr, ⊎_elim, ℕ, ◌<◌, ◌≤◌, ◌+◌, ◌^◌, Bool, true, false, List, length, Option, None, Some, Ok, Err, Result, slice_set}
-use Rattle.gpu_values.specs.Refusal.{refusal_of, out_of_memory, host_out_of_memory}
+use Rattle.std.proofs.Common.{◌≡◌, sym, ap, subst, refl, inl, inr, ℕ, ◌<◌, ◌≤◌, true, false, length, None, Some, Ok, Err, Result}
+use Rattle.gpu_values.specs.Refusal.{Refusal, refusal_of, out_of_memory, host_out_of_memory}
 use Rattle.gpu_values.specs.declared.error.AllocationError.{AllocationError}
 use Rattle.gpu_values.specs.declared.error.AllocationError.TheVariants.{OutOfMemory, HostOutOfMemory}
-use Rattle.gpu_core.specs.TypeState.{TypeState, Slot}
-use Rattle.gpu_core.specs.TypeTake.{asked, has_own_block, PreparesPiece, NeedsBlock, Installs, Ready}
+use Rattle.gpu_core.specs.TypeTake.{asked}
 use Rattle.gpu_core.specs.declared.memory_type.Piece.{Piece}
 use Rattle.gpu_core.specs.declared.memory_type.Prepared.TheVariants as prepared
 use Rattle.gpu_core.specs.declared.memory_type.Request as type_requests
 use Rattle.gpu_core.specs.declared.memory_type.need.NeedBlock.{NeedBlock}
 use Rattle.gpu_device.specs.declared.vulkan.device.VulkanDevice.{Ghosts}
 use Rattle.gpu_device.specs.declared.vulkan.types.DeviceMemory.{DeviceMemory}
-use Rattle.gpu_memory_types.specs.Blocks.{slots_at, total_capacity}
-use Rattle.gpu_memory_types.specs.Requests.{PreparesAt, IsPrepareRefusal, NeedsTooMuch, InstallsAt}
+use Rattle.gpu_memory_types.specs.Attempt.{RequestAt, BlockResult, Allocated, NotAllocated, AllocatesInType, Answer, Gave, Refused}
+use Rattle.gpu_memory_types.specs.Requests.{PreparesAt, IsPrepareRefusal, InstallsAt}
 use Rattle.gpu_memory_types.specs.Types.{Types, slots_of, kinds, type_of}
-use Rattle.gpu_memory_types.proofs.Types.{slots_same}
+use Rattle.gpu_memory_types.proofs.Options.{none_some, some_same}
+use Rattle.gpu_memory_types.proofs.Prepared as prepares
+use Rattle.gpu_memory_types.proofs.Prepared.{starved}
+use Rattle.gpu_memory_types.proofs.Types.{type_there}
 use Rattle.gpu_vulkan.specs.Allocate.{heap_size, Answers, IsAttempt}
-use Rattle.gpu_vulkan.specs.Attempt.{Plan, Short, Serves, Needs, IsPlan, answer_of, Refused, question, IsSuballocated}
-use Rattle.gpu_vulkan.specs.BlockAnswer.{BlockAnswer, Asks, answer_number, answer_refusal}
-use Rattle.gpu_vulkan.specs.Blocks.{Slots, is_mapped, type_at}
+use Rattle.gpu_vulkan.specs.Attempt.{answer_of, block_result, request_at, question, IsSuballocated}
+use Rattle.gpu_vulkan.specs.BlockAnswer.{BlockAnswer, Declined, Granted, Mapped, NotMapped, Asks, answer_number, answer_refusal}
+use Rattle.gpu_vulkan.specs.Blocks.{Slots, is_mapped}
 use Rattle.gpu_vulkan.specs.Describe.{is_own, request_of}
 use Rattle.gpu_vulkan.specs.Setup.{Setup}
 use Rattle.gpu_vulkan.specs.Types.{kinds_told}
 use Rattle.gpu_vulkan.specs.declared.allocation.Allocation.{Allocation}
 use Rattle.gpu_vulkan.specs.declared.describe.AllocationCreateDesc.{AllocationCreateDesc}
-use Rattle.gpu_vulkan.proofs.Plans.{roomless, serves, needs, settles_refused, settles_gave}
-use Rattle.gpu_vulkan.proofs.Types.{type_is, slots_here}
+use Rattle.gpu_vulkan.proofs.Types.{told_at}
+
+-- ---- a device's answer, as a block or the want of one
+
+refused_is : (a : BlockAnswer) (e : Refusal) → answer_refusal a ≡ Some e → block_result a ≡ NotAllocated e
+refused_is (Declined code) e is = ap NotAllocated (some_same _ _ is)
+refused_is (Granted number) e is = absurd (none_some e is)
+refused_is (Mapped number bytes) e is = absurd (none_some e is)
+refused_is (NotMapped code) e is = ap NotAllocated (some_same _ _ is)
+
+granted_is : (a : BlockAnswer) (m : DeviceMemory) → answer_number a ≡ Some m.0 → block_result a ≡ Allocated m
+granted_is (Declined code) m is = absurd (none_some m.0 is)
+granted_is (Granted number) m is = ap (λ n. Allocated (record { 0 = n })) (some_same _ _ is)
+granted_is (Mapped number bytes) m is = ap (λ n. Allocated (record { 0 = n })) (some_same _ _ is)
+granted_is (NotMapped code) m is = absurd (none_some m.0 is)
 
 -- ---- a piece of one memory type
 
 module _ {D : Type 0} (g : Ghosts D) (setup : Setup) (i : ℕ) (d : AllocationCreateDesc) (device : D) (types : Types DeviceMemory) (r : type_requests.Request)
     (same : kinds types ≡ kinds_told setup.properties) (below : i < length types) (asks : asked r ≡ request_of d) (own : r.dedicated ≡ is_own d.allocation_scheme) where
-  abbrev old : Slots
-  old = slots_of types
+  abbrev ss : Slots
+  ss = slots_of types
 
-  abbrev t : TypeState DeviceMemory
-  t = type_of types i
+  -- the request as the code keeps its memory type is the one that the device's properties say
+  request_is : prepares.request_at i types setup.sizes r ≡ request_at setup i d
+  request_is =
+      let told = told_at setup.properties types i (type_of types i) same (type_there types i below) in
+      let host = told.0 in
+      let pages = told.1 in
+      λ j. record { memory_type = i; is_host = host j; granularity = pages j; sizes = setup.sizes; wants_own = own j; request = asks j }
 
-  plan_here : (host : Bool) (plan : Plan) → IsPlan setup t d host plan → IsPlan setup (type_at setup.properties old i) d host plan
-  plan_here host plan h = subst (λ (s : TypeState DeviceMemory). IsPlan setup s d host plan) (type_is setup.properties types i same below) (roomless setup t d host plan h)
-
-  abbrev here : t.slots ≡ slots_at old i
-  here = slots_here types i below
-
-  pub host_refused : (e : AllocationError) (new : Types DeviceMemory) → IsPrepareRefusal i types setup.sizes r (refusal_of e) → slots_of new ≡ slots_of types
-      → IsSuballocated g setup i d old device (Err e) (slots_of new) device
+  pub host_refused : (e : AllocationError) (new : Types DeviceMemory) → IsPrepareRefusal i types setup.sizes r (refusal_of e) → slots_of new ≡ ss
+      → IsSuballocated g setup i d ss device (Err e) (slots_of new) device
   host_refused e new cause unchanged =
-      ⊎_elim
-      (λ starved. record {
-        environment = record { host = false; asked = None };
-        plan = Short;
-        is_plan = refl;
-        left = slots_at old i;
-        comes = (ap Refused starved, refl);
-        slots = unchanged ∙ sym (slots_same old i);
-        asked = refl;
-      })
-      (λ (much : (refusal_of e ≡ out_of_memory) × NeedsTooMuch i types setup.sizes r). record {
-        environment = record { host = true; asked = None };
-        plan = Needs much.1.size much.1.is_dedicated much.1.ready;
-        is_plan = plan_here true (Needs much.1.size much.1.is_dedicated much.1.ready) (refl, needs t setup.sizes r d much.1.size much.1.is_dedicated much.1.ready asks own much.1.needs);
-        left = slots_at old i;
-        comes = (much.1.above, ap Refused much.0, refl);
-        slots = unchanged ∙ sym (slots_same old i);
-        asked = refl;
-      })
-      cause
-
-  pub shared_block_serves : (p : Piece DeviceMemory) (new : Types DeviceMemory) → PreparesAt i types setup.sizes r (prepared.Taken p) new → IsSuballocated g setup i d old device (Ok p) (slots_of new) device
-  shared_block_serves p new h =
-      let after = (type_of new i).slots in
-      let s = serves t setup.sizes r d p after asks own h.prepares in
+      let h = prepares.prepare_refused i types setup.sizes r below (refusal_of e) new cause unchanged in
       record {
-        environment = record { host = true; asked = None };
-        plan = Serves p after;
-        is_plan = plan_here true (Serves p after) (refl, s.0, s.1);
-        left = after;
-        comes = (refl, refl);
-        slots = h.slots;
+        environment = record { host = h.0; asked = None };
+        allocates = subst (λ (q : RequestAt). AllocatesInType q ss h.0 None (Refused (refusal_of e)) (slots_of new)) request_is h.1;
+        asked_for = tt;
         asked = refl;
       }
 
-  -- the slots are as before where a block is needed
-  pub waiting : (need : NeedBlock) (mid : Types DeviceMemory) → PreparesAt i types setup.sizes r (prepared.NeedBlock need) mid → slots_of mid ≡ old
-  waiting need mid h = h.slots ∙ ap (slice_set old i) (h.prepares.2 ∙ here) ∙ slots_same old i
-
-  pub device_refused : (need : NeedBlock) (mid : Types DeviceMemory) (e : AllocationError) (a : BlockAnswer) (after : D) → PreparesAt i types setup.sizes r (prepared.NeedBlock need) mid
-      → Asks g device (question setup i d need.size) (is_mapped setup.properties i) a after → answer_refusal a ≡ Some (refusal_of e)
-      → IsSuballocated g setup i d old device (Err e) (slots_of mid) after
-  device_refused need mid e a after h asks_it why = record {
-    environment = record { host = true; asked = Some (record { info = question setup i d need.size; answer = a }) };
-    plan = Needs need.size need.dedicated need.room;
-    is_plan = plan_here true (Needs need.size need.dedicated need.room) (refl, needs t setup.sizes r d need.size need.dedicated need.room asks own h.prepares.0);
-    left = slots_at old i;
-    comes = (h.fits, refl, asks_it.fits, settles_refused (slots_at old i) need.dedicated need.room a (refusal_of e) (slots_at old i) why refl);
-    slots = waiting need mid h ∙ sym (slots_same old i);
-    asked = asks_it;
+  pub shared_block_serves : (p : Piece DeviceMemory) (new : Types DeviceMemory) → PreparesAt i types setup.sizes r (prepared.Taken p) new → IsSuballocated g setup i d ss device (Ok p) (slots_of new) device
+  shared_block_serves p new h = record {
+    environment = record { host = true; asked = None };
+    allocates = subst (λ (q : RequestAt). AllocatesInType q ss true None (Gave p) (slots_of new)) request_is (prepares.shared_block_serves i types setup.sizes r below p new h);
+    asked_for = tt;
+    asked = refl;
   }
 
-  pub block_installed : (need : NeedBlock) (mid new : Types DeviceMemory) (m : DeviceMemory) (p : Piece DeviceMemory) (a : BlockAnswer) (after : D) → PreparesAt i types setup.sizes r (prepared.NeedBlock need) mid
-      → Asks g device (question setup i d need.size) (is_mapped setup.properties i) a after → answer_number a ≡ Some m.0
-      → InstallsAt i (slots_of mid) need.dedicated need.room m p (slots_of new)
-      → IsSuballocated g setup i d old device (Ok p) (slots_of new) after
-  block_installed need mid new m p a after h asks_it number made =
-      let as_before = waiting need mid h in
-      record {
-        environment = record { host = true; asked = Some (record { info = question setup i d need.size; answer = a }) };
-        plan = Needs need.size need.dedicated need.room;
-        is_plan = plan_here true (Needs need.size need.dedicated need.room) (refl, needs t setup.sizes r d need.size need.dedicated need.room asks own h.prepares.0);
-        left = made.left;
-        comes = (
-          h.fits,
-          refl,
-          asks_it.fits,
-          settles_gave (slots_at old i) need.dedicated need.room a m p made.left number
-              (subst (λ (ss : Slots). Installs (slots_at ss i) need.dedicated need.room m p made.left) as_before made.installs),
-        );
-        slots = made.slots ∙ ap (λ (ss : Slots). slice_set ss i made.left) as_before;
-        asked = asks_it;
-      }
+  -- the device was asked for a block of that size
+  answered : (size : ℕ) (a : BlockAnswer) (b : BlockResult DeviceMemory) (answer : Answer DeviceMemory) (new : Slots) → block_result a ≡ b
+      → AllocatesInType (prepares.request_at i types setup.sizes r) ss true (Some (record { size = size; result = b })) answer new
+      → AllocatesInType (request_at setup i d) ss true (Some (record { size = size; result = block_result a })) answer new
+  answered size a b answer new is h =
+      subst (λ (c : BlockResult DeviceMemory). AllocatesInType (request_at setup i d) ss true (Some (record { size = size; result = c })) answer new) (sym is)
+      (subst (λ (q : RequestAt). AllocatesInType q ss true (Some (record { size = size; result = b })) answer new) request_is h)
+
+  module _ (need : NeedBlock) (mid : Types DeviceMemory) (a : BlockAnswer) (after : D) (h : PreparesAt i types setup.sizes r (prepared.NeedBlock need) mid)
+      (asks_it : Asks g device (question setup i d need.size) (is_mapped setup.properties i) a after) where
+    pub device_refused : (e : AllocationError) → answer_refusal a ≡ Some (refusal_of e) → IsSuballocated g setup i d ss device (Err e) (slots_of mid) after
+    device_refused e why = record {
+      environment = record { host = true; asked = Some (record { info = question setup i d need.size; answer = a }) };
+      allocates = answered need.size a (NotAllocated (refusal_of e)) (Refused (refusal_of e)) (slots_of mid) (refused_is a (refusal_of e) why)
+          (prepares.block_declined i types setup.sizes r below need mid h (refusal_of e));
+      asked_for = (refl, asks_it.fits);
+      asked = asks_it;
+    }
+
+    pub block_installed : (new : Types DeviceMemory) (m : DeviceMemory) (p : Piece DeviceMemory) → answer_number a ≡ Some m.0 → InstallsAt i (slots_of mid) need.dedicated need.room m p (slots_of new)
+        → IsSuballocated g setup i d ss device (Ok p) (slots_of new) after
+    block_installed new m p number made = record {
+      environment = record { host = true; asked = Some (record { info = question setup i d need.size; answer = a }) };
+      allocates = answered need.size a (Allocated m) (Gave p) (slots_of new) (granted_is a m number) (prepares.block_installed i types setup.sizes r below need mid h new m p made);
+      asked_for = (refl, asks_it.fits);
+      asked = asks_it;
+    }
 
 -- ---- an attempt
 
@@ -138,14 +122,7 @@ module _ {D : Type 0} (g : Ghosts D) (setup : Setup) (i : ℕ) (d : AllocationCr
   short ss below = record {
     environment = record { host = false; asked = None };
     answer = Refused host_out_of_memory;
-    attempts = inr (record {
-      below = below;
-      plan = Short;
-      is_plan = refl;
-      after = slots_at ss i;
-      comes = (refl, refl);
-      slots = sym (slots_same ss i);
-    });
+    attempts = inr (record { below = below; allocates = starved (request_at setup i d) ss; asked_for = tt });
     asked = refl;
     answers = refl;
   }
@@ -156,7 +133,7 @@ module _ {D : Type 0} (g : Ghosts D) (setup : Setup) (i : ℕ) (d : AllocationCr
   attempted old r new after result below s answers = record {
     environment = s.environment;
     answer = answer_of r;
-    attempts = inr (record { below = below; plan = s.plan; is_plan = s.is_plan; after = s.left; comes = s.comes; slots = s.slots });
+    attempts = inr (record { below = below; allocates = s.allocates; asked_for = s.asked_for });
     asked = s.asked;
     answers = answers;
   }

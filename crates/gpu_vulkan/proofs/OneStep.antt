@@ -6,19 +6,17 @@ use Rattle.std.specs.Prelude.{◌&&◌, ◌==◌}
 use Rattle.gpu_core.specs.Refusal.{Refusal, host_out_of_memory}
 use Rattle.gpu_core.specs.Leak.{leak_text}
 use Rattle.gpu_core.specs.TypeRelease.{has_several}
-use Rattle.gpu_core.specs.TypeState.{Slot, slot_at}
-use Rattle.gpu_core.specs.TypeTake.{Ready}
+use Rattle.gpu_core.specs.TypeState.{slot_at}
 use Rattle.gpu_core.specs.declared.memory_type.Piece.{Piece}
-use Rattle.gpu_core.proofs.OneOutcome.{prepared_once, needed_once, serves_or_needs, installed_once, released_once, refusal_once, renamed_once, name_refusal_once}
+use Rattle.gpu_core.proofs.OneOutcome.{released_once, refusal_once, renamed_once, name_refusal_once}
+use Rattle.gpu_memory_types.proofs.OneOutcome.{false_true, allocates_once}
+use Rattle.gpu_memory_types.specs.Attempt.{Gave, Refused}
 use Rattle.gpu_device.specs.declared.vulkan.types.DeviceMemory.{DeviceMemory}
-use Rattle.gpu_device.specs.declared.vulkan.types.MemoryAllocateInfo.{MemoryAllocateInfo}
-use Rattle.gpu_vulkan.specs.Allocate.{Attempts, IsTooLarge, IsPlanned, is_valid}
-use Rattle.gpu_vulkan.specs.Attempt.{AttemptEnvironment, Asked, Plan, Short, Serves, Needs, IsPlan, Answer, Gave, Refused, Comes, Settles, question, memory}
-use Rattle.gpu_vulkan.specs.BlockAnswer.{BlockAnswer, Declined, Granted, Mapped, NotMapped}
-use Rattle.gpu_vulkan.specs.Blocks.{Slots, is_mapped, type_at}
+use Rattle.gpu_vulkan.specs.Allocate.{Attempts, IsTooLarge, IsWithinHeap, is_valid}
+use Rattle.gpu_vulkan.specs.Attempt.{AttemptEnvironment, Asked, Answer, asked_block, request_at}
+use Rattle.gpu_vulkan.specs.Blocks.{Slots, is_mapped}
 use Rattle.gpu_memory_types.specs.Blocks.{slots_at, total_capacity, BlocksWellFormed}
 use Rattle.gpu_vulkan.specs.ByteView.{AllocationId, is_same_id, ByteView, IsOutOf, TakesOut, PutsBack, AddsBlock, Writes}
-use Rattle.gpu_vulkan.specs.Describe.{is_own, request_of}
 use Rattle.gpu_vulkan.specs.Live.{piece_of, is_same_memory}
 use Rattle.gpu_memory_types.specs.Leaks.{all_leaks}
 use Rattle.gpu_memory_types.specs.Reports.{whole_report}
@@ -28,57 +26,7 @@ use Rattle.gpu_vulkan.specs.declared.allocation.Allocation.{Allocation}
 use Rattle.gpu_vulkan.specs.declared.describe.AllocationCreateDesc.{AllocationCreateDesc}
 use Rattle.gpu_vulkan.proofs.Steps.{refused_same, none_next}
 
-abbrev SlotList : Type 0
-SlotList = List (Option (Slot DeviceMemory))
-
-pub false_true : false ≡ true → ⊥
-false_true e = cc
-
--- ---- plans
-
-pub plan_once : (setup : Setup) (old : Slots) (t : ℕ) (d : AllocationCreateDesc) (host : Bool) (a b : Plan) → BlocksWellFormed setup.properties.granularity old
-    → IsPlan setup (type_at setup.properties old t) d host a → IsPlan setup (type_at setup.properties old t) d host b → a ≡ b
-plan_once setup old t d host Short Short sound x y = refl
-plan_once setup old t d host Short (Serves p taken) sound x y = absurd (false_true (sym x ∙ y.0))
-plan_once setup old t d host Short (Needs size own ready) sound x y = absurd (false_true (sym x ∙ y.0))
-plan_once setup old t d host (Serves p taken) Short sound x y = absurd (false_true (sym y ∙ x.0))
-plan_once setup old t d host (Serves p taken) (Serves q other) sound x y =
-    let once = prepared_once setup.properties.granularity (slots_at old t) (request_of d) p q taken other (sound t) x.2 y.2 in
-    let pieces = once.0 in
-    let lists = once.1 in
-    λ i. Serves (pieces i) (lists i)
-plan_once setup old t d host (Serves p taken) (Needs size own ready) sound x y =
-    absurd (serves_or_needs (type_at setup.properties old t) setup.sizes (is_own d.allocation_scheme) (request_of d) p taken size own ready x.1 x.2 y.1)
-plan_once setup old t d host (Needs size own ready) Short sound x y = absurd (false_true (sym y ∙ x.0))
-plan_once setup old t d host (Needs size own ready) (Serves p taken) sound x y =
-    absurd (serves_or_needs (type_at setup.properties old t) setup.sizes (is_own d.allocation_scheme) (request_of d) p taken size own ready y.1 y.2 x.1)
-plan_once setup old t d host (Needs size own ready) (Needs other kind next) sound x y =
-    let once = needed_once (type_at setup.properties old t) setup.sizes (is_own d.allocation_scheme) (request_of d) size other own kind ready next x.1 y.1 in
-    let sizes = once.0 in
-    let kinds = once.1 in
-    let readies = once.2 in
-    λ i. Needs (sizes i) (kinds i) (readies i)
-
--- ---- answers
-
-pub settles_once : (old : SlotList) (own : Bool) (ready : Ready) (b : BlockAnswer) (x y : Answer) (new next : SlotList) → Settles old own ready b x new → Settles old own ready b y next → (x ≡ y) × (new ≡ next)
-settles_once old own ready (Declined code) x y new next s r = (s.0 ∙ sym r.0, s.1 ∙ sym r.1)
-settles_once old own ready (NotMapped code) x y new next s r = (s.0 ∙ sym r.0, s.1 ∙ sym r.1)
-settles_once old own ready (Granted n) x y new next s r =
-    let once = installed_once old own ready (memory n) s.0 r.0 new next s.2 r.2 in
-    (s.1 ∙ ap Gave once.0 ∙ sym r.1, once.1)
-settles_once old own ready (Mapped n bytes) x y new next s r =
-    let once = installed_once old own ready (memory n) s.0 r.0 new next s.2 r.2 in
-    (s.1 ∙ ap Gave once.0 ∙ sym r.1, once.1)
-
-comes_once : (used : ℕ) (ask : ℕ → MemoryAllocateInfo) (mapped : Bool) (old : SlotList) (plan : Plan) (o : Option Asked) (x y : Answer) (new next : SlotList)
-    → Comes used ask mapped old plan o x new → Comes used ask mapped old plan o y next → (x ≡ y) × (new ≡ next)
-comes_once used ask mapped old Short None x y new next c d = (c.0 ∙ sym d.0, c.1 ∙ sym d.1)
-comes_once used ask mapped old Short (Some a) x y new next c d = absurd c
-comes_once used ask mapped old (Serves p after) None x y new next c d = (c.0 ∙ sym d.0, c.1 ∙ sym d.1)
-comes_once used ask mapped old (Serves p after) (Some a) x y new next c d = absurd c
-comes_once used ask mapped old (Needs size own ready) None x y new next c d = (c.1 ∙ sym d.1, c.2 ∙ sym d.2)
-comes_once used ask mapped old (Needs size own ready) (Some a) x y new next c d = settles_once old own ready a.answer x y new next c.3 d.3
+-- ---- an attempt
 
 attempts_once : (setup : Setup) (old : Slots) (t : ℕ) (d : AllocationCreateDesc) (o : AttemptEnvironment) (x y : Answer) (new next : Slots) → BlocksWellFormed setup.properties.granularity old
     → Attempts setup old t d o x new → Attempts setup old t d o y next → (x ≡ y) × (new ≡ next)
@@ -87,22 +35,14 @@ attempts_once setup old t d o x y new next sound a b =
     (λ (la : IsTooLarge setup old t d o x new).
     ⊎_elim
     (λ (lb : IsTooLarge setup old t d o y next). (la.answer_is ∙ sym lb.answer_is, la.same ∙ sym lb.same))
-    (λ (pb : IsPlanned setup old t d o y next). let above = la.above in let below = pb.below in absurd (omega (arith, above, below)))
+    (λ (wb : IsWithinHeap setup old t d o y next). let above = la.above in let below = wb.below in absurd (omega (arith, above, below)))
     b)
-    (λ (pa : IsPlanned setup old t d o x new).
+    (λ (wa : IsWithinHeap setup old t d o x new).
     ⊎_elim
-    (λ (lb : IsTooLarge setup old t d o y next). let above = lb.above in let below = pa.below in absurd (omega (arith, above, below)))
-    (λ (pb : IsPlanned setup old t d o y next). planned_once pa pb)
+    (λ (lb : IsTooLarge setup old t d o y next). let above = lb.above in let below = wa.below in absurd (omega (arith, above, below)))
+    (λ (wb : IsWithinHeap setup old t d o y next). allocates_once (request_at setup t d) old o.host (asked_block o.asked) x y new next sound wa.allocates wb.allocates)
     b)
     a
-  where
-    planned_once : (pa : IsPlanned setup old t d o x new) (pb : IsPlanned setup old t d o y next) → (x ≡ y) × (new ≡ next)
-    planned_once pa pb =
-        let same = plan_once setup old t d o.host pa.plan pb.plan sound pa.is_plan pb.is_plan in
-        let C : Plan → Type 0 = λ p. Comes (total_capacity old) (question setup t d) (is_mapped setup.properties t) (slots_at old t) p o.asked y pb.after in
-        let other : C pa.plan = subst C (sym same) pb.comes in
-        let once = comes_once (total_capacity old) (question setup t d) (is_mapped setup.properties t) (slots_at old t) pa.plan o.asked x y pa.after pb.after pa.comes other in
-        (once.0, pa.slots ∙ (ap (slice_set old t) once.1 ∙ sym pb.slots))
 
 -- ---- bytes
 

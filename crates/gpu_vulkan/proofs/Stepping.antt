@@ -18,10 +18,11 @@ use Rattle.gpu_device.specs.declared.vulkan.device.VulkanDevice.{Ghosts}
 use Rattle.gpu_device.specs.declared.vulkan.types.DeviceMemory.{DeviceMemory}
 use Rattle.gpu_device.proofs.Maps.{get-insert_same, get-insert_other}
 use Rattle.gpu_device.proofs.Changes.{get-mapped_other, bytes-mapped, new_is_unmapped}
-use Rattle.gpu_vulkan.specs.Allocate.{IsTooLarge, IsPlanned, IsAttempt}
-use Rattle.gpu_vulkan.specs.Attempt.{Asked, Plan, Short, Serves, Needs, IsPlan, Answer, Refused, Comes, Settles, IsAfter, question, memory}
+use Rattle.gpu_vulkan.specs.Allocate.{IsTooLarge, IsWithinHeap, IsAttempt}
+use Rattle.gpu_memory_types.specs.Attempt.{Plan, NoHostMemory, SharedBlock, NewBlock, IsPlan, Refused, IsAfterResult, IsCarriedOut, type_asked}
+use Rattle.gpu_vulkan.specs.Attempt.{Asked, Answer, IsAfter, asked_block, block_result, request_at, memory}
 use Rattle.gpu_vulkan.specs.BlockAnswer.{BlockAnswer, Declined, Granted, Mapped, NotMapped, Asks}
-use Rattle.gpu_vulkan.specs.Blocks.{Slots, is_mapped, type_at, HoldsJustLiveBlocks, memory_number, IsBlockEntry}
+use Rattle.gpu_vulkan.specs.Blocks.{Slots, is_mapped, HoldsJustLiveBlocks, memory_number, IsBlockEntry}
 use Rattle.gpu_memory_types.specs.Blocks.{slots_at, block_at, total_capacity, BlocksWellFormed}
 use Rattle.gpu_vulkan.specs.ByteView.{ByteView, byte_view_of, TakesOut, AddsBlock}
 use Rattle.gpu_vulkan.specs.Live.{is_same_memory, IsLiveIn}
@@ -134,7 +135,7 @@ module _ {D : Type 0} (g : Ghosts D) (setup : Setup) (d : AllocationCreateDesc) 
 
   settled_bytes : (own : Bool) (size : ℕ) (ready : Ready) (r : _) (a : Asked) (answer : Answer) (x : List (Option (Slot DeviceMemory))) (device after : D)
       → TakesIn (fresh_block own size setup.properties.granularity) r ready.offset ready.number ready.block → ready.size ≡ r.size
-      → (b : BlockAnswer) → a.answer ≡ b → Settles (slots_at old t) own ready b answer x → Asks g device a.info mapped b after
+      → (b : BlockAnswer) → a.answer ≡ b → IsAfterResult (slots_at old t) own ready (block_result b) answer x → Asks g device a.info mapped b after
       → BlocksWellFormed setup.properties.granularity (slice_set old t x) → HoldsJustLiveBlocks setup.properties first (g.held device) old → HoldsJustLiveBlocks setup.properties first (g.held after) (slice_set old t x) → ((m : ℕ) → IsWhole (get (g.held after) m))
       → BytesAfter mapped t (Some a) answer (byte_view_of (g.held device) old) (byte_view_of (g.held after) (slice_set old t x))
   settled_bytes own size ready r a answer x device after takes sized (Declined code) is settles asks sound_after before holds whole =
@@ -157,17 +158,17 @@ module _ {D : Type 0} (g : Ghosts D) (setup : Setup) (d : AllocationCreateDesc) 
       (installed_bytes own size ready r n (answer_bytes a.answer) settles.0 x held (g.held after) takes sized settles.2 asks.number.1 there
       (λ m ne. ap (λ (k : Held). get k m) asks.held ∙ get-mapped_other made n bytes m ne ∙ get-insert_other held n m (new_entry a.info) ne) sound_after before holds whole)
 
-  planned_bytes : (plan : Plan) (o : Option Asked) (host : Bool) (answer : Answer) (x : List (Option (Slot DeviceMemory))) (device after : D)
-      → IsPlan setup (type_at setup.properties old t) d host plan
-      → Comes (total_capacity old) (question setup t d) mapped (slots_at old t) plan o answer x
+  planned_bytes : (plan : Plan DeviceMemory) (o : Option Asked) (host : Bool) (answer : Answer) (x : List (Option (Slot DeviceMemory))) (device after : D)
+      → IsPlan (request_at setup t d) (type_asked (request_at setup t d) old) host plan
+      → IsCarriedOut (total_capacity old) (slots_at old t) plan (asked_block o) answer x
       → IsAfter g device mapped o after
       → BlocksWellFormed setup.properties.granularity (slice_set old t x) → HoldsJustLiveBlocks setup.properties first (g.held device) old → HoldsJustLiveBlocks setup.properties first (g.held after) (slice_set old t x) → ((m : ℕ) → IsWhole (get (g.held after) m))
       → BytesAfter mapped t o answer (byte_view_of (g.held device) old) (byte_view_of (g.held after) (slice_set old t x))
-  planned_bytes Short None host answer x device after plan comes asked sound_after before holds whole =
+  planned_bytes NoHostMemory None host answer x device after plan comes asked sound_after before holds whole =
       same_bytes None _ answer x (g.held device) (g.held after) comes.0 comes.1 (ap g.held asked) (λ b e. e)
-  planned_bytes Short (Some a) host answer x device after plan comes asked sound_after before holds whole = absurd comes
-  planned_bytes (Serves p taken) (Some a) host answer x device after plan comes asked sound_after before holds whole = absurd comes
-  planned_bytes (Serves p taken) None host answer x device after plan comes asked sound_after before holds whole =
+  planned_bytes NoHostMemory (Some a) host answer x device after plan comes asked sound_after before holds whole = absurd comes
+  planned_bytes (SharedBlock p taken) (Some a) host answer x device after plan comes asked sound_after before holds whole = absurd comes
+  planned_bytes (SharedBlock p taken) None host answer x device after plan comes asked sound_after before holds whole =
       let New : List (Option (Slot DeviceMemory)) → Held → Type 0 = λ ss k. TakesOut mapped (id_in t p) p.offset p.size (byte_view_of (g.held device) old) (byte_view_of k (slice_set old t ss)) in
       subst (λ w. BytesAfter mapped t None w (byte_view_of (g.held device) old) (byte_view_of (g.held after) (slice_set old t x))) (sym comes.0)
       (subst (λ (ss : List (Option (Slot DeviceMemory))). New ss (g.held after)) (sym comes.1)
@@ -177,10 +178,10 @@ module _ {D : Type 0} (g : Ghosts D) (setup : Setup) (d : AllocationCreateDesc) 
       (subst (λ (ss : List (Option (Slot DeviceMemory))). HoldsJustLiveBlocks setup.properties first (g.held device) (slice_set old t ss)) comes.1
       (subst (λ k. HoldsJustLiveBlocks setup.properties first k (slice_set old t x)) (ap g.held asked) holds))
       (subst (λ (k : Held). (m : ℕ) → IsWhole (get k m)) (ap g.held asked) whole))))
-  planned_bytes (Needs size own ready) None host answer x device after plan comes asked sound_after before holds whole =
+  planned_bytes (NewBlock size own ready) None host answer x device after plan comes asked sound_after before holds whole =
       same_bytes None _ answer x (g.held device) (g.held after) comes.1 comes.2 (ap g.held asked) (λ b e. e)
-  planned_bytes (Needs size own ready) (Some a) host answer x device after plan comes asked sound_after before holds whole =
-      settled_bytes own size ready _ a answer x device after plan.1.takes plan.1.piece a.answer refl comes.3 asked sound_after before holds whole
+  planned_bytes (NewBlock size own ready) (Some a) host answer x device after plan comes asked sound_after before holds whole =
+      settled_bytes own size ready _ a answer x device after plan.1.takes plan.1.piece a.answer refl comes.2 asked sound_after before holds whole
 
   -- an attempt changes the bytes as its answer says
   pub attempt_bytes : (device : D) (result : Result Allocation AllocationError) (new : Slots) (after : D) → (a : IsAttempt g setup t d old device result new after)
@@ -190,10 +191,7 @@ module _ {D : Type 0} (g : Ghosts D) (setup : Setup) (d : AllocationCreateDesc) 
       let holds = (attempt_holds g setup d first t old below device result new after a before).0 in
       ⊎_elim
       (λ (large : IsTooLarge setup old t d a.environment a.answer new). large_bytes large)
-      (λ (plan : IsPlanned setup old t d a.environment a.answer new).
-      subst (λ (ss : Slots). BytesAfter mapped t a.environment.asked a.answer (byte_view_of (g.held device) old) (byte_view_of (g.held after) ss)) (sym plan.slots)
-      (planned_bytes plan.plan a.environment.asked a.environment.host a.answer plan.after device after plan.is_plan plan.comes a.asked
-      (subst (BlocksWellFormed setup.properties.granularity) plan.slots sound_after) before (subst (λ (ss : Slots). HoldsJustLiveBlocks setup.properties first (g.held after) ss) plan.slots holds) whole))
+      (λ (within : IsWithinHeap setup old t d a.environment a.answer new). within_bytes within holds)
       a.attempts
     where
       large_bytes : IsTooLarge setup old t d a.environment a.answer new → BytesAfter mapped t a.environment.asked a.answer (byte_view_of (g.held device) old) (byte_view_of (g.held after) new)
@@ -202,3 +200,11 @@ module _ {D : Type 0} (g : Ghosts D) (setup : Setup) (d : AllocationCreateDesc) 
           subst (λ o. BytesAfter mapped t o a.answer (byte_view_of (g.held device) old) (byte_view_of (g.held after) new)) (sym large.asked)
           (subst (λ w. BytesAfter mapped t None w (byte_view_of (g.held device) old) (byte_view_of (g.held after) new)) (sym large.answer_is)
           (ap (λ k. byte_view_of k new) (ap g.held same) ∙ ap (byte_view_of (g.held device)) large.same))
+
+      within_bytes : IsWithinHeap setup old t d a.environment a.answer new → HoldsJustLiveBlocks setup.properties first (g.held after) new
+          → BytesAfter mapped t a.environment.asked a.answer (byte_view_of (g.held device) old) (byte_view_of (g.held after) new)
+      within_bytes within holds =
+          let at = within.allocates in
+          subst (λ (ss : Slots). BytesAfter mapped t a.environment.asked a.answer (byte_view_of (g.held device) old) (byte_view_of (g.held after) ss)) (sym at.slots)
+          (planned_bytes at.plan a.environment.asked a.environment.host a.answer at.left device after at.is_plan at.is_carried_out a.asked
+          (subst (BlocksWellFormed setup.properties.granularity) at.slots sound_after) before (subst (λ (ss : Slots). HoldsJustLiveBlocks setup.properties first (g.held after) ss) at.slots holds) whole)

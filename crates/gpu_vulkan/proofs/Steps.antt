@@ -1,18 +1,18 @@
 -- The calls of an allocator are steps of the model.
-use Rattle.std.proofs.Common.{◌≡◌, ◌∙◌, ℕ, ◌<◌, refl, sym, ap, subst, Bool, true, false, List, length, slice_set, Option, Some, None, Ok, Err, Result, arith, ⊎_elim}
+use Rattle.std.proofs.Common.{◌≡◌, ◌∙◌, ℕ, ◌<◌, refl, sym, ap, subst, Bool, true, false, length, Option, Some, None, Ok, Err, Result, arith, ⊎_elim}
 use Rattle.std.specs.FinMap.{get}
 use Rattle.gpu_core.specs.Refusal.{Refusal, refusal_of, refusal_in, invalid_allocation_create_desc, no_compatible_memory_type_found}
-use Rattle.gpu_core.specs.TypeState.{Slot}
 use Rattle.gpu_core.specs.declared.memory_type.Piece.{Piece}
 use Rattle.gpu_values.specs.declared.error.AllocationError.{AllocationError}
 use Rattle.gpu_device.specs.Held.{Held, IsWhole}
 use Rattle.gpu_device.specs.declared.vulkan.device.VulkanDevice.{Ghosts}
 use Rattle.gpu_device.specs.declared.vulkan.types.DeviceMemory.{DeviceMemory}
-use Rattle.gpu_vulkan.specs.Allocate.{Attempts, IsTooLarge, IsPlanned, IsAttempt, Answers, IsServed, IsFollowed, is_valid, next_after, next_type}
-use Rattle.gpu_vulkan.specs.Attempt.{AttemptEnvironment, Asked, Plan, Short, Serves, Needs, Answer, Gave, Refused, Comes, Settles, IsAfter, question}
-use Rattle.gpu_vulkan.specs.BlockAnswer.{BlockAnswer, Declined, Granted, Mapped, NotMapped}
+use Rattle.gpu_vulkan.specs.Allocate.{Attempts, IsTooLarge, IsWithinHeap, IsAttempt, Answers, IsServed, IsFollowed, is_valid, next_after, next_type}
+use Rattle.gpu_memory_types.specs.Attempt.{Gave, Refused}
+use Rattle.gpu_memory_types.proofs.OneOutcome.{refused_same as unchanged}
+use Rattle.gpu_vulkan.specs.Attempt.{AttemptEnvironment, Asked, Answer, IsAfter, asked_block, request_at}
 use Rattle.gpu_vulkan.specs.Blocks.{Slots, is_mapped, HoldsJustLiveBlocks}
-use Rattle.gpu_memory_types.specs.Blocks.{slots_at, total_capacity, BlocksWellFormed}
+use Rattle.gpu_memory_types.specs.Blocks.{BlocksWellFormed}
 use Rattle.gpu_vulkan.specs.ByteView.{byte_view_of}
 use Rattle.gpu_vulkan.specs.Choice.{best_type}
 use Rattle.gpu_vulkan.specs.Setup.{Setup}
@@ -24,7 +24,6 @@ use Rattle.gpu_vulkan.proofs.Following.{next_below}
 use Rattle.gpu_vulkan.proofs.Serving.{attempt_holds}
 use Rattle.gpu_vulkan.proofs.Stepping.{attempt_bytes}
 use Rattle.gpu_memory_types.proofs.Options.{none_some, some_same}
-use Rattle.gpu_memory_types.proofs.Types.{slots_same}
 
 -- ---- what the device counts and names
 
@@ -38,30 +37,11 @@ named g mapped (Some a) device after is = is.latest
 
 -- ---- a refused attempt leaves the slots
 
-gave_refused : (p : Piece DeviceMemory) (r : Refusal) → Refused r ≡ Gave p → ⊥
-gave_refused p r e = cc
-
-settled_same : (old : List (Option (Slot DeviceMemory))) (own : Bool) (ready : _) (b : BlockAnswer) (r : Refusal) (new : List (Option (Slot DeviceMemory))) → Settles old own ready b (Refused r) new → new ≡ old
-settled_same old own ready (Declined code) r new s = s.1
-settled_same old own ready (Granted n) r new s = absurd (gave_refused s.0 r s.1)
-settled_same old own ready (Mapped n bytes) r new s = absurd (gave_refused s.0 r s.1)
-settled_same old own ready (NotMapped code) r new s = s.1
-
-comes_same : (used : ℕ) (ask : _) (mapped : Bool) (old : List (Option (Slot DeviceMemory))) (plan : Plan) (o : Option Asked) (r : Refusal) (new : List (Option (Slot DeviceMemory)))
-    → Comes used ask mapped old plan o (Refused r) new → new ≡ old
-comes_same used ask mapped old Short None r new c = c.1
-comes_same used ask mapped old Short (Some a) r new c = absurd c
-comes_same used ask mapped old (Serves p after) None r new c = absurd (gave_refused p r c.0)
-comes_same used ask mapped old (Serves p after) (Some a) r new c = absurd c
-comes_same used ask mapped old (Needs size own ready) None r new c = c.2
-comes_same used ask mapped old (Needs size own ready) (Some a) r new c = settled_same old own ready a.answer r new c.3
-
 pub refused_same : (setup : Setup) (old : Slots) (t : ℕ) (d : AllocationCreateDesc) (o : AttemptEnvironment) (r : Refusal) (new : Slots) → Attempts setup old t d o (Refused r) new → new ≡ old
 refused_same setup old t d o r new a =
     ⊎_elim
     (λ (large : IsTooLarge setup old t d o (Refused r) new). large.same)
-    (λ (plan : IsPlanned setup old t d o (Refused r) new).
-    plan.slots ∙ ap (slice_set old t) (comes_same (total_capacity old) (question setup t d) (is_mapped setup.properties t) (slots_at old t) plan.plan o.asked r plan.after plan.comes) ∙ slots_same old t)
+    (λ (within : IsWithinHeap setup old t d o (Refused r) new). unchanged (request_at setup t d) old o.host (asked_block o.asked) r new within.allocates)
     a
 
 -- ---- what the caller gets

@@ -1,21 +1,21 @@
 -- The memory types as the code keeps them, beside what the device told of each.
-use Rattle.std.proofs.Common.{◌≡◌, ◌∙◌, ◌⊎◌, refl, sym, ap, subst, ℕ, zero, suc, ◌<◌, ◌≤◌, Bool, true, false, List, [], ◌∷◌, length, slice_get, Option, Some, None, IfSome, arith, ⊎_elim}
+use Rattle.std.proofs.Common.{◌≡◌, ◌∙◌, sym, ap, subst, ℕ, zero, suc, ◌<◌, Bool, List, [], ◌∷◌, length, slice_get, Option, Some, None, IfSome, arith, ⊎_elim}
 use Rattle.std.specs.Prelude.{All}
 use Rattle.std.specs.Option.{option_map}
 use Rattle.std.proofs.lemmas.Bool.{cases_lt}
 use Rattle.std.proofs.lemmas.List.{length-map}
 use Rattle.std.proofs.lemmas.List.Elements.{All-head, All-tail}
-use Rattle.std.proofs.lemmas.Option.{slice_get-map, slice_get-get_or}
-use Rattle.gpu_core.specs.TypeState.{TypeState, Slot}
+use Rattle.std.proofs.lemmas.Option.{slice_get-map}
+use Rattle.gpu_core.specs.TypeState.{TypeState}
 use Rattle.gpu_core.specs.Slots.{AreSound}
 use Rattle.gpu_device.specs.Properties.{Properties}
 use Rattle.gpu_device.specs.declared.vulkan.types.DeviceMemory.{DeviceMemory}
 use Rattle.gpu_device.specs.declared.vulkan.types.MemoryTypeInfo.{MemoryTypeInfo}
-use Rattle.gpu_memory_types.specs.Blocks.{slots_at, BlocksWellFormed}
-use Rattle.gpu_memory_types.specs.Types.{Types, slots_of, kinds, type_of, no_type, MemoryTypesInvariant}
+use Rattle.gpu_memory_types.specs.Blocks.{BlocksWellFormed}
+use Rattle.gpu_memory_types.specs.Types.{Types, slots_of, kinds, type_of, MemoryTypesInvariant}
 use Rattle.gpu_memory_types.proofs.Options.{none_some, some_same}
-use Rattle.gpu_memory_types.proofs.Types.{slots_are, slots_past, WellFormed}
-use Rattle.gpu_vulkan.specs.Blocks.{Slots, is_host_visible, mapped_by, is_mapped, type_at}
+use Rattle.gpu_memory_types.proofs.Types.{type_there, slots_are, slots_past, WellFormed}
+use Rattle.gpu_vulkan.specs.Blocks.{is_host_visible, mapped_by, is_mapped}
 use Rattle.gpu_vulkan.specs.Types.{kinds_told}
 
 abbrev kind : TypeState DeviceMemory → Bool × ℕ
@@ -23,9 +23,6 @@ kind t = (t.is_host, t.granularity)
 
 abbrev told : Properties → MemoryTypeInfo → Bool × ℕ
 told p info = (is_host_visible info, p.granularity)
-
-abbrev with_parts : Bool → ℕ → List (Option (Slot DeviceMemory)) → TypeState DeviceMemory
-with_parts host pages slots = record { is_host = host; granularity = pages; slots = slots; room = 0 }
 
 -- what the device told of a memory type
 told_of : (p : Properties) (t : TypeState DeviceMemory) (o : Option MemoryTypeInfo) → option_map (told p) o ≡ Some (kind t)
@@ -35,7 +32,7 @@ told_of p t (Some info) e =
     let same : told p info ≡ kind t = some_same (told p info) (kind t) e in
     (ap (λ (k : Bool × ℕ). k.0) (sym same), ap (λ (k : Bool × ℕ). k.1) (sym same))
 
-told_at : (p : Properties) (types : Types DeviceMemory) (i : ℕ) (t : TypeState DeviceMemory) → kinds types ≡ kinds_told p → slice_get types i ≡ Some t
+pub told_at : (p : Properties) (types : Types DeviceMemory) (i : ℕ) (t : TypeState DeviceMemory) → kinds types ≡ kinds_told p → slice_get types i ≡ Some t
     → (t.is_host ≡ is_mapped p i) × (t.granularity ≡ p.granularity)
 told_at p types i t same at =
     told_of p t (slice_get p.types i)
@@ -44,23 +41,6 @@ told_at p types i t same at =
 -- there are as many as the device told
 pub as_many : (p : Properties) (types : Types DeviceMemory) → kinds types ≡ kinds_told p → length types ≡ length p.types
 as_many p types same = sym (length-map types kind) ∙ ap length same ∙ length-map p.types (told p)
-
-pub type_there : (types : Types DeviceMemory) (i : ℕ) → i < length types → slice_get types i ≡ Some (type_of types i)
-type_there types i below = slice_get-get_or types i no_type below
-
--- a memory type is the one that the slots and the device's properties say
-pub type_is : (p : Properties) (types : Types DeviceMemory) (i : ℕ) → kinds types ≡ kinds_told p → i < length types
-    → record (type_of types i) { room = 0 } ≡ type_at p (slots_of types) i
-type_is p types i same below =
-    let t = type_of types i in
-    let at = type_there types i below in
-    let as_told = told_at p types i t same at in
-    ap (λ b. with_parts b t.granularity t.slots) as_told.0
-    ∙ ap (λ n. with_parts (is_mapped p i) n t.slots) as_told.1
-    ∙ ap (λ ss. with_parts (is_mapped p i) p.granularity ss) (slots_are types i t at)
-
-pub slots_here : (types : Types DeviceMemory) (i : ℕ) → i < length types → (type_of types i).slots ≡ slots_at (slots_of types) i
-slots_here types i below = slots_are types i (type_of types i) (type_there types i below)
 
 each_at : {A : Type 0} (P : A → Type 0) (xs : List A) (i : ℕ) (x : A) → All P xs → slice_get xs i ≡ Some x → P x
 each_at P [] i x all at = absurd (none_some x at)

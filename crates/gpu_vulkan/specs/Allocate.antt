@@ -1,20 +1,17 @@
 -- An allocation: which memory types are asked, and what each attempt comes to.
-use Rattle.std.specs.Prelude.{◌≡◌, ℕ, ◌<◌, ◌≤◌, ◌⊎◌, ◌==◌, ◌&&◌, not, Bool, true, false, if◌then◌else◌, List, slice_get, Option, Some, None, Result, Ok, Err}
+use Rattle.std.specs.Prelude.{◌≡◌, ℕ, ◌<◌, ◌≤◌, ◌⊎◌, ◌==◌, ◌&&◌, not, Bool, true, false, if◌then◌else◌, slice_get, Option, Some, None, Result, Ok, Err}
 use Rattle.std.specs.Int.{is_power_of_two}
-use Rattle.std.specs.List.{slice_set}
 use Rattle.gpu_core.specs.Refusal.{Refusal, refusal_of, refusal_in, out_of_memory, failed_to_map, no_compatible_memory_type_found, invalid_allocation_create_desc, invalid_allocator_create_desc, internal, barrier_layout_needs_device10, castable_formats_requires_enhanced_barriers, castable_formats_requires_at_least_device12, host_out_of_memory}
 use Rattle.gpu_values.specs.declared.memory_location.MemoryLocation.{MemoryLocation}
 use Rattle.gpu_values.specs.declared.memory_location.MemoryLocation.TheVariants.{Unknown, GpuOnly, CpuToGpu, GpuToCpu}
-use Rattle.gpu_core.specs.TypeState.{Slot}
 use Rattle.gpu_values.specs.declared.error.AllocationError.{AllocationError}
 use Rattle.gpu_device.specs.Properties.{Properties}
 use Rattle.gpu_device.specs.declared.vulkan.device.VulkanDevice.{Ghosts}
-use Rattle.gpu_device.specs.declared.vulkan.types.DeviceMemory.{DeviceMemory}
 use Rattle.gpu_device.specs.declared.vulkan.types.MemoryTypeInfo.{MemoryTypeInfo}
 use Rattle.gpu_device.specs.declared.vulkan.types.MemoryHeap.{MemoryHeap}
-use Rattle.gpu_vulkan.specs.Attempt.{AttemptEnvironment, Plan, IsPlan, Answer, Gave, Refused, question, Comes, IsAfter}
-use Rattle.gpu_vulkan.specs.Blocks.{Slots, is_mapped, type_at}
-use Rattle.gpu_memory_types.specs.Blocks.{slots_at, total_capacity}
+use Rattle.gpu_memory_types.specs.Attempt.{AllocatesInType, Gave, Refused}
+use Rattle.gpu_vulkan.specs.Attempt.{AttemptEnvironment, Answer, asked_block, request_at, IsAskedFor, IsAfter}
+use Rattle.gpu_vulkan.specs.Blocks.{Slots, is_mapped}
 use Rattle.gpu_vulkan.specs.Choice.{required, first_type, best_type}
 use Rattle.gpu_vulkan.specs.Live.{IsGiven}
 use Rattle.gpu_vulkan.specs.Setup.{Setup}
@@ -40,18 +37,15 @@ pub record IsTooLarge (setup : Setup) (old : Slots) (t : ℕ) (d : AllocationCre
   pub answer_is : answer ≡ Refused out_of_memory
   pub same : new ≡ old
 
--- the memory type makes a plan of the request, and that comes to the answer
-pub record IsPlanned (setup : Setup) (old : Slots) (t : ℕ) (d : AllocationCreateDesc) (o : AttemptEnvironment) (answer : Answer) (new : Slots) : Type 0 where
+-- the request is within its heap, and its memory type allocates it or refuses it
+pub record IsWithinHeap (setup : Setup) (old : Slots) (t : ℕ) (d : AllocationCreateDesc) (o : AttemptEnvironment) (answer : Answer) (new : Slots) : Type 0 where
   pub below : d.requirements.size ≤ heap_size setup.properties t
-  pub plan : Plan
-  pub is_plan : IsPlan setup (type_at setup.properties old t) d o.host plan
-  pub after : List (Option (Slot DeviceMemory))
-  pub comes : Comes (total_capacity old) (question setup t d) (is_mapped setup.properties t) (slots_at old t) plan o.asked answer after
-  pub slots : new ≡ slice_set old t after
+  pub allocates : AllocatesInType (request_at setup t d) old o.host (asked_block o.asked) answer new
+  pub asked_for : IsAskedFor setup t d o.asked
 
 -- an attempt at the t-th memory type
 abbrev pub Attempts : Setup → Slots → (t : ℕ) → AllocationCreateDesc → AttemptEnvironment → Answer → Slots → Type 0
-Attempts setup old t d o answer new = IsTooLarge setup old t d o answer new ⊎ IsPlanned setup old t d o answer new
+Attempts setup old t d o answer new = IsTooLarge setup old t d o answer new ⊎ IsWithinHeap setup old t d o answer new
 
 -- ---- over a device
 

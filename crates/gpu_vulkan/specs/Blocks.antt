@@ -1,7 +1,6 @@
 -- The live blocks of all memory types, and what the device holds of them.
 use Rattle.std.specs.Prelude.{◌≡◌, ℕ, Bool, false, slice_get, Option, Some, None}
 use Rattle.std.specs.Option.{is_some}
-use Rattle.gpu_core.specs.TypeState.{TypeState}
 use Rattle.gpu_device.specs.Held.{Held, Entry}
 use Rattle.gpu_device.specs.Properties.{Properties}
 use Rattle.gpu_device.specs.declared.vulkan.types.DeviceMemory.{DeviceMemory}
@@ -25,10 +24,6 @@ mapped_by (Some info) = is_host_visible info
 -- blocks of the t-th memory type are mapped: the host can see its memory
 abbrev pub is_mapped : Properties → (t : ℕ) → Bool
 is_mapped p t = mapped_by (slice_get p.types t)
-
--- the t-th memory type
-abbrev pub type_at : Properties → Slots → (t : ℕ) → TypeState DeviceMemory
-type_at p slots t = record { is_host = is_mapped p t; granularity = p.granularity; slots = slots_at slots t; room = 0 }
 
 -- the device's number of a memory
 abbrev pub memory_number : DeviceMemory → ℕ

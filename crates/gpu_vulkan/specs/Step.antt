@@ -16,7 +16,8 @@ use Rattle.gpu_device.specs.declared.vulkan.device.VulkanDevice.{Ghosts}
 use Rattle.gpu_device.specs.declared.vulkan.types.DeviceMemory.{DeviceMemory}
 use Rattle.gpu_device.specs.declared.vulkan.types.MemoryAllocateInfo.{MemoryAllocateInfo}
 use Rattle.gpu_vulkan.specs.Allocate.{Attempts, next_type, is_valid}
-use Rattle.gpu_vulkan.specs.Attempt.{AttemptEnvironment, Asked, Answer, Gave, Refused}
+use Rattle.gpu_memory_types.specs.Attempt.{Gave, Refused}
+use Rattle.gpu_vulkan.specs.Attempt.{AttemptEnvironment, Asked, Answer}
 use Rattle.gpu_vulkan.specs.BlockAnswer.{BlockAnswer, Declined, Granted, Mapped, NotMapped, refused_after}
 use Rattle.gpu_vulkan.specs.Blocks.{Slots, is_mapped}
 use Rattle.gpu_memory_types.specs.Blocks.{slots_at, total_capacity}

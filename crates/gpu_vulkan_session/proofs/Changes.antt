@@ -7,7 +7,8 @@ use Rattle.gpu_core.specs.Refusal.{Refusal}
 use Rattle.gpu_core.specs.declared.memory_type.Piece.{Piece}
 use Rattle.gpu_device.specs.declared.vulkan.types.DeviceMemory.{DeviceMemory}
 use Rattle.gpu_vulkan.specs.Allocate.{is_valid}
-use Rattle.gpu_vulkan.specs.Attempt.{AttemptEnvironment, Asked, Answer, Gave, Refused}
+use Rattle.gpu_memory_types.specs.Attempt.{Gave, Refused}
+use Rattle.gpu_vulkan.specs.Attempt.{AttemptEnvironment, Asked, Answer}
 use Rattle.gpu_vulkan.specs.Blocks.{is_mapped}
 use Rattle.gpu_vulkan.specs.ByteView.{AllocationId, is_same_id, ByteView, IsOutOf, TakesOut}
 use Rattle.gpu_vulkan.specs.Live.{piece_of}

@@ -1,4 +1,4 @@
-use Rattle.std.proofs.Common.{◌≡◌, ◌<◌, length, ap, sym, subst, arith, Err, Ok}
+use Rattle.std.proofs.Common.{◌≡◌, ◌<◌, length, ap, subst, arith}
 use Rattle.gpu_core.specs.declared.memory_type.Prepared.TheVariants as prepared
 use Rattle.gpu_values.specs.Refusal.{refusal_of}
 use Rattle.gpu_memory_types.specs.Requests.{PreparesAt, IsPrepareRefusal}
@@ -6,11 +6,12 @@ use Rattle.gpu_memory_types.specs.Types.{slots_of}
 use Rattle.gpu_core.specs.declared.memory_type.need.NeedBlock.{NeedBlock}
 use Rattle.gpu_memory_types.specs.Blocks.{total_capacity}
 use Rattle.gpu_vulkan.specs.Blocks.{Slots, is_mapped}
-use Rattle.gpu_vulkan.specs.Attempt.{IsSuballocated, question}
+use Rattle.gpu_vulkan.specs.Attempt.{question}
 use Rattle.gpu_vulkan.specs.BlockAnswer.{Asks}
 use Rattle.gpu_vulkan.specs.Setup.{Setup}
 use Rattle.gpu_vulkan.specs.contracts.setup.Setup.{the_view}
-use Rattle.gpu_vulkan.proofs.Attempts.{host_refused, shared_block_serves, waiting, device_refused, block_installed}
+use Rattle.gpu_memory_types.proofs.Prepared.{waiting}
+use Rattle.gpu_vulkan.proofs.Attempts.{host_refused, shared_block_serves, device_refused, block_installed}
 use Rattle.gpu_vulkan.proofs.Types.{as_many, mapped_is}
 use Rattle.gpu_vulkan.proofs.attempt.suballocate.Goals as goal
 use Rattle.gpu_vulkan.proofs.attempt.suballocate.Goals.{After-prepare}
@@ -56,8 +57,7 @@ needed g c need h = subst (λ z. PreparesAt c.args.index c.args.types.now z c.re
 slots_wait : (g : _) (c : After-prepare g) (need : NeedBlock) → PreparesAt c.args.index c.args.types.now c.args.setup.now.sizes c.request_of.result (prepared.NeedBlock need) c.prepare.new.self
     → slots_of c.prepare.new.self ≡ slots_of c.args.types.now
 slots_wait g c need h =
-    waiting g.D.VulkanDevice c.args.setup.now c.args.index c.args.desc.now c.args.device.now c.args.types.now c.request_of.result c.requires.kinds (below g c) c.request_of.ensures.asks c.request_of.ensures.own
-    need c.prepare.new.self h
+    waiting c.args.index c.args.types.now c.args.setup.now.sizes c.request_of.result (below g c) need c.prepare.new.self h
 
 pub install-requires-clause-sum : goal.install-requires-clause-sum
 install-requires-clause-sum g c =
@@ -83,7 +83,7 @@ returns-in-Err-allocate_block_memory-clause-suballocates g c =
     subst (λ m. Asks V c.args.device.now (question (the_view c.setup.inside) c.args.index c.args.desc.now need.size) m e.0 after_device) mapped e.1 in
     let asks = subst (λ (s : Setup). Asks V c.args.device.now (question s c.args.index c.args.desc.now need.size) (is_mapped setup.properties c.args.index) e.0 after_device) c.setup.view_is as_mapped in
     device_refused V setup c.args.index c.args.desc.now c.args.device.now c.args.types.now c.request_of.result c.requires.kinds (below g after) c.request_of.ensures.asks c.request_of.ensures.own
-    need c.prepare.new.self c.in-Err-allocate_block_memory.error e.0 after_device (needed g after need told) asks e.2
+    need c.prepare.new.self e.0 after_device (needed g after need told) asks c.in-Err-allocate_block_memory.error e.2
 
 pub returns-in-Ok-clause-suballocates : goal.returns-in-Ok-clause-suballocates
 returns-in-Ok-clause-suballocates g c =
@@ -99,4 +99,4 @@ returns-in-Ok-clause-suballocates g c =
     subst (λ m. Asks V c.args.device.now (question (the_view c.setup.inside) c.args.index c.args.desc.now need.size) m e.0 after_device) mapped e.1 in
     let asks = subst (λ (s : Setup). Asks V c.args.device.now (question s c.args.index c.args.desc.now need.size) (is_mapped setup.properties c.args.index) e.0 after_device) c.setup.view_is as_mapped in
     block_installed V setup c.args.index c.args.desc.now c.args.device.now c.args.types.now c.request_of.result c.requires.kinds (below g after) c.request_of.ensures.asks c.request_of.ensures.own
-    need c.prepare.new.self c.install.new.self c.in-Ok.memory c.install.result e.0 after_device (needed g after need told) asks e.2 c.install.ensures.installed
+    need c.prepare.new.self e.0 after_device (needed g after need told) asks c.install.new.self c.in-Ok.memory c.install.result e.2 c.install.ensures.installed

@@ -1,8 +1,5 @@
-use Rattle.std.proofs.Common.{◌≡◌, ◌+◌, Some, subst, arith, slice_get, slice_set, IfOk, ◌∙◌, ap}
-use Rattle.std.specs.Prelude.{Option}
-use Rattle.gpu_core.specs.declared.memory_type.Piece.{Piece}
-use Rattle.gpu_memory_types.specs.Release.{ReleasesAt}
-use Rattle.gpu_memory_types.specs.Types.{Types, slots_of, kinds, MemoryTypesInvariant}
+use Rattle.std.proofs.Common.{◌≡◌, Some, arith, slice_get, slice_set, ◌∙◌, ap}
+use Rattle.gpu_memory_types.specs.Types.{kinds, MemoryTypesInvariant}
 use Rattle.gpu_memory_types.proofs.Changed.{element_at, released}
 use Rattle.gpu_memory_types.proofs.Types.{invariant_set, kinds_set, share_below}
 use Rattle.gpu_memory_types.proofs.memory_types.MemoryTypes.free.Goals as goal

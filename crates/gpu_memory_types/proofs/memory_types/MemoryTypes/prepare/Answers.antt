@@ -1,4 +1,4 @@
-use Rattle.std.proofs.Common.{◌≡◌, ◌+◌, ◌<◌, ◌^◌, Some, sym, subst, arith, slice_get, slice_set, ap, ◌∙◌, length, List, OnErr, OnOk}
+use Rattle.std.proofs.Common.{◌≡◌, ◌<◌, Some, sym, subst, arith, slice_get, slice_set, ap, ◌∙◌, length, OnErr, OnOk}
 use Rattle.gpu_memory_types.specs.Blocks.{total_capacity}
 use Rattle.gpu_memory_types.specs.Requests.{FitsSum, PassesSum}
 use Rattle.gpu_memory_types.specs.Types.{Types, slots_of, kinds, MemoryTypesInvariant}

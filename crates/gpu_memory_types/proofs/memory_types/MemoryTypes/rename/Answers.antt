@@ -1,10 +1,5 @@
-use Rattle.std.proofs.Common.{◌≡◌, ◌+◌, Some, subst, arith, slice_get, slice_set, ap, ◌∙◌, List, Option}
-use Rattle.gpu_values.specs.Refusal.{refusal_of}
-use Rattle.gpu_core.proofs.Finding.{if_error}
-use Rattle.gpu_core.specs.TypeState.{Slot}
-use Rattle.gpu_memory_types.specs.Blocks.{slots_at}
-use Rattle.gpu_memory_types.specs.Rename.{IsNotNamed}
-use Rattle.gpu_memory_types.specs.Types.{slots_of, kinds, MemoryTypesInvariant}
+use Rattle.std.proofs.Common.{◌≡◌, Some, arith, slice_get, slice_set, ap, ◌∙◌}
+use Rattle.gpu_memory_types.specs.Types.{kinds, MemoryTypesInvariant}
 use Rattle.gpu_memory_types.proofs.Changed.{element_at, renamed, named_cause}
 use Rattle.gpu_memory_types.proofs.Types.{invariant_set, kinds_set, share_below}
 use Rattle.gpu_memory_types.proofs.memory_types.MemoryTypes.rename.Goals as goal

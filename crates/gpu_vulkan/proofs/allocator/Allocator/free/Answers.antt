@@ -1,8 +1,7 @@
-use Rattle.std.proofs.Common.{rules, None, Some, ◌≡◌, ◌∙◌, sym, ap, subst, length, arith}
+use Rattle.std.proofs.Common.{rules, None, Some, ◌≡◌, ◌∙◌, sym, ap, subst, length}
 use Rattle.gpu_vulkan.specs.Blocks.{Slots, HoldsJustLiveBlocks}
-use Rattle.gpu_memory_types.specs.Blocks.{slots_at}
 use Rattle.gpu_vulkan.specs.Free.{IsReleased, Frees}
-use Rattle.gpu_vulkan.specs.Live.{is_same_memory, piece_of, IsLive, IsLiveIn}
+use Rattle.gpu_vulkan.specs.Live.{piece_of, IsLive, IsLiveIn}
 use Rattle.gpu_vulkan.specs.State.{State}
 use Rattle.gpu_vulkan.specs.Step.{IsStep, Free, freed_as}
 use Rattle.gpu_vulkan.proofs.Owning.{frees_others}
