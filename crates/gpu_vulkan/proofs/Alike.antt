@@ -13,19 +13,21 @@ use Rattle.gpu_vulkan.specs.Allocate.{Attempts, IsTooLarge, IsWithinHeap, is_val
 use Rattle.gpu_vulkan.specs.Alike.{AlikeAnswer, AlikeAsked, AlikeAttemptEnvironment, AlikeCallEnvironment, AlikeDescription, AlikeCall, AlikeReply}
 use Rattle.gpu_memory_types.specs.Attempt.{RequestAt, Allocated, AllocatesInType, Gave, Refused}
 use Rattle.gpu_memory_types.proofs.OneOutcome.{allocates_once}
-use Rattle.gpu_vulkan.specs.Attempt.{AttemptEnvironment, Asked, Answer, asked_block, block_result, request_at}
-use Rattle.gpu_vulkan.specs.BlockAnswer.{BlockAnswer, Declined, Granted, Mapped, NotMapped}
-use Rattle.gpu_vulkan.specs.Blocks.{Slots, is_mapped}
+use Rattle.gpu_vulkan_blocks.specs.Suballocation.{AttemptEnvironment, Asked, Answer, asked_block, block_result, request_at}
+use Rattle.gpu_vulkan_blocks.specs.BlockAnswer.{BlockAnswer, Declined, Granted, Mapped, NotMapped}
+use Rattle.gpu_vulkan_setup.specs.Types.{is_mapped}
+use Rattle.gpu_vulkan_blocks.specs.Blocks.{Slots}
 use Rattle.gpu_memory_types.specs.Blocks.{slots_at, total_capacity, BlocksWellFormed}
-use Rattle.gpu_vulkan.specs.Choice.{first_type, required, best_type}
-use Rattle.gpu_vulkan.specs.Describe.{is_own, kind_of, request_of}
-use Rattle.gpu_vulkan.specs.Live.{piece_of, is_same_memory, IsLiveIn, IsMapped}
+use Rattle.gpu_vulkan_setup.specs.Choice.{first_type, required, best_type}
+use Rattle.gpu_vulkan_setup.specs.Describe.{is_own, kind_of, request_of}
+use Rattle.gpu_vulkan_blocks.specs.Release.{is_same_memory, IsLiveIn}
+use Rattle.gpu_vulkan.specs.Live.{piece_of, IsMapped}
 use Rattle.gpu_memory_types.specs.Leaks.{all_leaks}
 use Rattle.gpu_memory_types.specs.Reports.{whole_report}
-use Rattle.gpu_vulkan.specs.Setup.{Setup}
+use Rattle.gpu_vulkan_setup.specs.Setup.{Setup}
 use Rattle.gpu_vulkan.specs.Step.{ModelState, Call, Allocate, Free, Write, Rename, Report, Leaks, Read, Capacity, Reply, Given, Fails, Done, Bytes, Sum, Shows, Tells, RenameStep, CallEnvironment, AttemptStep, reply_of, next_by, Follows, ServeStep, RefuseStep, FoundStep, AllocateStep, FreeStep, IsRead, Step}
 use Rattle.gpu_vulkan.specs.declared.allocation.Allocation.{Allocation}
-use Rattle.gpu_vulkan.specs.declared.describe.AllocationCreateDesc.{AllocationCreateDesc}
+use Rattle.gpu_vulkan_setup.specs.declared.describe.AllocationCreateDesc.{AllocationCreateDesc}
 use Rattle.gpu_vulkan.proofs.OneStep.{mid_sound, free_reply, done_or_fails, rename_reply, named_or_fails, rename_fails_once, shown_reply, told_reply, by_host, write_reply, read_reply, sum_reply}
 
 -- ---- descriptions that ask for the same

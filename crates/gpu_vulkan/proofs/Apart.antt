@@ -21,14 +21,14 @@ use Rattle.gpu_vulkan.specs.Apart.{EndsInside, IsInside, SharesNoByte, pieces_in
 use Rattle.gpu_memory_types.specs.Attempt.{Gave, Refused}
 use Rattle.gpu_memory_types.proofs.Aligned.{allocates_aligned}
 use Rattle.gpu_memory_types.proofs.OneOutcome.{gave_refused}
-use Rattle.gpu_vulkan.specs.Attempt.{AttemptEnvironment, Answer, asked_block, request_at}
-use Rattle.gpu_vulkan.specs.Blocks.{Slots, HoldsJustLiveBlocks}
+use Rattle.gpu_vulkan_blocks.specs.Suballocation.{AttemptEnvironment, Answer, asked_block, request_at}
+use Rattle.gpu_vulkan_blocks.specs.Blocks.{Slots, HoldsJustLiveBlocks}
 use Rattle.gpu_memory_types.specs.Blocks.{block_at, BlocksWellFormed}
 use Rattle.gpu_vulkan.specs.Lends.{AreDistinct}
 use Rattle.gpu_vulkan.specs.Live.{IsLive}
-use Rattle.gpu_vulkan.specs.Setup.{Setup}
+use Rattle.gpu_vulkan_setup.specs.Setup.{Setup}
 use Rattle.gpu_vulkan.specs.declared.allocation.Allocation.{Allocation}
-use Rattle.gpu_vulkan.specs.declared.describe.AllocationCreateDesc.{AllocationCreateDesc}
+use Rattle.gpu_vulkan_setup.specs.declared.describe.AllocationCreateDesc.{AllocationCreateDesc}
 use Rattle.gpu_vulkan.proofs.Inside.{extent_inside}
 use Rattle.gpu_memory_types.proofs.Options.{none_some, some_same}
 use Rattle.gpu_vulkan.proofs.Writing.{Stands, stands, allocations_apart}

@@ -1,108 +1,20 @@
 -- What a request at one memory type is of an attempt over all.
-use Rattle.std.proofs.Common.{◌≡◌, sym, ap, subst, refl, inl, inr, ℕ, ◌<◌, ◌≤◌, true, false, length, None, Some, Ok, Err, Result}
-use Rattle.gpu_values.specs.Refusal.{Refusal, refusal_of, out_of_memory, host_out_of_memory}
+use Rattle.std.proofs.Common.{refl, inl, inr, ℕ, ◌<◌, ◌≤◌, false, None, Err, Result}
+use Rattle.gpu_values.specs.Refusal.{out_of_memory, host_out_of_memory}
 use Rattle.gpu_values.specs.declared.error.AllocationError.{AllocationError}
 use Rattle.gpu_values.specs.declared.error.AllocationError.TheVariants.{OutOfMemory, HostOutOfMemory}
-use Rattle.gpu_core.specs.TypeTake.{asked}
 use Rattle.gpu_core.specs.declared.memory_type.Piece.{Piece}
-use Rattle.gpu_core.specs.declared.memory_type.Prepared.TheVariants as prepared
-use Rattle.gpu_core.specs.declared.memory_type.Request as type_requests
-use Rattle.gpu_core.specs.declared.memory_type.need.NeedBlock.{NeedBlock}
 use Rattle.gpu_device.specs.declared.vulkan.device.VulkanDevice.{Ghosts}
 use Rattle.gpu_device.specs.declared.vulkan.types.DeviceMemory.{DeviceMemory}
-use Rattle.gpu_memory_types.specs.Attempt.{RequestAt, BlockResult, Allocated, NotAllocated, AllocatesInType, Answer, Gave, Refused}
-use Rattle.gpu_memory_types.specs.Requests.{PreparesAt, IsPrepareRefusal, InstallsAt}
-use Rattle.gpu_memory_types.specs.Types.{Types, slots_of, kinds, type_of}
-use Rattle.gpu_memory_types.proofs.Options.{none_some, some_same}
-use Rattle.gpu_memory_types.proofs.Prepared as prepares
+use Rattle.gpu_memory_types.specs.Attempt.{Refused}
 use Rattle.gpu_memory_types.proofs.Prepared.{starved}
-use Rattle.gpu_memory_types.proofs.Types.{type_there}
-use Rattle.gpu_vulkan.specs.Allocate.{heap_size, Answers, IsAttempt}
-use Rattle.gpu_vulkan.specs.Attempt.{answer_of, block_result, request_at, question, IsSuballocated}
-use Rattle.gpu_vulkan.specs.BlockAnswer.{BlockAnswer, Declined, Granted, Mapped, NotMapped, Asks, answer_number, answer_refusal}
-use Rattle.gpu_vulkan.specs.Blocks.{Slots, is_mapped}
-use Rattle.gpu_vulkan.specs.Describe.{is_own, request_of}
-use Rattle.gpu_vulkan.specs.Setup.{Setup}
-use Rattle.gpu_vulkan.specs.Types.{kinds_told}
+use Rattle.gpu_vulkan_setup.specs.Types.{heap_size}
+use Rattle.gpu_vulkan.specs.Allocate.{Answers, IsAttempt}
+use Rattle.gpu_vulkan_blocks.specs.Suballocation.{answer_of, request_at, IsSuballocated}
+use Rattle.gpu_vulkan_blocks.specs.Blocks.{Slots}
+use Rattle.gpu_vulkan_setup.specs.Setup.{Setup}
 use Rattle.gpu_vulkan.specs.declared.allocation.Allocation.{Allocation}
-use Rattle.gpu_vulkan.specs.declared.describe.AllocationCreateDesc.{AllocationCreateDesc}
-use Rattle.gpu_vulkan.proofs.Types.{told_at}
-
--- ---- a device's answer, as a block or the want of one
-
-refused_is : (a : BlockAnswer) (e : Refusal) → answer_refusal a ≡ Some e → block_result a ≡ NotAllocated e
-refused_is (Declined code) e is = ap NotAllocated (some_same _ _ is)
-refused_is (Granted number) e is = absurd (none_some e is)
-refused_is (Mapped number bytes) e is = absurd (none_some e is)
-refused_is (NotMapped code) e is = ap NotAllocated (some_same _ _ is)
-
-granted_is : (a : BlockAnswer) (m : DeviceMemory) → answer_number a ≡ Some m.0 → block_result a ≡ Allocated m
-granted_is (Declined code) m is = absurd (none_some m.0 is)
-granted_is (Granted number) m is = ap (λ n. Allocated (record { 0 = n })) (some_same _ _ is)
-granted_is (Mapped number bytes) m is = ap (λ n. Allocated (record { 0 = n })) (some_same _ _ is)
-granted_is (NotMapped code) m is = absurd (none_some m.0 is)
-
--- ---- a piece of one memory type
-
-module _ {D : Type 0} (g : Ghosts D) (setup : Setup) (i : ℕ) (d : AllocationCreateDesc) (device : D) (types : Types DeviceMemory) (r : type_requests.Request)
-    (same : kinds types ≡ kinds_told setup.properties) (below : i < length types) (asks : asked r ≡ request_of d) (own : r.dedicated ≡ is_own d.allocation_scheme) where
-  abbrev ss : Slots
-  ss = slots_of types
-
-  -- the request as the code keeps its memory type is the one that the device's properties say
-  request_is : prepares.request_at i types setup.sizes r ≡ request_at setup i d
-  request_is =
-      let told = told_at setup.properties types i (type_of types i) same (type_there types i below) in
-      let host = told.0 in
-      let pages = told.1 in
-      λ j. record { memory_type = i; is_host = host j; granularity = pages j; sizes = setup.sizes; wants_own = own j; request = asks j }
-
-  pub host_refused : (e : AllocationError) (new : Types DeviceMemory) → IsPrepareRefusal i types setup.sizes r (refusal_of e) → slots_of new ≡ ss
-      → IsSuballocated g setup i d ss device (Err e) (slots_of new) device
-  host_refused e new cause unchanged =
-      let h = prepares.prepare_refused i types setup.sizes r below (refusal_of e) new cause unchanged in
-      record {
-        environment = record { host = h.0; asked = None };
-        allocates = subst (λ (q : RequestAt). AllocatesInType q ss h.0 None (Refused (refusal_of e)) (slots_of new)) request_is h.1;
-        asked_for = tt;
-        asked = refl;
-      }
-
-  pub shared_block_serves : (p : Piece DeviceMemory) (new : Types DeviceMemory) → PreparesAt i types setup.sizes r (prepared.Taken p) new → IsSuballocated g setup i d ss device (Ok p) (slots_of new) device
-  shared_block_serves p new h = record {
-    environment = record { host = true; asked = None };
-    allocates = subst (λ (q : RequestAt). AllocatesInType q ss true None (Gave p) (slots_of new)) request_is (prepares.shared_block_serves i types setup.sizes r below p new h);
-    asked_for = tt;
-    asked = refl;
-  }
-
-  -- the device was asked for a block of that size
-  answered : (size : ℕ) (a : BlockAnswer) (b : BlockResult DeviceMemory) (answer : Answer DeviceMemory) (new : Slots) → block_result a ≡ b
-      → AllocatesInType (prepares.request_at i types setup.sizes r) ss true (Some (record { size = size; result = b })) answer new
-      → AllocatesInType (request_at setup i d) ss true (Some (record { size = size; result = block_result a })) answer new
-  answered size a b answer new is h =
-      subst (λ (c : BlockResult DeviceMemory). AllocatesInType (request_at setup i d) ss true (Some (record { size = size; result = c })) answer new) (sym is)
-      (subst (λ (q : RequestAt). AllocatesInType q ss true (Some (record { size = size; result = b })) answer new) request_is h)
-
-  module _ (need : NeedBlock) (mid : Types DeviceMemory) (a : BlockAnswer) (after : D) (h : PreparesAt i types setup.sizes r (prepared.NeedBlock need) mid)
-      (asks_it : Asks g device (question setup i d need.size) (is_mapped setup.properties i) a after) where
-    pub device_refused : (e : AllocationError) → answer_refusal a ≡ Some (refusal_of e) → IsSuballocated g setup i d ss device (Err e) (slots_of mid) after
-    device_refused e why = record {
-      environment = record { host = true; asked = Some (record { info = question setup i d need.size; answer = a }) };
-      allocates = answered need.size a (NotAllocated (refusal_of e)) (Refused (refusal_of e)) (slots_of mid) (refused_is a (refusal_of e) why)
-          (prepares.block_declined i types setup.sizes r below need mid h (refusal_of e));
-      asked_for = (refl, asks_it.fits);
-      asked = asks_it;
-    }
-
-    pub block_installed : (new : Types DeviceMemory) (m : DeviceMemory) (p : Piece DeviceMemory) → answer_number a ≡ Some m.0 → InstallsAt i (slots_of mid) need.dedicated need.room m p (slots_of new)
-        → IsSuballocated g setup i d ss device (Ok p) (slots_of new) after
-    block_installed new m p number made = record {
-      environment = record { host = true; asked = Some (record { info = question setup i d need.size; answer = a }) };
-      allocates = answered need.size a (Allocated m) (Gave p) (slots_of new) (granted_is a m number) (prepares.block_installed i types setup.sizes r below need mid h new m p made);
-      asked_for = (refl, asks_it.fits);
-      asked = asks_it;
-    }
+use Rattle.gpu_vulkan_setup.specs.declared.describe.AllocationCreateDesc.{AllocationCreateDesc}
 
 -- ---- an attempt
 

@@ -7,9 +7,9 @@ use Rattle.gpu_core.specs.Slots.{AreSound}
 use Rattle.gpu_device.specs.Held.{Held}
 use Rattle.gpu_device.specs.Properties.{Properties}
 use Rattle.gpu_device.specs.declared.vulkan.types.DeviceMemory.{DeviceMemory}
-use Rattle.gpu_vulkan.specs.Blocks.{Slots}
+use Rattle.gpu_vulkan_blocks.specs.Blocks.{Slots}
 use Rattle.gpu_memory_types.specs.Blocks.{slots_at, block_at, total_capacity}
-use Rattle.gpu_vulkan.specs.Setup.{Setup, IsValid}
+use Rattle.gpu_vulkan_setup.specs.Setup.{Setup, IsValid}
 use Rattle.gpu_vulkan.specs.State.{AllocatorInvariant}
 use Rattle.gpu_memory_types.proofs.Options.{none_some}
 

@@ -6,11 +6,11 @@ use Rattle.gpu_device.specs.Held.{Held}
 use Rattle.gpu_device.specs.declared.vulkan.device.VulkanDevice.{Ghosts}
 use Rattle.gpu_device.specs.declared.vulkan.types.MemoryTypeInfo.{MemoryTypeInfo}
 use Rattle.gpu_vulkan.specs.Allocate.{IsFollowed, IsServed, next_after, is_for_upload, is_short}
-use Rattle.gpu_vulkan.specs.Blocks.{Slots, HoldsJustLiveBlocks}
-use Rattle.gpu_vulkan.specs.Choice.{serves, first_from, first_type, required}
-use Rattle.gpu_vulkan.specs.Setup.{Setup}
+use Rattle.gpu_vulkan_blocks.specs.Blocks.{Slots, HoldsJustLiveBlocks}
+use Rattle.gpu_vulkan_setup.specs.Choice.{serves, first_from, first_type, required}
+use Rattle.gpu_vulkan_setup.specs.Setup.{Setup}
 use Rattle.gpu_vulkan.specs.declared.allocation.Allocation.{Allocation}
-use Rattle.gpu_vulkan.specs.declared.describe.AllocationCreateDesc.{AllocationCreateDesc}
+use Rattle.gpu_vulkan_setup.specs.declared.describe.AllocationCreateDesc.{AllocationCreateDesc}
 use Rattle.gpu_vulkan.proofs.Serving.{attempt_holds}
 use Rattle.gpu_memory_types.proofs.Options.{none_some, some_same}
 

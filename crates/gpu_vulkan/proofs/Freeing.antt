@@ -17,12 +17,15 @@ use Rattle.gpu_device.specs.Held.{Held, IsWhole, bytes_of, entry_bytes}
 use Rattle.gpu_device.specs.declared.vulkan.device.VulkanDevice.{Ghosts}
 use Rattle.gpu_device.specs.declared.vulkan.types.DeviceMemory.{DeviceMemory}
 use Rattle.gpu_device.proofs.Maps.{get-remove_other}
-use Rattle.gpu_vulkan.specs.Blocks.{Slots, is_mapped, HoldsJustLiveBlocks}
+use Rattle.gpu_vulkan_setup.specs.Types.{is_mapped}
+use Rattle.gpu_vulkan_blocks.specs.Blocks.{Slots, HoldsJustLiveBlocks}
 use Rattle.gpu_memory_types.specs.Blocks.{slots_at, block_at, BlocksWellFormed}
 use Rattle.gpu_vulkan.specs.ByteView.{ByteView, byte_view_of, PutsBack}
-use Rattle.gpu_vulkan.specs.Free.{GivesBack, IsReleased, FreesPiece, Frees}
-use Rattle.gpu_vulkan.specs.Live.{piece_of, is_same_memory, IsLiveIn}
-use Rattle.gpu_vulkan.specs.Setup.{Setup}
+use Rattle.gpu_vulkan_blocks.specs.Release.{GivesBack, IsReleased}
+use Rattle.gpu_vulkan.specs.Free.{FreesPiece, Frees}
+use Rattle.gpu_vulkan_blocks.specs.Release.{is_same_memory, IsLiveIn}
+use Rattle.gpu_vulkan.specs.Live.{piece_of}
+use Rattle.gpu_vulkan_setup.specs.Setup.{Setup}
 use Rattle.gpu_vulkan.specs.State.{State}
 use Rattle.gpu_vulkan.specs.Step.{ModelState, model_of, Free, Done, id_in, MayDrop, ReleaseStep, FreeStep, IsStep, nothing_met, freed_as}
 use Rattle.gpu_vulkan.specs.declared.allocation.Allocation.{Allocation}

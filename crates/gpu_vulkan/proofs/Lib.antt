@@ -1,6 +1,3 @@
-pub mod Taken
-pub mod Heaps
-pub mod Types
 pub mod Attempts
 pub mod Serving
 pub mod Following

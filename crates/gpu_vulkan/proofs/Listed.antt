@@ -15,13 +15,13 @@ use Rattle.gpu_device.specs.Held.{Held, IsWhole, HasRange, bytes_of, range_in, r
 use Rattle.gpu_device.specs.declared.vulkan.device.VulkanDevice.{Ghosts}
 use Rattle.gpu_device.specs.declared.vulkan.types.DeviceMemory.{DeviceMemory}
 use Rattle.gpu_device.proofs.Writes.{bytes_there, bytes_elsewhere, range_elsewhere, reads_below, reads_above, length_of_range}
-use Rattle.gpu_vulkan.specs.Blocks.{Slots, HoldsJustLiveBlocks}
+use Rattle.gpu_vulkan_blocks.specs.Blocks.{Slots, HoldsJustLiveBlocks}
 use Rattle.gpu_memory_types.specs.Blocks.{block_at, total_capacity, BlocksWellFormed}
 use Rattle.gpu_vulkan.specs.ByteView.{is_same_id, byte_view_of, list_in, rest_in, piece_bytes, piece_of_number, covers, is_covered, byte_at, Writes}
 use Rattle.gpu_vulkan.specs.Lends.{number_in, written_at}
 use Rattle.gpu_vulkan.specs.Live.{IsLive, IsMapped, bytes_at}
 use Rattle.gpu_vulkan.specs.State.{State}
-use Rattle.gpu_vulkan.specs.Setup.{Setup}
+use Rattle.gpu_vulkan_setup.specs.Setup.{Setup}
 use Rattle.gpu_vulkan.specs.Step.{model_of, id_of, IsRead, IsStep, Write, Read, Bytes, Capacity, Sum, Done, nothing_met}
 use Rattle.gpu_vulkan.specs.declared.allocation.Allocation.{Allocation}
 use Rattle.gpu_vulkan.proofs.Buffered.{place, other_number}

@@ -21,11 +21,12 @@ use Rattle.gpu_values.specs.declared.report.AllocatorReport.{AllocatorReport}
 use Rattle.gpu_device.specs.Held.{Held, bytes_of, range_in}
 use Rattle.gpu_device.specs.declared.vulkan.device.VulkanDevice.{Ghosts}
 use Rattle.gpu_device.specs.declared.vulkan.types.DeviceMemory.{DeviceMemory}
-use Rattle.gpu_vulkan.specs.Blocks.{Slots}
+use Rattle.gpu_vulkan_blocks.specs.Blocks.{Slots}
 use Rattle.gpu_memory_types.specs.Blocks.{slots_at, block_at}
 use Rattle.gpu_vulkan.specs.ByteView.{byte_view_of, list_in, rest_in, piece_bytes, piece_of_number, is_covered, byte_at}
 use Rattle.gpu_memory_types.specs.Leaks.{all_leaks}
-use Rattle.gpu_vulkan.specs.Live.{piece_of, is_same_memory}
+use Rattle.gpu_vulkan_blocks.specs.Release.{is_same_memory}
+use Rattle.gpu_vulkan.specs.Live.{piece_of}
 use Rattle.gpu_memory_types.specs.Rename.{IsRenamed}
 use Rattle.gpu_vulkan.specs.Rename.{RenamesBy, Renames}
 use Rattle.gpu_memory_types.specs.Reports.{whole_report}

@@ -16,9 +16,10 @@ use Rattle.gpu_core.specs.declared.memory_type.Piece.{Piece}
 use Rattle.gpu_core.proofs.Slotted.{set_only}
 use Rattle.gpu_device.specs.declared.vulkan.types.DeviceMemory.{DeviceMemory}
 use Rattle.gpu_values.specs.declared.error.AllocationError.{AllocationError}
-use Rattle.gpu_vulkan.specs.Blocks.{Slots}
+use Rattle.gpu_vulkan_blocks.specs.Blocks.{Slots}
 use Rattle.gpu_memory_types.specs.Blocks.{slots_at}
-use Rattle.gpu_vulkan.specs.Live.{piece_of, is_same_memory, IsLiveIn, IsLive}
+use Rattle.gpu_vulkan_blocks.specs.Release.{is_same_memory, IsLiveIn}
+use Rattle.gpu_vulkan.specs.Live.{piece_of, IsLive}
 use Rattle.gpu_memory_types.specs.Rename.{IsRenamed}
 use Rattle.gpu_vulkan.specs.Rename.{RenamesBy, Renames}
 use Rattle.gpu_vulkan.specs.declared.allocation.Allocation.{Allocation}

@@ -13,17 +13,19 @@ use Rattle.gpu_memory_types.proofs.OneOutcome.{false_true, allocates_once}
 use Rattle.gpu_memory_types.specs.Attempt.{Gave, Refused}
 use Rattle.gpu_device.specs.declared.vulkan.types.DeviceMemory.{DeviceMemory}
 use Rattle.gpu_vulkan.specs.Allocate.{Attempts, IsTooLarge, IsWithinHeap, is_valid}
-use Rattle.gpu_vulkan.specs.Attempt.{AttemptEnvironment, Asked, Answer, asked_block, request_at}
-use Rattle.gpu_vulkan.specs.Blocks.{Slots, is_mapped}
+use Rattle.gpu_vulkan_blocks.specs.Suballocation.{AttemptEnvironment, Asked, Answer, asked_block, request_at}
+use Rattle.gpu_vulkan_setup.specs.Types.{is_mapped}
+use Rattle.gpu_vulkan_blocks.specs.Blocks.{Slots}
 use Rattle.gpu_memory_types.specs.Blocks.{slots_at, total_capacity, BlocksWellFormed}
 use Rattle.gpu_vulkan.specs.ByteView.{AllocationId, is_same_id, ByteView, IsOutOf, TakesOut, PutsBack, AddsBlock, Writes}
-use Rattle.gpu_vulkan.specs.Live.{piece_of, is_same_memory}
+use Rattle.gpu_vulkan_blocks.specs.Release.{is_same_memory}
+use Rattle.gpu_vulkan.specs.Live.{piece_of}
 use Rattle.gpu_memory_types.specs.Leaks.{all_leaks}
 use Rattle.gpu_memory_types.specs.Reports.{whole_report}
-use Rattle.gpu_vulkan.specs.Setup.{Setup}
+use Rattle.gpu_vulkan_setup.specs.Setup.{Setup}
 use Rattle.gpu_vulkan.specs.Step.{ModelState, Call, Allocate, Free, Write, Rename, Report, Leaks, Read, Capacity, Reply, Given, Fails, Done, Bytes, Sum, Shows, Tells, RenameStep, ReportStep, LeaksStep, CallEnvironment, BytesAfter, AttemptStep, reply_of, next_by, Follows, ServeStep, RefuseStep, FoundStep, AllocateStep, MayDrop, ReleaseStep, FreeStep, WriteStep, IsRead, Step, id_in, id_of}
 use Rattle.gpu_vulkan.specs.declared.allocation.Allocation.{Allocation}
-use Rattle.gpu_vulkan.specs.declared.describe.AllocationCreateDesc.{AllocationCreateDesc}
+use Rattle.gpu_vulkan_setup.specs.declared.describe.AllocationCreateDesc.{AllocationCreateDesc}
 use Rattle.gpu_vulkan.proofs.Steps.{refused_same, none_next}
 
 -- ---- an attempt

@@ -13,15 +13,17 @@ use Rattle.gpu_memory_types.specs.Blocks.{BlocksWellFormed}
 use Rattle.gpu_memory_types.proofs.Options.{none_some, some_same}
 use Rattle.gpu_memory_types.proofs.StayLive.{KeepsPieces, keeps_all, allocates_keeps, released_keeps_others}
 use Rattle.gpu_vulkan.specs.Allocate.{Attempts, IsTooLarge, IsWithinHeap, IsAttempt, Answers, IsServed, IsFollowed, next_after}
-use Rattle.gpu_vulkan.specs.Attempt.{AttemptEnvironment, Answer, asked_block, request_at}
-use Rattle.gpu_vulkan.specs.Blocks.{Slots}
-use Rattle.gpu_vulkan.specs.Free.{IsReleased, FreesPiece, Frees}
+use Rattle.gpu_vulkan_blocks.specs.Suballocation.{AttemptEnvironment, Answer, asked_block, request_at}
+use Rattle.gpu_vulkan_blocks.specs.Blocks.{Slots}
+use Rattle.gpu_vulkan_blocks.specs.Release.{IsReleased}
+use Rattle.gpu_vulkan.specs.Free.{FreesPiece, Frees}
 use Rattle.gpu_vulkan.specs.Lends.{AreDistinct, number_in}
-use Rattle.gpu_vulkan.specs.Live.{piece_of, is_same_memory, IsLiveIn, IsLive}
+use Rattle.gpu_vulkan_blocks.specs.Release.{is_same_memory, IsLiveIn}
+use Rattle.gpu_vulkan.specs.Live.{piece_of, IsLive}
 use Rattle.gpu_vulkan.specs.Rename.{StayLive}
-use Rattle.gpu_vulkan.specs.Setup.{Setup}
+use Rattle.gpu_vulkan_setup.specs.Setup.{Setup}
 use Rattle.gpu_vulkan.specs.declared.allocation.Allocation.{Allocation}
-use Rattle.gpu_vulkan.specs.declared.describe.AllocationCreateDesc.{AllocationCreateDesc}
+use Rattle.gpu_vulkan_setup.specs.declared.describe.AllocationCreateDesc.{AllocationCreateDesc}
 use Rattle.gpu_vulkan.proofs.Following.{next_below}
 use Rattle.gpu_vulkan.proofs.Releasing.{type_below}
 use Rattle.gpu_vulkan.proofs.Steps.{next_same, mid_is_old}

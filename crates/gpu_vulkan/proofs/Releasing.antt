@@ -8,10 +8,10 @@ use Rattle.gpu_device.specs.Held.{Held}
 use Rattle.gpu_device.specs.Properties.{Properties}
 use Rattle.gpu_device.specs.declared.vulkan.device.VulkanDevice.{Ghosts}
 use Rattle.gpu_device.specs.declared.vulkan.types.DeviceMemory.{DeviceMemory}
-use Rattle.gpu_vulkan.specs.Blocks.{Slots, HoldsJustLiveBlocks, memory_number, IsBlockEntry}
+use Rattle.gpu_vulkan_blocks.specs.Blocks.{Slots, HoldsJustLiveBlocks, memory_number, IsBlockEntry}
 use Rattle.gpu_memory_types.specs.Blocks.{slots_at}
-use Rattle.gpu_vulkan.specs.Free.{GivesBack, IsReleased}
-use Rattle.gpu_vulkan.specs.Live.{is_same_memory}
+use Rattle.gpu_vulkan_blocks.specs.Release.{GivesBack, IsReleased}
+use Rattle.gpu_vulkan_blocks.specs.Release.{is_same_memory}
 use Rattle.gpu_memory_types.specs.Held.{without_block}
 use Rattle.gpu_memory_types.proofs.Releasing.{releases_holds}
 

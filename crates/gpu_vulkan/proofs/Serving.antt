@@ -13,12 +13,13 @@ use Rattle.gpu_device.proofs.Changes.{get-mapped_same, get-mapped_other, mapped_
 use Rattle.gpu_memory_types.specs.Attempt.{IsEntryOf, HoldsResult, HoldsAsked}
 use Rattle.gpu_memory_types.proofs.Granting.{allocates_holds}
 use Rattle.gpu_vulkan.specs.Allocate.{IsTooLarge, IsWithinHeap, IsAttempt}
-use Rattle.gpu_vulkan.specs.Attempt.{Asked, IsAfter, IsAskedFor, asked_block, block_result, question, request_at}
-use Rattle.gpu_vulkan.specs.BlockAnswer.{BlockAnswer, Declined, Granted, Mapped, NotMapped, Asks}
-use Rattle.gpu_vulkan.specs.Blocks.{Slots, is_mapped, IsBlockEntry, memory_number, HoldsJustLiveBlocks}
-use Rattle.gpu_vulkan.specs.Setup.{Setup}
+use Rattle.gpu_vulkan_blocks.specs.Suballocation.{Asked, IsAfter, IsAskedFor, asked_block, block_result, question, request_at}
+use Rattle.gpu_vulkan_blocks.specs.BlockAnswer.{BlockAnswer, Declined, Granted, Mapped, NotMapped, Asks}
+use Rattle.gpu_vulkan_setup.specs.Types.{is_mapped}
+use Rattle.gpu_vulkan_blocks.specs.Blocks.{Slots, IsBlockEntry, memory_number, HoldsJustLiveBlocks}
+use Rattle.gpu_vulkan_setup.specs.Setup.{Setup}
 use Rattle.gpu_vulkan.specs.declared.allocation.Allocation.{Allocation}
-use Rattle.gpu_vulkan.specs.declared.describe.AllocationCreateDesc.{AllocationCreateDesc}
+use Rattle.gpu_vulkan_setup.specs.declared.describe.AllocationCreateDesc.{AllocationCreateDesc}
 
 entry_of : (p : Properties) (t size : ℕ) (e : Entry) (x : Option Entry) → x ≡ Some e → e.size ≡ size → e.memory_type_index ≡ t → is_some e.bytes ≡ is_mapped p t → IsEntryOf (IsBlockEntry p) t size x
 entry_of p t size e x is sized type bytes = subst (IsEntryOf (IsBlockEntry p) t size) (sym is) (sized, type, bytes)

@@ -20,16 +20,17 @@ use Rattle.gpu_device.proofs.Maps.{get-insert_same, get-insert_other}
 use Rattle.gpu_device.proofs.Changes.{get-mapped_other, bytes-mapped, new_is_unmapped}
 use Rattle.gpu_vulkan.specs.Allocate.{IsTooLarge, IsWithinHeap, IsAttempt}
 use Rattle.gpu_memory_types.specs.Attempt.{Plan, NoHostMemory, SharedBlock, NewBlock, IsPlan, Refused, IsAfterResult, IsCarriedOut, type_asked}
-use Rattle.gpu_vulkan.specs.Attempt.{Asked, Answer, IsAfter, asked_block, block_result, request_at, memory}
-use Rattle.gpu_vulkan.specs.BlockAnswer.{BlockAnswer, Declined, Granted, Mapped, NotMapped, Asks}
-use Rattle.gpu_vulkan.specs.Blocks.{Slots, is_mapped, HoldsJustLiveBlocks, memory_number, IsBlockEntry}
+use Rattle.gpu_vulkan_blocks.specs.Suballocation.{Asked, Answer, IsAfter, asked_block, block_result, request_at, memory}
+use Rattle.gpu_vulkan_blocks.specs.BlockAnswer.{BlockAnswer, Declined, Granted, Mapped, NotMapped, Asks}
+use Rattle.gpu_vulkan_setup.specs.Types.{is_mapped}
+use Rattle.gpu_vulkan_blocks.specs.Blocks.{Slots, HoldsJustLiveBlocks, memory_number, IsBlockEntry}
 use Rattle.gpu_memory_types.specs.Blocks.{slots_at, block_at, total_capacity, BlocksWellFormed}
 use Rattle.gpu_vulkan.specs.ByteView.{ByteView, byte_view_of, TakesOut, AddsBlock}
-use Rattle.gpu_vulkan.specs.Live.{is_same_memory, IsLiveIn}
-use Rattle.gpu_vulkan.specs.Setup.{Setup}
+use Rattle.gpu_vulkan_blocks.specs.Release.{is_same_memory, IsLiveIn}
+use Rattle.gpu_vulkan_setup.specs.Setup.{Setup}
 use Rattle.gpu_vulkan.specs.Step.{BytesAfter, id_in, answer_bytes}
 use Rattle.gpu_vulkan.specs.declared.allocation.Allocation.{Allocation}
-use Rattle.gpu_vulkan.specs.declared.describe.AllocationCreateDesc.{AllocationCreateDesc}
+use Rattle.gpu_vulkan_setup.specs.declared.describe.AllocationCreateDesc.{AllocationCreateDesc}
 use Rattle.gpu_vulkan.proofs.Buffered.{served_buffers, installed_buffers, with_new_adds, with_new}
 use Rattle.gpu_memory_types.proofs.Holding.{not_a_block}
 use Rattle.gpu_vulkan.proofs.Inside.{live_range, live_unmapped}

@@ -18,10 +18,12 @@ use Rattle.gpu_device.specs.Properties.{Properties}
 use Rattle.gpu_device.specs.declared.vulkan.types.DeviceMemory.{DeviceMemory}
 use Rattle.gpu_device.proofs.Writes.{written_entry, get_there, get_elsewhere, range_there, range_elsewhere}
 use Rattle.gpu_memory_types.specs.Held.{HasEntry}
-use Rattle.gpu_vulkan.specs.Blocks.{Slots, is_mapped, IsBlockEntry, HoldsJustLiveBlocks}
+use Rattle.gpu_vulkan_setup.specs.Types.{is_mapped}
+use Rattle.gpu_vulkan_blocks.specs.Blocks.{Slots, IsBlockEntry, HoldsJustLiveBlocks}
 use Rattle.gpu_memory_types.specs.Blocks.{slots_at, block_at, BlocksWellFormed}
 use Rattle.gpu_vulkan.specs.Lends.{AreDistinct, number_in}
-use Rattle.gpu_vulkan.specs.Live.{is_same_memory, IsLiveIn, IsLive, IsMapped, bytes_at}
+use Rattle.gpu_vulkan_blocks.specs.Release.{is_same_memory, IsLiveIn}
+use Rattle.gpu_vulkan.specs.Live.{IsLive, IsMapped, bytes_at}
 use Rattle.gpu_vulkan.specs.declared.allocation.Allocation.{Allocation}
 use Rattle.gpu_vulkan.proofs.Inside.{live_range, piece_with}
 use Rattle.gpu_memory_types.proofs.Options.{some_same}

@@ -1,9 +1,9 @@
 -- Calls, environment and replies that differ at most in bytes.
 use Rattle.std.specs.Prelude.{◌≡◌, Option, Some, None}
-use Rattle.gpu_vulkan.specs.Attempt.{AttemptEnvironment, Asked}
-use Rattle.gpu_vulkan.specs.BlockAnswer.{BlockAnswer, Mapped}
+use Rattle.gpu_vulkan_blocks.specs.Suballocation.{AttemptEnvironment, Asked}
+use Rattle.gpu_vulkan_blocks.specs.BlockAnswer.{BlockAnswer, Mapped}
 use Rattle.gpu_vulkan.specs.Step.{Call, Allocate, Write, CallEnvironment, Reply, Bytes}
-use Rattle.gpu_vulkan.specs.declared.describe.AllocationCreateDesc.{AllocationCreateDesc}
+use Rattle.gpu_vulkan_setup.specs.declared.describe.AllocationCreateDesc.{AllocationCreateDesc}
 
 -- the same answer, but for the bytes that a newly mapped block holds
 abbrev pub AlikeAnswer : BlockAnswer → BlockAnswer → Type 0

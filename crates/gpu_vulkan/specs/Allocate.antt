@@ -1,34 +1,20 @@
 -- An allocation: which memory types are asked, and what each attempt comes to.
-use Rattle.std.specs.Prelude.{◌≡◌, ℕ, ◌<◌, ◌≤◌, ◌⊎◌, ◌==◌, ◌&&◌, not, Bool, true, false, if◌then◌else◌, slice_get, Option, Some, None, Result, Ok, Err}
+use Rattle.std.specs.Prelude.{◌≡◌, ℕ, ◌<◌, ◌≤◌, ◌⊎◌, ◌==◌, ◌&&◌, not, Bool, true, false, if◌then◌else◌, Option, Some, None, Result, Ok, Err}
 use Rattle.std.specs.Int.{is_power_of_two}
 use Rattle.gpu_core.specs.Refusal.{Refusal, refusal_of, refusal_in, out_of_memory, failed_to_map, no_compatible_memory_type_found, invalid_allocation_create_desc, invalid_allocator_create_desc, internal, barrier_layout_needs_device10, castable_formats_requires_enhanced_barriers, castable_formats_requires_at_least_device12, host_out_of_memory}
 use Rattle.gpu_values.specs.declared.memory_location.MemoryLocation.{MemoryLocation}
 use Rattle.gpu_values.specs.declared.memory_location.MemoryLocation.TheVariants.{Unknown, GpuOnly, CpuToGpu, GpuToCpu}
 use Rattle.gpu_values.specs.declared.error.AllocationError.{AllocationError}
-use Rattle.gpu_device.specs.Properties.{Properties}
 use Rattle.gpu_device.specs.declared.vulkan.device.VulkanDevice.{Ghosts}
-use Rattle.gpu_device.specs.declared.vulkan.types.MemoryTypeInfo.{MemoryTypeInfo}
-use Rattle.gpu_device.specs.declared.vulkan.types.MemoryHeap.{MemoryHeap}
 use Rattle.gpu_memory_types.specs.Attempt.{AllocatesInType, Gave, Refused}
-use Rattle.gpu_vulkan.specs.Attempt.{AttemptEnvironment, Answer, asked_block, request_at, IsAskedFor, IsAfter}
-use Rattle.gpu_vulkan.specs.Blocks.{Slots, is_mapped}
-use Rattle.gpu_vulkan.specs.Choice.{required, first_type, best_type}
+use Rattle.gpu_vulkan_blocks.specs.Suballocation.{AttemptEnvironment, Answer, asked_block, request_at, IsAskedFor, IsAfter}
+use Rattle.gpu_vulkan_setup.specs.Types.{is_mapped, heap_size}
+use Rattle.gpu_vulkan_blocks.specs.Blocks.{Slots}
+use Rattle.gpu_vulkan_setup.specs.Choice.{required, first_type, best_type}
 use Rattle.gpu_vulkan.specs.Live.{IsGiven}
-use Rattle.gpu_vulkan.specs.Setup.{Setup}
+use Rattle.gpu_vulkan_setup.specs.Setup.{Setup}
 use Rattle.gpu_vulkan.specs.declared.allocation.Allocation.{Allocation}
-use Rattle.gpu_vulkan.specs.declared.describe.AllocationCreateDesc.{AllocationCreateDesc}
-
-abbrev pub size_in : Option MemoryHeap → ℕ
-size_in None = 0
-size_in (Some heap) = heap.size
-
-abbrev pub heap_of : Properties → Option MemoryTypeInfo → ℕ
-heap_of p None = 0
-heap_of p (Some info) = size_in (slice_get p.heaps info.heap_index)
-
--- the size of the heap that memory of the t-th type lies in
-abbrev pub heap_size : Properties → (t : ℕ) → ℕ
-heap_size p t = heap_of p (slice_get p.types t)
+use Rattle.gpu_vulkan_setup.specs.declared.describe.AllocationCreateDesc.{AllocationCreateDesc}
 
 -- the request is above its heap: the device isn't asked
 pub record IsTooLarge (setup : Setup) (old : Slots) (t : ℕ) (d : AllocationCreateDesc) (o : AttemptEnvironment) (answer : Answer) (new : Slots) : Type 0 where

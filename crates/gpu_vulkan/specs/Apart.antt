@@ -6,7 +6,7 @@ use Rattle.gpu_core.specs.Place.{page}
 use Rattle.gpu_core.specs.TypeState.{Slot}
 use Rattle.gpu_values.specs.declared.allocation_type.AllocationType.{AllocationType}
 use Rattle.gpu_device.specs.declared.vulkan.types.DeviceMemory.{DeviceMemory}
-use Rattle.gpu_vulkan.specs.Blocks.{Slots}
+use Rattle.gpu_vulkan_blocks.specs.Blocks.{Slots}
 use Rattle.gpu_memory_types.specs.Blocks.{block_at}
 use Rattle.gpu_vulkan.specs.Lends.{number_in}
 use Rattle.gpu_vulkan.specs.declared.allocation.Allocation.{Allocation}

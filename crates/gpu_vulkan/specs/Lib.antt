@@ -1,10 +1,3 @@
-pub mod Describe
-pub mod Choice
-pub mod Setup
-pub mod BlockAnswer
-pub mod Blocks
-pub mod Types
-pub mod Attempt
 pub mod Live
 pub mod Allocate
 pub mod State

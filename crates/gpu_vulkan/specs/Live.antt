@@ -1,16 +1,17 @@
 -- An allocation, as its owner holds it, and the piece that it stands for.
-use Rattle.std.specs.Prelude.{◌≡◌, ℕ, ◌-◌, ◌^◌, ◌==◌, Bool, true, false, List, slice_get, Option, Some, None, IsSomeAnd, string_bytes}
+use Rattle.std.specs.Prelude.{◌≡◌, ℕ, ◌-◌, ◌^◌, true, false, List, slice_get, Option, Some, None, IsSomeAnd, string_bytes}
 use Rattle.std.specs.Option.{option_map}
 use Rattle.gpu_core.specs.declared.memory_type.Piece.{Piece}
 use Rattle.gpu_device.specs.Held.{Held, range_of}
 use Rattle.gpu_device.specs.Properties.{Properties}
 use Rattle.gpu_device.specs.declared.vulkan.types.DeviceMemory.{DeviceMemory}
-use Rattle.gpu_vulkan.specs.Blocks.{Slots, is_host_visible, is_mapped}
-use Rattle.gpu_memory_types.specs.Live as all
-use Rattle.gpu_vulkan.specs.Describe.{is_own}
-use Rattle.gpu_vulkan.specs.Setup.{Setup}
+use Rattle.gpu_vulkan_setup.specs.Types.{is_host_visible, is_mapped}
+use Rattle.gpu_vulkan_blocks.specs.Blocks.{Slots}
+use Rattle.gpu_vulkan_blocks.specs.Release.{IsLiveIn}
+use Rattle.gpu_vulkan_setup.specs.Describe.{is_own}
+use Rattle.gpu_vulkan_setup.specs.Setup.{Setup}
 use Rattle.gpu_vulkan.specs.declared.allocation.Allocation.{Allocation}
-use Rattle.gpu_vulkan.specs.declared.describe.AllocationCreateDesc.{AllocationCreateDesc}
+use Rattle.gpu_vulkan_setup.specs.declared.describe.AllocationCreateDesc.{AllocationCreateDesc}
 
 -- no piece
 abbrev pub null_allocation : Allocation
@@ -31,13 +32,6 @@ null_allocation = record {
 abbrev pub piece_of : Allocation → Option (Piece DeviceMemory)
 piece_of a =
     option_map (λ n. record { slot = a.memory_block_index; number = n; offset = a.offset; size = a.size; block = a.device_memory }) a.chunk_id
-
--- the memory's number, as the device compares it
-abbrev pub is_same_memory : DeviceMemory → DeviceMemory → Bool
-is_same_memory m n = m.0 == n.0
-
-abbrev pub IsLiveIn : Slots → (t : ℕ) → Option (Piece DeviceMemory) → Type 0
-IsLiveIn slots t p = all.IsLiveIn is_same_memory slots t p
 
 -- the allocator has a record with the allocation's type, slot, number, offset, size and memory
 abbrev pub IsLive : Slots → Allocation → Type 0

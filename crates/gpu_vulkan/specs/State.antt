@@ -2,9 +2,9 @@
 use Rattle.std.specs.Prelude.{◌≡◌, ◌^◌, ◌<◌, length}
 use Rattle.gpu_device.specs.Held.{Held}
 use Rattle.gpu_device.specs.Properties.{Properties}
-use Rattle.gpu_vulkan.specs.Blocks.{Slots, HoldsJustLiveBlocks}
+use Rattle.gpu_vulkan_blocks.specs.Blocks.{Slots, HoldsJustLiveBlocks}
 use Rattle.gpu_memory_types.specs.Blocks.{total_capacity, BlocksWellFormed}
-use Rattle.gpu_vulkan.specs.Setup.{Setup, IsValid}
+use Rattle.gpu_vulkan_setup.specs.Setup.{Setup, IsValid}
 
 -- the device, what it was when it was handed in, what the allocator is made with, and the blocks
 pub record State (D : Type 0) : Type 0 where

@@ -3,9 +3,9 @@
 ghost use Rattle.std.specs.Prelude.{◌≡◌, ◌↔◌, [], All, map, string_bytes, Some, None, IfOk, IfErr, OnOk, IsSome, IfSome, IsTrue, List, ℕ, length, option_copied, ◌%◌};
 ghost use Rattle.std.specs.Option.{unwrap_or};
 ghost use Rattle.gpu_core.specs.Refusal.{refusal_of, host_out_of_memory};
-ghost use Rattle.gpu_vulkan.specs.Setup.{setup_fault};
+ghost use Rattle.gpu_vulkan_setup.specs.Setup.{setup_fault};
 ghost use Rattle.gpu_memory_types.specs.Blocks.{total_capacity, BlocksWellFormed};
-ghost use Rattle.gpu_vulkan.specs.Blocks.{HoldsJustLiveBlocks};
+ghost use Rattle.gpu_vulkan_blocks.specs.Blocks.{HoldsJustLiveBlocks};
 ghost use Rattle.gpu_vulkan.specs.Allocate.{Allocates};
 ghost use Rattle.gpu_vulkan.specs.Free.{Frees};
 ghost use Rattle.gpu_vulkan.specs.Apart.{IsInside, SharesNoByte, KeepsPages};
@@ -22,16 +22,16 @@ ghost use Rattle.std.specs.Borrow.{sem};
 ghost use Rattle.gpu_vulkan.specs.Live.{IsLive, IsMapped, bytes_at};
 
 use super::attempt::allocate_with_fallback;
-use super::choice::best_type;
-use super::describe::{AllocationCreateDesc, AllocatorCreateDesc};
 use super::logging::{log_allocate, log_device, log_free, log_last_leaks, log_leaks};
-use super::release::{free_blocks, release};
 use super::rename::rename;
-use super::setup::{Settings, Setup, fault_of, parts_of};
 use super::{Allocation, MappedAllocationSlab};
 use gpu_device::vulkan::{DeviceMemory, VulkanDevice};
 use gpu_memory_types::MemoryTypes;
 use gpu_values::{AllocationError, AllocatorReport, Result};
+use gpu_vulkan_blocks::{free_blocks, free_piece};
+use gpu_vulkan_setup::{
+    AllocationCreateDesc, AllocatorCreateDesc, Settings, Setup, best_type, fault_of, parts_of,
+};
 use log::{Level, Log};
 use std::alloc::{AllocError, Global};
 use std::marker::Model;
@@ -50,7 +50,7 @@ impl<D: VulkanDevice> Model for Allocator<D> {
     ghost use Rattle.std.specs.Prelude.{◌≡◌};
     ghost use Rattle.gpu_vulkan.specs.State.{State, AllocatorInvariant};
     ghost use Rattle.gpu_memory_types.specs.Types.{slots_of, kinds, MemoryTypesInvariant};
-    ghost use Rattle.gpu_vulkan.specs.Types.{kinds_told};
+    ghost use Rattle.gpu_vulkan_setup.specs.Types.{kinds_told};
 
     ghost Value = { State D };
 
@@ -123,12 +123,12 @@ impl<D: VulkanDevice> Allocator<D> {
         ensures keeps { StayLive self.old.slots self.new.slots }
         ensures gives { IfOk result (λ a. IsLive self.new.slots a × ((b : Allocation) → IsLive self.old.slots b → AreDistinct b a)) }
     {
-        log_allocate(log, self.setup.settings.debug, desc);
+        log_allocate(log, self.setup.debug(), desc);
         if desc.requirements.size == 0 || !desc.requirements.alignment.is_power_of_two() {
             return Err(AllocationError::InvalidAllocationCreateDesc);
         }
         let bits = desc.requirements.memory_type_bits;
-        match best_type(&self.setup.memory_types, bits, desc.location) {
+        match best_type(self.setup.memory_types(), bits, desc.location) {
             None => Err(AllocationError::NoCompatibleMemoryTypeFound),
             Some(index) => allocate_with_fallback(
                 self.alloc,
@@ -256,7 +256,7 @@ impl<D: VulkanDevice> Allocator<D> {
             return Ok(());
         };
         let index = allocation.memory_type_index;
-        match release(&mut self.device, &mut self.types, index, &piece) {
+        match free_piece(&mut self.device, &mut self.types, index, &piece) {
             Ok(()) => Ok(()),
             Err(error) => Err((error, allocation)),
         }
@@ -315,7 +315,7 @@ impl<D: VulkanDevice> Allocator<D> {
             types,
             alloc: _,
         } = self;
-        log_last_leaks(log, setup.settings.debug, &types);
+        log_last_leaks(log, setup.debug(), &types);
         for index in 0..types.count() {
             free_blocks(&mut device, &types, index);
         }

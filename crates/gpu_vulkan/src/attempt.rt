@@ -4,55 +4,21 @@ ghost use Rattle.std.specs.Prelude.{◌≡◌, ◌<◌, length, Some, IfSome, Is
 ghost use Rattle.std.specs.Int.{is_power_of_two};
 ghost use Rattle.gpu_values.specs.Refusal.{refusal_of};
 ghost use Rattle.gpu_memory_types.specs.Types.{slots_of, kinds, MemoryTypesInvariant};
-ghost use Rattle.gpu_vulkan.specs.Types.{kinds_told};
-ghost use Rattle.gpu_vulkan.specs.Attempt.{IsSuballocated};
+ghost use Rattle.gpu_vulkan_setup.specs.Types.{kinds_told};
+ghost use Rattle.gpu_vulkan_blocks.specs.Suballocation.{IsSuballocated};
 ghost use Rattle.gpu_vulkan.specs.Allocate.{IsAttempt, IsServed, next_type};
 ghost use Rattle.gpu_vulkan.specs.Live.{IsGiven};
 
 use super::Allocation;
-use super::block::allocate_block_memory;
-use super::choice::{first_type, required_flags};
-use super::describe::{AllocationCreateDesc, is_own, request_of};
-use super::setup::{Setup, is_mapped};
-use gpu_core::{Piece, Prepared};
-use gpu_device::vulkan::{DeviceMemory, MemoryAllocateInfo, VulkanDevice};
+use gpu_core::Piece;
+use gpu_device::vulkan::{DeviceMemory, VulkanDevice};
 use gpu_memory_types::MemoryTypes;
 use gpu_values::{AllocationError, MemoryLocation, Result};
+use gpu_vulkan_blocks::suballocate;
+use gpu_vulkan_setup::{
+    AllocationCreateDesc, Setup, first_type, is_mapped, is_own, required_flags,
+};
 use std::alloc::{AllocError, Global};
-
-/// A piece of the memory type at `index`: of a shared block, or of a new one.
-fn suballocate<D: VulkanDevice>(
-    setup: &Setup,
-    device: &mut D,
-    types: &mut MemoryTypes<DeviceMemory>,
-    desc: &AllocationCreateDesc,
-    index: usize,
-) -> Result<Piece<DeviceMemory>>
-    requires sized { 0 < desc.now.requirements.size }
-    requires aligned { IsTrue (is_power_of_two desc.now.requirements.alignment) }
-    requires there { index < length setup.now.properties.types }
-    requires few { index < 32 }
-    requires kinds { kinds types.old ≡ kinds_told setup.now.properties }
-    ensures suballocates { IsSuballocated D.VulkanDevice setup.now index desc.now (slots_of types.old) device.old result (slots_of types.new) device.new }
-    ensures kinds { kinds types.new ≡ kinds types.old }
-    ensures kept { MemoryTypesInvariant types.new }
-{
-    let need = match types.prepare(index, &request_of(desc), &setup.settings.sizes) {
-        Err(error) => return Err(error),
-        Ok(Prepared::Taken(piece)) => return Ok(piece),
-        Ok(Prepared::NeedBlock(need)) => need,
-    };
-    let info = MemoryAllocateInfo {
-        size: need.size,
-        memory_type_index: index as u32,
-        device_address: setup.settings.buffer_device_address,
-        scheme: desc.allocation_scheme,
-    };
-    match allocate_block_memory(device, &info, setup.is_mapped(index)) {
-        Err(error) => Err(error),
-        Ok(memory) => Ok(types.install(index, need, memory)),
-    }
-}
 
 /// The allocation of a piece of the memory type at `index`.
 fn given(
@@ -65,7 +31,7 @@ fn given(
     requires { index < length setup.now.properties.types }
     ensures { string_bytes name ≡ desc.now.name.now → IsGiven setup.now index desc.now piece result }
 {
-    let info = setup.memory_types[index];
+    let info = setup.memory_types()[index];
     Allocation {
         chunk_id: Some(piece.number),
         offset: piece.offset,
@@ -116,7 +82,7 @@ fn next_type(setup: &Setup, desc: &AllocationCreateDesc, error: &AllocationError
     ensures next { result ≡ next_type setup.now desc.now (refusal_of error.now) }
     ensures there { IfSome result (λ index. index < length setup.now.properties.types) }
 {
-    let types = &setup.memory_types;
+    let types = setup.memory_types();
     let bits = desc.requirements.memory_type_bits;
     match (desc.location, error) {
         (MemoryLocation::CpuToGpu, AllocationError::HostOutOfMemory) => None,

@@ -2,14 +2,14 @@
 
 ghost use Rattle.std.specs.Prelude.{◌≡◌, Result};
 ghost use Rattle.gpu_vulkan.specs.Allocate.{Allocates};
-ghost use Rattle.gpu_vulkan.specs.Blocks.{Slots};
+ghost use Rattle.gpu_vulkan_blocks.specs.Blocks.{Slots};
 ghost use Rattle.gpu_memory_types.specs.Blocks.{BlocksWellFormed};
 ghost use Rattle.gpu_vulkan.specs.Free.{Frees};
 ghost use Rattle.gpu_vulkan.specs.Untouched.{LeavesMemory};
 ghost use Rattle.gpu_vulkan.specs.declared.allocation.Allocation.{Allocation};
-ghost use Rattle.gpu_vulkan.specs.declared.describe.AllocationCreateDesc.{AllocationCreateDesc};
+ghost use Rattle.gpu_vulkan_setup.specs.declared.describe.AllocationCreateDesc.{AllocationCreateDesc};
 ghost use Rattle.gpu_values.specs.declared.error.AllocationError.{AllocationError};
-ghost use Rattle.gpu_vulkan.specs.Setup.{Setup};
+ghost use Rattle.gpu_vulkan_setup.specs.Setup.{Setup};
 ghost use Rattle.gpu_vulkan.specs.Step.{ModelState, Call, CallEnvironment, Reply, Step};
 ghost use Rattle.gpu_vulkan.specs.Alike.{AlikeCallEnvironment, AlikeCall, AlikeReply};
 

@@ -1,9 +1,10 @@
 //! Log lines. They change no answer and no state, whatever log they are sent to.
 
-use super::{Allocation, AllocationCreateDesc};
+use super::Allocation;
 use gpu_device::vulkan::{DeviceMemory, VulkanDevice};
 use gpu_memory_types::MemoryTypes;
 use gpu_values::AllocatorDebugSettings;
+use gpu_vulkan_setup::AllocationCreateDesc;
 use log::{Level, Log, debug, log};
 
 /// Bytes in a line's MiB.

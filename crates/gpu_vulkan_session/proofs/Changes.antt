@@ -8,14 +8,14 @@ use Rattle.gpu_core.specs.declared.memory_type.Piece.{Piece}
 use Rattle.gpu_device.specs.declared.vulkan.types.DeviceMemory.{DeviceMemory}
 use Rattle.gpu_vulkan.specs.Allocate.{is_valid}
 use Rattle.gpu_memory_types.specs.Attempt.{Gave, Refused}
-use Rattle.gpu_vulkan.specs.Attempt.{AttemptEnvironment, Asked, Answer}
-use Rattle.gpu_vulkan.specs.Blocks.{is_mapped}
+use Rattle.gpu_vulkan_blocks.specs.Suballocation.{AttemptEnvironment, Asked, Answer}
+use Rattle.gpu_vulkan_setup.specs.Types.{is_mapped}
 use Rattle.gpu_vulkan.specs.ByteView.{AllocationId, is_same_id, ByteView, IsOutOf, TakesOut}
 use Rattle.gpu_vulkan.specs.Live.{piece_of}
-use Rattle.gpu_vulkan.specs.Setup.{Setup}
+use Rattle.gpu_vulkan_setup.specs.Setup.{Setup}
 use Rattle.gpu_vulkan.specs.Step.{ModelState, CallEnvironment, Reply, Given, Fails, Done, Bytes, Sum, Shows, Tells, Step, Allocate, Free, Rename, Report, Leaks, Capacity, id_in, id_of, BytesAfter, AttemptStep, Follows, next_by, FoundStep, AllocateStep, MayDrop, FreeStep, RenameStep, reply_of}
 use Rattle.gpu_vulkan.specs.declared.allocation.Allocation.{Allocation}
-use Rattle.gpu_vulkan.specs.declared.describe.AllocationCreateDesc.{AllocationCreateDesc}
+use Rattle.gpu_vulkan_setup.specs.declared.describe.AllocationCreateDesc.{AllocationCreateDesc}
 
 -- a place of a live piece comes in, with a list of that size where its memory is mapped
 pub record Gained (mapped : Bool) (q : AllocationId) (size : ℕ) (old new : ByteView) : Type 0 where

@@ -1,11 +1,12 @@
 -- The numbers go on owning their pieces.
 use Rattle.std.proofs.Common.{◌≡◌, ◌⊎◌, ℕ, List, Option, Some, None, ap, sym, subst, ◌∙◌, inl, inr, ⊎_elim}
 use Rattle.std.proofs.lemmas.Bool.{cases_eq}
-use Rattle.gpu_vulkan.specs.Blocks.{Slots}
+use Rattle.gpu_vulkan_blocks.specs.Blocks.{Slots}
 use Rattle.gpu_vulkan.specs.Lends.{AreDistinct}
-use Rattle.gpu_vulkan.specs.Live.{piece_of, null_allocation, IsLiveIn, IsLive}
+use Rattle.gpu_vulkan_blocks.specs.Release.{IsLiveIn}
+use Rattle.gpu_vulkan.specs.Live.{piece_of, null_allocation, IsLive}
 use Rattle.gpu_vulkan.specs.Rename.{IsNamed, StayLive}
-use Rattle.gpu_vulkan.specs.Setup.{Setup}
+use Rattle.gpu_vulkan_setup.specs.Setup.{Setup}
 use Rattle.gpu_vulkan.specs.Step.{ModelState, CallEnvironment, Done, Step, Free, FreeStep}
 use Rattle.gpu_vulkan.specs.declared.allocation.Allocation.{Allocation}
 use Rattle.gpu_vulkan_session.specs.Session.{SessionState, IsOwn, bind}

@@ -4,7 +4,7 @@ use Rattle.std.proofs.lemmas.List.{take_more}
 use Rattle.gpu_device.specs.declared.vulkan.device.VulkanDevice.{Ghosts}
 use Rattle.gpu_device.specs.declared.vulkan.types.MemoryAllocateInfo.{MemoryAllocateInfo}
 use Rattle.gpu_memory_types.specs.Blocks.{BlocksWellFormed}
-use Rattle.gpu_vulkan.specs.Setup.{Setup}
+use Rattle.gpu_vulkan_setup.specs.Setup.{Setup}
 use Rattle.gpu_vulkan.specs.State.{State}
 use Rattle.gpu_vulkan.specs.Step as model
 use Rattle.gpu_vulkan.specs.Step.{CallEnvironment, nothing_met, MeetsNothing, count_after, latest_after, IsStep}

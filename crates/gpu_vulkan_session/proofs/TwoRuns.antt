@@ -8,15 +8,17 @@ use Rattle.gpu_core.specs.Refusal.{Refusal, host_out_of_memory}
 use Rattle.gpu_core.specs.declared.memory_type.Piece.{Piece}
 use Rattle.gpu_device.specs.declared.vulkan.types.DeviceMemory.{DeviceMemory}
 use Rattle.gpu_vulkan.specs.Alike.{AlikeDescription, AlikeCall, AlikeReply}
-use Rattle.gpu_vulkan.specs.Blocks.{Slots, is_mapped}
+use Rattle.gpu_vulkan_setup.specs.Types.{is_mapped}
+use Rattle.gpu_vulkan_blocks.specs.Blocks.{Slots}
 use Rattle.gpu_vulkan.specs.ByteView.{AllocationId, Writes}
-use Rattle.gpu_vulkan.specs.Live.{piece_of, null_allocation, IsLiveIn, IsLive, IsMapped}
+use Rattle.gpu_vulkan_blocks.specs.Release.{IsLiveIn}
+use Rattle.gpu_vulkan.specs.Live.{piece_of, null_allocation, IsLive, IsMapped}
 use Rattle.gpu_vulkan.specs.Rename.{IsNamed}
-use Rattle.gpu_vulkan.specs.Setup.{Setup}
+use Rattle.gpu_vulkan_setup.specs.Setup.{Setup}
 use Rattle.gpu_vulkan.specs.Step as model
 use Rattle.gpu_vulkan.specs.Step.{ModelState, CallEnvironment, Step, IsRead, id_of, id_in, FreeStep, RenameStep, WriteStep}
 use Rattle.gpu_vulkan.specs.declared.allocation.Allocation.{Allocation}
-use Rattle.gpu_vulkan.specs.declared.describe.AllocationCreateDesc.{AllocationCreateDesc}
+use Rattle.gpu_vulkan_setup.specs.declared.describe.AllocationCreateDesc.{AllocationCreateDesc}
 use Rattle.gpu_vulkan.proofs.Alike.{step_alike}
 use Rattle.gpu_vulkan_session.specs.Session.{SessionState, SessionInvariant, Wanted, Describes, Deed, Take, TakeNull, Return, Rename, Put, Get, Order, Under, Report, Leaks, Capacity, shown, Told, Given, Fine, Data, Busy, Unbound, Unmapped, Past, Fails, CommandEnvironment, Stays, Binds, Takes, TakesNull, Returns, BindsNamed, Names, put_range, PutsIn, PutsOver, Puts, part_told, read_told, Gets, ServesBound, ServesFree, ServesAt, told_by, Asks, Serves, Runs}
 use Rattle.gpu_vulkan_session.specs.Laws.{AlikeDeed, AlikeOrder, AlikeCommandEnvironment, Written, everything, written_after, AlikeTold, AlikeReplies, TwoRuns}

@@ -2,7 +2,7 @@
 use Rattle.std.specs.Prelude.{◌≡◌, ℕ, ◌+◌, ◌<◌, ◌==◌, ◌&&◌, nat_le, nat_lt, List, [], ◌∷◌, length, slice_get, Bool, true, false, if◌then◌else◌}
 use Rattle.std.specs.List.{AllZip}
 use Rattle.gpu_vulkan.specs.Alike.{AlikeCallEnvironment}
-use Rattle.gpu_vulkan.specs.Setup.{Setup}
+use Rattle.gpu_vulkan_setup.specs.Setup.{Setup}
 use Rattle.gpu_vulkan_session.specs.Session.{SessionState, SessionInvariant, Deed, Take, Put, Get, Order, Under, Told, Given, Fine, Data, CommandEnvironment, Runs}
 
 -- the same, or a write of as many bytes, which are the same under a number that is ours

@@ -4,7 +4,7 @@ ghost use Rattle.std.specs.Prelude.{◌≡◌, ◌≢◌, ◌≤◌, ◌<◌, �
 ghost use Rattle.std.specs.Map.{lookup};
 ghost use Rattle.std.specs.HashMap.{spare};
 ghost use Rattle.gpu_values.specs.declared.error.AllocationError.TheVariants.{HostOutOfMemory};
-ghost use Rattle.gpu_vulkan.specs.Blocks.{HoldsJustLiveBlocks};
+ghost use Rattle.gpu_vulkan_blocks.specs.Blocks.{HoldsJustLiveBlocks};
 ghost use Rattle.gpu_vulkan_session.specs.Session.{IsOwn, SessionInvariant, Wanted, Describes, Take, TakeNull, Return, Rename, Put, Get, Under, put_range};
 ghost use Rattle.gpu_vulkan_session.specs.Session as orders;
 ghost use Rattle.gpu_vulkan_session.specs.Served.{session_of, order_of, told_of, shown_allocation, IsServed, IsRun, ServesEach};

@@ -1,13 +1,13 @@
 use Rattle.std.proofs.Common.{rules, ◌≡◌, ◌∙◌, ap, refl, length, arith, true, false, Some, None, subst}
 use Rattle.gpu_memory_types.specs.Types.{slots_of}
 use Rattle.gpu_vulkan.specs.Allocate.{is_valid}
-use Rattle.gpu_vulkan.specs.Choice.{best_type}
+use Rattle.gpu_vulkan_setup.specs.Choice.{best_type}
 use Rattle.gpu_vulkan.specs.State.{State}
 use Rattle.gpu_vulkan.specs.Step.{IsAllocateStep}
 use Rattle.gpu_vulkan.proofs.Apart.{served_aligned}
 use Rattle.gpu_vulkan.proofs.Following.{served_holds}
 use Rattle.gpu_vulkan.proofs.Owning.{Owns, served_owns}
-use Rattle.gpu_vulkan.proofs.Types.{well_formed_told}
+use Rattle.gpu_vulkan_blocks.proofs.Types.{well_formed_told}
 use Rattle.gpu_vulkan.proofs.Steps.{served, served_step, invalid_step, unfit_step}
 use Rattle.gpu_vulkan.proofs.allocator.Allocator.allocate.Goals as goal
 use Rattle.gpu_vulkan.proofs.allocator.Allocator.allocate.Goals.{then-desc-eq0-via-then-desc-eq0, then-desc-eq0-via-else-desc-eq0+then-not-is_power_of_two}
@@ -18,10 +18,9 @@ invariant_of-self g c =
     let i = c.self.inside in
     let old = c.self.invariant.1 in
     let types = i.types in
-    let told = ap (λ s. length s.setup.properties.types) c.self-inside.view_is in
-    let lent = ap length c.deref.ensures.value in
+    let lent = ap length c.memory_types.ensures in
     let kept = c.allocate_with_fallback.ensures.kept c.self.invariant.2 in
-    let served = served_holds V i.setup c.args.desc.now (V.held i.first.value) c.in-Some.index (slots_of types) i.device c.allocate_with_fallback.result (slots_of c.allocate_with_fallback.new.types) c.allocate_with_fallback.new.device (omega (arith, c.in-Some.ensures.there, told, lent, old.types)) old.types c.allocate_with_fallback.ensures.served old.holds in (
+    let served = served_holds V i.setup c.args.desc.now (V.held i.first.value) c.in-Some.index (slots_of types) i.device c.allocate_with_fallback.result (slots_of c.allocate_with_fallback.new.types) c.allocate_with_fallback.new.device (omega (arith, c.in-Some.ensures.there, lent, old.types)) old.types c.allocate_with_fallback.ensures.served old.holds in (
       c.allocate_with_fallback.ensures.kinds ∙ c.self.invariant.0,
       record {
         told_is = old.told_is;
@@ -57,12 +56,11 @@ returns-in-Some-clause-step g c =
     let d = c.args.desc.now in
     let old = c.self.invariant.1 in
     let types = i.types in
-    let told = ap (λ s. length s.setup.properties.types) c.self-inside.view_is in
-    let lent = ap length c.deref.ensures.value in
+    let lent = ap length c.memory_types.ensures in
     let first = V.held i.first.value in
     let valid : is_valid d ≡ true = search rules in
     let found : best_type i.setup.properties.types d.requirements.memory_type_bits d.location ≡ Some c.in-Some.index = search rules in
-    let steps = served V g.met.D.VulkanDevice.whole i.setup d first c.in-Some.index (slots_of types) i.device c.allocate_with_fallback.result (slots_of c.allocate_with_fallback.new.types) c.allocate_with_fallback.new.device (omega (arith, c.in-Some.ensures.there, told, lent, old.types)) old.types old.sound (well_formed_told i.setup.properties c.allocate_with_fallback.new.types (c.allocate_with_fallback.ensures.kinds ∙ c.self.invariant.0) (c.allocate_with_fallback.ensures.kept c.self.invariant.2)) old.holds c.allocate_with_fallback.ensures.served in
+    let steps = served V g.met.D.VulkanDevice.whole i.setup d first c.in-Some.index (slots_of types) i.device c.allocate_with_fallback.result (slots_of c.allocate_with_fallback.new.types) c.allocate_with_fallback.new.device (omega (arith, c.in-Some.ensures.there, lent, old.types)) old.types old.sound (well_formed_told i.setup.properties c.allocate_with_fallback.new.types (c.allocate_with_fallback.ensures.kinds ∙ c.self.invariant.0) (c.allocate_with_fallback.ensures.kept c.self.invariant.2)) old.holds c.allocate_with_fallback.ensures.served in
     let before : State g.row.D.Denot = record { device = i.device; first = i.first.value; setup = i.setup; slots = slots_of types } in
     let after : State g.row.D.Denot = record { device = c.allocate_with_fallback.new.device; first = i.first.value; setup = i.setup; slots = slots_of c.allocate_with_fallback.new.types } in
     subst (λ (s : State g.row.D.Denot). IsAllocateStep V d c.allocate_with_fallback.result s after) c.self.view_is
@@ -78,9 +76,8 @@ owns g c =
     let i = c.self.inside in
     let old = c.self.invariant.1 in
     let types = i.types in
-    let told = ap (λ s. length s.setup.properties.types) c.self-inside.view_is in
-    let lent = ap length c.deref.ensures.value in
-    let here = served_owns g.D.VulkanDevice i.setup c.args.desc.now c.in-Some.index (slots_of types) i.device c.allocate_with_fallback.result (slots_of c.allocate_with_fallback.new.types) c.allocate_with_fallback.new.device (omega (arith, c.in-Some.ensures.there, told, lent, old.types)) old.types old.sound (well_formed_told i.setup.properties c.allocate_with_fallback.new.types (c.allocate_with_fallback.ensures.kinds ∙ c.self.invariant.0) (c.allocate_with_fallback.ensures.kept c.self.invariant.2)) c.allocate_with_fallback.ensures.served in
+    let lent = ap length c.memory_types.ensures in
+    let here = served_owns g.D.VulkanDevice i.setup c.args.desc.now c.in-Some.index (slots_of types) i.device c.allocate_with_fallback.result (slots_of c.allocate_with_fallback.new.types) c.allocate_with_fallback.new.device (omega (arith, c.in-Some.ensures.there, lent, old.types)) old.types old.sound (well_formed_told i.setup.properties c.allocate_with_fallback.new.types (c.allocate_with_fallback.ensures.kinds ∙ c.self.invariant.0) (c.allocate_with_fallback.ensures.kept c.self.invariant.2)) c.allocate_with_fallback.ensures.served in
     subst (λ (s : State g.row.D.Denot). Owns s.slots (slots_of c.allocate_with_fallback.new.types) c.allocate_with_fallback.result) c.self.view_is here
 
 pub returns-in-Some-clause-keeps : goal.returns-in-Some-clause-keeps

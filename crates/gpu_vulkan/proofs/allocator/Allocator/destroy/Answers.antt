@@ -8,7 +8,7 @@ use Rattle.gpu_memory_types.specs.Blocks.{slots_at}
 use Rattle.gpu_memory_types.specs.Held.{without, without_all}
 use Rattle.gpu_memory_types.specs.Types.{Types, slots_of}
 use Rattle.gpu_memory_types.proofs.Returned.{without_all_next, all_returned}
-use Rattle.gpu_vulkan.specs.Blocks.{memory_number, IsBlockEntry}
+use Rattle.gpu_vulkan_blocks.specs.Blocks.{memory_number, IsBlockEntry}
 use Rattle.gpu_vulkan.proofs.allocator.Allocator.destroy.Goals as goal
 
 pub loop-index-preserved : goal.loop-index-preserved

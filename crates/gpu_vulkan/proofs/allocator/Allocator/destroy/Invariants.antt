@@ -1,7 +1,7 @@
 use Rattle.std.proofs.Common.{◌≡◌, take, length}
 use Rattle.gpu_memory_types.specs.Held.{without_all}
 use Rattle.gpu_memory_types.specs.Types.{slots_of}
-use Rattle.gpu_vulkan.specs.Blocks.{memory_number}
+use Rattle.gpu_vulkan_blocks.specs.Blocks.{memory_number}
 use Rattle.gpu_vulkan.proofs.allocator.Allocator.destroy.Given as goal
 
 abbrev pub invariant-loop-index : goal.invariant-loop-index

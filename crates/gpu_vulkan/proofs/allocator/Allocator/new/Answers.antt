@@ -2,12 +2,12 @@ use Rattle.std.proofs.Common.{◌≡◌, ◌∙◌, sym, ap, subst}
 use Rattle.std.proofs.lemmas.List.{length-map}
 use Rattle.gpu_core.specs.TypeState.{TypeState}
 use Rattle.gpu_device.specs.declared.vulkan.types.DeviceMemory.{DeviceMemory}
-use Rattle.gpu_vulkan.specs.Setup.{Setup, IsValid}
+use Rattle.gpu_vulkan_setup.specs.Setup.{Setup, IsValid}
 use Rattle.gpu_vulkan.specs.State.{AllocatorInvariant}
 use Rattle.gpu_memory_types.specs.Types.{slots_of}
-use Rattle.gpu_vulkan.specs.Types.{kinds_told}
+use Rattle.gpu_vulkan_setup.specs.Types.{kinds_told}
 use Rattle.gpu_vulkan.proofs.Beginning.{empty_kept}
-use Rattle.gpu_vulkan.proofs.Types.{as_many}
+use Rattle.gpu_vulkan_blocks.proofs.Types.{as_many}
 use Rattle.gpu_vulkan.proofs.allocator.Allocator.new.Goals as goal
 
 pub invariant_of-result : goal.invariant_of-result

@@ -5,7 +5,7 @@ use Rattle.gpu_vulkan.specs.Step.{IsStep, Rename, renamed_as}
 use Rattle.gpu_vulkan.proofs.Named.{rename_step}
 use Rattle.gpu_vulkan.specs.Live.{IsLive}
 use Rattle.gpu_vulkan.proofs.Naming.{renamed_lives}
-use Rattle.gpu_vulkan.proofs.Types.{well_formed_told}
+use Rattle.gpu_vulkan_blocks.proofs.Types.{well_formed_told}
 use Rattle.gpu_vulkan.proofs.Renaming.{renamed_holds}
 use Rattle.gpu_vulkan.proofs.allocator.Allocator.rename_allocation.Goals as goal
 

@@ -1,0 +1,4 @@
+pub mod BlockAnswer
+pub mod Blocks
+pub mod Suballocation
+pub mod Release

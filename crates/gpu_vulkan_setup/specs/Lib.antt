@@ -1,0 +1,4 @@
+pub mod Describe
+pub mod Choice
+pub mod Types
+pub mod Setup
