@@ -80,13 +80,12 @@ roomy_put ss n k s t all e le q =
     (λ ne. subst (HasRoom k) (sym (item_elsewhere ss n t q ne)) (all q))
     (cases_eq q n)
 
-pub roomy_added : (ss : List (Option Object)) (o : Object) → AllHaveRoom (length ss + 1) ss → HasRoom (length ss + 1) (Some o)
-    → AllHaveRoom (length ss + 1) (ss ++ Some o ∷ [])
-roomy_added ss o all has q =
+pub roomy_added : (ss : List (Option Object)) (k : ℕ) (o : Object) → AllHaveRoom k ss → HasRoom k (Some o) → AllHaveRoom k (ss ++ Some o ∷ [])
+roomy_added ss k o all has q =
     ⊎_elim
-    (λ (last : q ≡ suc (length ss)). subst (λ j. HasRoom (length ss + 1) (item_at (ss ++ Some o ∷ []) j)) (sym last)
-    (subst (HasRoom (length ss + 1)) (sym (item_added ss (Some o))) has))
-    (λ ne. subst (HasRoom (length ss + 1)) (sym (item_beside ss (Some o) q ne)) (all q))
+    (λ (last : q ≡ suc (length ss)). subst (λ j. HasRoom k (item_at (ss ++ Some o ∷ []) j)) (sym last)
+    (subst (HasRoom k) (sym (item_added ss (Some o))) has))
+    (λ ne. subst (HasRoom k) (sym (item_beside ss (Some o) q ne)) (all q))
     (cases_eq q (suc (length ss)))
 
 -- ---- a heap that is held has a number that was given out
@@ -112,33 +111,34 @@ after ss ts us n r s t taken is put =
 pub none_taken : (ss ts : List (Option Object)) (n : ℕ) (r : Option ResidencySet) → ts ≡ (if is_some r then (with_item_at ss n None) else ss) → r ≡ None → ts ≡ ss
 none_taken ss ts n r taken is = taken ∙ ap (λ (x : Option ResidencySet). if is_some x then (with_item_at ss n None) else ss) is
 
-pub roomy_after : (ss us : List (Option Object)) (n : ℕ) (s t : ResidencySet) → us ≡ with_item_at (with_item_at ss n None) n (Some (Set t))
-    → AllHaveRoom (length ss) ss → set_in (item_at ss n) ≡ Some s → s.room ≤ t.room → AllHaveRoom (length us) us
-roomy_after ss us n s t is all e le =
-    let long : length (with_item_at (with_item_at ss n None) n (Some (Set t))) ≡ length ss = length_put (with_item_at ss n None) n (Some (Set t)) ∙ length_put ss n None in
-    let enough : length ss ≤ s.room = room_in ss n (length ss) s (all n) e in
-    subst (λ (l : List (Option Object)). AllHaveRoom (length l) l) (sym is)
-    (subst (λ k. AllHaveRoom k (with_item_at (with_item_at ss n None) n (Some (Set t)))) (sym long)
-    (roomy_put ss n (length ss) s t all e (omega (arith, enough, le))))
+pub roomy_after : (ss us : List (Option Object)) (n k : ℕ) (s t : ResidencySet) → us ≡ with_item_at (with_item_at ss n None) n (Some (Set t))
+    → AllHaveRoom k ss → set_in (item_at ss n) ≡ Some s → s.room ≤ t.room → AllHaveRoom k us
+roomy_after ss us n k s t is all e le =
+    let enough : k ≤ s.room = room_in ss n k s (all n) e in
+    subst (AllHaveRoom k) (sym is) (roomy_put ss n k s t all e (omega (arith, enough, le)))
+
+pub length_after : (ss us : List (Option Object)) (n : ℕ) (t : ResidencySet) → us ≡ with_item_at (with_item_at ss n None) n (Some (Set t)) → length us ≡ length ss
+length_after ss us n t is = ap length is ∙ length_put (with_item_at ss n None) n (Some (Set t)) ∙ length_put ss n None
 
 -- ---- an object that is added, or a heap that goes
 
-pub roomy_add : {A E : Type 0} (ss us : List (Option Object)) (o : Object) (r : Result A E) → AllHaveRoom (length ss) ss → AllHaveRoom (length ss + 1) ss
-    → HasRoom (length ss + 1) (Some o) → IfOk r (λ n. us ≡ ss ++ Some o ∷ []) → OnErr r (us ≡ ss) → AllHaveRoom (length us) us
-roomy_add ss us o (Ok n) all more has is same =
-    let long : length (ss ++ Some o ∷ []) ≡ length ss + 1 = simp length-append (omega arith) in
-    subst (λ (l : List (Option Object)). AllHaveRoom (length l) l) (sym is)
-    (subst (λ k. AllHaveRoom k (ss ++ Some o ∷ [])) (sym long) (roomy_added ss o more has))
-roomy_add ss us o (Err e) all more has is same = subst (λ (l : List (Option Object)). AllHaveRoom (length l) l) (sym same) all
+pub roomy_add : {A E : Type 0} (ss us : List (Option Object)) (k : ℕ) (o : Object) (r : Result A E) → AllHaveRoom k ss → HasRoom k (Some o)
+    → IfOk r (λ n. us ≡ ss ++ Some o ∷ []) → OnErr r (us ≡ ss) → AllHaveRoom k us
+roomy_add ss us k o (Ok n) all has is same = subst (AllHaveRoom k) (sym is) (roomy_added ss k o all has)
+roomy_add ss us k o (Err e) all has is same = subst (AllHaveRoom k) (sym same) all
 
-pub roomy_removed : (ss : List (Option Object)) (n : ℕ) → AllHaveRoom (length ss) ss → AllHaveRoom (length (with_item_at ss n None)) (with_item_at ss n None)
-roomy_removed ss n all =
-    subst (λ k. AllHaveRoom k (with_item_at ss n None)) (sym (length_put ss n None)) (λ q.
+pub length_add : {A E : Type 0} (ss us : List (Option Object)) (o : Object) (r : Result A E)
+    → IfOk r (λ n. us ≡ ss ++ Some o ∷ []) → OnErr r (us ≡ ss) → length us ≤ length ss + 1
+length_add ss us o (Ok n) is same = let long : length (ss ++ Some o ∷ []) ≡ length ss + 1 = simp length-append (omega arith) in omega (arith, ap length is, long)
+length_add ss us o (Err e) is same = omega (arith, ap length same)
+
+pub roomy_removed : (ss : List (Option Object)) (n k : ℕ) → AllHaveRoom k ss → AllHaveRoom k (with_item_at ss n None)
+roomy_removed ss n k all q =
     ⊎_elim
-    (λ (at_n : q ≡ n). subst (λ j. HasRoom (length ss) (item_at (with_item_at ss n None) j)) (sym at_n)
-    (subst (HasRoom (length ss)) (sym (item_gone ss n)) (omega arith)))
-    (λ ne. subst (HasRoom (length ss)) (sym (item_apart ss n None q ne)) (all q))
-    (cases_eq q n))
+    (λ (at_n : q ≡ n). subst (λ j. HasRoom k (item_at (with_item_at ss n None) j)) (sym at_n)
+    (subst (HasRoom k) (sym (item_gone ss n)) (omega arith)))
+    (λ ne. subst (HasRoom k) (sym (item_apart ss n None q ne)) (all q))
+    (cases_eq q n)
 
 heap_goes : (h : Held) (n : ℕ) (x : Option Object) → is_heap x ≡ true → remove h n ≡ remove_if_heap h n (option_map entry_of x)
 heap_goes h n None is = cc

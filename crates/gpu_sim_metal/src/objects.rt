@@ -1,6 +1,6 @@
 //! What a simulated device holds.
 
-ghost use Rattle.std.specs.Prelude.{◌≡◌, ◌≢◌, ℕ, ◌+◌, ◌≤◌, [], length, count_by, is_some, Some, None, IfOk, OnOk, OnErr, IsSome, if◌then◌else◌, option_copied};
+ghost use Rattle.std.specs.Prelude.{◌≡◌, ◌≢◌, ℕ, ◌+◌, ◌<◌, ◌≤◌, [], length, count_by, is_some, Some, None, IfOk, OnOk, OnErr, IsSome, if◌then◌else◌, option_copied};
 ghost use Rattle.std.specs.FinMap.{get, insert};
 ghost use Rattle.gpu_device.specs.Metal.{Heap, Set, IsHeap, without_heap, with_member, without_member, with_commit};
 ghost use Rattle.gpu_sim_base.specs.Numbers.{item_at, with_item_at};
@@ -24,7 +24,10 @@ pub(crate) enum Object {
 pub(crate) struct Objects {
     alloc: Global,
     numbers: Numbers<Object>,
-    ghost roomy: { AllHaveRoom (length numbers.slots.items) numbers.slots.items },
+    // How many numbers each set has room for.
+    room: usize,
+    ghost roomy: { AllHaveRoom room numbers.slots.items },
+    ghost fits: { length numbers.slots.items ≤ room },
 }
 
 impl Objects {
@@ -35,6 +38,7 @@ impl Objects {
         Objects {
             alloc,
             numbers: Numbers::new(alloc),
+            room: 0,
         }
     }
 
@@ -43,6 +47,23 @@ impl Objects {
         ensures { result ≡ count_by is_some self.now.numbers.slots.items }
     {
         self.numbers.count()
+    }
+
+    /// Makes room for one number more in every set, and for as many more as were given out, so that few calls go over all
+    /// sets. Where the host refuses it, nothing that is held changes.
+    fn make_room(&mut self) -> Result<(), AllocError>
+        ensures held { held_by self.new.numbers.slots.items ≡ held_by self.old.numbers.slots.items }
+        ensures given { length self.new.numbers.slots.items ≡ length self.old.numbers.slots.items }
+        ensures room { OnOk result (length self.new.numbers.slots.items < self.new.room) }
+    {
+        let issued = self.numbers.issued() as usize;
+        if issued < self.room {
+            return Ok(());
+        }
+        let room = issued.saturating_mul(2).saturating_add(1);
+        make_room_in_all(&mut self.numbers, room)?;
+        self.room = room;
+        Ok(())
     }
 
     /// A new heap, and its number. Where the host refuses room for it, also in a set, nothing that is held changes.
@@ -54,7 +75,7 @@ impl Objects {
         ensures refused { OnErr result (held_by self.new.numbers.slots.items ≡ held_by self.old.numbers.slots.items) }
         ensures none_given { OnErr result (length self.new.numbers.slots.items ≡ length self.old.numbers.slots.items) }
     {
-        make_room(&mut self.numbers)?;
+        self.make_room()?;
         let number = self.numbers.add(Object::Heap { desc, size })?;
         Ok(number)
     }
@@ -68,9 +89,8 @@ impl Objects {
         ensures refused { OnErr result (held_by self.new.numbers.slots.items ≡ held_by self.old.numbers.slots.items) }
         ensures none_given { OnErr result (length self.new.numbers.slots.items ≡ length self.old.numbers.slots.items) }
     {
-        make_room(&mut self.numbers)?;
-        let room = self.numbers.issued() as usize + 1;
-        let set = ResidencySet::new(self.alloc, room)?;
+        self.make_room()?;
+        let set = ResidencySet::new(self.alloc, self.room)?;
         let number = self.numbers.add(Object::Set(set))?;
         Ok(number)
     }
@@ -152,28 +172,25 @@ fn take_set(numbers: &mut Numbers<Object>, number: u64) -> Option<ResidencySet>
     }
 }
 
-/// Makes room for one number more in every set. Where the host refuses it, nothing that is held changes.
-fn make_room(numbers: &mut Numbers<Object>) -> Result<(), AllocError>
-    requires { AllHaveRoom (length numbers.old.slots.items) numbers.old.slots.items }
+/// Makes room for this many numbers in every set. Where the host refuses it, nothing that is held changes.
+fn make_room_in_all(numbers: &mut Numbers<Object>, room: usize) -> Result<(), AllocError>
     ensures held { held_by numbers.new.slots.items ≡ held_by numbers.old.slots.items }
     ensures given { length numbers.new.slots.items ≡ length numbers.old.slots.items }
-    ensures keeps { AllHaveRoom (length numbers.new.slots.items) numbers.new.slots.items }
-    ensures room { OnOk result (AllHaveRoom (length numbers.new.slots.items + 1) numbers.new.slots.items) }
+    ensures keeps { (count : ℕ) → AllHaveRoom count numbers.old.slots.items → AllHaveRoom count numbers.new.slots.items }
+    ensures room { OnOk result (AllHaveRoom room numbers.new.slots.items) }
 {
-    let issued = numbers.issued();
-    for index in 0..issued {
-        make_room_in(numbers, index + 1, issued as usize + 1)?;
+    for index in 0..numbers.issued() {
+        make_room_in(numbers, index + 1, room)?;
     }
     Ok(())
 }
 
 /// Makes room for this many numbers in the set of a number, where it is a set's.
 fn make_room_in(numbers: &mut Numbers<Object>, number: u64, room: usize) -> Result<(), AllocError>
-    requires { HasRoom (length numbers.old.slots.items) (item_at numbers.old.slots.items number) }
     ensures held { held_by numbers.new.slots.items ≡ held_by numbers.old.slots.items }
     ensures given { length numbers.new.slots.items ≡ length numbers.old.slots.items }
     ensures others { (other : ℕ) → other ≢ number → item_at numbers.new.slots.items other ≡ item_at numbers.old.slots.items other }
-    ensures keeps { HasRoom (length numbers.new.slots.items) (item_at numbers.new.slots.items number) }
+    ensures keeps { (count : ℕ) → HasRoom count (item_at numbers.old.slots.items number) → HasRoom count (item_at numbers.new.slots.items number) }
     ensures room { OnOk result (HasRoom room (item_at numbers.new.slots.items number)) }
 {
     let Some(mut set) = take_set(numbers, number) else {

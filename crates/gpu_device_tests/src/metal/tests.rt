@@ -9,7 +9,7 @@ use gpu_sim::SimMetal;
 use gpu_sim_base::Refusal;
 use std::test::Fail;
 
-const PRIVATE: HeapDescriptor = HeapDescriptor {
+pub(super) const PRIVATE: HeapDescriptor = HeapDescriptor {
     storage_mode: StorageMode::Private,
     cpu_cache_mode: CpuCacheMode::DefaultCache,
 };

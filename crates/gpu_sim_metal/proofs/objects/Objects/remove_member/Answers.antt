@@ -1,16 +1,17 @@
 use Rattle.std.proofs.Common.{sym, ap, ◌∙◌, arith}
 use Rattle.gpu_device.specs.Metal.{Set, remove_member}
 use Rattle.gpu_sim_metal.specs.Objects.{held_by}
-use Rattle.gpu_sim_metal.proofs.Sets.{after, none_taken, changed, unchanged, set_entry, roomy_after}
+use Rattle.gpu_sim_metal.proofs.Sets.{after, none_taken, changed, unchanged, set_entry, roomy_after, length_after}
 use Rattle.gpu_sim_metal.proofs.objects.Objects.remove_member.Goals as goal
 
 pub invariant_of-self : goal.invariant_of-self
 invariant_of-self c =
     let ss = c.args.self.now.numbers.slots.items in
+    let there = after ss _ _ c.args.number _ c.in-Some.set c.remove.new.self c.take_set.ensures.slots c.in-Some.is c.put.ensures in
     record {
-      roomy = roomy_after ss _ c.args.number c.in-Some.set c.remove.new.self
-          (after ss _ _ c.args.number _ c.in-Some.set c.remove.new.self c.take_set.ensures.slots c.in-Some.is c.put.ensures)
-          c.args.self.now.roomy (sym c.take_set.ensures.set ∙ c.in-Some.is) (omega (arith, c.remove.ensures.room));
+      roomy = roomy_after ss _ c.args.number c.args.self.now.room c.in-Some.set c.remove.new.self there c.args.self.now.roomy (sym c.take_set.ensures.set ∙ c.in-Some.is)
+          (omega (arith, c.remove.ensures.room));
+      fits = omega (arith, length_after ss _ c.args.number c.remove.new.self there, c.args.self.now.fits);
     }
 
 pub returns-in-Some-clause-held : goal.returns-in-Some-clause-held

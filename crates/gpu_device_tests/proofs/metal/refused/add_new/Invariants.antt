@@ -1,0 +1,7 @@
+use Rattle.std.proofs.Common.{All}
+use Rattle.gpu_device.specs.Metal.{IsHeap, IsSet}
+use Rattle.gpu_sim_metal.specs.Simulation.{held_of}
+use Rattle.gpu_device_tests.proofs.metal.refused.add_new.Given as goal
+
+abbrev pub invariant-loop : goal.invariant-loop
+invariant-loop l = (IsSet (held_of l.sim) l.set.0) × (All (λ heap. IsHeap (held_of l.sim) heap.0) l.heaps.items)

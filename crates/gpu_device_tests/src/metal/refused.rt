@@ -1,0 +1,101 @@
+//! Room for many heaps in a residency set, while the host refuses one request for memory. With ample memory the test
+//! passes. Where one request was refused it fails with a text of its own, after all else held: `tools/check_refused`
+//! refuses each in turn, and looks for that text. So it finds a call of the set that takes memory, since none of those
+//! can tell that it was refused.
+
+ghost use Rattle.std.specs.Prelude.{All};
+ghost use Rattle.gpu_device.specs.Metal.{IsHeap, IsSet};
+ghost use Rattle.gpu_sim_metal.specs.Simulation.{held_of};
+
+use super::tests::PRIVATE;
+use gpu_device::metal::{MTLHeap, MTLResidencySet, MetalDevice};
+use gpu_sim::SimMetal;
+use std::process::Abort;
+use std::test::Fail;
+
+const HEAPS: usize = 10_000;
+
+/// What a run ends with in which one request was refused.
+const TOLD: &str = "one call was refused, and nothing was lost";
+
+/// Makes heaps until one is refused or there are so many, and adds each to the set and to the list of heaps.
+#[tactic(auto, using(gpu_device::proofs::HeapsAndSets::metal_kinds))]
+fn add_new(sim: &mut SimMetal, set: MTLResidencySet, heaps: &mut Vec<MTLHeap>)
+    requires set { IsSet (held_of sim.old) set.0 }
+    requires heaps { All (λ heap. IsHeap (held_of sim.old) heap.0) heaps.old.items }
+    ensures set { IsSet (held_of sim.new) set.0 }
+    ensures heaps { All (λ heap. IsHeap (held_of sim.new) heap.0) heaps.new.items }
+{
+    for _ in 0..HEAPS {
+        let Some(heap) = sim.new_heap(&PRIVATE, 256, "heap") else {
+            return;
+        };
+        sim.add_allocation(set, heap);
+        let _pushed = heaps.push(heap);
+    }
+}
+
+/// Adds each heap to the set.
+#[tactic(auto, using(gpu_device::proofs::HeapsAndSets::metal_kinds))]
+fn add_each(sim: &mut SimMetal, set: MTLResidencySet, heaps: &[MTLHeap])
+    requires set { IsSet (held_of sim.old) set.0 }
+    requires heaps { All (λ heap. IsHeap (held_of sim.old) heap.0) heaps.now }
+    ensures set { IsSet (held_of sim.new) set.0 }
+    ensures heaps { All (λ heap. IsHeap (held_of sim.new) heap.0) heaps.now }
+{
+    for heap in heaps {
+        sim.add_allocation(set, *heap);
+    }
+}
+
+/// Removes each heap from the set.
+#[tactic(auto, using(gpu_device::proofs::HeapsAndSets::metal_kinds))]
+fn remove_each(sim: &mut SimMetal, set: MTLResidencySet, heaps: &[MTLHeap])
+    requires set { IsSet (held_of sim.old) set.0 }
+    requires heaps { All (λ heap. IsHeap (held_of sim.old) heap.0) heaps.now }
+    ensures set { IsSet (held_of sim.new) set.0 }
+    ensures heaps { All (λ heap. IsHeap (held_of sim.new) heap.0) heaps.now }
+{
+    for heap in heaps {
+        sim.remove_allocation(set, *heap);
+    }
+}
+
+/// What the set has, and what it had at the last commit.
+fn check_set(
+    rt: &impl Abort,
+    sim: &SimMetal,
+    set: MTLResidencySet,
+    members: &[MTLHeap],
+    committed: &[MTLHeap],
+) {
+    assert!(rt; sim.members(set) == Some(members));
+    assert!(rt; sim.committed_members(set) == Some(committed));
+}
+
+#[test]
+#[tactic(auto, using(gpu_device::proofs::HeapsAndSets::metal_kinds))]
+fn a_set_has_room_for_ten_thousand_heaps(rt: HostRuntime) -> Result<(), Fail> {
+    let mut sim = SimMetal::new(rt.alloc(), true, Vec::new(rt.alloc()));
+    let Ok(mut heaps) = Vec::with_capacity(rt.alloc(), HEAPS) else {
+        return Err(Fail::new(TOLD));
+    };
+    let Ok(set) = sim.new_residency_set("set") else {
+        assert_eq!(rt; (sim.held(), sim.questions(), sim.refusals()), (0, 1, 1));
+        return Err(Fail::new(TOLD));
+    };
+    add_new(&mut sim, set, &mut heaps);
+    assert_eq!(rt; sim.held(), heaps.len() + 1);
+    check_set(&rt, &sim, set, &heaps, &[]);
+    remove_each(&mut sim, set, &heaps);
+    check_set(&rt, &sim, set, &[], &[]);
+    add_each(&mut sim, set, &heaps);
+    check_set(&rt, &sim, set, &heaps, &[]);
+    sim.commit(set);
+    check_set(&rt, &sim, set, &heaps, &heaps);
+    if sim.refusals() == 1 {
+        return Err(Fail::new(TOLD));
+    }
+    assert_eq!(rt; (heaps.len(), sim.refusals()), (HEAPS, 0));
+    Ok(())
+}
