@@ -2,4 +2,6 @@
 
 pub mod laws;
 #[cfg(test)]
+mod refused;
+#[cfg(test)]
 mod tests;

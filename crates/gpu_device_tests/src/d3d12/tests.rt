@@ -18,7 +18,7 @@ const PROPERTIES: HeapProperties = HeapProperties {
     visible_node_mask: 0,
 };
 
-const HEAP: HeapDesc = HeapDesc {
+pub(super) const HEAP: HeapDesc = HeapDesc {
     size: 4 << 20,
     properties: PROPERTIES,
     alignment: 4 << 20,
@@ -195,26 +195,4 @@ fn made_and_released(rt: HostRuntime) -> Result<(), Fail> {
         assert_eq!(rt; sim.held(), 0);
     }
     Ok(())
-}
-
-/// Where the host refuses memory, the answer is code -2147024882, and the counts and the latest question alone tell of
-/// it.
-#[test]
-fn refused_by_the_host(rt: HostRuntime) {
-    let mut sim = SimD3D12::new(
-        rt.alloc(),
-        Ok(ResourceHeapTier::Tier2),
-        Vec::new(rt.alloc()),
-    );
-    match sim.create_heap(&HEAP) {
-        Ok(heap) => {
-            assert!(rt; heap == Some(ID3D12Heap(1)));
-            assert_eq!(rt; (sim.held(), sim.questions(), sim.refusals()), (1, 1, 0));
-        }
-        Err(code) => {
-            assert_eq!(rt; code, -2147024882);
-            assert_eq!(rt; (sim.held(), sim.questions(), sim.refusals()), (0, 1, 1));
-        }
-    }
-    assert!(rt; sim.last_heap() == Some(HEAP));
 }

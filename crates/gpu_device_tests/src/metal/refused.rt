@@ -1,13 +1,11 @@
-//! Room for many heaps in a residency set, while the host refuses one request for memory. With ample memory the test
-//! passes. Where one request was refused it fails with a text of its own, after all else held: `tools/check_refused`
-//! refuses each in turn, and looks for that text. So it finds a call of the set that takes memory, since none of those
-//! can tell that it was refused.
+//! Heaps and a residency set, while the host refuses one request for memory. With ample memory the tests pass.
 
 ghost use Rattle.std.specs.Prelude.{All};
 ghost use Rattle.gpu_device.specs.Metal.{IsHeap, IsSet};
 ghost use Rattle.gpu_sim_metal.specs.Simulation.{held_of};
 
-use super::tests::PRIVATE;
+use super::tests::{PRIVATE, set_and_heap};
+use crate::TOLD;
 use gpu_device::metal::{MTLHeap, MTLResidencySet, MetalDevice};
 use gpu_sim::SimMetal;
 use std::process::Abort;
@@ -15,8 +13,24 @@ use std::test::Fail;
 
 const HEAPS: usize = 10_000;
 
-/// What a run ends with in which one request was refused.
-const TOLD: &str = "one call was refused, and nothing was lost";
+/// Where the host refuses memory, the counts alone tell of it: no number is lost.
+#[test]
+fn a_set_and_a_heap(rt: HostRuntime) -> Result<(), Fail> {
+    let mut sim = SimMetal::new(rt.alloc(), true, Vec::new(rt.alloc()));
+    match set_and_heap(&mut sim) {
+        Some(both) => {
+            assert!(rt; both == (MTLResidencySet(1), MTLHeap(2)));
+            assert_eq!(rt; (sim.held(), sim.questions(), sim.refusals()), (2, 2, 0));
+            Ok(())
+        }
+        None => {
+            let next = (sim.held() as u64).saturating_add(1);
+            assert_eq!(rt; (sim.questions(), sim.refusals()), (next, 1));
+            assert!(rt; sim.new_heap(&PRIVATE, 512, "heap") == Some(MTLHeap(next)));
+            Err(Fail::new(TOLD))
+        }
+    }
+}
 
 /// Makes heaps until one is refused or there are so many, and adds each to the set and to the list of heaps.
 #[tactic(auto, using(gpu_device::proofs::HeapsAndSets::metal_kinds))]
@@ -73,6 +87,8 @@ fn check_set(
     assert!(rt; sim.committed_members(set) == Some(committed));
 }
 
+/// Once the heaps are made and added, removing them, adding them again and committing take no memory: those calls can't
+/// tell of a refusal, so `tools/check_refused` would find any request of theirs.
 #[test]
 #[tactic(auto, using(gpu_device::proofs::HeapsAndSets::metal_kinds))]
 fn a_set_has_room_for_ten_thousand_heaps(rt: HostRuntime) -> Result<(), Fail> {

@@ -91,7 +91,7 @@ fn without_sets(rt: HostRuntime) {
 
 /// A set, and a heap that was its member when it was committed; none where the device refuses either.
 #[tactic(auto, using(gpu_device::proofs::HeapsAndSets::metal_changes))]
-fn set_and_heap(sim: &mut SimMetal) -> Option<(MTLResidencySet, MTLHeap)> {
+pub(super) fn set_and_heap(sim: &mut SimMetal) -> Option<(MTLResidencySet, MTLHeap)> {
     let set = sim.new_residency_set("set").ok()?;
     let heap = commit_one_heap(sim, set, &PRIVATE, 512)?;
     Some((set, heap))
@@ -105,17 +105,4 @@ fn one_heap_committed(rt: HostRuntime) -> Result<(), Fail> {
     assert_eq!(rt; sim.members(set).ok_or("members")?.len(), 0);
     assert!(rt; sim.committed_members(set).ok_or("committed")? == [heap].as_slice());
     Ok(())
-}
-
-/// Where the host refuses memory, the counts alone tell of it.
-#[test]
-fn refused_by_the_host(rt: HostRuntime) {
-    let mut sim = SimMetal::new(rt.alloc(), true, Vec::new(rt.alloc()));
-    match set_and_heap(&mut sim) {
-        Some((set, heap)) => {
-            assert!(rt; (set, heap) == (MTLResidencySet(1), MTLHeap(2)));
-            assert_eq!(rt; (sim.held(), sim.questions(), sim.refusals()), (2, 2, 0));
-        }
-        None => assert_eq!(rt; sim.refusals(), 1),
-    }
 }
