@@ -10,7 +10,8 @@ add-requires-clause-number c = heap_positive c.args.self.now.numbers.slots.items
 pub add-requires-clause-room : goal.add-requires-clause-room
 add-requires-clause-room c =
     let ss = c.args.self.now.numbers.slots.items in
-    omega (arith, heap_within ss c.args.heap.0 c.requires, c.args.self.now.fits, room_in ss c.args.number _ c.in-Some.set (c.args.self.now.roomy c.args.number) (sym c.take_set.ensures.set ∙ c.in-Some.is))
+    let enough = room_in ss c.args.number _ c.in-Some.set (c.args.self.now.roomy c.args.number) (sym c.take_set.ensures.set ∙ c.in-Some.is) in
+    omega (arith, heap_within ss c.args.heap.0 c.requires, c.args.self.now.fits, enough)
 
 pub invariant_of-self : goal.invariant_of-self
 invariant_of-self c =

@@ -10,9 +10,11 @@ use Rattle.gpu_sim_metal.proofs.objects.Objects.hold_set.Goals as goal
 pub invariant_of-self : goal.invariant_of-self
 invariant_of-self c =
     let ss = c.make_room.new.self.numbers.slots.items in
+    let set = Set c.in_ok-set.set in
+    let room = c.make_room.new.self.room in
     record {
-      roomy = roomy_add ss _ c.make_room.new.self.room (Set c.in_ok-set.set) c.add.result c.make_room.new.self.roomy (omega (arith, c.in_ok-set.ensures.room)) c.add.ensures.held c.add.ensures.refused;
-      fits = omega (arith, length_add ss _ (Set c.in_ok-set.set) c.add.result c.add.ensures.held c.add.ensures.refused, c.in_ok-make_room.ensures.room);
+      roomy = roomy_add ss _ room set c.add.result c.make_room.new.self.roomy (omega (arith, c.in_ok-set.ensures.room)) c.add.ensures.held c.add.ensures.refused;
+      fits = omega (arith, length_add ss _ set c.add.result c.add.ensures.held c.add.ensures.refused, c.in_ok-make_room.ensures.room);
     }
 
 pub returns-clause-new : goal.returns-clause-new
