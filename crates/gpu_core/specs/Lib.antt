@@ -14,6 +14,7 @@ pub use Rattle.gpu_values.specs.Bytes
 pub use Rattle.gpu_block.specs.FreeList
 pub use Rattle.gpu_block.specs.Request
 pub use Rattle.gpu_block.specs.Place
+pub use Rattle.gpu_block.specs.Search
 pub use Rattle.gpu_block.specs.Changes
 pub use Rattle.gpu_block.specs.Laws
 pub use Rattle.gpu_block.specs.BlockRefusal
@@ -22,3 +23,4 @@ pub use Rattle.gpu_block.specs.Dedicated
 pub use Rattle.gpu_block.specs.Block
 pub use Rattle.gpu_block.specs.SubAllocator
 pub use Rattle.gpu_block.specs.Leak
+pub use Rattle.gpu_block.specs.Cost

@@ -290,10 +290,10 @@ impl<H: Copy + Eq> MemoryType<H> {
     /// Adds the live blocks, their pieces and the sums of both to a report, by slot and then by offset. The only refusal
     /// is `HostOutOfMemory`, and then the report holds a part of it: drop it.
     pub fn report(&self, report: &mut AllocatorReport) -> Result<()>
-        requires within { report.old.total_allocated_bytes ≤ report.old.total_capacity_bytes }
-        requires sum { report.old.total_capacity_bytes + capacity_of self.now.slots < 2 ^ 64 }
+        requires allocated { report.old.total_allocated_bytes + capacity_of self.now.slots < 2 ^ 64 }
+        requires capacity { report.old.total_capacity_bytes + capacity_of self.now.slots < 2 ^ 64 }
         ensures added { OnOk result (report_of report.new ≡ with_type (report_of report.old) self.now.slots) }
-        ensures within { OnOk result (report.new.total_allocated_bytes ≤ report.new.total_capacity_bytes) }
+        ensures within { OnOk result (report.old.total_allocated_bytes ≤ report.old.total_capacity_bytes → report.new.total_allocated_bytes ≤ report.new.total_capacity_bytes) }
         ensures cause { IfErr result (λ e. e ≡ HostOutOfMemory) }
     {
         add_slots(report, &self.slots)

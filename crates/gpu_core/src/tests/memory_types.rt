@@ -112,6 +112,22 @@ fn a_piece_without_a_place_gets_a_new_block(rt: HostRuntime) -> Result<(), Fail>
 }
 
 #[test]
+fn a_piece_larger_than_a_shared_block_has_a_block_of_its_size(rt: HostRuntime) -> Result<(), Fail> {
+    let sizes = AllocationSizes::default();
+    let mut blocks = memory_type(&rt, rt.alloc(), false);
+    let b = &mut blocks;
+    let piece = place(&rt, b, &sizes, 300 * MB, Handle::Red)?;
+    check_place(&rt, &piece, 0, 0, 1);
+    assert_eq!(rt; piece.size, 300 * MB);
+    assert_eq!(rt; b.capacity(), 300 * MB);
+    assert_eq!(rt; b.active_general_blocks(), 0);
+    assert!(rt; b.free(&piece)? == Some(Handle::Red));
+    assert_eq!(rt; b.capacity(), 0);
+    assert!(rt; b.block(0).is_none());
+    Ok(())
+}
+
+#[test]
 fn dedicated_blocks_fill_from_below_and_shared_ones_from_above(
     rt: HostRuntime,
 ) -> Result<(), Fail> {
@@ -307,6 +323,24 @@ fn a_second_type_is_reported_behind_the_first(rt: HostRuntime) -> Result<(), Fai
     check_block(&rt, &report, 2, 4 * MB, 3, 5);
     check_block(&rt, &report, 3, 6 * MB, 5, 6);
     assert_eq!(rt; report.total_capacity_bytes, 20 * MB);
+    Ok(())
+}
+
+#[test]
+fn a_report_with_any_sums_is_added_to(rt: HostRuntime) -> Result<(), Fail> {
+    let blocks = three_pieces(&rt, rt.alloc())?;
+    let mut report = empty_report(rt.alloc());
+    report.total_allocated_bytes = 3;
+    let _capacity = blocks.capacity();
+    assert!(rt;
+        report
+            .total_allocated_bytes
+            .checked_add(blocks.capacity())
+            .is_some()
+    );
+    blocks.report(&mut report)?;
+    assert_eq!(rt; report.total_allocated_bytes, 6_291_779);
+    assert_eq!(rt; report.total_capacity_bytes, 10 * MB);
     Ok(())
 }
 
