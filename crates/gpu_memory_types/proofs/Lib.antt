@@ -12,3 +12,4 @@ pub mod Granting
 pub mod Releasing
 pub mod Prepared
 pub mod Aligned
+pub mod Apart

@@ -2,6 +2,7 @@
 use Rattle.std.proofs.Common.{◌≡◌, ◌≢◌, ◌∙◌, ◌⊎◌, refl, sym, ap, subst, ℕ, zero, suc, ◌+◌, ◌<◌, ◌≤◌, Bool, List, [], ◌∷◌, length, slice_get, slice_set, Option, Some, arith, inl, inr, ⊎_elim, ◌^◌}
 use Rattle.std.specs.Prelude.{All}
 use Rattle.std.specs.Option.{option_map}
+use Rattle.std.proofs.lemmas.Bool.{cases_lt}
 use Rattle.std.proofs.lemmas.List.{map-set, set-get_or, length-map}
 use Rattle.std.proofs.lemmas.List.Elements.{All-nil, All-cons, All-head, All-tail}
 use Rattle.std.proofs.lemmas.List.Sums.{sum_by-cons}
@@ -131,3 +132,26 @@ type_there types i below = slice_get-get_or types i no_type below
 
 pub slots_here : {H : Type 0} (types : Types H) (i : ℕ) → i < length types → (type_of types i).slots ≡ slots_at (slots_of types) i
 slots_here types i below = slots_are types i (type_of types i) (type_there types i below)
+
+pub each_at : {A : Type 0} (P : A → Type 0) (xs : List A) (i : ℕ) (x : A) → All P xs → slice_get xs i ≡ Some x → P x
+each_at P [] i x all at = absurd (none_some x at)
+each_at P (y ∷ ys) zero x all at = subst P (some_same y x at) (All-head P y ys all)
+each_at P (y ∷ ys) (suc i) x all at = each_at P ys i x (All-tail P y ys all) at
+
+-- the blocks of a memory type are well formed with its pages, also of one that isn't there
+pub type_sound : {H : Type 0} (types : Types H) → MemoryTypesInvariant types → (t : ℕ) → AreSound (type_of types t).granularity (slots_at (slots_of types) t)
+type_sound types kept t =
+    ⊎_elim
+    (λ (below : t < length types).
+    let there = type_there types t below in
+    subst (AreSound (type_of types t).granularity) (slots_are types t (type_of types t) there) (each_at WellFormed types t (type_of types t) kept.well_formed there))
+    (λ past. subst (AreSound (type_of types t).granularity) (sym (slots_past types t past)) (λ i. tt))
+    (cases_lt t (length types))
+
+-- another memory type is as it was
+pub type_elsewhere : {H : Type 0} (types : Types H) (i : ℕ) (x : TypeState H) (t : ℕ) → t ≢ i → type_of (slice_set types i x) t ≡ type_of types t
+type_elsewhere [] i x t away = refl
+type_elsewhere (y ∷ ys) zero x zero away = absurd (away refl)
+type_elsewhere (y ∷ ys) zero x (suc t) away = refl
+type_elsewhere (y ∷ ys) (suc i) x zero away = refl
+type_elsewhere (y ∷ ys) (suc i) x (suc t) away = type_elsewhere ys i x t (λ e. away (ap suc e))

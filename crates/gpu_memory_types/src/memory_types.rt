@@ -1,6 +1,6 @@
 //! The memory types of one allocator: one of them prepares a request, takes a new block in, or gives a piece back.
 
-ghost use Rattle.std.specs.Prelude.{◌≡◌, ◌≢◌, ◌+◌, ◌^◌, ◌<◌, ◌≤◌, ◌↔◌, [], All, length, Some, None, IfOk, IfErr, OnOk, OnErr, IsTrue, map, string_bytes, codes};
+ghost use Rattle.std.specs.Prelude.{◌≡◌, ◌≢◌, ℕ, ◌+◌, ◌^◌, ◌<◌, ◌≤◌, ◌↔◌, [], All, length, Some, None, IfOk, IfErr, OnOk, OnErr, IsTrue, map, string_bytes, codes};
 ghost use Rattle.std.specs.Int.{is_power_of_two};
 ghost use Rattle.std.specs.List.{slice_set};
 ghost use Rattle.gpu_values.specs.declared.error.AllocationError.TheVariants.{HostOutOfMemory};
@@ -66,6 +66,8 @@ impl<H: Copy + Eq> MemoryTypes<H> {
     ghost use Rattle.gpu_core.specs.TypeState.{slot_at, block_number};
     ghost use Rattle.gpu_core.specs.Slots.{AreSound};
     ghost use Rattle.gpu_block.specs.Leak.{leak_text};
+    ghost use Rattle.gpu_core.specs.declared.memory_type.Piece.{Piece};
+    ghost use Rattle.gpu_memory_types.specs.Apart.{IsInside, AreDistinct, SharesNoByte, KeepsPages};
     ghost use Rattle.gpu_memory_types.specs.Blocks.{slots_at, total_capacity};
     ghost use Rattle.gpu_memory_types.specs.Leaks.{all_leaks};
     ghost use Rattle.gpu_memory_types.specs.Live.{IsLiveIn};
@@ -125,6 +127,7 @@ impl<H: Copy + Eq> MemoryTypes<H> {
         ensures prepared { IfOk result (λ p. PreparesAt index self.old sizes.now request.now p self.new) }
         ensures cause { IfErr result (λ e. IsPrepareRefusal index self.old sizes.now request.now (refusal_of e)) }
         ensures refused { OnErr result (slots_of self.new ≡ slots_of self.old) }
+        ensures others { (t : ℕ) → t ≢ index → type_of self.new t ≡ type_of self.old t }
         ensures kinds { kinds self.new ≡ kinds self.old }
         ensures kept { MemoryTypesInvariant self.new }
     {
@@ -140,6 +143,7 @@ impl<H: Copy + Eq> MemoryTypes<H> {
         requires ready { CanInstall (type_of self.old index) need.size need.dedicated need.room }
         requires sum { total_capacity (slots_of self.old) + need.size < 2 ^ 64 }
         ensures installed { InstallsAt index (slots_of self.old) need.dedicated need.room number result (slots_of self.new) }
+        ensures others { (t : ℕ) → t ≢ index → type_of self.new t ≡ type_of self.old t }
         ensures kinds { kinds self.new ≡ kinds self.old }
         ensures kept { MemoryTypesInvariant self.new }
     {
@@ -154,6 +158,7 @@ impl<H: Copy + Eq> MemoryTypes<H> {
         ensures dead { OnErr result (IsLiveIn H.eq (slots_of self.old) index (Some piece.now) → ⊥) }
         ensures cause { IfErr result (λ e. IsReleaseRefusal H.eq index (slots_of self.old) piece.now (refusal_of e)) }
         ensures refused { OnErr result (self.new ≡ self.old) }
+        ensures others { (t : ℕ) → t ≢ index → type_of self.new t ≡ type_of self.old t }
         ensures kinds { kinds self.new ≡ kinds self.old }
         ensures kept { MemoryTypesInvariant self.new }
     {
@@ -169,6 +174,7 @@ impl<H: Copy + Eq> MemoryTypes<H> {
         ensures renamed { OnOk result (IsRenamed H.eq index piece.now name.now (slots_of self.old) (slots_of self.new)) }
         ensures cause { IfErr result (λ e. IsNotNamed H.eq (slots_at (slots_of self.old) index) piece.now (refusal_of e)) }
         ensures refused { OnErr result (self.new ≡ self.old) }
+        ensures others { (t : ℕ) → t ≢ index → type_of self.new t ≡ type_of self.old t }
         ensures kinds { kinds self.new ≡ kinds self.old }
         ensures kept { MemoryTypesInvariant self.new }
     {
@@ -176,6 +182,18 @@ impl<H: Copy + Eq> MemoryTypes<H> {
             return Err(missing_type());
         }
         self.types[index].rename(piece, name)
+    }
+
+    /// What holds of live pieces at any time, for callers' proofs: each lies inside its block, no two share a byte, and those
+    /// of different kinds share no page of their memory type. It does nothing.
+    pub fn pieces_are_apart(&self)
+        ensures inside { (t : ℕ) (p : Piece H) → IsLiveIn H.eq (slots_of self.now) t (Some p) → IsInside (slots_of self.now) t p }
+        ensures apart { (t : ℕ) (p : Piece H) (u : ℕ) (q : Piece H) → IsLiveIn H.eq (slots_of self.now) t (Some p)
+            → IsLiveIn H.eq (slots_of self.now) u (Some q) → AreDistinct t p u q → SharesNoByte t p u q }
+        ensures pages { (t : ℕ) (p q : Piece H) → IsLiveIn H.eq (slots_of self.now) t (Some p)
+            → IsLiveIn H.eq (slots_of self.now) t (Some q) → KeepsPages (type_of self.now t).granularity (slots_of self.now) t p q }
+    {
+        let _ = &self.types;
     }
 
     /// How many slots the memory type at `index` has, the empty ones included; none where it isn't there.

@@ -17,7 +17,8 @@ use Rattle.gpu_device.specs.Properties.{Properties}
 use Rattle.gpu_device.specs.declared.vulkan.device.VulkanDevice.{Ghosts}
 use Rattle.gpu_device.specs.declared.vulkan.types.DeviceMemory.{DeviceMemory}
 use Rattle.gpu_vulkan.specs.Allocate.{Attempts, IsTooLarge, IsWithinHeap, Answers, IsServed, IsFollowed, next_after}
-use Rattle.gpu_vulkan.specs.Apart.{EndsInside, IsInside, SharesNoByte, pieces_in, HasKind, KeepsPages}
+use Rattle.gpu_vulkan.specs.Apart.{IsInside, SharesNoByte, HasKind, KeepsPages}
+use Rattle.gpu_memory_types.specs.Apart.{EndsInside, pieces_in}
 use Rattle.gpu_memory_types.specs.Attempt.{Gave, Refused}
 use Rattle.gpu_memory_types.proofs.Aligned.{allocates_aligned}
 use Rattle.gpu_memory_types.proofs.OneOutcome.{gave_refused}
@@ -29,25 +30,11 @@ use Rattle.gpu_vulkan.specs.Live.{IsLive}
 use Rattle.gpu_vulkan_setup.specs.Setup.{Setup}
 use Rattle.gpu_vulkan.specs.declared.allocation.Allocation.{Allocation}
 use Rattle.gpu_vulkan_setup.specs.declared.describe.AllocationCreateDesc.{AllocationCreateDesc}
-use Rattle.gpu_vulkan.proofs.Inside.{extent_inside}
+use Rattle.gpu_memory_types.proofs.Apart.{extent_inside, kinds_apart}
 use Rattle.gpu_memory_types.proofs.Options.{none_some, some_same}
 use Rattle.gpu_vulkan.proofs.Writing.{Stands, stands, allocations_apart}
 
 -- ---- all live allocations
-
--- pieces of different kinds in one block
-kinds_apart : (g : ℕ) (b : Block) → HasPages b g → IsSoundBlock b → HasPagesApart b → (x y : Extent) → Contains (extents_of b) x → Contains (extents_of b) y → x.kind ≢ y.kind → x.end ≤ y.offset
-    → page g (x.end - 1) < page g y.offset
-kinds_apart g (dedicated b) pages sound apart x y hx hy ne before = absurd (ne (ap (λ (z : Extent). z.kind) (only_one b.piece x y hx hy)))
-kinds_apart g (free_list b) pages sound apart x y hx hy ne before =
-    let wx = within_of b x sound hx in
-    let wy = within_of b y sound hy in
-    let first : x.end ≤ y.start =
-    ⊎_elim
-    (λ same. absurd (ne (ap (λ (z : Extent). z.kind) same)))
-    (λ either. ⊎_elim (λ low. low) (λ high. absurd (omega (arith, high, before, wx.0, wx.1, wy.1))) either)
-    (sound.apart x y hx hy) in
-    subst (λ k. page k (x.end - 1) < page k y.offset) (sym pages) (apart x y hx hy ne first)
 
 module _ (p : Properties) (first held : Held) (ss : Slots) (sound : BlocksWellFormed p.granularity ss) (h : HoldsJustLiveBlocks p first held ss) where
   here_is : (a : Allocation) (x : Stands ss a) → block_at ss a.memory_type_index a.memory_block_index ≡ Some x.found.s

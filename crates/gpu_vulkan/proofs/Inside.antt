@@ -22,18 +22,10 @@ use Rattle.gpu_vulkan.specs.declared.allocation.Allocation.{Allocation}
 use Rattle.std.specs.declared.num.NonZeroU64.{NonZeroU64}
 use Rattle.std.specs.Prelude.{option_copied}
 use Rattle.gpu_device.proofs.Writes.{range_from}
+use Rattle.gpu_memory_types.proofs.Apart.{extent_inside}
 use Rattle.gpu_memory_types.proofs.Options.{none_some}
 use Rattle.gpu_core.proofs.Finding.{only_one}
 use Rattle.std.proofs.lemmas.Bool.{eqb-true}
-
-whole_end : (o : Option Extent) (size : ℕ) (x : Extent) → IfSome o (λ y. (y.start ≡ 0) × (y.offset ≡ 0) × (y.end ≡ size) × (y.number ≡ 1)) → Contains (option_to_list o) x → x.end ≡ size
-whole_end None size x whole h = (let l = h.1 in absurd (omega (arith, l)))
-whole_end (Some z) size x whole h = ap (λ (y : Extent). y.end) (only_one (Some z) x z h (0, omega arith, refl)) ∙ whole.2
-
--- an extent ends inside its block
-pub extent_inside : (b : Block) (x : Extent) → IsSoundBlock b → Contains (extents_of b) x → x.end ≤ size_of b
-extent_inside (free_list b) x sound within = (All-contains (λ y. (y.start ≤ y.offset) × (y.offset < y.end) × (y.end ≤ b.size)) b.extents x sound.within within).2
-extent_inside (dedicated b) x sound within = let end = whole_end b.piece b.size x sound within in omega (arith, end)
 
 bytes_range : (o : Option (List ℕ)) (offset size n : ℕ) → is_some o ≡ true → IsAsLong n o → offset + size ≤ n → HasRange o offset size
 bytes_range None offset size n some long fits = cc

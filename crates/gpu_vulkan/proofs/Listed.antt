@@ -28,7 +28,8 @@ use Rattle.gpu_vulkan.proofs.Buffered.{place, other_number}
 use Rattle.gpu_vulkan.proofs.Joins.{number_found, found_number, any_of, all_of}
 use Rattle.gpu_vulkan.proofs.Parts.{part_get}
 use Rattle.gpu_memory_types.proofs.Options.{some_same}
-use Rattle.gpu_vulkan.proofs.Writing.{extents_apart, Stands, stands, allocation_range, own_written}
+use Rattle.gpu_memory_types.proofs.Apart.{extents_apart}
+use Rattle.gpu_vulkan.proofs.Writing.{Stands, stands, allocation_range, own_written}
 
 -- a piece ends behind its offset
 whole_offset : (o : Option Extent) (size : ℕ) (y : Extent) → IfSome o (λ z. (z.start ≡ 0) × (z.offset ≡ 0) × (z.end ≡ size) × (z.number ≡ 1)) → Contains (option_to_list o) y → y.offset ≡ 0

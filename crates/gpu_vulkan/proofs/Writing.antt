@@ -26,19 +26,8 @@ use Rattle.gpu_vulkan_blocks.specs.Release.{is_same_memory, IsLiveIn}
 use Rattle.gpu_vulkan.specs.Live.{IsLive, IsMapped, bytes_at}
 use Rattle.gpu_vulkan.specs.declared.allocation.Allocation.{Allocation}
 use Rattle.gpu_vulkan.proofs.Inside.{live_range, piece_with}
+use Rattle.gpu_memory_types.proofs.Apart.{extents_apart}
 use Rattle.gpu_memory_types.proofs.Options.{some_same}
-
--- two extents of a block are one, or share no byte
-pub extents_apart : (b : Block) (x y : Extent) → IsSoundBlock b → Contains (extents_of b) x → Contains (extents_of b) y → (x ≡ y) ⊎ ((x.end ≤ y.offset) ⊎ (y.end ≤ x.offset))
-extents_apart (dedicated b) x y sound at there = inl (only_one b.piece x y at there)
-extents_apart (free_list b) x y sound at there =
-    let P : Extent → Type 0 = λ z. (z.start ≤ z.offset) × (z.offset < z.end) × (z.end ≤ b.size) in
-    let in_x = All-contains P b.extents x sound.within at in
-    let in_y = All-contains P b.extents y sound.within there in
-    ⊎_elim
-    (λ same. inl same)
-    (λ apart. inr (⊎_elim (λ below. inl (omega (arith, below, in_y.0))) (λ above. inr (omega (arith, above, in_x.0))) apart))
-    (sound.apart x y at there)
 
 -- what the slot of a live piece holds
 pub record Found (ss : Slots) (t : ℕ) (p : Piece DeviceMemory) : Type 0 where

@@ -7,14 +7,10 @@ use Rattle.gpu_core.specs.TypeState.{Slot}
 use Rattle.gpu_values.specs.declared.allocation_type.AllocationType.{AllocationType}
 use Rattle.gpu_device.specs.declared.vulkan.types.DeviceMemory.{DeviceMemory}
 use Rattle.gpu_vulkan_blocks.specs.Blocks.{Slots}
+use Rattle.gpu_memory_types.specs.Apart.{EndsInside, pieces_in}
 use Rattle.gpu_memory_types.specs.Blocks.{block_at}
 use Rattle.gpu_vulkan.specs.Lends.{number_in}
 use Rattle.gpu_vulkan.specs.declared.allocation.Allocation.{Allocation}
-
--- the block has as many bytes
-abbrev pub EndsInside : Option (Slot DeviceMemory) → (end : ℕ) → Type 0
-EndsInside None end = ⊥
-EndsInside (Some s) end = end ≤ size_of s.block
 
 -- the allocation ends inside its block
 abbrev pub IsInside : Slots → Allocation → Type 0
@@ -23,10 +19,6 @@ IsInside slots a = EndsInside (block_at slots a.memory_type_index a.memory_block
 -- two allocations lie in different memory, or one ends before the other begins
 abbrev pub SharesNoByte : Allocation → Allocation → Type 0
 SharesNoByte a b = (a.device_memory.0 ≢ b.device_memory.0) ⊎ ((a.offset + a.size ≤ b.offset) ⊎ (b.offset + b.size ≤ a.offset))
-
-abbrev pub pieces_in : Option (Slot DeviceMemory) → List Extent
-pieces_in None = []
-pieces_in (Some s) = extents_of s.block
 
 -- the allocation's piece is of the kind
 abbrev pub HasKind : Slots → Allocation → AllocationType → Type 0

@@ -1,10 +1,8 @@
 -- The memory types as the code keeps them, beside what the device told of each.
 use Rattle.std.proofs.Common.{◌≡◌, ◌∙◌, sym, ap, subst, ℕ, zero, suc, ◌<◌, Bool, List, [], ◌∷◌, length, slice_get, Option, Some, None, IfSome, arith, ⊎_elim}
-use Rattle.std.specs.Prelude.{All}
 use Rattle.std.specs.Option.{option_map}
 use Rattle.std.proofs.lemmas.Bool.{cases_lt}
 use Rattle.std.proofs.lemmas.List.{length-map}
-use Rattle.std.proofs.lemmas.List.Elements.{All-head, All-tail}
 use Rattle.std.proofs.lemmas.Option.{slice_get-map}
 use Rattle.gpu_core.specs.TypeState.{TypeState}
 use Rattle.gpu_core.specs.Slots.{AreSound}
@@ -14,7 +12,7 @@ use Rattle.gpu_device.specs.declared.vulkan.types.MemoryTypeInfo.{MemoryTypeInfo
 use Rattle.gpu_memory_types.specs.Blocks.{BlocksWellFormed}
 use Rattle.gpu_memory_types.specs.Types.{Types, slots_of, kinds, type_of, MemoryTypesInvariant}
 use Rattle.gpu_memory_types.proofs.Options.{none_some, some_same}
-use Rattle.gpu_memory_types.proofs.Types.{type_there, slots_are, slots_past, WellFormed}
+use Rattle.gpu_memory_types.proofs.Types.{type_there, each_at, slots_are, slots_past, WellFormed}
 use Rattle.gpu_vulkan_setup.specs.Types.{is_host_visible, mapped_by, is_mapped}
 use Rattle.gpu_vulkan_setup.specs.Types.{kinds_told}
 
@@ -41,11 +39,6 @@ told_at p types i t same at =
 -- there are as many as the device told
 pub as_many : (p : Properties) (types : Types DeviceMemory) → kinds types ≡ kinds_told p → length types ≡ length p.types
 as_many p types same = sym (length-map types kind) ∙ ap length same ∙ length-map p.types (told p)
-
-each_at : {A : Type 0} (P : A → Type 0) (xs : List A) (i : ℕ) (x : A) → All P xs → slice_get xs i ≡ Some x → P x
-each_at P [] i x all at = absurd (none_some x at)
-each_at P (y ∷ ys) zero x all at = subst P (some_same y x at) (All-head P y ys all)
-each_at P (y ∷ ys) (suc i) x all at = each_at P ys i x (All-tail P y ys all) at
 
 -- the blocks of all memory types are well formed
 pub well_formed_told : (p : Properties) (types : Types DeviceMemory) → kinds types ≡ kinds_told p → MemoryTypesInvariant types → BlocksWellFormed p.granularity (slots_of types)

@@ -1,7 +1,7 @@
 use Rattle.std.proofs.Common.{◌≡◌, Some, arith, slice_get, slice_set, ◌∙◌, ap}
-use Rattle.gpu_memory_types.specs.Types.{kinds, MemoryTypesInvariant}
+use Rattle.gpu_memory_types.specs.Types.{Types, type_of, kinds, MemoryTypesInvariant}
 use Rattle.gpu_memory_types.proofs.Changed.{element_at, released}
-use Rattle.gpu_memory_types.proofs.Types.{invariant_set, kinds_set, share_below}
+use Rattle.gpu_memory_types.proofs.Types.{invariant_set, kinds_set, share_below, type_elsewhere}
 use Rattle.gpu_memory_types.proofs.memory_types.MemoryTypes.free.Goals as goal
 use Rattle.gpu_memory_types.proofs.memory_types.MemoryTypes.free.Goals.{After-free}
 
@@ -31,3 +31,7 @@ pub returns-clause-kinds : goal.returns-clause-kinds
 returns-clause-kinds g c =
     let at = old_at g ((goal.at.returns-clause-kinds g c).After-free) in
     kinds_set c.self.inside.types.items c.args.index c.index_mut.result.now c.free.new.self at c.free.ensures.kind.0 c.free.ensures.kind.1 ∙ ap kinds c.self.view_is
+
+pub returns-clause-others : goal.returns-clause-others
+returns-clause-others g c = λ t away.
+    type_elsewhere c.self.inside.types.items c.args.index c.free.new.self t away ∙ ap (λ (ts : Types _). type_of ts t) c.self.view_is

@@ -1,8 +1,8 @@
 use Rattle.std.proofs.Common.{◌≡◌, ◌+◌, ◌<◌, ◌^◌, Some, sym, subst, arith, slice_get, slice_set, ap, ◌∙◌, length}
 use Rattle.gpu_memory_types.specs.Blocks.{total_capacity}
-use Rattle.gpu_memory_types.specs.Types.{Types, slots_of, kinds, MemoryTypesInvariant}
+use Rattle.gpu_memory_types.specs.Types.{Types, type_of, slots_of, kinds, MemoryTypesInvariant}
 use Rattle.gpu_memory_types.proofs.Changed.{element_at, installed}
-use Rattle.gpu_memory_types.proofs.Types.{invariant_set, kinds_set, share_below}
+use Rattle.gpu_memory_types.proofs.Types.{invariant_set, kinds_set, share_below, type_elsewhere}
 use Rattle.gpu_memory_types.proofs.memory_types.MemoryTypes.install.Goals as goal
 use Rattle.gpu_memory_types.proofs.memory_types.MemoryTypes.install.Goals.{After-index_mut, After-install}
 
@@ -41,3 +41,7 @@ pub returns-clause-kinds : goal.returns-clause-kinds
 returns-clause-kinds g c =
     let at = old_at g ((goal.at.returns-clause-kinds g c).After-index_mut) in
     kinds_set c.self.inside.types.items c.args.index c.index_mut.result.now c.install.new.self at c.install.ensures.kind.0 c.install.ensures.kind.1 ∙ ap kinds c.self.view_is
+
+pub returns-clause-others : goal.returns-clause-others
+returns-clause-others g c = λ t away.
+    type_elsewhere c.self.inside.types.items c.args.index c.install.new.self t away ∙ ap (λ (ts : Types _). type_of ts t) c.self.view_is

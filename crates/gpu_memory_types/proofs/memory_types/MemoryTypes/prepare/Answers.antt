@@ -1,10 +1,10 @@
 use Rattle.std.proofs.Common.{◌≡◌, ◌<◌, Some, sym, subst, arith, slice_get, slice_set, ap, ◌∙◌, length, OnErr, OnOk}
 use Rattle.gpu_memory_types.specs.Blocks.{total_capacity}
 use Rattle.gpu_memory_types.specs.Requests.{FitsSum, PassesSum}
-use Rattle.gpu_memory_types.specs.Types.{Types, slots_of, kinds, MemoryTypesInvariant}
+use Rattle.gpu_memory_types.specs.Types.{Types, type_of, slots_of, kinds, MemoryTypesInvariant}
 use Rattle.gpu_memory_types.proofs.Changed.{element_at, prepared_at, same_slots, sum_refused, sum_cause}
 use Rattle.gpu_memory_types.proofs.Options.{on_any_error}
-use Rattle.gpu_memory_types.proofs.Types.{invariant_set, kinds_set, share_below}
+use Rattle.gpu_memory_types.proofs.Types.{invariant_set, kinds_set, share_below, type_elsewhere}
 use Rattle.gpu_memory_types.proofs.memory_types.MemoryTypes.prepare.Goals as goal
 use Rattle.gpu_memory_types.proofs.memory_types.MemoryTypes.prepare.Goals.{After-prepare}
 
@@ -73,3 +73,11 @@ returns-clause-refused g c =
     rw (← c.self.view_is)
     (sum_refused c.self.inside.types.items c.args.index c.index_mut.result.now c.prepare.new.self (old_at g after) c.args.sizes.now c.args.request.now c.within_sum.result c.in_ok-prepared.prepared
     c.in_ok-prepared.ensures.prepared (subst (λ n. OnErr c.within_sum.result (PassesSum n c.in_ok-prepared.prepared)) (used_is g after) c.within_sum.ensures.passes))
+
+pub returns-clause-others : goal.returns-clause-others
+returns-clause-others g c = λ t away.
+    type_elsewhere c.self.inside.types.items c.args.index c.prepare.new.self t away ∙ ap (λ (ts : Types _). type_of ts t) c.self.view_is
+
+pub returns-in_err-prepared-clause-others : goal.returns-in_err-prepared-clause-others
+returns-in_err-prepared-clause-others g c = λ t away.
+    type_elsewhere c.self.inside.types.items c.args.index c.prepare.new.self t away ∙ ap (λ (ts : Types _). type_of ts t) c.self.view_is

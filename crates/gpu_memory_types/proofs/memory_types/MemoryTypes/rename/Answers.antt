@@ -1,7 +1,7 @@
 use Rattle.std.proofs.Common.{◌≡◌, Some, arith, slice_get, slice_set, ap, ◌∙◌}
-use Rattle.gpu_memory_types.specs.Types.{kinds, MemoryTypesInvariant}
+use Rattle.gpu_memory_types.specs.Types.{Types, type_of, kinds, MemoryTypesInvariant}
 use Rattle.gpu_memory_types.proofs.Changed.{element_at, renamed, named_cause}
-use Rattle.gpu_memory_types.proofs.Types.{invariant_set, kinds_set, share_below}
+use Rattle.gpu_memory_types.proofs.Types.{invariant_set, kinds_set, share_below, type_elsewhere}
 use Rattle.gpu_memory_types.proofs.memory_types.MemoryTypes.rename.Goals as goal
 use Rattle.gpu_memory_types.proofs.memory_types.MemoryTypes.rename.Goals.{After-rename}
 
@@ -38,3 +38,7 @@ pub returns-clause-kinds : goal.returns-clause-kinds
 returns-clause-kinds g c =
     let at = old_at g ((goal.at.returns-clause-kinds g c).After-rename) in
     kinds_set c.self.inside.types.items c.args.index c.index_mut.result.now c.rename.new.self at c.rename.ensures.kind.0 c.rename.ensures.kind.1 ∙ ap kinds c.self.view_is
+
+pub returns-clause-others : goal.returns-clause-others
+returns-clause-others g c = λ t away.
+    type_elsewhere c.self.inside.types.items c.args.index c.rename.new.self t away ∙ ap (λ (ts : Types _). type_of ts t) c.self.view_is
