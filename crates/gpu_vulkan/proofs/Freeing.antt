@@ -29,7 +29,7 @@ use Rattle.gpu_vulkan_setup.specs.Setup.{Setup}
 use Rattle.gpu_vulkan.specs.State.{State}
 use Rattle.gpu_vulkan.specs.Step.{ModelState, model_of, Free, Done, id_in, MayDrop, ReleaseStep, FreeStep, IsStep, nothing_met, freed_as}
 use Rattle.gpu_vulkan.specs.declared.allocation.Allocation.{Allocation}
-use Rattle.gpu_vulkan.proofs.Buffered.{released_buffers, dropped_buffers, with_back, with_back_puts}
+use Rattle.gpu_vulkan.proofs.ByteViews.{released_byte_view, dropped_byte_view, with_back, with_back_puts}
 use Rattle.gpu_vulkan.proofs.Joins.{OneMore, one_more_released, found_number}
 use Rattle.gpu_vulkan.proofs.Parts.{HasRoom}
 use Rattle.gpu_memory_types.proofs.Placed.{only_block, some_below}
@@ -89,7 +89,7 @@ module _ {D : Type 0} (g : Ghosts D) (setup : Setup) (first : Held) (t : ℕ) (o
       subst (λ k. HasRoom (is_mapped setup.properties t) (bytes_of held k) p.offset p.size) (sym (eqb-true a.number.0 p.block.0 live.0)) (live_room setup first held old sound h whole t p is_live) in
       record {
         mid = byte_view_of held new;
-        back = released_buffers held old new t p.slot a b at only rel.1 (is_mapped setup.properties t) n p.offset p.size room (one_from a b.block at live rel.2);
+        back = released_byte_view held old new t p.slot a b at only rel.1 (is_mapped setup.properties t) n p.offset p.size room (one_from a b.block at live rel.2);
         drops = ap (λ (x : D). byte_view_of (g.held x) new) back;
       }
   settled_bytes several (Some a) None (Some m) device after at rel back live h whole =
@@ -104,7 +104,7 @@ module _ {D : Type 0} (g : Ghosts D) (setup : Setup) (first : Held) (t : ℕ) (o
       record {
         mid = with_back (id_in t p) p.offset p.size (byte_view_of held old);
         back = with_back_puts (id_in t p) p.offset p.size (byte_view_of held old);
-        drops = dropped_buffers held (g.held after) old new t p.slot a at only n p.offset p.size
+        drops = dropped_byte_view held (g.held after) old new t p.slot a at only n p.offset p.size
             (λ u j s away found.
             ap (λ (k : Held). bytes_of k s.number.0) back.held
             ∙ ap entry_bytes (get-remove_other held m.0 s.number.0 (λ e. let place = h.one_block u j t p.slot s a found at (e ∙ ap (λ (k : DeviceMemory). k.0) same) in away place.0 place.1)))
@@ -113,7 +113,7 @@ module _ {D : Type 0} (g : Ghosts D) (setup : Setup) (first : Held) (t : ℕ) (o
 
   pub released_step : (device : D) (new : Slots) (after : D) → IsReleased g t p old device new after → IsLiveIn old t (Some p)
       → HoldsJustLiveBlocks setup.properties first (g.held device) old → ((m : ℕ) → IsWhole (get (g.held device) m))
-      → ReleaseStep t p (record { slots = old; buffers = byte_view_of (g.held device) old }) (record { slots = new; buffers = byte_view_of (g.held after) new })
+      → ReleaseStep t p (record { slots = old; byte_view = byte_view_of (g.held device) old }) (record { slots = new; byte_view = byte_view_of (g.held after) new })
   released_step device new after r live h whole =
       let left = settled_bytes _ (slot_at (slots_at old t) p.slot) r.releases.slot r.went device after refl r.releases.releases r.gives_back live h whole in
       let new_is : new ≡ slice_set old t (slice_set (slots_at old t) p.slot r.releases.slot) = r.slots ∙ ap (slice_set old t) r.releases.slots in
@@ -135,7 +135,7 @@ back_counts g (Some m) device after back = (back.count, back.latest)
 
 module _ {D : Type 0} (g : Ghosts D) (first : Held) (old new : State D) (sound : BlocksWellFormed old.setup.properties.granularity old.slots) (h : HoldsJustLiveBlocks old.setup.properties first (g.held old.device) old.slots) (whole : (m : ℕ) → IsWhole (get (g.held old.device) m)) where
   same_model : new.slots ≡ old.slots → new.device ≡ old.device → model_of g new ≡ model_of g old
-  same_model slots device = λ i. record { slots = slots i; buffers = byte_view_of (g.held (device i)) (slots i) }
+  same_model slots device = λ i. record { slots = slots i; byte_view = byte_view_of (g.held (device i)) (slots i) }
 
   frees_as : (a : Allocation) (o : Option (Piece DeviceMemory)) → piece_of a ≡ o → (result : Result (Unit {0}) (AllocationError × Allocation)) → FreesPiece g a o old.slots old.device result new.slots new.device
       → FreeStep a.memory_type_index o (freed_as result) (model_of g old) (model_of g new) × (g.refused new.device ≡ g.refused old.device) × (g.latest new.device ≡ g.latest old.device)

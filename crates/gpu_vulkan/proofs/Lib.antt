@@ -7,7 +7,7 @@ pub mod Inside
 pub mod Writing
 pub mod Joins
 pub mod Parts
-pub mod Buffered
+pub mod ByteViews
 pub mod Stepping
 pub mod Steps
 pub mod Freeing
@@ -18,5 +18,5 @@ pub mod Renaming
 pub mod Naming
 pub mod Named
 pub mod Owning
-pub mod Alike
+pub mod EqualButBytes
 pub mod Untouched

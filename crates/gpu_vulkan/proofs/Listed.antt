@@ -24,7 +24,7 @@ use Rattle.gpu_vulkan.specs.State.{State}
 use Rattle.gpu_vulkan_setup.specs.Setup.{Setup}
 use Rattle.gpu_vulkan.specs.Step.{model_of, id_of, IsRead, IsStep, Write, Read, Bytes, Capacity, Sum, Done, nothing_met}
 use Rattle.gpu_vulkan.specs.declared.allocation.Allocation.{Allocation}
-use Rattle.gpu_vulkan.proofs.Buffered.{place, other_number}
+use Rattle.gpu_vulkan.proofs.ByteViews.{place, other_number}
 use Rattle.gpu_vulkan.proofs.Joins.{number_found, found_number, any_of, all_of}
 use Rattle.gpu_vulkan.proofs.Parts.{part_get}
 use Rattle.gpu_memory_types.proofs.Options.{some_same}
@@ -61,7 +61,7 @@ module _ (setup : Setup) (first held : Held) (ss : Slots) (sound : BlocksWellFor
       ∙ ap (piece_bytes (bytes_of now f.s.number.0)) one
       ∙ (λ i. range_in (begins i) (long i) (bytes_of now (memory i)))
 
-  pub list_of_live : IsLive ss a → (byte_view_of held ss).lists (id_of a) ≡ bytes_at held a
+  pub list_of_live : IsLive ss a → (byte_view_of held ss).allocation_bytes (id_of a) ≡ bytes_at held a
   list_of_live live = list_for held (stands ss a live)
 
   -- ---- a write
@@ -172,7 +172,7 @@ module _ (setup : Setup) (first held : Held) (ss : Slots) (sound : BlocksWellFor
       was = (xs, list_for held x ∙ was, long ∙ sym (length_of_range (bytes_of held a.device_memory.0) a.offset a.size xs was));
       list = list_for now x ∙ own_written setup.properties first held ss sound h whole a ws live long;
       others = λ q isnt. other_lists q.memory_type q.slot q.number (block_at ss q.memory_type q.slot) refl isnt;
-      rest = λ t i at. same_rest t i at (block_at ss t i) refl;
+      unallocated_bytes = λ t i at. same_rest t i at (block_at ss t i) refl;
     }
 
 -- ---- over a device

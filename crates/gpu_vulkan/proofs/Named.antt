@@ -33,7 +33,7 @@ use Rattle.gpu_memory_types.specs.Reports.{whole_report}
 use Rattle.gpu_vulkan.specs.State.{State}
 use Rattle.gpu_vulkan.specs.Step.{model_of, Rename, Report, Leaks, RenameStep, IsStep, CallEnvironment, nothing_met, renamed_as, shown_as, told_as}
 use Rattle.gpu_vulkan.specs.declared.allocation.Allocation.{Allocation}
-use Rattle.gpu_vulkan.proofs.OneStep.{buffers_alike}
+use Rattle.gpu_vulkan.proofs.OneStep.{byte_views_alike}
 use Rattle.gpu_memory_types.proofs.Placed.{OnlyBlock, only_block, some_below, same_place}
 use Rattle.gpu_vulkan.proofs.Releasing.{type_below}
 
@@ -128,8 +128,8 @@ slot_there n name slots i None b at r = absurd r
 slot_there n name slots i (Some a) b at r = some_below slots i a at
 
 -- a new name leaves every byte where it was
-pub renamed_buffers : (held : Held) (t : ℕ) (p : Piece DeviceMemory) (name : List ℕ) (old new : Slots) → IsRenamed is_same_memory t p name old new → byte_view_of held new ≡ byte_view_of held old
-renamed_buffers held t p name old new r =
+pub renamed_byte_view : (held : Held) (t : ℕ) (p : Piece DeviceMemory) (name : List ℕ) (old new : Slots) → IsRenamed is_same_memory t p name old new → byte_view_of held new ≡ byte_view_of held old
+renamed_byte_view held t p name old new r =
     let n = non_zero_u64_get p.number in
     let slots = slots_at old t in
     let b = r.renames.slot in
@@ -137,7 +137,7 @@ renamed_buffers held t p name old new r =
     let new_is : new ≡ slice_set old t (slice_set slots p.slot b) = r.slots ∙ ap (slice_set old t) r.renames.slots in
     let only : OnlyBlock old t p.slot b new =
     subst (λ (ss : Slots). OnlyBlock old t p.slot b ss) (sym new_is) (only_block old t p.slot b (slice_set slots p.slot b) (type_below old t p r.live) (set_only slots p.slot b inside)) in
-    buffers_alike (byte_view_of held new) (byte_view_of held old)
+    byte_views_alike (byte_view_of held new) (byte_view_of held old)
     (λ q.
     ⊎_elim
     (λ here.
@@ -165,7 +165,7 @@ no_question host = record { first = record { host = host; asked = None }; second
 
 module _ {D : Type 0} (g : Ghosts D) (old new : State D) (device : new.device ≡ old.device) where
   same_model : new.slots ≡ old.slots → model_of g new ≡ model_of g old
-  same_model slots = λ i. record { slots = slots i; buffers = byte_view_of (g.held (device i)) (slots i) }
+  same_model slots = λ i. record { slots = slots i; byte_view = byte_view_of (g.held (device i)) (slots i) }
 
   pub record Renaming (a : Allocation) (o : Option (Piece DeviceMemory)) (name : List ℕ) (result : Result (Unit {0}) AllocationError) : Type 0 where
     pub host : Bool
@@ -176,7 +176,7 @@ module _ {D : Type 0} (g : Ghosts D) (old new : State D) (device : new.device �
   renaming a b None name (Err e) r = record { host = false; step = (refl, r.0, same_model r.2) }
   renaming a b (Some p) name (Ok u) r = record {
     host = true;
-    step = (refl, r.1, ap (λ d. byte_view_of (g.held d) new.slots) device ∙ renamed_buffers (g.held old.device) a.memory_type_index p name old.slots new.slots r.1);
+    step = (refl, r.1, ap (λ d. byte_view_of (g.held d) new.slots) device ∙ renamed_byte_view (g.held old.device) a.memory_type_index p name old.slots new.slots r.1);
   }
   renaming a b (Some p) name (Err e) r =
       ⊎_elim

@@ -65,8 +65,8 @@ out_once true rest start size (Some xs) (Some ys) x y =
     (λ ge. slice_get_past xs i (let l = x.0 in omega (arith, l, ge)) ∙ sym (slice_get_past ys i (let l = y.0 in omega (arith, l, ge))))
     (cases_lt i size)))
 
-pub buffers_alike : (a b : ByteView) → ((q : AllocationId) → a.lists q ≡ b.lists q) → ((t i at : ℕ) → a.rest t i at ≡ b.rest t i at) → a ≡ b
-buffers_alike a b lists rest = λ l. record { lists = λ q. lists q l; rest = λ t i at. rest t i at l }
+pub byte_views_alike : (a b : ByteView) → ((q : AllocationId) → a.allocation_bytes q ≡ b.allocation_bytes q) → ((t i at : ℕ) → a.unallocated_bytes t i at ≡ b.unallocated_bytes t i at) → a ≡ b
+byte_views_alike a b lists rest = λ l. record { allocation_bytes = λ q. lists q l; unallocated_bytes = λ t i at. rest t i at l }
 
 both_true : (a b : Bool) → (a && b) ≡ true → (a ≡ true) × (b ≡ true)
 both_true true true e = (refl, refl)
@@ -82,30 +82,30 @@ place_same p q e =
     let numbers = eqb-true p.number q.number b.1 in
     λ i. record { memory_type = types i; slot = slots i; number = numbers i }
 
-lists_alike : (p : AllocationId) (old new next : ByteView) → new.lists p ≡ next.lists p → ((q : AllocationId) → is_same_id p q ≡ false → new.lists q ≡ old.lists q) → ((q : AllocationId) → is_same_id p q ≡ false → next.lists q ≡ old.lists q)
-    → (q : AllocationId) → new.lists q ≡ next.lists q
+lists_alike : (p : AllocationId) (old new next : ByteView) → new.allocation_bytes p ≡ next.allocation_bytes p → ((q : AllocationId) → is_same_id p q ≡ false → new.allocation_bytes q ≡ old.allocation_bytes q) → ((q : AllocationId) → is_same_id p q ≡ false → next.allocation_bytes q ≡ old.allocation_bytes q)
+    → (q : AllocationId) → new.allocation_bytes q ≡ next.allocation_bytes q
 lists_alike p old new next here a b q =
     ⊎_elim
-    (λ is. subst (λ r. new.lists r ≡ next.lists r) (place_same p q is) here)
+    (λ is. subst (λ r. new.allocation_bytes r ≡ next.allocation_bytes r) (place_same p q is) here)
     (λ isnt. a q isnt ∙ sym (b q isnt))
     (cases_Bool (is_same_id p q))
 
 takes_out_once : (mapped : Bool) (p : AllocationId) (start size : ℕ) (old new next : ByteView) → TakesOut mapped p start size old new → TakesOut mapped p start size old next → new ≡ next
 takes_out_once mapped p start size old new next a b =
-    buffers_alike new next
-    (lists_alike p old new next (out_once mapped (old.rest p.memory_type p.slot) start size (new.lists p) (next.lists p) a.list b.list) a.others b.others)
-    (λ t i at. a.rest t i at ∙ sym (b.rest t i at))
+    byte_views_alike new next
+    (lists_alike p old new next (out_once mapped (old.unallocated_bytes p.memory_type p.slot) start size (new.allocation_bytes p) (next.allocation_bytes p) a.list b.list) a.others b.others)
+    (λ t i at. a.unallocated_bytes t i at ∙ sym (b.unallocated_bytes t i at))
 
 puts_back_once : (p : AllocationId) (start size : ℕ) (old new next : ByteView) → PutsBack p start size old new → PutsBack p start size old next → new ≡ next
 puts_back_once p start size old new next a b =
-    buffers_alike new next (lists_alike p old new next (a.gone ∙ sym b.gone) a.others b.others) (λ t i at. a.rest t i at ∙ sym (b.rest t i at))
+    byte_views_alike new next (lists_alike p old new next (a.gone ∙ sym b.gone) a.others b.others) (λ t i at. a.unallocated_bytes t i at ∙ sym (b.unallocated_bytes t i at))
 
 adds_once : (t i : ℕ) (bytes : Option (List ℕ)) (old new next : ByteView) → AddsBlock t i bytes old new → AddsBlock t i bytes old next → new ≡ next
-adds_once t i bytes old new next a b = buffers_alike new next (λ q. a.lists q ∙ sym (b.lists q)) (λ u j at. a.rest u j at ∙ sym (b.rest u j at))
+adds_once t i bytes old new next a b = byte_views_alike new next (λ q. a.allocation_bytes q ∙ sym (b.allocation_bytes q)) (λ u j at. a.unallocated_bytes u j at ∙ sym (b.unallocated_bytes u j at))
 
 drops_once : (t i : ℕ) (went : Option DeviceMemory) (old new next : ByteView) → MayDrop t i went old new → MayDrop t i went old next → new ≡ next
 drops_once t i None old new next a b = a ∙ sym b
-drops_once t i (Some m) old new next a b = buffers_alike new next (λ q. a.lists q ∙ sym (b.lists q)) (λ u j at. a.rest u j at ∙ sym (b.rest u j at))
+drops_once t i (Some m) old new next a b = byte_views_alike new next (λ q. a.allocation_bytes q ∙ sym (b.allocation_bytes q)) (λ u j at. a.unallocated_bytes u j at ∙ sym (b.unallocated_bytes u j at))
 
 bytes_once : (mapped : Bool) (t : ℕ) (o : Option Asked) (answer : Answer) (old new next : ByteView) → BytesAfter mapped t o answer old new → BytesAfter mapped t o answer old next → new ≡ next
 bytes_once mapped t None (Refused r) old new next a b = a ∙ sym b
@@ -115,15 +115,15 @@ bytes_once mapped t (Some asked) (Gave p) old new next a b =
     let mids = adds_once t p.slot _ old a.0 b.0 a.1 b.1 in
     takes_out_once mapped (id_in t p) p.offset p.size a.0 new next a.2 (subst (λ m. TakesOut mapped (id_in t p) p.offset p.size m next) (sym mids) b.2)
 
-states_alike : (a b : ModelState) → a.slots ≡ b.slots → a.buffers ≡ b.buffers → a ≡ b
-states_alike a b slots buffers = λ i. record { slots = slots i; buffers = buffers i }
+states_alike : (a b : ModelState) → a.slots ≡ b.slots → a.byte_view ≡ b.byte_view → a ≡ b
+states_alike a b slots byte_view = λ i. record { slots = slots i; byte_view = byte_view i }
 
 attempt_once : (setup : Setup) (t : ℕ) (d : AllocationCreateDesc) (o : AttemptEnvironment) (x y : Answer) (old new next : ModelState) → BlocksWellFormed setup.properties.granularity old.slots
     → AttemptStep setup t d o x old new → AttemptStep setup t d o y old next → (x ≡ y) × (new ≡ next)
 attempt_once setup t d o x y old new next sound a b =
     let once = attempts_once setup old.slots t d o x y new.slots next.slots sound a.slots b.slots in
-    let other : BytesAfter (is_mapped setup.properties t) t o.asked x old.buffers next.buffers = subst (λ w. BytesAfter (is_mapped setup.properties t) t o.asked w old.buffers next.buffers) (sym once.0) b.bytes in
-    (once.0, states_alike new next once.1 (bytes_once (is_mapped setup.properties t) t o.asked x old.buffers new.buffers next.buffers a.bytes other))
+    let other : BytesAfter (is_mapped setup.properties t) t o.asked x old.byte_view next.byte_view = subst (λ w. BytesAfter (is_mapped setup.properties t) t o.asked w old.byte_view next.byte_view) (sym once.0) b.bytes in
+    (once.0, states_alike new next once.1 (bytes_once (is_mapped setup.properties t) t o.asked x old.byte_view new.byte_view next.byte_view a.bytes other))
 
 -- ---- an allocation
 
@@ -168,10 +168,10 @@ allocate_once setup d true o x y old new next sound a b = found_once setup d _ o
 release_once : (setup : Setup) (t : ℕ) (p : Piece DeviceMemory) (old new next : ModelState) → BlocksWellFormed setup.properties.granularity old.slots → ReleaseStep t p old new → ReleaseStep t p old next → new ≡ next
 release_once setup t p old new next sound a b =
     let once = released_once setup.properties.granularity (IsTrue (has_several (slots_at old.slots t))) (slots_at old.slots t) p a.went b.went a.left b.left (sound t) a.releases b.releases in
-    let mids = puts_back_once (id_in t p) p.offset p.size old.buffers a.mid b.mid a.back b.back in
+    let mids = puts_back_once (id_in t p) p.offset p.size old.byte_view a.mid b.mid a.back b.back in
     let went = once.0 in
-    let other : MayDrop t p.slot a.went a.mid next.buffers = subst (λ m. MayDrop t p.slot a.went m next.buffers) (sym mids) (subst (λ w. MayDrop t p.slot w b.mid next.buffers) (sym went) b.drops) in
-    states_alike new next (a.slots ∙ (ap (slice_set old.slots t) once.1 ∙ sym b.slots)) (drops_once t p.slot a.went a.mid new.buffers next.buffers a.drops other)
+    let other : MayDrop t p.slot a.went a.mid next.byte_view = subst (λ m. MayDrop t p.slot a.went m next.byte_view) (sym mids) (subst (λ w. MayDrop t p.slot w b.mid next.byte_view) (sym went) b.drops) in
+    states_alike new next (a.slots ∙ (ap (slice_set old.slots t) once.1 ∙ sym b.slots)) (drops_once t p.slot a.went a.mid new.byte_view next.byte_view a.drops other)
 
 -- a free is done, or refused
 pub free_reply : (t : ℕ) (p : Option (Piece DeviceMemory)) (x : Reply) (old new : ModelState) → FreeStep t p x old new
@@ -306,10 +306,10 @@ by_host host x y a b h k =
 -- ---- bytes
 
 writes_once : (p : AllocationId) (ws : List ℕ) (old new next : ByteView) → Writes p ws old new → Writes p ws old next → new ≡ next
-writes_once p ws old new next a b = buffers_alike new next (lists_alike p old new next (a.list ∙ sym b.list) a.others b.others) (λ t i at. a.rest t i at ∙ sym (b.rest t i at))
+writes_once p ws old new next a b = byte_views_alike new next (lists_alike p old new next (a.list ∙ sym b.list) a.others b.others) (λ t i at. a.unallocated_bytes t i at ∙ sym (b.unallocated_bytes t i at))
 
 write_once : (setup : Setup) (a : Allocation) (ws : List ℕ) (old new next : ModelState) → WriteStep setup a ws old new → WriteStep setup a ws old next → new ≡ next
-write_once setup a ws old new next x y = states_alike new next (x.slots ∙ sym y.slots) (writes_once (id_of a) ws old.buffers new.buffers next.buffers x.writes y.writes)
+write_once setup a ws old new next x y = states_alike new next (x.slots ∙ sym y.slots) (writes_once (id_of a) ws old.byte_view new.byte_view next.byte_view x.writes y.writes)
 
 read_once : (setup : Setup) (a : Allocation) (s : ModelState) (x y : Option (List ℕ)) → IsRead setup a s x → IsRead setup a s y → x ≡ y
 read_once setup a s None None h k = refl

@@ -31,7 +31,7 @@ use Rattle.gpu_vulkan_setup.specs.Setup.{Setup}
 use Rattle.gpu_vulkan.specs.Step.{BytesAfter, id_in, answer_bytes}
 use Rattle.gpu_vulkan.specs.declared.allocation.Allocation.{Allocation}
 use Rattle.gpu_vulkan_setup.specs.declared.describe.AllocationCreateDesc.{AllocationCreateDesc}
-use Rattle.gpu_vulkan.proofs.Buffered.{served_buffers, installed_buffers, with_new_adds, with_new}
+use Rattle.gpu_vulkan.proofs.ByteViews.{served_byte_view, installed_byte_view, with_new_adds, with_new}
 use Rattle.gpu_memory_types.proofs.Holding.{not_a_block}
 use Rattle.gpu_vulkan.proofs.Inside.{live_range, live_unmapped}
 use Rattle.gpu_vulkan.proofs.Joins.{OneMore, one_more_taken}
@@ -97,7 +97,7 @@ module _ {D : Type 0} (g : Ghosts D) (setup : Setup) (d : AllocationCreateDesc) 
       subst (λ (m : DeviceMemory). HasRoom mapped (bytes_of held m.0) p.offset p.size) s.number (live_room setup first held new after holds whole t p live) in
       let one = same_size (extents_of s.slot.block) (extents_of s.after) n p.offset r.size p.size (sym s.size)
       (one_more_taken s.slot.block r p.offset n s.after (sound_at setup old t p.slot s.slot sound s.at) (sound_at setup new t p.slot b after only.at) s.takes) in
-      served_buffers held old new t p.slot s.slot b s.at only refl mapped n p.offset p.size room one
+      served_byte_view held old new t p.slot s.slot b s.at only refl mapped n p.offset p.size room one
 
   -- a new block's piece
   installed_bytes : (own : Bool) (size : ℕ) (ready : Ready) (r : _) (n : ℕ) (bytes : Option (List ℕ)) (p : Piece DeviceMemory) (x : List (Option (Slot DeviceMemory))) (held now : Held)
@@ -128,7 +128,7 @@ module _ {D : Type 0} (g : Ghosts D) (setup : Setup) (d : AllocationCreateDesc) 
       (subst (λ (xs : List Extent). OneMore xs (extents_of ready.block) ready.number ready.offset r.size) (fresh_extents own size setup.properties.granularity) fresh_one))) in (
         with_new t p.slot (bytes_of now n) (byte_view_of held old),
         subst (λ o. AddsBlock t p.slot o (byte_view_of held old) (with_new t p.slot (bytes_of now n) (byte_view_of held old))) there (with_new_adds t p.slot (bytes_of now n) (byte_view_of held old)),
-        installed_buffers held now old new t p.slot b only_at_none only mapped k p.offset p.size room (λ u j s at. ap entry_bytes (same s.number.0 (none u j s at))) one,
+        installed_byte_view held now old new t p.slot b only_at_none only mapped k p.offset p.size room (λ u j s at. ap entry_bytes (same s.number.0 (none u j s at))) one,
       )
     where
       only_at_none : block_at old t p.slot ≡ None

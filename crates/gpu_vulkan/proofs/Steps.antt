@@ -69,7 +69,7 @@ mid_is_old setup d t u old o (Refused r) mid is a = refused_same setup old t d o
 
 module _ {D : Type 0} (g : Ghosts D) (whole : (x : D) (n : ℕ) → IsWhole (get (g.held x) n)) (setup : Setup) (d : AllocationCreateDesc) (first : Held) where
   abbrev at : D → Slots → ModelState
-  at device slots = record { slots = slots; buffers = byte_view_of (g.held device) slots }
+  at device slots = record { slots = slots; byte_view = byte_view_of (g.held device) slots }
 
   attempt_step : (t : ℕ) (old : Slots) (device : D) (result : Result Allocation AllocationError) (new : Slots) (after : D) → t < length old
       → BlocksWellFormed setup.properties.granularity old → BlocksWellFormed setup.properties.granularity new → HoldsJustLiveBlocks setup.properties first (g.held device) old
@@ -162,7 +162,7 @@ module _ {D : Type 0} (g : Ghosts D) (d : AllocationCreateDesc) (old new : State
   refused_with r = record {
     met = (refl, refl);
     reply_is = refl;
-    same = λ i. record { slots = slots i; buffers = byte_view_of (g.held (device i)) (slots i) };
+    same = λ i. record { slots = slots i; byte_view = byte_view_of (g.held (device i)) (slots i) };
   }
 
   refused_by : (r : Refusal) → refusal_in result ≡ Some r

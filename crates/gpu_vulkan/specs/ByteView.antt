@@ -20,8 +20,8 @@ is_same_id p q = (p.memory_type == q.memory_type) && ((p.slot == q.slot) && (p.n
 
 -- the list of each live piece in mapped memory, and the bytes of each mapped block at which no live piece lies
 pub record ByteView : Type 0 where
-  pub lists : AllocationId → Option (List ℕ)
-  pub rest : (memory_type slot at : ℕ) → Option ℕ
+  pub allocation_bytes : AllocationId → Option (List ℕ)
+  pub unallocated_bytes : (memory_type slot at : ℕ) → Option ℕ
 
 -- ---- computed from the one list of bytes that the device has for each mapped block
 
@@ -55,8 +55,8 @@ rest_in held (Some s) at = if is_covered (extents_of s.block) at then None else 
 
 abbrev pub byte_view_of : Held → Slots → ByteView
 byte_view_of held slots = record {
-  lists = λ p. list_in held (block_at slots p.memory_type p.slot) p.number;
-  rest = λ t i at. rest_in held (block_at slots t i) at;
+  allocation_bytes = λ p. list_in held (block_at slots p.memory_type p.slot) p.number;
+  unallocated_bytes = λ t i at. rest_in held (block_at slots t i) at;
 }
 
 -- ---- how they change
@@ -73,30 +73,30 @@ IsOutOf true rest start size (Some xs) = (length xs ≡ size) × ((k : ℕ) → 
 
 -- a piece is given: its list is taken out of the rest as it is
 pub record TakesOut (mapped : Bool) (p : AllocationId) (start size : ℕ) (old new : ByteView) : Type 0 where
-  pub fresh : old.lists p ≡ None
-  pub list : IsOutOf mapped (old.rest p.memory_type p.slot) start size (new.lists p)
-  pub others : (q : AllocationId) → is_same_id p q ≡ false → new.lists q ≡ old.lists q
-  pub rest : (t i at : ℕ) → new.rest t i at ≡ (if lies_in p start size t i at then None else old.rest t i at)
+  pub fresh : old.allocation_bytes p ≡ None
+  pub list : IsOutOf mapped (old.unallocated_bytes p.memory_type p.slot) start size (new.allocation_bytes p)
+  pub others : (q : AllocationId) → is_same_id p q ≡ false → new.allocation_bytes q ≡ old.allocation_bytes q
+  pub unallocated_bytes : (t i at : ℕ) → new.unallocated_bytes t i at ≡ (if lies_in p start size t i at then None else old.unallocated_bytes t i at)
 
 -- a piece goes: its list is put back into the rest
 pub record PutsBack (p : AllocationId) (start size : ℕ) (old new : ByteView) : Type 0 where
-  pub gone : new.lists p ≡ None
-  pub others : (q : AllocationId) → is_same_id p q ≡ false → new.lists q ≡ old.lists q
-  pub rest : (t i at : ℕ) → new.rest t i at ≡ (if lies_in p start size t i at then byte_at (old.lists p) (at - start) else old.rest t i at)
+  pub gone : new.allocation_bytes p ≡ None
+  pub others : (q : AllocationId) → is_same_id p q ≡ false → new.allocation_bytes q ≡ old.allocation_bytes q
+  pub unallocated_bytes : (t i at : ℕ) → new.unallocated_bytes t i at ≡ (if lies_in p start size t i at then byte_at (old.allocation_bytes p) (at - start) else old.unallocated_bytes t i at)
 
 -- a block is new: its bytes, where it is mapped, are rest
 pub record AddsBlock (t i : ℕ) (bytes : Option (List ℕ)) (old new : ByteView) : Type 0 where
-  pub lists : (q : AllocationId) → new.lists q ≡ old.lists q
-  pub rest : (u j at : ℕ) → new.rest u j at ≡ (if (t == u) && (i == j) then byte_at bytes at else old.rest u j at)
+  pub allocation_bytes : (q : AllocationId) → new.allocation_bytes q ≡ old.allocation_bytes q
+  pub unallocated_bytes : (u j at : ℕ) → new.unallocated_bytes u j at ≡ (if (t == u) && (i == j) then byte_at bytes at else old.unallocated_bytes u j at)
 
 -- a block goes, with all its bytes
 pub record DropsBlock (t i : ℕ) (old new : ByteView) : Type 0 where
-  pub lists : (q : AllocationId) → new.lists q ≡ old.lists q
-  pub rest : (u j at : ℕ) → new.rest u j at ≡ (if (t == u) && (i == j) then None else old.rest u j at)
+  pub allocation_bytes : (q : AllocationId) → new.allocation_bytes q ≡ old.allocation_bytes q
+  pub unallocated_bytes : (u j at : ℕ) → new.unallocated_bytes u j at ≡ (if (t == u) && (i == j) then None else old.unallocated_bytes u j at)
 
 -- a piece's list is written, and nothing else changes
 pub record Writes (p : AllocationId) (ws : List ℕ) (old new : ByteView) : Type 0 where
-  pub was : (xs : List ℕ) × (old.lists p ≡ Some xs) × (length ws ≡ length xs)
-  pub list : new.lists p ≡ Some ws
-  pub others : (q : AllocationId) → is_same_id p q ≡ false → new.lists q ≡ old.lists q
-  pub rest : (t i at : ℕ) → new.rest t i at ≡ old.rest t i at
+  pub was : (xs : List ℕ) × (old.allocation_bytes p ≡ Some xs) × (length ws ≡ length xs)
+  pub list : new.allocation_bytes p ≡ Some ws
+  pub others : (q : AllocationId) → is_same_id p q ≡ false → new.allocation_bytes q ≡ old.allocation_bytes q
+  pub unallocated_bytes : (t i at : ℕ) → new.unallocated_bytes t i at ≡ old.unallocated_bytes t i at

@@ -7,5 +7,5 @@ pub mod ByteView
 pub mod Step
 pub mod Apart
 pub mod Rename
-pub mod Alike
+pub mod EqualButBytes
 pub mod Untouched

@@ -38,10 +38,10 @@ use Rattle.gpu_vulkan_setup.specs.declared.describe.AllocationCreateDesc.{Alloca
 -- the blocks with their pieces, and the bytes
 pub record ModelState : Type 0 where
   pub slots : Slots
-  pub buffers : ByteView
+  pub byte_view : ByteView
 
 abbrev pub model_of : {D : Type 0} → Ghosts D → State D → ModelState
-model_of g s = record { slots = s.slots; buffers = byte_view_of (g.held s.device) s.slots }
+model_of g s = record { slots = s.slots; byte_view = byte_view_of (g.held s.device) s.slots }
 
 pub data Call : Type 0 where
   Allocate : (d : AllocationCreateDesc) → Call
@@ -97,7 +97,7 @@ BytesAfter mapped t (Some a) (Gave p) old new =
 
 pub record AttemptStep (setup : Setup) (t : ℕ) (d : AllocationCreateDesc) (o : AttemptEnvironment) (answer : Answer) (old new : ModelState) : Type 0 where
   pub slots : Attempts setup old.slots t d o answer new.slots
-  pub bytes : BytesAfter (is_mapped setup.properties t) t o.asked answer old.buffers new.buffers
+  pub bytes : BytesAfter (is_mapped setup.properties t) t o.asked answer old.byte_view new.byte_view
 
 abbrev pub reply_of : (t : ℕ) → Answer → Reply
 reply_of t (Gave p) = Given t p
@@ -146,8 +146,8 @@ pub record ReleaseStep (t : ℕ) (p : Piece DeviceMemory) (old new : ModelState)
   pub releases : ReleasesPiece (IsTrue (has_several (slots_at old.slots t))) (slots_at old.slots t) p went left
   pub slots : new.slots ≡ slice_set old.slots t left
   pub mid : ByteView
-  pub back : PutsBack (id_in t p) p.offset p.size old.buffers mid
-  pub drops : MayDrop t p.slot went mid new.buffers
+  pub back : PutsBack (id_in t p) p.offset p.size old.byte_view mid
+  pub drops : MayDrop t p.slot went mid new.byte_view
 
 abbrev pub FreeStep : (t : ℕ) → Option (Piece DeviceMemory) → Reply → ModelState → ModelState → Type 0
 FreeStep t None Done old new = new ≡ old
@@ -162,7 +162,7 @@ FreeStep t p _ old new = ⊥
 abbrev pub RenameStep : (t : ℕ) → Option (Piece DeviceMemory) → (name : List ℕ) → (host : Bool) → Reply → ModelState → ModelState → Type 0
 RenameStep t None name host Done old new = (host ≡ true) × (new ≡ old)
 RenameStep t None name host (Fails r) old new = (host ≡ false) × (r ≡ host_out_of_memory) × (new ≡ old)
-RenameStep t (Some p) name host Done old new = (host ≡ true) × IsRenamed is_same_memory t p name old.slots new.slots × (new.buffers ≡ old.buffers)
+RenameStep t (Some p) name host Done old new = (host ≡ true) × IsRenamed is_same_memory t p name old.slots new.slots × (new.byte_view ≡ old.byte_view)
 RenameStep t (Some p) name host (Fails r) old new =
     (((host ≡ false) × IsLiveIn old.slots t (Some p) × (r ≡ host_out_of_memory))
     ⊎ ((IsLiveIn old.slots t (Some p) → ⊥) × (r ≢ host_out_of_memory) × IsNameRefusal is_same_memory p (slot_at (slots_at old.slots t) p.slot) r))
@@ -194,12 +194,12 @@ id_of a = record { memory_type = a.memory_type_index; slot = a.memory_block_inde
 pub record WriteStep (setup : Setup) (a : Allocation) (bytes : List ℕ) (old new : ModelState) : Type 0 where
   pub live : IsMapped setup.properties old.slots a
   pub slots : new.slots ≡ old.slots
-  pub writes : Writes (id_of a) bytes old.buffers new.buffers
+  pub writes : Writes (id_of a) bytes old.byte_view new.byte_view
 
 -- a live allocation in mapped memory reads as its list, and any other has no bytes
 abbrev pub IsRead : Setup → Allocation → ModelState → Option (List ℕ) → Type 0
 IsRead setup a s None = IsMapped setup.properties s.slots a → ⊥
-IsRead setup a s (Some xs) = IsMapped setup.properties s.slots a × (s.buffers.lists (id_of a) ≡ Some xs)
+IsRead setup a s (Some xs) = IsMapped setup.properties s.slots a × (s.byte_view.allocation_bytes (id_of a) ≡ Some xs)
 
 -- ---- any call
 

@@ -11,7 +11,7 @@ ghost use Rattle.gpu_vulkan_setup.specs.declared.describe.AllocationCreateDesc.{
 ghost use Rattle.gpu_values.specs.declared.error.AllocationError.{AllocationError};
 ghost use Rattle.gpu_vulkan_setup.specs.Setup.{Setup};
 ghost use Rattle.gpu_vulkan.specs.Step.{ModelState, Call, CallEnvironment, Reply, Step};
-ghost use Rattle.gpu_vulkan.specs.Alike.{AlikeCallEnvironment, AlikeCall, AlikeReply};
+ghost use Rattle.gpu_vulkan.specs.EqualButBytes.{EqualButBytesCallEnvironment, EqualButBytesCall, EqualButBytesReply};
 
 use gpu_device::vulkan::VulkanDevice;
 
@@ -26,8 +26,8 @@ pub fn one_step()
 /// the same blocks.
 pub fn bytes_decide_nothing()
     ensures { (setup : Setup) (call other : Call) (met meets : CallEnvironment) (a b : Reply) (old new twin next : ModelState) → BlocksWellFormed setup.properties.granularity old.slots
-        → old.slots ≡ twin.slots → AlikeCallEnvironment met meets → AlikeCall call other → Step setup call met a old new → Step setup other meets b twin next
-        → AlikeReply a b × (new.slots ≡ next.slots) }
+        → old.slots ≡ twin.slots → EqualButBytesCallEnvironment met meets → EqualButBytesCall call other → Step setup call met a old new → Step setup other meets b twin next
+        → EqualButBytesReply a b × (new.slots ≡ next.slots) }
 {}
 
 /// No allocation and no free changes a byte of memory that is held before and after. (A new name, a report, a list of leaks and a

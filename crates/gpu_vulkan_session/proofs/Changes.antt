@@ -19,28 +19,28 @@ use Rattle.gpu_vulkan_setup.specs.declared.describe.AllocationCreateDesc.{Alloca
 
 -- a place of a live piece comes in, with a list of that size where its memory is mapped
 pub record Gained (mapped : Bool) (q : AllocationId) (size : ℕ) (old new : ByteView) : Type 0 where
-  pub here : option_map length (new.lists q) ≡ (if mapped then Some size else None)
-  pub others : (r : AllocationId) → is_same_id q r ≡ false → new.lists r ≡ old.lists r
+  pub here : option_map length (new.allocation_bytes q) ≡ (if mapped then Some size else None)
+  pub others : (r : AllocationId) → is_same_id q r ≡ false → new.allocation_bytes r ≡ old.allocation_bytes r
 
 -- a place of a live piece goes
 pub record Lost (q : AllocationId) (old new : ByteView) : Type 0 where
-  pub gone : new.lists q ≡ None
-  pub others : (r : AllocationId) → is_same_id q r ≡ false → new.lists r ≡ old.lists r
+  pub gone : new.allocation_bytes q ≡ None
+  pub others : (r : AllocationId) → is_same_id q r ≡ false → new.allocation_bytes r ≡ old.allocation_bytes r
 
 as_long_as : (mapped : Bool) (rest : ℕ → Option ℕ) (start size : ℕ) (list : Option (List ℕ)) → IsOutOf mapped rest start size list → option_map length list ≡ (if mapped then Some size else None)
 as_long_as false rest start size list h = ap (option_map length) h
 as_long_as true rest start size None h = absurd h
 as_long_as true rest start size (Some xs) h = ap Some h.0
 
-taken_out : (mapped : Bool) (q : AllocationId) (start size : ℕ) (old mid new : ByteView) → ((r : AllocationId) → mid.lists r ≡ old.lists r) → TakesOut mapped q start size mid new → Gained mapped q size old new
+taken_out : (mapped : Bool) (q : AllocationId) (start size : ℕ) (old mid new : ByteView) → ((r : AllocationId) → mid.allocation_bytes r ≡ old.allocation_bytes r) → TakesOut mapped q start size mid new → Gained mapped q size old new
 taken_out mapped q start size old mid new same t = record {
-  here = as_long_as mapped (mid.rest q.memory_type q.slot) start size (new.lists q) t.list;
+  here = as_long_as mapped (mid.unallocated_bytes q.memory_type q.slot) start size (new.allocation_bytes q) t.list;
   others = λ r apart. t.others r apart ∙ same r;
 }
 
 attempt_gained : (mapped : Bool) (t : ℕ) (asked : Option Asked) (p : Piece DeviceMemory) (old new : ByteView) → BytesAfter mapped t asked (Gave p) old new → Gained mapped (id_in t p) p.size old new
 attempt_gained mapped t None p old new h = taken_out mapped (id_in t p) p.offset p.size old old new (λ r. refl) h
-attempt_gained mapped t (Some a) p old new h = taken_out mapped (id_in t p) p.offset p.size old h.0 new h.1.lists h.2
+attempt_gained mapped t (Some a) p old new h = taken_out mapped (id_in t p) p.offset p.size old h.0 new h.1.allocation_bytes h.2
 
 -- a refused attempt leaves the bytes
 attempt_refused : (mapped : Bool) (t : ℕ) (asked : Option Asked) (r : Refusal) (old new : ByteView) → BytesAfter mapped t asked (Refused r) old new → new ≡ old
@@ -59,68 +59,68 @@ fails_given t p r e = absurd (cc)
 module _ (setup : Setup) (d : AllocationCreateDesc) where
   -- an attempt that gives what was told
   given_by : (u t : ℕ) (o : AttemptEnvironment) (answer : Answer) (p : Piece DeviceMemory) (old new : ModelState) → Given t p ≡ reply_of u answer → AttemptStep setup u d o answer old new
-      → Gained (is_mapped setup.properties t) (id_in t p) p.size old.buffers new.buffers
+      → Gained (is_mapped setup.properties t) (id_in t p) p.size old.byte_view new.byte_view
   given_by u t o (Gave q) p old new e a =
       let same = given_same t u p q e in
-      let here = attempt_gained (is_mapped setup.properties u) u o.asked q old.buffers new.buffers a.bytes in
-      let G : ℕ → Type 0 = λ x. Gained (is_mapped setup.properties x) (id_in x q) q.size old.buffers new.buffers in
-      let H : Piece DeviceMemory → Type 0 = λ x. Gained (is_mapped setup.properties t) (id_in t x) x.size old.buffers new.buffers in
+      let here = attempt_gained (is_mapped setup.properties u) u o.asked q old.byte_view new.byte_view a.bytes in
+      let G : ℕ → Type 0 = λ x. Gained (is_mapped setup.properties x) (id_in x q) q.size old.byte_view new.byte_view in
+      let H : Piece DeviceMemory → Type 0 = λ x. Gained (is_mapped setup.properties t) (id_in t x) x.size old.byte_view new.byte_view in
       subst H (sym same.1) (subst G (sym same.0) here)
   given_by u t o (Refused r) p old new e a = given_fails t p r e
 
-  given_after : (next : Option ℕ) (t u : ℕ) (o : AttemptEnvironment) (r : Refusal) (p : Piece DeviceMemory) (old mid new : ModelState) → mid.buffers ≡ old.buffers → Follows setup d next o u (Refused r) mid (Given t p) new
-      → Gained (is_mapped setup.properties t) (id_in t p) p.size old.buffers new.buffers
+  given_after : (next : Option ℕ) (t u : ℕ) (o : AttemptEnvironment) (r : Refusal) (p : Piece DeviceMemory) (old mid new : ModelState) → mid.byte_view ≡ old.byte_view → Follows setup d next o u (Refused r) mid (Given t p) new
+      → Gained (is_mapped setup.properties t) (id_in t p) p.size old.byte_view new.byte_view
   given_after None t u o r p old mid new same f = given_fails t p r f.1
   given_after (Some v) t u o r p old mid new same f =
-      let G : ByteView → Type 0 = λ b. Gained (is_mapped setup.properties t) (id_in t p) p.size b new.buffers in
+      let G : ByteView → Type 0 = λ b. Gained (is_mapped setup.properties t) (id_in t p) p.size b new.byte_view in
       subst G same (given_by v t o f.0 p mid new f.2 f.1)
 
   served_given : (u t : ℕ) (o : CallEnvironment) (answer : Answer) (p : Piece DeviceMemory) (old mid new : ModelState) → AttemptStep setup u d o.first answer old mid
-      → Follows setup d (next_by setup d answer) o.second u answer mid (Given t p) new → Gained (is_mapped setup.properties t) (id_in t p) p.size old.buffers new.buffers
+      → Follows setup d (next_by setup d answer) o.second u answer mid (Given t p) new → Gained (is_mapped setup.properties t) (id_in t p) p.size old.byte_view new.byte_view
   served_given u t o (Gave q) p old mid new a f =
-      let G : ModelState → Type 0 = λ s. Gained (is_mapped setup.properties t) (id_in t p) p.size old.buffers s.buffers in
+      let G : ModelState → Type 0 = λ s. Gained (is_mapped setup.properties t) (id_in t p) p.size old.byte_view s.byte_view in
       subst G (sym f.2) (given_by u t o.first (Gave q) p old mid f.1 a)
   served_given u t o (Refused r) p old mid new a f =
-      given_after (next_by setup d (Refused r)) t u o.second r p old mid new (attempt_refused (is_mapped setup.properties u) u o.first.asked r old.buffers mid.buffers a.bytes) f
+      given_after (next_by setup d (Refused r)) t u o.second r p old mid new (attempt_refused (is_mapped setup.properties u) u o.first.asked r old.byte_view mid.byte_view a.bytes) f
 
   found_given : (found : Option ℕ) (t : ℕ) (o : CallEnvironment) (p : Piece DeviceMemory) (old new : ModelState) → FoundStep setup d found o (Given t p) old new
-      → Gained (is_mapped setup.properties t) (id_in t p) p.size old.buffers new.buffers
+      → Gained (is_mapped setup.properties t) (id_in t p) p.size old.byte_view new.byte_view
   found_given None t o p old new h = given_fails t p _ h.reply_is
   found_given (Some u) t o p old new h = served_given u t o h.answer p old h.mid new h.attempt h.follows
 
   valid_given : (valid : Bool) (t : ℕ) (o : CallEnvironment) (p : Piece DeviceMemory) (old new : ModelState) → AllocateStep setup d valid o (Given t p) old new
-      → Gained (is_mapped setup.properties t) (id_in t p) p.size old.buffers new.buffers
+      → Gained (is_mapped setup.properties t) (id_in t p) p.size old.byte_view new.byte_view
   valid_given false t o p old new h = given_fails t p _ h.reply_is
   valid_given true t o p old new h = found_given _ t o p old new h
 
-  pub gained : (t : ℕ) (o : CallEnvironment) (p : Piece DeviceMemory) (old new : ModelState) → Step setup (Allocate d) o (Given t p) old new → Gained (is_mapped setup.properties t) (id_in t p) p.size old.buffers new.buffers
+  pub gained : (t : ℕ) (o : CallEnvironment) (p : Piece DeviceMemory) (old new : ModelState) → Step setup (Allocate d) o (Given t p) old new → Gained (is_mapped setup.properties t) (id_in t p) p.size old.byte_view new.byte_view
   gained t o p old new h = valid_given (is_valid d) t o p old new h
 
   -- ---- a refusal leaves the bytes
 
-  failed_by : (u : ℕ) (o : AttemptEnvironment) (answer : Answer) (r : Refusal) (old new : ModelState) → Fails r ≡ reply_of u answer → AttemptStep setup u d o answer old new → new.buffers ≡ old.buffers
+  failed_by : (u : ℕ) (o : AttemptEnvironment) (answer : Answer) (r : Refusal) (old new : ModelState) → Fails r ≡ reply_of u answer → AttemptStep setup u d o answer old new → new.byte_view ≡ old.byte_view
   failed_by u o (Gave q) r old new e a = fails_given u q r e
-  failed_by u o (Refused s) r old new e a = attempt_refused (is_mapped setup.properties u) u o.asked s old.buffers new.buffers a.bytes
+  failed_by u o (Refused s) r old new e a = attempt_refused (is_mapped setup.properties u) u o.asked s old.byte_view new.byte_view a.bytes
 
-  failed_after : (next : Option ℕ) (u : ℕ) (o : AttemptEnvironment) (s r : Refusal) (old mid new : ModelState) → mid.buffers ≡ old.buffers → Follows setup d next o u (Refused s) mid (Fails r) new → new.buffers ≡ old.buffers
-  failed_after None u o s r old mid new same f = ap (λ x. x.buffers) f.2 ∙ same
+  failed_after : (next : Option ℕ) (u : ℕ) (o : AttemptEnvironment) (s r : Refusal) (old mid new : ModelState) → mid.byte_view ≡ old.byte_view → Follows setup d next o u (Refused s) mid (Fails r) new → new.byte_view ≡ old.byte_view
+  failed_after None u o s r old mid new same f = ap (λ x. x.byte_view) f.2 ∙ same
   failed_after (Some v) u o s r old mid new same f = failed_by v o f.0 r mid new f.2 f.1 ∙ same
 
   served_failed : (u : ℕ) (o : CallEnvironment) (answer : Answer) (r : Refusal) (old mid new : ModelState) → AttemptStep setup u d o.first answer old mid
-      → Follows setup d (next_by setup d answer) o.second u answer mid (Fails r) new → new.buffers ≡ old.buffers
+      → Follows setup d (next_by setup d answer) o.second u answer mid (Fails r) new → new.byte_view ≡ old.byte_view
   served_failed u o (Gave q) r old mid new a f = fails_given u q r f.1
   served_failed u o (Refused s) r old mid new a f =
-      failed_after (next_by setup d (Refused s)) u o.second s r old mid new (attempt_refused (is_mapped setup.properties u) u o.first.asked s old.buffers mid.buffers a.bytes) f
+      failed_after (next_by setup d (Refused s)) u o.second s r old mid new (attempt_refused (is_mapped setup.properties u) u o.first.asked s old.byte_view mid.byte_view a.bytes) f
 
-  found_failed : (found : Option ℕ) (o : CallEnvironment) (r : Refusal) (old new : ModelState) → FoundStep setup d found o (Fails r) old new → new.buffers ≡ old.buffers
-  found_failed None o r old new h = ap (λ x. x.buffers) h.same
+  found_failed : (found : Option ℕ) (o : CallEnvironment) (r : Refusal) (old new : ModelState) → FoundStep setup d found o (Fails r) old new → new.byte_view ≡ old.byte_view
+  found_failed None o r old new h = ap (λ x. x.byte_view) h.same
   found_failed (Some u) o r old new h = served_failed u o h.answer r old h.mid new h.attempt h.follows
 
-  valid_failed : (valid : Bool) (o : CallEnvironment) (r : Refusal) (old new : ModelState) → AllocateStep setup d valid o (Fails r) old new → new.buffers ≡ old.buffers
-  valid_failed false o r old new h = ap (λ x. x.buffers) h.same
+  valid_failed : (valid : Bool) (o : CallEnvironment) (r : Refusal) (old new : ModelState) → AllocateStep setup d valid o (Fails r) old new → new.byte_view ≡ old.byte_view
+  valid_failed false o r old new h = ap (λ x. x.byte_view) h.same
   valid_failed true o r old new h = found_failed _ o r old new h
 
-  pub not_gained : (o : CallEnvironment) (r : Refusal) (old new : ModelState) → Step setup (Allocate d) o (Fails r) old new → new.buffers ≡ old.buffers
+  pub not_gained : (o : CallEnvironment) (r : Refusal) (old new : ModelState) → Step setup (Allocate d) o (Fails r) old new → new.byte_view ≡ old.byte_view
   not_gained o r old new h = valid_failed (is_valid d) o r old new h
 
 -- ---- places
@@ -139,15 +139,15 @@ place_piece a p is = place_by a a.chunk_id p refl is
 
 -- ---- a free
 
-dropped : (t i : ℕ) (went : Option DeviceMemory) (mid new : ByteView) → MayDrop t i went mid new → (r : AllocationId) → new.lists r ≡ mid.lists r
-dropped t i None mid new h r = ap (λ b. b.lists r) h
-dropped t i (Some m) mid new h r = h.lists r
+dropped : (t i : ℕ) (went : Option DeviceMemory) (mid new : ByteView) → MayDrop t i went mid new → (r : AllocationId) → new.allocation_bytes r ≡ mid.allocation_bytes r
+dropped t i None mid new h r = ap (λ b. b.allocation_bytes r) h
+dropped t i (Some m) mid new h r = h.allocation_bytes r
 
-pub lost : (setup : Setup) (a : Allocation) (o : CallEnvironment) (p : Piece DeviceMemory) (old new : ModelState) → Step setup (Free a) o Done old new → piece_of a ≡ Some p → Lost (id_in a.memory_type_index p) old.buffers new.buffers
+pub lost : (setup : Setup) (a : Allocation) (o : CallEnvironment) (p : Piece DeviceMemory) (old new : ModelState) → Step setup (Free a) o Done old new → piece_of a ≡ Some p → Lost (id_in a.memory_type_index p) old.byte_view new.byte_view
 lost setup a o p old new step is =
     let freed = subst (λ z. FreeStep a.memory_type_index z Done old new) is step.1 in
     let release = freed.1 in
-    let same = dropped a.memory_type_index p.slot release.went release.mid new.buffers release.drops in
+    let same = dropped a.memory_type_index p.slot release.went release.mid new.byte_view release.drops in
     record {
       gone = same (id_in a.memory_type_index p) ∙ release.back.gone;
       others = λ r apart. same r ∙ release.back.others r apart;
@@ -155,11 +155,11 @@ lost setup a o p old new step is =
 
 -- ---- what changes no byte
 
-renamed_bytes : (t : ℕ) (p : Option (Piece DeviceMemory)) (name : List ℕ) (host : Bool) (reply : Reply) (old new : ModelState) → RenameStep t p name host reply old new → new.buffers ≡ old.buffers
-renamed_bytes t None name host Done old new h = ap (λ s. s.buffers) h.1
-renamed_bytes t None name host (Fails r) old new h = ap (λ s. s.buffers) h.2
+renamed_bytes : (t : ℕ) (p : Option (Piece DeviceMemory)) (name : List ℕ) (host : Bool) (reply : Reply) (old new : ModelState) → RenameStep t p name host reply old new → new.byte_view ≡ old.byte_view
+renamed_bytes t None name host Done old new h = ap (λ s. s.byte_view) h.1
+renamed_bytes t None name host (Fails r) old new h = ap (λ s. s.byte_view) h.2
 renamed_bytes t (Some p) name host Done old new h = h.2
-renamed_bytes t (Some p) name host (Fails r) old new h = ap (λ s. s.buffers) h.1
+renamed_bytes t (Some p) name host (Fails r) old new h = ap (λ s. s.byte_view) h.1
 renamed_bytes t None name host (Given u q) old new h = absurd h
 renamed_bytes t None name host (Bytes xs) old new h = absurd h
 renamed_bytes t None name host (Sum n) old new h = absurd h
@@ -171,7 +171,7 @@ renamed_bytes t (Some p) name host (Sum n) old new h = absurd h
 renamed_bytes t (Some p) name host (Shows w) old new h = absurd h
 renamed_bytes t (Some p) name host (Tells zs) old new h = absurd h
 
-pub named_bytes : (setup : Setup) (a : Allocation) (name : List ℕ) (o : CallEnvironment) (reply : Reply) (old new : ModelState) → Step setup (Rename a name) o reply old new → new.buffers ≡ old.buffers
+pub named_bytes : (setup : Setup) (a : Allocation) (name : List ℕ) (o : CallEnvironment) (reply : Reply) (old new : ModelState) → Step setup (Rename a name) o reply old new → new.byte_view ≡ old.byte_view
 named_bytes setup a name o reply old new h = renamed_bytes a.memory_type_index (piece_of a) name o.first.host reply old new h.1
 
 pub shown_same : (setup : Setup) (o : CallEnvironment) (reply : Reply) (old new : ModelState) → Step setup Report o reply old new → new ≡ old

@@ -6,14 +6,14 @@ use Rattle.gpu_vulkan_setup.specs.Setup.{Setup}
 use Rattle.gpu_vulkan.specs.Step.{id_of}
 use Rattle.gpu_vulkan.specs.declared.allocation.Allocation.{Allocation}
 use Rattle.gpu_vulkan_session.specs.Session.{SessionState, IsOwn, Put, CommandEnvironment, Told, PutsIn, PutsOver, ServesAt}
-use Rattle.gpu_vulkan_session.proofs.Alike.{other_place}
+use Rattle.gpu_vulkan_session.proofs.EqualButBytes.{other_place}
 
 module _ (setup : Setup) (key other at : ℕ) (bytes : List ℕ) (o : CommandEnvironment) (told : Told) (old new : SessionState) (b : Allocation) (own : IsOwn old) (apart : key ≢ other) (bound : old.bound other ≡ Some b) (live : IsLive old.model.slots b) where
   abbrev Leaves : Type 0
-  Leaves = new.model.buffers.lists (id_of b) ≡ old.model.buffers.lists (id_of b)
+  Leaves = new.model.byte_view.allocation_bytes (id_of b) ≡ old.model.byte_view.allocation_bytes (id_of b)
 
   unchanged : new ≡ old → Leaves
-  unchanged e = ap (λ s. s.model.buffers.lists (id_of b)) e
+  unchanged e = ap (λ s. s.model.byte_view.allocation_bytes (id_of b)) e
 
   put_in : (a : Allocation) (xs : List ℕ) (fits : Bool) → old.bound key ≡ Some a → PutsIn setup a at bytes xs fits o told old new → Leaves
   put_in a xs false found h = unchanged h.1.1

@@ -5,7 +5,7 @@ pub mod Taking
 pub mod Reading
 pub mod Naming
 pub mod Changes
-pub mod Alike
+pub mod EqualButBytes
 pub mod Ranges
-pub mod TwoRuns
+pub mod NonInterference
 pub mod Isolation

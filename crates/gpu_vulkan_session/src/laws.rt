@@ -6,20 +6,20 @@ ghost use Rattle.gpu_vulkan_setup.specs.Setup.{Setup};
 ghost use Rattle.gpu_vulkan.specs.Step.{id_of};
 ghost use Rattle.gpu_vulkan.specs.declared.allocation.Allocation.{Allocation};
 ghost use Rattle.gpu_vulkan_session.specs.Session.{SessionState, IsOwn, Under, Put, CommandEnvironment, Told, Serves};
-ghost use Rattle.gpu_vulkan_session.specs.Laws.{TwoRuns};
+ghost use Rattle.gpu_vulkan_session.specs.Laws.{NonInterference};
 
 /// What others write changes nothing of ours. Take a set of the caller's numbers, ours, and two lists of commands that differ
 /// only in the bytes of writes to other numbers. In two runs from one state, with refusals that are the same and new blocks that
 /// may hold other bytes, all replies are equal but for the bytes that reads give; and a read under a number of ours gives
 /// equal bytes at each place that was written under it since its allocation was given, and at every place, if it was live at the
 /// beginning. That stands although our pieces may lie where others' lay, and then begin with their bytes.
-pub fn two_runs()
-    ensures { TwoRuns }
+pub fn non_interference()
+    ensures { NonInterference }
 {}
 
 /// A write under one number leaves the bytes of every other number's live allocation.
 pub fn writes_are_apart()
     ensures { (setup : Setup) (key other at : ℕ) (bytes : List ℕ) (o : CommandEnvironment) (told : Told) (old new : SessionState) (b : Allocation) → IsOwn old
         → Serves setup (Under key (Put at bytes)) o told old new → key ≢ other → old.bound other ≡ Some b → IsLive old.model.slots b
-        → new.model.buffers.lists (id_of b) ≡ old.model.buffers.lists (id_of b) }
+        → new.model.byte_view.allocation_bytes (id_of b) ≡ old.model.byte_view.allocation_bytes (id_of b) }
 {}

@@ -1,4 +1,4 @@
-use Rattle.gpu_vulkan.proofs.Alike.{step_alike}
+use Rattle.gpu_vulkan.proofs.EqualButBytes.{step_alike}
 use Rattle.gpu_vulkan.proofs.laws.bytes_decide_nothing.Goals as goal
 
 pub returns : goal.returns

@@ -10,7 +10,7 @@ use Rattle.gpu_core.proofs.OneOutcome.{released_once, refusal_once, renamed_once
 use Rattle.gpu_device.specs.declared.vulkan.types.DeviceMemory.{DeviceMemory}
 use Rattle.gpu_device.specs.declared.vulkan.types.MemoryAllocateInfo.{MemoryAllocateInfo}
 use Rattle.gpu_vulkan.specs.Allocate.{Attempts, IsTooLarge, IsWithinHeap, is_valid, is_for_upload, is_short}
-use Rattle.gpu_vulkan.specs.Alike.{AlikeAnswer, AlikeAsked, AlikeAttemptEnvironment, AlikeCallEnvironment, AlikeDescription, AlikeCall, AlikeReply}
+use Rattle.gpu_vulkan.specs.EqualButBytes.{EqualButBytesAnswer, EqualButBytesAsked, EqualButBytesAttemptEnvironment, EqualButBytesCallEnvironment, EqualButBytesDescription, EqualButBytesCall, EqualButBytesReply}
 use Rattle.gpu_memory_types.specs.Attempt.{RequestAt, Allocated, AllocatesInType, Gave, Refused}
 use Rattle.gpu_memory_types.proofs.OneOutcome.{allocates_once}
 use Rattle.gpu_vulkan_blocks.specs.Suballocation.{AttemptEnvironment, Asked, Answer, asked_block, block_result, request_at}
@@ -32,17 +32,17 @@ use Rattle.gpu_vulkan.proofs.OneStep.{mid_sound, free_reply, done_or_fails, rena
 
 -- ---- descriptions that ask for the same
 
-same_request : (d e : AllocationCreateDesc) → AlikeDescription d e → request_of d ≡ request_of e
+same_request : (d e : AllocationCreateDesc) → EqualButBytesDescription d e → request_of d ≡ request_of e
 same_request d e a = λ i. record { size = (a.requirements i).size; alignment = (a.requirements i).alignment; kind = kind_of (a.linear i); name = a.name i }
 
-next_alike : (setup : Setup) (d e : AllocationCreateDesc) (answer : Answer) → AlikeDescription d e → next_by setup d answer ≡ next_by setup e answer
+next_alike : (setup : Setup) (d e : AllocationCreateDesc) (answer : Answer) → EqualButBytesDescription d e → next_by setup d answer ≡ next_by setup e answer
 next_alike setup d e (Gave p) a = refl
 next_alike setup d e (Refused r) a =
     λ i. if is_for_upload (a.location i) && not (is_short r) then first_type setup.properties.types (a.requirements i).memory_type_bits (required (a.location i)) else None
 
 -- ---- answers that differ in bytes alone
 
-result_alike : (a b : BlockAnswer) → AlikeAnswer a b → block_result a ≡ block_result b
+result_alike : (a b : BlockAnswer) → EqualButBytesAnswer a b → block_result a ≡ block_result b
 result_alike (Mapped n xs) (Mapped m ys) same = ap (λ k. Allocated (record { 0 = k })) same
 result_alike (Mapped n xs) (Declined code) same = ap block_result same
 result_alike (Mapped n xs) (Granted m) same = ap block_result same
@@ -51,7 +51,7 @@ result_alike (Declined code) b same = ap block_result same
 result_alike (Granted n) b same = ap block_result same
 result_alike (NotMapped code) b same = ap block_result same
 
-asked_alike : (o p : Option Asked) → AlikeAsked o p → asked_block o ≡ asked_block p
+asked_alike : (o p : Option Asked) → EqualButBytesAsked o p → asked_block o ≡ asked_block p
 asked_alike None None same = refl
 asked_alike None (Some b) same = absurd same
 asked_alike (Some a) None same = absurd same
@@ -62,7 +62,7 @@ asked_alike (Some a) (Some b) same =
 
 -- ---- an attempt
 
-module _ (setup : Setup) (d e : AllocationCreateDesc) (same : AlikeDescription d e) where
+module _ (setup : Setup) (d e : AllocationCreateDesc) (same : EqualButBytesDescription d e) where
   same_size : d.requirements.size ≡ e.requirements.size
   same_size = ap (λ r. r.size) same.requirements
 
@@ -78,7 +78,7 @@ module _ (setup : Setup) (d e : AllocationCreateDesc) (same : AlikeDescription d
         request = requests j;
       }
 
-  within_alike : (old : Slots) (t : ℕ) (o p : AttemptEnvironment) (x y : Answer) (new next : Slots) → BlocksWellFormed setup.properties.granularity old → AlikeAttemptEnvironment o p
+  within_alike : (old : Slots) (t : ℕ) (o p : AttemptEnvironment) (x y : Answer) (new next : Slots) → BlocksWellFormed setup.properties.granularity old → EqualButBytesAttemptEnvironment o p
       → IsWithinHeap setup old t d o x new → IsWithinHeap setup old t e p y next → (x ≡ y) × (new ≡ next)
   within_alike old t o p x y new next sound met a b =
       let other : AllocatesInType (request_at setup t d) old o.host (asked_block o.asked) y next =
@@ -87,7 +87,7 @@ module _ (setup : Setup) (d e : AllocationCreateDesc) (same : AlikeDescription d
       (subst (λ k. AllocatesInType (request_at setup t e) old p.host k y next) (sym (asked_alike o.asked p.asked met.asked)) b.allocates)) in
       allocates_once (request_at setup t d) old o.host (asked_block o.asked) x y new next sound a.allocates other
 
-  attempts_alike : (old : Slots) (t : ℕ) (o p : AttemptEnvironment) (x y : Answer) (new next : Slots) → BlocksWellFormed setup.properties.granularity old → AlikeAttemptEnvironment o p
+  attempts_alike : (old : Slots) (t : ℕ) (o p : AttemptEnvironment) (x y : Answer) (new next : Slots) → BlocksWellFormed setup.properties.granularity old → EqualButBytesAttemptEnvironment o p
       → Attempts setup old t d o x new → Attempts setup old t e p y next → (x ≡ y) × (new ≡ next)
   attempts_alike old t o p x y new next sound met a b =
       ⊎_elim
@@ -104,19 +104,19 @@ module _ (setup : Setup) (d e : AllocationCreateDesc) (same : AlikeDescription d
       a
 
   -- the same from two states with the same blocks
-  attempt_alike : (t : ℕ) (o p : AttemptEnvironment) (x y : Answer) (old new twin next : ModelState) → BlocksWellFormed setup.properties.granularity old.slots → old.slots ≡ twin.slots → AlikeAttemptEnvironment o p
+  attempt_alike : (t : ℕ) (o p : AttemptEnvironment) (x y : Answer) (old new twin next : ModelState) → BlocksWellFormed setup.properties.granularity old.slots → old.slots ≡ twin.slots → EqualButBytesAttemptEnvironment o p
       → AttemptStep setup t d o x old new → AttemptStep setup t e p y twin next → (x ≡ y) × (new.slots ≡ next.slots)
   attempt_alike t o p x y old new twin next sound slots met a b =
       attempts_alike old.slots t o p x y new.slots next.slots sound met a.slots (subst (λ z. Attempts setup z t e p y next.slots) (sym slots) b.slots)
 
   follows_alike : (u : Option ℕ) (o p : AttemptEnvironment) (t : ℕ) (first : Answer) (mid twin : ModelState) (x y : Reply) (new next : ModelState) → ((v : ℕ) → u ≡ Some v → BlocksWellFormed setup.properties.granularity mid.slots)
-      → mid.slots ≡ twin.slots → AlikeAttemptEnvironment o p → Follows setup d u o t first mid x new → Follows setup e u p t first twin y next → (x ≡ y) × (new.slots ≡ next.slots)
+      → mid.slots ≡ twin.slots → EqualButBytesAttemptEnvironment o p → Follows setup d u o t first mid x new → Follows setup e u p t first twin y next → (x ≡ y) × (new.slots ≡ next.slots)
   follows_alike None o p t first mid twin x y new next sound slots met a b = (a.1 ∙ sym b.1, ap (λ s. s.slots) a.2 ∙ slots ∙ sym (ap (λ s. s.slots) b.2))
   follows_alike (Some u) o p t first mid twin x y new next sound slots met a b =
       let once = attempt_alike u o p a.0 b.0 mid new twin next (sound u refl) slots met a.1 b.1 in
       (a.2 ∙ ap (reply_of u) once.0 ∙ sym b.2, once.1)
 
-  serve_alike : (t : ℕ) (o p : CallEnvironment) (x y : Reply) (old new twin next : ModelState) → BlocksWellFormed setup.properties.granularity old.slots → old.slots ≡ twin.slots → AlikeCallEnvironment o p
+  serve_alike : (t : ℕ) (o p : CallEnvironment) (x y : Reply) (old new twin next : ModelState) → BlocksWellFormed setup.properties.granularity old.slots → old.slots ≡ twin.slots → EqualButBytesCallEnvironment o p
       → ServeStep setup t d o x old new → ServeStep setup t e p y twin next → (x ≡ y) × (new.slots ≡ next.slots)
   serve_alike t o p x y old new twin next sound slots met a b =
       let first = attempt_alike t o.first p.first a.answer b.answer old a.mid twin b.mid sound slots met.first a.attempt b.attempt in
@@ -130,12 +130,12 @@ module _ (setup : Setup) (d e : AllocationCreateDesc) (same : AlikeDescription d
   refuse_alike : (r : Refusal) (o p : CallEnvironment) (x y : Reply) (old new twin next : ModelState) → old.slots ≡ twin.slots → RefuseStep r o x old new → RefuseStep r p y twin next → (x ≡ y) × (new.slots ≡ next.slots)
   refuse_alike r o p x y old new twin next slots a b = (a.reply_is ∙ sym b.reply_is, ap (λ s. s.slots) a.same ∙ slots ∙ sym (ap (λ s. s.slots) b.same))
 
-  found_alike : (t : Option ℕ) (o p : CallEnvironment) (x y : Reply) (old new twin next : ModelState) → BlocksWellFormed setup.properties.granularity old.slots → old.slots ≡ twin.slots → AlikeCallEnvironment o p
+  found_alike : (t : Option ℕ) (o p : CallEnvironment) (x y : Reply) (old new twin next : ModelState) → BlocksWellFormed setup.properties.granularity old.slots → old.slots ≡ twin.slots → EqualButBytesCallEnvironment o p
       → FoundStep setup d t o x old new → FoundStep setup e t p y twin next → (x ≡ y) × (new.slots ≡ next.slots)
   found_alike None o p x y old new twin next sound slots met a b = refuse_alike _ o p x y old new twin next slots a b
   found_alike (Some t) o p x y old new twin next sound slots met a b = serve_alike t o p x y old new twin next sound slots met a b
 
-  allocate_alike : (valid : Bool) (o p : CallEnvironment) (x y : Reply) (old new twin next : ModelState) → BlocksWellFormed setup.properties.granularity old.slots → old.slots ≡ twin.slots → AlikeCallEnvironment o p
+  allocate_alike : (valid : Bool) (o p : CallEnvironment) (x y : Reply) (old new twin next : ModelState) → BlocksWellFormed setup.properties.granularity old.slots → old.slots ≡ twin.slots → EqualButBytesCallEnvironment o p
       → AllocateStep setup d valid o x old new → AllocateStep setup e valid p y twin next → (x ≡ y) × (new.slots ≡ next.slots)
   allocate_alike false o p x y old new twin next sound slots met a b = refuse_alike _ o p x y old new twin next slots a b
   allocate_alike true o p x y old new twin next sound slots met a b =
@@ -245,17 +245,17 @@ module _ (setup : Setup) (t : ℕ) (name : List ℕ) where
 
 -- ---- bytes
 
-read_alike : (setup : Setup) (a : Allocation) (s t : ModelState) (x y : Option (List ℕ)) → s.slots ≡ t.slots → IsRead setup a s x → IsRead setup a t y → AlikeReply (Bytes x) (Bytes y)
+read_alike : (setup : Setup) (a : Allocation) (s t : ModelState) (x y : Option (List ℕ)) → s.slots ≡ t.slots → IsRead setup a s x → IsRead setup a t y → EqualButBytesReply (Bytes x) (Bytes y)
 read_alike setup a s t None None slots h k = refl
 read_alike setup a s t None (Some ys) slots h k = absurd (h (subst (λ z. IsMapped setup.properties z a) (sym slots) k.0))
 read_alike setup a s t (Some xs) None slots h k = absurd (k (subst (λ z. IsMapped setup.properties z a) slots h.0))
 read_alike setup a s t (Some xs) (Some ys) slots h k = tt
 
-bytes_alike : (x y : Reply) (xs ys : Option (List ℕ)) → x ≡ Bytes xs → y ≡ Bytes ys → AlikeReply (Bytes xs) (Bytes ys) → AlikeReply x y
-bytes_alike x y xs ys e f h = subst (λ z. AlikeReply z y) (sym e) (subst (λ z. AlikeReply (Bytes xs) z) (sym f) h)
+bytes_alike : (x y : Reply) (xs ys : Option (List ℕ)) → x ≡ Bytes xs → y ≡ Bytes ys → EqualButBytesReply (Bytes xs) (Bytes ys) → EqualButBytesReply x y
+bytes_alike x y xs ys e f h = subst (λ z. EqualButBytesReply z y) (sym e) (subst (λ z. EqualButBytesReply (Bytes xs) z) (sym f) h)
 
 -- the same reply is alike
-same_alike : (x y : Reply) → x ≡ y → AlikeReply x y
+same_alike : (x y : Reply) → x ≡ y → EqualButBytesReply x y
 same_alike (Bytes (Some xs)) (Bytes (Some ys)) e = tt
 same_alike (Bytes (Some xs)) (Bytes None) e = e
 same_alike (Bytes (Some xs)) (Given t p) e = e
@@ -274,9 +274,9 @@ same_alike (Tells ts) y e = e
 
 -- ---- any call
 
-module _ (setup : Setup) (o p : CallEnvironment) (x y : Reply) (old new twin next : ModelState) (sound : BlocksWellFormed setup.properties.granularity old.slots) (slots : old.slots ≡ twin.slots) (met : AlikeCallEnvironment o p) where
+module _ (setup : Setup) (o p : CallEnvironment) (x y : Reply) (old new twin next : ModelState) (sound : BlocksWellFormed setup.properties.granularity old.slots) (slots : old.slots ≡ twin.slots) (met : EqualButBytesCallEnvironment o p) where
   -- the same call
-  same_call : (call : Call) → Step setup call o x old new → Step setup call p y twin next → AlikeReply x y × (new.slots ≡ next.slots)
+  same_call : (call : Call) → Step setup call o x old new → Step setup call p y twin next → EqualButBytesReply x y × (new.slots ≡ next.slots)
   same_call (Allocate d) a b =
       let once = allocate_alike setup d d (record { requirements = refl; location = refl; linear = refl; scheme = refl; name = refl }) (is_valid d) o p x y old new twin next sound slots met a b in
       (same_alike x y once.0, once.1)
@@ -311,10 +311,10 @@ module _ (setup : Setup) (o p : CallEnvironment) (x y : Reply) (old new twin nex
       (subst (λ z. ((p.first.host ≡ true) × (y ≡ Tells (map leak_text (all_leaks z)))) ⊎ ((p.first.host ≡ false) × (y ≡ Fails host_out_of_memory))) (sym slots) k.1) in
       (same_alike x y (by_host o.first.host x y (Tells (map leak_text (all_leaks old.slots))) (Fails host_out_of_memory) h.1 there), ap (λ s. s.slots) h.0 ∙ slots ∙ sym (ap (λ s. s.slots) k.0))
 
-  to_same : (call other : Call) → call ≡ other → Step setup call o x old new → Step setup other p y twin next → AlikeReply x y × (new.slots ≡ next.slots)
+  to_same : (call other : Call) → call ≡ other → Step setup call o x old new → Step setup other p y twin next → EqualButBytesReply x y × (new.slots ≡ next.slots)
   to_same call other e a b = same_call call a (subst (λ c. Step setup c p y twin next) (sym e) b)
 
-  pub step_alike : (call other : Call) → AlikeCall call other → Step setup call o x old new → Step setup other p y twin next → AlikeReply x y × (new.slots ≡ next.slots)
+  pub step_alike : (call other : Call) → EqualButBytesCall call other → Step setup call o x old new → Step setup other p y twin next → EqualButBytesReply x y × (new.slots ≡ next.slots)
   step_alike (Allocate d) (Allocate e) same a b =
       let once = allocate_alike setup d e same (is_valid d) o p x y old new twin next sound slots met a
       (subst (λ v. AllocateStep setup e v p y twin next) (sym (valid_alike setup d e same)) b) in

@@ -7,7 +7,7 @@ use Rattle.std.proofs.lemmas.Bool.Decides.{nat_tests}
 use Rattle.gpu_core.specs.Refusal.{Refusal, host_out_of_memory}
 use Rattle.gpu_core.specs.declared.memory_type.Piece.{Piece}
 use Rattle.gpu_device.specs.declared.vulkan.types.DeviceMemory.{DeviceMemory}
-use Rattle.gpu_vulkan.specs.Alike.{AlikeDescription, AlikeCall, AlikeReply}
+use Rattle.gpu_vulkan.specs.EqualButBytes.{EqualButBytesDescription, EqualButBytesCall, EqualButBytesReply}
 use Rattle.gpu_vulkan_setup.specs.Types.{is_mapped}
 use Rattle.gpu_vulkan_blocks.specs.Blocks.{Slots}
 use Rattle.gpu_vulkan.specs.ByteView.{AllocationId, Writes}
@@ -19,14 +19,14 @@ use Rattle.gpu_vulkan.specs.Step as model
 use Rattle.gpu_vulkan.specs.Step.{ModelState, CallEnvironment, Step, IsRead, id_of, id_in, FreeStep, RenameStep, WriteStep}
 use Rattle.gpu_vulkan.specs.declared.allocation.Allocation.{Allocation}
 use Rattle.gpu_vulkan_setup.specs.declared.describe.AllocationCreateDesc.{AllocationCreateDesc}
-use Rattle.gpu_vulkan.proofs.Alike.{step_alike}
+use Rattle.gpu_vulkan.proofs.EqualButBytes.{step_alike}
 use Rattle.gpu_vulkan_session.specs.Session.{SessionState, SessionInvariant, Wanted, Describes, Deed, Take, TakeNull, Return, Rename, Put, Get, Order, Under, Report, Leaks, Capacity, shown, Told, Given, Fine, Data, Busy, Unbound, Unmapped, Past, Fails, CommandEnvironment, Stays, Binds, Takes, TakesNull, Returns, BindsNamed, Names, put_range, PutsIn, PutsOver, Puts, part_told, read_told, Gets, ServesBound, ServesFree, ServesAt, told_by, Asks, Serves, Runs}
-use Rattle.gpu_vulkan_session.specs.Laws.{AlikeDeed, AlikeOrder, AlikeCommandEnvironment, Written, everything, written_after, AlikeTold, AlikeReplies, TwoRuns}
+use Rattle.gpu_vulkan_session.specs.Laws.{EqualButBytesDeed, EqualButBytesOrder, EqualButBytesCommandEnvironment, Written, everything, written_after, EqualButBytesTold, EqualButBytesReplies, NonInterference}
 use Rattle.gpu_vulkan_session.proofs.Binding.{bound_here}
 use Rattle.gpu_vulkan_session.proofs.Owning.{null_dead, some_same, none_some, freed_null}
 use Rattle.gpu_vulkan_session.proofs.Changes.{Gained, Lost, gained, not_gained, place_piece, lost, named_bytes, shown_same, told_same, summed_same}
 use Rattle.gpu_vulkan_session.proofs.Ranges.{length_range, get_range}
-use Rattle.gpu_vulkan_session.proofs.Alike.{byte_of, handle, Alike, alike_kept, alike_given, alike_null, alike_named, alike_returned, alike_unbound, alike_written}
+use Rattle.gpu_vulkan_session.proofs.EqualButBytes.{byte_of, handle, Alike, alike_kept, alike_given, alike_null, alike_named, alike_returned, alike_unbound, alike_written}
 
 -- ---- handles
 
@@ -53,7 +53,7 @@ named_handle a b name h = ap handle h.others
 named_place : (a b : Allocation) (name : List ℕ) → IsNamed a name b → id_of b ≡ id_of a
 named_place a b name h = ap id_of h.others
 
-same_description : (d e : AllocationCreateDesc) (w : Wanted) → Describes d w → Describes e w → AlikeDescription d e
+same_description : (d e : AllocationCreateDesc) (w : Wanted) → Describes d w → Describes e w → EqualButBytesDescription d e
 same_description d e w x y = record {
   requirements = x.requirements ∙ sym y.requirements;
   location = x.location ∙ sym y.location;
@@ -71,13 +71,13 @@ pub record BothRead (s t : SessionState) (a b : Allocation) (x y : Option (List 
   pub left : x ≡ Some xs
   pub right : y ≡ Some ys
   pub live : IsLive s.model.slots a
-  pub here : s.model.buffers.lists (id_of a) ≡ Some xs
-  pub there : t.model.buffers.lists (id_of a) ≡ Some ys
+  pub here : s.model.byte_view.allocation_bytes (id_of a) ≡ Some xs
+  pub there : t.model.byte_view.allocation_bytes (id_of a) ≡ Some ys
   pub place : id_of a ≡ id_of b
   pub long : length xs ≡ length ys
 
 module _ (setup : Setup) (s t : SessionState) (a b : Allocation) (same : handle a ≡ handle b) (slots : s.model.slots ≡ t.model.slots)
-    (sizes : (q : AllocationId) → option_map length (s.model.buffers.lists q) ≡ option_map length (t.model.buffers.lists q)) where
+    (sizes : (q : AllocationId) → option_map length (s.model.byte_view.allocation_bytes q) ≡ option_map length (t.model.byte_view.allocation_bytes q)) where
   mapped_there : IsMapped setup.properties s.model.slots a → IsMapped setup.properties t.model.slots b
   mapped_there m = (
     subst (λ z. IsLiveIn t.model.slots z.memory_type z.piece) same (subst (λ z. IsLive z a) slots m.0),
@@ -96,7 +96,7 @@ module _ (setup : Setup) (s t : SessionState) (a b : Allocation) (same : handle 
   both_read (Some xs) None h k = absurd (k (mapped_there h.0))
   both_read (Some xs) (Some ys) h k =
       let place = same_place_of a b s.model.slots same h.0.0 in
-      let there = ap t.model.buffers.lists place ∙ k.1 in
+      let there = ap t.model.byte_view.allocation_bytes place ∙ k.1 in
       inr (record {
         xs = xs;
         ys = ys;
@@ -112,11 +112,11 @@ module _ (setup : Setup) (s t : SessionState) (a b : Allocation) (same : handle 
 -- ---- one command of each run
 
 pub record Next (ours : ℕ → Bool) (written : Written) (order : Order) (told untold : Told) (new next : SessionState) : Type 0 where
-  pub told_alike : AlikeTold ours written order told untold
+  pub told_alike : EqualButBytesTold ours written order told untold
   pub alike : Alike ours (written_after order told written) new next
 
-module _ (ours : ℕ → Bool) (written : Written) (setup : Setup) (s t new next : SessionState) (o p : CommandEnvironment) (told untold : Told) (kept : SessionInvariant setup s) (kept_new : SessionInvariant setup new) (alike : Alike ours written s t) (met : AlikeCommandEnvironment o p) where
-  next_at : (order : Order) (x y : Told) → told ≡ x → untold ≡ y → AlikeTold ours written order x y → Alike ours (written_after order x written) new next → Next ours written order told untold new next
+module _ (ours : ℕ → Bool) (written : Written) (setup : Setup) (s t new next : SessionState) (o p : CommandEnvironment) (told untold : Told) (kept : SessionInvariant setup s) (kept_new : SessionInvariant setup new) (alike : Alike ours written s t) (met : EqualButBytesCommandEnvironment o p) where
+  next_at : (order : Order) (x y : Told) → told ≡ x → untold ≡ y → EqualButBytesTold ours written order x y → Alike ours (written_after order x written) new next → Next ours written order told untold new next
   next_at order x y e f same now =
       subst (λ z. Next ours written order z untold new next) (sym e) (subst (λ z. Next ours written order x z new next) (sym f) (record { told_alike = same; alike = now }))
 
@@ -124,7 +124,7 @@ module _ (ours : ℕ → Bool) (written : Written) (setup : Setup) (s t new next
   unchanged : new ≡ s → next ≡ t → Alike ours written new next
   unchanged e f =
       alike_kept ours written setup s t new next kept kept_new alike (ap (λ x. x.bound) e) (ap (λ x. x.bound) f)
-      (ap (λ x. x.model.slots) e ∙ alike.slots ∙ sym (ap (λ x. x.model.slots) f)) (ap (λ x. x.model.buffers) e) (ap (λ x. x.model.buffers) f)
+      (ap (λ x. x.model.slots) e ∙ alike.slots ∙ sym (ap (λ x. x.model.slots) f)) (ap (λ x. x.model.byte_view) e) (ap (λ x. x.model.byte_view) f)
 
   -- ---- requests
 
@@ -136,8 +136,8 @@ module _ (ours : ℕ → Bool) (written : Written) (setup : Setup) (s t new next
       let two = c.0 in
       let place : id_of one ≡ id_in u q = place_piece one q b.1.piece ∙ ap (λ z. id_in z q) b.1.memory_type in
       let same : handle one ≡ handle two = (λ i. record { memory_type = (b.1.memory_type ∙ sym c.1.memory_type) i; piece = (b.1.piece ∙ sym c.1.piece) i }) in
-      let m = subst (λ r. Gained (is_mapped setup.properties u) r q.size s.model.buffers new.model.buffers) (sym place) (gained setup d u o.call q s.model new.model h) in
-      let n = subst (λ r. Gained (is_mapped setup.properties u) r q.size t.model.buffers next.model.buffers) (sym place) (gained setup e u p.call q t.model next.model k) in
+      let m = subst (λ r. Gained (is_mapped setup.properties u) r q.size s.model.byte_view new.model.byte_view) (sym place) (gained setup d u o.call q s.model new.model h) in
+      let n = subst (λ r. Gained (is_mapped setup.properties u) r q.size t.model.byte_view next.model.byte_view) (sym place) (gained setup e u p.call q t.model next.model k) in
       let here : new.bound key ≡ Some one = ap (λ f. f key) b.3 ∙ bound_here s.bound key key (Some one) refl in
       let live : IsLive new.model.slots one = ⊎_elim (λ null. absurd (none_some q (sym null ∙ b.1.piece))) (λ z. z) (kept_new.own.live key one here) in
       next_at (Under key (Take w)) (Given (shown setup w u q)) (Given (shown setup w u q)) b.2 c.2 refl
@@ -150,7 +150,7 @@ module _ (ours : ℕ → Bool) (written : Written) (setup : Setup) (s t new next
       next_at (Under key (Take w)) (Fails r) (Fails r) b.0 c.0 refl
       (alike_kept ours written setup s t new next kept kept_new alike b.1 c.1 slots (not_gained setup d o.call r s.model new.model h) (not_gained setup e p.call r t.model next.model k))
 
-  binds_both : (key : ℕ) (w : Wanted) (d e : AllocationCreateDesc) (x y : model.Reply) → AlikeReply x y → new.model.slots ≡ next.model.slots → Step setup (model.Allocate d) o.call x s.model new.model
+  binds_both : (key : ℕ) (w : Wanted) (d e : AllocationCreateDesc) (x y : model.Reply) → EqualButBytesReply x y → new.model.slots ≡ next.model.slots → Step setup (model.Allocate d) o.call x s.model new.model
       → Step setup (model.Allocate e) p.call y t.model next.model → Binds setup key w d x told s.bound new.bound → Binds setup key w e y untold t.bound next.bound → Next ours written (Under key (Take w)) told untold new next
   binds_both key w d e (model.Given u q) y same slots h k b c =
       given_both key u w d e q slots h (subst (λ z. Step setup (model.Allocate e) p.call z t.model next.model) (sym same) k) b (subst (λ z. Binds setup key w e z untold t.bound next.bound) (sym same) c)
@@ -176,7 +176,7 @@ module _ (ours : ℕ → Bool) (written : Written) (setup : Setup) (s t new next
   null_both key true true e h k =
       next_at (Under key TakeNull) Fine Fine h.0 k.0 refl
       (alike_null ours written setup s t new next kept kept_new alike key null_allocation null_allocation (ap (λ x. x.bound) h.1) (ap (λ x. x.bound) k.1) refl refl
-      (ap (λ x. x.model.slots) h.1 ∙ alike.slots ∙ sym (ap (λ x. x.model.slots) k.1)) (ap (λ x. x.model.buffers) h.1) (ap (λ x. x.model.buffers) k.1))
+      (ap (λ x. x.model.slots) h.1 ∙ alike.slots ∙ sym (ap (λ x. x.model.slots) k.1)) (ap (λ x. x.model.byte_view) h.1) (ap (λ x. x.model.byte_view) k.1))
   null_both key false true e h k = absurd (cc)
   null_both key true false e h k = absurd (cc)
 
@@ -189,18 +189,18 @@ module _ (ours : ℕ → Bool) (written : Written) (setup : Setup) (s t new next
       next_at (Under key Return) Fine Fine h.fine k.fine refl (⊎_elim
       (λ null.
       alike_unbound ours written setup s t new next kept kept_new alike key h.bound k.bound law.1
-      (ap (λ x. x.buffers) (freed_null setup a o.call s.model new.model h.step null)) (ap (λ x. x.buffers) (freed_null setup a p.call t.model next.model step null)))
+      (ap (λ x. x.byte_view) (freed_null setup a o.call s.model new.model h.step null)) (ap (λ x. x.byte_view) (freed_null setup a p.call t.model next.model step null)))
       (λ live.
       let q = live_piece a (piece_of a) s.model.slots refl live in
       let place = place_piece a q.0 q.1 in
       alike_returned ours written setup s t new next kept kept_new alike key a found live h.bound k.bound law.1
-      (subst (λ r. Lost r s.model.buffers new.model.buffers) (sym place) (lost setup a o.call q.0 s.model new.model h.step q.1))
-      (subst (λ r. Lost r t.model.buffers next.model.buffers) (sym place) (lost setup a p.call q.0 t.model next.model step q.1)))
+      (subst (λ r. Lost r s.model.byte_view new.model.byte_view) (sym place) (lost setup a o.call q.0 s.model new.model h.step q.1))
+      (subst (λ r. Lost r t.model.byte_view next.model.byte_view) (sym place) (lost setup a p.call q.0 t.model next.model step q.1)))
       (kept.own.live key a found))
 
   -- ---- a new name
 
-  named_both : (key : ℕ) (a b : Allocation) (name : List ℕ) (x y : model.Reply) → handle a ≡ handle b → s.bound key ≡ Some a → AlikeReply x y → new.model.slots ≡ next.model.slots → new.model.buffers ≡ s.model.buffers → next.model.buffers ≡ t.model.buffers
+  named_both : (key : ℕ) (a b : Allocation) (name : List ℕ) (x y : model.Reply) → handle a ≡ handle b → s.bound key ≡ Some a → EqualButBytesReply x y → new.model.slots ≡ next.model.slots → new.model.byte_view ≡ s.model.byte_view → next.model.byte_view ≡ t.model.byte_view
       → BindsNamed key a name x told s.bound new.bound → BindsNamed key b name y untold t.bound next.bound → Next ours written (Under key (Rename name)) told untold new next
   named_both key a b name model.Done y same found reply slots m n h k =
       let k2 = subst (λ z. BindsNamed key b name z untold t.bound next.bound) (sym reply) k in
@@ -234,7 +234,7 @@ module _ (ours : ℕ → Bool) (written : Written) (setup : Setup) (s t new next
       let le_too : at + length vs ≤ length r.ys = grind (arith, nat_tests, fit_too) in
       let one = h.1.1 in
       let two = k.1.1 in
-      let n = subst (λ q. Writes q (put_range r.ys at vs) t.model.buffers next.model.buffers) (sym r.place) two.writes in
+      let n = subst (λ q. Writes q (put_range r.ys at vs) t.model.byte_view next.model.byte_view) (sym r.place) two.writes in
       next_at (Under key (Put at ws)) Fine Fine h.0 k.0 refl
       (alike_written ours written setup s t new next kept kept_new alike key at a ws vs r.xs r.ys found r.live h.2 k.2 (one.slots ∙ alike.slots ∙ sym two.slots) as_many mine r.here r.there le le_too one.writes n)
 
@@ -293,11 +293,11 @@ module _ (ours : ℕ → Bool) (written : Written) (setup : Setup) (s t new next
 
   -- ---- under a number
 
-  stay_both : (order : Order) (x : Told) → AlikeTold ours written order x x → ((now : Alike ours written new next) → Alike ours (written_after order x written) new next)
+  stay_both : (order : Order) (x : Told) → EqualButBytesTold ours written order x x → ((now : Alike ours written new next) → Alike ours (written_after order x written) new next)
       → (told ≡ x) × Stays o s new → (untold ≡ x) × Stays p t next → Next ours written order told untold new next
   stay_both order x same onward h k = next_at order x x h.0 k.0 same (onward (unchanged h.1.1 k.1.1))
 
-  free_both : (key : ℕ) (deed to : Deed) → AlikeDeed (ours key) deed to → ServesFree setup key deed o told s new → ServesFree setup key to p untold t next → Next ours written (Under key deed) told untold new next
+  free_both : (key : ℕ) (deed to : Deed) → EqualButBytesDeed (ours key) deed to → ServesFree setup key deed o told s new → ServesFree setup key to p untold t next → Next ours written (Under key deed) told untold new next
   free_both key (Take w) to e h k = take_both key w o.room p.room met.room h (subst (λ d. ServesFree setup key d p untold t next) (sym e) k)
   free_both key TakeNull to e h k =
       let k2 = subst (λ d. ServesFree setup key d p untold t next) (sym e) k in
@@ -312,7 +312,7 @@ module _ (ours : ℕ → Bool) (written : Written) (setup : Setup) (s t new next
   free_both key (Put at ws) (Rename name) e h k = absurd (cc)
   free_both key (Put at ws) (Get there size) e h k = absurd (cc)
 
-  bound_both : (key : ℕ) (deed to : Deed) (a b : Allocation) → AlikeDeed (ours key) deed to → handle a ≡ handle b → s.bound key ≡ Some a → ServesBound setup key a deed o told s new → ServesBound setup key b to p untold t next
+  bound_both : (key : ℕ) (deed to : Deed) (a b : Allocation) → EqualButBytesDeed (ours key) deed to → handle a ≡ handle b → s.bound key ≡ Some a → ServesBound setup key a deed o told s new → ServesBound setup key b to p untold t next
       → Next ours written (Under key deed) told untold new next
   bound_both key (Take w) to a b e same found h k = stay_both (Under key (Take w)) Busy refl (λ z. z) h (subst (λ d. ServesBound setup key b d p untold t next) (sym e) k)
   bound_both key TakeNull to a b e same found h k = stay_both (Under key TakeNull) Busy refl (λ z. z) h (subst (λ d. ServesBound setup key b d p untold t next) (sym e) k)
@@ -326,7 +326,7 @@ module _ (ours : ℕ → Bool) (written : Written) (setup : Setup) (s t new next
   bound_both key (Put at ws) (Rename name) a b e same found h k = absurd (cc)
   bound_both key (Put at ws) (Get there size) a b e same found h k = absurd (cc)
 
-  under_both : (key : ℕ) (deed to : Deed) (x y : Option Allocation) → AlikeDeed (ours key) deed to → option_map handle x ≡ option_map handle y → s.bound key ≡ x → ServesAt setup key x deed o told s new → ServesAt setup key y to p untold t next
+  under_both : (key : ℕ) (deed to : Deed) (x y : Option Allocation) → EqualButBytesDeed (ours key) deed to → option_map handle x ≡ option_map handle y → s.bound key ≡ x → ServesAt setup key x deed o told s new → ServesAt setup key y to p untold t next
       → Next ours written (Under key deed) told untold new next
   under_both key deed to None None e same found h k = free_both key deed to e h k
   under_both key deed to (Some a) (Some b) e same found h k = bound_both key deed to a b e (some_same (handle a) (handle b) same) found h k
@@ -335,7 +335,7 @@ module _ (ours : ℕ → Bool) (written : Written) (setup : Setup) (s t new next
 
   -- ---- what is shown and told
 
-  told_both : (x y : model.Reply) (u v : Told) → AlikeReply x y → told_by x ≡ Some u → told_by y ≡ Some v → u ≡ v
+  told_both : (x y : model.Reply) (u v : Told) → EqualButBytesReply x y → told_by x ≡ Some u → told_by y ≡ Some v → u ≡ v
   told_both (model.Fails r) y u v same e f = some_same u v (sym e ∙ ap told_by same ∙ f)
   told_both (model.Sum n) y u v same e f = some_same u v (sym e ∙ ap told_by same ∙ f)
   told_both (model.Shows r) y u v same e f = some_same u v (sym e ∙ ap told_by same ∙ f)
@@ -345,21 +345,21 @@ module _ (ours : ℕ → Bool) (written : Written) (setup : Setup) (s t new next
   told_both (model.Bytes xs) y u v same e f = absurd (none_some u e)
 
   asks_both : (call : model.Call) → ((o : CallEnvironment) (reply : model.Reply) (old now : ModelState) → Step setup call o reply old now → now ≡ old)
-      → ((x y : model.Reply) → Step setup call o.call x s.model new.model → Step setup call p.call y t.model next.model → AlikeReply x y × (new.model.slots ≡ next.model.slots))
+      → ((x y : model.Reply) → Step setup call o.call x s.model new.model → Step setup call p.call y t.model next.model → EqualButBytesReply x y × (new.model.slots ≡ next.model.slots))
       → Asks setup call o.call told s new → Asks setup call p.call untold t next → (told ≡ untold) × Alike ours written new next
   asks_both call stays law h k =
       let both = law h.reply k.reply h.step k.step in
       let one = stays o.call h.reply s.model new.model h.step in
       let two = stays p.call k.reply t.model next.model k.step in (
         told_both h.reply k.reply told untold both.0 h.told_is k.told_is,
-        alike_kept ours written setup s t new next kept kept_new alike h.bound k.bound both.1 (ap (λ x. x.buffers) one) (ap (λ x. x.buffers) two),
+        alike_kept ours written setup s t new next kept kept_new alike h.bound k.bound both.1 (ap (λ x. x.byte_view) one) (ap (λ x. x.byte_view) two),
       )
 
-  lawful : (call : model.Call) → ((other : model.Call) → call ≡ other → AlikeCall call other) → (x y : model.Reply) → Step setup call o.call x s.model new.model → Step setup call p.call y t.model next.model
-      → AlikeReply x y × (new.model.slots ≡ next.model.slots)
+  lawful : (call : model.Call) → ((other : model.Call) → call ≡ other → EqualButBytesCall call other) → (x y : model.Reply) → Step setup call o.call x s.model new.model → Step setup call p.call y t.model next.model
+      → EqualButBytesReply x y × (new.model.slots ≡ next.model.slots)
   lawful call same x y h k = step_alike setup o.call p.call x y s.model new.model t.model next.model kept.sound alike.slots met.call call call (same call refl) h k
 
-  step_next : (order other : Order) → AlikeOrder ours order other → Serves setup order o told s new → Serves setup other p untold t next → Next ours written order told untold new next
+  step_next : (order other : Order) → EqualButBytesOrder ours order other → Serves setup order o told s new → Serves setup other p untold t next → Next ours written order told untold new next
   step_next (Under key deed) (Under to deed2) e h k =
       let k2 = subst (λ z. Serves setup (Under z deed2) p untold t next) (sym e.0) k in
       under_both key deed deed2 (s.bound key) (t.bound key) e.1 (alike.bound key) refl h k2
@@ -379,7 +379,7 @@ module _ (ours : ℕ → Bool) (written : Written) (setup : Setup) (s t new next
 -- ---- whole runs
 
 runs_alike : (ours : ℕ → Bool) (written : Written) (setup : Setup) (s t end other_end : SessionState) (orders others : List Order) (o p : List CommandEnvironment) (told untold : List Told) → SessionInvariant setup s → Alike ours written s t
-    → AllZip (AlikeOrder ours) orders others → AllZip AlikeCommandEnvironment o p → Runs setup s orders o told end → Runs setup t others p untold other_end → AlikeReplies ours written orders told untold
+    → AllZip (EqualButBytesOrder ours) orders others → AllZip EqualButBytesCommandEnvironment o p → Runs setup s orders o told end → Runs setup t others p untold other_end → EqualButBytesReplies ours written orders told untold
 runs_alike ours written setup s t end other_end [] [] [] [] [] [] kept a x c h k = tt
 runs_alike ours written setup s t end other_end [] [] [] [] [] (v ∷ untold) kept a x c h k = absurd k
 runs_alike ours written setup s t end other_end [] [] [] [] (u ∷ told) untold kept a x c h k = absurd h
@@ -395,7 +395,7 @@ runs_alike ours written setup s t end other_end (y ∷ orders) (z ∷ others) (r
     let n = step_next ours written setup s t h.0 k.0 r q u v kept h.2 a c.0 y z x.0 h.1 k.1 in
     (n.told_alike, runs_alike ours (written_after y u written) setup h.0 k.0 end other_end orders others o p told untold h.2 n.alike x.1 c.1 h.3 k.3)
 
-pub two_runs : TwoRuns
-two_runs ours setup start end other_end orders others o p told untold kept x c h k =
+pub non_interference : NonInterference
+non_interference ours setup start end other_end orders others o p told untold kept x c h k =
     runs_alike ours everything setup start start end other_end orders others o p told untold kept
     (record { bound = λ j. refl; slots = refl; sizes = λ q. refl; bytes = λ key a mine e live i w. refl }) x c h k

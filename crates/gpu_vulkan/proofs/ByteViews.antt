@@ -49,51 +49,51 @@ other_number t i n k isnt e = false_true (sym isnt ∙ (ap (λ x. x && ((i == i)
 
 -- the lists and the rest of a block are those of another state
 pub record SameBlock (u j : ℕ) (old new : ByteView) : Type 0 where
-  pub lists : (k : ℕ) → new.lists (place u j k) ≡ old.lists (place u j k)
-  pub rest : (at : ℕ) → new.rest u j at ≡ old.rest u j at
+  pub allocation_bytes : (k : ℕ) → new.allocation_bytes (place u j k) ≡ old.allocation_bytes (place u j k)
+  pub unallocated_bytes : (at : ℕ) → new.unallocated_bytes u j at ≡ old.unallocated_bytes u j at
 
 abbrev pub OthersSame : (t i : ℕ) → ByteView → ByteView → Type 0
 OthersSame t i old new = (u j : ℕ) → (u ≡ t → j ≡ i → ⊥) → SameBlock u j old new
 
-lists_but : (t i n : ℕ) (old new : ByteView) → OthersSame t i old new → ((k : ℕ) → k ≢ n → new.lists (place t i k) ≡ old.lists (place t i k))
-    → (q : AllocationId) → is_same_id (place t i n) q ≡ false → new.lists q ≡ old.lists q
+lists_but : (t i n : ℕ) (old new : ByteView) → OthersSame t i old new → ((k : ℕ) → k ≢ n → new.allocation_bytes (place t i k) ≡ old.allocation_bytes (place t i k))
+    → (q : AllocationId) → is_same_id (place t i n) q ≡ false → new.allocation_bytes q ≡ old.allocation_bytes q
 lists_but t i n old new others lists q isnt =
     ⊎_elim
     (λ here.
     let q_is : place t i q.number ≡ q = same_as q t i here.0 here.1 in
     let ne = other_number t i n q.number (ap (is_same_id (place t i n)) q_is ∙ isnt) in
-    subst (λ r. new.lists r ≡ old.lists r) q_is (lists q.number ne))
-    (λ away. (others q.memory_type q.slot away).lists q.number)
+    subst (λ r. new.allocation_bytes r ≡ old.allocation_bytes r) q_is (lists q.number ne))
+    (λ away. (others q.memory_type q.slot away).allocation_bytes q.number)
     (same_place q.memory_type t q.slot i)
 
-rest_by : (t i : ℕ) (test : ℕ → Bool) (f : ℕ → Option ℕ) (old new : ByteView) → OthersSame t i old new → ((at : ℕ) → new.rest t i at ≡ (if test at then f at else old.rest t i at))
-    → (u j at : ℕ) → new.rest u j at ≡ (if at_block t i u j && test at then f at else old.rest u j at)
+rest_by : (t i : ℕ) (test : ℕ → Bool) (f : ℕ → Option ℕ) (old new : ByteView) → OthersSame t i old new → ((at : ℕ) → new.unallocated_bytes t i at ≡ (if test at then f at else old.unallocated_bytes t i at))
+    → (u j at : ℕ) → new.unallocated_bytes u j at ≡ (if at_block t i u j && test at then f at else old.unallocated_bytes u j at)
 rest_by t i test f old new others rest u j at =
     ⊎_elim
     (λ here.
-    ap (λ v. new.rest v j at) here.0 ∙ ap (λ v. new.rest t v at) here.1 ∙ rest at
-    ∙ ap (λ o. if test at then f at else o) (ap (λ v. old.rest v i at) (sym here.0) ∙ ap (λ v. old.rest u v at) (sym here.1))
-    ∙ sym (ap (λ b. if b && test at then f at else old.rest u j at) (both_equal t i u j (sym here.0) (sym here.1))))
-    (λ away. (others u j away).rest at ∙ sym (ap (λ b. if b && test at then f at else old.rest u j at) (not_both t i u j away)))
+    ap (λ v. new.unallocated_bytes v j at) here.0 ∙ ap (λ v. new.unallocated_bytes t v at) here.1 ∙ rest at
+    ∙ ap (λ o. if test at then f at else o) (ap (λ v. old.unallocated_bytes v i at) (sym here.0) ∙ ap (λ v. old.unallocated_bytes u v at) (sym here.1))
+    ∙ sym (ap (λ b. if b && test at then f at else old.unallocated_bytes u j at) (both_equal t i u j (sym here.0) (sym here.1))))
+    (λ away. (others u j away).unallocated_bytes at ∙ sym (ap (λ b. if b && test at then f at else old.unallocated_bytes u j at) (not_both t i u j away)))
     (same_place u t j i)
 
-pub takes_out : (mapped : Bool) (t i n o size : ℕ) (old new : ByteView) → OthersSame t i old new → old.lists (place t i n) ≡ None
-    → IsOutOf mapped (old.rest t i) o size (new.lists (place t i n)) → ((k : ℕ) → k ≢ n → new.lists (place t i k) ≡ old.lists (place t i k))
-    → ((at : ℕ) → new.rest t i at ≡ (if in_range o size at then None else old.rest t i at)) → TakesOut mapped (place t i n) o size old new
+pub takes_out : (mapped : Bool) (t i n o size : ℕ) (old new : ByteView) → OthersSame t i old new → old.allocation_bytes (place t i n) ≡ None
+    → IsOutOf mapped (old.unallocated_bytes t i) o size (new.allocation_bytes (place t i n)) → ((k : ℕ) → k ≢ n → new.allocation_bytes (place t i k) ≡ old.allocation_bytes (place t i k))
+    → ((at : ℕ) → new.unallocated_bytes t i at ≡ (if in_range o size at then None else old.unallocated_bytes t i at)) → TakesOut mapped (place t i n) o size old new
 takes_out mapped t i n o size old new others fresh list lists rest = record {
   fresh = fresh;
   list = list;
   others = lists_but t i n old new others lists;
-  rest = rest_by t i (in_range o size) (λ _. None) old new others rest;
+  unallocated_bytes = rest_by t i (in_range o size) (λ _. None) old new others rest;
 }
 
-pub puts_back : (t i n o size : ℕ) (old new : ByteView) → OthersSame t i old new → new.lists (place t i n) ≡ None
-    → ((k : ℕ) → k ≢ n → new.lists (place t i k) ≡ old.lists (place t i k))
-    → ((at : ℕ) → new.rest t i at ≡ (if in_range o size at then byte_at (old.lists (place t i n)) (at - o) else old.rest t i at)) → PutsBack (place t i n) o size old new
+pub puts_back : (t i n o size : ℕ) (old new : ByteView) → OthersSame t i old new → new.allocation_bytes (place t i n) ≡ None
+    → ((k : ℕ) → k ≢ n → new.allocation_bytes (place t i k) ≡ old.allocation_bytes (place t i k))
+    → ((at : ℕ) → new.unallocated_bytes t i at ≡ (if in_range o size at then byte_at (old.allocation_bytes (place t i n)) (at - o) else old.unallocated_bytes t i at)) → PutsBack (place t i n) o size old new
 puts_back t i n o size old new others gone lists rest = record {
   gone = gone;
   others = lists_but t i n old new others lists;
-  rest = rest_by t i (in_range o size) (λ at. byte_at (old.lists (place t i n)) (at - o)) old new others rest;
+  unallocated_bytes = rest_by t i (in_range o size) (λ at. byte_at (old.allocation_bytes (place t i n)) (at - o)) old new others rest;
 }
 
 -- ---- of the device's bytes and the slots
@@ -103,8 +103,8 @@ pub same_blocks : (held now : Held) (old new : Slots) (t i : ℕ) → ((u j : �
     → ((u j : ℕ) (s : Slot DeviceMemory) → (u ≡ t → j ≡ i → ⊥) → block_at old u j ≡ Some s → bytes_of now s.number.0 ≡ bytes_of held s.number.0)
     → OthersSame t i (byte_view_of held old) (byte_view_of now new)
 same_blocks held now old new t i stay bytes u j away = record {
-  lists = λ k. ap (λ o. list_in now o k) (stay u j away) ∙ same_list (block_at old u j) refl k;
-  rest = λ at. ap (λ o. rest_in now o at) (stay u j away) ∙ same_rest (block_at old u j) refl at;
+  allocation_bytes = λ k. ap (λ o. list_in now o k) (stay u j away) ∙ same_list (block_at old u j) refl k;
+  unallocated_bytes = λ at. ap (λ o. rest_in now o at) (stay u j away) ∙ same_rest (block_at old u j) refl at;
 }
   where
     same_list : (o : Option (Slot DeviceMemory)) → block_at old u j ≡ o → (k : ℕ) → list_in now o k ≡ list_in held o k
@@ -135,8 +135,8 @@ module _ (held : Held) (old new : Slots) (t i : ℕ) (a b : Slot DeviceMemory) (
   others = same_blocks held held old new t i only.others (λ u j s away e. refl)
 
   -- a shared block serves: the device's bytes stay
-  pub served_buffers : OneMore (extents_of a.block) (extents_of b.block) n o size → TakesOut mapped (place t i n) o size (byte_view_of held old) (byte_view_of held new)
-  served_buffers one =
+  pub served_byte_view : OneMore (extents_of a.block) (extents_of b.block) n o size → TakesOut mapped (place t i n) o size (byte_view_of held old) (byte_view_of held new)
+  served_byte_view one =
       let bytes = bytes_of held a.number.0 in
       let xs = extents_of a.block in
       let more = extents_of b.block in
@@ -147,8 +147,8 @@ module _ (held : Held) (old new : Slots) (t i : ℕ) (a b : Slot DeviceMemory) (
       (λ at. rest_new at ∙ left_with bytes xs more n o size one at ∙ ap (λ r. if in_range o size at then None else r) (sym (rest_old at)))
 
   -- a piece goes and its block stays
-  pub released_buffers : OneMore (extents_of b.block) (extents_of a.block) n o size → PutsBack (place t i n) o size (byte_view_of held old) (byte_view_of held new)
-  released_buffers one =
+  pub released_byte_view : OneMore (extents_of b.block) (extents_of a.block) n o size → PutsBack (place t i n) o size (byte_view_of held old) (byte_view_of held new)
+  released_byte_view one =
       let bytes = bytes_of held a.number.0 in
       let xs = extents_of b.block in
       let more = extents_of a.block in
@@ -161,38 +161,38 @@ module _ (held : Held) (old new : Slots) (t i : ℕ) (a b : Slot DeviceMemory) (
 -- ---- a block that is new, and one that goes
 
 abbrev pub with_new : (t i : ℕ) → Option (List ℕ) → ByteView → ByteView
-with_new t i bytes old = record { lists = old.lists; rest = λ u j at. if at_block t i u j then byte_at bytes at else old.rest u j at }
+with_new t i bytes old = record { allocation_bytes = old.allocation_bytes; unallocated_bytes = λ u j at. if at_block t i u j then byte_at bytes at else old.unallocated_bytes u j at }
 
 pub with_new_adds : (t i : ℕ) (bytes : Option (List ℕ)) (old : ByteView) → AddsBlock t i bytes old (with_new t i bytes old)
-with_new_adds t i bytes old = record { lists = λ q. refl; rest = λ u j at. refl }
+with_new_adds t i bytes old = record { allocation_bytes = λ q. refl; unallocated_bytes = λ u j at. refl }
 
 module _ (held now : Held) (old new : Slots) (t i : ℕ) (b : Slot DeviceMemory) (none : block_at old t i ≡ None) (only : OnlyBlock old t i (Some b) new) (mapped : Bool) (n o size : ℕ) (room : HasRoom mapped (bytes_of now b.number.0) o size)
     (stays : (u j : ℕ) (s : Slot DeviceMemory) → block_at old u j ≡ Some s → bytes_of now s.number.0 ≡ bytes_of held s.number.0) where
   -- a new block's piece is taken out of that block's bytes
-  pub installed_buffers : OneMore [] (extents_of b.block) n o size → TakesOut mapped (place t i n) o size (with_new t i (bytes_of now b.number.0) (byte_view_of held old)) (byte_view_of now new)
-  installed_buffers one =
+  pub installed_byte_view : OneMore [] (extents_of b.block) n o size → TakesOut mapped (place t i n) o size (with_new t i (bytes_of now b.number.0) (byte_view_of held old)) (byte_view_of now new)
+  installed_byte_view one =
       let bytes = bytes_of now b.number.0 in
       let more = extents_of b.block in
       let mid = with_new t i bytes (byte_view_of held old) in
       let same = same_blocks held now old new t i only.others (λ u j s away e. stays u j s e) in
       let list_new : (k : ℕ) → list_in now (block_at new t i) k ≡ piece_bytes bytes (piece_of_number more k) = λ k. ap (λ s. list_in now s k) only.at in
-      let list_mid : (k : ℕ) → mid.lists (place t i k) ≡ None = λ k. ap (λ s. list_in held s k) none in
-      let rest_mid : (at : ℕ) → mid.rest t i at ≡ byte_at bytes at = λ at. ap (λ c. if c then byte_at bytes at else rest_in held (block_at old t i) at) (both_equal t i t i refl refl) in
+      let list_mid : (k : ℕ) → mid.allocation_bytes (place t i k) ≡ None = λ k. ap (λ s. list_in held s k) none in
+      let rest_mid : (at : ℕ) → mid.unallocated_bytes t i at ≡ byte_at bytes at = λ at. ap (λ c. if c then byte_at bytes at else rest_in held (block_at old t i) at) (both_equal t i t i refl refl) in
       takes_out mapped t i n o size mid (byte_view_of now new)
       (λ u j away. record {
-        lists = λ k. (same u j away).lists k;
-        rest = λ at. (same u j away).rest at ∙ sym (ap (λ c. if c then byte_at bytes at else rest_in held (block_at old u j) at) (not_both t i u j away));
+        allocation_bytes = λ k. (same u j away).allocation_bytes k;
+        unallocated_bytes = λ at. (same u j away).unallocated_bytes at ∙ sym (ap (λ c. if c then byte_at bytes at else rest_in held (block_at old u j) at) (not_both t i u j away));
       })
       (list_mid n)
-      (subst (IsOutOf mapped (mid.rest t i) o size) (sym (list_new n)) (taken_list mapped bytes (mid.rest t i) [] more n o size one room rest_mid))
+      (subst (IsOutOf mapped (mid.unallocated_bytes t i) o size) (sym (list_new n)) (taken_list mapped bytes (mid.unallocated_bytes t i) [] more n o size one room rest_mid))
       (λ k ne. list_new k ∙ other_pieces bytes [] more n o size one k ne ∙ sym (list_mid k))
       (λ at. ap (λ s. rest_in now s at) only.at ∙ left_with bytes [] more n o size one at ∙ ap (λ r. if in_range o size at then None else r) (sym (rest_mid at)))
 
 -- a piece's list went back into the rest
 abbrev pub with_back : (p : AllocationId) (o size : ℕ) → ByteView → ByteView
 with_back p o size old = record {
-  lists = λ q. if is_same_id p q then None else old.lists q;
-  rest = λ u j at. if lies_in p o size u j at then byte_at (old.lists p) (at - o) else old.rest u j at;
+  allocation_bytes = λ q. if is_same_id p q then None else old.allocation_bytes q;
+  unallocated_bytes = λ u j at. if lies_in p o size u j at then byte_at (old.allocation_bytes p) (at - o) else old.unallocated_bytes u j at;
 }
 
 place_itself : (p : AllocationId) → is_same_id p p ≡ true
@@ -200,46 +200,46 @@ place_itself p = ap (λ b. b && ((p.slot == p.slot) && (p.number == p.number))) 
 
 pub with_back_puts : (p : AllocationId) (o size : ℕ) (old : ByteView) → PutsBack p o size old (with_back p o size old)
 with_back_puts p o size old = record {
-  gone = ap (λ b. if b then None else old.lists p) (place_itself p);
-  others = λ q isnt. ap (λ b. if b then None else old.lists q) isnt;
-  rest = λ u j at. refl;
+  gone = ap (λ b. if b then None else old.allocation_bytes p) (place_itself p);
+  others = λ q isnt. ap (λ b. if b then None else old.allocation_bytes q) isnt;
+  unallocated_bytes = λ u j at. refl;
 }
 
 module _ (held now : Held) (old new : Slots) (t i : ℕ) (a : Slot DeviceMemory) (at_old : block_at old t i ≡ Some a) (only : OnlyBlock old t i None new) (n o size : ℕ)
     (stays : (u j : ℕ) (s : Slot DeviceMemory) → (u ≡ t → j ≡ i → ⊥) → block_at old u j ≡ Some s → bytes_of now s.number.0 ≡ bytes_of held s.number.0) where
   -- the last piece of a block goes, and the block with it
-  pub dropped_buffers : OneMore [] (extents_of a.block) n o size → DropsBlock t i (with_back (place t i n) o size (byte_view_of held old)) (byte_view_of now new)
-  dropped_buffers one =
+  pub dropped_byte_view : OneMore [] (extents_of a.block) n o size → DropsBlock t i (with_back (place t i n) o size (byte_view_of held old)) (byte_view_of now new)
+  dropped_byte_view one =
       let bytes = bytes_of held a.number.0 in
       let more = extents_of a.block in
       let before = byte_view_of held old in
       let mid = with_back (place t i n) o size before in
       let same = same_blocks held now old new t i only.others stays in
-      let list_old : (k : ℕ) → before.lists (place t i k) ≡ piece_bytes bytes (piece_of_number more k) = λ k. ap (λ s. list_in held s k) at_old in
-      let here_none : (k : ℕ) → mid.lists (place t i k) ≡ None = λ k.
+      let list_old : (k : ℕ) → before.allocation_bytes (place t i k) ≡ piece_bytes bytes (piece_of_number more k) = λ k. ap (λ s. list_in held s k) at_old in
+      let here_none : (k : ℕ) → mid.allocation_bytes (place t i k) ≡ None = λ k.
       ⊎_elim
-      (λ is. ap (λ b. if b then None else before.lists (place t i k)) is)
-      (λ isnt. ap (λ b. if b then None else before.lists (place t i k)) isnt ∙ list_old k ∙ other_pieces bytes [] more n o size one k (other_number t i n k isnt))
+      (λ is. ap (λ b. if b then None else before.allocation_bytes (place t i k)) is)
+      (λ isnt. ap (λ b. if b then None else before.allocation_bytes (place t i k)) isnt ∙ list_old k ∙ other_pieces bytes [] more n o size one k (other_number t i n k isnt))
       (cases_Bool (is_same_id (place t i n) (place t i k))) in
       record {
-        lists = λ q.
+        allocation_bytes = λ q.
             ⊎_elim
             (λ here.
             let q_is : place t i q.number ≡ q = same_as q t i here.0 here.1 in
-            subst (λ r. list_in now (block_at new r.memory_type r.slot) r.number ≡ mid.lists r) q_is (ap (λ s. list_in now s q.number) only.at ∙ sym (here_none q.number)))
+            subst (λ r. list_in now (block_at new r.memory_type r.slot) r.number ≡ mid.allocation_bytes r) q_is (ap (λ s. list_in now s q.number) only.at ∙ sym (here_none q.number)))
             (λ away.
             let isnt : is_same_id (place t i n) q ≡ false = apart_place t i n q away in
-            (same q.memory_type q.slot away).lists q.number ∙ sym (ap (λ b. if b then None else before.lists q) isnt))
+            (same q.memory_type q.slot away).allocation_bytes q.number ∙ sym (ap (λ b. if b then None else before.allocation_bytes q) isnt))
             (same_place q.memory_type t q.slot i);
-        rest = λ u j at.
+        unallocated_bytes = λ u j at.
             ⊎_elim
             (λ here.
             ap (λ v. rest_in now (block_at new v j) at) here.0 ∙ ap (λ v. rest_in now (block_at new t v) at) here.1 ∙ ap (λ s. rest_in now s at) only.at
-            ∙ sym (ap (λ b. if b then None else mid.rest u j at) (both_equal t i u j (sym here.0) (sym here.1))))
+            ∙ sym (ap (λ b. if b then None else mid.unallocated_bytes u j at) (both_equal t i u j (sym here.0) (sym here.1))))
             (λ away.
-            (same u j away).rest at
-            ∙ sym (ap (λ b. if b && in_range o size at then byte_at (before.lists (place t i n)) (at - o) else before.rest u j at) (not_both t i u j away))
-            ∙ sym (ap (λ b. if b then None else mid.rest u j at) (not_both t i u j away)))
+            (same u j away).unallocated_bytes at
+            ∙ sym (ap (λ b. if b && in_range o size at then byte_at (before.allocation_bytes (place t i n)) (at - o) else before.unallocated_bytes u j at) (not_both t i u j away))
+            ∙ sym (ap (λ b. if b then None else mid.unallocated_bytes u j at) (not_both t i u j away)))
             (same_place u t j i);
       }
     where
