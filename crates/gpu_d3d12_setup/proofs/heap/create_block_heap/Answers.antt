@@ -1,0 +1,18 @@
+use Rattle.std.proofs.Common.{sym, ap, Some, to_z, of_z, w32}
+use Rattle.gpu_d3d12_setup.specs.HeapAnswer.{Declined}
+use Rattle.gpu_d3d12_setup.proofs.heap.create_block_heap.Goals as goal
+
+pub returns-in-Err : goal.returns-in-Err
+returns-in-Err g c = (
+  Declined (to_z w32 (of_z w32 c.in-Err.code)),
+  record {
+    number = tt;
+    held = c.in-Err.ensures.holds;
+    count = c.in-Err.ensures.counts;
+    latest_heap = c.create_heap.ensures.names_heap;
+    latest_formats = c.create_heap.ensures.names_no_formats;
+    latest_clear = c.create_heap.ensures.names_no_clear_value;
+    constant = c.create_heap.ensures.constant;
+  },
+  ap Some (sym c.refusal_of_heap.ensures),
+)

@@ -1,0 +1,10 @@
+pub mod DeviceVersion
+pub mod Lends
+pub mod Category
+pub mod MemoryKinds
+pub mod Heaps
+pub mod HeapAnswer
+pub mod Describe
+pub mod Question
+pub mod ResourceAnswer
+pub mod Setup
