@@ -1,0 +1,12 @@
+pub mod Types
+pub mod Attempts
+pub mod Serving
+pub mod Releasing
+pub mod Returned
+pub mod Owning
+pub mod Apart
+pub mod Renaming
+pub mod Naming
+pub mod Steps
+pub mod OneStep
+pub mod Keeping

@@ -1,0 +1,240 @@
+//! The allocator: blocks of heaps by memory type, and the calls that share them out.
+
+ghost use Rattle.std.specs.Prelude.{◌≡◌, ◌↔◌, [], All, map, string_bytes, Some, Ok, IfOk, IfErr, IsTrue, length, ◌%◌};
+ghost use Rattle.std.specs.Option.{unwrap_or};
+ghost use Rattle.gpu_values.specs.Refusal.{refusal_of, host_out_of_memory};
+ghost use Rattle.gpu_values.specs.Report.{report_of};
+ghost use Rattle.gpu_values.specs.declared.error.AllocationError.TheVariants.{HostOutOfMemory};
+ghost use Rattle.gpu_block.specs.Leak.{leak_text};
+ghost use Rattle.gpu_memory_types.specs.Blocks.{total_capacity, BlocksWellFormed};
+ghost use Rattle.gpu_memory_types.specs.Leaks.{all_leaks};
+ghost use Rattle.gpu_memory_types.specs.Reports.{whole_report};
+ghost use Rattle.gpu_d3d12_setup.specs.DeviceVersion.{device_of, with_device};
+ghost use Rattle.gpu_d3d12_setup.specs.MemoryKinds.{memory_kinds};
+ghost use Rattle.gpu_d3d12_setup.specs.Setup.{setup_fault};
+ghost use Rattle.gpu_d3d12.specs.Allocate.{Allocates};
+ghost use Rattle.gpu_d3d12.specs.Apart.{IsInside, SharesNoByte};
+ghost use Rattle.gpu_d3d12.specs.Blocks.{HoldsJustLiveBlocks};
+ghost use Rattle.gpu_d3d12.specs.Free.{Frees, AsksNothing};
+ghost use Rattle.gpu_d3d12.specs.Live.{IsLive, AreDistinct, StayLive};
+ghost use Rattle.gpu_d3d12.specs.Rename.{Renames};
+ghost use Rattle.gpu_d3d12.specs.Step.{IsStep, IsAllocateStep, Free, Rename, Capacity, Report, Leaks, Sum, freed_as, renamed_as, shown_as, told_as};
+ghost use Rattle.gpu_d3d12.specs.declared.allocation.Allocation.{Allocation};
+
+use crate::Allocation;
+use crate::attempt::allocate_in_type;
+use crate::logging::{log_allocate, log_free, log_last_leaks, log_leaks};
+use crate::release::{free_all, release};
+use crate::rename::rename;
+use gpu_d3d12_setup::{
+    AllocationCreateDesc, AllocatorCreateDesc, ID3D12DeviceVersion, Setup, parts_of, type_for,
+};
+use gpu_device::d3d12::{D3D12Device, ID3D12Heap};
+use gpu_memory_types::MemoryTypes;
+use gpu_values::{AllocationError, AllocatorReport, Result};
+use log::{Level, Log};
+use std::alloc::Global;
+use std::marker::Model;
+use std::snapshot::Snapshot;
+
+/// Allocates pieces of heaps from a few large blocks. It must be spent by `destroy`.
+pub struct Allocator<D: D3D12Device> {
+    device: ID3D12DeviceVersion<D>,
+    first: Snapshot<ID3D12DeviceVersion<D>>,
+    setup: Setup,
+    types: MemoryTypes<ID3D12Heap>,
+    alloc: Global,
+}
+
+impl<D: D3D12Device> Model for Allocator<D> {
+    ghost use Rattle.std.specs.Prelude.{◌≡◌};
+    ghost use Rattle.gpu_d3d12_setup.specs.DeviceVersion.{device_of, with_device};
+    ghost use Rattle.gpu_d3d12_setup.specs.Setup.{kinds_told};
+    ghost use Rattle.gpu_d3d12.specs.State.{State, AllocatorInvariant};
+    ghost use Rattle.gpu_memory_types.specs.Types.{slots_of, kinds, MemoryTypesInvariant};
+
+    ghost Value = { State D };
+
+    ghost view = { λ a. record { device = a.device; first = a.first.value; setup = a.setup; slots = slots_of a.types } };
+
+    ghost invariant = { λ a. (kinds a.types ≡ kinds_told a.setup.tier)
+        × AllocatorInvariant (D.properties (device_of a.first.value)) (D.properties (device_of a.device)) (D.held (device_of a.first.value)) (D.held (device_of a.device)) a.setup (slots_of a.types)
+        × MemoryTypesInvariant a.types
+        × (a.device ≡ with_device a.first.value (device_of a.device)) };
+}
+
+impl<D: D3D12Device> Allocator<D> {
+    /// An allocator without blocks. Where it can't be made, the device comes back beside `Internal`, if it can't tell its
+    /// heap tier, or `HostOutOfMemory`.
+    pub fn new(
+        alloc: Global,
+        desc: AllocatorCreateDesc<D>,
+    ) -> Result<Self, (AllocationError, ID3D12DeviceVersion<D>)>
+        ensures device { IfOk result (λ a. (a.device ≡ desc.device) × (a.first ≡ desc.device)) }
+        ensures tier { IfOk result (λ a. (D.properties (device_of desc.device)).tier ≡ Ok a.setup.tier) }
+        ensures chosen { IfOk result (λ a. (a.setup.sizes ≡ desc.allocation_sizes) × (a.setup.debug ≡ desc.debug_settings)) }
+        ensures empty { IfOk result (λ a. All (λ slots. slots ≡ []) a.slots) }
+        ensures types { IfOk result (λ a. length a.slots ≡ length (memory_kinds a.setup.tier)) }
+        ensures refused { IfErr result (λ e. e.1 ≡ desc.device) }
+        ensures cause { IfErr result (λ e. refusal_of e.0 ≡ unwrap_or (setup_fault (D.properties (device_of desc.device))) host_out_of_memory) }
+    {
+        let AllocatorCreateDesc {
+            device,
+            debug_settings,
+            allocation_sizes,
+        } = desc;
+        match parts_of(alloc, device.device(), allocation_sizes, debug_settings) {
+            Err(error) => Err((error, device)),
+            Ok((setup, types)) => {
+                let first = Snapshot::of(&device);
+                Ok(Allocator {
+                    device,
+                    first,
+                    setup,
+                    types,
+                    alloc,
+                })
+            }
+        }
+    }
+
+    /// Takes a piece of a heap. `InvalidAllocationCreateDesc` where the size is 0 or the alignment isn't a power of two;
+    /// `HostOutOfMemory`; `OutOfMemory` where a new block would carry the sum of all blocks' sizes past `u64::MAX` or the
+    /// device has no memory for it; `Internal` where it refuses for another cause. A refusal changes nothing.
+    pub fn allocate<L: Log>(&mut self, log: &L, desc: &AllocationCreateDesc) -> Result<Allocation>
+        ensures allocates { Allocates D.D3D12Device self.old.setup desc.now self.old.slots (device_of self.old.device) result self.new.slots (device_of self.new.device) }
+        ensures constant { (self.new.first ≡ self.old.first) × (self.new.setup ≡ self.old.setup) }
+        ensures step { IsAllocateStep D.D3D12Device desc.now result self.old self.new }
+        ensures aligned { IfOk result (λ a. a.offset % desc.now.alignment ≡ 0) }
+        ensures keeps { StayLive self.old.slots self.new.slots }
+        ensures gives { IfOk result (λ a. IsLive self.new.slots a × ((b : Allocation) → IsLive self.old.slots b → AreDistinct b a)) }
+    {
+        log_allocate(log, self.setup.debug, desc);
+        if desc.size == 0 || !desc.alignment.is_power_of_two() {
+            return Err(AllocationError::InvalidAllocationCreateDesc);
+        }
+        let index = type_for(self.setup.tier, desc.location, desc.resource_category);
+        let device = self.device.device_mut();
+        allocate_in_type(
+            self.alloc,
+            &self.setup,
+            device,
+            &mut self.types,
+            desc,
+            index,
+        )
+    }
+
+    /// The sum of the sizes of the live blocks, in bytes.
+    pub fn capacity(&self) -> u64
+        ensures sum { result ≡ total_capacity self.now.slots }
+        ensures step { IsStep D.D3D12Device Capacity (Sum result) self.now self.now }
+    {
+        self.types.capacity()
+    }
+
+    /// The device, lent. It holds what it held when it was handed in, and just the live blocks.
+    pub fn device(&self) -> &ID3D12DeviceVersion<D>
+        ensures lent { result.now ≡ self.now.device }
+        ensures holds { HoldsJustLiveBlocks self.now.setup.tier (D.held (device_of self.now.first)) (D.held (device_of self.now.device)) self.now.slots }
+        ensures constant { D.properties (device_of self.now.device) ≡ D.properties (device_of self.now.first) }
+    {
+        &self.device
+    }
+
+    /// What holds of live allocations at any time, for callers' proofs: each lies inside its block, and no two share a
+    /// byte. All blocks are sound. It does nothing.
+    pub fn allocations_are_apart(&self)
+        ensures sound { BlocksWellFormed 1 self.now.slots }
+        ensures inside { (a : Allocation) → IsLive self.now.slots a → IsInside self.now.slots a }
+        ensures apart { (a b : Allocation) → IsLive self.now.slots a → IsLive self.now.slots b → AreDistinct a b → SharesNoByte a b }
+    {
+        let _ = &self.device;
+    }
+
+    /// Whether an allocation is live: the allocator has a record with its type, slot, number, offset, size and heap.
+    pub fn is_live(&self, allocation: &Allocation) -> bool
+        ensures { IsTrue result ↔ IsLive self.now.slots allocation.now }
+    {
+        self.types
+            .is_live(allocation.memory_type_index, &allocation.piece())
+    }
+
+    /// Gives an allocation back, and its block with it where the block is left empty and isn't the only shared one of its
+    /// memory type. One that isn't live comes back beside `Internal`, and then nothing changes. It takes no memory.
+    pub fn free<L: Log>(
+        &mut self,
+        log: &L,
+        allocation: Allocation,
+    ) -> Result<(), (AllocationError, Allocation)>
+        ensures frees { Frees D.D3D12Device allocation self.old.slots (device_of self.old.device) result self.new.slots (device_of self.new.device) }
+        ensures constant { (self.new.first ≡ self.old.first) × (self.new.setup ≡ self.old.setup) }
+        ensures step { IsStep D.D3D12Device (Free allocation) (freed_as result) self.old self.new }
+        ensures keeps { (b : Allocation) → IsLive self.old.slots b → AreDistinct b allocation → IsLive self.new.slots b }
+    {
+        log_free(log, self.setup.debug, &allocation);
+        let piece = allocation.piece();
+        let index = allocation.memory_type_index;
+        let device = self.device.device_mut();
+        match release(device, &mut self.types, index, &piece) {
+            Ok(()) => Ok(()),
+            Err(error) => Err((error, allocation)),
+        }
+    }
+
+    /// Gives an allocation another name, and with it the record that reports and leaks show. `Internal` where the
+    /// allocation isn't live, else `HostOutOfMemory` where the host refused memory; then both names are as they were.
+    pub fn rename_allocation(&mut self, allocation: &mut Allocation, name: &str) -> Result<()>
+        ensures renames { Renames allocation.old name.now self.old.slots result allocation.new self.new.slots }
+        ensures step { IsStep D.D3D12Device (Rename allocation.old name.now) (renamed_as result) self.old self.new }
+        ensures live { StayLive self.old.slots self.new.slots }
+        ensures constant { (self.new.device ≡ self.old.device) × (self.new.first ≡ self.old.first) × (self.new.setup ≡ self.old.setup) }
+    {
+        rename(self.alloc, &mut self.types, allocation, name)
+    }
+
+    /// What is allocated: the live blocks and pieces by memory type, then by slot, pieces by offset, and the sums of both.
+    /// The only refusal is `HostOutOfMemory`.
+    pub fn generate_report(&self) -> Result<AllocatorReport>
+        ensures step { IsStep D.D3D12Device Report (shown_as result) self.now self.now }
+        ensures report { IfOk result (λ r. report_of r ≡ whole_report self.now.slots) }
+        ensures capacity { IfOk result (λ r. r.total_capacity_bytes ≡ total_capacity self.now.slots) }
+        ensures cause { IfErr result (λ e. e ≡ HostOutOfMemory) }
+    {
+        self.types.report(self.alloc)
+    }
+
+    /// The texts of all live pieces by memory type, then by slot, then in order of offset. The only refusal is
+    /// `HostOutOfMemory`.
+    pub fn leak_texts(&self) -> Result<Vec<String>>
+        ensures step { IsStep D.D3D12Device Leaks (told_as result) self.now self.now }
+        ensures texts { IfOk result (λ v. map string_bytes v.items ≡ map leak_text (all_leaks self.now.slots)) }
+        ensures cause { IfErr result (λ e. e ≡ HostOutOfMemory) }
+    {
+        self.types.leak_texts(self.alloc)
+    }
+
+    /// Logs the same texts one by one, each as a message of its own. It takes no memory.
+    pub fn report_memory_leaks<L: Log>(&self, log: &L, level: Level) {
+        log_leaks(log, level, &self.types);
+    }
+
+    /// Gives every block back, and returns the device, which then holds what it held when it was handed in. What is still
+    /// live is logged first, as warnings, where the settings ask for it.
+    pub fn destroy<L: Log>(self, log: &L) -> ID3D12DeviceVersion<D>
+        ensures held { D.held (device_of result) ≡ D.held (device_of self.first) }
+        ensures asks_nothing { AsksNothing D.D3D12Device (device_of self.device) (device_of result) }
+        ensures version { result ≡ with_device self.first (device_of result) }
+    {
+        let Allocator {
+            mut device,
+            first: _,
+            setup,
+            types,
+            alloc: _,
+        } = self;
+        log_last_leaks(log, setup.debug, &types);
+        free_all(device.device_mut(), &types);
+        device
+    }
+}
