@@ -83,7 +83,8 @@ rename_reply t p name host (Sum n) old new s = absurd s
 rename_reply t p name host (Shows w) old new s = absurd s
 rename_reply t p name host (Tells zs) old new s = absurd s
 
-named_or_fails : (t : ℕ) (p : Piece ID3D12Heap) (name : List ℕ) (host : Bool) (r : Refusal) (old new next : Slots) → RenameStep t p name host Done old new → RenameStep t p name host (Fails r) old next → ⊥
+named_or_fails : (t : ℕ) (p : Piece ID3D12Heap) (name : List ℕ) (host : Bool) (r : Refusal) (old new next : Slots) → RenameStep t p name host Done old new
+    → RenameStep t p name host (Fails r) old next → ⊥
 named_or_fails t p name host r old new next a b = ⊎_elim (λ starved. false_true (sym starved.0 ∙ a.0)) (λ dead. dead.0 a.1.live) b.0
 
 rename_fails_once : (t : ℕ) (p : Piece ID3D12Heap) (name : List ℕ) (host : Bool) (r s : Refusal) (old new next : Slots) → BlocksWellFormed 1 old
@@ -118,7 +119,8 @@ rename_once t p name host x y old new next sound a b =
 -- ---- what is shown and told
 
 -- a reply to a call that shows something, or wants host memory
-shown_reply : (host : Bool) (x : Reply) (old new : Slots) → ReportStep host x old new → (new ≡ old) × (((host ≡ true) × (x ≡ Shows (whole_report old))) ⊎ ((host ≡ false) × (x ≡ Fails host_out_of_memory)))
+shown_reply : (host : Bool) (x : Reply) (old new : Slots) → ReportStep host x old new
+    → (new ≡ old) × (((host ≡ true) × (x ≡ Shows (whole_report old))) ⊎ ((host ≡ false) × (x ≡ Fails host_out_of_memory)))
 shown_reply host (Given u q) old new s = absurd s
 shown_reply host (Fails r) old new s = (s.2, inr (s.0, ap Fails s.1))
 shown_reply host Done old new s = absurd s
@@ -126,7 +128,8 @@ shown_reply host (Sum n) old new s = absurd s
 shown_reply host (Shows w) old new s = (s.2, inl (s.0, ap Shows s.1))
 shown_reply host (Tells zs) old new s = absurd s
 
-told_reply : (host : Bool) (x : Reply) (old new : Slots) → LeaksStep host x old new → (new ≡ old) × (((host ≡ true) × (x ≡ Tells (map leak_text (all_leaks old)))) ⊎ ((host ≡ false) × (x ≡ Fails host_out_of_memory)))
+told_reply : (host : Bool) (x : Reply) (old new : Slots) → LeaksStep host x old new
+    → (new ≡ old) × (((host ≡ true) × (x ≡ Tells (map leak_text (all_leaks old)))) ⊎ ((host ≡ false) × (x ≡ Fails host_out_of_memory)))
 told_reply host (Given u q) old new s = absurd s
 told_reply host (Fails r) old new s = (s.2, inr (s.0, ap Fails s.1))
 told_reply host Done old new s = absurd s

@@ -48,7 +48,8 @@ module _ {D : Type 0} (g : Ghosts D) (tier : ResourceHeapTier) (first : Held) (t
   went_live several n (Some a) (Some b) m rel = absurd (none_some m (sym rel.0))
   went_live several n (Some a) None m rel = (a, refl, some_same m a.number rel.0)
 
-  back_holds : (several : Type 0) (n i : ℕ) (b : Option (Slot ID3D12Heap)) (went : Option ID3D12Heap) (device after : D) → SlotReleases several n (block_at old t i) went b → GivesBack g device went after
+  back_holds : (several : Type 0) (n i : ℕ) (b : Option (Slot ID3D12Heap)) (went : Option ID3D12Heap) (device after : D)
+      → SlotReleases several n (block_at old t i) went b → GivesBack g device went after
       → HoldsJustLiveBlocks tier first (g.held device) old → g.held after ≡ without_block heap_number (g.held device) went
   back_holds several n i b None device after rel back h = ap g.held back
   back_holds several n i b (Some m) device after rel back h =

@@ -65,7 +65,8 @@ module _ {D : Type 0} (g : Ghosts D) where
   replies_of t d (Err e) (Refused r) h = h
 
   pub served_step : (d : AllocationCreateDesc) (old new : State D) (result : Result Allocation AllocationError) → is_valid d ≡ true
-      → IsServed g old.setup d old.slots (device_of old.device) result new.slots (device_of new.device) → new.device ≡ with_device old.device (device_of new.device) → IsAllocateStep g d result old new
+      → IsServed g old.setup d old.slots (device_of old.device) result new.slots (device_of new.device)
+      → new.device ≡ with_device old.device (device_of new.device) → IsAllocateStep g d result old new
   served_step d old new result valid s version =
       let a = s.attempt in
       let serves : ServeStep old.setup d a.environment (reply_of s.memory_type a.answer) old.slots new.slots =
@@ -85,7 +86,8 @@ module _ {D : Type 0} (g : Ghosts D) where
   refused_replies d (Ok a) r is = absurd (none_some r is)
   refused_replies d (Err e) r is = some_same (refusal_of e) r is
 
-  pub invalid_step : (d : AllocationCreateDesc) (s : State D) (result : Result Allocation AllocationError) → refusal_in result ≡ Some invalid_allocation_create_desc → is_valid d ≡ false → IsAllocateStep g d result s s
+  pub invalid_step : (d : AllocationCreateDesc) (s : State D) (result : Result Allocation AllocationError) → refusal_in result ≡ Some invalid_allocation_create_desc
+      → is_valid d ≡ false → IsAllocateStep g d result s s
   invalid_step d s result is invalid = record {
     reply = Fails invalid_allocation_create_desc;
     step = record {

@@ -24,21 +24,25 @@ prepare-requires-clause-there g c =
 pub returns-in-Err-clause-suballocates : goal.returns-in-Err-clause-suballocates
 returns-in-Err-clause-suballocates g c =
     let after = (goal.at.returns-in-Err-clause-suballocates g c).After-prepare in
-    host_refused g.D.D3D12Device c.args.setup.now c.args.index c.args.desc.now c.args.device.now c.args.types.now c.request_of.result c.requires.kinds (below g after) c.request_of.ensures.asks c.request_of.ensures.shared
+    host_refused g.D.D3D12Device c.args.setup.now c.args.index c.args.desc.now c.args.device.now c.args.types.now c.request_of.result c.requires.kinds (below g after)
+    c.request_of.ensures.asks c.request_of.ensures.shared
     c.in-Err.error c.prepare.new.self c.in-Err.ensures.cause c.in-Err.ensures.refused
 
 pub returns-in-Ok-Taken-clause-suballocates : goal.returns-in-Ok-Taken-clause-suballocates
 returns-in-Ok-Taken-clause-suballocates g c =
     let after = (goal.at.returns-in-Ok-Taken-clause-suballocates g c).After-prepare in
-    let taken : PreparesAt c.args.index c.args.types.now c.args.setup.now.sizes c.request_of.result (prepared.Taken c.in-Ok-Taken.piece) c.prepare.new.self = rw c.in-Ok-Taken.field-0-is at c.in-Ok-Taken.ensures.prepared in
-    shared_block_serves g.D.D3D12Device c.args.setup.now c.args.index c.args.desc.now c.args.device.now c.args.types.now c.request_of.result c.requires.kinds (below g after) c.request_of.ensures.asks c.request_of.ensures.shared
+    let taken : PreparesAt c.args.index c.args.types.now c.args.setup.now.sizes c.request_of.result (prepared.Taken c.in-Ok-Taken.piece) c.prepare.new.self =
+    rw c.in-Ok-Taken.field-0-is at c.in-Ok-Taken.ensures.prepared in
+    shared_block_serves g.D.D3D12Device c.args.setup.now c.args.index c.args.desc.now c.args.device.now c.args.types.now c.request_of.result c.requires.kinds
+    (below g after) c.request_of.ensures.asks c.request_of.ensures.shared
     c.in-Ok-Taken.piece c.prepare.new.self taken
 
 pub install-requires-clause-sum : goal.install-requires-clause-sum
 install-requires-clause-sum g c =
     let after = (goal.at.install-requires-clause-sum g c).After-prepare in
     let need : NeedBlock = c.in-Ok-NeedBlock.need in
-    let h : PreparesAt c.args.index c.args.types.now c.args.setup.now.sizes c.request_of.result (prepared.NeedBlock need) c.prepare.new.self = rw c.in-Ok-NeedBlock.field-0-is at c.in-Ok-NeedBlock.ensures.prepared in
+    let h : PreparesAt c.args.index c.args.types.now c.args.setup.now.sizes c.request_of.result (prepared.NeedBlock need) c.prepare.new.self =
+    rw c.in-Ok-NeedBlock.field-0-is at c.in-Ok-NeedBlock.ensures.prepared in
     let same = ap (λ (ss : Slots). total_capacity ss) (waiting c.args.index c.args.types.now c.args.setup.now.sizes c.request_of.result (below g after) need c.prepare.new.self h) in
     let fits = h.fits in
     omega (arith, same, fits)
@@ -47,22 +51,28 @@ pub returns-in-Err-create_block_heap-clause-suballocates : goal.returns-in-Err-c
 returns-in-Err-create_block_heap-clause-suballocates g c =
     let after = (goal.at.returns-in-Err-create_block_heap-clause-suballocates g c).After-prepare in
     let need : NeedBlock = c.in-Ok-NeedBlock.need in
-    let h : PreparesAt c.args.index c.args.types.now c.args.setup.now.sizes c.request_of.result (prepared.NeedBlock need) c.prepare.new.self = rw c.in-Ok-NeedBlock.field-0-is at c.in-Ok-NeedBlock.ensures.prepared in
+    let h : PreparesAt c.args.index c.args.types.now c.args.setup.now.sizes c.request_of.result (prepared.NeedBlock need) c.prepare.new.self =
+    rw c.in-Ok-NeedBlock.field-0-is at c.in-Ok-NeedBlock.ensures.prepared in
     let q = c.heap_desc-question.result in
     let is = c.heap_desc-question.ensures in
     let e = c.in-Err-create_block_heap.ensures in
-    device_refused g.D.D3D12Device c.args.setup.now c.args.index c.args.desc.now c.args.device.now c.args.types.now c.request_of.result c.requires.kinds (below g after) c.request_of.ensures.asks c.request_of.ensures.shared
-    need c.prepare.new.self q e.0 c.create_block_heap.new.device h (ap (λ (d : HeapDesc). d.size) is) (asked_kind c.args.setup.now.tier c.args.index need.size c.kind_at.result q c.kind_at.ensures is) e.1
+    device_refused g.D.D3D12Device c.args.setup.now c.args.index c.args.desc.now c.args.device.now c.args.types.now c.request_of.result c.requires.kinds (below g after)
+    c.request_of.ensures.asks c.request_of.ensures.shared
+    need c.prepare.new.self q e.0 c.create_block_heap.new.device h (ap (λ (d : HeapDesc). d.size) is)
+    (asked_kind c.args.setup.now.tier c.args.index need.size c.kind_at.result q c.kind_at.ensures is) e.1
     c.in-Err-create_block_heap.error e.2
 
 pub returns-in-Ok-clause-suballocates : goal.returns-in-Ok-clause-suballocates
 returns-in-Ok-clause-suballocates g c =
     let after = (goal.at.returns-in-Ok-clause-suballocates g c).After-prepare in
     let need : NeedBlock = c.in-Ok-NeedBlock.need in
-    let h : PreparesAt c.args.index c.args.types.now c.args.setup.now.sizes c.request_of.result (prepared.NeedBlock need) c.prepare.new.self = rw c.in-Ok-NeedBlock.field-0-is at c.in-Ok-NeedBlock.ensures.prepared in
+    let h : PreparesAt c.args.index c.args.types.now c.args.setup.now.sizes c.request_of.result (prepared.NeedBlock need) c.prepare.new.self =
+    rw c.in-Ok-NeedBlock.field-0-is at c.in-Ok-NeedBlock.ensures.prepared in
     let q = c.heap_desc-question.result in
     let is = c.heap_desc-question.ensures in
     let e = c.in-Ok.ensures in
-    block_installed g.D.D3D12Device c.args.setup.now c.args.index c.args.desc.now c.args.device.now c.args.types.now c.request_of.result c.requires.kinds (below g after) c.request_of.ensures.asks c.request_of.ensures.shared
-    need c.prepare.new.self q e.0 c.create_block_heap.new.device h (ap (λ (d : HeapDesc). d.size) is) (asked_kind c.args.setup.now.tier c.args.index need.size c.kind_at.result q c.kind_at.ensures is) e.1
+    block_installed g.D.D3D12Device c.args.setup.now c.args.index c.args.desc.now c.args.device.now c.args.types.now c.request_of.result c.requires.kinds (below g after)
+    c.request_of.ensures.asks c.request_of.ensures.shared
+    need c.prepare.new.self q e.0 c.create_block_heap.new.device h (ap (λ (d : HeapDesc). d.size) is)
+    (asked_kind c.args.setup.now.tier c.args.index need.size c.kind_at.result q c.kind_at.ensures is) e.1
     c.install.new.self c.in-Ok.heap c.install.result e.2 c.install.ensures.installed

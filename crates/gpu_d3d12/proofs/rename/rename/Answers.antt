@@ -10,7 +10,8 @@ use Rattle.gpu_d3d12.proofs.rename.rename.Goals as goal
 
 pub returns-in-Err-clause-renames : goal.returns-in-Err-clause-renames
 returns-in-Err-clause-renames c = (
-  subst (λ (p : Piece ID3D12Heap). IsNotNamed is_same_heap (slots_at (slots_of c.args.types.now) c.args.allocation.now.memory_type_index) p (refusal_of c.in-Err.error)) c.piece-piece.ensures c.in-Err.ensures.cause,
+  subst (λ (p : Piece ID3D12Heap). IsNotNamed is_same_heap (slots_at (slots_of c.args.types.now) c.args.allocation.now.memory_type_index) p (refusal_of c.in-Err.error))
+      c.piece-piece.ensures c.in-Err.ensures.cause,
   refl,
   c.in-Err.ensures.refused,
 )

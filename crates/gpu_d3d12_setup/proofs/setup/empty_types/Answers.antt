@@ -38,7 +38,8 @@ loop-index-preserved c =
       empty =
           subst (λ (ts : Types ID3D12Heap). All (λ slots. slots ≡ []) (slots_of ts)) (sym pushed)
           (subst (λ (ss : Slots ID3D12Heap). All (λ slots. slots ≡ []) ss) (sym (map-append _ types (t ∷ [])))
-          (All-append (λ slots. slots ≡ []) (slots_of types) (t.slots ∷ []) c.loop-index.invariant.empty (All-cons (λ slots. slots ≡ []) t.slots [] c.new.ensures.slots (All-nil (λ slots. slots ≡ [])))));
+          (All-append (λ slots. slots ≡ []) (slots_of types) (t.slots ∷ []) c.loop-index.invariant.empty
+          (All-cons (λ slots. slots ≡ []) t.slots [] c.new.ensures.slots (All-nil (λ slots. slots ≡ [])))));
       len = omega (arith, c.loop-index.invariant.len, c.push_reserved.ensures.len);
       room = omega (arith, c.loop-index.invariant.room, c.push_reserved.ensures.capacity);
     }

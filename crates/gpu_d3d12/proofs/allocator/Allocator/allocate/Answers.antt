@@ -36,7 +36,8 @@ invariant_of-self g c =
     let first = V.held (device_of i.first.value) in
     let before = c.device_mut-device.result.now in
     let lent : before ≡ device_of i.device = c.device_mut-device.ensures.value in
-    let was : HoldsJustLiveBlocks i.setup.tier first (V.held before) (slots_of i.types) = subst (λ d. HoldsJustLiveBlocks i.setup.tier first (V.held d) (slots_of i.types)) (sym lent) c.self.invariant.1.holds in
+    let was : HoldsJustLiveBlocks i.setup.tier first (V.held before) (slots_of i.types) =
+    subst (λ d. HoldsJustLiveBlocks i.setup.tier first (V.held d) (slots_of i.types)) (sym lent) c.self.invariant.1.holds in
     let holds = attempt_holds V i.setup c.type_for-index.result c.args.desc.now first (slots_of i.types) (below g after) before c.allocate_in_type.result (slots_of c.allocate_in_type.new.types)
     c.allocate_in_type.new.device c.allocate_in_type.ensures.attempts was in
     kept_after V i.setup i.first.value i.device i.types c.allocate_in_type.new.types c.allocate_in_type.new.device c.self.invariant c.allocate_in_type.ensures.kinds
@@ -67,7 +68,8 @@ owns g c =
     let i = c.self.inside in
     let kept = c.allocate_in_type.ensures.kept c.self.invariant.2 in
     let sound = well_formed_told i.setup.tier c.allocate_in_type.new.types (c.allocate_in_type.ensures.kinds ∙ c.self.invariant.0) kept in
-    let here = attempt_owns i.setup c.args.desc.now c.type_for-index.result (slots_of i.types) (slots_of c.allocate_in_type.new.types) g.D.D3D12Device c.device_mut-device.result.now c.allocate_in_type.result
+    let here = attempt_owns i.setup c.args.desc.now c.type_for-index.result (slots_of i.types) (slots_of c.allocate_in_type.new.types) g.D.D3D12Device
+    c.device_mut-device.result.now c.allocate_in_type.result
     c.allocate_in_type.new.device (below g c) c.self.invariant.1.sound sound c.allocate_in_type.ensures.attempts in
     subst (λ (s : State g.row.D.Denot). Owns s.slots (slots_of c.allocate_in_type.new.types) c.args.desc.now.alignment c.allocate_in_type.result) c.self.view_is here
 

@@ -7,12 +7,16 @@ pub returns-clause-inside : goal.returns-clause-inside
 returns-clause-inside g c =
     let V = g.D.D3D12Device in
     let s = c.args.self.now in
-    let kept : AllocatorInvariant (V.properties (device_of s.first)) (V.properties (device_of s.device)) (V.held (device_of s.first)) (V.held (device_of s.device)) s.setup s.slots = rw (← c.self.view_is) c.self.invariant.1 in
+    let first = device_of s.first in
+    let now = device_of s.device in
+    let kept : AllocatorInvariant (V.properties first) (V.properties now) (V.held first) (V.held now) s.setup s.slots = rw (← c.self.view_is) c.self.invariant.1 in
     live_inside s.setup.tier (V.held (device_of s.first)) (V.held (device_of s.device)) s.slots kept.sound kept.holds
 
 pub returns-clause-apart : goal.returns-clause-apart
 returns-clause-apart g c =
     let V = g.D.D3D12Device in
     let s = c.args.self.now in
-    let kept : AllocatorInvariant (V.properties (device_of s.first)) (V.properties (device_of s.device)) (V.held (device_of s.first)) (V.held (device_of s.device)) s.setup s.slots = rw (← c.self.view_is) c.self.invariant.1 in
+    let first = device_of s.first in
+    let now = device_of s.device in
+    let kept : AllocatorInvariant (V.properties first) (V.properties now) (V.held first) (V.held now) s.setup s.slots = rw (← c.self.view_is) c.self.invariant.1 in
     live_apart s.setup.tier (V.held (device_of s.first)) (V.held (device_of s.device)) s.slots kept.sound kept.holds

@@ -15,7 +15,8 @@ invariant_of-self g c =
     let V = g.D.D3D12Device in
     let i = c.self.inside in
     let held = V.held (device_of i.device) in
-    let named = renamed_holds i.setup.tier (V.held (device_of i.first.value)) held (slots_of i.types) c.self.invariant.1.holds c.args.allocation.now c.args.name.now c.rename.result c.rename.new.allocation
+    let named = renamed_holds i.setup.tier (V.held (device_of i.first.value)) held (slots_of i.types) c.self.invariant.1.holds c.args.allocation.now c.args.name.now
+    c.rename.result c.rename.new.allocation
     (slots_of c.rename.new.types) c.rename.ensures.renames in
     kept_here V i.setup i.first.value i.device i.types c.rename.new.types c.self.invariant c.rename.ensures.kinds (c.rename.ensures.kept c.self.invariant.2) (named.0, refl, named.1)
 
