@@ -54,7 +54,6 @@ impl Allocation {
     pub fn is_null(&self) -> bool
         ensures { result ≡ false }
     {
-        let _number = self.number;
         false
     }
 

@@ -4,6 +4,7 @@ ghost use Rattle.std.specs.Prelude.{◌≡◌};
 ghost use Rattle.std.specs.Borrow.{sem};
 
 /// A device by the newest interface that it has, which decides how resources may begin.
+#[derive(Drop)]
 pub enum ID3D12DeviceVersion<D> {
     /// `ID3D12Device`: resources begin in a state.
     Device(D),

@@ -90,7 +90,8 @@ pub fn create_committed<D: D3D12Device>(
     heap_flags: HeapFlags,
 ) -> Result<ID3D12Resource>
     ensures { (answer : ResourceAnswer)
-        × AsksResource D.D3D12Device device.old question desc.now (Committed (made_size (D.properties device.old) question desc.now.resource_desc.now desc.now.castable_formats.now)) answer device.new
+        × AsksResource D.D3D12Device device.old question desc.now
+        (Committed (made_size (D.properties device.old) question desc.now.resource_desc.now desc.now.castable_formats.now)) answer device.new
         × Makes committed_texts result answer }
 {
     let clear = desc.clear_value;
@@ -139,7 +140,8 @@ pub fn create_placed<D: D3D12Device>(
     offset: u64,
 ) -> Result<ID3D12Resource>
     ensures { (answer : ResourceAnswer)
-        × AsksResource D.D3D12Device device.old question desc.now (Placed heap.0 offset (made_size (D.properties device.old) question desc.now.resource_desc.now desc.now.castable_formats.now)) answer device.new
+        × AsksResource D.D3D12Device device.old question desc.now
+        (Placed heap.0 offset (made_size (D.properties device.old) question desc.now.resource_desc.now desc.now.castable_formats.now)) answer device.new
         × Makes placed_texts result answer }
 {
     let clear = desc.clear_value;

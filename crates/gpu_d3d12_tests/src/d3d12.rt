@@ -1,0 +1,137 @@
+//! Worked rows of the DirectX 12 allocator.
+
+mod pieces;
+mod questions;
+mod refusals;
+
+use gpu_d3d12::{Allocation, Allocator};
+use gpu_d3d12_setup::{
+    AllocationCreateDesc, AllocatorCreateDesc, ID3D12DeviceVersion, ResourceCategory,
+};
+use gpu_device::d3d12::{Format, ResourceDesc, ResourceDimension, ResourceHeapTier};
+use gpu_sim_base::Refusal;
+use gpu_sim_d3d12::SimD3D12;
+use gpu_values::{AllocationSizes, AllocatorDebugSettings, MemoryLocation};
+use log::sink::Discard;
+use std::alloc::{AllocError, Global};
+use std::test::Fail;
+
+/// Bytes in a megabyte.
+const MB: u64 = 1_048_576;
+
+/// How a test ends.
+type Outcome = std::result::Result<(), Fail>;
+
+/// A simulated device of this tier, that refuses these questions.
+fn simulated(
+    alloc: Global,
+    tier: std::result::Result<ResourceHeapTier, i32>,
+    script: &[(u64, Refusal)],
+) -> std::result::Result<SimD3D12, AllocError> {
+    let mut refusals = Vec::new(alloc);
+    for refusal in script {
+        refusals.push(*refusal)?;
+    }
+    Ok(SimD3D12::new(alloc, tier, refusals))
+}
+
+/// What an allocator is made from, with the default settings.
+fn described(device: SimD3D12) -> AllocatorCreateDesc<SimD3D12> {
+    AllocatorCreateDesc {
+        device: ID3D12DeviceVersion::Device12(device),
+        debug_settings: AllocatorDebugSettings::default(),
+        allocation_sizes: AllocationSizes::default(),
+    }
+}
+
+/// An allocator over a simulated device.
+fn made(
+    alloc: Global,
+    tier: ResourceHeapTier,
+    script: &[(u64, Refusal)],
+) -> std::result::Result<Allocator<SimD3D12>, Fail> {
+    let device = simulated(alloc, Ok(tier), script)?;
+    match Allocator::new(alloc, described(device)) {
+        Ok(allocator) => Ok(allocator),
+        Err((_, _)) => Err(Fail::from("the allocator can't be made")),
+    }
+}
+
+/// A buffer of this width in bytes.
+fn buffer(width: u64) -> ResourceDesc {
+    ResourceDesc {
+        dimension: ResourceDimension::Buffer,
+        alignment: 0,
+        width,
+        height: 1,
+        depth_or_array_size: 1,
+        mip_levels: 1,
+        format: Format(0),
+        sample_count: 1,
+        sample_quality: 0,
+        layout: 1,
+        flags: 0,
+    }
+}
+
+/// A piece for a buffer of this width in bytes.
+fn buffer_piece<'a>(
+    a: &Allocator<SimD3D12>,
+    width: u64,
+    name: &'a str,
+) -> AllocationCreateDesc<'a> {
+    let device = a.device().device();
+    let desc = buffer(width);
+    AllocationCreateDesc::from_d3d12_resource_desc(device, &desc, name, MemoryLocation::GpuOnly)
+}
+
+/// A piece of 512 bytes for a resource of this category.
+fn piece_for(
+    location: MemoryLocation,
+    resource_category: ResourceCategory,
+) -> AllocationCreateDesc<'static> {
+    AllocationCreateDesc {
+        name: "piece",
+        location,
+        size: 512,
+        alignment: 256,
+        resource_category,
+    }
+}
+
+/// Takes what must be given.
+fn take(
+    a: &mut Allocator<SimD3D12>,
+    desc: &AllocationCreateDesc,
+) -> std::result::Result<Allocation, Fail> {
+    match a.allocate(&Discard, desc) {
+        Ok(allocation) => Ok(allocation),
+        Err(_) => Err(Fail::from("nothing was given")),
+    }
+}
+
+/// Gives back what is live.
+fn give(a: &mut Allocator<SimD3D12>, allocation: Allocation) -> Outcome {
+    match a.free(&Discard, allocation) {
+        Ok(()) => Ok(()),
+        Err((_, _)) => Err(Fail::from("a live allocation came back")),
+    }
+}
+
+/// The device of an allocator that is gone.
+fn destroyed(a: Allocator<SimD3D12>) -> SimD3D12 {
+    match a.destroy(&Discard) {
+        ID3D12DeviceVersion::Device(device) => device,
+        ID3D12DeviceVersion::Device10(device) => device,
+        ID3D12DeviceVersion::Device12(device) => device,
+    }
+}
+
+/// The offset, size and number of an allocation.
+fn place(allocation: &Allocation) -> (u64, u64, Option<u64>) {
+    let number = match allocation.chunk_id() {
+        Some(number) => Some(number.get()),
+        None => None,
+    };
+    (allocation.offset(), allocation.size(), number)
+}

@@ -1,0 +1,198 @@
+//! Pieces and the heaps that they lie in.
+
+use super::*;
+use gpu_d3d12_setup::type_for;
+use gpu_device::d3d12::{
+    CpuPageProperty, HeapContent, HeapDesc, HeapProperties, HeapType, ID3D12Heap, MemoryPool,
+};
+use gpu_values::AllocationError;
+use std::process::Abort;
+
+fn first_buffers(rt: &impl Abort, a: &mut Allocator<SimD3D12>) -> Outcome {
+    let desc = buffer_piece(a, 512, "first");
+    let first = take(a, &desc)?;
+    assert_eq!(rt; place(&first), (0, 65536, Some(2)));
+    assert_eq!(rt; first.heap(), ID3D12Heap(1));
+    assert!(rt; !first.is_null());
+    assert!(rt; a.is_live(&first));
+    let desc = buffer_piece(a, 70000, "second");
+    let second = take(a, &desc)?;
+    assert_eq!(rt; place(&second), (65536, 131072, Some(3)));
+    assert_eq!(rt; a.capacity(), 256 * MB);
+    match a.generate_report() {
+        Ok(report) => assert_eq!(rt; report.total_allocated_bytes, 196608),
+        Err(_) => return Err(Fail::from("a report was refused")),
+    }
+    give(a, first)?;
+    give(a, second)?;
+    assert_eq!(rt; a.capacity(), 268435456);
+    assert_eq!(rt; a.device().device().held(), 1);
+    Ok(())
+}
+
+#[test]
+fn buffers_share_a_block(rt: HostRuntime) -> Outcome {
+    let mut a = made(rt.alloc(), ResourceHeapTier::Tier2, &[])?;
+    let done = first_buffers(&rt, &mut a);
+    let device = destroyed(a);
+    assert_eq!(&rt; device.questions(), 1);
+    assert_eq!(&rt; device.held(), 0);
+    done
+}
+
+/// The heap that is asked for a piece of 512 bytes, and what is held once it is given back.
+fn heap_for(
+    alloc: Global,
+    tier: ResourceHeapTier,
+    desc: &AllocationCreateDesc,
+) -> std::result::Result<(Option<HeapDesc>, usize), Fail> {
+    let mut a = made(alloc, tier, &[])?;
+    let taken = take(&mut a, desc);
+    let heap = a.device().device().last_heap();
+    let device = destroyed(a);
+    match taken {
+        Ok(_) => Ok((heap, device.held())),
+        Err(fail) => Err(fail),
+    }
+}
+
+fn custom(cpu_page_property: CpuPageProperty) -> HeapProperties {
+    HeapProperties {
+        heap_type: HeapType::Custom,
+        cpu_page_property,
+        memory_pool_preference: MemoryPool::L0,
+        creation_node_mask: 0,
+        visible_node_mask: 0,
+    }
+}
+
+fn default_properties() -> HeapProperties {
+    HeapProperties {
+        heap_type: HeapType::Default,
+        cpu_page_property: CpuPageProperty::Unknown,
+        memory_pool_preference: MemoryPool::Unknown,
+        creation_node_mask: 0,
+        visible_node_mask: 0,
+    }
+}
+
+fn block(size: u64, properties: HeapProperties, content: HeapContent) -> Option<HeapDesc> {
+    Some(HeapDesc {
+        size,
+        properties,
+        alignment: 4194304,
+        content,
+    })
+}
+
+#[test]
+fn heaps_are_those_of_their_memory_type(rt: HostRuntime) -> Outcome {
+    let alloc = rt.alloc();
+    let textures = piece_for(MemoryLocation::CpuToGpu, ResourceCategory::OtherTexture);
+    let targets = piece_for(MemoryLocation::Unknown, ResourceCategory::RtvDsvTexture);
+    let readback = piece_for(MemoryLocation::GpuToCpu, ResourceCategory::Buffer);
+    let combined = custom(CpuPageProperty::WriteCombine);
+    let (heap, held) = heap_for(alloc, ResourceHeapTier::Tier1, &textures)?;
+    assert!(&rt; heap == block(64 * MB, combined, HeapContent::NonRtDsTextures));
+    assert_eq!(&rt; held, 0);
+    let (heap, _) = heap_for(alloc, ResourceHeapTier::Tier1, &targets)?;
+    assert!(&rt; heap == block(256 * MB, default_properties(), HeapContent::RtDsTextures));
+    let (heap, _) = heap_for(alloc, ResourceHeapTier::Tier2, &textures)?;
+    assert!(&rt; heap == block(64 * MB, combined, HeapContent::All));
+    let (heap, _) = heap_for(alloc, ResourceHeapTier::Tier2, &readback)?;
+    assert!(&rt;
+        heap == block(
+            64 * MB,
+            custom(CpuPageProperty::WriteBack),
+            HeapContent::All
+        )
+    );
+    Ok(())
+}
+
+#[test]
+fn memory_types_by_location_and_category(rt: HostRuntime) -> Outcome {
+    let one = ResourceHeapTier::Tier1;
+    let two = ResourceHeapTier::Tier2;
+    let other = ResourceCategory::OtherTexture;
+    let target = ResourceCategory::RtvDsvTexture;
+    assert_eq!(&rt; type_for(one, MemoryLocation::CpuToGpu, other), 5);
+    assert_eq!(&rt; type_for(one, MemoryLocation::Unknown, target), 1);
+    assert_eq!(&rt;
+        type_for(two, MemoryLocation::GpuOnly, ResourceCategory::Buffer),
+        0
+    );
+    assert_eq!(&rt; type_for(two, MemoryLocation::GpuToCpu, target), 2);
+    Ok(())
+}
+
+fn foreign(rt: &impl Abort, a: &mut Allocator<SimD3D12>, b: &mut Allocator<SimD3D12>) -> Outcome {
+    let small = piece_for(MemoryLocation::GpuOnly, ResourceCategory::Buffer);
+    let x = take(a, &small)?;
+    let mut y = take(a, &small)?;
+    let z = take(b, &small)?;
+    match b.rename_allocation(&mut y, "other") {
+        Err(AllocationError::Internal(_)) => {}
+        _ => return Err(Fail::from("an allocation that isn't live was named")),
+    }
+    match b.free(&Discard, y) {
+        Err((AllocationError::Internal(fault), back)) => {
+            assert_eq!(rt;
+                fault.text,
+                "Attempting to free chunk that is not in chunk list."
+            );
+            assert_eq!(rt; place(&back), (512, 512, Some(3)));
+        }
+        _ => return Err(Fail::from("an allocation that isn't live was freed")),
+    }
+    assert!(rt; a.is_live(&x));
+    give(b, z)
+}
+
+#[test]
+fn what_is_not_live_comes_back(rt: HostRuntime) -> Outcome {
+    let mut a = made(rt.alloc(), ResourceHeapTier::Tier2, &[])?;
+    let made_b = made(rt.alloc(), ResourceHeapTier::Tier2, &[]);
+    let done = match made_b {
+        Ok(mut b) => {
+            let done = foreign(&rt, &mut a, &mut b);
+            let device = destroyed(b);
+            assert_eq!(&rt; device.held(), 0);
+            done
+        }
+        Err(fail) => Err(fail),
+    };
+    let device = destroyed(a);
+    assert_eq!(&rt; device.held(), 0);
+    done
+}
+
+fn named(rt: &impl Abort, a: &mut Allocator<SimD3D12>) -> Outcome {
+    let small = piece_for(MemoryLocation::GpuOnly, ResourceCategory::Buffer);
+    let mut x = take(a, &small)?;
+    match a.rename_allocation(&mut x, "other") {
+        Ok(()) => {}
+        Err(_) => return Err(Fail::from("a new name was refused")),
+    }
+    match a.leak_texts() {
+        Ok(texts) => assert_eq!(rt; texts.len(), 1),
+        Err(_) => return Err(Fail::from("texts were refused")),
+    }
+    match a.generate_report() {
+        Ok(report) => match report.allocations.get(0) {
+            Some(row) => assert_eq!(rt; row.name.as_str(), "other"),
+            None => return Err(Fail::from("a report without rows")),
+        },
+        Err(_) => return Err(Fail::from("a report was refused")),
+    }
+    give(a, x)
+}
+
+#[test]
+fn a_new_name_is_reported(rt: HostRuntime) -> Outcome {
+    let mut a = made(rt.alloc(), ResourceHeapTier::Tier2, &[])?;
+    let done = named(&rt, &mut a);
+    let device = destroyed(a);
+    assert_eq!(&rt; device.held(), 0);
+    done
+}

@@ -1,0 +1,156 @@
+//! Questions for resources.
+
+use super::*;
+use gpu_d3d12_setup::{
+    ResourceCreateDesc, ResourceQuestion, ResourceStateOrBarrierLayout, ResourceType,
+    allocation_info_of, create_committed, create_placed, question_for,
+};
+use gpu_device::d3d12::{
+    ClearValue, CpuPageProperty, D3D12Device, HeapFlags, HeapProperties, HeapType, ID3D12Heap,
+    ID3D12Resource, MemoryPool,
+};
+use gpu_values::{AllocationError, Result};
+use std::process::Abort;
+
+const PROPERTIES: HeapProperties = HeapProperties {
+    heap_type: HeapType::Default,
+    cpu_page_property: CpuPageProperty::Unknown,
+    memory_pool_preference: MemoryPool::Unknown,
+    creation_node_mask: 0,
+    visible_node_mask: 0,
+};
+
+const CLEAR: ClearValue = ClearValue {
+    format: Format(28),
+    value: [1, 2, 3, 4],
+};
+
+const IN_STATE: ResourceStateOrBarrierLayout = ResourceStateOrBarrierLayout::ResourceState(1);
+
+const IN_LAYOUT: ResourceStateOrBarrierLayout = ResourceStateOrBarrierLayout::BarrierLayout(1);
+
+/// A placed buffer that begins so, with these formats.
+fn asked<'a>(
+    resource_desc: &'a ResourceDesc,
+    castable_formats: &'a [Format],
+    initial_state_or_layout: ResourceStateOrBarrierLayout,
+) -> ResourceCreateDesc<'a> {
+    ResourceCreateDesc {
+        name: "buffer",
+        memory_location: MemoryLocation::GpuOnly,
+        resource_category: ResourceCategory::Buffer,
+        resource_desc,
+        castable_formats,
+        clear_value: Some(&CLEAR),
+        initial_state_or_layout,
+        resource_type: &ResourceType::Placed,
+    }
+}
+
+/// The error's number where there is no question.
+fn number_of(answer: Result<ResourceQuestion>) -> u32 {
+    match answer {
+        Ok(_) => 0,
+        Err(AllocationError::BarrierLayoutNeedsDevice10) => 7,
+        Err(AllocationError::CastableFormatsRequiresEnhancedBarriers) => 8,
+        Err(AllocationError::CastableFormatsRequiresAtLeastDevice12) => 9,
+        Err(_) => 10,
+    }
+}
+
+#[test]
+fn questions_by_interface(rt: HostRuntime) -> Outcome {
+    let desc = buffer(512);
+    let formats = [Format(28)];
+    let state = asked(&desc, &formats, IN_STATE);
+    let layout = asked(&desc, &formats, IN_LAYOUT);
+    let plain = asked(&desc, &[], IN_LAYOUT);
+    let first = ID3D12DeviceVersion::Device(());
+    let tenth = ID3D12DeviceVersion::Device10(());
+    let twelfth = ID3D12DeviceVersion::Device12(());
+    assert_eq!(&rt; number_of(question_for(&twelfth, &state)), 8);
+    assert_eq!(&rt; number_of(question_for(&first, &layout)), 9);
+    assert_eq!(&rt; number_of(question_for(&tenth, &layout)), 9);
+    assert_eq!(&rt; number_of(question_for(&first, &plain)), 7);
+    assert_eq!(&rt;
+        number_of(question_for(&first, &asked(&desc, &[], IN_STATE))),
+        0
+    );
+    match (question_for(&twelfth, &plain), question_for(&tenth, &plain)) {
+        (Ok(ResourceQuestion::InLayoutWithFormats(1)), Ok(ResourceQuestion::InLayout(1))) => Ok(()),
+        (_, _) => Err(Fail::from("another question")),
+    }
+}
+
+/// The text of a refused resource.
+fn text_of(alloc: Global, made: Result<ID3D12Resource>) -> std::result::Result<String, Fail> {
+    match made {
+        Ok(_) => Err(Fail::from("a refused resource was given")),
+        Err(error) => match error.to_string(alloc) {
+            Ok(text) => Ok(text),
+            Err(AllocError) => Err(Fail::from("a text was refused")),
+        },
+    }
+}
+
+#[test]
+fn made_as_asked_for(rt: HostRuntime) -> Outcome {
+    let mut device = simulated(rt.alloc(), Ok(ResourceHeapTier::Tier2), &[])?;
+    let desc = buffer(512);
+    let plain = asked(&desc, &[], IN_LAYOUT);
+    let with = ResourceQuestion::InLayoutWithFormats(1);
+    let heap = ID3D12Heap(9);
+    match create_placed(&mut device, with, &plain, heap, 65536) {
+        Ok(resource) => assert_eq!(&rt; resource, ID3D12Resource(1)),
+        Err(_) => return Err(Fail::from("a resource was refused")),
+    }
+    assert_eq!(&rt; device.last_formats(), Some(0));
+    assert!(&rt; device.last_clear() == Some(CLEAR));
+    let without = ResourceQuestion::InLayout(1);
+    match create_committed(&mut device, without, &plain, &PROPERTIES, HeapFlags(0)) {
+        Ok(resource) => assert_eq!(&rt; resource, ID3D12Resource(2)),
+        Err(_) => return Err(Fail::from("a resource was refused")),
+    }
+    assert_eq!(&rt; device.last_formats(), None);
+    assert!(&rt; device.last_clear() == Some(CLEAR));
+    assert_eq!(&rt; device.held(), 2);
+    let info = allocation_info_of(&ID3D12DeviceVersion::Device12(device), &plain);
+    assert_eq!(&rt; (info.size_in_bytes, info.alignment), (65536, 65536));
+    Ok(())
+}
+
+#[test]
+fn refused_resources(rt: HostRuntime) -> Outcome {
+    let alloc = rt.alloc();
+    let removed = Refusal::Code(-2005270523);
+    let script = [
+        (1, removed),
+        (2, removed),
+        (3, Refusal::Null),
+        (4, Refusal::Code(-5)),
+    ];
+    let mut device = simulated(alloc, Ok(ResourceHeapTier::Tier2), &script)?;
+    let desc = buffer(512);
+    let plain = asked(&desc, &[], IN_STATE);
+    let state = ResourceQuestion::InState(1);
+    let heap = ID3D12Heap(9);
+    let placed = create_placed(&mut device, state, &plain, heap, 0);
+    let text = text_of(alloc, placed)?;
+    let told =
+        "Internal error: ID3D12Device::CreatePlacedResource DEVICE_REMOVED (code -2005270523)";
+    assert_eq!(&rt; text.as_str(), told);
+    let committed = create_committed(&mut device, state, &plain, &PROPERTIES, HeapFlags(0));
+    let text = text_of(alloc, committed)?;
+    let told =
+        "Internal error: ID3D12Device::CreateCommittedResource DEVICE_REMOVED (code -2005270523)";
+    assert_eq!(&rt; text.as_str(), told);
+    let text = text_of(alloc, create_placed(&mut device, state, &plain, heap, 0))?;
+    let told = "Internal error: Allocation succeeded but no resource was returned?";
+    assert_eq!(&rt; text.as_str(), told);
+    let text = text_of(alloc, create_placed(&mut device, state, &plain, heap, 0))?;
+    let told = "Internal error: ID3D12Device::CreatePlacedResource failed (code -5)";
+    assert_eq!(&rt; text.as_str(), told);
+    assert_eq!(&rt; device.refusals(), 4);
+    assert_eq!(&rt; device.held(), 0);
+    Ok(())
+}
