@@ -9,7 +9,7 @@ use gpu_device::vulkan::{AllocationScheme, MemoryRequirements, PhysicalDevice};
 use gpu_values::{AllocationSizes, AllocationType, AllocatorDebugSettings, MemoryLocation};
 
 /// What an allocation is asked for. Sizes and alignments are bytes.
-#[derive(Clone, Copy, Debug)]
+#[derive(Clone, Debug, Drop)]
 pub struct AllocationCreateDesc<'a> {
     /// Names the allocation in reports, leaks and log lines.
     pub name: &'a str,
