@@ -151,3 +151,4 @@ law_of_refusal b r s e (errors.Internal _) sound pg pa some gap long h = absurd 
 law_of_refusal b r s e errors.BarrierLayoutNeedsDevice10 sound pg pa some gap long h = absurd h
 law_of_refusal b r s e errors.CastableFormatsRequiresEnhancedBarriers sound pg pa some gap long h = absurd h
 law_of_refusal b r s e errors.CastableFormatsRequiresAtLeastDevice12 sound pg pa some gap long h = absurd h
+law_of_refusal b r s e errors.BudgetExceeded sound pg pa some gap long h = absurd h

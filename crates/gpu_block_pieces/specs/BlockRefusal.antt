@@ -21,6 +21,7 @@ IsTakeRefusal b r (errors.Internal _) = ⊥
 IsTakeRefusal b r errors.BarrierLayoutNeedsDevice10 = ⊥
 IsTakeRefusal b r errors.CastableFormatsRequiresEnhancedBarriers = ⊥
 IsTakeRefusal b r errors.CastableFormatsRequiresAtLeastDevice12 = ⊥
+IsTakeRefusal b r errors.BudgetExceeded = ⊥
 
 -- why a release is refused: the number is missing, or it is no live piece's
 abbrev pub release_refusal : Option NonZeroU64 → Refusal

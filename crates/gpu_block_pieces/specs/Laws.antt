@@ -46,6 +46,7 @@ IsForNumbers b (errors.Internal _) = ⊥
 IsForNumbers b errors.BarrierLayoutNeedsDevice10 = ⊥
 IsForNumbers b errors.CastableFormatsRequiresEnhancedBarriers = ⊥
 IsForNumbers b errors.CastableFormatsRequiresAtLeastDevice12 = ⊥
+IsForNumbers b errors.BudgetExceeded = ⊥
 
 -- extents and gaps cover the block: each place lies in one, no two of them share a place, and no two gaps touch
 pub record IsCovered (b : FreeList) : Type 0 where

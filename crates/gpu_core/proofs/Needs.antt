@@ -26,6 +26,7 @@ host_error (errors.Internal _) h = absurd (cc)
 host_error errors.BarrierLayoutNeedsDevice10 h = absurd (cc)
 host_error errors.CastableFormatsRequiresEnhancedBarriers h = absurd (cc)
 host_error errors.CastableFormatsRequiresAtLeastDevice12 h = absurd (cc)
+host_error errors.BudgetExceeded h = absurd (cc)
 
 -- a fresh free list serves every request up to its size
 pub fresh_served : (size granularity : ℕ) (r : Request) → 0 < size → r.size ≤ size → HasNoPlace (fresh_free_list size granularity 2) r → ⊥
@@ -45,6 +46,7 @@ fresh_list_error size granularity r (errors.Internal _) some le h = absurd h
 fresh_list_error size granularity r errors.BarrierLayoutNeedsDevice10 some le h = absurd h
 fresh_list_error size granularity r errors.CastableFormatsRequiresEnhancedBarriers some le h = absurd h
 fresh_list_error size granularity r errors.CastableFormatsRequiresAtLeastDevice12 some le h = absurd h
+fresh_list_error size granularity r errors.BudgetExceeded some le h = absurd h
 
 pub fresh_error : (is_dedicated : Bool) (size granularity : ℕ) (r : Request) (e : AllocationError) → (is_dedicated ≡ true → size ≡ r.size) → r.size ≤ size → 0 < r.size → IsTakeRefusalIn (fresh_block is_dedicated size granularity) r e → e ≡ errors.HostOutOfMemory
 fresh_error true size granularity r e exact le some h =

@@ -1,5 +1,5 @@
 -- A memory type: its slots, each empty or with a live block, and what the blocks sum up to.
-use Rattle.std.specs.Prelude.{◌≡◌, ℕ, zero, suc, ◌+◌, Bool, true, false, List, [], ◌∷◌, length, Option, Some, None, cond}
+use Rattle.std.specs.Prelude.{◌≡◌, ℕ, zero, suc, ◌+◌, Bool, true, false, List, [], ◌∷◌, length, Option, Some, None, cond, nat_le}
 use Rattle.std.specs.List.{slice_index_or, position}
 use Rattle.gpu_core.specs.FreeList.{IsGap}
 use Rattle.gpu_core.specs.Block.{Block, free_list, dedicated, extents_of, size_of, is_general}
@@ -9,12 +9,13 @@ pub record Slot (H : Type 0) : Type 0 where
   pub number : H
   pub block : Block
 
--- a memory type; `room` is the number of slots that there is host memory for
+-- a memory type; `room` is the number of slots that there is host memory for, `budget` the bound of the sum of its blocks' sizes, where it has one
 pub record TypeState (H : Type 0) : Type 0 where
   pub is_host : Bool
   pub granularity : ℕ
   pub slots : List (Option (Slot H))
   pub room : ℕ
+  pub budget : Option ℕ
 
 -- ---- sums over the slots
 
@@ -33,6 +34,11 @@ shared_in (Some s) = cond (is_general s.block) 1 0
 -- the sum of the sizes of the live blocks
 abbrev pub capacity_of : {H : Type 0} → List (Option (Slot H)) → ℕ
 capacity_of slots = slots_sum slot_size slots
+
+-- the blocks' sizes may sum up to that much
+abbrev pub fits_budget : (budget : Option ℕ) → (sum : ℕ) → Bool
+fits_budget None sum = true
+fits_budget (Some budget) sum = nat_le sum budget
 
 -- how many live blocks are shared
 abbrev pub shared_count : {H : Type 0} → List (Option (Slot H)) → ℕ

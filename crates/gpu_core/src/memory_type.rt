@@ -62,6 +62,7 @@ pub struct MemoryType<H: Copy + Eq> {
     slots: Vec<Option<LiveBlock<H>>>,
     capacity: u64,
     general: usize,
+    budget: Option<u64>,
     alloc: Global,
 }
 
@@ -77,13 +78,14 @@ impl<H: Copy + Eq> Model for MemoryType<H> {
       granularity = t.granularity;
       slots = slots_of t.slots.items;
       room = vec_capacity t.slots;
+      budget = t.budget;
     } };
 
     ghost invariant = { λ t. AreKept t.granularity (slots_of t.slots.items) t.capacity t.general };
 }
 
 impl<H: Copy + Eq> MemoryType<H> {
-    ghost use Rattle.gpu_core.specs.TypeState.{slot_at, capacity_of, shared_count, block_number, KeepsOneEmptyAtMost};
+    ghost use Rattle.gpu_core.specs.TypeState.{slot_at, capacity_of, shared_count, block_number, fits_budget, KeepsOneEmptyAtMost};
     ghost use Rattle.gpu_core.specs.TypeTake.{Installs};
     ghost use Rattle.gpu_core.specs.Slots.{AreSound};
     ghost use Rattle.gpu_core.specs.TypePrepare.{IsPrepared, CanInstall};
@@ -97,6 +99,7 @@ impl<H: Copy + Eq> MemoryType<H> {
         requires { IsTrue (is_power_of_two granularity) }
         ensures slots { result.slots ≡ [] }
         ensures kind { (result.is_host ≡ is_host) × (result.granularity ≡ granularity) }
+        ensures budget { result.budget ≡ None }
         ensures sound { AreSound result.granularity result.slots }
         ensures empty { KeepsOneEmptyAtMost result.slots }
     {
@@ -106,6 +109,7 @@ impl<H: Copy + Eq> MemoryType<H> {
             slots: Vec::new(alloc),
             capacity: 0,
             general: 0,
+            budget: None,
             alloc,
         }
     }
@@ -120,6 +124,7 @@ impl<H: Copy + Eq> MemoryType<H> {
         ensures cause { IfErr result (λ e. e ≡ HostOutOfMemory) }
         ensures refused { OnErr result (self.new.slots ≡ self.old.slots) }
         ensures kind { (self.new.is_host ≡ self.old.is_host) × (self.new.granularity ≡ self.old.granularity) }
+        ensures budget { self.new.budget ≡ self.old.budget }
         ensures capacity { capacity_of self.new.slots ≡ capacity_of self.old.slots }
         ensures sound { AreSound self.new.granularity self.new.slots }
         ensures empty { KeepsOneEmptyAtMost self.new.slots }
@@ -149,6 +154,7 @@ impl<H: Copy + Eq> MemoryType<H> {
         ensures installed { Installs self.old.slots need.dedicated need.room number result self.new.slots }
         ensures capacity { capacity_of self.new.slots ≡ capacity_of self.old.slots + need.size }
         ensures kind { (self.new.is_host ≡ self.old.is_host) × (self.new.granularity ≡ self.old.granularity) }
+        ensures budget { self.new.budget ≡ self.old.budget }
         ensures sound { AreSound self.new.granularity self.new.slots }
         ensures empty { KeepsOneEmptyAtMost self.new.slots }
     {
@@ -186,6 +192,7 @@ impl<H: Copy + Eq> MemoryType<H> {
         ensures cause { IfErr result (λ e. IsFreeRefusal H.eq piece.now (slot_at self.old.slots piece.now.slot) (refusal_of e)) }
         ensures refused { OnErr result (self.new ≡ self.old) }
         ensures kind { (self.new.is_host ≡ self.old.is_host) × (self.new.granularity ≡ self.old.granularity) }
+        ensures budget { self.new.budget ≡ self.old.budget }
         ensures capacity { capacity_of self.new.slots ≤ capacity_of self.old.slots }
         ensures sound { AreSound self.new.granularity self.new.slots }
         ensures empty { KeepsOneEmptyAtMost self.new.slots }
@@ -213,6 +220,7 @@ impl<H: Copy + Eq> MemoryType<H> {
         ensures cause { IfErr result (λ e. IsNameRefusal H.eq piece.now (slot_at self.old.slots piece.now.slot) (refusal_of e)) }
         ensures refused { OnErr result (self.new ≡ self.old) }
         ensures kind { (self.new.is_host ≡ self.old.is_host) × (self.new.granularity ≡ self.old.granularity) }
+        ensures budget { self.new.budget ≡ self.old.budget }
         ensures capacity { capacity_of self.new.slots ≡ capacity_of self.old.slots }
         ensures sound { AreSound self.new.granularity self.new.slots }
         ensures empty { KeepsOneEmptyAtMost self.new.slots }
@@ -238,6 +246,31 @@ impl<H: Copy + Eq> MemoryType<H> {
         ensures { result ≡ capacity_of self.now.slots }
     {
         self.capacity
+    }
+
+    /// Bounds the sum of the sizes of the live blocks, in bytes; `None` takes the bound away. A budget below the present sum
+    /// gives no block back. It takes no memory.
+    pub fn set_budget(&mut self, budget: Option<u64>)
+        ensures { self.new ≡ record self.old { budget = budget } }
+    {
+        self.budget = budget;
+    }
+
+    /// The bound of the sum of the sizes of the live blocks, in bytes, or `None`.
+    pub fn budget(&self) -> Option<u64>
+        ensures { result ≡ self.now.budget }
+    {
+        self.budget
+    }
+
+    /// Whether a new block of `size` bytes keeps the sum of the sizes of the live blocks within the budget.
+    pub fn fits_budget(&self, size: u64) -> bool
+        ensures { result ≡ fits_budget self.now.budget (capacity_of self.now.slots + size) }
+    {
+        match self.budget {
+            None => true,
+            Some(budget) => self.capacity <= budget && size <= budget - self.capacity,
+        }
     }
 
     /// How many live blocks are shared.

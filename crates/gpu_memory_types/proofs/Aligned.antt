@@ -34,12 +34,12 @@ module _ {H : Type 0} (q : RequestAt) (old : Slots H) where
   granted_aligned own ready (Allocated n) p x fits s = at_offset p s.0 ready.offset s.1 s.2.piece.0 fits
 
   planned_aligned : (plan : Plan H) (host : Bool) (o : Option (AskedBlock H)) (p : Piece H) (x : List (Option (Slot H))) → IsPlan q (type_asked q old) host plan
-      → IsCarriedOut (total_capacity old) (slots_at old q.memory_type) plan o (Gave p) x → IsAligned p.offset a
+      → IsCarriedOut (total_capacity old) q.budget (slots_at old q.memory_type) plan o (Gave p) x → IsAligned p.offset a
   planned_aligned NoHostMemory host None p x plan done = absurd (gave_refused p _ done.0)
   planned_aligned NoHostMemory host (Some w) p x plan done = absurd done
   planned_aligned (SharedBlock r taken) host None p x plan done = at_offset p r r.offset done.0 refl (takes_aligned _ _ _ _ _ plan.2.takes)
   planned_aligned (SharedBlock r taken) host (Some w) p x plan done = absurd done
-  planned_aligned (NewBlock size own ready) host None p x plan done = absurd (gave_refused p _ done.1)
+  planned_aligned (NewBlock size own ready) host None p x plan done = absurd (gave_refused p _ done.2)
   planned_aligned (NewBlock size own ready) host (Some w) p x plan done = granted_aligned own ready w.result p x (takes_aligned _ _ _ _ _ plan.1.takes) done.2
 
   pub allocates_aligned : (host : Bool) (asked : Option (AskedBlock H)) (p : Piece H) (new : Slots H) → AllocatesInType q old host asked (Gave p) new → p.offset % q.request.alignment ≡ 0

@@ -1,12 +1,12 @@
 -- What a call of one memory type is among all of them.
-use Rattle.std.proofs.Common.{◌≡◌, ◌≢◌, ◌∙◌, refl, sym, ap, subst, ℕ, zero, suc, [], ◌∷◌, ◌<◌, Bool, List, length, slice_get, slice_set, Option, Some, Ok, Err, Result, arith, inl, inr, IsTrue, IfOk, IfErr, OnOk, OnErr}
+use Rattle.std.proofs.Common.{◌≡◌, ◌≢◌, ◌∙◌, refl, sym, ap, subst, ℕ, zero, suc, [], ◌∷◌, ◌<◌, Bool, List, length, slice_get, slice_set, Option, Some, None, Ok, Err, Result, arith, inl, inr, IsTrue, IfOk, IfErr, OnOk, OnErr}
 use Rattle.std.proofs.Common.{get_or}
 use Rattle.std.proofs.lemmas.Option.{slice_get-get_or}
-use Rattle.gpu_values.specs.Refusal.{refusal_of, out_of_memory}
+use Rattle.gpu_values.specs.Refusal.{Refusal, refusal_of}
 use Rattle.gpu_values.specs.Sizes.{Sizes}
 use Rattle.gpu_values.specs.declared.error.AllocationError.{AllocationError}
 use Rattle.gpu_values.specs.declared.error.AllocationError.TheVariants as errors
-use Rattle.gpu_core.specs.TypeState.{TypeState, Slot, slot_at}
+use Rattle.gpu_core.specs.TypeState.{TypeState, Slot, slot_at, capacity_of}
 use Rattle.gpu_core.specs.TypeRelease.{has_several, ReleasesPiece, RenamesPiece, IsLive, IsNameRefusal}
 use Rattle.gpu_core.specs.TypeTake.{Ready, Installs, asked, NeedsBlock}
 use Rattle.gpu_core.specs.TypePrepare.{IsPrepared}
@@ -17,8 +17,10 @@ use Rattle.gpu_core.specs.declared.memory_type.Request as type_requests
 use Rattle.gpu_memory_types.specs.Blocks.{slots_at, total_capacity}
 use Rattle.gpu_memory_types.specs.Release.{ReleasesAt}
 use Rattle.gpu_memory_types.specs.Rename.{IsRenamed, IsNotNamed}
-use Rattle.gpu_memory_types.specs.Requests.{FitsSum, PassesSum, PreparesAt, NeedsTooMuch, IsPrepareRefusal, InstallsAt}
+use Rattle.gpu_memory_types.specs.Requests.{refusal_of_need, PreparesAt, NeedsTooMuch, IsPrepareRefusal, InstallsAt}
 use Rattle.gpu_memory_types.specs.Types.{Types, slots_of, type_of}
+use Rattle.gpu_memory_types.specs.Budgets.{block_refusal}
+use Rattle.gpu_memory_types.proofs.Options.{none_some}
 use Rattle.gpu_memory_types.proofs.Types.{slots_set, slots_are, slots_same, type_is}
 
 -- what was set is there
@@ -45,6 +47,7 @@ not_named eq slots p (errors.Internal _) dead live cause = inr (dead (λ e. cc),
 not_named eq slots p errors.BarrierLayoutNeedsDevice10 dead live cause = inr (dead (λ e. cc), λ e. cc, cause)
 not_named eq slots p errors.CastableFormatsRequiresEnhancedBarriers dead live cause = inr (dead (λ e. cc), λ e. cc, cause)
 not_named eq slots p errors.CastableFormatsRequiresAtLeastDevice12 dead live cause = inr (dead (λ e. cc), λ e. cc, cause)
+not_named eq slots p errors.BudgetExceeded dead live cause = inr (dead (λ e. cc), λ e. cc, cause)
 
 module _ {H : Type 0} (types : Types H) (i : ℕ) (old new : TypeState H) (at : slice_get types i ≡ Some old) where
   -- the slots of the memory type among those of all
@@ -79,49 +82,60 @@ module _ {H : Type 0} (types : Types H) (i : ℕ) (old new : TypeState H) (at : 
     slots = slots_set types i new;
   }
 
-  pub prepared_at : (sizes : Sizes) (r : type_requests.Request) (result : Result (Prepared H) AllocationError) (prepared : Prepared H)
-      → IsPrepared old sizes r prepared new → IfOk result (λ p. p ≡ prepared) → OnOk result (FitsSum (total_capacity (slots_of types)) prepared) → i < length types
-      → IfOk result (λ p. PreparesAt i types sizes r p (slice_set types i new))
-  prepared_at sizes r (Err e) prepared h same fits below = tt
-  prepared_at sizes r (Ok p) prepared h same fits below = record {
-    prepares =
-        subst (λ (t : TypeState H). IsPrepared t sizes r p (type_of (slice_set types i new) i)) (sym (type_is types i old at))
-        (subst (λ (t : TypeState H). IsPrepared old sizes r p t) (sym (type_is (slice_set types i new) i new (set_there types i new below)))
-        (subst (λ (q : Prepared H). IsPrepared old sizes r q new) (sym same) h));
-    fits = subst (λ (q : Prepared H). FitsSum (total_capacity (slots_of types)) q) (sym same) fits;
-    slots = slots_set types i new ∙ ap (λ (t : TypeState H). slice_set (slots_of types) i t.slots) (sym (type_is (slice_set types i new) i new (set_there types i new below)));
-  }
+  -- where a memory type keeps its budget and its blocks' sizes, it refuses what it refused
+  module _ (budget : new.budget ≡ old.budget) (capacity : capacity_of new.slots ≡ capacity_of old.slots) where
+    same_refusal : (used : ℕ) (p : Prepared H) → refusal_of_need used new p ≡ refusal_of_need used (type_of types i) p
+    same_refusal used (prepared.Taken p) = refl
+    same_refusal used (prepared.NeedBlock need) =
+        ap (λ b. block_refusal used b (capacity_of new.slots) need.size) budget
+        ∙ ap (λ n. block_refusal used old.budget n need.size) capacity
+        ∙ ap (λ (t : TypeState H). block_refusal used t.budget (capacity_of t.slots) need.size) (sym (type_is types i old at))
+
+    pub prepared_at : (sizes : Sizes) (r : type_requests.Request) (result : Result (Prepared H) AllocationError) (prepared : Prepared H)
+        → IsPrepared old sizes r prepared new → IfOk result (λ p. p ≡ prepared) → OnOk result (refusal_of_need (total_capacity (slots_of types)) new prepared ≡ None) → i < length types
+        → IfOk result (λ p. PreparesAt i types sizes r p (slice_set types i new))
+    prepared_at sizes r (Err e) prepared h same fits below = tt
+    prepared_at sizes r (Ok p) prepared h same fits below = record {
+      prepares =
+          subst (λ (t : TypeState H). IsPrepared t sizes r p (type_of (slice_set types i new) i)) (sym (type_is types i old at))
+          (subst (λ (t : TypeState H). IsPrepared old sizes r p t) (sym (type_is (slice_set types i new) i new (set_there types i new below)))
+          (subst (λ (q : Prepared H). IsPrepared old sizes r q new) (sym same) h));
+      fits = sym (same_refusal (total_capacity (slots_of types)) p) ∙ subst (λ (q : Prepared H). refusal_of_need (total_capacity (slots_of types)) new q ≡ None) (sym same) fits;
+      slots = slots_set types i new ∙ ap (λ (t : TypeState H). slice_set (slots_of types) i t.slots) (sym (type_is (slice_set types i new) i new (set_there types i new below)));
+    }
 
   -- the slots of one memory type are as they were
   pub same_slots : new.slots ≡ old.slots → slots_of (slice_set types i new) ≡ slots_of types
   same_slots same = slots_set types i new ∙ ap (slice_set (slots_of types) i) (same ∙ here) ∙ slots_same (slots_of types) i
 
-  too_much : (sizes : Sizes) (r : type_requests.Request) (prepared : Prepared H) → IsPrepared old sizes r prepared new → PassesSum (total_capacity (slots_of types)) prepared → NeedsTooMuch i types sizes r
-  too_much sizes r (prepared.Taken p) h passes = absurd passes
-  too_much sizes r (prepared.NeedBlock need) h passes = record {
-    size = need.size;
-    is_dedicated = need.dedicated;
-    ready = need.room;
-    needs = subst (λ (t : TypeState H). NeedsBlock t sizes r.dedicated (asked r) need.size need.dedicated need.room) (sym (type_is types i old at)) h.0;
-    above = passes;
-  }
+  -- a refusal that has a cause is of a new block that is needed
+  refused_need : (sizes : Sizes) (r : type_requests.Request) (used : ℕ) (prepared : Prepared H) (e : Refusal) → IsPrepared old sizes r prepared new
+      → refusal_of_need used new prepared ≡ Some e → slots_of (slice_set types i new) ≡ slots_of types
+  refused_need sizes r used (prepared.Taken p) e h why = absurd (none_some e why)
+  refused_need sizes r used (prepared.NeedBlock need) e h why = same_slots h.2
 
-  unchanged_slots : (sizes : Sizes) (r : type_requests.Request) (prepared : Prepared H) → IsPrepared old sizes r prepared new → PassesSum (total_capacity (slots_of types)) prepared
-      → slots_of (slice_set types i new) ≡ slots_of types
-  unchanged_slots sizes r (prepared.Taken p) h passes = absurd passes
-  unchanged_slots sizes r (prepared.NeedBlock need) h passes = same_slots h.2
+  pub limits_refused : (sizes : Sizes) (r : type_requests.Request) (used : ℕ) (result : Result (Prepared H) AllocationError) (prepared : Prepared H) → IsPrepared old sizes r prepared new
+      → IfErr result (λ e. refusal_of_need used new prepared ≡ Some (refusal_of e)) → OnErr result (slots_of (slice_set types i new) ≡ slots_of types)
+  limits_refused sizes r used (Ok p) prepared h why = tt
+  limits_refused sizes r used (Err e) prepared h why = refused_need sizes r used prepared (refusal_of e) h why
 
-  pub sum_refused : (sizes : Sizes) (r : type_requests.Request) (result : Result (Prepared H) AllocationError) (prepared : Prepared H)
-      → IsPrepared old sizes r prepared new → OnErr result (PassesSum (total_capacity (slots_of types)) prepared)
-      → OnErr result (slots_of (slice_set types i new) ≡ slots_of types)
-  sum_refused sizes r (Ok p) prepared h passes = tt
-  sum_refused sizes r (Err e) prepared h passes = unchanged_slots sizes r prepared h passes
+  module _ (budget : new.budget ≡ old.budget) (capacity : capacity_of new.slots ≡ capacity_of old.slots) where
+    too_much : (sizes : Sizes) (r : type_requests.Request) (prepared : Prepared H) (e : Refusal) → IsPrepared old sizes r prepared new
+        → refusal_of_need (total_capacity (slots_of types)) new prepared ≡ Some e → NeedsTooMuch i types sizes r e
+    too_much sizes r (prepared.Taken p) e h why = absurd (none_some e why)
+    too_much sizes r (prepared.NeedBlock need) e h why = record {
+      size = need.size;
+      is_dedicated = need.dedicated;
+      ready = need.room;
+      needs = subst (λ (t : TypeState H). NeedsBlock t sizes r.dedicated (asked r) need.size need.dedicated need.room) (sym (type_is types i old at)) h.0;
+      above = sym (same_refusal budget capacity (total_capacity (slots_of types)) (prepared.NeedBlock need)) ∙ why;
+    }
 
-  pub sum_cause : (sizes : Sizes) (r : type_requests.Request) (result : Result (Prepared H) AllocationError) (prepared : Prepared H)
-      → IsPrepared old sizes r prepared new → OnErr result (PassesSum (total_capacity (slots_of types)) prepared) → IfErr result (λ e. refusal_of e ≡ out_of_memory)
-      → IfErr result (λ e. IsPrepareRefusal i types sizes r (refusal_of e))
-  sum_cause sizes r (Ok p) prepared h passes cause = tt
-  sum_cause sizes r (Err e) prepared h passes cause = inr (cause, too_much sizes r prepared h passes)
+    pub limits_cause : (sizes : Sizes) (r : type_requests.Request) (result : Result (Prepared H) AllocationError) (prepared : Prepared H) → IsPrepared old sizes r prepared new
+        → IfErr result (λ e. refusal_of_need (total_capacity (slots_of types)) new prepared ≡ Some (refusal_of e))
+        → IfErr result (λ e. IsPrepareRefusal i types sizes r (refusal_of e))
+    limits_cause sizes r (Ok p) prepared h why = tt
+    limits_cause sizes r (Err e) prepared h why = inr (too_much sizes r prepared (refusal_of e) h why)
 
   -- a refusal that isn't for want of host memory comes to pieces alone that aren't live
   pub named_cause : (eq : H → H → Bool) (p : Piece H) (r : Result (Unit {0}) AllocationError) → IfErr r (λ e. e ≢ errors.HostOutOfMemory → IsLive eq old.slots p → ⊥)

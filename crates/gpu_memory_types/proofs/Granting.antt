@@ -51,7 +51,7 @@ module _ {H E : Type 0} (number_of : H → ℕ) (IsEntry : (t size : ℕ) → E 
       is.0 (entry_of IsEntry t size ready.block (get now (number_of n)) sized is.1) is.2 h
 
   planned_holds : (plan : Plan H) (o : Option (AskedBlock H)) (host : Bool) (answer : Answer H) (x : List (Option (Slot H))) (held now : FinMap nat_cmp E)
-      → IsPlan q (type_asked q old) host plan → IsCarriedOut (total_capacity old) (slots_at old t) plan o answer x → HoldsAsked number_of IsEntry t held o now
+      → IsPlan q (type_asked q old) host plan → IsCarriedOut (total_capacity old) q.budget (slots_at old t) plan o answer x → HoldsAsked number_of IsEntry t held o now
       → HoldsBlocks number_of IsEntry first held old → HoldsBlocks number_of IsEntry first now (slice_set old t x)
   planned_holds NoHostMemory None host answer x held now plan done is h = same_holds x held now done.1 is h
   planned_holds NoHostMemory (Some a) host answer x held now plan done is h = absurd done
@@ -63,7 +63,7 @@ module _ {H E : Type 0} (number_of : H → ℕ) (IsEntry : (t size : ℕ) → E 
       (subst (λ k. HoldsBlocks number_of IsEntry first k (slice_set old t taken)) (sym is)
       (changed_holds number_of IsEntry first held old (slice_set old t taken) t p.slot s.slot b s.at
       (only_block old t p.slot (Some b) taken below (prepares_only (slots_at old t) _ p taken s)) refl (takes_size _ _ _ _ _ s.takes) h))
-  planned_holds (NewBlock size own ready) None host answer x held now plan done is h = same_holds x held now done.2 is h
+  planned_holds (NewBlock size own ready) None host answer x held now plan done is h = same_holds x held now done.3 is h
   planned_holds (NewBlock size own ready) (Some a) host answer x held now plan done is h =
       granted_holds a.size own ready a.result answer x held now (takes_size _ _ _ _ _ plan.1.takes ∙ fresh_size own size q.granularity ∙ sym done.1) done.2 is h
 

@@ -1,6 +1,7 @@
 pub mod Options
 pub mod Maps
 pub mod Types
+pub mod Budgets
 pub mod Changed
 pub mod Reporting
 pub mod Placed

@@ -1,13 +1,15 @@
 -- A request at one memory type has one outcome for each state, answer of the device and host memory.
 use Rattle.std.proofs.Common.{◌≡◌, ◌∙◌, ℕ, refl, sym, ap, subst, Bool, true, false, List, slice_set, Option, Some, None}
 use Rattle.gpu_core.specs.Slots.{AreSound}
-use Rattle.gpu_core.specs.TypeState.{TypeState, Slot}
+use Rattle.gpu_core.specs.TypeState.{TypeState, Slot, capacity_of}
 use Rattle.gpu_core.specs.TypeTake.{Ready}
 use Rattle.gpu_core.specs.Refusal.{Refusal}
 use Rattle.gpu_core.specs.declared.memory_type.Piece.{Piece}
 use Rattle.gpu_core.proofs.OneOutcome.{prepared_once, needed_once, serves_or_needs, installed_once}
 use Rattle.gpu_memory_types.specs.Attempt.{RequestAt, type_asked, BlockResult, Allocated, NotAllocated, AskedBlock, Plan, NoHostMemory, SharedBlock, NewBlock, IsPlan, Answer, Gave, Refused, IsAfterResult, IsCarriedOut, AllocatesInType}
 use Rattle.gpu_memory_types.specs.Blocks.{Slots, slots_at, total_capacity, BlocksWellFormed}
+use Rattle.gpu_memory_types.specs.Budgets.{block_refusal}
+use Rattle.gpu_memory_types.proofs.Options.{some_same}
 use Rattle.gpu_memory_types.proofs.Types.{slots_same}
 
 pub false_true : false ≡ true → ⊥
@@ -34,7 +36,11 @@ module _ {H : Type 0} (q : RequestAt) (t : TypeState H) (sound : AreSound q.gran
       let readies = once.2 in
       λ i. NewBlock (sizes i) (kinds i) (readies i)
 
-module _ {H : Type 0} (used : ℕ) (old : List (Option (Slot H))) where
+-- one refusal is told
+pub told_once : {A : Type 0} (o : Option A) (x y : A) → o ≡ Some x → o ≡ Some y → x ≡ y
+told_once o x y a b = some_same x y (sym a ∙ b)
+
+module _ {H : Type 0} (used : ℕ) (budget : Option ℕ) (old : List (Option (Slot H))) where
   granted_once : (own : Bool) (ready : Ready) (g : BlockResult H) (x y : Answer H) (new next : List (Option (Slot H)))
       → IsAfterResult old own ready g x new → IsAfterResult old own ready g y next → (x ≡ y) × (new ≡ next)
   granted_once own ready (NotAllocated refusal) x y new next s r = (s.0 ∙ sym r.0, s.1 ∙ sym r.1)
@@ -43,12 +49,14 @@ module _ {H : Type 0} (used : ℕ) (old : List (Option (Slot H))) where
       (s.1 ∙ ap Gave once.0 ∙ sym r.1, once.1)
 
   carried_once : (plan : Plan H) (asked : Option (AskedBlock H)) (x y : Answer H) (new next : List (Option (Slot H)))
-      → IsCarriedOut used old plan asked x new → IsCarriedOut used old plan asked y next → (x ≡ y) × (new ≡ next)
+      → IsCarriedOut used budget old plan asked x new → IsCarriedOut used budget old plan asked y next → (x ≡ y) × (new ≡ next)
   carried_once NoHostMemory None x y new next c d = (c.0 ∙ sym d.0, c.1 ∙ sym d.1)
   carried_once NoHostMemory (Some a) x y new next c d = absurd c
   carried_once (SharedBlock p after) None x y new next c d = (c.0 ∙ sym d.0, c.1 ∙ sym d.1)
   carried_once (SharedBlock p after) (Some a) x y new next c d = absurd c
-  carried_once (NewBlock size own ready) None x y new next c d = (c.1 ∙ sym d.1, c.2 ∙ sym d.2)
+  carried_once (NewBlock size own ready) None x y new next c d =
+      let why : c.0 ≡ d.0 = told_once (block_refusal used budget (capacity_of old) size) c.0 d.0 c.1 d.1 in
+      (c.2 ∙ ap Refused why ∙ sym d.2, c.3 ∙ sym d.3)
   carried_once (NewBlock size own ready) (Some a) x y new next c d = granted_once own ready a.result x y new next c.2 d.2
 
 -- one answer and one list of slots
@@ -57,9 +65,9 @@ pub allocates_once : {H : Type 0} (q : RequestAt) (old : Slots H) (host : Bool) 
 allocates_once {H} q old host asked x y new next sound a b =
     let t = q.memory_type in
     let same = plan_once q (type_asked q old) (sound t) host a.plan b.plan a.is_plan b.is_plan in
-    let C : Plan H → Type 0 = λ p. IsCarriedOut (total_capacity old) (slots_at old t) p asked y b.left in
+    let C : Plan H → Type 0 = λ p. IsCarriedOut (total_capacity old) q.budget (slots_at old t) p asked y b.left in
     let other : C a.plan = subst C (sym same) b.is_carried_out in
-    let once = carried_once (total_capacity old) (slots_at old t) a.plan asked x y a.left b.left a.is_carried_out other in
+    let once = carried_once (total_capacity old) q.budget (slots_at old t) a.plan asked x y a.left b.left a.is_carried_out other in
     (once.0, a.slots ∙ (ap (slice_set old t) once.1 ∙ sym b.slots))
 
 -- ---- a refusal changes nothing
@@ -72,17 +80,17 @@ granted_same : {H : Type 0} (old : List (Option (Slot H))) (own : Bool) (ready :
 granted_same old own ready (NotAllocated refusal) r new s = s.1
 granted_same old own ready (Allocated n) r new s = absurd (gave_refused s.0 r (sym s.1))
 
-carried_same : {H : Type 0} (used : ℕ) (old : List (Option (Slot H))) (plan : Plan H) (asked : Option (AskedBlock H)) (r : Refusal) (new : List (Option (Slot H)))
-    → IsCarriedOut used old plan asked (Refused r) new → new ≡ old
-carried_same used old NoHostMemory None r new c = c.1
-carried_same used old NoHostMemory (Some a) r new c = absurd c
-carried_same used old (SharedBlock p after) None r new c = absurd (gave_refused p r (sym c.0))
-carried_same used old (SharedBlock p after) (Some a) r new c = absurd c
-carried_same used old (NewBlock size own ready) None r new c = c.2
-carried_same used old (NewBlock size own ready) (Some a) r new c = granted_same old own ready a.result r new c.2
+carried_same : {H : Type 0} (used : ℕ) (budget : Option ℕ) (old : List (Option (Slot H))) (plan : Plan H) (asked : Option (AskedBlock H)) (r : Refusal) (new : List (Option (Slot H)))
+    → IsCarriedOut used budget old plan asked (Refused r) new → new ≡ old
+carried_same used budget old NoHostMemory None r new c = c.1
+carried_same used budget old NoHostMemory (Some a) r new c = absurd c
+carried_same used budget old (SharedBlock p after) None r new c = absurd (gave_refused p r (sym c.0))
+carried_same used budget old (SharedBlock p after) (Some a) r new c = absurd c
+carried_same used budget old (NewBlock size own ready) None r new c = c.3
+carried_same used budget old (NewBlock size own ready) (Some a) r new c = granted_same old own ready a.result r new c.2
 
 pub refused_same : {H : Type 0} (q : RequestAt) (old : Slots H) (host : Bool) (asked : Option (AskedBlock H)) (r : Refusal) (new : Slots H) → AllocatesInType q old host asked (Refused r) new → new ≡ old
 refused_same q old host asked r new a =
     a.slots
-    ∙ ap (slice_set old q.memory_type) (carried_same (total_capacity old) (slots_at old q.memory_type) a.plan asked r a.left a.is_carried_out)
+    ∙ ap (slice_set old q.memory_type) (carried_same (total_capacity old) q.budget (slots_at old q.memory_type) a.plan asked r a.left a.is_carried_out)
     ∙ slots_same old q.memory_type

@@ -1,16 +1,17 @@
 -- What `prepare` and `install` answer, as what a request comes to at its memory type.
-use Rattle.std.proofs.Common.{◌≡◌, ◌∙◌, refl, sym, ap, subst, ⊎_elim, ℕ, ◌<◌, Bool, true, false, length, slice_set, Some, None}
-use Rattle.gpu_core.specs.Refusal.{Refusal, out_of_memory, host_out_of_memory}
+use Rattle.std.proofs.Common.{◌≡◌, ◌∙◌, refl, sym, ap, subst, ⊎_elim, ℕ, ◌<◌, Bool, true, false, List, length, slice_set, Option, Some, None}
+use Rattle.gpu_core.specs.Refusal.{Refusal, host_out_of_memory}
 use Rattle.gpu_core.specs.Sizes.{Sizes}
-use Rattle.gpu_core.specs.TypeState.{TypeState}
+use Rattle.gpu_core.specs.TypeState.{TypeState, Slot, capacity_of}
 use Rattle.gpu_core.specs.TypeTake.{asked, Ready, NeedsBlock, Installs}
 use Rattle.gpu_core.specs.declared.memory_type.Piece.{Piece}
 use Rattle.gpu_core.specs.declared.memory_type.Prepared.TheVariants as prepared
 use Rattle.gpu_core.specs.declared.memory_type.Request as type_requests
 use Rattle.gpu_core.specs.declared.memory_type.need.NeedBlock.{NeedBlock}
 use Rattle.gpu_memory_types.specs.Attempt.{RequestAt, type_asked, Allocated, NotAllocated, NoHostMemory, SharedBlock, NewBlock, IsPlan, Gave, Refused, AllocatesInType}
-use Rattle.gpu_memory_types.specs.Blocks.{Slots, slots_at}
-use Rattle.gpu_memory_types.specs.Requests.{PreparesAt, IsPrepareRefusal, NeedsTooMuch, InstallsAt}
+use Rattle.gpu_memory_types.specs.Blocks.{Slots, slots_at, total_capacity}
+use Rattle.gpu_memory_types.specs.Budgets.{block_refusal}
+use Rattle.gpu_memory_types.specs.Requests.{refusal_in_type, PreparesAt, IsPrepareRefusal, NeedsTooMuch, InstallsAt}
 use Rattle.gpu_memory_types.specs.Types.{Types, slots_of, type_of}
 use Rattle.gpu_memory_types.proofs.Types.{slots_same, slots_here}
 
@@ -20,6 +21,7 @@ request_at i types sizes r = record {
   memory_type = i;
   is_host = (type_of types i).is_host;
   granularity = (type_of types i).granularity;
+  budget = (type_of types i).budget;
   sizes = sizes;
   wants_own = r.dedicated;
   request = asked r;
@@ -53,9 +55,13 @@ module _ {H : Type 0} (i : ℕ) (types : Types H) (sizes : Sizes) (r : type_requ
   needs size own ready h =
       let roomless : NeedsBlock (record t { room = 0 }) sizes r.dedicated (asked r) size own ready =
       record { kind = h.kind; size_is = h.size_is; none = h.none; takes = h.takes; piece = h.piece; begins = h.begins } in
-      (refl, subst (λ ss. NeedsBlock (record { is_host = t.is_host; granularity = t.granularity; slots = ss; room = 0 }) sizes r.dedicated (asked r) size own ready) here roomless)
+      (refl, subst (λ ss. NeedsBlock (record { is_host = t.is_host; granularity = t.granularity; slots = ss; room = 0; budget = t.budget }) sizes r.dedicated (asked r) size own ready) here roomless)
 
-  -- host memory was refused, or the sum of all blocks' sizes would pass 64 bits
+  -- the memory type's limits, as its slots among all say them
+  refusal_here : (size : ℕ) → block_refusal (total_capacity old) t.budget (capacity_of (slots_at old i)) size ≡ refusal_in_type (total_capacity old) t size
+  refusal_here size = ap (λ (ss : List (Option (Slot H))). block_refusal (total_capacity old) t.budget (capacity_of ss) size) (sym here)
+
+  -- host memory was refused, or the device isn't to be asked for the new block
   pub prepare_refused : (e : Refusal) (new : Types H) → IsPrepareRefusal i types sizes r e → slots_of new ≡ old → (host : Bool) × AllocatesInType q old host None (Refused e) (slots_of new)
   prepare_refused e new cause unchanged =
       ⊎_elim
@@ -69,13 +75,13 @@ module _ {H : Type 0} (i : ℕ) (types : Types H) (sizes : Sizes) (r : type_requ
           slots = unchanged ∙ sym (slots_same old i);
         },
       ))
-      (λ (much : (e ≡ out_of_memory) × NeedsTooMuch i types sizes r). (
+      (λ (much : NeedsTooMuch i types sizes r e). (
         true,
         record {
-          plan = NewBlock much.1.size much.1.is_dedicated much.1.ready;
-          is_plan = needs much.1.size much.1.is_dedicated much.1.ready much.1.needs;
+          plan = NewBlock much.size much.is_dedicated much.ready;
+          is_plan = needs much.size much.is_dedicated much.ready much.needs;
           left = slots_at old i;
-          is_carried_out = (much.1.above, ap Refused much.0, refl);
+          is_carried_out = (e, refusal_here much.size ∙ much.above, refl, refl);
           slots = unchanged ∙ sym (slots_same old i);
         },
       ))
@@ -86,7 +92,7 @@ module _ {H : Type 0} (i : ℕ) (types : Types H) (sizes : Sizes) (r : type_requ
       let after = (type_of new i).slots in
       record {
         plan = SharedBlock p after;
-        is_plan = subst (λ ss. IsPlan q (record { is_host = t.is_host; granularity = t.granularity; slots = ss; room = 0 }) true (SharedBlock p after)) here (refl, h.prepares.0, h.prepares.1);
+        is_plan = subst (λ ss. IsPlan q (record { is_host = t.is_host; granularity = t.granularity; slots = ss; room = 0; budget = t.budget }) true (SharedBlock p after)) here (refl, h.prepares.0, h.prepares.1);
         left = after;
         is_carried_out = (refl, refl);
         slots = h.slots;
@@ -102,7 +108,7 @@ module _ {H : Type 0} (i : ℕ) (types : Types H) (sizes : Sizes) (r : type_requ
       plan = NewBlock need.size need.dedicated need.room;
       is_plan = needs need.size need.dedicated need.room h.prepares.0;
       left = slots_at old i;
-      is_carried_out = (h.fits, refl, (refl, refl));
+      is_carried_out = (refusal_here need.size ∙ h.fits, refl, (refl, refl));
       slots = waiting ∙ sym (slots_same old i);
     }
 
@@ -112,6 +118,6 @@ module _ {H : Type 0} (i : ℕ) (types : Types H) (sizes : Sizes) (r : type_requ
       plan = NewBlock need.size need.dedicated need.room;
       is_plan = needs need.size need.dedicated need.room h.prepares.0;
       left = made.left;
-      is_carried_out = (h.fits, refl, (p, refl, subst (λ (ss : Slots H). Installs (slots_at ss i) need.dedicated need.room n p made.left) waiting made.installs));
+      is_carried_out = (refusal_here need.size ∙ h.fits, refl, (p, refl, subst (λ (ss : Slots H). Installs (slots_at ss i) need.dedicated need.room n p made.left) waiting made.installs));
       slots = made.slots ∙ ap (λ (ss : Slots H). slice_set ss i made.left) waiting;
     }

@@ -150,7 +150,7 @@ module _ {H : Type 0} (eq : H → H → Bool) (same : (h : H) → eq h h ≡ tru
   granted_keeps own size ready (Allocated n) answer x takes sized s = subst (KeepsPieces eq t old (slice_set old t x)) (sym s.1) (installed_keeps own size ready n s.0 x takes sized s.2)
 
   planned_keeps : (plan : Plan H) (host : Bool) (o : Option (AskedBlock H)) (answer : Answer H) (x : List (Option (Slot H))) → IsPlan q (type_asked q old) host plan
-      → IsCarriedOut (total_capacity old) (slots_at old t) plan o answer x → BlocksWellFormed q.granularity (slice_set old t x) → KeepsPieces eq t old (slice_set old t x) answer
+      → IsCarriedOut (total_capacity old) q.budget (slots_at old t) plan o answer x → BlocksWellFormed q.granularity (slice_set old t x) → KeepsPieces eq t old (slice_set old t x) answer
   planned_keeps NoHostMemory host None answer x plan comes after = keeps_all eq t old (slice_set old t x) _ answer comes.0 (slots_kept x comes.1)
   planned_keeps NoHostMemory host (Some a) answer x plan comes after = absurd comes
   planned_keeps (SharedBlock p taken) host (Some a) answer x plan comes after = absurd comes
@@ -158,7 +158,7 @@ module _ {H : Type 0} (eq : H → H → Bool) (same : (h : H) → eq h h ≡ tru
       subst (λ w. KeepsPieces eq t old (slice_set old t x) w) (sym comes.0)
       (subst (λ (ss : List (Option (Slot H))). KeepsPieces eq t old (slice_set old t ss) (Gave p)) (sym comes.1)
       (served_keeps p taken plan.2 (subst (λ (ss : List (Option (Slot H))). BlocksWellFormed q.granularity (slice_set old t ss)) comes.1 after)))
-  planned_keeps (NewBlock size own ready) host None answer x plan comes after = keeps_all eq t old (slice_set old t x) _ answer comes.1 (slots_kept x comes.2)
+  planned_keeps (NewBlock size own ready) host None answer x plan comes after = keeps_all eq t old (slice_set old t x) _ answer comes.2 (slots_kept x comes.3)
   planned_keeps (NewBlock size own ready) host (Some a) answer x plan comes after = granted_keeps own size ready a.result answer x plan.1.takes plan.1.piece comes.2
 
   -- a request leaves every live piece live, and what it gives is live and none of them

@@ -11,6 +11,7 @@ use Rattle.std.proofs.Math.Seq.{map-set_same}
 use Rattle.gpu_core.specs.TypeState.{TypeState, Slot, capacity_of}
 use Rattle.gpu_core.specs.Slots.{AreSound}
 use Rattle.gpu_memory_types.specs.Blocks.{Slots, slots_at, total_capacity, BlocksWellFormed}
+use Rattle.gpu_memory_types.specs.Budgets.{budgets}
 use Rattle.gpu_memory_types.specs.Types.{Types, slots_of, kinds, type_of, no_type, MemoryTypesInvariant}
 use Rattle.gpu_memory_types.proofs.Options.{none_some, some_same}
 
@@ -25,6 +26,10 @@ pub kinds_set : {H : Type 0} (types : Types H) (i : ℕ) (old new : TypeState H)
 kinds_set types i old new at host pages =
     map-set_same kind types i new old
     (ap (λ b. (b, new.granularity)) host ∙ ap (λ n. (old.is_host, n)) pages ∙ sym (ap kind (get_or_from_slice_get types i old old at)))
+
+pub budgets_set : {H : Type 0} (types : Types H) (i : ℕ) (old new : TypeState H) → slice_get types i ≡ Some old → new.budget ≡ old.budget → budgets (slice_set types i new) ≡ budgets types
+budgets_set {H} types i old new at same =
+    map-set_same (λ (t : TypeState H). t.budget) types i new no_type (same ∙ sym (ap (λ (t : TypeState H). t.budget) (get_or_from_slice_get types i old no_type at)))
 
 pub slots_set : {H : Type 0} (types : Types H) (i : ℕ) (new : TypeState H) → slots_of (slice_set types i new) ≡ slice_set (slots_of types) i new.slots
 slots_set types i new = map-set _ types i new

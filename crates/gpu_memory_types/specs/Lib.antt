@@ -1,5 +1,6 @@
 pub mod Blocks
 pub mod Types
+pub mod Budgets
 pub mod Live
 pub mod Requests
 pub mod Release

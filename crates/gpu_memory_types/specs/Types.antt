@@ -1,5 +1,5 @@
 -- The memory types as the code keeps them.
-use Rattle.std.specs.Prelude.{ℕ, ◌^◌, ◌<◌, Bool, false, List, [], map, All}
+use Rattle.std.specs.Prelude.{ℕ, ◌^◌, ◌<◌, Bool, false, List, [], map, All, None}
 use Rattle.std.specs.List.{slice_index_or}
 use Rattle.gpu_core.specs.TypeState.{TypeState}
 use Rattle.gpu_core.specs.Slots.{AreSound}
@@ -17,7 +17,7 @@ kinds types = map (λ t. (t.is_host, t.granularity)) types
 
 -- a memory type without blocks
 abbrev pub no_type : {H : Type 0} → TypeState H
-no_type = record { is_host = false; granularity = 1; slots = []; room = 0 }
+no_type = record { is_host = false; granularity = 1; slots = []; room = 0; budget = None }
 
 -- the t-th memory type
 abbrev pub type_of : {H : Type 0} → Types H → (t : ℕ) → TypeState H

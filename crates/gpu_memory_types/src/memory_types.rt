@@ -4,8 +4,8 @@ ghost use Rattle.std.specs.Prelude.{◌≡◌, ◌≢◌, ℕ, ◌+◌, ◌^◌,
 ghost use Rattle.std.specs.Int.{is_power_of_two};
 ghost use Rattle.std.specs.List.{slice_set};
 ghost use Rattle.gpu_values.specs.declared.error.AllocationError.TheVariants.{HostOutOfMemory};
-ghost use Rattle.gpu_values.specs.Refusal.{refusal_of, internal, out_of_memory};
-ghost use Rattle.gpu_memory_types.specs.Requests.{FitsSum, PassesSum};
+ghost use Rattle.gpu_values.specs.Refusal.{refusal_of, refusal_in, internal};
+ghost use Rattle.gpu_memory_types.specs.Requests.{refusal_in_type, refusal_of_need};
 ghost use Rattle.gpu_values.specs.Report.{report_of};
 
 use crate::capacity::total_capacity;
@@ -35,20 +35,45 @@ impl<H: Copy + Eq> Model for MemoryTypes<H> {
     ghost invariant = { λ m. MemoryTypesInvariant m.types.items };
 }
 
-/// What a memory type prepared, where its new block, if it needs one, keeps the sum of all blocks' sizes in 64 bits; else
-/// `OutOfMemory`. `used` is the sum so far, in bytes.
-fn within_sum<H: Copy + Eq>(used: u64, prepared: Prepared<H>) -> Result<Prepared<H>>
+/// Whether the device may be asked for a new block of `size` bytes: `OutOfMemory` where it would carry the sum of all
+/// blocks' sizes, which is `used` so far, past `u64::MAX`; else `BudgetExceeded` where it would carry that of its memory
+/// type past its budget.
+fn check_block<H: Copy + Eq>(used: u64, memory_type: &MemoryType<H>, size: u64) -> Result<()>
+    ensures { refusal_in result ≡ refusal_in_type used memory_type.now size }
+{
+    if size > u64::MAX - used {
+        return Err(AllocationError::OutOfMemory);
+    }
+    if !memory_type.fits_budget(size) {
+        return Err(AllocationError::BudgetExceeded);
+    }
+    Ok(())
+}
+
+/// What a memory type prepared, where the device may be asked for its new block, if it needs one; else why not.
+fn within_limits<H: Copy + Eq>(
+    used: u64,
+    memory_type: &MemoryType<H>,
+    prepared: Prepared<H>,
+) -> Result<Prepared<H>>
     ensures same { IfOk result (λ p. p ≡ prepared) }
-    ensures fits { OnOk result (FitsSum used prepared) }
-    ensures passes { OnErr result (PassesSum used prepared) }
-    ensures cause { IfErr result (λ e. refusal_of e ≡ out_of_memory) }
+    ensures fits { OnOk result (refusal_of_need used memory_type.now prepared ≡ None) }
+    ensures cause { IfErr result (λ e. refusal_of_need used memory_type.now prepared ≡ Some (refusal_of e)) }
 {
     if let Prepared::NeedBlock(need) = &prepared {
-        if need.size > u64::MAX - used {
-            return Err(AllocationError::OutOfMemory);
-        }
+        check_block(used, memory_type, need.size)?;
     }
     Ok(prepared)
+}
+
+/// Why a budget of a memory type that isn't there is refused.
+fn no_such_type() -> AllocationError
+    ensures { refusal_of result ≡ internal (codes "No such memory type.") None }
+{
+    AllocationError::Internal(Fault {
+        text: "No such memory type.",
+        code: None,
+    })
 }
 
 /// Why a piece of a memory type that isn't there is refused.
@@ -76,6 +101,7 @@ impl<H: Copy + Eq> MemoryTypes<H> {
     ghost use Rattle.gpu_memory_types.specs.Reports.{whole_report};
     ghost use Rattle.gpu_memory_types.specs.Requests.{PreparesAt, IsPrepareRefusal, InstallsAt};
     ghost use Rattle.gpu_memory_types.specs.Types.{kinds, slots_of, type_of, MemoryTypesInvariant};
+    ghost use Rattle.gpu_memory_types.specs.Budgets.{budgets, budget_at, SetsBudget};
 
     /// The memory types of a new allocator: none has a block.
     pub fn new(types: Vec<MemoryType<H>>) -> Self
@@ -101,6 +127,30 @@ impl<H: Copy + Eq> MemoryTypes<H> {
         total_capacity(&self.types)
     }
 
+    /// Bounds the sum of the sizes of the live blocks of the memory type at `index`, in bytes; `None` takes the bound away. A
+    /// budget below the present sum gives no block back. It takes no memory. `Internal` where there is no such memory type,
+    /// and then nothing changes.
+    pub fn set_budget(&mut self, index: usize, budget: Option<u64>) -> Result<()>
+        ensures budgets { SetsBudget index budget (budgets self.old) (refusal_in result) (budgets self.new) }
+        ensures slots { slots_of self.new ≡ slots_of self.old }
+        ensures kinds { kinds self.new ≡ kinds self.old }
+        ensures refused { OnErr result (self.new ≡ self.old) }
+        ensures kept { MemoryTypesInvariant self.new }
+    {
+        if index >= self.types.len() {
+            return Err(no_such_type());
+        }
+        self.types[index].set_budget(budget);
+        Ok(())
+    }
+
+    /// The budget of the memory type at `index`, in bytes; `None` where it has none, or isn't there.
+    pub fn budget(&self, index: usize) -> Option<u64>
+        ensures { result ≡ budget_at (budgets self.now) index }
+    {
+        self.types.get(index)?.budget()
+    }
+
     /// Whether a piece of the memory type at `index` is live.
     pub fn is_live(&self, index: usize, piece: &Piece<H>) -> bool
         ensures { IsTrue result ↔ IsLiveIn H.eq (slots_of self.now) index (Some piece.now) }
@@ -113,7 +163,8 @@ impl<H: Copy + Eq> MemoryTypes<H> {
 
     /// Takes a piece of the memory type at `index`, or says which new block is needed for it, as `MemoryType::prepare`
     /// does. `HostOutOfMemory` where the host refused memory; `OutOfMemory` where a new block would carry the sum of all
-    /// blocks' sizes past `u64::MAX`; a refusal leaves the slots as they were.
+    /// blocks' sizes past `u64::MAX`, else `BudgetExceeded` where it would carry that of its memory type past its budget;
+    /// a refusal leaves the slots as they were.
     pub fn prepare(
         &mut self,
         index: usize,
@@ -129,11 +180,13 @@ impl<H: Copy + Eq> MemoryTypes<H> {
         ensures refused { OnErr result (slots_of self.new ≡ slots_of self.old) }
         ensures others { (t : ℕ) → t ≢ index → type_of self.new t ≡ type_of self.old t }
         ensures kinds { kinds self.new ≡ kinds self.old }
+        ensures budgets { budgets self.new ≡ budgets self.old }
         ensures kept { MemoryTypesInvariant self.new }
     {
         let used = self.capacity();
-        let prepared = self.types[index].prepare(request, sizes)?;
-        within_sum(used, prepared)
+        let memory_type = &mut self.types[index];
+        let prepared = memory_type.prepare(request, sizes)?;
+        within_limits(used, memory_type, prepared)
     }
 
     /// Puts in the block that `prepare` asked for, under the device's number of it, and answers the piece in it. It
@@ -145,6 +198,7 @@ impl<H: Copy + Eq> MemoryTypes<H> {
         ensures installed { InstallsAt index (slots_of self.old) need.dedicated need.room number result (slots_of self.new) }
         ensures others { (t : ℕ) → t ≢ index → type_of self.new t ≡ type_of self.old t }
         ensures kinds { kinds self.new ≡ kinds self.old }
+        ensures budgets { budgets self.new ≡ budgets self.old }
         ensures kept { MemoryTypesInvariant self.new }
     {
         self.types[index].install(need, number)
@@ -160,6 +214,7 @@ impl<H: Copy + Eq> MemoryTypes<H> {
         ensures refused { OnErr result (self.new ≡ self.old) }
         ensures others { (t : ℕ) → t ≢ index → type_of self.new t ≡ type_of self.old t }
         ensures kinds { kinds self.new ≡ kinds self.old }
+        ensures budgets { budgets self.new ≡ budgets self.old }
         ensures kept { MemoryTypesInvariant self.new }
     {
         if index >= self.types.len() {
@@ -176,6 +231,7 @@ impl<H: Copy + Eq> MemoryTypes<H> {
         ensures refused { OnErr result (self.new ≡ self.old) }
         ensures others { (t : ℕ) → t ≢ index → type_of self.new t ≡ type_of self.old t }
         ensures kinds { kinds self.new ≡ kinds self.old }
+        ensures budgets { budgets self.new ≡ budgets self.old }
         ensures kept { MemoryTypesInvariant self.new }
     {
         if index >= self.types.len() {

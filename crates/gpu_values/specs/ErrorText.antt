@@ -21,3 +21,4 @@ error_text errors.BarrierLayoutNeedsDevice10 = codes "Initial `BARRIER_LAYOUT` n
 error_text errors.CastableFormatsRequiresEnhancedBarriers = codes "Castable formats require enhanced barriers"
 error_text errors.CastableFormatsRequiresAtLeastDevice12 = codes "Castable formats require at least `Device12`"
 error_text errors.HostOutOfMemory = codes "Out of host memory"
+error_text errors.BudgetExceeded = codes "Memory budget exceeded"

@@ -15,6 +15,7 @@ pub data Refusal : Type 0 where
   castable_formats_requires_enhanced_barriers : Refusal
   castable_formats_requires_at_least_device12 : Refusal
   host_out_of_memory : Refusal
+  budget_exceeded : Refusal
 
 abbrev pub refusal_of : AllocationError → Refusal
 refusal_of errors.OutOfMemory = out_of_memory
@@ -27,6 +28,7 @@ refusal_of errors.BarrierLayoutNeedsDevice10 = barrier_layout_needs_device10
 refusal_of errors.CastableFormatsRequiresEnhancedBarriers = castable_formats_requires_enhanced_barriers
 refusal_of errors.CastableFormatsRequiresAtLeastDevice12 = castable_formats_requires_at_least_device12
 refusal_of errors.HostOutOfMemory = host_out_of_memory
+refusal_of errors.BudgetExceeded = budget_exceeded
 
 -- the refusal that a result holds
 abbrev pub refusal_in : {V : Type 0} → Result V AllocationError → Option Refusal

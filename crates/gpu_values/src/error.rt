@@ -42,6 +42,8 @@ pub enum AllocationError {
     CastableFormatsRequiresAtLeastDevice12,
     /// The host refused memory that this call needed (error E10).
     HostOutOfMemory,
+    /// A new block would carry its memory type past the budget that the user set (error E11).
+    BudgetExceeded,
 }
 
 impl fmt::Display for Fault {
@@ -83,6 +85,7 @@ impl fmt::Display for AllocationError {
                 f.write_str("Castable formats require at least `Device12`")
             }
             AllocationError::HostOutOfMemory => f.write_str("Out of host memory"),
+            AllocationError::BudgetExceeded => f.write_str("Memory budget exceeded"),
         }
     }
 }

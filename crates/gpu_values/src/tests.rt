@@ -110,6 +110,7 @@ fn errors_print_their_texts(rt: HostRuntime) -> Result<(), Fail> {
             "Castable formats require at least `Device12`",
         ),
         (AllocationError::HostOutOfMemory, "Out of host memory"),
+        (AllocationError::BudgetExceeded, "Memory budget exceeded"),
         (AllocationError::from(AllocError), "Out of host memory"),
     ] {
         check_text(&rt, rt.alloc(), &error, want)?;

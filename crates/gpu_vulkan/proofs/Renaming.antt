@@ -43,6 +43,7 @@ not_named slots p (errors.Internal _) dead live cause = inr (dead (λ e. cc), λ
 not_named slots p errors.BarrierLayoutNeedsDevice10 dead live cause = inr (dead (λ e. cc), λ e. cc, cause)
 not_named slots p errors.CastableFormatsRequiresEnhancedBarriers dead live cause = inr (dead (λ e. cc), λ e. cc, cause)
 not_named slots p errors.CastableFormatsRequiresAtLeastDevice12 dead live cause = inr (dead (λ e. cc), λ e. cc, cause)
+not_named slots p errors.BudgetExceeded dead live cause = inr (dead (λ e. cc), λ e. cc, cause)
 
 -- a new name leaves a block's size
 renames_size : (old : Block) (n : ℕ) (name : List ℕ) (new : Block) → RenamesIn old n name new → size_of new ≡ size_of old

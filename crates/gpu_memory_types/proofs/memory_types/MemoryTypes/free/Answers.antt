@@ -1,7 +1,8 @@
 use Rattle.std.proofs.Common.{◌≡◌, Some, arith, slice_get, slice_set, ◌∙◌, ap}
+use Rattle.gpu_memory_types.specs.Budgets.{budgets}
 use Rattle.gpu_memory_types.specs.Types.{Types, type_of, kinds, MemoryTypesInvariant}
 use Rattle.gpu_memory_types.proofs.Changed.{element_at, released}
-use Rattle.gpu_memory_types.proofs.Types.{invariant_set, kinds_set, share_below, type_elsewhere}
+use Rattle.gpu_memory_types.proofs.Types.{invariant_set, kinds_set, budgets_set, share_below, type_elsewhere}
 use Rattle.gpu_memory_types.proofs.memory_types.MemoryTypes.free.Goals as goal
 use Rattle.gpu_memory_types.proofs.memory_types.MemoryTypes.free.Goals.{After-free}
 
@@ -26,6 +27,11 @@ pub returns-clause-released : goal.returns-clause-released
 returns-clause-released g c =
     let at = old_at g ((goal.at.returns-clause-released g c).After-free) in
     rw (← c.self.view_is) (released c.self.inside.types.items c.args.index c.index_mut.result.now c.free.new.self at c.args.piece.now c.free.result c.free.ensures.released)
+
+pub returns-clause-budgets : goal.returns-clause-budgets
+returns-clause-budgets g c =
+    let at = old_at g ((goal.at.returns-clause-budgets g c).After-free) in
+    budgets_set c.self.inside.types.items c.args.index c.index_mut.result.now c.free.new.self at c.free.ensures.budget ∙ ap budgets c.self.view_is
 
 pub returns-clause-kinds : goal.returns-clause-kinds
 returns-clause-kinds g c =

@@ -1,8 +1,9 @@
 use Rattle.std.proofs.Common.{◌≡◌, ◌+◌, ◌<◌, ◌^◌, Some, sym, subst, arith, slice_get, slice_set, ap, ◌∙◌, length}
 use Rattle.gpu_memory_types.specs.Blocks.{total_capacity}
+use Rattle.gpu_memory_types.specs.Budgets.{budgets}
 use Rattle.gpu_memory_types.specs.Types.{Types, type_of, slots_of, kinds, MemoryTypesInvariant}
 use Rattle.gpu_memory_types.proofs.Changed.{element_at, installed}
-use Rattle.gpu_memory_types.proofs.Types.{invariant_set, kinds_set, share_below, type_elsewhere}
+use Rattle.gpu_memory_types.proofs.Types.{invariant_set, kinds_set, budgets_set, share_below, type_elsewhere}
 use Rattle.gpu_memory_types.proofs.memory_types.MemoryTypes.install.Goals as goal
 use Rattle.gpu_memory_types.proofs.memory_types.MemoryTypes.install.Goals.{After-index_mut, After-install}
 
@@ -36,6 +37,11 @@ returns-clause-installed g c =
     let at = old_at g ((goal.at.returns-clause-installed g c).After-index_mut) in
     rw (← c.self.view_is)
     (installed c.self.inside.types.items c.args.index c.index_mut.result.now c.install.new.self at c.args.need.dedicated c.args.need.room c.args.number c.install.result c.install.ensures.installed)
+
+pub returns-clause-budgets : goal.returns-clause-budgets
+returns-clause-budgets g c =
+    let at = old_at g ((goal.at.returns-clause-budgets g c).After-index_mut) in
+    budgets_set c.self.inside.types.items c.args.index c.index_mut.result.now c.install.new.self at c.install.ensures.budget ∙ ap budgets c.self.view_is
 
 pub returns-clause-kinds : goal.returns-clause-kinds
 returns-clause-kinds g c =

@@ -1,7 +1,8 @@
 use Rattle.std.proofs.Common.{◌≡◌, Some, arith, slice_get, slice_set, ap, ◌∙◌}
+use Rattle.gpu_memory_types.specs.Budgets.{budgets}
 use Rattle.gpu_memory_types.specs.Types.{Types, type_of, kinds, MemoryTypesInvariant}
 use Rattle.gpu_memory_types.proofs.Changed.{element_at, renamed, named_cause}
-use Rattle.gpu_memory_types.proofs.Types.{invariant_set, kinds_set, share_below, type_elsewhere}
+use Rattle.gpu_memory_types.proofs.Types.{invariant_set, kinds_set, budgets_set, share_below, type_elsewhere}
 use Rattle.gpu_memory_types.proofs.memory_types.MemoryTypes.rename.Goals as goal
 use Rattle.gpu_memory_types.proofs.memory_types.MemoryTypes.rename.Goals.{After-rename}
 
@@ -33,6 +34,11 @@ returns-clause-cause g c =
     let at = old_at g ((goal.at.returns-clause-cause g c).After-rename) in
     rw (← c.self.view_is)
     (named_cause c.self.inside.types.items c.args.index c.index_mut.result.now c.rename.new.self at g.H.PartialEq.eq c.args.piece.now c.rename.result c.rename.ensures.dead c.rename.ensures.starved c.rename.ensures.cause)
+
+pub returns-clause-budgets : goal.returns-clause-budgets
+returns-clause-budgets g c =
+    let at = old_at g ((goal.at.returns-clause-budgets g c).After-rename) in
+    budgets_set c.self.inside.types.items c.args.index c.index_mut.result.now c.rename.new.self at c.rename.ensures.budget ∙ ap budgets c.self.view_is
 
 pub returns-clause-kinds : goal.returns-clause-kinds
 returns-clause-kinds g c =
