@@ -47,4 +47,9 @@ pub enum Command {
     Leaks,
     /// Asks for the sum of the sizes of the live blocks.
     Capacity,
+    /// Bounds the sum of the sizes of the blocks of a memory type, in bytes, or takes the bound away.
+    SetBudget {
+        memory_type: u64,
+        budget: Option<u64>,
+    },
 }

@@ -18,7 +18,7 @@ pub struct Given {
     pub mapped: bool,
 }
 
-/// The reply to a command. Any but `Done` of `Free` and `Write`, `Capacity`, `Busy`, `Unbound`, `Unmapped` and `OutOfRange` may
+/// The reply to a command. Any but `Done` of `Free`, `Write` and `SetBudget`, `Capacity`, `Busy`, `Unbound`, `Unmapped` and `OutOfRange` may
 /// in its place be `Error(HostOutOfMemory)`; then the command changed nothing but what the device counts of questions that it
 /// was asked before.
 #[derive(Drop)]

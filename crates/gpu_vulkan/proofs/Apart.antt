@@ -1,21 +1,21 @@
 -- Live allocations lie inside their blocks, share no byte, and keep to pages of their kind; and each is aligned when it is given.
-use Rattle.std.proofs.Common.{◌≡◌, ◌≢◌, ◌∙◌, ℕ, ◌+◌, ◌-◌, ◌%◌, ◌<◌, ◌≤◌, sym, ap, subst, Option, Some, None, Ok, Err, Result, Contains, arith, inl, inr, ⊎_elim, IfOk}
+use Rattle.std.proofs.Common.{◌≡◌, ◌≢◌, ◌∙◌, ℕ, ◌+◌, ◌-◌, ◌%◌, ◌<◌, sym, ap, subst, Option, Some, None, Ok, Err, Result, Contains, arith, inl, inr, ⊎_elim, IfOk}
 use Rattle.std.specs.Option.{option_map}
 use Rattle.std.specs.declared.num.NonZeroU64.{NonZeroU64}
-use Rattle.gpu_core.specs.Block.{Block, free_list, dedicated, extents_of, IsSoundBlock, HasPages, HasPagesApart}
+use Rattle.gpu_core.specs.Block.{extents_of}
 use Rattle.gpu_core.specs.FreeList.{Extent}
 use Rattle.gpu_core.specs.Place.{page}
 use Rattle.gpu_core.specs.Slots.{SlotIsSound}
 use Rattle.gpu_core.specs.TypeState.{Slot}
 use Rattle.gpu_core.specs.declared.memory_type.Piece.{Piece}
-use Rattle.gpu_core.proofs.Finding.{one_in, only_one}
-use Rattle.gpu_block_pieces.proofs.Separation.{within_of}
+use Rattle.gpu_core.proofs.Finding.{one_in}
 use Rattle.gpu_values.specs.declared.allocation_type.AllocationType.{AllocationType}
 use Rattle.gpu_values.specs.declared.error.AllocationError.{AllocationError}
 use Rattle.gpu_device.specs.Held.{Held}
 use Rattle.gpu_device.specs.Properties.{Properties}
 use Rattle.gpu_device.specs.declared.vulkan.device.VulkanDevice.{Ghosts}
 use Rattle.gpu_device.specs.declared.vulkan.types.DeviceMemory.{DeviceMemory}
+use Rattle.gpu_memory_types.specs.Budgets.{Budgets}
 use Rattle.gpu_vulkan.specs.Allocate.{Attempts, IsTooLarge, IsWithinHeap, Answers, IsServed, IsFollowed, next_after}
 use Rattle.gpu_vulkan.specs.Apart.{IsInside, SharesNoByte, HasKind, KeepsPages}
 use Rattle.gpu_memory_types.specs.Apart.{EndsInside, pieces_in}
@@ -82,15 +82,15 @@ module _ (p : Properties) (first held : Held) (ss : Slots) (sound : BlocksWellFo
 abbrev IsAligned : (offset alignment : ℕ) → Type 0
 IsAligned offset alignment = offset % alignment ≡ 0
 
-module _ (setup : Setup) (d : AllocationCreateDesc) where
+module _ (setup : Setup) (budgets : Budgets) (d : AllocationCreateDesc) where
   abbrev a : ℕ
   a = d.requirements.alignment
 
-  attempt_aligned : (t : ℕ) (old : Slots) (o : AttemptEnvironment) (p : Piece DeviceMemory) (new : Slots) → Attempts setup old t d o (Gave p) new → IsAligned p.offset a
+  attempt_aligned : (t : ℕ) (old : Slots) (o : AttemptEnvironment) (p : Piece DeviceMemory) (new : Slots) → Attempts setup budgets old t d o (Gave p) new → IsAligned p.offset a
   attempt_aligned t old o p new at =
       ⊎_elim
       (λ (large : IsTooLarge setup old t d o (Gave p) new). absurd (gave_refused p _ large.answer_is))
-      (λ (within : IsWithinHeap setup old t d o (Gave p) new). allocates_aligned (request_at setup t d) old o.host (asked_block o.asked) p new within.allocates)
+      (λ (within : IsWithinHeap setup budgets old t d o (Gave p) new). allocates_aligned (request_at setup budgets t d) old o.host (asked_block o.asked) p new within.allocates)
       at
 
   given_offset : (x : Allocation) (chunk : Option NonZeroU64) (p : Piece DeviceMemory)
@@ -98,7 +98,7 @@ module _ (setup : Setup) (d : AllocationCreateDesc) where
   given_offset x None p e = absurd (none_some p e)
   given_offset x (Some n) p e = ap (λ (q : Piece DeviceMemory). q.offset) (some_same _ p e)
 
-  answer_aligned : (t : ℕ) (old : Slots) (o : AttemptEnvironment) (answer : Answer) (new : Slots) (result : Result Allocation AllocationError) → Attempts setup old t d o answer new → Answers setup t d result answer
+  answer_aligned : (t : ℕ) (old : Slots) (o : AttemptEnvironment) (answer : Answer) (new : Slots) (result : Result Allocation AllocationError) → Attempts setup budgets old t d o answer new → Answers setup t d result answer
       → IfOk result (λ x. IsAligned x.offset a)
   answer_aligned t old o (Gave p) new (Ok x) at given = subst (λ k. IsAligned k a) (sym (given_offset x x.chunk_id p given.piece)) (attempt_aligned t old o p new at)
   answer_aligned t old o (Gave p) new (Err e) at given = absurd given
@@ -106,11 +106,11 @@ module _ (setup : Setup) (d : AllocationCreateDesc) where
   answer_aligned t old o (Refused r) new (Err e) at given = tt
 
   followed_aligned : {D : Type 0} (g : Ghosts D) (o : Option ℕ) (mid : Slots) (between : D) (r result : Result Allocation AllocationError) (new : Slots) (after : D) → IfOk r (λ x. IsAligned x.offset a)
-      → IsFollowed g setup d o mid between r result new after → IfOk result (λ x. IsAligned x.offset a)
+      → IsFollowed g setup budgets d o mid between r result new after → IfOk result (λ x. IsAligned x.offset a)
   followed_aligned g None mid between r result new after first is = subst (λ z. IfOk z (λ x. IsAligned x.offset a)) (sym is.0) first
   followed_aligned g (Some u) mid between r result new after first two = answer_aligned u mid two.environment two.answer new result two.attempts two.answers
 
-  pub served_aligned : {D : Type 0} (g : Ghosts D) (t : ℕ) (old : Slots) (device : D) (result : Result Allocation AllocationError) (new : Slots) (after : D) → IsServed g setup t d old device result new after
+  pub served_aligned : {D : Type 0} (g : Ghosts D) (t : ℕ) (old : Slots) (device : D) (result : Result Allocation AllocationError) (new : Slots) (after : D) → IsServed g setup budgets t d old device result new after
       → IfOk result (λ x. x.offset % d.requirements.alignment ≡ 0)
   served_aligned g t old device result new after s =
       followed_aligned g (next_after setup d s.first) s.mid s.between s.first result new after

@@ -9,6 +9,8 @@ use Rattle.gpu_core.specs.declared.memory_type.Piece.{Piece}
 use Rattle.gpu_core.proofs.OneOutcome.{released_once, refusal_once, renamed_once}
 use Rattle.gpu_device.specs.declared.vulkan.types.DeviceMemory.{DeviceMemory}
 use Rattle.gpu_device.specs.declared.vulkan.types.MemoryAllocateInfo.{MemoryAllocateInfo}
+use Rattle.gpu_memory_types.specs.Budgets.{Budgets, budget_at, SetsBudget}
+use Rattle.gpu_vulkan.proofs.KeptBudgets.{keeps_budgets}
 use Rattle.gpu_vulkan.specs.Allocate.{Attempts, IsTooLarge, IsWithinHeap, is_valid, is_for_upload, is_short}
 use Rattle.gpu_vulkan.specs.EqualButBytes.{EqualButBytesAnswer, EqualButBytesAsked, EqualButBytesAttemptEnvironment, EqualButBytesCallEnvironment, EqualButBytesDescription, EqualButBytesCall, EqualButBytesReply}
 use Rattle.gpu_memory_types.specs.Attempt.{RequestAt, Allocated, AllocatesInType, Gave, Refused}
@@ -25,10 +27,10 @@ use Rattle.gpu_vulkan.specs.Live.{piece_of, IsMapped}
 use Rattle.gpu_memory_types.specs.Leaks.{all_leaks}
 use Rattle.gpu_memory_types.specs.Reports.{whole_report}
 use Rattle.gpu_vulkan_setup.specs.Setup.{Setup}
-use Rattle.gpu_vulkan.specs.Step.{ModelState, Call, Allocate, Free, Write, Rename, Report, Leaks, Read, Capacity, Reply, Given, Fails, Done, Bytes, Sum, Shows, Tells, RenameStep, CallEnvironment, AttemptStep, reply_of, next_by, Follows, ServeStep, RefuseStep, FoundStep, AllocateStep, FreeStep, IsRead, Step}
+use Rattle.gpu_vulkan.specs.Step.{ModelState, Call, Allocate, Free, Write, Rename, Report, Leaks, Read, Capacity, SetBudget, Budget, Reply, Given, Fails, Done, Bytes, Sum, Shows, Tells, Budgeted, RenameStep, CallEnvironment, AttemptStep, reply_of, next_by, Follows, ServeStep, RefuseStep, FoundStep, AllocateStep, FreeStep, IsRead, Step}
 use Rattle.gpu_vulkan.specs.declared.allocation.Allocation.{Allocation}
 use Rattle.gpu_vulkan_setup.specs.declared.describe.AllocationCreateDesc.{AllocationCreateDesc}
-use Rattle.gpu_vulkan.proofs.OneStep.{mid_sound, free_reply, done_or_fails, rename_reply, named_or_fails, rename_fails_once, shown_reply, told_reply, by_host, write_reply, read_reply, sum_reply}
+use Rattle.gpu_vulkan.proofs.OneStep.{mid_sound, free_reply, done_or_fails, rename_reply, named_or_fails, rename_fails_once, shown_reply, told_reply, by_host, write_reply, read_reply, sum_reply, budget_reply, set_reply, sets_once, done_by}
 
 -- ---- descriptions that ask for the same
 
@@ -66,82 +68,84 @@ module _ (setup : Setup) (d e : AllocationCreateDesc) (same : EqualButBytesDescr
   same_size : d.requirements.size ≡ e.requirements.size
   same_size = ap (λ r. r.size) same.requirements
 
-  same_request_at : (t : ℕ) → request_at setup t d ≡ request_at setup t e
-  same_request_at t =
+  same_request_at : (budgets : Budgets) (t : ℕ) → request_at setup budgets t d ≡ request_at setup budgets t e
+  same_request_at budgets t =
       let requests = same_request d e same in
       λ j. record {
         memory_type = t;
         is_host = is_mapped setup.properties t;
         granularity = setup.properties.granularity;
+        budget = budget_at budgets t;
         sizes = setup.sizes;
         wants_own = is_own (same.scheme j);
         request = requests j;
       }
 
-  within_alike : (old : Slots) (t : ℕ) (o p : AttemptEnvironment) (x y : Answer) (new next : Slots) → BlocksWellFormed setup.properties.granularity old → EqualButBytesAttemptEnvironment o p
-      → IsWithinHeap setup old t d o x new → IsWithinHeap setup old t e p y next → (x ≡ y) × (new ≡ next)
-  within_alike old t o p x y new next sound met a b =
-      let other : AllocatesInType (request_at setup t d) old o.host (asked_block o.asked) y next =
-      subst (λ (q : RequestAt). AllocatesInType q old o.host (asked_block o.asked) y next) (sym (same_request_at t))
-      (subst (λ k. AllocatesInType (request_at setup t e) old k (asked_block o.asked) y next) (sym met.host)
-      (subst (λ k. AllocatesInType (request_at setup t e) old p.host k y next) (sym (asked_alike o.asked p.asked met.asked)) b.allocates)) in
-      allocates_once (request_at setup t d) old o.host (asked_block o.asked) x y new next sound a.allocates other
+  within_alike : (budgets : Budgets) (old : Slots) (t : ℕ) (o p : AttemptEnvironment) (x y : Answer) (new next : Slots) → BlocksWellFormed setup.properties.granularity old → EqualButBytesAttemptEnvironment o p
+      → IsWithinHeap setup budgets old t d o x new → IsWithinHeap setup budgets old t e p y next → (x ≡ y) × (new ≡ next)
+  within_alike budgets old t o p x y new next sound met a b =
+      let other : AllocatesInType (request_at setup budgets t d) old o.host (asked_block o.asked) y next =
+      subst (λ (q : RequestAt). AllocatesInType q old o.host (asked_block o.asked) y next) (sym (same_request_at budgets t))
+      (subst (λ k. AllocatesInType (request_at setup budgets t e) old k (asked_block o.asked) y next) (sym met.host)
+      (subst (λ k. AllocatesInType (request_at setup budgets t e) old p.host k y next) (sym (asked_alike o.asked p.asked met.asked)) b.allocates)) in
+      allocates_once (request_at setup budgets t d) old o.host (asked_block o.asked) x y new next sound a.allocates other
 
-  attempts_alike : (old : Slots) (t : ℕ) (o p : AttemptEnvironment) (x y : Answer) (new next : Slots) → BlocksWellFormed setup.properties.granularity old → EqualButBytesAttemptEnvironment o p
-      → Attempts setup old t d o x new → Attempts setup old t e p y next → (x ≡ y) × (new ≡ next)
-  attempts_alike old t o p x y new next sound met a b =
+  attempts_alike : (budgets : Budgets) (old : Slots) (t : ℕ) (o p : AttemptEnvironment) (x y : Answer) (new next : Slots) → BlocksWellFormed setup.properties.granularity old → EqualButBytesAttemptEnvironment o p
+      → Attempts setup budgets old t d o x new → Attempts setup budgets old t e p y next → (x ≡ y) × (new ≡ next)
+  attempts_alike budgets old t o p x y new next sound met a b =
       ⊎_elim
       (λ (la : IsTooLarge setup old t d o x new).
       ⊎_elim
       (λ (lb : IsTooLarge setup old t e p y next). (la.answer_is ∙ sym lb.answer_is, la.same ∙ sym lb.same))
-      (λ (pb : IsWithinHeap setup old t e p y next). let above = la.above in let below = pb.below in absurd (omega (arith, above, below, same_size)))
+      (λ (pb : IsWithinHeap setup budgets old t e p y next). let above = la.above in let below = pb.below in absurd (omega (arith, above, below, same_size)))
       b)
-      (λ (pa : IsWithinHeap setup old t d o x new).
+      (λ (pa : IsWithinHeap setup budgets old t d o x new).
       ⊎_elim
       (λ (lb : IsTooLarge setup old t e p y next). let above = lb.above in let below = pa.below in absurd (omega (arith, above, below, same_size)))
-      (λ (pb : IsWithinHeap setup old t e p y next). within_alike old t o p x y new next sound met pa pb)
+      (λ (pb : IsWithinHeap setup budgets old t e p y next). within_alike budgets old t o p x y new next sound met pa pb)
       b)
       a
 
-  -- the same from two states with the same blocks
-  attempt_alike : (t : ℕ) (o p : AttemptEnvironment) (x y : Answer) (old new twin next : ModelState) → BlocksWellFormed setup.properties.granularity old.slots → old.slots ≡ twin.slots → EqualButBytesAttemptEnvironment o p
+  -- the same from two states with the same blocks and budgets
+  attempt_alike : (t : ℕ) (o p : AttemptEnvironment) (x y : Answer) (old new twin next : ModelState) → BlocksWellFormed setup.properties.granularity old.slots → old.slots ≡ twin.slots → old.budgets ≡ twin.budgets → EqualButBytesAttemptEnvironment o p
       → AttemptStep setup t d o x old new → AttemptStep setup t e p y twin next → (x ≡ y) × (new.slots ≡ next.slots)
-  attempt_alike t o p x y old new twin next sound slots met a b =
-      attempts_alike old.slots t o p x y new.slots next.slots sound met a.slots (subst (λ z. Attempts setup z t e p y next.slots) (sym slots) b.slots)
+  attempt_alike t o p x y old new twin next sound slots budgets met a b =
+      attempts_alike old.budgets old.slots t o p x y new.slots next.slots sound met a.slots
+      (subst (λ z. Attempts setup z old.slots t e p y next.slots) (sym budgets) (subst (λ z. Attempts setup twin.budgets z t e p y next.slots) (sym slots) b.slots))
 
   follows_alike : (u : Option ℕ) (o p : AttemptEnvironment) (t : ℕ) (first : Answer) (mid twin : ModelState) (x y : Reply) (new next : ModelState) → ((v : ℕ) → u ≡ Some v → BlocksWellFormed setup.properties.granularity mid.slots)
-      → mid.slots ≡ twin.slots → EqualButBytesAttemptEnvironment o p → Follows setup d u o t first mid x new → Follows setup e u p t first twin y next → (x ≡ y) × (new.slots ≡ next.slots)
-  follows_alike None o p t first mid twin x y new next sound slots met a b = (a.1 ∙ sym b.1, ap (λ s. s.slots) a.2 ∙ slots ∙ sym (ap (λ s. s.slots) b.2))
-  follows_alike (Some u) o p t first mid twin x y new next sound slots met a b =
-      let once = attempt_alike u o p a.0 b.0 mid new twin next (sound u refl) slots met a.1 b.1 in
+      → mid.slots ≡ twin.slots → mid.budgets ≡ twin.budgets → EqualButBytesAttemptEnvironment o p → Follows setup d u o t first mid x new → Follows setup e u p t first twin y next → (x ≡ y) × (new.slots ≡ next.slots)
+  follows_alike None o p t first mid twin x y new next sound slots budgets met a b = (a.1 ∙ sym b.1, ap (λ s. s.slots) a.2 ∙ slots ∙ sym (ap (λ s. s.slots) b.2))
+  follows_alike (Some u) o p t first mid twin x y new next sound slots budgets met a b =
+      let once = attempt_alike u o p a.0 b.0 mid new twin next (sound u refl) slots budgets met a.1 b.1 in
       (a.2 ∙ ap (reply_of u) once.0 ∙ sym b.2, once.1)
 
-  serve_alike : (t : ℕ) (o p : CallEnvironment) (x y : Reply) (old new twin next : ModelState) → BlocksWellFormed setup.properties.granularity old.slots → old.slots ≡ twin.slots → EqualButBytesCallEnvironment o p
+  serve_alike : (t : ℕ) (o p : CallEnvironment) (x y : Reply) (old new twin next : ModelState) → BlocksWellFormed setup.properties.granularity old.slots → old.slots ≡ twin.slots → old.budgets ≡ twin.budgets → EqualButBytesCallEnvironment o p
       → ServeStep setup t d o x old new → ServeStep setup t e p y twin next → (x ≡ y) × (new.slots ≡ next.slots)
-  serve_alike t o p x y old new twin next sound slots met a b =
-      let first = attempt_alike t o.first p.first a.answer b.answer old a.mid twin b.mid sound slots met.first a.attempt b.attempt in
+  serve_alike t o p x y old new twin next sound slots budgets met a b =
+      let first = attempt_alike t o.first p.first a.answer b.answer old a.mid twin b.mid sound slots budgets met.first a.attempt b.attempt in
       let answers = first.0 in
       let named : Follows setup e (next_by setup e a.answer) p.second t a.answer b.mid y next =
       subst (λ w. Follows setup e (next_by setup e w) p.second t w b.mid y next) (sym answers) b.follows in
       let other : Follows setup e (next_by setup d a.answer) p.second t a.answer b.mid y next =
       subst (λ u. Follows setup e u p.second t a.answer b.mid y next) (sym (next_alike setup d e a.answer same)) named in
-      follows_alike (next_by setup d a.answer) o.second p.second t a.answer a.mid b.mid x y new next (λ v is. mid_sound setup t v d o.first a.answer old a.mid sound a.attempt is) first.1 met.second a.follows other
+      follows_alike (next_by setup d a.answer) o.second p.second t a.answer a.mid b.mid x y new next (λ v is. mid_sound setup t v d o.first a.answer old a.mid sound a.attempt is) first.1 (a.attempt.budgets ∙ budgets ∙ sym b.attempt.budgets) met.second a.follows other
 
   refuse_alike : (r : Refusal) (o p : CallEnvironment) (x y : Reply) (old new twin next : ModelState) → old.slots ≡ twin.slots → RefuseStep r o x old new → RefuseStep r p y twin next → (x ≡ y) × (new.slots ≡ next.slots)
   refuse_alike r o p x y old new twin next slots a b = (a.reply_is ∙ sym b.reply_is, ap (λ s. s.slots) a.same ∙ slots ∙ sym (ap (λ s. s.slots) b.same))
 
-  found_alike : (t : Option ℕ) (o p : CallEnvironment) (x y : Reply) (old new twin next : ModelState) → BlocksWellFormed setup.properties.granularity old.slots → old.slots ≡ twin.slots → EqualButBytesCallEnvironment o p
+  found_alike : (t : Option ℕ) (o p : CallEnvironment) (x y : Reply) (old new twin next : ModelState) → BlocksWellFormed setup.properties.granularity old.slots → old.slots ≡ twin.slots → old.budgets ≡ twin.budgets → EqualButBytesCallEnvironment o p
       → FoundStep setup d t o x old new → FoundStep setup e t p y twin next → (x ≡ y) × (new.slots ≡ next.slots)
-  found_alike None o p x y old new twin next sound slots met a b = refuse_alike _ o p x y old new twin next slots a b
-  found_alike (Some t) o p x y old new twin next sound slots met a b = serve_alike t o p x y old new twin next sound slots met a b
+  found_alike None o p x y old new twin next sound slots budgets met a b = refuse_alike _ o p x y old new twin next slots a b
+  found_alike (Some t) o p x y old new twin next sound slots budgets met a b = serve_alike t o p x y old new twin next sound slots budgets met a b
 
-  allocate_alike : (valid : Bool) (o p : CallEnvironment) (x y : Reply) (old new twin next : ModelState) → BlocksWellFormed setup.properties.granularity old.slots → old.slots ≡ twin.slots → EqualButBytesCallEnvironment o p
+  allocate_alike : (valid : Bool) (o p : CallEnvironment) (x y : Reply) (old new twin next : ModelState) → BlocksWellFormed setup.properties.granularity old.slots → old.slots ≡ twin.slots → old.budgets ≡ twin.budgets → EqualButBytesCallEnvironment o p
       → AllocateStep setup d valid o x old new → AllocateStep setup e valid p y twin next → (x ≡ y) × (new.slots ≡ next.slots)
-  allocate_alike false o p x y old new twin next sound slots met a b = refuse_alike _ o p x y old new twin next slots a b
-  allocate_alike true o p x y old new twin next sound slots met a b =
+  allocate_alike false o p x y old new twin next sound slots budgets met a b = refuse_alike _ o p x y old new twin next slots a b
+  allocate_alike true o p x y old new twin next sound slots budgets met a b =
       let types : best_type setup.properties.types d.requirements.memory_type_bits d.location ≡ best_type setup.properties.types e.requirements.memory_type_bits e.location =
       λ i. best_type setup.properties.types (same.requirements i).memory_type_bits (same.location i) in
-      found_alike _ o p x y old new twin next sound slots met a (subst (λ t. FoundStep setup e t p y twin next) (sym types) b)
+      found_alike _ o p x y old new twin next sound slots budgets met a (subst (λ t. FoundStep setup e t p y twin next) (sym types) b)
 
   valid_alike : is_valid d ≡ is_valid e
   valid_alike = ap (λ r. is_valid (record d { requirements = r })) same.requirements
@@ -264,6 +268,7 @@ same_alike (Bytes (Some xs)) Done e = e
 same_alike (Bytes (Some xs)) (Sum n) e = e
 same_alike (Bytes (Some xs)) (Shows r) e = e
 same_alike (Bytes (Some xs)) (Tells ts) e = e
+same_alike (Bytes (Some xs)) (Budgeted n) e = e
 same_alike (Bytes None) y e = e
 same_alike (Given t p) y e = e
 same_alike (Fails r) y e = e
@@ -271,14 +276,15 @@ same_alike Done y e = e
 same_alike (Sum n) y e = e
 same_alike (Shows r) y e = e
 same_alike (Tells ts) y e = e
+same_alike (Budgeted n) y e = e
 
 -- ---- any call
 
-module _ (setup : Setup) (o p : CallEnvironment) (x y : Reply) (old new twin next : ModelState) (sound : BlocksWellFormed setup.properties.granularity old.slots) (slots : old.slots ≡ twin.slots) (met : EqualButBytesCallEnvironment o p) where
+module _ (setup : Setup) (o p : CallEnvironment) (x y : Reply) (old new twin next : ModelState) (sound : BlocksWellFormed setup.properties.granularity old.slots) (slots : old.slots ≡ twin.slots) (budgets : old.budgets ≡ twin.budgets) (met : EqualButBytesCallEnvironment o p) where
   -- the same call
   same_call : (call : Call) → Step setup call o x old new → Step setup call p y twin next → EqualButBytesReply x y × (new.slots ≡ next.slots)
   same_call (Allocate d) a b =
-      let once = allocate_alike setup d d (record { requirements = refl; location = refl; linear = refl; scheme = refl; name = refl }) (is_valid d) o p x y old new twin next sound slots met a b in
+      let once = allocate_alike setup d d (record { requirements = refl; location = refl; linear = refl; scheme = refl; name = refl }) (is_valid d) o p x y old new twin next sound slots budgets met a b in
       (same_alike x y once.0, once.1)
   same_call (Free f) a b =
       let once = free_alike setup f.memory_type_index (piece_of f) x y old new twin next sound slots a.1 b.1 in
@@ -298,6 +304,15 @@ module _ (setup : Setup) (o p : CallEnvironment) (x y : Reply) (old new twin nex
       let h = sum_reply setup o x old new a in
       let k = sum_reply setup p y twin next b in
       (same_alike x y (h.0 ∙ ap (λ z. Sum (total_capacity z)) slots ∙ sym k.0), ap (λ s. s.slots) h.1 ∙ slots ∙ sym (ap (λ s. s.slots) k.1))
+  same_call (SetBudget t budget) a b =
+      let h = set_reply t budget x old new a.1 in
+      let k = set_reply t budget y twin next b.1 in
+      let once = sets_once t budget old.budgets h.0 k.0 new.budgets next.budgets h.2 (subst (λ z. SetsBudget t budget z k.0 next.budgets) (sym budgets) k.2) in
+      (same_alike x y (h.1 ∙ ap done_by once.0 ∙ sym k.1), h.3 ∙ slots ∙ sym k.3)
+  same_call (Budget t) a b =
+      let h = budget_reply setup t o x old new a in
+      let k = budget_reply setup t p y twin next b in
+      (same_alike x y (h.0 ∙ ap (λ z. Budgeted (budget_at z t)) budgets ∙ sym k.0), ap (λ s. s.slots) h.1 ∙ slots ∙ sym (ap (λ s. s.slots) k.1))
   same_call Report a b =
       let h = shown_reply o.first.host x old new a.1 in
       let k = shown_reply p.first.host y twin next b.1 in
@@ -316,7 +331,7 @@ module _ (setup : Setup) (o p : CallEnvironment) (x y : Reply) (old new twin nex
 
   pub step_alike : (call other : Call) → EqualButBytesCall call other → Step setup call o x old new → Step setup other p y twin next → EqualButBytesReply x y × (new.slots ≡ next.slots)
   step_alike (Allocate d) (Allocate e) same a b =
-      let once = allocate_alike setup d e same (is_valid d) o p x y old new twin next sound slots met a
+      let once = allocate_alike setup d e same (is_valid d) o p x y old new twin next sound slots budgets met a
       (subst (λ v. AllocateStep setup e v p y twin next) (sym (valid_alike setup d e same)) b) in
       (same_alike x y once.0, once.1)
   step_alike (Write w ws) (Write v vs) same a b =
@@ -330,6 +345,8 @@ module _ (setup : Setup) (o p : CallEnvironment) (x y : Reply) (old new twin nex
   step_alike (Allocate d) Capacity same a b = to_same (Allocate d) Capacity same a b
   step_alike (Allocate d) Report same a b = to_same (Allocate d) Report same a b
   step_alike (Allocate d) Leaks same a b = to_same (Allocate d) Leaks same a b
+  step_alike (Allocate d) (SetBudget t budget) same a b = to_same (Allocate d) (SetBudget t budget) same a b
+  step_alike (Allocate d) (Budget t) same a b = to_same (Allocate d) (Budget t) same a b
   step_alike (Write w ws) (Allocate d) same a b = to_same (Write w ws) (Allocate d) same a b
   step_alike (Write w ws) (Free f) same a b = to_same (Write w ws) (Free f) same a b
   step_alike (Write w ws) (Rename f name) same a b = to_same (Write w ws) (Rename f name) same a b
@@ -337,9 +354,63 @@ module _ (setup : Setup) (o p : CallEnvironment) (x y : Reply) (old new twin nex
   step_alike (Write w ws) Capacity same a b = to_same (Write w ws) Capacity same a b
   step_alike (Write w ws) Report same a b = to_same (Write w ws) Report same a b
   step_alike (Write w ws) Leaks same a b = to_same (Write w ws) Leaks same a b
+  step_alike (Write w ws) (SetBudget t budget) same a b = to_same (Write w ws) (SetBudget t budget) same a b
+  step_alike (Write w ws) (Budget t) same a b = to_same (Write w ws) (Budget t) same a b
   step_alike (Free f) other same a b = to_same (Free f) other same a b
   step_alike (Rename f name) other same a b = to_same (Rename f name) other same a b
   step_alike (Read r) other same a b = to_same (Read r) other same a b
   step_alike Capacity other same a b = to_same Capacity other same a b
   step_alike Report other same a b = to_same Report other same a b
   step_alike Leaks other same a b = to_same Leaks other same a b
+  step_alike (SetBudget t budget) other same a b = to_same (SetBudget t budget) other same a b
+  step_alike (Budget t) other same a b = to_same (Budget t) other same a b
+
+  -- ---- budgets
+
+  budgets_of_same : (call : Call) → Step setup call o x old new → Step setup call p y twin next → new.budgets ≡ next.budgets
+  budgets_of_same (SetBudget t budget) a b =
+      let h = set_reply t budget x old new a.1 in
+      let k = set_reply t budget y twin next b.1 in
+      (sets_once t budget old.budgets h.0 k.0 new.budgets next.budgets h.2 (subst (λ z. SetsBudget t budget z k.0 next.budgets) (sym budgets) k.2)).1
+  budgets_of_same (Allocate d) a b = keeps_budgets setup (Allocate d) o x old new tt a ∙ budgets ∙ sym (keeps_budgets setup (Allocate d) p y twin next tt b)
+  budgets_of_same (Free f) a b = keeps_budgets setup (Free f) o x old new tt a ∙ budgets ∙ sym (keeps_budgets setup (Free f) p y twin next tt b)
+  budgets_of_same (Rename f name) a b = keeps_budgets setup (Rename f name) o x old new tt a ∙ budgets ∙ sym (keeps_budgets setup (Rename f name) p y twin next tt b)
+  budgets_of_same (Write w ws) a b = keeps_budgets setup (Write w ws) o x old new tt a ∙ budgets ∙ sym (keeps_budgets setup (Write w ws) p y twin next tt b)
+  budgets_of_same (Read r) a b = keeps_budgets setup (Read r) o x old new tt a ∙ budgets ∙ sym (keeps_budgets setup (Read r) p y twin next tt b)
+  budgets_of_same Capacity a b = keeps_budgets setup Capacity o x old new tt a ∙ budgets ∙ sym (keeps_budgets setup Capacity p y twin next tt b)
+  budgets_of_same Report a b = keeps_budgets setup Report o x old new tt a ∙ budgets ∙ sym (keeps_budgets setup Report p y twin next tt b)
+  budgets_of_same Leaks a b = keeps_budgets setup Leaks o x old new tt a ∙ budgets ∙ sym (keeps_budgets setup Leaks p y twin next tt b)
+  budgets_of_same (Budget t) a b = keeps_budgets setup (Budget t) o x old new tt a ∙ budgets ∙ sym (keeps_budgets setup (Budget t) p y twin next tt b)
+
+  budgets_of_equal : (call other : Call) → call ≡ other → Step setup call o x old new → Step setup other p y twin next → new.budgets ≡ next.budgets
+  budgets_of_equal call other e a b = budgets_of_same call a (subst (λ c. Step setup c p y twin next) (sym e) b)
+
+  pub budgets_alike : (call other : Call) → EqualButBytesCall call other → Step setup call o x old new → Step setup other p y twin next → new.budgets ≡ next.budgets
+  budgets_alike (Allocate d) (Allocate e) same a b = keeps_budgets setup (Allocate d) o x old new tt a ∙ budgets ∙ sym (keeps_budgets setup (Allocate e) p y twin next tt b)
+  budgets_alike (Write w ws) (Write v vs) same a b = keeps_budgets setup (Write w ws) o x old new tt a ∙ budgets ∙ sym (keeps_budgets setup (Write v vs) p y twin next tt b)
+  budgets_alike (Allocate d) (Free f) same a b = budgets_of_equal (Allocate d) (Free f) same a b
+  budgets_alike (Allocate d) (Rename f name) same a b = budgets_of_equal (Allocate d) (Rename f name) same a b
+  budgets_alike (Allocate d) (Write w ws) same a b = budgets_of_equal (Allocate d) (Write w ws) same a b
+  budgets_alike (Allocate d) (Read r) same a b = budgets_of_equal (Allocate d) (Read r) same a b
+  budgets_alike (Allocate d) Capacity same a b = budgets_of_equal (Allocate d) Capacity same a b
+  budgets_alike (Allocate d) Report same a b = budgets_of_equal (Allocate d) Report same a b
+  budgets_alike (Allocate d) Leaks same a b = budgets_of_equal (Allocate d) Leaks same a b
+  budgets_alike (Allocate d) (SetBudget t budget) same a b = budgets_of_equal (Allocate d) (SetBudget t budget) same a b
+  budgets_alike (Allocate d) (Budget t) same a b = budgets_of_equal (Allocate d) (Budget t) same a b
+  budgets_alike (Write w ws) (Allocate d) same a b = budgets_of_equal (Write w ws) (Allocate d) same a b
+  budgets_alike (Write w ws) (Free f) same a b = budgets_of_equal (Write w ws) (Free f) same a b
+  budgets_alike (Write w ws) (Rename f name) same a b = budgets_of_equal (Write w ws) (Rename f name) same a b
+  budgets_alike (Write w ws) (Read r) same a b = budgets_of_equal (Write w ws) (Read r) same a b
+  budgets_alike (Write w ws) Capacity same a b = budgets_of_equal (Write w ws) Capacity same a b
+  budgets_alike (Write w ws) Report same a b = budgets_of_equal (Write w ws) Report same a b
+  budgets_alike (Write w ws) Leaks same a b = budgets_of_equal (Write w ws) Leaks same a b
+  budgets_alike (Write w ws) (SetBudget t budget) same a b = budgets_of_equal (Write w ws) (SetBudget t budget) same a b
+  budgets_alike (Write w ws) (Budget t) same a b = budgets_of_equal (Write w ws) (Budget t) same a b
+  budgets_alike (Free f) other same a b = budgets_of_equal (Free f) other same a b
+  budgets_alike (Rename f name) other same a b = budgets_of_equal (Rename f name) other same a b
+  budgets_alike (Read r) other same a b = budgets_of_equal (Read r) other same a b
+  budgets_alike Capacity other same a b = budgets_of_equal Capacity other same a b
+  budgets_alike Report other same a b = budgets_of_equal Report other same a b
+  budgets_alike Leaks other same a b = budgets_of_equal Leaks other same a b
+  budgets_alike (SetBudget t budget) other same a b = budgets_of_equal (SetBudget t budget) other same a b
+  budgets_alike (Budget t) other same a b = budgets_of_equal (Budget t) other same a b

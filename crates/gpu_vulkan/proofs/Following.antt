@@ -5,6 +5,7 @@ use Rattle.gpu_values.specs.declared.error.AllocationError.{AllocationError}
 use Rattle.gpu_device.specs.Held.{Held}
 use Rattle.gpu_device.specs.declared.vulkan.device.VulkanDevice.{Ghosts}
 use Rattle.gpu_device.specs.declared.vulkan.types.MemoryTypeInfo.{MemoryTypeInfo}
+use Rattle.gpu_memory_types.specs.Budgets.{Budgets}
 use Rattle.gpu_vulkan.specs.Allocate.{IsFollowed, IsServed, next_after, is_for_upload, is_short}
 use Rattle.gpu_vulkan_blocks.specs.Blocks.{Slots, HoldsJustLiveBlocks}
 use Rattle.gpu_vulkan_setup.specs.Choice.{serves, first_from, first_type, required}
@@ -35,9 +36,9 @@ next_below setup d (Err e) u is =
     next_chosen (is_for_upload d.location && not (is_short (refusal_of e))) (first_type setup.properties.types d.requirements.memory_type_bits (required d.location)) u (length setup.properties.types)
     (λ first. let below = first_below d.requirements.memory_type_bits (required d.location) 0 setup.properties.types u first in omega (arith, below)) is
 
-module _ {D : Type 0} (g : Ghosts D) (setup : Setup) (d : AllocationCreateDesc) (first : Held) where
+module _ {D : Type 0} (g : Ghosts D) (setup : Setup) (budgets : Budgets) (d : AllocationCreateDesc) (first : Held) where
   followed_holds : (o : Option ℕ) (mid : Slots) (between : D) (r result : Result Allocation AllocationError) (new : Slots) (after : D)
-      → ((u : ℕ) → o ≡ Some u → u < length mid) → IsFollowed g setup d o mid between r result new after
+      → ((u : ℕ) → o ≡ Some u → u < length mid) → IsFollowed g setup budgets d o mid between r result new after
       → HoldsJustLiveBlocks setup.properties first (g.held between) mid
       → HoldsJustLiveBlocks setup.properties first (g.held after) new × (g.properties after ≡ g.properties between) × (length new ≡ length mid)
   followed_holds None mid between r result new after below is h = (
@@ -46,14 +47,14 @@ module _ {D : Type 0} (g : Ghosts D) (setup : Setup) (d : AllocationCreateDesc) 
     ap g.properties is.2,
     ap length is.1,
   )
-  followed_holds (Some u) mid between r result new after below is h = attempt_holds g setup d first u mid (below u refl) between result new after is h
+  followed_holds (Some u) mid between r result new after below is h = attempt_holds g setup budgets d first u mid (below u refl) between result new after is h
 
   pub served_holds : (t : ℕ) (old : Slots) (device : D) (result : Result Allocation AllocationError) (new : Slots) (after : D) → t < length old
-      → length old ≡ length setup.properties.types → IsServed g setup t d old device result new after
+      → length old ≡ length setup.properties.types → IsServed g setup budgets t d old device result new after
       → HoldsJustLiveBlocks setup.properties first (g.held device) old
       → HoldsJustLiveBlocks setup.properties first (g.held after) new × (g.properties after ≡ g.properties device) × (length new ≡ length old)
   served_holds t old device result new after below long s h =
-      let x = attempt_holds g setup d first t old below device s.first s.mid s.between s.attempt h in
+      let x = attempt_holds g setup budgets d first t old below device s.first s.mid s.between s.attempt h in
       let y = followed_holds (next_after setup d s.first) s.mid s.between s.first result new after
       (λ u is. let inside = next_below setup d s.first u is in omega (arith, inside, x.2, long)) s.followed x.0 in
       (y.0, y.1 ∙ x.1, y.2 ∙ x.2)

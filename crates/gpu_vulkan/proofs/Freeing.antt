@@ -17,6 +17,7 @@ use Rattle.gpu_device.specs.Held.{Held, IsWhole, bytes_of, entry_bytes}
 use Rattle.gpu_device.specs.declared.vulkan.device.VulkanDevice.{Ghosts}
 use Rattle.gpu_device.specs.declared.vulkan.types.DeviceMemory.{DeviceMemory}
 use Rattle.gpu_device.proofs.Maps.{get-remove_other}
+use Rattle.gpu_memory_types.specs.Budgets.{Budgets}
 use Rattle.gpu_vulkan_setup.specs.Types.{is_mapped}
 use Rattle.gpu_vulkan_blocks.specs.Blocks.{Slots, HoldsJustLiveBlocks}
 use Rattle.gpu_memory_types.specs.Blocks.{slots_at, block_at, BlocksWellFormed}
@@ -113,8 +114,9 @@ module _ {D : Type 0} (g : Ghosts D) (setup : Setup) (first : Held) (t : ℕ) (o
 
   pub released_step : (device : D) (new : Slots) (after : D) → IsReleased g t p old device new after → IsLiveIn old t (Some p)
       → HoldsJustLiveBlocks setup.properties first (g.held device) old → ((m : ℕ) → IsWhole (get (g.held device) m))
-      → ReleaseStep t p (record { slots = old; byte_view = byte_view_of (g.held device) old }) (record { slots = new; byte_view = byte_view_of (g.held after) new })
-  released_step device new after r live h whole =
+      → (before now : Budgets) → now ≡ before
+      → ReleaseStep t p (record { slots = old; budgets = before; byte_view = byte_view_of (g.held device) old }) (record { slots = new; budgets = now; byte_view = byte_view_of (g.held after) new })
+  released_step device new after r live h whole before now same =
       let left = settled_bytes _ (slot_at (slots_at old t) p.slot) r.releases.slot r.went device after refl r.releases.releases r.gives_back live h whole in
       let new_is : new ≡ slice_set old t (slice_set (slots_at old t) p.slot r.releases.slot) = r.slots ∙ ap (slice_set old t) r.releases.slots in
       record {
@@ -125,6 +127,7 @@ module _ {D : Type 0} (g : Ghosts D) (setup : Setup) (first : Held) (t : ℕ) (o
         mid = left.mid;
         back = left.back;
         drops = subst (λ (ss : Slots). MayDrop t p.slot r.went left.mid (byte_view_of (g.held after) ss)) (sym new_is) left.drops;
+        budgets = same;
       }
 
 -- ---- the call
@@ -133,9 +136,10 @@ back_counts : {D : Type 0} (g : Ghosts D) (went : Option DeviceMemory) (device a
 back_counts g None device after back = (ap g.refused back, ap g.latest back)
 back_counts g (Some m) device after back = (back.count, back.latest)
 
-module _ {D : Type 0} (g : Ghosts D) (first : Held) (old new : State D) (sound : BlocksWellFormed old.setup.properties.granularity old.slots) (h : HoldsJustLiveBlocks old.setup.properties first (g.held old.device) old.slots) (whole : (m : ℕ) → IsWhole (get (g.held old.device) m)) where
+module _ {D : Type 0} (g : Ghosts D) (first : Held) (old new : State D) (sound : BlocksWellFormed old.setup.properties.granularity old.slots) (h : HoldsJustLiveBlocks old.setup.properties first (g.held old.device) old.slots) (whole : (m : ℕ) → IsWhole (get (g.held old.device) m))
+    (budgets : new.budgets ≡ old.budgets) where
   same_model : new.slots ≡ old.slots → new.device ≡ old.device → model_of g new ≡ model_of g old
-  same_model slots device = λ i. record { slots = slots i; byte_view = byte_view_of (g.held (device i)) (slots i) }
+  same_model slots device = λ i. record { slots = slots i; budgets = budgets i; byte_view = byte_view_of (g.held (device i)) (slots i) }
 
   frees_as : (a : Allocation) (o : Option (Piece DeviceMemory)) → piece_of a ≡ o → (result : Result (Unit {0}) (AllocationError × Allocation)) → FreesPiece g a o old.slots old.device result new.slots new.device
       → FreeStep a.memory_type_index o (freed_as result) (model_of g old) (model_of g new) × (g.refused new.device ≡ g.refused old.device) × (g.latest new.device ≡ g.latest old.device)
@@ -144,7 +148,7 @@ module _ {D : Type 0} (g : Ghosts D) (first : Held) (old new : State D) (sound :
   frees_as a (Some p) is (Ok u) f =
       let t = a.memory_type_index in
       let counts = back_counts g f.1.went old.device new.device f.1.gives_back in
-      ((f.0, released_step g old.setup first t old.slots (type_below old.slots t p f.0) sound p old.device new.slots new.device f.1 f.0 h whole), counts.0, counts.1)
+      ((f.0, released_step g old.setup first t old.slots (type_below old.slots t p f.0) sound p old.device new.slots new.device f.1 f.0 h whole old.budgets new.budgets budgets), counts.0, counts.1)
   frees_as a (Some p) is (Err e) f = ((f.0, f.1, same_model f.3 f.4), ap g.refused f.4, ap g.latest f.4)
 
   pub free_step : (a : Allocation) (result : Result (Unit {0}) (AllocationError × Allocation)) → Frees g a old.slots old.device result new.slots new.device → IsStep g (Free a) (freed_as result) old new

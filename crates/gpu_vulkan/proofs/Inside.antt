@@ -1,10 +1,8 @@
 -- A live piece lies inside its memory.
-use Rattle.std.proofs.Common.{◌≡◌, ◌∙◌, refl, sym, ap, subst, ℕ, ◌+◌, ◌<◌, ◌≤◌, Bool, true, false, List, Option, Some, None, Contains, IfSome, IsSome, Bor, arith}
-use Rattle.std.specs.Option.{is_some, option_to_list, option_map}
+use Rattle.std.proofs.Common.{◌≡◌, ◌∙◌, refl, sym, subst, ℕ, ◌+◌, ◌≤◌, Bool, true, false, List, Option, Some, None, IsSome, Bor, arith}
+use Rattle.std.specs.Option.{is_some, option_map}
 use Rattle.std.specs.FinMap.{get}
-use Rattle.std.proofs.lemmas.List.Elements.{All-contains}
-use Rattle.gpu_core.specs.Block.{Block, free_list, dedicated, size_of, extents_of, IsSoundBlock}
-use Rattle.gpu_core.specs.FreeList.{Extent}
+use Rattle.gpu_core.specs.Block.{Block, size_of}
 use Rattle.gpu_core.specs.Slots.{SlotIsSound}
 use Rattle.gpu_core.specs.TypeRelease.{SlotHolds}
 use Rattle.gpu_core.specs.TypeState.{Slot, slot_at}
@@ -24,7 +22,6 @@ use Rattle.std.specs.Prelude.{option_copied}
 use Rattle.gpu_device.proofs.Writes.{range_from}
 use Rattle.gpu_memory_types.proofs.Apart.{extent_inside}
 use Rattle.gpu_memory_types.proofs.Options.{none_some}
-use Rattle.gpu_core.proofs.Finding.{only_one}
 use Rattle.std.proofs.lemmas.Bool.{eqb-true}
 
 bytes_range : (o : Option (List ℕ)) (offset size n : ℕ) → is_some o ≡ true → IsAsLong n o → offset + size ≤ n → HasRange o offset size

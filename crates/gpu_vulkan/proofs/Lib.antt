@@ -13,6 +13,8 @@ pub mod Steps
 pub mod Freeing
 pub mod Listed
 pub mod OneStep
+pub mod KeptBudgets
+mod WithoutBudgets
 pub mod Apart
 pub mod Renaming
 pub mod Naming

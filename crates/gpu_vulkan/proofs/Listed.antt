@@ -1,5 +1,5 @@
 -- A live allocation's list is the bytes at its place, and a write at its place changes that list alone.
-use Rattle.std.proofs.Common.{◌≡◌, ◌∙◌, ◌⊎◌, ℕ, ◌+◌, ◌-◌, ◌<◌, ◌≤◌, refl, sym, ap, subst, true, false, List, length, take, drop, slice_get, Option, Some, None, Contains, arith, inl, inr, ⊎_elim, Bor, IsSome, IfSome, option_copied}
+use Rattle.std.proofs.Common.{◌≡◌, ◌∙◌, ◌⊎◌, ℕ, ◌+◌, ◌-◌, ◌<◌, ◌≤◌, refl, sym, ap, subst, true, false, List, length, take, drop, slice_get, Option, Some, None, Contains, arith, inl, inr, ⊎_elim, Bor, IsSome, IfSome, option_copied, Result, Ok, Err}
 use Rattle.std.specs.Prelude.{if◌then◌else◌}
 use Rattle.std.specs.FinMap.{get}
 use Rattle.std.proofs.lemmas.Bool.{cases_eq, cases_Bool, cases_lt}
@@ -15,6 +15,9 @@ use Rattle.gpu_device.specs.Held.{Held, IsWhole, HasRange, bytes_of, range_in, r
 use Rattle.gpu_device.specs.declared.vulkan.device.VulkanDevice.{Ghosts}
 use Rattle.gpu_device.specs.declared.vulkan.types.DeviceMemory.{DeviceMemory}
 use Rattle.gpu_device.proofs.Writes.{bytes_there, bytes_elsewhere, range_elsewhere, reads_below, reads_above, length_of_range}
+use Rattle.gpu_memory_types.specs.Budgets.{budget_at, SetsBudget}
+use Rattle.gpu_values.specs.Refusal.{refusal_in}
+use Rattle.gpu_values.specs.declared.error.AllocationError.{AllocationError}
 use Rattle.gpu_vulkan_blocks.specs.Blocks.{Slots, HoldsJustLiveBlocks}
 use Rattle.gpu_memory_types.specs.Blocks.{block_at, total_capacity, BlocksWellFormed}
 use Rattle.gpu_vulkan.specs.ByteView.{is_same_id, byte_view_of, list_in, rest_in, piece_bytes, piece_of_number, covers, is_covered, byte_at, Writes}
@@ -22,7 +25,7 @@ use Rattle.gpu_vulkan.specs.Lends.{number_in, written_at}
 use Rattle.gpu_vulkan.specs.Live.{IsLive, IsMapped, bytes_at}
 use Rattle.gpu_vulkan.specs.State.{State}
 use Rattle.gpu_vulkan_setup.specs.Setup.{Setup}
-use Rattle.gpu_vulkan.specs.Step.{model_of, id_of, IsRead, IsStep, Write, Read, Bytes, Capacity, Sum, Done, nothing_met}
+use Rattle.gpu_vulkan.specs.Step.{SetBudget, Budget, Budgeted, SetBudgetStep, done_as, model_of, id_of, IsRead, IsStep, Write, Read, Bytes, Capacity, Sum, Done, nothing_met}
 use Rattle.gpu_vulkan.specs.declared.allocation.Allocation.{Allocation}
 use Rattle.gpu_vulkan.proofs.ByteViews.{place, other_number}
 use Rattle.gpu_vulkan.proofs.Joins.{number_found, found_number, any_of, all_of}
@@ -191,6 +194,7 @@ module _ {D : Type 0} (g : Ghosts D) (first : Held) (s : State D) (sound : Block
       record {
         live = live;
         slots = refl;
+        budgets = refl;
         writes = subst (λ k. Writes (id_of a) ws (byte_view_of (g.held s.device) s.slots) (byte_view_of k s.slots)) (sym (written a.device_memory.0 a.offset ws))
             (writes_list s.setup first (g.held s.device) s.slots sound h whole a ws live long xs was);
       },
@@ -242,3 +246,27 @@ sum_step g s n is = record {
 pub lent_length : (held : Held) (n o size : ℕ) (r : Option (Bor (List ℕ))) → option_copied r ≡ range_of held n o size → IfSome r (λ s. length s.now ≡ size)
 lent_length held n o size None told = tt
 lent_length held n o size (Some s) told = length_of_range (bytes_of held n) o size s.now (sym told)
+
+pub budget_step : {D : Type 0} (g : Ghosts D) (s : State D) (t : ℕ) (budget : Option ℕ) → budget ≡ budget_at s.budgets t → IsStep g (Budget t) (Budgeted budget) s s
+budget_step g s t budget is = record {
+  environment = record { first = nothing_met; second = nothing_met };
+  step = ((refl, refl), is, refl);
+  count = refl;
+  latest = refl;
+}
+
+pub set_step : {D : Type 0} (g : Ghosts D) (old new : State D) (t : ℕ) (budget : Option ℕ) (result : Result (Unit {0}) AllocationError) → new.device ≡ old.device → new.slots ≡ old.slots
+    → SetsBudget t budget old.budgets (refusal_in result) new.budgets → IsStep g (SetBudget t budget) (done_as result) old new
+set_step g old new t budget result device slots sets = record {
+  environment = record { first = nothing_met; second = nothing_met };
+  step = ((refl, refl), by result sets);
+  count = ap g.refused device;
+  latest = ap g.latest device;
+}
+  where
+    bytes : byte_view_of (g.held new.device) new.slots ≡ byte_view_of (g.held old.device) old.slots
+    bytes = λ i. byte_view_of (g.held (device i)) (slots i)
+
+    by : (r : Result (Unit {0}) AllocationError) → SetsBudget t budget old.budgets (refusal_in r) new.budgets → SetBudgetStep t budget (done_as r) (model_of g old) (model_of g new)
+    by (Ok _) sets = (sets, slots, bytes)
+    by (Err e) sets = (sets, slots, bytes)

@@ -31,7 +31,7 @@ use Rattle.gpu_memory_types.specs.Rename.{IsRenamed}
 use Rattle.gpu_vulkan.specs.Rename.{RenamesBy, Renames}
 use Rattle.gpu_memory_types.specs.Reports.{whole_report}
 use Rattle.gpu_vulkan.specs.State.{State}
-use Rattle.gpu_vulkan.specs.Step.{model_of, Rename, Report, Leaks, RenameStep, IsStep, CallEnvironment, nothing_met, renamed_as, shown_as, told_as}
+use Rattle.gpu_vulkan.specs.Step.{model_of, Rename, Report, Leaks, RenameStep, IsStep, CallEnvironment, nothing_met, done_as, shown_as, told_as}
 use Rattle.gpu_vulkan.specs.declared.allocation.Allocation.{Allocation}
 use Rattle.gpu_vulkan.proofs.OneStep.{byte_views_alike}
 use Rattle.gpu_memory_types.proofs.Placed.{OnlyBlock, only_block, some_below, same_place}
@@ -163,20 +163,20 @@ renamed_byte_view held t p name old new r =
 abbrev no_question : Bool → CallEnvironment
 no_question host = record { first = record { host = host; asked = None }; second = nothing_met }
 
-module _ {D : Type 0} (g : Ghosts D) (old new : State D) (device : new.device ≡ old.device) where
+module _ {D : Type 0} (g : Ghosts D) (old new : State D) (device : new.device ≡ old.device) (budgets : new.budgets ≡ old.budgets) where
   same_model : new.slots ≡ old.slots → model_of g new ≡ model_of g old
-  same_model slots = λ i. record { slots = slots i; byte_view = byte_view_of (g.held (device i)) (slots i) }
+  same_model slots = λ i. record { slots = slots i; budgets = budgets i; byte_view = byte_view_of (g.held (device i)) (slots i) }
 
   pub record Renaming (a : Allocation) (o : Option (Piece DeviceMemory)) (name : List ℕ) (result : Result (Unit {0}) AllocationError) : Type 0 where
     pub host : Bool
-    pub step : RenameStep a.memory_type_index o name host (renamed_as result) (model_of g old) (model_of g new)
+    pub step : RenameStep a.memory_type_index o name host (done_as result) (model_of g old) (model_of g new)
 
   renaming : (a b : Allocation) (o : Option (Piece DeviceMemory)) (name : List ℕ) (result : Result (Unit {0}) AllocationError) → RenamesBy a o name old.slots result b new.slots → Renaming a o name result
   renaming a b None name (Ok u) r = record { host = true; step = (refl, same_model r.1) }
   renaming a b None name (Err e) r = record { host = false; step = (refl, r.0, same_model r.2) }
   renaming a b (Some p) name (Ok u) r = record {
     host = true;
-    step = (refl, r.1, ap (λ d. byte_view_of (g.held d) new.slots) device ∙ renamed_byte_view (g.held old.device) a.memory_type_index p name old.slots new.slots r.1);
+    step = (refl, r.1, ap (λ d. byte_view_of (g.held d) new.slots) device ∙ renamed_byte_view (g.held old.device) a.memory_type_index p name old.slots new.slots r.1, budgets);
   }
   renaming a b (Some p) name (Err e) r =
       ⊎_elim
@@ -184,7 +184,7 @@ module _ {D : Type 0} (g : Ghosts D) (old new : State D) (device : new.device �
       (λ dead. record { host = true; step = (inr dead, same_model r.2) })
       r.0
 
-  pub rename_step : (a b : Allocation) (name : List ℕ) (result : Result (Unit {0}) AllocationError) → Renames a name old.slots result b new.slots → IsStep g (Rename a name) (renamed_as result) old new
+  pub rename_step : (a b : Allocation) (name : List ℕ) (result : Result (Unit {0}) AllocationError) → Renames a name old.slots result b new.slots → IsStep g (Rename a name) (done_as result) old new
   rename_step a b name result r =
       let s = renaming a b (piece_of a) name result r in
       record {

@@ -12,6 +12,7 @@ use Rattle.gpu_core.proofs.OneOutcome.{released_once, refusal_once, renamed_once
 use Rattle.gpu_memory_types.proofs.OneOutcome.{false_true, allocates_once}
 use Rattle.gpu_memory_types.specs.Attempt.{Gave, Refused}
 use Rattle.gpu_device.specs.declared.vulkan.types.DeviceMemory.{DeviceMemory}
+use Rattle.gpu_memory_types.specs.Budgets.{Budgets, budget_at, SetsBudget}
 use Rattle.gpu_vulkan.specs.Allocate.{Attempts, IsTooLarge, IsWithinHeap, is_valid}
 use Rattle.gpu_vulkan_blocks.specs.Suballocation.{AttemptEnvironment, Asked, Answer, asked_block, request_at}
 use Rattle.gpu_vulkan_setup.specs.Types.{is_mapped}
@@ -23,26 +24,26 @@ use Rattle.gpu_vulkan.specs.Live.{piece_of}
 use Rattle.gpu_memory_types.specs.Leaks.{all_leaks}
 use Rattle.gpu_memory_types.specs.Reports.{whole_report}
 use Rattle.gpu_vulkan_setup.specs.Setup.{Setup}
-use Rattle.gpu_vulkan.specs.Step.{ModelState, Call, Allocate, Free, Write, Rename, Report, Leaks, Read, Capacity, Reply, Given, Fails, Done, Bytes, Sum, Shows, Tells, RenameStep, ReportStep, LeaksStep, CallEnvironment, BytesAfter, AttemptStep, reply_of, next_by, Follows, ServeStep, RefuseStep, FoundStep, AllocateStep, MayDrop, ReleaseStep, FreeStep, WriteStep, IsRead, Step, id_in, id_of}
+use Rattle.gpu_vulkan.specs.Step.{ModelState, Call, Allocate, Free, Write, Rename, Report, Leaks, Read, Capacity, SetBudget, Budget, Reply, Given, Fails, Done, Bytes, Sum, Shows, Tells, Budgeted, RenameStep, SetBudgetStep, ReportStep, LeaksStep, CallEnvironment, BytesAfter, AttemptStep, reply_of, next_by, Follows, ServeStep, RefuseStep, FoundStep, AllocateStep, MayDrop, ReleaseStep, FreeStep, WriteStep, IsRead, Step, id_in, id_of}
 use Rattle.gpu_vulkan.specs.declared.allocation.Allocation.{Allocation}
 use Rattle.gpu_vulkan_setup.specs.declared.describe.AllocationCreateDesc.{AllocationCreateDesc}
 use Rattle.gpu_vulkan.proofs.Steps.{refused_same, none_next}
 
 -- ---- an attempt
 
-attempts_once : (setup : Setup) (old : Slots) (t : ℕ) (d : AllocationCreateDesc) (o : AttemptEnvironment) (x y : Answer) (new next : Slots) → BlocksWellFormed setup.properties.granularity old
-    → Attempts setup old t d o x new → Attempts setup old t d o y next → (x ≡ y) × (new ≡ next)
-attempts_once setup old t d o x y new next sound a b =
+attempts_once : (setup : Setup) (budgets : Budgets) (old : Slots) (t : ℕ) (d : AllocationCreateDesc) (o : AttemptEnvironment) (x y : Answer) (new next : Slots) → BlocksWellFormed setup.properties.granularity old
+    → Attempts setup budgets old t d o x new → Attempts setup budgets old t d o y next → (x ≡ y) × (new ≡ next)
+attempts_once setup budgets old t d o x y new next sound a b =
     ⊎_elim
     (λ (la : IsTooLarge setup old t d o x new).
     ⊎_elim
     (λ (lb : IsTooLarge setup old t d o y next). (la.answer_is ∙ sym lb.answer_is, la.same ∙ sym lb.same))
-    (λ (wb : IsWithinHeap setup old t d o y next). let above = la.above in let below = wb.below in absurd (omega (arith, above, below)))
+    (λ (wb : IsWithinHeap setup budgets old t d o y next). let above = la.above in let below = wb.below in absurd (omega (arith, above, below)))
     b)
-    (λ (wa : IsWithinHeap setup old t d o x new).
+    (λ (wa : IsWithinHeap setup budgets old t d o x new).
     ⊎_elim
     (λ (lb : IsTooLarge setup old t d o y next). let above = lb.above in let below = wa.below in absurd (omega (arith, above, below)))
-    (λ (wb : IsWithinHeap setup old t d o y next). allocates_once (request_at setup t d) old o.host (asked_block o.asked) x y new next sound wa.allocates wb.allocates)
+    (λ (wb : IsWithinHeap setup budgets old t d o y next). allocates_once (request_at setup budgets t d) old o.host (asked_block o.asked) x y new next sound wa.allocates wb.allocates)
     b)
     a
 
@@ -115,15 +116,15 @@ bytes_once mapped t (Some asked) (Gave p) old new next a b =
     let mids = adds_once t p.slot _ old a.0 b.0 a.1 b.1 in
     takes_out_once mapped (id_in t p) p.offset p.size a.0 new next a.2 (subst (λ m. TakesOut mapped (id_in t p) p.offset p.size m next) (sym mids) b.2)
 
-states_alike : (a b : ModelState) → a.slots ≡ b.slots → a.byte_view ≡ b.byte_view → a ≡ b
-states_alike a b slots byte_view = λ i. record { slots = slots i; byte_view = byte_view i }
+states_alike : (a b : ModelState) → a.slots ≡ b.slots → a.budgets ≡ b.budgets → a.byte_view ≡ b.byte_view → a ≡ b
+states_alike a b slots budgets byte_view = λ i. record { slots = slots i; budgets = budgets i; byte_view = byte_view i }
 
 attempt_once : (setup : Setup) (t : ℕ) (d : AllocationCreateDesc) (o : AttemptEnvironment) (x y : Answer) (old new next : ModelState) → BlocksWellFormed setup.properties.granularity old.slots
     → AttemptStep setup t d o x old new → AttemptStep setup t d o y old next → (x ≡ y) × (new ≡ next)
 attempt_once setup t d o x y old new next sound a b =
-    let once = attempts_once setup old.slots t d o x y new.slots next.slots sound a.slots b.slots in
+    let once = attempts_once setup old.budgets old.slots t d o x y new.slots next.slots sound a.slots b.slots in
     let other : BytesAfter (is_mapped setup.properties t) t o.asked x old.byte_view next.byte_view = subst (λ w. BytesAfter (is_mapped setup.properties t) t o.asked w old.byte_view next.byte_view) (sym once.0) b.bytes in
-    (once.0, states_alike new next once.1 (bytes_once (is_mapped setup.properties t) t o.asked x old.byte_view new.byte_view next.byte_view a.bytes other))
+    (once.0, states_alike new next once.1 (a.budgets ∙ sym b.budgets) (bytes_once (is_mapped setup.properties t) t o.asked x old.byte_view new.byte_view next.byte_view a.bytes other))
 
 -- ---- an allocation
 
@@ -137,7 +138,7 @@ follows_once setup d (Some u) o t first mid x y new next sound a b =
 pub mid_sound : (setup : Setup) (t u : ℕ) (d : AllocationCreateDesc) (o : AttemptEnvironment) (answer : Answer) (old mid : ModelState) → BlocksWellFormed setup.properties.granularity old.slots → AttemptStep setup t d o answer old mid
     → next_by setup d answer ≡ Some u → BlocksWellFormed setup.properties.granularity mid.slots
 mid_sound setup t u d o (Gave p) old mid sound a is = absurd (none_next setup d u p is)
-mid_sound setup t u d o (Refused r) old mid sound a is = subst (BlocksWellFormed setup.properties.granularity) (sym (refused_same setup old.slots t d o r mid.slots a.slots)) sound
+mid_sound setup t u d o (Refused r) old mid sound a is = subst (BlocksWellFormed setup.properties.granularity) (sym (refused_same setup old.budgets old.slots t d o r mid.slots a.slots)) sound
 
 serve_once : (setup : Setup) (t : ℕ) (d : AllocationCreateDesc) (o : CallEnvironment) (x y : Reply) (old new next : ModelState) → BlocksWellFormed setup.properties.granularity old.slots
     → ServeStep setup t d o x old new → ServeStep setup t d o y old next → (x ≡ y) × (new ≡ next)
@@ -171,7 +172,7 @@ release_once setup t p old new next sound a b =
     let mids = puts_back_once (id_in t p) p.offset p.size old.byte_view a.mid b.mid a.back b.back in
     let went = once.0 in
     let other : MayDrop t p.slot a.went a.mid next.byte_view = subst (λ m. MayDrop t p.slot a.went m next.byte_view) (sym mids) (subst (λ w. MayDrop t p.slot w b.mid next.byte_view) (sym went) b.drops) in
-    states_alike new next (a.slots ∙ (ap (slice_set old.slots t) once.1 ∙ sym b.slots)) (drops_once t p.slot a.went a.mid new.byte_view next.byte_view a.drops other)
+    states_alike new next (a.slots ∙ (ap (slice_set old.slots t) once.1 ∙ sym b.slots)) (a.budgets ∙ sym b.budgets) (drops_once t p.slot a.went a.mid new.byte_view next.byte_view a.drops other)
 
 -- a free is done, or refused
 pub free_reply : (t : ℕ) (p : Option (Piece DeviceMemory)) (x : Reply) (old new : ModelState) → FreeStep t p x old new
@@ -183,6 +184,7 @@ free_reply t None (Bytes xs) old new s = absurd s
 free_reply t None (Sum n) old new s = absurd s
 free_reply t None (Shows w) old new s = absurd s
 free_reply t None (Tells zs) old new s = absurd s
+free_reply t None (Budgeted n) old new s = absurd s
 free_reply t (Some p) (Given u q) old new s = absurd s
 free_reply t (Some p) (Fails r) old new s = inr (r, refl, s)
 free_reply t (Some p) Done old new s = inl (refl, s)
@@ -190,6 +192,7 @@ free_reply t (Some p) (Bytes xs) old new s = absurd s
 free_reply t (Some p) (Sum n) old new s = absurd s
 free_reply t (Some p) (Shows w) old new s = absurd s
 free_reply t (Some p) (Tells zs) old new s = absurd s
+free_reply t (Some p) (Budgeted n) old new s = absurd s
 
 free_done_once : (setup : Setup) (t : ℕ) (p : Option (Piece DeviceMemory)) (old new next : ModelState) → BlocksWellFormed setup.properties.granularity old.slots → FreeStep t p Done old new → FreeStep t p Done old next → new ≡ next
 free_done_once setup t None old new next sound a b = a ∙ sym b
@@ -228,6 +231,7 @@ rename_reply t None name host (Bytes xs) old new s = absurd s
 rename_reply t None name host (Sum n) old new s = absurd s
 rename_reply t None name host (Shows w) old new s = absurd s
 rename_reply t None name host (Tells zs) old new s = absurd s
+rename_reply t None name host (Budgeted n) old new s = absurd s
 rename_reply t (Some p) name host (Given u q) old new s = absurd s
 rename_reply t (Some p) name host (Fails r) old new s = inr (r, refl, s)
 rename_reply t (Some p) name host Done old new s = inl (refl, s)
@@ -235,12 +239,13 @@ rename_reply t (Some p) name host (Bytes xs) old new s = absurd s
 rename_reply t (Some p) name host (Sum n) old new s = absurd s
 rename_reply t (Some p) name host (Shows w) old new s = absurd s
 rename_reply t (Some p) name host (Tells zs) old new s = absurd s
+rename_reply t (Some p) name host (Budgeted n) old new s = absurd s
 
 rename_done_once : (t : ℕ) (p : Option (Piece DeviceMemory)) (name : List ℕ) (host : Bool) (old new next : ModelState) → RenameStep t p name host Done old new → RenameStep t p name host Done old next → new ≡ next
 rename_done_once t None name host old new next a b = a.1 ∙ sym b.1
 rename_done_once t (Some p) name host old new next a b =
     let left = renamed_once (slots_at old.slots t) p name a.1.left b.1.left a.1.renames b.1.renames in
-    states_alike new next (a.1.slots ∙ (ap (slice_set old.slots t) left ∙ sym b.1.slots)) (a.2 ∙ sym b.2)
+    states_alike new next (a.1.slots ∙ (ap (slice_set old.slots t) left ∙ sym b.1.slots)) (a.3 ∙ sym b.3) (a.2 ∙ sym b.2)
 
 pub named_or_fails : (t : ℕ) (p : Option (Piece DeviceMemory)) (name : List ℕ) (host : Bool) (r : Refusal) (old new next : ModelState) → RenameStep t p name host Done old new → RenameStep t p name host (Fails r) old next → ⊥
 named_or_fails t None name host r old new next a b = false_true (sym b.0 ∙ a.0)
@@ -286,6 +291,7 @@ shown_reply host (Bytes xs) old new s = absurd s
 shown_reply host (Sum n) old new s = absurd s
 shown_reply host (Shows w) old new s = (s.2, inl (s.0, ap Shows s.1))
 shown_reply host (Tells zs) old new s = absurd s
+shown_reply host (Budgeted n) old new s = absurd s
 
 pub told_reply : (host : Bool) (x : Reply) (old new : ModelState) → LeaksStep host x old new → (new ≡ old) × (((host ≡ true) × (x ≡ Tells (map leak_text (all_leaks old.slots)))) ⊎ ((host ≡ false) × (x ≡ Fails host_out_of_memory)))
 told_reply host (Given u q) old new s = absurd s
@@ -294,6 +300,7 @@ told_reply host Done old new s = absurd s
 told_reply host (Bytes xs) old new s = absurd s
 told_reply host (Sum n) old new s = absurd s
 told_reply host (Shows w) old new s = absurd s
+told_reply host (Budgeted n) old new s = absurd s
 told_reply host (Tells zs) old new s = (s.2, inl (s.0, ap Tells s.1))
 
 pub by_host : (host : Bool) (x y a b : Reply) → ((host ≡ true) × (x ≡ a)) ⊎ ((host ≡ false) × (x ≡ b)) → ((host ≡ true) × (y ≡ a)) ⊎ ((host ≡ false) × (y ≡ b)) → x ≡ y
@@ -309,7 +316,7 @@ writes_once : (p : AllocationId) (ws : List ℕ) (old new next : ByteView) → W
 writes_once p ws old new next a b = byte_views_alike new next (lists_alike p old new next (a.list ∙ sym b.list) a.others b.others) (λ t i at. a.unallocated_bytes t i at ∙ sym (b.unallocated_bytes t i at))
 
 write_once : (setup : Setup) (a : Allocation) (ws : List ℕ) (old new next : ModelState) → WriteStep setup a ws old new → WriteStep setup a ws old next → new ≡ next
-write_once setup a ws old new next x y = states_alike new next (x.slots ∙ sym y.slots) (writes_once (id_of a) ws old.byte_view new.byte_view next.byte_view x.writes y.writes)
+write_once setup a ws old new next x y = states_alike new next (x.slots ∙ sym y.slots) (x.budgets ∙ sym y.budgets) (writes_once (id_of a) ws old.byte_view new.byte_view next.byte_view x.writes y.writes)
 
 read_once : (setup : Setup) (a : Allocation) (s : ModelState) (x y : Option (List ℕ)) → IsRead setup a s x → IsRead setup a s y → x ≡ y
 read_once setup a s None None h k = refl
@@ -327,6 +334,7 @@ write_reply setup a ws o (Bytes xs) old new s = absurd s
 write_reply setup a ws o (Sum n) old new s = absurd s
 write_reply setup a ws o (Shows w) old new s = absurd s
 write_reply setup a ws o (Tells zs) old new s = absurd s
+write_reply setup a ws o (Budgeted n) old new s = absurd s
 
 pub read_reply : (setup : Setup) (a : Allocation) (o : CallEnvironment) (x : Reply) (old new : ModelState) → Step setup (Read a) o x old new → (xs : Option (List ℕ)) × (x ≡ Bytes xs) × IsRead setup a old xs × (new ≡ old)
 read_reply setup a o (Given u q) old new s = absurd s
@@ -336,6 +344,7 @@ read_reply setup a o (Bytes xs) old new s = (xs, refl, s.1, s.2)
 read_reply setup a o (Sum n) old new s = absurd s
 read_reply setup a o (Shows w) old new s = absurd s
 read_reply setup a o (Tells zs) old new s = absurd s
+read_reply setup a o (Budgeted n) old new s = absurd s
 
 pub sum_reply : (setup : Setup) (o : CallEnvironment) (x : Reply) (old new : ModelState) → Step setup Capacity o x old new → (x ≡ Sum (total_capacity old.slots)) × (new ≡ old)
 sum_reply setup o (Given u q) old new s = absurd s
@@ -345,6 +354,42 @@ sum_reply setup o (Bytes xs) old new s = absurd s
 sum_reply setup o (Sum n) old new s = (ap Sum s.1, s.2)
 sum_reply setup o (Shows w) old new s = absurd s
 sum_reply setup o (Tells zs) old new s = absurd s
+sum_reply setup o (Budgeted n) old new s = absurd s
+
+pub budget_reply : (setup : Setup) (t : ℕ) (o : CallEnvironment) (x : Reply) (old new : ModelState) → Step setup (Budget t) o x old new → (x ≡ Budgeted (budget_at old.budgets t)) × (new ≡ old)
+budget_reply setup t o (Given u q) old new s = absurd s
+budget_reply setup t o (Fails r) old new s = absurd s
+budget_reply setup t o Done old new s = absurd s
+budget_reply setup t o (Bytes xs) old new s = absurd s
+budget_reply setup t o (Sum n) old new s = absurd s
+budget_reply setup t o (Shows w) old new s = absurd s
+budget_reply setup t o (Tells zs) old new s = absurd s
+budget_reply setup t o (Budgeted b) old new s = (ap Budgeted s.1, s.2)
+
+-- ---- budgets
+
+-- a reply to a call that is done or fails, and the refusal that it tells
+abbrev pub done_by : Option Refusal → Reply
+done_by None = Done
+done_by (Some r) = Fails r
+
+pub set_reply : (t : ℕ) (budget : Option ℕ) (x : Reply) (old new : ModelState) → SetBudgetStep t budget x old new
+    → (r : Option Refusal) × (x ≡ done_by r) × SetsBudget t budget old.budgets r new.budgets × (new.slots ≡ old.slots) × (new.byte_view ≡ old.byte_view)
+set_reply t budget (Given u q) old new s = absurd s
+set_reply t budget (Fails r) old new s = (Some r, refl, s.0, s.1, s.2)
+set_reply t budget Done old new s = (None, refl, s.0, s.1, s.2)
+set_reply t budget (Bytes xs) old new s = absurd s
+set_reply t budget (Sum n) old new s = absurd s
+set_reply t budget (Shows w) old new s = absurd s
+set_reply t budget (Tells zs) old new s = absurd s
+set_reply t budget (Budgeted b) old new s = absurd s
+
+-- a budget is set or refused, and not both
+pub sets_once : (t : ℕ) (budget : Option ℕ) (old : Budgets) (r s : Option Refusal) (new next : Budgets) → SetsBudget t budget old r new → SetsBudget t budget old s next → (r ≡ s) × (new ≡ next)
+sets_once t budget old None None new next a b = (refl, a.1 ∙ sym b.1)
+sets_once t budget old None (Some s) new next a b = let below = a.0 in let past = b.0 in absurd (omega (arith, below, past))
+sets_once t budget old (Some r) None new next a b = let below = b.0 in let past = a.0 in absurd (omega (arith, below, past))
+sets_once t budget old (Some r) (Some s) new next a b = (ap Some (a.1 ∙ sym b.1), a.2 ∙ sym b.2)
 
 -- ---- any call
 
@@ -373,3 +418,12 @@ step_once setup Leaks o x y old new next sound a b =
     let p = told_reply o.first.host x old new a.1 in
     let q = told_reply o.first.host y old next b.1 in
     (by_host o.first.host x y (Tells (map leak_text (all_leaks old.slots))) (Fails host_out_of_memory) p.1 q.1, p.0 ∙ sym q.0)
+step_once setup (SetBudget t budget) o x y old new next sound a b =
+    let p = set_reply t budget x old new a.1 in
+    let q = set_reply t budget y old next b.1 in
+    let once = sets_once t budget old.budgets p.0 q.0 new.budgets next.budgets p.2 q.2 in
+    (p.1 ∙ ap done_by once.0 ∙ sym q.1, states_alike new next (p.3 ∙ sym q.3) once.1 (p.4 ∙ sym q.4))
+step_once setup (Budget t) o x y old new next sound a b =
+    let p = budget_reply setup t o x old new a in
+    let q = budget_reply setup t o y old next b in
+    (p.0 ∙ sym q.0, p.1 ∙ sym q.1)

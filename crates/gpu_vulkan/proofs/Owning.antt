@@ -12,6 +12,7 @@ use Rattle.gpu_memory_types.specs.Attempt.{Gave, Refused}
 use Rattle.gpu_memory_types.specs.Blocks.{BlocksWellFormed}
 use Rattle.gpu_memory_types.proofs.Options.{none_some, some_same}
 use Rattle.gpu_memory_types.proofs.StayLive.{KeepsPieces, keeps_all, allocates_keeps, released_keeps_others}
+use Rattle.gpu_memory_types.specs.Budgets.{Budgets}
 use Rattle.gpu_vulkan.specs.Allocate.{Attempts, IsTooLarge, IsWithinHeap, IsAttempt, Answers, IsServed, IsFollowed, next_after}
 use Rattle.gpu_vulkan_blocks.specs.Suballocation.{AttemptEnvironment, Answer, asked_block, request_at}
 use Rattle.gpu_vulkan_blocks.specs.Blocks.{Slots}
@@ -34,13 +35,13 @@ same_memory h = eq_true h.0 h.0 refl
 abbrev Keeps : (t : ℕ) → Slots → Slots → Answer → Type 0
 Keeps t old new answer = KeepsPieces is_same_memory t old new answer
 
-pub attempt_keeps : (setup : Setup) (d : AllocationCreateDesc) (t : ℕ) (old : Slots) → t < length old → BlocksWellFormed setup.properties.granularity old
-    → (o : AttemptEnvironment) (answer : Answer) (new : Slots) → Attempts setup old t d o answer new → BlocksWellFormed setup.properties.granularity new → Keeps t old new answer
-attempt_keeps setup d t old below sound o answer new at after =
+pub attempt_keeps : (setup : Setup) (budgets : Budgets) (d : AllocationCreateDesc) (t : ℕ) (old : Slots) → t < length old → BlocksWellFormed setup.properties.granularity old
+    → (o : AttemptEnvironment) (answer : Answer) (new : Slots) → Attempts setup budgets old t d o answer new → BlocksWellFormed setup.properties.granularity new → Keeps t old new answer
+attempt_keeps setup budgets d t old below sound o answer new at after =
     ⊎_elim
     (λ (large : IsTooLarge setup old t d o answer new). keeps_all is_same_memory t old new _ answer large.answer_is large.same)
-    (λ (within : IsWithinHeap setup old t d o answer new).
-    allocates_keeps is_same_memory same_memory (request_at setup t d) old below sound o.host (asked_block o.asked) answer new within.allocates after)
+    (λ (within : IsWithinHeap setup budgets old t d o answer new).
+    allocates_keeps is_same_memory same_memory (request_at setup budgets t d) old below sound o.host (asked_block o.asked) answer new within.allocates after)
     at
 
 -- ---- allocations
@@ -101,24 +102,24 @@ answer_owns setup d t old mid new (Gave p) (Err e) stay was k given = absurd giv
 answer_owns setup d t old mid new (Refused r) (Ok a) stay was k given = absurd given
 answer_owns setup d t old mid new (Refused r) (Err e) stay was k given = record { keeps = λ b live. live_in mid new k.keeps b (stay b live); gives = tt }
 
-module _ {D : Type 0} (g : Ghosts D) (setup : Setup) (d : AllocationCreateDesc) (t : ℕ) (old : Slots) (device : D) (result : Result Allocation AllocationError) (new : Slots) (after : D) (below : t < length old)
-    (long : length old ≡ length setup.properties.types) (sound : BlocksWellFormed setup.properties.granularity old) (sound_after : BlocksWellFormed setup.properties.granularity new) (s : IsServed g setup t d old device result new after) where
-  abbrev one : IsAttempt g setup t d old device s.first s.mid s.between
+module _ {D : Type 0} (g : Ghosts D) (setup : Setup) (budgets : Budgets) (d : AllocationCreateDesc) (t : ℕ) (old : Slots) (device : D) (result : Result Allocation AllocationError) (new : Slots) (after : D) (below : t < length old)
+    (long : length old ≡ length setup.properties.types) (sound : BlocksWellFormed setup.properties.granularity old) (sound_after : BlocksWellFormed setup.properties.granularity new) (s : IsServed g setup budgets t d old device result new after) where
+  abbrev one : IsAttempt g setup budgets t d old device s.first s.mid s.between
   one = s.attempt
 
-  owns_by : (o : Option ℕ) → next_after setup d s.first ≡ o → IsFollowed g setup d o s.mid s.between s.first result new after → Owns old new result
+  owns_by : (o : Option ℕ) → next_after setup d s.first ≡ o → IsFollowed g setup budgets d o s.mid s.between s.first result new after → Owns old new result
   owns_by None is f =
       let sound_mid : BlocksWellFormed setup.properties.granularity s.mid = subst (BlocksWellFormed setup.properties.granularity) f.1 sound_after in
-      let k = attempt_keeps setup d t old below sound one.environment one.answer s.mid one.attempts sound_mid in
+      let k = attempt_keeps setup budgets d t old below sound one.environment one.answer s.mid one.attempts sound_mid in
       let here = answer_owns setup d t old old s.mid one.answer s.first (λ b live. live) (λ u q live. live) k one.answers in
       subst (λ r. Owns old new r) (sym f.0) (subst (λ (ss : Slots). Owns old ss s.first) (sym f.1) here)
   owns_by (Some u) is two =
       let next = sym (next_same setup t d s.first one.answer one.answers) ∙ is in
-      let same : s.mid ≡ old = mid_is_old setup d t u old one.environment one.answer s.mid next one.attempts in
+      let same : s.mid ≡ old = mid_is_old setup budgets d t u old one.environment one.answer s.mid next one.attempts in
       let sound_mid : BlocksWellFormed setup.properties.granularity s.mid = subst (BlocksWellFormed setup.properties.granularity) (sym same) sound in
       let inside = next_below setup d s.first u is in
       let far : u < length s.mid = subst (λ (ss : Slots). u < length ss) (sym same) (omega (arith, inside, long)) in
-      let k = attempt_keeps setup d u s.mid far sound_mid two.environment two.answer new two.attempts sound_after in
+      let k = attempt_keeps setup budgets d u s.mid far sound_mid two.environment two.answer new two.attempts sound_after in
       answer_owns setup d u old s.mid new two.answer result (λ b live. subst (λ (ss : Slots). IsLive ss b) (sym same) live) (λ v q live. subst (λ (ss : Slots). IsLiveIn ss v (Some q)) (sym same) live) k two.answers
 
   pub served_owns : Owns old new result

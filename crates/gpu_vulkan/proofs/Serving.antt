@@ -12,6 +12,7 @@ use Rattle.gpu_device.proofs.Maps.{get-insert_same, get-insert_other}
 use Rattle.gpu_device.proofs.Changes.{get-mapped_same, get-mapped_other, mapped_entry}
 use Rattle.gpu_memory_types.specs.Attempt.{IsEntryOf, HoldsResult, HoldsAsked}
 use Rattle.gpu_memory_types.proofs.Granting.{allocates_holds}
+use Rattle.gpu_memory_types.specs.Budgets.{Budgets}
 use Rattle.gpu_vulkan.specs.Allocate.{IsTooLarge, IsWithinHeap, IsAttempt}
 use Rattle.gpu_vulkan_blocks.specs.Suballocation.{Asked, IsAfter, IsAskedFor, asked_block, block_result, question, request_at}
 use Rattle.gpu_vulkan_blocks.specs.BlockAnswer.{BlockAnswer, Declined, Granted, Mapped, NotMapped, Asks}
@@ -62,23 +63,23 @@ module _ {D : Type 0} (g : Ghosts D) (setup : Setup) (d : AllocationCreateDesc) 
   untouched o device after none is = subst (λ o. IsAfter g device (is_mapped setup.properties t) o after) none is
 
 -- an attempt
-pub attempt_holds : {D : Type 0} (g : Ghosts D) (setup : Setup) (d : AllocationCreateDesc) (first : Held) (t : ℕ) (old : Slots) → t < length old
-    → (device : D) (result : Result Allocation AllocationError) (new : Slots) (after : D) → IsAttempt g setup t d old device result new after
+pub attempt_holds : {D : Type 0} (g : Ghosts D) (setup : Setup) (budgets : Budgets) (d : AllocationCreateDesc) (first : Held) (t : ℕ) (old : Slots) → t < length old
+    → (device : D) (result : Result Allocation AllocationError) (new : Slots) (after : D) → IsAttempt g setup budgets t d old device result new after
     → HoldsJustLiveBlocks setup.properties first (g.held device) old
     → HoldsJustLiveBlocks setup.properties first (g.held after) new × (g.properties after ≡ g.properties device) × (length new ≡ length old)
-attempt_holds g setup d first t old below device result new after a h =
+attempt_holds g setup budgets d first t old below device result new after a h =
     let o = a.environment.asked in (
       ⊎_elim
           (λ (large : IsTooLarge setup old t d a.environment a.answer new).
           subst (λ ss. HoldsJustLiveBlocks setup.properties first (g.held after) ss) (sym large.same)
           (subst (λ k. HoldsJustLiveBlocks setup.properties first k old) (sym (ap g.held (untouched g setup d t o device after large.asked a.asked))) h))
-          (λ (within : IsWithinHeap setup old t d a.environment a.answer new).
-          allocates_holds memory_number (IsBlockEntry setup.properties) first (request_at setup t d) old below a.environment.host (asked_block o) a.answer new (g.held device) (g.held after)
+          (λ (within : IsWithinHeap setup budgets old t d a.environment a.answer new).
+          allocates_holds memory_number (IsBlockEntry setup.properties) first (request_at setup budgets t d) old below a.environment.host (asked_block o) a.answer new (g.held device) (g.held after)
           within.allocates (asked_holds g setup d t o device after within.asked_for a.asked) h)
           a.attempts,
       after_constant g setup d t o device after a.asked,
       ⊎_elim
           (λ (large : IsTooLarge setup old t d a.environment a.answer new). ap length large.same)
-          (λ (within : IsWithinHeap setup old t d a.environment a.answer new). ap length within.allocates.slots ∙ length-set old t within.allocates.left)
+          (λ (within : IsWithinHeap setup budgets old t d a.environment a.answer new). ap length within.allocates.slots ∙ length-set old t within.allocates.left)
           a.attempts,
     )

@@ -18,6 +18,7 @@ use Rattle.gpu_device.specs.declared.vulkan.device.VulkanDevice.{Ghosts}
 use Rattle.gpu_device.specs.declared.vulkan.types.DeviceMemory.{DeviceMemory}
 use Rattle.gpu_device.proofs.Maps.{get-insert_same, get-insert_other}
 use Rattle.gpu_device.proofs.Changes.{get-mapped_other, bytes-mapped, new_is_unmapped}
+use Rattle.gpu_memory_types.specs.Budgets.{Budgets, budget_at}
 use Rattle.gpu_vulkan.specs.Allocate.{IsTooLarge, IsWithinHeap, IsAttempt}
 use Rattle.gpu_memory_types.specs.Attempt.{Plan, NoHostMemory, SharedBlock, NewBlock, IsPlan, Refused, IsAfterResult, IsCarriedOut, type_asked}
 use Rattle.gpu_vulkan_blocks.specs.Suballocation.{Asked, Answer, IsAfter, asked_block, block_result, request_at, memory}
@@ -70,7 +71,7 @@ fresh_extents false size granularity = refl
 same_size : (xs more : List Extent) (n o size other : ℕ) → size ≡ other → OneMore xs more n o size → OneMore xs more n o other
 same_size xs more n o size other e one = subst (OneMore xs more n o) e one
 
-module _ {D : Type 0} (g : Ghosts D) (setup : Setup) (d : AllocationCreateDesc) (first : Held) (t : ℕ) (old : Slots) (below : t < length old) (sound : BlocksWellFormed setup.properties.granularity old) where
+module _ {D : Type 0} (g : Ghosts D) (setup : Setup) (budgets : Budgets) (d : AllocationCreateDesc) (first : Held) (t : ℕ) (old : Slots) (below : t < length old) (sound : BlocksWellFormed setup.properties.granularity old) where
   abbrev mapped : Bool
   mapped = is_mapped setup.properties t
 
@@ -160,8 +161,8 @@ module _ {D : Type 0} (g : Ghosts D) (setup : Setup) (d : AllocationCreateDesc) 
       (λ m ne. ap (λ (k : Held). get k m) asks.held ∙ get-mapped_other made n bytes m ne ∙ get-insert_other held n m (new_entry a.info) ne) sound_after before holds whole)
 
   planned_bytes : (plan : Plan DeviceMemory) (o : Option Asked) (host : Bool) (answer : Answer) (x : List (Option (Slot DeviceMemory))) (device after : D)
-      → IsPlan (request_at setup t d) (type_asked (request_at setup t d) old) host plan
-      → IsCarriedOut (total_capacity old) (slots_at old t) plan (asked_block o) answer x
+      → IsPlan (request_at setup budgets t d) (type_asked (request_at setup budgets t d) old) host plan
+      → IsCarriedOut (total_capacity old) (budget_at budgets t) (slots_at old t) plan (asked_block o) answer x
       → IsAfter g device mapped o after
       → BlocksWellFormed setup.properties.granularity (slice_set old t x) → HoldsJustLiveBlocks setup.properties first (g.held device) old → HoldsJustLiveBlocks setup.properties first (g.held after) (slice_set old t x) → ((m : ℕ) → IsWhole (get (g.held after) m))
       → BytesAfter mapped t o answer (byte_view_of (g.held device) old) (byte_view_of (g.held after) (slice_set old t x))
@@ -180,19 +181,19 @@ module _ {D : Type 0} (g : Ghosts D) (setup : Setup) (d : AllocationCreateDesc) 
       (subst (λ k. HoldsJustLiveBlocks setup.properties first k (slice_set old t x)) (ap g.held asked) holds))
       (subst (λ (k : Held). (m : ℕ) → IsWhole (get k m)) (ap g.held asked) whole))))
   planned_bytes (NewBlock size own ready) None host answer x device after plan comes asked sound_after before holds whole =
-      same_bytes None _ answer x (g.held device) (g.held after) comes.1 comes.2 (ap g.held asked) (λ b e. e)
+      same_bytes None _ answer x (g.held device) (g.held after) comes.2 comes.3 (ap g.held asked) (λ b e. e)
   planned_bytes (NewBlock size own ready) (Some a) host answer x device after plan comes asked sound_after before holds whole =
       settled_bytes own size ready _ a answer x device after plan.1.takes plan.1.piece a.answer refl comes.2 asked sound_after before holds whole
 
   -- an attempt changes the bytes as its answer says
-  pub attempt_bytes : (device : D) (result : Result Allocation AllocationError) (new : Slots) (after : D) → (a : IsAttempt g setup t d old device result new after)
+  pub attempt_bytes : (device : D) (result : Result Allocation AllocationError) (new : Slots) (after : D) → (a : IsAttempt g setup budgets t d old device result new after)
       → BlocksWellFormed setup.properties.granularity new → HoldsJustLiveBlocks setup.properties first (g.held device) old → ((m : ℕ) → IsWhole (get (g.held after) m))
       → BytesAfter mapped t a.environment.asked a.answer (byte_view_of (g.held device) old) (byte_view_of (g.held after) new)
   attempt_bytes device result new after a sound_after before whole =
-      let holds = (attempt_holds g setup d first t old below device result new after a before).0 in
+      let holds = (attempt_holds g setup budgets d first t old below device result new after a before).0 in
       ⊎_elim
       (λ (large : IsTooLarge setup old t d a.environment a.answer new). large_bytes large)
-      (λ (within : IsWithinHeap setup old t d a.environment a.answer new). within_bytes within holds)
+      (λ (within : IsWithinHeap setup budgets old t d a.environment a.answer new). within_bytes within holds)
       a.attempts
     where
       large_bytes : IsTooLarge setup old t d a.environment a.answer new → BytesAfter mapped t a.environment.asked a.answer (byte_view_of (g.held device) old) (byte_view_of (g.held after) new)
@@ -202,7 +203,7 @@ module _ {D : Type 0} (g : Ghosts D) (setup : Setup) (d : AllocationCreateDesc) 
           (subst (λ w. BytesAfter mapped t None w (byte_view_of (g.held device) old) (byte_view_of (g.held after) new)) (sym large.answer_is)
           (ap (λ k. byte_view_of k new) (ap g.held same) ∙ ap (byte_view_of (g.held device)) large.same))
 
-      within_bytes : IsWithinHeap setup old t d a.environment a.answer new → HoldsJustLiveBlocks setup.properties first (g.held after) new
+      within_bytes : IsWithinHeap setup budgets old t d a.environment a.answer new → HoldsJustLiveBlocks setup.properties first (g.held after) new
           → BytesAfter mapped t a.environment.asked a.answer (byte_view_of (g.held device) old) (byte_view_of (g.held after) new)
       within_bytes within holds =
           let at = within.allocates in

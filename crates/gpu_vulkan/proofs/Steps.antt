@@ -7,6 +7,7 @@ use Rattle.gpu_values.specs.declared.error.AllocationError.{AllocationError}
 use Rattle.gpu_device.specs.Held.{Held, IsWhole}
 use Rattle.gpu_device.specs.declared.vulkan.device.VulkanDevice.{Ghosts}
 use Rattle.gpu_device.specs.declared.vulkan.types.DeviceMemory.{DeviceMemory}
+use Rattle.gpu_memory_types.specs.Budgets.{Budgets}
 use Rattle.gpu_vulkan.specs.Allocate.{Attempts, IsTooLarge, IsWithinHeap, IsAttempt, Answers, IsServed, IsFollowed, is_valid, next_after, next_type}
 use Rattle.gpu_memory_types.specs.Attempt.{Gave, Refused}
 use Rattle.gpu_memory_types.proofs.OneOutcome.{refused_same as unchanged}
@@ -38,11 +39,11 @@ named g mapped (Some a) device after is = is.latest
 
 -- ---- a refused attempt leaves the slots
 
-pub refused_same : (setup : Setup) (old : Slots) (t : ℕ) (d : AllocationCreateDesc) (o : AttemptEnvironment) (r : Refusal) (new : Slots) → Attempts setup old t d o (Refused r) new → new ≡ old
-refused_same setup old t d o r new a =
+pub refused_same : (setup : Setup) (budgets : Budgets) (old : Slots) (t : ℕ) (d : AllocationCreateDesc) (o : AttemptEnvironment) (r : Refusal) (new : Slots) → Attempts setup budgets old t d o (Refused r) new → new ≡ old
+refused_same setup budgets old t d o r new a =
     ⊎_elim
     (λ (large : IsTooLarge setup old t d o (Refused r) new). large.same)
-    (λ (within : IsWithinHeap setup old t d o (Refused r) new). unchanged (request_at setup t d) old o.host (asked_block o.asked) r new within.allocates)
+    (λ (within : IsWithinHeap setup budgets old t d o (Refused r) new). unchanged (request_at setup budgets t d) old o.host (asked_block o.asked) r new within.allocates)
     a
 
 -- ---- what the caller gets
@@ -63,19 +64,19 @@ pub none_next : (setup : Setup) (d : AllocationCreateDesc) (u : ℕ) (p : Piece 
 none_next setup d u p e = cc
 
 -- a second attempt begins where a refused one left everything
-pub mid_is_old : (setup : Setup) (d : AllocationCreateDesc) (t u : ℕ) (old : Slots) (o : AttemptEnvironment) (answer : Answer) (mid : Slots) → next_by setup d answer ≡ Some u → Attempts setup old t d o answer mid → mid ≡ old
-mid_is_old setup d t u old o (Gave p) mid is a = absurd (none_next setup d u p is)
-mid_is_old setup d t u old o (Refused r) mid is a = refused_same setup old t d o r mid a
+pub mid_is_old : (setup : Setup) (budgets : Budgets) (d : AllocationCreateDesc) (t u : ℕ) (old : Slots) (o : AttemptEnvironment) (answer : Answer) (mid : Slots) → next_by setup d answer ≡ Some u → Attempts setup budgets old t d o answer mid → mid ≡ old
+mid_is_old setup budgets d t u old o (Gave p) mid is a = absurd (none_next setup d u p is)
+mid_is_old setup budgets d t u old o (Refused r) mid is a = refused_same setup budgets old t d o r mid a
 
-module _ {D : Type 0} (g : Ghosts D) (whole : (x : D) (n : ℕ) → IsWhole (get (g.held x) n)) (setup : Setup) (d : AllocationCreateDesc) (first : Held) where
+module _ {D : Type 0} (g : Ghosts D) (whole : (x : D) (n : ℕ) → IsWhole (get (g.held x) n)) (setup : Setup) (budgets : Budgets) (d : AllocationCreateDesc) (first : Held) where
   abbrev at : D → Slots → ModelState
-  at device slots = record { slots = slots; byte_view = byte_view_of (g.held device) slots }
+  at device slots = record { slots = slots; budgets = budgets; byte_view = byte_view_of (g.held device) slots }
 
   attempt_step : (t : ℕ) (old : Slots) (device : D) (result : Result Allocation AllocationError) (new : Slots) (after : D) → t < length old
       → BlocksWellFormed setup.properties.granularity old → BlocksWellFormed setup.properties.granularity new → HoldsJustLiveBlocks setup.properties first (g.held device) old
-      → (a : IsAttempt g setup t d old device result new after) → AttemptStep setup t d a.environment a.answer (at device old) (at after new)
+      → (a : IsAttempt g setup budgets t d old device result new after) → AttemptStep setup t d a.environment a.answer (at device old) (at after new)
   attempt_step t old device result new after below sound sound_after before a =
-      record { slots = a.attempts; bytes = attempt_bytes g setup d first t old below sound device result new after a sound_after before (whole after) }
+      record { slots = a.attempts; budgets = refl; bytes = attempt_bytes g setup budgets d first t old below sound device result new after a sound_after before (whole after) }
 
   pub record Served (t : ℕ) (old : Slots) (device : D) (result : Result Allocation AllocationError) (new : Slots) (after : D) : Type 0 where
     pub environment : CallEnvironment
@@ -86,11 +87,11 @@ module _ {D : Type 0} (g : Ghosts D) (whole : (x : D) (n : ℕ) → IsWhole (get
     pub replies : Replies setup d result reply
 
   module _ (t : ℕ) (old : Slots) (device : D) (result : Result Allocation AllocationError) (new : Slots) (after : D) (below : t < length old) (long : length old ≡ length setup.properties.types)
-      (sound : BlocksWellFormed setup.properties.granularity old) (sound_after : BlocksWellFormed setup.properties.granularity new) (before : HoldsJustLiveBlocks setup.properties first (g.held device) old) (s : IsServed g setup t d old device result new after) where
-    abbrev one : IsAttempt g setup t d old device s.first s.mid s.between
+      (sound : BlocksWellFormed setup.properties.granularity old) (sound_after : BlocksWellFormed setup.properties.granularity new) (before : HoldsJustLiveBlocks setup.properties first (g.held device) old) (s : IsServed g setup budgets t d old device result new after) where
+    abbrev one : IsAttempt g setup budgets t d old device s.first s.mid s.between
     one = s.attempt
 
-    served_by : (o : Option ℕ) → next_after setup d s.first ≡ o → IsFollowed g setup d o s.mid s.between s.first result new after → Served t old device result new after
+    served_by : (o : Option ℕ) → next_after setup d s.first ≡ o → IsFollowed g setup budgets d o s.mid s.between s.first result new after → Served t old device result new after
     served_by None is f =
         let sound_mid : BlocksWellFormed setup.properties.granularity s.mid = subst (BlocksWellFormed setup.properties.granularity) f.1 sound_after in
         let here = attempt_step t old device s.first s.mid s.between below sound sound_mid before one in
@@ -111,9 +112,9 @@ module _ {D : Type 0} (g : Ghosts D) (whole : (x : D) (n : ℕ) → IsWhole (get
         }
     served_by (Some u) is two =
         let next : next_by setup d one.answer ≡ Some u = sym (next_same setup t d s.first one.answer one.answers) ∙ is in
-        let sound_mid : BlocksWellFormed setup.properties.granularity s.mid = subst (BlocksWellFormed setup.properties.granularity) (sym (mid_is_old setup d t u old one.environment one.answer s.mid next one.attempts)) sound in
+        let sound_mid : BlocksWellFormed setup.properties.granularity s.mid = subst (BlocksWellFormed setup.properties.granularity) (sym (mid_is_old setup budgets d t u old one.environment one.answer s.mid next one.attempts)) sound in
         let here = attempt_step t old device s.first s.mid s.between below sound sound_mid before one in
-        let mid = attempt_holds g setup d first t old below device s.first s.mid s.between one before in
+        let mid = attempt_holds g setup budgets d first t old below device s.first s.mid s.between one before in
         let inside = next_below setup d s.first u is in
         let there = attempt_step u s.mid s.between result new after (omega (arith, inside, mid.2, long)) sound_mid sound_after mid.0 two in
         record {
@@ -134,17 +135,22 @@ module _ {D : Type 0} (g : Ghosts D) (whole : (x : D) (n : ℕ) → IsWhole (get
     served = served_by (next_after setup d s.first) refl s.followed
 
   -- an allocation that was served is a step
-  pub served_step : (t : ℕ) (old new : State D) (result : Result Allocation AllocationError) → old.setup ≡ setup
+  pub served_step : (t : ℕ) (old new : State D) (result : Result Allocation AllocationError) → old.setup ≡ setup → old.budgets ≡ budgets → new.budgets ≡ budgets
       → best_type setup.properties.types d.requirements.memory_type_bits d.location ≡ Some t → is_valid d ≡ true
       → Served t old.slots old.device result new.slots new.device → IsAllocateStep g d result old new
-  served_step t old new result is found valid s =
+  served_step t old new result is before after found valid s =
+      let With : Budgets → Budgets → Type 0 =
+      λ a b. ServeStep setup t d s.environment s.reply (record { slots = old.slots; budgets = a; byte_view = byte_view_of (g.held old.device) old.slots })
+      (record { slots = new.slots; budgets = b; byte_view = byte_view_of (g.held new.device) new.slots }) in
+      let step : ServeStep setup t d s.environment s.reply (model_of g old) (model_of g new) =
+      subst (λ b. With old.budgets b) (sym after) (subst (λ b. With b budgets) (sym before) s.step) in
       record {
         reply = s.reply;
         step = record {
           environment = s.environment;
           step = subst (λ (k : Setup). AllocateStep k d (is_valid d) s.environment s.reply (model_of g old) (model_of g new)) (sym is)
               (subst (λ v. AllocateStep setup d v s.environment s.reply (model_of g old) (model_of g new)) (sym valid)
-              (subst (λ o. FoundStep setup d o s.environment s.reply (model_of g old) (model_of g new)) (sym found) s.step));
+              (subst (λ o. FoundStep setup d o s.environment s.reply (model_of g old) (model_of g new)) (sym found) step));
           count = s.count;
           latest = s.latest;
         };
@@ -157,12 +163,12 @@ refused_replies : (setup : Setup) (d : AllocationCreateDesc) (result : Result Al
 refused_replies setup d (Ok a) r is = absurd (none_some r is)
 refused_replies setup d (Err e) r is = some_same (refusal_of e) r is
 
-module _ {D : Type 0} (g : Ghosts D) (d : AllocationCreateDesc) (old new : State D) (result : Result Allocation AllocationError) (device : new.device ≡ old.device) (slots : new.slots ≡ old.slots) where
+module _ {D : Type 0} (g : Ghosts D) (d : AllocationCreateDesc) (old new : State D) (result : Result Allocation AllocationError) (device : new.device ≡ old.device) (slots : new.slots ≡ old.slots) (budgets : new.budgets ≡ old.budgets) where
   refused_with : (r : Refusal) → RefuseStep r (record { first = nothing_met; second = nothing_met }) (Fails r) (model_of g old) (model_of g new)
   refused_with r = record {
     met = (refl, refl);
     reply_is = refl;
-    same = λ i. record { slots = slots i; byte_view = byte_view_of (g.held (device i)) (slots i) };
+    same = λ i. record { slots = slots i; budgets = budgets i; byte_view = byte_view_of (g.held (device i)) (slots i) };
   }
 
   refused_by : (r : Refusal) → refusal_in result ≡ Some r

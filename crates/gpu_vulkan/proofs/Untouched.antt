@@ -10,6 +10,7 @@ use Rattle.gpu_device.specs.Held.{Held, Entry, new_entry}
 use Rattle.gpu_device.specs.declared.vulkan.device.VulkanDevice.{Ghosts}
 use Rattle.gpu_device.specs.declared.vulkan.types.DeviceMemory.{DeviceMemory}
 use Rattle.gpu_device.specs.declared.vulkan.types.MemoryAllocateInfo.{MemoryAllocateInfo}
+use Rattle.gpu_memory_types.specs.Budgets.{Budgets}
 use Rattle.gpu_vulkan.specs.Allocate.{IsAttempt, IsFollowed, IsFound, AllocatesBy, Allocates, is_valid}
 use Rattle.gpu_vulkan_blocks.specs.Suballocation.{Asked, IsAfter}
 use Rattle.gpu_vulkan_blocks.specs.BlockAnswer.{BlockAnswer, Declined, Granted, Mapped, NotMapped, IsNew, answer_number, held_after}
@@ -59,29 +60,29 @@ module _ {D : Type 0} (g : Ghosts D) where
   asked_leaves mapped None device after is = same_held (g.held device) (g.held after) (ap g.held is)
   asked_leaves mapped (Some a) device after is = subst (λ (h : Held). StayHeld (g.held device) h) (sym is.held) (added (g.held device) a.info a.answer is.number)
 
-  attempt_leaves : (setup : Setup) (t : ℕ) (d : AllocationCreateDesc) (old : Slots) (device : D) (result : Result Allocation AllocationError) (new : Slots) (after : D)
-      → IsAttempt g setup t d old device result new after → StayHeld (g.held device) (g.held after)
-  attempt_leaves setup t d old device result new after a = asked_leaves (is_mapped setup.properties t) a.environment.asked device after a.asked
+  attempt_leaves : (setup : Setup) (budgets : Budgets) (t : ℕ) (d : AllocationCreateDesc) (old : Slots) (device : D) (result : Result Allocation AllocationError) (new : Slots) (after : D)
+      → IsAttempt g setup budgets t d old device result new after → StayHeld (g.held device) (g.held after)
+  attempt_leaves setup budgets t d old device result new after a = asked_leaves (is_mapped setup.properties t) a.environment.asked device after a.asked
 
-  followed_leaves : (setup : Setup) (d : AllocationCreateDesc) (next : Option ℕ) (mid : Slots) (between : D) (first result : Result Allocation AllocationError) (new : Slots) (after : D)
-      → IsFollowed g setup d next mid between first result new after → StayHeld (g.held between) (g.held after)
-  followed_leaves setup d None mid between first result new after f = same_held (g.held between) (g.held after) (ap g.held f.2)
-  followed_leaves setup d (Some t) mid between first result new after f = attempt_leaves setup t d mid between result new after f
+  followed_leaves : (setup : Setup) (budgets : Budgets) (d : AllocationCreateDesc) (next : Option ℕ) (mid : Slots) (between : D) (first result : Result Allocation AllocationError) (new : Slots) (after : D)
+      → IsFollowed g setup budgets d next mid between first result new after → StayHeld (g.held between) (g.held after)
+  followed_leaves setup budgets d None mid between first result new after f = same_held (g.held between) (g.held after) (ap g.held f.2)
+  followed_leaves setup budgets d (Some t) mid between first result new after f = attempt_leaves setup budgets t d mid between result new after f
 
-  found_leaves : (setup : Setup) (d : AllocationCreateDesc) (found : Option ℕ) (old : Slots) (device : D) (result : Result Allocation AllocationError) (new : Slots) (after : D)
-      → IsFound g setup d found old device result new after → StayHeld (g.held device) (g.held after)
-  found_leaves setup d None old device result new after f = same_held (g.held device) (g.held after) (ap g.held f.device_is)
-  found_leaves setup d (Some t) old device result new after f = λ number x e.
-      followed_leaves setup d _ f.mid f.between f.first result new after f.followed number x (attempt_leaves setup t d old device f.first f.mid f.between f.attempt number x e)
+  found_leaves : (setup : Setup) (budgets : Budgets) (d : AllocationCreateDesc) (found : Option ℕ) (old : Slots) (device : D) (result : Result Allocation AllocationError) (new : Slots) (after : D)
+      → IsFound g setup budgets d found old device result new after → StayHeld (g.held device) (g.held after)
+  found_leaves setup budgets d None old device result new after f = same_held (g.held device) (g.held after) (ap g.held f.device_is)
+  found_leaves setup budgets d (Some t) old device result new after f = λ number x e.
+      followed_leaves setup budgets d _ f.mid f.between f.first result new after f.followed number x (attempt_leaves setup budgets t d old device f.first f.mid f.between f.attempt number x e)
 
-  valid_leaves : (setup : Setup) (d : AllocationCreateDesc) (valid : Bool) (old : Slots) (device : D) (result : Result Allocation AllocationError) (new : Slots) (after : D)
-      → AllocatesBy g setup d valid old device result new after → StayHeld (g.held device) (g.held after)
-  valid_leaves setup d false old device result new after f = same_held (g.held device) (g.held after) (ap g.held f.device_is)
-  valid_leaves setup d true old device result new after f = found_leaves setup d _ old device result new after f
+  valid_leaves : (setup : Setup) (budgets : Budgets) (d : AllocationCreateDesc) (valid : Bool) (old : Slots) (device : D) (result : Result Allocation AllocationError) (new : Slots) (after : D)
+      → AllocatesBy g setup budgets d valid old device result new after → StayHeld (g.held device) (g.held after)
+  valid_leaves setup budgets d false old device result new after f = same_held (g.held device) (g.held after) (ap g.held f.device_is)
+  valid_leaves setup budgets d true old device result new after f = found_leaves setup budgets d _ old device result new after f
 
-  pub allocate_leaves : (setup : Setup) (d : AllocationCreateDesc) (old new : Slots) (device after : D) (result : Result Allocation AllocationError)
-      → Allocates g setup d old device result new after → LeavesMemory (g.held device) (g.held after)
-  allocate_leaves setup d old new device after result f = leaves (g.held device) (g.held after) (valid_leaves setup d (is_valid d) old device result new after f)
+  pub allocate_leaves : (setup : Setup) (budgets : Budgets) (d : AllocationCreateDesc) (old new : Slots) (device after : D) (result : Result Allocation AllocationError)
+      → Allocates g setup budgets d old device result new after → LeavesMemory (g.held device) (g.held after)
+  allocate_leaves setup budgets d old new device after result f = leaves (g.held device) (g.held after) (valid_leaves setup budgets d (is_valid d) old device result new after f)
 
   given_back : (went : Option DeviceMemory) (device after : D) → GivesBack g device went after → LeavesMemory (g.held device) (g.held after)
   given_back None device after is = same_leaves (g.held device) (g.held after) (ap g.held is)

@@ -1,12 +1,13 @@
 -- An allocation: which memory types are asked, and what each attempt comes to.
 use Rattle.std.specs.Prelude.{◌≡◌, ℕ, ◌<◌, ◌≤◌, ◌⊎◌, ◌==◌, ◌&&◌, not, Bool, true, false, if◌then◌else◌, Option, Some, None, Result, Ok, Err}
 use Rattle.std.specs.Int.{is_power_of_two}
-use Rattle.gpu_core.specs.Refusal.{Refusal, refusal_of, refusal_in, out_of_memory, failed_to_map, no_compatible_memory_type_found, invalid_allocation_create_desc, invalid_allocator_create_desc, internal, barrier_layout_needs_device10, castable_formats_requires_enhanced_barriers, castable_formats_requires_at_least_device12, host_out_of_memory}
+use Rattle.gpu_core.specs.Refusal.{Refusal, refusal_of, refusal_in, out_of_memory, failed_to_map, no_compatible_memory_type_found, invalid_allocation_create_desc, invalid_allocator_create_desc, internal, barrier_layout_needs_device10, castable_formats_requires_enhanced_barriers, castable_formats_requires_at_least_device12, host_out_of_memory, budget_exceeded}
 use Rattle.gpu_values.specs.declared.memory_location.MemoryLocation.{MemoryLocation}
 use Rattle.gpu_values.specs.declared.memory_location.MemoryLocation.TheVariants.{Unknown, GpuOnly, CpuToGpu, GpuToCpu}
 use Rattle.gpu_values.specs.declared.error.AllocationError.{AllocationError}
 use Rattle.gpu_device.specs.declared.vulkan.device.VulkanDevice.{Ghosts}
 use Rattle.gpu_memory_types.specs.Attempt.{AllocatesInType, Gave, Refused}
+use Rattle.gpu_memory_types.specs.Budgets.{Budgets}
 use Rattle.gpu_vulkan_blocks.specs.Suballocation.{AttemptEnvironment, Answer, asked_block, request_at, IsAskedFor, IsAfter}
 use Rattle.gpu_vulkan_setup.specs.Types.{is_mapped, heap_size}
 use Rattle.gpu_vulkan_blocks.specs.Blocks.{Slots}
@@ -24,14 +25,14 @@ pub record IsTooLarge (setup : Setup) (old : Slots) (t : ℕ) (d : AllocationCre
   pub same : new ≡ old
 
 -- the request is within its heap, and its memory type allocates it or refuses it
-pub record IsWithinHeap (setup : Setup) (old : Slots) (t : ℕ) (d : AllocationCreateDesc) (o : AttemptEnvironment) (answer : Answer) (new : Slots) : Type 0 where
+pub record IsWithinHeap (setup : Setup) (budgets : Budgets) (old : Slots) (t : ℕ) (d : AllocationCreateDesc) (o : AttemptEnvironment) (answer : Answer) (new : Slots) : Type 0 where
   pub below : d.requirements.size ≤ heap_size setup.properties t
-  pub allocates : AllocatesInType (request_at setup t d) old o.host (asked_block o.asked) answer new
+  pub allocates : AllocatesInType (request_at setup budgets t d) old o.host (asked_block o.asked) answer new
   pub asked_for : IsAskedFor setup t d o.asked
 
 -- an attempt at the t-th memory type
-abbrev pub Attempts : Setup → Slots → (t : ℕ) → AllocationCreateDesc → AttemptEnvironment → Answer → Slots → Type 0
-Attempts setup old t d o answer new = IsTooLarge setup old t d o answer new ⊎ IsWithinHeap setup old t d o answer new
+abbrev pub Attempts : Setup → Budgets → Slots → (t : ℕ) → AllocationCreateDesc → AttemptEnvironment → Answer → Slots → Type 0
+Attempts setup budgets old t d o answer new = IsTooLarge setup old t d o answer new ⊎ IsWithinHeap setup budgets old t d o answer new
 
 -- ---- over a device
 
@@ -43,10 +44,10 @@ Answers setup t d (Err e) (Gave p) = ⊥
 Answers setup t d (Err e) (Refused r) = refusal_of e ≡ r
 
 -- an attempt over a device
-pub record IsAttempt {D : Type 0} (g : Ghosts D) (setup : Setup) (t : ℕ) (d : AllocationCreateDesc) (old : Slots) (device : D) (result : Result Allocation AllocationError) (new : Slots) (after : D) : Type 0 where
+pub record IsAttempt {D : Type 0} (g : Ghosts D) (setup : Setup) (budgets : Budgets) (t : ℕ) (d : AllocationCreateDesc) (old : Slots) (device : D) (result : Result Allocation AllocationError) (new : Slots) (after : D) : Type 0 where
   pub environment : AttemptEnvironment
   pub answer : Answer
-  pub attempts : Attempts setup old t d environment answer new
+  pub attempts : Attempts setup budgets old t d environment answer new
   pub asked : IsAfter g device (is_mapped setup.properties t) environment.asked after
   pub answers : Answers setup t d result answer
 
@@ -64,6 +65,7 @@ is_short (internal text code) = false
 is_short barrier_layout_needs_device10 = false
 is_short castable_formats_requires_enhanced_barriers = false
 is_short castable_formats_requires_at_least_device12 = false
+is_short budget_exceeded = false
 
 abbrev pub is_for_upload : MemoryLocation → Bool
 is_for_upload Unknown = false
@@ -81,17 +83,17 @@ next_after setup d (Ok a) = None
 next_after setup d (Err e) = next_type setup d (refusal_of e)
 
 -- the second attempt, where there is one, answers
-abbrev pub IsFollowed : {D : Type 0} → Ghosts D → Setup → AllocationCreateDesc → Option ℕ → (mid : Slots) → (between : D) → (first result : Result Allocation AllocationError) → (new : Slots) → (after : D) → Type 0
-IsFollowed g setup d None mid between first result new after = (result ≡ first) × (new ≡ mid) × (after ≡ between)
-IsFollowed g setup d (Some t) mid between first result new after = IsAttempt g setup t d mid between result new after
+abbrev pub IsFollowed : {D : Type 0} → Ghosts D → Setup → Budgets → AllocationCreateDesc → Option ℕ → (mid : Slots) → (between : D) → (first result : Result Allocation AllocationError) → (new : Slots) → (after : D) → Type 0
+IsFollowed g setup budgets d None mid between first result new after = (result ≡ first) × (new ≡ mid) × (after ≡ between)
+IsFollowed g setup budgets d (Some t) mid between first result new after = IsAttempt g setup budgets t d mid between result new after
 
 -- the attempts that begin at the t-th memory type
-pub record IsServed {D : Type 0} (g : Ghosts D) (setup : Setup) (t : ℕ) (d : AllocationCreateDesc) (old : Slots) (device : D) (result : Result Allocation AllocationError) (new : Slots) (after : D) : Type 0 where
+pub record IsServed {D : Type 0} (g : Ghosts D) (setup : Setup) (budgets : Budgets) (t : ℕ) (d : AllocationCreateDesc) (old : Slots) (device : D) (result : Result Allocation AllocationError) (new : Slots) (after : D) : Type 0 where
   pub first : Result Allocation AllocationError
   pub mid : Slots
   pub between : D
-  pub attempt : IsAttempt g setup t d old device first mid between
-  pub followed : IsFollowed g setup d (next_after setup d first) mid between first result new after
+  pub attempt : IsAttempt g setup budgets t d old device first mid between
+  pub followed : IsFollowed g setup budgets d (next_after setup d first) mid between first result new after
 
 -- a refusal before anything is taken or asked
 pub record IsRefused {D : Type 0} (refusal : Refusal) (old : Slots) (device : D) (result : Result Allocation AllocationError) (new : Slots) (after : D) : Type 0 where
@@ -104,15 +106,15 @@ abbrev pub is_valid : AllocationCreateDesc → Bool
 is_valid d = not (d.requirements.size == 0) && is_power_of_two d.requirements.alignment
 
 -- an allocation in the memory type that suits, if one does
-abbrev pub IsFound : {D : Type 0} → Ghosts D → Setup → AllocationCreateDesc → Option ℕ → Slots → D → Result Allocation AllocationError → Slots → D → Type 0
-IsFound g setup d None old device result new after = IsRefused no_compatible_memory_type_found old device result new after
-IsFound g setup d (Some t) old device result new after = IsServed g setup t d old device result new after
+abbrev pub IsFound : {D : Type 0} → Ghosts D → Setup → Budgets → AllocationCreateDesc → Option ℕ → Slots → D → Result Allocation AllocationError → Slots → D → Type 0
+IsFound g setup budgets d None old device result new after = IsRefused no_compatible_memory_type_found old device result new after
+IsFound g setup budgets d (Some t) old device result new after = IsServed g setup budgets t d old device result new after
 
 -- what an allocation comes to, where the description is valid or isn't
-abbrev pub AllocatesBy : {D : Type 0} → Ghosts D → Setup → AllocationCreateDesc → (valid : Bool) → Slots → D → Result Allocation AllocationError → Slots → D → Type 0
-AllocatesBy g setup d false old device result new after = IsRefused invalid_allocation_create_desc old device result new after
-AllocatesBy g setup d true old device result new after =
-    IsFound g setup d (best_type setup.properties.types d.requirements.memory_type_bits d.location) old device result new after
+abbrev pub AllocatesBy : {D : Type 0} → Ghosts D → Setup → Budgets → AllocationCreateDesc → (valid : Bool) → Slots → D → Result Allocation AllocationError → Slots → D → Type 0
+AllocatesBy g setup budgets d false old device result new after = IsRefused invalid_allocation_create_desc old device result new after
+AllocatesBy g setup budgets d true old device result new after =
+    IsFound g setup budgets d (best_type setup.properties.types d.requirements.memory_type_bits d.location) old device result new after
 
-abbrev pub Allocates : {D : Type 0} → Ghosts D → Setup → AllocationCreateDesc → Slots → D → Result Allocation AllocationError → Slots → D → Type 0
-Allocates g setup d old device result new after = AllocatesBy g setup d (is_valid d) old device result new after
+abbrev pub Allocates : {D : Type 0} → Ghosts D → Setup → Budgets → AllocationCreateDesc → Slots → D → Result Allocation AllocationError → Slots → D → Type 0
+Allocates g setup budgets d old device result new after = AllocatesBy g setup budgets d (is_valid d) old device result new after

@@ -5,6 +5,7 @@ pub mod Free
 pub mod Lends
 pub mod ByteView
 pub mod Step
+pub mod Budgets
 pub mod Apart
 pub mod Rename
 pub mod EqualButBytes

@@ -27,6 +27,7 @@ use Rattle.gpu_vulkan_setup.specs.Choice.{best_type}
 use Rattle.gpu_vulkan.specs.Lends.{number_in}
 use Rattle.gpu_vulkan_blocks.specs.Release.{is_same_memory, IsLiveIn}
 use Rattle.gpu_vulkan.specs.Live.{piece_of, IsGiven, IsMapped}
+use Rattle.gpu_memory_types.specs.Budgets.{Budgets, budget_at, SetsBudget}
 use Rattle.gpu_memory_types.specs.Leaks.{all_leaks}
 use Rattle.gpu_memory_types.specs.Rename.{IsRenamed}
 use Rattle.gpu_memory_types.specs.Reports.{whole_report}
@@ -35,13 +36,14 @@ use Rattle.gpu_vulkan.specs.State.{State}
 use Rattle.gpu_vulkan.specs.declared.allocation.Allocation.{Allocation}
 use Rattle.gpu_vulkan_setup.specs.declared.describe.AllocationCreateDesc.{AllocationCreateDesc}
 
--- the blocks with their pieces, and the bytes
+-- the blocks with their pieces, the budgets of memory types, and the bytes
 pub record ModelState : Type 0 where
   pub slots : Slots
+  pub budgets : Budgets
   pub byte_view : ByteView
 
 abbrev pub model_of : {D : Type 0} → Ghosts D → State D → ModelState
-model_of g s = record { slots = s.slots; byte_view = byte_view_of (g.held s.device) s.slots }
+model_of g s = record { slots = s.slots; budgets = s.budgets; byte_view = byte_view_of (g.held s.device) s.slots }
 
 pub data Call : Type 0 where
   Allocate : (d : AllocationCreateDesc) → Call
@@ -52,6 +54,8 @@ pub data Call : Type 0 where
   Capacity : Call
   Report : Call
   Leaks : Call
+  SetBudget : (t : ℕ) (budget : Option ℕ) → Call
+  Budget : (t : ℕ) → Call
 
 pub data Reply : Type 0 where
   -- a piece of the t-th memory type
@@ -63,6 +67,8 @@ pub data Reply : Type 0 where
   Sum : (bytes : ℕ) → Reply
   Shows : (report : reports.Report) → Reply
   Tells : (texts : List (List ℕ)) → Reply
+  -- a memory type's budget, None where it has none
+  Budgeted : (budget : Option ℕ) → Reply
 
 -- what a call meets with at its attempts; only an allocation for an upload may make a second one
 pub record CallEnvironment : Type 0 where
@@ -96,7 +102,8 @@ BytesAfter mapped t (Some a) (Gave p) old new =
     (mid : ByteView) × AddsBlock t p.slot (answer_bytes a.answer) old mid × TakesOut mapped (id_in t p) p.offset p.size mid new
 
 pub record AttemptStep (setup : Setup) (t : ℕ) (d : AllocationCreateDesc) (o : AttemptEnvironment) (answer : Answer) (old new : ModelState) : Type 0 where
-  pub slots : Attempts setup old.slots t d o answer new.slots
+  pub slots : Attempts setup old.budgets old.slots t d o answer new.slots
+  pub budgets : new.budgets ≡ old.budgets
   pub bytes : BytesAfter (is_mapped setup.properties t) t o.asked answer old.byte_view new.byte_view
 
 abbrev pub reply_of : (t : ℕ) → Answer → Reply
@@ -148,6 +155,7 @@ pub record ReleaseStep (t : ℕ) (p : Piece DeviceMemory) (old new : ModelState)
   pub mid : ByteView
   pub back : PutsBack (id_in t p) p.offset p.size old.byte_view mid
   pub drops : MayDrop t p.slot went mid new.byte_view
+  pub budgets : new.budgets ≡ old.budgets
 
 abbrev pub FreeStep : (t : ℕ) → Option (Piece DeviceMemory) → Reply → ModelState → ModelState → Type 0
 FreeStep t None Done old new = new ≡ old
@@ -162,7 +170,7 @@ FreeStep t p _ old new = ⊥
 abbrev pub RenameStep : (t : ℕ) → Option (Piece DeviceMemory) → (name : List ℕ) → (host : Bool) → Reply → ModelState → ModelState → Type 0
 RenameStep t None name host Done old new = (host ≡ true) × (new ≡ old)
 RenameStep t None name host (Fails r) old new = (host ≡ false) × (r ≡ host_out_of_memory) × (new ≡ old)
-RenameStep t (Some p) name host Done old new = (host ≡ true) × IsRenamed is_same_memory t p name old.slots new.slots × (new.byte_view ≡ old.byte_view)
+RenameStep t (Some p) name host Done old new = (host ≡ true) × IsRenamed is_same_memory t p name old.slots new.slots × (new.byte_view ≡ old.byte_view) × (new.budgets ≡ old.budgets)
 RenameStep t (Some p) name host (Fails r) old new =
     (((host ≡ false) × IsLiveIn old.slots t (Some p) × (r ≡ host_out_of_memory))
     ⊎ ((IsLiveIn old.slots t (Some p) → ⊥) × (r ≢ host_out_of_memory) × IsNameRefusal is_same_memory p (slot_at (slots_at old.slots t) p.slot) r))
@@ -186,6 +194,14 @@ LeaksStep host (Tells texts) old new = (host ≡ true) × (texts ≡ map leak_te
 LeaksStep host (Fails r) old new = (host ≡ false) × (r ≡ host_out_of_memory) × (new ≡ old)
 LeaksStep host _ old new = ⊥
 
+-- ---- budgets
+
+-- a memory type's budget is set, or there is no such type and nothing changes
+abbrev pub SetBudgetStep : (t : ℕ) → (budget : Option ℕ) → Reply → ModelState → ModelState → Type 0
+SetBudgetStep t budget Done old new = SetsBudget t budget old.budgets None new.budgets × (new.slots ≡ old.slots) × (new.byte_view ≡ old.byte_view)
+SetBudgetStep t budget (Fails r) old new = SetsBudget t budget old.budgets (Some r) new.budgets × (new.slots ≡ old.slots) × (new.byte_view ≡ old.byte_view)
+SetBudgetStep t budget _ old new = ⊥
+
 -- ---- bytes
 
 abbrev pub id_of : Allocation → AllocationId
@@ -194,6 +210,7 @@ id_of a = record { memory_type = a.memory_type_index; slot = a.memory_block_inde
 pub record WriteStep (setup : Setup) (a : Allocation) (bytes : List ℕ) (old new : ModelState) : Type 0 where
   pub live : IsMapped setup.properties old.slots a
   pub slots : new.slots ≡ old.slots
+  pub budgets : new.budgets ≡ old.budgets
   pub writes : Writes (id_of a) bytes old.byte_view new.byte_view
 
 -- a live allocation in mapped memory reads as its list, and any other has no bytes
@@ -210,6 +227,8 @@ Step setup (Free a) o reply old new = MeetsNothing o × FreeStep a.memory_type_i
 Step setup (Rename a name) o reply old new = AsksNothing o × RenameStep a.memory_type_index (piece_of a) name o.first.host reply old new
 Step setup Report o reply old new = AsksNothing o × ReportStep o.first.host reply old new
 Step setup Leaks o reply old new = AsksNothing o × LeaksStep o.first.host reply old new
+Step setup (SetBudget t budget) o reply old new = MeetsNothing o × SetBudgetStep t budget reply old new
+Step setup (Budget t) o (Budgeted b) old new = MeetsNothing o × (b ≡ budget_at old.budgets t) × (new ≡ old)
 Step setup (Write a bytes) o Done old new = MeetsNothing o × WriteStep setup a bytes old new
 Step setup (Read a) o (Bytes xs) old new = MeetsNothing o × IsRead setup a old xs × (new ≡ old)
 Step setup Capacity o (Sum n) old new = MeetsNothing o × (n ≡ total_capacity old.slots) × (new ≡ old)
@@ -248,9 +267,9 @@ abbrev pub freed_as : Result (Unit {0}) (AllocationError × Allocation) → Repl
 freed_as (Ok _) = Done
 freed_as (Err e) = Fails (refusal_of e.0)
 
-abbrev pub renamed_as : Result (Unit {0}) AllocationError → Reply
-renamed_as (Ok _) = Done
-renamed_as (Err e) = Fails (refusal_of e)
+abbrev pub done_as : Result (Unit {0}) AllocationError → Reply
+done_as (Ok _) = Done
+done_as (Err e) = Fails (refusal_of e)
 
 abbrev pub shown_as : Result AllocatorReport AllocationError → Reply
 shown_as (Ok r) = Shows (report_of r)

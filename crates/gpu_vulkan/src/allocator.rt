@@ -2,7 +2,7 @@
 
 ghost use Rattle.std.specs.Prelude.{◌≡◌, ◌↔◌, [], All, map, string_bytes, Some, None, IfOk, IfErr, OnOk, IsSome, IfSome, IsTrue, List, ℕ, length, option_copied, ◌%◌};
 ghost use Rattle.std.specs.Option.{unwrap_or};
-ghost use Rattle.gpu_core.specs.Refusal.{refusal_of, host_out_of_memory};
+ghost use Rattle.gpu_core.specs.Refusal.{refusal_of, refusal_in, host_out_of_memory};
 ghost use Rattle.gpu_vulkan_setup.specs.Setup.{setup_fault};
 ghost use Rattle.gpu_memory_types.specs.Blocks.{total_capacity, BlocksWellFormed};
 ghost use Rattle.gpu_vulkan_blocks.specs.Blocks.{HoldsJustLiveBlocks};
@@ -11,9 +11,10 @@ ghost use Rattle.gpu_vulkan.specs.Free.{Frees};
 ghost use Rattle.gpu_vulkan.specs.Apart.{IsInside, SharesNoByte, KeepsPages};
 ghost use Rattle.gpu_vulkan.specs.Lends.{AreDistinct};
 ghost use Rattle.gpu_vulkan.specs.declared.allocation.Allocation.{Allocation};
-ghost use Rattle.gpu_vulkan.specs.Step.{IsStep, IsAllocateStep, Free, Rename, Write, Read, Capacity, Report, Leaks, Done, Bytes, Sum, freed_as, renamed_as, shown_as, told_as};
+ghost use Rattle.gpu_vulkan.specs.Step.{IsStep, IsAllocateStep, Free, Rename, Write, Read, Capacity, Report, Leaks, SetBudget, Budget, Done, Bytes, Sum, Budgeted, freed_as, done_as, shown_as, told_as};
 ghost use Rattle.gpu_vulkan.specs.Rename.{Renames, StayLive};
 ghost use Rattle.gpu_memory_types.specs.Reports.{whole_report};
+ghost use Rattle.gpu_memory_types.specs.Budgets.{budget_at, SetsBudget};
 ghost use Rattle.gpu_memory_types.specs.Leaks.{all_leaks};
 ghost use Rattle.gpu_core.specs.Leak.{leak_text};
 ghost use Rattle.gpu_core.specs.Report.{report_of};
@@ -49,12 +50,13 @@ pub struct Allocator<D: VulkanDevice> {
 impl<D: VulkanDevice> Model for Allocator<D> {
     ghost use Rattle.std.specs.Prelude.{◌≡◌};
     ghost use Rattle.gpu_vulkan.specs.State.{State, AllocatorInvariant};
+    ghost use Rattle.gpu_memory_types.specs.Budgets.{budgets};
     ghost use Rattle.gpu_memory_types.specs.Types.{slots_of, kinds, MemoryTypesInvariant};
     ghost use Rattle.gpu_vulkan_setup.specs.Types.{kinds_told};
 
     ghost Value = { State D };
 
-    ghost view = { λ a. record { device = a.device; first = a.first.value; setup = a.setup; slots = slots_of a.types } };
+    ghost view = { λ a. record { device = a.device; first = a.first.value; setup = a.setup; slots = slots_of a.types; budgets = budgets a.types } };
 
     ghost invariant = { λ a. (kinds a.types ≡ kinds_told a.setup.properties)
         × AllocatorInvariant (D.properties a.first.value) (D.properties a.device) (D.held a.first.value) (D.held a.device) a.setup (slots_of a.types)
@@ -79,6 +81,7 @@ impl<D: VulkanDevice> Allocator<D> {
         }) }
         ensures empty { IfOk result (λ a. All (λ slots. slots ≡ []) a.slots) }
         ensures types { IfOk result (λ a. length a.slots ≡ length (D.properties desc.device).types) }
+        ensures budgets { IfOk result (λ a. All (λ b. b ≡ None) a.budgets) }
         ensures valid { OnOk result (setup_fault desc.physical_device.0 (D.properties desc.device) ≡ None) }
         ensures refused { IfErr result (λ e. e.1 ≡ desc.device) }
         ensures cause { IfErr result (λ e. refusal_of e.0 ≡ unwrap_or (setup_fault desc.physical_device.0 (D.properties desc.device)) host_out_of_memory) }
@@ -116,8 +119,8 @@ impl<D: VulkanDevice> Allocator<D> {
 
     /// Takes a piece of device memory.
     pub fn allocate<L: Log>(&mut self, log: &L, desc: &AllocationCreateDesc) -> Result<Allocation>
-        ensures allocates { Allocates D.VulkanDevice self.old.setup desc.now self.old.slots self.old.device result self.new.slots self.new.device }
-        ensures constant { (self.new.first ≡ self.old.first) × (self.new.setup ≡ self.old.setup) }
+        ensures allocates { Allocates D.VulkanDevice self.old.setup self.old.budgets desc.now self.old.slots self.old.device result self.new.slots self.new.device }
+        ensures constant { (self.new.first ≡ self.old.first) × (self.new.setup ≡ self.old.setup) × (self.new.budgets ≡ self.old.budgets) }
         ensures step { IsAllocateStep D.VulkanDevice desc.now result self.old self.new }
         ensures aligned { IfOk result (λ a. a.offset % desc.now.requirements.alignment ≡ 0) }
         ensures keeps { StayLive self.old.slots self.new.slots }
@@ -147,6 +150,26 @@ impl<D: VulkanDevice> Allocator<D> {
         ensures step { IsStep D.VulkanDevice Capacity (Sum result) self.now self.now }
     {
         self.types.capacity()
+    }
+
+    /// Bounds the sum of the sizes of the blocks of a memory type, in bytes: a request that needs a new block beyond it is
+    /// refused with `BudgetExceeded`, or served by the second memory type of an upload. `None` takes the bound away; a budget
+    /// below the present sum gives no block back. `Internal` where there is no such memory type, and then nothing changes.
+    /// It takes no memory.
+    pub fn set_budget(&mut self, memory_type: usize, budget: Option<u64>) -> Result<()>
+        ensures budgets { SetsBudget memory_type budget self.old.budgets (refusal_in result) self.new.budgets }
+        ensures others { self.new ≡ record self.old { budgets = self.new.budgets } }
+        ensures step { IsStep D.VulkanDevice (SetBudget memory_type budget) (done_as result) self.old self.new }
+    {
+        self.types.set_budget(memory_type, budget)
+    }
+
+    /// The budget of a memory type, in bytes; `None` where it has none, or there is no such type.
+    pub fn budget(&self, memory_type: usize) -> Option<u64>
+        ensures budget { result ≡ budget_at self.now.budgets memory_type }
+        ensures step { IsStep D.VulkanDevice (Budget memory_type) (Budgeted result) self.now self.now }
+    {
+        self.types.budget(memory_type)
     }
 
     /// The device, lent. It holds what it held when it was handed in, and just the live blocks.
@@ -247,7 +270,7 @@ impl<D: VulkanDevice> Allocator<D> {
         allocation: Allocation,
     ) -> Result<(), (AllocationError, Allocation)>
         ensures frees { Frees D.VulkanDevice allocation self.old.slots self.old.device result self.new.slots self.new.device }
-        ensures constant { (self.new.first ≡ self.old.first) × (self.new.setup ≡ self.old.setup) }
+        ensures constant { (self.new.first ≡ self.old.first) × (self.new.setup ≡ self.old.setup) × (self.new.budgets ≡ self.old.budgets) }
         ensures step { IsStep D.VulkanDevice (Free allocation) (freed_as result) self.old self.new }
         ensures keeps { (b : Allocation) → IsLive self.old.slots b → AreDistinct b allocation → IsLive self.new.slots b }
     {
@@ -267,9 +290,9 @@ impl<D: VulkanDevice> Allocator<D> {
     /// both names are as they were.
     pub fn rename_allocation(&mut self, allocation: &mut Allocation, name: &str) -> Result<()>
         ensures renames { Renames allocation.old name.now self.old.slots result allocation.new self.new.slots }
-        ensures step { IsStep D.VulkanDevice (Rename allocation.old name.now) (renamed_as result) self.old self.new }
+        ensures step { IsStep D.VulkanDevice (Rename allocation.old name.now) (done_as result) self.old self.new }
         ensures live { StayLive self.old.slots self.new.slots }
-        ensures constant { (self.new.device ≡ self.old.device) × (self.new.first ≡ self.old.first) × (self.new.setup ≡ self.old.setup) }
+        ensures constant { (self.new.device ≡ self.old.device) × (self.new.first ≡ self.old.first) × (self.new.setup ≡ self.old.setup) × (self.new.budgets ≡ self.old.budgets) }
     {
         rename(self.alloc, &mut self.types, allocation, name)
     }

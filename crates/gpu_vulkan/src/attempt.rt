@@ -3,6 +3,7 @@
 ghost use Rattle.std.specs.Prelude.{◌≡◌, ◌<◌, length, Some, IfSome, IsTrue, string_bytes};
 ghost use Rattle.std.specs.Int.{is_power_of_two};
 ghost use Rattle.gpu_values.specs.Refusal.{refusal_of};
+ghost use Rattle.gpu_memory_types.specs.Budgets.{budgets};
 ghost use Rattle.gpu_memory_types.specs.Types.{slots_of, kinds, MemoryTypesInvariant};
 ghost use Rattle.gpu_vulkan_setup.specs.Types.{kinds_told};
 ghost use Rattle.gpu_vulkan_blocks.specs.Suballocation.{IsSuballocated};
@@ -59,8 +60,9 @@ pub fn allocate_in_type<D: VulkanDevice>(
     requires aligned { IsTrue (is_power_of_two desc.now.requirements.alignment) }
     requires there { index < length setup.now.properties.types }
     requires kinds { kinds types.old ≡ kinds_told setup.now.properties }
-    ensures attempts { IsAttempt D.VulkanDevice setup.now index desc.now (slots_of types.old) device.old result (slots_of types.new) device.new }
+    ensures attempts { IsAttempt D.VulkanDevice setup.now (budgets types.old) index desc.now (slots_of types.old) device.old result (slots_of types.new) device.new }
     ensures kinds { kinds types.new ≡ kinds types.old }
+    ensures budgets { budgets types.new ≡ budgets types.old }
     ensures kept { MemoryTypesInvariant types.old → MemoryTypesInvariant types.new }
 {
     if desc.requirements.size > setup.heap_size(index) {
@@ -104,8 +106,9 @@ pub fn allocate_with_fallback<D: VulkanDevice>(
     requires aligned { IsTrue (is_power_of_two desc.now.requirements.alignment) }
     requires there { index < length setup.now.properties.types }
     requires kinds { kinds types.old ≡ kinds_told setup.now.properties }
-    ensures served { IsServed D.VulkanDevice setup.now index desc.now (slots_of types.old) device.old result (slots_of types.new) device.new }
+    ensures served { IsServed D.VulkanDevice setup.now (budgets types.old) index desc.now (slots_of types.old) device.old result (slots_of types.new) device.new }
     ensures kinds { kinds types.new ≡ kinds types.old }
+    ensures budgets { budgets types.new ≡ budgets types.old }
     ensures kept { MemoryTypesInvariant types.old → MemoryTypesInvariant types.new }
 {
     match allocate_in_type(alloc, setup, device, types, desc, index) {

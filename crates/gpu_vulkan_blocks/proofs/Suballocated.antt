@@ -11,10 +11,12 @@ use Rattle.gpu_device.specs.declared.vulkan.device.VulkanDevice.{Ghosts}
 use Rattle.gpu_device.specs.declared.vulkan.types.DeviceMemory.{DeviceMemory}
 use Rattle.gpu_memory_types.specs.Attempt.{RequestAt, BlockResult, Allocated, NotAllocated, AllocatesInType, Answer, Gave, Refused}
 use Rattle.gpu_memory_types.specs.Requests.{PreparesAt, IsPrepareRefusal, InstallsAt}
+use Rattle.gpu_memory_types.specs.Budgets.{budgets}
 use Rattle.gpu_memory_types.specs.Types.{Types, slots_of, kinds, type_of}
 use Rattle.gpu_memory_types.proofs.Options.{none_some, some_same}
 use Rattle.gpu_memory_types.proofs.Prepared as prepares
 use Rattle.gpu_memory_types.proofs.Prepared.{starved}
+use Rattle.gpu_memory_types.proofs.Budgets.{budget_is}
 use Rattle.gpu_memory_types.proofs.Types.{type_there}
 use Rattle.gpu_vulkan_blocks.specs.Suballocation.{block_result, request_at, question, IsSuballocated}
 use Rattle.gpu_vulkan_blocks.specs.BlockAnswer.{BlockAnswer, Declined, Granted, Mapped, NotMapped, Asks, answer_number, answer_refusal}
@@ -48,15 +50,15 @@ module _ {D : Type 0} (g : Ghosts D) (setup : Setup) (i : ℕ) (d : AllocationCr
   ss = slots_of types
 
   -- the request as the code keeps its memory type is the one that the device's properties say
-  request_is : prepares.request_at i types setup.sizes r ≡ request_at setup i d
+  request_is : prepares.request_at i types setup.sizes r ≡ request_at setup (budgets types) i d
   request_is =
       let told = told_at setup.properties types i (type_of types i) same (type_there types i below) in
       let host = told.0 in
       let pages = told.1 in
-      λ j. record { memory_type = i; is_host = host j; granularity = pages j; sizes = setup.sizes; wants_own = own j; request = asks j }
+      λ j. record { memory_type = i; is_host = host j; granularity = pages j; budget = budget_is types i j; sizes = setup.sizes; wants_own = own j; request = asks j }
 
   pub host_refused : (e : AllocationError) (new : Types DeviceMemory) → IsPrepareRefusal i types setup.sizes r (refusal_of e) → slots_of new ≡ ss
-      → IsSuballocated g setup i d ss device (Err e) (slots_of new) device
+      → IsSuballocated g setup (budgets types) i d ss device (Err e) (slots_of new) device
   host_refused e new cause unchanged =
       let h = prepares.prepare_refused i types setup.sizes r below (refusal_of e) new cause unchanged in
       record {
@@ -66,7 +68,7 @@ module _ {D : Type 0} (g : Ghosts D) (setup : Setup) (i : ℕ) (d : AllocationCr
         asked = refl;
       }
 
-  pub shared_block_serves : (p : Piece DeviceMemory) (new : Types DeviceMemory) → PreparesAt i types setup.sizes r (prepared.Taken p) new → IsSuballocated g setup i d ss device (Ok p) (slots_of new) device
+  pub shared_block_serves : (p : Piece DeviceMemory) (new : Types DeviceMemory) → PreparesAt i types setup.sizes r (prepared.Taken p) new → IsSuballocated g setup (budgets types) i d ss device (Ok p) (slots_of new) device
   shared_block_serves p new h = record {
     environment = record { host = true; asked = None };
     allocates = subst (λ (q : RequestAt). AllocatesInType q ss true None (Gave p) (slots_of new)) request_is (prepares.shared_block_serves i types setup.sizes r below p new h);
@@ -77,14 +79,14 @@ module _ {D : Type 0} (g : Ghosts D) (setup : Setup) (i : ℕ) (d : AllocationCr
   -- the device was asked for a block of that size
   answered : (size : ℕ) (a : BlockAnswer) (b : BlockResult DeviceMemory) (answer : Answer DeviceMemory) (new : Slots) → block_result a ≡ b
       → AllocatesInType (prepares.request_at i types setup.sizes r) ss true (Some (record { size = size; result = b })) answer new
-      → AllocatesInType (request_at setup i d) ss true (Some (record { size = size; result = block_result a })) answer new
+      → AllocatesInType (request_at setup (budgets types) i d) ss true (Some (record { size = size; result = block_result a })) answer new
   answered size a b answer new is h =
-      subst (λ (c : BlockResult DeviceMemory). AllocatesInType (request_at setup i d) ss true (Some (record { size = size; result = c })) answer new) (sym is)
+      subst (λ (c : BlockResult DeviceMemory). AllocatesInType (request_at setup (budgets types) i d) ss true (Some (record { size = size; result = c })) answer new) (sym is)
       (subst (λ (q : RequestAt). AllocatesInType q ss true (Some (record { size = size; result = b })) answer new) request_is h)
 
   module _ (need : NeedBlock) (mid : Types DeviceMemory) (a : BlockAnswer) (after : D) (h : PreparesAt i types setup.sizes r (prepared.NeedBlock need) mid)
       (asks_it : Asks g device (question setup i d need.size) (is_mapped setup.properties i) a after) where
-    pub device_refused : (e : AllocationError) → answer_refusal a ≡ Some (refusal_of e) → IsSuballocated g setup i d ss device (Err e) (slots_of mid) after
+    pub device_refused : (e : AllocationError) → answer_refusal a ≡ Some (refusal_of e) → IsSuballocated g setup (budgets types) i d ss device (Err e) (slots_of mid) after
     device_refused e why = record {
       environment = record { host = true; asked = Some (record { info = question setup i d need.size; answer = a }) };
       allocates = answered need.size a (NotAllocated (refusal_of e)) (Refused (refusal_of e)) (slots_of mid) (refused_is a (refusal_of e) why)
@@ -94,7 +96,7 @@ module _ {D : Type 0} (g : Ghosts D) (setup : Setup) (i : ℕ) (d : AllocationCr
     }
 
     pub block_installed : (new : Types DeviceMemory) (m : DeviceMemory) (p : Piece DeviceMemory) → answer_number a ≡ Some m.0 → InstallsAt i (slots_of mid) need.dedicated need.room m p (slots_of new)
-        → IsSuballocated g setup i d ss device (Ok p) (slots_of new) after
+        → IsSuballocated g setup (budgets types) i d ss device (Ok p) (slots_of new) after
     block_installed new m p number made = record {
       environment = record { host = true; asked = Some (record { info = question setup i d need.size; answer = a }) };
       allocates = answered need.size a (Allocated m) (Gave p) (slots_of new) (granted_is a m number) (prepares.block_installed i types setup.sizes r below need mid h new m p made);

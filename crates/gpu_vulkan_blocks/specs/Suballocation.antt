@@ -8,6 +8,7 @@ use Rattle.gpu_device.specs.declared.vulkan.types.DeviceMemory.{DeviceMemory}
 use Rattle.gpu_device.specs.declared.vulkan.types.MemoryAllocateInfo.{MemoryAllocateInfo}
 use Rattle.gpu_memory_types.specs.Attempt as requests
 use Rattle.gpu_memory_types.specs.Attempt.{RequestAt, BlockResult, AskedBlock, AllocatesInType, Gave, Refused}
+use Rattle.gpu_memory_types.specs.Budgets.{Budgets, budget_at}
 use Rattle.gpu_vulkan_setup.specs.Describe.{is_own, request_of}
 use Rattle.gpu_vulkan_setup.specs.Types.{is_mapped}
 use Rattle.gpu_vulkan_blocks.specs.Blocks.{Slots}
@@ -49,11 +50,12 @@ asked_block None = None
 asked_block (Some a) = Some (record { size = a.info.size; result = block_result a.answer })
 
 -- the request at the t-th memory type
-abbrev pub request_at : Setup → (t : ℕ) → AllocationCreateDesc → RequestAt
-request_at setup t d = record {
+abbrev pub request_at : Setup → Budgets → (t : ℕ) → AllocationCreateDesc → RequestAt
+request_at setup budgets t d = record {
   memory_type = t;
   is_host = is_mapped setup.properties t;
   granularity = setup.properties.granularity;
+  budget = budget_at budgets t;
   sizes = setup.sizes;
   wants_own = is_own d.allocation_scheme;
   request = request_of d;
@@ -75,8 +77,8 @@ IsAfter g old mapped None new = new ≡ old
 IsAfter g old mapped (Some a) new = Asks g old a.info mapped a.answer new
 
 -- what a request for a piece of the t-th memory type comes to
-pub record IsSuballocated {D : Type 0} (g : Ghosts D) (setup : Setup) (t : ℕ) (d : AllocationCreateDesc) (old : Slots) (device : D) (result : Result (Piece DeviceMemory) AllocationError) (new : Slots) (after : D) : Type 0 where
+pub record IsSuballocated {D : Type 0} (g : Ghosts D) (setup : Setup) (budgets : Budgets) (t : ℕ) (d : AllocationCreateDesc) (old : Slots) (device : D) (result : Result (Piece DeviceMemory) AllocationError) (new : Slots) (after : D) : Type 0 where
   pub environment : AttemptEnvironment
-  pub allocates : AllocatesInType (request_at setup t d) old environment.host (asked_block environment.asked) (answer_of result) new
+  pub allocates : AllocatesInType (request_at setup budgets t d) old environment.host (asked_block environment.asked) (answer_of result) new
   pub asked_for : IsAskedFor setup t d environment.asked
   pub asked : IsAfter g device (is_mapped setup.properties t) environment.asked after

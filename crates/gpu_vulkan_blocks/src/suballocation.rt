@@ -2,6 +2,7 @@
 
 ghost use Rattle.std.specs.Prelude.{◌≡◌, ◌<◌, length, IsTrue};
 ghost use Rattle.std.specs.Int.{is_power_of_two};
+ghost use Rattle.gpu_memory_types.specs.Budgets.{budgets};
 ghost use Rattle.gpu_memory_types.specs.Types.{slots_of, kinds, MemoryTypesInvariant};
 ghost use Rattle.gpu_vulkan_setup.specs.Types.{kinds_told};
 ghost use Rattle.gpu_vulkan_blocks.specs.Suballocation.{IsSuballocated};
@@ -26,8 +27,9 @@ pub fn suballocate<D: VulkanDevice>(
     requires there { index < length setup.now.properties.types }
     requires few { index < 32 }
     requires kinds { kinds types.old ≡ kinds_told setup.now.properties }
-    ensures suballocates { IsSuballocated D.VulkanDevice setup.now index desc.now (slots_of types.old) device.old result (slots_of types.new) device.new }
+    ensures suballocates { IsSuballocated D.VulkanDevice setup.now (budgets types.old) index desc.now (slots_of types.old) device.old result (slots_of types.new) device.new }
     ensures kinds { kinds types.new ≡ kinds types.old }
+    ensures budgets { budgets types.new ≡ budgets types.old }
     ensures kept { MemoryTypesInvariant types.new }
 {
     let need = match types.prepare(index, &request_of(desc), &setup.sizes()) {

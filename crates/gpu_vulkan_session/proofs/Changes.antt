@@ -13,8 +13,9 @@ use Rattle.gpu_vulkan_setup.specs.Types.{is_mapped}
 use Rattle.gpu_vulkan.specs.ByteView.{AllocationId, is_same_id, ByteView, IsOutOf, TakesOut}
 use Rattle.gpu_vulkan.specs.Live.{piece_of}
 use Rattle.gpu_vulkan_setup.specs.Setup.{Setup}
-use Rattle.gpu_vulkan.specs.Step.{ModelState, CallEnvironment, Reply, Given, Fails, Done, Bytes, Sum, Shows, Tells, Step, Allocate, Free, Rename, Report, Leaks, Capacity, id_in, id_of, BytesAfter, AttemptStep, Follows, next_by, FoundStep, AllocateStep, MayDrop, FreeStep, RenameStep, reply_of}
+use Rattle.gpu_vulkan.specs.Step.{ModelState, CallEnvironment, Reply, Given, Fails, Done, Bytes, Sum, Shows, Tells, Budgeted, Step, Allocate, Free, Rename, Report, Leaks, Capacity, SetBudget, id_in, id_of, BytesAfter, AttemptStep, Follows, next_by, FoundStep, AllocateStep, MayDrop, FreeStep, RenameStep, reply_of}
 use Rattle.gpu_vulkan.specs.declared.allocation.Allocation.{Allocation}
+use Rattle.gpu_vulkan.proofs.OneStep.{set_reply}
 use Rattle.gpu_vulkan_setup.specs.declared.describe.AllocationCreateDesc.{AllocationCreateDesc}
 
 -- a place of a live piece comes in, with a list of that size where its memory is mapped
@@ -165,11 +166,13 @@ renamed_bytes t None name host (Bytes xs) old new h = absurd h
 renamed_bytes t None name host (Sum n) old new h = absurd h
 renamed_bytes t None name host (Shows w) old new h = absurd h
 renamed_bytes t None name host (Tells zs) old new h = absurd h
+renamed_bytes t None name host (Budgeted b) old new h = absurd h
 renamed_bytes t (Some p) name host (Given u q) old new h = absurd h
 renamed_bytes t (Some p) name host (Bytes xs) old new h = absurd h
 renamed_bytes t (Some p) name host (Sum n) old new h = absurd h
 renamed_bytes t (Some p) name host (Shows w) old new h = absurd h
 renamed_bytes t (Some p) name host (Tells zs) old new h = absurd h
+renamed_bytes t (Some p) name host (Budgeted b) old new h = absurd h
 
 pub named_bytes : (setup : Setup) (a : Allocation) (name : List ℕ) (o : CallEnvironment) (reply : Reply) (old new : ModelState) → Step setup (Rename a name) o reply old new → new.byte_view ≡ old.byte_view
 named_bytes setup a name o reply old new h = renamed_bytes a.memory_type_index (piece_of a) name o.first.host reply old new h.1
@@ -182,6 +185,7 @@ shown_same setup o Done old new h = absurd h.1
 shown_same setup o (Bytes xs) old new h = absurd h.1
 shown_same setup o (Sum n) old new h = absurd h.1
 shown_same setup o (Tells ts) old new h = absurd h.1
+shown_same setup o (Budgeted b) old new h = absurd h.1
 
 pub told_same : (setup : Setup) (o : CallEnvironment) (reply : Reply) (old new : ModelState) → Step setup Leaks o reply old new → new ≡ old
 told_same setup o (Tells ts) old new h = h.1.2
@@ -191,6 +195,7 @@ told_same setup o Done old new h = absurd h.1
 told_same setup o (Bytes xs) old new h = absurd h.1
 told_same setup o (Sum n) old new h = absurd h.1
 told_same setup o (Shows r) old new h = absurd h.1
+told_same setup o (Budgeted b) old new h = absurd h.1
 
 pub summed_same : (setup : Setup) (o : CallEnvironment) (reply : Reply) (old new : ModelState) → Step setup Capacity o reply old new → new ≡ old
 summed_same setup o (Sum n) old new h = h.2
@@ -200,3 +205,7 @@ summed_same setup o Done old new h = absurd h
 summed_same setup o (Bytes xs) old new h = absurd h
 summed_same setup o (Shows r) old new h = absurd h
 summed_same setup o (Tells ts) old new h = absurd h
+summed_same setup o (Budgeted b) old new h = absurd h
+
+pub budget_set_bytes : (setup : Setup) (t : ℕ) (budget : Option ℕ) (o : CallEnvironment) (reply : Reply) (old new : ModelState) → Step setup (SetBudget t budget) o reply old new → new.byte_view ≡ old.byte_view
+budget_set_bytes setup t budget o reply old new h = (set_reply t budget reply old new h.1).4

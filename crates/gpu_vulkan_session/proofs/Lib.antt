@@ -7,5 +7,6 @@ pub mod Naming
 pub mod Changes
 pub mod EqualButBytes
 pub mod Ranges
-pub mod NonInterference
+pub mod KeptBudgets
+mod NonInterference
 pub mod Isolation

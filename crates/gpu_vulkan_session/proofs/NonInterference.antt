@@ -20,11 +20,12 @@ use Rattle.gpu_vulkan.specs.Step.{ModelState, CallEnvironment, Step, IsRead, id_
 use Rattle.gpu_vulkan.specs.declared.allocation.Allocation.{Allocation}
 use Rattle.gpu_vulkan_setup.specs.declared.describe.AllocationCreateDesc.{AllocationCreateDesc}
 use Rattle.gpu_vulkan.proofs.EqualButBytes.{step_alike}
-use Rattle.gpu_vulkan_session.specs.Session.{SessionState, SessionInvariant, Wanted, Describes, Deed, Take, TakeNull, Return, Rename, Put, Get, Order, Under, Report, Leaks, Capacity, shown, Told, Given, Fine, Data, Busy, Unbound, Unmapped, Past, Fails, CommandEnvironment, Stays, Binds, Takes, TakesNull, Returns, BindsNamed, Names, put_range, PutsIn, PutsOver, Puts, part_told, read_told, Gets, ServesBound, ServesFree, ServesAt, told_by, Asks, Serves, Runs}
+use Rattle.gpu_vulkan_session.specs.Session.{SessionState, SessionInvariant, Wanted, Describes, Deed, Take, TakeNull, Return, Rename, Put, Get, Order, Under, Report, Leaks, Capacity, SetBudget, shown, Told, Given, Fine, Data, Busy, Unbound, Unmapped, Past, Fails, CommandEnvironment, Stays, Binds, Takes, TakesNull, Returns, BindsNamed, Names, put_range, PutsIn, PutsOver, Puts, part_told, read_told, Gets, ServesBound, ServesFree, ServesAt, told_by, Asks, Serves, Runs}
 use Rattle.gpu_vulkan_session.specs.Laws.{EqualButBytesDeed, EqualButBytesOrder, EqualButBytesCommandEnvironment, Written, everything, written_after, EqualButBytesTold, EqualButBytesReplies, NonInterference}
 use Rattle.gpu_vulkan_session.proofs.Binding.{bound_here}
 use Rattle.gpu_vulkan_session.proofs.Owning.{null_dead, some_same, none_some, freed_null}
-use Rattle.gpu_vulkan_session.proofs.Changes.{Gained, Lost, gained, not_gained, place_piece, lost, named_bytes, shown_same, told_same, summed_same}
+use Rattle.gpu_vulkan_session.proofs.Changes.{Gained, Lost, gained, not_gained, place_piece, lost, named_bytes, shown_same, told_same, summed_same, budget_set_bytes}
+use Rattle.gpu_vulkan_session.proofs.KeptBudgets.{budgets_next}
 use Rattle.gpu_vulkan_session.proofs.Ranges.{length_range, get_range}
 use Rattle.gpu_vulkan_session.proofs.EqualButBytes.{byte_of, handle, Alike, alike_kept, alike_given, alike_null, alike_named, alike_returned, alike_unbound, alike_written}
 
@@ -115,7 +116,8 @@ pub record Next (ours : ℕ → Bool) (written : Written) (order : Order) (told 
   pub told_alike : EqualButBytesTold ours written order told untold
   pub alike : Alike ours (written_after order told written) new next
 
-module _ (ours : ℕ → Bool) (written : Written) (setup : Setup) (s t new next : SessionState) (o p : CommandEnvironment) (told untold : Told) (kept : SessionInvariant setup s) (kept_new : SessionInvariant setup new) (alike : Alike ours written s t) (met : EqualButBytesCommandEnvironment o p) where
+module _ (ours : ℕ → Bool) (written : Written) (setup : Setup) (s t new next : SessionState) (o p : CommandEnvironment) (told untold : Told) (kept : SessionInvariant setup s) (kept_new : SessionInvariant setup new) (alike : Alike ours written s t)
+    (budgets : s.model.budgets ≡ t.model.budgets) (met : EqualButBytesCommandEnvironment o p) where
   next_at : (order : Order) (x y : Told) → told ≡ x → untold ≡ y → EqualButBytesTold ours written order x y → Alike ours (written_after order x written) new next → Next ours written order told untold new next
   next_at order x y e f same now =
       subst (λ z. Next ours written order z untold new next) (sym e) (subst (λ z. Next ours written order x z new next) (sym f) (record { told_alike = same; alike = now }))
@@ -165,7 +167,7 @@ module _ (ours : ℕ → Bool) (written : Written) (setup : Setup) (s t new next
   take_both : (key : ℕ) (w : Wanted) (room also : Bool) → room ≡ also → Takes setup key w room o.call told s new → Takes setup key w also p.call untold t next → Next ours written (Under key (Take w)) told untold new next
   take_both key w false false e h k = next_at (Under key (Take w)) (Fails host_out_of_memory) (Fails host_out_of_memory) h.1 k.1 refl (unchanged h.2 k.2)
   take_both key w true true e h k =
-      let law = step_alike setup o.call p.call h.reply k.reply s.model new.model t.model next.model kept.sound alike.slots met.call (model.Allocate h.description) (model.Allocate k.description)
+      let law = step_alike setup o.call p.call h.reply k.reply s.model new.model t.model next.model kept.sound alike.slots budgets met.call (model.Allocate h.description) (model.Allocate k.description)
       (same_description h.description k.description w h.describes k.describes) h.step k.step in
       binds_both key w h.description k.description h.reply k.reply law.0 law.1 h.step k.step h.binds k.binds
   take_both key w false true e h k = absurd (cc)
@@ -185,7 +187,7 @@ module _ (ours : ℕ → Bool) (written : Written) (setup : Setup) (s t new next
   return_both : (key : ℕ) (a b : Allocation) → handle a ≡ handle b → s.bound key ≡ Some a → Returns setup key a o.call told s new → Returns setup key b p.call untold t next → Next ours written (Under key Return) told untold new next
   return_both key a b same found h k =
       let step = free_as setup a b p.call t.model next.model same k.step in
-      let law = step_alike setup o.call p.call model.Done model.Done s.model new.model t.model next.model kept.sound alike.slots met.call (model.Free a) (model.Free a) refl h.step step in
+      let law = step_alike setup o.call p.call model.Done model.Done s.model new.model t.model next.model kept.sound alike.slots budgets met.call (model.Free a) (model.Free a) refl h.step step in
       next_at (Under key Return) Fine Fine h.fine k.fine refl (⊎_elim
       (λ null.
       alike_unbound ours written setup s t new next kept kept_new alike key h.bound k.bound law.1
@@ -220,7 +222,7 @@ module _ (ours : ℕ → Bool) (written : Written) (setup : Setup) (s t new next
       → Next ours written (Under key (Rename name)) told untold new next
   rename_both key a b name same found h k =
       let step = rename_as setup a b name p.call k.reply t.model next.model same k.step in
-      let law = step_alike setup o.call p.call h.reply k.reply s.model new.model t.model next.model kept.sound alike.slots met.call (model.Rename a name) (model.Rename a name) refl h.step step in
+      let law = step_alike setup o.call p.call h.reply k.reply s.model new.model t.model next.model kept.sound alike.slots budgets met.call (model.Rename a name) (model.Rename a name) refl h.step step in
       named_both key a b name h.reply k.reply same found law.0 law.1 (named_bytes setup a name o.call h.reply s.model new.model h.step) (named_bytes setup a name p.call k.reply t.model next.model step) h.binds k.binds
 
   -- ---- writes
@@ -341,10 +343,11 @@ module _ (ours : ℕ → Bool) (written : Written) (setup : Setup) (s t new next
   told_both (model.Shows r) y u v same e f = some_same u v (sym e ∙ ap told_by same ∙ f)
   told_both (model.Tells ts) y u v same e f = some_same u v (sym e ∙ ap told_by same ∙ f)
   told_both (model.Given i q) y u v same e f = absurd (none_some u e)
-  told_both model.Done y u v same e f = absurd (none_some u e)
+  told_both model.Done y u v same e f = some_same u v (sym e ∙ ap told_by same ∙ f)
+  told_both (model.Budgeted b) y u v same e f = absurd (none_some u e)
   told_both (model.Bytes xs) y u v same e f = absurd (none_some u e)
 
-  asks_both : (call : model.Call) → ((o : CallEnvironment) (reply : model.Reply) (old now : ModelState) → Step setup call o reply old now → now ≡ old)
+  asks_both : (call : model.Call) → ((o : CallEnvironment) (reply : model.Reply) (old now : ModelState) → Step setup call o reply old now → now.byte_view ≡ old.byte_view)
       → ((x y : model.Reply) → Step setup call o.call x s.model new.model → Step setup call p.call y t.model next.model → EqualButBytesReply x y × (new.model.slots ≡ next.model.slots))
       → Asks setup call o.call told s new → Asks setup call p.call untold t next → (told ≡ untold) × Alike ours written new next
   asks_both call stays law h k =
@@ -352,12 +355,12 @@ module _ (ours : ℕ → Bool) (written : Written) (setup : Setup) (s t new next
       let one = stays o.call h.reply s.model new.model h.step in
       let two = stays p.call k.reply t.model next.model k.step in (
         told_both h.reply k.reply told untold both.0 h.told_is k.told_is,
-        alike_kept ours written setup s t new next kept kept_new alike h.bound k.bound both.1 (ap (λ x. x.byte_view) one) (ap (λ x. x.byte_view) two),
+        alike_kept ours written setup s t new next kept kept_new alike h.bound k.bound both.1 one two,
       )
 
   lawful : (call : model.Call) → ((other : model.Call) → call ≡ other → EqualButBytesCall call other) → (x y : model.Reply) → Step setup call o.call x s.model new.model → Step setup call p.call y t.model next.model
       → EqualButBytesReply x y × (new.model.slots ≡ next.model.slots)
-  lawful call same x y h k = step_alike setup o.call p.call x y s.model new.model t.model next.model kept.sound alike.slots met.call call call (same call refl) h k
+  lawful call same x y h k = step_alike setup o.call p.call x y s.model new.model t.model next.model kept.sound alike.slots budgets met.call call call (same call refl) h k
 
   step_next : (order other : Order) → EqualButBytesOrder ours order other → Serves setup order o told s new → Serves setup other p untold t next → Next ours written order told untold new next
   step_next (Under key deed) (Under to deed2) e h k =
@@ -366,36 +369,42 @@ module _ (ours : ℕ → Bool) (written : Written) (setup : Setup) (s t new next
   step_next (Under key deed) Report e h k = absurd (cc)
   step_next (Under key deed) Leaks e h k = absurd (cc)
   step_next (Under key deed) Capacity e h k = absurd (cc)
+  step_next (Under key deed) (SetBudget u budget) e h k = absurd (cc)
   step_next Report other e h k =
-      let both = asks_both model.Report (shown_same setup) (lawful model.Report (λ z f. f)) h (subst (λ z. Serves setup z p untold t next) (sym e) k) in
+      let both = asks_both model.Report (λ z x y w a. ap (λ q. q.byte_view) (shown_same setup z x y w a)) (lawful model.Report (λ z f. f)) h (subst (λ z. Serves setup z p untold t next) (sym e) k) in
       record { told_alike = both.0; alike = both.1 }
   step_next Leaks other e h k =
-      let both = asks_both model.Leaks (told_same setup) (lawful model.Leaks (λ z f. f)) h (subst (λ z. Serves setup z p untold t next) (sym e) k) in
+      let both = asks_both model.Leaks (λ z x y w a. ap (λ q. q.byte_view) (told_same setup z x y w a)) (lawful model.Leaks (λ z f. f)) h (subst (λ z. Serves setup z p untold t next) (sym e) k) in
       record { told_alike = both.0; alike = both.1 }
   step_next Capacity other e h k =
-      let both = asks_both model.Capacity (summed_same setup) (lawful model.Capacity (λ z f. f)) h (subst (λ z. Serves setup z p untold t next) (sym e) k) in
+      let both = asks_both model.Capacity (λ z x y w a. ap (λ q. q.byte_view) (summed_same setup z x y w a)) (lawful model.Capacity (λ z f. f)) h (subst (λ z. Serves setup z p untold t next) (sym e) k) in
+      record { told_alike = both.0; alike = both.1 }
+  step_next (SetBudget u budget) other e h k =
+      let call = model.SetBudget u budget in
+      let both = asks_both call (budget_set_bytes setup u budget) (lawful call (λ z f. f)) h (subst (λ z. Serves setup z p untold t next) (sym e) k) in
       record { told_alike = both.0; alike = both.1 }
 
 -- ---- whole runs
 
-runs_alike : (ours : ℕ → Bool) (written : Written) (setup : Setup) (s t end other_end : SessionState) (orders others : List Order) (o p : List CommandEnvironment) (told untold : List Told) → SessionInvariant setup s → Alike ours written s t
+runs_alike : (ours : ℕ → Bool) (written : Written) (setup : Setup) (s t end other_end : SessionState) (orders others : List Order) (o p : List CommandEnvironment) (told untold : List Told) → SessionInvariant setup s → Alike ours written s t → s.model.budgets ≡ t.model.budgets
     → AllZip (EqualButBytesOrder ours) orders others → AllZip EqualButBytesCommandEnvironment o p → Runs setup s orders o told end → Runs setup t others p untold other_end → EqualButBytesReplies ours written orders told untold
-runs_alike ours written setup s t end other_end [] [] [] [] [] [] kept a x c h k = tt
-runs_alike ours written setup s t end other_end [] [] [] [] [] (v ∷ untold) kept a x c h k = absurd k
-runs_alike ours written setup s t end other_end [] [] [] [] (u ∷ told) untold kept a x c h k = absurd h
-runs_alike ours written setup s t end other_end [] [] [] (q ∷ p) told untold kept a x c h k = absurd c
-runs_alike ours written setup s t end other_end [] [] (r ∷ o) p told untold kept a x c h k = absurd h
-runs_alike ours written setup s t end other_end [] (y ∷ others) o p told untold kept a x c h k = absurd x
-runs_alike ours written setup s t end other_end (y ∷ orders) [] o p told untold kept a x c h k = absurd x
-runs_alike ours written setup s t end other_end (y ∷ orders) (z ∷ others) [] p told untold kept a x c h k = absurd h
-runs_alike ours written setup s t end other_end (y ∷ orders) (z ∷ others) (r ∷ o) [] told untold kept a x c h k = absurd c
-runs_alike ours written setup s t end other_end (y ∷ orders) (z ∷ others) (r ∷ o) (q ∷ p) [] untold kept a x c h k = absurd h
-runs_alike ours written setup s t end other_end (y ∷ orders) (z ∷ others) (r ∷ o) (q ∷ p) (u ∷ told) [] kept a x c h k = absurd k
-runs_alike ours written setup s t end other_end (y ∷ orders) (z ∷ others) (r ∷ o) (q ∷ p) (u ∷ told) (v ∷ untold) kept a x c h k =
-    let n = step_next ours written setup s t h.0 k.0 r q u v kept h.2 a c.0 y z x.0 h.1 k.1 in
-    (n.told_alike, runs_alike ours (written_after y u written) setup h.0 k.0 end other_end orders others o p told untold h.2 n.alike x.1 c.1 h.3 k.3)
+runs_alike ours written setup s t end other_end [] [] [] [] [] [] kept a same x c h k = tt
+runs_alike ours written setup s t end other_end [] [] [] [] [] (v ∷ untold) kept a same x c h k = absurd k
+runs_alike ours written setup s t end other_end [] [] [] [] (u ∷ told) untold kept a same x c h k = absurd h
+runs_alike ours written setup s t end other_end [] [] [] (q ∷ p) told untold kept a same x c h k = absurd c
+runs_alike ours written setup s t end other_end [] [] (r ∷ o) p told untold kept a same x c h k = absurd h
+runs_alike ours written setup s t end other_end [] (y ∷ others) o p told untold kept a same x c h k = absurd x
+runs_alike ours written setup s t end other_end (y ∷ orders) [] o p told untold kept a same x c h k = absurd x
+runs_alike ours written setup s t end other_end (y ∷ orders) (z ∷ others) [] p told untold kept a same x c h k = absurd h
+runs_alike ours written setup s t end other_end (y ∷ orders) (z ∷ others) (r ∷ o) [] told untold kept a same x c h k = absurd c
+runs_alike ours written setup s t end other_end (y ∷ orders) (z ∷ others) (r ∷ o) (q ∷ p) [] untold kept a same x c h k = absurd h
+runs_alike ours written setup s t end other_end (y ∷ orders) (z ∷ others) (r ∷ o) (q ∷ p) (u ∷ told) [] kept a same x c h k = absurd k
+runs_alike ours written setup s t end other_end (y ∷ orders) (z ∷ others) (r ∷ o) (q ∷ p) (u ∷ told) (v ∷ untold) kept a same x c h k =
+    let n = step_next ours written setup s t h.0 k.0 r q u v kept h.2 a same c.0 y z x.0 h.1 k.1 in
+    let now = budgets_next ours setup s t h.0 k.0 r q u v kept.sound a.slots same c.0 y z x.0 h.1 k.1 in
+    (n.told_alike, runs_alike ours (written_after y u written) setup h.0 k.0 end other_end orders others o p told untold h.2 n.alike now x.1 c.1 h.3 k.3)
 
 pub non_interference : NonInterference
 non_interference ours setup start end other_end orders others o p told untold kept x c h k =
     runs_alike ours everything setup start start end other_end orders others o p told untold kept
-    (record { bound = λ j. refl; slots = refl; sizes = λ q. refl; bytes = λ key a mine e live i w. refl }) x c h k
+    (record { bound = λ j. refl; slots = refl; sizes = λ q. refl; bytes = λ key a mine e live i w. refl }) refl x c h k

@@ -11,7 +11,7 @@ use Rattle.gpu_vulkan.specs.State.{State}
 use Rattle.gpu_vulkan.specs.Untouched.{LeavesMemory}
 use Rattle.gpu_vulkan.specs.Step.{model_of, count_after, latest_after}
 use Rattle.gpu_vulkan.specs.declared.allocation.Allocation.{Allocation}
-use Rattle.gpu_vulkan_session.specs.Session.{SessionState, Order, Shown, Told, CommandEnvironment, Take, TakeNull, Return, Rename, Put, Get, Under, Report, Leaks, Capacity, Given, Fine, Data, Shows, Tells, Sum, Busy, Unbound, Unmapped, Past, Fails, Serves, Runs}
+use Rattle.gpu_vulkan_session.specs.Session.{SessionState, Order, Shown, Told, CommandEnvironment, Take, TakeNull, Return, Rename, Put, Get, Under, Report, Leaks, Capacity, SetBudget, Given, Fine, Data, Shows, Tells, Sum, Busy, Unbound, Unmapped, Past, Fails, Serves, Runs}
 use Rattle.gpu_session_values.specs.declared.command.Command.{Command}
 use Rattle.gpu_session_values.specs.declared.command.Command.TheVariants as commands
 use Rattle.gpu_session_values.specs.declared.reply.Reply.{Reply}
@@ -29,6 +29,7 @@ order_of (commands.Read key at size) = Under key (Get at size)
 order_of commands.Report = Report
 order_of commands.Leaks = Leaks
 order_of commands.Capacity = Capacity
+order_of (commands.SetBudget t budget) = SetBudget t budget
 
 abbrev pub shown_of : GivenPiece → Shown
 shown_of g = record {

@@ -75,6 +75,7 @@ pub data Order : Type 0 where
   Report : Order
   Leaks : Order
   Capacity : Order
+  SetBudget : (memory_type : ℕ) (budget : Option ℕ) → Order
 
 -- what is shown of a new allocation
 pub record Shown : Type 0 where
@@ -217,11 +218,12 @@ ServesAt setup key (Some a) deed o told old new = ServesBound setup key a deed o
 abbrev pub told_by : model.Reply → Option Told
 told_by (model.Given t p) = None
 told_by (model.Fails r) = Some (Fails r)
-told_by model.Done = None
+told_by model.Done = Some Fine
 told_by (model.Bytes bytes) = None
 told_by (model.Sum n) = Some (Sum n)
 told_by (model.Shows report) = Some (Shows report)
 told_by (model.Tells texts) = Some (Tells texts)
+told_by (model.Budgeted budget) = None
 
 pub record Asks (setup : Setup) (call : model.Call) (o : CallEnvironment) (told : Told) (old new : SessionState) : Type 0 where
   pub reply : model.Reply
@@ -235,6 +237,7 @@ Serves setup (Under key deed) o told old new = ServesAt setup key (old.bound key
 Serves setup Report o told old new = Asks setup model.Report o.call told old new
 Serves setup Leaks o told old new = Asks setup model.Leaks o.call told old new
 Serves setup Capacity o told old new = Asks setup model.Capacity o.call told old new
+Serves setup (SetBudget t budget) o told old new = Asks setup (model.SetBudget t budget) o.call told old new
 
 -- ---- runs
 

@@ -140,6 +140,10 @@ impl<D: VulkanDevice> Session<D> {
             Command::Report => self.report(),
             Command::Leaks => self.leaks(),
             Command::Capacity => Reply::Capacity(self.allocator.capacity()),
+            Command::SetBudget {
+                memory_type,
+                budget,
+            } => self.set_budget(*memory_type, *budget),
         }
     }
 
@@ -233,6 +237,15 @@ impl<D: VulkanDevice> Session<D> {
         match Vec::from_slice(self.alloc, &bytes[start..start + size as usize]) {
             Ok(copy) => Reply::Bytes(copy),
             Err(_) => Reply::Error(AllocationError::HostOutOfMemory),
+        }
+    }
+
+    fn set_budget(&mut self, memory_type: u64, budget: Option<u64>) -> Reply
+        ensures { IsServed D.VulkanDevice (orders.SetBudget memory_type budget) (told_of result) self.old self.new }
+    {
+        match self.allocator.set_budget(memory_type as usize, budget) {
+            Ok(()) => Reply::Done,
+            Err(error) => Reply::Error(error),
         }
     }
 

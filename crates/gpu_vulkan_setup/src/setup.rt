@@ -8,6 +8,7 @@ ghost use Rattle.gpu_core.specs.Refusal.{refusal_of, invalid_allocator_create_de
 ghost use Rattle.gpu_vulkan_setup.specs.Setup.{lacks_heap, setup_fault, IsValid};
 ghost use Rattle.gpu_vulkan_setup.specs.Types.{heap_size};
 ghost use Rattle.gpu_vulkan_setup.specs.Types.{is_host_visible};
+ghost use Rattle.gpu_memory_types.specs.Budgets.{budgets};
 ghost use Rattle.gpu_memory_types.specs.Types.{slots_of, kinds, MemoryTypesInvariant};
 ghost use Rattle.gpu_vulkan_setup.specs.Types.{kinds_told};
 
@@ -143,6 +144,7 @@ pub fn empty_types(
     requires { IsTrue (is_power_of_two granularity) }
     ensures kinds { IfOk result (λ v. kinds v.items ≡ map (λ info. (is_host_visible info, granularity)) memory_types.now) }
     ensures empty { IfOk result (λ v. All (λ slots. slots ≡ []) (slots_of v.items)) }
+    ensures unbounded { IfOk result (λ v. All (λ b. b ≡ None) (budgets v.items)) }
 {
     let mut types = Vec::with_capacity(alloc, memory_types.len())?;
     for info in memory_types {
@@ -223,6 +225,7 @@ pub fn parts_of<D: VulkanDevice>(
     ensures valid { OnOk result (IsValid (D.properties device.now)) }
     ensures kinds { IfOk result (λ parts. kinds parts.1 ≡ kinds_told (D.properties device.now)) }
     ensures empty { IfOk result (λ parts. All (λ slots. slots ≡ []) (slots_of parts.1)) }
+    ensures unbounded { IfOk result (λ parts. All (λ b. b ≡ None) (budgets parts.1)) }
     ensures kept { IfOk result (λ parts. MemoryTypesInvariant parts.1) }
 {
     let memory_types = memory_types_of(alloc, device)?;

@@ -3,12 +3,14 @@ use Rattle.std.proofs.Common.{Bool, ◌≡◌, ◌<◌, length, ap, subst, arith
 use Rattle.gpu_core.specs.declared.memory_type.Prepared.TheVariants as prepared
 use Rattle.gpu_values.specs.Refusal.{refusal_of}
 use Rattle.gpu_memory_types.specs.Requests.{PreparesAt, IsPrepareRefusal}
-use Rattle.gpu_memory_types.specs.Types.{slots_of}
+use Rattle.gpu_memory_types.specs.Types.{slots_of, type_of}
 use Rattle.gpu_core.specs.declared.memory_type.need.NeedBlock.{NeedBlock}
 use Rattle.gpu_memory_types.specs.Blocks.{total_capacity}
 use Rattle.gpu_vulkan_setup.specs.Types.{is_mapped}
 use Rattle.gpu_vulkan_blocks.specs.Blocks.{Slots}
 use Rattle.gpu_vulkan_blocks.specs.BlockAnswer.{Asks}
+use Rattle.gpu_core.specs.TypeState.{capacity_of}
+use Rattle.gpu_memory_types.proofs.Budgets.{sum_fits}
 use Rattle.gpu_memory_types.proofs.Prepared.{waiting}
 use Rattle.gpu_vulkan_blocks.proofs.Suballocated.{host_refused, shared_block_serves, device_refused, block_installed}
 use Rattle.gpu_vulkan_blocks.proofs.Types.{as_many, mapped_is}
@@ -65,7 +67,7 @@ install-requires-clause-sum g c =
     let told : PreparesAt c.args.index c.args.types.now c.sizes.result c.request_of.result (prepared.NeedBlock need) c.prepare.new.self = rw c.in-Ok-NeedBlock.field-0-is at c.in-Ok-NeedBlock.ensures.prepared in
     let h = needed g after need told in
     let same = ap (λ (ss : Slots). total_capacity ss) (slots_wait g after need h) in
-    let fits = h.fits in
+    let fits = sum_fits (total_capacity (slots_of c.args.types.now)) (type_of c.args.types.now c.args.index).budget (capacity_of (type_of c.args.types.now c.args.index).slots) need.size h.fits in
     omega (arith, same, fits)
 
 pub returns-in-Err-allocate_block_memory-clause-suballocates : goal.returns-in-Err-allocate_block_memory-clause-suballocates

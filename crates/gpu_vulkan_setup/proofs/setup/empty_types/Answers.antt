@@ -1,4 +1,4 @@
-use Rattle.std.proofs.Common.{◌≡◌, ◌∙◌, ◌++◌, [], ◌∷◌, ℕ, Bool, ap, sym, subst, map, take, arith, refl, ◌+◌, get_or, All}
+use Rattle.std.proofs.Common.{◌≡◌, ◌∙◌, ◌++◌, [], ◌∷◌, ℕ, Bool, ap, sym, subst, map, take, arith, refl, ◌+◌, get_or, All, None}
 use Rattle.std.proofs.lemmas.List.{map-append}
 use Rattle.std.proofs.lemmas.Option.{slice_get-get_or}
 use Rattle.gpu_core.specs.TypeState.{TypeState}
@@ -7,6 +7,7 @@ use Rattle.gpu_device.specs.declared.vulkan.types.MemoryTypeInfo.{MemoryTypeInfo
 use Rattle.std.proofs.lemmas.List.Elements.{All-append, All-cons, All-nil}
 use Rattle.gpu_vulkan_setup.specs.Types.{is_host_visible}
 use Rattle.gpu_memory_types.specs.Blocks.{Slots}
+use Rattle.gpu_memory_types.specs.Budgets.{Budgets, budgets}
 use Rattle.gpu_memory_types.specs.Types.{Types, slots_of, kinds}
 use Rattle.gpu_vulkan_setup.proofs.Taken.{taken_next}
 use Rattle.gpu_vulkan_setup.proofs.setup.empty_types.Goals as goal
@@ -35,5 +36,9 @@ loop-info-preserved c =
           subst (λ (ts : Types DeviceMemory). All (λ slots. slots ≡ []) (slots_of ts)) (sym pushed)
           (subst (λ (ss : Slots DeviceMemory). All (λ slots. slots ≡ []) ss) (sym (map-append _ types (t ∷ [])))
           (All-append (λ slots. slots ≡ []) (slots_of types) (t.slots ∷ []) c.loop-info.invariant.empty (All-cons (λ slots. slots ≡ []) t.slots [] c.new.ensures.slots (All-nil (λ slots. slots ≡ [])))));
+      unbounded =
+          subst (λ (ts : Types DeviceMemory). All (λ b. b ≡ None) (budgets ts)) (sym pushed)
+          (subst (λ (bs : Budgets). All (λ b. b ≡ None) bs) (sym (map-append (λ (x : TypeState DeviceMemory). x.budget) types (t ∷ [])))
+          (All-append (λ b. b ≡ None) (budgets types) (t.budget ∷ []) c.loop-info.invariant.unbounded (All-cons (λ b. b ≡ None) t.budget [] c.new.ensures.budget (All-nil (λ b. b ≡ None)))));
       room = omega (arith, c.loop-info.invariant.room, c.push_reserved.ensures.capacity);
     }

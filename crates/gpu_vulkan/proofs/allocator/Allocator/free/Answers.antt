@@ -8,6 +8,7 @@ use Rattle.gpu_vulkan.specs.State.{State}
 use Rattle.gpu_vulkan.specs.Step.{IsStep, Free, freed_as}
 use Rattle.gpu_vulkan.proofs.Owning.{frees_others}
 use Rattle.gpu_vulkan.proofs.Freeing.{free_step, null_step}
+use Rattle.gpu_memory_types.specs.Budgets.{budgets}
 use Rattle.gpu_memory_types.specs.Types.{slots_of}
 use Rattle.gpu_vulkan_blocks.proofs.Types.{well_formed_told}
 use Rattle.gpu_vulkan.proofs.Releasing.{released_holds, type_below, either_way}
@@ -57,11 +58,11 @@ returns-clause-step g c =
     let V = g.D.VulkanDevice in
     let i = c.self.inside in
     let kept = c.self.invariant.1 in
-    let before : State g.row.D.Denot = record { device = i.device; first = i.first.value; setup = i.setup; slots = slots_of i.types } in
-    let after : State g.row.D.Denot = record { device = c.free_piece.new.device; first = i.first.value; setup = i.setup; slots = slots_of c.free_piece.new.types } in
+    let before : State g.row.D.Denot = record { device = i.device; first = i.first.value; setup = i.setup; slots = slots_of i.types; budgets = budgets i.types } in
+    let after : State g.row.D.Denot = record { device = c.free_piece.new.device; first = i.first.value; setup = i.setup; slots = slots_of c.free_piece.new.types; budgets = budgets c.free_piece.new.types } in
     let frees : Frees V c.args.allocation before.slots before.device c.match-free_piece.result after.slots after.device = search rules in
     subst (λ (s : State g.row.D.Denot). IsStep V (Free c.args.allocation) (freed_as c.match-free_piece.result) s after) c.self.view_is
-    (free_step V (V.held i.first.value) before after kept.sound kept.holds (λ n. g.met.D.VulkanDevice.whole i.device n) c.args.allocation c.match-free_piece.result frees)
+    (free_step V (V.held i.first.value) before after kept.sound kept.holds (λ n. g.met.D.VulkanDevice.whole i.device n) c.free_piece.ensures.budgets c.args.allocation c.match-free_piece.result frees)
 
 pub returns-clause-keeps : goal.returns-clause-keeps
 returns-clause-keeps g c = λ b live other.

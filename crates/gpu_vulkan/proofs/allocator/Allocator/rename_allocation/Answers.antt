@@ -1,7 +1,8 @@
 use Rattle.std.proofs.Common.{◌∙◌, refl, subst}
+use Rattle.gpu_memory_types.specs.Budgets.{budgets}
 use Rattle.gpu_memory_types.specs.Types.{slots_of}
 use Rattle.gpu_vulkan.specs.State.{State}
-use Rattle.gpu_vulkan.specs.Step.{IsStep, Rename, renamed_as}
+use Rattle.gpu_vulkan.specs.Step.{IsStep, Rename, done_as}
 use Rattle.gpu_vulkan.proofs.Named.{rename_step}
 use Rattle.gpu_vulkan.specs.Live.{IsLive}
 use Rattle.gpu_vulkan.proofs.Naming.{renamed_lives}
@@ -35,10 +36,10 @@ pub returns-clause-step : goal.returns-clause-step
 returns-clause-step g c =
     let V = g.D.VulkanDevice in
     let i = c.self.inside in
-    let before : State g.row.D.Denot = record { device = i.device; first = i.first.value; setup = i.setup; slots = slots_of i.types } in
-    let after : State g.row.D.Denot = record { device = i.device; first = i.first.value; setup = i.setup; slots = slots_of c.rename.new.types } in
-    subst (λ (s : State g.row.D.Denot). IsStep V (Rename c.args.allocation.now c.args.name.now) (renamed_as c.rename.result) s after) c.self.view_is
-    (rename_step V before after refl c.args.allocation.now c.rename.new.allocation c.args.name.now c.rename.result c.rename.ensures.renames)
+    let before : State g.row.D.Denot = record { device = i.device; first = i.first.value; setup = i.setup; slots = slots_of i.types; budgets = budgets i.types } in
+    let after : State g.row.D.Denot = record { device = i.device; first = i.first.value; setup = i.setup; slots = slots_of c.rename.new.types; budgets = budgets c.rename.new.types } in
+    subst (λ (s : State g.row.D.Denot). IsStep V (Rename c.args.allocation.now c.args.name.now) (done_as c.rename.result) s after) c.self.view_is
+    (rename_step V before after refl c.rename.ensures.budgets c.args.allocation.now c.rename.new.allocation c.args.name.now c.rename.result c.rename.ensures.renames)
 
 pub returns-clause-live : goal.returns-clause-live
 returns-clause-live g c = λ x live.

@@ -1,0 +1,9 @@
+use Rattle.std.proofs.Common.{◌≡◌, rules}
+use Rattle.gpu_memory_types.specs.Budgets.{budget_at}
+use Rattle.gpu_vulkan.proofs.Listed.{budget_step}
+use Rattle.gpu_vulkan.proofs.allocator.Allocator.budget.Goals as goal
+
+pub returns-clause-step : goal.returns-clause-step
+returns-clause-step g c =
+    let is : c.budget.result ≡ budget_at c.args.self.now.budgets c.args.memory_type = search rules in
+    budget_step g.D.VulkanDevice c.args.self.now c.args.memory_type c.budget.result is
