@@ -14,7 +14,7 @@ use Rattle.gpu_core.specs.Report.{row_of}
 use Rattle.gpu_core.specs.Rows.{extent_row}
 use Rattle.gpu_trace_lines.specs.declared.block.reply.Report.{Report}
 use Rattle.gpu_trace_lines.specs.declared.error_number.ErrorNumber.{ErrorNumber}
-use Rattle.gpu_trace_lines.specs.declared.error_number.ErrorNumber.TheVariants.{E1, E2, E3, E4, E5, E6, E7, E8, E9, E10}
+use Rattle.gpu_trace_lines.specs.declared.error_number.ErrorNumber.TheVariants.{E1, E2, E3, E4, E5, E6, E7, E8, E9, E10, E11}
 use Rattle.gpu_trace_lines.specs.declared.block.reply.Reply.{Reply}
 use Rattle.gpu_trace_lines.specs.declared.block.reply.Reply.TheVariants as replies
 
@@ -56,6 +56,7 @@ RefusesTake b r E6 = ⊥
 RefusesTake b r E7 = ⊥
 RefusesTake b r E8 = ⊥
 RefusesTake b r E9 = ⊥
+RefusesTake b r E11 = ⊥
 
 -- a request under a number of the caller's, its reply, and the state that it leaves
 abbrev pub Taking : State → ℕ → Request → Reply → State → Type 0

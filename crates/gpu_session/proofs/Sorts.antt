@@ -48,7 +48,8 @@ by_word w =
     (choose (bytes_eq w (codes "write")) asks
     (choose (bytes_eq w (codes "read")) asks
     (choose (bytes_eq w (codes "leaks")) asks
-    (choose (bytes_eq w (codes "capacity")) asks says_nothing))))))))))))))))))
+    (choose (bytes_eq w (codes "capacity")) asks
+    (choose (bytes_eq w (codes "budget")) asks says_nothing)))))))))))))))))))
 
 abbrev by_words : List (List ℕ) → Sort
 by_words [] = says_nothing
@@ -78,6 +79,7 @@ of_ask (asked.Read key at size) f = refl
 of_ask asked.Report f = absurd f
 of_ask asked.Leaks f = refl
 of_ask asked.Capacity f = refl
+of_ask (asked.SetBudget t budget) f = refl
 
 -- a reading that says something
 abbrev Says : Line → Type 0

@@ -1,5 +1,6 @@
 //! Worked rows of the Vulkan allocator.
 
+mod budgets;
 mod bytes;
 mod counting;
 mod log_lines;

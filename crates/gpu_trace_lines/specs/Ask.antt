@@ -7,7 +7,7 @@ use Rattle.gpu_device.specs.declared.vulkan.types.AllocationScheme.{AllocationSc
 use Rattle.gpu_device.specs.declared.vulkan.types.AllocationScheme.TheVariants.{DedicatedBuffer, DedicatedImage, GpuAllocatorManaged}
 use Rattle.gpu_device.specs.declared.vulkan.types.MemoryRequirements.{MemoryRequirements}
 use Rattle.gpu_session_values.specs.declared.command.Command.{Command}
-use Rattle.gpu_session_values.specs.declared.command.Command.TheVariants.{Alloc, Null, Free, Rename, Write, Read, Report, Leaks, Capacity}
+use Rattle.gpu_session_values.specs.declared.command.Command.TheVariants.{Alloc, Null, Free, Rename, Write, Read, Report, Leaks, Capacity, SetBudget}
 use Rattle.gpu_trace_lines.specs.Hex.{hex, AreBytes}
 use Rattle.gpu_trace_lines.specs.Words.{IsName}
 
@@ -26,6 +26,10 @@ scheme_word GpuAllocatorManaged = codes "managed"
 scheme_word (DedicatedBuffer b) = codes "buffer:" ++ decimal b.0
 scheme_word (DedicatedImage i) = codes "image:" ++ decimal i.0
 
+abbrev pub budget_word : Option ℕ → List ℕ
+budget_word None = codes "none"
+budget_word (Some bytes) = decimal bytes
+
 -- `report` is a line of block traces too, and is read there
 abbrev pub words : Command → List (List ℕ)
 words (Alloc key r location linear scheme name) =
@@ -38,6 +42,7 @@ words (Read key at size) = codes "read" ∷ decimal key ∷ decimal at ∷ decim
 words Report = codes "report" ∷ []
 words Leaks = codes "leaks" ∷ []
 words Capacity = codes "capacity" ∷ []
+words (SetBudget t budget) = codes "budget" ∷ decimal t ∷ budget_word budget ∷ []
 
 abbrev pub FitsScheme : AllocationScheme → Type 0
 FitsScheme GpuAllocatorManaged = Unit {0}
@@ -57,6 +62,10 @@ pub record IsPayload (bytes : List ℕ) : Type 0 where
   pub are_bytes : AreBytes bytes
   pub is_length : IsLength (length bytes)
 
+abbrev pub FitsBudget : Option ℕ → Type 0
+FitsBudget None = Unit {0}
+FitsBudget (Some bytes) = bytes < 2 ^ 64
+
 -- what a command's numbers, names and bytes may be
 abbrev pub Fits : Command → Type 0
 Fits (Alloc key r location linear scheme name) = (key < 2 ^ 64) × FitsRequirements r × FitsScheme scheme × IsName (string_bytes name)
@@ -68,6 +77,7 @@ Fits (Read key at size) = (key < 2 ^ 64) × (at < 2 ^ 64) × IsLength size
 Fits Report = ⊥
 Fits Leaks = Unit {0}
 Fits Capacity = Unit {0}
+Fits (SetBudget t budget) = (t < 2 ^ 64) × FitsBudget budget
 
 -- these words are the command's
 pub record Spells (line : List (List ℕ)) (c : Command) : Type 0 where

@@ -3,7 +3,7 @@ use Rattle.std.specs.Prelude.{ℕ, List, codes}
 use Rattle.gpu_values.specs.declared.error.AllocationError.{AllocationError}
 use Rattle.gpu_values.specs.declared.error.AllocationError.TheVariants as errors
 use Rattle.gpu_trace_lines.specs.declared.error_number.ErrorNumber.{ErrorNumber}
-use Rattle.gpu_trace_lines.specs.declared.error_number.ErrorNumber.TheVariants.{E1, E2, E3, E4, E5, E6, E7, E8, E9, E10}
+use Rattle.gpu_trace_lines.specs.declared.error_number.ErrorNumber.TheVariants.{E1, E2, E3, E4, E5, E6, E7, E8, E9, E10, E11}
 
 abbrev pub number_of : AllocationError → ErrorNumber
 number_of errors.OutOfMemory = E1
@@ -16,6 +16,7 @@ number_of errors.BarrierLayoutNeedsDevice10 = E7
 number_of errors.CastableFormatsRequiresEnhancedBarriers = E8
 number_of errors.CastableFormatsRequiresAtLeastDevice12 = E9
 number_of errors.HostOutOfMemory = E10
+number_of errors.BudgetExceeded = E11
 
 abbrev pub number_text : ErrorNumber → List ℕ
 number_text E1 = codes "E1"
@@ -28,3 +29,4 @@ number_text E7 = codes "E7"
 number_text E8 = codes "E8"
 number_text E9 = codes "E9"
 number_text E10 = codes "E10"
+number_text E11 = codes "E11"

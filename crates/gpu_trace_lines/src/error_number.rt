@@ -29,6 +29,8 @@ pub enum ErrorNumber {
     E9,
     /// The host refused memory.
     E10,
+    /// A budget would be passed.
+    E11,
 }
 
 /// The number of an allocator's error.
@@ -46,6 +48,7 @@ pub fn number_of(error: &AllocationError) -> ErrorNumber
         AllocationError::CastableFormatsRequiresEnhancedBarriers => ErrorNumber::E8,
         AllocationError::CastableFormatsRequiresAtLeastDevice12 => ErrorNumber::E9,
         AllocationError::HostOutOfMemory => ErrorNumber::E10,
+        AllocationError::BudgetExceeded => ErrorNumber::E11,
     }
 }
 
@@ -67,6 +70,7 @@ impl fmt::Display for ErrorNumber {
             ErrorNumber::E8 => "E8",
             ErrorNumber::E9 => "E9",
             ErrorNumber::E10 => "E10",
+            ErrorNumber::E11 => "E11",
         })
     }
 }

@@ -8,5 +8,6 @@ pub mod Changes
 pub mod EqualButBytes
 pub mod Ranges
 pub mod KeptBudgets
+pub mod Budgeting
 mod NonInterference
 pub mod Isolation

@@ -163,6 +163,7 @@ module _ (ours : ℕ → Bool) (written : Written) (setup : Setup) (s t new next
   binds_both key w d e (model.Sum n) y same slots h k b c = absurd b
   binds_both key w d e (model.Shows r) y same slots h k b c = absurd b
   binds_both key w d e (model.Tells ts) y same slots h k b c = absurd b
+  binds_both key w d e (model.Budgeted z) y same slots h k b2 c = absurd b2
 
   take_both : (key : ℕ) (w : Wanted) (room also : Bool) → room ≡ also → Takes setup key w room o.call told s new → Takes setup key w also p.call untold t next → Next ours written (Under key (Take w)) told untold new next
   take_both key w false false e h k = next_at (Under key (Take w)) (Fails host_out_of_memory) (Fails host_out_of_memory) h.1 k.1 refl (unchanged h.2 k.2)
@@ -217,6 +218,7 @@ module _ (ours : ℕ → Bool) (written : Written) (setup : Setup) (s t new next
   named_both key a b name (model.Sum z) y same found reply slots m n h k = absurd h
   named_both key a b name (model.Shows r) y same found reply slots m n h k = absurd h
   named_both key a b name (model.Tells ts) y same found reply slots m n h k = absurd h
+  named_both key a b name (model.Budgeted z) y same found reply slots m n h k = absurd h
 
   rename_both : (key : ℕ) (a b : Allocation) (name : List ℕ) → handle a ≡ handle b → s.bound key ≡ Some a → Names setup key a name o.call told s new → Names setup key b name p.call untold t next
       → Next ours written (Under key (Rename name)) told untold new next

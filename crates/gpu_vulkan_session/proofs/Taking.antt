@@ -34,6 +34,7 @@ given_reply setup d a (model.Bytes xs) h = absurd h
 given_reply setup d a (model.Sum n) h = absurd h
 given_reply setup d a (model.Shows r) h = absurd h
 given_reply setup d a (model.Tells ts) h = absurd h
+given_reply setup d a (model.Budgeted b) h = absurd h
 
 failed_reply : (setup : Setup) (d : AllocationCreateDesc) (e : AllocationError) (reply : model.Reply) → Replies setup d (Err e) reply → reply ≡ model.Fails (refusal_of e)
 failed_reply setup d e (model.Given t p) h = absurd h
@@ -43,6 +44,7 @@ failed_reply setup d e (model.Bytes xs) h = absurd h
 failed_reply setup d e (model.Sum n) h = absurd h
 failed_reply setup d e (model.Shows r) h = absurd h
 failed_reply setup d e (model.Tells ts) h = absurd h
+failed_reply setup d e (model.Budgeted b) h = absurd h
 
 mapped_is : (found : Option MemoryTypeInfo) (a : Allocation) → IsSomeAnd found (λ info. (a.memory_properties ≡ info.property_flags) × (a.mapped ≡ is_host_visible info)) → a.mapped ≡ mapped_by found
 mapped_is None a h = absurd h
@@ -73,7 +75,7 @@ shown_same setup d w t p a wants given =
         }
 
 module _ {D : Type 0} (g : Ghosts D) (old new : SessionValue D) (key : ℕ) (w : Wanted) (d : AllocationCreateDesc) (wants : Describes d w) where
-  pub not_taken : (e : AllocationError) → bindings old.bound key ≡ None → bindings new.bound ≡ bindings old.bound → IsAllocateStep g d (Err e) old.allocator new.allocator → Allocates g old.allocator.setup d old.allocator.slots old.allocator.device (Err e) new.allocator.slots new.allocator.device
+  pub not_taken : (e : AllocationError) → bindings old.bound key ≡ None → bindings new.bound ≡ bindings old.bound → IsAllocateStep g d (Err e) old.allocator new.allocator → Allocates g old.allocator.setup old.allocator.budgets d old.allocator.slots old.allocator.device (Err e) new.allocator.slots new.allocator.device
       → (new.allocator.first ≡ old.allocator.first) × (new.allocator.setup ≡ old.allocator.setup) → IsServed g (Under key (Take w)) (orders.Fails (refusal_of e)) old new
   not_taken e none same s allocates constant =
       let is = failed_reply old.allocator.setup d e s.reply s.replies in
@@ -89,11 +91,11 @@ module _ {D : Type 0} (g : Ghosts D) (old new : SessionValue D) (key : ℕ) (w :
         });
         count = step.count;
         latest = step.latest;
-        untouched = λ w2. allocate_leaves g old.allocator.setup d old.allocator.slots new.allocator.slots old.allocator.device new.allocator.device (Err e) allocates;
+        untouched = λ w2. allocate_leaves g old.allocator.setup old.allocator.budgets d old.allocator.slots new.allocator.slots old.allocator.device new.allocator.device (Err e) allocates;
         constant = (constant.1, constant.0);
       }
 
-  pub taken : (a : Allocation) (told : orders.Told) → bindings old.bound key ≡ None → bindings new.bound ≡ bind (bindings old.bound) key (Some a) → IsAllocateStep g d (Ok a) old.allocator new.allocator → Allocates g old.allocator.setup d old.allocator.slots old.allocator.device (Ok a) new.allocator.slots new.allocator.device
+  pub taken : (a : Allocation) (told : orders.Told) → bindings old.bound key ≡ None → bindings new.bound ≡ bind (bindings old.bound) key (Some a) → IsAllocateStep g d (Ok a) old.allocator new.allocator → Allocates g old.allocator.setup old.allocator.budgets d old.allocator.slots old.allocator.device (Ok a) new.allocator.slots new.allocator.device
       → (new.allocator.first ≡ old.allocator.first) × (new.allocator.setup ≡ old.allocator.setup) → told ≡ orders.Given (shown_allocation a) → IsServed g (Under key (Take w)) told old new
   taken a told none same s allocates constant is_told =
       let is = given_reply old.allocator.setup d a s.reply s.replies in
@@ -109,6 +111,6 @@ module _ {D : Type 0} (g : Ghosts D) (old new : SessionValue D) (key : ℕ) (w :
         });
         count = step.count;
         latest = step.latest;
-        untouched = λ w2. allocate_leaves g old.allocator.setup d old.allocator.slots new.allocator.slots old.allocator.device new.allocator.device (Ok a) allocates;
+        untouched = λ w2. allocate_leaves g old.allocator.setup old.allocator.budgets d old.allocator.slots new.allocator.slots old.allocator.device new.allocator.device (Ok a) allocates;
         constant = (constant.1, constant.0);
       }

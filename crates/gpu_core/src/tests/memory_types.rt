@@ -403,3 +403,26 @@ fn all_leaks_of_a_type_come_by_slot_and_offset(rt: HostRuntime) -> Result<(), Fa
     assert!(rt; leaks.next().is_none());
     Ok(())
 }
+
+#[test]
+fn a_budget_counts_whole_blocks(rt: HostRuntime) -> Result<(), Fail> {
+    let sizes = AllocationSizes::new(4 * MB, 4 * MB);
+    let mut blocks = memory_type(&rt, rt.alloc(), true);
+    let b = &mut blocks;
+    assert_eq!(&rt; b.budget(), None);
+    assert!(rt; b.fits_budget(u64::MAX));
+    let piece = place(&rt, b, &sizes, 100, Handle::Red)?;
+    assert!(rt; b.fits_budget(u64::MAX));
+    b.set_budget(Some(8 * MB));
+    assert_eq!(&rt; b.budget(), Some(8 * MB));
+    assert!(rt; b.fits_budget(4 * MB));
+    assert!(rt; !b.fits_budget(4 * MB + 1));
+    assert!(rt; !b.fits_budget(u64::MAX));
+    b.set_budget(Some(MB));
+    assert!(rt; !b.fits_budget(0));
+    assert_eq!(&rt; b.capacity(), 4 * MB);
+    assert!(rt; b.is_live(&piece));
+    b.set_budget(None);
+    assert!(rt; b.fits_budget(4 * MB + 1));
+    Ok(())
+}

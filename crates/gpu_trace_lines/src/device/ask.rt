@@ -1,12 +1,12 @@
 //! What a command of a device trace says.
 
-ghost use Rattle.std.specs.Prelude.{◌≡◌, ◌≢◌, ℕ, ◌<◌, ◌^◌, ◌∷◌, List, Bool, IfOk, MatchOption, IsTrue, ◌↔◌, codes};
+ghost use Rattle.std.specs.Prelude.{◌≡◌, ◌≢◌, ℕ, ◌<◌, ◌^◌, ◌∷◌, List, Bool, Option, IfOk, MatchOption, IsTrue, ◌↔◌, codes};
 ghost use Rattle.std.specs.Fmt.{decimal};
 ghost use Rattle.gpu_values.specs.declared.memory_location.MemoryLocation.{MemoryLocation};
 ghost use Rattle.gpu_device.specs.declared.vulkan.types.AllocationScheme.{AllocationScheme};
 ghost use Rattle.gpu_trace_lines.specs.Hex.{hex, AreBytes};
 ghost use Rattle.gpu_trace_lines.specs.Words.{texts};
-ghost use Rattle.gpu_trace_lines.specs.Ask.{location_word, linear_word, scheme_word, FitsScheme, IsLength, IsPayload, Says};
+ghost use Rattle.gpu_trace_lines.specs.Ask.{location_word, linear_word, scheme_word, budget_word, FitsScheme, FitsBudget, IsLength, IsPayload, Says};
 
 use crate::hex;
 use crate::words::{is_name, number, small_number};
@@ -237,6 +237,31 @@ fn capacity(arguments: &[&str]) -> Option<Command>
     Some(Command::Capacity)
 }
 
+/// A budget: a number of bytes, or `none`.
+fn budget_of(word: &str) -> Option<Option<u64>>
+    ensures { MatchOption result ((b : Option ℕ) → FitsBudget b → word.now ≢ budget_word b) (λ b. FitsBudget b × (word.now ≡ budget_word b)) }
+{
+    if word == "none" {
+        return Some(None);
+    }
+    let bytes = number(word)?;
+    Some(Some(bytes))
+}
+
+fn budget(arguments: &[&str]) -> Option<Command>
+    ensures { Says (codes "budget" ∷ texts arguments.now) result }
+{
+    let [memory_type, budget] = arguments else {
+        return None;
+    };
+    let memory_type = number(memory_type)?;
+    let budget = budget_of(budget)?;
+    Some(Command::SetBudget {
+        memory_type,
+        budget,
+    })
+}
+
 /// The command that a line's words say, or `None` where they say none. Only host memory can be refused.
 pub fn command_of(
     global: Global,
@@ -254,6 +279,7 @@ pub fn command_of(
         "read" => Ok(read(arguments)),
         "leaks" => Ok(leaks(arguments)),
         "capacity" => Ok(capacity(arguments)),
+        "budget" => Ok(budget(arguments)),
         _ => Ok(None),
     }
 }

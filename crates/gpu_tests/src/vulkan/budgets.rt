@@ -1,0 +1,352 @@
+//! Budgets of memory types.
+
+use super::refused::{begin, ends, is_want_of_memory};
+use super::*;
+use gpu_values::{AllocationError, MemoryLocation};
+use std::process::Abort;
+
+/// The size of every block in these rows, in bytes.
+const BLOCK: u64 = 4 * MB;
+
+/// A piece for downloads: it is asked for once.
+fn download(size: u64) -> AllocationCreateDesc<'static> {
+    managed(size, 1, MemoryLocation::GpuToCpu)
+}
+
+/// The number of an error in a trace, as far as these rows meet it; 0 where something was given.
+fn error_of(answer: std::result::Result<Allocation, AllocationError>) -> u64 {
+    match answer {
+        Ok(_) => 0,
+        Err(AllocationError::OutOfMemory) => 1,
+        Err(AllocationError::Internal(_)) => 6,
+        Err(AllocationError::HostOutOfMemory) => 10,
+        Err(AllocationError::BudgetExceeded) => 11,
+        Err(_) => 99,
+    }
+}
+
+fn set(a: &mut Allocator<SimVulkan>, memory_type: usize, budget: Option<u64>) -> Outcome {
+    match a.set_budget(memory_type, budget) {
+        Ok(()) => Ok(()),
+        Err(_) => Err(Fail::from("a budget was refused")),
+    }
+}
+
+fn blocks_within(rt: &impl Abort, a: &mut Allocator<SimVulkan>) -> Outcome {
+    assert_eq!(rt; a.budget(0), None);
+    set(a, 0, Some(2 * BLOCK))?;
+    assert_eq!(rt; a.budget(0), Some(2 * BLOCK));
+    let whole = take(a, &download(BLOCK))?;
+    assert_eq!(rt; place(&whole), (0, 0, Some(1)));
+    let part = take(a, &download(3 * MB))?;
+    assert_eq!(rt; place(&part), (1, 0, Some(2)));
+    let asked = a.device().questions();
+    assert_eq!(rt; error_of(a.allocate(&Discard, &download(3 * MB))), 11);
+    assert_eq!(rt; a.device().questions(), asked);
+    assert_eq!(rt; a.capacity(), 2 * BLOCK);
+    let rest = take(a, &download(MB))?;
+    assert_eq!(rt; place(&rest), (1, 3 * MB, Some(1)));
+    set(a, 0, None)?;
+    let third = take(a, &download(3 * MB))?;
+    assert_eq!(rt; place(&third), (2, 0, Some(2)));
+    assert_eq!(rt; a.capacity(), 3 * BLOCK);
+    set(a, 0, Some(0))?;
+    assert_eq!(rt; a.capacity(), 3 * BLOCK);
+    give(a, third)?;
+    assert_eq!(rt; a.capacity(), 2 * BLOCK);
+    give(a, whole)?;
+    give(a, part)?;
+    give(a, rest)
+}
+
+#[test]
+fn a_budget_bounds_blocks_and_not_pieces(rt: HostRuntime) -> Outcome {
+    let properties = one_type(&[(6, 0)], &[1024 * MB]);
+    let mut a = made(rt.alloc(), &properties, AllocationSizes::new(BLOCK, BLOCK))?;
+    let done = blocks_within(&rt, &mut a);
+    let device = a.destroy(&Discard);
+    assert_eq!(&rt; device.held(), 0);
+    done
+}
+
+fn no_such_type(rt: &impl Abort, a: &mut Allocator<SimVulkan>) -> Outcome {
+    set(a, 0, Some(7))?;
+    match a.set_budget(1, Some(0)) {
+        Err(AllocationError::Internal(fault)) => {
+            assert_eq!(rt; fault.text, "No such memory type.");
+            assert_eq!(rt; fault.code, None);
+        }
+        _ => return Err(Fail::from("there is one memory type")),
+    }
+    assert_eq!(rt; a.budget(0), Some(7));
+    assert_eq!(rt; a.budget(1), None);
+    Ok(())
+}
+
+#[test]
+fn a_budget_of_no_memory_type_is_refused(rt: HostRuntime) -> Outcome {
+    let properties = one_type(&[(6, 0)], &[1024 * MB]);
+    let mut a = made(rt.alloc(), &properties, AllocationSizes::default())?;
+    let done = no_such_type(&rt, &mut a);
+    let _ = a.destroy(&Discard);
+    done
+}
+
+/// An upload with a budget of 0 on one memory type: where it lies, or 11.
+fn upload_beside(
+    alloc: Global,
+    types: &'static [(u32, u32)],
+    bounded: usize,
+) -> std::result::Result<(u64, usize), Fail> {
+    let properties = one_type(types, &[1024 * MB]);
+    let mut a = made(alloc, &properties, AllocationSizes::default())?;
+    let done = set(&mut a, bounded, Some(0));
+    let answer = a.allocate(&Discard, &managed(512, 1, MemoryLocation::CpuToGpu));
+    let _ = a.destroy(&Discard);
+    done?;
+    match answer {
+        Ok(allocation) => Ok((0, allocation.memory_type_index())),
+        Err(error) => Ok((error_of(Err(error)), 0)),
+    }
+}
+
+#[test]
+fn an_upload_past_a_budget_asks_the_plainer_type(rt: HostRuntime) -> Outcome {
+    assert_eq!(&rt; upload_beside(rt.alloc(), &[(6, 0), (7, 0)], 1)?, (0, 0));
+    assert_eq!(&rt; upload_beside(rt.alloc(), &[(7, 0), (6, 0)], 0)?, (11, 0));
+    Ok(())
+}
+
+fn earlier_causes(rt: &impl Abort, a: &mut Allocator<SimVulkan>) -> Outcome {
+    set(a, 0, Some(0))?;
+    let half = managed(9_223_372_036_854_775_808, 1, MemoryLocation::GpuOnly);
+    assert_eq!(rt; error_of(a.allocate(&Discard, &half)), 11);
+    set(a, 0, None)?;
+    let taken = take(a, &half)?;
+    set(a, 0, Some(0))?;
+    assert_eq!(rt; error_of(a.allocate(&Discard, &half)), 1);
+    assert_eq!(rt; a.device().questions(), 1);
+    give(a, taken)
+}
+
+#[test]
+fn sums_past_all_numbers_come_before_budgets(rt: HostRuntime) -> Outcome {
+    let properties = one_type(&[(1, 0)], &[u64::MAX]);
+    let mut a = made(rt.alloc(), &properties, AllocationSizes::default())?;
+    let done = earlier_causes(&rt, &mut a);
+    let _ = a.destroy(&Discard);
+    done
+}
+
+#[test]
+fn requests_above_their_heap_come_before_budgets(rt: HostRuntime) -> Outcome {
+    let properties = one_type(&[(6, 0)], &[4 * MB]);
+    let mut a = made(rt.alloc(), &properties, AllocationSizes::default())?;
+    let done = set(&mut a, 0, Some(0));
+    let above = error_of(a.allocate(&Discard, &download(5 * MB)));
+    let within = error_of(a.allocate(&Discard, &download(MB)));
+    let _ = a.destroy(&Discard);
+    assert_eq!(&rt; above, 1);
+    assert_eq!(&rt; within, 11);
+    done
+}
+
+// ---- each question refused, beside a plain account
+
+/// The size of a block of its own in the script, in bytes.
+const OWN: u64 = 1000;
+
+/// What must be there: the owners of the blocks, each of one piece, and the budget.
+#[derive(Drop)]
+struct Account {
+    live: Vec<Allocation>,
+    budget: Option<u64>,
+    refused: u64,
+}
+
+impl Account {
+    /// The sum of the sizes of all blocks, in bytes.
+    fn capacity(&self) -> u64 {
+        OWN.saturating_mul(self.live.len() as u64)
+    }
+
+    /// Whether another block is within the budget.
+    fn has_budget(&self) -> bool {
+        match self.budget {
+            None => true,
+            Some(budget) => self.capacity().saturating_add(OWN) <= budget,
+        }
+    }
+}
+
+fn agrees(a: &Allocator<SimVulkan>, account: &Account) -> bool {
+    let mut all_live = true;
+    for allocation in &account.live {
+        all_live = all_live && a.is_live(allocation);
+    }
+    all_live
+        && a.capacity() == account.capacity()
+        && a.device().held() == account.live.len()
+        && a.budget(0) == account.budget
+}
+
+/// Asks for a block: the budget is looked at before the device.
+fn ask(rt: &impl Abort, a: &mut Allocator<SimVulkan>, account: &mut Account) -> Outcome {
+    let before = (a.device().questions(), a.device().refusals());
+    let desc = AllocationCreateDesc {
+        allocation_scheme: AllocationScheme::DedicatedBuffer(Buffer(7)),
+        ..download(OWN)
+    };
+    match a.allocate(&Discard, &desc) {
+        Ok(allocation) => {
+            assert!(rt; account.has_budget());
+            account.live.push(allocation)?;
+        }
+        Err(AllocationError::BudgetExceeded) => {
+            assert!(rt; !account.has_budget());
+            assert_eq!(rt; (a.device().questions(), a.device().refusals()), before);
+        }
+        Err(_) => {
+            assert!(rt; account.has_budget() && a.device().refusals() > before.1);
+            account.refused = account.refused.saturating_add(1);
+        }
+    }
+    assert!(rt; agrees(a, account));
+    Ok(())
+}
+
+/// Gives the youngest piece back, and its block with it.
+fn give_youngest(rt: &impl Abort, a: &mut Allocator<SimVulkan>, account: &mut Account) -> Outcome {
+    if let Some(allocation) = account.live.pop() {
+        give(a, allocation)?;
+    }
+    assert!(rt; agrees(a, account));
+    Ok(())
+}
+
+fn script(rt: &impl Abort, a: &mut Allocator<SimVulkan>, account: &mut Account) -> Outcome {
+    for budget in [
+        Some(2000),
+        Some(1000),
+        None,
+        Some(3000),
+        Some(0),
+        Some(1999),
+        Some(4000),
+    ] {
+        set(a, 0, budget)?;
+        account.budget = budget;
+        ask(rt, a, account)?;
+        ask(rt, a, account)?;
+        ask(rt, a, account)?;
+        give_youngest(rt, a, account)?;
+        ask(rt, a, account)?;
+        give_youngest(rt, a, account)?;
+        give_youngest(rt, a, account)?;
+    }
+    Ok(())
+}
+
+/// Runs the script with one question refused, and tells how many were.
+fn refused_at(
+    rt: &impl Abort,
+    alloc: Global,
+    refusals: &[(u64, Refusal)],
+) -> std::result::Result<u64, Fail> {
+    let properties = Properties {
+        refusals,
+        ..one_type(&[(6, 0)], &[1024 * MB])
+    };
+    let mut a = made(alloc, &properties, AllocationSizes::new(BLOCK, BLOCK))?;
+    let mut account = Account {
+        live: Vec::new(alloc),
+        budget: None,
+        refused: 0,
+    };
+    let done = script(rt, &mut a, &mut account);
+    let device = a.destroy(&Discard);
+    done?;
+    assert_eq!(rt; device.held(), 0);
+    assert_eq!(rt; device.refusals(), account.refused);
+    Ok(account.refused)
+}
+
+#[test]
+fn budgets_hold_where_a_question_is_refused(rt: HostRuntime) -> Outcome {
+    for question in 1..100u64 {
+        let by_code = refused_at(&rt, rt.alloc(), &[(question, Refusal::Code(-4))])?;
+        let by_null = refused_at(&rt, rt.alloc(), &[(question, Refusal::Null)])?;
+        assert_eq!(&rt; by_code, by_null);
+        if by_code == 0 {
+            assert!(&rt; question > 20);
+            return Ok(());
+        }
+    }
+    Err(Fail::from("the script has no end"))
+}
+
+// ---- each request for host memory refused (tools/check_refused)
+
+/// What a request within the budget gives; where the host refused memory it is asked for once more.
+fn take_within(
+    rt: &impl Abort,
+    a: &mut Allocator<SimVulkan>,
+    refused: &mut u64,
+) -> std::result::Result<Allocation, Fail> {
+    let before = (a.capacity(), a.budget(0));
+    match a.allocate(&Discard, &download(BLOCK)) {
+        Ok(allocation) => Ok(allocation),
+        Err(error) => {
+            assert!(rt; is_want_of_memory(&error));
+            assert_eq!(rt; (a.capacity(), a.budget(0)), before);
+            *refused = refused.saturating_add(1);
+            take(a, &download(BLOCK))
+        }
+    }
+}
+
+/// A request past the budget: want of host memory comes before it, and then it is asked once more.
+fn past_budget(rt: &impl Abort, a: &mut Allocator<SimVulkan>, refused: &mut u64) {
+    let first = error_of(a.allocate(&Discard, &download(BLOCK)));
+    if first == 10 {
+        *refused = refused.saturating_add(1);
+        assert_eq!(rt; error_of(a.allocate(&Discard, &download(BLOCK))), 11);
+    } else {
+        assert_eq!(rt; first, 11);
+    }
+}
+
+fn calls(rt: &impl Abort, a: &mut Allocator<SimVulkan>, refused: &mut u64) -> Outcome {
+    set(a, 0, Some(BLOCK))?;
+    let first = take_within(rt, a, refused)?;
+    past_budget(rt, a, refused);
+    set(a, 0, Some(2 * BLOCK))?;
+    let second = take_within(rt, a, refused)?;
+    past_budget(rt, a, refused);
+    assert_eq!(rt; a.budget(0), Some(2 * BLOCK));
+    assert_eq!(rt; a.capacity(), 2 * BLOCK);
+    give(a, first)?;
+    give(a, second)
+}
+
+/// Runs the calls, and tells how many were refused.
+fn run(rt: &impl Abort, mut a: Allocator<SimVulkan>) -> std::result::Result<u64, Fail> {
+    let mut refused = 0;
+    let done = calls(rt, &mut a, &mut refused);
+    let device = a.destroy(&Discard);
+    done?;
+    assert_eq!(rt; device.held(), 0);
+    Ok(refused)
+}
+
+#[test]
+fn budgets_lose_nothing_where_memory_is_refused(rt: HostRuntime) -> Outcome {
+    let properties = one_type(&[(6, 0)], &[1024 * MB]);
+    let Ok(device) = simulated(rt.alloc(), &properties) else {
+        return Err(Fail::new(super::refused::TOLD));
+    };
+    let Some(a) = begin(&rt, rt.alloc(), device) else {
+        return Err(Fail::new(super::refused::TOLD));
+    };
+    ends(run(&rt, a)?)
+}

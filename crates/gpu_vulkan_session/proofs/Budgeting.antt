@@ -1,0 +1,20 @@
+-- What a new budget comes to.
+use Rattle.std.proofs.Common.{◌≡◌, ℕ, Option, Some, true, ap}
+use Rattle.gpu_device.specs.declared.vulkan.device.VulkanDevice.{Ghosts}
+use Rattle.gpu_vulkan.specs.State.{State}
+use Rattle.gpu_vulkan.specs.Step as model
+use Rattle.gpu_vulkan.specs.Step.{IsStep}
+use Rattle.gpu_vulkan.proofs.Untouched.{same_leaves}
+use Rattle.gpu_vulkan_session.specs.Session.{Told, SetBudget, told_by}
+use Rattle.gpu_vulkan_session.specs.Served.{SessionValue, session_of, IsServed}
+
+pub budget_set : {D : Type 0} (g : Ghosts D) (old new : SessionValue D) (t : ℕ) (budget : Option ℕ) (reply : model.Reply) (told : Told) → told_by reply ≡ Some told → new.bound ≡ old.bound
+    → new.allocator ≡ record old.allocator { budgets = new.allocator.budgets } → IsStep g (model.SetBudget t budget) reply old.allocator new.allocator → IsServed g (SetBudget t budget) told old new
+budget_set {D} g old new t budget reply told is bound others step = record {
+  environment = record { room = true; call = step.environment };
+  serves = record { reply = reply; step = step.step; told_is = is; bound = ap (λ b. (session_of g (record old { bound = b })).bound) bound };
+  count = step.count;
+  latest = step.latest;
+  untouched = λ e. same_leaves (g.held old.allocator.device) (g.held new.allocator.device) (ap (λ (a : State D). g.held a.device) others);
+  constant = (ap (λ (a : State D). a.setup) others, ap (λ (a : State D). a.first) others);
+}
