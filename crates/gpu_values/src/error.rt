@@ -108,6 +108,16 @@ impl<T: Drop> From<AllocFailed<T>> for AllocationError {
     }
 }
 
+/// So that `?` works on calls that give back what they refuse, as `Allocator::free`: what came back is dropped. Match on the
+/// pair instead where it is still needed.
+impl<T: Drop> From<(AllocationError, T)> for AllocationError {
+    ghost from_gives = { λ refused e. e ≡ refused.0 };
+
+    fn from(refused: (AllocationError, T)) -> AllocationError {
+        refused.0
+    }
+}
+
 /// A fault of an allocator's own, without a code.
 pub fn internal_fault(text: &'static str) -> AllocationError
     ensures { refusal_of result ≡ internal text.now None }
