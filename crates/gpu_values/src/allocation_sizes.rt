@@ -17,6 +17,9 @@ pub(crate) const DOUBLINGS: usize = 7;
 /// The sizes of the blocks that pieces share, in bytes: one range for memory of the device alone, one for memory that
 /// the host can see. With each live block of a memory type the next one's size doubles, at most seven times, up to the
 /// range's maximum. All four limits lie between 4 MB and 256 MB and are multiples of 4 MB.
+///
+/// Keep the defaults where memory is plenty. Choose smaller blocks that double where many programs share the GPU or little is
+/// allocated: less is held and not used, for more questions to the driver at the start.
 #[derive(Clone, Copy, Debug)]
 pub struct AllocationSizes {
     min_device_memblock_size: u64,

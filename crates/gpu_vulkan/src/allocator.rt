@@ -66,7 +66,9 @@ impl<D: VulkanDevice> Model for Allocator<D> {
 impl<D: VulkanDevice> Allocator<D> {
     ghost use Rattle.gpu_vulkan.specs.Lends.{lends_piece, written_at, ChangesOnly};
 
-    /// An allocator without blocks. Where it can't be made, the device comes back.
+    /// An allocator without blocks. Where it can't be made, the device comes back beside the error:
+    /// `InvalidAllocatorCreateDesc` for a null physical device, a granularity that isn't a power of two, more than 32 memory
+    /// types, or a memory type in a heap that isn't there; else `HostOutOfMemory`.
     pub fn new<L: Log>(
         log: &L,
         alloc: Global,
@@ -117,7 +119,19 @@ impl<D: VulkanDevice> Allocator<D> {
         }
     }
 
-    /// Takes a piece of device memory.
+    /// Takes a piece of device memory, of a block that is there or of a new one. The errors, in the order in which they are
+    /// looked at:
+    /// - `InvalidAllocationCreateDesc`: the size is 0, or the alignment isn't a power of two;
+    /// - `NoCompatibleMemoryTypeFound`: no memory type of `memory_type_bits` has the flags that the location must have;
+    /// - `OutOfMemory`: the request is above its heap;
+    /// - `HostOutOfMemory`: the host refused memory for the name, the record or the block's own lists;
+    /// - `OutOfMemory`: a new block would carry the sum of all blocks' sizes past `u64::MAX`;
+    /// - `BudgetExceeded`: a new block would carry its memory type past its budget (`set_budget`);
+    /// - `OutOfMemory`, `Internal` or `FailedToMap`: the device refused the block's memory for want of memory (code -2), for
+    ///   another cause, or refused to map it.
+    ///
+    /// A request for uploads (`CpuToGpu`) that is refused for any cause but want of host memory is tried once more at the first
+    /// memory type with HOST_VISIBLE and HOST_COHERENT, and that answer counts. A refusal leaves everything as it was.
     pub fn allocate<L: Log>(&mut self, log: &L, desc: &AllocationCreateDesc) -> Result<Allocation>
         ensures allocates { Allocates D.VulkanDevice self.old.setup self.old.budgets desc.now self.old.slots self.old.device result self.new.slots self.new.device }
         ensures constant { (self.new.first ≡ self.old.first) × (self.new.setup ≡ self.old.setup) × (self.new.budgets ≡ self.old.budgets) }
@@ -203,7 +217,7 @@ impl<D: VulkanDevice> Allocator<D> {
         }
     }
 
-    /// The bytes of a live allocation in mapped memory; else `None`.
+    /// The bytes of a live allocation in mapped memory; `None` where it is null, isn't live or isn't mapped. It takes no memory.
     pub fn mapped_slice(&self, allocation: &Allocation) -> Option<&[u8]>
         ensures mapped { IsSome result ↔ IsMapped self.now.setup.properties self.now.slots allocation.now }
         ensures value { IfSome result (λ s. bytes_at (D.held self.now.device) allocation.now ≡ Some s.now) }
@@ -231,7 +245,7 @@ impl<D: VulkanDevice> Allocator<D> {
         self.device.range_mut(allocation.device_memory, allocation.offset, allocation.size)
     }
 
-    /// The same where the allocation is live and in mapped memory; else `None`.
+    /// Lends the same bytes to be written where the allocation is live and in mapped memory; else `None`. It takes no memory.
     pub fn mapped_slice_mut(&mut self, allocation: &Allocation) -> Option<&mut [u8]>
         ensures mapped { IsSome result ↔ IsMapped self.old.setup.properties self.old.slots allocation.now }
         ensures value { IfSome result (λ s. bytes_at (D.held self.old.device) allocation.now ≡ Some s.now) }

@@ -1,4 +1,4 @@
-//! The Vulkan allocator: device memory for byte_view and images.
+//! The Vulkan allocator: device memory for buffers and images.
 #![tactic(auto)]
 
 mod allocation;
