@@ -10,8 +10,10 @@ use Rattle.gpu_sim.specs.Simulation.{held_of, properties_of, plan_of, refused_of
 use Rattle.gpu_sim.specs.declared.sim_vulkan.SimVulkan.{SimVulkan}
 use Rattle.gpu_vulkan_blocks.specs.Blocks.{HoldsJustLiveBlocks}
 use Rattle.gpu_vulkan_setup.specs.Setup.{setup_fault}
-use Rattle.gpu_vulkan_session.specs.Session as orders
-use Rattle.gpu_vulkan_session.specs.Served.{SessionValue, order_of, told_of, session_of, IsServed}
+use Rattle.gpu_vulkan_session.specs.Command as session_commands
+use Rattle.gpu_vulkan_session.specs.Command.{SessionCommand}
+use Rattle.gpu_vulkan_session.specs.Session.{SessionInvariant}
+use Rattle.gpu_vulkan_session.specs.Served.{SessionValue, command_of, reply_of, session_of, IsServed}
 use Rattle.gpu_trace_lines.specs.declared.block.command.Command as block_commands
 use Rattle.gpu_trace_lines.specs.declared.block.command.Command.TheVariants as commands
 use Rattle.gpu_block_session.specs.declared.stage.Stage.TheVariants as block_stages
@@ -42,7 +44,7 @@ silent = record { log_memory_information = false; log_leaks_on_shutdown = false;
 -- what holds of a session at any time: the blocks are sound, each number owns its piece, and the device holds what it held at
 -- first and just the live blocks
 pub record IsSound (s : SessionValue SimVulkan) : Type 0 where
-  pub kept : orders.SessionInvariant s.allocator.setup (session_of simulated s)
+  pub kept : SessionInvariant s.allocator.setup (session_of simulated s)
   pub holds : HoldsJustLiveBlocks s.allocator.setup.properties (held_of s.allocator.first) (held_of s.allocator.device) s.allocator.slots
 
 -- a session in which no number stands for anything, over a fresh allocator of that configuration
@@ -65,9 +67,9 @@ Begins c (Refused number) Closed = (e : AllocationError) × (number ≡ number_o
 Begins c _ _ = ⊥
 
 -- a command that a session serves
-abbrev pub Serves : SessionValue SimVulkan → orders.Order → device_replies.Reply → Stage → Type 0
-Serves s order (Served told) (Device t) = IsServed simulated order (told_of told) s t × IsSound t
-Serves s order _ _ = ⊥
+abbrev pub Serves : SessionValue SimVulkan → SessionCommand → device_replies.Reply → Stage → Type 0
+Serves s command (Served reply) (Device t) = IsServed simulated command (reply_of reply) s t × IsSound t
+Serves s command _ _ = ⊥
 
 abbrev pub Ends : SessionValue SimVulkan → device_replies.Reply → Stage → Type 0
 Ends s (Held count) Closed = count ≡ map_len (held_of s.allocator.first)
@@ -84,7 +86,7 @@ Ended _ None = Unit {0}
 -- ---- a line with a reply
 
 abbrev pub ServesSaid : SessionValue SimVulkan → block_commands.Command → device_replies.Reply → Stage → Type 0
-ServesSaid s commands.Report r new = Serves s orders.Report r new
+ServesSaid s commands.Report r new = Serves s session_commands.Report r new
 ServesSaid s _ r new = ⊥
 
 abbrev pub BlockStep : block_stages.the_data → block_commands.Command → Reply → Stage → Type 0
@@ -93,7 +95,7 @@ BlockStep old c _ _ = ⊥
 
 abbrev pub DeviceStep : SessionValue SimVulkan → Line → Reply → Stage → Type 0
 DeviceStep s (lines.Says c) (replies.Device r) new = ServesSaid s c r new
-DeviceStep s (lines.Asks c) (replies.Device r) new = Serves s (order_of c) r new
+DeviceStep s (lines.Asks c) (replies.Device r) new = Serves s (command_of c) r new
 DeviceStep s lines.Destroy (replies.Device r) new = Ends s r new
 DeviceStep s _ _ _ = ⊥
 
@@ -172,9 +174,9 @@ FitsLine (lines.Says c) = FitsBlock c
 FitsLine _ = Unit {0}
 
 -- a session served a command
-abbrev pub ServedSo : SessionValue SimVulkan → orders.Order → Outcome → Stage → Type 0
-ServedSo s order (Replied (replies.Device r)) new = Serves s order r new
-ServedSo s order _ new = ⊥
+abbrev pub ServedSo : SessionValue SimVulkan → SessionCommand → Outcome → Stage → Type 0
+ServedSo s command (Replied (replies.Device r)) new = Serves s command r new
+ServedSo s command _ new = ⊥
 
-abbrev pub MatchServed : SessionValue SimVulkan → orders.Order → Stage × Outcome → Type 0
-MatchServed s order r = ServedSo s order r.1 r.0
+abbrev pub MatchServed : SessionValue SimVulkan → SessionCommand → Stage × Outcome → Type 0
+MatchServed s command r = ServedSo s command r.1 r.0

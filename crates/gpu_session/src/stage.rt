@@ -2,7 +2,7 @@
 
 ghost use Rattle.std.specs.Prelude.{◌≡◌, IfOk};
 ghost use Rattle.gpu_trace_lines.specs.BlockCommand.{Fits};
-ghost use Rattle.gpu_vulkan_session.specs.Served.{order_of};
+ghost use Rattle.gpu_vulkan_session.specs.Served.{command_of};
 ghost use Rattle.gpu_session.specs.Stage.{IsSound, Begins, Does, MatchServed, Ended, FitsLine, is_bad};
 ghost use Rattle.gpu_block_session.specs.declared.stage.Stage.TheVariants as block_stages;
 
@@ -116,7 +116,7 @@ fn configure(
 
 /// Serves one command of a device trace.
 fn serve_ask<L: Log>(log: &L, mut session: Session<SimVulkan>, command: &Ask) -> (Stage, Outcome)
-    ensures { MatchServed session (order_of command.now) result }
+    ensures { MatchServed session (command_of command.now) result }
 {
     let reply = session.serve(log, command);
     show_sound(&session);

@@ -5,14 +5,16 @@ use Rattle.gpu_vulkan.specs.State.{State}
 use Rattle.gpu_vulkan.specs.Step as model
 use Rattle.gpu_vulkan.specs.Step.{IsStep}
 use Rattle.gpu_vulkan.proofs.Untouched.{same_leaves}
-use Rattle.gpu_vulkan_session.specs.Session.{Told, SetBudget, told_by}
+use Rattle.gpu_vulkan_session.specs.Command.{SetBudget}
+use Rattle.gpu_vulkan_session.specs.Reply.{SessionReply}
+use Rattle.gpu_vulkan_session.specs.Session.{reply_by}
 use Rattle.gpu_vulkan_session.specs.Served.{SessionValue, session_of, IsServed}
 
-pub budget_set : {D : Type 0} (g : Ghosts D) (old new : SessionValue D) (t : ℕ) (budget : Option ℕ) (reply : model.Reply) (told : Told) → told_by reply ≡ Some told → new.bound ≡ old.bound
-    → new.allocator ≡ record old.allocator { budgets = new.allocator.budgets } → IsStep g (model.SetBudget t budget) reply old.allocator new.allocator → IsServed g (SetBudget t budget) told old new
-budget_set {D} g old new t budget reply told is bound others step = record {
+pub budget_set : {D : Type 0} (g : Ghosts D) (old new : SessionValue D) (t : ℕ) (budget : Option ℕ) (model_reply : model.Reply) (reply : SessionReply) → reply_by model_reply ≡ Some reply → new.bound ≡ old.bound
+    → new.allocator ≡ record old.allocator { budgets = new.allocator.budgets } → IsStep g (model.SetBudget t budget) model_reply old.allocator new.allocator → IsServed g (SetBudget t budget) reply old new
+budget_set {D} g old new t budget model_reply reply is bound others step = record {
   environment = record { room = true; call = step.environment };
-  serves = record { reply = reply; step = step.step; told_is = is; bound = ap (λ b. (session_of g (record old { bound = b })).bound) bound };
+  serves = record { model_reply = model_reply; step = step.step; reply_is = is; bound = ap (λ b. (session_of g (record old { bound = b })).bound) bound };
   count = step.count;
   latest = step.latest;
   untouched = λ e. same_leaves (g.held old.allocator.device) (g.held new.allocator.device) (ap (λ (a : State D). g.held a.device) others);

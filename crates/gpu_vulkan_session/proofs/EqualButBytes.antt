@@ -14,7 +14,7 @@ use Rattle.gpu_vulkan.specs.Live.{piece_of, IsLive}
 use Rattle.gpu_vulkan_setup.specs.Setup.{Setup}
 use Rattle.gpu_vulkan.specs.Step.{id_of}
 use Rattle.gpu_vulkan.specs.declared.allocation.Allocation.{Allocation}
-use Rattle.gpu_vulkan_session.specs.Session.{SessionState, SessionInvariant, bind, put_range}
+use Rattle.gpu_vulkan_session.specs.Session.{SessionState, SessionInvariant, bind, overwritten}
 use Rattle.gpu_vulkan_session.specs.Laws.{Written}
 use Rattle.gpu_vulkan_session.proofs.Binding.{bound_here, bound_other, eq_true, eq_false}
 use Rattle.gpu_vulkan_session.proofs.Owning.{was_live, null_dead, some_same, none_some}
@@ -209,7 +209,7 @@ module _ (ours : ℕ → Bool) (written : Written) (setup : Setup) (s t new next
   -- as many bytes were put over the same range of one number's list in both, and the same ones if the number is ours
   pub alike_written : (key at : ℕ) (b : Allocation) (ws vs xs ys : List ℕ) → s.bound key ≡ Some b → IsLive s.model.slots b → new.bound ≡ s.bound → next.bound ≡ t.bound → new.model.slots ≡ next.model.slots
       → length ws ≡ length vs → (ours key ≡ true → ws ≡ vs) → s.model.byte_view.allocation_bytes (id_of b) ≡ Some xs → t.model.byte_view.allocation_bytes (id_of b) ≡ Some ys → at + length ws ≤ length xs → at + length vs ≤ length ys
-      → Writes (id_of b) (put_range xs at ws) s.model.byte_view new.model.byte_view → Writes (id_of b) (put_range ys at vs) t.model.byte_view next.model.byte_view
+      → Writes (id_of b) (overwritten xs at ws) s.model.byte_view new.model.byte_view → Writes (id_of b) (overwritten ys at vs) t.model.byte_view next.model.byte_view
       → Alike ours (λ k i. if (key == k) && (nat_le at i && nat_lt i (at + length ws)) then true else written k i) new next
   alike_written key at b ws vs xs ys found live is is_too slots as_many same_bytes here there fits fits_too m n =
       let q = id_of b in

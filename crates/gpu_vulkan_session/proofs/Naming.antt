@@ -11,8 +11,10 @@ use Rattle.gpu_vulkan.specs.Step as model
 use Rattle.gpu_vulkan.specs.Step.{IsStep}
 use Rattle.gpu_vulkan.specs.declared.allocation.Allocation.{Allocation}
 use Rattle.gpu_vulkan.proofs.Untouched.{same_leaves}
-use Rattle.gpu_vulkan_session.specs.Session as orders
-use Rattle.gpu_vulkan_session.specs.Session.{Under, Rename, Told, CommandEnvironment, bind}
+use Rattle.gpu_vulkan_session.specs.Reply as replies
+use Rattle.gpu_vulkan_session.specs.Command.{Under, Rename}
+use Rattle.gpu_vulkan_session.specs.Reply.{SessionReply}
+use Rattle.gpu_vulkan_session.specs.Session.{CommandEnvironment, bind}
 use Rattle.gpu_vulkan_session.specs.Served.{SessionValue, session_of, IsServed}
 use Rattle.gpu_vulkan_session.proofs.Binding.{bindings, bind_same}
 use Rattle.gpu_vulkan_session.proofs.Serving.{serves_at}
@@ -25,29 +27,29 @@ pub same_of : (a b : Allocation) (p : Option (Piece DeviceMemory)) (name : List 
 same_of a b None name e old new h = h.1
 same_of a b (Some p) name e old new h = h.1
 
-module _ {D : Type 0} (g : Ghosts D) (old new : SessionValue D) (key : ℕ) (name : List ℕ) (a b : Allocation) (told : Told) (found : bindings old.bound key ≡ Some a)
+module _ {D : Type 0} (g : Ghosts D) (old new : SessionValue D) (key : ℕ) (name : List ℕ) (a b : Allocation) (reply : SessionReply) (found : bindings old.bound key ≡ Some a)
     (is : bindings new.bound ≡ bind (bindings old.bound) key (Some b)) (constant : (new.allocator.setup ≡ old.allocator.setup) × (new.allocator.first ≡ old.allocator.first)) (device : new.allocator.device ≡ old.allocator.device) where
-  pub renamed : IsNamed a name b → told ≡ orders.Fine → IsStep g (model.Rename a name) model.Done old.allocator new.allocator → IsServed g (Under key (Rename name)) told old new
+  pub renamed : IsNamed a name b → reply ≡ replies.Done → IsStep g (model.Rename a name) model.Done old.allocator new.allocator → IsServed g (Under key (Rename name)) reply old new
   renamed named fine step =
       let o : CommandEnvironment = record { room = true; call = step.environment } in
       record {
         environment = o;
-        serves = serves_at old.allocator.setup (session_of g old) (session_of g new) key (Rename name) o told (Some a) found
-            (record { reply = model.Done; step = step.step; binds = (fine, (b, named, is)) });
+        serves = serves_at old.allocator.setup (session_of g old) (session_of g new) key (Rename name) o reply (Some a) found
+            (record { model_reply = model.Done; step = step.step; binds = (fine, (b, named, is)) });
         count = step.count;
         latest = step.latest;
         untouched = λ e2. same_leaves (g.held old.allocator.device) (g.held new.allocator.device) (ap g.held device);
         constant = constant;
       }
 
-  pub not_renamed : (e : AllocationError) → b ≡ a → told ≡ orders.Fails (refusal_of e) → IsStep g (model.Rename a name) (model.Fails (refusal_of e)) old.allocator new.allocator → IsServed g (Under key (Rename name)) told old new
+  pub not_renamed : (e : AllocationError) → b ≡ a → reply ≡ replies.Error (refusal_of e) → IsStep g (model.Rename a name) (model.Fails (refusal_of e)) old.allocator new.allocator → IsServed g (Under key (Rename name)) reply old new
   not_renamed e same fails step =
       let o : CommandEnvironment = record { room = true; call = step.environment } in
       let unchanged : bindings new.bound ≡ bindings old.bound = is ∙ bind_same (bindings old.bound) key (Some b) (found ∙ ap Some (sym same)) in
       record {
         environment = o;
-        serves = serves_at old.allocator.setup (session_of g old) (session_of g new) key (Rename name) o told (Some a) found
-            (record { reply = model.Fails (refusal_of e); step = step.step; binds = (fails, unchanged) });
+        serves = serves_at old.allocator.setup (session_of g old) (session_of g new) key (Rename name) o reply (Some a) found
+            (record { model_reply = model.Fails (refusal_of e); step = step.step; binds = (fails, unchanged) });
         count = step.count;
         latest = step.latest;
         untouched = λ e2. same_leaves (g.held old.allocator.device) (g.held new.allocator.device) (ap g.held device);

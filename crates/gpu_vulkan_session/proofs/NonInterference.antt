@@ -20,8 +20,10 @@ use Rattle.gpu_vulkan.specs.Step.{ModelState, CallEnvironment, Step, IsRead, id_
 use Rattle.gpu_vulkan.specs.declared.allocation.Allocation.{Allocation}
 use Rattle.gpu_vulkan_setup.specs.declared.describe.AllocationCreateDesc.{AllocationCreateDesc}
 use Rattle.gpu_vulkan.proofs.EqualButBytes.{step_alike}
-use Rattle.gpu_vulkan_session.specs.Session.{SessionState, SessionInvariant, Wanted, Describes, Deed, Take, TakeNull, Return, Rename, Put, Get, Order, Under, Report, Leaks, Capacity, SetBudget, shown, Told, Given, Fine, Data, Busy, Unbound, Unmapped, Past, Fails, CommandEnvironment, Stays, Binds, Takes, TakesNull, Returns, BindsNamed, Names, put_range, PutsIn, PutsOver, Puts, part_told, read_told, Gets, ServesBound, ServesFree, ServesAt, told_by, Asks, Serves, Runs}
-use Rattle.gpu_vulkan_session.specs.Laws.{EqualButBytesDeed, EqualButBytesOrder, EqualButBytesCommandEnvironment, Written, everything, written_after, EqualButBytesTold, EqualButBytesReplies, NonInterference}
+use Rattle.gpu_vulkan_session.specs.Command.{Wanted, Describes, KeyCommand, Alloc, Null, Free, Rename, Write, Read, SessionCommand, Under, Report, Leaks, Capacity, SetBudget}
+use Rattle.gpu_vulkan_session.specs.Reply.{SessionReply, Given, Done, Bytes, Busy, Unbound, Unmapped, OutOfRange, Error}
+use Rattle.gpu_vulkan_session.specs.Session.{SessionState, SessionInvariant, shown, CommandEnvironment, Stays, Binds, ServesAlloc, ServesNull, Frees, BindsNamed, Renames, overwritten, WritesIn, WritesOver, WritesAt, reply_to_part, reply_to_read, ReadsAt, ServesBound, ServesUnbound, ServesAt, reply_by, Asks, Serves, Runs}
+use Rattle.gpu_vulkan_session.specs.Laws.{EqualButBytesKeyCommand, EqualButBytesCommand, EqualButBytesCommandEnvironment, Written, everything, written_after, EqualButBytesAnswer, EqualButBytesReplies, NonInterference}
 use Rattle.gpu_vulkan_session.proofs.Binding.{bound_here}
 use Rattle.gpu_vulkan_session.proofs.Owning.{null_dead, some_same, none_some, freed_null}
 use Rattle.gpu_vulkan_session.proofs.Changes.{Gained, Lost, gained, not_gained, place_piece, lost, named_bytes, shown_same, told_same, summed_same, budget_set_bytes}
@@ -45,8 +47,8 @@ same_place_of a b slots same live =
 free_as : (setup : Setup) (a b : Allocation) (o : CallEnvironment) (s new : ModelState) → handle a ≡ handle b → Step setup (model.Free b) o model.Done s new → Step setup (model.Free a) o model.Done s new
 free_as setup a b o s new same h = (h.0, subst (λ z. FreeStep z.memory_type z.piece model.Done s new) (sym same) h.1)
 
-rename_as : (setup : Setup) (a b : Allocation) (name : List ℕ) (o : CallEnvironment) (reply : model.Reply) (s new : ModelState) → handle a ≡ handle b → Step setup (model.Rename b name) o reply s new → Step setup (model.Rename a name) o reply s new
-rename_as setup a b name o reply s new same h = (h.0, subst (λ z. RenameStep z.memory_type z.piece name o.first.host reply s new) (sym same) h.1)
+rename_as : (setup : Setup) (a b : Allocation) (name : List ℕ) (o : CallEnvironment) (model_reply : model.Reply) (s new : ModelState) → handle a ≡ handle b → Step setup (model.Rename b name) o model_reply s new → Step setup (model.Rename a name) o model_reply s new
+rename_as setup a b name o model_reply s new same h = (h.0, subst (λ z. RenameStep z.memory_type z.piece name o.first.host model_reply s new) (sym same) h.1)
 
 named_handle : (a b : Allocation) (name : List ℕ) → IsNamed a name b → handle b ≡ handle a
 named_handle a b name h = ap handle h.others
@@ -112,15 +114,15 @@ module _ (setup : Setup) (s t : SessionState) (a b : Allocation) (same : handle 
 
 -- ---- one command of each run
 
-pub record Next (ours : ℕ → Bool) (written : Written) (order : Order) (told untold : Told) (new next : SessionState) : Type 0 where
-  pub told_alike : EqualButBytesTold ours written order told untold
-  pub alike : Alike ours (written_after order told written) new next
+pub record Next (ours : ℕ → Bool) (written : Written) (command : SessionCommand) (reply other_reply : SessionReply) (new next : SessionState) : Type 0 where
+  pub reply_alike : EqualButBytesAnswer ours written command reply other_reply
+  pub alike : Alike ours (written_after command reply written) new next
 
-module _ (ours : ℕ → Bool) (written : Written) (setup : Setup) (s t new next : SessionState) (o p : CommandEnvironment) (told untold : Told) (kept : SessionInvariant setup s) (kept_new : SessionInvariant setup new) (alike : Alike ours written s t)
+module _ (ours : ℕ → Bool) (written : Written) (setup : Setup) (s t new next : SessionState) (o p : CommandEnvironment) (reply other_reply : SessionReply) (kept : SessionInvariant setup s) (kept_new : SessionInvariant setup new) (alike : Alike ours written s t)
     (budgets : s.model.budgets ≡ t.model.budgets) (met : EqualButBytesCommandEnvironment o p) where
-  next_at : (order : Order) (x y : Told) → told ≡ x → untold ≡ y → EqualButBytesTold ours written order x y → Alike ours (written_after order x written) new next → Next ours written order told untold new next
-  next_at order x y e f same now =
-      subst (λ z. Next ours written order z untold new next) (sym e) (subst (λ z. Next ours written order x z new next) (sym f) (record { told_alike = same; alike = now }))
+  next_at : (command : SessionCommand) (x y : SessionReply) → reply ≡ x → other_reply ≡ y → EqualButBytesAnswer ours written command x y → Alike ours (written_after command x written) new next → Next ours written command reply other_reply new next
+  next_at command x y e f same now =
+      subst (λ z. Next ours written command z other_reply new next) (sym e) (subst (λ z. Next ours written command x z new next) (sym f) (record { reply_alike = same; alike = now }))
 
   -- nothing changes in both
   unchanged : new ≡ s → next ≡ t → Alike ours written new next
@@ -131,8 +133,8 @@ module _ (ours : ℕ → Bool) (written : Written) (setup : Setup) (s t new next
   -- ---- requests
 
   given_both : (key u : ℕ) (w : Wanted) (d e : AllocationCreateDesc) (q : Piece DeviceMemory) → new.model.slots ≡ next.model.slots → Step setup (model.Allocate d) o.call (model.Given u q) s.model new.model
-      → Step setup (model.Allocate e) p.call (model.Given u q) t.model next.model → Binds setup key w d (model.Given u q) told s.bound new.bound → Binds setup key w e (model.Given u q) untold t.bound next.bound
-      → Next ours written (Under key (Take w)) told untold new next
+      → Step setup (model.Allocate e) p.call (model.Given u q) t.model next.model → Binds setup key w d (model.Given u q) reply s.bound new.bound → Binds setup key w e (model.Given u q) other_reply t.bound next.bound
+      → Next ours written (Under key (Alloc w)) reply other_reply new next
   given_both key u w d e q slots h k b c =
       let one = b.0 in
       let two = c.0 in
@@ -142,22 +144,22 @@ module _ (ours : ℕ → Bool) (written : Written) (setup : Setup) (s t new next
       let n = subst (λ r. Gained (is_mapped setup.properties u) r q.size t.model.byte_view next.model.byte_view) (sym place) (gained setup e u p.call q t.model next.model k) in
       let here : new.bound key ≡ Some one = ap (λ f. f key) b.3 ∙ bound_here s.bound key key (Some one) refl in
       let live : IsLive new.model.slots one = ⊎_elim (λ null. absurd (none_some q (sym null ∙ b.1.piece))) (λ z. z) (kept_new.own.live key one here) in
-      next_at (Under key (Take w)) (Given (shown setup w u q)) (Given (shown setup w u q)) b.2 c.2 refl
+      next_at (Under key (Alloc w)) (Given (shown setup w u q)) (Given (shown setup w u q)) b.2 c.2 refl
       (alike_given ours written setup s t new next kept kept_new alike key one two (is_mapped setup.properties u) q.size b.3 c.3 same live slots m n)
 
   failed_both : (key : ℕ) (w : Wanted) (d e : AllocationCreateDesc) (r : Refusal) → new.model.slots ≡ next.model.slots → Step setup (model.Allocate d) o.call (model.Fails r) s.model new.model
-      → Step setup (model.Allocate e) p.call (model.Fails r) t.model next.model → Binds setup key w d (model.Fails r) told s.bound new.bound → Binds setup key w e (model.Fails r) untold t.bound next.bound
-      → Next ours written (Under key (Take w)) told untold new next
+      → Step setup (model.Allocate e) p.call (model.Fails r) t.model next.model → Binds setup key w d (model.Fails r) reply s.bound new.bound → Binds setup key w e (model.Fails r) other_reply t.bound next.bound
+      → Next ours written (Under key (Alloc w)) reply other_reply new next
   failed_both key w d e r slots h k b c =
-      next_at (Under key (Take w)) (Fails r) (Fails r) b.0 c.0 refl
+      next_at (Under key (Alloc w)) (Error r) (Error r) b.0 c.0 refl
       (alike_kept ours written setup s t new next kept kept_new alike b.1 c.1 slots (not_gained setup d o.call r s.model new.model h) (not_gained setup e p.call r t.model next.model k))
 
   binds_both : (key : ℕ) (w : Wanted) (d e : AllocationCreateDesc) (x y : model.Reply) → EqualButBytesReply x y → new.model.slots ≡ next.model.slots → Step setup (model.Allocate d) o.call x s.model new.model
-      → Step setup (model.Allocate e) p.call y t.model next.model → Binds setup key w d x told s.bound new.bound → Binds setup key w e y untold t.bound next.bound → Next ours written (Under key (Take w)) told untold new next
+      → Step setup (model.Allocate e) p.call y t.model next.model → Binds setup key w d x reply s.bound new.bound → Binds setup key w e y other_reply t.bound next.bound → Next ours written (Under key (Alloc w)) reply other_reply new next
   binds_both key w d e (model.Given u q) y same slots h k b c =
-      given_both key u w d e q slots h (subst (λ z. Step setup (model.Allocate e) p.call z t.model next.model) (sym same) k) b (subst (λ z. Binds setup key w e z untold t.bound next.bound) (sym same) c)
+      given_both key u w d e q slots h (subst (λ z. Step setup (model.Allocate e) p.call z t.model next.model) (sym same) k) b (subst (λ z. Binds setup key w e z other_reply t.bound next.bound) (sym same) c)
   binds_both key w d e (model.Fails r) y same slots h k b c =
-      failed_both key w d e r slots h (subst (λ z. Step setup (model.Allocate e) p.call z t.model next.model) (sym same) k) b (subst (λ z. Binds setup key w e z untold t.bound next.bound) (sym same) c)
+      failed_both key w d e r slots h (subst (λ z. Step setup (model.Allocate e) p.call z t.model next.model) (sym same) k) b (subst (λ z. Binds setup key w e z other_reply t.bound next.bound) (sym same) c)
   binds_both key w d e model.Done y same slots h k b c = absurd b
   binds_both key w d e (model.Bytes xs) y same slots h k b c = absurd b
   binds_both key w d e (model.Sum n) y same slots h k b c = absurd b
@@ -165,19 +167,19 @@ module _ (ours : ℕ → Bool) (written : Written) (setup : Setup) (s t new next
   binds_both key w d e (model.Tells ts) y same slots h k b c = absurd b
   binds_both key w d e (model.Budgeted z) y same slots h k b2 c = absurd b2
 
-  take_both : (key : ℕ) (w : Wanted) (room also : Bool) → room ≡ also → Takes setup key w room o.call told s new → Takes setup key w also p.call untold t next → Next ours written (Under key (Take w)) told untold new next
-  take_both key w false false e h k = next_at (Under key (Take w)) (Fails host_out_of_memory) (Fails host_out_of_memory) h.1 k.1 refl (unchanged h.2 k.2)
+  take_both : (key : ℕ) (w : Wanted) (room also : Bool) → room ≡ also → ServesAlloc setup key w room o.call reply s new → ServesAlloc setup key w also p.call other_reply t next → Next ours written (Under key (Alloc w)) reply other_reply new next
+  take_both key w false false e h k = next_at (Under key (Alloc w)) (Error host_out_of_memory) (Error host_out_of_memory) h.1 k.1 refl (unchanged h.2 k.2)
   take_both key w true true e h k =
-      let law = step_alike setup o.call p.call h.reply k.reply s.model new.model t.model next.model kept.sound alike.slots budgets met.call (model.Allocate h.description) (model.Allocate k.description)
+      let law = step_alike setup o.call p.call h.model_reply k.model_reply s.model new.model t.model next.model kept.sound alike.slots budgets met.call (model.Allocate h.description) (model.Allocate k.description)
       (same_description h.description k.description w h.describes k.describes) h.step k.step in
-      binds_both key w h.description k.description h.reply k.reply law.0 law.1 h.step k.step h.binds k.binds
+      binds_both key w h.description k.description h.model_reply k.model_reply law.0 law.1 h.step k.step h.binds k.binds
   take_both key w false true e h k = absurd (cc)
   take_both key w true false e h k = absurd (cc)
 
-  null_both : (key : ℕ) (room also : Bool) → room ≡ also → TakesNull key room told s new → TakesNull key also untold t next → Next ours written (Under key TakeNull) told untold new next
-  null_both key false false e h k = next_at (Under key TakeNull) (Fails host_out_of_memory) (Fails host_out_of_memory) h.0 k.0 refl (unchanged h.1 k.1)
+  null_both : (key : ℕ) (room also : Bool) → room ≡ also → ServesNull key room reply s new → ServesNull key also other_reply t next → Next ours written (Under key Null) reply other_reply new next
+  null_both key false false e h k = next_at (Under key Null) (Error host_out_of_memory) (Error host_out_of_memory) h.0 k.0 refl (unchanged h.1 k.1)
   null_both key true true e h k =
-      next_at (Under key TakeNull) Fine Fine h.0 k.0 refl
+      next_at (Under key Null) Done Done h.0 k.0 refl
       (alike_null ours written setup s t new next kept kept_new alike key null_allocation null_allocation (ap (λ x. x.bound) h.1) (ap (λ x. x.bound) k.1) refl refl
       (ap (λ x. x.model.slots) h.1 ∙ alike.slots ∙ sym (ap (λ x. x.model.slots) k.1)) (ap (λ x. x.model.byte_view) h.1) (ap (λ x. x.model.byte_view) k.1))
   null_both key false true e h k = absurd (cc)
@@ -185,11 +187,11 @@ module _ (ours : ℕ → Bool) (written : Written) (setup : Setup) (s t new next
 
   -- ---- an allocation goes
 
-  return_both : (key : ℕ) (a b : Allocation) → handle a ≡ handle b → s.bound key ≡ Some a → Returns setup key a o.call told s new → Returns setup key b p.call untold t next → Next ours written (Under key Return) told untold new next
+  return_both : (key : ℕ) (a b : Allocation) → handle a ≡ handle b → s.bound key ≡ Some a → Frees setup key a o.call reply s new → Frees setup key b p.call other_reply t next → Next ours written (Under key Free) reply other_reply new next
   return_both key a b same found h k =
       let step = free_as setup a b p.call t.model next.model same k.step in
       let law = step_alike setup o.call p.call model.Done model.Done s.model new.model t.model next.model kept.sound alike.slots budgets met.call (model.Free a) (model.Free a) refl h.step step in
-      next_at (Under key Return) Fine Fine h.fine k.fine refl (⊎_elim
+      next_at (Under key Free) Done Done h.done k.done refl (⊎_elim
       (λ null.
       alike_unbound ours written setup s t new next kept kept_new alike key h.bound k.bound law.1
       (ap (λ x. x.byte_view) (freed_null setup a o.call s.model new.model h.step null)) (ap (λ x. x.byte_view) (freed_null setup a p.call t.model next.model step null)))
@@ -204,68 +206,68 @@ module _ (ours : ℕ → Bool) (written : Written) (setup : Setup) (s t new next
   -- ---- a new name
 
   named_both : (key : ℕ) (a b : Allocation) (name : List ℕ) (x y : model.Reply) → handle a ≡ handle b → s.bound key ≡ Some a → EqualButBytesReply x y → new.model.slots ≡ next.model.slots → new.model.byte_view ≡ s.model.byte_view → next.model.byte_view ≡ t.model.byte_view
-      → BindsNamed key a name x told s.bound new.bound → BindsNamed key b name y untold t.bound next.bound → Next ours written (Under key (Rename name)) told untold new next
-  named_both key a b name model.Done y same found reply slots m n h k =
-      let k2 = subst (λ z. BindsNamed key b name z untold t.bound next.bound) (sym reply) k in
-      next_at (Under key (Rename name)) Fine Fine h.0 k2.0 refl
+      → BindsNamed key a name x reply s.bound new.bound → BindsNamed key b name y other_reply t.bound next.bound → Next ours written (Under key (Rename name)) reply other_reply new next
+  named_both key a b name model.Done y same found model_reply slots m n h k =
+      let k2 = subst (λ z. BindsNamed key b name z other_reply t.bound next.bound) (sym model_reply) k in
+      next_at (Under key (Rename name)) Done Done h.0 k2.0 refl
       (alike_named ours written setup s t new next kept kept_new alike key a h.1.0 k2.1.0 found h.1.2 k2.1.2 (named_handle a h.1.0 name h.1.1 ∙ same ∙ sym (named_handle b k2.1.0 name k2.1.1))
       (named_handle a h.1.0 name h.1.1) (named_place a h.1.0 name h.1.1) slots m n)
-  named_both key a b name (model.Fails r) y same found reply slots m n h k =
-      let k2 = subst (λ z. BindsNamed key b name z untold t.bound next.bound) (sym reply) k in
-      next_at (Under key (Rename name)) (Fails r) (Fails r) h.0 k2.0 refl (alike_kept ours written setup s t new next kept kept_new alike h.1 k2.1 slots m n)
-  named_both key a b name (model.Given u q) y same found reply slots m n h k = absurd h
-  named_both key a b name (model.Bytes xs) y same found reply slots m n h k = absurd h
-  named_both key a b name (model.Sum z) y same found reply slots m n h k = absurd h
-  named_both key a b name (model.Shows r) y same found reply slots m n h k = absurd h
-  named_both key a b name (model.Tells ts) y same found reply slots m n h k = absurd h
-  named_both key a b name (model.Budgeted z) y same found reply slots m n h k = absurd h
+  named_both key a b name (model.Fails r) y same found model_reply slots m n h k =
+      let k2 = subst (λ z. BindsNamed key b name z other_reply t.bound next.bound) (sym model_reply) k in
+      next_at (Under key (Rename name)) (Error r) (Error r) h.0 k2.0 refl (alike_kept ours written setup s t new next kept kept_new alike h.1 k2.1 slots m n)
+  named_both key a b name (model.Given u q) y same found model_reply slots m n h k = absurd h
+  named_both key a b name (model.Bytes xs) y same found model_reply slots m n h k = absurd h
+  named_both key a b name (model.Sum z) y same found model_reply slots m n h k = absurd h
+  named_both key a b name (model.Shows r) y same found model_reply slots m n h k = absurd h
+  named_both key a b name (model.Tells ts) y same found model_reply slots m n h k = absurd h
+  named_both key a b name (model.Budgeted z) y same found model_reply slots m n h k = absurd h
 
-  rename_both : (key : ℕ) (a b : Allocation) (name : List ℕ) → handle a ≡ handle b → s.bound key ≡ Some a → Names setup key a name o.call told s new → Names setup key b name p.call untold t next
-      → Next ours written (Under key (Rename name)) told untold new next
+  rename_both : (key : ℕ) (a b : Allocation) (name : List ℕ) → handle a ≡ handle b → s.bound key ≡ Some a → Renames setup key a name o.call reply s new → Renames setup key b name p.call other_reply t next
+      → Next ours written (Under key (Rename name)) reply other_reply new next
   rename_both key a b name same found h k =
-      let step = rename_as setup a b name p.call k.reply t.model next.model same k.step in
-      let law = step_alike setup o.call p.call h.reply k.reply s.model new.model t.model next.model kept.sound alike.slots budgets met.call (model.Rename a name) (model.Rename a name) refl h.step step in
-      named_both key a b name h.reply k.reply same found law.0 law.1 (named_bytes setup a name o.call h.reply s.model new.model h.step) (named_bytes setup a name p.call k.reply t.model next.model step) h.binds k.binds
+      let step = rename_as setup a b name p.call k.model_reply t.model next.model same k.step in
+      let law = step_alike setup o.call p.call h.model_reply k.model_reply s.model new.model t.model next.model kept.sound alike.slots budgets met.call (model.Rename a name) (model.Rename a name) refl h.step step in
+      named_both key a b name h.model_reply k.model_reply same found law.0 law.1 (named_bytes setup a name o.call h.model_reply s.model new.model h.step) (named_bytes setup a name p.call k.model_reply t.model next.model step) h.binds k.binds
 
   -- ---- writes
 
   put_fits : (key at : ℕ) (ws vs : List ℕ) (a b : Allocation) (x y : Option (List ℕ)) (fits : Bool) → length ws ≡ length vs → (ours key ≡ true → ws ≡ vs) → s.bound key ≡ Some a → (r : BothRead s t a b x y)
-      → nat_le (at + length ws) (length r.xs) ≡ fits → nat_le (at + length vs) (length r.ys) ≡ fits → PutsIn setup a at ws r.xs fits o told s new → PutsIn setup b at vs r.ys fits p untold t next
-      → Next ours written (Under key (Put at ws)) told untold new next
-  put_fits key at ws vs a b x y false as_many mine found r fit fit_too h k = next_at (Under key (Put at ws)) Past Past h.0 k.0 refl (unchanged h.1.1 k.1.1)
+      → nat_le (at + length ws) (length r.xs) ≡ fits → nat_le (at + length vs) (length r.ys) ≡ fits → WritesIn setup a at ws r.xs fits o reply s new → WritesIn setup b at vs r.ys fits p other_reply t next
+      → Next ours written (Under key (Write at ws)) reply other_reply new next
+  put_fits key at ws vs a b x y false as_many mine found r fit fit_too h k = next_at (Under key (Write at ws)) OutOfRange OutOfRange h.0 k.0 refl (unchanged h.1.1 k.1.1)
   put_fits key at ws vs a b x y true as_many mine found r fit fit_too h k =
       let le : at + length ws ≤ length r.xs = grind (arith, nat_tests, fit) in
       let le_too : at + length vs ≤ length r.ys = grind (arith, nat_tests, fit_too) in
       let one = h.1.1 in
       let two = k.1.1 in
-      let n = subst (λ q. Writes q (put_range r.ys at vs) t.model.byte_view next.model.byte_view) (sym r.place) two.writes in
-      next_at (Under key (Put at ws)) Fine Fine h.0 k.0 refl
+      let n = subst (λ q. Writes q (overwritten r.ys at vs) t.model.byte_view next.model.byte_view) (sym r.place) two.writes in
+      next_at (Under key (Write at ws)) Done Done h.0 k.0 refl
       (alike_written ours written setup s t new next kept kept_new alike key at a ws vs r.xs r.ys found r.live h.2 k.2 (one.slots ∙ alike.slots ∙ sym two.slots) as_many mine r.here r.there le le_too one.writes n)
 
-  put_both : (key at : ℕ) (ws vs : List ℕ) (a b : Allocation) → length ws ≡ length vs → (ours key ≡ true → ws ≡ vs) → handle a ≡ handle b → s.bound key ≡ Some a → Puts setup a at ws o told s new → Puts setup b at vs p untold t next
-      → Next ours written (Under key (Put at ws)) told untold new next
+  put_both : (key at : ℕ) (ws vs : List ℕ) (a b : Allocation) → length ws ≡ length vs → (ours key ≡ true → ws ≡ vs) → handle a ≡ handle b → s.bound key ≡ Some a → WritesAt setup a at ws o reply s new → WritesAt setup b at vs p other_reply t next
+      → Next ours written (Under key (Write at ws)) reply other_reply new next
   put_both key at ws vs a b as_many mine same found h k = ⊎_elim
       (λ none.
-      let one = subst (λ z. PutsOver setup a at ws z o told s new) none.0 h.2 in
-      let two = subst (λ z. PutsOver setup b at vs z p untold t next) none.1 k.2 in
-      next_at (Under key (Put at ws)) Unmapped Unmapped one.0 two.0 refl (unchanged one.1.1 two.1.1))
+      let one = subst (λ z. WritesOver setup a at ws z o reply s new) none.0 h.2 in
+      let two = subst (λ z. WritesOver setup b at vs z p other_reply t next) none.1 k.2 in
+      next_at (Under key (Write at ws)) Unmapped Unmapped one.0 two.0 refl (unchanged one.1.1 two.1.1))
       (λ r.
-      let one = subst (λ z. PutsOver setup a at ws z o told s new) r.left h.2 in
-      let two = subst (λ z. PutsOver setup b at vs z p untold t next) r.right k.2 in
+      let one = subst (λ z. WritesOver setup a at ws z o reply s new) r.left h.2 in
+      let two = subst (λ z. WritesOver setup b at vs z p other_reply t next) r.right k.2 in
       let fit = nat_le (at + length ws) (length r.xs) in
       let fits : nat_le (at + length vs) (length r.ys) ≡ fit = (λ i. nat_le (at + sym as_many i) (sym r.long i)) in
-      put_fits key at ws vs a b h.0 k.0 fit as_many mine found r refl fits one (subst (λ z. PutsIn setup b at vs r.ys z p untold t next) fits two))
+      put_fits key at ws vs a b h.0 k.0 fit as_many mine found r refl fits one (subst (λ z. WritesIn setup b at vs r.ys z p other_reply t next) fits two))
       (both_read setup s t a b same alike.slots alike.sizes h.0 k.0 h.1 k.1)
 
   -- ---- reads
 
   part_both : (key at size : ℕ) (a : Allocation) (xs ys : List ℕ) (room also : Bool) → room ≡ also → length xs ≡ length ys → at + size ≤ length xs
       → (ours key ≡ true → (i : ℕ) → written key i ≡ true → slice_get xs i ≡ slice_get ys i)
-      → told ≡ part_told room (take size (drop at xs)) → untold ≡ part_told also (take size (drop at ys)) → Alike ours written new next → Next ours written (Under key (Get at size)) told untold new next
-  part_both key at size a xs ys false false e long fit bytes h k now = next_at (Under key (Get at size)) (Fails host_out_of_memory) (Fails host_out_of_memory) h k refl now
+      → reply ≡ reply_to_part room (take size (drop at xs)) → other_reply ≡ reply_to_part also (take size (drop at ys)) → Alike ours written new next → Next ours written (Under key (Read at size)) reply other_reply new next
+  part_both key at size a xs ys false false e long fit bytes h k now = next_at (Under key (Read at size)) (Error host_out_of_memory) (Error host_out_of_memory) h k refl now
   part_both key at size a xs ys true true e long fit bytes h k now =
       let fit_too : at + size ≤ length ys = omega (arith, long, fit) in
-      next_at (Under key (Get at size)) (Data (take size (drop at xs))) (Data (take size (drop at ys))) h k (
+      next_at (Under key (Read at size)) (Bytes (take size (drop at xs))) (Bytes (take size (drop at ys))) h k (
         (length_range xs at size fit ∙ sym (length_range ys at size fit_too)),
         λ mine i lt w.
             let small : i < size = (let n = length_range xs at size fit in omega (arith, n, lt)) in
@@ -275,88 +277,88 @@ module _ (ours : ℕ → Bool) (written : Written) (setup : Setup) (s t new next
   part_both key at size a xs ys true false e long fit bytes h k now = absurd (cc)
 
   read_both : (key at size : ℕ) (a b : Allocation) (x y : Option (List ℕ)) (r : BothRead s t a b x y) (fits : Bool) → nat_le (at + size) (length r.xs) ≡ fits → s.bound key ≡ Some a
-      → told ≡ (if fits then part_told o.room (take size (drop at r.xs)) else Past) → untold ≡ (if fits then part_told p.room (take size (drop at r.ys)) else Past) → Alike ours written new next
-      → Next ours written (Under key (Get at size)) told untold new next
-  read_both key at size a b x y r false fit found h k now = next_at (Under key (Get at size)) Past Past h k refl now
+      → reply ≡ (if fits then reply_to_part o.room (take size (drop at r.xs)) else OutOfRange) → other_reply ≡ (if fits then reply_to_part p.room (take size (drop at r.ys)) else OutOfRange) → Alike ours written new next
+      → Next ours written (Under key (Read at size)) reply other_reply new next
+  read_both key at size a b x y r false fit found h k now = next_at (Under key (Read at size)) OutOfRange OutOfRange h k refl now
   read_both key at size a b x y r true fit found h k now =
       let le : at + size ≤ length r.xs = grind (arith, nat_tests, fit) in
       part_both key at size a r.xs r.ys o.room p.room met.room r.long le
       (λ mine i w. sym (ap (λ z. byte_of z i) r.here) ∙ alike.bytes key a mine found r.live i w ∙ ap (λ z. byte_of z i) r.there) h k now
 
-  get_both : (key at size : ℕ) (a b : Allocation) → handle a ≡ handle b → s.bound key ≡ Some a → Gets setup a at size o told s new → Gets setup b at size p untold t next → Next ours written (Under key (Get at size)) told untold new next
+  get_both : (key at size : ℕ) (a b : Allocation) → handle a ≡ handle b → s.bound key ≡ Some a → ReadsAt setup a at size o reply s new → ReadsAt setup b at size p other_reply t next → Next ours written (Under key (Read at size)) reply other_reply new next
   get_both key at size a b same found h k =
       let now = unchanged h.3.1 k.3.1 in
       ⊎_elim
-      (λ none. next_at (Under key (Get at size)) Unmapped Unmapped (h.2 ∙ ap (read_told o.room at size) none.0) (k.2 ∙ ap (read_told p.room at size) none.1) refl now)
+      (λ none. next_at (Under key (Read at size)) Unmapped Unmapped (h.2 ∙ ap (reply_to_read o.room at size) none.0) (k.2 ∙ ap (reply_to_read p.room at size) none.1) refl now)
       (λ r.
       let fit = nat_le (at + size) (length r.xs) in
       let fits : nat_le (at + size) (length r.ys) ≡ fit = (λ i. nat_le (at + size) (sym r.long i)) in
-      read_both key at size a b h.0 k.0 r fit refl found (h.2 ∙ ap (read_told o.room at size) r.left)
-      (k.2 ∙ ap (read_told p.room at size) r.right ∙ ap (λ z. if z then part_told p.room (take size (drop at r.ys)) else Past) fits) now)
+      read_both key at size a b h.0 k.0 r fit refl found (h.2 ∙ ap (reply_to_read o.room at size) r.left)
+      (k.2 ∙ ap (reply_to_read p.room at size) r.right ∙ ap (λ z. if z then reply_to_part p.room (take size (drop at r.ys)) else OutOfRange) fits) now)
       (both_read setup s t a b same alike.slots alike.sizes h.0 k.0 h.1 k.1)
 
   -- ---- under a number
 
-  stay_both : (order : Order) (x : Told) → EqualButBytesTold ours written order x x → ((now : Alike ours written new next) → Alike ours (written_after order x written) new next)
-      → (told ≡ x) × Stays o s new → (untold ≡ x) × Stays p t next → Next ours written order told untold new next
-  stay_both order x same onward h k = next_at order x x h.0 k.0 same (onward (unchanged h.1.1 k.1.1))
+  stay_both : (command : SessionCommand) (x : SessionReply) → EqualButBytesAnswer ours written command x x → ((now : Alike ours written new next) → Alike ours (written_after command x written) new next)
+      → (reply ≡ x) × Stays o s new → (other_reply ≡ x) × Stays p t next → Next ours written command reply other_reply new next
+  stay_both command x same onward h k = next_at command x x h.0 k.0 same (onward (unchanged h.1.1 k.1.1))
 
-  free_both : (key : ℕ) (deed to : Deed) → EqualButBytesDeed (ours key) deed to → ServesFree setup key deed o told s new → ServesFree setup key to p untold t next → Next ours written (Under key deed) told untold new next
-  free_both key (Take w) to e h k = take_both key w o.room p.room met.room h (subst (λ d. ServesFree setup key d p untold t next) (sym e) k)
-  free_both key TakeNull to e h k =
-      let k2 = subst (λ d. ServesFree setup key d p untold t next) (sym e) k in
+  free_both : (key : ℕ) (command to : KeyCommand) → EqualButBytesKeyCommand (ours key) command to → ServesUnbound setup key command o reply s new → ServesUnbound setup key to p other_reply t next → Next ours written (Under key command) reply other_reply new next
+  free_both key (Alloc w) to e h k = take_both key w o.room p.room met.room h (subst (λ d. ServesUnbound setup key d p other_reply t next) (sym e) k)
+  free_both key Null to e h k =
+      let k2 = subst (λ d. ServesUnbound setup key d p other_reply t next) (sym e) k in
       null_both key o.room p.room met.room h.1 k2.1
-  free_both key Return to e h k = stay_both (Under key Return) Unbound refl (λ z. z) h (subst (λ d. ServesFree setup key d p untold t next) (sym e) k)
-  free_both key (Rename name) to e h k = stay_both (Under key (Rename name)) Unbound refl (λ z. z) h (subst (λ d. ServesFree setup key d p untold t next) (sym e) k)
-  free_both key (Get at size) to e h k = stay_both (Under key (Get at size)) Unbound refl (λ z. z) h (subst (λ d. ServesFree setup key d p untold t next) (sym e) k)
-  free_both key (Put at ws) (Put there vs) e h k = stay_both (Under key (Put at ws)) Unbound refl (λ z. z) h k
-  free_both key (Put at ws) (Take w) e h k = absurd (cc)
-  free_both key (Put at ws) TakeNull e h k = absurd (cc)
-  free_both key (Put at ws) Return e h k = absurd (cc)
-  free_both key (Put at ws) (Rename name) e h k = absurd (cc)
-  free_both key (Put at ws) (Get there size) e h k = absurd (cc)
+  free_both key Free to e h k = stay_both (Under key Free) Unbound refl (λ z. z) h (subst (λ d. ServesUnbound setup key d p other_reply t next) (sym e) k)
+  free_both key (Rename name) to e h k = stay_both (Under key (Rename name)) Unbound refl (λ z. z) h (subst (λ d. ServesUnbound setup key d p other_reply t next) (sym e) k)
+  free_both key (Read at size) to e h k = stay_both (Under key (Read at size)) Unbound refl (λ z. z) h (subst (λ d. ServesUnbound setup key d p other_reply t next) (sym e) k)
+  free_both key (Write at ws) (Write there vs) e h k = stay_both (Under key (Write at ws)) Unbound refl (λ z. z) h k
+  free_both key (Write at ws) (Alloc w) e h k = absurd (cc)
+  free_both key (Write at ws) Null e h k = absurd (cc)
+  free_both key (Write at ws) Free e h k = absurd (cc)
+  free_both key (Write at ws) (Rename name) e h k = absurd (cc)
+  free_both key (Write at ws) (Read there size) e h k = absurd (cc)
 
-  bound_both : (key : ℕ) (deed to : Deed) (a b : Allocation) → EqualButBytesDeed (ours key) deed to → handle a ≡ handle b → s.bound key ≡ Some a → ServesBound setup key a deed o told s new → ServesBound setup key b to p untold t next
-      → Next ours written (Under key deed) told untold new next
-  bound_both key (Take w) to a b e same found h k = stay_both (Under key (Take w)) Busy refl (λ z. z) h (subst (λ d. ServesBound setup key b d p untold t next) (sym e) k)
-  bound_both key TakeNull to a b e same found h k = stay_both (Under key TakeNull) Busy refl (λ z. z) h (subst (λ d. ServesBound setup key b d p untold t next) (sym e) k)
-  bound_both key Return to a b e same found h k = return_both key a b same found h (subst (λ d. ServesBound setup key b d p untold t next) (sym e) k)
-  bound_both key (Rename name) to a b e same found h k = rename_both key a b name same found h (subst (λ d. ServesBound setup key b d p untold t next) (sym e) k)
-  bound_both key (Get at size) to a b e same found h k = get_both key at size a b same found h (subst (λ d. ServesBound setup key b d p untold t next) (sym e) k)
-  bound_both key (Put at ws) (Put there vs) a b e same found h k = put_both key at ws vs a b e.1 e.2 same found h (subst (λ z. ServesBound setup key b (Put z vs) p untold t next) (sym e.0) k)
-  bound_both key (Put at ws) (Take w) a b e same found h k = absurd (cc)
-  bound_both key (Put at ws) TakeNull a b e same found h k = absurd (cc)
-  bound_both key (Put at ws) Return a b e same found h k = absurd (cc)
-  bound_both key (Put at ws) (Rename name) a b e same found h k = absurd (cc)
-  bound_both key (Put at ws) (Get there size) a b e same found h k = absurd (cc)
+  bound_both : (key : ℕ) (command to : KeyCommand) (a b : Allocation) → EqualButBytesKeyCommand (ours key) command to → handle a ≡ handle b → s.bound key ≡ Some a → ServesBound setup key a command o reply s new → ServesBound setup key b to p other_reply t next
+      → Next ours written (Under key command) reply other_reply new next
+  bound_both key (Alloc w) to a b e same found h k = stay_both (Under key (Alloc w)) Busy refl (λ z. z) h (subst (λ d. ServesBound setup key b d p other_reply t next) (sym e) k)
+  bound_both key Null to a b e same found h k = stay_both (Under key Null) Busy refl (λ z. z) h (subst (λ d. ServesBound setup key b d p other_reply t next) (sym e) k)
+  bound_both key Free to a b e same found h k = return_both key a b same found h (subst (λ d. ServesBound setup key b d p other_reply t next) (sym e) k)
+  bound_both key (Rename name) to a b e same found h k = rename_both key a b name same found h (subst (λ d. ServesBound setup key b d p other_reply t next) (sym e) k)
+  bound_both key (Read at size) to a b e same found h k = get_both key at size a b same found h (subst (λ d. ServesBound setup key b d p other_reply t next) (sym e) k)
+  bound_both key (Write at ws) (Write there vs) a b e same found h k = put_both key at ws vs a b e.1 e.2 same found h (subst (λ z. ServesBound setup key b (Write z vs) p other_reply t next) (sym e.0) k)
+  bound_both key (Write at ws) (Alloc w) a b e same found h k = absurd (cc)
+  bound_both key (Write at ws) Null a b e same found h k = absurd (cc)
+  bound_both key (Write at ws) Free a b e same found h k = absurd (cc)
+  bound_both key (Write at ws) (Rename name) a b e same found h k = absurd (cc)
+  bound_both key (Write at ws) (Read there size) a b e same found h k = absurd (cc)
 
-  under_both : (key : ℕ) (deed to : Deed) (x y : Option Allocation) → EqualButBytesDeed (ours key) deed to → option_map handle x ≡ option_map handle y → s.bound key ≡ x → ServesAt setup key x deed o told s new → ServesAt setup key y to p untold t next
-      → Next ours written (Under key deed) told untold new next
-  under_both key deed to None None e same found h k = free_both key deed to e h k
-  under_both key deed to (Some a) (Some b) e same found h k = bound_both key deed to a b e (some_same (handle a) (handle b) same) found h k
-  under_both key deed to None (Some b) e same found h k = absurd (cc)
-  under_both key deed to (Some a) None e same found h k = absurd (cc)
+  under_both : (key : ℕ) (command to : KeyCommand) (x y : Option Allocation) → EqualButBytesKeyCommand (ours key) command to → option_map handle x ≡ option_map handle y → s.bound key ≡ x → ServesAt setup key x command o reply s new → ServesAt setup key y to p other_reply t next
+      → Next ours written (Under key command) reply other_reply new next
+  under_both key command to None None e same found h k = free_both key command to e h k
+  under_both key command to (Some a) (Some b) e same found h k = bound_both key command to a b e (some_same (handle a) (handle b) same) found h k
+  under_both key command to None (Some b) e same found h k = absurd (cc)
+  under_both key command to (Some a) None e same found h k = absurd (cc)
 
-  -- ---- what is shown and told
+  -- ---- what is shown and reply
 
-  told_both : (x y : model.Reply) (u v : Told) → EqualButBytesReply x y → told_by x ≡ Some u → told_by y ≡ Some v → u ≡ v
-  told_both (model.Fails r) y u v same e f = some_same u v (sym e ∙ ap told_by same ∙ f)
-  told_both (model.Sum n) y u v same e f = some_same u v (sym e ∙ ap told_by same ∙ f)
-  told_both (model.Shows r) y u v same e f = some_same u v (sym e ∙ ap told_by same ∙ f)
-  told_both (model.Tells ts) y u v same e f = some_same u v (sym e ∙ ap told_by same ∙ f)
+  told_both : (x y : model.Reply) (u v : SessionReply) → EqualButBytesReply x y → reply_by x ≡ Some u → reply_by y ≡ Some v → u ≡ v
+  told_both (model.Fails r) y u v same e f = some_same u v (sym e ∙ ap reply_by same ∙ f)
+  told_both (model.Sum n) y u v same e f = some_same u v (sym e ∙ ap reply_by same ∙ f)
+  told_both (model.Shows r) y u v same e f = some_same u v (sym e ∙ ap reply_by same ∙ f)
+  told_both (model.Tells ts) y u v same e f = some_same u v (sym e ∙ ap reply_by same ∙ f)
   told_both (model.Given i q) y u v same e f = absurd (none_some u e)
-  told_both model.Done y u v same e f = some_same u v (sym e ∙ ap told_by same ∙ f)
+  told_both model.Done y u v same e f = some_same u v (sym e ∙ ap reply_by same ∙ f)
   told_both (model.Budgeted b) y u v same e f = absurd (none_some u e)
   told_both (model.Bytes xs) y u v same e f = absurd (none_some u e)
 
-  asks_both : (call : model.Call) → ((o : CallEnvironment) (reply : model.Reply) (old now : ModelState) → Step setup call o reply old now → now.byte_view ≡ old.byte_view)
+  asks_both : (call : model.Call) → ((o : CallEnvironment) (model_reply : model.Reply) (old now : ModelState) → Step setup call o model_reply old now → now.byte_view ≡ old.byte_view)
       → ((x y : model.Reply) → Step setup call o.call x s.model new.model → Step setup call p.call y t.model next.model → EqualButBytesReply x y × (new.model.slots ≡ next.model.slots))
-      → Asks setup call o.call told s new → Asks setup call p.call untold t next → (told ≡ untold) × Alike ours written new next
+      → Asks setup call o.call reply s new → Asks setup call p.call other_reply t next → (reply ≡ other_reply) × Alike ours written new next
   asks_both call stays law h k =
-      let both = law h.reply k.reply h.step k.step in
-      let one = stays o.call h.reply s.model new.model h.step in
-      let two = stays p.call k.reply t.model next.model k.step in (
-        told_both h.reply k.reply told untold both.0 h.told_is k.told_is,
+      let both = law h.model_reply k.model_reply h.step k.step in
+      let one = stays o.call h.model_reply s.model new.model h.step in
+      let two = stays p.call k.model_reply t.model next.model k.step in (
+        told_both h.model_reply k.model_reply reply other_reply both.0 h.reply_is k.reply_is,
         alike_kept ours written setup s t new next kept kept_new alike h.bound k.bound both.1 one two,
       )
 
@@ -364,49 +366,49 @@ module _ (ours : ℕ → Bool) (written : Written) (setup : Setup) (s t new next
       → EqualButBytesReply x y × (new.model.slots ≡ next.model.slots)
   lawful call same x y h k = step_alike setup o.call p.call x y s.model new.model t.model next.model kept.sound alike.slots budgets met.call call call (same call refl) h k
 
-  step_next : (order other : Order) → EqualButBytesOrder ours order other → Serves setup order o told s new → Serves setup other p untold t next → Next ours written order told untold new next
-  step_next (Under key deed) (Under to deed2) e h k =
-      let k2 = subst (λ z. Serves setup (Under z deed2) p untold t next) (sym e.0) k in
-      under_both key deed deed2 (s.bound key) (t.bound key) e.1 (alike.bound key) refl h k2
-  step_next (Under key deed) Report e h k = absurd (cc)
-  step_next (Under key deed) Leaks e h k = absurd (cc)
-  step_next (Under key deed) Capacity e h k = absurd (cc)
-  step_next (Under key deed) (SetBudget u budget) e h k = absurd (cc)
+  step_next : (command other : SessionCommand) → EqualButBytesCommand ours command other → Serves setup command o reply s new → Serves setup other p other_reply t next → Next ours written command reply other_reply new next
+  step_next (Under key command) (Under to deed2) e h k =
+      let k2 = subst (λ z. Serves setup (Under z deed2) p other_reply t next) (sym e.0) k in
+      under_both key command deed2 (s.bound key) (t.bound key) e.1 (alike.bound key) refl h k2
+  step_next (Under key command) Report e h k = absurd (cc)
+  step_next (Under key command) Leaks e h k = absurd (cc)
+  step_next (Under key command) Capacity e h k = absurd (cc)
+  step_next (Under key command) (SetBudget u budget) e h k = absurd (cc)
   step_next Report other e h k =
-      let both = asks_both model.Report (λ z x y w a. ap (λ q. q.byte_view) (shown_same setup z x y w a)) (lawful model.Report (λ z f. f)) h (subst (λ z. Serves setup z p untold t next) (sym e) k) in
-      record { told_alike = both.0; alike = both.1 }
+      let both = asks_both model.Report (λ z x y w a. ap (λ q. q.byte_view) (shown_same setup z x y w a)) (lawful model.Report (λ z f. f)) h (subst (λ z. Serves setup z p other_reply t next) (sym e) k) in
+      record { reply_alike = both.0; alike = both.1 }
   step_next Leaks other e h k =
-      let both = asks_both model.Leaks (λ z x y w a. ap (λ q. q.byte_view) (told_same setup z x y w a)) (lawful model.Leaks (λ z f. f)) h (subst (λ z. Serves setup z p untold t next) (sym e) k) in
-      record { told_alike = both.0; alike = both.1 }
+      let both = asks_both model.Leaks (λ z x y w a. ap (λ q. q.byte_view) (told_same setup z x y w a)) (lawful model.Leaks (λ z f. f)) h (subst (λ z. Serves setup z p other_reply t next) (sym e) k) in
+      record { reply_alike = both.0; alike = both.1 }
   step_next Capacity other e h k =
-      let both = asks_both model.Capacity (λ z x y w a. ap (λ q. q.byte_view) (summed_same setup z x y w a)) (lawful model.Capacity (λ z f. f)) h (subst (λ z. Serves setup z p untold t next) (sym e) k) in
-      record { told_alike = both.0; alike = both.1 }
+      let both = asks_both model.Capacity (λ z x y w a. ap (λ q. q.byte_view) (summed_same setup z x y w a)) (lawful model.Capacity (λ z f. f)) h (subst (λ z. Serves setup z p other_reply t next) (sym e) k) in
+      record { reply_alike = both.0; alike = both.1 }
   step_next (SetBudget u budget) other e h k =
       let call = model.SetBudget u budget in
-      let both = asks_both call (budget_set_bytes setup u budget) (lawful call (λ z f. f)) h (subst (λ z. Serves setup z p untold t next) (sym e) k) in
-      record { told_alike = both.0; alike = both.1 }
+      let both = asks_both call (budget_set_bytes setup u budget) (lawful call (λ z f. f)) h (subst (λ z. Serves setup z p other_reply t next) (sym e) k) in
+      record { reply_alike = both.0; alike = both.1 }
 
 -- ---- whole runs
 
-runs_alike : (ours : ℕ → Bool) (written : Written) (setup : Setup) (s t end other_end : SessionState) (orders others : List Order) (o p : List CommandEnvironment) (told untold : List Told) → SessionInvariant setup s → Alike ours written s t → s.model.budgets ≡ t.model.budgets
-    → AllZip (EqualButBytesOrder ours) orders others → AllZip EqualButBytesCommandEnvironment o p → Runs setup s orders o told end → Runs setup t others p untold other_end → EqualButBytesReplies ours written orders told untold
+runs_alike : (ours : ℕ → Bool) (written : Written) (setup : Setup) (s t end other_end : SessionState) (commands others : List SessionCommand) (o p : List CommandEnvironment) (reply other_reply : List SessionReply) → SessionInvariant setup s → Alike ours written s t → s.model.budgets ≡ t.model.budgets
+    → AllZip (EqualButBytesCommand ours) commands others → AllZip EqualButBytesCommandEnvironment o p → Runs setup s commands o reply end → Runs setup t others p other_reply other_end → EqualButBytesReplies ours written commands reply other_reply
 runs_alike ours written setup s t end other_end [] [] [] [] [] [] kept a same x c h k = tt
-runs_alike ours written setup s t end other_end [] [] [] [] [] (v ∷ untold) kept a same x c h k = absurd k
-runs_alike ours written setup s t end other_end [] [] [] [] (u ∷ told) untold kept a same x c h k = absurd h
-runs_alike ours written setup s t end other_end [] [] [] (q ∷ p) told untold kept a same x c h k = absurd c
-runs_alike ours written setup s t end other_end [] [] (r ∷ o) p told untold kept a same x c h k = absurd h
-runs_alike ours written setup s t end other_end [] (y ∷ others) o p told untold kept a same x c h k = absurd x
-runs_alike ours written setup s t end other_end (y ∷ orders) [] o p told untold kept a same x c h k = absurd x
-runs_alike ours written setup s t end other_end (y ∷ orders) (z ∷ others) [] p told untold kept a same x c h k = absurd h
-runs_alike ours written setup s t end other_end (y ∷ orders) (z ∷ others) (r ∷ o) [] told untold kept a same x c h k = absurd c
-runs_alike ours written setup s t end other_end (y ∷ orders) (z ∷ others) (r ∷ o) (q ∷ p) [] untold kept a same x c h k = absurd h
-runs_alike ours written setup s t end other_end (y ∷ orders) (z ∷ others) (r ∷ o) (q ∷ p) (u ∷ told) [] kept a same x c h k = absurd k
-runs_alike ours written setup s t end other_end (y ∷ orders) (z ∷ others) (r ∷ o) (q ∷ p) (u ∷ told) (v ∷ untold) kept a same x c h k =
+runs_alike ours written setup s t end other_end [] [] [] [] [] (v ∷ other_reply) kept a same x c h k = absurd k
+runs_alike ours written setup s t end other_end [] [] [] [] (u ∷ reply) other_reply kept a same x c h k = absurd h
+runs_alike ours written setup s t end other_end [] [] [] (q ∷ p) reply other_reply kept a same x c h k = absurd c
+runs_alike ours written setup s t end other_end [] [] (r ∷ o) p reply other_reply kept a same x c h k = absurd h
+runs_alike ours written setup s t end other_end [] (y ∷ others) o p reply other_reply kept a same x c h k = absurd x
+runs_alike ours written setup s t end other_end (y ∷ commands) [] o p reply other_reply kept a same x c h k = absurd x
+runs_alike ours written setup s t end other_end (y ∷ commands) (z ∷ others) [] p reply other_reply kept a same x c h k = absurd h
+runs_alike ours written setup s t end other_end (y ∷ commands) (z ∷ others) (r ∷ o) [] reply other_reply kept a same x c h k = absurd c
+runs_alike ours written setup s t end other_end (y ∷ commands) (z ∷ others) (r ∷ o) (q ∷ p) [] other_reply kept a same x c h k = absurd h
+runs_alike ours written setup s t end other_end (y ∷ commands) (z ∷ others) (r ∷ o) (q ∷ p) (u ∷ reply) [] kept a same x c h k = absurd k
+runs_alike ours written setup s t end other_end (y ∷ commands) (z ∷ others) (r ∷ o) (q ∷ p) (u ∷ reply) (v ∷ other_reply) kept a same x c h k =
     let n = step_next ours written setup s t h.0 k.0 r q u v kept h.2 a same c.0 y z x.0 h.1 k.1 in
     let now = budgets_next ours setup s t h.0 k.0 r q u v kept.sound a.slots same c.0 y z x.0 h.1 k.1 in
-    (n.told_alike, runs_alike ours (written_after y u written) setup h.0 k.0 end other_end orders others o p told untold h.2 n.alike now x.1 c.1 h.3 k.3)
+    (n.reply_alike, runs_alike ours (written_after y u written) setup h.0 k.0 end other_end commands others o p reply other_reply h.2 n.alike now x.1 c.1 h.3 k.3)
 
 pub non_interference : NonInterference
-non_interference ours setup start end other_end orders others o p told untold kept x c h k =
-    runs_alike ours everything setup start start end other_end orders others o p told untold kept
+non_interference ours setup start end other_end commands others o p reply other_reply kept x c h k =
+    runs_alike ours everything setup start start end other_end commands others o p reply other_reply kept
     (record { bound = λ j. refl; slots = refl; sizes = λ q. refl; bytes = λ key a mine e live i w. refl }) refl x c h k

@@ -7,8 +7,10 @@ use Rattle.gpu_vulkan.specs.State.{State}
 use Rattle.gpu_vulkan.specs.Step as model
 use Rattle.gpu_vulkan.specs.Step.{IsRead, IsStep}
 use Rattle.gpu_vulkan.specs.declared.allocation.Allocation.{Allocation}
-use Rattle.gpu_vulkan_session.specs.Session as orders
-use Rattle.gpu_vulkan_session.specs.Session.{Under, Put, Get, Told, CommandEnvironment, put_range, read_told, part_told, PutsOver, PutsIn}
+use Rattle.gpu_vulkan_session.specs.Reply as replies
+use Rattle.gpu_vulkan_session.specs.Command.{Under, Write, Read}
+use Rattle.gpu_vulkan_session.specs.Reply.{SessionReply}
+use Rattle.gpu_vulkan_session.specs.Session.{CommandEnvironment, overwritten, reply_to_read, reply_to_part, WritesOver, WritesIn}
 use Rattle.gpu_vulkan_session.specs.Served.{SessionValue, session_of, IsServed}
 use Rattle.gpu_vulkan_session.proofs.Binding.{bindings}
 use Rattle.gpu_vulkan_session.proofs.Ranges.{length_put}
@@ -19,22 +21,22 @@ pub read_of : {D : Type 0} (g : Ghosts D) (s : SessionValue D) (a : Allocation) 
 read_of g s a bytes step = step.step.1
 
 module _ {D : Type 0} (g : Ghosts D) (s : SessionValue D) (key at : ℕ) where
-  -- a read that is told something, with room for its bytes or not
-  pub gets_bound : (size : ℕ) (a : Allocation) (bytes : Option (List ℕ)) (o : CommandEnvironment) (told : Told) → bindings s.bound key ≡ Some a → IsRead s.allocator.setup a (session_of g s).model bytes
-      → o.call ≡ quiet.call → told ≡ read_told o.room at size bytes → IsServed g (Under key (Get at size)) told s s
-  gets_bound size a bytes o told found read met is =
-      served_quietly g key (Get at size) told s o (Some a) met found (bytes, read, is, (subst (λ c. model.MeetsNothing c) (sym met) (refl, refl), refl))
+  -- a read that is reply something, with room for its bytes or not
+  pub gets_bound : (size : ℕ) (a : Allocation) (bytes : Option (List ℕ)) (o : CommandEnvironment) (reply : SessionReply) → bindings s.bound key ≡ Some a → IsRead s.allocator.setup a (session_of g s).model bytes
+      → o.call ≡ quiet.call → reply ≡ reply_to_read o.room at size bytes → IsServed g (Under key (Read at size)) reply s s
+  gets_bound size a bytes o reply found read met is =
+      served_quietly g key (Read at size) reply s o (Some a) met found (bytes, read, is, (subst (λ c. model.MeetsNothing c) (sym met) (refl, refl), refl))
 
-  -- a write that is told that nothing was done
-  pub puts_nothing : (others : List ℕ) (a : Allocation) (bytes : Option (List ℕ)) (told : Told) → bindings s.bound key ≡ Some a → IsRead s.allocator.setup a (session_of g s).model bytes
-      → PutsOver s.allocator.setup a at others bytes quiet told (session_of g s) (session_of g s) → IsServed g (Under key (Put at others)) told s s
-  puts_nothing others a bytes told found read puts = served_quietly g key (Put at others) told s quiet (Some a) refl found (bytes, read, puts)
+  -- a write that is reply that nothing was done
+  pub puts_nothing : (others : List ℕ) (a : Allocation) (bytes : Option (List ℕ)) (reply : SessionReply) → bindings s.bound key ≡ Some a → IsRead s.allocator.setup a (session_of g s).model bytes
+      → WritesOver s.allocator.setup a at others bytes quiet reply (session_of g s) (session_of g s) → IsServed g (Under key (Write at others)) reply s s
+  puts_nothing others a bytes reply found read puts = served_quietly g key (Write at others) reply s quiet (Some a) refl found (bytes, read, puts)
 
-pub past_told : (room : Bool) (at size : ℕ) (xs : List ℕ) → nat_le (at + size) (length xs) ≡ false → read_told room at size (Some xs) ≡ orders.Past
-past_told room at size xs e = ap (λ b. if b then part_told room (take size (drop at xs)) else orders.Past) e
+pub past_told : (room : Bool) (at size : ℕ) (xs : List ℕ) → nat_le (at + size) (length xs) ≡ false → reply_to_read room at size (Some xs) ≡ replies.OutOfRange
+past_told room at size xs e = ap (λ b. if b then reply_to_part room (take size (drop at xs)) else replies.OutOfRange) e
 
-pub data_told : (room : Bool) (at size : ℕ) (xs : List ℕ) → nat_le (at + size) (length xs) ≡ true → read_told room at size (Some xs) ≡ part_told room (take size (drop at xs))
-data_told room at size xs e = ap (λ b. if b then part_told room (take size (drop at xs)) else orders.Past) e
+pub data_told : (room : Bool) (at size : ℕ) (xs : List ℕ) → nat_le (at + size) (length xs) ≡ true → reply_to_read room at size (Some xs) ≡ reply_to_part room (take size (drop at xs))
+data_told room at size xs e = ap (λ b. if b then reply_to_part room (take size (drop at xs)) else replies.OutOfRange) e
 
 true_false : true ≡ false → ⊥
 true_false e = cc
@@ -45,19 +47,19 @@ fits_le n m fits = grind (arith, nat_tests, fits)
 module _ {D : Type 0} (g : Ghosts D) (s : SessionValue D) (key at : ℕ) where
   -- a write over an allocation's bytes
   pub puts_bound : (others : List ℕ) (a : Allocation) (xs ys zs : List ℕ) (size : ℕ) (after : State D) → bindings s.bound key ≡ Some a → IsRead s.allocator.setup a (session_of g s).model (Some xs)
-      → nat_le (at + length others) (length xs) ≡ true → Some xs ≡ Some ys → zs ≡ put_range ys at others → length xs ≡ size
+      → nat_le (at + length others) (length xs) ≡ true → Some xs ≡ Some ys → zs ≡ overwritten ys at others → length xs ≡ size
       → (length zs ≡ size → IsStep g (model.Write a zs) model.Done s.allocator after) → (after.setup ≡ s.allocator.setup) × (after.first ≡ s.allocator.first)
-      → IsServed g (Under key (Put at others)) orders.Fine s (record { allocator = after; bound = s.bound })
+      → IsServed g (Under key (Write at others)) replies.Done s (record { allocator = after; bound = s.bound })
   puts_bound others a xs ys zs size after found read fits same put long writes constant =
       let is : xs ≡ ys = cc in
-      let put_xs : zs ≡ put_range xs at others = put ∙ ap (λ l. put_range l at others) (sym is) in
+      let put_xs : zs ≡ overwritten xs at others = put ∙ ap (λ l. overwritten l at others) (sym is) in
       let step = subst (λ l. IsStep g (model.Write a l) model.Done s.allocator after) put_xs (writes (ap length put_xs ∙ length_put xs at others (fits_le (at + length others) (length xs) fits) ∙ long)) in
       let o : CommandEnvironment = record { room = true; call = step.environment } in
       let new : SessionValue D = record { allocator = after; bound = s.bound } in
       record {
         environment = o;
-        serves = serves_at s.allocator.setup (session_of g s) (session_of g new) key (Put at others) o orders.Fine (Some a) found
-            (Some xs, read, subst (λ b. PutsIn s.allocator.setup a at others xs b o orders.Fine (session_of g s) (session_of g new)) (sym fits) (refl, step.step, refl));
+        serves = serves_at s.allocator.setup (session_of g s) (session_of g new) key (Write at others) o replies.Done (Some a) found
+            (Some xs, read, subst (λ b. WritesIn s.allocator.setup a at others xs b o replies.Done (session_of g s) (session_of g new)) (sym fits) (refl, step.step, refl));
         count = step.count;
         latest = step.latest;
         untouched = λ e. absurd (true_false e);
@@ -66,7 +68,7 @@ module _ {D : Type 0} (g : Ghosts D) (s : SessionValue D) (key at : ℕ) where
 
   -- a write past the end
   pub puts_past : (others : List ℕ) (a : Allocation) (xs : List ℕ) → bindings s.bound key ≡ Some a → IsRead s.allocator.setup a (session_of g s).model (Some xs)
-      → nat_le (at + length others) (length xs) ≡ false → IsServed g (Under key (Put at others)) orders.Past s s
+      → nat_le (at + length others) (length xs) ≡ false → IsServed g (Under key (Write at others)) replies.OutOfRange s s
   puts_past others a xs found read past =
-      puts_nothing g s key at others a (Some xs) orders.Past found read
-      (subst (λ b. PutsIn s.allocator.setup a at others xs b quiet orders.Past (session_of g s) (session_of g s)) (sym past) (refl, stayed (session_of g s)))
+      puts_nothing g s key at others a (Some xs) replies.OutOfRange found read
+      (subst (λ b. WritesIn s.allocator.setup a at others xs b quiet replies.OutOfRange (session_of g s) (session_of g s)) (sym past) (refl, stayed (session_of g s)))

@@ -10,7 +10,9 @@ use Rattle.gpu_vulkan.specs.Step as model
 use Rattle.gpu_vulkan.specs.Step.{CallEnvironment, nothing_met, MeetsNothing, count_after, latest_after, IsStep}
 use Rattle.gpu_vulkan.proofs.Untouched.{same_leaves}
 use Rattle.gpu_vulkan.specs.declared.allocation.Allocation.{Allocation}
-use Rattle.gpu_vulkan_session.specs.Session.{SessionState, IsOwn, SessionInvariant, Deed, Order, Told, CommandEnvironment, Under, Stays, ServesAt, Serves, Runs, Asks, told_by}
+use Rattle.gpu_vulkan_session.specs.Command.{KeyCommand, SessionCommand, Under}
+use Rattle.gpu_vulkan_session.specs.Reply.{SessionReply}
+use Rattle.gpu_vulkan_session.specs.Session.{SessionState, IsOwn, SessionInvariant, CommandEnvironment, Stays, ServesAt, Serves, Runs, Asks, reply_by}
 use Rattle.gpu_vulkan_session.specs.Served.{SessionValue, session_of, count_over, latest_over, IsServed, ServesEach}
 
 -- nothing is met with
@@ -24,16 +26,16 @@ short = record { room = false; call = record { first = nothing_met; second = not
 pub stayed : (s : SessionState) → Stays quiet s s
 stayed s = ((refl, refl), refl)
 
-pub serves_at : (setup : Setup) (s new : SessionState) (key : ℕ) (deed : Deed) (o : CommandEnvironment) (told : Told) (found : Option Allocation) → s.bound key ≡ found → ServesAt setup key found deed o told s new → Serves setup (Under key deed) o told s new
-serves_at setup s new key deed o told found e h = subst (λ f. ServesAt setup key f deed o told s new) (sym e) h
+pub serves_at : (setup : Setup) (s new : SessionState) (key : ℕ) (command : KeyCommand) (o : CommandEnvironment) (reply : SessionReply) (found : Option Allocation) → s.bound key ≡ found → ServesAt setup key found command o reply s new → Serves setup (Under key command) o reply s new
+serves_at setup s new key command o reply found e h = subst (λ f. ServesAt setup key f command o reply s new) (sym e) h
 
 module _ {D : Type 0} (g : Ghosts D) where
   -- nothing is asked and nothing changes
-  pub served_quietly : (key : ℕ) (deed : Deed) (told : Told) (old : SessionValue D) (o : CommandEnvironment) (found : Option Allocation) → o.call ≡ quiet.call → (session_of g old).bound key ≡ found
-      → ServesAt old.allocator.setup key found deed o told (session_of g old) (session_of g old) → IsServed g (Under key deed) told old old
-  served_quietly key deed told old o found met e h = record {
+  pub served_quietly : (key : ℕ) (command : KeyCommand) (reply : SessionReply) (old : SessionValue D) (o : CommandEnvironment) (found : Option Allocation) → o.call ≡ quiet.call → (session_of g old).bound key ≡ found
+      → ServesAt old.allocator.setup key found command o reply (session_of g old) (session_of g old) → IsServed g (Under key command) reply old old
+  served_quietly key command reply old o found met e h = record {
     environment = o;
-    serves = serves_at old.allocator.setup (session_of g old) (session_of g old) key deed o told found e h;
+    serves = serves_at old.allocator.setup (session_of g old) (session_of g old) key command o reply found e h;
     count = ap (λ c. count_after (count_after (g.refused old.allocator.device) c.first.asked) c.second.asked) (sym met);
     latest = ap (λ c. latest_after (latest_after (g.latest old.allocator.device) c.first.asked) c.second.asked) (sym met);
     untouched = λ e. same_leaves (g.held old.allocator.device) (g.held old.allocator.device) refl;
@@ -41,22 +43,22 @@ module _ {D : Type 0} (g : Ghosts D) where
   }
 
   -- a call that is no one number's
-  pub asked : (call : model.Call) (reply : model.Reply) (told : Told) (old : SessionValue D) → told_by reply ≡ Some told → (step : IsStep g call reply old.allocator old.allocator)
-      → Asks old.allocator.setup call step.environment told (session_of g old) (session_of g old)
-  asked call reply told old is step = record { reply = reply; step = step.step; told_is = is; bound = refl }
+  pub asked : (call : model.Call) (model_reply : model.Reply) (reply : SessionReply) (old : SessionValue D) → reply_by model_reply ≡ Some reply → (step : IsStep g call model_reply old.allocator old.allocator)
+      → Asks old.allocator.setup call step.environment reply (session_of g old) (session_of g old)
+  asked call model_reply reply old is step = record { model_reply = model_reply; step = step.step; reply_is = is; bound = refl }
 
 -- ---- runs
 
 -- a run goes on by one command
-pub runs_more : (setup : Setup) (s mid new : SessionState) (orders : List Order) (order : Order) (environment : List CommandEnvironment) (o : CommandEnvironment) (told : List Told) (t : Told)
-    → Runs setup s orders environment told mid → Serves setup order o t mid new → SessionInvariant setup new → Runs setup s (orders ++ order ∷ []) (environment ++ o ∷ []) (told ++ t ∷ []) new
-runs_more setup s mid new [] order [] o [] t same step own = (new, subst (λ x. Serves setup order o t x new) same step, own, refl)
-runs_more setup s mid new [] order [] o (t2 ∷ told) t run step own = absurd run
-runs_more setup s mid new [] order (o2 ∷ environment) o told t run step own = absurd run
-runs_more setup s mid new (order2 ∷ orders) order [] o told t run step own = absurd run
-runs_more setup s mid new (order2 ∷ orders) order (o2 ∷ environment) o [] t run step own = absurd run
-runs_more setup s mid new (order2 ∷ orders) order (o2 ∷ environment) o (t2 ∷ told) t run step own =
-    (run.0, run.1, run.2, runs_more setup run.0 mid new orders order environment o told t run.3 step own)
+pub runs_more : (setup : Setup) (s mid new : SessionState) (commands : List SessionCommand) (command : SessionCommand) (environment : List CommandEnvironment) (o : CommandEnvironment) (reply : List SessionReply) (t : SessionReply)
+    → Runs setup s commands environment reply mid → Serves setup command o t mid new → SessionInvariant setup new → Runs setup s (commands ++ command ∷ []) (environment ++ o ∷ []) (reply ++ t ∷ []) new
+runs_more setup s mid new [] command [] o [] t same step own = (new, subst (λ x. Serves setup command o t x new) same step, own, refl)
+runs_more setup s mid new [] command [] o (t2 ∷ reply) t run step own = absurd run
+runs_more setup s mid new [] command (o2 ∷ environment) o reply t run step own = absurd run
+runs_more setup s mid new (order2 ∷ commands) command [] o reply t run step own = absurd run
+runs_more setup s mid new (order2 ∷ commands) command (o2 ∷ environment) o [] t run step own = absurd run
+runs_more setup s mid new (order2 ∷ commands) command (o2 ∷ environment) o (t2 ∷ reply) t run step own =
+    (run.0, run.1, run.2, runs_more setup run.0 mid new commands command environment o reply t run.3 step own)
 
 pub count_more : (n : ℕ) (cs : List CommandEnvironment) (o : CommandEnvironment) → count_over n (cs ++ o ∷ []) ≡ count_after (count_after (count_over n cs) o.call.first.asked) o.call.second.asked
 count_more n [] o = refl
@@ -84,9 +86,9 @@ kept_at g allocator bound s setup is same sound own =
     })
 
 -- one command more is served
-pub each_more : {D : Type 0} (g : Ghosts D) (old mid new : SessionValue D) (orders : List Order) (order : Order) (told : List Told) (t : Told) → ServesEach g orders told old mid → IsServed g order t mid new
-    → ServesEach g (orders ++ order ∷ []) (told ++ t ∷ []) old new
-each_more g old mid new [] order [] t same step = (new, subst (λ x. IsServed g order t x new) same step, refl)
-each_more g old mid new [] order (u ∷ told) t run step = absurd run
-each_more g old mid new (o ∷ orders) order [] t run step = absurd run
-each_more g old mid new (o ∷ orders) order (u ∷ told) t run step = (run.0, run.1, each_more g run.0 mid new orders order told t run.2 step)
+pub each_more : {D : Type 0} (g : Ghosts D) (old mid new : SessionValue D) (commands : List SessionCommand) (command : SessionCommand) (reply : List SessionReply) (t : SessionReply) → ServesEach g commands reply old mid → IsServed g command t mid new
+    → ServesEach g (commands ++ command ∷ []) (reply ++ t ∷ []) old new
+each_more g old mid new [] command [] t same step = (new, subst (λ x. IsServed g command t x new) same step, refl)
+each_more g old mid new [] command (u ∷ reply) t run step = absurd run
+each_more g old mid new (o ∷ commands) command [] t run step = absurd run
+each_more g old mid new (o ∷ commands) command (u ∷ reply) t run step = (run.0, run.1, each_more g run.0 mid new commands command reply t run.2 step)

@@ -19,14 +19,16 @@ use Rattle.gpu_vulkan.specs.Step.{IsAllocateStep, IsStep, Replies}
 use Rattle.gpu_vulkan.specs.declared.allocation.Allocation.{Allocation}
 use Rattle.gpu_vulkan_setup.specs.declared.describe.AllocationCreateDesc.{AllocationCreateDesc}
 use Rattle.gpu_vulkan.proofs.Untouched.{allocate_leaves}
-use Rattle.gpu_vulkan_session.specs.Session as orders
-use Rattle.gpu_vulkan_session.specs.Session.{Wanted, Describes, Shown, shown, Take, Under, bind, Bindings, AllocatesFor}
+use Rattle.gpu_vulkan_session.specs.Reply as replies
+use Rattle.gpu_vulkan_session.specs.Command.{Wanted, Describes, Alloc, Under}
+use Rattle.gpu_vulkan_session.specs.Reply.{Shown}
+use Rattle.gpu_vulkan_session.specs.Session.{shown, bind}
 use Rattle.gpu_vulkan_session.specs.Served.{SessionValue, session_of, shown_allocation, IsServed}
 use Rattle.gpu_vulkan_session.proofs.Binding.{bindings}
 use Rattle.gpu_vulkan_session.proofs.Serving.{serves_at}
 
--- the reply of the model, where an allocation is given
-given_reply : (setup : Setup) (d : AllocationCreateDesc) (a : Allocation) (reply : model.Reply) → Replies setup d (Ok a) reply → (t : ℕ) × (p : Piece DeviceMemory) × (reply ≡ model.Given t p) × IsGiven setup t d p a
+-- the model_reply of the model, where an allocation is given
+given_reply : (setup : Setup) (d : AllocationCreateDesc) (a : Allocation) (model_reply : model.Reply) → Replies setup d (Ok a) model_reply → (t : ℕ) × (p : Piece DeviceMemory) × (model_reply ≡ model.Given t p) × IsGiven setup t d p a
 given_reply setup d a (model.Given t p) h = (t, p, refl, h)
 given_reply setup d a (model.Fails r) h = absurd h
 given_reply setup d a model.Done h = absurd h
@@ -36,7 +38,7 @@ given_reply setup d a (model.Shows r) h = absurd h
 given_reply setup d a (model.Tells ts) h = absurd h
 given_reply setup d a (model.Budgeted b) h = absurd h
 
-failed_reply : (setup : Setup) (d : AllocationCreateDesc) (e : AllocationError) (reply : model.Reply) → Replies setup d (Err e) reply → reply ≡ model.Fails (refusal_of e)
+failed_reply : (setup : Setup) (d : AllocationCreateDesc) (e : AllocationError) (model_reply : model.Reply) → Replies setup d (Err e) model_reply → model_reply ≡ model.Fails (refusal_of e)
 failed_reply setup d e (model.Given t p) h = absurd h
 failed_reply setup d e (model.Fails r) h = ap model.Fails (sym h)
 failed_reply setup d e model.Done h = absurd h
@@ -76,16 +78,16 @@ shown_same setup d w t p a wants given =
 
 module _ {D : Type 0} (g : Ghosts D) (old new : SessionValue D) (key : ℕ) (w : Wanted) (d : AllocationCreateDesc) (wants : Describes d w) where
   pub not_taken : (e : AllocationError) → bindings old.bound key ≡ None → bindings new.bound ≡ bindings old.bound → IsAllocateStep g d (Err e) old.allocator new.allocator → Allocates g old.allocator.setup old.allocator.budgets d old.allocator.slots old.allocator.device (Err e) new.allocator.slots new.allocator.device
-      → (new.allocator.first ≡ old.allocator.first) × (new.allocator.setup ≡ old.allocator.setup) → IsServed g (Under key (Take w)) (orders.Fails (refusal_of e)) old new
+      → (new.allocator.first ≡ old.allocator.first) × (new.allocator.setup ≡ old.allocator.setup) → IsServed g (Under key (Alloc w)) (replies.Error (refusal_of e)) old new
   not_taken e none same s allocates constant =
       let is = failed_reply old.allocator.setup d e s.reply s.replies in
       let step = subst (λ r. IsStep g (model.Allocate d) r old.allocator new.allocator) is s.step in
       record {
         environment = record { room = true; call = step.environment };
-        serves = serves_at old.allocator.setup (session_of g old) (session_of g new) key (Take w) (record { room = true; call = step.environment }) (orders.Fails (refusal_of e)) None none (record {
+        serves = serves_at old.allocator.setup (session_of g old) (session_of g new) key (Alloc w) (record { room = true; call = step.environment }) (replies.Error (refusal_of e)) None none (record {
           description = d;
           describes = wants;
-          reply = model.Fails (refusal_of e);
+          model_reply = model.Fails (refusal_of e);
           step = step.step;
           binds = (refl, same);
         });
@@ -95,19 +97,19 @@ module _ {D : Type 0} (g : Ghosts D) (old new : SessionValue D) (key : ℕ) (w :
         constant = (constant.1, constant.0);
       }
 
-  pub taken : (a : Allocation) (told : orders.Told) → bindings old.bound key ≡ None → bindings new.bound ≡ bind (bindings old.bound) key (Some a) → IsAllocateStep g d (Ok a) old.allocator new.allocator → Allocates g old.allocator.setup old.allocator.budgets d old.allocator.slots old.allocator.device (Ok a) new.allocator.slots new.allocator.device
-      → (new.allocator.first ≡ old.allocator.first) × (new.allocator.setup ≡ old.allocator.setup) → told ≡ orders.Given (shown_allocation a) → IsServed g (Under key (Take w)) told old new
-  taken a told none same s allocates constant is_told =
+  pub taken : (a : Allocation) (reply : replies.SessionReply) → bindings old.bound key ≡ None → bindings new.bound ≡ bind (bindings old.bound) key (Some a) → IsAllocateStep g d (Ok a) old.allocator new.allocator → Allocates g old.allocator.setup old.allocator.budgets d old.allocator.slots old.allocator.device (Ok a) new.allocator.slots new.allocator.device
+      → (new.allocator.first ≡ old.allocator.first) × (new.allocator.setup ≡ old.allocator.setup) → reply ≡ replies.Given (shown_allocation a) → IsServed g (Under key (Alloc w)) reply old new
+  taken a reply none same s allocates constant is_told =
       let is = given_reply old.allocator.setup d a s.reply s.replies in
       let step = subst (λ r. IsStep g (model.Allocate d) r old.allocator new.allocator) is.2 s.step in
       record {
         environment = record { room = true; call = step.environment };
-        serves = serves_at old.allocator.setup (session_of g old) (session_of g new) key (Take w) (record { room = true; call = step.environment }) told None none (record {
+        serves = serves_at old.allocator.setup (session_of g old) (session_of g new) key (Alloc w) (record { room = true; call = step.environment }) reply None none (record {
           description = d;
           describes = wants;
-          reply = model.Given is.0 is.1;
+          model_reply = model.Given is.0 is.1;
           step = step.step;
-          binds = (a, is.3, is_told ∙ ap orders.Given (shown_same old.allocator.setup d w is.0 is.1 a wants is.3), same);
+          binds = (a, is.3, is_told ∙ ap replies.Given (shown_same old.allocator.setup d w is.0 is.1 a wants is.3), same);
         });
         count = step.count;
         latest = step.latest;

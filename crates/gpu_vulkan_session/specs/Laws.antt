@@ -3,16 +3,18 @@ use Rattle.std.specs.Prelude.{◌≡◌, ℕ, ◌+◌, ◌<◌, ◌==◌, ◌&&�
 use Rattle.std.specs.List.{AllZip}
 use Rattle.gpu_vulkan.specs.EqualButBytes.{EqualButBytesCallEnvironment}
 use Rattle.gpu_vulkan_setup.specs.Setup.{Setup}
-use Rattle.gpu_vulkan_session.specs.Session.{SessionState, SessionInvariant, Deed, Take, Put, Get, Order, Under, Told, Given, Fine, Data, CommandEnvironment, Runs}
+use Rattle.gpu_vulkan_session.specs.Command.{KeyCommand, Alloc, Write, Read, SessionCommand, Under}
+use Rattle.gpu_vulkan_session.specs.Reply.{SessionReply, Given, Done, Bytes}
+use Rattle.gpu_vulkan_session.specs.Session.{SessionState, SessionInvariant, CommandEnvironment, Runs}
 
 -- the same, or a write of as many bytes, which are the same under a number that is ours
-abbrev pub EqualButBytesDeed : (ours : Bool) → Deed → Deed → Type 0
-EqualButBytesDeed ours (Put at bytes) (Put there others) = (at ≡ there) × (length bytes ≡ length others) × (ours ≡ true → bytes ≡ others)
-EqualButBytesDeed ours deed other = deed ≡ other
+abbrev pub EqualButBytesKeyCommand : (ours : Bool) → KeyCommand → KeyCommand → Type 0
+EqualButBytesKeyCommand ours (Write at bytes) (Write there others) = (at ≡ there) × (length bytes ≡ length others) × (ours ≡ true → bytes ≡ others)
+EqualButBytesKeyCommand ours command other = command ≡ other
 
-abbrev pub EqualButBytesOrder : (ours : ℕ → Bool) → Order → Order → Type 0
-EqualButBytesOrder ours (Under key deed) (Under other to) = (key ≡ other) × EqualButBytesDeed (ours key) deed to
-EqualButBytesOrder ours order other = order ≡ other
+abbrev pub EqualButBytesCommand : (ours : ℕ → Bool) → SessionCommand → SessionCommand → Type 0
+EqualButBytesCommand ours (Under key command) (Under other to) = (key ≡ other) × EqualButBytesKeyCommand (ours key) command to
+EqualButBytesCommand ours command other = command ≡ other
 
 -- the same environment, but for the bytes that newly mapped blocks hold
 pub record EqualButBytesCommandEnvironment (o p : CommandEnvironment) : Type 0 where
@@ -27,32 +29,32 @@ Written = (key at : ℕ) → Bool
 abbrev pub everything : Written
 everything key at = true
 
-abbrev pub written_after : Order → Told → Written → Written
-written_after (Under new (Take wanted)) (Given shown) written key i = if new == key then false else written key i
-written_after (Under to (Put at bytes)) Fine written key i = if (to == key) && (nat_le at i && nat_lt i (at + length bytes)) then true else written key i
-written_after order told written key i = written key i
+abbrev pub written_after : SessionCommand → SessionReply → Written → Written
+written_after (Under new (Alloc wanted)) (Given shown) written key i = if new == key then false else written key i
+written_after (Under to (Write at bytes)) Done written key i = if (to == key) && (nat_le at i && nat_lt i (at + length bytes)) then true else written key i
+written_after command reply written key i = written key i
 
 -- the same reply, but for the bytes of a read; of our own the written ones are the same too
-abbrev pub EqualButBytesTold : (ours : ℕ → Bool) → Written → Order → Told → Told → Type 0
-EqualButBytesTold ours written (Under key (Get at size)) (Data xs) (Data ys) =
+abbrev pub EqualButBytesAnswer : (ours : ℕ → Bool) → Written → SessionCommand → SessionReply → SessionReply → Type 0
+EqualButBytesAnswer ours written (Under key (Read at size)) (Bytes xs) (Bytes ys) =
     (length xs ≡ length ys)
     × (ours key ≡ true → (i : ℕ) → i < length xs → written key (at + i) ≡ true → slice_get xs i ≡ slice_get ys i)
-EqualButBytesTold ours written order told other = told ≡ other
+EqualButBytesAnswer ours written command reply other = reply ≡ other
 
 -- each reply of the two runs, beside what was written until it came
-abbrev pub EqualButBytesReplies : (ours : ℕ → Bool) → Written → List Order → List Told → List Told → Type 0
+abbrev pub EqualButBytesReplies : (ours : ℕ → Bool) → Written → List SessionCommand → List SessionReply → List SessionReply → Type 0
 EqualButBytesReplies ours written [] [] [] = Unit {0}
-EqualButBytesReplies ours written (order ∷ orders) (told ∷ tolds) (other ∷ others) =
-    EqualButBytesTold ours written order told other
-    × EqualButBytesReplies ours (written_after order told written) orders tolds others
+EqualButBytesReplies ours written (command ∷ commands) (reply ∷ rest) (other ∷ others) =
+    EqualButBytesAnswer ours written command reply other
+    × EqualButBytesReplies ours (written_after command reply written) commands rest others
 EqualButBytesReplies ours written _ _ _ = ⊥
 
 abbrev pub NonInterference : Type 0
 NonInterference =
-    (ours : ℕ → Bool) (setup : Setup) (start end other_end : SessionState) (orders others : List Order) (o p : List CommandEnvironment) (told untold : List Told)
+    (ours : ℕ → Bool) (setup : Setup) (start end other_end : SessionState) (commands others : List SessionCommand) (o p : List CommandEnvironment) (reply other_reply : List SessionReply)
     → SessionInvariant setup start
-    → AllZip (EqualButBytesOrder ours) orders others
+    → AllZip (EqualButBytesCommand ours) commands others
     → AllZip EqualButBytesCommandEnvironment o p
-    → Runs setup start orders o told end
-    → Runs setup start others p untold other_end
-    → EqualButBytesReplies ours everything orders told untold
+    → Runs setup start commands o reply end
+    → Runs setup start others p other_reply other_end
+    → EqualButBytesReplies ours everything commands reply other_reply

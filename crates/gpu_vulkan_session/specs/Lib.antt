@@ -1,3 +1,5 @@
+pub mod Command
+pub mod Reply
 pub mod Session
 pub mod Served
 pub mod Laws

@@ -11,25 +11,28 @@ use Rattle.gpu_vulkan.specs.State.{State}
 use Rattle.gpu_vulkan.specs.Untouched.{LeavesMemory}
 use Rattle.gpu_vulkan.specs.Step.{model_of, count_after, latest_after}
 use Rattle.gpu_vulkan.specs.declared.allocation.Allocation.{Allocation}
-use Rattle.gpu_vulkan_session.specs.Session.{SessionState, Order, Shown, Told, CommandEnvironment, Take, TakeNull, Return, Rename, Put, Get, Under, Report, Leaks, Capacity, SetBudget, Given, Fine, Data, Shows, Tells, Sum, Busy, Unbound, Unmapped, Past, Fails, Serves, Runs}
+use Rattle.gpu_vulkan_session.specs.Reply as replies
+use Rattle.gpu_vulkan_session.specs.Command.{SessionCommand, Alloc, Null, Free, Rename, Write, Read, Under, Report, Leaks, Capacity, SetBudget}
+use Rattle.gpu_vulkan_session.specs.Reply.{Shown, SessionReply, Given, Done, Bytes, Busy, Unbound, Unmapped, OutOfRange, Error}
+use Rattle.gpu_vulkan_session.specs.Session.{SessionState, CommandEnvironment, Serves, Runs}
 use Rattle.gpu_session_values.specs.declared.command.Command.{Command}
-use Rattle.gpu_session_values.specs.declared.command.Command.TheVariants as commands
+use Rattle.gpu_session_values.specs.declared.command.Command.TheVariants as asked
 use Rattle.gpu_session_values.specs.declared.reply.Reply.{Reply}
-use Rattle.gpu_session_values.specs.declared.reply.Reply.TheVariants as replies
+use Rattle.gpu_session_values.specs.declared.reply.Reply.TheVariants as answered
 use Rattle.gpu_session_values.specs.declared.reply.Given.{Given as GivenPiece}
 
-abbrev pub order_of : Command → Order
-order_of (commands.Alloc key requirements location linear scheme name) =
-    Under key (Take (record { requirements = requirements; location = location; linear = linear; scheme = scheme; name = string_bytes name }))
-order_of (commands.Null key) = Under key TakeNull
-order_of (commands.Free key) = Under key Return
-order_of (commands.Rename key name) = Under key (Rename (string_bytes name))
-order_of (commands.Write key at bytes) = Under key (Put at bytes.items)
-order_of (commands.Read key at size) = Under key (Get at size)
-order_of commands.Report = Report
-order_of commands.Leaks = Leaks
-order_of commands.Capacity = Capacity
-order_of (commands.SetBudget t budget) = SetBudget t budget
+abbrev pub command_of : Command → SessionCommand
+command_of (asked.Alloc key requirements location linear scheme name) =
+    Under key (Alloc (record { requirements = requirements; location = location; linear = linear; scheme = scheme; name = string_bytes name }))
+command_of (asked.Null key) = Under key Null
+command_of (asked.Free key) = Under key Free
+command_of (asked.Rename key name) = Under key (Rename (string_bytes name))
+command_of (asked.Write key at bytes) = Under key (Write at bytes.items)
+command_of (asked.Read key at size) = Under key (Read at size)
+command_of asked.Report = Report
+command_of asked.Leaks = Leaks
+command_of asked.Capacity = Capacity
+command_of (asked.SetBudget t budget) = SetBudget t budget
 
 abbrev pub shown_of : GivenPiece → Shown
 shown_of g = record {
@@ -54,18 +57,18 @@ shown_allocation a = record {
   mapped = a.mapped;
 }
 
-abbrev pub told_of : Reply → Told
-told_of (replies.Given g) = Given (shown_of g)
-told_of replies.Done = Fine
-told_of (replies.Bytes bytes) = Data bytes.items
-told_of (replies.Report report) = Shows (report_of report)
-told_of (replies.Leaks texts) = Tells (map string_bytes texts.items)
-told_of (replies.Capacity n) = Sum n
-told_of replies.Busy = Busy
-told_of replies.Unbound = Unbound
-told_of replies.Unmapped = Unmapped
-told_of replies.OutOfRange = Past
-told_of (replies.Error e) = Fails (refusal_of e)
+abbrev pub reply_of : Reply → SessionReply
+reply_of (answered.Given g) = Given (shown_of g)
+reply_of answered.Done = Done
+reply_of (answered.Bytes bytes) = Bytes bytes.items
+reply_of (answered.Report report) = replies.Report (report_of report)
+reply_of (answered.Leaks texts) = replies.Leaks (map string_bytes texts.items)
+reply_of (answered.Capacity n) = replies.Capacity n
+reply_of answered.Busy = Busy
+reply_of answered.Unbound = Unbound
+reply_of answered.Unmapped = Unmapped
+reply_of answered.OutOfRange = OutOfRange
+reply_of (answered.Error e) = Error (refusal_of e)
 
 -- what callers see of a session: the allocator, and what the numbers stand for
 pub record SessionValue (D : Type 0) : Type 0 where
@@ -86,30 +89,30 @@ abbrev pub latest_over : Option MemoryAllocateInfo → List CommandEnvironment �
 latest_over latest [] = latest
 latest_over latest (o ∷ os) = latest_over (latest_after (latest_after latest o.call.first.asked) o.call.second.asked) os
 
-abbrev pub is_write : Order → Bool
-is_write (Under key (Put at bytes)) = true
-is_write order = false
+abbrev pub is_write : SessionCommand → Bool
+is_write (Under key (Write at bytes)) = true
+is_write command = false
 
 -- A command is served at some environment, and their refusals and questions are what the device counts and names. Unless it is a
 -- write, it changes no byte of memory that is held before and after.
-pub record IsServed {D : Type 0} (g : Ghosts D) (order : Order) (told : Told) (old new : SessionValue D) : Type 0 where
+pub record IsServed {D : Type 0} (g : Ghosts D) (command : SessionCommand) (reply : SessionReply) (old new : SessionValue D) : Type 0 where
   pub environment : CommandEnvironment
-  pub serves : Serves old.allocator.setup order environment told (session_of g old) (session_of g new)
+  pub serves : Serves old.allocator.setup command environment reply (session_of g old) (session_of g new)
   pub count : g.refused new.allocator.device ≡ count_after (count_after (g.refused old.allocator.device) environment.call.first.asked) environment.call.second.asked
   pub latest : g.latest new.allocator.device ≡ latest_after (latest_after (g.latest old.allocator.device) environment.call.first.asked) environment.call.second.asked
-  pub untouched : is_write order ≡ false → LeavesMemory (g.held old.allocator.device) (g.held new.allocator.device)
+  pub untouched : is_write command ≡ false → LeavesMemory (g.held old.allocator.device) (g.held new.allocator.device)
   pub constant : (new.allocator.setup ≡ old.allocator.setup) × (new.allocator.first ≡ old.allocator.first)
 
 -- the replies are those of a run at some environment, whose refusals and questions are what the device counts and names
-pub record IsRun {D : Type 0} (g : Ghosts D) (orders : List Order) (told : List Told) (old new : SessionValue D) : Type 0 where
+pub record IsRun {D : Type 0} (g : Ghosts D) (commands : List SessionCommand) (reply : List SessionReply) (old new : SessionValue D) : Type 0 where
   pub environment : List CommandEnvironment
-  pub runs : Runs old.allocator.setup (session_of g old) orders environment told (session_of g new)
+  pub runs : Runs old.allocator.setup (session_of g old) commands environment reply (session_of g new)
   pub count : g.refused new.allocator.device ≡ count_over (g.refused old.allocator.device) environment
   pub latest : g.latest new.allocator.device ≡ latest_over (g.latest old.allocator.device) environment
   pub constant : (new.allocator.setup ≡ old.allocator.setup) × (new.allocator.first ≡ old.allocator.first)
 
 -- the commands are served one after another
-abbrev pub ServesEach : {D : Type 0} → Ghosts D → List Order → List Told → (old new : SessionValue D) → Type 0
+abbrev pub ServesEach : {D : Type 0} → Ghosts D → List SessionCommand → List SessionReply → (old new : SessionValue D) → Type 0
 ServesEach g [] [] old new = new ≡ old
-ServesEach {D} g (order ∷ orders) (told ∷ tolds) old new = (mid : SessionValue D) × IsServed g order told old mid × ServesEach g orders tolds mid new
+ServesEach {D} g (command ∷ commands) (reply ∷ rest) old new = (mid : SessionValue D) × IsServed g command reply old mid × ServesEach g commands rest mid new
 ServesEach g _ _ old new = ⊥

@@ -5,7 +5,9 @@ ghost use Rattle.gpu_vulkan.specs.Live.{IsLive};
 ghost use Rattle.gpu_vulkan_setup.specs.Setup.{Setup};
 ghost use Rattle.gpu_vulkan.specs.Step.{id_of};
 ghost use Rattle.gpu_vulkan.specs.declared.allocation.Allocation.{Allocation};
-ghost use Rattle.gpu_vulkan_session.specs.Session.{SessionState, IsOwn, Under, Put, CommandEnvironment, Told, Serves};
+ghost use Rattle.gpu_vulkan_session.specs.Command.{Under, Write};
+ghost use Rattle.gpu_vulkan_session.specs.Reply.{SessionReply};
+ghost use Rattle.gpu_vulkan_session.specs.Session.{SessionState, IsOwn, CommandEnvironment, Serves};
 ghost use Rattle.gpu_vulkan_session.specs.Laws.{NonInterference};
 
 /// What others write changes nothing of ours. Take a set of the caller's numbers, ours, and two lists of commands that differ
@@ -19,7 +21,7 @@ pub fn non_interference()
 
 /// A write under one number leaves the bytes of every other number's live allocation.
 pub fn writes_are_apart()
-    ensures { (setup : Setup) (key other at : ℕ) (bytes : List ℕ) (o : CommandEnvironment) (told : Told) (old new : SessionState) (b : Allocation) → IsOwn old
-        → Serves setup (Under key (Put at bytes)) o told old new → key ≢ other → old.bound other ≡ Some b → IsLive old.model.slots b
+    ensures { (setup : Setup) (key other at : ℕ) (bytes : List ℕ) (o : CommandEnvironment) (reply : SessionReply) (old new : SessionState) (b : Allocation) → IsOwn old
+        → Serves setup (Under key (Write at bytes)) o reply old new → key ≢ other → old.bound other ≡ Some b → IsLive old.model.slots b
         → new.model.byte_view.allocation_bytes (id_of b) ≡ old.model.byte_view.allocation_bytes (id_of b) }
 {}

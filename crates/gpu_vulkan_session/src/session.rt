@@ -5,9 +5,11 @@ ghost use Rattle.std.specs.Map.{lookup};
 ghost use Rattle.std.specs.HashMap.{spare};
 ghost use Rattle.gpu_values.specs.declared.error.AllocationError.TheVariants.{HostOutOfMemory};
 ghost use Rattle.gpu_vulkan_blocks.specs.Blocks.{HoldsJustLiveBlocks};
-ghost use Rattle.gpu_vulkan_session.specs.Session.{IsOwn, SessionInvariant, Wanted, Describes, Take, TakeNull, Return, Rename, Put, Get, Under, put_range};
-ghost use Rattle.gpu_vulkan_session.specs.Session as orders;
-ghost use Rattle.gpu_vulkan_session.specs.Served.{session_of, order_of, told_of, shown_allocation, IsServed, IsRun, ServesEach};
+ghost use Rattle.gpu_vulkan_session.specs.Command as commands;
+ghost use Rattle.gpu_vulkan_session.specs.Reply as replies;
+ghost use Rattle.gpu_vulkan_session.specs.Command.{Wanted, Describes, Alloc, Null, Free, Rename, Write, Read, Under};
+ghost use Rattle.gpu_vulkan_session.specs.Session.{IsOwn, SessionInvariant, overwritten};
+ghost use Rattle.gpu_vulkan_session.specs.Served.{session_of, command_of, reply_of, shown_allocation, IsServed, IsRun, ServesEach};
 
 use gpu_device::vulkan::VulkanDevice;
 use gpu_session_values::{Command, Given, Reply};
@@ -54,9 +56,9 @@ impl<D: VulkanDevice> Session<D> {
     /// refused, the answer is `HostOutOfMemory` and nothing has run. Any later want of memory is the reply of its command,
     /// which changed nothing but what the device counts of questions that it was asked before.
     pub fn run<L: Log>(&mut self, log: &L, commands: &[Command]) -> Result<Vec<Reply>>
-        ensures run { IfOk result (λ replies. IsRun D.VulkanDevice (map order_of commands.now) (map told_of replies.items)
+        ensures run { IfOk result (λ replies. IsRun D.VulkanDevice (map command_of commands.now) (map reply_of replies.items)
             self.old self.new) }
-        ensures each { IfOk result (λ replies. ServesEach D.VulkanDevice (map order_of commands.now) (map told_of replies.items)
+        ensures each { IfOk result (λ replies. ServesEach D.VulkanDevice (map command_of commands.now) (map reply_of replies.items)
             self.old self.new) }
         ensures count { IfOk result (λ replies. length replies.items ≡ length commands.now) }
         ensures nothing { OnErr result (self.new ≡ self.old) }
@@ -112,7 +114,7 @@ impl<D: VulkanDevice> Session<D> {
     /// Serves one command. For want of memory it answers `Error(HostOutOfMemory)`, and then the command changed nothing but
     /// what the device counts of questions that it was asked before.
     pub fn serve<L: Log>(&mut self, log: &L, command: &Command) -> Reply
-        ensures { IsServed D.VulkanDevice (order_of command.now) (told_of result) self.old self.new }
+        ensures { IsServed D.VulkanDevice (command_of command.now) (reply_of result) self.old self.new }
     {
         match command {
             Command::Alloc {
@@ -150,7 +152,7 @@ impl<D: VulkanDevice> Session<D> {
     /// Room for the number is made before the allocator is asked.
     fn take<L: Log>(&mut self, log: &L, key: u64, desc: &AllocationCreateDesc) -> Reply
         ensures { (w : Wanted) → Describes desc.now w
-            → IsServed D.VulkanDevice (Under key (Take w)) (told_of result) self.old self.new }
+            → IsServed D.VulkanDevice (Under key (Alloc w)) (reply_of result) self.old self.new }
     {
         if self.bound.contains_key(&key) {
             return Reply::Busy;
@@ -169,7 +171,7 @@ impl<D: VulkanDevice> Session<D> {
     }
 
     fn take_null(&mut self, key: u64) -> Reply
-        ensures { IsServed D.VulkanDevice (Under key TakeNull) (told_of result) self.old self.new }
+        ensures { IsServed D.VulkanDevice (Under key Null) (reply_of result) self.old self.new }
     {
         if self.bound.contains_key(&key) {
             return Reply::Busy;
@@ -182,7 +184,7 @@ impl<D: VulkanDevice> Session<D> {
     }
 
     fn give_back<L: Log>(&mut self, log: &L, key: u64) -> Reply
-        ensures { IsServed D.VulkanDevice (Under key Return) (told_of result) self.old self.new }
+        ensures { IsServed D.VulkanDevice (Under key Free) (reply_of result) self.old self.new }
     {
         match self.bound.remove(&key) {
             None => Reply::Unbound,
@@ -194,7 +196,7 @@ impl<D: VulkanDevice> Session<D> {
     }
 
     fn rename(&mut self, key: u64, name: &str) -> Reply
-        ensures { IsServed D.VulkanDevice (Under key (Rename name.now)) (told_of result) self.old self.new }
+        ensures { IsServed D.VulkanDevice (Under key (Rename name.now)) (reply_of result) self.old self.new }
     {
         match self.bound.get_mut(&key) {
             None => Reply::Unbound,
@@ -206,7 +208,7 @@ impl<D: VulkanDevice> Session<D> {
     }
 
     fn write(&mut self, key: u64, at: u64, bytes: &[u8]) -> Reply
-        ensures { IsServed D.VulkanDevice (Under key (Put at bytes.now)) (told_of result) self.old self.new }
+        ensures { IsServed D.VulkanDevice (Under key (Write at bytes.now)) (reply_of result) self.old self.new }
     {
         let Some(allocation) = self.bound.get(&key) else {
             return Reply::Unbound;
@@ -222,7 +224,7 @@ impl<D: VulkanDevice> Session<D> {
     }
 
     fn read(&mut self, key: u64, at: u64, size: u64) -> Reply
-        ensures { IsServed D.VulkanDevice (Under key (Get at size)) (told_of result) self.old self.new }
+        ensures { IsServed D.VulkanDevice (Under key (Read at size)) (reply_of result) self.old self.new }
     {
         let Some(allocation) = self.bound.get(&key) else {
             return Reply::Unbound;
@@ -241,7 +243,7 @@ impl<D: VulkanDevice> Session<D> {
     }
 
     fn set_budget(&mut self, memory_type: u64, budget: Option<u64>) -> Reply
-        ensures { IsServed D.VulkanDevice (orders.SetBudget memory_type budget) (told_of result) self.old self.new }
+        ensures { IsServed D.VulkanDevice (commands.SetBudget memory_type budget) (reply_of result) self.old self.new }
     {
         match self.allocator.set_budget(memory_type as usize, budget) {
             Ok(()) => Reply::Done,
@@ -250,7 +252,7 @@ impl<D: VulkanDevice> Session<D> {
     }
 
     fn report(&self) -> Reply
-        ensures { IsServed D.VulkanDevice orders.Report (told_of result) self.now self.now }
+        ensures { IsServed D.VulkanDevice commands.Report (reply_of result) self.now self.now }
     {
         match self.allocator.generate_report() {
             Ok(report) => Reply::Report(report),
@@ -259,7 +261,7 @@ impl<D: VulkanDevice> Session<D> {
     }
 
     fn leaks(&self) -> Reply
-        ensures { IsServed D.VulkanDevice orders.Leaks (told_of result) self.now self.now }
+        ensures { IsServed D.VulkanDevice commands.Leaks (reply_of result) self.now self.now }
     {
         match self.allocator.leak_texts() {
             Ok(texts) => Reply::Leaks(texts),
@@ -275,10 +277,10 @@ fn fits(at: u64, size: u64, whole: u64) -> bool
     at <= whole && size <= whole - at
 }
 
-/// Puts bytes over those from `at` on.
+/// WritesAt bytes over those from `at` on.
 fn put(target: &mut [u8], at: usize, bytes: &[u8])
     requires { at + length bytes.now ≤ length target.old }
-    ensures { target.new ≡ put_range target.old at bytes.now }
+    ensures { target.new ≡ overwritten target.old at bytes.now }
 {
     target[at..at + bytes.len()].copy_from_slice(bytes);
 }
@@ -297,7 +299,7 @@ fn bind(bound: &mut HashMap<u64, Allocation>, key: u64, allocation: Allocation)
 /// What is told of a new allocation.
 fn given(allocation: &Allocation) -> Reply
     requires { allocation.now.chunk_id ≢ None }
-    ensures { told_of result ≡ orders.Given (shown_allocation allocation.now) }
+    ensures { reply_of result ≡ replies.Given (shown_allocation allocation.now) }
 {
     let Some(chunk) = allocation.chunk_id() else {
         unreachable!()

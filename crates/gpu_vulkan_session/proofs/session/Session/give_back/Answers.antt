@@ -1,7 +1,9 @@
 use Rattle.std.proofs.Common.{◌≡◌, Some, None, true, refl, ap, sym, subst}
-use Rattle.gpu_vulkan_session.specs.Session.{Return, Under, bind}
+use Rattle.gpu_vulkan_session.specs.Reply as replies
+use Rattle.gpu_vulkan_session.specs.Session as sessions
+use Rattle.gpu_vulkan_session.specs.Command.{Free, Under}
+use Rattle.gpu_vulkan_session.specs.Session.{bind}
 use Rattle.gpu_vulkan.proofs.Untouched.{same_leaves, free_leaves}
-use Rattle.gpu_vulkan_session.specs.Session as orders
 use Rattle.gpu_vulkan_session.specs.Served.{SessionValue, session_of, IsServed}
 use Rattle.gpu_vulkan_session.proofs.Binding.{bindings, rebound}
 use Rattle.gpu_vulkan_session.proofs.Serving.{quiet, serves_at}
@@ -14,9 +16,9 @@ returns-in-None g c =
     let new : SessionValue g.row.D.Denot = record { allocator = c.self.inside.allocator; bound = c.remove.new.self.entries } in
     let same : new ≡ s = ap (λ es. record { allocator = s.allocator; bound = es }) c.in-None.ensures.unchanged in
     let none : bindings s.bound c.args.key ≡ None = sym c.in-None.ensures.value in
-    subst (λ x. IsServed V (Under c.args.key Return) orders.Unbound x new) c.self.view_is (record {
+    subst (λ x. IsServed V (Under c.args.key Free) replies.Unbound x new) c.self.view_is (record {
       environment = quiet;
-      serves = serves_at s.allocator.setup (session_of V s) (session_of V new) c.args.key Return quiet orders.Unbound None none (refl, ((refl, refl), ap (session_of V) same));
+      serves = serves_at s.allocator.setup (session_of V s) (session_of V new) c.args.key Free quiet replies.Unbound None none (refl, ((refl, refl), ap (session_of V) same));
       count = refl;
       latest = refl;
       untouched = λ e. same_leaves (V.held s.allocator.device) (V.held s.allocator.device) refl;
@@ -30,11 +32,11 @@ returns-in-Ok g c =
     let new : SessionValue g.row.D.Denot = record { allocator = c.free.new.self; bound = c.remove.new.self.entries } in
     let some : bindings s.bound c.args.key ≡ Some c.in-Some.allocation = sym c.in-Some.ensures.value in
     let step = c.in-Ok.ensures.step in
-    let o : orders.CommandEnvironment = record { room = true; call = step.environment } in
-    subst (λ x. IsServed V (Under c.args.key Return) orders.Fine x new) c.self.view_is (record {
+    let o : sessions.CommandEnvironment = record { room = true; call = step.environment } in
+    subst (λ x. IsServed V (Under c.args.key Free) replies.Done x new) c.self.view_is (record {
       environment = o;
-      serves = serves_at s.allocator.setup (session_of V s) (session_of V new) c.args.key Return o orders.Fine (Some c.in-Some.allocation) some
-          (record { fine = refl; step = step.step; bound = rebound s.bound new.bound c.args.key None c.remove.ensures.updates.0 });
+      serves = serves_at s.allocator.setup (session_of V s) (session_of V new) c.args.key Free o replies.Done (Some c.in-Some.allocation) some
+          (record { done = refl; step = step.step; bound = rebound s.bound new.bound c.args.key None c.remove.ensures.updates.0 });
       count = step.count;
       latest = step.latest;
       untouched = λ e. free_leaves V c.in-Some.allocation s.allocator.slots new.allocator.slots s.allocator.device new.allocator.device c.free.result c.free.ensures.frees;

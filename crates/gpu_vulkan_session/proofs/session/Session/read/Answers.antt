@@ -1,7 +1,7 @@
 use Rattle.std.proofs.Common.{◌≡◌, ◌∙◌, ◌+◌, ◌-◌, arith, Some, None, true, false, refl, ap, sym, subst, take, drop}
-use Rattle.gpu_vulkan_session.specs.Session.{Get, Under, IsOwn}
-use Rattle.gpu_vulkan_session.specs.Session as orders
-use Rattle.gpu_vulkan_session.specs.Served.{SessionValue, session_of, told_of, IsServed}
+use Rattle.gpu_vulkan_session.specs.Reply as replies
+use Rattle.gpu_vulkan_session.specs.Command.{Read, Under}
+use Rattle.gpu_vulkan_session.specs.Served.{SessionValue, session_of, reply_of, IsServed}
 use Rattle.gpu_vulkan_session.proofs.Binding.{bindings}
 use Rattle.gpu_vulkan_session.proofs.Serving.{quiet, short, stayed, served_quietly}
 use Rattle.gpu_vulkan_session.proofs.Reading.{read_of, gets_bound, past_told, data_told}
@@ -13,8 +13,8 @@ returns-in_default g c =
     let V = g.D.VulkanDevice in
     let s : SessionValue g.row.D.Denot = record { allocator = c.self.inside.allocator; bound = c.self.inside.bound.entries } in
     let none : bindings s.bound c.args.key ≡ None = sym c.in_default.ensures.value in
-    subst (λ x. IsServed V (Under c.args.key (Get c.args.at c.args.size)) orders.Unbound x x) c.self.view_is
-    (served_quietly V c.args.key (Get c.args.at c.args.size) orders.Unbound s quiet None refl none (refl, stayed (session_of V s)))
+    subst (λ x. IsServed V (Under c.args.key (Read c.args.at c.args.size)) replies.Unbound x x) c.self.view_is
+    (served_quietly V c.args.key (Read c.args.at c.args.size) replies.Unbound s quiet None refl none (refl, stayed (session_of V s)))
 
 pub returns-in_default-mapped_slice : goal.returns-in_default-mapped_slice
 returns-in_default-mapped_slice g c =
@@ -23,8 +23,8 @@ returns-in_default-mapped_slice g c =
     let a = c.in-Some.allocation.now in
     let found : bindings s.bound c.args.key ≡ Some a = sym c.in-Some.ensures.value in
     let read = read_of V s a None c.in_default-mapped_slice.ensures.step in
-    subst (λ x. IsServed V (Under c.args.key (Get c.args.at c.args.size)) orders.Unmapped x x) c.self.view_is
-    (gets_bound V s c.args.key c.args.at c.args.size a None quiet orders.Unmapped found read refl refl)
+    subst (λ x. IsServed V (Under c.args.key (Read c.args.at c.args.size)) replies.Unmapped x x) c.self.view_is
+    (gets_bound V s c.args.key c.args.at c.args.size a None quiet replies.Unmapped found read refl refl)
 
 pub returns-then-not-fits : goal.returns-then-not-fits
 returns-then-not-fits g c =
@@ -34,8 +34,8 @@ returns-then-not-fits g c =
     let xs = c.in-Some-mapped_slice.bytes.now in
     let found : bindings s.bound c.args.key ≡ Some a = sym c.in-Some.ensures.value in
     let read = read_of V s a (Some xs) c.in-Some-mapped_slice.ensures.step in
-    subst (λ x. IsServed V (Under c.args.key (Get c.args.at c.args.size)) orders.Past x x) c.self.view_is
-    (gets_bound V s c.args.key c.args.at c.args.size a (Some xs) quiet orders.Past found read refl (sym (past_told true c.args.at c.args.size xs (sym c.fits.ensures ∙ c.if-not-fits.true))))
+    subst (λ x. IsServed V (Under c.args.key (Read c.args.at c.args.size)) replies.OutOfRange x x) c.self.view_is
+    (gets_bound V s c.args.key c.args.at c.args.size a (Some xs) quiet replies.OutOfRange found read refl (sym (past_told true c.args.at c.args.size xs (sym c.fits.ensures ∙ c.if-not-fits.true))))
 
 pub returns : goal.returns
 returns g c =
@@ -46,13 +46,13 @@ returns g c =
     let found : bindings s.bound c.args.key ≡ Some a = sym c.in-Some.ensures.value in
     let read = read_of V s a (Some xs) c.in-Some-mapped_slice.ensures.step in
     let fit = sym c.fits.ensures ∙ c.if-not-fits.false in
-    subst (λ x. IsServed V (Under c.args.key (Get c.args.at c.args.size)) (told_of c.match-from_slice.result) x x) c.self.view_is
+    subst (λ x. IsServed V (Under c.args.key (Read c.args.at c.args.size)) (reply_of c.match-from_slice.result) x x) c.self.view_is
     (elim c.match-from_slice.branch [
       | in-Ok w ↦
           let size : (c.args.at + c.args.size) - c.args.at ≡ c.args.size = omega arith in
-          gets_bound V s c.args.key c.args.at c.args.size a (Some xs) quiet (told_of c.match-from_slice.result) found read refl
-          (ap told_of w.result-is ∙ ap orders.Data (w.in-Ok.ensures.items ∙ ap (λ n. take n (drop c.args.at xs)) size) ∙ sym (data_told true c.args.at c.args.size xs fit))
+          gets_bound V s c.args.key c.args.at c.args.size a (Some xs) quiet (reply_of c.match-from_slice.result) found read refl
+          (ap reply_of w.result-is ∙ ap replies.Bytes (w.in-Ok.ensures.items ∙ ap (λ n. take n (drop c.args.at xs)) size) ∙ sym (data_told true c.args.at c.args.size xs fit))
       | in-Err w ↦
-          gets_bound V s c.args.key c.args.at c.args.size a (Some xs) short (told_of c.match-from_slice.result) found read refl
-          (ap told_of w.result-is ∙ sym (data_told false c.args.at c.args.size xs fit))
+          gets_bound V s c.args.key c.args.at c.args.size a (Some xs) short (reply_of c.match-from_slice.result) found read refl
+          (ap reply_of w.result-is ∙ sym (data_told false c.args.at c.args.size xs fit))
     ])

@@ -1,9 +1,9 @@
 use Rattle.std.proofs.Common.{◌≡◌, Some, None, refl, ap, sym, subst}
 use Rattle.std.specs.Prelude.{IsSome}
 use Rattle.gpu_vulkan.specs.Live.{piece_of}
-use Rattle.gpu_vulkan_session.specs.Session.{Rename, Under}
-use Rattle.gpu_vulkan_session.specs.Session as orders
-use Rattle.gpu_vulkan_session.specs.Served.{SessionValue, session_of, told_of, IsServed}
+use Rattle.gpu_vulkan_session.specs.Reply as replies
+use Rattle.gpu_vulkan_session.specs.Command.{Rename, Under}
+use Rattle.gpu_vulkan_session.specs.Served.{SessionValue, session_of, reply_of, IsServed}
 use Rattle.gpu_vulkan_session.proofs.Binding.{bindings, rebound}
 use Rattle.gpu_vulkan_session.proofs.Naming.{named_of, same_of, renamed, not_renamed}
 use Rattle.gpu_vulkan_session.proofs.Serving.{quiet, stayed, served_quietly}
@@ -17,9 +17,9 @@ returns-in-None g c =
     let new : SessionValue g.row.D.Denot = record { allocator = c.self.inside.allocator; bound = c.get_mut.follows.lender-at-none.entries } in
     let same : s ≡ new = ap (λ m. record { allocator = s.allocator; bound = m.entries }) (sym (c.get_mut.follows.holds-at-none)) in
     let none : bindings s.bound c.args.key ≡ None = sym c.in-None.ensures.value in
-    subst (λ x. IsServed V (Under c.args.key (Rename c.args.name.now)) orders.Unbound x new) c.self.view_is
-    (subst (λ y. IsServed V (Under c.args.key (Rename c.args.name.now)) orders.Unbound s y) same
-    (served_quietly V c.args.key (Rename c.args.name.now) orders.Unbound s quiet None refl none (refl, stayed (session_of V s))))
+    subst (λ x. IsServed V (Under c.args.key (Rename c.args.name.now)) replies.Unbound x new) c.self.view_is
+    (subst (λ y. IsServed V (Under c.args.key (Rename c.args.name.now)) replies.Unbound s y) same
+    (served_quietly V c.args.key (Rename c.args.name.now) replies.Unbound s quiet None refl none (refl, stayed (session_of V s))))
 
 pub returns-after-rename_allocation : goal.returns-after-rename_allocation
 returns-after-rename_allocation g c =
@@ -31,14 +31,14 @@ returns-after-rename_allocation g c =
     let found : bindings s.bound c.args.key ≡ Some a = sym c.in-Some.ensures.value in
     let some : IsSome (bindings s.bound c.args.key) = subst (λ o. IsSome o) (sym found) refl in
     let is = rebound s.bound new.bound c.args.key (Some b) ((c.get_mut.follows.holds b).3 some).0 in
-    let told = told_of c.match-rename_allocation.result in
+    let reply = reply_of c.match-rename_allocation.result in
     let constant : (new.allocator.setup ≡ s.allocator.setup) × (new.allocator.first ≡ s.allocator.first) = (c.rename_allocation.ensures.constant.2, c.rename_allocation.ensures.constant.1) in
-    subst (λ x. IsServed V (Under c.args.key (Rename c.args.name.now)) told x new) c.self.view_is
+    subst (λ x. IsServed V (Under c.args.key (Rename c.args.name.now)) reply x new) c.self.view_is
     (elim c.match-rename_allocation.branch [
       | in-Ok w ↦
-          renamed V s new c.args.key c.args.name.now a b told found is constant c.rename_allocation.ensures.constant.0
-          (named_of a b (piece_of a) c.args.name.now w.in-Ok.field-0 s.allocator.slots new.allocator.slots w.in-Ok.ensures.renames) (ap told_of w.result-is) w.in-Ok.ensures.step
+          renamed V s new c.args.key c.args.name.now a b reply found is constant c.rename_allocation.ensures.constant.0
+          (named_of a b (piece_of a) c.args.name.now w.in-Ok.field-0 s.allocator.slots new.allocator.slots w.in-Ok.ensures.renames) (ap reply_of w.result-is) w.in-Ok.ensures.step
       | in-Err w ↦
-          not_renamed V s new c.args.key c.args.name.now a b told found is constant c.rename_allocation.ensures.constant.0 w.in-Err.error
-          (same_of a b (piece_of a) c.args.name.now w.in-Err.error s.allocator.slots new.allocator.slots w.in-Err.ensures.renames) (ap told_of w.result-is) w.in-Err.ensures.step
+          not_renamed V s new c.args.key c.args.name.now a b reply found is constant c.rename_allocation.ensures.constant.0 w.in-Err.error
+          (same_of a b (piece_of a) c.args.name.now w.in-Err.error s.allocator.slots new.allocator.slots w.in-Err.ensures.renames) (ap reply_of w.result-is) w.in-Err.ensures.step
     ])

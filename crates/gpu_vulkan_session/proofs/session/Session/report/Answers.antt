@@ -3,7 +3,8 @@ use Rattle.gpu_core.specs.Refusal.{refusal_of}
 use Rattle.gpu_core.specs.Report.{report_of}
 use Rattle.gpu_vulkan.specs.Step as model
 use Rattle.gpu_vulkan.proofs.Untouched.{same_leaves}
-use Rattle.gpu_vulkan_session.specs.Session as orders
+use Rattle.gpu_vulkan_session.specs.Command as commands
+use Rattle.gpu_vulkan_session.specs.Reply as replies
 use Rattle.gpu_vulkan_session.specs.Served.{SessionValue, IsServed}
 use Rattle.gpu_vulkan_session.proofs.Serving.{asked}
 use Rattle.gpu_vulkan_session.proofs.session.Session.report.Goals as goal
@@ -12,11 +13,11 @@ pub returns-in-Ok : goal.returns-in-Ok
 returns-in-Ok g c =
     let V = g.D.VulkanDevice in
     let s : SessionValue g.row.D.Denot = record { allocator = c.self.inside.allocator; bound = c.self.inside.bound.entries } in
-    let told = orders.Shows (report_of c.in-Ok.report) in
+    let reply = replies.Report (report_of c.in-Ok.report) in
     let step = c.in-Ok.ensures.step in
-    subst (λ x. IsServed V orders.Report told x x) c.self.view_is (record {
+    subst (λ x. IsServed V commands.Report reply x x) c.self.view_is (record {
       environment = record { room = true; call = step.environment };
-      serves = asked V model.Report (model.Shows (report_of c.in-Ok.report)) told s refl step;
+      serves = asked V model.Report (model.Shows (report_of c.in-Ok.report)) reply s refl step;
       count = step.count;
       latest = step.latest;
       untouched = λ e. same_leaves (V.held s.allocator.device) (V.held s.allocator.device) refl;
@@ -27,11 +28,11 @@ pub returns-in-Err : goal.returns-in-Err
 returns-in-Err g c =
     let V = g.D.VulkanDevice in
     let s : SessionValue g.row.D.Denot = record { allocator = c.self.inside.allocator; bound = c.self.inside.bound.entries } in
-    let told = orders.Fails (refusal_of c.in-Err.error) in
+    let reply = replies.Error (refusal_of c.in-Err.error) in
     let step = c.in-Err.ensures.step in
-    subst (λ x. IsServed V orders.Report told x x) c.self.view_is (record {
+    subst (λ x. IsServed V commands.Report reply x x) c.self.view_is (record {
       environment = record { room = true; call = step.environment };
-      serves = asked V model.Report (model.Fails (refusal_of c.in-Err.error)) told s refl step;
+      serves = asked V model.Report (model.Fails (refusal_of c.in-Err.error)) reply s refl step;
       count = step.count;
       latest = step.latest;
       untouched = λ e. same_leaves (V.held s.allocator.device) (V.held s.allocator.device) refl;

@@ -1,8 +1,9 @@
 use Rattle.std.proofs.Common.{true, refl, sym, subst}
 use Rattle.gpu_vulkan.specs.Step as model
 use Rattle.gpu_vulkan.proofs.Untouched.{same_leaves}
-use Rattle.gpu_vulkan_session.specs.Session as orders
-use Rattle.gpu_vulkan_session.specs.Served.{SessionValue, order_of, IsServed}
+use Rattle.gpu_vulkan_session.specs.Command as commands
+use Rattle.gpu_vulkan_session.specs.Reply as replies
+use Rattle.gpu_vulkan_session.specs.Served.{SessionValue, command_of, IsServed}
 use Rattle.gpu_vulkan_session.proofs.Serving.{asked}
 use Rattle.gpu_vulkan_session.proofs.session.Session.serve.Goals as goal
 
@@ -10,12 +11,12 @@ pub returns-in-Capacity : goal.returns-in-Capacity
 returns-in-Capacity g c =
     let V = g.D.VulkanDevice in
     let s : SessionValue g.row.D.Denot = record { allocator = c.self.inside.allocator; bound = c.self.inside.bound.entries } in
-    let told = orders.Sum c.capacity.result in
+    let reply = replies.Capacity c.capacity.result in
     let step = c.capacity.ensures.step in
-    subst (λ o. IsServed V (order_of o) told c.args.self.now c.args.self.now) (sym c.in-Capacity.is)
-    (subst (λ x. IsServed V orders.Capacity told x x) c.self.view_is (record {
+    subst (λ o. IsServed V (command_of o) reply c.args.self.now c.args.self.now) (sym c.in-Capacity.is)
+    (subst (λ x. IsServed V commands.Capacity reply x x) c.self.view_is (record {
       environment = record { room = true; call = step.environment };
-      serves = asked V model.Capacity (model.Sum c.capacity.result) told s refl step;
+      serves = asked V model.Capacity (model.Sum c.capacity.result) reply s refl step;
       count = step.count;
       latest = step.latest;
       untouched = λ e. same_leaves (V.held s.allocator.device) (V.held s.allocator.device) refl;
