@@ -1,0 +1,3 @@
+pub mod FirstServing
+pub mod Holding
+pub mod Lists
