@@ -1,0 +1,16 @@
+pub mod Members
+pub mod Listing
+pub mod Types
+pub mod Attempts
+pub mod HeldSet
+pub mod Serving
+pub mod Releasing
+pub mod Returned
+pub mod Emptying
+pub mod Owning
+pub mod Apart
+pub mod Keeping
+pub mod Steps
+pub mod OneStep
+pub mod Calls
+pub mod Beginning

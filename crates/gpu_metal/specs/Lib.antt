@@ -1,0 +1,9 @@
+pub mod Blocks
+pub mod HeapList
+pub mod Live
+pub mod Attempt
+pub mod Allocate
+pub mod Free
+pub mod State
+pub mod Step
+pub mod Apart

@@ -1,0 +1,66 @@
+//! A piece of a heap, as its owner holds it.
+
+ghost use Rattle.std.specs.Prelude.{◌≡◌, IsSomeAnd};
+
+use gpu_core::Piece;
+use gpu_device::metal::MTLHeap;
+use std::num::NonZeroU64;
+
+/// A piece of a heap: bytes `offset..offset + size` of `heap`. Make a resource there. Give it back by the allocator's
+/// `free`.
+#[derive(Debug, Drop)]
+pub struct Allocation {
+    pub(crate) number: NonZeroU64,
+    pub(crate) offset: u64,
+    pub(crate) size: u64,
+    pub(crate) memory_block_index: usize,
+    pub(crate) memory_type_index: usize,
+    pub(crate) heap: MTLHeap,
+    pub(crate) name: String,
+}
+
+impl Allocation {
+    ghost use Rattle.std.specs.Prelude.{string_bytes};
+    ghost use Rattle.gpu_metal.specs.Live.{piece_of};
+
+    /// The heap that it lies in.
+    pub fn heap(&self) -> MTLHeap
+        ensures { result ≡ self.now.heap }
+    {
+        self.heap
+    }
+
+    /// Its size in bytes.
+    pub fn size(&self) -> u64
+        ensures { result ≡ self.now.size }
+    {
+        self.size
+    }
+
+    /// Where it begins in its heap, in bytes.
+    pub fn offset(&self) -> u64
+        ensures { result ≡ self.now.offset }
+    {
+        self.offset
+    }
+
+    /// The name with which it was asked for. Every allocation has one.
+    pub fn name(&self) -> Option<&str>
+        ensures { IsSomeAnd result (λ name. name.now ≡ string_bytes self.now.name) }
+    {
+        Some(self.name.as_str())
+    }
+
+    /// The piece that it stands for.
+    pub(crate) fn piece(&self) -> Piece<MTLHeap>
+        ensures { result ≡ piece_of self.now }
+    {
+        Piece {
+            slot: self.memory_block_index,
+            number: self.number,
+            offset: self.offset,
+            size: self.size,
+            block: self.heap,
+        }
+    }
+}

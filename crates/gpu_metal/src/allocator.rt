@@ -1,0 +1,258 @@
+//! The allocator: blocks of heaps by memory type, and the calls that share them out.
+
+ghost use Rattle.std.specs.Prelude.{◌≡◌, ◌↔◌, ◌%◌, [], All, None, IfOk, IfErr, IsTrue, length, option_copied};
+ghost use Rattle.gpu_values.specs.Refusal.{refusal_of, refusal_in};
+ghost use Rattle.gpu_values.specs.Report.{report_of};
+ghost use Rattle.gpu_values.specs.declared.error.AllocationError.TheVariants.{HostOutOfMemory};
+ghost use Rattle.gpu_memory_types.specs.Blocks.{total_capacity, BlocksWellFormed};
+ghost use Rattle.gpu_memory_types.specs.Budgets.{budget_at, SetsBudget};
+ghost use Rattle.gpu_memory_types.specs.Reports.{whole_report};
+ghost use Rattle.gpu_metal_setup.specs.MemoryKinds.{locations};
+ghost use Rattle.gpu_metal_setup.specs.Residency.{MakesSet, ChangesHeld, with_committed};
+ghost use Rattle.gpu_metal_setup.specs.Setup.{IsNotMade};
+ghost use Rattle.gpu_metal.specs.Allocate.{Allocates};
+ghost use Rattle.gpu_metal.specs.Apart.{IsInside, SharesNoByte};
+ghost use Rattle.gpu_metal.specs.Blocks.{residency_of, HoldsJustLiveBlocks};
+ghost use Rattle.gpu_metal.specs.Free.{Frees, left_behind};
+ghost use Rattle.gpu_metal.specs.HeapList.{all_heaps};
+ghost use Rattle.gpu_metal.specs.Live.{IsLive, AreDistinct, StayLive};
+ghost use Rattle.gpu_metal.specs.Step.{IsStep, IsAllocateStep, Free, Commit, SetBudget, Budget, Capacity, LiveHeaps, Report, Done, Sum, Lists, Budgeted, freed_as, done_as, shown_as};
+ghost use Rattle.gpu_metal.specs.declared.allocation.Allocation.{Allocation};
+
+use crate::Allocation;
+use crate::attempt::allocate_in_type;
+use crate::heaps::{Heaps, all_heaps};
+use crate::logging::{log_allocate, log_free};
+use crate::release::{free_all, release};
+use gpu_device::metal::{MTLHeap, MTLResidencySet, MetalDevice};
+use gpu_memory_types::MemoryTypes;
+use gpu_metal_setup::{
+    AllocationCreateDesc, AllocatorCreateDesc, Setup, commit_set, parts_of, type_for,
+};
+use gpu_values::{AllocationError, AllocatorReport, Result};
+use log::Log;
+use std::alloc::Global;
+use std::marker::Model;
+use std::snapshot::Snapshot;
+
+/// Allocates pieces of heaps from a few large blocks. It must be spent by `destroy`.
+pub struct Allocator<D: MetalDevice> {
+    device: D,
+    first: Snapshot<D>,
+    setup: Setup,
+    types: MemoryTypes<MTLHeap>,
+    alloc: Global,
+}
+
+impl<D: MetalDevice> Model for Allocator<D> {
+    ghost use Rattle.std.specs.Prelude.{◌≡◌};
+    ghost use Rattle.gpu_memory_types.specs.Budgets.{budgets};
+    ghost use Rattle.gpu_memory_types.specs.Types.{slots_of, kinds, MemoryTypesInvariant};
+    ghost use Rattle.gpu_metal_setup.specs.Setup.{kinds_told};
+    ghost use Rattle.gpu_metal.specs.State.{State, AllocatorInvariant};
+
+    ghost Value = { State D };
+
+    ghost view = { λ a. record { device = a.device; first = a.first.value; setup = a.setup; slots = slots_of a.types; budgets = budgets a.types } };
+
+    ghost invariant = { λ a. (kinds a.types ≡ kinds_told)
+        × AllocatorInvariant (D.properties a.first.value) (D.properties a.device) (D.held a.first.value) (D.held a.device) a.setup (slots_of a.types)
+        × MemoryTypesInvariant a.types };
+}
+
+impl<D: MetalDevice> Allocator<D> {
+    /// An allocator without blocks. Where it can't be made, the device comes back beside `HostOutOfMemory`, or beside
+    /// `Internal` where it refuses a residency set that is wanted; then it holds what it held.
+    pub fn new(alloc: Global, desc: AllocatorCreateDesc<D>) -> Result<Self, (AllocationError, D)>
+        ensures first { IfOk result (λ a. a.first ≡ desc.device) }
+        ensures made { IfOk result (λ a. MakesSet D.MetalDevice desc.create_residency_set desc.device a.setup.residency_set a.device) }
+        ensures chosen { IfOk result (λ a. (a.setup.sizes ≡ desc.allocation_sizes) × (a.setup.debug ≡ desc.debug_settings)) }
+        ensures empty { IfOk result (λ a. All (λ slots. slots ≡ []) a.slots) }
+        ensures budgets { IfOk result (λ a. All (λ b. b ≡ None) a.budgets) }
+        ensures types { IfOk result (λ a. length a.slots ≡ length locations) }
+        ensures refused { IfErr result (λ e. IsNotMade D.MetalDevice desc.create_residency_set (refusal_of e.0) desc.device e.1) }
+        ensures held { IfErr result (λ e. D.held e.1 ≡ D.held desc.device) }
+    {
+        let AllocatorCreateDesc {
+            mut device,
+            debug_settings,
+            allocation_sizes,
+            create_residency_set,
+        } = desc;
+        let first = Snapshot::of(&device);
+        match parts_of(
+            alloc,
+            &mut device,
+            allocation_sizes,
+            debug_settings,
+            create_residency_set,
+        ) {
+            Err(error) => Err((error, device)),
+            Ok((setup, types)) => Ok(Allocator {
+                device,
+                first,
+                setup,
+                types,
+                alloc,
+            }),
+        }
+    }
+
+    /// Takes a piece of a heap. `InvalidAllocationCreateDesc` where the size is 0 or the alignment isn't a power of two;
+    /// `HostOutOfMemory`; `OutOfMemory` where a new block would carry the sum of all blocks' sizes past `u64::MAX`, else
+    /// `BudgetExceeded` where it would carry that of its memory type past its budget;
+    /// `Internal` where the device refuses a heap. A refusal changes nothing. A new heap is a member of the residency set,
+    /// which has to be committed for it.
+    pub fn allocate<L: Log>(&mut self, log: &L, desc: &AllocationCreateDesc) -> Result<Allocation>
+        ensures allocates { Allocates D.MetalDevice self.old.setup self.old.budgets desc.now self.old.slots self.old.device result self.new.slots self.new.device }
+        ensures constant { (self.new.first ≡ self.old.first) × (self.new.setup ≡ self.old.setup) × (self.new.budgets ≡ self.old.budgets) }
+        ensures step { IsAllocateStep D.MetalDevice desc.now result self.old self.new }
+        ensures aligned { IfOk result (λ a. a.offset % desc.now.alignment ≡ 0) }
+        ensures keeps { StayLive self.old.slots self.new.slots }
+        ensures gives { IfOk result (λ a. IsLive self.new.slots a × ((b : Allocation) → IsLive self.old.slots b → AreDistinct b a)) }
+    {
+        log_allocate(log, self.setup.debug, desc);
+        if desc.size == 0 || !desc.alignment.is_power_of_two() {
+            return Err(AllocationError::InvalidAllocationCreateDesc);
+        }
+        let index = type_for(desc.location);
+        allocate_in_type(
+            self.alloc,
+            &self.setup,
+            &mut self.device,
+            &mut self.types,
+            desc,
+            index,
+        )
+    }
+
+    /// Gives an allocation back, and its block with it where the block is left empty and isn't the only shared one of its
+    /// memory type; its heap then leaves the residency set. One that isn't live comes back beside `Internal`, and then
+    /// nothing changes. It takes no memory.
+    pub fn free<L: Log>(
+        &mut self,
+        log: &L,
+        allocation: Allocation,
+    ) -> Result<(), (AllocationError, Allocation)>
+        ensures frees { Frees D.MetalDevice self.old.setup.residency_set allocation self.old.slots self.old.device result self.new.slots self.new.device }
+        ensures constant { (self.new.first ≡ self.old.first) × (self.new.setup ≡ self.old.setup) × (self.new.budgets ≡ self.old.budgets) }
+        ensures step { IsStep D.MetalDevice (Free allocation) (freed_as result) self.old self.new }
+        ensures keeps { (b : Allocation) → IsLive self.old.slots b → AreDistinct b allocation → IsLive self.new.slots b }
+    {
+        log_free(log, self.setup.debug, &allocation);
+        let piece = allocation.piece();
+        let index = allocation.memory_type_index;
+        let set = self.setup.residency_set;
+        match release(&mut self.device, set, &mut self.types, index, &piece) {
+            Ok(()) => Ok(()),
+            Err(error) => Err((error, allocation)),
+        }
+    }
+
+    /// The heaps of the live blocks by memory type, then by slot. It takes no memory.
+    pub fn heaps(&self) -> Heaps<'_>
+        ensures heaps { result ≡ all_heaps self.now.slots }
+        ensures step { IsStep D.MetalDevice LiveHeaps (Lists result) self.now self.now }
+    {
+        all_heaps(&self.types)
+    }
+
+    /// The residency set, where one was made: its members are the heaps of the live blocks. Don't change it, and commit it
+    /// by `commit_residency_set` alone.
+    pub fn residency_set(&self) -> Option<&MTLResidencySet>
+        ensures { option_copied result ≡ self.now.setup.residency_set }
+    {
+        self.setup.residency_set.as_ref()
+    }
+
+    /// Makes the members of the residency set its committed members, where there is one. It takes no memory.
+    pub fn commit_residency_set(&mut self)
+        ensures commits { ChangesHeld D.MetalDevice self.old.device (with_committed (D.held self.old.device) self.old.setup.residency_set) self.new.device }
+        ensures constant { (self.new.first ≡ self.old.first) × (self.new.setup ≡ self.old.setup) × (self.new.slots ≡ self.old.slots) × (self.new.budgets ≡ self.old.budgets) }
+        ensures step { IsStep D.MetalDevice Commit Done self.old self.new }
+    {
+        commit_set(&mut self.device, self.setup.residency_set);
+    }
+
+    /// Bounds the sum of the sizes of the blocks of a memory type, in bytes: a request that needs a new block beyond it is
+    /// refused with `BudgetExceeded`. `None` takes the bound away; a budget below the present sum gives no block back.
+    /// `Internal` where there is no such memory type, and then nothing changes. It takes no memory.
+    pub fn set_budget(&mut self, memory_type: usize, budget: Option<u64>) -> Result<()>
+        ensures budgets { SetsBudget memory_type budget self.old.budgets (refusal_in result) self.new.budgets }
+        ensures others { self.new ≡ record self.old { budgets = self.new.budgets } }
+        ensures step { IsStep D.MetalDevice (SetBudget memory_type budget) (done_as result) self.old self.new }
+    {
+        self.types.set_budget(memory_type, budget)
+    }
+
+    /// The budget of a memory type, in bytes; `None` where it has none, or there is no such type.
+    pub fn budget(&self, memory_type: usize) -> Option<u64>
+        ensures budget { result ≡ budget_at self.now.budgets memory_type }
+        ensures step { IsStep D.MetalDevice (Budget memory_type) (Budgeted result) self.now self.now }
+    {
+        self.types.budget(memory_type)
+    }
+
+    /// The sum of the sizes of the live blocks, in bytes.
+    pub fn capacity(&self) -> u64
+        ensures sum { result ≡ total_capacity self.now.slots }
+        ensures step { IsStep D.MetalDevice Capacity (Sum result) self.now self.now }
+    {
+        self.types.capacity()
+    }
+
+    /// What is allocated: the live blocks and pieces by memory type, then by slot, pieces by offset, and the sums of both.
+    /// The only refusal is `HostOutOfMemory`.
+    pub fn generate_report(&self) -> Result<AllocatorReport>
+        ensures step { IsStep D.MetalDevice Report (shown_as result) self.now self.now }
+        ensures report { IfOk result (λ r. report_of r ≡ whole_report self.now.slots) }
+        ensures capacity { IfOk result (λ r. r.total_capacity_bytes ≡ total_capacity self.now.slots) }
+        ensures cause { IfErr result (λ e. e ≡ HostOutOfMemory) }
+    {
+        self.types.report(self.alloc)
+    }
+
+    /// The device, lent. It holds what it held when it was handed in, the residency set, and just the live blocks.
+    pub fn device(&self) -> &D
+        ensures lent { result.now ≡ self.now.device }
+        ensures holds { HoldsJustLiveBlocks self.now.setup.residency_set (D.held self.now.first) (D.held self.now.device) self.now.slots }
+        ensures constant { D.properties self.now.device ≡ D.properties self.now.first }
+    {
+        &self.device
+    }
+
+    /// What holds of live allocations at any time, for callers' proofs: each lies inside its block, and no two share a
+    /// byte. All blocks are sound. It does nothing.
+    pub fn allocations_are_apart(&self)
+        ensures sound { BlocksWellFormed 1 self.now.slots }
+        ensures inside { (a : Allocation) → IsLive self.now.slots a → IsInside self.now.slots a }
+        ensures apart { (a b : Allocation) → IsLive self.now.slots a → IsLive self.now.slots b → AreDistinct a b → SharesNoByte a b }
+    {
+        let _ = &self.device;
+    }
+
+    /// Whether an allocation is live: the allocator has a record with its type, slot, number, offset, size and heap.
+    pub fn is_live(&self, allocation: &Allocation) -> bool
+        ensures { IsTrue result ↔ IsLive self.now.slots allocation.now }
+    {
+        self.types
+            .is_live(allocation.memory_type_index, &allocation.piece())
+    }
+
+    /// Gives every block back, and returns the device, which then holds what it held when it was handed in, and the residency
+    /// set without members; its committed members stay as they were last committed.
+    pub fn destroy(self) -> D
+        ensures held { D.held result ≡ left_behind (D.held self.first) self.setup.residency_set (residency_of (D.held self.device) self.setup.residency_set) }
+        ensures asks_nothing { ChangesHeld D.MetalDevice self.device (D.held result) result }
+    {
+        let Allocator {
+            mut device,
+            first: _,
+            setup,
+            types,
+            alloc: _,
+        } = self;
+        free_all(&mut device, setup.residency_set, &types);
+        device
+    }
+}

@@ -1,0 +1,14 @@
+//! The Metal allocator: pieces of heaps for buffers, textures and acceleration structures.
+#![tactic(auto)]
+
+mod allocation;
+mod allocator;
+mod attempt;
+mod heaps;
+pub mod laws;
+mod logging;
+mod release;
+
+pub use allocation::Allocation;
+pub use allocator::Allocator;
+pub use heaps::Heaps;
