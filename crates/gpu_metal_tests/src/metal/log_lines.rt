@@ -1,0 +1,70 @@
+//! Log lines, in a log that is kept in memory.
+
+use super::*;
+use gpu_values::AllocationError;
+use log::Log;
+use log::sink::{Lines, Memory};
+
+/// Settings that log all of this, or nothing.
+fn settings(all: bool) -> AllocatorDebugSettings {
+    AllocatorDebugSettings {
+        log_memory_information: all,
+        log_leaks_on_shutdown: all,
+        log_allocations: all,
+        log_frees: all,
+    }
+}
+
+fn calls<L: Log>(log: &L, a: &mut Allocator<SimMetal>) -> Outcome {
+    let Ok(first) = a.allocate(log, &piece(512, MemoryLocation::GpuOnly)) else {
+        return Err(Fail::from("nothing was given"));
+    };
+    let Err(AllocationError::InvalidAllocationCreateDesc) = a.allocate(
+        log,
+        &piece(0, MemoryLocation::GpuOnly),
+    ) else {
+        return Err(Fail::from("a request without bytes was served"));
+    };
+    let Ok(()) = a.free(log, first) else {
+        return Err(Fail::from("a live allocation came back"));
+    };
+    Ok(())
+}
+
+fn lines_of(alloc: Global, all: bool) -> std::result::Result<Lines, Fail> {
+    let sink = Memory::new(alloc);
+    let device = simulated(alloc, true, &[])?;
+    let mut desc = described(device, AllocationSizes::default(), false);
+    desc.debug_settings = settings(all);
+    let Ok(mut a) = Allocator::new(alloc, desc) else {
+        return Err(Fail::from("the allocator can't be made"));
+    };
+    let done = calls(&sink.with_target("gpu"), &mut a);
+    let _ = a.destroy();
+    done?;
+    Ok(sink.into_lines())
+}
+
+fn check_lines(rt: &impl Abort, lines: &Lines, want: &[&str]) {
+    assert_eq!(rt; lines.len(), want.len());
+    for (line, want) in lines.as_slice().iter().zip(want) {
+        assert_eq!(rt; line.as_str(), *want);
+    }
+}
+
+#[test]
+fn allocations_and_frees_are_logged(rt: HostRuntime) -> Outcome {
+    let want = [
+        "[DEBUG gpu] Allocating `piece` of 512 bytes with an alignment of 256.",
+        "[DEBUG gpu] Allocating `piece` of 0 bytes with an alignment of 256.",
+        "[DEBUG gpu] Freeing `piece`.",
+    ];
+    check_lines(&rt, &lines_of(rt.alloc(), true)?, &want);
+    Ok(())
+}
+
+#[test]
+fn without_settings_nothing_is_logged(rt: HostRuntime) -> Outcome {
+    check_lines(&rt, &lines_of(rt.alloc(), false)?, &[]);
+    Ok(())
+}
