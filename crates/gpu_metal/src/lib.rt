@@ -11,4 +11,7 @@ mod release;
 
 pub use allocation::Allocation;
 pub use allocator::Allocator;
+pub use gpu_metal_setup::{
+    AllocationCreateDesc, AllocatorCreateDesc, CommittedAllocationStatistics,
+};
 pub use heaps::Heaps;
