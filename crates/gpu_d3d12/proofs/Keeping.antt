@@ -7,10 +7,10 @@ use Rattle.gpu_d3d12_setup.specs.DeviceVersion.{device_of, with_device}
 use Rattle.gpu_d3d12_setup.specs.Setup.{kinds_told}
 use Rattle.gpu_d3d12_setup.specs.declared.device_version.ID3D12DeviceVersion.{ID3D12DeviceVersion}
 use Rattle.gpu_d3d12_setup.specs.declared.setup.Setup.{Setup}
-use Rattle.gpu_d3d12.specs.Blocks.{Slots, HoldsJustLiveBlocks}
+use Rattle.gpu_d3d12_blocks.specs.Blocks.{Slots, HoldsJustLiveBlocks}
 use Rattle.gpu_d3d12.specs.State.{AllocatorInvariant}
 use Rattle.gpu_d3d12.proofs.Steps.{device_with, with_twice}
-use Rattle.gpu_d3d12.proofs.Types.{well_formed_told}
+use Rattle.gpu_d3d12_blocks.proofs.Types.{well_formed_told}
 
 module _ {D : Type 0} (g : Ghosts D) (setup : Setup) (first : ID3D12DeviceVersion D) where
   abbrev pub Invariant : ID3D12DeviceVersion D → Types ID3D12Heap → Type 0

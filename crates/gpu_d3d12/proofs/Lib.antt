@@ -1,8 +1,5 @@
-pub mod Types
 pub mod Attempts
 pub mod Serving
-pub mod Releasing
-pub mod Returned
 pub mod Owning
 pub mod Apart
 pub mod Renaming

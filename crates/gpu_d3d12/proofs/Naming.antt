@@ -16,14 +16,15 @@ use Rattle.gpu_core.specs.declared.memory_type.Piece.{Piece}
 use Rattle.gpu_core.proofs.Slotted.{set_only}
 use Rattle.gpu_device.specs.declared.d3d12.types.ID3D12Heap.{ID3D12Heap}
 use Rattle.gpu_values.specs.declared.error.AllocationError.{AllocationError}
-use Rattle.gpu_d3d12.specs.Blocks.{Slots}
+use Rattle.gpu_d3d12_blocks.specs.Blocks.{Slots}
 use Rattle.gpu_memory_types.specs.Blocks.{slots_at}
-use Rattle.gpu_d3d12.specs.Live.{piece_of, is_same_heap, IsLiveIn, IsLive}
+use Rattle.gpu_d3d12.specs.Live.{piece_of, IsLive}
+use Rattle.gpu_d3d12_blocks.specs.Release.{is_same_heap, IsLiveIn}
 use Rattle.gpu_memory_types.specs.Rename.{IsRenamed}
 use Rattle.gpu_d3d12.specs.Rename.{Renames}
 use Rattle.gpu_d3d12.specs.declared.allocation.Allocation.{Allocation}
 use Rattle.gpu_memory_types.proofs.Placed.{some_below}
-use Rattle.gpu_d3d12.proofs.Releasing.{type_below}
+use Rattle.gpu_d3d12_blocks.proofs.Releasing.{type_below}
 use Rattle.gpu_memory_types.proofs.Types.{slots_after}
 
 map_keeps : {A B : Type 0} (f : A → B) (xs : List A) → All (λ z. Contains (map f xs) (f z)) xs

@@ -17,9 +17,10 @@ use Rattle.gpu_d3d12_setup.specs.declared.describe.AllocationCreateDesc.{Allocat
 use Rattle.gpu_d3d12_setup.specs.declared.setup.Setup.{Setup}
 use Rattle.gpu_d3d12_setup.proofs.FirstServing.{one_first}
 use Rattle.gpu_d3d12.specs.Allocate.{is_valid}
-use Rattle.gpu_d3d12.specs.Attempt.{AttemptEnvironment, asked_block, request_at}
-use Rattle.gpu_d3d12.specs.Blocks.{Slots}
-use Rattle.gpu_d3d12.specs.Live.{piece_of, is_same_heap}
+use Rattle.gpu_d3d12_blocks.specs.Suballocation.{AttemptEnvironment, asked_block, request_at}
+use Rattle.gpu_d3d12_blocks.specs.Blocks.{Slots}
+use Rattle.gpu_d3d12.specs.Live.{piece_of}
+use Rattle.gpu_d3d12_blocks.specs.Release.{is_same_heap}
 use Rattle.gpu_d3d12.specs.Step.{Call, Allocate, Free, Rename, Capacity, Report, Leaks, Reply, Given, Fails, Done, Sum, Shows, Tells, reply_of, ServeStep, AllocateStep, ReleaseStep, FreeStep, RenameStep, ReportStep, LeaksStep, Step}
 
 -- ---- an allocation

@@ -13,12 +13,13 @@ use Rattle.gpu_memory_types.proofs.StayLive.{KeepsPieces, allocates_keeps, relea
 use Rattle.gpu_d3d12_setup.specs.declared.describe.AllocationCreateDesc.{AllocationCreateDesc}
 use Rattle.gpu_d3d12_setup.specs.declared.setup.Setup.{Setup}
 use Rattle.gpu_d3d12.specs.Allocate.{IsAttempt, Answers}
-use Rattle.gpu_d3d12.specs.Attempt.{Answer, asked_block, request_at}
-use Rattle.gpu_d3d12.specs.Blocks.{Slots}
+use Rattle.gpu_d3d12_blocks.specs.Suballocation.{Answer, asked_block, request_at}
+use Rattle.gpu_d3d12_blocks.specs.Blocks.{Slots}
 use Rattle.gpu_d3d12.specs.Free.{Frees}
-use Rattle.gpu_d3d12.specs.Live.{piece_of, is_same_heap, IsLiveIn, IsLive, AreDistinct, StayLive}
+use Rattle.gpu_d3d12.specs.Live.{piece_of, IsLive, AreDistinct, StayLive}
+use Rattle.gpu_d3d12_blocks.specs.Release.{is_same_heap, IsLiveIn}
 use Rattle.gpu_d3d12.specs.declared.allocation.Allocation.{Allocation}
-use Rattle.gpu_d3d12.proofs.Releasing.{type_below}
+use Rattle.gpu_d3d12_blocks.proofs.Releasing.{type_below}
 
 same_heap : (h : ID3D12Heap) → is_same_heap h h ≡ true
 same_heap h = eq_true h.0 h.0 refl

@@ -10,15 +10,16 @@ use Rattle.gpu_device.specs.D3D12.{Held}
 use Rattle.gpu_device.specs.declared.d3d12.types.ResourceHeapTier.{ResourceHeapTier}
 use Rattle.gpu_device.specs.declared.d3d12.types.ID3D12Heap.{ID3D12Heap}
 use Rattle.gpu_values.specs.declared.error.AllocationError.{AllocationError}
-use Rattle.gpu_d3d12.specs.Blocks.{Slots, HoldsJustLiveBlocks, heap_number, IsBlockEntry}
+use Rattle.gpu_d3d12_blocks.specs.Blocks.{Slots, HoldsJustLiveBlocks, heap_number, IsBlockEntry}
 use Rattle.gpu_memory_types.specs.Blocks.{slots_at}
-use Rattle.gpu_d3d12.specs.Live.{piece_of, is_same_heap}
+use Rattle.gpu_d3d12.specs.Live.{piece_of}
+use Rattle.gpu_d3d12_blocks.specs.Release.{is_same_heap}
 use Rattle.gpu_memory_types.specs.Rename.{IsRenamed}
 use Rattle.gpu_d3d12.specs.Rename.{Renames}
 use Rattle.gpu_d3d12.specs.declared.allocation.Allocation.{Allocation}
 use Rattle.gpu_memory_types.proofs.Holding.{changed_holds}
 use Rattle.gpu_memory_types.proofs.Placed.{only_block, some_below}
-use Rattle.gpu_d3d12.proofs.Releasing.{type_below}
+use Rattle.gpu_d3d12_blocks.proofs.Releasing.{type_below}
 
 -- a new name leaves a block's size
 renames_size : (old : Block) (n : ℕ) (name : List ℕ) (new : Block) → RenamesIn old n name new → size_of new ≡ size_of old

@@ -16,8 +16,8 @@ use Rattle.gpu_d3d12_setup.specs.declared.describe.AllocationCreateDesc.{Allocat
 use Rattle.gpu_d3d12_setup.specs.declared.memory_kind.MemoryKind.{MemoryKind}
 use Rattle.gpu_d3d12_setup.specs.declared.setup.Setup.{Setup}
 use Rattle.gpu_d3d12.specs.Allocate.{IsAttempt}
-use Rattle.gpu_d3d12.specs.Attempt.{Asked, IsAfter, IsAskedFor, asked_block, block_result, request_at}
-use Rattle.gpu_d3d12.specs.Blocks.{Slots, kind_at, IsBlockEntry, heap_number, HoldsJustLiveBlocks}
+use Rattle.gpu_d3d12_blocks.specs.Suballocation.{Asked, IsAfter, IsAskedFor, asked_block, block_result, request_at}
+use Rattle.gpu_d3d12_blocks.specs.Blocks.{Slots, kind_at, IsBlockEntry, heap_number, HoldsJustLiveBlocks}
 use Rattle.gpu_d3d12.specs.declared.allocation.Allocation.{Allocation}
 
 some_and : {A : Type 0} (o : Option A) (P Q : A → Type 0) → ((x : A) → P x → Q x) → IsSomeAnd o P → IsSomeAnd o Q

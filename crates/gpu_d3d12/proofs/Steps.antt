@@ -18,7 +18,7 @@ use Rattle.gpu_d3d12_setup.specs.declared.describe.AllocationCreateDesc.{Allocat
 use Rattle.gpu_d3d12_setup.specs.declared.device_version.ID3D12DeviceVersion.{ID3D12DeviceVersion}
 use Rattle.gpu_d3d12_setup.specs.declared.device_version.ID3D12DeviceVersion.TheVariants.{Device, Device10, Device12}
 use Rattle.gpu_d3d12.specs.Allocate.{Answers, IsServed, is_valid}
-use Rattle.gpu_d3d12.specs.Attempt.{AttemptEnvironment, Asked, Answer, IsAfter}
+use Rattle.gpu_d3d12_blocks.specs.Suballocation.{AttemptEnvironment, Asked, Answer, IsAfter}
 use Rattle.gpu_d3d12.specs.Live.{piece_of}
 use Rattle.gpu_d3d12.specs.Rename.{Renames}
 use Rattle.gpu_d3d12.specs.State.{State}

@@ -8,8 +8,8 @@ use Rattle.gpu_memory_types.specs.Attempt.{AllocatesInType, Gave, Refused}
 use Rattle.gpu_d3d12_setup.specs.MemoryKinds.{memory_kinds, IsFirstServing}
 use Rattle.gpu_d3d12_setup.specs.declared.describe.AllocationCreateDesc.{AllocationCreateDesc}
 use Rattle.gpu_d3d12_setup.specs.declared.setup.Setup.{Setup}
-use Rattle.gpu_d3d12.specs.Attempt.{AttemptEnvironment, Answer, asked_block, request_at, IsAskedFor, IsAfter}
-use Rattle.gpu_d3d12.specs.Blocks.{Slots}
+use Rattle.gpu_d3d12_blocks.specs.Suballocation.{AttemptEnvironment, Answer, asked_block, request_at, IsAskedFor, IsAfter}
+use Rattle.gpu_d3d12_blocks.specs.Blocks.{Slots}
 use Rattle.gpu_d3d12.specs.Live.{IsGiven}
 use Rattle.gpu_d3d12.specs.declared.allocation.Allocation.{Allocation}
 

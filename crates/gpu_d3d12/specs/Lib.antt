@@ -1,6 +1,4 @@
-pub mod Blocks
 pub mod Live
-pub mod Attempt
 pub mod Allocate
 pub mod Free
 pub mod Rename

@@ -1,22 +1,16 @@
 -- An allocation, as its owner holds it, and the piece that it stands for.
-use Rattle.std.specs.Prelude.{◌≡◌, ℕ, ◌==◌, Bool, List, Option, Some, string_bytes}
+use Rattle.std.specs.Prelude.{◌≡◌, ℕ, List, Some, string_bytes}
 use Rattle.std.specs.Int.NonZero.{non_zero_u64_get}
 use Rattle.gpu_core.specs.declared.memory_type.Piece.{Piece}
 use Rattle.gpu_device.specs.declared.d3d12.types.ID3D12Heap.{ID3D12Heap}
-use Rattle.gpu_memory_types.specs.Live as all
-use Rattle.gpu_d3d12.specs.Blocks.{Slots}
+use Rattle.gpu_memory_types.specs.Apart as pieces
+use Rattle.gpu_d3d12_blocks.specs.Blocks.{Slots}
+use Rattle.gpu_d3d12_blocks.specs.Release.{IsLiveIn}
 use Rattle.gpu_d3d12.specs.declared.allocation.Allocation.{Allocation}
 
 -- the piece that an allocation stands for
 abbrev pub piece_of : Allocation → Piece ID3D12Heap
 piece_of a = record { slot = a.memory_block_index; number = a.number; offset = a.offset; size = a.size; block = a.heap }
-
--- the heap's number, as the device compares it
-abbrev pub is_same_heap : ID3D12Heap → ID3D12Heap → Bool
-is_same_heap m n = m.0 == n.0
-
-abbrev pub IsLiveIn : Slots → (t : ℕ) → Option (Piece ID3D12Heap) → Type 0
-IsLiveIn slots t p = all.IsLiveIn is_same_heap slots t p
 
 -- the allocator has a record with the allocation's type, slot, number, offset, size and heap
 abbrev pub IsLive : Slots → Allocation → Type 0
@@ -30,8 +24,7 @@ pub record IsGiven (t : ℕ) (name : List ℕ) (p : Piece ID3D12Heap) (a : Alloc
 
 -- two allocations are different pieces: of another memory type, in another slot, or under another number
 abbrev pub AreDistinct : Allocation → Allocation → Type 0
-AreDistinct a b =
-    a.memory_type_index ≡ b.memory_type_index → a.memory_block_index ≡ b.memory_block_index → non_zero_u64_get a.number ≡ non_zero_u64_get b.number → ⊥
+AreDistinct a b = pieces.AreDistinct a.memory_type_index (piece_of a) b.memory_type_index (piece_of b)
 
 -- what was live is live
 abbrev pub StayLive : (old new : Slots) → Type 0

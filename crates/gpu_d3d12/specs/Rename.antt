@@ -4,8 +4,9 @@ use Rattle.gpu_values.specs.Refusal.{refusal_of}
 use Rattle.gpu_values.specs.declared.error.AllocationError.{AllocationError}
 use Rattle.gpu_memory_types.specs.Blocks.{slots_at}
 use Rattle.gpu_memory_types.specs.Rename.{IsNotNamed, IsRenamed}
-use Rattle.gpu_d3d12.specs.Blocks.{Slots}
-use Rattle.gpu_d3d12.specs.Live.{piece_of, is_same_heap}
+use Rattle.gpu_d3d12_blocks.specs.Blocks.{Slots}
+use Rattle.gpu_d3d12.specs.Live.{piece_of}
+use Rattle.gpu_d3d12_blocks.specs.Release.{is_same_heap}
 use Rattle.gpu_d3d12.specs.declared.allocation.Allocation.{Allocation}
 
 -- the allocation has that name, and all else of it is as it was

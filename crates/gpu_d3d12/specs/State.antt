@@ -5,7 +5,7 @@ use Rattle.gpu_d3d12_setup.specs.MemoryKinds.{memory_kinds}
 use Rattle.gpu_d3d12_setup.specs.declared.device_version.ID3D12DeviceVersion.{ID3D12DeviceVersion}
 use Rattle.gpu_d3d12_setup.specs.declared.setup.Setup.{Setup}
 use Rattle.gpu_memory_types.specs.Blocks.{total_capacity, BlocksWellFormed}
-use Rattle.gpu_d3d12.specs.Blocks.{Slots, HoldsJustLiveBlocks}
+use Rattle.gpu_d3d12_blocks.specs.Blocks.{Slots, HoldsJustLiveBlocks}
 
 -- the device, what it was when it was handed in, what the allocator is made with, and the blocks
 pub record State (D : Type 0) : Type 0 where

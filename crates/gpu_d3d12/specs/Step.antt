@@ -26,9 +26,10 @@ use Rattle.gpu_d3d12_setup.specs.MemoryKinds.{memory_kinds, IsFirstServing}
 use Rattle.gpu_d3d12_setup.specs.declared.describe.AllocationCreateDesc.{AllocationCreateDesc}
 use Rattle.gpu_d3d12_setup.specs.declared.setup.Setup.{Setup}
 use Rattle.gpu_d3d12.specs.Allocate.{is_valid}
-use Rattle.gpu_d3d12.specs.Attempt.{AttemptEnvironment, Asked, Answer, asked_block, request_at, IsAskedFor}
-use Rattle.gpu_d3d12.specs.Blocks.{Slots}
-use Rattle.gpu_d3d12.specs.Live.{piece_of, is_same_heap, IsLiveIn, IsGiven}
+use Rattle.gpu_d3d12_blocks.specs.Suballocation.{AttemptEnvironment, Asked, Answer, asked_block, request_at, IsAskedFor}
+use Rattle.gpu_d3d12_blocks.specs.Blocks.{Slots}
+use Rattle.gpu_d3d12.specs.Live.{piece_of, IsGiven}
+use Rattle.gpu_d3d12_blocks.specs.Release.{is_same_heap, IsLiveIn}
 use Rattle.gpu_d3d12.specs.State.{State}
 use Rattle.gpu_d3d12.specs.declared.allocation.Allocation.{Allocation}
 

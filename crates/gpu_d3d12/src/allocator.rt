@@ -14,8 +14,9 @@ ghost use Rattle.gpu_d3d12_setup.specs.MemoryKinds.{memory_kinds};
 ghost use Rattle.gpu_d3d12_setup.specs.Setup.{setup_fault};
 ghost use Rattle.gpu_d3d12.specs.Allocate.{Allocates};
 ghost use Rattle.gpu_d3d12.specs.Apart.{IsInside, SharesNoByte};
-ghost use Rattle.gpu_d3d12.specs.Blocks.{HoldsJustLiveBlocks};
-ghost use Rattle.gpu_d3d12.specs.Free.{Frees, AsksNothing};
+ghost use Rattle.gpu_d3d12_blocks.specs.Blocks.{HoldsJustLiveBlocks};
+ghost use Rattle.gpu_d3d12.specs.Free.{Frees};
+ghost use Rattle.gpu_d3d12_blocks.specs.Release.{AsksNothing};
 ghost use Rattle.gpu_d3d12.specs.Live.{IsLive, AreDistinct, StayLive};
 ghost use Rattle.gpu_d3d12.specs.Rename.{Renames};
 ghost use Rattle.gpu_d3d12.specs.Step.{IsStep, IsAllocateStep, Free, Rename, Capacity, Report, Leaks, Sum, freed_as, renamed_as, shown_as, told_as};
@@ -24,8 +25,8 @@ ghost use Rattle.gpu_d3d12.specs.declared.allocation.Allocation.{Allocation};
 use crate::Allocation;
 use crate::attempt::allocate_in_type;
 use crate::logging::{log_allocate, log_free, log_last_leaks, log_leaks};
-use crate::release::{free_all, release};
 use crate::rename::rename;
+use gpu_d3d12_blocks::{free_all, free_piece};
 use gpu_d3d12_setup::{
     AllocationCreateDesc, AllocatorCreateDesc, ID3D12DeviceVersion, Setup, parts_of, type_for,
 };
@@ -176,7 +177,7 @@ impl<D: D3D12Device> Allocator<D> {
         let piece = allocation.piece();
         let index = allocation.memory_type_index;
         let device = self.device.device_mut();
-        match release(device, &mut self.types, index, &piece) {
+        match free_piece(device, &mut self.types, index, &piece) {
             Ok(()) => Ok(()),
             Err(error) => Err((error, allocation)),
         }

@@ -5,47 +5,17 @@ ghost use Rattle.std.specs.Int.{is_power_of_two};
 ghost use Rattle.gpu_memory_types.specs.Types.{slots_of, kinds, MemoryTypesInvariant};
 ghost use Rattle.gpu_d3d12_setup.specs.MemoryKinds.{memory_kinds};
 ghost use Rattle.gpu_d3d12_setup.specs.Setup.{kinds_told};
-ghost use Rattle.gpu_d3d12.specs.Attempt.{IsSuballocated};
 ghost use Rattle.gpu_d3d12.specs.Allocate.{IsAttempt};
 ghost use Rattle.gpu_d3d12.specs.Live.{IsGiven};
 
 use crate::Allocation;
-use gpu_core::{Piece, Prepared};
-use gpu_d3d12_setup::{
-    AllocationCreateDesc, Setup, create_block_heap, heap_desc, kind_at, request_of,
-};
+use gpu_core::Piece;
+use gpu_d3d12_blocks::suballocate;
+use gpu_d3d12_setup::{AllocationCreateDesc, Setup};
 use gpu_device::d3d12::{D3D12Device, ID3D12Heap};
 use gpu_memory_types::MemoryTypes;
 use gpu_values::{AllocationError, Result};
 use std::alloc::{AllocError, Global};
-
-/// A piece of the memory type at `index`: of a shared block, or of a new one.
-fn suballocate<D: D3D12Device>(
-    setup: &Setup,
-    device: &mut D,
-    types: &mut MemoryTypes<ID3D12Heap>,
-    desc: &AllocationCreateDesc,
-    index: usize,
-) -> Result<Piece<ID3D12Heap>>
-    requires sized { 0 < desc.now.size }
-    requires aligned { IsTrue (is_power_of_two desc.now.alignment) }
-    requires there { index < length (memory_kinds setup.now.tier) }
-    requires kinds { kinds types.old ≡ kinds_told setup.now.tier }
-    ensures suballocates { IsSuballocated D.D3D12Device setup.now index desc.now (slots_of types.old) device.old result (slots_of types.new) device.new }
-    ensures kinds { kinds types.new ≡ kinds types.old }
-    ensures kept { MemoryTypesInvariant types.new }
-{
-    let need = match types.prepare(index, &request_of(desc), &setup.sizes) {
-        Err(error) => return Err(error),
-        Ok(Prepared::Taken(piece)) => return Ok(piece),
-        Ok(Prepared::NeedBlock(need)) => need,
-    };
-    let question = heap_desc(kind_at(setup.tier, index), need.size);
-    match create_block_heap(device, &question) {
-        Err(error) => Err(error),
-        Ok(heap) => Ok(types.install(index, need, heap)),
-    }
-}
 
 /// The allocation of a piece of the memory type at `index`.
 fn given(index: usize, piece: Piece<ID3D12Heap>, name: String) -> Allocation

@@ -3,8 +3,8 @@
 ghost use Rattle.std.specs.Prelude.{◌≡◌};
 ghost use Rattle.gpu_memory_types.specs.Blocks.{BlocksWellFormed};
 ghost use Rattle.gpu_d3d12_setup.specs.declared.setup.Setup.{Setup};
-ghost use Rattle.gpu_d3d12.specs.Attempt.{AttemptEnvironment};
-ghost use Rattle.gpu_d3d12.specs.Blocks.{Slots};
+ghost use Rattle.gpu_d3d12_blocks.specs.Suballocation.{AttemptEnvironment};
+ghost use Rattle.gpu_d3d12_blocks.specs.Blocks.{Slots};
 ghost use Rattle.gpu_d3d12.specs.Step.{Call, Reply, Step};
 
 /// The model isn't loose: a state, a call, and what the device and the host answered it decide the reply and the next state.

@@ -6,7 +6,6 @@ mod allocator;
 mod attempt;
 pub mod laws;
 mod logging;
-mod release;
 mod rename;
 
 pub use allocation::Allocation;

@@ -6,7 +6,7 @@ ghost use Rattle.gpu_values.specs.Refusal.{refusal_of};
 ghost use Rattle.gpu_memory_types.specs.Blocks.{slots_at};
 ghost use Rattle.gpu_memory_types.specs.Rename.{IsNotNamed, IsRenamed};
 ghost use Rattle.gpu_memory_types.specs.Types.{slots_of, kinds, MemoryTypesInvariant};
-ghost use Rattle.gpu_d3d12.specs.Live.{is_same_heap, IsLiveIn};
+ghost use Rattle.gpu_d3d12_blocks.specs.Release.{is_same_heap, IsLiveIn};
 ghost use Rattle.gpu_d3d12.specs.Rename.{Renames};
 
 use crate::Allocation;

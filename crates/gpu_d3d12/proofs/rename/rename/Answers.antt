@@ -5,7 +5,7 @@ use Rattle.gpu_memory_types.specs.Blocks.{slots_at}
 use Rattle.gpu_memory_types.specs.Rename.{IsNotNamed}
 use Rattle.gpu_memory_types.specs.Types.{slots_of}
 use Rattle.gpu_values.specs.Refusal.{refusal_of}
-use Rattle.gpu_d3d12.specs.Live.{is_same_heap}
+use Rattle.gpu_d3d12_blocks.specs.Release.{is_same_heap}
 use Rattle.gpu_d3d12.proofs.rename.rename.Goals as goal
 
 pub returns-in-Err-clause-renames : goal.returns-in-Err-clause-renames

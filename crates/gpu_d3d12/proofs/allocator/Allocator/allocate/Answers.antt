@@ -2,14 +2,14 @@ use Rattle.std.proofs.Common.{rules, ◌≡◌, ◌∙◌, ◌<◌, sym, ap, sub
 use Rattle.gpu_memory_types.specs.Types.{slots_of}
 use Rattle.gpu_d3d12_setup.specs.DeviceVersion.{device_of, with_device}
 use Rattle.gpu_d3d12.specs.Allocate.{is_valid, IsAttempt, IsServed}
-use Rattle.gpu_d3d12.specs.Blocks.{HoldsJustLiveBlocks}
+use Rattle.gpu_d3d12_blocks.specs.Blocks.{HoldsJustLiveBlocks}
 use Rattle.gpu_d3d12.specs.State.{State}
 use Rattle.gpu_d3d12.specs.Step.{IsAllocateStep}
 use Rattle.gpu_d3d12.proofs.Keeping.{kept_after}
 use Rattle.gpu_d3d12.proofs.Owning.{Owns, attempt_owns}
 use Rattle.gpu_d3d12.proofs.Serving.{attempt_holds}
 use Rattle.gpu_d3d12.proofs.Steps.{served_step, invalid_step, device_with}
-use Rattle.gpu_d3d12.proofs.Types.{well_formed_told}
+use Rattle.gpu_d3d12_blocks.proofs.Types.{well_formed_told}
 use Rattle.gpu_d3d12.proofs.allocator.Allocator.allocate.Goals as goal
 use Rattle.gpu_d3d12.proofs.allocator.Allocator.allocate.Goals.{then-desc-eq0-via-then-desc-eq0, then-desc-eq0-via-else-desc-eq0+then-not-is_power_of_two, After-allocate_in_type}
 

@@ -1,9 +1,9 @@
 use Rattle.std.proofs.Common.{◌∙◌, ap}
 use Rattle.gpu_memory_types.specs.Types.{slots_of}
 use Rattle.gpu_d3d12_setup.specs.DeviceVersion.{device_of}
-use Rattle.gpu_d3d12.specs.Free.{without_all}
+use Rattle.gpu_d3d12_blocks.specs.Release.{without_all}
 use Rattle.gpu_d3d12.specs.State.{State}
-use Rattle.gpu_d3d12.proofs.Returned.{all_returned}
+use Rattle.gpu_d3d12_blocks.proofs.Returned.{all_returned}
 use Rattle.gpu_d3d12.proofs.Steps.{device_with}
 use Rattle.gpu_d3d12.proofs.allocator.Allocator.destroy.Goals as goal
 

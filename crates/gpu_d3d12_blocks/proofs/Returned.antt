@@ -11,9 +11,9 @@ use Rattle.gpu_device.proofs.HeapsAndResources.{without_heap_is, get-without_hea
 use Rattle.gpu_device.proofs.Maps.{held_alike, get-remove_same}
 use Rattle.gpu_memory_types.specs.Blocks.{slots_at}
 use Rattle.gpu_memory_types.proofs.Options.{none_some, some_same}
-use Rattle.gpu_d3d12.specs.Blocks.{Slots, HoldsJustLiveBlocks}
-use Rattle.gpu_d3d12.specs.Free.{without_block, without_slots, without_all}
-use Rattle.gpu_d3d12.proofs.Releasing.{block_heap}
+use Rattle.gpu_d3d12_blocks.specs.Blocks.{Slots, HoldsJustLiveBlocks}
+use Rattle.gpu_d3d12_blocks.specs.Release.{without_block, without_slots, without_all}
+use Rattle.gpu_d3d12_blocks.proofs.Releasing.{block_heap}
 
 -- ---- one after another
 

@@ -19,9 +19,9 @@ use Rattle.gpu_memory_types.proofs.Options.{none_some, some_same}
 use Rattle.gpu_memory_types.proofs.Releasing.{releases_holds}
 use Rattle.gpu_d3d12_setup.specs.Heaps.{heap_desc}
 use Rattle.gpu_d3d12_setup.specs.declared.memory_kind.MemoryKind.{MemoryKind}
-use Rattle.gpu_d3d12.specs.Blocks.{Slots, kind_at, HoldsJustLiveBlocks, heap_number, IsBlockEntry}
-use Rattle.gpu_d3d12.specs.Free.{GivesBack, IsReleased}
-use Rattle.gpu_d3d12.specs.Live.{is_same_heap}
+use Rattle.gpu_d3d12_blocks.specs.Blocks.{Slots, kind_at, HoldsJustLiveBlocks, heap_number, IsBlockEntry}
+use Rattle.gpu_d3d12_blocks.specs.Release.{GivesBack, IsReleased}
+use Rattle.gpu_d3d12_blocks.specs.Release.{is_same_heap}
 
 heap_in : (o : Option MemoryKind) (size : ℕ) (e : Entry) → IsSomeAnd o (λ k. e ≡ Heap (heap_desc k size)) → (desc : HeapDesc) × (e ≡ Heap desc)
 heap_in None size e h = absurd h

@@ -1,7 +1,7 @@
 use Rattle.std.proofs.Common.{◌≡◌, take, length}
 use Rattle.gpu_memory_types.specs.Types.{slots_of}
-use Rattle.gpu_d3d12.specs.Free.{without_all, AsksNothing}
-use Rattle.gpu_d3d12.proofs.release.free_all.Given as goal
+use Rattle.gpu_d3d12_blocks.specs.Release.{without_all, AsksNothing}
+use Rattle.gpu_d3d12_blocks.proofs.release.free_all.Given as goal
 
 abbrev pub invariant-loop-index : goal.invariant-loop-index
 invariant-loop-index g l =

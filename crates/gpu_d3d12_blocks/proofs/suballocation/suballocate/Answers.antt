@@ -5,11 +5,11 @@ use Rattle.gpu_device.specs.declared.d3d12.types.HeapDesc.{HeapDesc}
 use Rattle.gpu_memory_types.specs.Blocks.{total_capacity}
 use Rattle.gpu_memory_types.specs.Requests.{PreparesAt}
 use Rattle.gpu_memory_types.proofs.Prepared.{waiting}
-use Rattle.gpu_d3d12.specs.Blocks.{Slots}
-use Rattle.gpu_d3d12.proofs.Attempts.{asked_kind, host_refused, shared_block_serves, device_refused, block_installed}
-use Rattle.gpu_d3d12.proofs.Types.{as_many}
-use Rattle.gpu_d3d12.proofs.attempt.suballocate.Goals as goal
-use Rattle.gpu_d3d12.proofs.attempt.suballocate.Goals.{After-prepare}
+use Rattle.gpu_d3d12_blocks.specs.Blocks.{Slots}
+use Rattle.gpu_d3d12_blocks.proofs.Suballocated.{asked_kind, host_refused, shared_block_serves, device_refused, block_installed}
+use Rattle.gpu_d3d12_blocks.proofs.Types.{as_many}
+use Rattle.gpu_d3d12_blocks.proofs.suballocation.suballocate.Goals as goal
+use Rattle.gpu_d3d12_blocks.proofs.suballocation.suballocate.Goals.{After-prepare}
 
 below : (g : _) (c : After-prepare g) → c.args.index < length c.args.types.now
 below g c =

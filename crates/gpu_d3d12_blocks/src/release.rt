@@ -6,8 +6,8 @@ ghost use Rattle.gpu_core.specs.TypeState.{slot_at, block_number};
 ghost use Rattle.gpu_memory_types.specs.Blocks.{slots_at};
 ghost use Rattle.gpu_memory_types.specs.Release.{IsReleaseRefusal};
 ghost use Rattle.gpu_memory_types.specs.Types.{slots_of, kinds, MemoryTypesInvariant};
-ghost use Rattle.gpu_d3d12.specs.Free.{IsReleased, without_block, without_slots, without_all, AsksNothing};
-ghost use Rattle.gpu_d3d12.specs.Live.{is_same_heap, IsLiveIn};
+ghost use Rattle.gpu_d3d12_blocks.specs.Release.{IsReleased, without_block, without_slots, without_all, AsksNothing};
+ghost use Rattle.gpu_d3d12_blocks.specs.Release.{is_same_heap, IsLiveIn};
 
 use gpu_core::Piece;
 use gpu_d3d12_setup::release_block_heap;
@@ -16,7 +16,7 @@ use gpu_memory_types::MemoryTypes;
 use gpu_values::Result;
 
 /// Gives a piece of the memory type at `index` back, and its block with it where that goes. It takes no memory.
-pub fn release<D: D3D12Device>(
+pub fn free_piece<D: D3D12Device>(
     device: &mut D,
     types: &mut MemoryTypes<ID3D12Heap>,
     index: usize,

@@ -1,8 +1,8 @@
 use Rattle.std.proofs.Common.{◌≡◌, take, length}
 use Rattle.gpu_memory_types.specs.Blocks.{slots_at}
 use Rattle.gpu_memory_types.specs.Types.{slots_of}
-use Rattle.gpu_d3d12.specs.Free.{without_slots, AsksNothing}
-use Rattle.gpu_d3d12.proofs.release.free_blocks.Given as goal
+use Rattle.gpu_d3d12_blocks.specs.Release.{without_slots, AsksNothing}
+use Rattle.gpu_d3d12_blocks.proofs.release.free_blocks.Given as goal
 
 abbrev pub invariant-loop-slot : goal.invariant-loop-slot
 invariant-loop-slot g l =

@@ -13,7 +13,7 @@ use Rattle.gpu_d3d12_setup.specs.HeapAnswer.{HeapAnswer, Granted, Declined, Null
 use Rattle.gpu_d3d12_setup.specs.Heaps.{heap_desc}
 use Rattle.gpu_d3d12_setup.specs.declared.describe.AllocationCreateDesc.{AllocationCreateDesc}
 use Rattle.gpu_d3d12_setup.specs.declared.setup.Setup.{Setup}
-use Rattle.gpu_d3d12.specs.Blocks.{Slots, kind_at, is_host}
+use Rattle.gpu_d3d12_blocks.specs.Blocks.{Slots, kind_at, is_host}
 
 -- the heap that the device was asked for, and how it answered
 pub record Asked : Type 0 where

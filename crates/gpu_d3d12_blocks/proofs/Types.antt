@@ -1,10 +1,8 @@
 -- The memory types as the code keeps them, beside those of the tier.
-use Rattle.std.proofs.Common.{◌≡◌, ◌∙◌, sym, ap, subst, ℕ, zero, suc, ◌<◌, Bool, List, [], ◌∷◌, length, slice_get, Option, Some, None, ⊎_elim}
-use Rattle.std.specs.Prelude.{All}
+use Rattle.std.proofs.Common.{◌≡◌, ◌∙◌, sym, ap, subst, ℕ, ◌<◌, Bool, length, slice_get, Option, Some, None, ⊎_elim}
 use Rattle.std.specs.Option.{option_map}
 use Rattle.std.proofs.lemmas.Bool.{cases_lt}
 use Rattle.std.proofs.lemmas.List.{length-map}
-use Rattle.std.proofs.lemmas.List.Elements.{All-head, All-tail}
 use Rattle.std.proofs.lemmas.Option.{slice_get-map}
 use Rattle.gpu_core.specs.TypeState.{TypeState}
 use Rattle.gpu_core.specs.Slots.{AreSound}
@@ -13,12 +11,12 @@ use Rattle.gpu_device.specs.declared.d3d12.types.ResourceHeapTier.{ResourceHeapT
 use Rattle.gpu_memory_types.specs.Blocks.{BlocksWellFormed}
 use Rattle.gpu_memory_types.specs.Types.{Types, slots_of, kinds, type_of, MemoryTypesInvariant}
 use Rattle.gpu_memory_types.proofs.Options.{none_some, some_same}
-use Rattle.gpu_memory_types.proofs.Types.{type_there, slots_are, slots_past, WellFormed}
+use Rattle.gpu_memory_types.proofs.Types.{type_there, each_at, slots_are, slots_past, WellFormed}
 use Rattle.gpu_d3d12_setup.specs.Heaps as heaps
 use Rattle.gpu_d3d12_setup.specs.MemoryKinds.{memory_kinds}
 use Rattle.gpu_d3d12_setup.specs.Setup.{kinds_told}
 use Rattle.gpu_d3d12_setup.specs.declared.memory_kind.MemoryKind.{MemoryKind}
-use Rattle.gpu_d3d12.specs.Blocks.{kind_at, is_host_kind, is_host}
+use Rattle.gpu_d3d12_blocks.specs.Blocks.{kind_at, is_host_kind, is_host}
 
 abbrev kept : TypeState ID3D12Heap → Bool × ℕ
 kept t = (t.is_host, t.granularity)
@@ -42,11 +40,6 @@ told_at tier types i t same at =
 -- there are as many as the tier says
 pub as_many : (tier : ResourceHeapTier) (types : Types ID3D12Heap) → kinds types ≡ kinds_told tier → length types ≡ length (memory_kinds tier)
 as_many tier types same = sym (length-map types kept) ∙ ap length same ∙ length-map (memory_kinds tier) told
-
-each_at : {A : Type 0} (P : A → Type 0) (xs : List A) (i : ℕ) (x : A) → All P xs → slice_get xs i ≡ Some x → P x
-each_at P [] i x all at = absurd (none_some x at)
-each_at P (y ∷ ys) zero x all at = subst P (some_same y x at) (All-head P y ys all)
-each_at P (y ∷ ys) (suc i) x all at = each_at P ys i x (All-tail P y ys all) at
 
 -- the blocks of all memory types are well formed
 pub well_formed_told : (tier : ResourceHeapTier) (types : Types ID3D12Heap) → kinds types ≡ kinds_told tier → MemoryTypesInvariant types → BlocksWellFormed 1 (slots_of types)

@@ -1,0 +1,5 @@
+pub mod Types
+pub mod Suballocated
+pub mod Releasing
+pub mod Returned
+pub mod Records

@@ -1,0 +1,4 @@
+pub mod Blocks
+pub mod Suballocation
+pub mod Release
+pub mod Committed
