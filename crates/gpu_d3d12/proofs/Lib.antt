@@ -1,9 +1,11 @@
 pub mod Attempts
 pub mod Serving
+pub mod InPieces
 pub mod Owning
 pub mod Apart
 pub mod Renaming
 pub mod Naming
 pub mod Steps
 pub mod OneStep
+pub mod OneOutcome
 pub mod Keeping

@@ -21,7 +21,7 @@ use Rattle.gpu_d3d12_blocks.specs.Suballocation.{AttemptEnvironment, asked_block
 use Rattle.gpu_d3d12_blocks.specs.Blocks.{Slots}
 use Rattle.gpu_d3d12.specs.Live.{piece_of}
 use Rattle.gpu_d3d12_blocks.specs.Release.{is_same_heap}
-use Rattle.gpu_d3d12.specs.Step.{Call, Allocate, Free, Rename, Capacity, Report, Leaks, Reply, Given, Fails, Done, Sum, Shows, Tells, reply_of, ServeStep, AllocateStep, ReleaseStep, FreeStep, RenameStep, ReportStep, LeaksStep, Step}
+use Rattle.gpu_d3d12.specs.Step.{Call, Allocate, Free, Rename, Capacity, Report, Leaks, CreateResource, FreeResource, Statistics, Reply, Given, Fails, Done, Sum, Shows, Tells, Made, Counts, reply_of, ServeStep, AllocateStep, ReleaseStep, FreeStep, RenameStep, ReportStep, LeaksStep, BlockStep}
 
 -- ---- an allocation
 
@@ -35,14 +35,14 @@ serve_once setup d o x y old new next sound a b =
     let answers = once.0 in
     (a.reply_is ∙ (λ i. reply_of (types i) (answers i)) ∙ sym b.reply_is, once.1)
 
-allocate_once : (setup : Setup) (d : AllocationCreateDesc) (valid : Bool) (o : AttemptEnvironment) (x y : Reply) (old new next : Slots) → BlocksWellFormed 1 old
+pub allocate_once : (setup : Setup) (d : AllocationCreateDesc) (valid : Bool) (o : AttemptEnvironment) (x y : Reply) (old new next : Slots) → BlocksWellFormed 1 old
     → AllocateStep setup d valid o x old new → AllocateStep setup d valid o y old next → (x ≡ y) × (new ≡ next)
 allocate_once setup d false o x y old new next sound a b = (a.1 ∙ sym b.1, a.2 ∙ sym b.2)
 allocate_once setup d true o x y old new next sound a b = serve_once setup d o x y old new next sound a b
 
 -- ---- a free
 
-release_once : (t : ℕ) (p : Piece ID3D12Heap) (old new next : Slots) → BlocksWellFormed 1 old → ReleaseStep t p old new → ReleaseStep t p old next → new ≡ next
+pub release_once : (t : ℕ) (p : Piece ID3D12Heap) (old new next : Slots) → BlocksWellFormed 1 old → ReleaseStep t p old new → ReleaseStep t p old next → new ≡ next
 release_once t p old new next sound a b =
     let once = released_once 1 (IsTrue (has_several (slots_at old t))) (slots_at old t) p a.went b.went a.left b.left (sound t) a.releases b.releases in
     a.slots ∙ (ap (slice_set old t) once.1 ∙ sym b.slots)
@@ -56,8 +56,10 @@ free_reply t p Done old new s = inl (refl, s)
 free_reply t p (Sum n) old new s = absurd s
 free_reply t p (Shows w) old new s = absurd s
 free_reply t p (Tells zs) old new s = absurd s
+free_reply t p (Made u q number size) old new s = absurd s
+free_reply t p (Counts c) old new s = absurd s
 
-free_once : (t : ℕ) (p : Piece ID3D12Heap) (x y : Reply) (old new next : Slots) → BlocksWellFormed 1 old → FreeStep t p x old new → FreeStep t p y old next → (x ≡ y) × (new ≡ next)
+pub free_once : (t : ℕ) (p : Piece ID3D12Heap) (x y : Reply) (old new next : Slots) → BlocksWellFormed 1 old → FreeStep t p x old new → FreeStep t p y old next → (x ≡ y) × (new ≡ next)
 free_once t p x y old new next sound a b =
     ⊎_elim
     (λ ok. ⊎_elim
@@ -83,6 +85,8 @@ rename_reply t p name host Done old new s = inl (refl, s)
 rename_reply t p name host (Sum n) old new s = absurd s
 rename_reply t p name host (Shows w) old new s = absurd s
 rename_reply t p name host (Tells zs) old new s = absurd s
+rename_reply t p name host (Made u q number size) old new s = absurd s
+rename_reply t p name host (Counts c) old new s = absurd s
 
 named_or_fails : (t : ℕ) (p : Piece ID3D12Heap) (name : List ℕ) (host : Bool) (r : Refusal) (old new next : Slots) → RenameStep t p name host Done old new
     → RenameStep t p name host (Fails r) old next → ⊥
@@ -128,6 +132,8 @@ shown_reply host Done old new s = absurd s
 shown_reply host (Sum n) old new s = absurd s
 shown_reply host (Shows w) old new s = (s.2, inl (s.0, ap Shows s.1))
 shown_reply host (Tells zs) old new s = absurd s
+shown_reply host (Made u q number size) old new s = absurd s
+shown_reply host (Counts c) old new s = absurd s
 
 told_reply : (host : Bool) (x : Reply) (old new : Slots) → LeaksStep host x old new
     → (new ≡ old) × (((host ≡ true) × (x ≡ Tells (map leak_text (all_leaks old)))) ⊎ ((host ≡ false) × (x ≡ Fails host_out_of_memory)))
@@ -137,6 +143,8 @@ told_reply host Done old new s = absurd s
 told_reply host (Sum n) old new s = absurd s
 told_reply host (Shows w) old new s = absurd s
 told_reply host (Tells zs) old new s = (s.2, inl (s.0, ap Tells s.1))
+told_reply host (Made u q number size) old new s = absurd s
+told_reply host (Counts c) old new s = absurd s
 
 by_host : (host : Bool) (x y a b : Reply) → ((host ≡ true) × (x ≡ a)) ⊎ ((host ≡ false) × (x ≡ b)) → ((host ≡ true) × (y ≡ a)) ⊎ ((host ≡ false) × (y ≡ b)) → x ≡ y
 by_host host x y a b h k =
@@ -145,30 +153,35 @@ by_host host x y a b h k =
     (λ p. ⊎_elim (λ q. absurd (false_true (sym p.0 ∙ q.0))) (λ q. p.1 ∙ sym q.1) k)
     h
 
-sum_reply : (setup : Setup) (o : AttemptEnvironment) (x : Reply) (old new : Slots) → Step setup Capacity o x old new → (x ≡ Sum (total_capacity old)) × (new ≡ old)
+sum_reply : (setup : Setup) (o : AttemptEnvironment) (x : Reply) (old new : Slots) → BlockStep setup Capacity o x old new → (x ≡ Sum (total_capacity old)) × (new ≡ old)
 sum_reply setup o (Given u q) old new s = absurd s
 sum_reply setup o (Fails r) old new s = absurd s
 sum_reply setup o Done old new s = absurd s
 sum_reply setup o (Sum n) old new s = (ap Sum s.1, s.2)
 sum_reply setup o (Shows w) old new s = absurd s
 sum_reply setup o (Tells zs) old new s = absurd s
+sum_reply setup o (Made u q number size) old new s = absurd s
+sum_reply setup o (Counts c) old new s = absurd s
 
--- ---- any call
+-- ---- a call on the blocks
 
-pub step_once : (setup : Setup) (call : Call) (o : AttemptEnvironment) (x y : Reply) (old new next : Slots) → BlocksWellFormed 1 old
-    → Step setup call o x old new → Step setup call o y old next → (x ≡ y) × (new ≡ next)
-step_once setup (Allocate d) o x y old new next sound a b = allocate_once setup d (is_valid d) o x y old new next sound a b
-step_once setup (Free w) o x y old new next sound a b = free_once w.memory_type_index (piece_of w) x y old new next sound a.1 b.1
-step_once setup (Rename w name) o x y old new next sound a b = rename_once w.memory_type_index (piece_of w) name o.host x y old new next sound a.1 b.1
-step_once setup Report o x y old new next sound a b =
+pub block_step_once : (setup : Setup) (call : Call) (o : AttemptEnvironment) (x y : Reply) (old new next : Slots) → BlocksWellFormed 1 old
+    → BlockStep setup call o x old new → BlockStep setup call o y old next → (x ≡ y) × (new ≡ next)
+block_step_once setup (Allocate d) o x y old new next sound a b = allocate_once setup d (is_valid d) o x y old new next sound a b
+block_step_once setup (Free w) o x y old new next sound a b = free_once w.memory_type_index (piece_of w) x y old new next sound a.1 b.1
+block_step_once setup (Rename w name) o x y old new next sound a b = rename_once w.memory_type_index (piece_of w) name o.host x y old new next sound a.1 b.1
+block_step_once setup Report o x y old new next sound a b =
     let one = shown_reply o.host x old new a.1 in
     let other = shown_reply o.host y old next b.1 in
     (by_host o.host x y _ _ one.1 other.1, one.0 ∙ sym other.0)
-step_once setup Leaks o x y old new next sound a b =
+block_step_once setup Leaks o x y old new next sound a b =
     let one = told_reply o.host x old new a.1 in
     let other = told_reply o.host y old next b.1 in
     (by_host o.host x y _ _ one.1 other.1, one.0 ∙ sym other.0)
-step_once setup Capacity o x y old new next sound a b =
+block_step_once setup Capacity o x y old new next sound a b =
     let one = sum_reply setup o x old new a in
     let other = sum_reply setup o y old next b in
     (one.0 ∙ sym other.0, one.1 ∙ sym other.1)
+block_step_once setup (CreateResource d) o x y old new next sound a b = absurd a
+block_step_once setup (FreeResource r) o x y old new next sound a b = absurd a
+block_step_once setup (Statistics t) o x y old new next sound a b = absurd a

@@ -1,5 +1,5 @@
 -- Which allocations stay live: all of them as one is given, all others as one goes; and each is aligned when it is given.
-use Rattle.std.proofs.Common.{◌≡◌, ◌∙◌, ℕ, ◌%◌, ◌<◌, refl, sym, ap, subst, true, length, Some, Ok, Err, Result, IfOk}
+use Rattle.std.proofs.Common.{◌≡◌, ◌∙◌, ℕ, ◌%◌, ◌<◌, refl, sym, ap, subst, true, false, Bool, length, Some, Ok, Err, Result, IfOk}
 use Rattle.std.specs.Int.NonZero.{non_zero_u64_get}
 use Rattle.gpu_core.specs.declared.memory_type.Piece.{Piece}
 use Rattle.gpu_block_pieces.proofs.Keyed.{eq_true}
@@ -12,7 +12,11 @@ use Rattle.gpu_memory_types.proofs.Aligned.{allocates_aligned}
 use Rattle.gpu_memory_types.proofs.StayLive.{KeepsPieces, allocates_keeps, released_keeps_others}
 use Rattle.gpu_d3d12_setup.specs.declared.describe.AllocationCreateDesc.{AllocationCreateDesc}
 use Rattle.gpu_d3d12_setup.specs.declared.setup.Setup.{Setup}
-use Rattle.gpu_d3d12.specs.Allocate.{IsAttempt, Answers}
+use Rattle.gpu_values.specs.Refusal.{Refusal, refusal_in}
+use Rattle.gpu_memory_types.proofs.Options.{none_some}
+use Rattle.gpu_d3d12_setup.specs.MemoryKinds.{memory_kinds}
+use Rattle.gpu_d3d12.specs.Allocate.{IsAttempt, Answers, AllocatesBy, Allocates, is_valid}
+use Rattle.gpu_d3d12.proofs.Serving.{first_below}
 use Rattle.gpu_d3d12_blocks.specs.Suballocation.{Answer, asked_block, request_at}
 use Rattle.gpu_d3d12_blocks.specs.Blocks.{Slots}
 use Rattle.gpu_d3d12.specs.Free.{Frees}
@@ -57,6 +61,21 @@ module _ (setup : Setup) (d : AllocationCreateDesc) (t : ℕ) (old new : Slots) 
       (allocates_keeps is_same_heap same_heap (request_at setup t d) old below sound a.environment.host (asked_block a.environment.asked) a.answer new a.allocates sound_after)
       (λ p is. allocates_aligned (request_at setup t d) old a.environment.host (asked_block a.environment.asked) p new (rw is at a.allocates))
       a.answers
+
+-- ---- an allocation
+
+refused_owns : (old new : Slots) (alignment : ℕ) (result : Result Allocation AllocationError) (r : Refusal) → refusal_in result ≡ Some r → new ≡ old → Owns old new alignment result
+refused_owns old new alignment (Ok a) r is same = absurd (none_some r is)
+refused_owns old new alignment (Err e) r is same = record { keeps = λ b live. subst (λ (ss : Slots). IsLive ss b) (sym same) live; gives = tt; aligned = tt }
+
+module _ {D : Type 0} (g : Ghosts D) (setup : Setup) (d : AllocationCreateDesc) (old new : Slots) (many : length old ≡ length (memory_kinds setup.tier)) (sound : BlocksWellFormed 1 old)
+    (sound_after : BlocksWellFormed 1 new) where
+  owns_by : (device : D) (result : Result Allocation AllocationError) (after : D) (valid : Bool) → AllocatesBy g setup d valid old device result new after → Owns old new d.alignment result
+  owns_by device result after true s = attempt_owns setup d s.memory_type old new g device result after (first_below setup d old many s.memory_type s.first) sound sound_after s.attempt
+  owns_by device result after false s = refused_owns old new d.alignment result _ s.cause s.slots
+
+  pub allocated_owns : (device : D) (result : Result Allocation AllocationError) (after : D) → Allocates g setup d old device result new after → Owns old new d.alignment result
+  allocated_owns device result after s = owns_by device result after (is_valid d) s
 
 -- ---- a free
 

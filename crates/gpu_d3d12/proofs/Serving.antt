@@ -1,5 +1,5 @@
 -- What an attempt leaves of what the device holds.
-use Rattle.std.proofs.Common.{◌≡◌, ◌∙◌, sym, ap, subst, ℕ, ◌<◌, length, Option, Some, None, Result}
+use Rattle.std.proofs.Common.{◌≡◌, ◌∙◌, sym, ap, subst, ℕ, ◌<◌, zero, suc, true, false, Bool, List, [], ◌∷◌, slice_get, arith, length, Option, Some, None, Result}
 use Rattle.std.specs.Prelude.{IsSomeAnd}
 use Rattle.std.specs.FinMap.{get}
 use Rattle.std.proofs.lemmas.List.{length-set}
@@ -15,7 +15,8 @@ use Rattle.gpu_d3d12_setup.specs.Heaps.{heap_desc}
 use Rattle.gpu_d3d12_setup.specs.declared.describe.AllocationCreateDesc.{AllocationCreateDesc}
 use Rattle.gpu_d3d12_setup.specs.declared.memory_kind.MemoryKind.{MemoryKind}
 use Rattle.gpu_d3d12_setup.specs.declared.setup.Setup.{Setup}
-use Rattle.gpu_d3d12.specs.Allocate.{IsAttempt}
+use Rattle.gpu_d3d12_setup.specs.MemoryKinds.{memory_kinds, Serves, IsFirstServing}
+use Rattle.gpu_d3d12.specs.Allocate.{IsAttempt, AllocatesBy, Allocates, is_valid}
 use Rattle.gpu_d3d12_blocks.specs.Suballocation.{Asked, IsAfter, IsAskedFor, asked_block, block_result, request_at}
 use Rattle.gpu_d3d12_blocks.specs.Blocks.{Slots, kind_at, IsBlockEntry, heap_number, HoldsJustLiveBlocks}
 use Rattle.gpu_d3d12.specs.declared.allocation.Allocation.{Allocation}
@@ -62,3 +63,42 @@ module _ {D : Type 0} (g : Ghosts D) (setup : Setup) (t : ℕ) where
         after_constant o device after a.asked,
         ap length a.allocates.slots ∙ length-set old t a.allocates.left,
       )
+
+-- ---- an allocation
+
+there : {A : Type 0} (xs : List A) (i : ℕ) (P : A → Type 0) → IsSomeAnd (slice_get xs i) P → i < length xs
+there [] i P h = absurd h
+there (x ∷ xs) zero P h = omega arith
+there (x ∷ xs) (suc i) P h = let rest = there xs i P h in omega (arith, rest)
+
+-- the memory type that serves is there
+pub first_below : (setup : Setup) (d : AllocationCreateDesc) (old : Slots) → length old ≡ length (memory_kinds setup.tier) → (t : ℕ)
+    → IsFirstServing d.location d.resource_category (memory_kinds setup.tier) t → t < length old
+first_below setup d old many t first =
+    let below = there (memory_kinds setup.tier) t (λ k. Serves d.location d.resource_category k) first.serves in
+    omega (arith, below, many)
+
+module _ {D : Type 0} (g : Ghosts D) (setup : Setup) (d : AllocationCreateDesc) (aside : Held) (old : Slots) (many : length old ≡ length (memory_kinds setup.tier)) where
+  held_by : (device : D) (result : Result Allocation AllocationError) (new : Slots) (after : D) (valid : Bool) → AllocatesBy g setup d valid old device result new after
+      → HoldsJustLiveBlocks setup.tier aside (g.held device) old
+      → HoldsJustLiveBlocks setup.tier aside (g.held after) new × (g.properties after ≡ g.properties device) × (length new ≡ length old)
+  held_by device result new after true s h = attempt_holds g setup s.memory_type d aside old (first_below setup d old many s.memory_type s.first) device result new after s.attempt h
+  held_by device result new after false s h = (
+    subst (λ (ss : Slots). HoldsJustLiveBlocks setup.tier aside (g.held after) ss) (sym s.slots) (subst (λ k. HoldsJustLiveBlocks setup.tier aside k old) (sym (ap g.held s.device_is)) h),
+    ap g.properties s.device_is,
+    ap length s.slots,
+  )
+
+  pub allocated_holds : (device : D) (result : Result Allocation AllocationError) (new : Slots) (after : D) → Allocates g setup d old device result new after
+      → HoldsJustLiveBlocks setup.tier aside (g.held device) old
+      → HoldsJustLiveBlocks setup.tier aside (g.held after) new × (g.properties after ≡ g.properties device) × (length new ≡ length old)
+  allocated_holds device result new after s h = held_by device result new after (is_valid d) s h
+
+-- an allocation leaves what the device tells of itself
+module _ {D : Type 0} (g : Ghosts D) (setup : Setup) (d : AllocationCreateDesc) (old : Slots) (device : D) (result : Result Allocation AllocationError) (new : Slots) (after : D) where
+  constant_by : (valid : Bool) → AllocatesBy g setup d valid old device result new after → g.properties after ≡ g.properties device
+  constant_by true s = after_constant g setup s.memory_type s.attempt.environment.asked device after s.attempt.asked
+  constant_by false s = ap g.properties s.device_is
+
+  pub allocated_constant : Allocates g setup d old device result new after → g.properties after ≡ g.properties device
+  allocated_constant s = constant_by (is_valid d) s

@@ -1,4 +1,4 @@
--- An allocator as a model: what each call makes of its blocks, and what it answers, given what it met with.
+-- An allocator as a model: what each call makes of its contents, and what it answers, given what it met with.
 use Rattle.std.specs.Prelude.{◌≡◌, ◌≢◌, ◌⊎◌, ℕ, Vec, String, Bool, true, false, List, map, IsTrue, string_bytes, Option, Some, None, Result, Ok, Err}
 use Rattle.std.specs.Global.{Global}
 use Rattle.std.specs.List.{slice_set}
@@ -16,7 +16,7 @@ use Rattle.gpu_device.specs.declared.d3d12.device.D3D12Device.{Ghosts}
 use Rattle.gpu_device.specs.declared.d3d12.types.HeapDesc.{HeapDesc}
 use Rattle.gpu_device.specs.declared.d3d12.types.ID3D12Heap.{ID3D12Heap}
 use Rattle.gpu_memory_types.specs.Attempt.{AllocatesInType, Gave, Refused}
-use Rattle.gpu_memory_types.specs.Blocks.{slots_at, total_capacity}
+use Rattle.gpu_memory_types.specs.Blocks.{slots_at, total_capacity, BlocksWellFormed}
 use Rattle.gpu_memory_types.specs.Leaks.{all_leaks}
 use Rattle.gpu_memory_types.specs.Rename.{IsRenamed}
 use Rattle.gpu_memory_types.specs.Reports.{whole_report}
@@ -30,7 +30,26 @@ use Rattle.gpu_d3d12_blocks.specs.Suballocation.{AttemptEnvironment, Asked, Answ
 use Rattle.gpu_d3d12_blocks.specs.Blocks.{Slots}
 use Rattle.gpu_d3d12.specs.Live.{piece_of, IsGiven}
 use Rattle.gpu_d3d12_blocks.specs.Release.{is_same_heap, IsLiveIn}
-use Rattle.gpu_d3d12.specs.State.{State}
+use Rattle.gpu_d3d12.specs.State.{State, Contents, Basis, contents_of, basis_of}
+use Rattle.std.specs.Prelude.{length}
+use Rattle.std.specs.FinMap.{insert}
+use Rattle.std.specs.Option.{option_map, option_copied}
+use Rattle.gpu_device.specs.D3D12 as entries
+use Rattle.gpu_device.specs.D3D12.{Held, without_resource}
+use Rattle.gpu_device.specs.Granted.{with_granted}
+use Rattle.gpu_device.specs.declared.d3d12.types.ClearValue.{ClearValue}
+use Rattle.gpu_device.specs.declared.d3d12.types.ResourceAllocationInfo.{ResourceAllocationInfo}
+use Rattle.gpu_d3d12_setup.specs.Question.{resource_question, told_info, made_size, handed_on}
+use Rattle.gpu_d3d12_setup.specs.ResourceAnswer.{ResourceAnswer, resource_number, placed_texts}
+use Rattle.gpu_d3d12_setup.specs.declared.question.CommittedAllocationStatistics.{CommittedAllocationStatistics}
+use Rattle.gpu_d3d12_setup.specs.declared.question.ResourceCreateDesc.{ResourceCreateDesc}
+use Rattle.gpu_d3d12_setup.specs.declared.question.ResourceQuestion.{ResourceQuestion}
+use Rattle.gpu_d3d12_setup.specs.declared.question.ResourceType.{ResourceType}
+use Rattle.gpu_d3d12_setup.specs.declared.question.ResourceType.TheVariants as kinds_of_resources
+use Rattle.gpu_d3d12_blocks.specs.Committed.{Committed, Commits, records_at, statistics_at, number_or_refusal, GivesRecord, place_of, freed}
+use Rattle.gpu_d3d12_blocks.specs.declared.committed_record.CommittedRecord.{CommittedRecord}
+use Rattle.gpu_d3d12.specs.Resource.{piece_desc, record_of, IsMade}
+use Rattle.gpu_d3d12.specs.declared.resource.Resource.{Resource}
 use Rattle.gpu_d3d12.specs.declared.allocation.Allocation.{Allocation}
 
 pub data Call : Type 0 where
@@ -40,6 +59,9 @@ pub data Call : Type 0 where
   Capacity : Call
   Report : Call
   Leaks : Call
+  CreateResource : (d : ResourceCreateDesc) → Call
+  FreeResource : (r : Resource) → Call
+  Statistics : (t : ℕ) → Call
 
 pub data Reply : Type 0 where
   -- a piece of the t-th memory type
@@ -49,10 +71,29 @@ pub data Reply : Type 0 where
   Sum : (bytes : ℕ) → Reply
   Shows : (report : reports.Report) → Reply
   Tells : (texts : List (List ℕ)) → Reply
+  -- a resource of the t-th memory type: in this piece where it is placed, under this number, and of this size
+  Made : (t : ℕ) (piece : Option (Piece ID3D12Heap)) (number size : ℕ) → Reply
+  Counts : (statistics : Option CommittedAllocationStatistics) → Reply
+
+-- ---- what a call meets with
+
+-- how many formats and which clear value came with the question for a resource, and how the device answered
+pub record AskedResource : Type 0 where
+  pub formats : Option ℕ
+  pub clear : Option ClearValue
+  pub answer : ResourceAnswer
+
+-- host memory is enough or not; and how the device answers where it is asked for a heap, and then where it is asked for a resource
+pub record Environment : Type 0 where
+  pub attempt : AttemptEnvironment
+  pub resource : Option AskedResource
 
 -- host memory is enough, and no question is asked
 abbrev pub nothing_met : AttemptEnvironment
 nothing_met = record { host = true; asked = None }
+
+abbrev pub nothing_at_all : Environment
+nothing_at_all = record { attempt = nothing_met; resource = None }
 
 -- ---- an allocation
 
@@ -111,17 +152,135 @@ LeaksStep host (Tells texts) old new = (host ≡ true) × (texts ≡ map leak_te
 LeaksStep host (Fails r) old new = (host ≡ false) × (r ≡ host_out_of_memory) × (new ≡ old)
 LeaksStep host _ old new = ⊥
 
+-- ---- a resource
+
+-- what the device tells the resource to take of a heap
+abbrev pub info_of : Basis → ResourceCreateDesc → ResourceAllocationInfo
+info_of basis d = told_info basis.properties basis.interface d.resource_desc.now d.castable_formats.now
+
+-- the size that the device keeps of the resource
+abbrev pub size_made : Basis → ResourceQuestion → ResourceCreateDesc → ℕ
+size_made basis question d = made_size basis.properties question d.resource_desc.now d.castable_formats.now
+
+-- the device is asked, if it is, with the formats that the question hands on and the clear value
+abbrev pub IsAskedWith : ResourceQuestion → ResourceCreateDesc → Option AskedResource → Type 0
+IsAskedWith question d None = Unit {0}
+IsAskedWith question d (Some a) = (a.formats ≡ option_map length (handed_on question d.castable_formats.now)) × (a.clear ≡ option_copied d.clear_value)
+
+abbrev pub resource_answer : Option AskedResource → Option ResourceAnswer
+resource_answer None = None
+resource_answer (Some a) = Some a.answer
+
+abbrev pub granted_number : Option ResourceAnswer → Option ℕ
+granted_number None = None
+granted_number (Some answer) = resource_number answer
+
+abbrev pub made_reply : (t : ℕ) → Option (Piece ID3D12Heap) → (size : ℕ) → Result ℕ Refusal → Reply
+made_reply t piece size (Ok number) = Made t piece number size
+made_reply t piece size (Err refusal) = Fails refusal
+
+-- a resource in memory of its own, which the first memory type that serves it keeps a record of
+pub record CommitStep (basis : Basis) (d : ResourceCreateDesc) (question : ResourceQuestion) (o : Environment) (reply : Reply) (old new : Contents) : Type 0 where
+  pub memory_type : ℕ
+  pub first : IsFirstServing d.memory_location d.resource_category (memory_kinds basis.setup.tier) memory_type
+  pub no_heap : o.attempt.asked ≡ None
+  pub number : Result ℕ Refusal
+  pub left : List CommittedRecord
+  pub commits : Commits o.attempt.host (records_at old.committed memory_type) (info_of basis d).size_in_bytes (resource_answer o.resource) number left
+  pub asked_with : IsAskedWith question d o.resource
+  pub reply_is : reply ≡ made_reply memory_type None (info_of basis d).size_in_bytes number
+  pub slots : new.slots ≡ old.slots
+  pub committed : new.committed ≡ slice_set old.committed memory_type left
+  pub beside : new.beside ≡ with_granted old.beside (granted_number (resource_answer o.resource)) (entries.Committed (size_made basis question d))
+
+-- the device answered the question for a resource in this piece: it has the entry, or the piece goes
+abbrev pub PlacedBy : (t : ℕ) → Piece ID3D12Heap → (size made : ℕ) → Result ℕ Refusal → (mid : Slots) → (slots : Slots) → (old new : Held) → Type 0
+PlacedBy t p size made (Ok number) mid slots old new = (slots ≡ mid) × (new ≡ insert old number (entries.Placed p.block.0 p.offset made))
+PlacedBy t p size made (Err refusal) mid slots old new = ReleaseStep t p mid slots × (new ≡ old)
+
+-- what follows the allocation of a placed resource's piece: the device is asked where there is one
+abbrev pub PlacesThen : Basis → ResourceCreateDesc → ResourceQuestion → (taken : Reply) → Option AskedResource → Reply → (mid : Slots) → (slots : Slots) → (old new : Held) → Type 0
+PlacesThen basis d question (Given t p) (Some a) reply mid slots old new =
+    IsAskedWith question d (Some a)
+    × (reply ≡ made_reply t (Some p) (info_of basis d).size_in_bytes (number_or_refusal placed_texts a.answer))
+    × PlacedBy t p (info_of basis d).size_in_bytes (size_made basis question d) (number_or_refusal placed_texts a.answer) mid slots old new
+PlacesThen basis d question (Fails refusal) None reply mid slots old new = (reply ≡ Fails refusal) × (slots ≡ mid) × (new ≡ old)
+PlacesThen basis d question _ _ reply mid slots old new = ⊥
+
+-- a resource in a piece: the piece is allocated as for any call, and the device asked for the resource there
+pub record PlaceStep (basis : Basis) (d : ResourceCreateDesc) (question : ResourceQuestion) (o : Environment) (reply : Reply) (old new : Contents) : Type 0 where
+  pub taken : Reply
+  pub mid : Slots
+  pub sound : BlocksWellFormed 1 mid
+  pub allocates : AllocateStep basis.setup (piece_desc d (info_of basis d)) (is_valid (piece_desc d (info_of basis d))) o.attempt taken old.slots mid
+  pub places : PlacesThen basis d question taken o.resource reply mid new.slots old.beside new.beside
+  pub committed : new.committed ≡ old.committed
+
+abbrev pub MakesBy : Basis → ResourceCreateDesc → ResourceQuestion → ResourceType → Environment → Reply → Contents → Contents → Type 0
+MakesBy basis d question (kinds_of_resources.Committed properties flags) o reply old new = CommitStep basis d question o reply old new
+MakesBy basis d question kinds_of_resources.Placed o reply old new = PlaceStep basis d question o reply old new
+
+-- first it is seen by which question the resource is made, or why it isn't; then its memory decides
+abbrev pub CreateBy : Basis → ResourceCreateDesc → Result ResourceQuestion Refusal → Environment → Reply → Contents → Contents → Type 0
+CreateBy basis d (Err refusal) o reply old new = (o ≡ nothing_at_all) × (reply ≡ Fails refusal) × (new ≡ old)
+CreateBy basis d (Ok question) o reply old new = MakesBy basis d question d.resource_type.now o reply old new
+
+-- ---- a resource that is given back
+
+abbrev pub beside_after : Reply → Held → (number : ℕ) → Held
+beside_after Done held number = without_resource held number
+beside_after _ held number = held
+
+-- a committed resource's record goes, if there is one
+abbrev pub GiveStep : (t : ℕ) → CommittedRecord → Reply → Committed → Committed → Type 0
+GiveStep t r Done old new = GivesRecord t r old new
+GiveStep t r (Fails refusal) old new = (place_of (records_at old t) r ≡ None) × (refusal ≡ freed) × (new ≡ old)
+GiveStep t r _ old new = ⊥
+
+-- the device gives the resource back where its piece or its record is live, and they go
+abbrev pub FreeResourceStep : Option Allocation → Resource → Reply → Contents → Contents → Type 0
+FreeResourceStep (Some a) r reply old new =
+    FreeStep a.memory_type_index (piece_of a) reply old.slots new.slots × (new.committed ≡ old.committed) × (new.beside ≡ beside_after reply old.beside r.resource.0)
+FreeResourceStep None r reply old new =
+    GiveStep r.memory_type_index (record_of r) reply old.committed new.committed × (new.slots ≡ old.slots) × (new.beside ≡ beside_after reply old.beside r.resource.0)
+
 -- ---- any call
 
+-- a call that asks for no resource, and changes the blocks alone
+pub record ChangesBlocks (o : Environment) (old new : Contents) : Type 0 where
+  pub no_resource : o.resource ≡ None
+  pub committed : new.committed ≡ old.committed
+  pub beside : new.beside ≡ old.beside
+
+-- a call on the blocks alone
+abbrev pub BlockStep : Setup → Call → AttemptEnvironment → Reply → Slots → Slots → Type 0
+BlockStep setup (Allocate d) o reply old new = AllocateStep setup d (is_valid d) o reply old new
+BlockStep setup (Free a) o reply old new = (o ≡ nothing_met) × FreeStep a.memory_type_index (piece_of a) reply old new
+BlockStep setup (Rename a name) o reply old new = (o.asked ≡ None) × RenameStep a.memory_type_index (piece_of a) name o.host reply old new
+BlockStep setup Report o reply old new = (o.asked ≡ None) × ReportStep o.host reply old new
+BlockStep setup Leaks o reply old new = (o.asked ≡ None) × LeaksStep o.host reply old new
+BlockStep setup Capacity o (Sum n) old new = (o ≡ nothing_met) × (n ≡ total_capacity old) × (new ≡ old)
+BlockStep setup Capacity o _ old new = ⊥
+BlockStep setup (CreateResource d) o reply old new = ⊥
+BlockStep setup (FreeResource r) o reply old new = ⊥
+BlockStep setup (Statistics t) o reply old new = ⊥
+
+abbrev pub StatisticsStep : (t : ℕ) → Reply → Contents → Contents → Type 0
+StatisticsStep t (Counts s) old new = (s ≡ statistics_at old.committed t) × (new ≡ old)
+StatisticsStep t _ old new = ⊥
+
 -- from old, the call may give this reply and leave new, where it meets with this
-abbrev pub Step : Setup → Call → AttemptEnvironment → Reply → Slots → Slots → Type 0
-Step setup (Allocate d) o reply old new = AllocateStep setup d (is_valid d) o reply old new
-Step setup (Free a) o reply old new = (o ≡ nothing_met) × FreeStep a.memory_type_index (piece_of a) reply old new
-Step setup (Rename a name) o reply old new = (o.asked ≡ None) × RenameStep a.memory_type_index (piece_of a) name o.host reply old new
-Step setup Report o reply old new = (o.asked ≡ None) × ReportStep o.host reply old new
-Step setup Leaks o reply old new = (o.asked ≡ None) × LeaksStep o.host reply old new
-Step setup Capacity o (Sum n) old new = (o ≡ nothing_met) × (n ≡ total_capacity old) × (new ≡ old)
-Step setup Capacity o _ old new = ⊥
+abbrev pub Step : Basis → Call → Environment → Reply → Contents → Contents → Type 0
+Step basis (CreateResource d) o reply old new =
+    CreateBy basis d (resource_question basis.interface d.initial_state_or_layout d.castable_formats.now) o reply old new
+Step basis (FreeResource r) o reply old new = (o ≡ nothing_at_all) × FreeResourceStep r.allocation r reply old new
+Step basis (Statistics t) o reply old new = (o ≡ nothing_at_all) × StatisticsStep t reply old new
+Step basis (Allocate d) o reply old new = ChangesBlocks o old new × BlockStep basis.setup (Allocate d) o.attempt reply old.slots new.slots
+Step basis (Free a) o reply old new = ChangesBlocks o old new × BlockStep basis.setup (Free a) o.attempt reply old.slots new.slots
+Step basis (Rename a name) o reply old new = ChangesBlocks o old new × BlockStep basis.setup (Rename a name) o.attempt reply old.slots new.slots
+Step basis Capacity o reply old new = ChangesBlocks o old new × BlockStep basis.setup Capacity o.attempt reply old.slots new.slots
+Step basis Report o reply old new = ChangesBlocks o old new × BlockStep basis.setup Report o.attempt reply old.slots new.slots
+Step basis Leaks o reply old new = ChangesBlocks o old new × BlockStep basis.setup Leaks o.attempt reply old.slots new.slots
 
 -- ---- over a device
 
@@ -134,18 +293,31 @@ abbrev pub latest_after : Option HeapDesc → Option Asked → Option HeapDesc
 latest_after latest None = latest
 latest_after latest (Some a) = Some a.desc
 
--- the device counts and names just the questions that were met with; none is for a resource
-pub record CountsAndNames {D : Type 0} (g : Ghosts D) (old : D) (asked : Option Asked) (new : D) : Type 0 where
-  pub count : g.refused new ≡ count_after (g.refused old) asked
-  pub latest_heap : g.latest_heap new ≡ latest_after (g.latest_heap old) asked
-  pub latest_formats : g.latest_formats new ≡ g.latest_formats old
-  pub latest_clear : g.latest_clear new ≡ g.latest_clear old
+-- the same after a question for a resource
+abbrev pub count_after_resource : ℕ → Option AskedResource → ℕ
+count_after_resource count None = count
+count_after_resource count (Some a) = counted count (resource_number a.answer)
+
+abbrev pub formats_after : Option ℕ → Option AskedResource → Option ℕ
+formats_after latest None = latest
+formats_after latest (Some a) = a.formats
+
+abbrev pub clear_after : Option ClearValue → Option AskedResource → Option ClearValue
+clear_after latest None = latest
+clear_after latest (Some a) = a.clear
+
+-- the device counts and names just the questions that were met with, the one for a heap before the one for a resource
+pub record CountsAndNames {D : Type 0} (g : Ghosts D) (old : D) (o : Environment) (new : D) : Type 0 where
+  pub count : g.refused new ≡ count_after_resource (count_after (g.refused old) o.attempt.asked) o.resource
+  pub latest_heap : g.latest_heap new ≡ latest_after (g.latest_heap old) o.attempt.asked
+  pub latest_formats : g.latest_formats new ≡ formats_after (g.latest_formats old) o.resource
+  pub latest_clear : g.latest_clear new ≡ clear_after (g.latest_clear old) o.resource
 
 -- the call is a step of the model at what it met with, and the device counts and names just that
 pub record IsStep {D : Type 0} (g : Ghosts D) (call : Call) (reply : Reply) (old new : State D) : Type 0 where
-  pub environment : AttemptEnvironment
-  pub step : Step old.setup call environment reply old.slots new.slots
-  pub counts : CountsAndNames g (device_of old.device) environment.asked (device_of new.device)
+  pub environment : Environment
+  pub step : Step (basis_of g old) call environment reply (contents_of g old) (contents_of g new)
+  pub counts : CountsAndNames g (device_of old.device) environment (device_of new.device)
   pub same_version : new.device ≡ with_device old.device (device_of new.device)
 
 -- what an allocation's caller gets is what the model replies
@@ -159,7 +331,18 @@ pub record IsAllocateStep {D : Type 0} (g : Ghosts D) (d : AllocationCreateDesc)
   pub step : IsStep g (Allocate d) reply old new
   pub replies : Replies d result reply
 
-abbrev pub freed_as : Result (Unit {0}) (AllocationError × Allocation) → Reply
+-- the same of a resource's caller
+abbrev pub RepliesResource : ResourceCreateDesc → Result Resource AllocationError → Reply → Type 0
+RepliesResource d (Ok r) (Made t piece number size) = IsMade d t piece number size r
+RepliesResource d (Err e) (Fails refusal) = refusal_of e ≡ refusal
+RepliesResource d _ _ = ⊥
+
+pub record IsCreateStep {D : Type 0} (g : Ghosts D) (d : ResourceCreateDesc) (result : Result Resource AllocationError) (old new : State D) : Type 0 where
+  pub reply : Reply
+  pub step : IsStep g (CreateResource d) reply old new
+  pub replies : RepliesResource d result reply
+
+abbrev pub freed_as : {V : Type 0} → Result (Unit {0}) (AllocationError × V) → Reply
 freed_as (Ok _) = Done
 freed_as (Err e) = Fails (refusal_of e.0)
 

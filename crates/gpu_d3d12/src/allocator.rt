@@ -19,22 +19,23 @@ ghost use Rattle.gpu_d3d12.specs.Free.{Frees};
 ghost use Rattle.gpu_d3d12_blocks.specs.Release.{AsksNothing};
 ghost use Rattle.gpu_d3d12.specs.Live.{IsLive, AreDistinct, StayLive};
 ghost use Rattle.gpu_d3d12.specs.Rename.{Renames};
+ghost use Rattle.gpu_d3d12.specs.State.{beside_of};
 ghost use Rattle.gpu_d3d12.specs.Step.{IsStep, IsAllocateStep, Free, Rename, Capacity, Report, Leaks, Sum, freed_as, renamed_as, shown_as, told_as};
 ghost use Rattle.gpu_d3d12.specs.declared.allocation.Allocation.{Allocation};
 
 use crate::Allocation;
-use crate::attempt::allocate_in_type;
+use crate::attempt::serve;
 use crate::logging::{log_allocate, log_free, log_last_leaks, log_leaks};
 use crate::rename::rename;
-use gpu_d3d12_blocks::{free_all, free_piece};
+use gpu_d3d12_blocks::{CommittedResources, free_all, free_piece};
 use gpu_d3d12_setup::{
-    AllocationCreateDesc, AllocatorCreateDesc, ID3D12DeviceVersion, Setup, parts_of, type_for,
+    AllocationCreateDesc, AllocatorCreateDesc, ID3D12DeviceVersion, Setup, parts_of,
 };
 use gpu_device::d3d12::{D3D12Device, ID3D12Heap};
 use gpu_memory_types::MemoryTypes;
 use gpu_values::{AllocationError, AllocatorReport, Result};
 use log::{Level, Log};
-use std::alloc::Global;
+use std::alloc::{AllocError, Global};
 use std::marker::Model;
 use std::snapshot::Snapshot;
 
@@ -44,24 +45,29 @@ pub struct Allocator<D: D3D12Device> {
     first: Snapshot<ID3D12DeviceVersion<D>>,
     setup: Setup,
     types: MemoryTypes<ID3D12Heap>,
+    committed: CommittedResources,
     alloc: Global,
 }
 
 impl<D: D3D12Device> Model for Allocator<D> {
-    ghost use Rattle.std.specs.Prelude.{◌≡◌};
+    ghost use Rattle.std.specs.Prelude.{◌≡◌, length};
+    ghost use Rattle.gpu_d3d12_blocks.specs.Blocks.{beside};
     ghost use Rattle.gpu_d3d12_setup.specs.DeviceVersion.{device_of, with_device};
+    ghost use Rattle.gpu_d3d12_setup.specs.MemoryKinds.{memory_kinds};
     ghost use Rattle.gpu_d3d12_setup.specs.Setup.{kinds_told};
     ghost use Rattle.gpu_d3d12.specs.State.{State, AllocatorInvariant};
     ghost use Rattle.gpu_memory_types.specs.Types.{slots_of, kinds, MemoryTypesInvariant};
 
     ghost Value = { State D };
 
-    ghost view = { λ a. record { device = a.device; first = a.first.value; setup = a.setup; slots = slots_of a.types } };
+    ghost view = { λ a. record { device = a.device; first = a.first.value; setup = a.setup; slots = slots_of a.types; committed = a.committed } };
 
     ghost invariant = { λ a. (kinds a.types ≡ kinds_told a.setup.tier)
-        × AllocatorInvariant (D.properties (device_of a.first.value)) (D.properties (device_of a.device)) (D.held (device_of a.first.value)) (D.held (device_of a.device)) a.setup (slots_of a.types)
+        × AllocatorInvariant (D.properties (device_of a.first.value)) (D.properties (device_of a.device))
+        (beside (D.held (device_of a.device)) (slots_of a.types)) (D.held (device_of a.device)) a.setup (slots_of a.types)
         × MemoryTypesInvariant a.types
-        × (a.device ≡ with_device a.first.value (device_of a.device)) };
+        × (a.device ≡ with_device a.first.value (device_of a.device))
+        × (length a.committed ≡ length (memory_kinds a.setup.tier)) };
 }
 
 impl<D: D3D12Device> Allocator<D> {
@@ -76,6 +82,8 @@ impl<D: D3D12Device> Allocator<D> {
         ensures chosen { IfOk result (λ a. (a.setup.sizes ≡ desc.allocation_sizes) × (a.setup.debug ≡ desc.debug_settings)) }
         ensures empty { IfOk result (λ a. All (λ slots. slots ≡ []) a.slots) }
         ensures types { IfOk result (λ a. length a.slots ≡ length (memory_kinds a.setup.tier)) }
+        ensures committed { IfOk result (λ a. (length a.committed ≡ length (memory_kinds a.setup.tier)) × All (λ records. records ≡ []) a.committed) }
+        ensures beside { IfOk result (λ a. beside_of D.D3D12Device a ≡ D.held (device_of desc.device)) }
         ensures refused { IfErr result (λ e. e.1 ≡ desc.device) }
         ensures cause { IfErr result (λ e. refusal_of e.0 ≡ unwrap_or (setup_fault (D.properties (device_of desc.device))) host_out_of_memory) }
     {
@@ -84,15 +92,25 @@ impl<D: D3D12Device> Allocator<D> {
             debug_settings,
             allocation_sizes,
         } = desc;
-        match parts_of(alloc, device.device(), allocation_sizes, debug_settings) {
-            Err(error) => Err((error, device)),
-            Ok((setup, types)) => {
+        let (setup, types) = match parts_of(
+            alloc,
+            device.device(),
+            allocation_sizes,
+            debug_settings,
+        ) {
+            Err(error) => return Err((error, device)),
+            Ok(parts) => parts,
+        };
+        match CommittedResources::new(alloc, types.count()) {
+            Err(AllocError) => Err((AllocationError::HostOutOfMemory, device)),
+            Ok(committed) => {
                 let first = Snapshot::of(&device);
                 Ok(Allocator {
                     device,
                     first,
                     setup,
                     types,
+                    committed,
                     alloc,
                 })
             }
@@ -104,26 +122,15 @@ impl<D: D3D12Device> Allocator<D> {
     /// device has no memory for it; `Internal` where it refuses for another cause. A refusal changes nothing.
     pub fn allocate<L: Log>(&mut self, log: &L, desc: &AllocationCreateDesc) -> Result<Allocation>
         ensures allocates { Allocates D.D3D12Device self.old.setup desc.now self.old.slots (device_of self.old.device) result self.new.slots (device_of self.new.device) }
-        ensures constant { (self.new.first ≡ self.old.first) × (self.new.setup ≡ self.old.setup) }
+        ensures constant { (self.new.first ≡ self.old.first) × (self.new.setup ≡ self.old.setup) × (self.new.committed ≡ self.old.committed) }
         ensures step { IsAllocateStep D.D3D12Device desc.now result self.old self.new }
         ensures aligned { IfOk result (λ a. a.offset % desc.now.alignment ≡ 0) }
         ensures keeps { StayLive self.old.slots self.new.slots }
         ensures gives { IfOk result (λ a. IsLive self.new.slots a × ((b : Allocation) → IsLive self.old.slots b → AreDistinct b a)) }
     {
         log_allocate(log, self.setup.debug, desc);
-        if desc.size == 0 || !desc.alignment.is_power_of_two() {
-            return Err(AllocationError::InvalidAllocationCreateDesc);
-        }
-        let index = type_for(self.setup.tier, desc.location, desc.resource_category);
         let device = self.device.device_mut();
-        allocate_in_type(
-            self.alloc,
-            &self.setup,
-            device,
-            &mut self.types,
-            desc,
-            index,
-        )
+        serve(self.alloc, &self.setup, device, &mut self.types, desc)
     }
 
     /// The sum of the sizes of the live blocks, in bytes.
@@ -134,10 +141,11 @@ impl<D: D3D12Device> Allocator<D> {
         self.types.capacity()
     }
 
-    /// The device, lent. It holds what it held when it was handed in, and just the live blocks.
+    /// The device, lent. It holds one heap for each live block, and beside these what it held when it was handed in, and the
+    /// resources that were made and not given back.
     pub fn device(&self) -> &ID3D12DeviceVersion<D>
         ensures lent { result.now ≡ self.now.device }
-        ensures holds { HoldsJustLiveBlocks self.now.setup.tier (D.held (device_of self.now.first)) (D.held (device_of self.now.device)) self.now.slots }
+        ensures holds { HoldsJustLiveBlocks self.now.setup.tier (beside_of D.D3D12Device self.now) (D.held (device_of self.now.device)) self.now.slots }
         ensures constant { D.properties (device_of self.now.device) ≡ D.properties (device_of self.now.first) }
     {
         &self.device
@@ -220,10 +228,10 @@ impl<D: D3D12Device> Allocator<D> {
         log_leaks(log, level, &self.types);
     }
 
-    /// Gives every block back, and returns the device, which then holds what it held when it was handed in. What is still
-    /// live is logged first, as warnings, where the settings ask for it.
+    /// Gives every block back, and returns the device, which then holds what it held when it was handed in, and the resources
+    /// that were made and not given back. What is still live is logged first, as warnings, where the settings ask for it.
     pub fn destroy<L: Log>(self, log: &L) -> ID3D12DeviceVersion<D>
-        ensures held { D.held (device_of result) ≡ D.held (device_of self.first) }
+        ensures held { D.held (device_of result) ≡ beside_of D.D3D12Device self }
         ensures asks_nothing { AsksNothing D.D3D12Device (device_of self.device) (device_of result) }
         ensures version { result ≡ with_device self.first (device_of result) }
     {
@@ -232,6 +240,7 @@ impl<D: D3D12Device> Allocator<D> {
             first: _,
             setup,
             types,
+            committed: _,
             alloc: _,
         } = self;
         log_last_leaks(log, setup.debug, &types);

@@ -2,13 +2,11 @@
 
 ghost use Rattle.std.specs.Prelude.{◌≡◌};
 ghost use Rattle.gpu_memory_types.specs.Blocks.{BlocksWellFormed};
-ghost use Rattle.gpu_d3d12_setup.specs.declared.setup.Setup.{Setup};
-ghost use Rattle.gpu_d3d12_blocks.specs.Suballocation.{AttemptEnvironment};
-ghost use Rattle.gpu_d3d12_blocks.specs.Blocks.{Slots};
-ghost use Rattle.gpu_d3d12.specs.Step.{Call, Reply, Step};
+ghost use Rattle.gpu_d3d12.specs.State.{Basis, Contents};
+ghost use Rattle.gpu_d3d12.specs.Step.{Call, Reply, Environment, Step};
 
 /// The model isn't loose: a state, a call, and what the device and the host answered it decide the reply and the next state.
 pub fn one_step()
-    ensures { (setup : Setup) (call : Call) (met : AttemptEnvironment) (a b : Reply) (old new next : Slots) → BlocksWellFormed 1 old
-        → Step setup call met a old new → Step setup call met b old next → (a ≡ b) × (new ≡ next) }
+    ensures { (basis : Basis) (call : Call) (met : Environment) (a b : Reply) (old new next : Contents) → BlocksWellFormed 1 old.slots
+        → Step basis call met a old new → Step basis call met b old next → (a ≡ b) × (new ≡ next) }
 {}

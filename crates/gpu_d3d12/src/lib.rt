@@ -6,7 +6,10 @@ mod allocator;
 mod attempt;
 pub mod laws;
 mod logging;
+mod placing;
 mod rename;
+mod resource;
 
 pub use allocation::Allocation;
 pub use allocator::Allocator;
+pub use resource::Resource;

@@ -3,3 +3,4 @@ pub mod Suballocated
 pub mod Releasing
 pub mod Returned
 pub mod Records
+pub mod Beside

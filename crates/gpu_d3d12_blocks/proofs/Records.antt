@@ -17,7 +17,7 @@ use Rattle.gpu_values.specs.declared.error.AllocationError.{AllocationError}
 use Rattle.gpu_device.specs.D3D12.{Entry}
 use Rattle.gpu_device.specs.declared.d3d12.device.D3D12Device.{Ghosts}
 use Rattle.gpu_device.specs.declared.d3d12.types.ID3D12Resource.{ID3D12Resource}
-use Rattle.gpu_d3d12_setup.specs.ResourceAnswer.{ResourceAnswer, Granted, Declined, Null, committed_texts, resource_number, resource_refusal, AsksResource}
+use Rattle.gpu_d3d12_setup.specs.ResourceAnswer.{ResourceAnswer, Granted, Declined, Null, Texts, committed_texts, resource_number, resource_refusal, AsksResource}
 use Rattle.gpu_d3d12_setup.specs.declared.question.ResourceCreateDesc.{ResourceCreateDesc}
 use Rattle.gpu_d3d12_setup.specs.declared.question.ResourceQuestion.{ResourceQuestion}
 use Rattle.gpu_d3d12_blocks.specs.Committed.{fits, with_record, number_or_refusal, CommitsBy, IsCommitted, GivesRecord, Committed, records_at, total_size, SumsFit, place_of, is_same_record}
@@ -99,10 +99,11 @@ fits_true rs size below = lt-ltb (total_size rs + size) (2 ^ 64) below
 fits_false : (rs : List CommittedRecord) (size : ℕ) → 2 ^ 64 ≤ total_size rs + size → fits rs size ≡ false
 fits_false rs size above = cases_false (total_size rs + size) (2 ^ 64) above
 
-refused_reply : (answer : ResourceAnswer) (r : Refusal) → resource_refusal committed_texts answer ≡ Some r → (Err r ≡ number_or_refusal committed_texts answer) × (resource_number answer ≡ None)
-refused_reply (Granted n) r is = absurd (none_some r is)
-refused_reply (Declined code reason) r is = (ap Err (sym (some_same _ _ is)), refl)
-refused_reply Null r is = (ap Err (sym (some_same _ _ is)), refl)
+-- a refusal, as what an answer comes to
+pub refused_reply : (texts : Texts) (answer : ResourceAnswer) (r : Refusal) → resource_refusal texts answer ≡ Some r → (Err r ≡ number_or_refusal texts answer) × (resource_number answer ≡ None)
+refused_reply texts (Granted n) r is = absurd (none_some r is)
+refused_reply texts (Declined code reason) r is = (ap Err (sym (some_same _ _ is)), refl)
+refused_reply texts Null r is = (ap Err (sym (some_same _ _ is)), refl)
 
 module _ {D : Type 0} (g : Ghosts D) (question : ResourceQuestion) (d : ResourceCreateDesc) (entry : Entry) (size : ℕ) (old : List CommittedRecord) (device : D) where
   pub too_much : (e : AllocationError) → refusal_of e ≡ out_of_memory → 2 ^ 64 ≤ total_size old + size → IsCommitted g question d entry size old device (Err e) old device
@@ -124,7 +125,7 @@ module _ {D : Type 0} (g : Ghosts D) (question : ResourceQuestion) (d : Resource
   pub refused : (e : AllocationError) (answer : ResourceAnswer) (after : D) → total_size old + size < 2 ^ 64 → AsksResource g device question d entry answer after
       → resource_refusal committed_texts answer ≡ Some (refusal_of e) → IsCommitted g question d entry size old device (Err e) old after
   refused e answer after below asks why =
-      let told = refused_reply answer (refusal_of e) why in
+      let told = refused_reply committed_texts answer (refusal_of e) why in
       record {
         host = true;
         answer = Some answer;

@@ -8,7 +8,7 @@ use Rattle.gpu_d3d12_setup.specs.Heaps.{heap_desc}
 use Rattle.gpu_d3d12_setup.specs.MemoryKinds.{memory_kinds}
 use Rattle.gpu_d3d12_setup.specs.declared.memory_kind.MemoryKind.{MemoryKind}
 use Rattle.gpu_memory_types.specs.Blocks as all
-use Rattle.gpu_memory_types.specs.Held.{HoldsBlocks}
+use Rattle.gpu_memory_types.specs.Held.{HoldsBlocks, without_all}
 
 -- the slots of each memory type
 abbrev pub Slots : Type 0
@@ -37,3 +37,7 @@ IsBlockEntry tier t size e = IsSomeAnd (kind_at tier t) (λ k. e ≡ Heap (heap_
 -- the device holds what it held at first, and just the live blocks
 abbrev pub HoldsJustLiveBlocks : ResourceHeapTier → (first held : Held) → Slots → Type 0
 HoldsJustLiveBlocks tier first held slots = HoldsBlocks heap_number (IsBlockEntry tier) first held slots
+
+-- what a device holds beside the live blocks
+abbrev pub beside : Held → Slots → Held
+beside held slots = without_all heap_number held slots
