@@ -8,4 +8,10 @@ pub mod Naming
 pub mod Steps
 pub mod OneStep
 pub mod OneOutcome
+pub mod Outcomes
+pub mod Asking
+pub mod Committing
+pub mod InPlace
+pub mod GivenBack
+pub mod Creating
 pub mod Keeping

@@ -168,6 +168,12 @@ module _ {D : Type 0} (g : Ghosts D) where
   gone_counts None device after is = counts_same true device after is
   gone_counts (Some heap) device after is = record { count = is.count; latest_heap = is.latest_heap; latest_formats = is.latest_formats; latest_clear = is.latest_clear }
 
+  -- a heap that goes is no question
+  pub after_gone : (o : Environment) (went : Option ID3D12Heap) (device between after : D) → CountsAndNames g device o between → GivesBack g between went after → CountsAndNames g device o after
+  after_gone o None device between after c is = subst (λ (d : D). CountsAndNames g device o d) (sym is) c
+  after_gone o (Some heap) device between after c is =
+      record { count = is.count ∙ c.count; latest_heap = is.latest_heap ∙ c.latest_heap; latest_formats = is.latest_formats ∙ c.latest_formats; latest_clear = is.latest_clear ∙ c.latest_clear }
+
   pub free_step : (old new : State D) (a : Allocation) (result : Result (Unit {0}) (AllocationError × Allocation)) → Frees g a old.slots (device_of old.device) result new.slots (device_of new.device)
       → Alone old new → IsStep g (Free a) (freed_as result) old new
   free_step old new a (Ok u) f h = record {

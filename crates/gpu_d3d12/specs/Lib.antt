@@ -3,6 +3,7 @@ pub mod Allocate
 pub mod Free
 pub mod Rename
 pub mod Resource
+pub mod FreeResource
 pub mod State
 pub mod Step
 pub mod Apart

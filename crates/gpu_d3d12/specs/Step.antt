@@ -313,12 +313,16 @@ pub record CountsAndNames {D : Type 0} (g : Ghosts D) (old : D) (o : Environment
   pub latest_formats : g.latest_formats new ≡ formats_after (g.latest_formats old) o.resource
   pub latest_clear : g.latest_clear new ≡ clear_after (g.latest_clear old) o.resource
 
--- the call is a step of the model at what it met with, and the device counts and names just that
-pub record IsStep {D : Type 0} (g : Ghosts D) (call : Call) (reply : Reply) (old new : State D) : Type 0 where
+-- contents change by this relation at what was met with, and the device counts and names just that
+pub record IsStepBy {D : Type 0} (g : Ghosts D) (S : Environment → Reply → Contents → Contents → Type 0) (reply : Reply) (old new : State D) : Type 0 where
   pub environment : Environment
-  pub step : Step (basis_of g old) call environment reply (contents_of g old) (contents_of g new)
+  pub step : S environment reply (contents_of g old) (contents_of g new)
   pub counts : CountsAndNames g (device_of old.device) environment (device_of new.device)
   pub same_version : new.device ≡ with_device old.device (device_of new.device)
+
+-- the call is a step of the model at what it met with, and the device counts and names just that
+abbrev pub IsStep : {D : Type 0} → Ghosts D → Call → Reply → (old new : State D) → Type 0
+IsStep g call reply old new = IsStepBy g (Step (basis_of g old) call) reply old new
 
 -- what an allocation's caller gets is what the model replies
 abbrev pub Replies : AllocationCreateDesc → Result Allocation AllocationError → Reply → Type 0
@@ -337,10 +341,13 @@ RepliesResource d (Ok r) (Made t piece number size) = IsMade d t piece number si
 RepliesResource d (Err e) (Fails refusal) = refusal_of e ≡ refusal
 RepliesResource d _ _ = ⊥
 
-pub record IsCreateStep {D : Type 0} (g : Ghosts D) (d : ResourceCreateDesc) (result : Result Resource AllocationError) (old new : State D) : Type 0 where
+pub record IsMadeBy {D : Type 0} (g : Ghosts D) (S : Environment → Reply → Contents → Contents → Type 0) (d : ResourceCreateDesc) (result : Result Resource AllocationError) (old new : State D) : Type 0 where
   pub reply : Reply
-  pub step : IsStep g (CreateResource d) reply old new
+  pub step : IsStepBy g S reply old new
   pub replies : RepliesResource d result reply
+
+abbrev pub IsCreateStep : {D : Type 0} → Ghosts D → ResourceCreateDesc → Result Resource AllocationError → (old new : State D) → Type 0
+IsCreateStep g d result old new = IsMadeBy g (Step (basis_of g old) (CreateResource d)) d result old new
 
 abbrev pub freed_as : {V : Type 0} → Result (Unit {0}) (AllocationError × V) → Reply
 freed_as (Ok _) = Done

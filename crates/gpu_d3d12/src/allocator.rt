@@ -12,6 +12,7 @@ ghost use Rattle.gpu_memory_types.specs.Reports.{whole_report};
 ghost use Rattle.gpu_d3d12_setup.specs.DeviceVersion.{device_of, with_device};
 ghost use Rattle.gpu_d3d12_setup.specs.MemoryKinds.{memory_kinds};
 ghost use Rattle.gpu_d3d12_setup.specs.Setup.{setup_fault};
+ghost use Rattle.gpu_d3d12_blocks.specs.Committed.{statistics_at};
 ghost use Rattle.gpu_d3d12.specs.Allocate.{Allocates};
 ghost use Rattle.gpu_d3d12.specs.Apart.{IsInside, SharesNoByte};
 ghost use Rattle.gpu_d3d12_blocks.specs.Blocks.{HoldsJustLiveBlocks};
@@ -19,17 +20,21 @@ ghost use Rattle.gpu_d3d12.specs.Free.{Frees};
 ghost use Rattle.gpu_d3d12_blocks.specs.Release.{AsksNothing};
 ghost use Rattle.gpu_d3d12.specs.Live.{IsLive, AreDistinct, StayLive};
 ghost use Rattle.gpu_d3d12.specs.Rename.{Renames};
-ghost use Rattle.gpu_d3d12.specs.State.{beside_of};
-ghost use Rattle.gpu_d3d12.specs.Step.{IsStep, IsAllocateStep, Free, Rename, Capacity, Report, Leaks, Sum, freed_as, renamed_as, shown_as, told_as};
+ghost use Rattle.gpu_d3d12.specs.State.{basis_of, beside_of};
+ghost use Rattle.gpu_d3d12.specs.Step.{IsMadeBy, IsCreateStep, CommitStep, PlaceStep, FreeResource, Statistics, Counts, IsStep, IsAllocateStep, Free, Rename, Capacity, Report, Leaks, Sum, freed_as, renamed_as, shown_as, told_as};
 ghost use Rattle.gpu_d3d12.specs.declared.allocation.Allocation.{Allocation};
 
-use crate::Allocation;
 use crate::attempt::serve;
+use crate::giving::give_back;
 use crate::logging::{log_allocate, log_free, log_last_leaks, log_leaks};
+use crate::making::{committed_at, make_placed, piece_desc};
 use crate::rename::rename;
-use gpu_d3d12_blocks::{CommittedResources, free_all, free_piece};
+use crate::{Allocation, Resource};
+use gpu_d3d12_blocks::{CommittedResources, OwnMemory, free_all, free_piece};
 use gpu_d3d12_setup::{
-    AllocationCreateDesc, AllocatorCreateDesc, ID3D12DeviceVersion, Setup, parts_of,
+    AllocationCreateDesc, AllocatorCreateDesc, CommittedAllocationStatistics, ID3D12DeviceVersion,
+    ResourceCreateDesc, ResourceQuestion, ResourceType, Setup, allocation_info_of, parts_of,
+    question_for, type_for,
 };
 use gpu_device::d3d12::{D3D12Device, ID3D12Heap};
 use gpu_memory_types::MemoryTypes;
@@ -189,6 +194,123 @@ impl<D: D3D12Device> Allocator<D> {
             Ok(()) => Ok(()),
             Err(error) => Err((error, allocation)),
         }
+    }
+
+    /// Makes a committed resource by this question.
+    fn commit(
+        &mut self,
+        question: ResourceQuestion,
+        own: OwnMemory,
+        desc: &ResourceCreateDesc,
+    ) -> Result<Resource>
+        ensures step { IsMadeBy D.D3D12Device (CommitStep (basis_of D.D3D12Device self.old) desc.now question) desc.now result self.old self.new }
+        ensures constant { (self.new.first ≡ self.old.first) × (self.new.setup ≡ self.old.setup) × (self.new.slots ≡ self.old.slots) }
+    {
+        let size = allocation_info_of(&self.device, desc).size_in_bytes;
+        let index = type_for(
+            self.setup.tier,
+            desc.memory_location,
+            desc.resource_category,
+        );
+        let device = self.device.device_mut();
+        match self
+            .committed
+            .create(device, index, question, own, desc, size)
+        {
+            Err(error) => Err(error),
+            Ok(resource) => Ok(committed_at(desc, index, resource, size)),
+        }
+    }
+
+    /// Makes a placed resource by this question.
+    fn place<L: Log>(
+        &mut self,
+        log: &L,
+        question: ResourceQuestion,
+        desc: &ResourceCreateDesc,
+    ) -> Result<Resource>
+        ensures step { IsMadeBy D.D3D12Device (PlaceStep (basis_of D.D3D12Device self.old) desc.now question) desc.now result self.old self.new }
+        ensures constant { (self.new.first ≡ self.old.first) × (self.new.setup ≡ self.old.setup) × (self.new.committed ≡ self.old.committed) }
+    {
+        let asked = piece_desc(desc, allocation_info_of(&self.device, desc));
+        log_allocate(log, self.setup.debug, &asked);
+        let device = self.device.device_mut();
+        make_placed(
+            self.alloc,
+            &self.setup,
+            device,
+            &mut self.types,
+            question,
+            desc,
+            &asked,
+        )
+    }
+
+    /// Makes a resource: in a piece of a heap, or in memory of its own. `CastableFormatsRequiresEnhancedBarriers`,
+    /// `CastableFormatsRequiresAtLeastDevice12` or `BarrierLayoutNeedsDevice10` where the device's interface can't make it so,
+    /// which it isn't asked then. A placed one is refused as by `allocate`, a committed one with `OutOfMemory` where the
+    /// sizes' sum would pass `u64::MAX`, or `HostOutOfMemory`; either with `Internal` where the device refuses it, and then no
+    /// piece is left live.
+    pub fn create_resource<L: Log>(
+        &mut self,
+        log: &L,
+        desc: &ResourceCreateDesc,
+    ) -> Result<Resource>
+        ensures step { IsCreateStep D.D3D12Device desc.now result self.old self.new }
+        ensures constant { (self.new.first ≡ self.old.first) × (self.new.setup ≡ self.old.setup) }
+    {
+        let question = match question_for(&self.device, desc) {
+            Err(error) => return Err(error),
+            Ok(question) => question,
+        };
+        match desc.resource_type {
+            ResourceType::Committed {
+                heap_properties,
+                heap_flags,
+            } => {
+                let own = OwnMemory {
+                    heap_properties,
+                    heap_flags: *heap_flags,
+                };
+                self.commit(question, own, desc)
+            }
+            ResourceType::Placed => self.place(log, question, desc),
+        }
+    }
+
+    /// Gives a resource back, and with it its piece or its memory. One whose piece or record isn't live comes back beside
+    /// `Internal`, and then nothing changes. It takes no memory.
+    pub fn free_resource<L: Log>(
+        &mut self,
+        log: &L,
+        resource: Resource,
+    ) -> Result<(), (AllocationError, Resource)>
+        ensures step { IsStep D.D3D12Device (FreeResource resource) (freed_as result) self.old self.new }
+        ensures back { IfErr result (λ e. e.1 ≡ resource) }
+        ensures constant { (self.new.first ≡ self.old.first) × (self.new.setup ≡ self.old.setup) }
+    {
+        let debug = self.setup.debug;
+        let device = self.device.device_mut();
+        match give_back(
+            log,
+            debug,
+            device,
+            &mut self.types,
+            &mut self.committed,
+            &resource,
+        ) {
+            Ok(()) => Ok(()),
+            Err(error) => Err((error, resource)),
+        }
+    }
+
+    /// How many committed resources of the memory type at `memory_type` there are that were not given back, and their sizes'
+    /// sum; `None` where it isn't there.
+    pub fn committed(&self, memory_type: usize) -> Option<CommittedAllocationStatistics>
+        ensures statistics { result ≡ statistics_at self.now.committed memory_type }
+        ensures step { IsStep D.D3D12Device (Statistics memory_type) (Counts result) self.now self.now }
+    {
+        self.committed.statistics(memory_type)
     }
 
     /// Gives an allocation another name, and with it the record that reports and leaks show. `Internal` where the

@@ -4,9 +4,10 @@
 mod allocation;
 mod allocator;
 mod attempt;
+mod giving;
 pub mod laws;
 mod logging;
-mod placing;
+mod making;
 mod rename;
 mod resource;
 

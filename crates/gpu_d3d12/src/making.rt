@@ -1,10 +1,10 @@
-//! Placed resources: a piece of a heap, and the device's resource in it.
+//! Making resources: what is given for the device's, and a piece of a heap for a placed one.
 
-ghost use Rattle.std.specs.Prelude.{◌≡◌};
+ghost use Rattle.std.specs.Prelude.{◌≡◌, None};
 ghost use Rattle.gpu_memory_types.specs.Types.{slots_of, kinds, MemoryTypesInvariant};
 ghost use Rattle.gpu_d3d12_setup.specs.Question.{made_size};
 ghost use Rattle.gpu_d3d12_setup.specs.Setup.{kinds_told};
-ghost use Rattle.gpu_d3d12.specs.Resource.{piece_desc, IsPlaced, IsPlacedIn};
+ghost use Rattle.gpu_d3d12.specs.Resource.{piece_desc, IsMade, IsPlaced, IsPlacedIn};
 
 use crate::attempt::serve;
 use crate::{Allocation, Resource};
@@ -33,6 +33,24 @@ pub fn piece_desc<'a>(
     }
 }
 
+/// The resource in memory of its own, of the memory type at `index`.
+pub fn committed_at(
+    desc: &ResourceCreateDesc,
+    index: usize,
+    resource: ID3D12Resource,
+    size: u64,
+) -> Resource
+    ensures { IsMade desc.now index None resource.0 size result }
+{
+    Resource {
+        resource,
+        allocation: None,
+        memory_location: desc.memory_location,
+        memory_type_index: index,
+        size,
+    }
+}
+
 /// The resource in a piece.
 fn placed_in(
     desc: &ResourceCreateDesc,
@@ -53,7 +71,7 @@ fn placed_in(
 
 /// A resource in a piece of its own, which is asked for by `asked`. Where the device refuses the resource, the piece is
 /// given back.
-pub fn place<D: D3D12Device>(
+pub fn make_placed<D: D3D12Device>(
     alloc: Global,
     setup: &Setup,
     device: &mut D,

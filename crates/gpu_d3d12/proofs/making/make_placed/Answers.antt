@@ -2,7 +2,7 @@ use Rattle.std.proofs.Common.{◌≡◌, ◌∙◌, refl, sym, ap, subst, length
 use Rattle.gpu_values.specs.Refusal.{refusal_of}
 use Rattle.gpu_memory_types.specs.Types.{slots_of}
 use Rattle.gpu_d3d12.proofs.InPieces.{not_taken, was_placed, was_refused}
-use Rattle.gpu_d3d12.proofs.placing.place.Goals as goal
+use Rattle.gpu_d3d12.proofs.making.make_placed.Goals as goal
 
 pub returns-in-Err-clause-placed : goal.returns-in-Err-clause-placed
 returns-in-Err-clause-placed g c =

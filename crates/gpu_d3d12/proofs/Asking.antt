@@ -1,0 +1,80 @@
+-- A question for a resource, over a device: what is met with, counted and named, and what the device holds beside the blocks then.
+use Rattle.std.proofs.Common.{◌≡◌, ◌∙◌, ℕ, refl, sym, ap, subst, Bool, true, false, List, [], ◌∷◌, length, Option, Some, None, Result, Ok, Err}
+use Rattle.std.specs.Option.{option_map, option_copied}
+use Rattle.gpu_values.specs.Refusal.{Refusal}
+use Rattle.gpu_device.specs.D3D12.{Held, Entry, Properties}
+use Rattle.gpu_device.specs.Granted.{with_granted, counted}
+use Rattle.gpu_device.specs.declared.d3d12.device.D3D12Device.{Ghosts}
+use Rattle.gpu_device.specs.declared.d3d12.types.Format.{Format}
+use Rattle.gpu_device.specs.declared.d3d12.types.ResourceDesc.{ResourceDesc}
+use Rattle.gpu_device.specs.declared.d3d12.types.ResourceHeapTier.{ResourceHeapTier}
+use Rattle.gpu_d3d12_setup.specs.Question.{resource_question, told_info, handed_on}
+use Rattle.gpu_d3d12_setup.specs.ResourceAnswer.{ResourceAnswer, AsksResource, resource_number}
+use Rattle.gpu_d3d12_setup.specs.declared.device_version.ID3D12DeviceVersion.{ID3D12DeviceVersion}
+use Rattle.gpu_d3d12_setup.specs.declared.device_version.ID3D12DeviceVersion.TheVariants.{Device, Device10, Device12}
+use Rattle.gpu_d3d12_setup.specs.declared.question.ResourceCreateDesc.{ResourceCreateDesc}
+use Rattle.gpu_d3d12_setup.specs.declared.question.ResourceQuestion.{ResourceQuestion}
+use Rattle.gpu_d3d12_setup.specs.declared.question.ResourceStateOrBarrierLayout.{ResourceStateOrBarrierLayout}
+use Rattle.gpu_d3d12_setup.specs.declared.question.ResourceStateOrBarrierLayout.TheVariants.{ResourceState, BarrierLayout}
+use Rattle.gpu_d3d12_blocks.specs.Blocks.{Slots, HoldsJustLiveBlocks}
+use Rattle.gpu_d3d12_blocks.specs.Committed.{IsAfterResource}
+use Rattle.gpu_d3d12_blocks.specs.Suballocation.{AttemptEnvironment, Asked}
+use Rattle.gpu_d3d12_blocks.proofs.Beside.{granted_holds}
+use Rattle.gpu_d3d12.specs.State.{interface_of}
+use Rattle.gpu_d3d12.specs.Step.{AskedResource, Environment, IsAskedWith, resource_answer, granted_number, CountsAndNames}
+
+-- the interface alone decides by which question a resource is made
+pub same_question : {D : Type 0} (v : ID3D12DeviceVersion D) (s : ResourceStateOrBarrierLayout) (castable : List Format) → resource_question (interface_of v) s castable ≡ resource_question v s castable
+same_question v (ResourceState s) [] = refl
+same_question v (ResourceState s) (f ∷ fs) = refl
+same_question (Device12 d) (BarrierLayout l) castable = refl
+same_question (Device10 d) (BarrierLayout l) [] = refl
+same_question (Device10 d) (BarrierLayout l) (f ∷ fs) = refl
+same_question (Device d) (BarrierLayout l) [] = refl
+same_question (Device d) (BarrierLayout l) (f ∷ fs) = refl
+
+-- and which size and alignment it is told by
+pub same_info : {D : Type 0} (p : Properties) (v : ID3D12DeviceVersion D) (desc : ResourceDesc) (castable : List Format) → told_info p (interface_of v) desc castable ≡ told_info p v desc castable
+same_info p (Device d) desc castable = refl
+same_info p (Device10 d) desc castable = refl
+same_info p (Device12 d) desc castable = refl
+
+-- what is met with where the device answers so
+abbrev pub asked_of : ResourceQuestion → ResourceCreateDesc → Option ResourceAnswer → Option AskedResource
+asked_of question d None = None
+asked_of question d (Some answer) = Some (record { formats = option_map length (handed_on question d.castable_formats.now); clear = option_copied d.clear_value; answer = answer })
+
+pub answer_is : (question : ResourceQuestion) (d : ResourceCreateDesc) (o : Option ResourceAnswer) → resource_answer (asked_of question d o) ≡ o
+answer_is question d None = refl
+answer_is question d (Some answer) = refl
+
+pub asked_with : (question : ResourceQuestion) (d : ResourceCreateDesc) (o : Option ResourceAnswer) → IsAskedWith question d (asked_of question d o)
+asked_with question d None = tt
+asked_with question d (Some answer) = (refl, refl)
+
+module _ {D : Type 0} (g : Ghosts D) (question : ResourceQuestion) (d : ResourceCreateDesc) (entry : Entry) where
+  -- the question comes after an attempt, if there was one
+  pub asked_counts : (e : AttemptEnvironment) (o : Option ResourceAnswer) (device between to : D) → CountsAndNames g device (record { attempt = e; resource = None }) between
+      → IsAfterResource g between question d entry o to → CountsAndNames g device (record { attempt = e; resource = asked_of question d o }) to
+  asked_counts e None device between to c is = record {
+    count = ap g.refused is ∙ c.count;
+    latest_heap = ap g.latest_heap is ∙ c.latest_heap;
+    latest_formats = ap g.latest_formats is ∙ c.latest_formats;
+    latest_clear = ap g.latest_clear is ∙ c.latest_clear;
+  }
+  asked_counts e (Some answer) device between to c is = record {
+    count = is.count ∙ ap (λ n. counted n (resource_number answer)) c.count;
+    latest_heap = is.latest_heap ∙ c.latest_heap;
+    latest_formats = is.latest_formats;
+    latest_clear = is.latest_clear;
+  }
+
+  pub asked_holds : (tier : ResourceHeapTier) (aside : Held) (ss : Slots) (o : Option ResourceAnswer) (device to : D) → HoldsJustLiveBlocks tier aside (g.held device) ss
+      → IsAfterResource g device question d entry o to → HoldsJustLiveBlocks tier (with_granted aside (granted_number o) entry) (g.held to) ss
+  asked_holds tier aside ss None device to h is = subst (λ (k : Held). HoldsJustLiveBlocks tier aside k ss) (sym (ap g.held is)) h
+  asked_holds tier aside ss (Some answer) device to h is =
+      subst (λ (k : Held). HoldsJustLiveBlocks tier (with_granted aside (resource_number answer) entry) k ss) (sym is.held) (granted_holds tier aside (g.held device) ss (resource_number answer) entry h is.number)
+
+  pub asked_constant : (o : Option ResourceAnswer) (device to : D) → IsAfterResource g device question d entry o to → g.properties to ≡ g.properties device
+  asked_constant None device to is = ap g.properties is
+  asked_constant (Some answer) device to is = is.constant
