@@ -1,4 +1,5 @@
 -- What a request comes to at one memory type of a DirectX 12 device.
+use Rattle.gpu_memory_types.specs.Budgets.{Budgets, budget_at}
 use Rattle.std.specs.Prelude.{◌≡◌, ℕ, Bool, false, Option, Some, None, Result, Ok, Err, IsSomeAnd}
 use Rattle.gpu_values.specs.Refusal.{refusal_of}
 use Rattle.gpu_values.specs.declared.error.AllocationError.{AllocationError}
@@ -44,11 +45,12 @@ asked_block None = None
 asked_block (Some a) = Some (record { size = a.desc.size; result = block_result a.answer })
 
 -- the request at the t-th memory type
-abbrev pub request_at : Setup → (t : ℕ) → AllocationCreateDesc → RequestAt
-request_at setup t d = record {
+abbrev pub request_at : Setup → Budgets → (t : ℕ) → AllocationCreateDesc → RequestAt
+request_at setup budgets t d = record {
   memory_type = t;
   is_host = is_host setup.tier t;
   granularity = 1;
+  budget = budget_at budgets t;
   sizes = setup.sizes;
   wants_own = false;
   request = request_of d;
@@ -65,8 +67,8 @@ IsAfter g old None new = new ≡ old
 IsAfter g old (Some a) new = AsksHeap g old a.desc a.answer new
 
 -- what a request for a piece of the t-th memory type comes to
-pub record IsSuballocated {D : Type 0} (g : Ghosts D) (setup : Setup) (t : ℕ) (d : AllocationCreateDesc) (old : Slots) (device : D) (result : Result (Piece ID3D12Heap) AllocationError) (new : Slots) (after : D) : Type 0 where
+pub record IsSuballocated {D : Type 0} (g : Ghosts D) (setup : Setup) (budgets : Budgets) (t : ℕ) (d : AllocationCreateDesc) (old : Slots) (device : D) (result : Result (Piece ID3D12Heap) AllocationError) (new : Slots) (after : D) : Type 0 where
   pub environment : AttemptEnvironment
-  pub allocates : AllocatesInType (request_at setup t d) old environment.host (asked_block environment.asked) (answer_of result) new
+  pub allocates : AllocatesInType (request_at setup budgets t d) old environment.host (asked_block environment.asked) (answer_of result) new
   pub asked_for : IsAskedFor setup t environment.asked
   pub asked : IsAfter g device environment.asked after

@@ -5,6 +5,7 @@ ghost use Rattle.gpu_values.specs.Refusal.{refusal_of};
 ghost use Rattle.gpu_core.specs.TypeState.{slot_at, block_number};
 ghost use Rattle.gpu_memory_types.specs.Blocks.{slots_at};
 ghost use Rattle.gpu_memory_types.specs.Release.{IsReleaseRefusal};
+ghost use Rattle.gpu_memory_types.specs.Budgets.{budgets};
 ghost use Rattle.gpu_memory_types.specs.Types.{slots_of, kinds, MemoryTypesInvariant};
 ghost use Rattle.gpu_d3d12_blocks.specs.Release.{IsReleased, without_block, without_slots, without_all, AsksNothing};
 ghost use Rattle.gpu_d3d12_blocks.specs.Release.{is_same_heap, IsLiveIn};
@@ -28,6 +29,7 @@ pub fn free_piece<D: D3D12Device>(
     ensures cause { IfErr result (λ e. IsReleaseRefusal is_same_heap index (slots_of types.old) piece.now (refusal_of e)) }
     ensures refused { OnErr result ((slots_of types.new ≡ slots_of types.old) × (device.new ≡ device.old)) }
     ensures kinds { kinds types.new ≡ kinds types.old }
+    ensures budgets { budgets types.new ≡ budgets types.old }
     ensures kept { MemoryTypesInvariant types.new }
 {
     match types.free(index, piece) {

@@ -1,8 +1,9 @@
 //! What an allocator is made with, and never changes.
 
-ghost use Rattle.std.specs.Prelude.{◌≡◌, ℤ, Ok, Err, IfOk, IfErr, MatchResult, All, []};
+ghost use Rattle.std.specs.Prelude.{◌≡◌, ℤ, Ok, Err, IfOk, IfErr, MatchResult, All, [], None};
 ghost use Rattle.std.specs.Option.{unwrap_or};
 ghost use Rattle.gpu_values.specs.Refusal.{refusal_of, host_out_of_memory};
+ghost use Rattle.gpu_memory_types.specs.Budgets.{budgets};
 ghost use Rattle.gpu_memory_types.specs.Types.{slots_of, kinds, MemoryTypesInvariant};
 ghost use Rattle.gpu_d3d12_setup.specs.Setup.{tier_refusal, setup_fault, kinds_told};
 
@@ -47,6 +48,7 @@ pub fn empty_types(
 ) -> Result<Vec<MemoryType<ID3D12Heap>>, AllocError>
     ensures kinds { IfOk result (λ v. kinds v.items ≡ kinds_told tier) }
     ensures empty { IfOk result (λ v. All (λ slots. slots ≡ []) (slots_of v.items)) }
+    ensures unbounded { IfOk result (λ v. All (λ b. b ≡ None) (budgets v.items)) }
 {
     let count = type_count(tier);
     let mut types = Vec::with_capacity(alloc, count)?;
@@ -68,6 +70,7 @@ pub fn parts_of<D: D3D12Device>(
     ensures chosen { IfOk result (λ parts. (parts.0.sizes ≡ sizes) × (parts.0.debug ≡ debug)) }
     ensures kinds { IfOk result (λ parts. kinds parts.1 ≡ kinds_told parts.0.tier) }
     ensures empty { IfOk result (λ parts. All (λ slots. slots ≡ []) (slots_of parts.1)) }
+    ensures unbounded { IfOk result (λ parts. All (λ b. b ≡ None) (budgets parts.1)) }
     ensures kept { IfOk result (λ parts. MemoryTypesInvariant parts.1) }
     ensures cause { IfErr result (λ e. refusal_of e ≡ unwrap_or (setup_fault (D.properties device.now)) host_out_of_memory) }
 {

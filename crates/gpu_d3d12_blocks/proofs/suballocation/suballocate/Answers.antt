@@ -1,3 +1,6 @@
+use Rattle.gpu_core.specs.TypeState.{capacity_of}
+use Rattle.gpu_memory_types.specs.Types.{slots_of, type_of}
+use Rattle.gpu_memory_types.proofs.Budgets.{sum_fits}
 use Rattle.std.proofs.Common.{◌<◌, length, ap, arith}
 use Rattle.gpu_core.specs.declared.memory_type.Prepared.TheVariants as prepared
 use Rattle.gpu_core.specs.declared.memory_type.need.NeedBlock.{NeedBlock}
@@ -44,7 +47,7 @@ install-requires-clause-sum g c =
     let h : PreparesAt c.args.index c.args.types.now c.args.setup.now.sizes c.request_of.result (prepared.NeedBlock need) c.prepare.new.self =
     rw c.in-Ok-NeedBlock.field-0-is at c.in-Ok-NeedBlock.ensures.prepared in
     let same = ap (λ (ss : Slots). total_capacity ss) (waiting c.args.index c.args.types.now c.args.setup.now.sizes c.request_of.result (below g after) need c.prepare.new.self h) in
-    let fits = h.fits in
+    let fits = sum_fits (total_capacity (slots_of c.args.types.now)) (type_of c.args.types.now c.args.index).budget (capacity_of (type_of c.args.types.now c.args.index).slots) need.size h.fits in
     omega (arith, same, fits)
 
 pub returns-in-Err-create_block_heap-clause-suballocates : goal.returns-in-Err-create_block_heap-clause-suballocates

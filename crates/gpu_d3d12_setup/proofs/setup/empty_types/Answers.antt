@@ -1,9 +1,10 @@
-use Rattle.std.proofs.Common.{◌≡◌, ◌∙◌, ◌++◌, [], ◌∷◌, ℕ, Bool, ap, sym, subst, map, take, arith, refl, ◌+◌, All}
+use Rattle.std.proofs.Common.{◌≡◌, ◌∙◌, ◌++◌, [], ◌∷◌, ℕ, Bool, ap, sym, subst, map, take, arith, refl, ◌+◌, All, None}
 use Rattle.std.proofs.lemmas.List.{map-append}
 use Rattle.std.proofs.lemmas.List.Elements.{All-append, All-cons, All-nil}
 use Rattle.gpu_core.specs.TypeState.{TypeState}
 use Rattle.gpu_device.specs.declared.d3d12.types.ID3D12Heap.{ID3D12Heap}
 use Rattle.gpu_memory_types.specs.Blocks.{Slots}
+use Rattle.gpu_memory_types.specs.Budgets.{Budgets, budgets}
 use Rattle.gpu_memory_types.specs.Types.{Types, slots_of, kinds}
 use Rattle.gpu_d3d12_setup.specs.Heaps.{is_host}
 use Rattle.gpu_d3d12_setup.specs.MemoryKinds.{memory_kinds}
@@ -40,6 +41,10 @@ loop-index-preserved c =
           (subst (λ (ss : Slots ID3D12Heap). All (λ slots. slots ≡ []) ss) (sym (map-append _ types (t ∷ [])))
           (All-append (λ slots. slots ≡ []) (slots_of types) (t.slots ∷ []) c.loop-index.invariant.empty
           (All-cons (λ slots. slots ≡ []) t.slots [] c.new.ensures.slots (All-nil (λ slots. slots ≡ [])))));
+      unbounded =
+          subst (λ (ts : Types ID3D12Heap). All (λ b. b ≡ None) (budgets ts)) (sym pushed)
+          (subst (λ (bs : Budgets). All (λ b. b ≡ None) bs) (sym (map-append (λ (x : TypeState ID3D12Heap). x.budget) types (t ∷ [])))
+          (All-append (λ b. b ≡ None) (budgets types) (t.budget ∷ []) c.loop-index.invariant.unbounded (All-cons (λ b. b ≡ None) t.budget [] c.new.ensures.budget (All-nil (λ b. b ≡ None)))));
       len = omega (arith, c.loop-index.invariant.len, c.push_reserved.ensures.len);
       room = omega (arith, c.loop-index.invariant.room, c.push_reserved.ensures.capacity);
     }

@@ -1,4 +1,5 @@
-use Rattle.std.proofs.Common.{◌≡◌, ◌≤◌, map, take, All, [], length}
+use Rattle.std.proofs.Common.{◌≡◌, ◌≤◌, map, take, All, [], length, None}
+use Rattle.gpu_memory_types.specs.Budgets.{budgets}
 use Rattle.std.specs.Prelude.{vec_capacity}
 use Rattle.gpu_memory_types.specs.Types.{slots_of, kinds}
 use Rattle.gpu_d3d12_setup.specs.Heaps.{is_host}
@@ -10,6 +11,7 @@ invariant-loop-index l = record {
   counted : l.count ≡ length (memory_kinds l.tier);
   kinds_are : kinds l.types.items ≡ map (λ k. (is_host k, 1)) (take l.index (memory_kinds l.tier));
   empty : All (λ slots. slots ≡ []) (slots_of l.types.items);
+  unbounded : All (λ b. b ≡ None) (budgets l.types.items);
   len : length l.types.items ≡ l.index;
   room : l.count ≤ vec_capacity l.types;
 }
