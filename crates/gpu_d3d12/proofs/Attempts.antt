@@ -1,4 +1,5 @@
 -- What a request at one memory type is of an attempt over a device.
+use Rattle.gpu_memory_types.specs.Budgets.{Budgets}
 use Rattle.std.proofs.Common.{refl, ℕ, false, None, Err, Result}
 use Rattle.gpu_values.specs.Refusal.{host_out_of_memory}
 use Rattle.gpu_values.specs.declared.error.AllocationError.{AllocationError}
@@ -18,20 +19,20 @@ use Rattle.gpu_d3d12.specs.declared.allocation.Allocation.{Allocation}
 
 -- ---- an attempt
 
-module _ {D : Type 0} (g : Ghosts D) (setup : Setup) (i : ℕ) (d : AllocationCreateDesc) (device : D) where
+module _ {D : Type 0} (g : Ghosts D) (setup : Setup) (budgets : Budgets) (i : ℕ) (d : AllocationCreateDesc) (device : D) where
   -- host memory for the name was refused
-  pub short : (ss : Slots) → IsAttempt g setup i d ss device (Err HostOutOfMemory) ss device
+  pub short : (ss : Slots) → IsAttempt g setup budgets i d ss device (Err HostOutOfMemory) ss device
   short ss = record {
     environment = record { host = false; asked = None };
     answer = Refused host_out_of_memory;
-    allocates = starved (request_at setup i d) ss;
+    allocates = starved (request_at setup budgets i d) ss;
     asked_for = tt;
     asked = refl;
     answers = refl;
   }
 
   pub attempted : (old : Slots) (r : Result (Piece ID3D12Heap) AllocationError) (new : Slots) (after : D) (result : Result Allocation AllocationError)
-      → IsSuballocated g setup i d old device r new after → Answers i d result (answer_of r) → IsAttempt g setup i d old device result new after
+      → IsSuballocated g setup budgets i d old device r new after → Answers i d result (answer_of r) → IsAttempt g setup budgets i d old device result new after
   attempted old r new after result s answers = record {
     environment = s.environment;
     answer = answer_of r;

@@ -40,7 +40,7 @@ module _ {D : Type 0} (g : Ghosts D) (before : State D) (d : ResourceCreateDesc)
         many = refl;
         environment = record { attempt = record { host = c.host; asked = None }; resource = asked_of question d c.answer };
         counts = asked_counts g question d entry (record { host = c.host; asked = None }) c.answer device device to (counts_same g c.host device device refl) c.asked;
-        step = λ new slots records beside. record {
+        step = λ new slots bounds records beside. record {
           memory_type = index;
           first = first;
           no_heap = refl;
@@ -52,6 +52,7 @@ module _ {D : Type 0} (g : Ghosts D) (before : State D) (d : ResourceCreateDesc)
           asked_with = asked_with question d c.answer;
           reply_is = ap (λ n. made_reply index None n (resource_reply made)) sized;
           slots = slots;
+          budgets = bounds;
           committed = records ∙ others;
           beside = beside ∙ ap (λ o. with_granted (beside_of g before) (granted_number o) entry) (sym (answer_is question d c.answer));
         };

@@ -30,7 +30,7 @@ same_reply_err given freed e r is was = ap (λ (x : Result (Unit {0}) (Allocatio
 module _ {D : Type 0} (g : Ghosts D) (before : State D) (r : Resource) (slots : Slots) (left : Committed) (to : D)
     (h : HoldsJustLiveBlocks before.setup.tier (beside_of g before) (g.held (device_of before.device)) before.slots) where
   abbrev S : Option Allocation → Environment → Reply → Contents → Contents → Type 0
-  S o met reply old new = (met ≡ nothing_at_all) × FreeResourceStep o r reply old new
+  S o met reply old new = (met ≡ nothing_at_all) × (new.budgets ≡ old.budgets) × FreeResourceStep o r reply old new
 
   abbrev aside : Held
   aside = beside_of g before
@@ -61,8 +61,9 @@ module _ {D : Type 0} (g : Ghosts D) (before : State D) (r : Resource) (slots : 
         many = done.2;
         environment = nothing_at_all;
         counts = after_gone g nothing_at_all rel.went device between to (gone_counts between gone) rel.gives_back;
-        step = λ new same records beside. (
+        step = λ new same bounds records beside. (
           refl,
+          bounds,
           ((f.0.0, record { went = rel.went; left = rel.left; releases = rel.releases; slots = same ∙ rel.slots }), records ∙ f.1, beside),
         );
       }
@@ -75,7 +76,7 @@ module _ {D : Type 0} (g : Ghosts D) (before : State D) (r : Resource) (slots : 
     many = ap (λ (ss : Slots). length ss) f.0.2;
     environment = nothing_at_all;
     counts = counts_same g true device to f.0.3;
-    step = λ new same records beside. (refl, ((f.0.0, f.0.1, same ∙ f.0.2), records ∙ f.1, beside));
+    step = λ new same bounds records beside. (refl, bounds, ((f.0.0, f.0.1, same ∙ f.0.2), records ∙ f.1, beside));
   }
   back_outcome None (Ok u) f = record {
     aside = without_resource aside r.resource.0;
@@ -84,7 +85,7 @@ module _ {D : Type 0} (g : Ghosts D) (before : State D) (r : Resource) (slots : 
     many = ap (λ (ss : Slots). length ss) f.1;
     environment = nothing_at_all;
     counts = gone_counts to f.0.1;
-    step = λ new same records beside. (refl, (record { place = f.0.0.place; stands = f.0.0.stands; records = records ∙ f.0.0.records }, same ∙ f.1, beside));
+    step = λ new same bounds records beside. (refl, bounds, (record { place = f.0.0.place; stands = f.0.0.stands; records = records ∙ f.0.0.records }, same ∙ f.1, beside));
   }
   back_outcome None (Err e) f = record {
     aside = aside;
@@ -95,7 +96,7 @@ module _ {D : Type 0} (g : Ghosts D) (before : State D) (r : Resource) (slots : 
     many = ap (λ (ss : Slots). length ss) f.1;
     environment = nothing_at_all;
     counts = counts_same g true device to f.0.3;
-    step = λ new same records beside. (refl, ((f.0.0, f.0.1, records ∙ f.0.2), same ∙ f.1, beside));
+    step = λ new same bounds records beside. (refl, bounds, ((f.0.0, f.0.1, records ∙ f.0.2), same ∙ f.1, beside));
   }
 
   pub freed_outcome : (freed : Result (Unit {0}) AllocationError) → FreesResource g r.allocation r before.slots before.committed device freed slots left to → Outcome g before (S r.allocation) (renamed_as freed) slots left to

@@ -1,4 +1,5 @@
 -- A placed resource, over a device: its piece is allocated, and stays or goes as the device answers.
+use Rattle.gpu_memory_types.specs.Budgets.{budgets}
 use Rattle.std.proofs.Common.{◌≡◌, ◌∙◌, ℕ, refl, sym, ap, subst, length, Option, Some, None, Ok, Err, Result}
 use Rattle.std.specs.Prelude.{OnOk, OnErr}
 use Rattle.std.proofs.lemmas.List.{length-map}
@@ -40,8 +41,8 @@ was_released (Err e) P Q p dead live = absurd (dead live)
 module _ {D : Type 0} (g : Ghosts D) (setup : Setup) (question : ResourceQuestion) (d : ResourceCreateDesc) (p : AllocationCreateDesc) where
   module _ (made : ℕ) (old mid : Types ID3D12Heap) (device between : D) (told : kinds old ≡ kinds_told setup.tier) (kept : MemoryTypesInvariant old) (same : kinds mid ≡ kinds old)
       (keeps : MemoryTypesInvariant old → MemoryTypesInvariant mid) where
-    pub not_taken : (e : AllocationError) → Allocates g setup p (slots_of old) device (Err e) (slots_of mid) between
-        → IsPlaced g setup question d p made (slots_of old) device (Err e) (slots_of mid) between
+    pub not_taken : (e : AllocationError) → Allocates g setup (budgets old) p (slots_of old) device (Err e) (slots_of mid) between
+        → IsPlaced g setup (budgets old) question d p made (slots_of old) device (Err e) (slots_of mid) between
     not_taken e allocates = record {
       taken = Err e;
       mid = slots_of mid;
@@ -52,7 +53,7 @@ module _ {D : Type 0} (g : Ghosts D) (setup : Setup) (question : ResourceQuestio
     }
 
   module _ (old mid : Types ID3D12Heap) (device between : D) (told : kinds old ≡ kinds_told setup.tier) (kept : MemoryTypesInvariant old) (same : kinds mid ≡ kinds old)
-      (keeps : MemoryTypesInvariant old → MemoryTypesInvariant mid) (a : Allocation) (allocates : Allocates g setup p (slots_of old) device (Ok a) (slots_of mid) between)
+      (keeps : MemoryTypesInvariant old → MemoryTypesInvariant mid) (a : Allocation) (allocates : Allocates g setup (budgets old) p (slots_of old) device (Ok a) (slots_of mid) between)
       (answer : ResourceAnswer) (then : D) (asks : AsksResource g between question d (Placed a.heap.0 a.offset (made_size (g.properties between) question d.resource_desc.now d.castable_formats.now)) answer then) where
     abbrev made : ℕ
     made = made_size (g.properties device) question d.resource_desc.now d.castable_formats.now
@@ -60,13 +61,13 @@ module _ {D : Type 0} (g : Ghosts D) (setup : Setup) (question : ResourceQuestio
     asks_it : AsksResource g between question d (Placed a.heap.0 a.offset made) answer then
     asks_it =
         subst (λ properties. AsksResource g between question d (Placed a.heap.0 a.offset (made_size properties question d.resource_desc.now d.castable_formats.now)) answer then)
-        (allocated_constant g setup p (slots_of old) device (Ok a) (slots_of mid) between allocates) asks
+        (allocated_constant g setup (budgets old) p (slots_of old) device (Ok a) (slots_of mid) between allocates) asks
 
     sound : BlocksWellFormed 1 (slots_of mid)
     sound = well_formed_told setup.tier mid (same ∙ told) (keeps kept)
 
     placed : (result : Result Resource AllocationError) (new : Slots) (after : D) → EndsBy g d p.size a (number_or_refusal placed_texts answer) result (slots_of mid) then new after
-        → IsPlaced g setup question d p made (slots_of old) device result new after
+        → IsPlaced g setup (budgets old) question d p made (slots_of old) device result new after
     placed result new after ends = record {
       taken = Ok a;
       mid = slots_of mid;
@@ -77,7 +78,7 @@ module _ {D : Type 0} (g : Ghosts D) (setup : Setup) (question : ResourceQuestio
     }
 
     pub was_placed : (resource : ID3D12Resource) → answer ≡ Granted resource.0 → (r : Resource) → IsPlacedIn d a resource.0 p.size r
-        → IsPlaced g setup question d p made (slots_of old) device (Ok r) (slots_of mid) then
+        → IsPlaced g setup (budgets old) question d p made (slots_of old) device (Ok r) (slots_of mid) then
     was_placed resource is r in_it =
         placed (Ok r) (slots_of mid) then
         (subst (λ x. EndsBy g d p.size a (number_or_refusal placed_texts x) (Ok r) (slots_of mid) then (slots_of mid) then) (sym is) (in_it, refl, refl))
@@ -86,11 +87,11 @@ module _ {D : Type 0} (g : Ghosts D) (setup : Setup) (question : ResourceQuestio
     lives : IsLiveIn (slots_of mid) a.memory_type_index (Some (piece_of a))
     lives =
         let many : length (slots_of old) ≡ length (memory_kinds setup.tier) = length-map old _ ∙ as_many setup.tier old told in
-        (allocated_owns g setup p (slots_of old) (slots_of mid) many (well_formed_told setup.tier old told kept) sound device (Ok a) between allocates).gives.0
+        (allocated_owns g setup (budgets old) p (slots_of old) (slots_of mid) many (well_formed_told setup.tier old told kept) sound device (Ok a) between allocates).gives.0
 
     pub was_refused : (e : AllocationError) → resource_refusal placed_texts answer ≡ Some (refusal_of e) → (freed : Result (Unit {0}) AllocationError) (piece : Piece ID3D12Heap) → piece ≡ piece_of a
         → (new : Slots) (after : D) → OnOk freed (IsReleased g a.memory_type_index piece (slots_of mid) then new after) → OnErr freed (IsLiveIn (slots_of mid) a.memory_type_index (Some piece) → ⊥)
-        → IsPlaced g setup question d p made (slots_of old) device (Err e) new after
+        → IsPlaced g setup (budgets old) question d p made (slots_of old) device (Err e) new after
     was_refused e why freed piece is new after released dead =
         let live : IsLiveIn (slots_of mid) a.memory_type_index (Some piece) = subst (λ (q : Piece ID3D12Heap). IsLiveIn (slots_of mid) a.memory_type_index (Some q)) (sym is) lives in
         let gone : IsReleased g a.memory_type_index piece (slots_of mid) then new after = was_released freed _ _ released dead live in

@@ -26,7 +26,7 @@ use Rattle.gpu_d3d12.specs.Allocate.{Allocates}
 use Rattle.gpu_d3d12.specs.Live.{piece_of, IsGiven}
 use Rattle.gpu_d3d12.specs.Resource.{piece_desc, LiesIn, IsMade, IsPlacedIn, IsGivenAs, EndsBy, IsPlacedAt, PlacesBy, IsPlaced}
 use Rattle.gpu_d3d12.specs.State.{State, Basis, basis_of, beside_of}
-use Rattle.gpu_d3d12.specs.Step.{Reply, Given, Fails, Done, Sum, Shows, Tells, Made, Counts, Environment, info_of, size_made, made_reply, PlacedBy, PlacesThen, PlaceStep, ReleaseStep, CountsAndNames, Replies, RepliesResource}
+use Rattle.gpu_d3d12.specs.Step.{Reply, Given, Fails, Done, Sum, Shows, Tells, Made, Counts, Budgeted, Environment, info_of, size_made, made_reply, PlacedBy, PlacesThen, PlaceStep, ReleaseStep, CountsAndNames, Replies, RepliesResource}
 use Rattle.gpu_d3d12.specs.declared.allocation.Allocation.{Allocation}
 use Rattle.gpu_d3d12.specs.declared.resource.Resource.{Resource}
 use Rattle.gpu_d3d12.proofs.Asking.{asked_of, asked_with, asked_counts, asked_holds}
@@ -46,6 +46,7 @@ reply_fails p e (Shows w) h = absurd h
 reply_fails p e (Tells zs) h = absurd h
 reply_fails p e (Made t q number size) h = absurd h
 reply_fails p e (Counts c) h = absurd h
+reply_fails p e (Budgeted c) h = absurd h
 
 reply_given : (p : AllocationCreateDesc) (a : Allocation) (r : Reply) → Replies p (Ok a) r → (t : ℕ) × ((q : Piece ID3D12Heap) × (r ≡ Given t q) × IsGiven t p.name.now q a)
 reply_given p a (Given t q) h = (t, (q, refl, h))
@@ -56,6 +57,7 @@ reply_given p a (Shows w) h = absurd h
 reply_given p a (Tells zs) h = absurd h
 reply_given p a (Made t q number size) h = absurd h
 reply_given p a (Counts c) h = absurd h
+reply_given p a (Budgeted c) h = absurd h
 
 refused_told : (d : ResourceCreateDesc) (result : Result Resource AllocationError) (f : Refusal) → refusal_in result ≡ Some f → RepliesResource d result (Fails f)
 refused_told d (Ok r) f is = absurd (none_some f is)
@@ -100,10 +102,10 @@ module _ {D : Type 0} (g : Ghosts D) (before : State D) (d : ResourceCreateDesc)
     abbrev device : D
     device = device_of before.device
 
-    not_taken : (e : AllocationError) → Allocates g before.setup p before.slots device (Err e) mid between → PlacesBy g question d size made (Err e) result mid between slots to → PlacedOutcome
+    not_taken : (e : AllocationError) → Allocates g before.setup before.budgets p before.slots device (Err e) mid between → PlacesBy g question d size made (Err e) result mid between slots to → PlacedOutcome
     not_taken e allocates places =
-        let t = taken g before.setup p before.slots device (Err e) mid between allocates in
-        let after = allocated_holds g before.setup p aside before.slots many device (Err e) mid between allocates h in
+        let t = taken g before.setup before.budgets p before.slots device (Err e) mid between allocates in
+        let after = allocated_holds g before.setup before.budgets p aside before.slots many device (Err e) mid between allocates h in
         let fails = reply_fails p e t.reply t.replies in
         record {
           reply = Fails (refusal_of e);
@@ -116,28 +118,29 @@ module _ {D : Type 0} (g : Ghosts D) (before : State D) (d : ResourceCreateDesc)
             many = ap (λ (ss : Slots). length ss) places.1 ∙ after.2;
             environment = record { attempt = t.environment; resource = None };
             counts = asked_counts g question d (entries.Committed 0) t.environment None device between to t.counts places.2;
-            step = λ new same records beside. record {
+            step = λ new same bounds records beside. record {
               taken = t.reply;
               mid = mid;
               sound = sound_mid;
               allocates = t.step;
               places =
                   subst (λ r. PlacesThen basis d question r None (Fails (refusal_of e)) mid new.slots aside new.beside) (sym fails) (refl, same ∙ places.1, beside);
+              budgets = bounds;
               committed = records;
             };
           };
           replies = refused_told d result (refusal_of e) places.0;
         }
 
-    module _ (a : Allocation) (allocates : Allocates g before.setup p before.slots device (Ok a) mid between) (then : D) where
+    module _ (a : Allocation) (allocates : Allocates g before.setup before.budgets p before.slots device (Ok a) mid between) (then : D) where
       abbrev entry : entries.Entry
       entry = entries.Placed a.heap.0 a.offset made
 
-      abbrev t : Taken g before.setup p before.slots device (Ok a) mid between
-      t = taken g before.setup p before.slots device (Ok a) mid between allocates
+      abbrev t : Taken g before.setup before.budgets p before.slots device (Ok a) mid between
+      t = taken g before.setup before.budgets p before.slots device (Ok a) mid between allocates
 
       held_mid : HoldsJustLiveBlocks before.setup.tier aside (g.held between) mid × (g.properties between ≡ g.properties device) × (length mid ≡ length before.slots)
-      held_mid = allocated_holds g before.setup p aside before.slots many device (Ok a) mid between allocates h
+      held_mid = allocated_holds g before.setup before.budgets p aside before.slots many device (Ok a) mid between allocates h
 
       placed_granted : (n : ℕ) → AsksResource g between question d entry (Granted n) then → IsGivenAs d a n size result × (slots ≡ mid) × (to ≡ then) → PlacedOutcome
       placed_granted n asks ends =
@@ -159,7 +162,7 @@ module _ {D : Type 0} (g : Ghosts D) (before : State D) (d : ResourceCreateDesc)
               many = ap (λ (ss : Slots). length ss) ends.1 ∙ held_mid.2;
               environment = record { attempt = t.environment; resource = asked_of question d (Some (Granted n)) };
               counts = subst (λ x. CountsAndNames g device (record { attempt = t.environment; resource = asked_of question d (Some (Granted n)) }) x) (sym ends.2) counts;
-              step = λ new same records beside. record {
+              step = λ new same bounds records beside. record {
                 taken = t.reply;
                 mid = mid;
                 sound = sound_mid;
@@ -167,6 +170,7 @@ module _ {D : Type 0} (g : Ghosts D) (before : State D) (d : ResourceCreateDesc)
                 places =
                     subst (λ r. PlacesThen basis d question r (asked_of question d (Some (Granted n))) (Made u (Some q) n size) mid new.slots aside new.beside) (sym is_given)
                     (asked_with question d (Some (Granted n)), refl, (same ∙ ends.1, beside ∙ ap (λ (x : Piece ID3D12Heap). insert aside n (entries.Placed x.block.0 x.offset made)) in_it.piece));
+                budgets = bounds;
                 committed = records;
               };
             };
@@ -186,7 +190,7 @@ module _ {D : Type 0} (g : Ghosts D) (before : State D) (d : ResourceCreateDesc)
           subst (λ o. HoldsJustLiveBlocks before.setup.tier (with_granted aside o entry) (g.held then) mid) none
           (asked_holds g question d entry before.setup.tier aside mid (Some answer) between then held_mid.0 asks) in
           let counts = asked_counts g question d entry t.environment (Some answer) device between then t.counts asks in
-          let live = (allocated_owns g before.setup p before.slots mid many sound sound_mid device (Ok a) between allocates).gives.0 in
+          let live = (allocated_owns g before.setup before.budgets p before.slots mid many sound sound_mid device (Ok a) between allocates).gives.0 in
           let left = released_holds g before.setup.tier aside a.memory_type_index mid (type_below mid a.memory_type_index (piece_of a) live) (piece_of a) then slots to rel held in
           let releases : ReleaseStep u q mid slots =
           subst (λ k. ReleaseStep k q mid slots) in_it.memory_type
@@ -200,7 +204,7 @@ module _ {D : Type 0} (g : Ghosts D) (before : State D) (d : ResourceCreateDesc)
               many = left.2 ∙ held_mid.2;
               environment = record { attempt = t.environment; resource = asked_of question d (Some answer) };
               counts = after_gone g (record { attempt = t.environment; resource = asked_of question d (Some answer) }) rel.went device then to counts rel.gives_back;
-              step = λ new same records beside. record {
+              step = λ new same bounds records beside. record {
                 taken = t.reply;
                 mid = mid;
                 sound = sound_mid;
@@ -211,6 +215,7 @@ module _ {D : Type 0} (g : Ghosts D) (before : State D) (d : ResourceCreateDesc)
                       ap (made_reply u (Some q) size) (sym is),
                       subst (λ x. PlacedBy u q size made x mid new.slots aside new.beside) (sym is) (subst (λ (ss : Slots). ReleaseStep u q mid ss) (sym same) releases, beside),
                     );
+                budgets = bounds;
                 committed = records;
               };
             };
@@ -222,11 +227,11 @@ module _ {D : Type 0} (g : Ghosts D) (before : State D) (d : ResourceCreateDesc)
       answered (Declined code reason) asks ends = placed_refused (Declined code reason) _ refl refl asks ends
       answered Null asks ends = placed_refused Null _ refl refl asks ends
 
-    place_by : (r : Result Allocation AllocationError) → Allocates g before.setup p before.slots device r mid between → PlacesBy g question d size made r result mid between slots to → PlacedOutcome
+    place_by : (r : Result Allocation AllocationError) → Allocates g before.setup before.budgets p before.slots device r mid between → PlacesBy g question d size made r result mid between slots to → PlacedOutcome
     place_by (Err e) allocates places = not_taken e allocates places
     place_by (Ok a) allocates places = answered a allocates places.between places.answer places.asks places.ends
 
   pub placed_outcome : length before.slots ≡ length (memory_kinds before.setup.tier) → BlocksWellFormed 1 before.slots
       → HoldsJustLiveBlocks before.setup.tier aside (g.held (device_of before.device)) before.slots
-      → IsPlaced g before.setup question d p made before.slots (device_of before.device) result slots to → PlacedOutcome
+      → IsPlaced g before.setup before.budgets question d p made before.slots (device_of before.device) result slots to → PlacedOutcome
   placed_outcome many sound h placed = place_by many sound h placed.mid placed.between placed.sound placed.taken placed.allocates placed.places

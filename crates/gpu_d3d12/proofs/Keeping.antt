@@ -1,4 +1,5 @@
 -- What stays so by every call, after a call that left its device and its memory types so.
+use Rattle.gpu_memory_types.specs.Budgets.{Budgets}
 use Rattle.std.proofs.Common.{◌≡◌, ◌∙◌, refl, sym, ap, subst, length}
 use Rattle.gpu_device.specs.declared.d3d12.device.D3D12Device.{Ghosts}
 use Rattle.gpu_device.specs.declared.d3d12.types.ID3D12Heap.{ID3D12Heap}
@@ -72,18 +73,20 @@ module _ {D : Type 0} (g : Ghosts D) (setup : Setup) (first : ID3D12DeviceVersio
 
 module _ {D : Type 0} (g : Ghosts D) (old : State D) (new : Slots) where
   -- a device by the same interface, that holds the same beside the blocks
-  pub alone_after : (to : D) → HoldsJustLiveBlocks old.setup.tier (beside_of g old) (g.held to) new
-      → Alone g old (record { device = with_device old.device to; first = old.first; setup = old.setup; slots = new; committed = old.committed })
-  alone_after to h = record {
+  pub alone_after : (to : D) (budgets : Budgets) → budgets ≡ old.budgets → HoldsJustLiveBlocks old.setup.tier (beside_of g old) (g.held to) new
+      → Alone g old (record { device = with_device old.device to; first = old.first; setup = old.setup; slots = new; budgets = budgets; committed = old.committed })
+  alone_after to budgets same h = record {
+    budgets = same;
     committed = refl;
     beside = ap (λ (d : D). beside (g.held d) new) (device_with old.device to) ∙ beside_is old.setup.tier (beside_of g old) (g.held to) new h;
     version = ap (with_device old.device) (sym (device_with old.device to));
   }
 
   -- the device is as it was
-  pub alone_here : HoldsJustLiveBlocks old.setup.tier (beside_of g old) (g.held (device_of old.device)) new
-      → Alone g old (record { device = old.device; first = old.first; setup = old.setup; slots = new; committed = old.committed })
-  alone_here h = record {
+  pub alone_here : (budgets : Budgets) → budgets ≡ old.budgets → HoldsJustLiveBlocks old.setup.tier (beside_of g old) (g.held (device_of old.device)) new
+      → Alone g old (record { device = old.device; first = old.first; setup = old.setup; slots = new; budgets = budgets; committed = old.committed })
+  alone_here budgets same h = record {
+    budgets = same;
     committed = refl;
     beside = beside_is old.setup.tier (beside_of g old) (g.held (device_of old.device)) new h;
     version = same_device old.device;

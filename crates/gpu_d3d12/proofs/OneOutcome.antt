@@ -1,5 +1,6 @@
 -- The model isn't loose: a state, a call and what it meets with decide the reply and the next state.
-use Rattle.std.proofs.Common.{◌⊎◌, ◌≡◌, ◌∙◌, ℕ, inl, inr, refl, sym, ap, subst, Bool, true, false, List, slice_set, Option, Some, None, Result, Ok, Err, ⊎_elim}
+use Rattle.gpu_memory_types.specs.Budgets.{Budgets, budget_at, SetsBudget}
+use Rattle.std.proofs.Common.{◌⊎◌, ◌≡◌, ◌∙◌, ℕ, inl, inr, refl, sym, ap, subst, Bool, true, false, List, slice_set, Option, Some, None, Result, Ok, Err, ⊎_elim, arith}
 use Rattle.std.specs.List.{remove}
 use Rattle.gpu_values.specs.Refusal.{Refusal}
 use Rattle.gpu_core.specs.declared.memory_type.Piece.{Piece}
@@ -23,13 +24,13 @@ use Rattle.gpu_d3d12.specs.Allocate.{is_valid}
 use Rattle.gpu_d3d12.specs.Live.{piece_of}
 use Rattle.gpu_d3d12.specs.Resource.{piece_desc, record_of}
 use Rattle.gpu_d3d12.specs.State.{Basis, Contents}
-use Rattle.gpu_d3d12.specs.Step.{Call, Allocate, Free, Rename, Capacity, Report, Leaks, CreateResource, FreeResource, Statistics, Reply, Given, Fails, Done, Sum, Shows, Tells, Made, Counts, Environment, AskedResource, info_of, size_made, resource_answer, made_reply, CommitStep, PlacedBy, PlacesThen, PlaceStep, MakesBy, CreateBy, beside_after, GiveStep, FreeResourceStep, ChangesBlocks, BlockStep, StatisticsStep, Step}
+use Rattle.gpu_d3d12.specs.Step.{Call, Allocate, Free, Rename, Capacity, Report, Leaks, CreateResource, FreeResource, Statistics, SetBudget, Budget, Budgeted, SetBudgetStep, BudgetStep, Reply, Given, Fails, Done, Sum, Shows, Tells, Made, Counts, Environment, AskedResource, info_of, size_made, resource_answer, made_reply, CommitStep, PlacedBy, PlacesThen, PlaceStep, MakesBy, CreateBy, beside_after, GiveStep, FreeResourceStep, ChangesBlocks, BlockStep, StatisticsStep, Step}
 use Rattle.gpu_d3d12.specs.declared.allocation.Allocation.{Allocation}
 use Rattle.gpu_d3d12.specs.declared.resource.Resource.{Resource}
 use Rattle.gpu_d3d12.proofs.OneStep.{allocate_once, release_once, free_once, block_step_once}
 
-same_contents : (new next : Contents) → new.slots ≡ next.slots → new.committed ≡ next.committed → new.beside ≡ next.beside → new ≡ next
-same_contents new next slots committed beside = λ j. record { slots = slots j; committed = committed j; beside = beside j }
+same_contents : (new next : Contents) → new.slots ≡ next.slots → new.budgets ≡ next.budgets → new.committed ≡ next.committed → new.beside ≡ next.beside → new ≡ next
+same_contents new next slots budgets committed beside = λ j. record { slots = slots j; budgets = budgets j; committed = committed j; beside = beside j }
 
 -- ---- a committed resource
 
@@ -51,7 +52,7 @@ commit_once basis d question o x y old new next a b =
     let numbers = once.0 in
     let lists = once.1 in (
       a.reply_is ∙ (λ i. made_reply (types i) None size (numbers i)) ∙ sym b.reply_is,
-      same_contents new next (a.slots ∙ sym b.slots) (a.committed ∙ (λ i. slice_set old.committed (types i) (lists i)) ∙ sym b.committed) (a.beside ∙ sym b.beside),
+      same_contents new next (a.slots ∙ sym b.slots) (a.budgets ∙ sym b.budgets) (a.committed ∙ (λ i. slice_set old.committed (types i) (lists i)) ∙ sym b.committed) (a.beside ∙ sym b.beside),
     )
 
 -- ---- a placed resource
@@ -75,17 +76,18 @@ places_once basis d question (Shows w) o x y mid slots other old new next sound 
 places_once basis d question (Tells zs) o x y mid slots other old new next sound a b = absurd a
 places_once basis d question (Made u q number size) o x y mid slots other old new next sound a b = absurd a
 places_once basis d question (Counts c) o x y mid slots other old new next sound a b = absurd a
+places_once basis d question (Budgeted c) o x y mid slots other old new next sound a b = absurd a
 
 place_once : (basis : Basis) (d : ResourceCreateDesc) (question : ResourceQuestion) (o : Environment) (x y : Reply) (old new next : Contents) → BlocksWellFormed 1 old.slots
     → PlaceStep basis d question o x old new → PlaceStep basis d question o y old next → (x ≡ y) × (new ≡ next)
 place_once basis d question o x y old new next sound a b =
     let piece = piece_desc d (info_of basis d) in
-    let first = allocate_once basis.setup piece (is_valid piece) o.attempt a.taken b.taken old.slots a.mid b.mid sound a.allocates b.allocates in
+    let first = allocate_once basis.setup old.budgets piece (is_valid piece) o.attempt a.taken b.taken old.slots a.mid b.mid sound a.allocates b.allocates in
     let other : PlacesThen basis d question a.taken o.resource y a.mid next.slots old.beside next.beside =
     subst (λ r. PlacesThen basis d question r o.resource y a.mid next.slots old.beside next.beside) (sym first.0)
     (subst (λ (ss : Slots). PlacesThen basis d question b.taken o.resource y ss next.slots old.beside next.beside) (sym first.1) b.places) in
     let once = places_once basis d question a.taken o.resource x y a.mid new.slots next.slots old.beside new.beside next.beside a.sound a.places other in
-    (once.0, same_contents new next once.1 (a.committed ∙ sym b.committed) once.2)
+    (once.0, same_contents new next once.1 (a.budgets ∙ sym b.budgets) (a.committed ∙ sym b.committed) once.2)
 
 makes_once : (basis : Basis) (d : ResourceCreateDesc) (question : ResourceQuestion) (type : ResourceType) (o : Environment) (x y : Reply) (old new next : Contents) → BlocksWellFormed 1 old.slots
     → MakesBy basis d question type o x old new → MakesBy basis d question type o y old next → (x ≡ y) × (new ≡ next)
@@ -110,6 +112,7 @@ give_reply t r (Shows w) old new s = absurd s
 give_reply t r (Tells zs) old new s = absurd s
 give_reply t r (Made u q number size) old new s = absurd s
 give_reply t r (Counts c) old new s = absurd s
+give_reply t r (Budgeted c) old new s = absurd s
 
 give_once : (t : ℕ) (r : CommittedRecord) (x y : Reply) (old new next : Committed) → GiveStep t r x old new → GiveStep t r y old next → (x ≡ y) × (new ≡ next)
 give_once t r x y old new next a b =
@@ -126,14 +129,14 @@ give_once t r x y old new next a b =
     (give_reply t r y old next b))
     (give_reply t r x old new a)
 
-free_resource_once : (o : Option Allocation) (r : Resource) (x y : Reply) (old new next : Contents) → BlocksWellFormed 1 old.slots → FreeResourceStep o r x old new → FreeResourceStep o r y old next
+free_resource_once : (o : Option Allocation) (r : Resource) (x y : Reply) (old new next : Contents) → BlocksWellFormed 1 old.slots → new.budgets ≡ next.budgets → FreeResourceStep o r x old new → FreeResourceStep o r y old next
     → (x ≡ y) × (new ≡ next)
-free_resource_once (Some a) r x y old new next sound f h =
+free_resource_once (Some a) r x y old new next sound bounds f h =
     let once = free_once a.memory_type_index (piece_of a) x y old.slots new.slots next.slots sound f.0 h.0 in
-    (once.0, same_contents new next once.1 (f.1 ∙ sym h.1) (f.2 ∙ ap (λ z. beside_after z old.beside r.resource.0) once.0 ∙ sym h.2))
-free_resource_once None r x y old new next sound f h =
+    (once.0, same_contents new next once.1 bounds (f.1 ∙ sym h.1) (f.2 ∙ ap (λ z. beside_after z old.beside r.resource.0) once.0 ∙ sym h.2))
+free_resource_once None r x y old new next sound bounds f h =
     let once = give_once r.memory_type_index (record_of r) x y old.committed new.committed next.committed f.0 h.0 in
-    (once.0, same_contents new next (f.1 ∙ sym h.1) once.1 (f.2 ∙ ap (λ z. beside_after z old.beside r.resource.0) once.0 ∙ sym h.2))
+    (once.0, same_contents new next (f.1 ∙ sym h.1) bounds once.1 (f.2 ∙ ap (λ z. beside_after z old.beside r.resource.0) once.0 ∙ sym h.2))
 
 -- ---- statistics
 
@@ -146,26 +149,73 @@ counted t (Shows w) old new s = absurd s
 counted t (Tells zs) old new s = absurd s
 counted t (Made u q number size) old new s = absurd s
 counted t (Counts c) old new s = (ap Counts s.0, s.1)
+counted t (Budgeted c) old new s = absurd s
+
+-- ---- budgets
+
+bounded : (t : ℕ) (x : Reply) (old new : Contents) → BudgetStep t x old new → (x ≡ Budgeted (budget_at old.budgets t)) × (new ≡ old)
+bounded t (Given u q) old new s = absurd s
+bounded t (Fails f) old new s = absurd s
+bounded t Done old new s = absurd s
+bounded t (Sum n) old new s = absurd s
+bounded t (Shows w) old new s = absurd s
+bounded t (Tells zs) old new s = absurd s
+bounded t (Made u q number size) old new s = absurd s
+bounded t (Counts c) old new s = absurd s
+bounded t (Budgeted c) old new s = (ap Budgeted s.0, s.1)
+
+-- a reply to a call that is done or fails, and the refusal that it tells
+abbrev done_by : Option Refusal → Reply
+done_by None = Done
+done_by (Some r) = Fails r
+
+set_reply : (t : ℕ) (budget : Option ℕ) (x : Reply) (old new : Contents) → SetBudgetStep t budget x old new
+    → (r : Option Refusal) × (x ≡ done_by r) × SetsBudget t budget old.budgets r new.budgets × (new.slots ≡ old.slots) × (new.committed ≡ old.committed) × (new.beside ≡ old.beside)
+set_reply t budget (Given u q) old new s = absurd s
+set_reply t budget (Fails r) old new s = (Some r, refl, s.0, s.1, s.2, s.3)
+set_reply t budget Done old new s = (None, refl, s.0, s.1, s.2, s.3)
+set_reply t budget (Sum n) old new s = absurd s
+set_reply t budget (Shows w) old new s = absurd s
+set_reply t budget (Tells zs) old new s = absurd s
+set_reply t budget (Made u q number size) old new s = absurd s
+set_reply t budget (Counts c) old new s = absurd s
+set_reply t budget (Budgeted c) old new s = absurd s
+
+-- a budget is set or refused, and not both
+sets_once : (t : ℕ) (budget : Option ℕ) (old : Budgets) (r s : Option Refusal) (new next : Budgets) → SetsBudget t budget old r new → SetsBudget t budget old s next → (r ≡ s) × (new ≡ next)
+sets_once t budget old None None new next a b = (refl, a.1 ∙ sym b.1)
+sets_once t budget old None (Some s) new next a b = let below = a.0 in let past = b.0 in absurd (omega (arith, below, past))
+sets_once t budget old (Some r) None new next a b = let below = b.0 in let past = a.0 in absurd (omega (arith, below, past))
+sets_once t budget old (Some r) (Some s) new next a b = (ap Some (a.1 ∙ sym b.1), a.2 ∙ sym b.2)
 
 -- ---- any call
 
 on_blocks : (basis : Basis) (call : Call) (o : Environment) (x y : Reply) (old new next : Contents) → BlocksWellFormed 1 old.slots
-    → ChangesBlocks o old new × BlockStep basis.setup call o.attempt x old.slots new.slots → ChangesBlocks o old next × BlockStep basis.setup call o.attempt y old.slots next.slots → (x ≡ y) × (new ≡ next)
+    → ChangesBlocks o old new × BlockStep basis.setup old.budgets call o.attempt x old.slots new.slots → ChangesBlocks o old next × BlockStep basis.setup old.budgets call o.attempt y old.slots next.slots → (x ≡ y) × (new ≡ next)
 on_blocks basis call o x y old new next sound a b =
-    let once = block_step_once basis.setup call o.attempt x y old.slots new.slots next.slots sound a.1 b.1 in
+    let once = block_step_once basis.setup old.budgets call o.attempt x y old.slots new.slots next.slots sound a.1 b.1 in
     let one = a.0 in
     let other = b.0 in
-    (once.0, same_contents new next once.1 (one.committed ∙ sym other.committed) (one.beside ∙ sym other.beside))
+    (once.0, same_contents new next once.1 (one.budgets ∙ sym other.budgets) (one.committed ∙ sym other.committed) (one.beside ∙ sym other.beside))
 
 pub step_once : (basis : Basis) (call : Call) (o : Environment) (x y : Reply) (old new next : Contents) → BlocksWellFormed 1 old.slots
     → Step basis call o x old new → Step basis call o y old next → (x ≡ y) × (new ≡ next)
 step_once basis (CreateResource d) o x y old new next sound a b =
     create_once basis d (resource_question basis.interface d.initial_state_or_layout d.castable_formats.now) o x y old new next sound a b
-step_once basis (FreeResource r) o x y old new next sound a b = free_resource_once r.allocation r x y old new next sound a.1 b.1
+step_once basis (FreeResource r) o x y old new next sound a b = free_resource_once r.allocation r x y old new next sound (a.1 ∙ sym b.1) a.2 b.2
 step_once basis (Statistics t) o x y old new next sound a b =
     let one = counted t x old new a.1 in
     let other = counted t y old next b.1 in
     (one.0 ∙ sym other.0, one.1 ∙ sym other.1)
+step_once basis (SetBudget t budget) o x y old new next sound a b =
+    let p = set_reply t budget x old new a.1 in
+    let q = set_reply t budget y old next b.1 in
+    let once = sets_once t budget old.budgets p.0 q.0 new.budgets next.budgets p.2 q.2 in
+    (p.1 ∙ ap done_by once.0 ∙ sym q.1, same_contents new next (p.3 ∙ sym q.3) once.1 (p.4 ∙ sym q.4) (p.5 ∙ sym q.5))
+step_once basis (Budget t) o x y old new next sound a b =
+    let p = bounded t x old new a.1 in
+    let q = bounded t y old next b.1 in
+    (p.0 ∙ sym q.0, p.1 ∙ sym q.1)
 step_once basis (Allocate d) o x y old new next sound a b = on_blocks basis (Allocate d) o x y old new next sound a b
 step_once basis (Free w) o x y old new next sound a b = on_blocks basis (Free w) o x y old new next sound a b
 step_once basis (Rename w name) o x y old new next sound a b = on_blocks basis (Rename w name) o x y old new next sound a b

@@ -1,4 +1,5 @@
 -- The model isn't loose: a state, a call and what it meets with decide the reply and the next state.
+use Rattle.gpu_memory_types.specs.Budgets.{Budgets}
 use Rattle.std.proofs.Common.{◌⊎◌, ◌≡◌, ◌∙◌, ℕ, inl, inr, map, refl, sym, ap, subst, Bool, true, false, List, slice_set, ⊎_elim, IsTrue}
 use Rattle.gpu_block.specs.Leak.{leak_text}
 use Rattle.gpu_core.specs.TypeRelease.{has_several}
@@ -21,24 +22,24 @@ use Rattle.gpu_d3d12_blocks.specs.Suballocation.{AttemptEnvironment, asked_block
 use Rattle.gpu_d3d12_blocks.specs.Blocks.{Slots}
 use Rattle.gpu_d3d12.specs.Live.{piece_of}
 use Rattle.gpu_d3d12_blocks.specs.Release.{is_same_heap}
-use Rattle.gpu_d3d12.specs.Step.{Call, Allocate, Free, Rename, Capacity, Report, Leaks, CreateResource, FreeResource, Statistics, Reply, Given, Fails, Done, Sum, Shows, Tells, Made, Counts, reply_of, ServeStep, AllocateStep, ReleaseStep, FreeStep, RenameStep, ReportStep, LeaksStep, BlockStep}
+use Rattle.gpu_d3d12.specs.Step.{Call, Allocate, Free, Rename, Capacity, Report, Leaks, CreateResource, FreeResource, Statistics, SetBudget, Budget, Budgeted, Reply, Given, Fails, Done, Sum, Shows, Tells, Made, Counts, reply_of, ServeStep, AllocateStep, ReleaseStep, FreeStep, RenameStep, ReportStep, LeaksStep, BlockStep}
 
 -- ---- an allocation
 
-serve_once : (setup : Setup) (d : AllocationCreateDesc) (o : AttemptEnvironment) (x y : Reply) (old new next : Slots) → BlocksWellFormed 1 old
-    → ServeStep setup d o x old new → ServeStep setup d o y old next → (x ≡ y) × (new ≡ next)
-serve_once setup d o x y old new next sound a b =
+serve_once : (setup : Setup) (budgets : Budgets) (d : AllocationCreateDesc) (o : AttemptEnvironment) (x y : Reply) (old new next : Slots) → BlocksWellFormed 1 old
+    → ServeStep setup budgets d o x old new → ServeStep setup budgets d o y old next → (x ≡ y) × (new ≡ next)
+serve_once setup budgets d o x y old new next sound a b =
     let types : a.memory_type ≡ b.memory_type = one_first d.location d.resource_category (memory_kinds setup.tier) a.memory_type b.memory_type a.first b.first in
-    let other : AllocatesInType (request_at setup a.memory_type d) old o.host (asked_block o.asked) b.answer next =
-    subst (λ t. AllocatesInType (request_at setup t d) old o.host (asked_block o.asked) b.answer next) (sym types) b.allocates in
-    let once = allocates_once (request_at setup a.memory_type d) old o.host (asked_block o.asked) a.answer b.answer new next sound a.allocates other in
+    let other : AllocatesInType (request_at setup budgets a.memory_type d) old o.host (asked_block o.asked) b.answer next =
+    subst (λ t. AllocatesInType (request_at setup budgets t d) old o.host (asked_block o.asked) b.answer next) (sym types) b.allocates in
+    let once = allocates_once (request_at setup budgets a.memory_type d) old o.host (asked_block o.asked) a.answer b.answer new next sound a.allocates other in
     let answers = once.0 in
     (a.reply_is ∙ (λ i. reply_of (types i) (answers i)) ∙ sym b.reply_is, once.1)
 
-pub allocate_once : (setup : Setup) (d : AllocationCreateDesc) (valid : Bool) (o : AttemptEnvironment) (x y : Reply) (old new next : Slots) → BlocksWellFormed 1 old
-    → AllocateStep setup d valid o x old new → AllocateStep setup d valid o y old next → (x ≡ y) × (new ≡ next)
-allocate_once setup d false o x y old new next sound a b = (a.1 ∙ sym b.1, a.2 ∙ sym b.2)
-allocate_once setup d true o x y old new next sound a b = serve_once setup d o x y old new next sound a b
+pub allocate_once : (setup : Setup) (budgets : Budgets) (d : AllocationCreateDesc) (valid : Bool) (o : AttemptEnvironment) (x y : Reply) (old new next : Slots) → BlocksWellFormed 1 old
+    → AllocateStep setup budgets d valid o x old new → AllocateStep setup budgets d valid o y old next → (x ≡ y) × (new ≡ next)
+allocate_once setup budgets d false o x y old new next sound a b = (a.1 ∙ sym b.1, a.2 ∙ sym b.2)
+allocate_once setup budgets d true o x y old new next sound a b = serve_once setup budgets d o x y old new next sound a b
 
 -- ---- a free
 
@@ -58,6 +59,7 @@ free_reply t p (Shows w) old new s = absurd s
 free_reply t p (Tells zs) old new s = absurd s
 free_reply t p (Made u q number size) old new s = absurd s
 free_reply t p (Counts c) old new s = absurd s
+free_reply t p (Budgeted c) old new s = absurd s
 
 pub free_once : (t : ℕ) (p : Piece ID3D12Heap) (x y : Reply) (old new next : Slots) → BlocksWellFormed 1 old → FreeStep t p x old new → FreeStep t p y old next → (x ≡ y) × (new ≡ next)
 free_once t p x y old new next sound a b =
@@ -87,6 +89,7 @@ rename_reply t p name host (Shows w) old new s = absurd s
 rename_reply t p name host (Tells zs) old new s = absurd s
 rename_reply t p name host (Made u q number size) old new s = absurd s
 rename_reply t p name host (Counts c) old new s = absurd s
+rename_reply t p name host (Budgeted c) old new s = absurd s
 
 named_or_fails : (t : ℕ) (p : Piece ID3D12Heap) (name : List ℕ) (host : Bool) (r : Refusal) (old new next : Slots) → RenameStep t p name host Done old new
     → RenameStep t p name host (Fails r) old next → ⊥
@@ -134,6 +137,7 @@ shown_reply host (Shows w) old new s = (s.2, inl (s.0, ap Shows s.1))
 shown_reply host (Tells zs) old new s = absurd s
 shown_reply host (Made u q number size) old new s = absurd s
 shown_reply host (Counts c) old new s = absurd s
+shown_reply host (Budgeted c) old new s = absurd s
 
 told_reply : (host : Bool) (x : Reply) (old new : Slots) → LeaksStep host x old new
     → (new ≡ old) × (((host ≡ true) × (x ≡ Tells (map leak_text (all_leaks old)))) ⊎ ((host ≡ false) × (x ≡ Fails host_out_of_memory)))
@@ -145,6 +149,7 @@ told_reply host (Shows w) old new s = absurd s
 told_reply host (Tells zs) old new s = (s.2, inl (s.0, ap Tells s.1))
 told_reply host (Made u q number size) old new s = absurd s
 told_reply host (Counts c) old new s = absurd s
+told_reply host (Budgeted c) old new s = absurd s
 
 by_host : (host : Bool) (x y a b : Reply) → ((host ≡ true) × (x ≡ a)) ⊎ ((host ≡ false) × (x ≡ b)) → ((host ≡ true) × (y ≡ a)) ⊎ ((host ≡ false) × (y ≡ b)) → x ≡ y
 by_host host x y a b h k =
@@ -153,35 +158,38 @@ by_host host x y a b h k =
     (λ p. ⊎_elim (λ q. absurd (false_true (sym p.0 ∙ q.0))) (λ q. p.1 ∙ sym q.1) k)
     h
 
-sum_reply : (setup : Setup) (o : AttemptEnvironment) (x : Reply) (old new : Slots) → BlockStep setup Capacity o x old new → (x ≡ Sum (total_capacity old)) × (new ≡ old)
-sum_reply setup o (Given u q) old new s = absurd s
-sum_reply setup o (Fails r) old new s = absurd s
-sum_reply setup o Done old new s = absurd s
-sum_reply setup o (Sum n) old new s = (ap Sum s.1, s.2)
-sum_reply setup o (Shows w) old new s = absurd s
-sum_reply setup o (Tells zs) old new s = absurd s
-sum_reply setup o (Made u q number size) old new s = absurd s
-sum_reply setup o (Counts c) old new s = absurd s
+sum_reply : (setup : Setup) (budgets : Budgets) (o : AttemptEnvironment) (x : Reply) (old new : Slots) → BlockStep setup budgets Capacity o x old new → (x ≡ Sum (total_capacity old)) × (new ≡ old)
+sum_reply setup budgets o (Given u q) old new s = absurd s
+sum_reply setup budgets o (Fails r) old new s = absurd s
+sum_reply setup budgets o Done old new s = absurd s
+sum_reply setup budgets o (Sum n) old new s = (ap Sum s.1, s.2)
+sum_reply setup budgets o (Shows w) old new s = absurd s
+sum_reply setup budgets o (Tells zs) old new s = absurd s
+sum_reply setup budgets o (Made u q number size) old new s = absurd s
+sum_reply setup budgets o (Counts c) old new s = absurd s
+sum_reply setup budgets o (Budgeted c) old new s = absurd s
 
 -- ---- a call on the blocks
 
-pub block_step_once : (setup : Setup) (call : Call) (o : AttemptEnvironment) (x y : Reply) (old new next : Slots) → BlocksWellFormed 1 old
-    → BlockStep setup call o x old new → BlockStep setup call o y old next → (x ≡ y) × (new ≡ next)
-block_step_once setup (Allocate d) o x y old new next sound a b = allocate_once setup d (is_valid d) o x y old new next sound a b
-block_step_once setup (Free w) o x y old new next sound a b = free_once w.memory_type_index (piece_of w) x y old new next sound a.1 b.1
-block_step_once setup (Rename w name) o x y old new next sound a b = rename_once w.memory_type_index (piece_of w) name o.host x y old new next sound a.1 b.1
-block_step_once setup Report o x y old new next sound a b =
+pub block_step_once : (setup : Setup) (budgets : Budgets) (call : Call) (o : AttemptEnvironment) (x y : Reply) (old new next : Slots) → BlocksWellFormed 1 old
+    → BlockStep setup budgets call o x old new → BlockStep setup budgets call o y old next → (x ≡ y) × (new ≡ next)
+block_step_once setup budgets (Allocate d) o x y old new next sound a b = allocate_once setup budgets d (is_valid d) o x y old new next sound a b
+block_step_once setup budgets (Free w) o x y old new next sound a b = free_once w.memory_type_index (piece_of w) x y old new next sound a.1 b.1
+block_step_once setup budgets (Rename w name) o x y old new next sound a b = rename_once w.memory_type_index (piece_of w) name o.host x y old new next sound a.1 b.1
+block_step_once setup budgets Report o x y old new next sound a b =
     let one = shown_reply o.host x old new a.1 in
     let other = shown_reply o.host y old next b.1 in
     (by_host o.host x y _ _ one.1 other.1, one.0 ∙ sym other.0)
-block_step_once setup Leaks o x y old new next sound a b =
+block_step_once setup budgets Leaks o x y old new next sound a b =
     let one = told_reply o.host x old new a.1 in
     let other = told_reply o.host y old next b.1 in
     (by_host o.host x y _ _ one.1 other.1, one.0 ∙ sym other.0)
-block_step_once setup Capacity o x y old new next sound a b =
-    let one = sum_reply setup o x old new a in
-    let other = sum_reply setup o y old next b in
+block_step_once setup budgets Capacity o x y old new next sound a b =
+    let one = sum_reply setup budgets o x old new a in
+    let other = sum_reply setup budgets o y old next b in
     (one.0 ∙ sym other.0, one.1 ∙ sym other.1)
-block_step_once setup (CreateResource d) o x y old new next sound a b = absurd a
-block_step_once setup (FreeResource r) o x y old new next sound a b = absurd a
-block_step_once setup (Statistics t) o x y old new next sound a b = absurd a
+block_step_once setup budgets (CreateResource d) o x y old new next sound a b = absurd a
+block_step_once setup budgets (FreeResource r) o x y old new next sound a b = absurd a
+block_step_once setup budgets (Statistics t) o x y old new next sound a b = absurd a
+block_step_once setup budgets (SetBudget t n) o x y old new next sound a b = absurd a
+block_step_once setup budgets (Budget t) o x y old new next sound a b = absurd a

@@ -1,4 +1,5 @@
 -- What a call for a resource came to: what the device holds beside the blocks then, and the step that it is.
+use Rattle.gpu_memory_types.specs.Budgets.{Budgets}
 use Rattle.std.proofs.Common.{◌≡◌, ◌∙◌, refl, sym, ap, length}
 use Rattle.gpu_device.specs.D3D12.{Held}
 use Rattle.gpu_device.specs.declared.d3d12.device.D3D12Device.{Ghosts}
@@ -20,17 +21,17 @@ module _ {D : Type 0} (g : Ghosts D) (before : State D) (S : Environment → Rep
     pub many : length slots ≡ length before.slots
     pub environment : Environment
     pub counts : CountsAndNames g (device_of before.device) environment to
-    pub step : (new : Contents) → new.slots ≡ slots → new.committed ≡ left → new.beside ≡ aside → S environment reply (contents_of g before) new
+    pub step : (new : Contents) → new.slots ≡ slots → new.budgets ≡ before.budgets → new.committed ≡ left → new.beside ≡ aside → S environment reply (contents_of g before) new
 
-  abbrev pub after : State D
-  after = record { device = with_device before.device to; first = before.first; setup = before.setup; slots = slots; committed = left }
+  abbrev pub after : Budgets → State D
+  after budgets = record { device = with_device before.device to; first = before.first; setup = before.setup; slots = slots; budgets = budgets; committed = left }
 
-  pub step_by : Outcome → IsStepBy g S reply before after
-  step_by o =
+  pub step_by : (budgets : Budgets) → budgets ≡ before.budgets → Outcome → IsStepBy g S reply before (after budgets)
+  step_by budgets same o =
       let is = device_with before.device to in
       record {
         environment = o.environment;
-        step = o.step (contents_of g after) refl refl (ap (λ d. beside (g.held d) slots) is ∙ beside_is before.setup.tier o.aside (g.held to) slots o.holds);
+        step = o.step (contents_of g (after budgets)) refl same refl (ap (λ d. beside (g.held d) slots) is ∙ beside_is before.setup.tier o.aside (g.held to) slots o.holds);
         counts = record {
           count = ap g.refused is ∙ o.counts.count;
           latest_heap = ap g.latest_heap is ∙ o.counts.latest_heap;

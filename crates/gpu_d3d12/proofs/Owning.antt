@@ -1,4 +1,5 @@
 -- Which allocations stay live: all of them as one is given, all others as one goes; and each is aligned when it is given.
+use Rattle.gpu_memory_types.specs.Budgets.{Budgets}
 use Rattle.std.proofs.Common.{◌≡◌, ◌∙◌, ℕ, ◌%◌, ◌<◌, refl, sym, ap, subst, true, false, Bool, length, Some, Ok, Err, Result, IfOk}
 use Rattle.std.specs.Int.NonZero.{non_zero_u64_get}
 use Rattle.gpu_core.specs.declared.memory_type.Piece.{Piece}
@@ -34,7 +35,7 @@ pub record Owns (old new : Slots) (alignment : ℕ) (result : Result Allocation 
   pub gives : IfOk result (λ a. IsLive new a × ((b : Allocation) → IsLive old b → AreDistinct b a))
   pub aligned : IfOk result (λ a. a.offset % alignment ≡ 0)
 
-module _ (setup : Setup) (d : AllocationCreateDesc) (t : ℕ) (old new : Slots) where
+module _ (setup : Setup) (budgets : Budgets) (d : AllocationCreateDesc) (t : ℕ) (old new : Slots) where
   answer_owns : (answer : Answer) (result : Result Allocation AllocationError) → KeepsPieces is_same_heap t old new answer
       → ((p : Piece ID3D12Heap) → answer ≡ Gave p → p.offset % d.alignment ≡ 0) → Answers t d result answer → Owns old new d.alignment result
   answer_owns (Gave p) (Ok a) k fits given =
@@ -55,11 +56,11 @@ module _ (setup : Setup) (d : AllocationCreateDesc) (t : ℕ) (old new : Slots) 
   answer_owns (Refused r) (Err e) k fits given = record { keeps = λ b live. k.keeps b.memory_type_index (piece_of b) live; gives = tt; aligned = tt }
 
   pub attempt_owns : {D : Type 0} (g : Ghosts D) (device : D) (result : Result Allocation AllocationError) (after : D) → t < length old → BlocksWellFormed 1 old → BlocksWellFormed 1 new
-      → IsAttempt g setup t d old device result new after → Owns old new d.alignment result
+      → IsAttempt g setup budgets t d old device result new after → Owns old new d.alignment result
   attempt_owns g device result after below sound sound_after a =
       answer_owns a.answer result
-      (allocates_keeps is_same_heap same_heap (request_at setup t d) old below sound a.environment.host (asked_block a.environment.asked) a.answer new a.allocates sound_after)
-      (λ p is. allocates_aligned (request_at setup t d) old a.environment.host (asked_block a.environment.asked) p new (rw is at a.allocates))
+      (allocates_keeps is_same_heap same_heap (request_at setup budgets t d) old below sound a.environment.host (asked_block a.environment.asked) a.answer new a.allocates sound_after)
+      (λ p is. allocates_aligned (request_at setup budgets t d) old a.environment.host (asked_block a.environment.asked) p new (rw is at a.allocates))
       a.answers
 
 -- ---- an allocation
@@ -68,13 +69,13 @@ refused_owns : (old new : Slots) (alignment : ℕ) (result : Result Allocation A
 refused_owns old new alignment (Ok a) r is same = absurd (none_some r is)
 refused_owns old new alignment (Err e) r is same = record { keeps = λ b live. subst (λ (ss : Slots). IsLive ss b) (sym same) live; gives = tt; aligned = tt }
 
-module _ {D : Type 0} (g : Ghosts D) (setup : Setup) (d : AllocationCreateDesc) (old new : Slots) (many : length old ≡ length (memory_kinds setup.tier)) (sound : BlocksWellFormed 1 old)
+module _ {D : Type 0} (g : Ghosts D) (setup : Setup) (budgets : Budgets) (d : AllocationCreateDesc) (old new : Slots) (many : length old ≡ length (memory_kinds setup.tier)) (sound : BlocksWellFormed 1 old)
     (sound_after : BlocksWellFormed 1 new) where
-  owns_by : (device : D) (result : Result Allocation AllocationError) (after : D) (valid : Bool) → AllocatesBy g setup d valid old device result new after → Owns old new d.alignment result
-  owns_by device result after true s = attempt_owns setup d s.memory_type old new g device result after (first_below setup d old many s.memory_type s.first) sound sound_after s.attempt
+  owns_by : (device : D) (result : Result Allocation AllocationError) (after : D) (valid : Bool) → AllocatesBy g setup budgets d valid old device result new after → Owns old new d.alignment result
+  owns_by device result after true s = attempt_owns setup budgets d s.memory_type old new g device result after (first_below setup d old many s.memory_type s.first) sound sound_after s.attempt
   owns_by device result after false s = refused_owns old new d.alignment result _ s.cause s.slots
 
-  pub allocated_owns : (device : D) (result : Result Allocation AllocationError) (after : D) → Allocates g setup d old device result new after → Owns old new d.alignment result
+  pub allocated_owns : (device : D) (result : Result Allocation AllocationError) (after : D) → Allocates g setup budgets d old device result new after → Owns old new d.alignment result
   allocated_owns device result after s = owns_by device result after (is_valid d) s
 
 -- ---- a free

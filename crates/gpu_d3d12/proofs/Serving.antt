@@ -1,4 +1,5 @@
 -- What an attempt leaves of what the device holds.
+use Rattle.gpu_memory_types.specs.Budgets.{Budgets}
 use Rattle.std.proofs.Common.{◌≡◌, ◌∙◌, sym, ap, subst, ℕ, ◌<◌, zero, suc, true, false, Bool, List, [], ◌∷◌, slice_get, arith, length, Option, Some, None, Result}
 use Rattle.std.specs.Prelude.{IsSomeAnd}
 use Rattle.std.specs.FinMap.{get}
@@ -25,7 +26,7 @@ some_and : {A : Type 0} (o : Option A) (P Q : A → Type 0) → ((x : A) → P x
 some_and None P Q f h = absurd h
 some_and (Some x) P Q f h = f x h
 
-module _ {D : Type 0} (g : Ghosts D) (setup : Setup) (t : ℕ) where
+module _ {D : Type 0} (g : Ghosts D) (setup : Setup) (budgets : Budgets) (t : ℕ) where
   entry_of : (desc : HeapDesc) (x : Option Entry) → x ≡ Some (Heap desc) → IsSomeAnd (kind_at setup.tier t) (λ k. desc ≡ heap_desc k desc.size) → IsEntryOf (IsBlockEntry setup.tier) t desc.size x
   entry_of desc x is told =
       subst (IsEntryOf (IsBlockEntry setup.tier) t desc.size) (sym is)
@@ -54,11 +55,11 @@ module _ {D : Type 0} (g : Ghosts D) (setup : Setup) (t : ℕ) where
 
   -- an attempt
   pub attempt_holds : (d : AllocationCreateDesc) (first : Held) (old : Slots) → t < length old → (device : D) (result : Result Allocation AllocationError) (new : Slots) (after : D)
-      → IsAttempt g setup t d old device result new after → HoldsJustLiveBlocks setup.tier first (g.held device) old
+      → IsAttempt g setup budgets t d old device result new after → HoldsJustLiveBlocks setup.tier first (g.held device) old
       → HoldsJustLiveBlocks setup.tier first (g.held after) new × (g.properties after ≡ g.properties device) × (length new ≡ length old)
   attempt_holds d first old below device result new after a h =
       let o = a.environment.asked in (
-        allocates_holds heap_number (IsBlockEntry setup.tier) first (request_at setup t d) old below a.environment.host (asked_block o) a.answer new (g.held device) (g.held after)
+        allocates_holds heap_number (IsBlockEntry setup.tier) first (request_at setup budgets t d) old below a.environment.host (asked_block o) a.answer new (g.held device) (g.held after)
             a.allocates (asked_holds o device after a.asked_for a.asked) h,
         after_constant o device after a.asked,
         ap length a.allocates.slots ∙ length-set old t a.allocates.left,
@@ -78,27 +79,27 @@ first_below setup d old many t first =
     let below = there (memory_kinds setup.tier) t (λ k. Serves d.location d.resource_category k) first.serves in
     omega (arith, below, many)
 
-module _ {D : Type 0} (g : Ghosts D) (setup : Setup) (d : AllocationCreateDesc) (aside : Held) (old : Slots) (many : length old ≡ length (memory_kinds setup.tier)) where
-  held_by : (device : D) (result : Result Allocation AllocationError) (new : Slots) (after : D) (valid : Bool) → AllocatesBy g setup d valid old device result new after
+module _ {D : Type 0} (g : Ghosts D) (setup : Setup) (budgets : Budgets) (d : AllocationCreateDesc) (aside : Held) (old : Slots) (many : length old ≡ length (memory_kinds setup.tier)) where
+  held_by : (device : D) (result : Result Allocation AllocationError) (new : Slots) (after : D) (valid : Bool) → AllocatesBy g setup budgets d valid old device result new after
       → HoldsJustLiveBlocks setup.tier aside (g.held device) old
       → HoldsJustLiveBlocks setup.tier aside (g.held after) new × (g.properties after ≡ g.properties device) × (length new ≡ length old)
-  held_by device result new after true s h = attempt_holds g setup s.memory_type d aside old (first_below setup d old many s.memory_type s.first) device result new after s.attempt h
+  held_by device result new after true s h = attempt_holds g setup budgets s.memory_type d aside old (first_below setup d old many s.memory_type s.first) device result new after s.attempt h
   held_by device result new after false s h = (
     subst (λ (ss : Slots). HoldsJustLiveBlocks setup.tier aside (g.held after) ss) (sym s.slots) (subst (λ k. HoldsJustLiveBlocks setup.tier aside k old) (sym (ap g.held s.device_is)) h),
     ap g.properties s.device_is,
     ap length s.slots,
   )
 
-  pub allocated_holds : (device : D) (result : Result Allocation AllocationError) (new : Slots) (after : D) → Allocates g setup d old device result new after
+  pub allocated_holds : (device : D) (result : Result Allocation AllocationError) (new : Slots) (after : D) → Allocates g setup budgets d old device result new after
       → HoldsJustLiveBlocks setup.tier aside (g.held device) old
       → HoldsJustLiveBlocks setup.tier aside (g.held after) new × (g.properties after ≡ g.properties device) × (length new ≡ length old)
   allocated_holds device result new after s h = held_by device result new after (is_valid d) s h
 
 -- an allocation leaves what the device tells of itself
-module _ {D : Type 0} (g : Ghosts D) (setup : Setup) (d : AllocationCreateDesc) (old : Slots) (device : D) (result : Result Allocation AllocationError) (new : Slots) (after : D) where
-  constant_by : (valid : Bool) → AllocatesBy g setup d valid old device result new after → g.properties after ≡ g.properties device
-  constant_by true s = after_constant g setup s.memory_type s.attempt.environment.asked device after s.attempt.asked
+module _ {D : Type 0} (g : Ghosts D) (setup : Setup) (budgets : Budgets) (d : AllocationCreateDesc) (old : Slots) (device : D) (result : Result Allocation AllocationError) (new : Slots) (after : D) where
+  constant_by : (valid : Bool) → AllocatesBy g setup budgets d valid old device result new after → g.properties after ≡ g.properties device
+  constant_by true s = after_constant g setup budgets s.memory_type s.attempt.environment.asked device after s.attempt.asked
   constant_by false s = ap g.properties s.device_is
 
-  pub allocated_constant : Allocates g setup d old device result new after → g.properties after ≡ g.properties device
+  pub allocated_constant : Allocates g setup budgets d old device result new after → g.properties after ≡ g.properties device
   allocated_constant s = constant_by (is_valid d) s

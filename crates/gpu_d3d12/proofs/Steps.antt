@@ -1,4 +1,5 @@
 -- The calls of an allocator are steps of the model.
+use Rattle.gpu_memory_types.specs.Budgets.{Budgets}
 use Rattle.std.proofs.Common.{◌≡◌, ◌∙◌, ℕ, refl, sym, ap, subst, Bool, true, false, List, map, Option, Some, None, Ok, Err, Result, ⊎_elim, IfOk, IfErr, inl, inr}
 use Rattle.std.specs.Prelude.{string_bytes, Vec, String}
 use Rattle.std.specs.Global.{Global}
@@ -68,15 +69,16 @@ module _ {D : Type 0} (g : Ghosts D) where
 
   -- the call changed the blocks alone
   pub record Alone (old new : State D) : Type 0 where
+    pub budgets : new.budgets ≡ old.budgets
     pub committed : new.committed ≡ old.committed
     pub beside : beside_of g new ≡ beside_of g old
     pub version : new.device ≡ with_device old.device (device_of new.device)
 
   pub alone : (e : AttemptEnvironment) (old new : State D) → Alone old new → ChangesBlocks (met e) (contents_of g old) (contents_of g new)
-  alone e old new h = record { no_resource = refl; committed = h.committed; beside = h.beside }
+  alone e old new h = record { no_resource = refl; budgets = h.budgets; committed = h.committed; beside = h.beside }
 
   pub same_alone : (s : State D) → Alone s s
-  same_alone s = record { committed = refl; beside = refl; version = same_device s.device }
+  same_alone s = record { budgets = refl; committed = refl; beside = refl; version = same_device s.device }
 
   -- ---- an allocation
 
@@ -91,42 +93,42 @@ module _ {D : Type 0} (g : Ghosts D) where
   refused_replies d (Err e) r is = some_same (refusal_of e) r is
 
   -- what an allocation is as a step on the slots, and what it makes of the device
-  pub record Taken (setup : Setup) (d : AllocationCreateDesc) (old : Slots) (device : D) (result : Result Allocation AllocationError) (new : Slots) (after : D) : Type 0 where
+  pub record Taken (setup : Setup) (budgets : Budgets) (d : AllocationCreateDesc) (old : Slots) (device : D) (result : Result Allocation AllocationError) (new : Slots) (after : D) : Type 0 where
     pub environment : AttemptEnvironment
     pub reply : Reply
-    pub step : AllocateStep setup d (is_valid d) environment reply old new
+    pub step : AllocateStep setup budgets d (is_valid d) environment reply old new
     pub counts : CountsAndNames g device (met environment) after
     pub replies : Replies d result reply
 
-  taken_by : (setup : Setup) (d : AllocationCreateDesc) (old : Slots) (device : D) (result : Result Allocation AllocationError) (new : Slots) (after : D) (valid : Bool) → is_valid d ≡ valid
-      → AllocatesBy g setup d valid old device result new after → Taken setup d old device result new after
-  taken_by setup d old device result new after true is s =
+  taken_by : (setup : Setup) (budgets : Budgets) (d : AllocationCreateDesc) (old : Slots) (device : D) (result : Result Allocation AllocationError) (new : Slots) (after : D) (valid : Bool) → is_valid d ≡ valid
+      → AllocatesBy g setup budgets d valid old device result new after → Taken setup budgets d old device result new after
+  taken_by setup budgets d old device result new after true is s =
       let a = s.attempt in
-      let serves : ServeStep setup d a.environment (reply_of s.memory_type a.answer) old new =
+      let serves : ServeStep setup budgets d a.environment (reply_of s.memory_type a.answer) old new =
       record { memory_type = s.memory_type; first = s.first; answer = a.answer; allocates = a.allocates; asked_for = a.asked_for; reply_is = refl } in
       record {
         environment = a.environment;
         reply = reply_of s.memory_type a.answer;
-        step = subst (λ v. AllocateStep setup d v a.environment (reply_of s.memory_type a.answer) old new) (sym is) serves;
+        step = subst (λ v. AllocateStep setup budgets d v a.environment (reply_of s.memory_type a.answer) old new) (sym is) serves;
         counts = counts_after a.environment.host a.environment.asked device after a.asked;
         replies = replies_of s.memory_type d result a.answer a.answers;
       }
-  taken_by setup d old device result new after false is s = record {
+  taken_by setup budgets d old device result new after false is s = record {
     environment = nothing_met;
     reply = Fails invalid_allocation_create_desc;
-    step = subst (λ v. AllocateStep setup d v nothing_met (Fails invalid_allocation_create_desc) old new) (sym is) (refl, refl, s.slots);
+    step = subst (λ v. AllocateStep setup budgets d v nothing_met (Fails invalid_allocation_create_desc) old new) (sym is) (refl, refl, s.slots);
     counts = counts_same true device after s.device_is;
     replies = refused_replies d result invalid_allocation_create_desc s.cause;
   }
 
-  pub taken : (setup : Setup) (d : AllocationCreateDesc) (old : Slots) (device : D) (result : Result Allocation AllocationError) (new : Slots) (after : D)
-      → Allocates g setup d old device result new after → Taken setup d old device result new after
-  taken setup d old device result new after s = taken_by setup d old device result new after (is_valid d) refl s
+  pub taken : (setup : Setup) (budgets : Budgets) (d : AllocationCreateDesc) (old : Slots) (device : D) (result : Result Allocation AllocationError) (new : Slots) (after : D)
+      → Allocates g setup budgets d old device result new after → Taken setup budgets d old device result new after
+  taken setup budgets d old device result new after s = taken_by setup budgets d old device result new after (is_valid d) refl s
 
   pub allocated_step : (d : AllocationCreateDesc) (old new : State D) (result : Result Allocation AllocationError)
-      → Allocates g old.setup d old.slots (device_of old.device) result new.slots (device_of new.device) → Alone old new → IsAllocateStep g d result old new
+      → Allocates g old.setup old.budgets d old.slots (device_of old.device) result new.slots (device_of new.device) → Alone old new → IsAllocateStep g d result old new
   allocated_step d old new result s h =
-      let t = taken old.setup d old.slots (device_of old.device) result new.slots (device_of new.device) s in
+      let t = taken old.setup old.budgets d old.slots (device_of old.device) result new.slots (device_of new.device) s in
       record {
         reply = t.reply;
         step = record { environment = met t.environment; step = (alone t.environment old new h, t.step); counts = t.counts; same_version = h.version };

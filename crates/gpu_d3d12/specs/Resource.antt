@@ -1,4 +1,5 @@
 -- A resource, as its owner holds it, and what asking for one comes to.
+use Rattle.gpu_memory_types.specs.Budgets.{Budgets}
 use Rattle.std.specs.Prelude.{◌≡◌, ℕ, Option, Some, None, Result, Ok, Err}
 use Rattle.gpu_values.specs.Refusal.{Refusal, refusal_of, refusal_in}
 use Rattle.gpu_values.specs.declared.error.AllocationError.{AllocationError}
@@ -86,10 +87,10 @@ PlacesBy g question d size made (Err e) result mid device new after = (refusal_i
 PlacesBy g question d size made (Ok a) result mid device new after = IsPlacedAt g question d size made a result mid device new after
 
 -- a piece is allocated, and then the device asked for the resource; `made` is the size of the device's entry
-pub record IsPlaced {D : Type 0} (g : Ghosts D) (setup : Setup) (question : ResourceQuestion) (d : ResourceCreateDesc) (p : AllocationCreateDesc) (made : ℕ) (old : Slots) (device : D) (result : Result Resource AllocationError) (new : Slots) (after : D) : Type 0 where
+pub record IsPlaced {D : Type 0} (g : Ghosts D) (setup : Setup) (budgets : Budgets) (question : ResourceQuestion) (d : ResourceCreateDesc) (p : AllocationCreateDesc) (made : ℕ) (old : Slots) (device : D) (result : Result Resource AllocationError) (new : Slots) (after : D) : Type 0 where
   pub taken : Result Allocation AllocationError
   pub mid : Slots
   pub sound : BlocksWellFormed 1 mid
   pub between : D
-  pub allocates : Allocates g setup p old device taken mid between
+  pub allocates : Allocates g setup budgets p old device taken mid between
   pub places : PlacesBy g question d p.size made taken result mid between new after

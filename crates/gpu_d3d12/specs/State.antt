@@ -1,4 +1,5 @@
 -- What callers see of an allocator.
+use Rattle.gpu_memory_types.specs.Budgets.{Budgets}
 use Rattle.std.specs.Prelude.{◌≡◌, ◌^◌, ◌<◌, List, length, Ok}
 use Rattle.gpu_device.specs.D3D12.{Held, Properties}
 use Rattle.gpu_device.specs.declared.d3d12.device.D3D12Device.{Ghosts}
@@ -11,26 +12,28 @@ use Rattle.gpu_memory_types.specs.Blocks.{total_capacity, BlocksWellFormed}
 use Rattle.gpu_d3d12_blocks.specs.Blocks.{Slots, HoldsJustLiveBlocks, beside}
 use Rattle.gpu_d3d12_blocks.specs.Committed.{Committed}
 
--- the device, what it was when it was handed in, what the allocator is made with, the blocks, and the committed resources
+-- the device, what it was when it was handed in, what the allocator is made with, the blocks, the budgets of the memory types, and the committed resources
 pub record State (D : Type 0) : Type 0 where
   pub device : ID3D12DeviceVersion D
   pub first : ID3D12DeviceVersion D
   pub setup : Setup
   pub slots : Slots
+  pub budgets : Budgets
   pub committed : Committed
 
 -- what the device holds beside the live blocks
 abbrev pub beside_of : {D : Type 0} → Ghosts D → State D → Held
 beside_of g s = beside (g.held (device_of s.device)) s.slots
 
--- what calls change: the blocks, the committed resources by memory type, and what the device holds beside the blocks
+-- what calls change: the blocks, the budgets of the memory types, the committed resources by memory type, and what the device holds beside the blocks
 pub record Contents : Type 0 where
   pub slots : Slots
+  pub budgets : Budgets
   pub committed : Committed
   pub beside : Held
 
 abbrev pub contents_of : {D : Type 0} → Ghosts D → State D → Contents
-contents_of g s = record { slots = s.slots; committed = s.committed; beside = beside_of g s }
+contents_of g s = record { slots = s.slots; budgets = s.budgets; committed = s.committed; beside = beside_of g s }
 
 -- the newest interface of a device, without the device
 abbrev pub interface_of : {D : Type 0} → ID3D12DeviceVersion D → ID3D12DeviceVersion (Unit {0})

@@ -1,4 +1,5 @@
 -- An allocator as a model: what each call makes of its contents, and what it answers, given what it met with.
+use Rattle.gpu_memory_types.specs.Budgets.{Budgets, budget_at, SetsBudget}
 use Rattle.std.specs.Prelude.{◌≡◌, ◌≢◌, ◌⊎◌, ℕ, Vec, String, Bool, true, false, List, map, IsTrue, string_bytes, Option, Some, None, Result, Ok, Err}
 use Rattle.std.specs.Global.{Global}
 use Rattle.std.specs.List.{slice_set}
@@ -62,6 +63,8 @@ pub data Call : Type 0 where
   CreateResource : (d : ResourceCreateDesc) → Call
   FreeResource : (r : Resource) → Call
   Statistics : (t : ℕ) → Call
+  SetBudget : (t : ℕ) (budget : Option ℕ) → Call
+  Budget : (t : ℕ) → Call
 
 pub data Reply : Type 0 where
   -- a piece of the t-th memory type
@@ -74,6 +77,7 @@ pub data Reply : Type 0 where
   -- a resource of the t-th memory type: in this piece where it is placed, under this number, and of this size
   Made : (t : ℕ) (piece : Option (Piece ID3D12Heap)) (number size : ℕ) → Reply
   Counts : (statistics : Option CommittedAllocationStatistics) → Reply
+  Budgeted : (budget : Option ℕ) → Reply
 
 -- ---- what a call meets with
 
@@ -102,17 +106,17 @@ reply_of t (Gave p) = Given t p
 reply_of t (Refused r) = Fails r
 
 -- the first memory type that serves the location and the category allocates it or refuses it
-pub record ServeStep (setup : Setup) (d : AllocationCreateDesc) (o : AttemptEnvironment) (reply : Reply) (old new : Slots) : Type 0 where
+pub record ServeStep (setup : Setup) (budgets : Budgets) (d : AllocationCreateDesc) (o : AttemptEnvironment) (reply : Reply) (old new : Slots) : Type 0 where
   pub memory_type : ℕ
   pub first : IsFirstServing d.location d.resource_category (memory_kinds setup.tier) memory_type
   pub answer : Answer
-  pub allocates : AllocatesInType (request_at setup memory_type d) old o.host (asked_block o.asked) answer new
+  pub allocates : AllocatesInType (request_at setup budgets memory_type d) old o.host (asked_block o.asked) answer new
   pub asked_for : IsAskedFor setup memory_type o.asked
   pub reply_is : reply ≡ reply_of memory_type answer
 
-abbrev pub AllocateStep : Setup → AllocationCreateDesc → (valid : Bool) → AttemptEnvironment → Reply → Slots → Slots → Type 0
-AllocateStep setup d false o reply old new = (o ≡ nothing_met) × (reply ≡ Fails invalid_allocation_create_desc) × (new ≡ old)
-AllocateStep setup d true o reply old new = ServeStep setup d o reply old new
+abbrev pub AllocateStep : Setup → Budgets → AllocationCreateDesc → (valid : Bool) → AttemptEnvironment → Reply → Slots → Slots → Type 0
+AllocateStep setup budgets d false o reply old new = (o ≡ nothing_met) × (reply ≡ Fails invalid_allocation_create_desc) × (new ≡ old)
+AllocateStep setup budgets d true o reply old new = ServeStep setup budgets d o reply old new
 
 -- ---- a free
 
@@ -190,6 +194,7 @@ pub record CommitStep (basis : Basis) (d : ResourceCreateDesc) (question : Resou
   pub asked_with : IsAskedWith question d o.resource
   pub reply_is : reply ≡ made_reply memory_type None (info_of basis d).size_in_bytes number
   pub slots : new.slots ≡ old.slots
+  pub budgets : new.budgets ≡ old.budgets
   pub committed : new.committed ≡ slice_set old.committed memory_type left
   pub beside : new.beside ≡ with_granted old.beside (granted_number (resource_answer o.resource)) (entries.Committed (size_made basis question d))
 
@@ -212,8 +217,9 @@ pub record PlaceStep (basis : Basis) (d : ResourceCreateDesc) (question : Resour
   pub taken : Reply
   pub mid : Slots
   pub sound : BlocksWellFormed 1 mid
-  pub allocates : AllocateStep basis.setup (piece_desc d (info_of basis d)) (is_valid (piece_desc d (info_of basis d))) o.attempt taken old.slots mid
+  pub allocates : AllocateStep basis.setup old.budgets (piece_desc d (info_of basis d)) (is_valid (piece_desc d (info_of basis d))) o.attempt taken old.slots mid
   pub places : PlacesThen basis d question taken o.resource reply mid new.slots old.beside new.beside
+  pub budgets : new.budgets ≡ old.budgets
   pub committed : new.committed ≡ old.committed
 
 abbrev pub MakesBy : Basis → ResourceCreateDesc → ResourceQuestion → ResourceType → Environment → Reply → Contents → Contents → Type 0
@@ -249,38 +255,53 @@ FreeResourceStep None r reply old new =
 -- a call that asks for no resource, and changes the blocks alone
 pub record ChangesBlocks (o : Environment) (old new : Contents) : Type 0 where
   pub no_resource : o.resource ≡ None
+  pub budgets : new.budgets ≡ old.budgets
   pub committed : new.committed ≡ old.committed
   pub beside : new.beside ≡ old.beside
 
 -- a call on the blocks alone
-abbrev pub BlockStep : Setup → Call → AttemptEnvironment → Reply → Slots → Slots → Type 0
-BlockStep setup (Allocate d) o reply old new = AllocateStep setup d (is_valid d) o reply old new
-BlockStep setup (Free a) o reply old new = (o ≡ nothing_met) × FreeStep a.memory_type_index (piece_of a) reply old new
-BlockStep setup (Rename a name) o reply old new = (o.asked ≡ None) × RenameStep a.memory_type_index (piece_of a) name o.host reply old new
-BlockStep setup Report o reply old new = (o.asked ≡ None) × ReportStep o.host reply old new
-BlockStep setup Leaks o reply old new = (o.asked ≡ None) × LeaksStep o.host reply old new
-BlockStep setup Capacity o (Sum n) old new = (o ≡ nothing_met) × (n ≡ total_capacity old) × (new ≡ old)
-BlockStep setup Capacity o _ old new = ⊥
-BlockStep setup (CreateResource d) o reply old new = ⊥
-BlockStep setup (FreeResource r) o reply old new = ⊥
-BlockStep setup (Statistics t) o reply old new = ⊥
+abbrev pub BlockStep : Setup → Budgets → Call → AttemptEnvironment → Reply → Slots → Slots → Type 0
+BlockStep setup budgets (Allocate d) o reply old new = AllocateStep setup budgets d (is_valid d) o reply old new
+BlockStep setup budgets (Free a) o reply old new = (o ≡ nothing_met) × FreeStep a.memory_type_index (piece_of a) reply old new
+BlockStep setup budgets (Rename a name) o reply old new = (o.asked ≡ None) × RenameStep a.memory_type_index (piece_of a) name o.host reply old new
+BlockStep setup budgets Report o reply old new = (o.asked ≡ None) × ReportStep o.host reply old new
+BlockStep setup budgets Leaks o reply old new = (o.asked ≡ None) × LeaksStep o.host reply old new
+BlockStep setup budgets Capacity o (Sum n) old new = (o ≡ nothing_met) × (n ≡ total_capacity old) × (new ≡ old)
+BlockStep setup budgets Capacity o _ old new = ⊥
+BlockStep setup budgets (CreateResource d) o reply old new = ⊥
+BlockStep setup budgets (FreeResource r) o reply old new = ⊥
+BlockStep setup budgets (Statistics t) o reply old new = ⊥
+BlockStep setup budgets (SetBudget t budget) o reply old new = ⊥
+BlockStep setup budgets (Budget t) o reply old new = ⊥
 
 abbrev pub StatisticsStep : (t : ℕ) → Reply → Contents → Contents → Type 0
 StatisticsStep t (Counts s) old new = (s ≡ statistics_at old.committed t) × (new ≡ old)
 StatisticsStep t _ old new = ⊥
 
+-- a budget is set, where its memory type is there, and nothing else changes
+abbrev pub SetBudgetStep : (t : ℕ) → (budget : Option ℕ) → Reply → Contents → Contents → Type 0
+SetBudgetStep t budget Done old new = SetsBudget t budget old.budgets None new.budgets × (new.slots ≡ old.slots) × (new.committed ≡ old.committed) × (new.beside ≡ old.beside)
+SetBudgetStep t budget (Fails r) old new = SetsBudget t budget old.budgets (Some r) new.budgets × (new.slots ≡ old.slots) × (new.committed ≡ old.committed) × (new.beside ≡ old.beside)
+SetBudgetStep t budget _ old new = ⊥
+
+abbrev pub BudgetStep : (t : ℕ) → Reply → Contents → Contents → Type 0
+BudgetStep t (Budgeted b) old new = (b ≡ budget_at old.budgets t) × (new ≡ old)
+BudgetStep t _ old new = ⊥
+
 -- from old, the call may give this reply and leave new, where it meets with this
 abbrev pub Step : Basis → Call → Environment → Reply → Contents → Contents → Type 0
 Step basis (CreateResource d) o reply old new =
     CreateBy basis d (resource_question basis.interface d.initial_state_or_layout d.castable_formats.now) o reply old new
-Step basis (FreeResource r) o reply old new = (o ≡ nothing_at_all) × FreeResourceStep r.allocation r reply old new
+Step basis (FreeResource r) o reply old new = (o ≡ nothing_at_all) × (new.budgets ≡ old.budgets) × FreeResourceStep r.allocation r reply old new
 Step basis (Statistics t) o reply old new = (o ≡ nothing_at_all) × StatisticsStep t reply old new
-Step basis (Allocate d) o reply old new = ChangesBlocks o old new × BlockStep basis.setup (Allocate d) o.attempt reply old.slots new.slots
-Step basis (Free a) o reply old new = ChangesBlocks o old new × BlockStep basis.setup (Free a) o.attempt reply old.slots new.slots
-Step basis (Rename a name) o reply old new = ChangesBlocks o old new × BlockStep basis.setup (Rename a name) o.attempt reply old.slots new.slots
-Step basis Capacity o reply old new = ChangesBlocks o old new × BlockStep basis.setup Capacity o.attempt reply old.slots new.slots
-Step basis Report o reply old new = ChangesBlocks o old new × BlockStep basis.setup Report o.attempt reply old.slots new.slots
-Step basis Leaks o reply old new = ChangesBlocks o old new × BlockStep basis.setup Leaks o.attempt reply old.slots new.slots
+Step basis (SetBudget t budget) o reply old new = (o ≡ nothing_at_all) × SetBudgetStep t budget reply old new
+Step basis (Budget t) o reply old new = (o ≡ nothing_at_all) × BudgetStep t reply old new
+Step basis (Allocate d) o reply old new = ChangesBlocks o old new × BlockStep basis.setup old.budgets (Allocate d) o.attempt reply old.slots new.slots
+Step basis (Free a) o reply old new = ChangesBlocks o old new × BlockStep basis.setup old.budgets (Free a) o.attempt reply old.slots new.slots
+Step basis (Rename a name) o reply old new = ChangesBlocks o old new × BlockStep basis.setup old.budgets (Rename a name) o.attempt reply old.slots new.slots
+Step basis Capacity o reply old new = ChangesBlocks o old new × BlockStep basis.setup old.budgets Capacity o.attempt reply old.slots new.slots
+Step basis Report o reply old new = ChangesBlocks o old new × BlockStep basis.setup old.budgets Report o.attempt reply old.slots new.slots
+Step basis Leaks o reply old new = ChangesBlocks o old new × BlockStep basis.setup old.budgets Leaks o.attempt reply old.slots new.slots
 
 -- ---- over a device
 

@@ -1,12 +1,13 @@
 //! The allocator: blocks of heaps by memory type, and the calls that share them out.
 
-ghost use Rattle.std.specs.Prelude.{◌≡◌, ◌↔◌, [], All, map, string_bytes, Some, Ok, IfOk, IfErr, IsTrue, length, ◌%◌};
+ghost use Rattle.std.specs.Prelude.{◌≡◌, ◌↔◌, [], All, map, string_bytes, Some, Ok, IfOk, IfErr, IsTrue, length, ◌%◌, None};
 ghost use Rattle.std.specs.Option.{unwrap_or};
-ghost use Rattle.gpu_values.specs.Refusal.{refusal_of, host_out_of_memory};
+ghost use Rattle.gpu_values.specs.Refusal.{refusal_of, refusal_in, host_out_of_memory};
 ghost use Rattle.gpu_values.specs.Report.{report_of};
 ghost use Rattle.gpu_values.specs.declared.error.AllocationError.TheVariants.{HostOutOfMemory};
 ghost use Rattle.gpu_block.specs.Leak.{leak_text};
 ghost use Rattle.gpu_memory_types.specs.Blocks.{total_capacity, BlocksWellFormed};
+ghost use Rattle.gpu_memory_types.specs.Budgets.{budget_at, SetsBudget};
 ghost use Rattle.gpu_memory_types.specs.Leaks.{all_leaks};
 ghost use Rattle.gpu_memory_types.specs.Reports.{whole_report};
 ghost use Rattle.gpu_d3d12_setup.specs.DeviceVersion.{device_of, with_device};
@@ -21,7 +22,7 @@ ghost use Rattle.gpu_d3d12_blocks.specs.Release.{AsksNothing};
 ghost use Rattle.gpu_d3d12.specs.Live.{IsLive, AreDistinct, StayLive};
 ghost use Rattle.gpu_d3d12.specs.Rename.{Renames};
 ghost use Rattle.gpu_d3d12.specs.State.{basis_of, beside_of};
-ghost use Rattle.gpu_d3d12.specs.Step.{IsMadeBy, IsCreateStep, CommitStep, PlaceStep, FreeResource, Statistics, Counts, IsStep, IsAllocateStep, Free, Rename, Capacity, Report, Leaks, Sum, freed_as, renamed_as, shown_as, told_as};
+ghost use Rattle.gpu_d3d12.specs.Step.{IsMadeBy, IsCreateStep, CommitStep, PlaceStep, FreeResource, Statistics, SetBudget, Budget, Budgeted, Counts, IsStep, IsAllocateStep, Free, Rename, Capacity, Report, Leaks, Sum, freed_as, renamed_as, shown_as, told_as};
 ghost use Rattle.gpu_d3d12.specs.declared.allocation.Allocation.{Allocation};
 
 use crate::attempt::serve;
@@ -56,6 +57,7 @@ pub struct Allocator<D: D3D12Device> {
 
 impl<D: D3D12Device> Model for Allocator<D> {
     ghost use Rattle.std.specs.Prelude.{◌≡◌, length};
+    ghost use Rattle.gpu_memory_types.specs.Budgets.{budgets};
     ghost use Rattle.gpu_d3d12_blocks.specs.Blocks.{beside};
     ghost use Rattle.gpu_d3d12_setup.specs.DeviceVersion.{device_of, with_device};
     ghost use Rattle.gpu_d3d12_setup.specs.MemoryKinds.{memory_kinds};
@@ -65,7 +67,7 @@ impl<D: D3D12Device> Model for Allocator<D> {
 
     ghost Value = { State D };
 
-    ghost view = { λ a. record { device = a.device; first = a.first.value; setup = a.setup; slots = slots_of a.types; committed = a.committed } };
+    ghost view = { λ a. record { device = a.device; first = a.first.value; setup = a.setup; slots = slots_of a.types; budgets = budgets a.types; committed = a.committed } };
 
     ghost invariant = { λ a. (kinds a.types ≡ kinds_told a.setup.tier)
         × AllocatorInvariant (D.properties (device_of a.first.value)) (D.properties (device_of a.device))
@@ -87,6 +89,7 @@ impl<D: D3D12Device> Allocator<D> {
         ensures chosen { IfOk result (λ a. (a.setup.sizes ≡ desc.allocation_sizes) × (a.setup.debug ≡ desc.debug_settings)) }
         ensures empty { IfOk result (λ a. All (λ slots. slots ≡ []) a.slots) }
         ensures types { IfOk result (λ a. length a.slots ≡ length (memory_kinds a.setup.tier)) }
+        ensures budgets { IfOk result (λ a. All (λ b. b ≡ None) a.budgets) }
         ensures committed { IfOk result (λ a. (length a.committed ≡ length (memory_kinds a.setup.tier)) × All (λ records. records ≡ []) a.committed) }
         ensures beside { IfOk result (λ a. beside_of D.D3D12Device a ≡ D.held (device_of desc.device)) }
         ensures refused { IfErr result (λ e. e.1 ≡ desc.device) }
@@ -124,9 +127,10 @@ impl<D: D3D12Device> Allocator<D> {
 
     /// Takes a piece of a heap. `InvalidAllocationCreateDesc` where the size is 0 or the alignment isn't a power of two;
     /// `HostOutOfMemory`; `OutOfMemory` where a new block would carry the sum of all blocks' sizes past `u64::MAX` or the
-    /// device has no memory for it; `Internal` where it refuses for another cause. A refusal changes nothing.
+    /// device has no memory for it; `BudgetExceeded` where it would carry that of its memory type past its budget; `Internal`
+    /// where it refuses for another cause. A refusal changes nothing.
     pub fn allocate<L: Log>(&mut self, log: &L, desc: &AllocationCreateDesc) -> Result<Allocation>
-        ensures allocates { Allocates D.D3D12Device self.old.setup desc.now self.old.slots (device_of self.old.device) result self.new.slots (device_of self.new.device) }
+        ensures allocates { Allocates D.D3D12Device self.old.setup self.old.budgets desc.now self.old.slots (device_of self.old.device) result self.new.slots (device_of self.new.device) }
         ensures constant { (self.new.first ≡ self.old.first) × (self.new.setup ≡ self.old.setup) × (self.new.committed ≡ self.old.committed) }
         ensures step { IsAllocateStep D.D3D12Device desc.now result self.old self.new }
         ensures aligned { IfOk result (λ a. a.offset % desc.now.alignment ≡ 0) }
@@ -194,6 +198,25 @@ impl<D: D3D12Device> Allocator<D> {
             Ok(()) => Ok(()),
             Err(error) => Err((error, allocation)),
         }
+    }
+
+    /// Bounds the sum of the sizes of the blocks of a memory type, in bytes: a request that needs a new block beyond it is
+    /// refused with `BudgetExceeded`. Committed resources don't count. `None` takes the bound away; a budget below the present
+    /// sum gives no block back. `Internal` where there is no such memory type, and then nothing changes. It takes no memory.
+    pub fn set_budget(&mut self, memory_type: usize, budget: Option<u64>) -> Result<()>
+        ensures budgets { SetsBudget memory_type budget self.old.budgets (refusal_in result) self.new.budgets }
+        ensures others { self.new ≡ record self.old { budgets = self.new.budgets } }
+        ensures step { IsStep D.D3D12Device (SetBudget memory_type budget) (renamed_as result) self.old self.new }
+    {
+        self.types.set_budget(memory_type, budget)
+    }
+
+    /// The budget of a memory type, in bytes; `None` where it has none, or there is no such type.
+    pub fn budget(&self, memory_type: usize) -> Option<u64>
+        ensures budget { result ≡ budget_at self.now.budgets memory_type }
+        ensures step { IsStep D.D3D12Device (Budget memory_type) (Budgeted result) self.now self.now }
+    {
+        self.types.budget(memory_type)
     }
 
     /// Makes a committed resource by this question.

@@ -2,6 +2,7 @@
 
 ghost use Rattle.std.specs.Prelude.{◌≡◌, ◌<◌, length, IsTrue, string_bytes};
 ghost use Rattle.std.specs.Int.{is_power_of_two};
+ghost use Rattle.gpu_memory_types.specs.Budgets.{budgets};
 ghost use Rattle.gpu_memory_types.specs.Types.{slots_of, kinds, MemoryTypesInvariant};
 ghost use Rattle.gpu_d3d12_setup.specs.MemoryKinds.{memory_kinds};
 ghost use Rattle.gpu_d3d12_setup.specs.Setup.{kinds_told};
@@ -45,8 +46,9 @@ fn allocate_in_type<D: D3D12Device>(
     requires aligned { IsTrue (is_power_of_two desc.now.alignment) }
     requires there { index < length (memory_kinds setup.now.tier) }
     requires kinds { kinds types.old ≡ kinds_told setup.now.tier }
-    ensures attempts { IsAttempt D.D3D12Device setup.now index desc.now (slots_of types.old) device.old result (slots_of types.new) device.new }
+    ensures attempts { IsAttempt D.D3D12Device setup.now (budgets types.old) index desc.now (slots_of types.old) device.old result (slots_of types.new) device.new }
     ensures kinds { kinds types.new ≡ kinds types.old }
+    ensures budgets { budgets types.new ≡ budgets types.old }
     ensures kept { MemoryTypesInvariant types.old → MemoryTypesInvariant types.new }
 {
     let name = match String::from_str(alloc, desc.name) {
@@ -69,8 +71,9 @@ pub fn serve<D: D3D12Device>(
     desc: &AllocationCreateDesc,
 ) -> Result<Allocation>
     requires kinds { kinds types.old ≡ kinds_told setup.now.tier }
-    ensures allocates { Allocates D.D3D12Device setup.now desc.now (slots_of types.old) device.old result (slots_of types.new) device.new }
+    ensures allocates { Allocates D.D3D12Device setup.now (budgets types.old) desc.now (slots_of types.old) device.old result (slots_of types.new) device.new }
     ensures kinds { kinds types.new ≡ kinds types.old }
+    ensures budgets { budgets types.new ≡ budgets types.old }
     ensures kept { MemoryTypesInvariant types.old → MemoryTypesInvariant types.new }
 {
     if desc.size == 0 || !desc.alignment.is_power_of_two() {

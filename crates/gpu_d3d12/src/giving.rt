@@ -1,6 +1,7 @@
 //! Giving resources back.
 
 ghost use Rattle.std.specs.Prelude.{◌≡◌, length};
+ghost use Rattle.gpu_memory_types.specs.Budgets.{budgets};
 ghost use Rattle.gpu_memory_types.specs.Types.{slots_of, kinds, MemoryTypesInvariant};
 ghost use Rattle.gpu_d3d12.specs.FreeResource.{FreesPlaced, FreesResource};
 
@@ -23,6 +24,7 @@ fn free_placed<D: D3D12Device, L: Log>(
 ) -> Result<()>
     ensures frees { FreesPlaced D.D3D12Device allocation.now resource.0 (slots_of types.old) device.old result (slots_of types.new) device.new }
     ensures kinds { kinds types.new ≡ kinds types.old }
+    ensures budgets { budgets types.new ≡ budgets types.old }
     ensures kept { MemoryTypesInvariant types.new }
 {
     let piece = allocation.piece();
@@ -47,6 +49,7 @@ pub fn give_back<D: D3D12Device, L: Log>(
 ) -> Result<()>
     ensures frees { FreesResource D.D3D12Device resource.now.allocation resource.now (slots_of types.old) committed.old device.old result (slots_of types.new) committed.new device.new }
     ensures kinds { kinds types.new ≡ kinds types.old }
+    ensures budgets { budgets types.new ≡ budgets types.old }
     ensures kept { MemoryTypesInvariant types.old → MemoryTypesInvariant types.new }
     ensures many { length committed.new ≡ length committed.old }
 {

@@ -1,6 +1,7 @@
 //! Making resources: what is given for the device's, and a piece of a heap for a placed one.
 
 ghost use Rattle.std.specs.Prelude.{◌≡◌, None};
+ghost use Rattle.gpu_memory_types.specs.Budgets.{budgets};
 ghost use Rattle.gpu_memory_types.specs.Types.{slots_of, kinds, MemoryTypesInvariant};
 ghost use Rattle.gpu_d3d12_setup.specs.Question.{made_size};
 ghost use Rattle.gpu_d3d12_setup.specs.Setup.{kinds_told};
@@ -82,10 +83,11 @@ pub fn make_placed<D: D3D12Device>(
 ) -> Result<Resource>
     requires kinds { kinds types.old ≡ kinds_told setup.now.tier }
     requires kept { MemoryTypesInvariant types.old }
-    ensures placed { IsPlaced D.D3D12Device setup.now question desc.now asked.now
+    ensures placed { IsPlaced D.D3D12Device setup.now (budgets types.old) question desc.now asked.now
         (made_size (D.properties device.old) question desc.now.resource_desc.now desc.now.castable_formats.now)
         (slots_of types.old) device.old result (slots_of types.new) device.new }
     ensures kinds { kinds types.new ≡ kinds types.old }
+    ensures budgets { budgets types.new ≡ budgets types.old }
     ensures kept { MemoryTypesInvariant types.new }
 {
     let allocation = match serve(alloc, setup, device, types, asked) {

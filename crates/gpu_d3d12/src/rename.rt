@@ -5,6 +5,7 @@ ghost use Rattle.gpu_values.specs.declared.error.AllocationError.TheVariants.{Ho
 ghost use Rattle.gpu_values.specs.Refusal.{refusal_of};
 ghost use Rattle.gpu_memory_types.specs.Blocks.{slots_at};
 ghost use Rattle.gpu_memory_types.specs.Rename.{IsNotNamed, IsRenamed};
+ghost use Rattle.gpu_memory_types.specs.Budgets.{budgets};
 ghost use Rattle.gpu_memory_types.specs.Types.{slots_of, kinds, MemoryTypesInvariant};
 ghost use Rattle.gpu_d3d12_blocks.specs.Release.{is_same_heap, IsLiveIn};
 ghost use Rattle.gpu_d3d12.specs.Rename.{Renames};
@@ -49,6 +50,7 @@ fn rename_piece(
     ensures cause { IfErr result (λ e. IsNotNamed is_same_heap (slots_at (slots_of types.old) index) piece.now (refusal_of e)) }
     ensures refused { OnErr result (slots_of types.new ≡ slots_of types.old) }
     ensures kinds { kinds types.new ≡ kinds types.old }
+    ensures budgets { budgets types.new ≡ budgets types.old }
     ensures kept { MemoryTypesInvariant types.old → MemoryTypesInvariant types.new }
 {
     let own = name_for(alloc, types, index, piece, name)?;
@@ -68,6 +70,7 @@ pub fn rename(
 ) -> Result<()>
     ensures renames { Renames allocation.old name.now (slots_of types.old) result allocation.new (slots_of types.new) }
     ensures kinds { kinds types.new ≡ kinds types.old }
+    ensures budgets { budgets types.new ≡ budgets types.old }
     ensures kept { MemoryTypesInvariant types.old → MemoryTypesInvariant types.new }
 {
     let piece = allocation.piece();

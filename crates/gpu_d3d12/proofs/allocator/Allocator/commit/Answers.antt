@@ -1,3 +1,4 @@
+use Rattle.gpu_memory_types.specs.Budgets.{budgets}
 use Rattle.std.proofs.Common.{◌≡◌, ◌∙◌, refl, sym, ap, subst, length, None}
 use Rattle.std.proofs.lemmas.List.{length-set}
 use Rattle.gpu_device.specs.D3D12 as entries
@@ -15,7 +16,7 @@ use Rattle.gpu_d3d12.proofs.allocator.Allocator.commit.Goals as goal
 use Rattle.gpu_d3d12.proofs.allocator.Allocator.commit.Goals.{After-create, in-Err, in-Ok}
 
 abbrev before : (g : _) (c : After-create g) → State g.row.D.Denot
-before g c = (let i = c.self.inside in record { device = i.device; first = i.first.value; setup = i.setup; slots = slots_of i.types; committed = i.committed })
+before g c = (let i = c.self.inside in record { device = i.device; first = i.first.value; setup = i.setup; slots = slots_of i.types; budgets = budgets i.types; committed = i.committed })
 
 outcome : (g : _) (c : After-create g) → Outcome g.D.D3D12Device (before g c) (CommitStep (basis_of g.D.D3D12Device (before g c)) c.args.desc.now c.args.question) (made_reply c.type_for-index.result None c.allocation_info_of-size.result.size_in_bytes (resource_reply c.create.result)) (slots_of c.self.inside.types) c.create.new.self c.create.new.device
 outcome g c =
@@ -48,7 +49,7 @@ returns-clause-step g c =
     let size = c.allocation_info_of-size.result.size_in_bytes in
     let result = c.match-create.result in
     let at = (goal.at.returns-clause-step g c).After-create in
-    let then : State g.row.D.Denot = record { device = with_device i.device c.create.new.device; first = i.first.value; setup = i.setup; slots = slots_of i.types; committed = c.create.new.self } in
+    let then : State g.row.D.Denot = record { device = with_device i.device c.create.new.device; first = i.first.value; setup = i.setup; slots = slots_of i.types; budgets = budgets i.types; committed = c.create.new.self } in
     let told : RepliesResource d result (made_reply index None size (resource_reply c.create.result)) =
     elim c.match-create.branch [
       | in-Err w ↦ replies_err d index size result c.create.result w.in-Err.error w.result-is w.in-Err.is
@@ -59,6 +60,6 @@ returns-clause-step g c =
       reply = made_reply index None size (resource_reply c.create.result);
       step =
           step_by V (before g at) (CommitStep (basis_of V (before g at)) d c.args.question) (made_reply index None size (resource_reply c.create.result)) (slots_of i.types) c.create.new.self c.create.new.device
-          (outcome g at);
+          (budgets i.types) refl (outcome g at);
       replies = told;
     })

@@ -1,3 +1,4 @@
+use Rattle.gpu_memory_types.specs.Budgets.{budgets}
 use Rattle.std.proofs.Common.{rules, ◌≡◌, ◌∙◌, sym, ap, subst, refl, length, Some}
 use Rattle.gpu_memory_types.specs.Types.{slots_of}
 use Rattle.gpu_d3d12_setup.specs.DeviceVersion.{device_of, with_device}
@@ -55,14 +56,14 @@ returns-clause-step g c =
     let to = c.free_piece.new.device in
     let slots = slots_of c.free_piece.new.types in
     let result = c.match-free_piece.result in
-    let before : State g.row.D.Denot = record { device = i.device; first = i.first.value; setup = i.setup; slots = slots_of i.types; committed = i.committed } in
-    let then : State g.row.D.Denot = record { device = with_device i.device to; first = i.first.value; setup = i.setup; slots = slots; committed = i.committed } in
+    let before : State g.row.D.Denot = record { device = i.device; first = i.first.value; setup = i.setup; slots = slots_of i.types; budgets = budgets i.types; committed = i.committed } in
+    let then : State g.row.D.Denot = record { device = with_device i.device to; first = i.first.value; setup = i.setup; slots = slots; budgets = budgets c.free_piece.new.types; committed = i.committed } in
     let frees : Frees V c.args.allocation (slots_of i.types) c.device_mut-device.result.now result slots to = search rules in
     let here : Frees V c.args.allocation (slots_of i.types) (device_of i.device) result slots (device_of (with_device i.device to)) =
     subst (λ x. Frees V c.args.allocation (slots_of i.types) (device_of i.device) result slots x) (sym (device_with i.device to))
     (subst (λ x. Frees V c.args.allocation (slots_of i.types) x result slots to) c.device_mut-device.ensures.value frees) in
     subst (λ (s : State g.row.D.Denot). IsStep V (Free c.args.allocation) (freed_as result) s then) c.self.view_is
-    (free_step V before then c.args.allocation result here (alone_after V before slots to (holds g (goal.at.returns-clause-step g c).After-free_piece).0))
+    (free_step V before then c.args.allocation result here (alone_after V before slots to (budgets c.free_piece.new.types) c.free_piece.ensures.budgets (holds g (goal.at.returns-clause-step g c).After-free_piece).0))
 
 pub returns-clause-keeps : goal.returns-clause-keeps
 returns-clause-keeps g c = λ b live other.

@@ -1,3 +1,4 @@
+use Rattle.gpu_memory_types.specs.Budgets.{budgets}
 use Rattle.std.proofs.Common.{◌≡◌, ◌∙◌, refl, sym, ap, subst, length}
 use Rattle.gpu_memory_types.specs.Types.{slots_of}
 use Rattle.gpu_d3d12_setup.specs.DeviceVersion.{device_of, with_device}
@@ -11,7 +12,7 @@ use Rattle.gpu_d3d12.proofs.allocator.Allocator.free_resource.Goals as goal
 use Rattle.gpu_d3d12.proofs.allocator.Allocator.free_resource.Goals.{After-give_back, in-Ok+in-Some-1, in-Ok+in-None-1, in-Err}
 
 abbrev before : (g : _) (c : After-give_back g) → State g.row.D.Denot
-before g c = (let i = c.self.inside in record { device = i.device; first = i.first.value; setup = i.setup; slots = slots_of i.types; committed = i.committed })
+before g c = (let i = c.self.inside in record { device = i.device; first = i.first.value; setup = i.setup; slots = slots_of i.types; budgets = budgets i.types; committed = i.committed })
 
 outcome : (g : _) (c : After-give_back g) → Outcome g.D.D3D12Device (before g c) (Step (basis_of g.D.D3D12Device (before g c)) (FreeResource c.args.resource)) (renamed_as c.give_back.result) (slots_of c.give_back.new.types) c.give_back.new.committed c.give_back.new.device
 outcome g c =
@@ -36,7 +37,7 @@ returns-clause-step g c =
     let at = (goal.at.returns-clause-step g c).After-give_back in
     let slots = slots_of c.give_back.new.types in
     let result = c.match-give_back.result in
-    let then : State g.row.D.Denot = record { device = with_device i.device c.give_back.new.device; first = i.first.value; setup = i.setup; slots = slots; committed = c.give_back.new.committed } in
+    let then : State g.row.D.Denot = record { device = with_device i.device c.give_back.new.device; first = i.first.value; setup = i.setup; slots = slots; budgets = budgets c.give_back.new.types; committed = c.give_back.new.committed } in
     let same : freed_as result ≡ renamed_as c.give_back.result =
     elim c.match-give_back.branch [
       | in-Ok+in-Some-1 w ↦ same_reply_ok result c.give_back.result _ _ w.result-is w.in-Ok.is
@@ -45,4 +46,4 @@ returns-clause-step g c =
     ] in
     subst (λ (s : State g.row.D.Denot). IsStepBy V (Step (basis_of V s) (FreeResource c.args.resource)) (freed_as result) s then) c.self.view_is
     (subst (λ x. IsStepBy V (Step (basis_of V (before g at)) (FreeResource c.args.resource)) x (before g at) then) (sym same)
-    (step_by V (before g at) (Step (basis_of V (before g at)) (FreeResource c.args.resource)) (renamed_as c.give_back.result) slots c.give_back.new.committed c.give_back.new.device (outcome g at)))
+    (step_by V (before g at) (Step (basis_of V (before g at)) (FreeResource c.args.resource)) (renamed_as c.give_back.result) slots c.give_back.new.committed c.give_back.new.device (budgets c.give_back.new.types) c.give_back.ensures.budgets (outcome g at)))

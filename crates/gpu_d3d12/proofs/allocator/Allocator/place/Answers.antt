@@ -1,3 +1,4 @@
+use Rattle.gpu_memory_types.specs.Budgets.{budgets}
 use Rattle.std.proofs.Common.{◌≡◌, ◌∙◌, refl, sym, ap, subst, length}
 use Rattle.gpu_memory_types.specs.Types.{slots_of}
 use Rattle.gpu_device.specs.declared.d3d12.types.ResourceAllocationInfo.{ResourceAllocationInfo}
@@ -15,7 +16,7 @@ use Rattle.gpu_d3d12.proofs.allocator.Allocator.place.Goals as goal
 use Rattle.gpu_d3d12.proofs.allocator.Allocator.place.Goals.{After-make_placed}
 
 abbrev before : (g : _) (c : After-make_placed g) → State g.row.D.Denot
-before g c = (let i = c.self.inside in record { device = i.device; first = i.first.value; setup = i.setup; slots = slots_of i.types; committed = i.committed })
+before g c = (let i = c.self.inside in record { device = i.device; first = i.first.value; setup = i.setup; slots = slots_of i.types; budgets = budgets i.types; committed = i.committed })
 
 outcome : (g : _) (c : After-make_placed g) → PlacedOutcome g.D.D3D12Device (before g c) c.args.desc.now c.args.question (slots_of c.make_placed.new.types) c.make_placed.new.device c.make_placed.result
 outcome g c =
@@ -26,9 +27,9 @@ outcome g c =
     let to = c.make_placed.new.device in
     let asked = c.piece_desc-asked.ensures ∙ ap (λ (info : ResourceAllocationInfo). piece_desc d info) (c.allocation_info_of.ensures ∙ sym (same_info (V.properties (device_of i.device)) i.device d.resource_desc.now d.castable_formats.now)) in
     placed_outcome V (before g c) d c.args.question slots to c.make_placed.result c.self.invariant.1.types c.self.invariant.1.sound c.self.invariant.1.holds
-    (subst (λ (x : AllocationCreateDesc). IsPlaced V i.setup c.args.question d x (made_size (V.properties (device_of i.device)) c.args.question d.resource_desc.now d.castable_formats.now) (slots_of i.types) (device_of i.device) c.make_placed.result slots to)
+    (subst (λ (x : AllocationCreateDesc). IsPlaced V i.setup (budgets i.types) c.args.question d x (made_size (V.properties (device_of i.device)) c.args.question d.resource_desc.now d.castable_formats.now) (slots_of i.types) (device_of i.device) c.make_placed.result slots to)
     asked
-    (subst (λ x. IsPlaced V i.setup c.args.question d c.piece_desc-asked.result (made_size (V.properties x) c.args.question d.resource_desc.now d.castable_formats.now) (slots_of i.types) x c.make_placed.result slots to)
+    (subst (λ x. IsPlaced V i.setup (budgets i.types) c.args.question d c.piece_desc-asked.result (made_size (V.properties x) c.args.question d.resource_desc.now d.castable_formats.now) (slots_of i.types) x c.make_placed.result slots to)
     c.device_mut-device.ensures.value c.make_placed.ensures.placed))
 
 pub invariant_of-self : goal.invariant_of-self
@@ -48,10 +49,10 @@ returns-clause-step g c =
     let at = (goal.at.returns-clause-step g c).After-make_placed in
     let slots = slots_of c.make_placed.new.types in
     let p = outcome g at in
-    let then : State g.row.D.Denot = record { device = with_device i.device c.make_placed.new.device; first = i.first.value; setup = i.setup; slots = slots; committed = i.committed } in
+    let then : State g.row.D.Denot = record { device = with_device i.device c.make_placed.new.device; first = i.first.value; setup = i.setup; slots = slots; budgets = budgets c.make_placed.new.types; committed = i.committed } in
     subst (λ (s : State g.row.D.Denot). IsMadeBy V (PlaceStep (basis_of V s) d c.args.question) d c.make_placed.result s then) c.self.view_is
     (record {
       reply = p.reply;
-      step = step_by V (before g at) (PlaceStep (basis_of V (before g at)) d c.args.question) p.reply slots i.committed c.make_placed.new.device p.outcome;
+      step = step_by V (before g at) (PlaceStep (basis_of V (before g at)) d c.args.question) p.reply slots i.committed c.make_placed.new.device (budgets c.make_placed.new.types) c.make_placed.ensures.budgets p.outcome;
       replies = p.replies;
     })

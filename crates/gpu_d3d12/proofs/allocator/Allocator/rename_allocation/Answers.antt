@@ -1,3 +1,4 @@
+use Rattle.gpu_memory_types.specs.Budgets.{budgets}
 use Rattle.std.proofs.Common.{refl, subst}
 use Rattle.gpu_memory_types.specs.Types.{slots_of}
 use Rattle.gpu_d3d12_setup.specs.DeviceVersion.{device_of}
@@ -29,12 +30,12 @@ returns-clause-step g c =
     let i = c.self.inside in
     let held = V.held (device_of i.device) in
     let slots = slots_of c.rename.new.types in
-    let before : State g.row.D.Denot = record { device = i.device; first = i.first.value; setup = i.setup; slots = slots_of i.types; committed = i.committed } in
-    let after : State g.row.D.Denot = record { device = i.device; first = i.first.value; setup = i.setup; slots = slots; committed = i.committed } in
+    let before : State g.row.D.Denot = record { device = i.device; first = i.first.value; setup = i.setup; slots = slots_of i.types; budgets = budgets i.types; committed = i.committed } in
+    let after : State g.row.D.Denot = record { device = i.device; first = i.first.value; setup = i.setup; slots = slots; budgets = budgets c.rename.new.types; committed = i.committed } in
     let named = renamed_holds i.setup.tier (beside held (slots_of i.types)) held (slots_of i.types) c.self.invariant.1.holds c.args.allocation.now c.args.name.now
     c.rename.result c.rename.new.allocation slots c.rename.ensures.renames in
     subst (λ (s : State g.row.D.Denot). IsStep V (Rename c.args.allocation.now c.args.name.now) (renamed_as c.rename.result) s after) c.self.view_is
-    (rename_step V before after c.args.allocation.now c.rename.new.allocation c.args.name.now c.rename.result refl (alone_here V before slots named.0) c.rename.ensures.renames)
+    (rename_step V before after c.args.allocation.now c.rename.new.allocation c.args.name.now c.rename.result refl (alone_here V before slots (budgets c.rename.new.types) c.rename.ensures.budgets named.0) c.rename.ensures.renames)
 
 pub returns-clause-live : goal.returns-clause-live
 returns-clause-live g c = λ x live.
