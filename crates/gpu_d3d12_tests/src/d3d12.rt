@@ -1,8 +1,11 @@
 //! Worked rows of the DirectX 12 allocator.
 
+mod log_lines;
 mod pieces;
 mod questions;
 mod refusals;
+mod resources;
+mod scripts;
 
 use gpu_d3d12::{Allocation, Allocator};
 use gpu_d3d12_setup::{
