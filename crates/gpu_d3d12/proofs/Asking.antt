@@ -1,7 +1,6 @@
 -- A question for a resource, over a device: what is met with, counted and named, and what the device holds beside the blocks then.
-use Rattle.std.proofs.Common.{◌≡◌, ◌∙◌, ℕ, refl, sym, ap, subst, Bool, true, false, List, [], ◌∷◌, length, Option, Some, None, Result, Ok, Err}
+use Rattle.std.proofs.Common.{◌≡◌, ◌∙◌, refl, sym, ap, subst, List, [], ◌∷◌, length, Option, Some, None}
 use Rattle.std.specs.Option.{option_map, option_copied}
-use Rattle.gpu_values.specs.Refusal.{Refusal}
 use Rattle.gpu_device.specs.D3D12.{Held, Entry, Properties}
 use Rattle.gpu_device.specs.Granted.{with_granted, counted}
 use Rattle.gpu_device.specs.declared.d3d12.device.D3D12Device.{Ghosts}
@@ -9,7 +8,7 @@ use Rattle.gpu_device.specs.declared.d3d12.types.Format.{Format}
 use Rattle.gpu_device.specs.declared.d3d12.types.ResourceDesc.{ResourceDesc}
 use Rattle.gpu_device.specs.declared.d3d12.types.ResourceHeapTier.{ResourceHeapTier}
 use Rattle.gpu_d3d12_setup.specs.Question.{resource_question, told_info, handed_on}
-use Rattle.gpu_d3d12_setup.specs.ResourceAnswer.{ResourceAnswer, AsksResource, resource_number}
+use Rattle.gpu_d3d12_setup.specs.ResourceAnswer.{ResourceAnswer, resource_number}
 use Rattle.gpu_d3d12_setup.specs.declared.device_version.ID3D12DeviceVersion.{ID3D12DeviceVersion}
 use Rattle.gpu_d3d12_setup.specs.declared.device_version.ID3D12DeviceVersion.TheVariants.{Device, Device10, Device12}
 use Rattle.gpu_d3d12_setup.specs.declared.question.ResourceCreateDesc.{ResourceCreateDesc}
@@ -18,10 +17,10 @@ use Rattle.gpu_d3d12_setup.specs.declared.question.ResourceStateOrBarrierLayout.
 use Rattle.gpu_d3d12_setup.specs.declared.question.ResourceStateOrBarrierLayout.TheVariants.{ResourceState, BarrierLayout}
 use Rattle.gpu_d3d12_blocks.specs.Blocks.{Slots, HoldsJustLiveBlocks}
 use Rattle.gpu_d3d12_blocks.specs.Committed.{IsAfterResource}
-use Rattle.gpu_d3d12_blocks.specs.Suballocation.{AttemptEnvironment, Asked}
+use Rattle.gpu_d3d12_blocks.specs.Suballocation.{AttemptEnvironment}
 use Rattle.gpu_d3d12_blocks.proofs.Beside.{granted_holds}
 use Rattle.gpu_d3d12.specs.State.{interface_of}
-use Rattle.gpu_d3d12.specs.Step.{AskedResource, Environment, IsAskedWith, resource_answer, granted_number, CountsAndNames}
+use Rattle.gpu_d3d12.specs.Step.{AskedResource, IsAskedWith, resource_answer, granted_number, CountsAndNames}
 
 -- the interface alone decides by which question a resource is made
 pub same_question : {D : Type 0} (v : ID3D12DeviceVersion D) (s : ResourceStateOrBarrierLayout) (castable : List Format) → resource_question (interface_of v) s castable ≡ resource_question v s castable

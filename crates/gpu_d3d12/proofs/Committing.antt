@@ -1,6 +1,5 @@
 -- A committed resource, as a step of the model.
-use Rattle.std.proofs.Common.{◌≡◌, ◌∙◌, ℕ, refl, sym, ap, subst, length, slice_set, Option, Some, None, Result, Ok, Err}
-use Rattle.gpu_values.specs.Refusal.{Refusal, refusal_of}
+use Rattle.std.proofs.Common.{◌≡◌, ◌∙◌, ℕ, refl, sym, ap, subst, slice_set, None, Result, Ok, Err}
 use Rattle.gpu_values.specs.declared.error.AllocationError.{AllocationError}
 use Rattle.gpu_device.specs.D3D12 as entries
 use Rattle.gpu_device.specs.Granted.{with_granted}
@@ -8,7 +7,6 @@ use Rattle.gpu_device.specs.declared.d3d12.device.D3D12Device.{Ghosts}
 use Rattle.gpu_device.specs.declared.d3d12.types.ID3D12Resource.{ID3D12Resource}
 use Rattle.gpu_d3d12_setup.specs.DeviceVersion.{device_of}
 use Rattle.gpu_d3d12_setup.specs.MemoryKinds.{memory_kinds, IsFirstServing}
-use Rattle.gpu_d3d12_setup.specs.ResourceAnswer.{ResourceAnswer}
 use Rattle.gpu_d3d12_setup.specs.declared.question.ResourceCreateDesc.{ResourceCreateDesc}
 use Rattle.gpu_d3d12_setup.specs.declared.question.ResourceQuestion.{ResourceQuestion}
 use Rattle.gpu_d3d12_blocks.specs.Blocks.{HoldsJustLiveBlocks}

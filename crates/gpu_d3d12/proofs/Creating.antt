@@ -1,6 +1,6 @@
 -- Asking for a resource, as a step of the model: by which question it is made, or why it isn't.
-use Rattle.std.proofs.Common.{◌≡◌, ◌∙◌, refl, sym, ap, subst, true, Option, Some, None, Result, Ok, Err}
-use Rattle.gpu_values.specs.Refusal.{Refusal, refusal_of}
+use Rattle.std.proofs.Common.{◌≡◌, ◌∙◌, refl, sym, subst, true, Result, Ok, Err}
+use Rattle.gpu_values.specs.Refusal.{refusal_of}
 use Rattle.gpu_values.specs.declared.error.AllocationError.{AllocationError}
 use Rattle.gpu_device.specs.declared.d3d12.device.D3D12Device.{Ghosts}
 use Rattle.gpu_d3d12_setup.specs.DeviceVersion.{device_of}
@@ -8,8 +8,8 @@ use Rattle.gpu_d3d12_setup.specs.Question.{resource_question}
 use Rattle.gpu_d3d12_setup.specs.declared.question.ResourceCreateDesc.{ResourceCreateDesc}
 use Rattle.gpu_d3d12_setup.specs.declared.question.ResourceQuestion.{ResourceQuestion}
 use Rattle.gpu_d3d12_setup.specs.declared.question.ResourceType.{ResourceType}
-use Rattle.gpu_d3d12.specs.State.{State, Basis, basis_of, contents_of}
-use Rattle.gpu_d3d12.specs.Step.{Reply, Fails, Environment, nothing_at_all, MakesBy, CreateBy, IsMadeBy, IsCreateStep}
+use Rattle.gpu_d3d12.specs.State.{State, basis_of, contents_of}
+use Rattle.gpu_d3d12.specs.Step.{Fails, nothing_at_all, MakesBy, CreateBy, IsMadeBy, IsCreateStep}
 use Rattle.gpu_d3d12.specs.declared.resource.Resource.{Resource}
 use Rattle.gpu_d3d12.proofs.Asking.{same_question}
 use Rattle.gpu_d3d12.proofs.Steps.{counts_same, same_device}

@@ -1,19 +1,18 @@
 -- A resource that is given back, as a step of the model.
 use Rattle.std.proofs.Common.{◌≡◌, ◌∙◌, refl, sym, ap, subst, true, length, Option, Some, None, Result, Ok, Err}
-use Rattle.gpu_values.specs.Refusal.{refusal_of}
 use Rattle.gpu_values.specs.declared.error.AllocationError.{AllocationError}
 use Rattle.gpu_device.specs.D3D12.{Held, without_resource}
 use Rattle.gpu_device.specs.declared.d3d12.device.D3D12Device.{Ghosts}
 use Rattle.gpu_d3d12_setup.specs.DeviceVersion.{device_of}
 use Rattle.gpu_d3d12_blocks.specs.Blocks.{Slots, HoldsJustLiveBlocks}
 use Rattle.gpu_d3d12_blocks.specs.Committed.{Committed}
-use Rattle.gpu_d3d12_blocks.specs.Release.{IsWithoutResource, IsReleased}
+use Rattle.gpu_d3d12_blocks.specs.Release.{IsWithoutResource}
 use Rattle.gpu_d3d12_blocks.proofs.Beside.{given_holds}
 use Rattle.gpu_d3d12_blocks.proofs.Releasing.{released_holds, type_below}
 use Rattle.gpu_d3d12.specs.FreeResource.{FreesResource}
 use Rattle.gpu_d3d12.specs.Live.{piece_of}
 use Rattle.gpu_d3d12.specs.State.{State, Contents, beside_of}
-use Rattle.gpu_d3d12.specs.Step.{Reply, Done, Fails, Environment, nothing_at_all, FreeResourceStep, CountsAndNames, freed_as, renamed_as}
+use Rattle.gpu_d3d12.specs.Step.{Reply, Environment, nothing_at_all, FreeResourceStep, CountsAndNames, freed_as, renamed_as}
 use Rattle.gpu_d3d12.specs.declared.allocation.Allocation.{Allocation}
 use Rattle.gpu_d3d12.specs.declared.resource.Resource.{Resource}
 use Rattle.gpu_d3d12.proofs.Outcomes.{Outcome}

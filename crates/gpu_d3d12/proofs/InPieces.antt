@@ -1,12 +1,12 @@
 -- A placed resource, over a device: its piece is allocated, and stays or goes as the device answers.
 use Rattle.gpu_memory_types.specs.Budgets.{budgets}
-use Rattle.std.proofs.Common.{◌≡◌, ◌∙◌, ℕ, refl, sym, ap, subst, length, Option, Some, None, Ok, Err, Result}
+use Rattle.std.proofs.Common.{◌≡◌, ◌∙◌, ℕ, refl, sym, subst, length, Some, Ok, Err, Result}
 use Rattle.std.specs.Prelude.{OnOk, OnErr}
 use Rattle.std.proofs.lemmas.List.{length-map}
-use Rattle.gpu_values.specs.Refusal.{Refusal, refusal_of, refusal_in}
+use Rattle.gpu_values.specs.Refusal.{refusal_of}
 use Rattle.gpu_values.specs.declared.error.AllocationError.{AllocationError}
 use Rattle.gpu_core.specs.declared.memory_type.Piece.{Piece}
-use Rattle.gpu_device.specs.D3D12.{Entry, Placed}
+use Rattle.gpu_device.specs.D3D12.{Placed}
 use Rattle.gpu_device.specs.declared.d3d12.device.D3D12Device.{Ghosts}
 use Rattle.gpu_device.specs.declared.d3d12.types.ID3D12Heap.{ID3D12Heap}
 use Rattle.gpu_device.specs.declared.d3d12.types.ID3D12Resource.{ID3D12Resource}

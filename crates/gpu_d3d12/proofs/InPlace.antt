@@ -1,5 +1,5 @@
 -- A placed resource, as a step of the model.
-use Rattle.std.proofs.Common.{◌≡◌, ◌∙◌, ℕ, refl, sym, ap, subst, length, Option, Some, None, Result, Ok, Err}
+use Rattle.std.proofs.Common.{◌≡◌, ◌∙◌, ℕ, refl, sym, ap, subst, length, Some, None, Result, Ok, Err}
 use Rattle.std.specs.FinMap.{insert}
 use Rattle.gpu_values.specs.Refusal.{Refusal, refusal_of, refusal_in}
 use Rattle.gpu_values.specs.declared.error.AllocationError.{AllocationError}
@@ -19,14 +19,13 @@ use Rattle.gpu_d3d12_setup.specs.declared.question.ResourceCreateDesc.{ResourceC
 use Rattle.gpu_d3d12_setup.specs.declared.question.ResourceQuestion.{ResourceQuestion}
 use Rattle.gpu_d3d12_blocks.specs.Blocks.{Slots, HoldsJustLiveBlocks}
 use Rattle.gpu_d3d12_blocks.specs.Committed.{number_or_refusal}
-use Rattle.gpu_d3d12_blocks.specs.Release.{GivesBack, IsReleased}
-use Rattle.gpu_d3d12_blocks.specs.Suballocation.{AttemptEnvironment}
+use Rattle.gpu_d3d12_blocks.specs.Release.{IsReleased}
 use Rattle.gpu_d3d12_blocks.proofs.Releasing.{released_holds, type_below}
 use Rattle.gpu_d3d12.specs.Allocate.{Allocates}
 use Rattle.gpu_d3d12.specs.Live.{piece_of, IsGiven}
-use Rattle.gpu_d3d12.specs.Resource.{piece_desc, LiesIn, IsMade, IsPlacedIn, IsGivenAs, EndsBy, IsPlacedAt, PlacesBy, IsPlaced}
+use Rattle.gpu_d3d12.specs.Resource.{piece_desc, LiesIn, IsGivenAs, EndsBy, PlacesBy, IsPlaced}
 use Rattle.gpu_d3d12.specs.State.{State, Basis, basis_of, beside_of}
-use Rattle.gpu_d3d12.specs.Step.{Reply, Given, Fails, Done, Sum, Shows, Tells, Made, Counts, Budgeted, Environment, info_of, size_made, made_reply, PlacedBy, PlacesThen, PlaceStep, ReleaseStep, CountsAndNames, Replies, RepliesResource}
+use Rattle.gpu_d3d12.specs.Step.{Reply, Given, Fails, Done, Sum, Shows, Tells, Made, Counts, Budgeted, info_of, size_made, made_reply, PlacedBy, PlacesThen, PlaceStep, ReleaseStep, CountsAndNames, Replies, RepliesResource}
 use Rattle.gpu_d3d12.specs.declared.allocation.Allocation.{Allocation}
 use Rattle.gpu_d3d12.specs.declared.resource.Resource.{Resource}
 use Rattle.gpu_d3d12.proofs.Asking.{asked_of, asked_with, asked_counts, asked_holds}

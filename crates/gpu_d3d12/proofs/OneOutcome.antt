@@ -7,7 +7,6 @@ use Rattle.gpu_core.specs.declared.memory_type.Piece.{Piece}
 use Rattle.gpu_device.specs.D3D12.{Held}
 use Rattle.gpu_device.specs.declared.d3d12.types.ID3D12Heap.{ID3D12Heap}
 use Rattle.gpu_memory_types.specs.Blocks.{BlocksWellFormed}
-use Rattle.gpu_memory_types.proofs.OneOutcome.{false_true}
 use Rattle.gpu_memory_types.proofs.Options.{none_some, some_same}
 use Rattle.gpu_d3d12_setup.specs.MemoryKinds.{memory_kinds}
 use Rattle.gpu_d3d12_setup.specs.Question.{resource_question}

@@ -4,11 +4,10 @@ use Rattle.std.proofs.Common.{◌≡◌, ◌∙◌, refl, sym, ap, length}
 use Rattle.gpu_device.specs.D3D12.{Held}
 use Rattle.gpu_device.specs.declared.d3d12.device.D3D12Device.{Ghosts}
 use Rattle.gpu_d3d12_setup.specs.DeviceVersion.{device_of, with_device}
-use Rattle.gpu_d3d12_setup.specs.declared.device_version.ID3D12DeviceVersion.{ID3D12DeviceVersion}
 use Rattle.gpu_d3d12_blocks.specs.Blocks.{Slots, HoldsJustLiveBlocks, beside}
 use Rattle.gpu_d3d12_blocks.specs.Committed.{Committed}
 use Rattle.gpu_d3d12_blocks.proofs.Beside.{beside_is}
-use Rattle.gpu_d3d12.specs.State.{State, Contents, contents_of, beside_of}
+use Rattle.gpu_d3d12.specs.State.{State, Contents, contents_of}
 use Rattle.gpu_d3d12.specs.Step.{Reply, Environment, CountsAndNames, IsStepBy}
 use Rattle.gpu_d3d12.proofs.Steps.{device_with}
 

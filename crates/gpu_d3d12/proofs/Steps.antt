@@ -29,7 +29,7 @@ use Rattle.gpu_d3d12.specs.Rename.{Renames}
 use Rattle.gpu_d3d12_blocks.specs.Blocks.{Slots}
 use Rattle.gpu_d3d12_setup.specs.declared.setup.Setup.{Setup}
 use Rattle.gpu_d3d12.specs.State.{State, contents_of, beside_of}
-use Rattle.gpu_d3d12.specs.Step.{Capacity, Sum, Free, freed_as, Reply, Environment, Allocate, Fails, Rename, Report, Leaks, nothing_met, reply_of, ServeStep, AllocateStep, RenameStep, ChangesBlocks, CountsAndNames, IsStep, Replies, IsAllocateStep, renamed_as, shown_as, told_as}
+use Rattle.gpu_d3d12.specs.Step.{Capacity, Sum, Free, freed_as, Reply, Environment, Fails, Rename, Report, Leaks, nothing_met, reply_of, ServeStep, AllocateStep, RenameStep, ChangesBlocks, CountsAndNames, IsStep, Replies, IsAllocateStep, renamed_as, shown_as, told_as}
 use Rattle.gpu_d3d12.specs.declared.allocation.Allocation.{Allocation}
 
 -- a device is what it is

@@ -1,6 +1,5 @@
 -- An allocation, as its owner holds it, and the piece that it stands for.
 use Rattle.std.specs.Prelude.{◌≡◌, ℕ, List, Some, string_bytes}
-use Rattle.std.specs.Int.NonZero.{non_zero_u64_get}
 use Rattle.gpu_core.specs.declared.memory_type.Piece.{Piece}
 use Rattle.gpu_device.specs.declared.d3d12.types.ID3D12Heap.{ID3D12Heap}
 use Rattle.gpu_memory_types.specs.Apart as pieces

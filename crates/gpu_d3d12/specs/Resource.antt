@@ -1,10 +1,12 @@
 -- A resource, as its owner holds it, and what asking for one comes to.
 use Rattle.gpu_memory_types.specs.Budgets.{Budgets}
-use Rattle.std.specs.Prelude.{◌≡◌, ℕ, Option, Some, None, Result, Ok, Err}
+use Rattle.std.specs.Prelude.{◌≡◌, ℕ, ◌+◌, ◌≤◌, Option, Some, None, Result, Ok, Err}
+use Rattle.std.specs.FinMap.{get}
+use Rattle.gpu_device.specs.declared.d3d12.types.HeapDesc.{HeapDesc}
 use Rattle.gpu_values.specs.Refusal.{Refusal, refusal_of, refusal_in}
 use Rattle.gpu_values.specs.declared.error.AllocationError.{AllocationError}
 use Rattle.gpu_core.specs.declared.memory_type.Piece.{Piece}
-use Rattle.gpu_device.specs.D3D12.{Entry, Placed}
+use Rattle.gpu_device.specs.D3D12.{Held, Heap, Placed}
 use Rattle.gpu_device.specs.declared.d3d12.device.D3D12Device.{Ghosts}
 use Rattle.gpu_device.specs.declared.d3d12.types.ID3D12Heap.{ID3D12Heap}
 use Rattle.gpu_device.specs.declared.d3d12.types.ResourceAllocationInfo.{ResourceAllocationInfo}
@@ -19,7 +21,7 @@ use Rattle.gpu_d3d12_blocks.specs.Committed.{number_or_refusal}
 use Rattle.gpu_d3d12_blocks.specs.Release.{IsReleased}
 use Rattle.gpu_d3d12_blocks.specs.declared.committed_record.CommittedRecord.{CommittedRecord}
 use Rattle.gpu_d3d12.specs.Allocate.{Allocates}
-use Rattle.gpu_d3d12.specs.Live.{piece_of, IsGiven}
+use Rattle.gpu_d3d12.specs.Live.{piece_of, IsLive, IsGiven}
 use Rattle.gpu_d3d12.specs.declared.allocation.Allocation.{Allocation}
 use Rattle.gpu_d3d12.specs.declared.resource.Resource.{Resource}
 
@@ -53,6 +55,21 @@ pub record IsMade (d : ResourceCreateDesc) (t : ℕ) (piece : Option (Piece ID3D
   pub location : r.memory_location ≡ d.memory_location
   pub memory_type : r.memory_type_index ≡ t
   pub size_is : r.size ≡ size
+
+-- ---- a placed resource that is live
+
+-- a resource is live in an allocation's piece: that is live, and the device holds the resource at its place
+pub record IsLivePlaced (held : Held) (slots : Slots) (r : Resource) (a : Allocation) : Type 0 where
+  pub allocation : r.allocation ≡ Some a
+  pub piece : IsLive slots a
+  pub size : ℕ
+  pub entry : get held r.resource.0 ≡ Some (Placed a.heap.0 a.offset size)
+
+-- the device holds the heap that the allocation names, and the allocation ends inside it
+pub record LiesInHeap (held : Held) (a : Allocation) : Type 0 where
+  pub desc : HeapDesc
+  pub heap : get held a.heap.0 ≡ Some (Heap desc)
+  pub inside : a.offset + a.size ≤ desc.size
 
 -- ---- a placed resource, over a device
 

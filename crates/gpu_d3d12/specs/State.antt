@@ -1,6 +1,6 @@
 -- What callers see of an allocator.
 use Rattle.gpu_memory_types.specs.Budgets.{Budgets}
-use Rattle.std.specs.Prelude.{◌≡◌, ◌^◌, ◌<◌, List, length, Ok}
+use Rattle.std.specs.Prelude.{◌≡◌, ◌^◌, ◌<◌, length, Ok}
 use Rattle.gpu_device.specs.D3D12.{Held, Properties}
 use Rattle.gpu_device.specs.declared.d3d12.device.D3D12Device.{Ghosts}
 use Rattle.gpu_d3d12_setup.specs.DeviceVersion.{device_of}

@@ -21,6 +21,8 @@ ghost use Rattle.gpu_d3d12.specs.Free.{Frees};
 ghost use Rattle.gpu_d3d12_blocks.specs.Release.{AsksNothing};
 ghost use Rattle.gpu_d3d12.specs.Live.{IsLive, AreDistinct, StayLive};
 ghost use Rattle.gpu_d3d12.specs.Rename.{Renames};
+ghost use Rattle.gpu_d3d12.specs.Resource.{IsLivePlaced, LiesInHeap};
+ghost use Rattle.gpu_d3d12.specs.declared.resource.Resource.{Resource};
 ghost use Rattle.gpu_d3d12.specs.State.{basis_of, beside_of};
 ghost use Rattle.gpu_d3d12.specs.Step.{IsMadeBy, IsCreateStep, CommitStep, PlaceStep, FreeResource, Statistics, SetBudget, Budget, Budgeted, Counts, IsStep, IsAllocateStep, Free, Rename, Capacity, Report, Leaks, Sum, freed_as, renamed_as, shown_as, told_as};
 ghost use Rattle.gpu_d3d12.specs.declared.allocation.Allocation.{Allocation};
@@ -166,6 +168,15 @@ impl<D: D3D12Device> Allocator<D> {
         ensures sound { BlocksWellFormed 1 self.now.slots }
         ensures inside { (a : Allocation) → IsLive self.now.slots a → IsInside self.now.slots a }
         ensures apart { (a b : Allocation) → IsLive self.now.slots a → IsLive self.now.slots b → AreDistinct a b → SharesNoByte a b }
+    {
+        let _ = &self.device;
+    }
+
+    /// What holds of live placed resources at any time, for callers' proofs: the device holds the heap that each is placed in,
+    /// and its allocation ends inside that heap. It does nothing.
+    pub fn resources_lie_in_heaps(&self)
+        ensures { (r : Resource) (a : Allocation) → IsLivePlaced (D.held (device_of self.now.device)) self.now.slots r a
+            → LiesInHeap (D.held (device_of self.now.device)) a }
     {
         let _ = &self.device;
     }

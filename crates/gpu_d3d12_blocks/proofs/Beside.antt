@@ -1,20 +1,19 @@
 -- What a device holds beside the live blocks, and what a resource that comes or goes makes of it.
-use Rattle.std.proofs.Common.{◌≡◌, ◌≢◌, ◌∙◌, refl, sym, ap, subst, ℕ, zero, suc, List, [], ◌∷◌, ◌<◌, Option, Some, None, ⊎_elim, inl, inr, ◌⊎◌}
-use Rattle.std.specs.FinMap.{get, insert, remove}
+use Rattle.std.proofs.Common.{◌≡◌, ◌≢◌, ◌∙◌, refl, sym, ap, subst, ℕ, zero, suc, List, [], ◌∷◌, Option, Some, None, ⊎_elim}
+use Rattle.std.specs.FinMap.{get, insert}
 use Rattle.std.specs.Prelude.{All}
 use Rattle.std.proofs.lemmas.Bool.{cases_eq}
 use Rattle.std.proofs.lemmas.List.Elements.{All-head, All-tail}
 use Rattle.gpu_core.specs.TypeState.{Slot, slot_at}
 use Rattle.gpu_device.specs.D3D12.{Held, Entry, Heap, Committed, Placed, without_resource, remove_if_resource}
 use Rattle.gpu_device.specs.Granted.{IsNew, with_granted}
-use Rattle.gpu_device.specs.declared.d3d12.types.HeapDesc.{HeapDesc}
 use Rattle.gpu_device.specs.declared.d3d12.types.ID3D12Heap.{ID3D12Heap}
 use Rattle.gpu_device.specs.declared.d3d12.types.ResourceHeapTier.{ResourceHeapTier}
 use Rattle.gpu_device.proofs.HeapsAndResources.{get-without_resource_other, without_resource_is}
-use Rattle.gpu_device.proofs.Maps.{held_alike, get-insert_same, get-insert_other, get-remove_same, get-remove_other}
+use Rattle.gpu_device.proofs.Maps.{get-insert_same, get-insert_other, get-remove_same}
 use Rattle.gpu_memory_types.specs.Blocks.{block_at}
 use Rattle.gpu_memory_types.specs.Held.{IsNoBlock, HasEntry}
-use Rattle.gpu_memory_types.proofs.Options.{none_some, some_same}
+use Rattle.gpu_memory_types.proofs.Options.{none_some}
 use Rattle.gpu_memory_types.proofs.Returned.{all_returned}
 use Rattle.gpu_d3d12_blocks.specs.Blocks.{Slots, HoldsJustLiveBlocks, IsBlockEntry, heap_number, beside}
 use Rattle.gpu_d3d12_blocks.proofs.Releasing.{block_heap}

@@ -38,6 +38,21 @@ pub block_heap : (tier : ResourceHeapTier) (first held : Held) (ss : Slots) → 
     → (desc : HeapDesc) × (get held s.number.0 ≡ Some (Heap desc))
 block_heap tier first held ss h t i s at = heap_entry tier t s.block (get held s.number.0) (h.blocks t i s at)
 
+sized_in : (o : Option MemoryKind) (size : ℕ) (e : Entry) → IsSomeAnd o (λ k. e ≡ Heap (heap_desc k size)) → (desc : HeapDesc) × (e ≡ Heap desc) × (desc.size ≡ size)
+sized_in None size e h = absurd h
+sized_in (Some k) size e h = (heap_desc k size, h, refl)
+
+sized_entry : (tier : ResourceHeapTier) (t : ℕ) (b : Block) (x : Option Entry) → HasEntry (IsBlockEntry tier) t b x → (desc : HeapDesc) × (x ≡ Some (Heap desc)) × (desc.size ≡ size_of b)
+sized_entry tier t b None h = absurd h
+sized_entry tier t b (Some e) h =
+    let found = sized_in (kind_at tier t) (size_of b) e h in
+    (found.0, ap Some found.1, found.2)
+
+-- and that heap is as long as the block
+pub block_heap_sized : (tier : ResourceHeapTier) (first held : Held) (ss : Slots) → HoldsJustLiveBlocks tier first held ss → (t i : ℕ) (s : Slot ID3D12Heap) → block_at ss t i ≡ Some s
+    → (desc : HeapDesc) × (get held s.number.0 ≡ Some (Heap desc)) × (desc.size ≡ size_of s.block)
+block_heap_sized tier first held ss h t i s at = sized_entry tier t s.block (get held s.number.0) (h.blocks t i s at)
+
 heap_goes : (held : Held) (n : ℕ) (desc : HeapDesc) → get held n ≡ Some (Heap desc) → without_heap held n ≡ remove held n
 heap_goes held n desc is = without_heap_is held n (Some (Heap desc)) is
 

@@ -1,5 +1,3 @@
-use Rattle.std.proofs.Common.{◌≡◌, ◌∙◌, refl, sym, ap, subst, length, Ok, Err, Some}
-use Rattle.gpu_values.specs.Refusal.{refusal_of}
 use Rattle.gpu_memory_types.specs.Types.{slots_of}
 use Rattle.gpu_d3d12.proofs.InPieces.{not_taken, was_placed, was_refused}
 use Rattle.gpu_d3d12.proofs.making.make_placed.Goals as goal

@@ -1,4 +1,4 @@
-use Rattle.std.proofs.Common.{◌≡◌, ◌∙◌, sym, ap, subst, arith, List, ◌+◌, ◌<◌, ◌^◌, ◌++◌, ◌∷◌, [], Err}
+use Rattle.std.proofs.Common.{◌∙◌, sym, ap, subst, arith, List, ◌+◌, ◌<◌, ◌^◌, ◌++◌, ◌∷◌, [], Err}
 use Rattle.gpu_device.specs.D3D12.{Committed}
 use Rattle.gpu_d3d12_setup.specs.Question.{made_size}
 use Rattle.gpu_d3d12_blocks.specs.Committed.{total_size, IsCommitted}

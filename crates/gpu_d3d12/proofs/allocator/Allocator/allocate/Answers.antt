@@ -1,9 +1,8 @@
 use Rattle.gpu_memory_types.specs.Budgets.{budgets}
-use Rattle.std.proofs.Common.{◌≡◌, ◌∙◌, sym, ap, subst, refl}
+use Rattle.std.proofs.Common.{◌∙◌, sym, subst, refl}
 use Rattle.gpu_memory_types.specs.Types.{slots_of}
 use Rattle.gpu_d3d12_setup.specs.DeviceVersion.{device_of, with_device}
 use Rattle.gpu_d3d12_blocks.specs.Blocks.{beside}
-use Rattle.gpu_d3d12_blocks.proofs.Beside.{beside_is}
 use Rattle.gpu_d3d12_blocks.proofs.Types.{well_formed_told}
 use Rattle.gpu_d3d12.specs.Allocate.{Allocates}
 use Rattle.gpu_d3d12.specs.State.{State}

@@ -1,5 +1,5 @@
 use Rattle.gpu_memory_types.specs.Budgets.{budgets}
-use Rattle.std.proofs.Common.{◌≡◌, ◌∙◌, refl, sym, ap, subst, length, None}
+use Rattle.std.proofs.Common.{◌∙◌, refl, sym, ap, subst, length, None}
 use Rattle.std.proofs.lemmas.List.{length-set}
 use Rattle.gpu_device.specs.D3D12 as entries
 use Rattle.gpu_memory_types.specs.Types.{slots_of}

@@ -1,4 +1,4 @@
-use Rattle.std.proofs.Common.{◌≡◌, ◌∙◌, sym, ap}
+use Rattle.std.proofs.Common.{◌∙◌, sym, ap}
 use Rattle.gpu_d3d12_setup.specs.Question.{resource_question}
 use Rattle.gpu_d3d12.specs.State.{State}
 use Rattle.gpu_d3d12.proofs.Creating.{by_question, not_asked}

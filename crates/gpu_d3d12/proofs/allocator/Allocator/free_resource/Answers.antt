@@ -1,7 +1,7 @@
 use Rattle.gpu_memory_types.specs.Budgets.{budgets}
-use Rattle.std.proofs.Common.{◌≡◌, ◌∙◌, refl, sym, ap, subst, length}
+use Rattle.std.proofs.Common.{◌≡◌, sym, subst}
 use Rattle.gpu_memory_types.specs.Types.{slots_of}
-use Rattle.gpu_d3d12_setup.specs.DeviceVersion.{device_of, with_device}
+use Rattle.gpu_d3d12_setup.specs.DeviceVersion.{with_device}
 use Rattle.gpu_d3d12.specs.FreeResource.{FreesResource}
 use Rattle.gpu_d3d12.specs.State.{State, basis_of}
 use Rattle.gpu_d3d12.specs.Step.{Step, IsStepBy, FreeResource, freed_as, renamed_as}

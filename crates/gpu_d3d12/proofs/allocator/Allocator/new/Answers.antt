@@ -1,4 +1,4 @@
-use Rattle.std.proofs.Common.{◌≡◌, ◌∙◌, sym, ap, length}
+use Rattle.std.proofs.Common.{◌∙◌, sym, ap}
 use Rattle.std.proofs.lemmas.List.{length-map}
 use Rattle.gpu_memory_types.specs.Types.{slots_of}
 use Rattle.gpu_d3d12_setup.specs.DeviceVersion.{device_of, with_device}

@@ -1,5 +1,5 @@
 use Rattle.gpu_memory_types.specs.Budgets.{budgets}
-use Rattle.std.proofs.Common.{◌≡◌, ◌∙◌, refl, sym, ap, subst, length}
+use Rattle.std.proofs.Common.{◌∙◌, refl, sym, ap, subst}
 use Rattle.gpu_memory_types.specs.Types.{slots_of}
 use Rattle.gpu_device.specs.declared.d3d12.types.ResourceAllocationInfo.{ResourceAllocationInfo}
 use Rattle.gpu_d3d12_setup.specs.DeviceVersion.{device_of, with_device}

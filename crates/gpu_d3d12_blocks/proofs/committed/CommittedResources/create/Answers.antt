@@ -1,11 +1,9 @@
-use Rattle.std.proofs.Common.{◌≡◌, ◌∙◌, ◌<◌, ◌^◌, refl, sym, ap, subst, arith, length, slice_set, List, Ok, Err, Result}
-use Rattle.std.specs.Prelude.{OnOk, OnErr, Vec}
-use Rattle.std.specs.Global.{Global}
+use Rattle.std.proofs.Common.{◌<◌, ◌^◌, ap, subst, arith, length, List}
 use Rattle.gpu_device.specs.D3D12 as entries
 use Rattle.gpu_d3d12_setup.specs.Question.{made_size}
-use Rattle.gpu_d3d12_blocks.specs.Committed.{Committed, total_size, records_at, IsCommitted, GivesRecord, place_of}
+use Rattle.gpu_d3d12_blocks.specs.Committed.{Committed, total_size}
 use Rattle.gpu_d3d12_blocks.specs.declared.committed_record.CommittedRecord.{CommittedRecord}
-use Rattle.gpu_d3d12_blocks.proofs.Records.{lent_committed, lent_others, row_there, row_set, row_sums, as_many, records_here}
+use Rattle.gpu_d3d12_blocks.proofs.Records.{lent_committed, lent_others, row_there, row_sums, as_many}
 use Rattle.gpu_d3d12_blocks.proofs.committed.CommittedResources.create.Goals as goal
 use Rattle.gpu_d3d12_blocks.proofs.committed.CommittedResources.create.Goals.{After-index_mut}
 

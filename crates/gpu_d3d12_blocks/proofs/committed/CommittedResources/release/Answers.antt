@@ -1,9 +1,7 @@
-use Rattle.std.proofs.Common.{◌≡◌, ◌∙◌, ◌<◌, ◌^◌, refl, sym, ap, subst, arith, length, slice_set, List, Ok, Err, Result}
-use Rattle.std.specs.Prelude.{OnOk, OnErr, Vec}
-use Rattle.std.specs.Global.{Global}
-use Rattle.gpu_d3d12_blocks.specs.Committed.{Committed, total_size, records_at, IsCommitted, GivesRecord, place_of}
+use Rattle.std.proofs.Common.{◌≡◌, ◌<◌, ◌^◌, subst, arith, length, List}
+use Rattle.gpu_d3d12_blocks.specs.Committed.{total_size, records_at}
 use Rattle.gpu_d3d12_blocks.specs.declared.committed_record.CommittedRecord.{CommittedRecord}
-use Rattle.gpu_d3d12_blocks.proofs.Records.{Rows, lists, row_there, row_set, row_sums, as_many, records_here}
+use Rattle.gpu_d3d12_blocks.proofs.Records.{lists, row_there, row_sums}
 use Rattle.gpu_d3d12_blocks.specs.Release.{IsWithoutResource}
 use Rattle.gpu_d3d12_blocks.proofs.Records.{lent_gives, lent_refused}
 use Rattle.gpu_d3d12_blocks.proofs.committed.CommittedResources.release.Goals as goal
