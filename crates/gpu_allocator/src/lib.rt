@@ -1,6 +1,7 @@
 //! GPU memory allocators: pieces of device memory from a few large blocks, over a device that is handed in.
 #![tactic(auto)]
 
+pub mod d3d12;
 pub mod metal;
 pub mod vulkan;
 

@@ -2,13 +2,22 @@
 #![tactic(auto)]
 
 pub mod caller;
+mod d3d12;
 mod error;
+mod metal;
 mod vulkan;
 
 use std::process::ExitCode;
 
+/// One after another.
+fn tours(rt: &HostRuntime) -> error::Result<()> {
+    vulkan::tour(rt)?;
+    d3d12::tour(rt)?;
+    metal::tour(rt)
+}
+
 fn main(rt: HostRuntime) -> ExitCode {
-    match vulkan::tour(&rt) {
+    match tours(&rt) {
         Ok(()) => ExitCode::SUCCESS,
         Err(error) => {
             let _ = eprintln!(rt; "gpu_example: {error}");
