@@ -32,12 +32,13 @@ fn next(seed: u64) -> u64 {
         .wrapping_add(1442695040888963407)
 }
 
-/// One of `count` by a number, none where there is none.
-fn pick(seed: u64, count: usize) -> Option<usize> {
+/// One of those that are live by a number, taken out of its list; none where there is none.
+fn pick<T>(live: &mut Vec<T>, seed: u64) -> Option<T> {
+    let count = live.len();
     if count == 0 {
         return None;
     }
-    Some((seed >> 33) as usize % count)
+    Some(live.swap_remove((seed >> 33) as usize % count))
 }
 
 /// Looks that the allocator tells what the account says.
@@ -117,27 +118,26 @@ fn make_committed(
 }
 
 fn free_piece(a: &mut Allocator<SimD3D12>, account: &mut Account, seed: u64) -> Outcome {
-    let Some(index) = pick(seed, account.pieces.len()) else {
-        return Ok(());
-    };
-    give(a, account.pieces.swap_remove(index))
+    match pick(&mut account.pieces, seed) {
+        Some(piece) => give(a, piece),
+        None => Ok(()),
+    }
 }
 
 fn free_placed(a: &mut Allocator<SimD3D12>, account: &mut Account, seed: u64) -> Outcome {
-    let Some(index) = pick(seed, account.placed.len()) else {
+    let Some(resource) = pick(&mut account.placed, seed) else {
         return Ok(());
     };
-    match a.free_resource(&Discard, account.placed.swap_remove(index)) {
+    match a.free_resource(&Discard, resource) {
         Ok(()) => Ok(()),
         Err((_, _)) => Err(Fail::from("a live resource came back")),
     }
 }
 
 fn free_committed(a: &mut Allocator<SimD3D12>, account: &mut Account, seed: u64) -> Outcome {
-    let Some(index) = pick(seed, account.committed.len()) else {
+    let Some(resource) = pick(&mut account.committed, seed) else {
         return Ok(());
     };
-    let resource = account.committed.swap_remove(index);
     account.sum = account.sum.saturating_sub(resource.size());
     match a.free_resource(&Discard, resource) {
         Ok(()) => Ok(()),
@@ -146,10 +146,9 @@ fn free_committed(a: &mut Allocator<SimD3D12>, account: &mut Account, seed: u64)
 }
 
 fn rename(a: &mut Allocator<SimD3D12>, account: &mut Account, seed: u64) -> Outcome {
-    let Some(index) = pick(seed, account.pieces.len()) else {
+    let Some(mut piece) = pick(&mut account.pieces, seed) else {
         return Ok(());
     };
-    let mut piece = account.pieces.swap_remove(index);
     let named = a.rename_allocation(&mut piece, "another");
     account.pieces.push(piece)?;
     match named {
