@@ -35,50 +35,48 @@ fn buffer(width: u64) -> ResourceDesc {
     }
 }
 
-/// Makes a buffer, placed in a piece of a heap or committed in memory of its own.
-fn create(
-    a: &mut Allocator<SimD3D12>,
-    name: &str,
-    resource_type: &ResourceType,
-) -> std::result::Result<Resource, AllocationError> {
-    let resource_desc = buffer(70_000);
-    a.create_resource(
-        &Discard,
-        &ResourceCreateDesc {
-            name,
-            memory_location: MemoryLocation::GpuOnly,
-            resource_category: ResourceCategory::from(&resource_desc),
-            resource_desc: &resource_desc,
-            castable_formats: &[],
-            clear_value: None,
-            initial_state_or_layout: ResourceStateOrBarrierLayout::ResourceState(0),
-            resource_type,
-        },
-    )
+/// Properties of a heap of the device's own.
+const DEFAULT_HEAP: HeapProperties = HeapProperties {
+    heap_type: HeapType::Default,
+    cpu_page_property: CpuPageProperty::Unknown,
+    memory_pool_preference: MemoryPool::Unknown,
+    creation_node_mask: 0,
+    visible_node_mask: 0,
+};
+
+/// Asks for a buffer in the GPU's memory.
+fn asked<'a>(
+    name: &'a str,
+    resource_desc: &'a ResourceDesc,
+    resource_type: &'a ResourceType<'a>,
+) -> ResourceCreateDesc<'a> {
+    ResourceCreateDesc {
+        name,
+        memory_location: MemoryLocation::GpuOnly,
+        resource_category: ResourceCategory::Buffer,
+        resource_desc,
+        castable_formats: &[],
+        clear_value: None,
+        initial_state_or_layout: ResourceStateOrBarrierLayout::ResourceState(0),
+        resource_type,
+    }
 }
 
-/// Properties of a heap of the device's own.
-fn default_heap() -> HeapProperties {
-    HeapProperties {
-        heap_type: HeapType::Default,
-        cpu_page_property: CpuPageProperty::Unknown,
-        memory_pool_preference: MemoryPool::Unknown,
-        creation_node_mask: 0,
-        visible_node_mask: 0,
+/// Memory of a resource's own, which the allocator only counts.
+fn own_memory() -> ResourceType<'static> {
+    ResourceType::Committed {
+        heap_properties: &DEFAULT_HEAP,
+        heap_flags: HeapFlags(0),
     }
 }
 
 /// Makes a placed and a committed buffer, and gives both back.
 fn use_memory(rt: &HostRuntime, a: &mut Allocator<SimD3D12>) -> Result<()> {
-    let placed = create(a, "vertices", &ResourceType::Placed)?;
-    let committed = create(
-        a,
-        "indices",
-        &ResourceType::Committed {
-            heap_properties: &default_heap(),
-            heap_flags: HeapFlags(0),
-        },
-    )?;
+    let desc = buffer(70_000);
+    let own = own_memory();
+    let in_a_heap = asked("vertices", &desc, &ResourceType::Placed);
+    let placed = a.create_resource(&Discard, &in_a_heap)?;
+    let committed = a.create_resource(&Discard, &asked("indices", &desc, &own))?;
     let (size, capacity) = (placed.size(), a.capacity());
     println!(rt; "d3d12: a placed buffer of {size} bytes in heaps of {capacity}")?;
     if let Some(statistics) = a.committed(0) {

@@ -31,7 +31,11 @@ fn use_memory(rt: &HostRuntime, a: &mut Allocator<SimMetal>) -> Result<()> {
     let uniforms = a.allocate(&Discard, &desc)?;
     // once for a frame, before its command buffers are committed
     a.commit_residency_set();
-    let (count, capacity) = (a.heaps().count(), a.capacity());
+    let mut count: usize = 0;
+    for _ in a.heaps() {
+        count = count.saturating_add(1);
+    }
+    let capacity = a.capacity();
     println!(rt; "metal: {count} heaps of {capacity} bytes, all resident")?;
     a.free(&Discard, vertices).map_err(AllocationError::from)?;
     a.free(&Discard, uniforms).map_err(AllocationError::from)?;
@@ -42,7 +46,7 @@ fn use_memory(rt: &HostRuntime, a: &mut Allocator<SimMetal>) -> Result<()> {
 pub fn tour(rt: &HostRuntime) -> Result<()> {
     let mut a = allocator(rt.alloc())?;
     let done = use_memory(rt, &mut a);
-    let device = a.destroy(&Discard);
+    let device = a.destroy();
     let held = device.held();
     println!(rt; "metal: destroyed: the device holds {held} object, the empty residency set")?;
     done
