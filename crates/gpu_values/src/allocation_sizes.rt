@@ -14,12 +14,16 @@ pub(crate) const LARGEST: u64 = 256 * MB;
 /// How many times a block size doubles at most.
 pub(crate) const DOUBLINGS: usize = 7;
 
-/// The sizes of the blocks that pieces share, in bytes: one range for memory of the device alone, one for memory that
-/// the host can see. With each live block of a memory type the next one's size doubles, at most seven times, up to the
-/// range's maximum. All four limits lie between 4 MB and 256 MB and are multiples of 4 MB.
+/// The sizes in bytes of the blocks that pieces share: one range for memory of the device alone, one for memory that the host
+/// can see. The next shared block of a memory type has the range's minimum, doubled for each of its shared blocks that is
+/// live, at most seven times and up to the range's maximum. All four limits are multiples of 4 MB, from 4 MB to 256 MB. A
+/// request above the next shared block's size gets a block of its own.
 ///
-/// Keep the defaults where memory is plenty. Choose smaller blocks that double where many programs share the GPU or little is
-/// allocated: less is held and not used, for more questions to the driver at the start.
+/// Keep the defaults, 256 MB and 64 MB, where memory is plenty. Change them where
+/// - little is allocated, or many programs share the GPU: begin with small blocks and let them double. Less is held and not
+///   used, for more questions to the driver at the start;
+/// - a budget is small (`set_budget`): a block counts with its whole size, so choose blocks of which it holds several;
+/// - most requests are larger than the blocks, and each asks the driver for memory: choose larger ones.
 #[derive(Clone, Copy, Debug)]
 pub struct AllocationSizes {
     min_device_memblock_size: u64,
@@ -54,8 +58,8 @@ impl AllocationSizes {
     ghost use Rattle.std.specs.Prelude.{◌≡◌, ◌≤◌};
     ghost use Rattle.gpu_values.specs.Sizes.{Sizes, only_size, with_largest, shared_block_size};
 
-    /// One size for all blocks of the device's memory, and one for all blocks that the host can see. Each is brought
-    /// into 4 MB to 256 MB and rounded up to a multiple of 4 MB.
+    /// One size in bytes for all blocks of the device's memory, and one for all blocks that the host can see; they don't
+    /// double. Each is brought into 4 MB to 256 MB and rounded up to a multiple of 4 MB.
     pub fn new(device_memblock_size: u64, host_memblock_size: u64) -> Self
         ensures { result ≡ record { device = only_size device_memblock_size; host = only_size host_memblock_size } }
     {
@@ -69,8 +73,8 @@ impl AllocationSizes {
         }
     }
 
-    /// The same with blocks of the device's memory that double up to this size, which is brought into the limits and is
-    /// at least the size they begin with.
+    /// The same with blocks of the device's memory that double up to this size in bytes. It is brought into the limits as in
+    /// `new`, and is at least the size they begin with.
     pub fn with_max_device_memblock_size(self, size: u64) -> Self
         ensures { result ≡ record self { device = with_largest self.device size } }
     {
@@ -80,8 +84,8 @@ impl AllocationSizes {
         }
     }
 
-    /// The same with blocks of memory that the host can see that double up to this size, which is brought into the
-    /// limits and is at least the size they begin with.
+    /// The same with blocks of memory that the host can see that double up to this size in bytes. It is brought into the
+    /// limits as in `new`, and is at least the size they begin with.
     pub fn with_max_host_memblock_size(self, size: u64) -> Self
         ensures { result ≡ record self { host = with_largest self.host size } }
     {
@@ -91,7 +95,8 @@ impl AllocationSizes {
         }
     }
 
-    /// The size in bytes of the next block of a memory type with `count` live ones.
+    /// The size in bytes of the next shared block of a memory type with `count` live ones. `is_host` says whether the host
+    /// can see its memory.
     pub fn memblock_size(&self, is_host: bool, count: usize) -> u64
         ensures size { result ≡ shared_block_size self.now is_host count }
         ensures low { STEP ≤ result }

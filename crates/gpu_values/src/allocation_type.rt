@@ -16,7 +16,7 @@ pub enum AllocationType {
 }
 
 impl AllocationType {
-    /// The name of the kind.
+    /// The name of the kind: `Free`, `Linear` or `Non-Linear`.
     pub fn as_str(self) -> &'static str
         ensures { result.now ≡ kind_text self }
     {

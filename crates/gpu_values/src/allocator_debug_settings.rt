@@ -1,15 +1,16 @@
 //! What an allocator logs.
 
-/// Which lines an allocator passes to its log.
+/// Which lines an allocator passes to its log. They are of level debug, and leaks of level warn.
 #[derive(Clone, Copy, Debug)]
 pub struct AllocatorDebugSettings {
-    /// The memory types and heaps of the device, when the allocator is made.
+    /// The memory types and heaps of the device, when the allocator is made: Vulkan alone.
     pub log_memory_information: bool,
-    /// The allocations that are still live when the allocator is destroyed.
+    /// The allocations that are still live when the allocator is destroyed: Vulkan and DirectX 12. Metal's `destroy` has no
+    /// log.
     pub log_leaks_on_shutdown: bool,
-    /// Each request.
+    /// Each request for a piece, be it served or refused.
     pub log_allocations: bool,
-    /// Each allocation that is given back.
+    /// Each allocation that `free` is handed, be it given back or refused, and each piece that `free_resource` gives back.
     pub log_frees: bool,
 }
 

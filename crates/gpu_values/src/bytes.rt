@@ -74,7 +74,8 @@ fn unit(divisions: u64) -> &'static str
     }
 }
 
-/// The text of an amount of bytes, with two decimals and a unit from B to EB.
+/// The text of an amount of bytes, with two decimals and a unit from B to EB, each 1,024 of the one before: `1.50 KB`. The only
+/// refusal is `HostOutOfMemory`.
 pub fn fmt_bytes(alloc: Global, amount: u64) -> Result<String>
     ensures text { IfOk result (λ s. IsBytesText amount (string_bytes s)) }
     ensures cause { IfErr result (λ e. e ≡ HostOutOfMemory) }

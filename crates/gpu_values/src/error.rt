@@ -12,27 +12,31 @@ use std::fmt;
 /// What an allocator's calls answer.
 pub type Result<V, E = AllocationError> = std::result::Result<V, E>;
 
-/// What went wrong, in fixed words, and the code that the device told, where it told one.
+/// What went wrong. It prints its words and, where it has one, the code: `vkMapMemory failed (code -5)`.
 #[derive(Clone, Copy, Debug)]
 pub struct Fault {
+    /// Fixed words.
     pub text: &'static str,
+    /// The code that the device told, where it told one.
     pub code: Option<i64>,
 }
 
 /// Why a call was refused.
 #[derive(Debug, Drop)]
 pub enum AllocationError {
-    /// There is no place: in a block that is asked directly, in the request's heap, or on the device (error E1).
+    /// There is no place: in a block that is asked directly, in the request's heap, or on the device; or a sum of sizes would
+    /// pass `u64::MAX` (error E1).
     OutOfMemory,
-    /// The device refused to map memory, or gave a null pointer (error E2).
+    /// The device refused to map memory, or gave a null pointer. The memory has gone back (error E2).
     FailedToMap(Fault),
-    /// No memory type has the flags that the request's location needs (error E3).
+    /// None of the memory types that the request allows has the flags that its location needs (error E3).
     NoCompatibleMemoryTypeFound,
     /// The size is 0, or the alignment isn't a power of two (error E4).
     InvalidAllocationCreateDesc,
     /// The allocator's description, or a property of the device, is invalid (error E5).
     InvalidAllocatorCreateDesc(Fault),
-    /// An allocation, a resource or a number isn't live, or the device told another fault (error E6).
+    /// An allocation, a resource or a number isn't live, there is no such memory type, or the device refused for a cause that
+    /// has no error of its own (error E6).
     Internal(Fault),
     /// A resource that begins in a barrier layout needs `Device10` (error E7).
     BarrierLayoutNeedsDevice10,

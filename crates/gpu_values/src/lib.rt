@@ -1,5 +1,5 @@
-// What callers of GPU memory allocators set and are told: block sizes, settings, kinds of pieces, why a call is refused,
-// and reports of what is allocated.
+//! What callers of GPU memory allocators set and are told: block sizes, settings, kinds of pieces, why a call is refused,
+//! and reports of what is allocated.
 #![tactic(auto)]
 
 mod allocation_sizes;

@@ -16,7 +16,7 @@ pub struct AllocationReport {
     pub size: u64,
 }
 
-/// One block: its size in bytes, and which of the report's rows are its pieces.
+/// One block: its size in bytes, and which of the report's rows (`AllocatorReport::allocations`) are its pieces.
 #[derive(Drop)]
 pub struct MemoryBlockReport {
     pub size: u64,
@@ -28,7 +28,9 @@ pub struct MemoryBlockReport {
 pub struct AllocatorReport {
     pub allocations: Vec<AllocationReport>,
     pub blocks: Vec<MemoryBlockReport>,
+    /// The bytes of all pieces, padding included.
     pub total_allocated_bytes: u64,
+    /// The bytes of all blocks.
     pub total_capacity_bytes: u64,
 }
 
@@ -47,7 +49,8 @@ impl AllocationReport {
         })
     }
 
-    /// The name, quoted, and the size: `"vertices": 1.50 KB`. The only refusal is `HostOutOfMemory`.
+    /// The name, quoted, and the size: `"vertices": 1.50 KB`. An empty name is shown as `"--"`. The only refusal is
+    /// `HostOutOfMemory`.
     pub fn text(&self) -> Result<String>
         ensures text { IfOk result (λ s. IsRowText (row_of self.now) (string_bytes s)) }
         ensures cause { IfErr result (λ e. e ≡ HostOutOfMemory) }
@@ -65,7 +68,7 @@ impl AllocationReport {
 }
 
 impl MemoryBlockReport {
-    /// The same block again. It can't be refused.
+    /// The same block again. It is never refused.
     pub fn clone(&self) -> Result<Self>
         ensures { result ≡ Ok self.now }
     {
@@ -152,8 +155,8 @@ impl AllocatorReport {
         })
     }
 
-    /// The sums, the numbers of blocks and pieces, and the largest pieces, at most `limit` of them where it is given.
-    /// The only refusal is `HostOutOfMemory`.
+    /// The sums, the numbers of blocks and pieces, and the pieces with the largest first: all, or at most `limit` of them. The
+    /// only refusal is `HostOutOfMemory`.
     pub fn text(&self, limit: Option<usize>) -> Result<String>
         ensures text { IfOk result (λ s. IsReportText (report_of self.now) limit (string_bytes s)) }
         ensures cause { IfErr result (λ e. e ≡ HostOutOfMemory) }
