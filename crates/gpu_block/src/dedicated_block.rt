@@ -36,7 +36,7 @@ impl DedicatedBlockAllocator {
     ghost use Rattle.gpu_block_pieces.specs.Request.{request};
     ghost use Rattle.gpu_block.specs.Dedicated.{IsWhole, empty_dedicated, held_extents, DedicatedTakes, IsDedicatedTakeRefusal, DedicatedReleases, IsDedicatedReleaseRefusal, DedicatedRenames, IsDedicatedRenameRefusal};
 
-    /// An empty block of `size` bytes.
+    /// An empty block of `size` bytes, which isn't 0. It takes no memory.
     pub fn new(alloc: Global, size: u64) -> Self
         requires { 0 < size }
         ensures { result ≡ empty_dedicated size }
@@ -48,8 +48,9 @@ impl DedicatedBlockAllocator {
         }
     }
 
-    /// Takes the whole block. `OutOfMemory` where it is taken, else `Internal` on another size, else
-    /// `HostOutOfMemory` where the host refused memory; a refusal leaves the block as it was.
+    /// Takes the whole block, and answers offset 0 and number 1. `OutOfMemory` where it is taken, else `Internal` where `size`
+    /// (bytes) isn't the block's, else `HostOutOfMemory` where the host refused memory for the name; a refusal leaves the block
+    /// as it was. `kind` isn't `Free`.
     pub fn allocate(
         &mut self,
         size: u64,
@@ -82,7 +83,8 @@ impl DedicatedBlockAllocator {
         Ok((0, NonZeroU64::MIN))
     }
 
-    /// Gives the piece back. It takes no memory. `Internal` where the number isn't 1, or no piece is held.
+    /// Gives the piece back. It takes no memory. `Internal` where the number is missing or isn't 1, or no piece is held; then
+    /// nothing changes.
     pub fn free(&mut self, chunk_id: Option<NonZeroU64>) -> Result<()>
         ensures freed { OnOk result
             (IsSomeAnd chunk_id (λ n. DedicatedReleases self.old (non_zero_u64_get n) self.new)) }
@@ -98,7 +100,7 @@ impl DedicatedBlockAllocator {
         Ok(())
     }
 
-    /// Gives the piece another name. `Internal` where the number isn't 1, or no piece is held, else
+    /// Gives the piece another name. `Internal` where the number is missing or isn't 1, or no piece is held, else
     /// `HostOutOfMemory` where the host refused memory; a refusal leaves the block as it was.
     pub fn rename_allocation(&mut self, chunk_id: Option<NonZeroU64>, name: &str) -> Result<()>
         ensures renamed { OnOk result
@@ -117,7 +119,7 @@ impl DedicatedBlockAllocator {
         }
     }
 
-    /// The bytes of the piece.
+    /// The bytes of the piece; 0 where none is held.
     pub fn allocated(&self) -> u64
         ensures sum { result ≡ extent_bytes (held_extents self.now) }
         ensures within { result ≤ self.now.size }

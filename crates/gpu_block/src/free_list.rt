@@ -42,7 +42,8 @@ impl FreeListAllocator {
 
     /// Takes the best place for `size` bytes, and answers the piece's offset in bytes and its number. `OutOfMemory` where
     /// there is no place, else `HostOutOfMemory` where the host refused memory; a refusal leaves the block as it was.
-    /// What the piece's `free` will need is taken here.
+    /// What the piece's `free` will need is taken here. `size` isn't 0, `alignment` (bytes) is a power of two, `kind` isn't
+    /// `Free`, and `granularity` is the one that the block was made with.
     pub fn allocate(
         &mut self,
         size: u64,
@@ -95,7 +96,7 @@ impl FreeListAllocator {
         self.pieces.free(chunk_id, &mut self.cost)
     }
 
-    /// Gives a live piece another name. `Internal` where the number is missing, a gap's or not there, else
+    /// Gives a live piece another name. `Internal` where the number is missing, a gap's or nobody's, else
     /// `HostOutOfMemory` where the host refused memory; a refusal leaves the block as it was.
     pub fn rename_allocation(&mut self, chunk_id: Option<NonZeroU64>, name: &str) -> Result<()>
         ensures renamed { OnOk result

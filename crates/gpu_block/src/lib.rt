@@ -1,4 +1,4 @@
-// One block of GPU memory: which piece lies where, and what reports and leaks say of it. It holds no memory of a device.
+//! One block of GPU memory: which piece lies where, and what reports and leaks say of it. It holds no memory of a device.
 #![tactic(auto)]
 
 mod dedicated_block;

@@ -27,8 +27,9 @@ impl FreeListAllocator {
     ghost use Rattle.gpu_block_pieces.specs.FreeList.{FindsPlace, fresh_free_list, extent_bytes};
     ghost use Rattle.gpu_block_pieces.specs.Laws.{IsSound, IsInOrder};
 
-    /// A block of `size` bytes without pieces: one gap with number 1, and 2 is the next new number. `granularity` is the
-    /// page size in bytes: Vulkan's bufferImageGranularity, elsewhere 1. The only refusal is `HostOutOfMemory`.
+    /// A block of `size` bytes without pieces: one gap with number 1, and 2 is the next new number. `size` isn't 0.
+    /// `granularity` is the page size in bytes, a power of two: Vulkan's bufferImageGranularity, elsewhere 1. The only refusal
+    /// is `HostOutOfMemory`.
     pub fn new(alloc: Global, size: u64, granularity: u64) -> Result<Self>
         requires sized { 0 < size }
         requires paged { IsTrue (is_power_of_two granularity) }
@@ -40,7 +41,7 @@ impl FreeListAllocator {
         Self::with_counter(alloc, size, granularity, 2)
     }
 
-    /// The same with another first new number, for tests of the last one.
+    /// The same with another first new number, 2 or more, for tests of the last one.
     pub fn with_counter(alloc: Global, size: u64, granularity: u64, counter: u64) -> Result<Self>
         requires sized { 0 < size }
         requires paged { IsTrue (is_power_of_two granularity) }
@@ -72,7 +73,7 @@ impl FreeListAllocator {
         self.pieces.place_of(number, &mut Cost::begin(&Reading))
     }
 
-    /// The live pieces in order of offset. The only refusal is `HostOutOfMemory`.
+    /// The live pieces in order of offset, each with its own offset and size. The only refusal is `HostOutOfMemory`.
     pub fn report_allocations(&self) -> Result<Vec<AllocationReport>>
         ensures rows { IfOk result (λ v. map row_of v.items ≡ map extent_row self.now.block.extents) }
         ensures cause { IfErr result (λ e. e ≡ HostOutOfMemory) }

@@ -17,7 +17,9 @@ use std::num::NonZeroU64;
 /// A block of memory: one that is cut into pieces, or one that is one piece's own. Offsets and sizes are in bytes.
 #[derive(Drop)]
 pub enum SubAllocator {
+    /// Cut into pieces.
     FreeList(FreeListAllocator),
+    /// One piece's own.
     Dedicated(DedicatedBlockAllocator),
 }
 
@@ -27,10 +29,11 @@ impl SubAllocator {
     ghost use Rattle.gpu_block.specs.Leak.{leaks_of, leak_text};
     ghost use Rattle.gpu_block.specs.Block.{extents_of, size_of, allocated_bytes, is_general, HasPages, TakesIn, IsTakeRefusalIn, ReleasesIn, IsReleaseRefusalIn, RenamesIn, IsRenameRefusalIn, IsSoundBlock, IsOrderedBlock, HasPagesApart, IsCoveredBlock, IsFitLaw, IsSearchIn, CountsRise};
 
-    /// Takes a place for `size` bytes, and answers the piece's offset and number. A free list takes the least place in
-    /// the shortest gap that fits, and refuses by `OutOfMemory` where there is none. A dedicated block takes a piece of
+    /// Takes a place for `size` bytes, and answers the piece's offset in bytes and its number. A free list takes the least place
+    /// in the shortest gap that fits, and refuses by `OutOfMemory` where there is none. A dedicated block takes a piece of
     /// its own size alone: `OutOfMemory` where it is taken, else `Internal` on another size. `HostOutOfMemory` comes
-    /// only where there is a place. A refusal leaves the block as it was.
+    /// only where there is a place. A refusal leaves the block as it was. `size` isn't 0, `alignment` (bytes) is a power of
+    /// two, `kind` isn't `Free`, and a free list is asked with the granularity that it was made with.
     #[tactic(auto, unfolding(crate::specs::Block::IsSearchIn))]
     pub fn allocate(
         &mut self,
@@ -152,7 +155,7 @@ impl SubAllocator {
         }
     }
 
-    /// The offset and the size in bytes of the live piece with that number.
+    /// The offset and the size in bytes of the live piece with that number; `None` where there is none.
     pub fn place_of(&self, number: NonZeroU64) -> Option<(u64, u64)>
         ensures { FindsPlace (extents_of (block_of self.now)) (non_zero_u64_get number) result }
     {

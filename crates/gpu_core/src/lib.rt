@@ -1,4 +1,5 @@
-// The blocks of one memory type, with no device at hand. What stands below, blocks and plain values, is given again here.
+//! The blocks of one memory type, with no device at hand: which piece lies where, and which block is needed. Re-exports blocks and
+//! plain values.
 #![tactic(auto)]
 
 mod memory_type;

@@ -25,11 +25,15 @@ pub use type_leaks::TypeLeaks;
 /// What is asked of a memory type. Size and alignment are bytes.
 #[derive(Clone, Copy, Debug)]
 pub struct Request<'a> {
+    /// Not 0.
     pub size: u64,
+    /// A power of two.
     pub alignment: u64,
+    /// Not `Free`.
     pub kind: AllocationType,
     /// Whether the piece shall have a block of its own.
     pub dedicated: bool,
+    /// What reports and leaks show.
     pub name: &'a str,
 }
 
@@ -49,7 +53,8 @@ pub struct Piece<H> {
 pub enum Prepared<H> {
     /// A shared block has served it.
     Taken(Piece<H>),
-    /// A new block is needed: ask the device for it, and then call `install`.
+    /// A new block is needed: ask the device for it, and then call `install`. Where the device refuses, drop this; nothing has
+    /// changed.
     NeedBlock(NeedBlock),
 }
 
@@ -94,7 +99,7 @@ impl<H: Copy + Eq> MemoryType<H> {
     ghost use Rattle.gpu_core.specs.Report.{report_of};
 
     /// A memory type without blocks. `is_host` says which of the block sizes are its own; `granularity` is the page size
-    /// of its blocks in bytes: Vulkan's bufferImageGranularity, elsewhere 1.
+    /// of its blocks in bytes, a power of two: Vulkan's bufferImageGranularity, elsewhere 1. It takes no memory.
     pub fn new(alloc: Global, is_host: bool, granularity: u64) -> Self
         requires { IsTrue (is_power_of_two granularity) }
         ensures slots { result.slots ≡ [] }
@@ -115,7 +120,9 @@ impl<H: Copy + Eq> MemoryType<H> {
     }
 
     /// Takes a piece of the highest shared block that has a place; else says which new block is needed, with all host
-    /// memory for it at hand. The only refusal is `HostOutOfMemory`, and leaves the slots as they were.
+    /// memory for it at hand. That is one of the piece's own where the request wants it or is above the next shared block's
+    /// size. The only refusal is `HostOutOfMemory`, and leaves the slots as they were. The budget isn't looked at
+    /// (`fits_budget`).
     pub fn prepare(&mut self, request: &Request, sizes: &AllocationSizes) -> Result<Prepared<H>>
         requires sized { 0 < request.now.size }
         requires aligned { IsTrue (is_power_of_two request.now.alignment) }
@@ -147,7 +154,8 @@ impl<H: Copy + Eq> MemoryType<H> {
     }
 
     /// Puts in the block that `prepare` asked for, under the device's number of it, and answers the piece in it. It
-    /// takes no memory and can't be refused.
+    /// takes no memory and can't be refused. There is room for the block, as `prepare` leaves it, and the sum of all sizes stays
+    /// in 64 bits.
     pub fn install(&mut self, need: NeedBlock, number: H) -> Piece<H>
         requires ready { CanInstall self.old need.size need.dedicated need.room }
         requires sum { capacity_of self.old.slots + need.size < 2 ^ 64 }
@@ -182,8 +190,8 @@ impl<H: Copy + Eq> MemoryType<H> {
     }
 
     /// Gives a piece back, and names the block that went with it, if one did: a dedicated block goes, and so does an
-    /// emptied shared one beside another. It takes no memory. `Internal` where the piece isn't live, and then nothing
-    /// changes.
+    /// emptied shared one where another shared one is live. It takes no memory. `Internal` where the piece isn't live, and then
+    /// nothing changes.
     pub fn free(&mut self, piece: &Piece<H>) -> Result<Option<H>>
         ensures released { IfOk result (λ gone.
             ReleasesPiece (IsTrue (has_several self.old.slots)) self.old.slots piece.now gone self.new.slots) }
@@ -263,7 +271,8 @@ impl<H: Copy + Eq> MemoryType<H> {
         self.budget
     }
 
-    /// Whether a new block of `size` bytes keeps the sum of the sizes of the live blocks within the budget.
+    /// Whether a new block of `size` bytes keeps the sum of the sizes of the live blocks within the budget; true where there is
+    /// none.
     pub fn fits_budget(&self, size: u64) -> bool
         ensures { result ≡ fits_budget self.now.budget (capacity_of self.now.slots + size) }
     {
@@ -321,7 +330,8 @@ impl<H: Copy + Eq> MemoryType<H> {
     }
 
     /// Adds the live blocks, their pieces and the sums of both to a report, by slot and then by offset. The only refusal
-    /// is `HostOutOfMemory`, and then the report holds a part of it: drop it.
+    /// is `HostOutOfMemory`, and then the report holds a part of it: drop it. The report's sums with the capacity stay in 64
+    /// bits.
     pub fn report(&self, report: &mut AllocatorReport) -> Result<()>
         requires allocated { report.old.total_allocated_bytes + capacity_of self.now.slots < 2 ^ 64 }
         requires capacity { report.old.total_capacity_bytes + capacity_of self.now.slots < 2 ^ 64 }

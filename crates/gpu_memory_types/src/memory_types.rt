@@ -161,8 +161,8 @@ impl<H: Copy + Eq> MemoryTypes<H> {
         }
     }
 
-    /// Takes a piece of the memory type at `index`, or says which new block is needed for it, as `MemoryType::prepare`
-    /// does. `HostOutOfMemory` where the host refused memory; `OutOfMemory` where a new block would carry the sum of all
+    /// Takes a piece of the memory type at `index`, which is there, or says which new block is needed for it, as
+    /// `MemoryType::prepare` does; no device is asked. `HostOutOfMemory` where the host refused memory; `OutOfMemory` where a new block would carry the sum of all
     /// blocks' sizes past `u64::MAX`, else `BudgetExceeded` where it would carry that of its memory type past its budget;
     /// a refusal leaves the slots as they were.
     pub fn prepare(

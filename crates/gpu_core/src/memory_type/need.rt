@@ -40,7 +40,7 @@ pub struct NeedBlock {
     pub size: u64,
     /// Whether the block is the piece's own.
     pub dedicated: bool,
-    /// The growths that were made for it.
+    /// The block's lists with the piece in them, which `install` takes.
     pub room: Room,
 }
 
