@@ -7,7 +7,8 @@ use gpu_device::vulkan::{DeviceMemory, MemoryPropertyFlags};
 use std::num::NonZeroU64;
 
 /// A piece of device memory: bytes `offset..offset + size` of `memory`. Bind a buffer or image to it there. Give it
-/// back by the allocator's `free`. A null allocation, `Allocation::default()`, is no piece.
+/// back by the allocator's `free`; one that is let go otherwise stays live until `destroy`. A null allocation,
+/// `Allocation::default()`, is no piece.
 #[derive(Debug, Drop)]
 pub struct Allocation {
     pub(super) chunk_id: Option<NonZeroU64>,
@@ -32,14 +33,14 @@ impl Allocation {
         self.chunk_id
     }
 
-    /// What its memory is like.
+    /// What its memory is like: the flags of its memory type. None where it is null.
     pub fn memory_properties(&self) -> MemoryPropertyFlags
         ensures { result ≡ self.now.memory_properties }
     {
         self.memory_properties
     }
 
-    /// The memory that it lies in.
+    /// The memory that it lies in; 0 where it is null.
     pub fn memory(&self) -> DeviceMemory
         ensures { result ≡ self.now.device_memory }
     {
@@ -53,14 +54,14 @@ impl Allocation {
         self.dedicated
     }
 
-    /// Where it begins in its memory, in bytes.
+    /// Where it begins in its memory, in bytes; a multiple of the alignment that was asked for.
     pub fn offset(&self) -> u64
         ensures { result ≡ self.now.offset }
     {
         self.offset
     }
 
-    /// Its size in bytes.
+    /// Its size in bytes, as it was asked for; 0 where it is null.
     pub fn size(&self) -> u64
         ensures { result ≡ self.now.size }
     {
@@ -74,21 +75,21 @@ impl Allocation {
         Option::is_none(&self.chunk_id)
     }
 
-    /// The index of its memory type.
+    /// The index of its memory type; `usize::MAX` where it is null.
     pub fn memory_type_index(&self) -> usize
         ensures { result ≡ self.now.memory_type_index }
     {
         self.memory_type_index
     }
 
-    /// The slot of its block in its memory type.
+    /// The slot of its block in its memory type; `usize::MAX` where it is null.
     pub fn memory_block_index(&self) -> usize
         ensures { result ≡ self.now.memory_block_index }
     {
         self.memory_block_index
     }
 
-    /// Whether the host can read and write its bytes.
+    /// Whether its memory type is mapped, so that the host can read and write its bytes; false where it is null.
     pub fn is_mapped(&self) -> bool
         ensures { result ≡ self.now.mapped }
     {

@@ -66,9 +66,10 @@ impl<D: VulkanDevice> Model for Allocator<D> {
 impl<D: VulkanDevice> Allocator<D> {
     ghost use Rattle.gpu_vulkan.specs.Lends.{lends_piece, written_at, ChangesOnly};
 
-    /// An allocator without blocks. Where it can't be made, the device comes back beside the error:
-    /// `InvalidAllocatorCreateDesc` for a null physical device, a granularity that isn't a power of two, more than 32 memory
-    /// types, or a memory type in a heap that isn't there; else `HostOutOfMemory`.
+    /// An allocator without blocks and without budgets, which owns the device. Where it can't be made, the device comes back
+    /// as it was, beside the error: `InvalidAllocatorCreateDesc` for the first that holds of a null physical device, a
+    /// granularity that isn't a power of two, more than 32 memory types, and a memory type in a heap that isn't there; else
+    /// `HostOutOfMemory`.
     pub fn new<L: Log>(
         log: &L,
         alloc: Global,
@@ -119,8 +120,8 @@ impl<D: VulkanDevice> Allocator<D> {
         }
     }
 
-    /// Takes a piece of device memory, of a block that is there or of a new one. The errors, in the order in which they are
-    /// looked at:
+    /// Takes a piece of device memory, of a block that is there or of a new one. Its bytes are what the block has at its place:
+    /// they aren't cleared. The errors, in the order in which they are looked at:
     /// - `InvalidAllocationCreateDesc`: the size is 0, or the alignment isn't a power of two;
     /// - `NoCompatibleMemoryTypeFound`: no memory type of `memory_type_bits` has the flags that the location must have;
     /// - `OutOfMemory`: the request is above its heap;
@@ -130,8 +131,9 @@ impl<D: VulkanDevice> Allocator<D> {
     /// - `OutOfMemory`, `Internal` or `FailedToMap`: the device refused the block's memory for want of memory (code -2), for
     ///   another cause, or refused to map it.
     ///
-    /// A request for uploads (`CpuToGpu`) that is refused for any cause but want of host memory is tried once more at the first
-    /// memory type with HOST_VISIBLE and HOST_COHERENT, and that answer counts. A refusal leaves everything as it was.
+    /// A request for uploads (`CpuToGpu`) that one memory type refuses for any cause but want of host memory is tried once more
+    /// at the first of `memory_type_bits` with HOST_VISIBLE and HOST_COHERENT, and that answer counts. A refusal leaves every
+    /// block as it was, and the device holds what it held.
     pub fn allocate<L: Log>(&mut self, log: &L, desc: &AllocationCreateDesc) -> Result<Allocation>
         ensures allocates { Allocates D.VulkanDevice self.old.setup self.old.budgets desc.now self.old.slots self.old.device result self.new.slots self.new.device }
         ensures constant { (self.new.first ≡ self.old.first) × (self.new.setup ≡ self.old.setup) × (self.new.budgets ≡ self.old.budgets) }
@@ -207,7 +209,8 @@ impl<D: VulkanDevice> Allocator<D> {
         let _ = &self.device;
     }
 
-    /// Whether an allocation is live: the allocator has a record with its type, slot, number, offset, size and memory.
+    /// Whether an allocation is live: the allocator has a record with its type, slot, number, offset, size and memory. A null
+    /// one isn't.
     pub fn is_live(&self, allocation: &Allocation) -> bool
         ensures { IsTrue result ↔ IsLive self.now.slots allocation.now }
     {
@@ -230,8 +233,8 @@ impl<D: VulkanDevice> Allocator<D> {
         self.device.bytes(allocation.device_memory, allocation.offset, allocation.size)
     }
 
-    /// Lends the bytes of a live allocation in mapped memory to be written. `mapped_slice` tells whether there are any.
-    /// A write through them changes this allocation's bytes alone.
+    /// Lends the bytes of a live allocation in mapped memory to be written; its caller knows that it is such a one, as
+    /// `mapped_slice` tells. A write through them changes this allocation's bytes alone. It takes no memory.
     pub fn slice_mut(&mut self, allocation: &Allocation) -> &mut [u8]
         requires { IsMapped self.old.setup.properties self.old.slots allocation.now }
         ensures* lends { sem 𝓛 (lends_piece D.row D.VulkanDevice self.entry allocation.now result) }
@@ -246,6 +249,7 @@ impl<D: VulkanDevice> Allocator<D> {
     }
 
     /// Lends the same bytes to be written where the allocation is live and in mapped memory; else `None`. It takes no memory.
+    /// What a write leaves is promised of `slice_mut` alone.
     pub fn mapped_slice_mut(&mut self, allocation: &Allocation) -> Option<&mut [u8]>
         ensures mapped { IsSome result ↔ IsMapped self.old.setup.properties self.old.slots allocation.now }
         ensures value { IfSome result (λ s. bytes_at (D.held self.old.device) allocation.now ≡ Some s.now) }
@@ -258,7 +262,7 @@ impl<D: VulkanDevice> Allocator<D> {
         }
     }
 
-    /// The same as a slab.
+    /// The same as a slab: `None` where the allocation is null, isn't live or isn't mapped. It takes no memory.
     pub fn try_as_mapped_slab(
         &mut self,
         allocation: &Allocation,
@@ -276,8 +280,8 @@ impl<D: VulkanDevice> Allocator<D> {
     }
 
     /// Gives an allocation back, and its block with it where the block is left empty and isn't the only shared one of its
-    /// memory type. A null allocation is nothing to give back; one that isn't live comes back beside `Internal`, and then
-    /// nothing changes. It takes no memory.
+    /// memory type. A live one is never refused. A null one is nothing to give back; any other comes back as it was, beside
+    /// `Internal`, and then nothing changes. It takes no memory.
     pub fn free<L: Log>(
         &mut self,
         log: &L,
@@ -338,7 +342,7 @@ impl<D: VulkanDevice> Allocator<D> {
     }
 
     /// Gives every block back, and returns the device, which then holds what it held when it was handed in. What is still
-    /// live is logged first, as warnings, where the settings ask for it.
+    /// live is logged first, as warnings, where the settings ask for it; its memory goes all the same. It is never refused.
     pub fn destroy<L: Log>(self, log: &L) -> D
         ensures held { D.held result ≡ D.held self.first }
         ensures counts_nothing { D.refused result ≡ D.refused self.device }

@@ -72,7 +72,8 @@ pub fn first_type(types: &[MemoryTypeInfo], bits: u32, flags: MemoryPropertyFlag
     None
 }
 
-/// The memory type that a location takes: the first with all that it prefers, else the first with all that it must have.
+/// The memory type that a location takes, of those whose bit is set: the first with all that it prefers, else the first with
+/// all that it must have; `None` where there is neither.
 pub fn best_type(types: &[MemoryTypeInfo], bits: u32, location: MemoryLocation) -> Option<usize>
     ensures best { result ≡ best_type types.now bits location }
     ensures there { IfSome result (λ index. index < length types.now) }

@@ -19,18 +19,22 @@ pub struct AllocationCreateDesc<'a> {
     pub location: MemoryLocation,
     /// Whether it is a buffer or a linear image. Others keep to pages of their own (`bufferImageGranularity`).
     pub linear: bool,
-    /// Whether it shares a block, or has memory for itself.
+    /// Whether it shares a block, or has memory for itself. One above the next shared block's size has a block of its own in
+    /// either case.
     pub allocation_scheme: AllocationScheme,
 }
 
 /// What an allocator is made from. It owns the device until `destroy` gives it back.
 pub struct AllocatorCreateDesc<D> {
+    /// What memory is asked of: your implementation of `VulkanDevice`.
     pub device: D,
     /// Must not be null.
     pub physical_device: PhysicalDevice,
+    /// Which lines are logged.
     pub debug_settings: AllocatorDebugSettings,
     /// Whether memory is made so that shaders may read its address (`bufferDeviceAddress`).
     pub buffer_device_address: bool,
+    /// How large the shared blocks are, in bytes.
     pub allocation_sizes: AllocationSizes,
 }
 
