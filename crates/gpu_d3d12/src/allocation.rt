@@ -7,7 +7,7 @@ use gpu_device::d3d12::ID3D12Heap;
 use std::num::NonZeroU64;
 
 /// A piece of a heap: bytes `offset..offset + size` of `heap`. Place a resource there. Give it back by the allocator's
-/// `free`.
+/// `free`; one that is let go otherwise stays live until `destroy`.
 #[derive(Debug, Drop)]
 pub struct Allocation {
     pub(crate) number: NonZeroU64,
@@ -22,7 +22,7 @@ pub struct Allocation {
 impl Allocation {
     ghost use Rattle.gpu_d3d12.specs.Live.{piece_of};
 
-    /// The number of the piece in its block.
+    /// The number of the piece in its block. It is always there.
     pub fn chunk_id(&self) -> Option<NonZeroU64>
         ensures { result ≡ Some self.now.number }
     {
@@ -36,14 +36,14 @@ impl Allocation {
         self.heap
     }
 
-    /// Where it begins in its heap, in bytes.
+    /// Where it begins in its heap, in bytes; a multiple of the alignment that was asked for.
     pub fn offset(&self) -> u64
         ensures { result ≡ self.now.offset }
     {
         self.offset
     }
 
-    /// Its size in bytes.
+    /// Its size in bytes, as it was asked for.
     pub fn size(&self) -> u64
         ensures { result ≡ self.now.size }
     {

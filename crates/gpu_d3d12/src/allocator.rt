@@ -80,8 +80,10 @@ impl<D: D3D12Device> Model for Allocator<D> {
 }
 
 impl<D: D3D12Device> Allocator<D> {
-    /// An allocator without blocks. Where it can't be made, the device comes back beside `Internal`, if it can't tell its
-    /// heap tier, or `HostOutOfMemory`.
+    /// An allocator without blocks and without budgets, which owns the device. Memory types 0, 1 and 2 are those for `GpuOnly`,
+    /// `CpuToGpu` and `GpuToCpu`; at heap tier 1 each location has three, for buffers, render targets with depth stencils, and
+    /// other textures. Where it can't be made, the device comes back as it was, beside `Internal` with the device's code, if
+    /// that can't tell its heap tier, else `HostOutOfMemory`.
     pub fn new(
         alloc: Global,
         desc: AllocatorCreateDesc<D>,
@@ -127,10 +129,15 @@ impl<D: D3D12Device> Allocator<D> {
         }
     }
 
-    /// Takes a piece of a heap. `InvalidAllocationCreateDesc` where the size is 0 or the alignment isn't a power of two;
-    /// `HostOutOfMemory`; `OutOfMemory` where a new block would carry the sum of all blocks' sizes past `u64::MAX` or the
-    /// device has no memory for it; `BudgetExceeded` where it would carry that of its memory type past its budget; `Internal`
-    /// where it refuses for another cause. A refusal changes nothing.
+    /// Takes a piece of a heap that is there or of a new one. The errors, in the order in which they are looked at:
+    /// - `InvalidAllocationCreateDesc`: the size is 0, or the alignment isn't a power of two;
+    /// - `HostOutOfMemory`: the host refused memory for the name, the record or the block's own lists;
+    /// - `OutOfMemory`: a new block would carry the sum of all blocks' sizes past `u64::MAX`;
+    /// - `BudgetExceeded`: a new block would carry its memory type past its budget (`set_budget`);
+    /// - `OutOfMemory` or `Internal`: the device refused the heap for want of memory (`E_OUTOFMEMORY`), or for another cause,
+    ///   or gave null.
+    ///
+    /// A refusal leaves every block as it was, and the device holds what it held.
     pub fn allocate<L: Log>(&mut self, log: &L, desc: &AllocationCreateDesc) -> Result<Allocation>
         ensures allocates { Allocates D.D3D12Device self.old.setup self.old.budgets desc.now self.old.slots (device_of self.old.device) result self.new.slots (device_of self.new.device) }
         ensures constant { (self.new.first ≡ self.old.first) × (self.new.setup ≡ self.old.setup) × (self.new.committed ≡ self.old.committed) }
@@ -190,7 +197,8 @@ impl<D: D3D12Device> Allocator<D> {
     }
 
     /// Gives an allocation back, and its block with it where the block is left empty and isn't the only shared one of its
-    /// memory type. One that isn't live comes back beside `Internal`, and then nothing changes. It takes no memory.
+    /// memory type. A live one is never refused; any other comes back as it was, beside `Internal`, and then nothing changes.
+    /// Release what you placed there before. It takes no memory.
     pub fn free<L: Log>(
         &mut self,
         log: &L,
@@ -280,11 +288,20 @@ impl<D: D3D12Device> Allocator<D> {
         )
     }
 
-    /// Makes a resource: in a piece of a heap, or in memory of its own. `CastableFormatsRequiresEnhancedBarriers`,
-    /// `CastableFormatsRequiresAtLeastDevice12` or `BarrierLayoutNeedsDevice10` where the device's interface can't make it so,
-    /// which it isn't asked then. A placed one is refused as by `allocate`, a committed one with `OutOfMemory` where the
-    /// sizes' sum would pass `u64::MAX`, or `HostOutOfMemory`; either with `Internal` where the device refuses it, and then no
-    /// piece is left live.
+    /// Makes a resource: in a piece of a heap, or in memory of its own. Its size in bytes and its alignment are what the device
+    /// tells. The errors, in the order in which they are looked at:
+    /// - `CastableFormatsRequiresEnhancedBarriers`: it has castable formats and begins in a state;
+    /// - `CastableFormatsRequiresAtLeastDevice12`: it has castable formats, and the device is no `Device12`;
+    /// - `BarrierLayoutNeedsDevice10`: it begins in a layout, and the device is no `Device10` or `Device12`;
+    /// - a placed one: each error of `allocate`;
+    /// - a committed one: `OutOfMemory` where the sizes of its memory type's committed resources would sum up past `u64::MAX`,
+    ///   else `HostOutOfMemory` where the host refused memory for its record;
+    /// - `Internal`: the device refused the resource, for want of memory too, or gave null. The code is the device's, or the
+    ///   reason for which it was removed.
+    ///
+    /// A refusal leaves what is live as it was, and the device holds no new resource. One thing may stay: where the device
+    /// refuses a placed resource, its piece goes again, but a heap that was made for the piece is kept, empty, where it is the
+    /// only shared one of its memory type.
     pub fn create_resource<L: Log>(
         &mut self,
         log: &L,
@@ -312,8 +329,9 @@ impl<D: D3D12Device> Allocator<D> {
         }
     }
 
-    /// Gives a resource back, and with it its piece or its memory. One whose piece or record isn't live comes back beside
-    /// `Internal`, and then nothing changes. It takes no memory.
+    /// Gives a resource back, and then its piece, with the block as by `free`, or the memory of its own. One whose piece or
+    /// record is live is never refused; any other comes back as it was, beside `Internal`, and then nothing changes. It takes
+    /// no memory.
     pub fn free_resource<L: Log>(
         &mut self,
         log: &L,
@@ -339,7 +357,7 @@ impl<D: D3D12Device> Allocator<D> {
     }
 
     /// How many committed resources of the memory type at `memory_type` there are that were not given back, and their sizes'
-    /// sum; `None` where it isn't there.
+    /// sum in bytes; `None` where there is no such memory type.
     pub fn committed(&self, memory_type: usize) -> Option<CommittedAllocationStatistics>
         ensures statistics { result ≡ statistics_at self.now.committed memory_type }
         ensures step { IsStep D.D3D12Device (Statistics memory_type) (Counts result) self.now self.now }
@@ -385,7 +403,8 @@ impl<D: D3D12Device> Allocator<D> {
     }
 
     /// Gives every block back, and returns the device, which then holds what it held when it was handed in, and the resources
-    /// that were made and not given back. What is still live is logged first, as warnings, where the settings ask for it.
+    /// that were made and not given back: give placed ones back before, for their heaps go. What is still live is logged first,
+    /// as warnings, where the settings ask for it. It is never refused.
     pub fn destroy<L: Log>(self, log: &L) -> ID3D12DeviceVersion<D>
         ensures held { D.held (device_of result) ≡ beside_of D.D3D12Device self }
         ensures asks_nothing { AsksNothing D.D3D12Device (device_of self.device) (device_of result) }

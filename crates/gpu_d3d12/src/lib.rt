@@ -1,4 +1,4 @@
-//! The DirectX 12 allocator: pieces of heaps for buffers and textures.
+//! The DirectX 12 allocator: pieces of heaps for buffers and textures, and resources placed in them or committed.
 #![tactic(auto)]
 
 mod allocation;

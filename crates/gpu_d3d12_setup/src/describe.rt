@@ -14,8 +14,9 @@ use gpu_values::{AllocationSizes, AllocationType, AllocatorDebugSettings, Memory
 pub struct AllocatorCreateDesc<D> {
     /// The device by the newest interface that it has.
     pub device: ID3D12DeviceVersion<D>,
+    /// Which lines are logged.
     pub debug_settings: AllocatorDebugSettings,
-    /// How large the blocks are, in bytes.
+    /// How large the shared blocks are, in bytes.
     pub allocation_sizes: AllocationSizes,
 }
 
@@ -35,7 +36,8 @@ pub struct AllocationCreateDesc<'a> {
 }
 
 impl<'a> AllocationCreateDesc<'a> {
-    /// What an allocation for this resource is asked for: its size and alignment are what the device tells.
+    /// What an allocation for this resource is asked for: its size and alignment are what the device tells, and its category
+    /// follows from the description. It takes no memory.
     pub fn from_d3d12_resource_desc<D: D3D12Device>(
         device: &D,
         desc: &ResourceDesc,

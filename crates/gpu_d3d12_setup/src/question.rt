@@ -26,7 +26,9 @@ pub enum ResourceStateOrBarrierLayout {
 pub enum ResourceType<'a> {
     /// The device makes memory of the resource's own (`CreateCommittedResource`).
     Committed {
+        /// Where the memory lies.
         heap_properties: &'a HeapProperties,
+        /// What it is for.
         heap_flags: HeapFlags,
     },
     /// The resource is placed in a piece of the allocator's (`CreatePlacedResource`).
@@ -54,7 +56,7 @@ pub struct ResourceCreateDesc<'a> {
     pub resource_type: &'a ResourceType<'a>,
 }
 
-/// How many committed resources of a memory type there are, and their sizes' sum in bytes.
+/// How many committed resources of a memory type there are that weren't given back, and their sizes' sum in bytes.
 #[derive(Debug, Drop)]
 pub struct CommittedAllocationStatistics {
     pub num_allocations: usize,
@@ -72,8 +74,9 @@ pub enum ResourceQuestion {
     InLayoutWithFormats(u32),
 }
 
-/// By which question a resource is made, or why it isn't: `CastableFormatsRequiresEnhancedBarriers`,
-/// `CastableFormatsRequiresAtLeastDevice12` or `BarrierLayoutNeedsDevice10`. The device isn't asked.
+/// By which question a resource is made, or why it isn't: `CastableFormatsRequiresEnhancedBarriers` for castable formats with a
+/// state, else `CastableFormatsRequiresAtLeastDevice12` for castable formats, else `BarrierLayoutNeedsDevice10` for a layout. The
+/// device isn't asked.
 pub fn question_for<D>(
     version: &ID3D12DeviceVersion<D>,
     desc: &ResourceCreateDesc,
