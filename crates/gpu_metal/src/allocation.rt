@@ -7,7 +7,7 @@ use gpu_device::metal::MTLHeap;
 use std::num::NonZeroU64;
 
 /// A piece of a heap: bytes `offset..offset + size` of `heap`. Make a resource there. Give it back by the allocator's
-/// `free`.
+/// `free`; one that is let go otherwise stays live until `destroy`.
 #[derive(Debug, Drop)]
 pub struct Allocation {
     pub(crate) number: NonZeroU64,
@@ -30,14 +30,14 @@ impl Allocation {
         self.heap
     }
 
-    /// Its size in bytes.
+    /// Its size in bytes, as it was asked for.
     pub fn size(&self) -> u64
         ensures { result ≡ self.now.size }
     {
         self.size
     }
 
-    /// Where it begins in its heap, in bytes.
+    /// Where it begins in its heap, in bytes; a multiple of the alignment that was asked for.
     pub fn offset(&self) -> u64
         ensures { result ≡ self.now.offset }
     {

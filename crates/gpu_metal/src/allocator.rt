@@ -61,8 +61,10 @@ impl<D: MetalDevice> Model for Allocator<D> {
 }
 
 impl<D: MetalDevice> Allocator<D> {
-    /// An allocator without blocks. Where it can't be made, the device comes back beside `HostOutOfMemory`, or beside
-    /// `Internal` where it refuses a residency set that is wanted; then it holds what it held.
+    /// An allocator without blocks and without budgets, which owns the device, and the residency set, where one is wanted.
+    /// Memory types 0, 1 and 2 are those for `GpuOnly`, `CpuToGpu` and `GpuToCpu`. Where it can't be made, the device comes
+    /// back beside `HostOutOfMemory`, before it was asked anything, else beside `Internal` where it refuses the residency
+    /// set; it holds what it held.
     pub fn new(alloc: Global, desc: AllocatorCreateDesc<D>) -> Result<Self, (AllocationError, D)>
         ensures first { IfOk result (λ a. a.first ≡ desc.device) }
         ensures made { IfOk result (λ a. MakesSet D.MetalDevice desc.create_residency_set desc.device a.setup.residency_set a.device) }
@@ -98,11 +100,15 @@ impl<D: MetalDevice> Allocator<D> {
         }
     }
 
-    /// Takes a piece of a heap. `InvalidAllocationCreateDesc` where the size is 0 or the alignment isn't a power of two;
-    /// `HostOutOfMemory`; `OutOfMemory` where a new block would carry the sum of all blocks' sizes past `u64::MAX`, else
-    /// `BudgetExceeded` where it would carry that of its memory type past its budget;
-    /// `Internal` where the device refuses a heap. A refusal changes nothing. A new heap is a member of the residency set,
-    /// which has to be committed for it.
+    /// Takes a piece of a heap that is there or of a new one. A new heap is a member of the residency set, which has to be
+    /// committed for it (`commit_residency_set`). The errors, in the order in which they are looked at:
+    /// - `InvalidAllocationCreateDesc`: the size is 0, or the alignment isn't a power of two;
+    /// - `HostOutOfMemory`: the host refused memory for the name, the record or the block's own lists;
+    /// - `OutOfMemory`: a new block would carry the sum of all blocks' sizes past `u64::MAX`;
+    /// - `BudgetExceeded`: a new block would carry its memory type past its budget (`set_budget`);
+    /// - `Internal`: the device refused the heap, for want of memory too. Metal tells no cause.
+    ///
+    /// A refusal leaves every block as it was, and the device holds what it held.
     pub fn allocate<L: Log>(&mut self, log: &L, desc: &AllocationCreateDesc) -> Result<Allocation>
         ensures allocates { Allocates D.MetalDevice self.old.setup self.old.budgets desc.now self.old.slots self.old.device result self.new.slots self.new.device }
         ensures constant { (self.new.first ≡ self.old.first) × (self.new.setup ≡ self.old.setup) × (self.new.budgets ≡ self.old.budgets) }
@@ -127,8 +133,8 @@ impl<D: MetalDevice> Allocator<D> {
     }
 
     /// Gives an allocation back, and its block with it where the block is left empty and isn't the only shared one of its
-    /// memory type; its heap then leaves the residency set. One that isn't live comes back beside `Internal`, and then
-    /// nothing changes. It takes no memory.
+    /// memory type; its heap then leaves the residency set. A live one is never refused; any other comes back as it was, beside
+    /// `Internal`, and then nothing changes. Release the resources in it before. It takes no memory.
     pub fn free<L: Log>(
         &mut self,
         log: &L,
@@ -157,15 +163,16 @@ impl<D: MetalDevice> Allocator<D> {
         all_heaps(&self.types)
     }
 
-    /// The residency set, where one was made: its members are the heaps of the live blocks. Don't change it, and commit it
-    /// by `commit_residency_set` alone.
+    /// The residency set; `None` where none was wanted. Its members are the heaps of the live blocks. Don't change it, and commit
+    /// it by `commit_residency_set` alone.
     pub fn residency_set(&self) -> Option<&MTLResidencySet>
         ensures { option_copied result ≡ self.now.setup.residency_set }
     {
         self.setup.residency_set.as_ref()
     }
 
-    /// Makes the members of the residency set its committed members, where there is one. It takes no memory.
+    /// Makes the members of the residency set its committed members; without a set it does nothing. It takes no memory and is
+    /// never refused.
     pub fn commit_residency_set(&mut self)
         ensures commits { ChangesHeld D.MetalDevice self.old.device (with_committed (D.held self.old.device) self.old.setup.residency_set) self.new.device }
         ensures constant { (self.new.first ≡ self.old.first) × (self.new.setup ≡ self.old.setup) × (self.new.slots ≡ self.old.slots) × (self.new.budgets ≡ self.old.budgets) }
@@ -212,7 +219,8 @@ impl<D: MetalDevice> Allocator<D> {
         self.types.report(self.alloc)
     }
 
-    /// The device, lent. It holds what it held when it was handed in, the residency set, and just the live blocks.
+    /// The device, lent. It holds what it held when it was handed in, the residency set, where there is one, and just the live
+    /// blocks.
     pub fn device(&self) -> &D
         ensures lent { result.now ≡ self.now.device }
         ensures holds { HoldsJustLiveBlocks self.now.setup.residency_set (D.held self.now.first) (D.held self.now.device) self.now.slots }
@@ -240,7 +248,8 @@ impl<D: MetalDevice> Allocator<D> {
     }
 
     /// Gives every block back, and returns the device, which then holds what it held when it was handed in, and the residency
-    /// set without members; its committed members stay as they were last committed.
+    /// set, where there is one, without members; its committed members stay as they were last committed. Nothing is logged. It
+    /// is never refused.
     pub fn destroy(self) -> D
         ensures held { D.held result ≡ left_behind (D.held self.first) self.setup.residency_set (residency_of (D.held self.device) self.setup.residency_set) }
         ensures asks_nothing { ChangesHeld D.MetalDevice self.device (D.held result) result }

@@ -14,9 +14,11 @@ use gpu_values::{
 
 /// What an allocator is made from. It owns the device until `destroy` gives it back.
 pub struct AllocatorCreateDesc<D> {
+    /// What memory is asked of: your implementation of `MetalDevice`.
     pub device: D,
+    /// Which lines are logged.
     pub debug_settings: AllocatorDebugSettings,
-    /// How large the blocks are, in bytes.
+    /// How large the shared blocks are, in bytes.
     pub allocation_sizes: AllocationSizes,
     /// Whether all heaps are members of a residency set, which the allocator then makes.
     pub create_residency_set: bool,
@@ -29,7 +31,7 @@ pub struct AllocationCreateDesc<'a> {
     pub name: &'a str,
     /// Who reads and writes it.
     pub location: MemoryLocation,
-    /// What the resource takes of a heap.
+    /// What the resource takes of a heap (`MTLSizeAndAlign`).
     pub size: u64,
     /// Its offset is a multiple of this, a power of two.
     pub alignment: u64,
@@ -94,7 +96,8 @@ impl<'a> AllocationCreateDesc<'a> {
     }
 
     /// What an allocation for this texture is asked for: its size and alignment are what the device tells, and its location
-    /// follows from the storage mode. `Internal` where the mode has no name.
+    /// is `GpuOnly` for private storage and else `Unknown`. `Internal`, with the mode's value, where the storage mode is
+    /// `Other`.
     pub fn texture<D: MetalDevice>(
         device: &D,
         name: &'a str,
