@@ -23,9 +23,9 @@ pub fn one_step()
         → Step setup call met a old new → Step setup call met b old next → (a ≡ b) × (new ≡ next) }
 {}
 
-/// Bytes decide nothing but bytes: from two states with the same blocks and budgets, calls that differ at most in the bytes of a write, with
-/// environment that differ at most in the bytes of newly mapped blocks, get the same reply but for the bytes of a read, and leave
-/// the same blocks and budgets.
+/// Bytes decide nothing but bytes: from two states with the same blocks and budgets, calls that differ at most in the bytes of a
+/// write, and that meet with answers that differ at most in the bytes of newly mapped blocks, get the same reply but for the bytes
+/// of a read, and leave the same blocks and budgets.
 pub fn bytes_decide_nothing()
     ensures { (setup : Setup) (call other : Call) (met meets : CallEnvironment) (a b : Reply) (old new twin next : ModelState) → BlocksWellFormed setup.properties.granularity old.slots
         → old.slots ≡ twin.slots → old.budgets ≡ twin.budgets → EqualButBytesCallEnvironment met meets → EqualButBytesCall call other → Step setup call met a old new → Step setup other meets b twin next
