@@ -42,8 +42,8 @@ impl FreeListAllocator {
 
     /// Takes the best place for `size` bytes, and answers the piece's offset in bytes and its number. `OutOfMemory` where
     /// there is no place, else `HostOutOfMemory` where the host refused memory; a refusal leaves the block as it was.
-    /// What the piece's `free` will need is taken here. `size` isn't 0, `alignment` (bytes) is a power of two, `kind` isn't
-    /// `Free`, and `granularity` is the one that the block was made with.
+    /// What the piece's `free` will need is taken here. Callers hand in a size that isn't 0, an alignment in bytes that is a
+    /// power of two, a kind that isn't `Free`, and the granularity that the block was made with.
     pub fn allocate(
         &mut self,
         size: u64,

@@ -32,8 +32,8 @@ impl SubAllocator {
     /// Takes a place for `size` bytes, and answers the piece's offset in bytes and its number. A free list takes the least place
     /// in the shortest gap that fits, and refuses by `OutOfMemory` where there is none. A dedicated block takes a piece of
     /// its own size alone: `OutOfMemory` where it is taken, else `Internal` on another size. `HostOutOfMemory` comes
-    /// only where there is a place. A refusal leaves the block as it was. `size` isn't 0, `alignment` (bytes) is a power of
-    /// two, `kind` isn't `Free`, and a free list is asked with the granularity that it was made with.
+    /// only where there is a place. A refusal leaves the block as it was. Callers hand in a size that isn't 0, an alignment in
+    /// bytes that is a power of two, a kind that isn't `Free`, and the granularity that a free list was made with.
     #[tactic(auto, unfolding(crate::specs::Block::IsSearchIn))]
     pub fn allocate(
         &mut self,

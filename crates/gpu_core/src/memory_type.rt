@@ -154,8 +154,8 @@ impl<H: Copy + Eq> MemoryType<H> {
     }
 
     /// Puts in the block that `prepare` asked for, under the device's number of it, and answers the piece in it. It
-    /// takes no memory and can't be refused. There is room for the block, as `prepare` leaves it, and the sum of all sizes stays
-    /// in 64 bits.
+    /// takes no memory and can't be refused. Its caller sees to it that there is room for the block, as `prepare` leaves it, and
+    /// that the sum of all blocks' sizes stays in 64 bits.
     pub fn install(&mut self, need: NeedBlock, number: H) -> Piece<H>
         requires ready { CanInstall self.old need.size need.dedicated need.room }
         requires sum { capacity_of self.old.slots + need.size < 2 ^ 64 }
@@ -330,8 +330,8 @@ impl<H: Copy + Eq> MemoryType<H> {
     }
 
     /// Adds the live blocks, their pieces and the sums of both to a report, by slot and then by offset. The only refusal
-    /// is `HostOutOfMemory`, and then the report holds a part of it: drop it. The report's sums with the capacity stay in 64
-    /// bits.
+    /// is `HostOutOfMemory`, and then the report holds a part of it: drop it. Its caller sees to it that the report's sums with
+    /// this type's capacity stay in 64 bits.
     pub fn report(&self, report: &mut AllocatorReport) -> Result<()>
         requires allocated { report.old.total_allocated_bytes + capacity_of self.now.slots < 2 ^ 64 }
         requires capacity { report.old.total_capacity_bytes + capacity_of self.now.slots < 2 ^ 64 }

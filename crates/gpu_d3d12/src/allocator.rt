@@ -97,6 +97,7 @@ impl<D: D3D12Device> Allocator<D> {
         ensures committed { IfOk result (λ a. (length a.committed ≡ length (memory_kinds a.setup.tier)) × All (λ records. records ≡ []) a.committed) }
         ensures beside { IfOk result (λ a. beside_of D.D3D12Device a ≡ D.held (device_of desc.device)) }
         ensures refused { IfErr result (λ e. e.1 ≡ desc.device) }
+        // the device's tier can't be told, else want of host memory: nothing else refuses
         ensures cause { IfErr result (λ e. refusal_of e.0 ≡ unwrap_or (setup_fault (D.properties (device_of desc.device))) host_out_of_memory) }
     {
         let AllocatorCreateDesc {
@@ -139,6 +140,7 @@ impl<D: D3D12Device> Allocator<D> {
     ///
     /// A refusal leaves every block as it was, and the device holds what it held.
     pub fn allocate<L: Log>(&mut self, log: &L, desc: &AllocationCreateDesc) -> Result<Allocation>
+        // which memory type is asked, what that comes to, and what the device then holds
         ensures allocates { Allocates D.D3D12Device self.old.setup self.old.budgets desc.now self.old.slots (device_of self.old.device) result self.new.slots (device_of self.new.device) }
         ensures constant { (self.new.first ≡ self.old.first) × (self.new.setup ≡ self.old.setup) × (self.new.committed ≡ self.old.committed) }
         ensures step { IsAllocateStep D.D3D12Device desc.now result self.old self.new }
@@ -307,6 +309,7 @@ impl<D: D3D12Device> Allocator<D> {
         log: &L,
         desc: &ResourceCreateDesc,
     ) -> Result<Resource>
+        // by which question it is made, or why by none; where the device refuses a placed one, its piece goes as by `free`
         ensures step { IsCreateStep D.D3D12Device desc.now result self.old self.new }
         ensures constant { (self.new.first ≡ self.old.first) × (self.new.setup ≡ self.old.setup) }
     {
@@ -406,6 +409,7 @@ impl<D: D3D12Device> Allocator<D> {
     /// that were made and not given back: give placed ones back before, for their heaps go. What is still live is logged first,
     /// as warnings, where the settings ask for it. It is never refused.
     pub fn destroy<L: Log>(self, log: &L) -> ID3D12DeviceVersion<D>
+        // what was held at first, and the resources that weren't given back
         ensures held { D.held (device_of result) ≡ beside_of D.D3D12Device self }
         ensures asks_nothing { AsksNothing D.D3D12Device (device_of self.device) (device_of result) }
         ensures version { result ≡ with_device self.first (device_of result) }

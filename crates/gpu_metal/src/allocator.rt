@@ -110,6 +110,7 @@ impl<D: MetalDevice> Allocator<D> {
     ///
     /// A refusal leaves every block as it was, and the device holds what it held.
     pub fn allocate<L: Log>(&mut self, log: &L, desc: &AllocationCreateDesc) -> Result<Allocation>
+        // which memory type is asked, what that comes to, and what the device then holds, a new heap in the residency set
         ensures allocates { Allocates D.MetalDevice self.old.setup self.old.budgets desc.now self.old.slots self.old.device result self.new.slots self.new.device }
         ensures constant { (self.new.first ≡ self.old.first) × (self.new.setup ≡ self.old.setup) × (self.new.budgets ≡ self.old.budgets) }
         ensures step { IsAllocateStep D.MetalDevice desc.now result self.old self.new }
@@ -251,6 +252,7 @@ impl<D: MetalDevice> Allocator<D> {
     /// set, where there is one, without members; its committed members stay as they were last committed. Nothing is logged. It
     /// is never refused.
     pub fn destroy(self) -> D
+        // what was held at first, and the set without members
         ensures held { D.held result ≡ left_behind (D.held self.first) self.setup.residency_set (residency_of (D.held self.device) self.setup.residency_set) }
         ensures asks_nothing { ChangesHeld D.MetalDevice self.device (D.held result) result }
     {

@@ -33,7 +33,7 @@ impl Allocation {
         self.chunk_id
     }
 
-    /// What its memory is like: the flags of its memory type. None where it is null.
+    /// What its memory is like: the flags of its memory type; no flag where it is null.
     pub fn memory_properties(&self) -> MemoryPropertyFlags
         ensures { result ≡ self.now.memory_properties }
     {

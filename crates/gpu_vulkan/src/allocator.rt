@@ -87,6 +87,7 @@ impl<D: VulkanDevice> Allocator<D> {
         ensures budgets { IfOk result (λ a. All (λ b. b ≡ None) a.budgets) }
         ensures valid { OnOk result (setup_fault desc.physical_device.0 (D.properties desc.device) ≡ None) }
         ensures refused { IfErr result (λ e. e.1 ≡ desc.device) }
+        // the first fault that holds, else want of host memory: nothing else refuses
         ensures cause { IfErr result (λ e. refusal_of e.0 ≡ unwrap_or (setup_fault desc.physical_device.0 (D.properties desc.device)) host_out_of_memory) }
     {
         let AllocatorCreateDesc {
@@ -135,6 +136,7 @@ impl<D: VulkanDevice> Allocator<D> {
     /// at the first of `memory_type_bits` with HOST_VISIBLE and HOST_COHERENT, and that answer counts. A refusal leaves every
     /// block as it was, and the device holds what it held.
     pub fn allocate<L: Log>(&mut self, log: &L, desc: &AllocationCreateDesc) -> Result<Allocation>
+        // which memory types are asked, one after another, what each attempt comes to, and what the device then holds
         ensures allocates { Allocates D.VulkanDevice self.old.setup self.old.budgets desc.now self.old.slots self.old.device result self.new.slots self.new.device }
         ensures constant { (self.new.first ≡ self.old.first) × (self.new.setup ≡ self.old.setup) × (self.new.budgets ≡ self.old.budgets) }
         ensures step { IsAllocateStep D.VulkanDevice desc.now result self.old self.new }
@@ -237,6 +239,7 @@ impl<D: VulkanDevice> Allocator<D> {
     /// `mapped_slice` tells. A write through them changes this allocation's bytes alone. It takes no memory.
     pub fn slice_mut(&mut self, allocation: &Allocation) -> &mut [u8]
         requires { IsMapped self.old.setup.properties self.old.slots allocation.now }
+        // once the slice has ended, what it then holds stands at the allocation's place: the next clauses say what that leaves
         ensures* lends { sem 𝓛 (lends_piece D.row D.VulkanDevice self.entry allocation.now result) }
         ensures value { bytes_at (D.held self.old.device) allocation.now ≡ Some result.now }
         ensures len { length result.now ≡ allocation.now.size }
@@ -287,6 +290,7 @@ impl<D: VulkanDevice> Allocator<D> {
         log: &L,
         allocation: Allocation,
     ) -> Result<(), (AllocationError, Allocation)>
+        // a null allocation is done at once; a live one goes; any other comes back, and nothing changes
         ensures frees { Frees D.VulkanDevice allocation self.old.slots self.old.device result self.new.slots self.new.device }
         ensures constant { (self.new.first ≡ self.old.first) × (self.new.setup ≡ self.old.setup) × (self.new.budgets ≡ self.old.budgets) }
         ensures step { IsStep D.VulkanDevice (Free allocation) (freed_as result) self.old self.new }
@@ -307,6 +311,7 @@ impl<D: VulkanDevice> Allocator<D> {
     /// `Internal` where the allocation is neither null nor live, else `HostOutOfMemory` where the host refused memory; then
     /// both names are as they were.
     pub fn rename_allocation(&mut self, allocation: &mut Allocation, name: &str) -> Result<()>
+        // the allocation and its record get the name, or neither does; a null one has no record
         ensures renames { Renames allocation.old name.now self.old.slots result allocation.new self.new.slots }
         ensures step { IsStep D.VulkanDevice (Rename allocation.old name.now) (done_as result) self.old self.new }
         ensures live { StayLive self.old.slots self.new.slots }
