@@ -2,6 +2,7 @@ pub mod Attempts
 pub mod Serving
 pub mod InPieces
 pub mod Owning
+pub mod OwningResources
 pub mod Apart
 pub mod Renaming
 pub mod Naming

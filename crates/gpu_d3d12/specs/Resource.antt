@@ -21,7 +21,7 @@ use Rattle.gpu_d3d12_blocks.specs.Committed.{number_or_refusal}
 use Rattle.gpu_d3d12_blocks.specs.Release.{IsReleased}
 use Rattle.gpu_d3d12_blocks.specs.declared.committed_record.CommittedRecord.{CommittedRecord}
 use Rattle.gpu_d3d12.specs.Allocate.{Allocates}
-use Rattle.gpu_d3d12.specs.Live.{piece_of, IsLive, IsGiven}
+use Rattle.gpu_d3d12.specs.Live.{piece_of, IsLive, IsGiven, AreDistinct}
 use Rattle.gpu_d3d12.specs.declared.allocation.Allocation.{Allocation}
 use Rattle.gpu_d3d12.specs.declared.resource.Resource.{Resource}
 
@@ -55,6 +55,18 @@ pub record IsMade (d : ResourceCreateDesc) (t : ℕ) (piece : Option (Piece ID3D
   pub location : r.memory_location ≡ d.memory_location
   pub memory_type : r.memory_type_index ≡ t
   pub size_is : r.size ≡ size
+
+-- ---- its piece, beside those of others
+
+-- the piece that the resource lies in, if it lies in one, is live, and is none of those that were
+abbrev pub IsNewIn : (old new : Slots) → Option Allocation → Type 0
+IsNewIn old new None = Unit {0}
+IsNewIn old new (Some a) = IsLive new a × ((b : Allocation) → IsLive old b → AreDistinct b a)
+
+-- an allocation is another piece than the one that the resource lies in, if it lies in one
+abbrev pub IsBeside : Allocation → Option Allocation → Type 0
+IsBeside b None = Unit {0}
+IsBeside b (Some a) = AreDistinct b a
 
 -- ---- a placed resource that is live
 

@@ -21,7 +21,7 @@ ghost use Rattle.gpu_d3d12.specs.Free.{Frees};
 ghost use Rattle.gpu_d3d12_blocks.specs.Release.{AsksNothing};
 ghost use Rattle.gpu_d3d12.specs.Live.{IsLive, AreDistinct, StayLive};
 ghost use Rattle.gpu_d3d12.specs.Rename.{Renames};
-ghost use Rattle.gpu_d3d12.specs.Resource.{IsLivePlaced, LiesInHeap};
+ghost use Rattle.gpu_d3d12.specs.Resource.{IsBeside, IsLivePlaced, IsNewIn, LiesInHeap};
 ghost use Rattle.gpu_d3d12.specs.declared.resource.Resource.{Resource};
 ghost use Rattle.gpu_d3d12.specs.State.{basis_of, beside_of};
 ghost use Rattle.gpu_d3d12.specs.Step.{IsMadeBy, IsCreateStep, CommitStep, PlaceStep, FreeResource, Statistics, SetBudget, Budget, Budgeted, Counts, IsStep, IsAllocateStep, Free, Rename, Capacity, Report, Leaks, Sum, freed_as, renamed_as, shown_as, told_as};
@@ -275,6 +275,8 @@ impl<D: D3D12Device> Allocator<D> {
     ) -> Result<Resource>
         ensures step { IsMadeBy D.D3D12Device (PlaceStep (basis_of D.D3D12Device self.old) desc.now question) desc.now result self.old self.new }
         ensures constant { (self.new.first ≡ self.old.first) × (self.new.setup ≡ self.old.setup) × (self.new.committed ≡ self.old.committed) }
+        ensures keeps { StayLive self.old.slots self.new.slots }
+        ensures gives { IfOk result (λ r. IsNewIn self.old.slots self.new.slots r.allocation) }
     {
         let asked = piece_desc(desc, allocation_info_of(&self.device, desc));
         log_allocate(log, self.setup.debug, &asked);
@@ -312,6 +314,8 @@ impl<D: D3D12Device> Allocator<D> {
         // by which question it is made, or why by none; where the device refuses a placed one, its piece goes as by `free`
         ensures step { IsCreateStep D.D3D12Device desc.now result self.old self.new }
         ensures constant { (self.new.first ≡ self.old.first) × (self.new.setup ≡ self.old.setup) }
+        ensures keeps { StayLive self.old.slots self.new.slots }
+        ensures gives { IfOk result (λ r. IsNewIn self.old.slots self.new.slots r.allocation) }
     {
         let question = match question_for(&self.device, desc) {
             Err(error) => return Err(error),
@@ -341,6 +345,7 @@ impl<D: D3D12Device> Allocator<D> {
         resource: Resource,
     ) -> Result<(), (AllocationError, Resource)>
         ensures step { IsStep D.D3D12Device (FreeResource resource) (freed_as result) self.old self.new }
+        ensures keeps { (b : Allocation) → IsLive self.old.slots b → IsBeside b resource.allocation → IsLive self.new.slots b }
         ensures back { IfErr result (λ e. e.1 ≡ resource) }
         ensures constant { (self.new.first ≡ self.old.first) × (self.new.setup ≡ self.old.setup) }
     {

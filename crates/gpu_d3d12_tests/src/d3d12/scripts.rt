@@ -5,24 +5,66 @@ use super::*;
 use gpu_d3d12::Resource;
 use gpu_d3d12_setup::ResourceType;
 use gpu_device::d3d12::D3D12Device;
-use gpu_values::AllocationError;
+use gpu_values::{AllocationError, AllocatorReport};
 use std::process::Abort;
 
 /// How many calls a script has.
 const CALLS: u64 = 320;
 
-/// What is live, as the script keeps it.
+/// The code by which a device tells that the host refused memory: Direct3D's E_OUTOFMEMORY.
+const E_OUTOFMEMORY: i64 = -2147024882;
+
+/// When a script looks at a report: it takes memory.
+#[derive(Clone, Copy, PartialEq)]
+pub enum Reports {
+    /// After each call.
+    EachCall,
+    /// After every sixteenth call, and after each that the host refused memory.
+    Some,
+}
+
+/// What is live, as the script keeps it, and how many calls the host refused memory.
 #[derive(Drop)]
-struct Account {
+pub struct Account {
     pieces: Vec<Allocation>,
     placed: Vec<Resource>,
     committed: Vec<Resource>,
     sum: u64,
+    pub refused: u64,
+}
+
+impl Account {
+    /// An account of nothing, with room for what a script can take.
+    pub fn new(alloc: Global) -> std::result::Result<Account, AllocError> {
+        let mut account = Account {
+            pieces: Vec::new(alloc),
+            placed: Vec::new(alloc),
+            committed: Vec::new(alloc),
+            sum: 0,
+            refused: 0,
+        };
+        account.pieces.reserve(CALLS as usize)?;
+        account.placed.reserve(CALLS as usize)?;
+        account.committed.reserve(CALLS as usize)?;
+        Ok(account)
+    }
+
+    /// Counts a call that the host refused memory: the allocator by its own error, or the device by its code.
+    fn count(&mut self, error: &AllocationError) {
+        let is_want = match error {
+            AllocationError::HostOutOfMemory | AllocationError::OutOfMemory => true,
+            AllocationError::Internal(fault) => fault.code == Some(E_OUTOFMEMORY),
+            _ => false,
+        };
+        if is_want {
+            self.refused = self.refused.saturating_add(1);
+        }
+    }
 }
 
 /// A piece of an allocator that is gone, of a memory type that the script never asks.
 #[derive(Drop)]
-struct Foreign {
+pub struct Foreign {
     piece: Option<Allocation>,
 }
 
@@ -41,11 +83,24 @@ fn pick<T>(live: &mut Vec<T>, seed: u64) -> Option<T> {
     Some(live.swap_remove((seed >> 33) as usize % count))
 }
 
-/// Looks that the allocator tells what the account says.
-fn agree(rt: &impl Abort, a: &Allocator<SimD3D12>, account: &Account) -> Outcome {
-    let Ok(report) = a.generate_report() else {
-        return Err(Fail::from("a report was refused"));
-    };
+/// A report, which is asked for once more where the host refused memory.
+fn report_again(
+    a: &Allocator<SimD3D12>,
+    account: &mut Account,
+) -> std::result::Result<AllocatorReport, Fail> {
+    match a.generate_report() {
+        Ok(report) => return Ok(report),
+        Err(error) => account.count(&error),
+    }
+    match a.generate_report() {
+        Ok(report) => Ok(report),
+        Err(_) => Err(Fail::from("a report was refused twice")),
+    }
+}
+
+/// Looks that the allocator's report tells what the account says.
+fn agree_in_report(rt: &impl Abort, a: &Allocator<SimD3D12>, account: &mut Account) -> Outcome {
+    let report = report_again(a, account)?;
     let live = account.pieces.len().saturating_add(account.placed.len());
     let resources = account.placed.len().saturating_add(account.committed.len());
     assert_eq!(rt; report.total_capacity_bytes, a.capacity());
@@ -54,11 +109,15 @@ fn agree(rt: &impl Abort, a: &Allocator<SimD3D12>, account: &Account) -> Outcome
         a.device().device().held(),
         report.blocks.len().saturating_add(resources)
     );
+    Ok(())
+}
+
+/// Looks that the allocator tells what the account says, without taking memory.
+fn agree(rt: &impl Abort, a: &Allocator<SimD3D12>, account: &Account) {
     assert_eq!(rt; counts(a, 0), Some((account.committed.len(), account.sum)));
     for piece in &account.pieces {
         assert!(rt; a.is_live(piece));
     }
-    Ok(())
 }
 
 fn allocate(
@@ -84,7 +143,10 @@ fn allocate(
     };
     match a.allocate(&Discard, &desc) {
         Ok(piece) => account.pieces.push(piece)?,
-        Err(_) => assert_eq!(rt; (a.capacity(), a.device().device().held()), before),
+        Err(error) => {
+            account.count(&error);
+            assert_eq!(rt; (a.capacity(), a.device().device().held()), before);
+        }
     }
     Ok(())
 }
@@ -92,8 +154,9 @@ fn allocate(
 fn make_placed(a: &mut Allocator<SimD3D12>, account: &mut Account, seed: u64) -> Outcome {
     let desc = buffer((seed >> 44) % 200000);
     let placed = asked(&desc, &[], IN_STATE, &ResourceType::Placed);
-    if let Ok(resource) = a.create_resource(&Discard, &placed) {
-        account.placed.push(resource)?;
+    match a.create_resource(&Discard, &placed) {
+        Ok(resource) => account.placed.push(resource)?,
+        Err(error) => account.count(&error),
     }
     Ok(())
 }
@@ -112,7 +175,10 @@ fn make_committed(
             account.sum = account.sum.saturating_add(resource.size());
             account.committed.push(resource)?;
         }
-        Err(_) => assert_eq!(rt; (a.capacity(), a.device().device().held()), before),
+        Err(error) => {
+            account.count(&error);
+            assert_eq!(rt; (a.capacity(), a.device().device().held()), before);
+        }
     }
     Ok(())
 }
@@ -149,11 +215,17 @@ fn rename(a: &mut Allocator<SimD3D12>, account: &mut Account, seed: u64) -> Outc
     let Some(mut piece) = pick(&mut account.pieces, seed) else {
         return Ok(());
     };
-    let named = a.rename_allocation(&mut piece, "another");
+    let named = match a.rename_allocation(&mut piece, "another") {
+        Ok(()) => Ok(()),
+        Err(error) => {
+            account.count(&error);
+            a.rename_allocation(&mut piece, "another")
+        }
+    };
     account.pieces.push(piece)?;
     match named {
         Ok(()) => Ok(()),
-        Err(_) => Err(Fail::from("a new name was refused")),
+        Err(_) => Err(Fail::from("a new name was refused twice")),
     }
 }
 
@@ -196,23 +268,54 @@ fn calls(
     a: &mut Allocator<SimD3D12>,
     account: &mut Account,
     foreign: &mut Foreign,
+    reports: Reports,
 ) -> Outcome {
     let mut seed = 7;
-    for _ in 0..CALLS {
+    for number in 0..CALLS {
+        let refused = account.refused;
         seed = next(seed);
         call(rt, a, account, foreign, seed)?;
-        agree(rt, a, account)?;
+        agree(rt, a, account);
+        let is_due = number % 16 == 0 || account.refused != refused;
+        if reports == Reports::EachCall || is_due {
+            agree_in_report(rt, a, account)?;
+        }
     }
     Ok(())
 }
 
-/// A piece of an allocator that is gone.
-fn foreign_piece(alloc: Global) -> std::result::Result<Allocation, Fail> {
-    let mut a = made(alloc, ResourceHeapTier::Tier2, &[])?;
+/// A piece of an allocator that is gone; none where the host refuses memory.
+pub fn foreign_piece(alloc: Global) -> Option<Foreign> {
+    let device = SimD3D12::new(alloc, Ok(ResourceHeapTier::Tier2), Vec::new(alloc));
+    let mut a = match Allocator::new(alloc, described(device)) {
+        Ok(a) => a,
+        Err((_, _)) => return None,
+    };
     let desc = piece_for(MemoryLocation::GpuToCpu, ResourceCategory::Buffer);
-    let taken = take(&mut a, &desc);
+    let taken = a.allocate(&Discard, &desc);
     let _ = destroyed(a);
-    taken
+    match taken {
+        Ok(piece) => Some(Foreign { piece: Some(piece) }),
+        Err(_) => None,
+    }
+}
+
+/// Runs the script at an allocator that has nothing yet, and destroys it; how many questions its device refused.
+pub fn run_over(
+    rt: &impl Abort,
+    mut a: Allocator<SimD3D12>,
+    account: &mut Account,
+    foreign: &mut Foreign,
+    reports: Reports,
+) -> std::result::Result<u64, Fail> {
+    let done = calls(rt, &mut a, account, foreign, reports);
+    let left = account.placed.len().saturating_add(account.committed.len());
+    let device = destroyed(a);
+    assert_eq!(rt; device.held(), left);
+    match done {
+        Ok(()) => Ok(device.refusals()),
+        Err(fail) => Err(fail),
+    }
 }
 
 /// A run of the script at a device that refuses these questions; how many it refused.
@@ -221,24 +324,12 @@ fn run(
     alloc: Global,
     script: &[(u64, Refusal)],
 ) -> std::result::Result<u64, Fail> {
-    let mut foreign = Foreign {
-        piece: Some(foreign_piece(alloc)?),
+    let Some(mut foreign) = foreign_piece(alloc) else {
+        return Err(Fail::from("no foreign piece"));
     };
-    let mut account = Account {
-        pieces: Vec::new(alloc),
-        placed: Vec::new(alloc),
-        committed: Vec::new(alloc),
-        sum: 0,
-    };
-    let mut a = made(alloc, ResourceHeapTier::Tier2, script)?;
-    let done = calls(rt, &mut a, &mut account, &mut foreign);
-    let left = account.placed.len().saturating_add(account.committed.len());
-    let device = destroyed(a);
-    assert_eq!(rt; device.held(), left);
-    match done {
-        Ok(()) => Ok(device.refusals()),
-        Err(fail) => Err(fail),
-    }
+    let mut account = Account::new(alloc)?;
+    let a = made(alloc, ResourceHeapTier::Tier2, script)?;
+    run_over(rt, a, &mut account, &mut foreign, Reports::EachCall)
 }
 
 #[test]

@@ -2,6 +2,7 @@ use Rattle.std.proofs.Common.{◌∙◌, sym, ap}
 use Rattle.gpu_d3d12_setup.specs.Question.{resource_question}
 use Rattle.gpu_d3d12.specs.State.{State}
 use Rattle.gpu_d3d12.proofs.Creating.{by_question, not_asked}
+use Rattle.gpu_d3d12.proofs.OwningResources.{committed_gives}
 use Rattle.gpu_d3d12.proofs.allocator.Allocator.create_resource.Goals as goal
 
 pub returns-in-Err-clause-step : goal.returns-in-Err-clause-step
@@ -21,3 +22,7 @@ returns-in-Placed-clause-step g c =
     let d = c.args.desc.now in
     let view = ap (λ (s : State g.row.D.Denot). resource_question s.device d.initial_state_or_layout d.castable_formats.now) c.self.view_is in
     by_question g.D.D3D12Device d c.place.result c.args.self.now c.place.new.self c.in-Ok.question _ c.in-Placed.is (sym view ∙ c.in-Ok.ensures) c.place.ensures.step
+
+pub returns-in-Committed-clause-gives : goal.returns-in-Committed-clause-gives
+returns-in-Committed-clause-gives g c =
+    committed_gives g.D.D3D12Device _ c.args.desc.now c.in-Ok.question c.commit.result c.args.self.now c.commit.new.self _ _ c.commit.ensures.step
