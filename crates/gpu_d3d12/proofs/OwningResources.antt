@@ -15,7 +15,7 @@ use Rattle.gpu_d3d12_setup.specs.declared.question.ResourceQuestion.{ResourceQue
 use Rattle.gpu_d3d12_setup.specs.declared.setup.Setup.{Setup}
 use Rattle.gpu_d3d12_blocks.specs.Blocks.{Slots}
 use Rattle.gpu_d3d12_blocks.specs.Committed.{Committed, number_or_refusal}
-use Rattle.gpu_d3d12_blocks.specs.Release.{is_same_heap, IsReleased, IsLiveIn}
+use Rattle.gpu_d3d12_blocks.specs.Release.{is_same_heap, IsReleased}
 use Rattle.gpu_d3d12_blocks.proofs.Releasing.{type_below}
 use Rattle.gpu_d3d12.specs.FreeResource.{FreesResource}
 use Rattle.gpu_d3d12.specs.Live.{piece_of, IsLive, AreDistinct, StayLive}
