@@ -14,21 +14,34 @@ pub struct Block {
     own: bool,
 }
 
-/// What is live, in the order in which it was given, and the blocks in the order in which they were made.
+/// What is live, in the order in which it was given, and the blocks in the order in which they were made; and how many calls
+/// were refused memory.
 #[derive(Drop)]
 pub struct Account {
     pub live: Vec<Allocation>,
     blocks: Vec<Block>,
     committed: Vec<MTLHeap>,
+    pub refused: u64,
 }
 
 impl Account {
-    pub fn new(alloc: Global) -> Self {
-        Account {
+    /// An account of nothing, with room for what so many calls can take.
+    pub fn new(alloc: Global, calls: usize) -> std::result::Result<Self, AllocError> {
+        let mut account = Account {
             live: Vec::new(alloc),
             blocks: Vec::new(alloc),
             committed: Vec::new(alloc),
-        }
+            refused: 0,
+        };
+        account.live.reserve(calls)?;
+        account.blocks.reserve(calls)?;
+        account.committed.reserve(calls)?;
+        Ok(account)
+    }
+
+    /// Counts a call that was refused memory.
+    pub fn count(&mut self) {
+        self.refused = self.refused.saturating_add(1);
     }
 
     /// The account of a piece that was given, where the device was last asked for this heap. Sizes of shared blocks are

@@ -2,7 +2,8 @@
 //! Where one request was refused they fail with a text of their own, after all else held: `tools/check_refused` refuses each
 //! in turn, and looks for that text.
 
-use super::*;
+use super::account::Account;
+use super::{scripts, *};
 use gpu_values::AllocationError;
 
 /// What a run ends with in which one request was refused.
@@ -107,4 +108,36 @@ fn the_metal_allocator_loses_nothing_where_memory_is_refused(rt: HostRuntime) ->
 #[test]
 fn nor_does_it_without_a_residency_set(rt: HostRuntime) -> Outcome {
     run(&rt, rt.alloc(), false)
+}
+
+/// A script of random calls, looked at by the account after each.
+fn random_calls(rt: &impl Abort, alloc: Global, residency: bool, seed: u64) -> Outcome {
+    let Ok(mut account) = Account::new(alloc, scripts::CALLS as usize) else {
+        return Err(Fail::new(TOLD));
+    };
+    let device = SimMetal::new(alloc, true, Vec::new(alloc));
+    let sizes = AllocationSizes::new(4 * MB, 4 * MB);
+    let mut a = match Allocator::new(alloc, described(device, sizes, residency)) {
+        Ok(a) => a,
+        Err((error, device)) => {
+            assert!(rt; is_want_of_memory(&error));
+            assert_eq!(rt; device.held(), 0);
+            return Err(Fail::new(TOLD));
+        }
+    };
+    let done = scripts::calls(rt, &mut a, &mut account, seed);
+    let device = a.destroy();
+    done?;
+    assert_eq!(rt; device.held(), if residency { 1 } else { 0 });
+    ends(account.refused)
+}
+
+#[test]
+fn random_calls_with_a_residency_set_lose_nothing(rt: HostRuntime) -> Outcome {
+    random_calls(&rt, rt.alloc(), true, 5)
+}
+
+#[test]
+fn random_calls_without_a_residency_set_lose_nothing(rt: HostRuntime) -> Outcome {
+    random_calls(&rt, rt.alloc(), false, 8)
 }

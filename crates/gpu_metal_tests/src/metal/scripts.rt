@@ -9,7 +9,7 @@ use gpu_values::AllocationError;
 const SHARED: u64 = 4 * MB;
 
 /// How many calls a script has.
-const CALLS: u64 = 48;
+pub const CALLS: u64 = 48;
 
 /// The next of a sequence of numbers that look random.
 fn next(seed: &mut u64) -> u64 {
@@ -38,12 +38,15 @@ fn location_by(number: u64) -> MemoryLocation {
     }
 }
 
-/// Asks for a piece. Where the device refuses its heap, the account stays as it is.
+/// Asks for a piece. Where the device refuses its heap, or the host memory, the account stays as it is.
 fn ask(a: &mut Allocator<SimMetal>, account: &mut Account, seed: &mut u64) -> Outcome {
     let desc = piece(size_by(next(seed)), location_by(next(seed)));
     match a.allocate(&Discard, &desc) {
         Ok(allocation) => account.give(allocation, a.device().last_heap(), SHARED),
-        Err(AllocationError::Internal(_)) => Ok(()),
+        Err(AllocationError::Internal(_) | AllocationError::HostOutOfMemory) => {
+            account.count();
+            Ok(())
+        }
         Err(_) => Err(Fail::from("a piece was refused for another cause")),
     }
 }
@@ -74,7 +77,8 @@ fn call(a: &mut Allocator<SimMetal>, account: &mut Account, seed: &mut u64) -> O
     }
 }
 
-fn calls(
+/// The calls of a script, each followed by a look at the account.
+pub fn calls(
     rt: &impl Abort,
     a: &mut Allocator<SimMetal>,
     account: &mut Account,
@@ -95,6 +99,7 @@ fn script(
     seed: u64,
     refusal: (u64, Refusal),
 ) -> std::result::Result<bool, Fail> {
+    let mut account = Account::new(alloc, CALLS as usize)?;
     let sizes = AllocationSizes::new(SHARED, SHARED);
     let device = simulated(alloc, true, &[refusal])?;
     let mut a = match Allocator::new(alloc, described(device, sizes, residency)) {
@@ -105,7 +110,6 @@ fn script(
             return Ok(true);
         }
     };
-    let mut account = Account::new(alloc);
     let done = calls(rt, &mut a, &mut account, seed);
     let set = set_of(&a);
     let device = a.destroy();
