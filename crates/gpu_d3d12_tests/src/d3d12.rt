@@ -1,5 +1,7 @@
 //! Worked rows of the DirectX 12 allocator.
 
+mod account;
+mod foreign;
 mod log_lines;
 mod pieces;
 mod questions;

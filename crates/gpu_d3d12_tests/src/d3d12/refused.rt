@@ -2,7 +2,8 @@
 //! request was refused it fails with a text of its own, after all else held: `tools/check_refused` refuses each in turn, and
 //! looks for that text.
 
-use super::scripts::{Account, Reports, foreign_piece, run_over};
+use super::account::Account;
+use super::scripts::{CALLS, Reports, foreign_piece, run_over};
 use super::*;
 use gpu_values::AllocationError;
 use std::process::Abort;
@@ -36,7 +37,7 @@ fn begin(rt: &impl Abort, alloc: Global) -> Option<Allocator<SimD3D12>> {
 fn the_directx_12_allocator_loses_nothing_where_memory_is_refused(rt: HostRuntime) -> Outcome {
     let alloc = rt.alloc();
     // What the test itself takes, before the allocator is there.
-    let Ok(mut account) = Account::new(alloc) else {
+    let Ok(mut account) = Account::new(alloc, CALLS) else {
         return Err(Fail::new(TOLD));
     };
     let Some(mut foreign) = foreign_piece(alloc) else {
@@ -45,7 +46,7 @@ fn the_directx_12_allocator_loses_nothing_where_memory_is_refused(rt: HostRuntim
     let Some(a) = begin(&rt, alloc) else {
         return Err(Fail::new(TOLD));
     };
-    let refusals = run_over(&rt, a, &mut account, &mut foreign, Reports::Some)?;
+    let refusals = run_over(&rt, a, &mut account, &mut foreign, Reports::Sometimes)?;
     assert!(&rt; refusals <= account.refused);
     ends(account.refused)
 }

@@ -1,65 +1,24 @@
 //! A script of many calls, beside a plain account of what is live.
 
-use super::resources::{IN_STATE, asked, counts, own_memory};
+use super::account::Account;
+use super::resources::{IN_STATE, asked, own_memory};
 use super::*;
-use gpu_d3d12::Resource;
 use gpu_d3d12_setup::ResourceType;
 use gpu_device::d3d12::D3D12Device;
 use gpu_values::{AllocationError, AllocatorReport};
+use log::Level;
 use std::process::Abort;
 
 /// How many calls a script has.
-const CALLS: u64 = 320;
+pub const CALLS: usize = 320;
 
-/// The code by which a device tells that the host refused memory: Direct3D's E_OUTOFMEMORY.
-const E_OUTOFMEMORY: i64 = -2147024882;
-
-/// When a script looks at a report: it takes memory.
+/// When a script asks for what takes memory: a report, and the texts of what is live.
 #[derive(Clone, Copy, PartialEq)]
 pub enum Reports {
     /// After each call.
     EachCall,
     /// After every sixteenth call, and after each that the host refused memory.
-    Some,
-}
-
-/// What is live, as the script keeps it, and how many calls the host refused memory.
-#[derive(Drop)]
-pub struct Account {
-    pieces: Vec<Allocation>,
-    placed: Vec<Resource>,
-    committed: Vec<Resource>,
-    sum: u64,
-    pub refused: u64,
-}
-
-impl Account {
-    /// An account of nothing, with room for what a script can take.
-    pub fn new(alloc: Global) -> std::result::Result<Account, AllocError> {
-        let mut account = Account {
-            pieces: Vec::new(alloc),
-            placed: Vec::new(alloc),
-            committed: Vec::new(alloc),
-            sum: 0,
-            refused: 0,
-        };
-        account.pieces.reserve(CALLS as usize)?;
-        account.placed.reserve(CALLS as usize)?;
-        account.committed.reserve(CALLS as usize)?;
-        Ok(account)
-    }
-
-    /// Counts a call that the host refused memory: the allocator by its own error, or the device by its code.
-    fn count(&mut self, error: &AllocationError) {
-        let is_want = match error {
-            AllocationError::HostOutOfMemory | AllocationError::OutOfMemory => true,
-            AllocationError::Internal(fault) => fault.code == Some(E_OUTOFMEMORY),
-            _ => false,
-        };
-        if is_want {
-            self.refused = self.refused.saturating_add(1);
-        }
-    }
+    Sometimes,
 }
 
 /// A piece of an allocator that is gone, of a memory type that the script never asks.
@@ -98,25 +57,39 @@ fn report_again(
     }
 }
 
-/// Looks that the allocator's report tells what the account says.
-fn agree_in_report(rt: &impl Abort, a: &Allocator<SimD3D12>, account: &mut Account) -> Outcome {
-    let report = report_again(a, account)?;
+/// The texts of what is live, which are asked for once more where the host refused memory; and the same told to a log.
+fn leaks_again(rt: &impl Abort, a: &Allocator<SimD3D12>, account: &mut Account) -> Outcome {
     let live = account.pieces.len().saturating_add(account.placed.len());
-    let resources = account.placed.len().saturating_add(account.committed.len());
-    assert_eq!(rt; report.total_capacity_bytes, a.capacity());
-    assert_eq!(rt; report.allocations.len(), live);
-    assert_eq!(rt;
-        a.device().device().held(),
-        report.blocks.len().saturating_add(resources)
-    );
-    Ok(())
+    a.report_memory_leaks(&Discard, Level::Warn);
+    match a.leak_texts() {
+        Ok(texts) => {
+            assert_eq!(rt; texts.len(), live);
+            return Ok(());
+        }
+        Err(error) => account.count(&error),
+    }
+    match a.leak_texts() {
+        Ok(texts) => {
+            assert_eq!(rt; texts.len(), live);
+            Ok(())
+        }
+        Err(_) => Err(Fail::from("the leaks were refused twice")),
+    }
 }
 
-/// Looks that the allocator tells what the account says, without taking memory.
-fn agree(rt: &impl Abort, a: &Allocator<SimD3D12>, account: &Account) {
-    assert_eq!(rt; counts(a, 0), Some((account.committed.len(), account.sum)));
-    for piece in &account.pieces {
-        assert!(rt; a.is_live(piece));
+/// Looks at the cause of a refusal: the device, the host memory, or the budget of the GPU's memory type.
+fn check_cause(
+    rt: &impl Abort,
+    account: &mut Account,
+    error: &AllocationError,
+    size: u64,
+    refusals: u64,
+) {
+    account.count(error);
+    match error {
+        AllocationError::BudgetExceeded => assert!(rt; account.exceeds(size)),
+        AllocationError::HostOutOfMemory => {}
+        _ => assert!(rt; refusals > 0),
     }
 }
 
@@ -126,7 +99,6 @@ fn allocate(
     account: &mut Account,
     seed: u64,
 ) -> Outcome {
-    let before = (a.capacity(), a.device().device().held());
     let size = match (seed >> 40) % 4 {
         0 => 300 * MB,
         1 => 50 * MB,
@@ -142,23 +114,36 @@ fn allocate(
         ..piece_for(location, ResourceCategory::Buffer)
     };
     match a.allocate(&Discard, &desc) {
-        Ok(piece) => account.pieces.push(piece)?,
-        Err(error) => {
-            account.count(&error);
-            assert_eq!(rt; (a.capacity(), a.device().device().held()), before);
+        Ok(piece) => {
+            account.enter(&piece, location)?;
+            account.pieces.push((piece, location))?;
         }
+        Err(error) => check_cause(rt, account, &error, size, a.device().device().refusals()),
     }
     Ok(())
 }
 
-fn make_placed(a: &mut Allocator<SimD3D12>, account: &mut Account, seed: u64) -> Outcome {
+fn make_placed(
+    rt: &impl Abort,
+    a: &mut Allocator<SimD3D12>,
+    account: &mut Account,
+    seed: u64,
+) -> Outcome {
     let desc = buffer((seed >> 44) % 200000);
     let placed = asked(&desc, &[], IN_STATE, &ResourceType::Placed);
     match a.create_resource(&Discard, &placed) {
-        Ok(resource) => account.placed.push(resource)?,
-        Err(error) => account.count(&error),
+        Ok(resource) => {
+            if let Some(piece) = resource.allocation() {
+                account.enter(piece, MemoryLocation::GpuOnly)?;
+            }
+            account.placed.push(resource)?;
+            Ok(())
+        }
+        Err(error) => {
+            check_cause(rt, account, &error, 200000, a.device().device().refusals());
+            account.refused_placed(a.capacity())
+        }
     }
-    Ok(())
 }
 
 fn make_committed(
@@ -167,7 +152,6 @@ fn make_committed(
     account: &mut Account,
     seed: u64,
 ) -> Outcome {
-    let before = (a.capacity(), a.device().device().held());
     let desc = buffer((seed >> 44) % 200000);
     let own = own_memory();
     match a.create_resource(&Discard, &asked(&desc, &[], IN_STATE, &own)) {
@@ -176,24 +160,30 @@ fn make_committed(
             account.committed.push(resource)?;
         }
         Err(error) => {
-            account.count(&error);
-            assert_eq!(rt; (a.capacity(), a.device().device().held()), before);
+            assert!(rt; !matches!(error, AllocationError::BudgetExceeded));
+            check_cause(rt, account, &error, 0, a.device().device().refusals());
         }
     }
     Ok(())
 }
 
 fn free_piece(a: &mut Allocator<SimD3D12>, account: &mut Account, seed: u64) -> Outcome {
-    match pick(&mut account.pieces, seed) {
-        Some(piece) => give(a, piece),
-        None => Ok(()),
-    }
+    let Some((piece, _)) = pick(&mut account.pieces, seed) else {
+        return Ok(());
+    };
+    let heap = piece.heap();
+    give(a, piece)?;
+    account.strike(heap);
+    Ok(())
 }
 
 fn free_placed(a: &mut Allocator<SimD3D12>, account: &mut Account, seed: u64) -> Outcome {
     let Some(resource) = pick(&mut account.placed, seed) else {
         return Ok(());
     };
+    if let Some(piece) = resource.allocation() {
+        account.strike(piece.heap());
+    }
     match a.free_resource(&Discard, resource) {
         Ok(()) => Ok(()),
         Err((_, _)) => Err(Fail::from("a live resource came back")),
@@ -212,7 +202,7 @@ fn free_committed(a: &mut Allocator<SimD3D12>, account: &mut Account, seed: u64)
 }
 
 fn rename(a: &mut Allocator<SimD3D12>, account: &mut Account, seed: u64) -> Outcome {
-    let Some(mut piece) = pick(&mut account.pieces, seed) else {
+    let Some((mut piece, location)) = pick(&mut account.pieces, seed) else {
         return Ok(());
     };
     let named = match a.rename_allocation(&mut piece, "another") {
@@ -222,7 +212,7 @@ fn rename(a: &mut Allocator<SimD3D12>, account: &mut Account, seed: u64) -> Outc
             a.rename_allocation(&mut piece, "another")
         }
     };
-    account.pieces.push(piece)?;
+    account.pieces.push((piece, location))?;
     match named {
         Ok(()) => Ok(()),
         Err(_) => Err(Fail::from("a new name was refused twice")),
@@ -243,6 +233,28 @@ fn free_foreign(a: &mut Allocator<SimD3D12>, foreign: &mut Foreign) -> Outcome {
     }
 }
 
+/// Bounds the GPU's memory type, or no longer. There is no memory type 3.
+fn set_budget(
+    rt: &impl Abort,
+    a: &mut Allocator<SimD3D12>,
+    account: &mut Account,
+    seed: u64,
+) -> Outcome {
+    let budget = match (seed >> 40) % 4 {
+        0 => Some(256 * MB),
+        1 => Some(600 * MB),
+        _ => None,
+    };
+    assert!(rt; a.set_budget(3, budget).is_err());
+    match a.set_budget(0, budget) {
+        Ok(()) => {
+            account.budget = budget;
+            Ok(())
+        }
+        Err(_) => Err(Fail::from("a budget was refused")),
+    }
+}
+
 fn call(
     rt: &impl Abort,
     a: &mut Allocator<SimD3D12>,
@@ -250,14 +262,15 @@ fn call(
     foreign: &mut Foreign,
     seed: u64,
 ) -> Outcome {
-    match (seed >> 60) % 8 {
-        0 => free_piece(a, account, seed),
-        1 => make_placed(a, account, seed),
-        2 => make_committed(rt, a, account, seed),
-        3 => free_placed(a, account, seed),
-        4 => free_committed(a, account, seed),
-        5 => rename(a, account, seed),
-        6 => free_foreign(a, foreign),
+    match (seed >> 60) % 16 {
+        0 | 1 => free_piece(a, account, seed),
+        2 | 3 => make_placed(rt, a, account, seed),
+        4 | 5 => make_committed(rt, a, account, seed),
+        6 | 7 => free_placed(a, account, seed),
+        8 | 9 => free_committed(a, account, seed),
+        10 => rename(a, account, seed),
+        11 => free_foreign(a, foreign),
+        12 => set_budget(rt, a, account, seed),
         _ => allocate(rt, a, account, seed),
     }
 }
@@ -275,12 +288,16 @@ fn calls(
         let refused = account.refused;
         seed = next(seed);
         call(rt, a, account, foreign, seed)?;
-        agree(rt, a, account);
+        account.check(rt, a);
         let is_due = number % 16 == 0 || account.refused != refused;
         if reports == Reports::EachCall || is_due {
-            agree_in_report(rt, a, account)?;
+            let report = report_again(a, account)?;
+            account.check_report(rt, &report);
+            leaks_again(rt, a, account)?;
         }
     }
+    a.allocations_are_apart();
+    a.resources_lie_in_heaps();
     Ok(())
 }
 
@@ -327,9 +344,11 @@ fn run(
     let Some(mut foreign) = foreign_piece(alloc) else {
         return Err(Fail::from("no foreign piece"));
     };
-    let mut account = Account::new(alloc)?;
+    let mut account = Account::new(alloc, CALLS)?;
     let a = made(alloc, ResourceHeapTier::Tier2, script)?;
-    run_over(rt, a, &mut account, &mut foreign, Reports::EachCall)
+    let refused = run_over(rt, a, &mut account, &mut foreign, Reports::EachCall)?;
+    assert_eq!(rt; account.refused, 0);
+    Ok(refused)
 }
 
 #[test]
