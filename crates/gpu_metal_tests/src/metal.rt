@@ -2,6 +2,7 @@
 
 mod account;
 mod budgets;
+mod foreign;
 mod log_lines;
 mod refusals;
 mod refused;

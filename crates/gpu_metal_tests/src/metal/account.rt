@@ -1,6 +1,7 @@
 //! A plain account of an allocator: its blocks, the members of its residency set, and what is live.
 
 use super::*;
+use gpu_values::AllocatorReport;
 
 /// A live block.
 #[derive(Clone, Copy)]
@@ -21,6 +22,8 @@ pub struct Account {
     pub live: Vec<Allocation>,
     blocks: Vec<Block>,
     committed: Vec<MTLHeap>,
+    /// Of the memory type for uploads, in bytes.
+    pub budget: Option<u64>,
     pub refused: u64,
 }
 
@@ -31,6 +34,7 @@ impl Account {
             live: Vec::new(alloc),
             blocks: Vec::new(alloc),
             committed: Vec::new(alloc),
+            budget: None,
             refused: 0,
         };
         account.live.reserve(calls)?;
@@ -123,6 +127,32 @@ impl Account {
         sum
     }
 
+    /// Whether a new block of so many bytes would carry the memory type for uploads past its budget.
+    pub fn exceeds(&self, size: u64) -> bool {
+        let mut sum = size;
+        for block in &self.blocks {
+            if block.asked.0 == UPLOADS {
+                sum = sum.saturating_add(block.asked.1);
+            }
+        }
+        match self.budget {
+            Some(budget) => sum > budget,
+            None => false,
+        }
+    }
+
+    /// Looks that a report tells what the account says.
+    pub fn check_report(&self, rt: &impl Abort, report: &AllocatorReport) {
+        let mut live: u64 = 0;
+        for allocation in &self.live {
+            live = live.saturating_add(allocation.size());
+        }
+        assert_eq!(rt; report.allocations.len(), self.live.len());
+        assert_eq!(rt; report.blocks.len(), self.blocks.len());
+        assert_eq!(rt; report.total_allocated_bytes, live);
+        assert_eq!(rt; report.total_capacity_bytes, self.capacity());
+    }
+
     /// Looks that the members of the set are the heaps of the blocks, in the order in which they were made.
     fn check_set(&self, rt: &impl Abort, a: &Allocator<SimMetal>, set: MTLResidencySet) {
         match a.device().members(set) {
@@ -144,6 +174,7 @@ impl Account {
     /// Looks that the allocator is as the account says.
     pub fn check(&self, rt: &impl Abort, a: &Allocator<SimMetal>) {
         assert_eq!(rt; a.capacity(), self.capacity());
+        assert_eq!(rt; a.budget(1), self.budget);
         for allocation in &self.live {
             assert!(rt; a.is_live(allocation));
         }

@@ -38,16 +38,64 @@ fn location_by(number: u64) -> MemoryLocation {
     }
 }
 
-/// Asks for a piece. Where the device refuses its heap, or the host memory, the account stays as it is.
-fn ask(a: &mut Allocator<SimMetal>, account: &mut Account, seed: &mut u64) -> Outcome {
+/// Asks for a piece. Where the device refuses its heap, or the host memory, or where it is past the budget, the account stays
+/// as it is.
+fn ask(
+    rt: &impl Abort,
+    a: &mut Allocator<SimMetal>,
+    account: &mut Account,
+    seed: &mut u64,
+) -> Outcome {
     let desc = piece(size_by(next(seed)), location_by(next(seed)));
+    let asked = a.device().questions();
     match a.allocate(&Discard, &desc) {
-        Ok(allocation) => account.give(allocation, a.device().last_heap(), SHARED),
-        Err(AllocationError::Internal(_) | AllocationError::HostOutOfMemory) => {
-            account.count();
+        Ok(allocation) => return account.give(allocation, a.device().last_heap(), SHARED),
+        Err(AllocationError::Internal(_) | AllocationError::HostOutOfMemory) => account.count(),
+        Err(AllocationError::BudgetExceeded) => {
+            assert!(rt; desc.location == MemoryLocation::CpuToGpu);
+            assert!(rt; account.exceeds(desc.size.max(SHARED)));
+            assert_eq!(rt; a.device().questions(), asked);
+        }
+        Err(_) => return Err(Fail::from("a piece was refused for another cause")),
+    }
+    Ok(())
+}
+
+/// Bounds the memory type for uploads, or no longer. There is no memory type 3.
+fn set_budget(a: &mut Allocator<SimMetal>, account: &mut Account, number: u64) -> Outcome {
+    let budget = match number % 4 {
+        0 => Some(0),
+        1 => Some(9 * MB),
+        _ => None,
+    };
+    if a.set_budget(3, budget).is_ok() {
+        return Err(Fail::from("a memory type that isn't there was bounded"));
+    }
+    match a.set_budget(1, budget) {
+        Ok(()) => {
+            account.budget = budget;
             Ok(())
         }
-        Err(_) => Err(Fail::from("a piece was refused for another cause")),
+        Err(_) => Err(Fail::from("a budget was refused")),
+    }
+}
+
+/// Looks at a report, which is asked for once more where the host refused memory.
+fn report(rt: &impl Abort, a: &Allocator<SimMetal>, account: &mut Account) -> Outcome {
+    match a.generate_report() {
+        Ok(report) => {
+            account.check_report(rt, &report);
+            return Ok(());
+        }
+        Err(AllocationError::HostOutOfMemory) => account.count(),
+        Err(_) => return Err(Fail::from("a report was refused for another cause")),
+    }
+    match a.generate_report() {
+        Ok(report) => {
+            account.check_report(rt, &report);
+            Ok(())
+        }
+        Err(_) => Err(Fail::from("a report was refused twice")),
     }
 }
 
@@ -66,10 +114,17 @@ fn give_some(a: &mut Allocator<SimMetal>, account: &mut Account, number: u64) ->
 }
 
 /// One call.
-fn call(a: &mut Allocator<SimMetal>, account: &mut Account, seed: &mut u64) -> Outcome {
-    match next(seed) % 8 {
-        0..=3 => ask(a, account, seed),
-        4..=6 => give_some(a, account, next(seed)),
+fn call(
+    rt: &impl Abort,
+    a: &mut Allocator<SimMetal>,
+    account: &mut Account,
+    seed: &mut u64,
+) -> Outcome {
+    match next(seed) % 16 {
+        0..=7 => ask(rt, a, account, seed),
+        8..=12 => give_some(a, account, next(seed)),
+        13 => set_budget(a, account, next(seed)),
+        14 => report(rt, a, account),
         _ => {
             a.commit_residency_set();
             account.commit()
@@ -85,9 +140,11 @@ pub fn calls(
     mut seed: u64,
 ) -> Outcome {
     for _ in 0..CALLS {
-        call(a, account, &mut seed)?;
+        call(rt, a, account, &mut seed)?;
         account.check(rt, a);
     }
+    report(rt, a, account)?;
+    a.allocations_are_apart();
     Ok(())
 }
 
@@ -121,6 +178,7 @@ fn script(
             check_heaps(rt, device.members(set), &[]);
         }
     }
+    assert_eq!(rt; account.refused, device.refusals());
     Ok(device.refusals() > 0)
 }
 
