@@ -7,6 +7,7 @@ ghost use Rattle.std.specs.Int.{is_power_of_two};
 
 mod free_list;
 mod leaks;
+mod refused;
 mod search;
 mod sub_allocator;
 
