@@ -1,14 +1,15 @@
 //! Worked rows of the Vulkan allocator.
 
+mod account;
 mod budgets;
 mod bytes;
 mod counting;
+mod foreign;
 mod log_lines;
-mod refusals;
 mod refused;
 mod reports;
 mod rows;
-mod sessions;
+mod scripts;
 mod setups;
 mod slots;
 

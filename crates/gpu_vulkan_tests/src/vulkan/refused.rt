@@ -58,7 +58,7 @@ fn report_again(
     }
 }
 
-fn check_same(rt: &impl Abort, before: &AllocatorReport, after: &AllocatorReport) {
+pub(super) fn check_same(rt: &impl Abort, before: &AllocatorReport, after: &AllocatorReport) {
     assert_eq!(rt; before.allocations.len(), after.allocations.len());
     for (i, row) in before.allocations.iter().enumerate() {
         check_row(rt, after, i, row.name.as_str(), row.offset, row.size);

@@ -2,10 +2,49 @@
 //! was refused it fails with a text of its own, after all else held: `tools/check_refused` refuses each in turn, and looks
 //! for that text.
 
-use super::super::refused::{TOLD, begin, ends, is_want_of_memory};
-use super::super::reports::check_row;
 use super::*;
 use gpu_values::AllocatorReport;
+
+/// What a run ends with in which one request was refused.
+const TOLD: &str = "one call was refused, and nothing was lost";
+
+/// How a test ends in which so many calls were refused.
+fn ends(refused: u64) -> Outcome {
+    match refused {
+        0 => Ok(()),
+        1 => Err(Fail::new(TOLD)),
+        _ => Err(Fail::new("more than one call was refused")),
+    }
+}
+
+/// Whether the host refused memory: the allocator, or the device, whose code for it is -1.
+fn is_want_of_memory(error: &AllocationError) -> bool {
+    match error {
+        AllocationError::HostOutOfMemory => true,
+        AllocationError::Internal(fault) | AllocationError::FailedToMap(fault) => {
+            fault.code == Some(-1)
+        }
+        _ => false,
+    }
+}
+
+/// A piece of a report, by its index.
+fn check_row(
+    rt: &impl Abort,
+    report: &AllocatorReport,
+    i: usize,
+    name: &str,
+    offset: u64,
+    size: u64,
+) {
+    match report.allocations.get(i) {
+        Some(row) => {
+            assert_eq!(rt; row.name.as_str(), name);
+            assert_eq!(rt; (row.offset, row.size), (offset, size));
+        }
+        None => panic!(rt; "row {i} of the report isn't there"),
+    }
+}
 
 /// A request for a piece that the host reads: uploads are asked for again where the device lacks host memory.
 fn download_of(
@@ -264,15 +303,19 @@ fn served(
 
 #[test]
 fn a_session_loses_nothing_where_memory_is_refused(rt: HostRuntime) -> Outcome {
-    let properties = one_type(&[(6, 0)], &[1024 * MB]);
     let Ok(commands) = commands(rt.alloc()) else {
         return Err(Fail::new(TOLD));
     };
-    let Ok(device) = simulated(rt.alloc(), &properties) else {
+    let Ok(device) = simulated(rt.alloc()) else {
         return Err(Fail::new(TOLD));
     };
-    let Some(a) = begin(&rt, rt.alloc(), device) else {
-        return Err(Fail::new(TOLD));
+    let a = match made(rt.alloc(), device, AllocationSizes::new(4 * MB, 4 * MB)) {
+        Ok(a) => a,
+        Err((error, device)) => {
+            assert!(&rt; is_want_of_memory(&error));
+            assert_eq!(&rt; device.held(), 0);
+            return Err(Fail::new(TOLD));
+        }
     };
     let mut s = Session::new(rt.alloc(), a);
     let mut refused = 0;

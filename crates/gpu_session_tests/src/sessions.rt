@@ -2,15 +2,58 @@
 
 mod refused;
 
-use super::*;
-use gpu_values::{AllocationError, MemoryLocation};
+use gpu_allocator::vulkan::*;
+use gpu_sim::SimVulkan;
+use gpu_values::{AllocationError, AllocationSizes, AllocatorDebugSettings, MemoryLocation};
 use gpu_vulkan_session::{Command, Given, Reply, Session};
+use log::sink::Discard;
+use std::alloc::{AllocError, Global};
 use std::process::Abort;
+use std::test::Fail;
 
-/// A session over one memory type that the host can see.
+/// Bytes in a megabyte.
+const MB: u64 = 1_048_576;
+
+/// How a test ends.
+type Outcome = std::result::Result<(), Fail>;
+
+/// A simulated device with one memory type that the host can see, in a heap of 1 GB.
+fn simulated(alloc: Global) -> std::result::Result<SimVulkan, AllocError> {
+    let mut heaps = Vec::new(alloc);
+    heaps.push(MemoryHeap {
+        size: 1024 * MB,
+        flags: 0,
+    })?;
+    let mut types = Vec::new(alloc);
+    types.push(MemoryTypeInfo {
+        property_flags: MemoryPropertyFlags(6),
+        heap_index: 0,
+    })?;
+    Ok(SimVulkan::new(alloc, heaps, types, 1, u64::MAX, Vec::new(alloc)))
+}
+
+/// An allocator over a device, with these block sizes; else why not, and the device.
+fn made(
+    alloc: Global,
+    device: SimVulkan,
+    allocation_sizes: AllocationSizes,
+) -> std::result::Result<Allocator<SimVulkan>, (AllocationError, SimVulkan)> {
+    let desc = AllocatorCreateDesc {
+        device,
+        physical_device: PhysicalDevice(1),
+        debug_settings: AllocatorDebugSettings::default(),
+        buffer_device_address: true,
+        allocation_sizes,
+    };
+    Allocator::new(&Discard, alloc, desc)
+}
+
+/// A session over that device.
 fn session(alloc: Global) -> std::result::Result<Session<SimVulkan>, Fail> {
-    let properties = one_type(&[(6, 0)], &[1024 * MB]);
-    Ok(Session::new(alloc, made(alloc, &properties, AllocationSizes::default())?))
+    match made(alloc, simulated(alloc)?, AllocationSizes::default()) {
+        Ok(a) => Ok(Session::new(alloc, a)),
+        Err((_, _)) => Err(Fail::from("the allocator can't be made")),
+    }
 }
 
 /// A request for a piece of `size` bytes that the host writes.
