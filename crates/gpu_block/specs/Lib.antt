@@ -3,6 +3,8 @@ pub mod Dedicated
 pub mod Block
 pub mod SubAllocator
 pub mod Leak
+pub mod Pieces
+pub mod Statistics
 pub use Rattle.gpu_block_pieces.specs.FreeList
 pub use Rattle.gpu_block_pieces.specs.Request
 pub use Rattle.gpu_block_pieces.specs.Place

@@ -7,7 +7,8 @@ ghost use Rattle.std.specs.Iterator.{YieldsFirst, item_count};
 ghost use Rattle.gpu_block_pieces.specs.Chunks.{extent, extents_of};
 ghost use Rattle.gpu_block.specs.Leak.{leak_text, block_lines, piece_text, chunk_text, dedicated_text, number_line, size_line, start_line, kind_line, name_line, kind_name};
 
-use gpu_block_chunks::{Chunk, Walk, is_free};
+use crate::pieces::first_piece;
+use gpu_block_chunks::{Chunk, Walk};
 use gpu_cost::Cost;
 use gpu_values::{AllocationType, Result};
 use std::alloc::Global;
@@ -50,20 +51,6 @@ impl<'a> Model for Leaks<'a> {
     ghost Value = { List LeakOf };
 
     ghost view = { λ l. map (leak_of l.memory_type l.memory_block l.general) (extents_of l.rest) };
-}
-
-/// The first chunk that isn't free; those behind it are left.
-fn first_piece<'a>(chunks: &mut Walk<'a>, cost: &mut Cost) -> Option<&'a Chunk>
-    ensures { MatchOption result
-        ((extents_of chunks.old ≡ []) × (extents_of chunks.new ≡ []))
-        (λ c. extents_of chunks.old ≡ extent c.now ∷ extents_of chunks.new) }
-{
-    while let Some(chunk) = chunks.next(cost) {
-        if !is_free(chunk.kind) {
-            return Some(chunk);
-        }
-    }
-    None
 }
 
 impl<'a> Iterator for Leaks<'a> {

@@ -8,9 +8,10 @@ ghost use Rattle.gpu_values.specs.declared.error.AllocationError.TheVariants.{Ho
 ghost use Rattle.gpu_values.specs.Report.{row_of};
 ghost use Rattle.gpu_block.specs.Rows.{extent_row};
 ghost use Rattle.gpu_block.specs.Leak.{leak_of};
+ghost use Rattle.gpu_block.specs.Pieces.{LieBetween};
 
 use crate::rows::{rows_of, taken_bytes};
-use crate::{DedicatedBlockAllocator, FreeListAllocator, Leaks};
+use crate::{DedicatedBlockAllocator, FreeListAllocator, Leaks, Pieces};
 use gpu_block_chunks::Walk;
 use gpu_block_pieces::CutBlock;
 use gpu_cost::{BeginsCount, Cost};
@@ -94,6 +95,18 @@ impl FreeListAllocator {
             cost: Cost::begin(&Reading),
         }
     }
+
+    /// The live pieces in order of offset. It takes no memory.
+    pub fn pieces(&self) -> Pieces<'_>
+        ensures pieces { result ≡ self.now.block.extents }
+        ensures laid_out { LieBetween 0 result self.now.block.size }
+    {
+        let rest = self.pieces.walk();
+        Pieces {
+            rest,
+            cost: Cost::begin(&Reading),
+        }
+    }
 }
 
 impl DedicatedBlockAllocator {
@@ -118,6 +131,18 @@ impl DedicatedBlockAllocator {
             memory_block,
             general: false,
             rest: Walk::of_list(self.piece.as_slice()),
+            cost: Cost::begin(&Reading),
+        }
+    }
+
+    /// The live pieces in order of offset. It takes no memory.
+    pub fn pieces(&self) -> Pieces<'_>
+        ensures pieces { result ≡ held_extents self.now }
+        ensures laid_out { LieBetween 0 result self.now.size }
+    {
+        let rest = Walk::of_list(self.piece.as_slice());
+        Pieces {
+            rest,
             cost: Cost::begin(&Reading),
         }
     }

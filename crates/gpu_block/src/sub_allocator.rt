@@ -10,7 +10,8 @@ ghost use Rattle.gpu_values.specs.Report.{row_of};
 ghost use Rattle.gpu_block.specs.Rows.{extent_row};
 
 use crate::leaks::texts_of;
-use crate::{DedicatedBlockAllocator, FreeListAllocator, Leaks};
+use crate::pieces::count;
+use crate::{BlockStatistics, DedicatedBlockAllocator, FreeListAllocator, Leaks, Pieces};
 use gpu_values::{AllocationReport, AllocationType, Result};
 use std::num::NonZeroU64;
 
@@ -27,6 +28,8 @@ impl SubAllocator {
     ghost use Rattle.gpu_block.specs.SubAllocator.{block_of, cost_of};
     ghost use Rattle.gpu_block_pieces.specs.FreeList.{FindsPlace};
     ghost use Rattle.gpu_block.specs.Leak.{leaks_of, leak_text};
+    ghost use Rattle.gpu_block.specs.Pieces.{LieBetween};
+    ghost use Rattle.gpu_block.specs.Statistics.{statistics_of};
     ghost use Rattle.gpu_block.specs.Block.{extents_of, size_of, allocated_bytes, is_general, HasPages, TakesIn, IsTakeRefusalIn, ReleasesIn, IsReleaseRefusalIn, RenamesIn, IsRenameRefusalIn, IsSoundBlock, IsOrderedBlock, HasPagesApart, IsCoveredBlock, IsFitLaw, IsSearchIn, CountsRise};
 
     /// Takes a place for `size` bytes, and answers the piece's offset in bytes and its number. A free list takes the least place
@@ -142,6 +145,25 @@ impl SubAllocator {
             SubAllocator::Dedicated(block) => block.alloc,
         };
         texts_of(alloc, self.leaks(memory_type, memory_block))
+    }
+
+    /// The live pieces in order of offset: they lie in the block one behind another. It takes no memory.
+    pub fn pieces(&self) -> Pieces<'_>
+        ensures pieces { result ≡ extents_of (block_of self.now) }
+        ensures laid_out { LieBetween 0 result (size_of (block_of self.now)) }
+    {
+        match self {
+            SubAllocator::FreeList(list) => list.pieces(),
+            SubAllocator::Dedicated(block) => block.pieces(),
+        }
+    }
+
+    /// How many live pieces and gaps there are, what the pieces take with their padding, and the longest gap, in bytes.
+    /// It takes no memory.
+    pub fn statistics(&self) -> BlockStatistics
+        ensures { result ≡ statistics_of (block_of self.now) }
+    {
+        count(self.pieces(), self.size())
     }
 
     /// The bytes of all live pieces, padding included.
