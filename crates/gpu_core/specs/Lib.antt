@@ -23,4 +23,6 @@ pub use Rattle.gpu_block.specs.Dedicated
 pub use Rattle.gpu_block.specs.Block
 pub use Rattle.gpu_block.specs.SubAllocator
 pub use Rattle.gpu_block.specs.Leak
+pub use Rattle.gpu_block.specs.Pieces
+pub use Rattle.gpu_block.specs.Statistics
 pub use Rattle.gpu_block.specs.Cost

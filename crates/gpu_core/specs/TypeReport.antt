@@ -1,7 +1,10 @@
 -- What a memory type shows of its blocks and pieces: leaks, and what it adds to a report.
 use Rattle.std.specs.Prelude.{ℕ, ◌+◌, List, [], ◌∷◌, ◌++◌, map, length, Option, Some, None}
 use Rattle.gpu_values.specs.declared.report.MemoryBlockReport.{MemoryBlockReport}
+use Rattle.gpu_block.specs.declared.pieces.BlockStatistics.{BlockStatistics}
 use Rattle.gpu_core.specs.Block.{Block, extents_of, size_of, allocated_bytes}
+use Rattle.gpu_core.specs.FreeList.{Extent}
+use Rattle.gpu_core.specs.Statistics.{statistics_of}
 use Rattle.gpu_core.specs.Leak.{LeakOf, leaks_of}
 use Rattle.gpu_core.specs.Report.{Row, Report}
 use Rattle.gpu_core.specs.Rows.{extent_row}
@@ -23,6 +26,18 @@ leaks_from memory_type first (Some s ∷ slots) = leaks_of memory_type first s.b
 -- the live pieces of a type
 abbrev pub type_leaks : {H : Type 0} → (memory_type : ℕ) → List (Option (Slot H)) → List LeakOf
 type_leaks memory_type slots = leaks_from memory_type 0 slots
+
+-- ---- one block
+
+-- the live pieces of the block in a slot, in the order of their starts
+abbrev pub pieces_in : {H : Type 0} → Option (Slot H) → Option (List Extent)
+pieces_in None = None
+pieces_in (Some s) = Some (extents_of s.block)
+
+-- what is counted of the block in a slot
+abbrev pub statistics_in : {H : Type 0} → Option (Slot H) → Option BlockStatistics
+statistics_in None = None
+statistics_in (Some s) = Some (statistics_of s.block)
 
 -- ---- reports
 

@@ -5,7 +5,10 @@
 mod memory_type;
 pub mod type_laws;
 
-pub use gpu_block::{DedicatedBlockAllocator, FreeListAllocator, Leak, Leaks, SubAllocator, laws};
+pub use gpu_block::{
+    BlockStatistics, DedicatedBlockAllocator, FreeListAllocator, Leak, Leaks, LivePiece, Pieces,
+    SubAllocator, laws,
+};
 pub use gpu_values::{
     AllocationError, AllocationReport, AllocationSizes, AllocationType, AllocatorDebugSettings,
     AllocatorReport, Fault, MemoryBlockReport, MemoryLocation, Result, fmt_bytes,

@@ -11,7 +11,9 @@ mod slot;
 mod slots;
 mod type_leaks;
 
-use crate::{AllocationSizes, AllocationType, AllocatorReport, Leaks, Result};
+use crate::{
+    AllocationSizes, AllocationType, AllocatorReport, BlockStatistics, Leaks, Pieces, Result,
+};
 use need::make_room;
 pub use need::{NeedBlock, Room};
 use report::add_slots;
@@ -95,7 +97,7 @@ impl<H: Copy + Eq> MemoryType<H> {
     ghost use Rattle.gpu_core.specs.Slots.{AreSound};
     ghost use Rattle.gpu_core.specs.TypePrepare.{IsPrepared, CanInstall};
     ghost use Rattle.gpu_core.specs.TypeRelease.{has_several, IsLive, IsFreeRefusal, IsNameRefusal, ReleasesPiece, RenamesPiece};
-    ghost use Rattle.gpu_core.specs.TypeReport.{leaks_in, type_leaks, with_type};
+    ghost use Rattle.gpu_core.specs.TypeReport.{leaks_in, pieces_in, statistics_in, type_leaks, with_type};
     ghost use Rattle.gpu_core.specs.Report.{report_of};
 
     /// A memory type without blocks. `is_host` says which of the block sizes are its own; `granularity` is the page size
@@ -315,6 +317,34 @@ impl<H: Copy + Eq> MemoryType<H> {
             Some(Some(block)) => Some(block.sub.leaks(memory_type, slot)),
             _ => None,
         }
+    }
+
+    /// The live pieces of the block in a slot, in order of offset; `None` where there is no block. It takes no memory.
+    pub fn pieces(&self, slot: usize) -> Option<Pieces<'_>>
+        ensures { result ≡ pieces_in (slot_at self.now.slots slot) }
+    {
+        match self.slots.get(slot) {
+            Some(Some(block)) => Some(block.sub.pieces()),
+            _ => None,
+        }
+    }
+
+    /// How many live pieces and gaps the block in a slot has, what the pieces take with their padding, and the longest gap,
+    /// in bytes; `None` where there is no block. It takes no memory.
+    pub fn statistics(&self, slot: usize) -> Option<BlockStatistics>
+        ensures { result ≡ statistics_in (slot_at self.now.slots slot) }
+    {
+        match self.slots.get(slot) {
+            Some(Some(block)) => Some(block.sub.statistics()),
+            _ => None,
+        }
+    }
+
+    /// The page size of its blocks in bytes.
+    pub fn granularity(&self) -> u64
+        ensures { result ≡ self.now.granularity }
+    {
+        self.granularity
     }
 
     /// All live pieces by slot, then in order of offset, as leaks of type `memory_type`. It takes no memory.
