@@ -3,6 +3,7 @@
 
 mod dedicated_block;
 mod free_list;
+mod gaps;
 pub mod laws;
 mod leaks;
 mod pieces;
@@ -12,6 +13,7 @@ mod sub_allocator;
 
 pub use dedicated_block::DedicatedBlockAllocator;
 pub use free_list::FreeListAllocator;
+pub use gaps::Gaps;
 pub use leaks::{Leak, Leaks};
 pub use pieces::{BlockStatistics, LivePiece, Pieces};
 pub use sub_allocator::SubAllocator;

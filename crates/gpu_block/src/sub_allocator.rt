@@ -11,7 +11,7 @@ ghost use Rattle.gpu_block.specs.Rows.{extent_row};
 
 use crate::leaks::texts_of;
 use crate::pieces::count;
-use crate::{BlockStatistics, DedicatedBlockAllocator, FreeListAllocator, Leaks, Pieces};
+use crate::{BlockStatistics, DedicatedBlockAllocator, FreeListAllocator, Gaps, Leaks, Pieces};
 use gpu_values::{AllocationReport, AllocationType, Result};
 use std::num::NonZeroU64;
 
@@ -28,7 +28,7 @@ impl SubAllocator {
     ghost use Rattle.gpu_block.specs.SubAllocator.{block_of, cost_of};
     ghost use Rattle.gpu_block_pieces.specs.FreeList.{FindsPlace};
     ghost use Rattle.gpu_block.specs.Leak.{leaks_of, leak_text};
-    ghost use Rattle.gpu_block.specs.Pieces.{LieBetween};
+    ghost use Rattle.gpu_block.specs.Pieces.{LieBetween, gaps_in};
     ghost use Rattle.gpu_block.specs.Statistics.{statistics_of};
     ghost use Rattle.gpu_block.specs.Block.{extents_of, size_of, allocated_bytes, is_general, HasPages, TakesIn, IsTakeRefusalIn, ReleasesIn, IsReleaseRefusalIn, RenamesIn, IsRenameRefusalIn, IsSoundBlock, IsOrderedBlock, HasPagesApart, IsCoveredBlock, IsFitLaw, IsSearchIn, CountsRise};
 
@@ -155,6 +155,17 @@ impl SubAllocator {
         match self {
             SubAllocator::FreeList(list) => list.pieces(),
             SubAllocator::Dedicated(block) => block.pieces(),
+        }
+    }
+
+    /// The gaps before, between and behind the live pieces, in order of start. It takes no memory.
+    pub fn gaps(&self) -> Gaps<'_>
+        ensures { result ≡ gaps_in (block_of self.now) }
+    {
+        Gaps {
+            pieces: self.pieces(),
+            end: 0,
+            size: self.size(),
         }
     }
 

@@ -6,8 +6,8 @@ mod memory_type;
 pub mod type_laws;
 
 pub use gpu_block::{
-    BlockStatistics, DedicatedBlockAllocator, FreeListAllocator, Leak, Leaks, LivePiece, Pieces,
-    SubAllocator, laws,
+    BlockStatistics, DedicatedBlockAllocator, FreeListAllocator, Gaps, Leak, Leaks, LivePiece,
+    Pieces, SubAllocator, laws,
 };
 pub use gpu_values::{
     AllocationError, AllocationReport, AllocationSizes, AllocationType, AllocatorDebugSettings,
