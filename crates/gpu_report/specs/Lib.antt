@@ -1,0 +1,4 @@
+pub mod Escape
+pub mod Json
+pub mod ReportJson
+pub mod BlocksJson
