@@ -2,10 +2,14 @@
 #![tactic(auto)]
 
 mod blocks_json;
+mod blocks_svg;
 mod escape;
+mod place;
 mod report_json;
+mod svg;
 mod view;
 
 pub use blocks_json::BlocksJson;
+pub use blocks_svg::BlocksSvg;
 pub use report_json::ReportJson;
 pub use view::BlockView;
