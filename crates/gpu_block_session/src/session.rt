@@ -54,6 +54,8 @@ impl Model for BlockSession {
 
 impl BlockSession {
     ghost use Rattle.std.specs.Prelude.{◌≡◌, ◌<◌, IsTrue, IfOk, IfErr};
+    ghost use Rattle.gpu_core.specs.Block.{HasPages};
+    ghost use Rattle.gpu_core.specs.SubAllocator.{block_of};
     ghost use Rattle.std.specs.Int.{is_power_of_two};
     ghost use Rattle.gpu_core.specs.Request.{request};
     ghost use Rattle.gpu_values.specs.declared.error.AllocationError.TheVariants.{HostOutOfMemory};
@@ -105,6 +107,20 @@ impl BlockSession {
             }
             None => Reply::Unbound,
         }
+    }
+
+    /// The block.
+    pub fn block(&self) -> &SubAllocator
+        ensures { block_of result.now ≡ self.now.block }
+    {
+        &self.block
+    }
+
+    /// The page size of the block in bytes.
+    pub fn granularity(&self) -> u64
+        ensures { HasPages self.now.block result }
+    {
+        self.granularity
     }
 
     /// The live pieces, and the sums.
