@@ -1,3 +1,4 @@
 pub mod Cells
+pub mod Drawn
 pub mod Escapes
 pub mod Writing

@@ -5,3 +5,4 @@ pub mod BlocksJson
 pub mod Picture
 pub mod Svg
 pub mod BlocksSvg
+pub mod ReportSvg

@@ -1,5 +1,5 @@
 -- What a picture shows of a block: cells from its first byte to its last, each at its place in the block's bar.
-use Rattle.std.specs.Prelude.{ℕ, ◌≡◌, ◌*◌, ◌/◌, ◌<◌, ◌==◌, List, [], ◌∷◌, ◌++◌, min, nat_lt, if◌then◌else◌, true, false}
+use Rattle.std.specs.Prelude.{ℕ, ◌≡◌, ◌*◌, ◌/◌, ◌<◌, ◌==◌, List, [], ◌∷◌, ◌++◌, min, nat_lt, if◌then◌else◌, Bool, true, false}
 use Rattle.gpu_values.specs.declared.allocation_type.AllocationType.{AllocationType}
 use Rattle.gpu_values.specs.declared.allocation_type.AllocationType.TheVariants as kinds
 use Rattle.gpu_core.specs.FreeList.{Extent}
@@ -15,7 +15,7 @@ pub record Cell : Type 0 where
   pub name : List ℕ
 
 abbrev pub look_of : AllocationType → Look
-look_of kinds.Free = looks.Gap
+look_of kinds.Free = looks.Piece
 look_of kinds.Linear = looks.Linear
 look_of kinds.NonLinear = looks.NonLinear
 
@@ -48,3 +48,15 @@ place size width at = if size == 0 then 0 else min at size * width / size
 abbrev pub Tile : ℕ → List Cell → ℕ → Type 0
 Tile from [] to = from ≡ to
 Tile from (c ∷ cells) to = (c.start ≡ from) × (c.start < c.end) × Tile c.end cells to
+
+-- a piece's own bytes, and no gap or padding
+abbrev pub is_piece : Look → Bool
+is_piece looks.Gap = false
+is_piece looks.Padding = false
+is_piece looks.Linear = true
+is_piece looks.NonLinear = true
+is_piece looks.Piece = true
+is_piece looks.Rest = false
+
+abbrev pub is_piece_cell : Cell → Bool
+is_piece_cell c = is_piece c.look

@@ -127,8 +127,8 @@ totals_svg blocks pieces taken capacity =
 -- the colours, which readers who see no red or no green can tell apart
 unfoldable pub style_svg : List ℕ
 style_svg =
-    codes "<style>rect{stroke:#000;stroke-width:3}.sheet{fill:#fff;stroke:none}.gap,.rest{fill:#eee}.padding{fill:#cc79a7}"
-    ++ (codes ".linear{fill:#56b4e9}.nonlinear{fill:#e69f00}.piece{fill:#009e73}.line{stroke:#000;stroke-width:6;stroke-dasharray:20}</style>\n"
+    codes "<style>rect{stroke:#000;stroke-width:1}.sheet{fill:#fff;stroke:none}.gap,.rest{fill:#eee}.padding{fill:#cc79a7}"
+    ++ (codes ".linear{fill:#56b4e9}.nonlinear{fill:#e69f00}.piece{fill:#009e73}.line{stroke:#000;stroke-width:4;stroke-dasharray:12 24}</style>\n"
     ++ codes "<rect class=\"sheet\" width=\"100%\" height=\"100%\"/>\n")
 
 -- one entry of the legend

@@ -62,7 +62,7 @@ fn look_of(kind: AllocationType) -> Look
     ensures { result ≡ look_of kind }
 {
     match kind {
-        AllocationType::Free => Look::Gap,
+        AllocationType::Free => Look::Piece,
         AllocationType::Linear => Look::Linear,
         AllocationType::NonLinear => Look::NonLinear,
     }

@@ -4,12 +4,15 @@
 mod blocks_json;
 mod blocks_svg;
 mod escape;
+pub mod laws;
 mod place;
 mod report_json;
+mod report_svg;
 mod svg;
 mod view;
 
 pub use blocks_json::BlocksJson;
 pub use blocks_svg::BlocksSvg;
 pub use report_json::ReportJson;
+pub use report_svg::ReportSvg;
 pub use view::BlockView;

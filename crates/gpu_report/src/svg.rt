@@ -296,10 +296,10 @@ pub fn write_style<W: fmt::Write>(f: &mut fmt::Formatter<W>) -> fmt::Result
     ensures { DisplaysOnOk W.write_str_gives f.old result (Some style_svg) f.new }
 {
     f.write_str(
-        "<style>rect{stroke:#000;stroke-width:3}.sheet{fill:#fff;stroke:none}.gap,.rest{fill:#eee}.padding{fill:#cc79a7}",
+        "<style>rect{stroke:#000;stroke-width:1}.sheet{fill:#fff;stroke:none}.gap,.rest{fill:#eee}.padding{fill:#cc79a7}",
     )?;
     f.write_str(
-        ".linear{fill:#56b4e9}.nonlinear{fill:#e69f00}.piece{fill:#009e73}.line{stroke:#000;stroke-width:6;stroke-dasharray:20}</style>\n",
+        ".linear{fill:#56b4e9}.nonlinear{fill:#e69f00}.piece{fill:#009e73}.line{stroke:#000;stroke-width:4;stroke-dasharray:12 24}</style>\n",
     )?;
     f.write_str("<rect class=\"sheet\" width=\"100%\" height=\"100%\"/>\n")
 }
