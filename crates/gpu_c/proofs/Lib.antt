@@ -1,0 +1,2 @@
+mod VirtualBlockHandleWords
+mod VirtualBlockLaws

@@ -1,0 +1,4 @@
+pub mod Status
+pub mod Request
+pub mod Handle
+pub mod VirtualBlock

@@ -1,0 +1,10 @@
+//! The allocator for C: each export tests what it is told, calls the library, and says the library's clauses again over what lies
+//! behind its handle. `include/pilhangko.h` declares the exports.
+#![tactic(auto)]
+
+mod request;
+mod status;
+mod virtual_block;
+mod virtual_block_calls;
+mod virtual_block_handle;
+mod virtual_block_values;

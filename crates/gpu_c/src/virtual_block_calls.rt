@@ -1,0 +1,210 @@
+//! Virtual blocks for C. A handle begins zeroed; create fills it and destroy leaves it zeroed. Each call on an empty handle answers
+//! `NO_HANDLE`, and any status but `OK` leaves everything as it was.
+
+ghost use Rattle.std.specs.Prelude.{◌≡◌, ◌≢◌, ◌<◌, ◌-◌, ◌^◌, ◌↔◌, [], ◌∷◌, Some, None, IsSomeAnd, IsUtf8, length, min};
+ghost use Rattle.gpu_values.specs.declared.error.AllocationError.TheVariants.{OutOfMemory, HostOutOfMemory};
+ghost use Rattle.gpu_block.specs.Block.{extents_of, IsTakeRefusalIn};
+ghost use Rattle.gpu_c.specs.Handle.{Changes};
+ghost use Rattle.gpu_c.specs.Request.{IsServed};
+ghost use Rattle.gpu_c.specs.Status.{IsOneOf};
+ghost use Rattle.gpu_c.specs.VirtualBlock.{CanCreate, fresh_virtual_block, asked, IsLivePiece, Allocates, Frees, NamesPiece, cleared};
+ghost use Rattle.gpu_c.specs.declared.status.TheConstants.{OK, OUT_OF_MEMORY, INVALID, NOT_LIVE, HOST_OUT_OF_MEMORY, NO_HANDLE, IN_USE};
+
+use crate::status::{HOST_OUT_OF_MEMORY, IN_USE, INVALID, NO_HANDLE, OK};
+use crate::virtual_block::VirtualBlock;
+use crate::virtual_block_handle::VirtualBlockHandle;
+use crate::virtual_block_values::{VirtualPiece, VirtualRequest};
+use std::alloc::Global;
+
+/// A new block in an empty handle.
+fn create(block: &mut VirtualBlockHandle, alloc: Global, size: u64, granularity: u64) -> u32
+    requires empty { block.old.value ≡ None }
+    requires valid { CanCreate size granularity }
+    ensures created { result ≡ OK → block.new.value ≡ Some (fresh_virtual_block size granularity) }
+    ensures statuses { IsOneOf result (OK ∷ HOST_OUT_OF_MEMORY ∷ []) }
+    ensures refused { result ≢ OK → block.new.value ≡ None }
+{
+    match VirtualBlock::new(alloc, size, granularity) {
+        Err(_) => HOST_OUT_OF_MEMORY,
+        Ok(fresh) => match Box::new(alloc, fresh) {
+            Err(_) => HOST_OUT_OF_MEMORY,
+            Ok(fresh) => {
+                block.put(fresh);
+                OK
+            }
+        },
+    }
+}
+
+/// Makes a block of `size` bytes, not 0, in an empty handle. `granularity` is its page size in bytes, a power of two: pieces of
+/// different kinds share no page. `IN_USE` where the handle isn't empty, else `INVALID`, else `HOST_OUT_OF_MEMORY`.
+#[unsafe(no_mangle)]
+pub extern "C" fn pilhangko_raw_virtual_block_create(
+    block: &mut VirtualBlockHandle,
+    alloc: Global,
+    size: u64,
+    granularity: u64,
+) -> u32
+    ensures created { result ≡ OK → (block.old.value ≡ None) × CanCreate size granularity
+        × (block.new.value ≡ Some (fresh_virtual_block size granularity)) }
+    ensures in_use { (result ≡ IN_USE) ↔ (block.old.value ≢ None) }
+    ensures invalid { (result ≡ INVALID) ↔ (block.old.value ≡ None) × (CanCreate size granularity → ⊥) }
+    ensures host_out_of_memory { result ≡ HOST_OUT_OF_MEMORY → (block.old.value ≡ None) × CanCreate size granularity }
+    ensures statuses { IsOneOf result (OK ∷ IN_USE ∷ INVALID ∷ HOST_OUT_OF_MEMORY ∷ []) }
+    ensures refused { result ≢ OK → block.new.value ≡ block.old.value }
+{
+    if let Some(kept) = block.take(alloc) {
+        block.put(kept);
+        return IN_USE;
+    }
+    if size == 0 {
+        return INVALID;
+    }
+    if !granularity.is_power_of_two() {
+        return INVALID;
+    }
+    create(block, alloc, size, granularity)
+}
+
+/// Takes the least place for the request in the shortest gap that it fits in. `INVALID` where the request is none that is served,
+/// else `OUT_OF_MEMORY` where no gap has a place, else `HOST_OUT_OF_MEMORY` where the host refused memory.
+#[unsafe(no_mangle)]
+pub extern "C" fn pilhangko_raw_virtual_block_allocate(
+    block: &mut VirtualBlockHandle,
+    alloc: Global,
+    request: &VirtualRequest,
+    name: &[u8],
+    piece: &mut VirtualPiece,
+) -> u32
+    ensures took { result ≡ OK → Changes block.old.value block.new.value
+        (λ old new. Allocates old request.now name.now piece.new new) }
+    ensures no_handle { (result ≡ NO_HANDLE) ↔ (block.old.value ≡ None) }
+    ensures invalid { (result ≡ INVALID) ↔ IsSomeAnd block.old.value
+        (λ _. IsServed request.now.size request.now.alignment request.now.kind name.now → ⊥) }
+    ensures out_of_memory { result ≡ OUT_OF_MEMORY → IsSomeAnd block.old.value
+        (λ b. IsTakeRefusalIn b (asked request.now name.now) OutOfMemory) }
+    ensures host_out_of_memory { result ≡ HOST_OUT_OF_MEMORY → IsSomeAnd block.old.value
+        (λ b. IsTakeRefusalIn b (asked request.now name.now) HostOutOfMemory) }
+    ensures statuses { IsOneOf result (OK ∷ NO_HANDLE ∷ INVALID ∷ OUT_OF_MEMORY ∷ HOST_OUT_OF_MEMORY ∷ []) }
+    ensures refused { result ≢ OK → (block.new.value ≡ block.old.value) × (piece.new ≡ piece.old) }
+{
+    match block.take(alloc) {
+        None => NO_HANDLE,
+        Some(mut kept) => {
+            let status = kept.allocate(request, name, piece);
+            block.put(kept);
+            status
+        }
+    }
+}
+
+/// Gives a live piece back; its place joins the gaps beside it. It takes no host memory. `NOT_LIVE` where no live piece has that number
+/// and offset.
+#[unsafe(no_mangle)]
+pub extern "C" fn pilhangko_raw_virtual_block_free(
+    block: &mut VirtualBlockHandle,
+    alloc: Global,
+    piece: &VirtualPiece,
+) -> u32
+    ensures freed { result ≡ OK → Changes block.old.value block.new.value (λ old new. Frees old piece.now new) }
+    ensures no_handle { (result ≡ NO_HANDLE) ↔ (block.old.value ≡ None) }
+    ensures not_live { (result ≡ NOT_LIVE) ↔ IsSomeAnd block.old.value (λ b. IsLivePiece b piece.now → ⊥) }
+    ensures statuses { IsOneOf result (OK ∷ NO_HANDLE ∷ NOT_LIVE ∷ []) }
+    ensures refused { result ≢ OK → block.new.value ≡ block.old.value }
+{
+    match block.take(alloc) {
+        None => NO_HANDLE,
+        Some(mut kept) => {
+            let status = kept.free(piece);
+            block.put(kept);
+            status
+        }
+    }
+}
+
+/// Gives a live piece another name. `INVALID` where the name isn't UTF-8, else `NOT_LIVE`, else `HOST_OUT_OF_MEMORY`.
+#[unsafe(no_mangle)]
+pub extern "C" fn pilhangko_raw_virtual_block_rename(
+    block: &mut VirtualBlockHandle,
+    alloc: Global,
+    piece: &VirtualPiece,
+    name: &[u8],
+) -> u32
+    ensures renamed { result ≡ OK → IsUtf8 name.now
+        × Changes block.old.value block.new.value (λ old new. NamesPiece old piece.now name.now new) }
+    ensures no_handle { (result ≡ NO_HANDLE) ↔ (block.old.value ≡ None) }
+    ensures invalid { (result ≡ INVALID) ↔ IsSomeAnd block.old.value (λ _. IsUtf8 name.now → ⊥) }
+    ensures not_live { (result ≡ NOT_LIVE) ↔ IsSomeAnd block.old.value (λ b. IsUtf8 name.now × (IsLivePiece b piece.now → ⊥)) }
+    ensures host_out_of_memory { result ≡ HOST_OUT_OF_MEMORY → IsSomeAnd block.old.value (λ b. IsUtf8 name.now × IsLivePiece b piece.now) }
+    ensures statuses { IsOneOf result (OK ∷ NO_HANDLE ∷ INVALID ∷ NOT_LIVE ∷ HOST_OUT_OF_MEMORY ∷ []) }
+    ensures refused { result ≢ OK → block.new.value ≡ block.old.value }
+{
+    match block.take(alloc) {
+        None => NO_HANDLE,
+        Some(mut kept) => {
+            let status = kept.rename(piece, name);
+            block.put(kept);
+            status
+        }
+    }
+}
+
+/// Gives all pieces back: the block is as create made it. `HOST_OUT_OF_MEMORY` where the host refused memory for that.
+#[unsafe(no_mangle)]
+pub extern "C" fn pilhangko_raw_virtual_block_clear(
+    block: &mut VirtualBlockHandle,
+    alloc: Global,
+) -> u32
+    ensures emptied { result ≡ OK → Changes block.old.value block.new.value (λ old new. new ≡ cleared old) }
+    ensures no_handle { (result ≡ NO_HANDLE) ↔ (block.old.value ≡ None) }
+    ensures statuses { IsOneOf result (OK ∷ NO_HANDLE ∷ HOST_OUT_OF_MEMORY ∷ []) }
+    ensures refused { result ≢ OK → block.new.value ≡ block.old.value }
+{
+    match block.take(alloc) {
+        None => NO_HANDLE,
+        Some(mut kept) => {
+            let status = kept.clear(alloc);
+            block.put(kept);
+            status
+        }
+    }
+}
+
+/// How many pieces are live, for a look at leaks before destroy.
+#[unsafe(no_mangle)]
+pub extern "C" fn pilhangko_raw_virtual_block_leak_count(
+    block: &mut VirtualBlockHandle,
+    alloc: Global,
+    count: &mut u64,
+) -> u32
+    ensures told { result ≡ OK → IsSomeAnd block.old.value (λ b. count.new ≡ min (length (extents_of b)) (2 ^ 64 - 1)) }
+    ensures no_handle { (result ≡ NO_HANDLE) ↔ (block.old.value ≡ None) }
+    ensures statuses { IsOneOf result (OK ∷ NO_HANDLE ∷ []) }
+    ensures same { block.new.value ≡ block.old.value }
+    ensures refused { result ≢ OK → count.new ≡ count.old }
+{
+    match block.take(alloc) {
+        None => NO_HANDLE,
+        Some(kept) => {
+            *count = kept.count();
+            block.put(kept);
+            OK
+        }
+    }
+}
+
+/// Ends a block, with the pieces that are still live, and leaves the handle zeroed.
+#[unsafe(no_mangle)]
+pub extern "C" fn pilhangko_raw_virtual_block_destroy(
+    block: &mut VirtualBlockHandle,
+    alloc: Global,
+) -> u32
+    ensures gone { block.new.value ≡ None }
+    ensures no_handle { (result ≡ NO_HANDLE) ↔ (block.old.value ≡ None) }
+    ensures statuses { IsOneOf result (OK ∷ NO_HANDLE ∷ []) }
+{
+    match block.take(alloc) {
+        None => NO_HANDLE,
+        Some(_) => OK,
+    }
+}
