@@ -1,2 +1,4 @@
 mod VirtualBlockHandleWords
 mod VirtualBlockLaws
+mod MemoryTypeHandleWords
+mod MemoryTypeLaws

@@ -2,3 +2,4 @@ pub mod Status
 pub mod Request
 pub mod Handle
 pub mod VirtualBlock
+pub mod MemoryType

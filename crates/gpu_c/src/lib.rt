@@ -2,6 +2,9 @@
 //! behind its handle. `include/pilhangko.h` declares the exports.
 #![tactic(auto)]
 
+mod memory_type;
+mod memory_type_handle;
+mod memory_type_values;
 mod request;
 mod status;
 mod virtual_block;

@@ -8,7 +8,7 @@ use gpu_values::AllocationError;
 /// The call did what it says.
 pub const OK: u32 = 0;
 
-/// There is no place in the block.
+/// There is no place in the block, or the sum of the blocks' sizes would pass 2^64 - 1.
 pub const OUT_OF_MEMORY: u32 = 1;
 
 /// A size of 0, an alignment or a page size that isn't a power of two, an unknown kind, or a name that isn't UTF-8.
@@ -28,6 +28,12 @@ pub const NO_HANDLE: u32 = 100;
 
 /// The handle isn't empty, and create takes an empty one alone.
 pub const IN_USE: u32 = 101;
+
+/// A block is awaited: install or abandon it first.
+pub const AWAITS_BLOCK: u32 = 102;
+
+/// No block is awaited, so that there is none to install or to abandon.
+pub const AWAITS_NO_BLOCK: u32 = 103;
 
 /// The status of a refusal.
 pub fn status_of(error: &AllocationError) -> u32

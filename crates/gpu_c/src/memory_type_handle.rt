@@ -1,0 +1,75 @@
+//! What a C program holds of a memory type: one pointer, which is null where nothing lies behind it.
+
+ghost use Rattle.std.specs.Prelude.{◌≡◌, Option, Some, None, MatchOption};
+ghost use Rattle.gpu_c.specs.MemoryType.{AwaitingState};
+
+use crate::memory_type::AwaitingType;
+use gpu_c_box::RawBox;
+use std::alloc::Global;
+use std::marker::Model;
+
+/// A memory type, or null: what `Box::into_raw` gave. C holds it by value, lends it to each call, and never copies it.
+#[repr(C)]
+#[derive(Drop)]
+pub struct MemoryTypeHandle {
+    at: *mut u8,
+    pub ghost value: { Option AwaitingState },
+}
+
+impl Model for MemoryTypeHandle {
+    ghost use Rattle.gpu_c_box.specs.Owned.{handle_owns};
+    ghost use Rattle.gpu_c.specs.contracts.memory_type.AwaitingType.{the_row};
+
+    ghost also_owns = { λ h. handle_owns the_row h.at h.value };
+}
+
+impl MemoryTypeHandle {
+    /// A handle with nothing behind it.
+    fn empty() -> MemoryTypeHandle
+        ensures { result.value ≡ None }
+    {
+        MemoryTypeHandle {
+            at: std::ptr::null_mut(),
+        }
+    }
+
+    fn of(value: RawBox<AwaitingType, Global>) -> MemoryTypeHandle
+        ensures { result.value ≡ Some value.value }
+    {
+        let RawBox { at, alloc: _ } = value;
+        MemoryTypeHandle { at: at as *mut u8 }
+    }
+
+    fn into_raw_box(self, alloc: Global) -> Option<RawBox<AwaitingType, Global>>
+        ensures { MatchOption result (self.value ≡ None) (λ b. self.value ≡ Some b.value) }
+    {
+        let MemoryTypeHandle { at } = self;
+        if at.is_null() {
+            None
+        } else {
+            Some(RawBox {
+                at: at as *mut AwaitingType,
+                alloc,
+            })
+        }
+    }
+
+    /// Takes the value out, and leaves null.
+    pub fn take(&mut self, alloc: Global) -> Option<Box<AwaitingType>>
+        ensures left { self.new.value ≡ None }
+        ensures value { MatchOption result (self.old.value ≡ None) (λ b. self.old.value ≡ Some b.value) }
+    {
+        match std::mem::replace(self, MemoryTypeHandle::empty()).into_raw_box(alloc) {
+            None => None,
+            Some(raw) => Some(raw.into_box()),
+        }
+    }
+
+    /// Puts a value in. Only an empty handle is given one, so that nothing is lost.
+    pub fn put(&mut self, value: Box<AwaitingType>)
+        requires { self.old.value ≡ None }
+        ensures { self.new.value ≡ Some value.value }
+    {
+        *self = MemoryTypeHandle::of(RawBox::of(value));
+    }
+}
