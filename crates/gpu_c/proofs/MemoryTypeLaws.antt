@@ -1,7 +1,6 @@
 -- Steps of a memory type as steps of what lies behind its handle.
-use Rattle.std.proofs.Common.{◌≡◌, ℕ, ◌+◌, ◌<◌, ◌≤◌, ◌^◌, Bool, true, false, List, Option, Some, None, refl, sym, ap, ◌∙◌, subst, nat_eq}
+use Rattle.std.proofs.Common.{◌≡◌, ℕ, ◌+◌, ◌<◌, ◌^◌, Bool, true, false, List, Option, Some, None, refl, sym, ap, ◌∙◌, subst, nat_eq}
 use Rattle.std.specs.Prelude.{IsTrue}
-use Rattle.std.specs.Int.NonZero.{non_zero_u64_get}
 use Rattle.std.proofs.lemmas.Bool.{eqb-true}
 use Rattle.gpu_values.specs.Sizes.{Sizes}
 use Rattle.gpu_values.specs.declared.allocation_type.AllocationType.{AllocationType}
@@ -12,7 +11,7 @@ use Rattle.gpu_core.specs.TypeRelease.{SlotHolds, IsLive, has_several, ReleasesP
 use Rattle.gpu_core.specs.declared.memory_type.Piece.{Piece}
 use Rattle.gpu_core.specs.declared.memory_type.need.NeedBlock.{NeedBlock}
 use Rattle.gpu_c.specs.Request.{kind_named}
-use Rattle.gpu_c.specs.MemoryType.{AwaitingState, state_of, type_of, told_piece, told_block, SlotHasPiece, IsLiveIn, asked_of_type, TakesPiece, NeedsNew, AwaitsNeeded, Awaits, InstallsNeeded, InstallsBy, InstallsAwaited, FreesPiece, NamesMemory}
+use Rattle.gpu_c.specs.MemoryType.{AwaitingState, state_of, type_of, told_piece, told_block, SlotHasPiece, IsLiveIn, asked_of_type, TakesPiece, AwaitsNeeded, Awaits, InstallsBy, InstallsAwaited, FreesPiece, NamesMemory}
 use Rattle.gpu_c.specs.declared.memory_type_values.MemoryRequest.{MemoryRequest}
 use Rattle.gpu_c.specs.declared.memory_type_values.MemoryPiece.{MemoryPiece}
 use Rattle.gpu_c.specs.declared.memory_type_values.MemoryBlock.{MemoryBlock}

@@ -1,12 +1,11 @@
 -- A memory type and the block that it awaits, and what the calls do to them.
 use Rattle.std.specs.Prelude.{◌≡◌, ℕ, ◌+◌, ◌^◌, ◌<◌, ◌≤◌, Bool, true, false, List, [], Option, Some, None, IsTrue, IsSome, cond, length}
 use Rattle.std.specs.Option.{is_some, unwrap_or}
-use Rattle.std.specs.Int.{is_power_of_two}
 use Rattle.std.specs.Int.NonZero.{non_zero_u64_get}
 use Rattle.gpu_values.specs.Sizes.{Sizes, only_size, with_largest}
 use Rattle.gpu_block.specs.Block.{HoldsPiece}
 use Rattle.gpu_block.specs.Request.{Request, request}
-use Rattle.gpu_core.specs.TypeState.{Slot, TypeState, slot_at, capacity_of, shared_count, block_number, fits_budget, KeepsOneEmptyAtMost}
+use Rattle.gpu_core.specs.TypeState.{Slot, TypeState, slot_at, capacity_of, shared_count, fits_budget}
 use Rattle.gpu_core.specs.TypeTake.{has_own_block, next_shared_size, NoneServes, PreparesPiece, NeedsBlock, Installs}
 use Rattle.gpu_core.specs.TypePrepare.{CanInstall}
 use Rattle.gpu_core.specs.TypeRelease.{has_several, ReleasesPiece, RenamesPiece}

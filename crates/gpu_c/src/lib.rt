@@ -3,6 +3,7 @@
 #![tactic(auto)]
 
 mod memory_type;
+mod memory_type_calls;
 mod memory_type_handle;
 mod memory_type_values;
 mod request;

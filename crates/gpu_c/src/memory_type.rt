@@ -131,7 +131,12 @@ impl AwaitingType {
     }
 
     /// Takes a piece of a block that is there, or says which block is needed and awaits it.
-    pub fn prepare(&mut self, request: &MemoryRequest, name: &[u8], prepared: &mut MemoryPrepared) -> u32
+    pub fn prepare(
+        &mut self,
+        request: &MemoryRequest,
+        name: &[u8],
+        prepared: &mut MemoryPrepared,
+    ) -> u32
         ensures done { result ≡ OK → Prepares self.old request.now name.now prepared.new self.new }
         ensures awaits_block { (result ≡ AWAITS_BLOCK) ↔ IsSome self.old.awaited }
         ensures invalid { (result ≡ INVALID) ↔ (self.old.awaited ≡ None) × (IsServed request.now.size request.now.alignment request.now.kind name.now → ⊥) }

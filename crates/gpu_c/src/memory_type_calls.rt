@@ -1,0 +1,305 @@
+//! Memory types for C. The caller asks its driver for each block, between prepare and install; while a block is awaited, each other call
+//! that changes anything answers `AWAITS_BLOCK`. A handle begins zeroed; create fills it and destroy leaves it zeroed. Any status but
+//! `OK` leaves everything as it was.
+
+ghost use Rattle.std.specs.Prelude.{◌≡◌, ◌≢◌, ◌↔◌, [], ◌∷◌, Some, None, IsSome, IsSomeAnd, IsTrue, IsUtf8};
+ghost use Rattle.std.specs.Int.{is_power_of_two};
+ghost use Rattle.gpu_core.specs.TypeState.{slot_at, block_number};
+ghost use Rattle.gpu_c.specs.Handle.{Changes};
+ghost use Rattle.gpu_c.specs.Request.{IsServed};
+ghost use Rattle.gpu_c.specs.Status.{IsOneOf};
+ghost use Rattle.gpu_c.specs.MemoryType.{fresh_memory_type, told_block, number_if, IsLiveIn, Prepares, IsIdleAndServed, IsTooLarge, IsPastBudget, InstallsAwaited, Abandons, FreesPiece, NamesMemory, statistics_of};
+ghost use Rattle.gpu_c.specs.declared.status.TheConstants.{OK, OUT_OF_MEMORY, INVALID, NOT_LIVE, HOST_OUT_OF_MEMORY, BUDGET_EXCEEDED, NO_HANDLE, IN_USE, AWAITS_BLOCK, AWAITS_NO_BLOCK};
+
+use crate::memory_type::AwaitingType;
+use crate::memory_type_handle::MemoryTypeHandle;
+use crate::memory_type_values::{
+    MemoryBlock, MemoryPiece, MemoryPrepared, MemoryRequest, MemoryStatistics, MemoryTypeSettings,
+};
+use crate::status::{HOST_OUT_OF_MEMORY, IN_USE, INVALID, NO_HANDLE, OK};
+use std::alloc::Global;
+
+/// Makes a memory type without blocks in an empty handle. `IN_USE` where the handle isn't empty, else `INVALID` where the page size is
+/// no power of two, else `HOST_OUT_OF_MEMORY`.
+#[unsafe(no_mangle)]
+pub extern "C" fn pilhangko_raw_memory_type_create(
+    types: &mut MemoryTypeHandle,
+    alloc: Global,
+    settings: &MemoryTypeSettings,
+) -> u32
+    ensures created { result ≡ OK → (types.old.value ≡ None) × IsTrue (is_power_of_two settings.now.granularity)
+        × (types.new.value ≡ Some (fresh_memory_type settings.now)) }
+    ensures in_use { (result ≡ IN_USE) ↔ (types.old.value ≢ None) }
+    ensures invalid { (result ≡ INVALID) ↔ (types.old.value ≡ None) × (IsTrue (is_power_of_two settings.now.granularity) → ⊥) }
+    ensures host_out_of_memory { result ≡ HOST_OUT_OF_MEMORY → (types.old.value ≡ None) × IsTrue (is_power_of_two settings.now.granularity) }
+    ensures statuses { IsOneOf result (OK ∷ IN_USE ∷ INVALID ∷ HOST_OUT_OF_MEMORY ∷ []) }
+    ensures refused { result ≢ OK → types.new.value ≡ types.old.value }
+{
+    if let Some(kept) = types.take(alloc) {
+        types.put(kept);
+        return IN_USE;
+    }
+    if !settings.granularity.is_power_of_two() {
+        return INVALID;
+    }
+    match Box::new(alloc, AwaitingType::new(alloc, settings)) {
+        Err(_) => HOST_OUT_OF_MEMORY,
+        Ok(fresh) => {
+            types.put(fresh);
+            OK
+        }
+    }
+}
+
+/// Takes a piece of a block that is there, or tells which block is needed and awaits it, with all host memory for it at hand.
+/// `AWAITS_BLOCK` where one is awaited, else `INVALID` where the request is none that is served, else `HOST_OUT_OF_MEMORY` where the host
+/// refused memory, else, where a block is needed, `OUT_OF_MEMORY` where the sum of the blocks' sizes would pass 2^64 - 1, else
+/// `BUDGET_EXCEEDED` where it would pass the budget.
+#[unsafe(no_mangle)]
+pub extern "C" fn pilhangko_raw_memory_type_prepare(
+    types: &mut MemoryTypeHandle,
+    alloc: Global,
+    request: &MemoryRequest,
+    name: &[u8],
+    prepared: &mut MemoryPrepared,
+) -> u32
+    ensures done { result ≡ OK → Changes types.old.value types.new.value
+        (λ old new. Prepares old request.now name.now prepared.new new) }
+    ensures no_handle { (result ≡ NO_HANDLE) ↔ (types.old.value ≡ None) }
+    ensures awaits_block { (result ≡ AWAITS_BLOCK) ↔ IsSomeAnd types.old.value (λ t. IsSome t.awaited) }
+    ensures invalid { (result ≡ INVALID) ↔ IsSomeAnd types.old.value
+        (λ t. (t.awaited ≡ None) × (IsServed request.now.size request.now.alignment request.now.kind name.now → ⊥)) }
+    ensures host_out_of_memory { result ≡ HOST_OUT_OF_MEMORY → IsSomeAnd types.old.value (λ t. IsIdleAndServed t request.now name.now) }
+    ensures out_of_memory { result ≡ OUT_OF_MEMORY → IsSomeAnd types.old.value (λ t. IsTooLarge t request.now name.now) }
+    ensures budget_exceeded { result ≡ BUDGET_EXCEEDED → IsSomeAnd types.old.value (λ t. IsPastBudget t request.now name.now) }
+    ensures statuses { IsOneOf result
+        (OK ∷ NO_HANDLE ∷ AWAITS_BLOCK ∷ INVALID ∷ HOST_OUT_OF_MEMORY ∷ OUT_OF_MEMORY ∷ BUDGET_EXCEEDED ∷ []) }
+    ensures refused { result ≢ OK → (types.new.value ≡ types.old.value) × (prepared.new ≡ prepared.old) }
+{
+    match types.take(alloc) {
+        None => NO_HANDLE,
+        Some(mut kept) => {
+            let status = kept.prepare(request, name, prepared);
+            types.put(kept);
+            status
+        }
+    }
+}
+
+/// Puts in the block that is awaited, under the driver's handle of it, and tells the piece in it. It takes no host memory.
+/// `AWAITS_NO_BLOCK` where none is awaited.
+#[unsafe(no_mangle)]
+pub extern "C" fn pilhangko_raw_memory_type_install(
+    types: &mut MemoryTypeHandle,
+    alloc: Global,
+    block: u64,
+    piece: &mut MemoryPiece,
+) -> u32
+    ensures installed { result ≡ OK → Changes types.old.value types.new.value (λ old new. InstallsAwaited old block piece.new new) }
+    ensures no_handle { (result ≡ NO_HANDLE) ↔ (types.old.value ≡ None) }
+    ensures awaits_no_block { (result ≡ AWAITS_NO_BLOCK) ↔ IsSomeAnd types.old.value (λ t. t.awaited ≡ None) }
+    ensures statuses { IsOneOf result (OK ∷ NO_HANDLE ∷ AWAITS_NO_BLOCK ∷ []) }
+    ensures refused { result ≢ OK → (types.new.value ≡ types.old.value) × (piece.new ≡ piece.old) }
+{
+    match types.take(alloc) {
+        None => NO_HANDLE,
+        Some(mut kept) => {
+            let status = kept.install(block, piece);
+            types.put(kept);
+            status
+        }
+    }
+}
+
+/// Forgets the block that is awaited, where the driver refused it. `AWAITS_NO_BLOCK` where none is awaited.
+#[unsafe(no_mangle)]
+pub extern "C" fn pilhangko_raw_memory_type_abandon(
+    types: &mut MemoryTypeHandle,
+    alloc: Global,
+) -> u32
+    ensures abandoned { result ≡ OK → Changes types.old.value types.new.value Abandons }
+    ensures no_handle { (result ≡ NO_HANDLE) ↔ (types.old.value ≡ None) }
+    ensures awaits_no_block { (result ≡ AWAITS_NO_BLOCK) ↔ IsSomeAnd types.old.value (λ t. t.awaited ≡ None) }
+    ensures statuses { IsOneOf result (OK ∷ NO_HANDLE ∷ AWAITS_NO_BLOCK ∷ []) }
+    ensures refused { result ≢ OK → types.new.value ≡ types.old.value }
+{
+    match types.take(alloc) {
+        None => NO_HANDLE,
+        Some(mut kept) => {
+            let status = kept.abandon();
+            types.put(kept);
+            status
+        }
+    }
+}
+
+/// Gives a live piece back, and tells the block that goes with it, if one does: its memory goes back to the driver. It takes no host
+/// memory. `AWAITS_BLOCK` where a block is awaited, else `NOT_LIVE`.
+#[unsafe(no_mangle)]
+pub extern "C" fn pilhangko_raw_memory_type_free(
+    types: &mut MemoryTypeHandle,
+    alloc: Global,
+    piece: &MemoryPiece,
+    gone: &mut MemoryBlock,
+) -> u32
+    ensures freed { result ≡ OK → Changes types.old.value types.new.value (λ old new. FreesPiece old piece.now gone.new new) }
+    ensures no_handle { (result ≡ NO_HANDLE) ↔ (types.old.value ≡ None) }
+    ensures awaits_block { (result ≡ AWAITS_BLOCK) ↔ IsSomeAnd types.old.value (λ t. IsSome t.awaited) }
+    ensures not_live { (result ≡ NOT_LIVE) ↔ IsSomeAnd types.old.value (λ t. (t.awaited ≡ None) × (IsLiveIn t piece.now → ⊥)) }
+    ensures statuses { IsOneOf result (OK ∷ NO_HANDLE ∷ AWAITS_BLOCK ∷ NOT_LIVE ∷ []) }
+    ensures refused { result ≢ OK → (types.new.value ≡ types.old.value) × (gone.new ≡ gone.old) }
+{
+    match types.take(alloc) {
+        None => NO_HANDLE,
+        Some(mut kept) => {
+            let status = kept.free(piece, gone);
+            types.put(kept);
+            status
+        }
+    }
+}
+
+/// Gives a live piece another name. `AWAITS_BLOCK` where a block is awaited, else `INVALID` where the name isn't UTF-8, else `NOT_LIVE`,
+/// else `HOST_OUT_OF_MEMORY`.
+#[unsafe(no_mangle)]
+pub extern "C" fn pilhangko_raw_memory_type_rename(
+    types: &mut MemoryTypeHandle,
+    alloc: Global,
+    piece: &MemoryPiece,
+    name: &[u8],
+) -> u32
+    ensures renamed { result ≡ OK → IsUtf8 name.now
+        × Changes types.old.value types.new.value (λ old new. NamesMemory old piece.now name.now new) }
+    ensures no_handle { (result ≡ NO_HANDLE) ↔ (types.old.value ≡ None) }
+    ensures awaits_block { (result ≡ AWAITS_BLOCK) ↔ IsSomeAnd types.old.value (λ t. IsSome t.awaited) }
+    ensures invalid { (result ≡ INVALID) ↔ IsSomeAnd types.old.value (λ t. (t.awaited ≡ None) × (IsUtf8 name.now → ⊥)) }
+    ensures not_live { (result ≡ NOT_LIVE) ↔ IsSomeAnd types.old.value
+        (λ t. (t.awaited ≡ None) × IsUtf8 name.now × (IsLiveIn t piece.now → ⊥)) }
+    ensures host_out_of_memory { result ≡ HOST_OUT_OF_MEMORY → IsSomeAnd types.old.value
+        (λ t. (t.awaited ≡ None) × IsUtf8 name.now × IsLiveIn t piece.now) }
+    ensures statuses { IsOneOf result (OK ∷ NO_HANDLE ∷ AWAITS_BLOCK ∷ INVALID ∷ NOT_LIVE ∷ HOST_OUT_OF_MEMORY ∷ []) }
+    ensures refused { result ≢ OK → types.new.value ≡ types.old.value }
+{
+    match types.take(alloc) {
+        None => NO_HANDLE,
+        Some(mut kept) => {
+            let status = kept.rename(piece, name);
+            types.put(kept);
+            status
+        }
+    }
+}
+
+/// Whether a piece is live.
+#[unsafe(no_mangle)]
+pub extern "C" fn pilhangko_raw_memory_type_is_live(
+    types: &mut MemoryTypeHandle,
+    alloc: Global,
+    piece: &MemoryPiece,
+    is_live: &mut bool,
+) -> u32
+    ensures told { result ≡ OK → IsSomeAnd types.old.value (λ t. IsTrue is_live.new ↔ IsLiveIn t piece.now) }
+    ensures no_handle { (result ≡ NO_HANDLE) ↔ (types.old.value ≡ None) }
+    ensures statuses { IsOneOf result (OK ∷ NO_HANDLE ∷ []) }
+    ensures same { types.new.value ≡ types.old.value }
+    ensures refused { result ≢ OK → is_live.new ≡ is_live.old }
+{
+    match types.take(alloc) {
+        None => NO_HANDLE,
+        Some(kept) => {
+            *is_live = kept.is_live(piece);
+            types.put(kept);
+            OK
+        }
+    }
+}
+
+/// Bounds the sum of the blocks' sizes, in bytes, or takes the bound away. A bound below the present sum gives no block back.
+/// `AWAITS_BLOCK` where a block is awaited.
+#[unsafe(no_mangle)]
+pub extern "C" fn pilhangko_raw_memory_type_set_budget(
+    types: &mut MemoryTypeHandle,
+    alloc: Global,
+    has_budget: bool,
+    bytes: u64,
+) -> u32
+    ensures bounded { result ≡ OK → Changes types.old.value types.new.value
+        (λ old new. (old.awaited ≡ None) × (new ≡ record old { budget = number_if has_budget bytes })) }
+    ensures no_handle { (result ≡ NO_HANDLE) ↔ (types.old.value ≡ None) }
+    ensures awaits_block { (result ≡ AWAITS_BLOCK) ↔ IsSomeAnd types.old.value (λ t. IsSome t.awaited) }
+    ensures statuses { IsOneOf result (OK ∷ NO_HANDLE ∷ AWAITS_BLOCK ∷ []) }
+    ensures refused { result ≢ OK → types.new.value ≡ types.old.value }
+{
+    match types.take(alloc) {
+        None => NO_HANDLE,
+        Some(mut kept) => {
+            let status = kept.set_budget(has_budget, bytes);
+            types.put(kept);
+            status
+        }
+    }
+}
+
+/// The block in a slot, for a visit of all blocks: slots are numbered from 0.
+#[unsafe(no_mangle)]
+pub extern "C" fn pilhangko_raw_memory_type_block(
+    types: &mut MemoryTypeHandle,
+    alloc: Global,
+    slot: usize,
+    block: &mut MemoryBlock,
+) -> u32
+    ensures told { result ≡ OK → IsSomeAnd types.old.value (λ t. block.new ≡ told_block (block_number (slot_at t.slots slot))) }
+    ensures no_handle { (result ≡ NO_HANDLE) ↔ (types.old.value ≡ None) }
+    ensures statuses { IsOneOf result (OK ∷ NO_HANDLE ∷ []) }
+    ensures same { types.new.value ≡ types.old.value }
+    ensures refused { result ≢ OK → block.new ≡ block.old }
+{
+    match types.take(alloc) {
+        None => NO_HANDLE,
+        Some(kept) => {
+            *block = kept.block(slot);
+            types.put(kept);
+            OK
+        }
+    }
+}
+
+/// Capacity, slots, shared blocks and budget, and whether a block is awaited.
+#[unsafe(no_mangle)]
+pub extern "C" fn pilhangko_raw_memory_type_statistics(
+    types: &mut MemoryTypeHandle,
+    alloc: Global,
+    statistics: &mut MemoryStatistics,
+) -> u32
+    ensures told { result ≡ OK → IsSomeAnd types.old.value (λ t. statistics.new ≡ statistics_of t) }
+    ensures no_handle { (result ≡ NO_HANDLE) ↔ (types.old.value ≡ None) }
+    ensures statuses { IsOneOf result (OK ∷ NO_HANDLE ∷ []) }
+    ensures same { types.new.value ≡ types.old.value }
+    ensures refused { result ≢ OK → statistics.new ≡ statistics.old }
+{
+    match types.take(alloc) {
+        None => NO_HANDLE,
+        Some(kept) => {
+            *statistics = kept.statistics();
+            types.put(kept);
+            OK
+        }
+    }
+}
+
+/// Ends a memory type, with the pieces that are still live, and leaves the handle zeroed. The blocks' memory is the caller's to give back:
+/// visit them first.
+#[unsafe(no_mangle)]
+pub extern "C" fn pilhangko_raw_memory_type_destroy(
+    types: &mut MemoryTypeHandle,
+    alloc: Global,
+) -> u32
+    ensures gone { types.new.value ≡ None }
+    ensures no_handle { (result ≡ NO_HANDLE) ↔ (types.old.value ≡ None) }
+    ensures statuses { IsOneOf result (OK ∷ NO_HANDLE ∷ []) }
+{
+    match types.take(alloc) {
+        None => NO_HANDLE,
+        Some(_) => OK,
+    }
+}

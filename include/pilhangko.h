@@ -1,0 +1,336 @@
+/* Pilhangko: a proved allocator of GPU memory, for C and for all that calls C.
+ *
+ * It says where pieces lie; it holds no memory of a device and calls no driver. Link libgpu_c.a, and pilhangko_heap.c over the program's
+ * malloc, realloc and free (docs/C.md). No call blocks, calls back or starts a thread.
+ *
+ * Handles. A pilhangko_virtual_block or a pilhangko_memory_type is one pointer that the caller keeps and the library owns. The caller
+ * upholds:
+ *   - It begins zeroed, as in `pilhangko_virtual_block block = {0};`, and is empty then. create fills it, destroy leaves it empty. Each
+ *     other call on an empty handle answers PILHANGKO_NO_HANDLE, so a call after destroy and a second destroy are refused.
+ *   - It is never copied, and its field is never written or read.
+ *   - It is given to one call at a time, on the thread that made it. Different handles share nothing: threads with handles of their
+ *     own need no lock.
+ *   - It is not used in a signal handler, nor in the forked child of a process with threads.
+ * A handle that is never destroyed leaks its host memory.
+ *
+ * Pointers. The calls here test each pointer for NULL and answer PILHANGKO_NULL_POINTER. What a call writes to may not overlap with
+ * anything else that the call is given. `bool`s are 0 or 1.
+ *
+ * Values. Sizes, offsets and alignments are in bytes. Sizes, alignments, kinds, names and pieces may be anything: each call tests them.
+ * A name is UTF-8 text that ends in a 0, or NULL for none; the library keeps a copy.
+ *
+ * Statuses. Each call answers PILHANGKO_OK, or says why not. Where several causes hold, the one that is listed first at the call is
+ * answered. Any status but PILHANGKO_OK leaves everything as it was, out parameters too.
+ */
+#ifndef PILHANGKO_H
+#define PILHANGKO_H
+#include <stdbool.h>
+#include <stddef.h>
+#include <stdint.h>
+#include <string.h>
+
+#define PILHANGKO_VERSION_MAJOR 0
+#define PILHANGKO_VERSION_MINOR 1
+#define PILHANGKO_VERSION_PATCH 0
+
+#ifdef __cplusplus
+extern "C" {
+#endif
+
+typedef uint32_t pilhangko_status;
+enum {
+    PILHANGKO_OK = 0,
+    /* No gap has a place for the request; or the sum of a memory type's block sizes would pass 2^64 - 1. */
+    PILHANGKO_OUT_OF_MEMORY = 1,
+    /* A size of 0, an alignment or a page size that is no power of two, an unknown kind, or a name that isn't UTF-8. */
+    PILHANGKO_INVALID = 4,
+    /* No live piece is the one that is named. */
+    PILHANGKO_NOT_LIVE = 6,
+    /* malloc or realloc refused. */
+    PILHANGKO_HOST_OUT_OF_MEMORY = 10,
+    /* The block that is needed would carry the sum of the memory type's block sizes past its budget. */
+    PILHANGKO_BUDGET_EXCEEDED = 11,
+    /* The handle is empty. */
+    PILHANGKO_NO_HANDLE = 100,
+    /* create was given a handle that isn't empty. */
+    PILHANGKO_IN_USE = 101,
+    /* A block is awaited: call install or abandon first. */
+    PILHANGKO_AWAITS_BLOCK = 102,
+    /* No block is awaited, so there is none to install or to abandon. */
+    PILHANGKO_AWAITS_NO_BLOCK = 103,
+    /* A pointer is NULL that may not be. Only the calls of this header answer it, before they call the archive. */
+    PILHANGKO_NULL_POINTER = 200
+};
+
+/* The kind of a piece. Pieces of different kinds share no page of their block. */
+enum {
+    /* Buffers and linear images. */
+    PILHANGKO_LINEAR = 1,
+    /* Images in the device's own layout. */
+    PILHANGKO_NON_LINEAR = 2
+};
+
+/* ---- Virtual blocks: one block of a size, cut into pieces. Numbers alone: no memory is behind it. ---- */
+
+typedef struct pilhangko_virtual_block {
+    void *at;
+} pilhangko_virtual_block;
+
+/* size: not 0. alignment: a power of two. kind: PILHANGKO_LINEAR or PILHANGKO_NON_LINEAR. */
+typedef struct pilhangko_virtual_request {
+    uint64_t size;
+    uint64_t alignment;
+    uint32_t kind;
+} pilhangko_virtual_request;
+
+/* A piece: where it begins in the block, and its number there, which is never 0. A piece that was given back is refused
+ * (PILHANGKO_NOT_LIVE) until its number and its offset come again: a piece that is taken later at the same place can have both. */
+typedef struct pilhangko_virtual_piece {
+    uint64_t offset;
+    uint64_t number;
+} pilhangko_virtual_piece;
+
+/* ---- Memory types: blocks that come and go, each asked of the driver by the caller. ---- */
+
+typedef struct pilhangko_memory_type {
+    void *at;
+} pilhangko_memory_type;
+
+/* Sizes of blocks are brought into 4 MB (2^22 bytes) to 256 MB and rounded up to a multiple of 4 MB. The first shared block has the block
+ * size of its side, and each further one twice the last one's, at most seven times and up to the largest size of its side; a largest size
+ * below the block size counts as that. A request above the next shared block's size gets a block of its own. */
+typedef struct pilhangko_memory_type_settings {
+    bool is_host;                       /* whether the host can see the memory: which side's sizes count */
+    uint64_t page_size;                 /* a power of two: Vulkan's bufferImageGranularity, elsewhere 1 */
+    uint64_t device_block_size;         /* 256 MB suit where memory is plenty */
+    uint64_t largest_device_block_size;
+    uint64_t host_block_size;           /* 64 MB suit where memory is plenty */
+    uint64_t largest_host_block_size;
+    bool has_budget;                    /* whether the sum of the blocks' sizes has a bound */
+    uint64_t budget;                    /* the bound; it counts where there is one */
+} pilhangko_memory_type_settings;
+
+/* As a virtual request. dedicated: the piece shall have a block of its own. */
+typedef struct pilhangko_memory_request {
+    uint64_t size;
+    uint64_t alignment;
+    uint32_t kind;
+    bool dedicated;
+} pilhangko_memory_request;
+
+/* A piece: the slot of its block, its number there (never 0), where it begins in the block, its size, and the driver's handle of the block.
+ * A piece that was given back is refused (PILHANGKO_NOT_LIVE) until a piece comes that is the same in all five. */
+typedef struct pilhangko_memory_piece {
+    size_t slot;
+    uint64_t number;
+    uint64_t offset;
+    uint64_t size;
+    uint64_t block;
+} pilhangko_memory_piece;
+
+/* What a request comes to. Where needs_block, ask the driver for block_size bytes, and then call install or abandon; dedicated says that the
+ * block will be the piece's own, and piece is all zeros. Else the piece is taken, and block_size is 0. */
+typedef struct pilhangko_memory_prepared {
+    bool needs_block;
+    bool dedicated;
+    uint64_t block_size;
+    pilhangko_memory_piece piece;
+} pilhangko_memory_prepared;
+
+/* A block by the driver's handle of it, or none (then block is 0). */
+typedef struct pilhangko_memory_block {
+    bool exists;
+    uint64_t block;
+} pilhangko_memory_block;
+
+typedef struct pilhangko_memory_statistics {
+    uint64_t capacity;    /* the sum of the blocks' sizes */
+    size_t slots;         /* slots, the empty ones included */
+    size_t shared_blocks; /* blocks that several pieces may share */
+    bool has_budget;
+    uint64_t budget;      /* 0 where there is none */
+    bool awaits_block;    /* whether a block is awaited */
+} pilhangko_memory_statistics;
+
+/* ---- The archive's symbols, for callers in other languages. No pointer may be NULL, also not of a name with length 0. ---- */
+
+pilhangko_status pilhangko_raw_virtual_block_create(pilhangko_virtual_block *block, uint64_t size, uint64_t page_size);
+pilhangko_status pilhangko_raw_virtual_block_allocate(pilhangko_virtual_block *block, const pilhangko_virtual_request *request, const char *name, size_t name_length, pilhangko_virtual_piece *piece);
+pilhangko_status pilhangko_raw_virtual_block_free(pilhangko_virtual_block *block, const pilhangko_virtual_piece *piece);
+pilhangko_status pilhangko_raw_virtual_block_rename(pilhangko_virtual_block *block, const pilhangko_virtual_piece *piece, const char *name, size_t name_length);
+pilhangko_status pilhangko_raw_virtual_block_clear(pilhangko_virtual_block *block);
+pilhangko_status pilhangko_raw_virtual_block_leak_count(pilhangko_virtual_block *block, uint64_t *count);
+pilhangko_status pilhangko_raw_virtual_block_destroy(pilhangko_virtual_block *block);
+
+pilhangko_status pilhangko_raw_memory_type_create(pilhangko_memory_type *types, const pilhangko_memory_type_settings *settings);
+pilhangko_status pilhangko_raw_memory_type_prepare(pilhangko_memory_type *types, const pilhangko_memory_request *request, const char *name, size_t name_length, pilhangko_memory_prepared *prepared);
+pilhangko_status pilhangko_raw_memory_type_install(pilhangko_memory_type *types, uint64_t block, pilhangko_memory_piece *piece);
+pilhangko_status pilhangko_raw_memory_type_abandon(pilhangko_memory_type *types);
+pilhangko_status pilhangko_raw_memory_type_free(pilhangko_memory_type *types, const pilhangko_memory_piece *piece, pilhangko_memory_block *gone);
+pilhangko_status pilhangko_raw_memory_type_rename(pilhangko_memory_type *types, const pilhangko_memory_piece *piece, const char *name, size_t name_length);
+pilhangko_status pilhangko_raw_memory_type_is_live(pilhangko_memory_type *types, const pilhangko_memory_piece *piece, bool *is_live);
+pilhangko_status pilhangko_raw_memory_type_set_budget(pilhangko_memory_type *types, bool has_budget, uint64_t bytes);
+pilhangko_status pilhangko_raw_memory_type_block(pilhangko_memory_type *types, size_t slot, pilhangko_memory_block *block);
+pilhangko_status pilhangko_raw_memory_type_statistics(pilhangko_memory_type *types, pilhangko_memory_statistics *statistics);
+pilhangko_status pilhangko_raw_memory_type_destroy(pilhangko_memory_type *types);
+
+/* ---- The calls ---- */
+
+/* A status in words. */
+static inline const char *pilhangko_status_text(pilhangko_status status) {
+    switch (status) {
+    case PILHANGKO_OK: return "ok";
+    case PILHANGKO_OUT_OF_MEMORY: return "out of memory";
+    case PILHANGKO_INVALID: return "invalid request";
+    case PILHANGKO_NOT_LIVE: return "no live piece";
+    case PILHANGKO_HOST_OUT_OF_MEMORY: return "out of host memory";
+    case PILHANGKO_BUDGET_EXCEEDED: return "budget exceeded";
+    case PILHANGKO_NO_HANDLE: return "empty handle";
+    case PILHANGKO_IN_USE: return "handle in use";
+    case PILHANGKO_AWAITS_BLOCK: return "a block is awaited";
+    case PILHANGKO_AWAITS_NO_BLOCK: return "no block is awaited";
+    case PILHANGKO_NULL_POINTER: return "null pointer";
+    default: return "unknown status";
+    }
+}
+
+/* The bytes of a name without its 0; none for NULL. */
+static inline size_t pilhangko_name_length(const char *name) { return name ? strlen(name) : 0; }
+static inline const char *pilhangko_name_bytes(const char *name) { return name ? name : ""; }
+
+/* Makes a block of `size` bytes, not 0, with pages of page_size bytes, a power of two, in an empty handle.
+ * IN_USE: the handle isn't empty. INVALID: size or page_size. HOST_OUT_OF_MEMORY. */
+static inline pilhangko_status pilhangko_virtual_block_create(pilhangko_virtual_block *block, uint64_t size, uint64_t page_size) {
+    if (!block) return PILHANGKO_NULL_POINTER;
+    return pilhangko_raw_virtual_block_create(block, size, page_size);
+}
+
+/* Takes a piece: the least place in the shortest gap in which the request fits, and of equally short gaps in the first.
+ * NO_HANDLE. INVALID: the request or the name. OUT_OF_MEMORY: no gap has a place. HOST_OUT_OF_MEMORY. */
+static inline pilhangko_status pilhangko_virtual_block_allocate(pilhangko_virtual_block *block, const pilhangko_virtual_request *request, const char *name, pilhangko_virtual_piece *piece) {
+    if (!block || !request || !piece) return PILHANGKO_NULL_POINTER;
+    return pilhangko_raw_virtual_block_allocate(block, request, pilhangko_name_bytes(name), pilhangko_name_length(name), piece);
+}
+
+/* Gives a piece back; its place joins the gaps beside it. It needs no host memory.
+ * NO_HANDLE. NOT_LIVE: no live piece has this number and offset. */
+static inline pilhangko_status pilhangko_virtual_block_free(pilhangko_virtual_block *block, const pilhangko_virtual_piece *piece) {
+    if (!block || !piece) return PILHANGKO_NULL_POINTER;
+    return pilhangko_raw_virtual_block_free(block, piece);
+}
+
+/* Gives a live piece another name.
+ * NO_HANDLE. INVALID: the name. NOT_LIVE. HOST_OUT_OF_MEMORY. */
+static inline pilhangko_status pilhangko_virtual_block_rename(pilhangko_virtual_block *block, const pilhangko_virtual_piece *piece, const char *name) {
+    if (!block || !piece) return PILHANGKO_NULL_POINTER;
+    return pilhangko_raw_virtual_block_rename(block, piece, pilhangko_name_bytes(name), pilhangko_name_length(name));
+}
+
+/* Gives all pieces back: the block is as create made it.
+ * NO_HANDLE. HOST_OUT_OF_MEMORY: for the new, empty bookkeeping; all pieces stay. */
+static inline pilhangko_status pilhangko_virtual_block_clear(pilhangko_virtual_block *block) {
+    if (!block) return PILHANGKO_NULL_POINTER;
+    return pilhangko_raw_virtual_block_clear(block);
+}
+
+/* How many pieces are live: before destroy, how many leaked.
+ * NO_HANDLE. */
+static inline pilhangko_status pilhangko_virtual_block_leak_count(pilhangko_virtual_block *block, uint64_t *count) {
+    if (!block || !count) return PILHANGKO_NULL_POINTER;
+    return pilhangko_raw_virtual_block_leak_count(block, count);
+}
+
+/* Ends a block, with all its pieces, and leaves the handle empty.
+ * NO_HANDLE. */
+static inline pilhangko_status pilhangko_virtual_block_destroy(pilhangko_virtual_block *block) {
+    if (!block) return PILHANGKO_NULL_POINTER;
+    return pilhangko_raw_virtual_block_destroy(block);
+}
+
+/* Makes a memory type without blocks in an empty handle.
+ * IN_USE: the handle isn't empty. INVALID: page_size. HOST_OUT_OF_MEMORY. */
+static inline pilhangko_status pilhangko_memory_type_create(pilhangko_memory_type *types, const pilhangko_memory_type_settings *settings) {
+    if (!types || !settings) return PILHANGKO_NULL_POINTER;
+    return pilhangko_raw_memory_type_create(types, settings);
+}
+
+/* Takes a piece of a shared block that is there, or says which block is needed and awaits it. A shared block serves where one has a place,
+ * unless the request has a block of its own: it asks for one, or is larger than the next shared block would be. Of the blocks that have a
+ * place the one in the highest slot serves.
+ * NO_HANDLE. AWAITS_BLOCK. INVALID: the request or the name. HOST_OUT_OF_MEMORY. And where a block is needed: OUT_OF_MEMORY: the sum of the
+ * blocks' sizes would pass 2^64 - 1. BUDGET_EXCEEDED: it would pass the budget. */
+static inline pilhangko_status pilhangko_memory_type_prepare(pilhangko_memory_type *types, const pilhangko_memory_request *request, const char *name, pilhangko_memory_prepared *prepared) {
+    if (!types || !request || !prepared) return PILHANGKO_NULL_POINTER;
+    return pilhangko_raw_memory_type_prepare(types, request, pilhangko_name_bytes(name), pilhangko_name_length(name), prepared);
+}
+
+/* Puts in the block that is awaited, under the driver's handle of it, and says where the piece is; it begins at the block's start. It needs
+ * no host memory, so that a block which the driver gave is never lost. Handles of live blocks should differ.
+ * NO_HANDLE. AWAITS_NO_BLOCK. */
+static inline pilhangko_status pilhangko_memory_type_install(pilhangko_memory_type *types, uint64_t block, pilhangko_memory_piece *piece) {
+    if (!types || !piece) return PILHANGKO_NULL_POINTER;
+    return pilhangko_raw_memory_type_install(types, block, piece);
+}
+
+/* Forgets the block that is awaited, where the driver refused it: nothing has changed since before prepare.
+ * NO_HANDLE. AWAITS_NO_BLOCK. */
+static inline pilhangko_status pilhangko_memory_type_abandon(pilhangko_memory_type *types) {
+    if (!types) return PILHANGKO_NULL_POINTER;
+    return pilhangko_raw_memory_type_abandon(types);
+}
+
+/* Gives a piece back. Where gone->exists, the block gone->block went with it: give its memory back to the driver. A piece's own block goes,
+ * and so does a shared block without pieces where another shared one is live. It needs no host memory.
+ * NO_HANDLE. AWAITS_BLOCK. NOT_LIVE. */
+static inline pilhangko_status pilhangko_memory_type_free(pilhangko_memory_type *types, const pilhangko_memory_piece *piece, pilhangko_memory_block *gone) {
+    if (!types || !piece || !gone) return PILHANGKO_NULL_POINTER;
+    return pilhangko_raw_memory_type_free(types, piece, gone);
+}
+
+/* Gives a live piece another name.
+ * NO_HANDLE. AWAITS_BLOCK. INVALID: the name. NOT_LIVE. HOST_OUT_OF_MEMORY. */
+static inline pilhangko_status pilhangko_memory_type_rename(pilhangko_memory_type *types, const pilhangko_memory_piece *piece, const char *name) {
+    if (!types || !piece) return PILHANGKO_NULL_POINTER;
+    return pilhangko_raw_memory_type_rename(types, piece, pilhangko_name_bytes(name), pilhangko_name_length(name));
+}
+
+/* Whether a piece is live.
+ * NO_HANDLE. */
+static inline pilhangko_status pilhangko_memory_type_is_live(pilhangko_memory_type *types, const pilhangko_memory_piece *piece, bool *is_live) {
+    if (!types || !piece || !is_live) return PILHANGKO_NULL_POINTER;
+    return pilhangko_raw_memory_type_is_live(types, piece, is_live);
+}
+
+/* Bounds the sum of the blocks' sizes, or takes the bound away. A bound below the present sum gives no block back.
+ * NO_HANDLE. AWAITS_BLOCK. */
+static inline pilhangko_status pilhangko_memory_type_set_budget(pilhangko_memory_type *types, bool has_budget, uint64_t bytes) {
+    if (!types) return PILHANGKO_NULL_POINTER;
+    return pilhangko_raw_memory_type_set_budget(types, has_budget, bytes);
+}
+
+/* The block in a slot, if one is there. Slots are numbered from 0 to one less than statistics' slots; behind them there is none.
+ * NO_HANDLE. */
+static inline pilhangko_status pilhangko_memory_type_block(pilhangko_memory_type *types, size_t slot, pilhangko_memory_block *block) {
+    if (!types || !block) return PILHANGKO_NULL_POINTER;
+    return pilhangko_raw_memory_type_block(types, slot, block);
+}
+
+/* What is counted of a memory type.
+ * NO_HANDLE. */
+static inline pilhangko_status pilhangko_memory_type_statistics(pilhangko_memory_type *types, pilhangko_memory_statistics *statistics) {
+    if (!types || !statistics) return PILHANGKO_NULL_POINTER;
+    return pilhangko_raw_memory_type_statistics(types, statistics);
+}
+
+/* Ends a memory type, with all its pieces, and leaves the handle empty. The blocks' memory is the caller's to give back: go over the slots
+ * by pilhangko_memory_type_block first.
+ * NO_HANDLE. */
+static inline pilhangko_status pilhangko_memory_type_destroy(pilhangko_memory_type *types) {
+    if (!types) return PILHANGKO_NULL_POINTER;
+    return pilhangko_raw_memory_type_destroy(types);
+}
+
+#ifdef __cplusplus
+}
+#endif
+#endif
