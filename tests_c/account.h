@@ -1,0 +1,100 @@
+/* A plain account of one block: a row of pieces and gaps, searched from the front on. It knows nothing of the library but the rules:
+ * a piece lies at the least place of the shortest gap that it fits in, of equal gaps in the first; pieces of different kinds share no
+ * page; a piece that leaves a rest has a new number, one that fills its gap the gap's; a piece that is given back leaves its number to
+ * the gap, unless a gap before it has one. */
+#ifndef ACCOUNT_H
+#define ACCOUNT_H
+#include "test.h"
+
+#define ACCOUNT_CHUNKS 1024
+
+struct chunk {
+    uint64_t start, offset, end, number;
+    uint32_t kind; /* 0: a gap */
+};
+
+struct account {
+    uint64_t size, page, next_number;
+    size_t count;
+    struct chunk chunks[ACCOUNT_CHUNKS];
+};
+
+static inline void account_begin(struct account *a, uint64_t size, uint64_t page) {
+    a->size = size;
+    a->page = page;
+    a->next_number = 2;
+    a->count = 1;
+    a->chunks[0] = (struct chunk){0, 0, size, 1, 0};
+}
+
+static inline uint64_t rounded_up(uint64_t n, uint64_t alignment) { return (n + alignment - 1) / alignment * alignment; }
+
+/* Whether the request fits in the gap at that index, and where. Sizes in these tests are far below 2^63, so nothing wraps. */
+static inline bool account_fits(const struct account *a, size_t at, uint64_t size, uint64_t alignment, uint32_t kind, uint64_t *offset) {
+    const struct chunk *gap = &a->chunks[at];
+    uint64_t place = rounded_up(gap->start, alignment);
+    if (at > 0 && a->chunks[at - 1].kind != kind && place / a->page == (gap->start - 1) / a->page)
+        place = rounded_up(((gap->start - 1) / a->page + 1) * a->page, alignment);
+    if (place + size > gap->end) return false;
+    if (at + 1 < a->count && a->chunks[at + 1].kind != kind && (place + size - 1) / a->page == gap->end / a->page) return false;
+    *offset = place;
+    return true;
+}
+
+static inline bool account_take(struct account *a, uint64_t size, uint64_t alignment, uint32_t kind, uint64_t *offset, uint64_t *number) {
+    size_t best = a->count;
+    uint64_t best_offset = 0, place;
+    for (size_t i = 0; i < a->count; i++) {
+        const struct chunk *c = &a->chunks[i];
+        if (c->kind || !account_fits(a, i, size, alignment, kind, &place)) continue;
+        if (best < a->count && a->chunks[best].end - a->chunks[best].start <= c->end - c->start) continue;
+        best = i;
+        best_offset = place;
+    }
+    if (best == a->count) return false;
+    struct chunk gap = a->chunks[best];
+    struct chunk piece = {gap.start, best_offset, best_offset + size, gap.number, kind};
+    if (piece.end < gap.end) {
+        CHECK(a->count < ACCOUNT_CHUNKS);
+        piece.number = a->next_number++;
+        memmove(&a->chunks[best + 1], &a->chunks[best], (a->count - best) * sizeof a->chunks[0]);
+        a->count++;
+        a->chunks[best + 1].start = a->chunks[best + 1].offset = piece.end;
+    }
+    a->chunks[best] = piece;
+    *offset = piece.offset;
+    *number = piece.number;
+    return true;
+}
+
+/* The index of a live piece, or the count where there is none. */
+static inline size_t account_find(const struct account *a, uint64_t offset, uint64_t number) {
+    for (size_t i = 0; i < a->count; i++)
+        if (a->chunks[i].kind && a->chunks[i].number == number && a->chunks[i].offset == offset) return i;
+    return a->count;
+}
+
+static inline void account_drop(struct account *a, size_t at) {
+    memmove(&a->chunks[at], &a->chunks[at + 1], (a->count - at - 1) * sizeof a->chunks[0]);
+    a->count--;
+}
+
+static inline void account_free(struct account *a, size_t at) {
+    a->chunks[at].kind = 0;
+    a->chunks[at].offset = a->chunks[at].start;
+    if (at + 1 < a->count && !a->chunks[at + 1].kind) {
+        a->chunks[at].end = a->chunks[at + 1].end;
+        account_drop(a, at + 1);
+    }
+    if (at > 0 && !a->chunks[at - 1].kind) {
+        a->chunks[at - 1].end = a->chunks[at].end;
+        account_drop(a, at);
+    }
+}
+
+static inline uint64_t account_pieces(const struct account *a) {
+    uint64_t pieces = 0;
+    for (size_t i = 0; i < a->count; i++) pieces += a->chunks[i].kind != 0;
+    return pieces;
+}
+#endif

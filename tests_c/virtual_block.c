@@ -1,0 +1,144 @@
+/* Virtual blocks: rows whose places were worked out by hand, and each status of each call. */
+#include "test.h"
+
+static void takes(pilhangko_virtual_block *block, uint64_t size, uint64_t alignment, uint32_t kind, uint64_t offset, uint64_t number, pilhangko_virtual_piece *piece) {
+    pilhangko_virtual_request request = {size, alignment, kind};
+    IS(pilhangko_virtual_block_allocate(block, &request, "piece", piece), PILHANGKO_OK);
+    CHECK(piece->offset == offset);
+    CHECK(piece->number == number);
+}
+
+static void has(pilhangko_virtual_block *block, uint64_t pieces) {
+    uint64_t count = 77;
+    IS(pilhangko_virtual_block_leak_count(block, &count), PILHANGKO_OK);
+    CHECK(count == pieces);
+}
+
+/* the shortest gap, of equal ones the first; alignment; numbers */
+static void places(void) {
+    pilhangko_virtual_block block = {0};
+    pilhangko_virtual_piece a, b, c, d, e, f;
+    IS(pilhangko_virtual_block_create(&block, 1000, 1), PILHANGKO_OK);
+    takes(&block, 100, 1, PILHANGKO_LINEAR, 0, 2, &a);
+    takes(&block, 50, 1, PILHANGKO_LINEAR, 100, 3, &b);
+    takes(&block, 100, 1, PILHANGKO_NON_LINEAR, 150, 4, &c);
+    takes(&block, 60, 64, PILHANGKO_LINEAR, 256, 5, &d); /* padding from 250 to 256 */
+    has(&block, 4);
+    IS(pilhangko_virtual_block_free(&block, &b), PILHANGKO_OK);
+    IS(pilhangko_virtual_block_free(&block, &b), PILHANGKO_NOT_LIVE);
+    takes(&block, 40, 1, PILHANGKO_LINEAR, 100, 6, &e); /* the gap of 50, not the rest of the block */
+    takes(&block, 10, 1, PILHANGKO_LINEAR, 140, 3, &f); /* fills it: the gap's number */
+    IS(pilhangko_virtual_block_free(&block, &a), PILHANGKO_OK);
+    IS(pilhangko_virtual_block_free(&block, &e), PILHANGKO_OK); /* joins the gap before it: [0, 140) */
+    takes(&block, 140, 1, PILHANGKO_LINEAR, 0, 2, &a);
+    IS(pilhangko_virtual_block_free(&block, &e), PILHANGKO_NOT_LIVE);
+    has(&block, 4);
+    IS(pilhangko_virtual_block_destroy(&block), PILHANGKO_OK);
+}
+
+/* pieces of different kinds share no page of 64 bytes */
+static void pages(void) {
+    pilhangko_virtual_block block = {0};
+    pilhangko_virtual_piece a, b, c;
+    IS(pilhangko_virtual_block_create(&block, 256, 64), PILHANGKO_OK);
+    takes(&block, 10, 1, PILHANGKO_LINEAR, 0, 2, &a);
+    takes(&block, 10, 1, PILHANGKO_LINEAR, 10, 3, &b);
+    takes(&block, 10, 1, PILHANGKO_NON_LINEAR, 64, 4, &c);
+    IS(pilhangko_virtual_block_destroy(&block), PILHANGKO_OK);
+}
+
+static void allocate_statuses(void) {
+    pilhangko_virtual_block block = {0};
+    pilhangko_virtual_piece piece = {11, 22};
+    pilhangko_virtual_request good = {10, 1, PILHANGKO_LINEAR};
+    const pilhangko_virtual_request bad[] = {{0, 1, 1}, {10, 0, 1}, {10, 3, 1}, {10, 1, 0}, {10, 1, 3}, {10, UINT64_MAX, 2}, {0, 0, 0}};
+    IS(pilhangko_virtual_block_allocate(&block, &good, NULL, &piece), PILHANGKO_NO_HANDLE);
+    IS(pilhangko_virtual_block_create(&block, 100, 16), PILHANGKO_OK);
+    for (size_t i = 0; i < sizeof bad / sizeof bad[0]; i++) IS(pilhangko_virtual_block_allocate(&block, &bad[i], NULL, &piece), PILHANGKO_INVALID);
+    IS(pilhangko_virtual_block_allocate(&block, &good, "\xff", &piece), PILHANGKO_INVALID);
+    IS(pilhangko_virtual_block_allocate(&block, &good, "half \xc3", &piece), PILHANGKO_INVALID);
+    pilhangko_virtual_request large = {101, 1, PILHANGKO_LINEAR}, largest = {UINT64_MAX, 1, PILHANGKO_LINEAR}, aligned = {10, UINT64_C(1) << 63, PILHANGKO_LINEAR};
+    IS(pilhangko_virtual_block_allocate(&block, &large, NULL, &piece), PILHANGKO_OUT_OF_MEMORY);
+    IS(pilhangko_virtual_block_allocate(&block, &largest, NULL, &piece), PILHANGKO_OUT_OF_MEMORY);
+    CHECK(piece.offset == 11 && piece.number == 22);
+    has(&block, 0);
+    IS(pilhangko_virtual_block_allocate(&block, &aligned, NULL, &piece), PILHANGKO_OK); /* offset 0 has every alignment */
+    IS(pilhangko_virtual_block_allocate(&block, &aligned, NULL, &piece), PILHANGKO_OUT_OF_MEMORY);
+    IS(pilhangko_virtual_block_allocate(&block, &good, "h\xc3\xa4lft", &piece), PILHANGKO_OK);
+    IS(pilhangko_virtual_block_destroy(&block), PILHANGKO_OK);
+}
+
+static void handle_statuses(void) {
+    pilhangko_virtual_block block = {0};
+    pilhangko_virtual_piece piece = {0, 2}, taken;
+    uint64_t count = 5;
+    IS(pilhangko_virtual_block_free(&block, &piece), PILHANGKO_NO_HANDLE);
+    IS(pilhangko_virtual_block_rename(&block, &piece, "a"), PILHANGKO_NO_HANDLE);
+    IS(pilhangko_virtual_block_clear(&block), PILHANGKO_NO_HANDLE);
+    IS(pilhangko_virtual_block_leak_count(&block, &count), PILHANGKO_NO_HANDLE);
+    CHECK(count == 5);
+    IS(pilhangko_virtual_block_destroy(&block), PILHANGKO_NO_HANDLE);
+    IS(pilhangko_virtual_block_create(&block, 0, 1), PILHANGKO_INVALID);
+    IS(pilhangko_virtual_block_create(&block, 100, 0), PILHANGKO_INVALID);
+    IS(pilhangko_virtual_block_create(&block, 100, 48), PILHANGKO_INVALID);
+    IS(pilhangko_virtual_block_destroy(&block), PILHANGKO_NO_HANDLE);
+    IS(pilhangko_virtual_block_create(&block, UINT64_MAX, UINT64_C(1) << 63), PILHANGKO_OK);
+    takes(&block, UINT64_MAX, 1, PILHANGKO_LINEAR, 0, 1, &taken);
+    IS(pilhangko_virtual_block_create(&block, 100, 1), PILHANGKO_IN_USE);
+    IS(pilhangko_virtual_block_create(&block, 0, 0), PILHANGKO_IN_USE);
+    has(&block, 1);
+    IS(pilhangko_virtual_block_destroy(&block), PILHANGKO_OK);
+    IS(pilhangko_virtual_block_destroy(&block), PILHANGKO_NO_HANDLE);
+}
+
+static void piece_statuses(void) {
+    pilhangko_virtual_block block = {0};
+    pilhangko_virtual_piece a, b;
+    IS(pilhangko_virtual_block_create(&block, 100, 1), PILHANGKO_OK);
+    takes(&block, 10, 1, PILHANGKO_LINEAR, 0, 2, &a);
+    pilhangko_virtual_piece wrong[] = {{0, 0}, {1, 2}, {0, 3}, {0, 1}, {10, 1}, {UINT64_MAX, UINT64_MAX}};
+    for (size_t i = 0; i < sizeof wrong / sizeof wrong[0]; i++) {
+        IS(pilhangko_virtual_block_free(&block, &wrong[i]), PILHANGKO_NOT_LIVE);
+        IS(pilhangko_virtual_block_rename(&block, &wrong[i], "name"), PILHANGKO_NOT_LIVE);
+        IS(pilhangko_virtual_block_rename(&block, &wrong[i], "\x80"), PILHANGKO_INVALID);
+    }
+    IS(pilhangko_virtual_block_rename(&block, &a, "\xed\xa0\x80"), PILHANGKO_INVALID); /* a surrogate */
+    IS(pilhangko_virtual_block_rename(&block, &a, "another name"), PILHANGKO_OK);
+    IS(pilhangko_virtual_block_rename(&block, &a, NULL), PILHANGKO_OK);
+    has(&block, 1);
+    takes(&block, 10, 1, PILHANGKO_NON_LINEAR, 10, 3, &b);
+    IS(pilhangko_virtual_block_clear(&block), PILHANGKO_OK);
+    has(&block, 0);
+    IS(pilhangko_virtual_block_free(&block, &a), PILHANGKO_NOT_LIVE);
+    takes(&block, 100, 1, PILHANGKO_LINEAR, 0, 1, &b);
+    IS(pilhangko_virtual_block_destroy(&block), PILHANGKO_OK);
+}
+
+static void null_pointers(void) {
+    pilhangko_virtual_block block = {0};
+    pilhangko_virtual_request request = {10, 1, PILHANGKO_LINEAR};
+    pilhangko_virtual_piece piece = {0, 0};
+    uint64_t count;
+    IS(pilhangko_virtual_block_create(NULL, 1, 1), PILHANGKO_NULL_POINTER);
+    IS(pilhangko_virtual_block_allocate(NULL, &request, NULL, &piece), PILHANGKO_NULL_POINTER);
+    IS(pilhangko_virtual_block_allocate(&block, NULL, NULL, &piece), PILHANGKO_NULL_POINTER);
+    IS(pilhangko_virtual_block_allocate(&block, &request, NULL, NULL), PILHANGKO_NULL_POINTER);
+    IS(pilhangko_virtual_block_free(NULL, &piece), PILHANGKO_NULL_POINTER);
+    IS(pilhangko_virtual_block_free(&block, NULL), PILHANGKO_NULL_POINTER);
+    IS(pilhangko_virtual_block_rename(NULL, &piece, NULL), PILHANGKO_NULL_POINTER);
+    IS(pilhangko_virtual_block_rename(&block, NULL, NULL), PILHANGKO_NULL_POINTER);
+    IS(pilhangko_virtual_block_clear(NULL), PILHANGKO_NULL_POINTER);
+    IS(pilhangko_virtual_block_leak_count(NULL, &count), PILHANGKO_NULL_POINTER);
+    IS(pilhangko_virtual_block_leak_count(&block, NULL), PILHANGKO_NULL_POINTER);
+    IS(pilhangko_virtual_block_destroy(NULL), PILHANGKO_NULL_POINTER);
+}
+
+int main(void) {
+    places();
+    pages();
+    allocate_statuses();
+    handle_statuses();
+    piece_statuses();
+    null_pointers();
+    return 0;
+}
