@@ -1,0 +1,96 @@
+/* A run of calls with each of its requests for host memory refused in turn. The call whose request is refused answers
+ * PILHANGKO_HOST_OUT_OF_MEMORY and changes nothing that can be seen; the same call then succeeds. At the end no memory is held. */
+#include "refusing_heap.h"
+#include "test.h"
+
+#define MB (UINT64_C(1) << 20)
+
+static unsigned refusals;
+
+/* The call once more, where its request was refused. `same` is what may not have changed. */
+#define TRIED(call, same) \
+    do { \
+        pilhangko_status got_ = (call); \
+        if (got_ == PILHANGKO_HOST_OUT_OF_MEMORY) { \
+            CHECK(heap_requests >= heap_refused && heap_refused > 0); \
+            refusals++; \
+            heap_refused = 0; \
+            CHECK(same); \
+            got_ = (call); \
+        } \
+        IS(got_, PILHANGKO_OK); \
+    } while (0)
+
+static bool block_has(pilhangko_virtual_block *block, uint64_t pieces) {
+    uint64_t count;
+    return pilhangko_virtual_block_leak_count(block, &count) == PILHANGKO_OK && count == pieces;
+}
+
+static bool type_has(pilhangko_memory_type *types, uint64_t capacity, size_t slots) {
+    pilhangko_memory_statistics s;
+    return pilhangko_memory_type_statistics(types, &s) == PILHANGKO_OK && s.capacity == capacity && s.slots == slots && !s.awaits_block;
+}
+
+static void virtual_blocks(void) {
+    pilhangko_virtual_block block = {0};
+    pilhangko_virtual_piece pieces[40], untouched = {5, 6};
+    TRIED(pilhangko_virtual_block_create(&block, 4096, 1), pilhangko_virtual_block_destroy(&block) == PILHANGKO_NO_HANDLE);
+    for (unsigned i = 0; i < 40; i++) {
+        pilhangko_virtual_request request = {1 + i, 4, 1 + i % 2};
+        pieces[i] = untouched;
+        TRIED(pilhangko_virtual_block_allocate(&block, &request, "a name that takes memory of its own", &pieces[i]), block_has(&block, i) && pieces[i].offset == 5 && pieces[i].number == 6);
+    }
+    long before = heap_requests;
+    for (unsigned i = 0; i < 40; i += 2) IS(pilhangko_virtual_block_free(&block, &pieces[i]), PILHANGKO_OK);
+    CHECK(heap_requests == before); /* free takes no memory */
+    for (unsigned i = 1; i < 40; i += 2) TRIED(pilhangko_virtual_block_rename(&block, &pieces[i], "another name that takes memory of its own"), block_has(&block, 20));
+    TRIED(pilhangko_virtual_block_clear(&block), block_has(&block, 20));
+    CHECK(block_has(&block, 0));
+    IS(pilhangko_virtual_block_destroy(&block), PILHANGKO_OK);
+}
+
+static void memory_types(void) {
+    pilhangko_memory_type types = {0};
+    pilhangko_memory_type_settings settings = {true, 1, 4 * MB, 0, 4 * MB, 0, false, 0};
+    pilhangko_memory_piece pieces[12];
+    TRIED(pilhangko_memory_type_create(&types, &settings), pilhangko_memory_type_destroy(&types) == PILHANGKO_NO_HANDLE);
+    uint64_t capacity = 0;
+    size_t slots = 0;
+    for (unsigned i = 0; i < 12; i++) {
+        pilhangko_memory_request request = {i % 3 ? MB : 4 * MB, 1, PILHANGKO_LINEAR, i % 4 == 3};
+        pilhangko_memory_prepared prepared = {false, false, 3, {3, 3, 3, 3, 3}};
+        TRIED(pilhangko_memory_type_prepare(&types, &request, "a name that takes memory of its own", &prepared), type_has(&types, capacity, slots) && prepared.block_size == 3);
+        if (prepared.needs_block) {
+            long before = heap_requests;
+            IS(pilhangko_memory_type_install(&types, i, &prepared.piece), PILHANGKO_OK);
+            CHECK(heap_requests == before); /* nor does install */
+            capacity += prepared.block_size;
+            slots++;
+        }
+        pieces[i] = prepared.piece;
+    }
+    for (unsigned i = 0; i < 12; i++) TRIED(pilhangko_memory_type_rename(&types, &pieces[i], "another name that takes memory of its own"), type_has(&types, capacity, slots));
+    long before = heap_requests;
+    pilhangko_memory_block gone;
+    for (unsigned i = 0; i < 12; i++) IS(pilhangko_memory_type_free(&types, &pieces[i], &gone), PILHANGKO_OK);
+    CHECK(heap_requests == before);
+    IS(pilhangko_memory_type_destroy(&types), PILHANGKO_OK);
+}
+
+int main(void) {
+    virtual_blocks();
+    memory_types();
+    long ample = heap_requests;
+    CHECK(refusals == 0 && heap_held == 0 && ample > 0);
+    for (long n = 1; n <= ample; n++) {
+        heap_requests = 0;
+        heap_refused = n;
+        unsigned before = refusals;
+        virtual_blocks();
+        memory_types();
+        CHECK(refusals == before + 1);
+        CHECK(heap_held == 0);
+    }
+    printf("%ld requests for host memory, each refused once\n", ample);
+    return 0;
+}

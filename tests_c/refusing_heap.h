@@ -1,0 +1,7 @@
+/* A heap in place of pilhangko_heap.c that refuses one of the requests for memory, and counts what is held. */
+#ifndef REFUSING_HEAP_H
+#define REFUSING_HEAP_H
+extern long heap_requests; /* so far */
+extern long heap_refused;  /* the request that is refused, from 1; 0: none */
+extern long heap_held;     /* what was given and has not come back */
+#endif
