@@ -7,7 +7,7 @@
  * upholds:
  *   - It begins zeroed, as in `pilhangko_virtual_block block = {0};`, and is empty then. create fills it, destroy leaves it empty. Each
  *     other call on an empty handle answers PILHANGKO_NO_HANDLE, so a call after destroy and a second destroy are refused.
- *   - It is never copied, and its field is never written or read.
+ *   - It is never copied, and its field is never written or read. (To move it, copy it and never use the old one again.)
  *   - It is given to one call at a time, on the thread that made it. Different handles share nothing: threads with handles of their
  *     own need no lock.
  *   - It is not used in a signal handler, nor in the forked child of a process with threads.
