@@ -22,9 +22,9 @@ int main(void) {
     pilhangko_virtual_block_free(&staging, &vertices);
     pilhangko_virtual_block_free(&staging, &texture);
 
-    uint64_t leaks = 0;
+    size_t leaks = 0;
     pilhangko_virtual_block_leak_count(&staging, &leaks);
-    printf("%llu leaks\n", (unsigned long long)leaks);
+    printf("%zu leaks\n", leaks);
     pilhangko_virtual_block_destroy(&staging);
     return leaks != 0;
 }

@@ -90,6 +90,25 @@ typedef struct pilhangko_virtual_piece {
     uint64_t number;
 } pilhangko_virtual_piece;
 
+/* What is counted of a virtual block. */
+typedef struct pilhangko_virtual_statistics {
+    uint64_t size;        /* of the block */
+    size_t pieces;        /* live pieces */
+    uint64_t piece_bytes; /* what they take, with the padding before them */
+    size_t gaps;
+    uint64_t longest_gap; /* 0 where there is none */
+} pilhangko_virtual_statistics;
+
+/* A live piece as a visit shows it, or none: its padding is [start, offset), its own bytes [offset, end). */
+typedef struct pilhangko_piece_view {
+    bool exists; /* else all is 0 */
+    uint64_t number;
+    uint64_t start;
+    uint64_t offset;
+    uint64_t end;
+    uint32_t kind;
+} pilhangko_piece_view;
+
 /* ---- Memory types: blocks that come and go, each asked of the driver by the caller. ---- */
 
 typedef struct pilhangko_memory_type {
@@ -152,6 +171,15 @@ typedef struct pilhangko_memory_statistics {
     bool awaits_block;    /* whether a block is awaited */
 } pilhangko_memory_statistics;
 
+/* What is counted of the block in a slot, or none. */
+typedef struct pilhangko_memory_block_statistics {
+    bool exists; /* else all is 0 */
+    size_t pieces;
+    uint64_t piece_bytes;
+    size_t gaps;
+    uint64_t longest_gap;
+} pilhangko_memory_block_statistics;
+
 /* ---- The archive's symbols, for callers in other languages. No pointer may be NULL, also not of a name with length 0. ---- */
 
 pilhangko_status pilhangko_raw_virtual_block_create(pilhangko_virtual_block *block, uint64_t size, uint64_t page_size);
@@ -159,7 +187,8 @@ pilhangko_status pilhangko_raw_virtual_block_allocate(pilhangko_virtual_block *b
 pilhangko_status pilhangko_raw_virtual_block_free(pilhangko_virtual_block *block, const pilhangko_virtual_piece *piece);
 pilhangko_status pilhangko_raw_virtual_block_rename(pilhangko_virtual_block *block, const pilhangko_virtual_piece *piece, const char *name, size_t name_length);
 pilhangko_status pilhangko_raw_virtual_block_clear(pilhangko_virtual_block *block);
-pilhangko_status pilhangko_raw_virtual_block_leak_count(pilhangko_virtual_block *block, uint64_t *count);
+pilhangko_status pilhangko_raw_virtual_block_statistics(pilhangko_virtual_block *block, pilhangko_virtual_statistics *statistics);
+pilhangko_status pilhangko_raw_virtual_block_next_piece(pilhangko_virtual_block *block, uint64_t from, pilhangko_piece_view *piece);
 pilhangko_status pilhangko_raw_virtual_block_destroy(pilhangko_virtual_block *block);
 
 pilhangko_status pilhangko_raw_memory_type_create(pilhangko_memory_type *types, const pilhangko_memory_type_settings *settings);
@@ -171,6 +200,8 @@ pilhangko_status pilhangko_raw_memory_type_rename(pilhangko_memory_type *types, 
 pilhangko_status pilhangko_raw_memory_type_is_live(pilhangko_memory_type *types, const pilhangko_memory_piece *piece, bool *is_live);
 pilhangko_status pilhangko_raw_memory_type_set_budget(pilhangko_memory_type *types, bool has_budget, uint64_t bytes);
 pilhangko_status pilhangko_raw_memory_type_block(pilhangko_memory_type *types, size_t slot, pilhangko_memory_block *block);
+pilhangko_status pilhangko_raw_memory_type_block_statistics(pilhangko_memory_type *types, size_t slot, pilhangko_memory_block_statistics *statistics);
+pilhangko_status pilhangko_raw_memory_type_next_piece(pilhangko_memory_type *types, size_t slot, uint64_t from, pilhangko_piece_view *piece);
 pilhangko_status pilhangko_raw_memory_type_statistics(pilhangko_memory_type *types, pilhangko_memory_statistics *statistics);
 pilhangko_status pilhangko_raw_memory_type_destroy(pilhangko_memory_type *types);
 
@@ -233,11 +264,30 @@ static inline pilhangko_status pilhangko_virtual_block_clear(pilhangko_virtual_b
     return pilhangko_raw_virtual_block_clear(block);
 }
 
-/* How many pieces are live: before destroy, how many leaked.
+/* What is counted of a block: its pieces, what they take, its gaps.
  * NO_HANDLE. */
-static inline pilhangko_status pilhangko_virtual_block_leak_count(pilhangko_virtual_block *block, uint64_t *count) {
+static inline pilhangko_status pilhangko_virtual_block_statistics(pilhangko_virtual_block *block, pilhangko_virtual_statistics *statistics) {
+    if (!block || !statistics) return PILHANGKO_NULL_POINTER;
+    return pilhangko_raw_virtual_block_statistics(block, statistics);
+}
+
+/* How many pieces are live: before destroy, how many leak.
+ * NO_HANDLE. */
+static inline pilhangko_status pilhangko_virtual_block_leak_count(pilhangko_virtual_block *block, size_t *count) {
+    pilhangko_virtual_statistics statistics;
+    pilhangko_status status;
     if (!block || !count) return PILHANGKO_NULL_POINTER;
-    return pilhangko_raw_virtual_block_leak_count(block, count);
+    status = pilhangko_raw_virtual_block_statistics(block, &statistics);
+    if (status == PILHANGKO_OK) *count = statistics.pieces;
+    return status;
+}
+
+/* The first live piece whose own bytes begin at `from` or behind it. A visit of all pieces in order of offset begins at 0 and goes on at the last
+ * one's offset + 1, up to the answer that none exists; the block may change in between.
+ * NO_HANDLE. */
+static inline pilhangko_status pilhangko_virtual_block_next_piece(pilhangko_virtual_block *block, uint64_t from, pilhangko_piece_view *piece) {
+    if (!block || !piece) return PILHANGKO_NULL_POINTER;
+    return pilhangko_raw_virtual_block_next_piece(block, from, piece);
 }
 
 /* Ends a block, with all its pieces, and leaves the handle empty.
@@ -313,6 +363,21 @@ static inline pilhangko_status pilhangko_memory_type_set_budget(pilhangko_memory
 static inline pilhangko_status pilhangko_memory_type_block(pilhangko_memory_type *types, size_t slot, pilhangko_memory_block *block) {
     if (!types || !block) return PILHANGKO_NULL_POINTER;
     return pilhangko_raw_memory_type_block(types, slot, block);
+}
+
+/* What is counted of the block in a slot.
+ * NO_HANDLE. */
+static inline pilhangko_status pilhangko_memory_type_block_statistics(pilhangko_memory_type *types, size_t slot, pilhangko_memory_block_statistics *statistics) {
+    if (!types || !statistics) return PILHANGKO_NULL_POINTER;
+    return pilhangko_raw_memory_type_block_statistics(types, slot, statistics);
+}
+
+/* The first live piece of the block in a slot whose own bytes begin at `from` or behind it; none where the slot has no block. A visit goes as with a
+ * virtual block, slot by slot.
+ * NO_HANDLE. */
+static inline pilhangko_status pilhangko_memory_type_next_piece(pilhangko_memory_type *types, size_t slot, uint64_t from, pilhangko_piece_view *piece) {
+    if (!types || !piece) return PILHANGKO_NULL_POINTER;
+    return pilhangko_raw_memory_type_next_piece(types, slot, from, piece);
 }
 
 /* What is counted of a memory type.

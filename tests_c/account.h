@@ -97,4 +97,32 @@ static inline uint64_t account_pieces(const struct account *a) {
     for (size_t i = 0; i < a->count; i++) pieces += a->chunks[i].kind != 0;
     return pieces;
 }
+
+/* What is counted of the block, and each piece by a visit, are the account's. */
+static inline void account_same(const struct account *a, const pilhangko_virtual_statistics *s) {
+    uint64_t bytes = 0, longest = 0;
+    size_t pieces = 0, gaps = 0;
+    for (size_t i = 0; i < a->count; i++) {
+        uint64_t length = a->chunks[i].end - a->chunks[i].start;
+        if (a->chunks[i].kind) {
+            pieces++;
+            bytes += length;
+        } else {
+            gaps++;
+            longest = length > longest ? length : longest;
+        }
+    }
+    CHECK(s->size == a->size && s->pieces == pieces && s->piece_bytes == bytes && s->gaps == gaps && s->longest_gap == longest);
+}
+
+/* The view of the first piece from a place on is the account's. */
+static inline void account_shows(const struct account *a, uint64_t from, const pilhangko_piece_view *view) {
+    for (size_t i = 0; i < a->count; i++) {
+        const struct chunk *c = &a->chunks[i];
+        if (!c->kind || c->offset < from) continue;
+        CHECK(view->exists && view->number == c->number && view->start == c->start && view->offset == c->offset && view->end == c->end && view->kind == c->kind);
+        return;
+    }
+    CHECK(!view->exists && view->number == 0 && view->start == 0 && view->offset == 0 && view->end == 0 && view->kind == 0);
+}
 #endif

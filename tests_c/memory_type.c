@@ -75,6 +75,20 @@ static void blocks_come_and_go(void) {
     has_block(&types, 3, true, 1004);
     has_block(&types, 4, false, 0);
     has_block(&types, SIZE_MAX, false, 0);
+    pilhangko_memory_block_statistics counted;
+    IS(pilhangko_memory_type_block_statistics(&types, 0, &counted), PILHANGKO_OK);
+    CHECK(counted.exists && counted.pieces == 2 && counted.piece_bytes == 150 && counted.gaps == 1 && counted.longest_gap == 4 * MB - 150);
+    IS(pilhangko_memory_type_block_statistics(&types, 3, &counted), PILHANGKO_OK);
+    CHECK(counted.exists && counted.pieces == 1 && counted.piece_bytes == 10 && counted.gaps == 0 && counted.longest_gap == 0);
+    IS(pilhangko_memory_type_block_statistics(&types, 4, &counted), PILHANGKO_OK);
+    CHECK(!counted.exists && counted.pieces == 0);
+    pilhangko_piece_view view;
+    IS(pilhangko_memory_type_next_piece(&types, 0, 1, &view), PILHANGKO_OK);
+    CHECK(view.exists && view.number == b.number && view.start == 100 && view.offset == 100 && view.end == 150 && view.kind == PILHANGKO_LINEAR);
+    IS(pilhangko_memory_type_next_piece(&types, 0, 101, &view), PILHANGKO_OK);
+    CHECK(!view.exists);
+    IS(pilhangko_memory_type_next_piece(&types, 9, 0, &view), PILHANGKO_OK);
+    CHECK(!view.exists);
     frees(&types, &d, true, 1003); /* a piece's own block goes */
     has_block(&types, 2, false, 0);
     frees(&types, &a, false, 0);
@@ -218,6 +232,8 @@ static void handle_statuses(void) {
     pilhangko_memory_piece piece = {0, 1, 0, 1, 1};
     pilhangko_memory_block gone;
     pilhangko_memory_statistics told;
+    pilhangko_memory_block_statistics counted;
+    pilhangko_piece_view view;
     bool is_live;
     IS(pilhangko_memory_type_prepare(&types, &request, NULL, &prepared), PILHANGKO_NO_HANDLE);
     IS(pilhangko_memory_type_install(&types, 1, &piece), PILHANGKO_NO_HANDLE);
@@ -228,6 +244,8 @@ static void handle_statuses(void) {
     IS(pilhangko_memory_type_set_budget(&types, true, 1), PILHANGKO_NO_HANDLE);
     IS(pilhangko_memory_type_block(&types, 0, &gone), PILHANGKO_NO_HANDLE);
     IS(pilhangko_memory_type_statistics(&types, &told), PILHANGKO_NO_HANDLE);
+    IS(pilhangko_memory_type_block_statistics(&types, 0, &counted), PILHANGKO_NO_HANDLE);
+    IS(pilhangko_memory_type_next_piece(&types, 0, 0, &view), PILHANGKO_NO_HANDLE);
     IS(pilhangko_memory_type_destroy(&types), PILHANGKO_NO_HANDLE);
     s.page_size = 0;
     IS(pilhangko_memory_type_create(&types, &s), PILHANGKO_INVALID);
@@ -252,6 +270,8 @@ static void null_pointers(void) {
     pilhangko_memory_piece piece = {0, 1, 0, 1, 1};
     pilhangko_memory_block gone;
     pilhangko_memory_statistics told;
+    pilhangko_memory_block_statistics counted;
+    pilhangko_piece_view view;
     bool is_live;
     IS(pilhangko_memory_type_create(NULL, &s), PILHANGKO_NULL_POINTER);
     IS(pilhangko_memory_type_create(&types, NULL), PILHANGKO_NULL_POINTER);
@@ -273,6 +293,10 @@ static void null_pointers(void) {
     IS(pilhangko_memory_type_block(NULL, 0, &gone), PILHANGKO_NULL_POINTER);
     IS(pilhangko_memory_type_block(&types, 0, NULL), PILHANGKO_NULL_POINTER);
     IS(pilhangko_memory_type_statistics(NULL, &told), PILHANGKO_NULL_POINTER);
+    IS(pilhangko_memory_type_block_statistics(NULL, 0, &counted), PILHANGKO_NULL_POINTER);
+    IS(pilhangko_memory_type_block_statistics(&types, 0, NULL), PILHANGKO_NULL_POINTER);
+    IS(pilhangko_memory_type_next_piece(NULL, 0, 0, &view), PILHANGKO_NULL_POINTER);
+    IS(pilhangko_memory_type_next_piece(&types, 0, 0, NULL), PILHANGKO_NULL_POINTER);
     IS(pilhangko_memory_type_statistics(&types, NULL), PILHANGKO_NULL_POINTER);
     IS(pilhangko_memory_type_destroy(NULL), PILHANGKO_NULL_POINTER);
 }

@@ -153,6 +153,19 @@ static void look(void) {
     pilhangko_memory_block block;
     IS(pilhangko_memory_type_block(&types, i, &block), PILHANGKO_OK);
     CHECK(block.exists == (i < slot_count && slots[i].exists) && block.block == (block.exists ? slots[i].block : 0));
+    pilhangko_memory_block_statistics counted;
+    IS(pilhangko_memory_type_block_statistics(&types, i, &counted), PILHANGKO_OK);
+    CHECK(counted.exists == block.exists);
+    uint64_t from = random_below(9 * MB);
+    pilhangko_piece_view view;
+    IS(pilhangko_memory_type_next_piece(&types, i, from, &view), PILHANGKO_OK);
+    if (block.exists) {
+        pilhangko_virtual_statistics same = {slots[i].account.size, counted.pieces, counted.piece_bytes, counted.gaps, counted.longest_gap};
+        account_same(&slots[i].account, &same);
+        account_shows(&slots[i].account, from, &view);
+    } else {
+        CHECK(!view.exists && view.number == 0 && counted.pieces == 0 && counted.piece_bytes == 0 && counted.gaps == 0 && counted.longest_gap == 0);
+    }
     pilhangko_memory_piece piece = some_piece();
     bool is_live;
     IS(pilhangko_memory_type_is_live(&types, &piece, &is_live), PILHANGKO_OK);

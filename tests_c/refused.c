@@ -21,8 +21,8 @@ static unsigned refusals;
         IS(got_, PILHANGKO_OK); \
     } while (0)
 
-static bool block_has(pilhangko_virtual_block *block, uint64_t pieces) {
-    uint64_t count;
+static bool block_has(pilhangko_virtual_block *block, size_t pieces) {
+    size_t count;
     return pilhangko_virtual_block_leak_count(block, &count) == PILHANGKO_OK && count == pieces;
 }
 

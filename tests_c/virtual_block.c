@@ -8,8 +8,8 @@ static void takes(pilhangko_virtual_block *block, uint64_t size, uint64_t alignm
     CHECK(piece->number == number);
 }
 
-static void has(pilhangko_virtual_block *block, uint64_t pieces) {
-    uint64_t count = 77;
+static void has(pilhangko_virtual_block *block, size_t pieces) {
+    size_t count = 77;
     IS(pilhangko_virtual_block_leak_count(block, &count), PILHANGKO_OK);
     CHECK(count == pieces);
 }
@@ -47,6 +47,40 @@ static void pages(void) {
     IS(pilhangko_virtual_block_destroy(&block), PILHANGKO_OK);
 }
 
+/* what is counted, and a visit of all pieces */
+static void readings(void) {
+    pilhangko_virtual_block block = {0};
+    pilhangko_virtual_piece pieces[3];
+    pilhangko_virtual_statistics s;
+    pilhangko_piece_view view;
+    IS(pilhangko_virtual_block_create(&block, 1000, 64), PILHANGKO_OK);
+    takes(&block, 10, 1, PILHANGKO_LINEAR, 0, 2, &pieces[0]);
+    takes(&block, 10, 1, PILHANGKO_NON_LINEAR, 64, 3, &pieces[1]); /* [10, 74): 54 bytes of padding */
+    takes(&block, 10, 16, PILHANGKO_NON_LINEAR, 80, 4, &pieces[2]); /* [74, 90): 6 */
+    IS(pilhangko_virtual_block_statistics(&block, &s), PILHANGKO_OK);
+    CHECK(s.size == 1000 && s.pieces == 3 && s.piece_bytes == 90 && s.gaps == 1 && s.longest_gap == 910);
+    IS(pilhangko_virtual_block_free(&block, &pieces[0]), PILHANGKO_OK);
+    IS(pilhangko_virtual_block_statistics(&block, &s), PILHANGKO_OK);
+    CHECK(s.size == 1000 && s.pieces == 2 && s.piece_bytes == 80 && s.gaps == 2 && s.longest_gap == 910);
+    size_t seen = 0;
+    for (uint64_t from = 0;; from = view.offset + 1) {
+        IS(pilhangko_virtual_block_next_piece(&block, from, &view), PILHANGKO_OK);
+        if (!view.exists) break;
+        seen++;
+        CHECK(view.number == pieces[seen].number && view.offset == pieces[seen].offset && view.kind == PILHANGKO_NON_LINEAR);
+        CHECK(view.start == (seen == 1 ? 10 : 74) && view.end == (seen == 1 ? 74 : 90));
+    }
+    CHECK(seen == 2 && view.number == 0 && view.start == 0 && view.offset == 0 && view.end == 0 && view.kind == 0);
+    IS(pilhangko_virtual_block_next_piece(&block, UINT64_MAX, &view), PILHANGKO_OK);
+    CHECK(!view.exists);
+    IS(pilhangko_virtual_block_destroy(&block), PILHANGKO_OK);
+    s.size = 3;
+    view.number = 4;
+    IS(pilhangko_virtual_block_statistics(&block, &s), PILHANGKO_NO_HANDLE);
+    IS(pilhangko_virtual_block_next_piece(&block, 0, &view), PILHANGKO_NO_HANDLE);
+    CHECK(s.size == 3 && view.number == 4);
+}
+
 static void allocate_statuses(void) {
     pilhangko_virtual_block block = {0};
     pilhangko_virtual_piece piece = {11, 22};
@@ -71,7 +105,7 @@ static void allocate_statuses(void) {
 static void handle_statuses(void) {
     pilhangko_virtual_block block = {0};
     pilhangko_virtual_piece piece = {0, 2}, taken;
-    uint64_t count = 5;
+    size_t count = 5;
     IS(pilhangko_virtual_block_free(&block, &piece), PILHANGKO_NO_HANDLE);
     IS(pilhangko_virtual_block_rename(&block, &piece, "a"), PILHANGKO_NO_HANDLE);
     IS(pilhangko_virtual_block_clear(&block), PILHANGKO_NO_HANDLE);
@@ -118,7 +152,9 @@ static void null_pointers(void) {
     pilhangko_virtual_block block = {0};
     pilhangko_virtual_request request = {10, 1, PILHANGKO_LINEAR};
     pilhangko_virtual_piece piece = {0, 0};
-    uint64_t count;
+    pilhangko_virtual_statistics statistics;
+    pilhangko_piece_view view;
+    size_t count;
     IS(pilhangko_virtual_block_create(NULL, 1, 1), PILHANGKO_NULL_POINTER);
     IS(pilhangko_virtual_block_allocate(NULL, &request, NULL, &piece), PILHANGKO_NULL_POINTER);
     IS(pilhangko_virtual_block_allocate(&block, NULL, NULL, &piece), PILHANGKO_NULL_POINTER);
@@ -130,12 +166,17 @@ static void null_pointers(void) {
     IS(pilhangko_virtual_block_clear(NULL), PILHANGKO_NULL_POINTER);
     IS(pilhangko_virtual_block_leak_count(NULL, &count), PILHANGKO_NULL_POINTER);
     IS(pilhangko_virtual_block_leak_count(&block, NULL), PILHANGKO_NULL_POINTER);
+    IS(pilhangko_virtual_block_statistics(NULL, &statistics), PILHANGKO_NULL_POINTER);
+    IS(pilhangko_virtual_block_statistics(&block, NULL), PILHANGKO_NULL_POINTER);
+    IS(pilhangko_virtual_block_next_piece(NULL, 0, &view), PILHANGKO_NULL_POINTER);
+    IS(pilhangko_virtual_block_next_piece(&block, 0, NULL), PILHANGKO_NULL_POINTER);
     IS(pilhangko_virtual_block_destroy(NULL), PILHANGKO_NULL_POINTER);
 }
 
 int main(void) {
     places();
     pages();
+    readings();
     allocate_statuses();
     handle_statuses();
     piece_statuses();

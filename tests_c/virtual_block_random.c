@@ -64,7 +64,9 @@ static void name(void) {
 }
 
 static void step(void) {
-    uint64_t count, what = random_below(1000);
+    uint64_t what = random_below(1000), from = random_below(account.size + 10);
+    pilhangko_virtual_statistics statistics;
+    pilhangko_piece_view view;
     if (what < 500) allocate();
     else if (what < 900) give_back();
     else if (what < 997) name();
@@ -77,8 +79,10 @@ static void step(void) {
         IS(pilhangko_virtual_block_clear(&block), PILHANGKO_OK);
         account_begin(&account, account.size, account.page);
     }
-    IS(pilhangko_virtual_block_leak_count(&block, &count), PILHANGKO_OK);
-    CHECK(count == account_pieces(&account));
+    IS(pilhangko_virtual_block_statistics(&block, &statistics), PILHANGKO_OK);
+    account_same(&account, &statistics);
+    IS(pilhangko_virtual_block_next_piece(&block, from, &view), PILHANGKO_OK);
+    account_shows(&account, from, &view);
 }
 
 int main(void) {

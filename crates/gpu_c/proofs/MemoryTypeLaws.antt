@@ -1,11 +1,12 @@
 -- Steps of a memory type as steps of what lies behind its handle.
-use Rattle.std.proofs.Common.{◌≡◌, ℕ, ◌+◌, ◌<◌, ◌^◌, Bool, true, false, List, Option, Some, None, refl, sym, ap, ◌∙◌, subst, nat_eq}
+use Rattle.std.proofs.Common.{◌≡◌, ℕ, ◌+◌, ◌<◌, ◌≤◌, ◌^◌, Bool, true, false, List, Option, Some, None, refl, sym, ap, ◌∙◌, subst, nat_eq}
 use Rattle.std.specs.Prelude.{IsTrue}
 use Rattle.std.proofs.lemmas.Bool.{eqb-true}
 use Rattle.gpu_values.specs.Sizes.{Sizes}
 use Rattle.gpu_values.specs.declared.allocation_type.AllocationType.{AllocationType}
 use Rattle.gpu_block.specs.Request.{Request, request}
-use Rattle.gpu_core.specs.TypeState.{Slot, TypeState, slot_at, capacity_of, fits_budget}
+use Rattle.gpu_core.specs.TypeState.{Slot, TypeState, slot_at, capacity_of, fits_budget, KeepsOneEmptyAtMost}
+use Rattle.gpu_core.specs.Slots.{AreSound}
 use Rattle.gpu_core.specs.TypeTake.{has_own_block, PreparesPiece, NeedsBlock, Installs}
 use Rattle.gpu_core.specs.TypeRelease.{SlotHolds, IsLive, has_several, ReleasesPiece, RenamesPiece}
 use Rattle.gpu_core.specs.declared.memory_type.Piece.{Piece}
@@ -16,10 +17,12 @@ use Rattle.gpu_c.specs.declared.memory_type_values.MemoryRequest.{MemoryRequest}
 use Rattle.gpu_c.specs.declared.memory_type_values.MemoryPiece.{MemoryPiece}
 use Rattle.gpu_c.specs.declared.memory_type_values.MemoryBlock.{MemoryBlock}
 
--- what no step of a memory type changes
+-- what no step of a memory type changes, and what holds after each
 pub record Stays (t t' : TypeState ℕ) : Type 0 where
   pub kind : (t'.is_host ≡ t.is_host) × (t'.granularity ≡ t.granularity)
   pub budget : t'.budget ≡ t.budget
+  pub sound : AreSound t'.granularity t'.slots
+  pub empty : KeepsOneEmptyAtMost t'.slots
 
 -- then the state changes in its slots and in what is awaited alone
 pub changed : (t t' : TypeState ℕ) (sizes : Sizes) (a a' b : Option NeedBlock) → Stays t t' → a' ≡ b → state_of t' sizes a' ≡ record (state_of t sizes a) { slots = t'.slots; awaited = b }
@@ -38,28 +41,28 @@ live_told t sizes a p h = (p.number.ok, slot_has p (slot_at t.slots p.slot) h)
 -- ---- install, free, rename
 
 pub installs_awaited : (old : AwaitingState) (t t' : TypeState ℕ) (sizes : Sizes) (a a' : Option NeedBlock) (need : NeedBlock) (number : ℕ) (p : Piece ℕ) (answer : MemoryPiece)
-    → state_of t sizes a ≡ old → a ≡ Some need → a' ≡ None → answer ≡ told_piece p → Installs t.slots need.dedicated need.room number p t'.slots → Stays t t'
+    → state_of t sizes a ≡ old → a ≡ Some need → a' ≡ None → answer ≡ told_piece p → Installs t.slots need.dedicated need.room number p t'.slots → capacity_of t'.slots ≡ capacity_of t.slots + need.size → Stays t t'
     → InstallsAwaited old number answer (state_of t' sizes a')
-installs_awaited old t t' sizes a a' need number p answer view awaited done told installs stays =
+installs_awaited old t t' sizes a a' need number p answer view awaited done told installs capacity stays =
     subst (λ (s : AwaitingState). InstallsAwaited s number answer (state_of t' sizes a')) view
     (subst (λ (b : Option NeedBlock). InstallsBy b (state_of t sizes a) number answer (state_of t' sizes a')) (sym awaited)
-    (record { piece = p; told = told; installs = installs; same = changed t t' sizes a a' None stays done }))
+    (record { piece = p; told = told; installs = installs; capacity = capacity; formed = record { sound = stays.sound; empty = stays.empty }; same = changed t t' sizes a a' None stays done }))
 
 pub frees_piece : (old : AwaitingState) (t t' : TypeState ℕ) (sizes : Sizes) (a : Option NeedBlock) (p : Piece ℕ) (cp : MemoryPiece) (went : Option ℕ) (gone : MemoryBlock)
-    → state_of t sizes a ≡ old → a ≡ None → told_piece p ≡ cp → IsLive nat_eq t.slots p → ReleasesPiece (IsTrue (has_several t.slots)) t.slots p went t'.slots → gone ≡ told_block went → Stays t t'
+    → state_of t sizes a ≡ old → a ≡ None → told_piece p ≡ cp → IsLive nat_eq t.slots p → ReleasesPiece (IsTrue (has_several t.slots)) t.slots p went t'.slots → gone ≡ told_block went → capacity_of t'.slots ≤ capacity_of t.slots → Stays t t'
     → FreesPiece old cp gone (state_of t' sizes a)
-frees_piece old t t' sizes a p cp went gone view idle told live releases tells stays =
+frees_piece old t t' sizes a p cp went gone view idle told live releases tells capacity stays =
     subst (λ (s : AwaitingState). FreesPiece s cp gone (state_of t' sizes a)) view
     (subst (λ (q : MemoryPiece). FreesPiece (state_of t sizes a) q gone (state_of t' sizes a)) told
-    (record { idle = idle; live = live_told t sizes a p live; piece = p; told = refl; went = went; releases = releases; told_gone = tells; same = changed t t' sizes a a a stays refl }))
+    (record { idle = idle; live = live_told t sizes a p live; piece = p; told = refl; went = went; releases = releases; told_gone = tells; capacity = capacity; formed = record { sound = stays.sound; empty = stays.empty }; same = changed t t' sizes a a a stays refl }))
 
 pub names_memory : (old : AwaitingState) (t t' : TypeState ℕ) (sizes : Sizes) (a : Option NeedBlock) (p : Piece ℕ) (cp : MemoryPiece) (name : List ℕ)
-    → state_of t sizes a ≡ old → a ≡ None → told_piece p ≡ cp → IsLive nat_eq t.slots p → RenamesPiece t.slots p name t'.slots → Stays t t'
+    → state_of t sizes a ≡ old → a ≡ None → told_piece p ≡ cp → IsLive nat_eq t.slots p → RenamesPiece t.slots p name t'.slots → capacity_of t'.slots ≡ capacity_of t.slots → Stays t t'
     → NamesMemory old cp name (state_of t' sizes a)
-names_memory old t t' sizes a p cp name view idle told live renames stays =
+names_memory old t t' sizes a p cp name view idle told live renames capacity stays =
     subst (λ (s : AwaitingState). NamesMemory s cp name (state_of t' sizes a)) view
     (subst (λ (q : MemoryPiece). NamesMemory (state_of t sizes a) q name (state_of t' sizes a)) told
-    (record { idle = idle; live = live_told t sizes a p live; piece = p; told = refl; renames = renames; same = changed t t' sizes a a a stays refl }))
+    (record { idle = idle; live = live_told t sizes a p live; piece = p; told = refl; renames = renames; capacity = capacity; formed = record { sound = stays.sound; empty = stays.empty }; same = changed t t' sizes a a a stays refl }))
 
 -- ---- prepare
 
@@ -72,11 +75,11 @@ pub is_idle : (old : AwaitingState) (t : TypeState ℕ) (sizes : Sizes) (a : Opt
 is_idle old t sizes a view idle = ap (λ (s : AwaitingState). s.awaited) (sym view) ∙ idle
 
 pub takes_piece : (old : AwaitingState) (t t' : TypeState ℕ) (sizes : Sizes) (a : Option NeedBlock) (r : MemoryRequest) (name : List ℕ) (s : Request) (p : Piece ℕ) (answer : MemoryPiece)
-    → state_of t sizes a ≡ old → s ≡ asked_of_type r name → answer ≡ told_piece p → has_own_block t sizes r.dedicated r.size ≡ false → PreparesPiece t.slots s p t'.slots → Stays t t'
+    → state_of t sizes a ≡ old → s ≡ asked_of_type r name → answer ≡ told_piece p → has_own_block t sizes r.dedicated r.size ≡ false → PreparesPiece t.slots s p t'.slots → capacity_of t'.slots ≡ capacity_of t.slots → Stays t t'
     → TakesPiece old r name answer (state_of t' sizes a)
-takes_piece old t t' sizes a r name s p answer view same told shared takes stays =
+takes_piece old t t' sizes a r name s p answer view same told shared takes capacity stays =
     subst (λ (z : AwaitingState). TakesPiece z r name answer (state_of t' sizes a)) view
-    (record { piece = p; told = told; shared = shared; takes = subst (λ (q : Request). PreparesPiece t.slots q p t'.slots) same takes; same = changed t t' sizes a a a stays refl })
+    (record { piece = p; told = told; shared = shared; takes = subst (λ (q : Request). PreparesPiece t.slots q p t'.slots) same takes; capacity = capacity; formed = record { sound = stays.sound; empty = stays.empty }; same = changed t t' sizes a a a stays refl })
 
 pub needs_block : (t : TypeState ℕ) (sizes : Sizes) (a : Option NeedBlock) (r : MemoryRequest) (s : Request) (need : NeedBlock)
     → NeedsBlock t sizes r.dedicated s need.size need.dedicated need.room → NeedsBlock (type_of (state_of t sizes a)) sizes r.dedicated s need.size need.dedicated need.room

@@ -4,8 +4,10 @@ use Rattle.std.specs.Option.{is_some, unwrap_or}
 use Rattle.std.specs.Int.NonZero.{non_zero_u64_get}
 use Rattle.gpu_values.specs.Sizes.{Sizes, only_size, with_largest}
 use Rattle.gpu_block.specs.Block.{HoldsPiece}
+use Rattle.gpu_block.specs.declared.pieces.BlockStatistics.{BlockStatistics}
 use Rattle.gpu_block.specs.Request.{Request, request}
-use Rattle.gpu_core.specs.TypeState.{Slot, TypeState, slot_at, capacity_of, shared_count, fits_budget}
+use Rattle.gpu_core.specs.TypeState.{Slot, TypeState, slot_at, capacity_of, shared_count, fits_budget, KeepsOneEmptyAtMost}
+use Rattle.gpu_core.specs.Slots.{AreSound}
 use Rattle.gpu_core.specs.TypeTake.{has_own_block, next_shared_size, NoneServes, PreparesPiece, NeedsBlock, Installs}
 use Rattle.gpu_core.specs.TypePrepare.{CanInstall}
 use Rattle.gpu_core.specs.TypeRelease.{has_several, ReleasesPiece, RenamesPiece}
@@ -18,6 +20,7 @@ use Rattle.gpu_c.specs.declared.memory_type_values.MemoryPiece.{MemoryPiece}
 use Rattle.gpu_c.specs.declared.memory_type_values.MemoryPrepared.{MemoryPrepared}
 use Rattle.gpu_c.specs.declared.memory_type_values.MemoryBlock.{MemoryBlock}
 use Rattle.gpu_c.specs.declared.memory_type_values.MemoryStatistics.{MemoryStatistics}
+use Rattle.gpu_c.specs.declared.memory_type_values.MemoryBlockStatistics.{MemoryBlockStatistics}
 
 -- what lies behind a handle of a memory type; blocks are numbered by the driver's handles
 pub record AwaitingState : Type 0 where
@@ -70,6 +73,11 @@ SlotHasPiece p (Some s) = (s.number ≡ p.block) × HoldsPiece s.block p.number 
 abbrev pub IsLiveIn : AwaitingState → MemoryPiece → Type 0
 IsLiveIn s p = (0 < p.number) × SlotHasPiece p (slot_at s.slots p.slot)
 
+-- each block is sound and has the type's pages, pieces of different kinds share none, and at most one block is without pieces
+pub record AreWellFormed (s : AwaitingState) : Type 0 where
+  pub sound : AreSound s.granularity s.slots
+  pub empty : KeepsOneEmptyAtMost s.slots
+
 -- ---- prepare
 
 abbrev pub asked_of_type : MemoryRequest → List ℕ → Request
@@ -85,6 +93,8 @@ pub record TakesPiece (old : AwaitingState) (r : MemoryRequest) (name : List ℕ
   pub told : answer ≡ told_piece piece
   pub shared : wants_own old r ≡ false
   pub takes : PreparesPiece old.slots (asked_of_type r name) piece new.slots
+  pub capacity : capacity_of new.slots ≡ capacity_of old.slots
+  pub formed : AreWellFormed new
   pub same : new ≡ record old { slots = new.slots }
 
 -- a new block of that size is needed: the request has its own, or no shared block has a place
@@ -140,6 +150,8 @@ pub record InstallsNeeded (old : AwaitingState) (need : NeedBlock) (number : ℕ
   pub piece : Piece ℕ
   pub told : answer ≡ told_piece piece
   pub installs : Installs old.slots need.dedicated need.room number piece new.slots
+  pub capacity : capacity_of new.slots ≡ capacity_of old.slots + need.size
+  pub formed : AreWellFormed new
   pub same : new ≡ record old { slots = new.slots; awaited = None }
 
 abbrev pub InstallsBy : Option NeedBlock → AwaitingState → ℕ → MemoryPiece → AwaitingState → Type 0
@@ -168,6 +180,8 @@ pub record FreesPiece (old : AwaitingState) (p : MemoryPiece) (gone : MemoryBloc
   pub went : Option ℕ
   pub releases : ReleasesPiece (IsTrue (has_several old.slots)) old.slots piece went new.slots
   pub told_gone : gone ≡ told_block went
+  pub capacity : capacity_of new.slots ≤ capacity_of old.slots
+  pub formed : AreWellFormed new
   pub same : new ≡ record old { slots = new.slots }
 
 -- the piece has that name
@@ -177,6 +191,8 @@ pub record NamesMemory (old : AwaitingState) (p : MemoryPiece) (name : List ℕ)
   pub piece : Piece ℕ
   pub told : told_piece piece ≡ p
   pub renames : RenamesPiece old.slots piece name new.slots
+  pub capacity : capacity_of new.slots ≡ capacity_of old.slots
+  pub formed : AreWellFormed new
   pub same : new ≡ record old { slots = new.slots }
 
 -- ---- readings
@@ -190,3 +206,8 @@ statistics_of s = record {
   budget = unwrap_or s.budget 0;
   awaits_block = is_some s.awaited;
 }
+
+-- what is counted of a block, or none
+abbrev pub told_counts : Option BlockStatistics → MemoryBlockStatistics
+told_counts None = record { exists = false; pieces = 0; piece_bytes = 0; gaps = 0; longest_gap = 0 }
+told_counts (Some b) = record { exists = true; pieces = b.pieces; piece_bytes = b.piece_bytes; gaps = b.gaps; longest_gap = b.longest_gap }

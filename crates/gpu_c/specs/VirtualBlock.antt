@@ -4,10 +4,12 @@ use Rattle.std.specs.Int.{is_power_of_two}
 use Rattle.gpu_block.specs.FreeList.{Extent, fresh_free_list}
 use Rattle.gpu_block.specs.Dedicated.{empty_dedicated}
 use Rattle.gpu_block.specs.Block.{Block, free_list, dedicated, extents_of, size_of, is_general, HasPages, TakesIn, ReleasesIn, RenamesIn, IsSoundBlock, IsOrderedBlock, HasPagesApart, IsCoveredBlock}
+use Rattle.gpu_block.specs.Statistics.{statistics_of}
 use Rattle.gpu_block.specs.Request.{Request, request}
 use Rattle.gpu_c.specs.Request.{IsServed, kind_named}
 use Rattle.gpu_c.specs.declared.virtual_block_values.VirtualRequest.{VirtualRequest}
 use Rattle.gpu_c.specs.declared.virtual_block_values.VirtualPiece.{VirtualPiece}
+use Rattle.gpu_c.specs.declared.virtual_block_values.VirtualStatistics.{VirtualStatistics}
 
 -- a block that is cut into pieces, with pages of that size
 pub record IsCut (b : Block) (granularity : ℕ) : Type 0 where
@@ -63,3 +65,13 @@ pub record NamesPiece (old : Block) (piece : VirtualPiece) (name : List ℕ) (ne
 abbrev pub cleared : Block → Block
 cleared (free_list b) = fresh_virtual_block b.size b.granularity
 cleared (dedicated b) = dedicated (empty_dedicated b.size)
+
+-- what is counted of the block
+abbrev pub counts_of : Block → VirtualStatistics
+counts_of b = record {
+  size = size_of b;
+  pieces = (statistics_of b).pieces;
+  piece_bytes = (statistics_of b).piece_bytes;
+  gaps = (statistics_of b).gaps;
+  longest_gap = (statistics_of b).longest_gap;
+}

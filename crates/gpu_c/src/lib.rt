@@ -12,3 +12,4 @@ mod virtual_block;
 mod virtual_block_calls;
 mod virtual_block_handle;
 mod virtual_block_values;
+mod visit;

@@ -3,19 +3,24 @@
 ghost use Rattle.std.specs.Prelude.{◌≡◌, ◌≢◌, ◌<◌, ◌≤◌, ◌+◌, ◌^◌, ◌↔◌, [], ◌∷◌, Some, None, true, false, IsSome, IsTrue, IsUtf8, MatchOption};
 ghost use Rattle.std.specs.Int.{is_power_of_two};
 ghost use Rattle.gpu_core.specs.TypeState.{slot_at, capacity_of, block_number, fits_budget};
+ghost use Rattle.gpu_core.specs.TypeReport.{pieces_in, statistics_in};
 ghost use Rattle.gpu_c.specs.Request.{IsServed};
 ghost use Rattle.gpu_c.specs.Status.{IsOneOf};
-ghost use Rattle.gpu_c.specs.MemoryType.{AwaitingState, fresh_memory_type, told_piece, told_block, number_if, IsLiveIn, Prepares, IsIdleAndServed, IsTooLarge, IsPastBudget, InstallsAwaited, Abandons, FreesPiece, NamesMemory, statistics_of, sizes_told};
+ghost use Rattle.gpu_c.specs.MemoryType.{AwaitingState, fresh_memory_type, told_piece, told_block, number_if, IsLiveIn, Prepares, IsIdleAndServed, IsTooLarge, IsPastBudget, InstallsAwaited, Abandons, FreesPiece, NamesMemory, statistics_of, sizes_told, told_counts};
+ghost use Rattle.gpu_c.specs.Visit.{told_view, piece_in_from};
 ghost use Rattle.gpu_c.specs.declared.status.TheConstants.{OK, OUT_OF_MEMORY, INVALID, NOT_LIVE, HOST_OUT_OF_MEMORY, BUDGET_EXCEEDED, AWAITS_BLOCK, AWAITS_NO_BLOCK};
 
 use crate::memory_type_values::{
-    MemoryBlock, MemoryPiece, MemoryPrepared, MemoryRequest, MemoryStatistics, MemoryTypeSettings,
+    MemoryBlock, MemoryBlockStatistics, MemoryPiece, MemoryPrepared, MemoryRequest,
+    MemoryStatistics, MemoryTypeSettings,
 };
 use crate::request::served;
 use crate::status::{
     AWAITS_BLOCK, AWAITS_NO_BLOCK, BUDGET_EXCEEDED, HOST_OUT_OF_MEMORY, INVALID, NOT_LIVE, OK,
     OUT_OF_MEMORY,
 };
+use crate::virtual_block_values::PieceView;
+use crate::visit::{first_from, no_piece};
 use gpu_core::{AllocationSizes, MemoryType, NeedBlock, Piece, Prepared, Request};
 use std::alloc::Global;
 use std::marker::Model;
@@ -297,6 +302,38 @@ impl AwaitingType {
         ensures { result ≡ told_block (block_number (slot_at self.now.slots slot)) }
     {
         told_block(self.types.block(slot))
+    }
+
+    /// What is counted of the block in a slot.
+    pub fn block_statistics(&self, slot: usize) -> MemoryBlockStatistics
+        ensures { result ≡ told_counts (statistics_in (slot_at self.now.slots slot)) }
+    {
+        match self.types.statistics(slot) {
+            None => MemoryBlockStatistics {
+                exists: false,
+                pieces: 0,
+                piece_bytes: 0,
+                gaps: 0,
+                longest_gap: 0,
+            },
+            Some(counted) => MemoryBlockStatistics {
+                exists: true,
+                pieces: counted.pieces,
+                piece_bytes: counted.piece_bytes,
+                gaps: counted.gaps,
+                longest_gap: counted.longest_gap,
+            },
+        }
+    }
+
+    /// The first piece of the block in a slot whose own bytes begin at `from` or behind it.
+    pub fn next_piece(&self, slot: usize, from: u64) -> PieceView
+        ensures { result ≡ told_view (piece_in_from from (pieces_in (slot_at self.now.slots slot))) }
+    {
+        match self.types.pieces(slot) {
+            None => no_piece(),
+            Some(pieces) => first_from(pieces, from),
+        }
     }
 
     /// What is counted of the memory type.

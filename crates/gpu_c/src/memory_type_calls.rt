@@ -5,18 +5,22 @@
 ghost use Rattle.std.specs.Prelude.{◌≡◌, ◌≢◌, ◌↔◌, [], ◌∷◌, Some, None, IsSome, IsSomeAnd, IsTrue, IsUtf8};
 ghost use Rattle.std.specs.Int.{is_power_of_two};
 ghost use Rattle.gpu_core.specs.TypeState.{slot_at, block_number};
+ghost use Rattle.gpu_core.specs.TypeReport.{pieces_in, statistics_in};
 ghost use Rattle.gpu_c.specs.Handle.{Changes};
 ghost use Rattle.gpu_c.specs.Request.{IsServed};
 ghost use Rattle.gpu_c.specs.Status.{IsOneOf};
-ghost use Rattle.gpu_c.specs.MemoryType.{fresh_memory_type, told_block, number_if, IsLiveIn, Prepares, IsIdleAndServed, IsTooLarge, IsPastBudget, InstallsAwaited, Abandons, FreesPiece, NamesMemory, statistics_of};
+ghost use Rattle.gpu_c.specs.MemoryType.{fresh_memory_type, told_block, number_if, IsLiveIn, Prepares, IsIdleAndServed, IsTooLarge, IsPastBudget, InstallsAwaited, Abandons, FreesPiece, NamesMemory, statistics_of, told_counts};
+ghost use Rattle.gpu_c.specs.Visit.{told_view, piece_in_from};
 ghost use Rattle.gpu_c.specs.declared.status.TheConstants.{OK, OUT_OF_MEMORY, INVALID, NOT_LIVE, HOST_OUT_OF_MEMORY, BUDGET_EXCEEDED, NO_HANDLE, IN_USE, AWAITS_BLOCK, AWAITS_NO_BLOCK};
 
 use crate::memory_type::AwaitingType;
 use crate::memory_type_handle::MemoryTypeHandle;
 use crate::memory_type_values::{
-    MemoryBlock, MemoryPiece, MemoryPrepared, MemoryRequest, MemoryStatistics, MemoryTypeSettings,
+    MemoryBlock, MemoryBlockStatistics, MemoryPiece, MemoryPrepared, MemoryRequest,
+    MemoryStatistics, MemoryTypeSettings,
 };
 use crate::status::{HOST_OUT_OF_MEMORY, IN_USE, INVALID, NO_HANDLE, OK};
+use crate::virtual_block_values::PieceView;
 use std::alloc::Global;
 
 /// Makes a memory type without blocks in an empty handle. `IN_USE` where the handle isn't empty, else `INVALID` where the page size is
@@ -258,6 +262,57 @@ pub extern "C" fn pilhangko_raw_memory_type_block(
         None => NO_HANDLE,
         Some(kept) => {
             *block = kept.block(slot);
+            types.put(kept);
+            OK
+        }
+    }
+}
+
+/// Pieces and their bytes, gaps and the longest one of the block in a slot.
+#[unsafe(no_mangle)]
+pub extern "C" fn pilhangko_raw_memory_type_block_statistics(
+    types: &mut MemoryTypeHandle,
+    alloc: Global,
+    slot: usize,
+    statistics: &mut MemoryBlockStatistics,
+) -> u32
+    ensures told { result ≡ OK → IsSomeAnd types.old.value (λ t. statistics.new ≡ told_counts (statistics_in (slot_at t.slots slot))) }
+    ensures no_handle { (result ≡ NO_HANDLE) ↔ (types.old.value ≡ None) }
+    ensures statuses { IsOneOf result (OK ∷ NO_HANDLE ∷ []) }
+    ensures same { types.new.value ≡ types.old.value }
+    ensures refused { result ≢ OK → statistics.new ≡ statistics.old }
+{
+    match types.take(alloc) {
+        None => NO_HANDLE,
+        Some(kept) => {
+            *statistics = kept.block_statistics(slot);
+            types.put(kept);
+            OK
+        }
+    }
+}
+
+/// The first live piece of the block in a slot whose own bytes begin at `from` or behind it, for a visit of all pieces in order of
+/// offset.
+#[unsafe(no_mangle)]
+pub extern "C" fn pilhangko_raw_memory_type_next_piece(
+    types: &mut MemoryTypeHandle,
+    alloc: Global,
+    slot: usize,
+    from: u64,
+    piece: &mut PieceView,
+) -> u32
+    ensures told { result ≡ OK → IsSomeAnd types.old.value
+        (λ t. piece.new ≡ told_view (piece_in_from from (pieces_in (slot_at t.slots slot)))) }
+    ensures no_handle { (result ≡ NO_HANDLE) ↔ (types.old.value ≡ None) }
+    ensures statuses { IsOneOf result (OK ∷ NO_HANDLE ∷ []) }
+    ensures same { types.new.value ≡ types.old.value }
+    ensures refused { result ≢ OK → piece.new ≡ piece.old }
+{
+    match types.take(alloc) {
+        None => NO_HANDLE,
+        Some(kept) => {
+            *piece = kept.next_piece(slot, from);
             types.put(kept);
             OK
         }

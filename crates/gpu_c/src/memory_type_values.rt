@@ -94,3 +94,19 @@ pub struct MemoryStatistics {
     /// Whether a block is awaited.
     pub awaits_block: bool,
 }
+
+/// What is counted of the block in a slot, or none.
+#[repr(C)]
+#[derive(Drop)]
+pub struct MemoryBlockStatistics {
+    /// Whether there is a block; else all is 0.
+    pub exists: bool,
+    /// How many of its pieces are live.
+    pub pieces: usize,
+    /// The bytes that they take, with the padding before them.
+    pub piece_bytes: u64,
+    /// How many gaps it has.
+    pub gaps: usize,
+    /// The bytes of its longest gap, 0 where there is none.
+    pub longest_gap: u64,
+}

@@ -1,17 +1,19 @@
 //! What lies behind a handle of a virtual block: numbers alone, with no memory of a device.
 
-ghost use Rattle.std.specs.Prelude.{◌≡◌, ◌≢◌, ◌<◌, ◌↔◌, MatchOption, [], ◌∷◌, IfOk, IfErr, IsTrue, IsUtf8, length, min, ◌^◌, ◌-◌};
+ghost use Rattle.std.specs.Prelude.{◌≡◌, ◌≢◌, ◌<◌, ◌↔◌, MatchOption, [], ◌∷◌, IfOk, IfErr, IsTrue, IsUtf8};
 ghost use Rattle.std.specs.Int.NonZero.{non_zero_u64_get};
 ghost use Rattle.gpu_values.specs.declared.error.AllocationError.TheVariants.{OutOfMemory, HostOutOfMemory};
 ghost use Rattle.gpu_block.specs.Block.{extents_of, IsTakeRefusalIn};
 ghost use Rattle.gpu_c.specs.Request.{IsServed};
 ghost use Rattle.gpu_c.specs.Status.{IsOneOf};
-ghost use Rattle.gpu_c.specs.VirtualBlock.{CanCreate, fresh_virtual_block, asked, IsLivePiece, Allocates, Frees, NamesPiece, cleared};
+ghost use Rattle.gpu_c.specs.VirtualBlock.{CanCreate, fresh_virtual_block, asked, IsLivePiece, Allocates, Frees, NamesPiece, cleared, counts_of};
+ghost use Rattle.gpu_c.specs.Visit.{told_view, piece_from};
 ghost use Rattle.gpu_c.specs.declared.status.TheConstants.{OK, OUT_OF_MEMORY, INVALID, NOT_LIVE, HOST_OUT_OF_MEMORY};
 
 use crate::request::served;
 use crate::status::{HOST_OUT_OF_MEMORY, INVALID, NOT_LIVE, OK, status_of};
-use crate::virtual_block_values::{VirtualPiece, VirtualRequest};
+use crate::virtual_block_values::{PieceView, VirtualPiece, VirtualRequest, VirtualStatistics};
+use crate::visit::first_from;
 use gpu_block::{FreeListAllocator, SubAllocator};
 use gpu_values::Result;
 use std::alloc::Global;
@@ -153,14 +155,24 @@ impl VirtualBlock {
         }
     }
 
-    /// How many pieces are live.
-    pub fn count(&self) -> u64
-        ensures { result ≡ min (length (extents_of self.now)) (2 ^ 64 - 1) }
+    /// What is counted of the block.
+    pub fn statistics(&self) -> VirtualStatistics
+        ensures { result ≡ counts_of self.now }
     {
-        let mut count: u64 = 0;
-        for _leak in self.sub.leaks(0, 0) {
-            count = count.saturating_add(1);
+        let counted = self.sub.statistics();
+        VirtualStatistics {
+            size: self.sub.size(),
+            pieces: counted.pieces,
+            piece_bytes: counted.piece_bytes,
+            gaps: counted.gaps,
+            longest_gap: counted.longest_gap,
         }
-        count
+    }
+
+    /// The first piece whose own bytes begin at `from` or behind it.
+    pub fn next_piece(&self, from: u64) -> PieceView
+        ensures { result ≡ told_view (piece_from from (extents_of self.now)) }
+    {
+        first_from(self.sub.pieces(), from)
     }
 }

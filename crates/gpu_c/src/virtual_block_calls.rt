@@ -1,19 +1,20 @@
 //! Virtual blocks for C. A handle begins zeroed; create fills it and destroy leaves it zeroed. Each call on an empty handle answers
 //! `NO_HANDLE`, and any status but `OK` leaves everything as it was.
 
-ghost use Rattle.std.specs.Prelude.{◌≡◌, ◌≢◌, ◌<◌, ◌-◌, ◌^◌, ◌↔◌, [], ◌∷◌, Some, None, IsSomeAnd, IsUtf8, length, min};
+ghost use Rattle.std.specs.Prelude.{◌≡◌, ◌≢◌, ◌↔◌, [], ◌∷◌, Some, None, IsSomeAnd, IsUtf8};
 ghost use Rattle.gpu_values.specs.declared.error.AllocationError.TheVariants.{OutOfMemory, HostOutOfMemory};
 ghost use Rattle.gpu_block.specs.Block.{extents_of, IsTakeRefusalIn};
 ghost use Rattle.gpu_c.specs.Handle.{Changes};
 ghost use Rattle.gpu_c.specs.Request.{IsServed};
 ghost use Rattle.gpu_c.specs.Status.{IsOneOf};
-ghost use Rattle.gpu_c.specs.VirtualBlock.{CanCreate, fresh_virtual_block, asked, IsLivePiece, Allocates, Frees, NamesPiece, cleared};
+ghost use Rattle.gpu_c.specs.VirtualBlock.{CanCreate, fresh_virtual_block, asked, IsLivePiece, Allocates, Frees, NamesPiece, cleared, counts_of};
+ghost use Rattle.gpu_c.specs.Visit.{told_view, piece_from};
 ghost use Rattle.gpu_c.specs.declared.status.TheConstants.{OK, OUT_OF_MEMORY, INVALID, NOT_LIVE, HOST_OUT_OF_MEMORY, NO_HANDLE, IN_USE};
 
 use crate::status::{HOST_OUT_OF_MEMORY, IN_USE, INVALID, NO_HANDLE, OK};
 use crate::virtual_block::VirtualBlock;
 use crate::virtual_block_handle::VirtualBlockHandle;
-use crate::virtual_block_values::{VirtualPiece, VirtualRequest};
+use crate::virtual_block_values::{PieceView, VirtualPiece, VirtualRequest, VirtualStatistics};
 use std::alloc::Global;
 
 /// A new block in an empty handle.
@@ -170,23 +171,47 @@ pub extern "C" fn pilhangko_raw_virtual_block_clear(
     }
 }
 
-/// How many pieces are live, for a look at leaks before destroy.
+/// Pieces and their bytes, gaps and the longest one; before destroy, how many pieces leak.
 #[unsafe(no_mangle)]
-pub extern "C" fn pilhangko_raw_virtual_block_leak_count(
+pub extern "C" fn pilhangko_raw_virtual_block_statistics(
     block: &mut VirtualBlockHandle,
     alloc: Global,
-    count: &mut u64,
+    statistics: &mut VirtualStatistics,
 ) -> u32
-    ensures told { result ≡ OK → IsSomeAnd block.old.value (λ b. count.new ≡ min (length (extents_of b)) (2 ^ 64 - 1)) }
+    ensures told { result ≡ OK → IsSomeAnd block.old.value (λ b. statistics.new ≡ counts_of b) }
     ensures no_handle { (result ≡ NO_HANDLE) ↔ (block.old.value ≡ None) }
     ensures statuses { IsOneOf result (OK ∷ NO_HANDLE ∷ []) }
     ensures same { block.new.value ≡ block.old.value }
-    ensures refused { result ≢ OK → count.new ≡ count.old }
+    ensures refused { result ≢ OK → statistics.new ≡ statistics.old }
 {
     match block.take(alloc) {
         None => NO_HANDLE,
         Some(kept) => {
-            *count = kept.count();
+            *statistics = kept.statistics();
+            block.put(kept);
+            OK
+        }
+    }
+}
+
+/// The first live piece whose own bytes begin at `from` or behind it, for a visit of all pieces in order of offset.
+#[unsafe(no_mangle)]
+pub extern "C" fn pilhangko_raw_virtual_block_next_piece(
+    block: &mut VirtualBlockHandle,
+    alloc: Global,
+    from: u64,
+    piece: &mut PieceView,
+) -> u32
+    ensures told { result ≡ OK → IsSomeAnd block.old.value (λ b. piece.new ≡ told_view (piece_from from (extents_of b))) }
+    ensures no_handle { (result ≡ NO_HANDLE) ↔ (block.old.value ≡ None) }
+    ensures statuses { IsOneOf result (OK ∷ NO_HANDLE ∷ []) }
+    ensures same { block.new.value ≡ block.old.value }
+    ensures refused { result ≢ OK → piece.new ≡ piece.old }
+{
+    match block.take(alloc) {
+        None => NO_HANDLE,
+        Some(kept) => {
+            *piece = kept.next_piece(from);
             block.put(kept);
             OK
         }
