@@ -114,9 +114,13 @@ pub record Awaits (old : AwaitingState) (r : MemoryRequest) (name : List ℕ) (s
   pub in_budget : fits_budget old.budget (capacity_of old.slots + size) ≡ true
   pub same : new ≡ record old { awaited = new.awaited }
 
+-- what is told where there is no piece
+abbrev pub no_memory_piece : MemoryPiece
+no_memory_piece = record { slot = 0; number = 0; offset = 0; size = 0; block = 0 }
+
 abbrev pub PreparesBy : Bool → AwaitingState → MemoryRequest → List ℕ → MemoryPrepared → AwaitingState → Type 0
-PreparesBy false old r name answer new = TakesPiece old r name answer.piece new
-PreparesBy true old r name answer new = Awaits old r name answer.block_size answer.dedicated new
+PreparesBy false old r name answer new = (answer.block_size ≡ 0) × (answer.dedicated ≡ false) × TakesPiece old r name answer.piece new
+PreparesBy true old r name answer new = (answer.piece ≡ no_memory_piece) × Awaits old r name answer.block_size answer.dedicated new
 
 -- what a request that is served comes to
 pub record Prepares (old : AwaitingState) (r : MemoryRequest) (name : List ℕ) (answer : MemoryPrepared) (new : AwaitingState) : Type 0 where

@@ -6,7 +6,7 @@ ghost use Rattle.gpu_core.specs.TypeState.{slot_at, capacity_of, block_number, f
 ghost use Rattle.gpu_core.specs.TypeReport.{pieces_in, statistics_in};
 ghost use Rattle.gpu_c.specs.Request.{IsServed};
 ghost use Rattle.gpu_c.specs.Status.{IsOneOf};
-ghost use Rattle.gpu_c.specs.MemoryType.{AwaitingState, fresh_memory_type, told_piece, told_block, number_if, IsLiveIn, Prepares, IsIdleAndServed, IsTooLarge, IsPastBudget, InstallsAwaited, Abandons, FreesPiece, NamesMemory, statistics_of, sizes_told, told_counts};
+ghost use Rattle.gpu_c.specs.MemoryType.{AwaitingState, fresh_memory_type, told_piece, no_memory_piece, told_block, number_if, IsLiveIn, Prepares, IsIdleAndServed, IsTooLarge, IsPastBudget, InstallsAwaited, Abandons, FreesPiece, NamesMemory, statistics_of, sizes_told, told_counts};
 ghost use Rattle.gpu_c.specs.Visit.{told_view, piece_in_from};
 ghost use Rattle.gpu_c.specs.declared.status.TheConstants.{OK, OUT_OF_MEMORY, INVALID, NOT_LIVE, HOST_OUT_OF_MEMORY, BUDGET_EXCEEDED, AWAITS_BLOCK, AWAITS_NO_BLOCK};
 
@@ -361,7 +361,7 @@ fn await_block(awaited: &mut Option<NeedBlock>, need: NeedBlock)
 
 /// A request that needs a block.
 fn needed(need: &NeedBlock) -> MemoryPrepared
-    ensures asks { result.needs_block ≡ true }
+    ensures asks { (result.needs_block ≡ true) × (result.piece ≡ no_memory_piece) }
     ensures size { (result.block_size ≡ need.now.size) × (result.dedicated ≡ need.now.dedicated) }
 {
     MemoryPrepared {

@@ -3,10 +3,10 @@
 ghost use Rattle.std.specs.Prelude.{◌≡◌, ◌≢◌, ◌<◌, ◌↔◌, MatchOption, [], ◌∷◌, IfOk, IfErr, IsTrue, IsUtf8};
 ghost use Rattle.std.specs.Int.NonZero.{non_zero_u64_get};
 ghost use Rattle.gpu_values.specs.declared.error.AllocationError.TheVariants.{OutOfMemory, HostOutOfMemory};
-ghost use Rattle.gpu_block.specs.Block.{extents_of, IsTakeRefusalIn};
+ghost use Rattle.gpu_block.specs.Block.{extents_of};
 ghost use Rattle.gpu_c.specs.Request.{IsServed};
 ghost use Rattle.gpu_c.specs.Status.{IsOneOf};
-ghost use Rattle.gpu_c.specs.VirtualBlock.{CanCreate, fresh_virtual_block, asked, IsLivePiece, Allocates, Frees, NamesPiece, cleared, counts_of};
+ghost use Rattle.gpu_c.specs.VirtualBlock.{CanCreate, fresh_virtual_block, IsLivePiece, IsRefusedFor, Allocates, Frees, NamesPiece, cleared, counts_of};
 ghost use Rattle.gpu_c.specs.Visit.{told_view, piece_from};
 ghost use Rattle.gpu_c.specs.declared.status.TheConstants.{OK, OUT_OF_MEMORY, INVALID, NOT_LIVE, HOST_OUT_OF_MEMORY};
 
@@ -64,8 +64,8 @@ impl VirtualBlock {
     ) -> u32
         ensures took { result ≡ OK → Allocates self.old wanted.now name.now piece.new self.new }
         ensures invalid { (result ≡ INVALID) ↔ (IsServed wanted.now.size wanted.now.alignment wanted.now.kind name.now → ⊥) }
-        ensures out_of_memory { result ≡ OUT_OF_MEMORY → IsTakeRefusalIn self.old (asked wanted.now name.now) OutOfMemory }
-        ensures host_out_of_memory { result ≡ HOST_OUT_OF_MEMORY → IsTakeRefusalIn self.old (asked wanted.now name.now) HostOutOfMemory }
+        ensures out_of_memory { result ≡ OUT_OF_MEMORY → IsRefusedFor self.old wanted.now name.now OutOfMemory }
+        ensures host_out_of_memory { result ≡ HOST_OUT_OF_MEMORY → IsRefusedFor self.old wanted.now name.now HostOutOfMemory }
         ensures statuses { IsOneOf result (OK ∷ INVALID ∷ OUT_OF_MEMORY ∷ HOST_OUT_OF_MEMORY ∷ []) }
         ensures refused { result ≢ OK → (self.new ≡ self.old) × (piece.new ≡ piece.old) }
     {

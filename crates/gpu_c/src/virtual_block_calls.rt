@@ -3,11 +3,11 @@
 
 ghost use Rattle.std.specs.Prelude.{◌≡◌, ◌≢◌, ◌↔◌, [], ◌∷◌, Some, None, IsSomeAnd, IsUtf8};
 ghost use Rattle.gpu_values.specs.declared.error.AllocationError.TheVariants.{OutOfMemory, HostOutOfMemory};
-ghost use Rattle.gpu_block.specs.Block.{extents_of, IsTakeRefusalIn};
+ghost use Rattle.gpu_block.specs.Block.{extents_of};
 ghost use Rattle.gpu_c.specs.Handle.{Changes};
 ghost use Rattle.gpu_c.specs.Request.{IsServed};
 ghost use Rattle.gpu_c.specs.Status.{IsOneOf};
-ghost use Rattle.gpu_c.specs.VirtualBlock.{CanCreate, fresh_virtual_block, asked, IsLivePiece, Allocates, Frees, NamesPiece, cleared, counts_of};
+ghost use Rattle.gpu_c.specs.VirtualBlock.{CanCreate, fresh_virtual_block, IsLivePiece, IsRefusedFor, Allocates, Frees, NamesPiece, cleared, counts_of};
 ghost use Rattle.gpu_c.specs.Visit.{told_view, piece_from};
 ghost use Rattle.gpu_c.specs.declared.status.TheConstants.{OK, OUT_OF_MEMORY, INVALID, NOT_LIVE, HOST_OUT_OF_MEMORY, NO_HANDLE, IN_USE};
 
@@ -83,9 +83,9 @@ pub extern "C" fn pilhangko_raw_virtual_block_allocate(
     ensures invalid { (result ≡ INVALID) ↔ IsSomeAnd block.old.value
         (λ _. IsServed request.now.size request.now.alignment request.now.kind name.now → ⊥) }
     ensures out_of_memory { result ≡ OUT_OF_MEMORY → IsSomeAnd block.old.value
-        (λ b. IsTakeRefusalIn b (asked request.now name.now) OutOfMemory) }
+        (λ b. IsRefusedFor b request.now name.now OutOfMemory) }
     ensures host_out_of_memory { result ≡ HOST_OUT_OF_MEMORY → IsSomeAnd block.old.value
-        (λ b. IsTakeRefusalIn b (asked request.now name.now) HostOutOfMemory) }
+        (λ b. IsRefusedFor b request.now name.now HostOutOfMemory) }
     ensures statuses { IsOneOf result (OK ∷ NO_HANDLE ∷ INVALID ∷ OUT_OF_MEMORY ∷ HOST_OUT_OF_MEMORY ∷ []) }
     ensures refused { result ≢ OK → (block.new.value ≡ block.old.value) × (piece.new ≡ piece.old) }
 {

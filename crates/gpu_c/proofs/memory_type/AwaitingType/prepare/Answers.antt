@@ -1,4 +1,4 @@
-use Rattle.std.proofs.Common.{subst, sym, Bool, ℕ}
+use Rattle.std.proofs.Common.{refl, subst, sym, Bool, ℕ}
 use Rattle.gpu_core.specs.TypePrepare.{IsPrepared}
 use Rattle.gpu_core.specs.declared.memory_type.Request.{Request}
 use Rattle.gpu_core.specs.declared.memory_type.Prepared.{Prepared}
@@ -14,9 +14,9 @@ returns-in-Ok-Taken-clause-done c _ =
     record {
       idle = is_idle c.args.self.now c.self.inside.types c.self.inside.sizes c.self.inside.awaited c.self.view_is c.in-None.is;
       served = c.in-Some-served.ensures.served;
-      prepares = takes_piece c.args.self.now c.self.inside.types c.prepare.new.self c.self.inside.sizes c.self.inside.awaited c.args.request.now c.args.name.now _ c.in-Ok-Taken.piece c.told.result
+      prepares = (refl, refl, takes_piece c.args.self.now c.self.inside.types c.prepare.new.self c.self.inside.sizes c.self.inside.awaited c.args.request.now c.args.name.now _ c.in-Ok-Taken.piece c.told.result
           c.self.view_is (same_request c.args.request.now c.args.name.now _ _ c.in-Some-served.ensures.kind.0 c.in-Some-served.ensures.name) c.told.ensures h.0 h.1
-          c.in-Ok-Taken.ensures.capacity (record { kind = c.in-Ok-Taken.ensures.kind; budget = c.in-Ok-Taken.ensures.budget; sound = c.in-Ok-Taken.ensures.sound; empty = c.in-Ok-Taken.ensures.empty });
+          c.in-Ok-Taken.ensures.capacity (record { kind = c.in-Ok-Taken.ensures.kind; budget = c.in-Ok-Taken.ensures.budget; sound = c.in-Ok-Taken.ensures.sound; empty = c.in-Ok-Taken.ensures.empty }));
     }
 
 pub returns-then-status-eq-OK-clause-done : goal.returns-then-status-eq-OK-clause-done
@@ -26,8 +26,8 @@ returns-then-status-eq-OK-clause-done c ok =
     record {
       idle = is_idle c.args.self.now c.self.inside.types c.self.inside.sizes c.self.inside.awaited c.self.view_is c.in-None.is;
       served = c.in-Some-served.ensures.served;
-      prepares = subst (λ (b : Bool). PreparesBy b c.args.self.now c.args.request.now c.args.name.now c.needed.result (state_of c.prepare.new.self c.self.inside.sizes c.await_block.new.awaited)) (sym c.needed.ensures.asks)
-          (awaits c.args.self.now c.self.inside.types c.prepare.new.self c.self.inside.sizes c.self.inside.awaited c.await_block.new.awaited c.args.request.now c.args.name.now _ c.in-Ok-NeedBlock.need c.needed.result.block_size c.needed.result.dedicated
+      prepares = subst (λ (b : Bool). PreparesBy b c.args.self.now c.args.request.now c.args.name.now c.needed.result (state_of c.prepare.new.self c.self.inside.sizes c.await_block.new.awaited)) (sym c.needed.ensures.asks.0)
+          (c.needed.ensures.asks.1, awaits c.args.self.now c.self.inside.types c.prepare.new.self c.self.inside.sizes c.self.inside.awaited c.await_block.new.awaited c.args.request.now c.args.name.now _ c.in-Ok-NeedBlock.need c.needed.result.block_size c.needed.result.dedicated
           c.self.view_is (same_request c.args.request.now c.args.name.now _ _ c.in-Some-served.ensures.kind.0 c.in-Some-served.ensures.name) c.await_block.ensures c.needed.ensures.size.0 c.needed.ensures.size.1
           h.0 h.2 (record { kind = c.in-Ok-NeedBlock.ensures.kind; budget = c.in-Ok-NeedBlock.ensures.budget; sound = c.in-Ok-NeedBlock.ensures.sound; empty = c.in-Ok-NeedBlock.ensures.empty }) (c.growth_status-status.ensures.within ok));
     }
