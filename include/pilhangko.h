@@ -189,6 +189,7 @@ pilhangko_status pilhangko_raw_virtual_block_rename(pilhangko_virtual_block *blo
 pilhangko_status pilhangko_raw_virtual_block_clear(pilhangko_virtual_block *block);
 pilhangko_status pilhangko_raw_virtual_block_statistics(pilhangko_virtual_block *block, pilhangko_virtual_statistics *statistics);
 pilhangko_status pilhangko_raw_virtual_block_next_piece(pilhangko_virtual_block *block, uint64_t from, pilhangko_piece_view *piece);
+pilhangko_status pilhangko_raw_virtual_block_piece_name(pilhangko_virtual_block *block, uint64_t from, char *name, size_t name_room, size_t *name_length);
 pilhangko_status pilhangko_raw_virtual_block_destroy(pilhangko_virtual_block *block);
 
 pilhangko_status pilhangko_raw_memory_type_create(pilhangko_memory_type *types, const pilhangko_memory_type_settings *settings);
@@ -202,6 +203,7 @@ pilhangko_status pilhangko_raw_memory_type_set_budget(pilhangko_memory_type *typ
 pilhangko_status pilhangko_raw_memory_type_block(pilhangko_memory_type *types, size_t slot, pilhangko_memory_block *block);
 pilhangko_status pilhangko_raw_memory_type_block_statistics(pilhangko_memory_type *types, size_t slot, pilhangko_memory_block_statistics *statistics);
 pilhangko_status pilhangko_raw_memory_type_next_piece(pilhangko_memory_type *types, size_t slot, uint64_t from, pilhangko_piece_view *piece);
+pilhangko_status pilhangko_raw_memory_type_piece_name(pilhangko_memory_type *types, size_t slot, uint64_t from, char *name, size_t name_room, size_t *name_length);
 pilhangko_status pilhangko_raw_memory_type_statistics(pilhangko_memory_type *types, pilhangko_memory_statistics *statistics);
 pilhangko_status pilhangko_raw_memory_type_destroy(pilhangko_memory_type *types);
 
@@ -288,6 +290,15 @@ static inline pilhangko_status pilhangko_virtual_block_leak_count(pilhangko_virt
 static inline pilhangko_status pilhangko_virtual_block_next_piece(pilhangko_virtual_block *block, uint64_t from, pilhangko_piece_view *piece) {
     if (!block || !piece) return PILHANGKO_NULL_POINTER;
     return pilhangko_raw_virtual_block_next_piece(block, from, piece);
+}
+
+/* The name of the piece that next_piece shows from there: copies as many of its bytes as there is room for, and tells how many it has, which can be
+ * more; 0 where there is no piece. No 0 is put behind them, and a name that is cut may end within a character. Where name_room is 0, name may be NULL.
+ * NO_HANDLE. */
+static inline pilhangko_status pilhangko_virtual_block_piece_name(pilhangko_virtual_block *block, uint64_t from, char *name, size_t name_room, size_t *name_length) {
+    char none;
+    if (!block || (!name && name_room) || !name_length) return PILHANGKO_NULL_POINTER;
+    return pilhangko_raw_virtual_block_piece_name(block, from, name ? name : &none, name_room, name_length);
 }
 
 /* Ends a block, with all its pieces, and leaves the handle empty.
@@ -378,6 +389,14 @@ static inline pilhangko_status pilhangko_memory_type_block_statistics(pilhangko_
 static inline pilhangko_status pilhangko_memory_type_next_piece(pilhangko_memory_type *types, size_t slot, uint64_t from, pilhangko_piece_view *piece) {
     if (!types || !piece) return PILHANGKO_NULL_POINTER;
     return pilhangko_raw_memory_type_next_piece(types, slot, from, piece);
+}
+
+/* The name of the piece that next_piece shows from there, as with a virtual block.
+ * NO_HANDLE. */
+static inline pilhangko_status pilhangko_memory_type_piece_name(pilhangko_memory_type *types, size_t slot, uint64_t from, char *name, size_t name_room, size_t *name_length) {
+    char none;
+    if (!types || (!name && name_room) || !name_length) return PILHANGKO_NULL_POINTER;
+    return pilhangko_raw_memory_type_piece_name(types, slot, from, name ? name : &none, name_room, name_length);
 }
 
 /* What is counted of a memory type.

@@ -11,6 +11,7 @@
 struct chunk {
     uint64_t start, offset, end, number;
     uint32_t kind; /* 0: a gap */
+    const char *name;
 };
 
 struct account {
@@ -24,7 +25,7 @@ static inline void account_begin(struct account *a, uint64_t size, uint64_t page
     a->page = page;
     a->next_number = 2;
     a->count = 1;
-    a->chunks[0] = (struct chunk){0, 0, size, 1, 0};
+    a->chunks[0] = (struct chunk){0, 0, size, 1, 0, ""};
 }
 
 static inline uint64_t rounded_up(uint64_t n, uint64_t alignment) { return (n + alignment - 1) / alignment * alignment; }
@@ -41,7 +42,7 @@ static inline bool account_fits(const struct account *a, size_t at, uint64_t siz
     return true;
 }
 
-static inline bool account_take(struct account *a, uint64_t size, uint64_t alignment, uint32_t kind, uint64_t *offset, uint64_t *number) {
+static inline bool account_take(struct account *a, uint64_t size, uint64_t alignment, uint32_t kind, const char *name, uint64_t *offset, uint64_t *number) {
     size_t best = a->count;
     uint64_t best_offset = 0, place;
     for (size_t i = 0; i < a->count; i++) {
@@ -53,7 +54,7 @@ static inline bool account_take(struct account *a, uint64_t size, uint64_t align
     }
     if (best == a->count) return false;
     struct chunk gap = a->chunks[best];
-    struct chunk piece = {gap.start, best_offset, best_offset + size, gap.number, kind};
+    struct chunk piece = {gap.start, best_offset, best_offset + size, gap.number, kind, name ? name : ""};
     if (piece.end < gap.end) {
         CHECK(a->count < ACCOUNT_CHUNKS);
         piece.number = a->next_number++;
@@ -124,5 +125,18 @@ static inline void account_shows(const struct account *a, uint64_t from, const p
         return;
     }
     CHECK(!view->exists && view->number == 0 && view->start == 0 && view->offset == 0 && view->end == 0 && view->kind == 0);
+}
+
+/* The name of the first piece from a place on, copied into `room` bytes, is the account's; `bytes` was filled with '?'. */
+static inline void account_names(const struct account *a, uint64_t from, const char *bytes, size_t room, size_t length) {
+    const char *name = "";
+    for (size_t i = 0; i < a->count; i++) {
+        if (!a->chunks[i].kind || a->chunks[i].offset < from) continue;
+        name = a->chunks[i].name;
+        break;
+    }
+    size_t copied = strlen(name) < room ? strlen(name) : room;
+    CHECK(length == strlen(name) && memcmp(bytes, name, copied) == 0);
+    for (size_t i = copied; i < room; i++) CHECK(bytes[i] == '?');
 }
 #endif

@@ -89,6 +89,12 @@ static void blocks_come_and_go(void) {
     CHECK(!view.exists);
     IS(pilhangko_memory_type_next_piece(&types, 9, 0, &view), PILHANGKO_OK);
     CHECK(!view.exists);
+    char bytes[8] = "???????";
+    size_t length;
+    IS(pilhangko_memory_type_piece_name(&types, 0, 0, bytes, 7, &length), PILHANGKO_OK);
+    CHECK(length == 5 && !strcmp(bytes, "block??"));
+    IS(pilhangko_memory_type_piece_name(&types, 9, 0, bytes, 7, &length), PILHANGKO_OK);
+    CHECK(length == 0 && !strcmp(bytes, "block??"));
     frees(&types, &d, true, 1003); /* a piece's own block goes */
     has_block(&types, 2, false, 0);
     frees(&types, &a, false, 0);
@@ -234,6 +240,7 @@ static void handle_statuses(void) {
     pilhangko_memory_statistics told;
     pilhangko_memory_block_statistics counted;
     pilhangko_piece_view view;
+    size_t length;
     bool is_live;
     IS(pilhangko_memory_type_prepare(&types, &request, NULL, &prepared), PILHANGKO_NO_HANDLE);
     IS(pilhangko_memory_type_install(&types, 1, &piece), PILHANGKO_NO_HANDLE);
@@ -246,6 +253,7 @@ static void handle_statuses(void) {
     IS(pilhangko_memory_type_statistics(&types, &told), PILHANGKO_NO_HANDLE);
     IS(pilhangko_memory_type_block_statistics(&types, 0, &counted), PILHANGKO_NO_HANDLE);
     IS(pilhangko_memory_type_next_piece(&types, 0, 0, &view), PILHANGKO_NO_HANDLE);
+    IS(pilhangko_memory_type_piece_name(&types, 0, 0, NULL, 0, &length), PILHANGKO_NO_HANDLE);
     IS(pilhangko_memory_type_destroy(&types), PILHANGKO_NO_HANDLE);
     s.page_size = 0;
     IS(pilhangko_memory_type_create(&types, &s), PILHANGKO_INVALID);
@@ -272,6 +280,7 @@ static void null_pointers(void) {
     pilhangko_memory_statistics told;
     pilhangko_memory_block_statistics counted;
     pilhangko_piece_view view;
+    size_t length;
     bool is_live;
     IS(pilhangko_memory_type_create(NULL, &s), PILHANGKO_NULL_POINTER);
     IS(pilhangko_memory_type_create(&types, NULL), PILHANGKO_NULL_POINTER);
@@ -297,6 +306,9 @@ static void null_pointers(void) {
     IS(pilhangko_memory_type_block_statistics(&types, 0, NULL), PILHANGKO_NULL_POINTER);
     IS(pilhangko_memory_type_next_piece(NULL, 0, 0, &view), PILHANGKO_NULL_POINTER);
     IS(pilhangko_memory_type_next_piece(&types, 0, 0, NULL), PILHANGKO_NULL_POINTER);
+    IS(pilhangko_memory_type_piece_name(NULL, 0, 0, NULL, 0, &length), PILHANGKO_NULL_POINTER);
+    IS(pilhangko_memory_type_piece_name(&types, 0, 0, NULL, 1, &length), PILHANGKO_NULL_POINTER);
+    IS(pilhangko_memory_type_piece_name(&types, 0, 0, NULL, 0, NULL), PILHANGKO_NULL_POINTER);
     IS(pilhangko_memory_type_statistics(&types, NULL), PILHANGKO_NULL_POINTER);
     IS(pilhangko_memory_type_destroy(NULL), PILHANGKO_NULL_POINTER);
 }

@@ -59,7 +59,7 @@ static void puts_in(bool dedicated, uint64_t size, const pilhangko_memory_reques
     slot->dedicated = dedicated;
     slot->block = next_block;
     account_begin(&slot->account, size, dedicated ? 1 : page);
-    CHECK(account_take(&slot->account, request->size, request->alignment, request->kind, &wanted.offset, &wanted.number));
+    CHECK(account_take(&slot->account, request->size, request->alignment, request->kind, "piece", &wanted.offset, &wanted.number));
     CHECK(wanted.offset == 0);
     IS(pilhangko_memory_type_install(&types, next_block, &piece), PILHANGKO_OK);
     CHECK(same_piece(&piece, &wanted));
@@ -73,7 +73,7 @@ static void prepare(void) {
     uint64_t shared = next_shared_size();
     bool dedicated = request.dedicated || request.size > shared;
     for (size_t i = slot_count; !dedicated && i-- > 0;) {
-        if (!slots[i].exists || slots[i].dedicated || !account_take(&slots[i].account, request.size, request.alignment, request.kind, &wanted.offset, &wanted.number)) continue;
+        if (!slots[i].exists || slots[i].dedicated || !account_take(&slots[i].account, request.size, request.alignment, request.kind, "piece", &wanted.offset, &wanted.number)) continue;
         wanted.slot = i;
         wanted.block = slots[i].block;
         IS(pilhangko_memory_type_prepare(&types, &request, "piece", &prepared), PILHANGKO_OK);
@@ -163,6 +163,11 @@ static void look(void) {
         pilhangko_virtual_statistics same = {slots[i].account.size, counted.pieces, counted.piece_bytes, counted.gaps, counted.longest_gap};
         account_same(&slots[i].account, &same);
         account_shows(&slots[i].account, from, &view);
+        char bytes[16];
+        size_t room = random_below(sizeof bytes + 1), length;
+        memset(bytes, '?', sizeof bytes);
+        IS(pilhangko_memory_type_piece_name(&types, i, from, bytes, room, &length), PILHANGKO_OK);
+        account_names(&slots[i].account, from, bytes, room, length);
     } else {
         CHECK(!view.exists && view.number == 0 && counted.pieces == 0 && counted.piece_bytes == 0 && counted.gaps == 0 && counted.longest_gap == 0);
     }
@@ -171,6 +176,7 @@ static void look(void) {
     IS(pilhangko_memory_type_is_live(&types, &piece, &is_live), PILHANGKO_OK);
     CHECK(is_live == (live_at(&piece) >= 0));
     IS(pilhangko_memory_type_rename(&types, &piece, "another name"), is_live ? PILHANGKO_OK : PILHANGKO_NOT_LIVE);
+    if (is_live) slots[piece.slot].account.chunks[live_at(&piece)].name = "another name";
 }
 
 static void step(void) {

@@ -73,7 +73,20 @@ static void readings(void) {
     CHECK(seen == 2 && view.number == 0 && view.start == 0 && view.offset == 0 && view.end == 0 && view.kind == 0);
     IS(pilhangko_virtual_block_next_piece(&block, UINT64_MAX, &view), PILHANGKO_OK);
     CHECK(!view.exists);
+    char bytes[8] = "???????";
+    size_t length = 9;
+    IS(pilhangko_virtual_block_rename(&block, &pieces[2], "name"), PILHANGKO_OK);
+    IS(pilhangko_virtual_block_piece_name(&block, 80, bytes, 7, &length), PILHANGKO_OK);
+    CHECK(length == 4 && !strcmp(bytes, "name???"));
+    IS(pilhangko_virtual_block_piece_name(&block, 0, bytes, 2, &length), PILHANGKO_OK);
+    CHECK(length == 5 && !strcmp(bytes, "pime???"));
+    IS(pilhangko_virtual_block_piece_name(&block, 81, bytes, 7, &length), PILHANGKO_OK);
+    CHECK(length == 0 && !strcmp(bytes, "pime???"));
+    IS(pilhangko_virtual_block_piece_name(&block, 0, NULL, 0, &length), PILHANGKO_OK);
+    CHECK(length == 5);
     IS(pilhangko_virtual_block_destroy(&block), PILHANGKO_OK);
+    IS(pilhangko_virtual_block_piece_name(&block, 0, bytes, 7, &length), PILHANGKO_NO_HANDLE);
+    CHECK(length == 5 && !strcmp(bytes, "pime???"));
     s.size = 3;
     view.number = 4;
     IS(pilhangko_virtual_block_statistics(&block, &s), PILHANGKO_NO_HANDLE);
@@ -170,6 +183,9 @@ static void null_pointers(void) {
     IS(pilhangko_virtual_block_statistics(&block, NULL), PILHANGKO_NULL_POINTER);
     IS(pilhangko_virtual_block_next_piece(NULL, 0, &view), PILHANGKO_NULL_POINTER);
     IS(pilhangko_virtual_block_next_piece(&block, 0, NULL), PILHANGKO_NULL_POINTER);
+    IS(pilhangko_virtual_block_piece_name(NULL, 0, NULL, 0, &count), PILHANGKO_NULL_POINTER);
+    IS(pilhangko_virtual_block_piece_name(&block, 0, NULL, 1, &count), PILHANGKO_NULL_POINTER);
+    IS(pilhangko_virtual_block_piece_name(&block, 0, NULL, 0, NULL), PILHANGKO_NULL_POINTER);
     IS(pilhangko_virtual_block_destroy(NULL), PILHANGKO_NULL_POINTER);
 }
 

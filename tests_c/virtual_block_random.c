@@ -15,12 +15,13 @@ static void allocate(void) {
     pilhangko_virtual_request request = {1 + random_below(random_below(8) ? 300 : 4000), UINT64_C(1) << random_below(8), 1 + (uint32_t)random_below(2)};
     pilhangko_virtual_piece piece;
     uint64_t offset, number;
-    if (account_take(&account, request.size, request.alignment, request.kind, &offset, &number)) {
-        IS(pilhangko_virtual_block_allocate(&block, &request, names[random_below(5)], &piece), PILHANGKO_OK);
+    const char *called = names[random_below(5)];
+    if (account_take(&account, request.size, request.alignment, request.kind, called, &offset, &number)) {
+        IS(pilhangko_virtual_block_allocate(&block, &request, called, &piece), PILHANGKO_OK);
         CHECK(piece.offset == offset && piece.number == number);
         taken++;
     } else {
-        IS(pilhangko_virtual_block_allocate(&block, &request, names[random_below(5)], &piece), PILHANGKO_OUT_OF_MEMORY);
+        IS(pilhangko_virtual_block_allocate(&block, &request, called, &piece), PILHANGKO_OUT_OF_MEMORY);
         refused++;
     }
 }
@@ -58,8 +59,11 @@ static void name(void) {
         IS(pilhangko_virtual_block_rename(&block, &piece, bad_names[random_below(3)]), PILHANGKO_INVALID);
         return;
     }
-    bool live = piece.number && account_find(&account, piece.offset, piece.number) < account.count;
-    IS(pilhangko_virtual_block_rename(&block, &piece, names[random_below(5)]), live ? PILHANGKO_OK : PILHANGKO_NOT_LIVE);
+    const char *called = names[random_below(5)];
+    size_t at = piece.number ? account_find(&account, piece.offset, piece.number) : account.count;
+    bool live = at < account.count;
+    IS(pilhangko_virtual_block_rename(&block, &piece, called), live ? PILHANGKO_OK : PILHANGKO_NOT_LIVE);
+    if (live) account.chunks[at].name = called ? called : "";
     renamed += live;
 }
 
@@ -83,6 +87,11 @@ static void step(void) {
     account_same(&account, &statistics);
     IS(pilhangko_virtual_block_next_piece(&block, from, &view), PILHANGKO_OK);
     account_shows(&account, from, &view);
+    char bytes[80];
+    size_t room = random_below(sizeof bytes + 1), length;
+    memset(bytes, '?', sizeof bytes);
+    IS(pilhangko_virtual_block_piece_name(&block, from, room ? bytes : NULL, room, &length), PILHANGKO_OK);
+    account_names(&account, from, bytes, room, length);
 }
 
 int main(void) {

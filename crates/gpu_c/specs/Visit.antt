@@ -1,5 +1,5 @@
 -- What a visit shows of a block's pieces.
-use Rattle.std.specs.Prelude.{ℕ, true, false, List, Option, Some, None, nat_le}
+use Rattle.std.specs.Prelude.{◌≡◌, ℕ, true, false, List, Option, Some, None, nat_le, [], ◌++◌, length, min, take, drop}
 use Rattle.std.specs.List.{find}
 use Rattle.gpu_values.specs.declared.allocation_type.AllocationType.{AllocationType}
 use Rattle.gpu_values.specs.declared.allocation_type.AllocationType.TheVariants.{Free, Linear, NonLinear}
@@ -25,3 +25,20 @@ piece_from from xs = find (λ x. nat_le from x.offset) xs
 abbrev pub piece_in_from : ℕ → Option (List Extent) → Option Extent
 piece_in_from from None = None
 piece_in_from from (Some xs) = piece_from from xs
+
+-- the name of a piece that may not be there
+abbrev pub name_of : Option Extent → List ℕ
+name_of None = []
+name_of (Some x) = x.name
+
+-- how many bytes of a text a buffer has room for
+abbrev pub room_for : List ℕ → List ℕ → ℕ
+room_for text buffer = min (length text) (length buffer)
+
+-- the buffer with as much of the text as there is room for
+abbrev pub copied_into : List ℕ → List ℕ → List ℕ
+copied_into text buffer = take (room_for text buffer) text ++ drop (room_for text buffer) buffer
+
+-- a name was copied into a buffer, and its whole length told
+abbrev pub ShowsName : Option Extent → (old new : List ℕ) → (whole : ℕ) → Type 0
+ShowsName piece old new whole = (new ≡ copied_into (name_of piece) old) × (whole ≡ length (name_of piece))

@@ -7,7 +7,7 @@ ghost use Rattle.gpu_core.specs.TypeReport.{pieces_in, statistics_in};
 ghost use Rattle.gpu_c.specs.Request.{IsServed};
 ghost use Rattle.gpu_c.specs.Status.{IsOneOf};
 ghost use Rattle.gpu_c.specs.MemoryType.{AwaitingState, fresh_memory_type, told_piece, no_memory_piece, told_block, number_if, IsLiveIn, Prepares, IsIdleAndServed, IsTooLarge, IsPastBudget, InstallsAwaited, Abandons, FreesPiece, NamesMemory, statistics_of, sizes_told, told_counts};
-ghost use Rattle.gpu_c.specs.Visit.{told_view, piece_in_from};
+ghost use Rattle.gpu_c.specs.Visit.{told_view, piece_in_from, ShowsName};
 ghost use Rattle.gpu_c.specs.declared.status.TheConstants.{OK, OUT_OF_MEMORY, INVALID, NOT_LIVE, HOST_OUT_OF_MEMORY, BUDGET_EXCEEDED, AWAITS_BLOCK, AWAITS_NO_BLOCK};
 
 use crate::memory_type_values::{
@@ -20,7 +20,7 @@ use crate::status::{
     OUT_OF_MEMORY,
 };
 use crate::virtual_block_values::PieceView;
-use crate::visit::{first_from, no_piece};
+use crate::visit::{first_from, name_from, no_piece};
 use gpu_core::{AllocationSizes, MemoryType, NeedBlock, Piece, Prepared, Request};
 use std::alloc::Global;
 use std::marker::Model;
@@ -333,6 +333,16 @@ impl AwaitingType {
         match self.types.pieces(slot) {
             None => no_piece(),
             Some(pieces) => first_from(pieces, from),
+        }
+    }
+
+    /// Copies the name of the piece that `next_piece` shows, as much as there is room for, and answers its whole length.
+    pub fn piece_name(&self, slot: usize, from: u64, name: &mut [u8]) -> usize
+        ensures { ShowsName (piece_in_from from (pieces_in (slot_at self.now.slots slot))) name.old name.new result }
+    {
+        match self.types.pieces(slot) {
+            None => 0,
+            Some(pieces) => name_from(pieces, from, name),
         }
     }
 

@@ -10,7 +10,7 @@ ghost use Rattle.gpu_c.specs.Handle.{Changes};
 ghost use Rattle.gpu_c.specs.Request.{IsServed};
 ghost use Rattle.gpu_c.specs.Status.{IsOneOf};
 ghost use Rattle.gpu_c.specs.MemoryType.{fresh_memory_type, told_block, number_if, IsLiveIn, Prepares, IsIdleAndServed, IsTooLarge, IsPastBudget, InstallsAwaited, Abandons, FreesPiece, NamesMemory, statistics_of, told_counts};
-ghost use Rattle.gpu_c.specs.Visit.{told_view, piece_in_from};
+ghost use Rattle.gpu_c.specs.Visit.{told_view, piece_in_from, ShowsName};
 ghost use Rattle.gpu_c.specs.declared.status.TheConstants.{OK, OUT_OF_MEMORY, INVALID, NOT_LIVE, HOST_OUT_OF_MEMORY, BUDGET_EXCEEDED, NO_HANDLE, IN_USE, AWAITS_BLOCK, AWAITS_NO_BLOCK};
 
 use crate::memory_type::AwaitingType;
@@ -313,6 +313,34 @@ pub extern "C" fn pilhangko_raw_memory_type_next_piece(
         None => NO_HANDLE,
         Some(kept) => {
             *piece = kept.next_piece(slot, from);
+            types.put(kept);
+            OK
+        }
+    }
+}
+
+/// The name of the piece that the visit shows from there: copies as many bytes of it as there is room for, and tells how many it has, 0
+/// where there is no piece.
+#[unsafe(no_mangle)]
+pub extern "C" fn pilhangko_raw_memory_type_piece_name(
+    types: &mut MemoryTypeHandle,
+    alloc: Global,
+    slot: usize,
+    from: u64,
+    name: &mut [u8],
+    whole: &mut usize,
+) -> u32
+    ensures told { result ≡ OK → IsSomeAnd types.old.value
+        (λ t. ShowsName (piece_in_from from (pieces_in (slot_at t.slots slot))) name.old name.new whole.new) }
+    ensures no_handle { (result ≡ NO_HANDLE) ↔ (types.old.value ≡ None) }
+    ensures statuses { IsOneOf result (OK ∷ NO_HANDLE ∷ []) }
+    ensures same { types.new.value ≡ types.old.value }
+    ensures refused { result ≢ OK → (name.new ≡ name.old) × (whole.new ≡ whole.old) }
+{
+    match types.take(alloc) {
+        None => NO_HANDLE,
+        Some(kept) => {
+            *whole = kept.piece_name(slot, from, name);
             types.put(kept);
             OK
         }

@@ -7,13 +7,13 @@ ghost use Rattle.gpu_block.specs.Block.{extents_of};
 ghost use Rattle.gpu_c.specs.Request.{IsServed};
 ghost use Rattle.gpu_c.specs.Status.{IsOneOf};
 ghost use Rattle.gpu_c.specs.VirtualBlock.{CanCreate, fresh_virtual_block, IsLivePiece, IsRefusedFor, Allocates, Frees, NamesPiece, cleared, counts_of};
-ghost use Rattle.gpu_c.specs.Visit.{told_view, piece_from};
+ghost use Rattle.gpu_c.specs.Visit.{told_view, piece_from, ShowsName};
 ghost use Rattle.gpu_c.specs.declared.status.TheConstants.{OK, OUT_OF_MEMORY, INVALID, NOT_LIVE, HOST_OUT_OF_MEMORY};
 
 use crate::request::served;
 use crate::status::{HOST_OUT_OF_MEMORY, INVALID, NOT_LIVE, OK, status_of};
 use crate::virtual_block_values::{PieceView, VirtualPiece, VirtualRequest, VirtualStatistics};
-use crate::visit::first_from;
+use crate::visit::{first_from, name_from};
 use gpu_block::{FreeListAllocator, SubAllocator};
 use gpu_values::Result;
 use std::alloc::Global;
@@ -174,5 +174,12 @@ impl VirtualBlock {
         ensures { result ≡ told_view (piece_from from (extents_of self.now)) }
     {
         first_from(self.sub.pieces(), from)
+    }
+
+    /// Copies the name of the piece that `next_piece` shows, as much as there is room for, and answers its whole length.
+    pub fn piece_name(&self, from: u64, name: &mut [u8]) -> usize
+        ensures { ShowsName (piece_from from (extents_of self.now)) name.old name.new result }
+    {
+        name_from(self.sub.pieces(), from, name)
     }
 }

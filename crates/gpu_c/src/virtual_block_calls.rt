@@ -8,7 +8,7 @@ ghost use Rattle.gpu_c.specs.Handle.{Changes};
 ghost use Rattle.gpu_c.specs.Request.{IsServed};
 ghost use Rattle.gpu_c.specs.Status.{IsOneOf};
 ghost use Rattle.gpu_c.specs.VirtualBlock.{CanCreate, fresh_virtual_block, IsLivePiece, IsRefusedFor, Allocates, Frees, NamesPiece, cleared, counts_of};
-ghost use Rattle.gpu_c.specs.Visit.{told_view, piece_from};
+ghost use Rattle.gpu_c.specs.Visit.{told_view, piece_from, ShowsName};
 ghost use Rattle.gpu_c.specs.declared.status.TheConstants.{OK, OUT_OF_MEMORY, INVALID, NOT_LIVE, HOST_OUT_OF_MEMORY, NO_HANDLE, IN_USE};
 
 use crate::status::{HOST_OUT_OF_MEMORY, IN_USE, INVALID, NO_HANDLE, OK};
@@ -212,6 +212,32 @@ pub extern "C" fn pilhangko_raw_virtual_block_next_piece(
         None => NO_HANDLE,
         Some(kept) => {
             *piece = kept.next_piece(from);
+            block.put(kept);
+            OK
+        }
+    }
+}
+
+/// The name of the piece that the visit shows from there: copies as many bytes of it as there is room for, and tells how many it has, 0
+/// where there is no piece.
+#[unsafe(no_mangle)]
+pub extern "C" fn pilhangko_raw_virtual_block_piece_name(
+    block: &mut VirtualBlockHandle,
+    alloc: Global,
+    from: u64,
+    name: &mut [u8],
+    whole: &mut usize,
+) -> u32
+    ensures told { result ≡ OK → IsSomeAnd block.old.value (λ b. ShowsName (piece_from from (extents_of b)) name.old name.new whole.new) }
+    ensures no_handle { (result ≡ NO_HANDLE) ↔ (block.old.value ≡ None) }
+    ensures statuses { IsOneOf result (OK ∷ NO_HANDLE ∷ []) }
+    ensures same { block.new.value ≡ block.old.value }
+    ensures refused { result ≢ OK → (name.new ≡ name.old) × (whole.new ≡ whole.old) }
+{
+    match block.take(alloc) {
+        None => NO_HANDLE,
+        Some(kept) => {
+            *whole = kept.piece_name(from, name);
             block.put(kept);
             OK
         }

@@ -1,7 +1,7 @@
 //! Visits of a block's pieces, in order of offset.
 
-ghost use Rattle.std.specs.Prelude.{◌≡◌, None, Some};
-ghost use Rattle.gpu_c.specs.Visit.{kind_number, told_view, piece_from};
+ghost use Rattle.std.specs.Prelude.{◌≡◌, None, Some, length};
+ghost use Rattle.gpu_c.specs.Visit.{kind_number, told_view, piece_from, name_of, copied_into};
 
 use crate::request::{LINEAR, NON_LINEAR};
 use crate::virtual_block_values::PieceView;
@@ -55,4 +55,28 @@ pub fn first_from(pieces: Pieces<'_>, from: u64) -> PieceView
         }
     }
     no_piece()
+}
+
+/// Copies as much of a text as there is room for, and answers its whole length.
+fn copy_text(text: &str, buffer: &mut [u8]) -> usize
+    ensures whole { result ≡ length text.now }
+    ensures copied { buffer.new ≡ copied_into text.now buffer.old }
+{
+    let count = text.len().min(buffer.len());
+    buffer[..count].copy_from_slice(&text.as_bytes()[..count]);
+    text.len()
+}
+
+/// Copies the name of the first piece whose own bytes begin at `from` or behind it, as much as there is room for, and answers its whole
+/// length; 0 where there is no such piece.
+pub fn name_from(pieces: Pieces<'_>, from: u64, buffer: &mut [u8]) -> usize
+    ensures whole { result ≡ length (name_of (piece_from from pieces.entry)) }
+    ensures copied { buffer.new ≡ copied_into (name_of (piece_from from pieces.entry)) buffer.old }
+{
+    for piece in pieces {
+        if from <= piece.offset() {
+            return copy_text(piece.name(), buffer);
+        }
+    }
+    0
 }
