@@ -1,5 +1,6 @@
 /* The heap that libgpu_c.a calls, over the program's malloc, realloc and free: compile it and link it too. The three must belong to one
- * allocator, and malloc and realloc must align a block to each power of two up to 16 that divides its size, as every common C library does. */
+ * allocator, and malloc and realloc must align a block to each power of two up to 16 that divides its size, as every common C library's
+ * do. */
 #include <stdbool.h>
 #include <stddef.h>
 #include <stdlib.h>
@@ -21,7 +22,9 @@ static struct pilhangko_tried tried(void *memory) {
 }
 
 /* malloc(0) may answer NULL with no refusal: ask for the alignment then, which is 1 at least. */
-struct pilhangko_tried rattle_alloc(size_t size, size_t alignment) { return tried(malloc(size ? size : alignment)); }
+struct pilhangko_tried rattle_alloc(size_t size, size_t alignment) {
+    return tried(malloc(size ? size : alignment));
+}
 
 /* realloc keeps the first bytes, and leaves the memory as it was where it refuses. */
 struct pilhangko_tried rattle_realloc(void *memory, size_t kept, size_t size, size_t alignment) {
@@ -29,4 +32,6 @@ struct pilhangko_tried rattle_realloc(void *memory, size_t kept, size_t size, si
     return tried(realloc(memory, size ? size : alignment));
 }
 
-void rattle_dealloc(void *memory) { free(memory); }
+void rattle_dealloc(void *memory) {
+    free(memory);
+}

@@ -1,5 +1,5 @@
-/* 1,000 real buffers and images on a Vulkan device, placed by Pilhangko: the library says where each lies and which block is needed, and this
- * program asks the driver. Each is written through the mapping, read back, and given back in random order. Exit 0 where every byte held,
+/* 1,000 real buffers and images on a Vulkan device, placed by Pilhangko: the library says where each lies and which block is needed, and
+ * this program asks the driver. Each is written through the mapping, read back, and given back in random order. Exit 0 where every byte held,
  * nothing is left and the validation layer, where it is installed, had nothing to say. */
 #include "pilhangko.h"
 #include <stdio.h>
@@ -65,7 +65,8 @@ static uint64_t random_below(uint64_t n) {
 
 /* ---- the device ---- */
 
-static VKAPI_ATTR VkBool32 VKAPI_CALL told(VkDebugUtilsMessageSeverityFlagBitsEXT severity, VkDebugUtilsMessageTypeFlagsEXT kind, const VkDebugUtilsMessengerCallbackDataEXT *data, void *user) {
+static VKAPI_ATTR VkBool32 VKAPI_CALL told(VkDebugUtilsMessageSeverityFlagBitsEXT severity, VkDebugUtilsMessageTypeFlagsEXT kind,
+    const VkDebugUtilsMessengerCallbackDataEXT *data, void *user) {
     (void)severity, (void)kind, (void)user;
     messages++;
     fprintf(stderr, "validation: %s\n", data->pMessage);
@@ -88,7 +89,8 @@ static bool has_validation(void) {
 
 static void make_instance(bool validates) {
     const char *extension = VK_EXT_DEBUG_UTILS_EXTENSION_NAME;
-    VkDebugUtilsMessengerCreateInfoEXT listens = {.sType = VK_STRUCTURE_TYPE_DEBUG_UTILS_MESSENGER_CREATE_INFO_EXT, .pfnUserCallback = told};
+    VkDebugUtilsMessengerCreateInfoEXT listens = {
+        .sType = VK_STRUCTURE_TYPE_DEBUG_UTILS_MESSENGER_CREATE_INFO_EXT, .pfnUserCallback = told};
     listens.messageSeverity = VK_DEBUG_UTILS_MESSAGE_SEVERITY_WARNING_BIT_EXT | VK_DEBUG_UTILS_MESSAGE_SEVERITY_ERROR_BIT_EXT;
     listens.messageType = VK_DEBUG_UTILS_MESSAGE_TYPE_VALIDATION_BIT_EXT;
     VkApplicationInfo application = {.sType = VK_STRUCTURE_TYPE_APPLICATION_INFO, .apiVersion = VK_API_VERSION_1_1};
@@ -101,7 +103,8 @@ static void make_instance(bool validates) {
     }
     VK(vkCreateInstance(&info, NULL, &instance));
     if (!validates) return;
-    PFN_vkCreateDebugUtilsMessengerEXT create = (PFN_vkCreateDebugUtilsMessengerEXT)vkGetInstanceProcAddr(instance, "vkCreateDebugUtilsMessengerEXT");
+    PFN_vkCreateDebugUtilsMessengerEXT create =
+        (PFN_vkCreateDebugUtilsMessengerEXT)vkGetInstanceProcAddr(instance, "vkCreateDebugUtilsMessengerEXT");
     VK(create(instance, &listens, NULL, &messenger));
 }
 
@@ -117,13 +120,15 @@ static void make_device(bool validates) {
     VkDeviceQueueCreateInfo queue = {.sType = VK_STRUCTURE_TYPE_DEVICE_QUEUE_CREATE_INFO, .queueCount = 1, .pQueuePriorities = &priority};
     VkDeviceCreateInfo info = {.sType = VK_STRUCTURE_TYPE_DEVICE_CREATE_INFO, .queueCreateInfoCount = 1, .pQueueCreateInfos = &queue};
     VK(vkCreateDevice(physical_device, &info, NULL, &device));
-    printf("%s: %u memory types, bufferImageGranularity %llu, validation %s\n", properties.deviceName, memory_properties.memoryTypeCount, (unsigned long long)granularity, validates ? "on" : "off");
+    printf("%s: %u memory types, bufferImageGranularity %llu, validation %s\n", properties.deviceName, memory_properties.memoryTypeCount,
+        (unsigned long long)granularity, validates ? "on" : "off");
 }
 
 static void end_device(void) {
     vkDestroyDevice(device, NULL);
     if (messenger) {
-        PFN_vkDestroyDebugUtilsMessengerEXT destroy = (PFN_vkDestroyDebugUtilsMessengerEXT)vkGetInstanceProcAddr(instance, "vkDestroyDebugUtilsMessengerEXT");
+        PFN_vkDestroyDebugUtilsMessengerEXT destroy =
+            (PFN_vkDestroyDebugUtilsMessengerEXT)vkGetInstanceProcAddr(instance, "vkDestroyDebugUtilsMessengerEXT");
         destroy(instance, messenger, NULL);
     }
     vkDestroyInstance(instance, NULL);
@@ -144,7 +149,9 @@ static struct block *new_block(uint32_t type, uint64_t size) {
     return block;
 }
 
-static struct block *block_of(uint64_t handle) { return (struct block *)(uintptr_t)handle; }
+static struct block *block_of(uint64_t handle) {
+    return (struct block *)(uintptr_t)handle;
+}
 
 static void give_back(uint64_t handle) {
     struct block *block = block_of(handle);
@@ -173,13 +180,22 @@ static pilhangko_memory_piece place(uint32_t type, const pilhangko_memory_reques
 
 static void make_buffer(struct resource *r, VkMemoryRequirements *needs) {
     uint64_t size = random_below(100) == 0 ? 1 + random_below(9 * MB) : 1 + random_below(65536);
-    VkBufferCreateInfo info = {.sType = VK_STRUCTURE_TYPE_BUFFER_CREATE_INFO, .size = size, .usage = VK_BUFFER_USAGE_TRANSFER_SRC_BIT | VK_BUFFER_USAGE_UNIFORM_BUFFER_BIT};
+    VkBufferCreateInfo info = {.sType = VK_STRUCTURE_TYPE_BUFFER_CREATE_INFO,
+        .size = size,
+        .usage = VK_BUFFER_USAGE_TRANSFER_SRC_BIT | VK_BUFFER_USAGE_UNIFORM_BUFFER_BIT};
     VK(vkCreateBuffer(device, &info, NULL, &r->buffer));
     vkGetBufferMemoryRequirements(device, r->buffer, needs);
 }
 
 static void make_image(struct resource *r, VkImageTiling tiling, VkMemoryRequirements *needs) {
-    VkImageCreateInfo info = {.sType = VK_STRUCTURE_TYPE_IMAGE_CREATE_INFO, .imageType = VK_IMAGE_TYPE_2D, .format = VK_FORMAT_R8G8B8A8_UNORM, .mipLevels = 1, .arrayLayers = 1, .samples = VK_SAMPLE_COUNT_1_BIT, .tiling = tiling, .usage = VK_IMAGE_USAGE_TRANSFER_SRC_BIT | VK_IMAGE_USAGE_TRANSFER_DST_BIT};
+    VkImageCreateInfo info = {.sType = VK_STRUCTURE_TYPE_IMAGE_CREATE_INFO,
+        .imageType = VK_IMAGE_TYPE_2D,
+        .format = VK_FORMAT_R8G8B8A8_UNORM,
+        .mipLevels = 1,
+        .arrayLayers = 1,
+        .samples = VK_SAMPLE_COUNT_1_BIT,
+        .tiling = tiling,
+        .usage = VK_IMAGE_USAGE_TRANSFER_SRC_BIT | VK_IMAGE_USAGE_TRANSFER_DST_BIT};
     info.extent = (VkExtent3D){1 + (uint32_t)random_below(200), 1 + (uint32_t)random_below(200), 1};
     VK(vkCreateImage(device, &info, NULL, &r->image));
     vkGetImageMemoryRequirements(device, r->image, needs);
@@ -203,7 +219,10 @@ static void make(unsigned i) {
     bool own_layout = i % 3 == 0 && i % 2 == 0;
     char name[32];
     snprintf(name, sizeof name, "%s %u", r->buffer ? "buffer" : "image", i);
-    pilhangko_memory_request request = {.size = needs.size, .alignment = needs.alignment, .kind = own_layout ? PILHANGKO_NON_LINEAR : PILHANGKO_LINEAR, .dedicated = random_below(50) == 0};
+    pilhangko_memory_request request = {.size = needs.size,
+        .alignment = needs.alignment,
+        .kind = own_layout ? PILHANGKO_NON_LINEAR : PILHANGKO_LINEAR,
+        .dedicated = random_below(50) == 0};
     r->type = type_for(needs.memoryTypeBits);
     r->piece = place(r->type, &request, name);
     struct block *block = block_of(r->piece.block);
@@ -227,7 +246,8 @@ static void drop(unsigned i) {
     else vkDestroyImage(device, r->image, NULL);
     PILHANGKO(pilhangko_memory_type_free(&memory_types[r->type], &r->piece, &gone));
     if (gone.exists) give_back(gone.block);
-    if (pilhangko_memory_type_free(&memory_types[r->type], &r->piece, &gone) != PILHANGKO_NOT_LIVE) fail("a second free was served", (long)i);
+    if (pilhangko_memory_type_free(&memory_types[r->type], &r->piece, &gone) != PILHANGKO_NOT_LIVE)
+        fail("a second free was served", (long)i);
 }
 
 /* ---- the run ---- */
@@ -235,7 +255,12 @@ static void drop(unsigned i) {
 static void make_memory_types(void) {
     for (uint32_t type = 0; type < memory_properties.memoryTypeCount; type++) {
         VkMemoryPropertyFlags flags = memory_properties.memoryTypes[type].propertyFlags;
-        pilhangko_memory_type_settings settings = {.is_host = (flags & VK_MEMORY_PROPERTY_HOST_VISIBLE_BIT) != 0, .page_size = granularity, .device_block_size = 8 * MB, .largest_device_block_size = 32 * MB, .host_block_size = 8 * MB, .largest_host_block_size = 32 * MB};
+        pilhangko_memory_type_settings settings = {.is_host = (flags & VK_MEMORY_PROPERTY_HOST_VISIBLE_BIT) != 0,
+            .page_size = granularity,
+            .device_block_size = 8 * MB,
+            .largest_device_block_size = 32 * MB,
+            .host_block_size = 8 * MB,
+            .largest_host_block_size = 32 * MB};
         PILHANGKO(pilhangko_memory_type_create(&memory_types[type], &settings));
     }
 }
@@ -288,6 +313,7 @@ int main(void) {
     end_memory_types();
     if (live_blocks) fail("blocks that were not given back", (long)live_blocks);
     end_device();
-    printf("%u blocks made, %u of them a piece's own, %u live at most; %u validation messages\n", made_blocks, own_blocks, most_blocks, messages);
+    printf("%u blocks made, %u of them a piece's own, %u live at most; %u validation messages\n", made_blocks, own_blocks, most_blocks,
+        messages);
     return messages != 0;
 }

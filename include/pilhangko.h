@@ -119,14 +119,14 @@ typedef struct pilhangko_memory_type {
  * size of its side, and each further one twice the last one's, at most seven times and up to the largest size of its side; a largest size
  * below the block size counts as that. A request above the next shared block's size gets a block of its own. */
 typedef struct pilhangko_memory_type_settings {
-    bool is_host;                       /* whether the host can see the memory: which side's sizes count */
-    uint64_t page_size;                 /* a power of two: Vulkan's bufferImageGranularity, elsewhere 1 */
-    uint64_t device_block_size;         /* 256 MB suit where memory is plenty */
+    bool is_host;               /* whether the host can see the memory: which side's sizes count */
+    uint64_t page_size;         /* a power of two: Vulkan's bufferImageGranularity, elsewhere 1 */
+    uint64_t device_block_size; /* 256 MB suit where memory is plenty */
     uint64_t largest_device_block_size;
-    uint64_t host_block_size;           /* 64 MB suit where memory is plenty */
+    uint64_t host_block_size; /* 64 MB suit where memory is plenty */
     uint64_t largest_host_block_size;
-    bool has_budget;                    /* whether the sum of the blocks' sizes has a bound */
-    uint64_t budget;                    /* the bound; it counts where there is one */
+    bool has_budget; /* whether the sum of the blocks' sizes has a bound */
+    uint64_t budget; /* the bound; it counts where there is one */
 } pilhangko_memory_type_settings;
 
 /* As a virtual request. dedicated: the piece shall have a block of its own. */
@@ -147,8 +147,8 @@ typedef struct pilhangko_memory_piece {
     uint64_t block;
 } pilhangko_memory_piece;
 
-/* What a request comes to. Where needs_block, ask the driver for block_size bytes, and then call install or abandon; dedicated says that the
- * block will be the piece's own, and piece is all zeros. Else the piece is taken, and block_size is 0. */
+/* What a request comes to. Where needs_block, ask the driver for block_size bytes, and then call install or abandon; dedicated says that
+ * the block will be the piece's own, and piece is all zeros. Else the piece is taken, and block_size is 0. */
 typedef struct pilhangko_memory_prepared {
     bool needs_block;
     bool dedicated;
@@ -167,8 +167,8 @@ typedef struct pilhangko_memory_statistics {
     size_t slots;         /* slots, the empty ones included */
     size_t shared_blocks; /* blocks that several pieces may share */
     bool has_budget;
-    uint64_t budget;      /* 0 where there is none */
-    bool awaits_block;    /* whether a block is awaited */
+    uint64_t budget;   /* 0 where there is none */
+    bool awaits_block; /* whether a block is awaited */
 } pilhangko_memory_statistics;
 
 /* What is counted of the block in a slot, or none. */
@@ -183,27 +183,36 @@ typedef struct pilhangko_memory_block_statistics {
 /* ---- The archive's symbols, for callers in other languages. No pointer may be NULL, also not of a name with length 0. ---- */
 
 pilhangko_status pilhangko_raw_virtual_block_create(pilhangko_virtual_block *block, uint64_t size, uint64_t page_size);
-pilhangko_status pilhangko_raw_virtual_block_allocate(pilhangko_virtual_block *block, const pilhangko_virtual_request *request, const char *name, size_t name_length, pilhangko_virtual_piece *piece);
+pilhangko_status pilhangko_raw_virtual_block_allocate(pilhangko_virtual_block *block, const pilhangko_virtual_request *request,
+    const char *name, size_t name_length, pilhangko_virtual_piece *piece);
 pilhangko_status pilhangko_raw_virtual_block_free(pilhangko_virtual_block *block, const pilhangko_virtual_piece *piece);
-pilhangko_status pilhangko_raw_virtual_block_rename(pilhangko_virtual_block *block, const pilhangko_virtual_piece *piece, const char *name, size_t name_length);
+pilhangko_status pilhangko_raw_virtual_block_rename(
+    pilhangko_virtual_block *block, const pilhangko_virtual_piece *piece, const char *name, size_t name_length);
 pilhangko_status pilhangko_raw_virtual_block_clear(pilhangko_virtual_block *block);
 pilhangko_status pilhangko_raw_virtual_block_statistics(pilhangko_virtual_block *block, pilhangko_virtual_statistics *statistics);
 pilhangko_status pilhangko_raw_virtual_block_next_piece(pilhangko_virtual_block *block, uint64_t from, pilhangko_piece_view *piece);
-pilhangko_status pilhangko_raw_virtual_block_piece_name(pilhangko_virtual_block *block, uint64_t from, char *name, size_t name_room, size_t *name_length);
+pilhangko_status pilhangko_raw_virtual_block_piece_name(
+    pilhangko_virtual_block *block, uint64_t from, char *name, size_t name_room, size_t *name_length);
 pilhangko_status pilhangko_raw_virtual_block_destroy(pilhangko_virtual_block *block);
 
 pilhangko_status pilhangko_raw_memory_type_create(pilhangko_memory_type *types, const pilhangko_memory_type_settings *settings);
-pilhangko_status pilhangko_raw_memory_type_prepare(pilhangko_memory_type *types, const pilhangko_memory_request *request, const char *name, size_t name_length, pilhangko_memory_prepared *prepared);
+pilhangko_status pilhangko_raw_memory_type_prepare(pilhangko_memory_type *types, const pilhangko_memory_request *request, const char *name,
+    size_t name_length, pilhangko_memory_prepared *prepared);
 pilhangko_status pilhangko_raw_memory_type_install(pilhangko_memory_type *types, uint64_t block, pilhangko_memory_piece *piece);
 pilhangko_status pilhangko_raw_memory_type_abandon(pilhangko_memory_type *types);
-pilhangko_status pilhangko_raw_memory_type_free(pilhangko_memory_type *types, const pilhangko_memory_piece *piece, pilhangko_memory_block *gone);
-pilhangko_status pilhangko_raw_memory_type_rename(pilhangko_memory_type *types, const pilhangko_memory_piece *piece, const char *name, size_t name_length);
+pilhangko_status pilhangko_raw_memory_type_free(
+    pilhangko_memory_type *types, const pilhangko_memory_piece *piece, pilhangko_memory_block *gone);
+pilhangko_status pilhangko_raw_memory_type_rename(
+    pilhangko_memory_type *types, const pilhangko_memory_piece *piece, const char *name, size_t name_length);
 pilhangko_status pilhangko_raw_memory_type_is_live(pilhangko_memory_type *types, const pilhangko_memory_piece *piece, bool *is_live);
 pilhangko_status pilhangko_raw_memory_type_set_budget(pilhangko_memory_type *types, bool has_budget, uint64_t bytes);
 pilhangko_status pilhangko_raw_memory_type_block(pilhangko_memory_type *types, size_t slot, pilhangko_memory_block *block);
-pilhangko_status pilhangko_raw_memory_type_block_statistics(pilhangko_memory_type *types, size_t slot, pilhangko_memory_block_statistics *statistics);
-pilhangko_status pilhangko_raw_memory_type_next_piece(pilhangko_memory_type *types, size_t slot, uint64_t from, pilhangko_piece_view *piece);
-pilhangko_status pilhangko_raw_memory_type_piece_name(pilhangko_memory_type *types, size_t slot, uint64_t from, char *name, size_t name_room, size_t *name_length);
+pilhangko_status pilhangko_raw_memory_type_block_statistics(
+    pilhangko_memory_type *types, size_t slot, pilhangko_memory_block_statistics *statistics);
+pilhangko_status pilhangko_raw_memory_type_next_piece(
+    pilhangko_memory_type *types, size_t slot, uint64_t from, pilhangko_piece_view *piece);
+pilhangko_status pilhangko_raw_memory_type_piece_name(
+    pilhangko_memory_type *types, size_t slot, uint64_t from, char *name, size_t name_room, size_t *name_length);
 pilhangko_status pilhangko_raw_memory_type_statistics(pilhangko_memory_type *types, pilhangko_memory_statistics *statistics);
 pilhangko_status pilhangko_raw_memory_type_destroy(pilhangko_memory_type *types);
 
@@ -228,8 +237,12 @@ static inline const char *pilhangko_status_text(pilhangko_status status) {
 }
 
 /* The bytes of a name without its 0; none for NULL. */
-static inline size_t pilhangko_name_length(const char *name) { return name ? strlen(name) : 0; }
-static inline const char *pilhangko_name_bytes(const char *name) { return name ? name : ""; }
+static inline size_t pilhangko_name_length(const char *name) {
+    return name ? strlen(name) : 0;
+}
+static inline const char *pilhangko_name_bytes(const char *name) {
+    return name ? name : "";
+}
 
 /* Makes a block of `size` bytes, not 0, with pages of page_size bytes, a power of two, in an empty handle.
  * IN_USE: the handle isn't empty. INVALID: size or page_size. HOST_OUT_OF_MEMORY. */
@@ -240,7 +253,8 @@ static inline pilhangko_status pilhangko_virtual_block_create(pilhangko_virtual_
 
 /* Takes a piece: the least place in the shortest gap in which the request fits, and of equally short gaps in the first.
  * NO_HANDLE. INVALID: the request or the name. OUT_OF_MEMORY: no gap has a place. HOST_OUT_OF_MEMORY. */
-static inline pilhangko_status pilhangko_virtual_block_allocate(pilhangko_virtual_block *block, const pilhangko_virtual_request *request, const char *name, pilhangko_virtual_piece *piece) {
+static inline pilhangko_status pilhangko_virtual_block_allocate(
+    pilhangko_virtual_block *block, const pilhangko_virtual_request *request, const char *name, pilhangko_virtual_piece *piece) {
     if (!block || !request || !piece) return PILHANGKO_NULL_POINTER;
     return pilhangko_raw_virtual_block_allocate(block, request, pilhangko_name_bytes(name), pilhangko_name_length(name), piece);
 }
@@ -254,7 +268,8 @@ static inline pilhangko_status pilhangko_virtual_block_free(pilhangko_virtual_bl
 
 /* Gives a live piece another name.
  * NO_HANDLE. INVALID: the name. NOT_LIVE. HOST_OUT_OF_MEMORY. */
-static inline pilhangko_status pilhangko_virtual_block_rename(pilhangko_virtual_block *block, const pilhangko_virtual_piece *piece, const char *name) {
+static inline pilhangko_status pilhangko_virtual_block_rename(
+    pilhangko_virtual_block *block, const pilhangko_virtual_piece *piece, const char *name) {
     if (!block || !piece) return PILHANGKO_NULL_POINTER;
     return pilhangko_raw_virtual_block_rename(block, piece, pilhangko_name_bytes(name), pilhangko_name_length(name));
 }
@@ -268,7 +283,8 @@ static inline pilhangko_status pilhangko_virtual_block_clear(pilhangko_virtual_b
 
 /* What is counted of a block: its pieces, what they take, its gaps.
  * NO_HANDLE. */
-static inline pilhangko_status pilhangko_virtual_block_statistics(pilhangko_virtual_block *block, pilhangko_virtual_statistics *statistics) {
+static inline pilhangko_status pilhangko_virtual_block_statistics(
+    pilhangko_virtual_block *block, pilhangko_virtual_statistics *statistics) {
     if (!block || !statistics) return PILHANGKO_NULL_POINTER;
     return pilhangko_raw_virtual_block_statistics(block, statistics);
 }
@@ -284,18 +300,21 @@ static inline pilhangko_status pilhangko_virtual_block_leak_count(pilhangko_virt
     return status;
 }
 
-/* The first live piece whose own bytes begin at `from` or behind it. A visit of all pieces in order of offset begins at 0 and goes on at the last
- * one's offset + 1, up to the answer that none exists; the block may change in between.
+/* The first live piece whose own bytes begin at `from` or behind it. A visit of all pieces in order of offset begins at 0 and goes on at
+ * the last one's offset + 1, up to the answer that none exists; the block may change in between.
  * NO_HANDLE. */
-static inline pilhangko_status pilhangko_virtual_block_next_piece(pilhangko_virtual_block *block, uint64_t from, pilhangko_piece_view *piece) {
+static inline pilhangko_status pilhangko_virtual_block_next_piece(
+    pilhangko_virtual_block *block, uint64_t from, pilhangko_piece_view *piece) {
     if (!block || !piece) return PILHANGKO_NULL_POINTER;
     return pilhangko_raw_virtual_block_next_piece(block, from, piece);
 }
 
-/* The name of the piece that next_piece shows from there: copies as many of its bytes as there is room for, and tells how many it has, which can be
- * more; 0 where there is no piece. No 0 is put behind them, and a name that is cut may end within a character. Where name_room is 0, name may be NULL.
+/* The name of the piece that next_piece shows from there: copies as many of its bytes as there is room for, and tells how many it has,
+ * which can be more; 0 where there is no piece. No 0 is put behind them, and a name that is cut may end within a character. Where
+ * name_room is 0, name may be NULL.
  * NO_HANDLE. */
-static inline pilhangko_status pilhangko_virtual_block_piece_name(pilhangko_virtual_block *block, uint64_t from, char *name, size_t name_room, size_t *name_length) {
+static inline pilhangko_status pilhangko_virtual_block_piece_name(
+    pilhangko_virtual_block *block, uint64_t from, char *name, size_t name_room, size_t *name_length) {
     char none;
     if (!block || (!name && name_room) || !name_length) return PILHANGKO_NULL_POINTER;
     return pilhangko_raw_virtual_block_piece_name(block, from, name ? name : &none, name_room, name_length);
@@ -320,7 +339,8 @@ static inline pilhangko_status pilhangko_memory_type_create(pilhangko_memory_typ
  * place the one in the highest slot serves.
  * NO_HANDLE. AWAITS_BLOCK. INVALID: the request or the name. HOST_OUT_OF_MEMORY. And where a block is needed: OUT_OF_MEMORY: the sum of the
  * blocks' sizes would pass 2^64 - 1. BUDGET_EXCEEDED: it would pass the budget. */
-static inline pilhangko_status pilhangko_memory_type_prepare(pilhangko_memory_type *types, const pilhangko_memory_request *request, const char *name, pilhangko_memory_prepared *prepared) {
+static inline pilhangko_status pilhangko_memory_type_prepare(
+    pilhangko_memory_type *types, const pilhangko_memory_request *request, const char *name, pilhangko_memory_prepared *prepared) {
     if (!types || !request || !prepared) return PILHANGKO_NULL_POINTER;
     return pilhangko_raw_memory_type_prepare(types, request, pilhangko_name_bytes(name), pilhangko_name_length(name), prepared);
 }
@@ -343,21 +363,24 @@ static inline pilhangko_status pilhangko_memory_type_abandon(pilhangko_memory_ty
 /* Gives a piece back. Where gone->exists, the block gone->block went with it: give its memory back to the driver. A piece's own block goes,
  * and so does a shared block without pieces where another shared one is live. It needs no host memory.
  * NO_HANDLE. AWAITS_BLOCK. NOT_LIVE. */
-static inline pilhangko_status pilhangko_memory_type_free(pilhangko_memory_type *types, const pilhangko_memory_piece *piece, pilhangko_memory_block *gone) {
+static inline pilhangko_status pilhangko_memory_type_free(
+    pilhangko_memory_type *types, const pilhangko_memory_piece *piece, pilhangko_memory_block *gone) {
     if (!types || !piece || !gone) return PILHANGKO_NULL_POINTER;
     return pilhangko_raw_memory_type_free(types, piece, gone);
 }
 
 /* Gives a live piece another name.
  * NO_HANDLE. AWAITS_BLOCK. INVALID: the name. NOT_LIVE. HOST_OUT_OF_MEMORY. */
-static inline pilhangko_status pilhangko_memory_type_rename(pilhangko_memory_type *types, const pilhangko_memory_piece *piece, const char *name) {
+static inline pilhangko_status pilhangko_memory_type_rename(
+    pilhangko_memory_type *types, const pilhangko_memory_piece *piece, const char *name) {
     if (!types || !piece) return PILHANGKO_NULL_POINTER;
     return pilhangko_raw_memory_type_rename(types, piece, pilhangko_name_bytes(name), pilhangko_name_length(name));
 }
 
 /* Whether a piece is live.
  * NO_HANDLE. */
-static inline pilhangko_status pilhangko_memory_type_is_live(pilhangko_memory_type *types, const pilhangko_memory_piece *piece, bool *is_live) {
+static inline pilhangko_status pilhangko_memory_type_is_live(
+    pilhangko_memory_type *types, const pilhangko_memory_piece *piece, bool *is_live) {
     if (!types || !piece || !is_live) return PILHANGKO_NULL_POINTER;
     return pilhangko_raw_memory_type_is_live(types, piece, is_live);
 }
@@ -378,22 +401,25 @@ static inline pilhangko_status pilhangko_memory_type_block(pilhangko_memory_type
 
 /* What is counted of the block in a slot.
  * NO_HANDLE. */
-static inline pilhangko_status pilhangko_memory_type_block_statistics(pilhangko_memory_type *types, size_t slot, pilhangko_memory_block_statistics *statistics) {
+static inline pilhangko_status pilhangko_memory_type_block_statistics(
+    pilhangko_memory_type *types, size_t slot, pilhangko_memory_block_statistics *statistics) {
     if (!types || !statistics) return PILHANGKO_NULL_POINTER;
     return pilhangko_raw_memory_type_block_statistics(types, slot, statistics);
 }
 
-/* The first live piece of the block in a slot whose own bytes begin at `from` or behind it; none where the slot has no block. A visit goes as with a
- * virtual block, slot by slot.
+/* The first live piece of the block in a slot whose own bytes begin at `from` or behind it; none where the slot has no block. A visit goes
+ * as with a virtual block, slot by slot.
  * NO_HANDLE. */
-static inline pilhangko_status pilhangko_memory_type_next_piece(pilhangko_memory_type *types, size_t slot, uint64_t from, pilhangko_piece_view *piece) {
+static inline pilhangko_status pilhangko_memory_type_next_piece(
+    pilhangko_memory_type *types, size_t slot, uint64_t from, pilhangko_piece_view *piece) {
     if (!types || !piece) return PILHANGKO_NULL_POINTER;
     return pilhangko_raw_memory_type_next_piece(types, slot, from, piece);
 }
 
 /* The name of the piece that next_piece shows from there, as with a virtual block.
  * NO_HANDLE. */
-static inline pilhangko_status pilhangko_memory_type_piece_name(pilhangko_memory_type *types, size_t slot, uint64_t from, char *name, size_t name_room, size_t *name_length) {
+static inline pilhangko_status pilhangko_memory_type_piece_name(
+    pilhangko_memory_type *types, size_t slot, uint64_t from, char *name, size_t name_room, size_t *name_length) {
     char none;
     if (!types || (!name && name_room) || !name_length) return PILHANGKO_NULL_POINTER;
     return pilhangko_raw_memory_type_piece_name(types, slot, from, name ? name : &none, name_room, name_length);

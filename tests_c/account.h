@@ -28,7 +28,9 @@ static inline void account_begin(struct account *a, uint64_t size, uint64_t page
     a->chunks[0] = (struct chunk){0, 0, size, 1, 0, ""};
 }
 
-static inline uint64_t rounded_up(uint64_t n, uint64_t alignment) { return (n + alignment - 1) / alignment * alignment; }
+static inline uint64_t rounded_up(uint64_t n, uint64_t alignment) {
+    return (n + alignment - 1) / alignment * alignment;
+}
 
 /* Whether the request fits in the gap at that index, and where. Sizes in these tests are far below 2^63, so nothing wraps. */
 static inline bool account_fits(const struct account *a, size_t at, uint64_t size, uint64_t alignment, uint32_t kind, uint64_t *offset) {
@@ -42,7 +44,8 @@ static inline bool account_fits(const struct account *a, size_t at, uint64_t siz
     return true;
 }
 
-static inline bool account_take(struct account *a, uint64_t size, uint64_t alignment, uint32_t kind, const char *name, uint64_t *offset, uint64_t *number) {
+static inline bool account_take(
+    struct account *a, uint64_t size, uint64_t alignment, uint32_t kind, const char *name, uint64_t *offset, uint64_t *number) {
     size_t best = a->count;
     uint64_t best_offset = 0, place;
     for (size_t i = 0; i < a->count; i++) {
@@ -121,7 +124,8 @@ static inline void account_shows(const struct account *a, uint64_t from, const p
     for (size_t i = 0; i < a->count; i++) {
         const struct chunk *c = &a->chunks[i];
         if (!c->kind || c->offset < from) continue;
-        CHECK(view->exists && view->number == c->number && view->start == c->start && view->offset == c->offset && view->end == c->end && view->kind == c->kind);
+        CHECK(view->exists && view->number == c->number && view->start == c->start && view->offset == c->offset && view->end == c->end &&
+              view->kind == c->kind);
         return;
     }
     CHECK(!view->exists && view->number == 0 && view->start == 0 && view->offset == 0 && view->end == 0 && view->kind == 0);

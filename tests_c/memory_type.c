@@ -14,15 +14,18 @@ static void needs(pilhangko_memory_type *types, uint64_t size, bool dedicated, u
     pilhangko_memory_prepared prepared = {false, false, 1, {1, 1, 1, 1, 1}};
     IS(pilhangko_memory_type_prepare(types, &request, "block", &prepared), PILHANGKO_OK);
     CHECK(prepared.needs_block && prepared.block_size == block_size && prepared.dedicated == own);
-    CHECK(prepared.piece.number == 0 && prepared.piece.slot == 0 && prepared.piece.size == 0 && prepared.piece.offset == 0 && prepared.piece.block == 0);
+    CHECK(prepared.piece.number == 0 && prepared.piece.slot == 0 && prepared.piece.size == 0 && prepared.piece.offset == 0 &&
+          prepared.piece.block == 0);
 }
 
-static void installs(pilhangko_memory_type *types, uint64_t block, size_t slot, uint64_t number, uint64_t size, pilhangko_memory_piece *piece) {
+static void installs(
+    pilhangko_memory_type *types, uint64_t block, size_t slot, uint64_t number, uint64_t size, pilhangko_memory_piece *piece) {
     IS(pilhangko_memory_type_install(types, block, piece), PILHANGKO_OK);
     CHECK(piece->slot == slot && piece->number == number && piece->offset == 0 && piece->size == size && piece->block == block);
 }
 
-static void takes(pilhangko_memory_type *types, uint64_t size, size_t slot, uint64_t number, uint64_t offset, uint64_t block, pilhangko_memory_piece *piece) {
+static void takes(pilhangko_memory_type *types, uint64_t size, size_t slot, uint64_t number, uint64_t offset, uint64_t block,
+    pilhangko_memory_piece *piece) {
     pilhangko_memory_request request = {size, 1, PILHANGKO_LINEAR, false};
     pilhangko_memory_prepared prepared;
     IS(pilhangko_memory_type_prepare(types, &request, NULL, &prepared), PILHANGKO_OK);
@@ -84,7 +87,8 @@ static void blocks_come_and_go(void) {
     CHECK(!counted.exists && counted.pieces == 0);
     pilhangko_piece_view view;
     IS(pilhangko_memory_type_next_piece(&types, 0, 1, &view), PILHANGKO_OK);
-    CHECK(view.exists && view.number == b.number && view.start == 100 && view.offset == 100 && view.end == 150 && view.kind == PILHANGKO_LINEAR);
+    CHECK(view.exists && view.number == b.number && view.start == 100 && view.offset == 100 && view.end == 150 &&
+          view.kind == PILHANGKO_LINEAR);
     IS(pilhangko_memory_type_next_piece(&types, 0, 101, &view), PILHANGKO_OK);
     CHECK(!view.exists);
     IS(pilhangko_memory_type_next_piece(&types, 9, 0, &view), PILHANGKO_OK);
@@ -202,7 +206,8 @@ static void request_and_piece_statuses(void) {
     pilhangko_memory_block gone = {true, 3};
     bool is_live = true;
     IS(pilhangko_memory_type_create(&types, &s), PILHANGKO_OK);
-    for (size_t i = 0; i < sizeof bad / sizeof bad[0]; i++) IS(pilhangko_memory_type_prepare(&types, &bad[i], NULL, &prepared), PILHANGKO_INVALID);
+    for (size_t i = 0; i < sizeof bad / sizeof bad[0]; i++)
+        IS(pilhangko_memory_type_prepare(&types, &bad[i], NULL, &prepared), PILHANGKO_INVALID);
     IS(pilhangko_memory_type_prepare(&types, &good, "\xfe", &prepared), PILHANGKO_INVALID);
     CHECK(prepared.block_size == 9);
     needs(&types, 100, false, 4 * MB, false);

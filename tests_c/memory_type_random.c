@@ -1,5 +1,5 @@
-/* 100,000 random calls on a memory type, each beside a plain account of its slots: every status, block and piece has to be the account's. The
- * driver refuses some blocks. */
+/* 100,000 random calls on a memory type, each beside a plain account of its slots: every status, block and piece has to be the account's.
+ * The driver refuses some blocks. */
 #include "account.h"
 
 #define SLOTS 64
@@ -67,13 +67,18 @@ static void puts_in(bool dedicated, uint64_t size, const pilhangko_memory_reques
 
 static void prepare(void) {
     uint64_t large = random_below(40);
-    pilhangko_memory_request request = {1 + random_below(large == 0 ? 12 * MB : large < 6 ? 2 * MB : 300000), UINT64_C(1) << random_below(12), 1 + (uint32_t)random_below(2), random_below(30) == 0};
+    pilhangko_memory_request request = {1 + random_below(large == 0  ? 12 * MB
+                                                         : large < 6 ? 2 * MB
+                                                                     : 300000),
+        UINT64_C(1) << random_below(12), 1 + (uint32_t)random_below(2), random_below(30) == 0};
     pilhangko_memory_prepared prepared;
     pilhangko_memory_piece wanted = {0, 0, 0, request.size, 0};
     uint64_t shared = next_shared_size();
     bool dedicated = request.dedicated || request.size > shared;
     for (size_t i = slot_count; !dedicated && i-- > 0;) {
-        if (!slots[i].exists || slots[i].dedicated || !account_take(&slots[i].account, request.size, request.alignment, request.kind, "piece", &wanted.offset, &wanted.number)) continue;
+        if (!slots[i].exists || slots[i].dedicated ||
+            !account_take(&slots[i].account, request.size, request.alignment, request.kind, "piece", &wanted.offset, &wanted.number))
+            continue;
         wanted.slot = i;
         wanted.block = slots[i].block;
         IS(pilhangko_memory_type_prepare(&types, &request, "piece", &prepared), PILHANGKO_OK);
@@ -169,7 +174,8 @@ static void look(void) {
         IS(pilhangko_memory_type_piece_name(&types, i, from, bytes, room, &length), PILHANGKO_OK);
         account_names(&slots[i].account, from, bytes, room, length);
     } else {
-        CHECK(!view.exists && view.number == 0 && counted.pieces == 0 && counted.piece_bytes == 0 && counted.gaps == 0 && counted.longest_gap == 0);
+        CHECK(!view.exists && view.number == 0 && counted.pieces == 0 && counted.piece_bytes == 0 && counted.gaps == 0 &&
+              counted.longest_gap == 0);
     }
     pilhangko_memory_piece piece = some_piece();
     bool is_live;
@@ -200,13 +206,15 @@ int main(void) {
         largest_block_size = (run % 2 ? 8 : 16) * MB;
         slot_count = 0;
         has_budget = false;
-        pilhangko_memory_type_settings settings = {run % 2 == 0, page, block_size, largest_block_size, block_size, largest_block_size, false, 0};
+        pilhangko_memory_type_settings settings = {
+            run % 2 == 0, page, block_size, largest_block_size, block_size, largest_block_size, false, 0};
         IS(pilhangko_memory_type_create(&types, &settings), PILHANGKO_OK);
         for (unsigned i = 0; i < 25000; i++) step();
         look();
         IS(pilhangko_memory_type_destroy(&types), PILHANGKO_OK);
     }
-    printf("100000 calls: %u pieces taken, %u blocks needed, %u abandoned, %u over budget, %u given back, %u blocks went, %u not live\n", taken, needed, abandoned, over_budget, freed, went, dead);
+    printf("100000 calls: %u pieces taken, %u blocks needed, %u abandoned, %u over budget, %u given back, %u blocks went, %u not live\n",
+        taken, needed, abandoned, over_budget, freed, went, dead);
     CHECK(taken > 10000 && needed > 1000 && abandoned > 100 && over_budget > 100 && freed > 10000 && went > 500 && dead > 1000);
     return 0;
 }

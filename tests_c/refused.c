@@ -38,12 +38,14 @@ static void virtual_blocks(void) {
     for (unsigned i = 0; i < 40; i++) {
         pilhangko_virtual_request request = {1 + i, 4, 1 + i % 2};
         pieces[i] = untouched;
-        TRIED(pilhangko_virtual_block_allocate(&block, &request, "a name that takes memory of its own", &pieces[i]), block_has(&block, i) && pieces[i].offset == 5 && pieces[i].number == 6);
+        TRIED(pilhangko_virtual_block_allocate(&block, &request, "a name that takes memory of its own", &pieces[i]),
+            block_has(&block, i) && pieces[i].offset == 5 && pieces[i].number == 6);
     }
     long before = heap_requests;
     for (unsigned i = 0; i < 40; i += 2) IS(pilhangko_virtual_block_free(&block, &pieces[i]), PILHANGKO_OK);
     CHECK(heap_requests == before); /* free takes no memory */
-    for (unsigned i = 1; i < 40; i += 2) TRIED(pilhangko_virtual_block_rename(&block, &pieces[i], "another name that takes memory of its own"), block_has(&block, 20));
+    for (unsigned i = 1; i < 40; i += 2)
+        TRIED(pilhangko_virtual_block_rename(&block, &pieces[i], "another name that takes memory of its own"), block_has(&block, 20));
     TRIED(pilhangko_virtual_block_clear(&block), block_has(&block, 20));
     CHECK(block_has(&block, 0));
     IS(pilhangko_virtual_block_destroy(&block), PILHANGKO_OK);
@@ -59,7 +61,8 @@ static void memory_types(void) {
     for (unsigned i = 0; i < 12; i++) {
         pilhangko_memory_request request = {i % 3 ? MB : 4 * MB, 1, PILHANGKO_LINEAR, i % 4 == 3};
         pilhangko_memory_prepared prepared = {false, false, 3, {3, 3, 3, 3, 3}};
-        TRIED(pilhangko_memory_type_prepare(&types, &request, "a name that takes memory of its own", &prepared), type_has(&types, capacity, slots) && prepared.block_size == 3);
+        TRIED(pilhangko_memory_type_prepare(&types, &request, "a name that takes memory of its own", &prepared),
+            type_has(&types, capacity, slots) && prepared.block_size == 3);
         if (prepared.needs_block) {
             long before = heap_requests;
             IS(pilhangko_memory_type_install(&types, i, &prepared.piece), PILHANGKO_OK);
@@ -69,7 +72,9 @@ static void memory_types(void) {
         }
         pieces[i] = prepared.piece;
     }
-    for (unsigned i = 0; i < 12; i++) TRIED(pilhangko_memory_type_rename(&types, &pieces[i], "another name that takes memory of its own"), type_has(&types, capacity, slots));
+    for (unsigned i = 0; i < 12; i++)
+        TRIED(pilhangko_memory_type_rename(&types, &pieces[i], "another name that takes memory of its own"),
+            type_has(&types, capacity, slots));
     long before = heap_requests;
     pilhangko_memory_block gone;
     for (unsigned i = 0; i < 12; i++) IS(pilhangko_memory_type_free(&types, &pieces[i], &gone), PILHANGKO_OK);

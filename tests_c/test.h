@@ -17,7 +17,8 @@
     do { \
         pilhangko_status got_ = (call), wanted_ = (expected); \
         if (got_ != wanted_) { \
-            fprintf(stderr, "%s:%d: %s: %s, not %s\n", __FILE__, __LINE__, #call, pilhangko_status_text(got_), pilhangko_status_text(wanted_)); \
+            fprintf(stderr, "%s:%d: %s: %s, not %s\n", __FILE__, __LINE__, #call, pilhangko_status_text(got_), \
+                pilhangko_status_text(wanted_)); \
             exit(1); \
         } \
     } while (0)
@@ -30,5 +31,7 @@ static inline uint64_t random_number(void) {
     z = (z ^ (z >> 27)) * 0x94D049BB133111EBu;
     return z ^ (z >> 31);
 }
-static inline uint64_t random_below(uint64_t n) { return random_number() % n; }
+static inline uint64_t random_below(uint64_t n) {
+    return random_number() % n;
+}
 #endif

@@ -1,7 +1,8 @@
 /* Virtual blocks: rows whose places were worked out by hand, and each status of each call. */
 #include "test.h"
 
-static void takes(pilhangko_virtual_block *block, uint64_t size, uint64_t alignment, uint32_t kind, uint64_t offset, uint64_t number, pilhangko_virtual_piece *piece) {
+static void takes(pilhangko_virtual_block *block, uint64_t size, uint64_t alignment, uint32_t kind, uint64_t offset, uint64_t number,
+    pilhangko_virtual_piece *piece) {
     pilhangko_virtual_request request = {size, alignment, kind};
     IS(pilhangko_virtual_block_allocate(block, &request, "piece", piece), PILHANGKO_OK);
     CHECK(piece->offset == offset);
@@ -55,7 +56,7 @@ static void readings(void) {
     pilhangko_piece_view view;
     IS(pilhangko_virtual_block_create(&block, 1000, 64), PILHANGKO_OK);
     takes(&block, 10, 1, PILHANGKO_LINEAR, 0, 2, &pieces[0]);
-    takes(&block, 10, 1, PILHANGKO_NON_LINEAR, 64, 3, &pieces[1]); /* [10, 74): 54 bytes of padding */
+    takes(&block, 10, 1, PILHANGKO_NON_LINEAR, 64, 3, &pieces[1]);  /* [10, 74): 54 bytes of padding */
     takes(&block, 10, 16, PILHANGKO_NON_LINEAR, 80, 4, &pieces[2]); /* [74, 90): 6 */
     IS(pilhangko_virtual_block_statistics(&block, &s), PILHANGKO_OK);
     CHECK(s.size == 1000 && s.pieces == 3 && s.piece_bytes == 90 && s.gaps == 1 && s.longest_gap == 910);
@@ -101,10 +102,12 @@ static void allocate_statuses(void) {
     const pilhangko_virtual_request bad[] = {{0, 1, 1}, {10, 0, 1}, {10, 3, 1}, {10, 1, 0}, {10, 1, 3}, {10, UINT64_MAX, 2}, {0, 0, 0}};
     IS(pilhangko_virtual_block_allocate(&block, &good, NULL, &piece), PILHANGKO_NO_HANDLE);
     IS(pilhangko_virtual_block_create(&block, 100, 16), PILHANGKO_OK);
-    for (size_t i = 0; i < sizeof bad / sizeof bad[0]; i++) IS(pilhangko_virtual_block_allocate(&block, &bad[i], NULL, &piece), PILHANGKO_INVALID);
+    for (size_t i = 0; i < sizeof bad / sizeof bad[0]; i++)
+        IS(pilhangko_virtual_block_allocate(&block, &bad[i], NULL, &piece), PILHANGKO_INVALID);
     IS(pilhangko_virtual_block_allocate(&block, &good, "\xff", &piece), PILHANGKO_INVALID);
     IS(pilhangko_virtual_block_allocate(&block, &good, "half \xc3", &piece), PILHANGKO_INVALID);
-    pilhangko_virtual_request large = {101, 1, PILHANGKO_LINEAR}, largest = {UINT64_MAX, 1, PILHANGKO_LINEAR}, aligned = {10, UINT64_C(1) << 63, PILHANGKO_LINEAR};
+    pilhangko_virtual_request large = {101, 1, PILHANGKO_LINEAR}, largest = {UINT64_MAX, 1, PILHANGKO_LINEAR},
+                              aligned = {10, UINT64_C(1) << 63, PILHANGKO_LINEAR};
     IS(pilhangko_virtual_block_allocate(&block, &large, NULL, &piece), PILHANGKO_OUT_OF_MEMORY);
     IS(pilhangko_virtual_block_allocate(&block, &largest, NULL, &piece), PILHANGKO_OUT_OF_MEMORY);
     CHECK(piece.offset == 11 && piece.number == 22);

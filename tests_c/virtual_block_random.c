@@ -12,7 +12,8 @@ static const char *const names[] = {NULL, "", "vertices", "h\xc3\xa4lft", "a nam
 static const char *const bad_names[] = {"\xff", "cut \xe2\x82", "\xc0\x80"};
 
 static void allocate(void) {
-    pilhangko_virtual_request request = {1 + random_below(random_below(8) ? 300 : 4000), UINT64_C(1) << random_below(8), 1 + (uint32_t)random_below(2)};
+    pilhangko_virtual_request request = {
+        1 + random_below(random_below(8) ? 300 : 4000), UINT64_C(1) << random_below(8), 1 + (uint32_t)random_below(2)};
     pilhangko_virtual_piece piece;
     uint64_t offset, number;
     const char *called = names[random_below(5)];
