@@ -1,6 +1,6 @@
 /* 1,000 real buffers and images on a Vulkan device, placed by Pilhangko: the library says where each lies and which block is needed, and
- * this program asks the driver. Each is written through the mapping, read back, and given back in random order. Exit 0 where every byte held,
- * nothing is left and the validation layer, where it is installed, had nothing to say. */
+ * this program asks the driver. Each is written through the mapping, read back, and given back in random order. Exit 0 where every byte
+ * held, nothing is left and the validation layer, where it is installed, had nothing to say. */
 #include "pilhangko.h"
 #include <stdio.h>
 #include <stdlib.h>
