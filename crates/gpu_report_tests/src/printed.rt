@@ -1,0 +1,163 @@
+//! Tests of printed texts.
+
+ghost use Rattle.std.specs.Prelude.{◌≡◌, IsTrue};
+ghost use Rattle.std.specs.Int.{is_power_of_two};
+
+use gpu_core::{
+    AllocationReport, AllocationType, AllocatorReport, DedicatedBlockAllocator, FreeListAllocator,
+    MemoryBlockReport, SubAllocator,
+};
+use gpu_report::{BlockView, BlocksJson, BlocksSvg, ReportJson, ReportSvg};
+use serde_json::Value;
+use std::alloc::Global;
+use std::fmt::Display;
+use std::process::Abort;
+
+const NAME: &str = "a<b&c\"d\\e>\n\u{1}ü";
+
+fn text_of<D: Display>(rt: &impl Abort, alloc: Global, value: &D) -> String {
+    value.to_string(alloc).expect(rt, "there is memory")
+}
+
+/// What another reader reads, which it prints as it was.
+fn read_back<D: Display>(rt: &impl Abort, alloc: Global, value: &D) -> Value {
+    let text = text_of(rt, alloc, value);
+    let read = Value::from_str(alloc, text.as_str()).expect(rt, "it is JSON");
+    let again = read.to_string(alloc).expect(rt, "there is memory");
+    assert_eq!(rt; again.as_str(), text.as_str());
+    read
+}
+
+fn number_at(rt: &impl Abort, value: &Value, path: &str) -> u64 {
+    let found = value.pointer(path).and_then(Value::as_u64);
+    found.expect(rt, "a number")
+}
+
+fn one(rt: &impl Abort) -> u64
+    ensures value { result ≡ 1 }
+    ensures power { IsTrue (is_power_of_two result) }
+{
+    let granularity = 1u64;
+    assert!(rt; granularity.is_power_of_two());
+    granularity
+}
+
+/// A block with a piece of 300 bytes, and one of 1000 bytes behind padding.
+fn two_pieces(rt: &impl Abort, alloc: Global) -> SubAllocator {
+    let granularity = one(rt);
+    let alignment = 256u64;
+    assert!(rt; alignment.is_power_of_two());
+    let mut list = FreeListAllocator::new(alloc, 4_194_304, granularity).expect(
+        rt,
+        "there is memory",
+    );
+    let first = list.allocate(300, granularity, AllocationType::Linear, granularity, NAME);
+    assert!(rt; first.is_ok());
+    let second = list.allocate(1000, alignment, AllocationType::NonLinear, granularity, "b");
+    assert!(rt; second.is_ok());
+    SubAllocator::FreeList(list)
+}
+
+fn report(rt: &impl Abort, alloc: Global) -> AllocatorReport {
+    let name = String::from_str(alloc, NAME).expect(rt, "there is memory");
+    let row = AllocationReport {
+        name,
+        offset: 9_007_199_254_740_993,
+        size: u64::MAX,
+    };
+    let block = MemoryBlockReport {
+        size: u64::MAX,
+        allocations: 0..1,
+    };
+    AllocatorReport {
+        allocations: vec![in alloc; row].expect(rt, "there is memory"),
+        blocks: vec![in alloc; block].expect(rt, "there is memory"),
+        total_allocated_bytes: 5,
+        total_capacity_bytes: u64::MAX,
+    }
+}
+
+#[test]
+fn blocks_read_back(rt: HostRuntime) {
+    let block = two_pieces(&rt, rt.alloc());
+    let view = BlockView {
+        memory_type: 3,
+        slot: 2,
+        page_size: 1,
+        block: &block,
+    };
+    let read = read_back(&rt, rt.alloc(), &BlocksJson(&[view]));
+    let name = read
+        .pointer("/blocks/0/pieces/0/name")
+        .and_then(Value::as_str);
+    assert_eq!(rt; name, Some(NAME));
+    assert_eq!(rt; number_at(&rt, &read, "/blocks/0/pieces/1/offset"), 512);
+    assert_eq!(rt; number_at(&rt, &read, "/blocks/0/pieces/1/padding"), 212);
+    assert_eq!(rt; number_at(&rt, &read, "/blocks/0/pieces/1/size"), 1000);
+    assert_eq!(rt; number_at(&rt, &read, "/blocks/0/gaps/0/start"), 1512);
+    assert_eq!(rt; number_at(&rt, &read, "/blocks/0/gaps/0/size"), 4_192_792);
+    assert_eq!(rt; number_at(&rt, &read, "/blocks/0/memory_type"), 3);
+    assert_eq!(rt;
+        number_at(&rt, &read, "/blocks/0/statistics/piece_bytes"),
+        1512
+    );
+}
+
+#[test]
+fn report_reads_back(rt: HostRuntime) {
+    let report = report(&rt, rt.alloc());
+    let read = read_back(&rt, rt.alloc(), &ReportJson(&report));
+    assert_eq!(rt;
+        number_at(&rt, &read, "/allocations/0/offset"),
+        9_007_199_254_740_993
+    );
+    assert_eq!(rt; number_at(&rt, &read, "/allocations/0/size"), u64::MAX);
+    assert_eq!(rt; number_at(&rt, &read, "/blocks/0/allocations/end"), 1);
+    assert_eq!(rt; number_at(&rt, &read, "/total_allocated_bytes"), 5);
+}
+
+#[test]
+fn no_blocks(rt: HostRuntime) {
+    let text = text_of(&rt, rt.alloc(), &BlocksJson(&[]));
+    assert_eq!(rt;
+        text.as_str(),
+        "{\"blocks\":[],\"schema\":\"gpu_report.blocks\",\"version\":1}"
+    );
+}
+
+#[test]
+fn names_in_pictures(rt: HostRuntime) {
+    let report = report(&rt, rt.alloc());
+    let text = text_of(&rt, rt.alloc(), &ReportSvg(&report));
+    assert!(rt; text.contains("bytes at 9007199254740993: a&lt;b&amp;c&quot;d\\e&gt;??ü</title>"));
+}
+
+#[test]
+fn a_small_block_beside_a_large_one(rt: HostRuntime) {
+    let small = two_pieces(&rt, rt.alloc());
+    let large = SubAllocator::Dedicated(DedicatedBlockAllocator::new(
+        rt.alloc(),
+        9_223_372_036_854_775_808,
+    ));
+    let views = [
+        BlockView {
+            memory_type: 0,
+            slot: 0,
+            page_size: 1,
+            block: &large,
+        },
+        BlockView {
+            memory_type: 0,
+            slot: 1,
+            page_size: 1024,
+            block: &small,
+        },
+    ];
+    let text = text_of(&rt, rt.alloc(), &BlocksSvg(&views));
+    assert!(rt;
+        text.contains(
+            "type 0, slot 0: 8.0 EiB, 0 pieces, 0 B taken, 1 gaps, longest 8.0 EiB</text>"
+        )
+    );
+    assert!(rt; text.contains("pages of 1.0 KiB, not to scale</text>"));
+}
