@@ -8,6 +8,7 @@ ghost use Rattle.std.specs.Int.{is_power_of_two};
 mod free_list;
 mod leaks;
 mod refused;
+mod refused_or_served;
 mod search;
 mod sub_allocator;
 

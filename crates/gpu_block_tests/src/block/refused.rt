@@ -1,4 +1,4 @@
-//! Every call of a block of either form, and of a report, while the host refuses one request for memory. With ample memory
+//! Every call of a block of either form, copies of a report's rows, and amounts, while the host refuses one request for memory. With ample memory
 //! the tests pass. Where one request was refused they fail with a text of their own, after all else held:
 //! `tools/check_refused` refuses each in turn, and looks for that text.
 
@@ -10,17 +10,14 @@ use super::{
     MB, Request, allocate, dedicated, free, general, granularity_one, report_text, wanted,
 };
 use gpu_block::SubAllocator;
-use gpu_values::{
-    AllocationError, AllocationReport, AllocationType, AllocatorReport, MemoryBlockReport, Result,
-    fmt_bytes,
-};
+use gpu_values::{AllocationError, AllocationReport, AllocationType, Result, fmt_bytes};
 use std::alloc::Global;
 use std::num::NonZeroU64;
 use std::process::Abort;
 use std::test::Fail;
 
 /// What a run ends with in which one request was refused.
-const TOLD: &str = "one call was refused, and nothing was lost";
+pub const TOLD: &str = "one call was refused, and nothing was lost";
 
 /// How many calls were refused.
 #[derive(Drop)]
@@ -77,7 +74,7 @@ fn shown(block: &SubAllocator, alloc: Global, refusals: &mut Refusals) -> Result
     answer
 }
 
-fn check_shown(rt: &impl Abort, text: &str, want: &str) {
+pub fn check_shown(rt: &impl Abort, text: &str, want: &str) {
     assert_eq!(rt; text, want);
 }
 
@@ -194,57 +191,31 @@ fn a_dedicated_block_loses_nothing_where_memory_is_refused(
     refusals.end()
 }
 
-/// A report of two pieces in one block.
-fn report_of_two(alloc: Global) -> Result<AllocatorReport> {
-    let mut allocations = Vec::new(alloc);
-    for (name, offset) in [("a", 0), ("b", 256)] {
-        allocations.push(AllocationReport {
-            name: String::from_str(alloc, name)?,
-            offset,
-            size: 64,
-        })?;
-    }
-    let mut blocks = Vec::new(alloc);
-    blocks.push(MemoryBlockReport {
-        size: 4 * MB,
-        allocations: 0..2,
-    })?;
-    Ok(AllocatorReport {
-        allocations,
-        blocks,
-        total_allocated_bytes: 320,
-        total_capacity_bytes: 4 * MB,
-    })
-}
-
-/// A copy and its text, each asked for once more where the host refused memory.
-fn copied_text(report: &AllocatorReport, refusals: &mut Refusals) -> Result<String> {
-    let mut copy = report.clone();
+/// A copy of a row, asked for once more where the host refused memory.
+fn copied_row(row: &AllocationReport, refusals: &mut Refusals) -> Result<AllocationReport> {
+    let copy = row.clone();
     if refusals.is_one(&copy) {
-        copy = report.clone();
+        return row.clone();
     }
-    let copy = copy?;
-    let text = copy.text(None);
-    if refusals.is_one(&text) {
-        return copy.text(None);
-    }
-    text
+    copy
 }
 
 #[test]
-fn reports_and_amounts_lose_nothing_where_memory_is_refused(
+fn rows_and_amounts_lose_nothing_where_memory_is_refused(
     rt: HostRuntime,
 ) -> std::result::Result<(), Fail> {
     let mut refusals = Refusals { count: 0 };
-    let Ok(report) = report_of_two(rt.alloc()) else {
+    let Ok(name) = String::from_str(rt.alloc(), "a") else {
         return Err(Fail::new(TOLD));
     };
-    let text = copied_text(&report, &mut refusals)?;
-    check_shown(
-        &rt,
-        text.as_str(),
-        "AllocatorReport { summary: 320.00 B / 4.00 MB, blocks: 1, allocations: 2, largest: [\"a\": 64.00 B, \"b\": 64.00 B] }",
-    );
+    let row = AllocationReport {
+        name,
+        offset: 256,
+        size: 64,
+    };
+    let copy = copied_row(&row, &mut refusals)?;
+    assert_eq!(&rt; (copy.offset, copy.size), (256, 64));
+    check_shown(&rt, copy.name.as_str(), "a");
     let mut amount = fmt_bytes(rt.alloc(), 1536);
     if refusals.is_one(&amount) {
         amount = fmt_bytes(rt.alloc(), 1536);

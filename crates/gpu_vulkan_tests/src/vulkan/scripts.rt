@@ -134,7 +134,7 @@ fn check_cause(
     }
 }
 
-/// Takes memory. Where the host refused it nothing has changed, and it is asked for once more.
+/// Takes memory. Where the host refused it nothing has changed, and it is asked for once more, unless a budget refuses it.
 fn take_some(
     rt: &impl Abort,
     a: &mut Allocator<SimVulkan>,
@@ -156,9 +156,10 @@ fn take_some(
     }
     account.line();
     match a.allocate(log, &desc) {
-        Ok(allocation) => account.give(a, allocation, own),
-        Err(_) => Err(Fail::from("a request was refused twice")),
+        Ok(allocation) => return account.give(a, allocation, own),
+        Err(error) => check_cause(rt, a, account, &error, &desc, before),
     }
+    Ok(())
 }
 
 /// Asks for what can't be given: the device isn't asked.
