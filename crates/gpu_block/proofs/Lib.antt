@@ -1,4 +1,5 @@
 pub mod Blocks
+pub mod LongestCounted
 pub mod Runs
 pub mod Showing
 pub mod Sums

@@ -1,11 +1,11 @@
 -- Runs of a block's chunks, and how the extents in them lie.
-use Rattle.std.proofs.Common.{◌≡◌, ℕ, ◌+◌, ◌<◌, ◌≤◌, ◌^◌, List, [], ◌∷◌, refl, ap, ◌∙◌, sym, subst, inl, inr, arith}
+use Rattle.std.proofs.Common.{◌≡◌, ℕ, ◌+◌, ◌≤◌, List, [], ◌∷◌, refl, ap, ◌∙◌, sym, subst, inl, inr, arith}
 use Rattle.std.specs.Prelude.{All}
 use Rattle.std.proofs.lemmas.List.Elements.{All-head, All-nil, All-tail}
 use Rattle.gpu_block_chunks.specs.declared.chunk.Chunk.{Chunk}
 use Rattle.gpu_block_chunks.specs.ChunkList.{Covers, IsFree}
 use Rattle.gpu_block_pieces.specs.FreeList.{Extent}
-use Rattle.gpu_block_pieces.specs.Chunks.{IsChunk, extents_of, extent}
+use Rattle.gpu_block_pieces.specs.Chunks.{IsChunk, extents_of}
 use Rattle.gpu_block_pieces.proofs.Tiling.{Covers-le}
 use Rattle.gpu_block_pieces.proofs.Views.{free_or_live, extents-free, extents-live}
 use Rattle.gpu_block.specs.Pieces.{LieBetween, IsPlaced, IsRun}

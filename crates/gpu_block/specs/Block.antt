@@ -1,11 +1,12 @@
 -- A block of memory: one that is cut into pieces, or one that is one piece's own.
-use Rattle.std.specs.Prelude.{◌≡◌, ℕ, ◌+◌, Contains, List, Bool, true, false, Option, IfSome}
+use Rattle.std.specs.Prelude.{◌≡◌, ◌≢◌, ◌⊎◌, ℕ, ◌+◌, Contains, List, Bool, true, false, Option, IfSome, IsSome}
 use Rattle.std.specs.Int.NonZero.{non_zero_u64_get}
 use Rattle.std.specs.declared.num.NonZeroU64.{NonZeroU64}
 use Rattle.gpu_values.specs.declared.error.AllocationError.{AllocationError}
 use Rattle.gpu_block_pieces.specs.FreeList.{Extent, FreeList, SomeExtent, IsGap, extent_bytes}
 use Rattle.gpu_block_pieces.specs.Request.{Request}
 use Rattle.gpu_cost.specs.Cost.{Counts, Rises}
+use Rattle.gpu_block_pieces.specs.Place.{HasNoPlace}
 use Rattle.gpu_block_pieces.specs.Search.{IsSearch}
 use Rattle.gpu_block_pieces.specs.Changes.{Takes, Releases, Renames}
 use Rattle.gpu_values.specs.Refusal.{Refusal, refusal_of}
@@ -70,6 +71,11 @@ RenamesIn (dedicated old) number name (free_list new) = ⊥
 RenamesIn (dedicated old) number name (dedicated new) = DedicatedRenames old number name new
 
 -- ---- why a call is refused
+
+-- the request has no place in a free list; a dedicated block is taken, or of another size
+abbrev pub HasNoPlaceIn : Block → Request → Type 0
+HasNoPlaceIn (free_list b) r = HasNoPlace b r
+HasNoPlaceIn (dedicated b) r = IsSome b.piece ⊎ (r.size ≢ b.size)
 
 -- why a take is refused
 abbrev pub IsTakeRefusalIn : Block → Request → AllocationError → Type 0

@@ -1,8 +1,8 @@
 -- The live pieces of a block in order of offset, and the gaps before, between and behind them.
-use Rattle.std.specs.Prelude.{ℕ, ◌+◌, ◌-◌, ◌^◌, ◌<◌, ◌≤◌, List, [], ◌∷◌, ◌++◌, length, max, nat_lt, if◌then◌else◌, All}
+use Rattle.std.specs.Prelude.{ℕ, ◌+◌, ◌-◌, ◌^◌, ◌<◌, ◌≤◌, List, [], ◌∷◌, ◌++◌, max, nat_lt, if◌then◌else◌, All}
 use Rattle.gpu_block_chunks.specs.declared.chunk.Chunk.{Chunk}
 use Rattle.gpu_block_chunks.specs.ChunkList.{Covers}
-use Rattle.gpu_block_pieces.specs.FreeList.{Extent, extent_bytes}
+use Rattle.gpu_block_pieces.specs.FreeList.{Extent}
 use Rattle.gpu_block_pieces.specs.Chunks.{IsChunk}
 use Rattle.gpu_block.specs.Block.{Block, extents_of, size_of}
 

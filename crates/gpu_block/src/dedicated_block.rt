@@ -33,7 +33,9 @@ impl Model for DedicatedBlockAllocator {
 
 impl DedicatedBlockAllocator {
     ghost use Rattle.gpu_block_pieces.specs.FreeList.{FindsPlace, extent_bytes};
-    ghost use Rattle.gpu_block_pieces.specs.Request.{request};
+    ghost use Rattle.gpu_block_pieces.specs.Request.{Request, request};
+    ghost use Rattle.gpu_block.specs.Block.{HasNoPlaceIn, dedicated};
+    ghost use Rattle.gpu_block.specs.Pieces.{gaps_between, longest};
     ghost use Rattle.gpu_block.specs.Dedicated.{IsWhole, empty_dedicated, held_extents, DedicatedTakes, IsDedicatedTakeRefusal, DedicatedReleases, IsDedicatedReleaseRefusal, DedicatedRenames, IsDedicatedRenameRefusal};
 
     /// An empty block of `size` bytes, which isn't 0. It takes no memory.
@@ -145,6 +147,17 @@ impl DedicatedBlockAllocator {
         ensures { result ≡ self.now.size }
     {
         self.size
+    }
+
+    /// The bytes of the longest gap: the block's where no piece is held, else 0. A request of more bytes has no place.
+    pub fn longest_gap(&self) -> u64
+        ensures longest { result ≡ longest (gaps_between 0 (held_extents self.now) self.now.size) }
+        ensures law { (r : Request) → result < r.size → HasNoPlaceIn (dedicated self.now) r }
+    {
+        match self.piece {
+            None => self.size,
+            Some(_) => 0,
+        }
     }
 
     /// Whether no piece is held.

@@ -33,9 +33,11 @@ impl Model for FreeListAllocator {
 
 impl FreeListAllocator {
     ghost use Rattle.gpu_block_pieces.specs.FreeList.{SomeExtent, IsGap};
-    ghost use Rattle.gpu_block_pieces.specs.Request.{request};
+    ghost use Rattle.gpu_block_pieces.specs.Request.{Request, request};
     ghost use Rattle.gpu_cost.specs.Cost.{Rises};
+    ghost use Rattle.gpu_block_pieces.specs.Place.{HasNoPlace};
     ghost use Rattle.gpu_block_pieces.specs.Search.{IsSearch};
+    ghost use Rattle.gpu_block.specs.Pieces.{gaps_between, longest};
     ghost use Rattle.gpu_block_pieces.specs.Changes.{Takes, Releases, Renames};
     ghost use Rattle.gpu_block_pieces.specs.BlockRefusal.{IsTakeRefusal, release_refusal, IsRenameRefusal};
     ghost use Rattle.gpu_block_pieces.specs.Laws.{IsSound, IsInOrder, IsPageSeparated, IsLongEnough, IsForNumbers, IsCovered};
@@ -118,6 +120,15 @@ impl FreeListAllocator {
         ensures { result ≡ self.now.block.size }
     {
         self.pieces.size()
+    }
+
+    /// The bytes of the longest gap, 0 where there is none. A request of more bytes has no place. It looks at no other gap.
+    pub fn longest_gap(&self) -> u64
+        ensures longest { result ≡ longest (gaps_between 0 self.now.block.extents self.now.block.size) }
+        ensures law { (r : Request) → result < r.size → HasNoPlace self.now.block r }
+    {
+        let _chunks = self.pieces.walk();
+        self.pieces.longest_gap()
     }
 
     /// Whether no piece is live.

@@ -5,7 +5,7 @@ ghost use Rattle.std.specs.Int.{is_power_of_two};
 ghost use Rattle.std.specs.Int.NonZero.{non_zero_u64_get};
 ghost use Rattle.gpu_values.specs.declared.error.AllocationError.TheVariants.{HostOutOfMemory};
 ghost use Rattle.gpu_values.specs.Refusal.{refusal_of};
-ghost use Rattle.gpu_block_pieces.specs.Request.{request};
+ghost use Rattle.gpu_block_pieces.specs.Request.{Request, request};
 ghost use Rattle.gpu_values.specs.Report.{row_of};
 ghost use Rattle.gpu_block.specs.Rows.{extent_row};
 
@@ -30,7 +30,7 @@ impl SubAllocator {
     ghost use Rattle.gpu_block.specs.Leak.{leaks_of, leak_text};
     ghost use Rattle.gpu_block.specs.Pieces.{LieBetween, gaps_in};
     ghost use Rattle.gpu_block.specs.Statistics.{statistics_of};
-    ghost use Rattle.gpu_block.specs.Block.{extents_of, size_of, allocated_bytes, is_general, HasPages, TakesIn, IsTakeRefusalIn, ReleasesIn, IsReleaseRefusalIn, RenamesIn, IsRenameRefusalIn, IsSoundBlock, IsOrderedBlock, HasPagesApart, IsCoveredBlock, IsFitLaw, IsSearchIn, CountsRise};
+    ghost use Rattle.gpu_block.specs.Block.{extents_of, size_of, allocated_bytes, is_general, HasPages, TakesIn, HasNoPlaceIn, IsTakeRefusalIn, ReleasesIn, IsReleaseRefusalIn, RenamesIn, IsRenameRefusalIn, IsSoundBlock, IsOrderedBlock, HasPagesApart, IsCoveredBlock, IsFitLaw, IsSearchIn, CountsRise};
 
     /// Takes a place for `size` bytes, and answers the piece's offset in bytes and its number. A free list takes the least place
     /// in the shortest gap that fits, and refuses by `OutOfMemory` where there is none. A dedicated block takes a piece of
@@ -175,6 +175,18 @@ impl SubAllocator {
         ensures { result ≡ statistics_of (block_of self.now) }
     {
         count(self.pieces(), self.size())
+    }
+
+    /// The bytes of the longest gap, 0 where there is none, which `statistics` finds by counting. A request of more bytes has no
+    /// place. It looks at no other gap.
+    pub fn longest_gap(&self) -> u64
+        ensures longest { result ≡ (statistics_of (block_of self.now)).longest_gap }
+        ensures law { (r : Request) → result < r.size → HasNoPlaceIn (block_of self.now) r }
+    {
+        match self {
+            SubAllocator::FreeList(list) => list.longest_gap(),
+            SubAllocator::Dedicated(block) => block.longest_gap(),
+        }
     }
 
     /// The bytes of all live pieces, padding included.

@@ -27,6 +27,12 @@ pub record HasKeyAt (gs : List Gap) (size start : ℕ) : Type 0 where
   pub at_within : at < length gs
   pub at_key : (d : Gap) → HasKey (slice_index_or gs at d) size start
 
+-- some gap has that length
+pub record HasLength (gs : List Gap) (size : ℕ) : Type 0 where
+  pub at : ℕ
+  pub within : at < length gs
+  pub is : (d : Gap) → (slice_index_or gs at d).length ≡ size
+
 -- the gaps before that place are before the key, and no other is
 pub record IsPlaceOf (gs : List Gap) (size start place : ℕ) : Type 0 where
   pub within : place ≤ length gs

@@ -2,7 +2,7 @@
 ghost use Rattle.std.specs.Prelude.{◌≡◌, ℕ, ◌+◌, ◌<◌, ◌≤◌, List, [], length, slice_index_or, OnOk, OnErr, IsOk, IsTrue};
 ghost use Rattle.std.specs.List.{AllPairs, insert, remove};
 ghost use Rattle.gpu_cost.specs.Cost.{Halves};
-ghost use Rattle.gpu_block_gaps.specs.Index.{Before, IsBefore, IsPlaceOf, HasNoKey, HasKeyAt, IsInserted, IsRemoved, IsReplaced, place_without};
+ghost use Rattle.gpu_block_gaps.specs.Index.{Before, IsBefore, IsPlaceOf, HasNoKey, HasKeyAt, IsInserted, IsRemoved, IsReplaced, HasLength, place_without};
 
 use crate::scan::Scan;
 use gpu_cost::Cost;
@@ -113,6 +113,17 @@ impl GapIndex {
         ensures { AllPairs Before self.now.gaps }
     {
         let _ = self.entries.len();
+    }
+
+    /// The length of the longest gap, which is the last one; 0 where there is none.
+    pub fn longest(&self) -> u64
+        ensures bound { (k : ℕ) (d : Gap) → k < length self.now.gaps → (slice_index_or self.now.gaps k d).length ≤ result }
+        ensures reached { 0 < result → HasLength self.now.gaps result }
+    {
+        match self.entries.len() {
+            0 => 0,
+            count => self.entries.get(count - 1).length,
+        }
     }
 
     /// Makes room for that many gaps in all. A refusal changes nothing.

@@ -28,6 +28,7 @@ pub mod Indexing
 pub mod Updates
 pub mod Merges
 pub mod Choosing
+pub mod LongestGap
 pub mod Spending
 pub mod Holding
 pub mod Costing

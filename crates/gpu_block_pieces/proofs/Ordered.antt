@@ -6,7 +6,7 @@ use Rattle.std.proofs.lemmas.List.Elements.{All-nil, All-cons, All-weaker}
 use Rattle.std.proofs.lemmas.List.Kept.{AllPairs-cons}
 use Rattle.gpu_block_chunks.specs.declared.chunk.Chunk.{Chunk}
 use Rattle.gpu_block_chunks.specs.ChunkList.{IsFree, Covers}
-use Rattle.gpu_block_chunks.specs.Chain.{Name, IsFresh}
+use Rattle.gpu_block_chunks.specs.Chain.{IsFresh}
 use Rattle.gpu_block_gaps.specs.declared.index.Gap.{Gap}
 use Rattle.gpu_values.specs.declared.allocation_type.AllocationType.{AllocationType}
 use Rattle.gpu_values.specs.declared.allocation_type.AllocationType.TheVariants.{Free, Linear}

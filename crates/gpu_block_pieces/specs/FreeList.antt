@@ -42,6 +42,11 @@ pub record IsGap (b : FreeList) (start end : ℕ) : Type 0 where
   pub starts : (start ≡ 0) ⊎ SomeExtent b (λ x. x.end ≡ start)
   pub ends : (end ≡ b.size) ⊎ SomeExtent b (λ x. x.start ≡ end)
 
+-- no gap is longer, and where it isn't 0 one is that long
+pub record IsLongestGap (b : FreeList) (size : ℕ) : Type 0 where
+  pub bound : (start end : ℕ) → IsGap b start end → end - start ≤ size
+  pub reached : 0 < size → (start : ℕ) × (end : ℕ) × IsGap b start end × (end - start ≡ size)
+
 -- the bytes of the extents, padding included
 abbrev pub extent_bytes : List Extent → ℕ
 extent_bytes xs = sum_by (λ x. x.end - x.start) xs

@@ -65,6 +65,11 @@ pub record IsGapOf (cs : List Chunk) (g : Gap) : Type 0 where
   pub free : IsFree chunk.kind
   pub is : g ≡ gap_between (last_kind Free front) chunk (kind_or back Free)
 
+-- no gap of the list is longer, and where it isn't 0 one is that long
+pub record IsLongestOf (cs : List Chunk) (size : ℕ) : Type 0 where
+  pub bound : (g : Gap) → IsGapOf cs g → g.length ≤ size
+  pub reached : 0 < size → (g : Gap) × IsGapOf cs g × (g.length ≡ size)
+
 -- ---- the search
 
 -- the request fits in the gap at `offset`

@@ -6,7 +6,7 @@ ghost use Rattle.gpu_cost.specs.Cost.{LooksUp, LooksUpBetween};
 ghost use Rattle.gpu_block_chunks.specs.ChunkList.{IsFree};
 ghost use Rattle.gpu_block_pieces.specs.Chunks.{NoneFits, IsTaken, IsNamedAt, HoldsNumber, extents_of, is_gap_by};
 ghost use Rattle.gpu_block_chunks.specs.Chain.{IsFresh, HasNoNumber, StandsAt, IsReleased};
-ghost use Rattle.gpu_block_pieces.specs.Indexed.{IsChosen, chosen_at, Spends, IsPieceAt, IsPieceOf};
+ghost use Rattle.gpu_block_pieces.specs.Indexed.{IsChosen, chosen_at, Spends, IsPieceAt, IsPieceOf, IsLongestOf};
 
 use crate::edit::{release, take_front, take_whole};
 use crate::place::Wanted;
@@ -78,6 +78,14 @@ impl Chunks {
         let _live = self.live;
         let _size = self.chain.size();
         find(&self.index, wanted, cost)
+    }
+
+    /// The length of the longest gap, 0 where there is none.
+    pub fn longest_gap(&self) -> u64
+        ensures { IsLongestOf self.now.items result }
+    {
+        let _live = self.live;
+        self.index.longest()
     }
 
     /// Gives the found gap, or its front, to a piece, and tells the piece's number. All memory is taken first, also for what

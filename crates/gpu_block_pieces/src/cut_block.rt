@@ -46,8 +46,9 @@ impl Model for CutBlock {
 impl CutBlock {
     ghost use Rattle.gpu_cost.specs.Cost.{counts_of, LooksUp, LooksUpBetween};
     ghost use Rattle.gpu_block_chunks.specs.ChunkList.{Covers};
-    ghost use Rattle.gpu_block_pieces.specs.FreeList.{FindsPlace, SomeExtent, IsGap, fresh_free_list};
-    ghost use Rattle.gpu_block_pieces.specs.Request.{request};
+    ghost use Rattle.gpu_block_pieces.specs.FreeList.{FindsPlace, SomeExtent, IsGap, IsLongestGap, fresh_free_list};
+    ghost use Rattle.gpu_block_pieces.specs.Request.{Request, request};
+    ghost use Rattle.gpu_block_pieces.specs.Place.{HasNoPlace};
     ghost use Rattle.gpu_block_pieces.specs.Search.{IsSearch};
     ghost use Rattle.gpu_block_pieces.specs.Changes.{Takes, Releases, Renames};
     ghost use Rattle.gpu_block_pieces.specs.BlockRefusal.{IsTakeRefusal, release_refusal, IsRenameRefusal};
@@ -201,6 +202,14 @@ impl CutBlock {
             Some(piece) => Some((piece.offset, piece.start + piece.size - piece.offset)),
             None => None,
         }
+    }
+
+    /// The bytes of the longest gap, 0 where there is none. A request of more bytes has no place.
+    pub fn longest_gap(&self) -> u64
+        ensures longest { IsLongestGap self.now result }
+        ensures law { (r : Request) → result < r.size → HasNoPlace self.now r }
+    {
+        self.chunks.longest_gap()
     }
 
     /// The size of the block in bytes.

@@ -1,0 +1,7 @@
+use Rattle.gpu_block.proofs.sub_allocator.SubAllocator.longest_gap.Goals as goal
+
+pub returns-in-FreeList-clause-longest : goal.returns-in-FreeList-clause-longest
+returns-in-FreeList-clause-longest c = rw c.in-FreeList.is c.longest_gap.ensures.longest
+
+pub returns-in-FreeList-clause-law : goal.returns-in-FreeList-clause-law
+returns-in-FreeList-clause-law c = rw c.in-FreeList.is c.longest_gap.ensures.law
