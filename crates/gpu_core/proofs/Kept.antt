@@ -103,10 +103,10 @@ pub is_new_slot : {H : Type 0} (is_dedicated : Bool) (slots : List (Option (Slot
 is_new_slot true slots = lowest_new slots (lowest_empty slots) refl
 is_new_slot false slots = highest_new slots (highest_empty slots) refl
 
-with_empty : {H : Type 0} (slots : List (Option (Slot H))) (i : ℕ) (s : Slot H) → i < length slots → with_block slots i s ≡ slice_set slots i (Some s)
+pub with_empty : {H : Type 0} (slots : List (Option (Slot H))) (i : ℕ) (s : Slot H) → i < length slots → with_block slots i s ≡ slice_set slots i (Some s)
 with_empty slots i s below = grind (arith, common_steps, below)
 
-with_end : {H : Type 0} (slots : List (Option (Slot H))) (i : ℕ) (s : Slot H) → i ≡ length slots → with_block slots i s ≡ slots ++ Some s ∷ []
+pub with_end : {H : Type 0} (slots : List (Option (Slot H))) (i : ℕ) (s : Slot H) → i ≡ length slots → with_block slots i s ≡ slots ++ Some s ∷ []
 with_end slots i s e = grind (arith, common_steps, e)
 
 put_sum : {H : Type 0} (f : Option (Slot H) → ℕ) (slots : List (Option (Slot H))) (i : ℕ) (s : Slot H) → f None ≡ 0 → IsNewSlot slots i → slots_sum f (with_block slots i s) ≡ slots_sum f slots + f (Some s)
@@ -118,7 +118,7 @@ put_sum f slots i s none (empty_slot at) =
 put_sum f slots i s none (the_end at) = ap (slots_sum f) (with_end slots i s at) ∙ sum_end f slots (Some s)
 
 -- the new block's slot alone is changed
-put_only : {H : Type 0} (slots : List (Option (Slot H))) (i : ℕ) (s : Slot H) → IsNewSlot slots i → OnlyAt slots i (Some s) (with_block slots i s)
+pub put_only : {H : Type 0} (slots : List (Option (Slot H))) (i : ℕ) (s : Slot H) → IsNewSlot slots i → OnlyAt slots i (Some s) (with_block slots i s)
 put_only slots i s (empty_slot at) = subst (OnlyAt slots i (Some s)) (sym (with_empty slots i s at.below)) (set_only slots i (Some s) at.below)
 put_only slots i s (the_end at) = subst (OnlyAt slots i (Some s)) (sym (with_end slots i s at)) (subst (λ k. OnlyAt slots k (Some s) (slots ++ Some s ∷ [])) (sym at) (end_only slots (Some s)))
 

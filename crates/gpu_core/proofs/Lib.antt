@@ -7,4 +7,4 @@ pub mod EmptyBlocks
 pub mod Dead
 pub mod Kept
 pub mod OneOutcome
-pub mod PassedOver
+pub mod Bounded

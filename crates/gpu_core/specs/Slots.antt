@@ -1,5 +1,5 @@
 -- The slots of a memory type as its code keeps them, and the changes of one slot.
-use Rattle.std.specs.Prelude.{◌≡◌, ℕ, ◌<◌, Bool, true, List, length, Option, Some, None, cond, map, Contains, IsTrue}
+use Rattle.std.specs.Prelude.{◌≡◌, ◌≢◌, ℕ, ◌<◌, Bool, true, List, length, Option, Some, None, cond, map, Contains, IsTrue, slice_index}
 use Rattle.std.specs.Option.{option_map}
 use Rattle.std.specs.Int.{is_power_of_two}
 use Rattle.gpu_core.specs.declared.memory_type.slot.LiveBlock.{LiveBlock}
@@ -11,6 +11,7 @@ use Rattle.gpu_core.specs.SubAllocator.{block_of}
 use Rattle.gpu_core.specs.Block.{extents_of, is_general, TakesIn, HasPages, IsSoundBlock, HasPagesApart}
 use Rattle.gpu_core.specs.FreeList.{Extent}
 use Rattle.gpu_core.specs.TypeState.{Slot, slot_at, capacity_of, shared_count, KeepsOneEmptyAtMost}
+use Rattle.gpu_core.specs.TypeTake.{CannotServe}
 use Rattle.gpu_core.specs.TypeRelease.{SlotHolds, Goes}
 use Rattle.gpu_core.specs.declared.memory_type.Piece.{Piece}
 use Rattle.std.specs.Int.NonZero.{non_zero_u64_get}
@@ -20,6 +21,25 @@ slot_of b = record { number = b.number; block = block_of b.sub }
 
 abbrev pub slots_of : {H : Type 0} → List (Option (LiveBlock H)) → List (Option (Slot H))
 slots_of slots = map (option_map slot_of) slots
+
+-- what a contract sees of the slots: which there are, and for how many there is host memory
+pub record SlotList (H : Type 0) : Type 0 where
+  pub slots : List (Option (Slot H))
+  pub room : ℕ
+
+-- the slot serves no request of more bytes
+abbrev pub Bounds : {H : Type 0} → ℕ → Option (Slot H) → Type 0
+Bounds longest s = (r : Request) → longest < r.size → CannotServe r s
+
+-- each slot has its bound
+pub record AreBounded {H : Type 0} (longest : List ℕ) (slots : List (Option (Slot H))) : Type 0 where
+  pub length_is : length longest ≡ length slots
+  pub each : (i : ℕ) → Bounds (slice_index longest i) (slot_at slots i)
+
+-- each slot but one has its bound
+pub record OthersAreBounded {H : Type 0} (one : ℕ) (longest : List ℕ) (slots : List (Option (Slot H))) : Type 0 where
+  pub length_is : length longest ≡ length slots
+  pub each : (i : ℕ) → i ≢ one → Bounds (slice_index longest i) (slot_at slots i)
 
 -- a slot's block has the type's pages and is sound, and its pieces of different kinds share no page
 abbrev pub SlotIsSound : {H : Type 0} → ℕ → Option (Slot H) → Type 0

@@ -18,7 +18,7 @@ use need::make_room;
 pub use need::{NeedBlock, Room};
 use report::add_slots;
 use slot::{Finding, LiveBlock, find};
-use slots::{free_in, put_block, rename_in, reserve_slot, take_shared};
+use slots::Slots;
 use std::alloc::Global;
 use std::marker::Model;
 use std::num::NonZeroU64;
@@ -66,7 +66,7 @@ pub enum Prepared<H> {
 pub struct MemoryType<H: Copy + Eq> {
     is_host: bool,
     granularity: u64,
-    slots: Vec<Option<LiveBlock<H>>>,
+    slots: Slots<H>,
     capacity: u64,
     general: usize,
     budget: Option<u64>,
@@ -74,21 +74,20 @@ pub struct MemoryType<H: Copy + Eq> {
 }
 
 impl<H: Copy + Eq> Model for MemoryType<H> {
-    ghost use Rattle.std.specs.Prelude.{vec_capacity};
     ghost use Rattle.gpu_core.specs.TypeState.{TypeState};
-    ghost use Rattle.gpu_core.specs.Slots.{slots_of, AreKept};
+    ghost use Rattle.gpu_core.specs.Slots.{AreKept};
 
     ghost Value = { TypeState H };
 
     ghost view = { λ t. record {
       is_host = t.is_host;
       granularity = t.granularity;
-      slots = slots_of t.slots.items;
-      room = vec_capacity t.slots;
+      slots = t.slots.slots;
+      room = t.slots.room;
       budget = t.budget;
     } };
 
-    ghost invariant = { λ t. AreKept t.granularity (slots_of t.slots.items) t.capacity t.general };
+    ghost invariant = { λ t. AreKept t.granularity t.slots.slots t.capacity t.general };
 }
 
 impl<H: Copy + Eq> MemoryType<H> {
@@ -113,7 +112,7 @@ impl<H: Copy + Eq> MemoryType<H> {
         MemoryType {
             is_host,
             granularity,
-            slots: Vec::new(alloc),
+            slots: Slots::new(alloc),
             capacity: 0,
             general: 0,
             budget: None,
@@ -141,11 +140,11 @@ impl<H: Copy + Eq> MemoryType<H> {
         let next = sizes.memblock_size(self.is_host, self.general);
         let dedicated = request.dedicated || request.size > next;
         if !dedicated {
-            if let Some(piece) = take_shared(&mut self.slots, request, self.granularity)? {
+            if let Some(piece) = self.slots.take(request, self.granularity)? {
                 return Ok(Prepared::Taken(piece));
             }
         }
-        reserve_slot(&mut self.slots)?;
+        self.slots.reserve()?;
         let size = if dedicated { request.size } else { next };
         let room = make_room(self.alloc, dedicated, size, self.granularity, request)?;
         Ok(Prepared::NeedBlock(NeedBlock {
@@ -177,7 +176,7 @@ impl<H: Copy + Eq> MemoryType<H> {
             number,
             sub: room.sub,
         };
-        let slot = put_block(&mut self.slots, block, dedicated);
+        let slot = self.slots.put(block, dedicated);
         self.capacity += size;
         if !dedicated {
             self.general += 1;
@@ -208,7 +207,7 @@ impl<H: Copy + Eq> MemoryType<H> {
         ensures empty { KeepsOneEmptyAtMost self.new.slots }
     {
         let several = self.general > 1;
-        match free_in(&mut self.slots, piece, several)? {
+        match self.slots.free(piece, several)? {
             None => Ok(None),
             Some(gone) => {
                 self.capacity -= gone.size;
@@ -235,14 +234,14 @@ impl<H: Copy + Eq> MemoryType<H> {
         ensures sound { AreSound self.new.granularity self.new.slots }
         ensures empty { KeepsOneEmptyAtMost self.new.slots }
     {
-        rename_in(&mut self.slots, piece, name)
+        self.slots.rename(piece, name)
     }
 
     /// Whether a piece is live: its slot's block is the one named, and has the piece under its number at its place.
     pub fn is_live(&self, piece: &Piece<H>) -> bool
         ensures { IsTrue result ↔ IsLive H.eq self.now.slots piece.now }
     {
-        match self.slots.get(piece.slot) {
+        match self.slots.as_slice().get(piece.slot) {
             Some(Some(block)) => match find(block, piece) {
                 Finding::Piece => true,
                 _ => false,
@@ -302,7 +301,7 @@ impl<H: Copy + Eq> MemoryType<H> {
     pub fn block(&self, slot: usize) -> Option<H>
         ensures { result ≡ block_number (slot_at self.now.slots slot) }
     {
-        match self.slots.get(slot) {
+        match self.slots.as_slice().get(slot) {
             Some(Some(block)) => Some(block.number),
             _ => None,
         }
@@ -313,7 +312,7 @@ impl<H: Copy + Eq> MemoryType<H> {
     pub fn leaks(&self, memory_type: usize, slot: usize) -> Option<Leaks<'_>>
         ensures { result ≡ leaks_in memory_type slot (slot_at self.now.slots slot) }
     {
-        match self.slots.get(slot) {
+        match self.slots.as_slice().get(slot) {
             Some(Some(block)) => Some(block.sub.leaks(memory_type, slot)),
             _ => None,
         }
@@ -323,7 +322,7 @@ impl<H: Copy + Eq> MemoryType<H> {
     pub fn pieces(&self, slot: usize) -> Option<Pieces<'_>>
         ensures { result ≡ pieces_in (slot_at self.now.slots slot) }
     {
-        match self.slots.get(slot) {
+        match self.slots.as_slice().get(slot) {
             Some(Some(block)) => Some(block.sub.pieces()),
             _ => None,
         }
@@ -334,7 +333,7 @@ impl<H: Copy + Eq> MemoryType<H> {
     pub fn statistics(&self, slot: usize) -> Option<BlockStatistics>
         ensures { result ≡ statistics_in (slot_at self.now.slots slot) }
     {
-        match self.slots.get(slot) {
+        match self.slots.as_slice().get(slot) {
             Some(Some(block)) => Some(block.sub.statistics()),
             _ => None,
         }
@@ -355,7 +354,7 @@ impl<H: Copy + Eq> MemoryType<H> {
             memory_type,
             block: None,
             next: 0,
-            slots: &self.slots,
+            slots: self.slots.as_slice(),
         }
     }
 
@@ -369,6 +368,6 @@ impl<H: Copy + Eq> MemoryType<H> {
         ensures within { OnOk result (report.old.total_allocated_bytes ≤ report.old.total_capacity_bytes → report.new.total_allocated_bytes ≤ report.new.total_capacity_bytes) }
         ensures cause { IfErr result (λ e. e ≡ HostOutOfMemory) }
     {
-        add_slots(report, &self.slots)
+        add_slots(report, self.slots.as_slice())
     }
 }

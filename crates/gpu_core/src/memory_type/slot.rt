@@ -5,14 +5,13 @@ ghost use Rattle.std.specs.Option.{option_map};
 ghost use Rattle.std.specs.Int.{is_power_of_two};
 ghost use Rattle.std.specs.Int.NonZero.{non_zero_u64_get};
 ghost use Rattle.gpu_values.specs.declared.error.AllocationError.TheVariants.{HostOutOfMemory};
-ghost use Rattle.gpu_core.specs.TypeTake.{asked, BlockCannotServe, CannotServe};
-ghost use Rattle.gpu_core.specs.Request as requests;
+ghost use Rattle.gpu_core.specs.TypeTake.{asked, CannotServe};
 ghost use Rattle.gpu_core.specs.Refusal.{refusal_of};
 ghost use Rattle.gpu_core.specs.SubAllocator.{block_of};
-ghost use Rattle.gpu_core.specs.Block.{is_general, IsSoundBlock, HasPages, HasPagesApart, ReleasesIn};
+ghost use Rattle.gpu_core.specs.Block.{IsSoundBlock, HasPages, HasPagesApart, ReleasesIn};
 ghost use Rattle.gpu_core.specs.TypeState.{slot_size, shared_in};
 ghost use Rattle.gpu_core.specs.TypeRelease.{SlotHolds, IsFreeRefusal, IsNameRefusal, SlotReleases, SlotRenames};
-ghost use Rattle.gpu_core.specs.Slots.{slot_of, SlotTakes, SlotIsSound, Finds, Settles, gone_number, gone_size, gone_shared};
+ghost use Rattle.gpu_core.specs.Slots.{slot_of, Bounds, SlotTakes, SlotIsSound, Finds, Settles, gone_number, gone_size, gone_shared};
 
 use super::{Piece, Request};
 use crate::{AllocationError, AllocationType, Result, SubAllocator};
@@ -34,12 +33,14 @@ pub struct Taken<H> {
     pub block: H,
 }
 
-/// Whether a block can't serve requests of `size` bytes for its form or for its longest gap, so that it need not be asked.
-fn is_passed_over(sub: &SubAllocator, size: u64) -> bool
-    ensures passed { IsTrue result → (r : requests.Request) → r.size ≡ size → BlockCannotServe r (block_of sub.now) }
-    ensures asked { (IsTrue result → ⊥) → IsTrue (is_general (block_of sub.now)) }
+/// The bytes up to which a slot may serve requests: those of its shared block's longest gap, and 0 where it has none.
+pub fn longest_in<H>(slot: &Option<LiveBlock<H>>) -> u64
+    ensures { Bounds result (option_map slot_of slot.now) }
 {
-    !sub.supports_general_allocations() || sub.longest_gap() < size
+    match slot {
+        Some(block) if block.sub.supports_general_allocations() => block.sub.longest_gap(),
+        _ => 0,
+    }
 }
 
 /// Takes a piece of a shared block, or answers `None` where the slot can't serve the request. The only refusal is
@@ -62,9 +63,7 @@ pub fn take_in<H: Copy>(
     ensures kept { SlotIsSound granularity (option_map slot_of slot.new) }
 {
     match slot {
-        None => Ok(None),
-        Some(block) if is_passed_over(&block.sub, request.size) => Ok(None),
-        Some(block) => {
+        Some(block) if block.sub.supports_general_allocations() => {
             let Request {
                 size,
                 alignment,
@@ -82,6 +81,7 @@ pub fn take_in<H: Copy>(
                 Err(error) => Err(error),
             }
         }
+        _ => Ok(None),
     }
 }
 

@@ -1,19 +1,19 @@
-use Rattle.std.proofs.Common.{◌≡◌, ◌<◌, Some, subst, sym, ap, ◌∙◌, arith, slice_index_or, length}
+use Rattle.std.proofs.Common.{◌≡◌, Some, subst, sym, ap, ◌∙◌, arith}
 use Rattle.std.specs.Option.{option_map}
 use Rattle.std.proofs.lemmas.Bool.{false≢true}
 use Rattle.gpu_core.specs.TypeState.{slot_at}
 use Rattle.gpu_core.specs.TypeRelease.{SlotHolds, IsLive}
-use Rattle.gpu_core.specs.Slots.{slot_of, slots_of, SlotIsSound}
+use Rattle.gpu_core.specs.Slots.{slot_of, SlotIsSound}
 use Rattle.gpu_core.proofs.Slotted.{edits}
 use Rattle.gpu_core.proofs.Finding.{not_found}
 use Rattle.gpu_core.proofs.memory_type.MemoryType.is_live.Goals as goal
 use Rattle.gpu_core.proofs.memory_type.MemoryType.is_live.Goals.{In-Some-Some}
 
-the_slot : (g : _) (c : In-Some-Some g) → slot_at (slots_of c.self.inside.slots.items) c.args.piece.now.slot ≡ Some (slot_of c.in-Some-Some.block)
+the_slot : (g : _) (c : In-Some-Some g) → slot_at c.self.inside.slots.slots c.args.piece.now.slot ≡ Some (slot_of c.in-Some-Some.block)
 the_slot g c =
     let read = c.in-Some-Some.ensures.lookup in
-    let e = edits c.self.inside.slots.items c.args.piece.now.slot c.in-Some-Some.field-0.now c.in-Some-Some.field-0.now (subst (λ xs. c.args.piece.now.slot < length xs) c.deref.ensures.value (omega arith)) (subst (λ xs. c.in-Some-Some.field-0.now ≡ slice_index_or xs c.args.piece.now.slot c.in-Some-Some.field-0.now) c.deref.ensures.value read.1) in
-    e.before ∙ ap (option_map slot_of) c.in-Some-Some.field-0-is
+    let e = edits c.as_slice.result.now c.args.piece.now.slot c.in-Some-Some.field-0.now c.in-Some-Some.field-0.now (omega arith) read.1 in
+    ap (λ xs. slot_at xs c.args.piece.now.slot) (sym c.as_slice.ensures) ∙ e.before ∙ ap (option_map slot_of) c.in-Some-Some.field-0-is
 
 pub find-requires : goal.find-requires
 find-requires g c =

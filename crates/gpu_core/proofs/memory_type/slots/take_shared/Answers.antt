@@ -49,3 +49,14 @@ returns-in-Some-clause-kept g c =
     let e = edits c.loop-below.slots.items (c.loop-below.below - 1) c.index_mut-slot.result.now c.take_in.new.slot below c.index_mut-slot.ensures.value in
     let sound : AreSound c.args.granularity (slots_of c.loop-below.slots.items) = subst (AreSound c.args.granularity) (sym c.loop-below.invariant.same) c.requires.sound in
     edited_sound c.args.granularity c.loop-below.slots.items (c.loop-below.below - 1) c.index_mut-slot.result.now c.take_in.new.slot below e sound (λ _. c.take_in.ensures.kept)
+
+pub loop-below-preserved-then-longest-below : goal.loop-below-preserved-then-longest-below
+loop-below-preserved-then-longest-below g c =
+    let short = c.if-longest-below.true in
+    let here = c.requires.bounded.each (c.loop-below.below - 1) (asked c.args.request.now) (omega (arith, short)) in
+    record {
+      within = omega (arith, c.loop-below.invariant.within);
+      same = c.loop-below.invariant.same;
+      room = c.loop-below.invariant.room;
+      above = none_from (slots_of c.args.slots.now.items) (asked c.args.request.now) c.loop-below.below c.loop-below-test.true c.loop-below.invariant.above here;
+    }
