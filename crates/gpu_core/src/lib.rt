@@ -14,6 +14,3 @@ pub use gpu_values::{
     AllocatorReport, Fault, MemoryBlockReport, MemoryLocation, Result, fmt_bytes,
 };
 pub use memory_type::{MemoryType, NeedBlock, Piece, Prepared, Request, Room, TypeLeaks};
-
-#[cfg(test)]
-mod tests;
