@@ -3,6 +3,4 @@
 
 pub mod d3d12;
 pub mod metal;
-#[cfg(test)]
-mod tests;
 pub mod vulkan;

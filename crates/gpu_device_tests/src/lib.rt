@@ -3,6 +3,8 @@
 
 pub mod d3d12;
 pub mod metal;
+#[cfg(test)]
+mod vulkan;
 
 /// What a run of a test ends with in which one request for host memory was refused, after all else held.
 /// `tools/check_refused` refuses each in turn, and looks for this text.

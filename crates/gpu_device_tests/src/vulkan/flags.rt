@@ -1,7 +1,7 @@
 //! Flags have the values of Vulkan's headers, and keep bits that have no name here.
 
-use crate::vulkan::MemoryPropertyFlags;
 use bitflags::Flags;
+use gpu_device::vulkan::MemoryPropertyFlags;
 
 #[test]
 fn values(rt: HostRuntime) {
