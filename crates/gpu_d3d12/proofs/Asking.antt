@@ -5,6 +5,8 @@ use Rattle.gpu_device.specs.D3D12.{Held, Entry, Properties}
 use Rattle.gpu_device.specs.Granted.{with_granted, counted}
 use Rattle.gpu_device.specs.declared.d3d12.device.D3D12Device.{Ghosts}
 use Rattle.gpu_device.specs.declared.d3d12.types.Format.{Format}
+use Rattle.gpu_device.specs.declared.d3d12.types.HeapFlags.{HeapFlags}
+use Rattle.gpu_device.specs.declared.d3d12.types.HeapProperties.{HeapProperties}
 use Rattle.gpu_device.specs.declared.d3d12.types.ResourceDesc.{ResourceDesc}
 use Rattle.gpu_device.specs.declared.d3d12.types.ResourceHeapTier.{ResourceHeapTier}
 use Rattle.gpu_d3d12_setup.specs.Question.{resource_question, told_info, handed_on}
@@ -39,41 +41,44 @@ same_info p (Device10 d) desc castable = refl
 same_info p (Device12 d) desc castable = refl
 
 -- what is met with where the device answers so
-abbrev pub asked_of : ResourceQuestion → ResourceCreateDesc → Option ResourceAnswer → Option AskedResource
-asked_of question d None = None
-asked_of question d (Some answer) = Some (record { formats = option_map length (handed_on question d.castable_formats.now); clear = option_copied d.clear_value; answer = answer })
+abbrev pub asked_of : ResourceQuestion → ResourceCreateDesc → (memory : Option (HeapProperties × HeapFlags)) → Option ResourceAnswer → Option AskedResource
+asked_of question d memory None = None
+asked_of question d memory (Some answer) =
+    Some (record { formats = option_map length (handed_on question d.castable_formats.now); clear = option_copied d.clear_value; memory = memory; answer = answer })
 
-pub answer_is : (question : ResourceQuestion) (d : ResourceCreateDesc) (o : Option ResourceAnswer) → resource_answer (asked_of question d o) ≡ o
-answer_is question d None = refl
-answer_is question d (Some answer) = refl
+pub answer_is : (question : ResourceQuestion) (d : ResourceCreateDesc) (memory : Option (HeapProperties × HeapFlags)) (o : Option ResourceAnswer) → resource_answer (asked_of question d memory o) ≡ o
+answer_is question d memory None = refl
+answer_is question d memory (Some answer) = refl
 
-pub asked_with : (question : ResourceQuestion) (d : ResourceCreateDesc) (o : Option ResourceAnswer) → IsAskedWith question d (asked_of question d o)
-asked_with question d None = tt
-asked_with question d (Some answer) = (refl, refl)
+pub asked_with : (question : ResourceQuestion) (d : ResourceCreateDesc) (memory : Option (HeapProperties × HeapFlags)) (o : Option ResourceAnswer) → IsAskedWith question d memory (asked_of question d memory o)
+asked_with question d memory None = tt
+asked_with question d memory (Some answer) = (refl, refl, refl)
 
-module _ {D : Type 0} (g : Ghosts D) (question : ResourceQuestion) (d : ResourceCreateDesc) (entry : Entry) where
+module _ {D : Type 0} (g : Ghosts D) (question : ResourceQuestion) (d : ResourceCreateDesc) (memory : Option (HeapProperties × HeapFlags)) (entry : Entry) where
   -- the question comes after an attempt, if there was one
   pub asked_counts : (e : AttemptEnvironment) (o : Option ResourceAnswer) (device between to : D) → CountsAndNames g device (record { attempt = e; resource = None }) between
-      → IsAfterResource g between question d entry o to → CountsAndNames g device (record { attempt = e; resource = asked_of question d o }) to
+      → IsAfterResource g between question d memory entry o to → CountsAndNames g device (record { attempt = e; resource = asked_of question d memory o }) to
   asked_counts e None device between to c is = record {
     count = ap g.refused is ∙ c.count;
     latest_heap = ap g.latest_heap is ∙ c.latest_heap;
     latest_formats = ap g.latest_formats is ∙ c.latest_formats;
     latest_clear = ap g.latest_clear is ∙ c.latest_clear;
+    latest_memory = ap g.latest_memory is ∙ c.latest_memory;
   }
   asked_counts e (Some answer) device between to c is = record {
     count = is.count ∙ ap (λ n. counted n (resource_number answer)) c.count;
     latest_heap = is.latest_heap ∙ c.latest_heap;
     latest_formats = is.latest_formats;
     latest_clear = is.latest_clear;
+    latest_memory = is.latest_memory;
   }
 
   pub asked_holds : (tier : ResourceHeapTier) (aside : Held) (ss : Slots) (o : Option ResourceAnswer) (device to : D) → HoldsJustLiveBlocks tier aside (g.held device) ss
-      → IsAfterResource g device question d entry o to → HoldsJustLiveBlocks tier (with_granted aside (granted_number o) entry) (g.held to) ss
+      → IsAfterResource g device question d memory entry o to → HoldsJustLiveBlocks tier (with_granted aside (granted_number o) entry) (g.held to) ss
   asked_holds tier aside ss None device to h is = subst (λ (k : Held). HoldsJustLiveBlocks tier aside k ss) (sym (ap g.held is)) h
   asked_holds tier aside ss (Some answer) device to h is =
       subst (λ (k : Held). HoldsJustLiveBlocks tier (with_granted aside (resource_number answer) entry) k ss) (sym is.held) (granted_holds tier aside (g.held device) ss (resource_number answer) entry h is.number)
 
-  pub asked_constant : (o : Option ResourceAnswer) (device to : D) → IsAfterResource g device question d entry o to → g.properties to ≡ g.properties device
+  pub asked_constant : (o : Option ResourceAnswer) (device to : D) → IsAfterResource g device question d memory entry o to → g.properties to ≡ g.properties device
   asked_constant None device to is = ap g.properties is
   asked_constant (Some answer) device to is = is.constant

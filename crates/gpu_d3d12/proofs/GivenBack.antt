@@ -41,7 +41,7 @@ module _ {D : Type 0} (g : Ghosts D) (before : State D) (r : Resource) (slots : 
   gone_counts : (after : D) → IsWithoutResource g device r.resource.0 after → CountsAndNames g device nothing_at_all after
   gone_counts after w =
       let n = w.asks_nothing in
-      record { count = n.count; latest_heap = n.latest_heap; latest_formats = n.latest_formats; latest_clear = n.latest_clear }
+      record { count = n.count; latest_heap = n.latest_heap; latest_formats = n.latest_formats; latest_clear = n.latest_clear; latest_memory = n.latest_memory }
 
   gone_holds : (after : D) → IsWithoutResource g device r.resource.0 after → HoldsJustLiveBlocks before.setup.tier (without_resource aside r.resource.0) (g.held after) before.slots
   gone_holds after w =

@@ -1,6 +1,6 @@
 -- A placed resource, over a device: its piece is allocated, and stays or goes as the device answers.
 use Rattle.gpu_memory_types.specs.Budgets.{budgets}
-use Rattle.std.proofs.Common.{◌≡◌, ◌∙◌, ℕ, refl, sym, subst, length, Some, Ok, Err, Result}
+use Rattle.std.proofs.Common.{◌≡◌, ◌∙◌, ℕ, refl, sym, subst, length, Some, None, Ok, Err, Result}
 use Rattle.std.specs.Prelude.{OnOk, OnErr}
 use Rattle.std.proofs.lemmas.List.{length-map}
 use Rattle.gpu_values.specs.Refusal.{refusal_of}
@@ -54,13 +54,13 @@ module _ {D : Type 0} (g : Ghosts D) (setup : Setup) (question : ResourceQuestio
 
   module _ (old mid : Types ID3D12Heap) (device between : D) (told : kinds old ≡ kinds_told setup.tier) (kept : MemoryTypesInvariant old) (same : kinds mid ≡ kinds old)
       (keeps : MemoryTypesInvariant old → MemoryTypesInvariant mid) (a : Allocation) (allocates : Allocates g setup (budgets old) p (slots_of old) device (Ok a) (slots_of mid) between)
-      (answer : ResourceAnswer) (then : D) (asks : AsksResource g between question d (Placed a.heap.0 a.offset (made_size (g.properties between) question d.resource_desc.now d.castable_formats.now)) answer then) where
+      (answer : ResourceAnswer) (then : D) (asks : AsksResource g between question d None (Placed a.heap.0 a.offset (made_size (g.properties between) question d.resource_desc.now d.castable_formats.now)) answer then) where
     abbrev made : ℕ
     made = made_size (g.properties device) question d.resource_desc.now d.castable_formats.now
 
-    asks_it : AsksResource g between question d (Placed a.heap.0 a.offset made) answer then
+    asks_it : AsksResource g between question d None (Placed a.heap.0 a.offset made) answer then
     asks_it =
-        subst (λ properties. AsksResource g between question d (Placed a.heap.0 a.offset (made_size properties question d.resource_desc.now d.castable_formats.now)) answer then)
+        subst (λ properties. AsksResource g between question d None (Placed a.heap.0 a.offset (made_size properties question d.resource_desc.now d.castable_formats.now)) answer then)
         (allocated_constant g setup (budgets old) p (slots_of old) device (Ok a) (slots_of mid) between allocates) asks
 
     sound : BlocksWellFormed 1 (slots_of mid)

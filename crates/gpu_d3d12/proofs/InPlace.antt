@@ -116,7 +116,7 @@ module _ {D : Type 0} (g : Ghosts D) (before : State D) (d : ResourceCreateDesc)
             constant = ap g.properties places.2 ∙ after.1;
             many = ap (λ (ss : Slots). length ss) places.1 ∙ after.2;
             environment = record { attempt = t.environment; resource = None };
-            counts = asked_counts g question d (entries.Committed 0) t.environment None device between to t.counts places.2;
+            counts = asked_counts g question d None (entries.Committed 0) t.environment None device between to t.counts places.2;
             step = λ new same bounds records beside. record {
               taken = t.reply;
               mid = mid;
@@ -141,15 +141,15 @@ module _ {D : Type 0} (g : Ghosts D) (before : State D) (d : ResourceCreateDesc)
       held_mid : HoldsJustLiveBlocks before.setup.tier aside (g.held between) mid × (g.properties between ≡ g.properties device) × (length mid ≡ length before.slots)
       held_mid = allocated_holds g before.setup before.budgets p aside before.slots many device (Ok a) mid between allocates h
 
-      placed_granted : (n : ℕ) → AsksResource g between question d entry (Granted n) then → IsGivenAs d a n size result × (slots ≡ mid) × (to ≡ then) → PlacedOutcome
+      placed_granted : (n : ℕ) → AsksResource g between question d None entry (Granted n) then → IsGivenAs d a n size result × (slots ≡ mid) × (to ≡ then) → PlacedOutcome
       placed_granted n asks ends =
           let given = reply_given p a t.reply t.replies in
           let u = given.0 in
           let q = given.1.0 in
           let is_given = given.1.1 in
           let in_it = given.1.2 in
-          let held = asked_holds g question d entry before.setup.tier aside mid (Some (Granted n)) between then held_mid.0 asks in
-          let counts = asked_counts g question d entry t.environment (Some (Granted n)) device between then t.counts asks in
+          let held = asked_holds g question d None entry before.setup.tier aside mid (Some (Granted n)) between then held_mid.0 asks in
+          let counts = asked_counts g question d None entry t.environment (Some (Granted n)) device between then t.counts asks in
           record {
             reply = Made u (Some q) n size;
             outcome = record {
@@ -159,16 +159,16 @@ module _ {D : Type 0} (g : Ghosts D) (before : State D) (d : ResourceCreateDesc)
                   (subst (λ k. HoldsJustLiveBlocks before.setup.tier (insert aside n entry) k mid) (sym (ap g.held ends.2)) held);
               constant = ap g.properties ends.2 ∙ asks.constant ∙ held_mid.1;
               many = ap (λ (ss : Slots). length ss) ends.1 ∙ held_mid.2;
-              environment = record { attempt = t.environment; resource = asked_of question d (Some (Granted n)) };
-              counts = subst (λ x. CountsAndNames g device (record { attempt = t.environment; resource = asked_of question d (Some (Granted n)) }) x) (sym ends.2) counts;
+              environment = record { attempt = t.environment; resource = asked_of question d None (Some (Granted n)) };
+              counts = subst (λ x. CountsAndNames g device (record { attempt = t.environment; resource = asked_of question d None (Some (Granted n)) }) x) (sym ends.2) counts;
               step = λ new same bounds records beside. record {
                 taken = t.reply;
                 mid = mid;
                 sound = sound_mid;
                 allocates = t.step;
                 places =
-                    subst (λ r. PlacesThen basis d question r (asked_of question d (Some (Granted n))) (Made u (Some q) n size) mid new.slots aside new.beside) (sym is_given)
-                    (asked_with question d (Some (Granted n)), refl, (same ∙ ends.1, beside ∙ ap (λ (x : Piece ID3D12Heap). insert aside n (entries.Placed x.block.0 x.offset made)) in_it.piece));
+                    subst (λ r. PlacesThen basis d question r (asked_of question d None (Some (Granted n))) (Made u (Some q) n size) mid new.slots aside new.beside) (sym is_given)
+                    (asked_with question d None (Some (Granted n)), refl, (same ∙ ends.1, beside ∙ ap (λ (x : Piece ID3D12Heap). insert aside n (entries.Placed x.block.0 x.offset made)) in_it.piece));
                 budgets = bounds;
                 committed = records;
               };
@@ -176,7 +176,7 @@ module _ {D : Type 0} (g : Ghosts D) (before : State D) (d : ResourceCreateDesc)
             replies = made_told d a u q n size result in_it ends.0;
           }
 
-      placed_refused : (answer : ResourceAnswer) (f : Refusal) → number_or_refusal placed_texts answer ≡ Err f → resource_number answer ≡ None → AsksResource g between question d entry answer then
+      placed_refused : (answer : ResourceAnswer) (f : Refusal) → number_or_refusal placed_texts answer ≡ Err f → resource_number answer ≡ None → AsksResource g between question d None entry answer then
           → (refusal_in result ≡ Some f) × IsReleased g a.memory_type_index (piece_of a) mid then slots to → PlacedOutcome
       placed_refused answer f is none asks ends =
           let given = reply_given p a t.reply t.replies in
@@ -187,8 +187,8 @@ module _ {D : Type 0} (g : Ghosts D) (before : State D) (d : ResourceCreateDesc)
           let rel : IsReleased g a.memory_type_index (piece_of a) mid then slots to = ends.1 in
           let held : HoldsJustLiveBlocks before.setup.tier aside (g.held then) mid =
           subst (λ o. HoldsJustLiveBlocks before.setup.tier (with_granted aside o entry) (g.held then) mid) none
-          (asked_holds g question d entry before.setup.tier aside mid (Some answer) between then held_mid.0 asks) in
-          let counts = asked_counts g question d entry t.environment (Some answer) device between then t.counts asks in
+          (asked_holds g question d None entry before.setup.tier aside mid (Some answer) between then held_mid.0 asks) in
+          let counts = asked_counts g question d None entry t.environment (Some answer) device between then t.counts asks in
           let live = (allocated_owns g before.setup before.budgets p before.slots mid many sound sound_mid device (Ok a) between allocates).gives.0 in
           let left = released_holds g before.setup.tier aside a.memory_type_index mid (type_below mid a.memory_type_index (piece_of a) live) (piece_of a) then slots to rel held in
           let releases : ReleaseStep u q mid slots =
@@ -201,16 +201,16 @@ module _ {D : Type 0} (g : Ghosts D) (before : State D) (d : ResourceCreateDesc)
               holds = left.0;
               constant = left.1 ∙ asks.constant ∙ held_mid.1;
               many = left.2 ∙ held_mid.2;
-              environment = record { attempt = t.environment; resource = asked_of question d (Some answer) };
-              counts = after_gone g (record { attempt = t.environment; resource = asked_of question d (Some answer) }) rel.went device then to counts rel.gives_back;
+              environment = record { attempt = t.environment; resource = asked_of question d None (Some answer) };
+              counts = after_gone g (record { attempt = t.environment; resource = asked_of question d None (Some answer) }) rel.went device then to counts rel.gives_back;
               step = λ new same bounds records beside. record {
                 taken = t.reply;
                 mid = mid;
                 sound = sound_mid;
                 allocates = t.step;
                 places =
-                    subst (λ r. PlacesThen basis d question r (asked_of question d (Some answer)) (Fails f) mid new.slots aside new.beside) (sym is_given) (
-                      asked_with question d (Some answer),
+                    subst (λ r. PlacesThen basis d question r (asked_of question d None (Some answer)) (Fails f) mid new.slots aside new.beside) (sym is_given) (
+                      asked_with question d None (Some answer),
                       ap (made_reply u (Some q) size) (sym is),
                       subst (λ x. PlacedBy u q size made x mid new.slots aside new.beside) (sym is) (subst (λ (ss : Slots). ReleaseStep u q mid ss) (sym same) releases, beside),
                     );
@@ -221,7 +221,7 @@ module _ {D : Type 0} (g : Ghosts D) (before : State D) (d : ResourceCreateDesc)
             replies = refused_told d result f ends.0;
           }
 
-      answered : (answer : ResourceAnswer) → AsksResource g between question d entry answer then → EndsBy g d size a (number_or_refusal placed_texts answer) result mid then slots to → PlacedOutcome
+      answered : (answer : ResourceAnswer) → AsksResource g between question d None entry answer then → EndsBy g d size a (number_or_refusal placed_texts answer) result mid then slots to → PlacedOutcome
       answered (Granted n) asks ends = placed_granted n asks ends
       answered (Declined code reason) asks ends = placed_refused (Declined code reason) _ refl refl asks ends
       answered Null asks ends = placed_refused Null _ refl refl asks ends

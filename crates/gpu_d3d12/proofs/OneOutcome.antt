@@ -5,6 +5,8 @@ use Rattle.std.specs.List.{remove}
 use Rattle.gpu_values.specs.Refusal.{Refusal}
 use Rattle.gpu_core.specs.declared.memory_type.Piece.{Piece}
 use Rattle.gpu_device.specs.D3D12.{Held}
+use Rattle.gpu_device.specs.declared.d3d12.types.HeapFlags.{HeapFlags}
+use Rattle.gpu_device.specs.declared.d3d12.types.HeapProperties.{HeapProperties}
 use Rattle.gpu_device.specs.declared.d3d12.types.ID3D12Heap.{ID3D12Heap}
 use Rattle.gpu_memory_types.specs.Blocks.{BlocksWellFormed}
 use Rattle.gpu_memory_types.proofs.Options.{none_some, some_same}
@@ -40,9 +42,9 @@ commits_by true false old size answer r s new next a b = (a.1 ∙ sym b.1, a.2 �
 commits_by true true old size None r s new next a b = absurd a
 commits_by true true old size (Some answer) r s new next a b = (a.0 ∙ sym b.0, a.1 ∙ sym b.1)
 
-commit_once : (basis : Basis) (d : ResourceCreateDesc) (question : ResourceQuestion) (o : Environment) (x y : Reply) (old new next : Contents)
-    → CommitStep basis d question o x old new → CommitStep basis d question o y old next → (x ≡ y) × (new ≡ next)
-commit_once basis d question o x y old new next a b =
+commit_once : (basis : Basis) (d : ResourceCreateDesc) (question : ResourceQuestion) (own : HeapProperties × HeapFlags) (o : Environment) (x y : Reply) (old new next : Contents)
+    → CommitStep basis d question own o x old new → CommitStep basis d question own o y old next → (x ≡ y) × (new ≡ next)
+commit_once basis d question own o x y old new next a b =
     let size = (info_of basis d).size_in_bytes in
     let types : a.memory_type ≡ b.memory_type = one_first d.memory_location d.resource_category (memory_kinds basis.setup.tier) a.memory_type b.memory_type a.first b.first in
     let other : Commits o.attempt.host (records_at old.committed a.memory_type) size (resource_answer o.resource) b.number b.left =
@@ -90,7 +92,7 @@ place_once basis d question o x y old new next sound a b =
 
 makes_once : (basis : Basis) (d : ResourceCreateDesc) (question : ResourceQuestion) (type : ResourceType) (o : Environment) (x y : Reply) (old new next : Contents) → BlocksWellFormed 1 old.slots
     → MakesBy basis d question type o x old new → MakesBy basis d question type o y old next → (x ≡ y) × (new ≡ next)
-makes_once basis d question (resource_types.Committed p f) o x y old new next sound a b = commit_once basis d question o x y old new next a b
+makes_once basis d question (resource_types.Committed p f) o x y old new next sound a b = commit_once basis d question (p.now, f) o x y old new next a b
 makes_once basis d question resource_types.Placed o x y old new next sound a b = place_once basis d question o x y old new next sound a b
 
 create_once : (basis : Basis) (d : ResourceCreateDesc) (q : Result ResourceQuestion Refusal) (o : Environment) (x y : Reply) (old new next : Contents) → BlocksWellFormed 1 old.slots

@@ -36,6 +36,7 @@ module _ {D : Type 0} (g : Ghosts D) (before : State D) (S : Environment → Rep
           latest_heap = ap g.latest_heap is ∙ o.counts.latest_heap;
           latest_formats = ap g.latest_formats is ∙ o.counts.latest_formats;
           latest_clear = ap g.latest_clear is ∙ o.counts.latest_clear;
+          latest_memory = ap g.latest_memory is ∙ o.counts.latest_memory;
         };
         same_version = ap (with_device before.device) (sym is);
       }

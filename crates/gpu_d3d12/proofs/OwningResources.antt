@@ -4,6 +4,8 @@ use Rattle.std.proofs.Common.{◌≡◌, ℕ, sym, subst, length, Option, Some, 
 use Rattle.gpu_values.specs.Refusal.{Refusal, refusal_of, refusal_in}
 use Rattle.gpu_values.specs.declared.error.AllocationError.{AllocationError}
 use Rattle.gpu_device.specs.declared.d3d12.device.D3D12Device.{Ghosts}
+use Rattle.gpu_device.specs.declared.d3d12.types.HeapFlags.{HeapFlags}
+use Rattle.gpu_device.specs.declared.d3d12.types.HeapProperties.{HeapProperties}
 use Rattle.gpu_memory_types.specs.Blocks.{BlocksWellFormed}
 use Rattle.gpu_memory_types.proofs.Options.{none_some}
 use Rattle.gpu_memory_types.proofs.StayLive.{released_keeps_others}
@@ -87,10 +89,10 @@ replied_alone d r old new t size (Ok n) h = lies_alone t d r.allocation old new 
 replied_alone d r old new t size (Err f) h = absurd h
 
 -- it lies in no piece
-pub committed_gives : {D : Type 0} (g : Ghosts D) (basis : Basis) (d : ResourceCreateDesc) (question : ResourceQuestion) (result : Result Resource AllocationError) (before then : State D) (old new : Slots)
-    → IsMadeBy g (CommitStep basis d question) d result before then → IfOk result (λ r. IsNewIn old new r.allocation)
-committed_gives g basis d question (Err e) before then old new h = tt
-committed_gives g basis d question (Ok r) before then old new h =
+pub committed_gives : {D : Type 0} (g : Ghosts D) (basis : Basis) (d : ResourceCreateDesc) (question : ResourceQuestion) (own : HeapProperties × HeapFlags) (result : Result Resource AllocationError) (before then : State D) (old new : Slots)
+    → IsMadeBy g (CommitStep basis d question own) d result before then → IfOk result (λ r. IsNewIn old new r.allocation)
+committed_gives g basis d question own (Err e) before then old new h = tt
+committed_gives g basis d question own (Ok r) before then old new h =
     let s = h.step.step in
     replied_alone d r old new s.memory_type _ s.number (subst (λ (x : Reply). RepliesResource d (Ok r) x) s.reply_is h.replies)
 

@@ -61,11 +61,12 @@ module _ {D : Type 0} (g : Ghosts D) where
     latest_heap = ap g.latest_heap is;
     latest_formats = ap g.latest_formats is;
     latest_clear = ap g.latest_clear is;
+    latest_memory = ap g.latest_memory is;
   }
 
   pub counts_after : (host : Bool) (o : Option Asked) (device after : D) → IsAfter g device o after → CountsAndNames g device (met (record { host = host; asked = o })) after
   counts_after host None device after is = counts_same host device after is
-  counts_after host (Some a) device after is = record { count = is.count; latest_heap = is.latest_heap; latest_formats = is.latest_formats; latest_clear = is.latest_clear }
+  counts_after host (Some a) device after is = record { count = is.count; latest_heap = is.latest_heap; latest_formats = is.latest_formats; latest_clear = is.latest_clear; latest_memory = is.latest_memory }
 
   -- the call changed the blocks alone
   pub record Alone (old new : State D) : Type 0 where
@@ -168,13 +169,13 @@ module _ {D : Type 0} (g : Ghosts D) where
 
   gone_counts : (went : Option ID3D12Heap) (device after : D) → GivesBack g device went after → CountsAndNames g device (met nothing_met) after
   gone_counts None device after is = counts_same true device after is
-  gone_counts (Some heap) device after is = record { count = is.count; latest_heap = is.latest_heap; latest_formats = is.latest_formats; latest_clear = is.latest_clear }
+  gone_counts (Some heap) device after is = record { count = is.count; latest_heap = is.latest_heap; latest_formats = is.latest_formats; latest_clear = is.latest_clear; latest_memory = is.latest_memory }
 
   -- a heap that goes is no question
   pub after_gone : (o : Environment) (went : Option ID3D12Heap) (device between after : D) → CountsAndNames g device o between → GivesBack g between went after → CountsAndNames g device o after
   after_gone o None device between after c is = subst (λ (d : D). CountsAndNames g device o d) (sym is) c
   after_gone o (Some heap) device between after c is =
-      record { count = is.count ∙ c.count; latest_heap = is.latest_heap ∙ c.latest_heap; latest_formats = is.latest_formats ∙ c.latest_formats; latest_clear = is.latest_clear ∙ c.latest_clear }
+      record { count = is.count ∙ c.count; latest_heap = is.latest_heap ∙ c.latest_heap; latest_formats = is.latest_formats ∙ c.latest_formats; latest_clear = is.latest_clear ∙ c.latest_clear; latest_memory = is.latest_memory ∙ c.latest_memory }
 
   pub free_step : (old new : State D) (a : Allocation) (result : Result (Unit {0}) (AllocationError × Allocation)) → Frees g a old.slots (device_of old.device) result new.slots (device_of new.device)
       → Alone old new → IsStep g (Free a) (freed_as result) old new

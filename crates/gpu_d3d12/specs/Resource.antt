@@ -107,7 +107,7 @@ EndsBy g d size a (Err refusal) result mid between new after =
 pub record IsPlacedAt {D : Type 0} (g : Ghosts D) (question : ResourceQuestion) (d : ResourceCreateDesc) (size made : ℕ) (a : Allocation) (result : Result Resource AllocationError) (mid : Slots) (device : D) (new : Slots) (after : D) : Type 0 where
   pub answer : ResourceAnswer
   pub between : D
-  pub asks : AsksResource g device question d (Placed a.heap.0 a.offset made) answer between
+  pub asks : AsksResource g device question d None (Placed a.heap.0 a.offset made) answer between
   pub ends : EndsBy g d size a (number_or_refusal placed_texts answer) result mid between new after
 
 -- without a piece the device isn't asked

@@ -39,6 +39,8 @@ use Rattle.gpu_device.specs.D3D12 as entries
 use Rattle.gpu_device.specs.D3D12.{Held, without_resource}
 use Rattle.gpu_device.specs.Granted.{with_granted}
 use Rattle.gpu_device.specs.declared.d3d12.types.ClearValue.{ClearValue}
+use Rattle.gpu_device.specs.declared.d3d12.types.HeapFlags.{HeapFlags}
+use Rattle.gpu_device.specs.declared.d3d12.types.HeapProperties.{HeapProperties}
 use Rattle.gpu_device.specs.declared.d3d12.types.ResourceAllocationInfo.{ResourceAllocationInfo}
 use Rattle.gpu_d3d12_setup.specs.Question.{resource_question, told_info, made_size, handed_on}
 use Rattle.gpu_d3d12_setup.specs.ResourceAnswer.{ResourceAnswer, resource_number, placed_texts}
@@ -81,10 +83,12 @@ pub data Reply : Type 0 where
 
 -- ---- what a call meets with
 
--- how many formats and which clear value came with the question for a resource, and how the device answered
+-- how many formats and which clear value came with the question for a resource, which heap properties and flags with that for a committed
+-- one, and how the device answered
 pub record AskedResource : Type 0 where
   pub formats : Option ℕ
   pub clear : Option ClearValue
+  pub memory : Option (HeapProperties × HeapFlags)
   pub answer : ResourceAnswer
 
 -- host memory is enough or not; and how the device answers where it is asked for a heap, and then where it is asked for a resource
@@ -166,10 +170,11 @@ info_of basis d = told_info basis.properties basis.interface d.resource_desc.now
 abbrev pub size_made : Basis → ResourceQuestion → ResourceCreateDesc → ℕ
 size_made basis question d = made_size basis.properties question d.resource_desc.now d.castable_formats.now
 
--- the device is asked, if it is, with the formats that the question hands on and the clear value
-abbrev pub IsAskedWith : ResourceQuestion → ResourceCreateDesc → Option AskedResource → Type 0
-IsAskedWith question d None = Unit {0}
-IsAskedWith question d (Some a) = (a.formats ≡ option_map length (handed_on question d.castable_formats.now)) × (a.clear ≡ option_copied d.clear_value)
+-- the device is asked, if it is, with the formats that the question hands on, the clear value, and these heap properties and flags, if any
+abbrev pub IsAskedWith : ResourceQuestion → ResourceCreateDesc → (memory : Option (HeapProperties × HeapFlags)) → Option AskedResource → Type 0
+IsAskedWith question d memory None = Unit {0}
+IsAskedWith question d memory (Some a) =
+    (a.formats ≡ option_map length (handed_on question d.castable_formats.now)) × (a.clear ≡ option_copied d.clear_value) × (a.memory ≡ memory)
 
 abbrev pub resource_answer : Option AskedResource → Option ResourceAnswer
 resource_answer None = None
@@ -183,15 +188,15 @@ abbrev pub made_reply : (t : ℕ) → Option (Piece ID3D12Heap) → (size : ℕ)
 made_reply t piece size (Ok number) = Made t piece number size
 made_reply t piece size (Err refusal) = Fails refusal
 
--- a resource in memory of its own, which the first memory type that serves it keeps a record of
-pub record CommitStep (basis : Basis) (d : ResourceCreateDesc) (question : ResourceQuestion) (o : Environment) (reply : Reply) (old new : Contents) : Type 0 where
+-- a resource in memory of its own, by these heap properties and flags, which the first memory type that serves it keeps a record of
+pub record CommitStep (basis : Basis) (d : ResourceCreateDesc) (question : ResourceQuestion) (own : HeapProperties × HeapFlags) (o : Environment) (reply : Reply) (old new : Contents) : Type 0 where
   pub memory_type : ℕ
   pub first : IsFirstServing d.memory_location d.resource_category (memory_kinds basis.setup.tier) memory_type
   pub no_heap : o.attempt.asked ≡ None
   pub number : Result ℕ Refusal
   pub left : List CommittedRecord
   pub commits : Commits o.attempt.host (records_at old.committed memory_type) (info_of basis d).size_in_bytes (resource_answer o.resource) number left
-  pub asked_with : IsAskedWith question d o.resource
+  pub asked_with : IsAskedWith question d (Some own) o.resource
   pub reply_is : reply ≡ made_reply memory_type None (info_of basis d).size_in_bytes number
   pub slots : new.slots ≡ old.slots
   pub budgets : new.budgets ≡ old.budgets
@@ -206,7 +211,7 @@ PlacedBy t p size made (Err refusal) mid slots old new = ReleaseStep t p mid slo
 -- what follows the allocation of a placed resource's piece: the device is asked where there is one
 abbrev pub PlacesThen : Basis → ResourceCreateDesc → ResourceQuestion → (taken : Reply) → Option AskedResource → Reply → (mid : Slots) → (slots : Slots) → (old new : Held) → Type 0
 PlacesThen basis d question (Given t p) (Some a) reply mid slots old new =
-    IsAskedWith question d (Some a)
+    IsAskedWith question d None (Some a)
     × (reply ≡ made_reply t (Some p) (info_of basis d).size_in_bytes (number_or_refusal placed_texts a.answer))
     × PlacedBy t p (info_of basis d).size_in_bytes (size_made basis question d) (number_or_refusal placed_texts a.answer) mid slots old new
 PlacesThen basis d question (Fails refusal) None reply mid slots old new = (reply ≡ Fails refusal) × (slots ≡ mid) × (new ≡ old)
@@ -223,7 +228,7 @@ pub record PlaceStep (basis : Basis) (d : ResourceCreateDesc) (question : Resour
   pub committed : new.committed ≡ old.committed
 
 abbrev pub MakesBy : Basis → ResourceCreateDesc → ResourceQuestion → ResourceType → Environment → Reply → Contents → Contents → Type 0
-MakesBy basis d question (kinds_of_resources.Committed properties flags) o reply old new = CommitStep basis d question o reply old new
+MakesBy basis d question (kinds_of_resources.Committed properties flags) o reply old new = CommitStep basis d question (properties.now, flags) o reply old new
 MakesBy basis d question kinds_of_resources.Placed o reply old new = PlaceStep basis d question o reply old new
 
 -- first it is seen by which question the resource is made, or why it isn't; then its memory decides
@@ -327,12 +332,17 @@ abbrev pub clear_after : Option ClearValue → Option AskedResource → Option C
 clear_after latest None = latest
 clear_after latest (Some a) = a.clear
 
+abbrev pub memory_after : Option (HeapProperties × HeapFlags) → Option AskedResource → Option (HeapProperties × HeapFlags)
+memory_after latest None = latest
+memory_after latest (Some a) = a.memory
+
 -- the device counts and names just the questions that were met with, the one for a heap before the one for a resource
 pub record CountsAndNames {D : Type 0} (g : Ghosts D) (old : D) (o : Environment) (new : D) : Type 0 where
   pub count : g.refused new ≡ count_after_resource (count_after (g.refused old) o.attempt.asked) o.resource
   pub latest_heap : g.latest_heap new ≡ latest_after (g.latest_heap old) o.attempt.asked
   pub latest_formats : g.latest_formats new ≡ formats_after (g.latest_formats old) o.resource
   pub latest_clear : g.latest_clear new ≡ clear_after (g.latest_clear old) o.resource
+  pub latest_memory : g.latest_memory new ≡ memory_after (g.latest_memory old) o.resource
 
 -- contents change by this relation at what was met with, and the device counts and names just that
 pub record IsStepBy {D : Type 0} (g : Ghosts D) (S : Environment → Reply → Contents → Contents → Type 0) (reply : Reply) (old new : State D) : Type 0 where

@@ -247,7 +247,7 @@ impl<D: D3D12Device> Allocator<D> {
         own: OwnMemory,
         desc: &ResourceCreateDesc,
     ) -> Result<Resource>
-        ensures step { IsMadeBy D.D3D12Device (CommitStep (basis_of D.D3D12Device self.old) desc.now question) desc.now result self.old self.new }
+        ensures step { IsMadeBy D.D3D12Device (CommitStep (basis_of D.D3D12Device self.old) desc.now question (own.entry.heap_properties.now, own.entry.heap_flags)) desc.now result self.old self.new }
         ensures constant { (self.new.first ≡ self.old.first) × (self.new.setup ≡ self.old.setup) × (self.new.slots ≡ self.old.slots) }
     {
         let size = allocation_info_of(&self.device, desc).size_in_bytes;

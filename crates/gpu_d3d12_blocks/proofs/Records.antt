@@ -16,6 +16,8 @@ use Rattle.gpu_values.specs.Refusal.{Refusal, refusal_of, out_of_memory, host_ou
 use Rattle.gpu_values.specs.declared.error.AllocationError.{AllocationError}
 use Rattle.gpu_device.specs.D3D12.{Entry}
 use Rattle.gpu_device.specs.declared.d3d12.device.D3D12Device.{Ghosts}
+use Rattle.gpu_device.specs.declared.d3d12.types.HeapFlags.{HeapFlags}
+use Rattle.gpu_device.specs.declared.d3d12.types.HeapProperties.{HeapProperties}
 use Rattle.gpu_device.specs.declared.d3d12.types.ID3D12Resource.{ID3D12Resource}
 use Rattle.gpu_d3d12_setup.specs.ResourceAnswer.{ResourceAnswer, Granted, Declined, Null, Texts, committed_texts, resource_number, resource_refusal, AsksResource}
 use Rattle.gpu_d3d12_setup.specs.declared.question.ResourceCreateDesc.{ResourceCreateDesc}
@@ -105,8 +107,8 @@ refused_reply texts (Granted n) r is = absurd (none_some r is)
 refused_reply texts (Declined code reason) r is = (ap Err (sym (some_same _ _ is)), refl)
 refused_reply texts Null r is = (ap Err (sym (some_same _ _ is)), refl)
 
-module _ {D : Type 0} (g : Ghosts D) (question : ResourceQuestion) (d : ResourceCreateDesc) (entry : Entry) (size : ℕ) (old : List CommittedRecord) (device : D) where
-  pub too_much : (e : AllocationError) → refusal_of e ≡ out_of_memory → 2 ^ 64 ≤ total_size old + size → IsCommitted g question d entry size old device (Err e) old device
+module _ {D : Type 0} (g : Ghosts D) (question : ResourceQuestion) (d : ResourceCreateDesc) (own : HeapProperties × HeapFlags) (entry : Entry) (size : ℕ) (old : List CommittedRecord) (device : D) where
+  pub too_much : (e : AllocationError) → refusal_of e ≡ out_of_memory → 2 ^ 64 ≤ total_size old + size → IsCommitted g question d own entry size old device (Err e) old device
   too_much e why above = record {
     host = true;
     answer = None;
@@ -114,7 +116,7 @@ module _ {D : Type 0} (g : Ghosts D) (question : ResourceQuestion) (d : Resource
     asked = refl;
   }
 
-  pub no_room : (e : AllocationError) → refusal_of e ≡ host_out_of_memory → total_size old + size < 2 ^ 64 → IsCommitted g question d entry size old device (Err e) old device
+  pub no_room : (e : AllocationError) → refusal_of e ≡ host_out_of_memory → total_size old + size < 2 ^ 64 → IsCommitted g question d own entry size old device (Err e) old device
   no_room e why below = record {
     host = false;
     answer = None;
@@ -122,8 +124,8 @@ module _ {D : Type 0} (g : Ghosts D) (question : ResourceQuestion) (d : Resource
     asked = refl;
   }
 
-  pub refused : (e : AllocationError) (answer : ResourceAnswer) (after : D) → total_size old + size < 2 ^ 64 → AsksResource g device question d entry answer after
-      → resource_refusal committed_texts answer ≡ Some (refusal_of e) → IsCommitted g question d entry size old device (Err e) old after
+  pub refused : (e : AllocationError) (answer : ResourceAnswer) (after : D) → total_size old + size < 2 ^ 64 → AsksResource g device question d (Some own) entry answer after
+      → resource_refusal committed_texts answer ≡ Some (refusal_of e) → IsCommitted g question d own entry size old device (Err e) old after
   refused e answer after below asks why =
       let told = refused_reply committed_texts answer (refusal_of e) why in
       record {
@@ -134,8 +136,8 @@ module _ {D : Type 0} (g : Ghosts D) (question : ResourceQuestion) (d : Resource
         asked = asks;
       }
 
-  pub granted : (r : ID3D12Resource) (answer : ResourceAnswer) (after : D) (new : List CommittedRecord) → total_size old + size < 2 ^ 64 → AsksResource g device question d entry answer after
-      → answer ≡ Granted r.0 → new ≡ old ++ record { resource = r; size = size } ∷ [] → IsCommitted g question d entry size old device (Ok r) new after
+  pub granted : (r : ID3D12Resource) (answer : ResourceAnswer) (after : D) (new : List CommittedRecord) → total_size old + size < 2 ^ 64 → AsksResource g device question d (Some own) entry answer after
+      → answer ≡ Granted r.0 → new ≡ old ++ record { resource = r; size = size } ∷ [] → IsCommitted g question d own entry size old device (Ok r) new after
   granted r answer after new below asks is added = record {
     host = true;
     answer = Some answer;
@@ -146,12 +148,12 @@ module _ {D : Type 0} (g : Ghosts D) (question : ResourceQuestion) (d : Resource
   }
 
 -- the same of a memory type whose vector was lent
-pub lent_committed : {D : Type 0} (g : Ghosts D) (question : ResourceQuestion) (d : ResourceCreateDesc) (entry : Entry) (size : ℕ) (rows : Rows) (i : ℕ) (old : Committed) (v w : Vec CommittedRecord Global)
+pub lent_committed : {D : Type 0} (g : Ghosts D) (question : ResourceQuestion) (d : ResourceCreateDesc) (own : HeapProperties × HeapFlags) (entry : Entry) (size : ℕ) (rows : Rows) (i : ℕ) (old : Committed) (v w : Vec CommittedRecord Global)
     (device : D) (result : Result ID3D12Resource AllocationError) (after : D) → i < length rows → v ≡ slice_index_or rows i v → lists rows ≡ old
-    → IsCommitted g question d entry size v.items device result w.items after → IsCommitted g question d entry size (records_at old i) device result (records_at (lists (slice_set rows i w)) i) after
-lent_committed g question d entry size rows i old v w device result after below read view h =
-    subst (λ (rs : List CommittedRecord). IsCommitted g question d entry size (records_at old i) device result rs after) (sym (row_after rows i w below))
-    (subst (λ (rs : List CommittedRecord). IsCommitted g question d entry size rs device result w.items after)
+    → IsCommitted g question d own entry size v.items device result w.items after → IsCommitted g question d own entry size (records_at old i) device result (records_at (lists (slice_set rows i w)) i) after
+lent_committed g question d own entry size rows i old v w device result after below read view h =
+    subst (λ (rs : List CommittedRecord). IsCommitted g question d own entry size (records_at old i) device result rs after) (sym (row_after rows i w below))
+    (subst (λ (rs : List CommittedRecord). IsCommitted g question d own entry size rs device result w.items after)
     (sym (row_there rows i v below read) ∙ ap (λ (k : Committed). records_at k i) view) h)
 
 pub lent_others : (rows : Rows) (i : ℕ) (old : Committed) (w : Vec CommittedRecord Global) → i < length rows → lists rows ≡ old

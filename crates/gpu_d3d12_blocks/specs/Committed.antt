@@ -6,6 +6,8 @@ use Rattle.gpu_values.specs.Refusal.{Refusal, refusal_of, internal, out_of_memor
 use Rattle.gpu_values.specs.declared.error.AllocationError.{AllocationError}
 use Rattle.gpu_device.specs.D3D12.{Entry}
 use Rattle.gpu_device.specs.declared.d3d12.device.D3D12Device.{Ghosts}
+use Rattle.gpu_device.specs.declared.d3d12.types.HeapFlags.{HeapFlags}
+use Rattle.gpu_device.specs.declared.d3d12.types.HeapProperties.{HeapProperties}
 use Rattle.gpu_device.specs.declared.d3d12.types.ID3D12Resource.{ID3D12Resource}
 use Rattle.gpu_d3d12_setup.specs.ResourceAnswer.{ResourceAnswer, Granted, Declined, Null, Texts, committed_texts, resource_number, code_refusal, AsksResource}
 use Rattle.gpu_d3d12_setup.specs.declared.question.CommittedAllocationStatistics.{CommittedAllocationStatistics}
@@ -46,9 +48,9 @@ number_or_refusal texts (Declined code reason) = Err (code_refusal texts code re
 number_or_refusal texts Null = Err (internal (codes "Allocation succeeded but no resource was returned?") None)
 
 -- the device after a question for a resource: untouched where it wasn't asked
-abbrev pub IsAfterResource : {D : Type 0} → Ghosts D → (old : D) → ResourceQuestion → ResourceCreateDesc → Entry → Option ResourceAnswer → (new : D) → Type 0
-IsAfterResource g old question d entry None new = new ≡ old
-IsAfterResource g old question d entry (Some answer) new = AsksResource g old question d entry answer new
+abbrev pub IsAfterResource : {D : Type 0} → Ghosts D → (old : D) → ResourceQuestion → ResourceCreateDesc → (memory : Option (HeapProperties × HeapFlags)) → Entry → Option ResourceAnswer → (new : D) → Type 0
+IsAfterResource g old question d memory entry None new = new ≡ old
+IsAfterResource g old question d memory entry (Some answer) new = AsksResource g old question d memory entry answer new
 
 abbrev pub resource_reply : Result ID3D12Resource AllocationError → Result ℕ Refusal
 resource_reply (Ok resource) = Ok resource.0
@@ -75,12 +77,12 @@ CommitsBy true true old size (Some answer) reply new = (reply ≡ number_or_refu
 abbrev pub Commits : (host : Bool) → List CommittedRecord → (size : ℕ) → Option ResourceAnswer → Result ℕ Refusal → List CommittedRecord → Type 0
 Commits host old size answer reply new = CommitsBy (fits old size) host old size answer reply new
 
--- the same over a device, in whose map the resource has this entry
-pub record IsCommitted {D : Type 0} (g : Ghosts D) (question : ResourceQuestion) (d : ResourceCreateDesc) (entry : Entry) (size : ℕ) (old : List CommittedRecord) (device : D) (result : Result ID3D12Resource AllocationError) (new : List CommittedRecord) (after : D) : Type 0 where
+-- the same over a device, which is asked with these heap properties and flags, and in whose map the resource has this entry
+pub record IsCommitted {D : Type 0} (g : Ghosts D) (question : ResourceQuestion) (d : ResourceCreateDesc) (own : HeapProperties × HeapFlags) (entry : Entry) (size : ℕ) (old : List CommittedRecord) (device : D) (result : Result ID3D12Resource AllocationError) (new : List CommittedRecord) (after : D) : Type 0 where
   pub host : Bool
   pub answer : Option ResourceAnswer
   pub commits : Commits host old size answer (resource_reply result) new
-  pub asked : IsAfterResource g device question d entry answer after
+  pub asked : IsAfterResource g device question d (Some own) entry answer after
 
 -- ---- one less
 

@@ -55,6 +55,7 @@ pub record AsksNothing {D : Type 0} (g : Ghosts D) (old new : D) : Type 0 where
   pub latest_heap : g.latest_heap new ≡ g.latest_heap old
   pub latest_formats : g.latest_formats new ≡ g.latest_formats old
   pub latest_clear : g.latest_clear new ≡ g.latest_clear old
+  pub latest_memory : g.latest_memory new ≡ g.latest_memory old
   pub constant : g.properties new ≡ g.properties old
 
 -- ---- a resource

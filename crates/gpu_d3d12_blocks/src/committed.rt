@@ -52,7 +52,7 @@ fn commit<D: D3D12Device>(
     size: u64,
 ) -> Result<ID3D12Resource>
     requires { total_size records.old.items < 2 ^ 64 }
-    ensures committed { IsCommitted D.D3D12Device question desc.now
+    ensures committed { IsCommitted D.D3D12Device question desc.now (own.entry.heap_properties.now, own.entry.heap_flags)
         (Committed (made_size (D.properties device.old) question desc.now.resource_desc.now desc.now.castable_formats.now))
         size records.old.items device.old result records.new.items device.new }
     ensures sum { total_size records.new.items < 2 ^ 64 }
@@ -164,7 +164,7 @@ impl CommittedResources {
         size: u64,
     ) -> Result<ID3D12Resource>
         requires there { index < length self.old }
-        ensures committed { IsCommitted D.D3D12Device question desc.now
+        ensures committed { IsCommitted D.D3D12Device question desc.now (own.entry.heap_properties.now, own.entry.heap_flags)
             (Committed (made_size (D.properties device.old) question desc.now.resource_desc.now desc.now.castable_formats.now))
             size (records_at self.old index) device.old result (records_at self.new index) device.new }
         ensures others { self.new ≡ slice_set self.old index (records_at self.new index) }

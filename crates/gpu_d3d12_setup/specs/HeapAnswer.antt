@@ -32,6 +32,7 @@ pub record AsksHeap {D : Type 0} (g : Ghosts D) (old : D) (desc : HeapDesc) (ans
   pub latest_heap : g.latest_heap new ≡ Some desc
   pub latest_formats : g.latest_formats new ≡ g.latest_formats old
   pub latest_clear : g.latest_clear new ≡ g.latest_clear old
+  pub latest_memory : g.latest_memory new ≡ g.latest_memory old
   pub constant : g.properties new ≡ g.properties old
 
 -- why a heap is refused with a code: for want of memory, or for another cause
@@ -59,4 +60,5 @@ pub record IsWithoutHeap {D : Type 0} (g : Ghosts D) (old : D) (number : ℕ) (n
   pub latest_heap : g.latest_heap new ≡ g.latest_heap old
   pub latest_formats : g.latest_formats new ≡ g.latest_formats old
   pub latest_clear : g.latest_clear new ≡ g.latest_clear old
+  pub latest_memory : g.latest_memory new ≡ g.latest_memory old
   pub constant : g.properties new ≡ g.properties old

@@ -7,6 +7,8 @@ use Rattle.gpu_values.specs.declared.error.AllocationError.{AllocationError}
 use Rattle.gpu_device.specs.D3D12.{Entry}
 use Rattle.gpu_device.specs.Granted.{IsNew, with_granted, counted}
 use Rattle.gpu_device.specs.declared.d3d12.device.D3D12Device.{Ghosts}
+use Rattle.gpu_device.specs.declared.d3d12.types.HeapFlags.{HeapFlags}
+use Rattle.gpu_device.specs.declared.d3d12.types.HeapProperties.{HeapProperties}
 use Rattle.gpu_device.specs.declared.d3d12.types.ID3D12Resource.{ID3D12Resource}
 use Rattle.gpu_d3d12_setup.specs.declared.question.ResourceCreateDesc.{ResourceCreateDesc}
 use Rattle.gpu_d3d12_setup.specs.declared.question.ResourceQuestion.{ResourceQuestion}
@@ -40,14 +42,16 @@ IsReasonTold told (Granted number) = Unit {0}
 IsReasonTold told (Declined code reason) = reason ≡ told
 IsReasonTold told Null = Unit {0}
 
--- the device was asked for a resource by this question, and answered so; the entry is the one that a new resource has
-pub record AsksResource {D : Type 0} (g : Ghosts D) (old : D) (question : ResourceQuestion) (d : ResourceCreateDesc) (entry : Entry) (answer : ResourceAnswer) (new : D) : Type 0 where
+-- the device was asked for a resource by this question, with these heap properties and flags for a committed one, and answered so; the
+-- entry is the one that a new resource has
+pub record AsksResource {D : Type 0} (g : Ghosts D) (old : D) (question : ResourceQuestion) (d : ResourceCreateDesc) (memory : Option (HeapProperties × HeapFlags)) (entry : Entry) (answer : ResourceAnswer) (new : D) : Type 0 where
   pub number : IsNew (g.held old) (resource_number answer)
   pub held : g.held new ≡ with_granted (g.held old) (resource_number answer) entry
   pub count : g.refused new ≡ counted (g.refused old) (resource_number answer)
   pub latest_heap : g.latest_heap new ≡ g.latest_heap old
   pub latest_formats : g.latest_formats new ≡ option_map length (handed_on question d.castable_formats.now)
   pub latest_clear : g.latest_clear new ≡ option_copied d.clear_value
+  pub latest_memory : g.latest_memory new ≡ memory
   pub constant : g.properties new ≡ g.properties old
   pub reason : IsReasonTold (g.removal_reason new) answer
 

@@ -1,6 +1,6 @@
 //! Asking the device for a resource.
 
-ghost use Rattle.std.specs.Prelude.{◌≡◌};
+ghost use Rattle.std.specs.Prelude.{◌≡◌, Some, None};
 ghost use Rattle.std.specs.Option.{option_copied};
 ghost use Rattle.gpu_values.specs.Refusal.{refusal_of};
 ghost use Rattle.gpu_device.specs.D3D12.{Committed, Placed};
@@ -90,7 +90,7 @@ pub fn create_committed<D: D3D12Device>(
     heap_flags: HeapFlags,
 ) -> Result<ID3D12Resource>
     ensures { (answer : ResourceAnswer)
-        × AsksResource D.D3D12Device device.old question desc.now
+        × AsksResource D.D3D12Device device.old question desc.now (Some (heap_properties.now, heap_flags))
         (Committed (made_size (D.properties device.old) question desc.now.resource_desc.now desc.now.castable_formats.now)) answer device.new
         × Makes committed_texts result answer }
 {
@@ -140,7 +140,7 @@ pub fn create_placed<D: D3D12Device>(
     offset: u64,
 ) -> Result<ID3D12Resource>
     ensures { (answer : ResourceAnswer)
-        × AsksResource D.D3D12Device device.old question desc.now
+        × AsksResource D.D3D12Device device.old question desc.now None
         (Placed heap.0 offset (made_size (D.properties device.old) question desc.now.resource_desc.now desc.now.castable_formats.now)) answer device.new
         × Makes placed_texts result answer }
 {

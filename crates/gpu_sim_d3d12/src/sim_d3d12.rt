@@ -33,6 +33,7 @@ pub struct SimD3D12 {
     last_heap: Option<HeapDesc>,
     last_formats: Option<usize>,
     last_clear: Option<ClearValue>,
+    last_memory: Option<(HeapProperties, HeapFlags)>,
 }
 
 impl SimD3D12 {
@@ -50,6 +51,7 @@ impl SimD3D12 {
         ensures no_heap { result.last_heap ≡ None }
         ensures no_formats { result.last_formats ≡ None }
         ensures no_clear_value { result.last_clear ≡ None }
+        ensures no_memory { result.last_memory ≡ None }
     {
         SimD3D12 {
             tier,
@@ -57,6 +59,7 @@ impl SimD3D12 {
             last_heap: None,
             last_formats: None,
             last_clear: None,
+            last_memory: None,
         }
     }
 
@@ -95,6 +98,13 @@ impl SimD3D12 {
         self.last_clear
     }
 
+    /// The heap properties and flags of the latest question for a resource, where that was for a committed one.
+    pub fn last_memory(&self) -> Option<(HeapProperties, HeapFlags)>
+        ensures { result ≡ self.now.last_memory }
+    {
+        self.last_memory
+    }
+
     /// Answers a question for a resource.
     fn create_resource(
         &mut self,
@@ -108,6 +118,7 @@ impl SimD3D12 {
         ensures heap { self.new.last_heap ≡ self.old.last_heap }
         ensures formats { self.new.last_formats ≡ option_map length (option_copied castable_formats.entry) }
         ensures clear_value { self.new.last_clear ≡ option_copied clear_value.entry }
+        ensures memory { self.new.last_memory ≡ self.old.last_memory }
         ensures tier { self.new.tier ≡ self.old.tier }
         ensures answer { IsAnswer (λ resource. resource.0) (planned (plan_of self.old)) ((plan_of self.old).issued + 1) result }
         ensures plan { plan_of self.new ≡ answered (plan_of self.old) (granted_resource result) }
@@ -136,6 +147,8 @@ impl D3D12Device for SimD3D12 {
     ghost latest_formats = { λ s. s.last_formats };
 
     ghost latest_clear = { λ s. s.last_clear };
+
+    ghost latest_memory = { λ s. s.last_memory };
 
     ghost removal_reason = { removal_reason_of };
 
@@ -177,6 +190,7 @@ impl D3D12Device for SimD3D12 {
         ensures names_heap { self.new.last_heap ≡ Some desc.now }
         ensures names_no_formats { self.new.last_formats ≡ self.old.last_formats }
         ensures names_no_clear_value { self.new.last_clear ≡ self.old.last_clear }
+        ensures names_no_memory { self.new.last_memory ≡ self.old.last_memory }
         ensures constant { properties_of self.new ≡ properties_of self.old }
         ensures answer { IsAnswer (λ heap. heap.0) (planned (plan_of self.old)) ((plan_of self.old).issued + 1) result }
         ensures plan { plan_of self.new ≡ answered (plan_of self.old) (granted_heap result) }
@@ -202,11 +216,13 @@ impl D3D12Device for SimD3D12 {
         ensures names_no_heap { self.new.last_heap ≡ self.old.last_heap }
         ensures names_formats { self.new.last_formats ≡ None }
         ensures names_clear_value { self.new.last_clear ≡ option_copied clear_value.entry }
+        ensures names_memory { self.new.last_memory ≡ Some (heap_properties.now, heap_flags) }
         ensures constant { properties_of self.new ≡ properties_of self.old }
         ensures answer { IsAnswer (λ resource. resource.0) (planned (plan_of self.old)) ((plan_of self.old).issued + 1) result }
         ensures plan { plan_of self.new ≡ answered (plan_of self.old) (granted_resource result) }
     {
         let size = self.resource_allocation_info(desc).size_in_bytes;
+        self.last_memory = Some((*heap_properties, heap_flags));
         self.create_resource(Object::Committed { size }, None, clear_value)
     }
 
@@ -226,11 +242,13 @@ impl D3D12Device for SimD3D12 {
         ensures names_no_heap { self.new.last_heap ≡ self.old.last_heap }
         ensures names_formats { self.new.last_formats ≡ option_map length (option_copied castable_formats.entry) }
         ensures names_clear_value { self.new.last_clear ≡ option_copied clear_value.entry }
+        ensures names_memory { self.new.last_memory ≡ Some (heap_properties.now, heap_flags) }
         ensures constant { properties_of self.new ≡ properties_of self.old }
         ensures answer { IsAnswer (λ resource. resource.0) (planned (plan_of self.old)) ((plan_of self.old).issued + 1) result }
         ensures plan { plan_of self.new ≡ answered (plan_of self.old) (granted_resource result) }
     {
         let size = self.resource_allocation_info(&desc.desc).size_in_bytes;
+        self.last_memory = Some((*heap_properties, heap_flags));
         self.create_resource(Object::Committed { size }, castable_formats, clear_value)
     }
 
@@ -248,11 +266,13 @@ impl D3D12Device for SimD3D12 {
         ensures names_no_heap { self.new.last_heap ≡ self.old.last_heap }
         ensures names_formats { self.new.last_formats ≡ None }
         ensures names_clear_value { self.new.last_clear ≡ option_copied clear_value.entry }
+        ensures names_memory { self.new.last_memory ≡ None }
         ensures constant { properties_of self.new ≡ properties_of self.old }
         ensures answer { IsAnswer (λ resource. resource.0) (planned (plan_of self.old)) ((plan_of self.old).issued + 1) result }
         ensures plan { plan_of self.new ≡ answered (plan_of self.old) (granted_resource result) }
     {
         let size = self.resource_allocation_info(desc).size_in_bytes;
+        self.last_memory = None;
         self.create_resource(Object::Placed { heap, offset, size }, None, clear_value)
     }
 
@@ -272,11 +292,13 @@ impl D3D12Device for SimD3D12 {
         ensures names_no_heap { self.new.last_heap ≡ self.old.last_heap }
         ensures names_formats { self.new.last_formats ≡ option_map length (option_copied castable_formats.entry) }
         ensures names_clear_value { self.new.last_clear ≡ option_copied clear_value.entry }
+        ensures names_memory { self.new.last_memory ≡ None }
         ensures constant { properties_of self.new ≡ properties_of self.old }
         ensures answer { IsAnswer (λ resource. resource.0) (planned (plan_of self.old)) ((plan_of self.old).issued + 1) result }
         ensures plan { plan_of self.new ≡ answered (plan_of self.old) (granted_resource result) }
     {
         let size = self.resource_allocation_info(&desc.desc).size_in_bytes;
+        self.last_memory = None;
         self.create_resource(
             Object::Placed { heap, offset, size },
             castable_formats,
@@ -290,6 +312,7 @@ impl D3D12Device for SimD3D12 {
         ensures names_no_heap { self.new.last_heap ≡ self.old.last_heap }
         ensures names_no_formats { self.new.last_formats ≡ self.old.last_formats }
         ensures names_no_clear_value { self.new.last_clear ≡ self.old.last_clear }
+        ensures names_no_memory { self.new.last_memory ≡ self.old.last_memory }
         ensures constant { properties_of self.new ≡ properties_of self.old }
         ensures plan { plan_of self.new ≡ plan_of self.old }
     {
@@ -302,6 +325,7 @@ impl D3D12Device for SimD3D12 {
         ensures names_no_heap { self.new.last_heap ≡ self.old.last_heap }
         ensures names_no_formats { self.new.last_formats ≡ self.old.last_formats }
         ensures names_no_clear_value { self.new.last_clear ≡ self.old.last_clear }
+        ensures names_no_memory { self.new.last_memory ≡ self.old.last_memory }
         ensures constant { properties_of self.new ≡ properties_of self.old }
         ensures plan { plan_of self.new ≡ plan_of self.old }
     {

@@ -107,12 +107,14 @@ fn made_as_asked_for(rt: HostRuntime) -> Outcome {
     assert_eq!(&rt; device.last_formats(), Some(0));
     assert!(&rt; device.last_clear() == Some(CLEAR));
     let without = ResourceQuestion::InLayout(1);
-    match create_committed(&mut device, without, &plain, &PROPERTIES, HeapFlags(0)) {
+    let buffers = HeapFlags(0xc0);
+    match create_committed(&mut device, without, &plain, &PROPERTIES, buffers) {
         Ok(resource) => assert_eq!(&rt; resource, ID3D12Resource(2)),
         Err(_) => return Err(Fail::from("a resource was refused")),
     }
     assert_eq!(&rt; device.last_formats(), None);
     assert!(&rt; device.last_clear() == Some(CLEAR));
+    assert!(&rt; device.last_memory() == Some((PROPERTIES, buffers)));
     assert_eq!(&rt; device.held(), 2);
     let info = allocation_info_of(&ID3D12DeviceVersion::Device12(device), &plain);
     assert_eq!(&rt; (info.size_in_bytes, info.alignment), (65536, 65536));

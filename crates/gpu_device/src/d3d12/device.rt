@@ -6,6 +6,8 @@ ghost use Rattle.gpu_device.specs.D3D12.{Properties, Held, Heap, Committed, Plac
 ghost use Rattle.gpu_device.specs.Granted.{IsNew, with_granted, counted};
 ghost use Rattle.gpu_device.specs.declared.d3d12.types.ClearValue.{ClearValue};
 ghost use Rattle.gpu_device.specs.declared.d3d12.types.HeapDesc.{HeapDesc};
+ghost use Rattle.gpu_device.specs.declared.d3d12.types.HeapFlags.{HeapFlags};
+ghost use Rattle.gpu_device.specs.declared.d3d12.types.HeapProperties.{HeapProperties};
 
 use crate::d3d12::types::{
     ClearValue, Format, HeapDesc, HeapFlags, HeapProperties, ID3D12Heap, ID3D12Resource,
@@ -22,7 +24,7 @@ use crate::d3d12::types::{
 /// - it counts refusals, and nothing else raises the count, which stays at `u64::MAX`;
 /// - giving back is never refused, and takes that entry alone; a resource stays when its heap goes;
 /// - it names its latest question of each kind, granted or refused: the heap asked for, and of a resource how many
-///   castable formats came with it and its clear value.
+///   castable formats came with it, its clear value, and the heap properties and flags of a committed one.
 pub trait D3D12Device {
     // What it tells of itself.
     ghost properties: { Self → Properties };
@@ -41,6 +43,9 @@ pub trait D3D12Device {
 
     // The clear value of the latest question for a resource.
     ghost latest_clear: { Self → Option ClearValue };
+
+    // The heap properties and flags of the latest question for a resource, where that was for a committed one.
+    ghost latest_memory: { Self → Option (HeapProperties × HeapFlags) };
 
     // Why it was removed, as it tells at this moment; a question may change it.
     ghost removal_reason: { Self → ℤ };
@@ -80,6 +85,7 @@ pub trait D3D12Device {
         ensures names_heap { latest_heap self.new ≡ Some desc.now }
         ensures names_no_formats { latest_formats self.new ≡ latest_formats self.old }
         ensures names_no_clear_value { latest_clear self.new ≡ latest_clear self.old }
+        ensures names_no_memory { latest_memory self.new ≡ latest_memory self.old }
         ensures constant { properties self.new ≡ properties self.old };
 
     /// Asks for a resource in memory of its own (`ID3D12Device::CreateCommittedResource`), in a state as
@@ -98,6 +104,7 @@ pub trait D3D12Device {
         ensures names_no_heap { latest_heap self.new ≡ latest_heap self.old }
         ensures names_formats { latest_formats self.new ≡ None }
         ensures names_clear_value { latest_clear self.new ≡ option_copied clear_value.entry }
+        ensures names_memory { latest_memory self.new ≡ Some (heap_properties.now, heap_flags) }
         ensures constant { properties self.new ≡ properties self.old };
 
     /// Asks for a resource in memory of its own (`ID3D12Device10::CreateCommittedResource3`), in a layout as
@@ -118,6 +125,7 @@ pub trait D3D12Device {
         ensures names_no_heap { latest_heap self.new ≡ latest_heap self.old }
         ensures names_formats { latest_formats self.new ≡ option_map length (option_copied castable_formats.entry) }
         ensures names_clear_value { latest_clear self.new ≡ option_copied clear_value.entry }
+        ensures names_memory { latest_memory self.new ≡ Some (heap_properties.now, heap_flags) }
         ensures constant { properties self.new ≡ properties self.old };
 
     /// Asks for a resource at an offset in bytes in a heap (`ID3D12Device::CreatePlacedResource`), in a state as
@@ -136,6 +144,7 @@ pub trait D3D12Device {
         ensures names_no_heap { latest_heap self.new ≡ latest_heap self.old }
         ensures names_formats { latest_formats self.new ≡ None }
         ensures names_clear_value { latest_clear self.new ≡ option_copied clear_value.entry }
+        ensures names_memory { latest_memory self.new ≡ None }
         ensures constant { properties self.new ≡ properties self.old };
 
     /// Asks for a resource at an offset in bytes in a heap (`ID3D12Device10::CreatePlacedResource2`), in a layout as
@@ -156,6 +165,7 @@ pub trait D3D12Device {
         ensures names_no_heap { latest_heap self.new ≡ latest_heap self.old }
         ensures names_formats { latest_formats self.new ≡ option_map length (option_copied castable_formats.entry) }
         ensures names_clear_value { latest_clear self.new ≡ option_copied clear_value.entry }
+        ensures names_memory { latest_memory self.new ≡ None }
         ensures constant { properties self.new ≡ properties self.old };
 
     /// Gives a heap back (`ID3D12Heap::Release`), also where the number is no heap's. Never refused.
@@ -165,6 +175,7 @@ pub trait D3D12Device {
         ensures names_no_heap { latest_heap self.new ≡ latest_heap self.old }
         ensures names_no_formats { latest_formats self.new ≡ latest_formats self.old }
         ensures names_no_clear_value { latest_clear self.new ≡ latest_clear self.old }
+        ensures names_no_memory { latest_memory self.new ≡ latest_memory self.old }
         ensures constant { properties self.new ≡ properties self.old };
 
     /// Gives a resource back (`ID3D12Resource::Release`), also where the number is no resource's. Never refused.
@@ -174,6 +185,7 @@ pub trait D3D12Device {
         ensures names_no_heap { latest_heap self.new ≡ latest_heap self.old }
         ensures names_no_formats { latest_formats self.new ≡ latest_formats self.old }
         ensures names_no_clear_value { latest_clear self.new ≡ latest_clear self.old }
+        ensures names_no_memory { latest_memory self.new ≡ latest_memory self.old }
         ensures constant { properties self.new ≡ properties self.old };
 
     // Nothing is held under the number 0, which is null.

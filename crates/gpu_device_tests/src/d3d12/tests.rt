@@ -68,6 +68,7 @@ fn tells_what_it_was_given(rt: HostRuntime) {
     assert!(rt; sim.last_heap().is_none());
     assert!(rt; sim.last_formats().is_none());
     assert!(rt; sim.last_clear().is_none());
+    assert!(rt; sim.last_memory().is_none());
     let none = SimD3D12::new(rt.alloc(), Err(-5), Vec::new(rt.alloc()));
     assert!(rt; none.resource_heap_tier() == Err(-5));
 }
@@ -139,21 +140,23 @@ fn a_null_heap(rt: HostRuntime) -> Result<(), Fail> {
 }
 
 #[test]
-fn formats_and_clear_values(rt: HostRuntime) {
+fn formats_clear_values_and_memory(rt: HostRuntime) {
     let mut sim = SimD3D12::new(
         rt.alloc(),
         Ok(ResourceHeapTier::Tier2),
         Vec::new(rt.alloc()),
     );
-    let flags = HeapFlags(0);
+    let flags = HeapFlags(0xc0);
     let committed = sim.create_committed_resource(&PROPERTIES, flags, &buffer(1), 0, Some(&CLEAR));
     assert!(rt; committed == Ok(Some(ID3D12Resource(1))));
     assert!(rt; sim.last_formats().is_none());
     assert!(rt; sim.last_clear() == Some(CLEAR));
+    assert!(rt; sim.last_memory() == Some((PROPERTIES, flags)));
     let formats = [Format(28), Format(29)];
+    let textures = HeapFlags(0x44);
     let later = sim.create_committed_resource3(
         &PROPERTIES,
-        flags,
+        textures,
         &buffer1(1),
         0,
         None,
@@ -162,6 +165,7 @@ fn formats_and_clear_values(rt: HostRuntime) {
     assert!(rt; later == Ok(Some(ID3D12Resource(2))));
     assert!(rt; sim.last_formats() == Some(2));
     assert!(rt; sim.last_clear().is_none());
+    assert!(rt; sim.last_memory() == Some((PROPERTIES, textures)));
     let placed = sim.create_placed_resource2(
         ID3D12Heap(7),
         65536,
@@ -173,6 +177,7 @@ fn formats_and_clear_values(rt: HostRuntime) {
     assert!(rt; placed == Ok(Some(ID3D12Resource(3))));
     assert!(rt; sim.last_formats() == Some(0));
     assert!(rt; sim.last_clear() == Some(CLEAR));
+    assert!(rt; sim.last_memory().is_none());
     let early = sim.create_placed_resource2(ID3D12Heap(7), 0, &buffer1(1), 0, None, None);
     assert!(rt; early == Ok(Some(ID3D12Resource(4))));
     assert!(rt; sim.last_formats().is_none());

@@ -12,6 +12,7 @@ returns-in-Err g c = (
     latest_heap = c.create_heap.ensures.names_heap;
     latest_formats = c.create_heap.ensures.names_no_formats;
     latest_clear = c.create_heap.ensures.names_no_clear_value;
+    latest_memory = c.create_heap.ensures.names_no_memory;
     constant = c.create_heap.ensures.constant;
   },
   ap Some (sym c.refusal_of_heap.ensures),

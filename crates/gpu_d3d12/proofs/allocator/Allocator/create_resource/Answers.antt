@@ -25,4 +25,4 @@ returns-in-Placed-clause-step g c =
 
 pub returns-in-Committed-clause-gives : goal.returns-in-Committed-clause-gives
 returns-in-Committed-clause-gives g c =
-    committed_gives g.D.D3D12Device _ c.args.desc.now c.in-Ok.question c.commit.result c.args.self.now c.commit.new.self _ _ c.commit.ensures.step
+    committed_gives g.D.D3D12Device _ c.args.desc.now c.in-Ok.question _ c.commit.result c.args.self.now c.commit.new.self _ _ c.commit.ensures.step
