@@ -26,7 +26,8 @@ past_slots (s ∷ ss) (suc i) le = past_slots ss i (omega arith)
 
 -- ---- one slot is written
 
-pub others_kept : {H : Type 0} (longest : List ℕ) (old : List (Option (Slot H))) (i : ℕ) (s : Option (Slot H)) (new : List (Option (Slot H))) → AreBounded longest old → new ≡ slice_set old i s → OthersAreBounded i longest new
+pub others_kept : {H : Type 0} (longest : List ℕ) (old : List (Option (Slot H))) (i : ℕ) (s : Option (Slot H)) (new : List (Option (Slot H)))
+    → AreBounded longest old → new ≡ slice_set old i s → OthersAreBounded i longest new
 others_kept longest old i s new b e =
     record {
       length_is = b.length_is ∙ sym (ap length e ∙ length-set old i s);
@@ -34,7 +35,8 @@ others_kept longest old i s new b e =
     }
 
 -- its bound is written too
-pub all_bounded : {H : Type 0} (longest : List ℕ) (slots : List (Option (Slot H))) (i n : ℕ) → OthersAreBounded i longest slots → i < length slots → Bounds n (slot_at slots i) → AreBounded (slice_set longest i n) slots
+pub all_bounded : {H : Type 0} (longest : List ℕ) (slots : List (Option (Slot H))) (i n : ℕ)
+    → OthersAreBounded i longest slots → i < length slots → Bounds n (slot_at slots i) → AreBounded (slice_set longest i n) slots
 all_bounded longest slots i n b below here =
     let len = b.length_is in
     record {
@@ -48,15 +50,18 @@ all_bounded longest slots i n b below here =
 
 -- ---- a block is put
 
-put_empty : {H : Type 0} (longest : List ℕ) (old : List (Option (Slot H))) (i : ℕ) (s : Slot H) → AreBounded longest old → IsNewSlot old i → (i ≡ length longest → ⊥) → OthersAreBounded i longest (with_block old i s)
+put_empty : {H : Type 0} (longest : List ℕ) (old : List (Option (Slot H))) (i : ℕ) (s : Slot H)
+    → AreBounded longest old → IsNewSlot old i → (i ≡ length longest → ⊥) → OthersAreBounded i longest (with_block old i s)
 put_empty longest old i s b (empty_slot at) inside = others_kept longest old i (Some s) (with_block old i s) b (with_empty old i s at.below)
 put_empty longest old i s b (the_end at) inside = absurd (inside (at ∙ sym b.length_is))
 
-pub put_inside : {H : Type 0} (longest : List ℕ) (old : List (Option (Slot H))) (is_dedicated : Bool) (i : ℕ) (s : Slot H) (new : List (Option (Slot H))) → AreBounded longest old → i ≡ new_slot is_dedicated old → new ≡ with_block old i s → (i ≡ length longest → ⊥) → OthersAreBounded i longest new
+pub put_inside : {H : Type 0} (longest : List ℕ) (old : List (Option (Slot H))) (is_dedicated : Bool) (i : ℕ) (s : Slot H) (new : List (Option (Slot H)))
+    → AreBounded longest old → i ≡ new_slot is_dedicated old → new ≡ with_block old i s → (i ≡ length longest → ⊥) → OthersAreBounded i longest new
 put_inside longest old is_dedicated i s new b is e inside =
     subst (OthersAreBounded i longest) (sym e) (put_empty longest old i s b (subst (IsNewSlot old) (sym is) (is_new_slot is_dedicated old)) inside)
 
-pub put_behind : {H : Type 0} (longest : List ℕ) (old : List (Option (Slot H))) (is_dedicated : Bool) (i : ℕ) (s : Slot H) (new : List (Option (Slot H))) → AreBounded longest old → i ≡ new_slot is_dedicated old → new ≡ with_block old i s → i ≡ length longest → OthersAreBounded i (longest ++ 0 ∷ []) new
+pub put_behind : {H : Type 0} (longest : List ℕ) (old : List (Option (Slot H))) (is_dedicated : Bool) (i : ℕ) (s : Slot H) (new : List (Option (Slot H)))
+    → AreBounded longest old → i ≡ new_slot is_dedicated old → new ≡ with_block old i s → i ≡ length longest → OthersAreBounded i (longest ++ 0 ∷ []) new
 put_behind {H} longest old is_dedicated i s new b is e end =
     let at : i ≡ length old = end ∙ b.length_is in
     let only : OnlyAt old i (Some s) new = subst (OnlyAt old i (Some s)) (sym e) (put_only old i s (the_end at)) in
@@ -73,7 +78,8 @@ put_behind {H} longest old is_dedicated i s new b is e end =
     }
 
 -- the slot that was put is there
-pub put_there : {H : Type 0} (old : List (Option (Slot H))) (is_dedicated : Bool) (i : ℕ) (s : Slot H) (new : List (Option (Slot H))) → i ≡ new_slot is_dedicated old → new ≡ with_block old i s → i < length new
+pub put_there : {H : Type 0} (old : List (Option (Slot H))) (is_dedicated : Bool) (i : ℕ) (s : Slot H) (new : List (Option (Slot H)))
+    → i ≡ new_slot is_dedicated old → new ≡ with_block old i s → i < length new
 put_there old is_dedicated i s new is e =
     elim (subst (IsNewSlot old) (sym is) (is_new_slot is_dedicated old)) [
       | empty_slot at ↦ (let len = ap length (e ∙ with_empty old i s at.below) ∙ length-set old i (Some s) in let below = at.below in omega arith)
@@ -101,7 +107,8 @@ none_empty true slots e = lowest_end slots (lowest_empty slots) refl e
 none_empty false slots e = highest_end slots (highest_empty slots) refl e
 
 -- a block that goes behind all slots has room beside them too
-pub bound_room : {H : Type 0} (is_dedicated : Bool) (slots : List (Option (Slot H))) (a b : ℕ) → (is_some (highest_empty slots) || nat_lt (length slots) (min a b)) ≡ true → new_slot is_dedicated slots ≡ length slots → length slots < b
+pub bound_room : {H : Type 0} (is_dedicated : Bool) (slots : List (Option (Slot H))) (a b : ℕ)
+    → (is_some (highest_empty slots) || nat_lt (length slots) (min a b)) ≡ true → new_slot is_dedicated slots ≡ length slots → length slots < b
 bound_room is_dedicated slots a b h e =
     let fits : nat_lt (length slots) (min a b) ≡ true = rw (none_empty is_dedicated slots e) at h in
     let lt = ltb-true (length slots) (min a b) fits in

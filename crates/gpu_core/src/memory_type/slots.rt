@@ -18,8 +18,8 @@ use gpu_values::internal_fault;
 use std::alloc::Global;
 use std::marker::Model;
 
-/// The slots of a memory type, each empty or with a live block. Beside them stands up to how many bytes each may serve
-/// requests, so that a search looks at no block whose gaps are all too short.
+/// The slots of a memory type, each empty or with a live block, and beside them the length of each shared block's longest gap:
+/// a search looks at no block whose gaps are all too short.
 #[derive(Drop)]
 pub struct Slots<H> {
     blocks: Vec<Option<LiveBlock<H>>>,
@@ -149,7 +149,7 @@ impl<H: Copy + Eq> Slots<H> {
     }
 }
 
-/// Notes up to how many bytes a slot may serve requests.
+/// Notes the longest gap of a slot's block, after a change of the block.
 fn measure<H>(longest: &mut Vec<u64>, slots: &[Option<LiveBlock<H>>], slot: usize)
     requires within { slot < length slots.now }
     requires others { OthersAreBounded slot longest.old.items (slots_of slots.now) }
@@ -159,8 +159,8 @@ fn measure<H>(longest: &mut Vec<u64>, slots: &[Option<LiveBlock<H>>], slot: usiz
     longest[slot] = longest_in(&slots[slot]);
 }
 
-/// Takes a piece of the highest shared block that has a place, or answers `None` where none has. The only refusal is
-/// `HostOutOfMemory`.
+/// Takes a piece of the highest shared block that has a place, or answers `None` where none has. Only blocks with a gap that is
+/// long enough are asked. The only refusal is `HostOutOfMemory`.
 fn take_shared<H: Copy>(
     slots: &mut Vec<Option<LiveBlock<H>>>,
     longest: &[u64],

@@ -1,4 +1,4 @@
-use Rattle.std.proofs.Common.{subst, sym}
+use Rattle.std.proofs.Common.{◌<◌, length, subst, sym}
 use Rattle.std.proofs.lemmas.List.{length-map}
 use Rattle.std.specs.Option.{option_map}
 use Rattle.gpu_core.specs.Slots.{slot_of, slots_of, Bounds}
@@ -10,4 +10,6 @@ pub returns-clause-bounded : goal.returns-clause-bounded
 returns-clause-bounded g c =
     let slot = c.index-slots-slot.result in
     let e = edits c.args.slots.now c.args.slot slot slot c.requires.within c.index-slots-slot.is in
-    all_bounded c.args.longest.now.items (slots_of c.args.slots.now) c.args.slot c.longest_in.result c.requires.others (rw (length-map c.args.slots.now (option_map slot_of)) c.requires.within) (subst (Bounds c.longest_in.result) (sym e.before) c.longest_in.ensures)
+    let below : c.args.slot < length (slots_of c.args.slots.now) = rw (length-map c.args.slots.now (option_map slot_of)) c.requires.within in
+    let here = subst (Bounds c.longest_in.result) (sym e.before) c.longest_in.ensures in
+    all_bounded c.args.longest.now.items (slots_of c.args.slots.now) c.args.slot c.longest_in.result c.requires.others below here

@@ -48,6 +48,7 @@ measure-requires-clause-others g c =
           (put_behind i.longest.items old c.args.is_dedicated slot (slot_of c.args.block) (slots_of new) c.self.invariant put.slot put.slots (omega (arith, w.if-slot-len.true, i.longest.ok.0))))
       | else-slot-len w ↦
           subst (λ x. OthersAreBounded slot x.longest.items (slots_of new)) (sym w.self-inside-is)
-          (put_inside i.longest.items old c.args.is_dedicated slot (slot_of c.args.block) (slots_of new) c.self.invariant put.slot put.slots (λ e. absurd (omega (arith, e, w.if-slot-len.false, i.longest.ok.0))))
+          (put_inside i.longest.items old c.args.is_dedicated slot (slot_of c.args.block) (slots_of new) c.self.invariant put.slot put.slots
+          (λ e. absurd (omega (arith, e, w.if-slot-len.false, i.longest.ok.0))))
     ] in
     subst (λ xs. OthersAreBounded slot c.if-slot-len.self-inside.longest.items (slots_of xs)) (sym blocks) bounded
