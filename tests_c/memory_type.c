@@ -235,31 +235,41 @@ static void request_and_piece_statuses(void) {
     IS(pilhangko_memory_type_destroy(&types), PILHANGKO_OK);
 }
 
-static void handle_statuses(void) {
-    pilhangko_memory_type types = {0};
-    pilhangko_memory_type_settings s = settings(true);
-    pilhangko_memory_request request = {100, 1, PILHANGKO_LINEAR, false};
+/* A place for each thing that a call tells. */
+struct answers {
     pilhangko_memory_prepared prepared;
-    pilhangko_memory_piece piece = {0, 1, 0, 1, 1};
     pilhangko_memory_block gone;
     pilhangko_memory_statistics told;
     pilhangko_memory_block_statistics counted;
     pilhangko_piece_view view;
     size_t length;
     bool is_live;
-    IS(pilhangko_memory_type_prepare(&types, &request, NULL, &prepared), PILHANGKO_NO_HANDLE);
+};
+
+static void unmade_memory_type(void) {
+    pilhangko_memory_type types = {0};
+    pilhangko_memory_request request = {100, 1, PILHANGKO_LINEAR, false};
+    pilhangko_memory_piece piece = {0, 1, 0, 1, 1};
+    struct answers to;
+    IS(pilhangko_memory_type_prepare(&types, &request, NULL, &to.prepared), PILHANGKO_NO_HANDLE);
     IS(pilhangko_memory_type_install(&types, 1, &piece), PILHANGKO_NO_HANDLE);
     IS(pilhangko_memory_type_abandon(&types), PILHANGKO_NO_HANDLE);
-    IS(pilhangko_memory_type_free(&types, &piece, &gone), PILHANGKO_NO_HANDLE);
+    IS(pilhangko_memory_type_free(&types, &piece, &to.gone), PILHANGKO_NO_HANDLE);
     IS(pilhangko_memory_type_rename(&types, &piece, NULL), PILHANGKO_NO_HANDLE);
-    IS(pilhangko_memory_type_is_live(&types, &piece, &is_live), PILHANGKO_NO_HANDLE);
+    IS(pilhangko_memory_type_is_live(&types, &piece, &to.is_live), PILHANGKO_NO_HANDLE);
     IS(pilhangko_memory_type_set_budget(&types, true, 1), PILHANGKO_NO_HANDLE);
-    IS(pilhangko_memory_type_block(&types, 0, &gone), PILHANGKO_NO_HANDLE);
-    IS(pilhangko_memory_type_statistics(&types, &told), PILHANGKO_NO_HANDLE);
-    IS(pilhangko_memory_type_block_statistics(&types, 0, &counted), PILHANGKO_NO_HANDLE);
-    IS(pilhangko_memory_type_next_piece(&types, 0, 0, &view), PILHANGKO_NO_HANDLE);
-    IS(pilhangko_memory_type_piece_name(&types, 0, 0, NULL, 0, &length), PILHANGKO_NO_HANDLE);
+    IS(pilhangko_memory_type_block(&types, 0, &to.gone), PILHANGKO_NO_HANDLE);
+    IS(pilhangko_memory_type_statistics(&types, &to.told), PILHANGKO_NO_HANDLE);
+    IS(pilhangko_memory_type_block_statistics(&types, 0, &to.counted), PILHANGKO_NO_HANDLE);
+    IS(pilhangko_memory_type_next_piece(&types, 0, 0, &to.view), PILHANGKO_NO_HANDLE);
+    IS(pilhangko_memory_type_piece_name(&types, 0, 0, NULL, 0, &to.length), PILHANGKO_NO_HANDLE);
     IS(pilhangko_memory_type_destroy(&types), PILHANGKO_NO_HANDLE);
+}
+
+static void created_once(void) {
+    pilhangko_memory_type types = {0};
+    pilhangko_memory_type_settings s = settings(true);
+    pilhangko_memory_piece piece;
     s.page_size = 0;
     IS(pilhangko_memory_type_create(&types, &s), PILHANGKO_INVALID);
     s.page_size = 96;
@@ -279,40 +289,34 @@ static void null_pointers(void) {
     pilhangko_memory_type types = {0};
     pilhangko_memory_type_settings s = settings(true);
     pilhangko_memory_request request = {100, 1, PILHANGKO_LINEAR, false};
-    pilhangko_memory_prepared prepared;
     pilhangko_memory_piece piece = {0, 1, 0, 1, 1};
-    pilhangko_memory_block gone;
-    pilhangko_memory_statistics told;
-    pilhangko_memory_block_statistics counted;
-    pilhangko_piece_view view;
-    size_t length;
-    bool is_live;
+    struct answers to;
     IS(pilhangko_memory_type_create(NULL, &s), PILHANGKO_NULL_POINTER);
     IS(pilhangko_memory_type_create(&types, NULL), PILHANGKO_NULL_POINTER);
-    IS(pilhangko_memory_type_prepare(NULL, &request, NULL, &prepared), PILHANGKO_NULL_POINTER);
-    IS(pilhangko_memory_type_prepare(&types, NULL, NULL, &prepared), PILHANGKO_NULL_POINTER);
+    IS(pilhangko_memory_type_prepare(NULL, &request, NULL, &to.prepared), PILHANGKO_NULL_POINTER);
+    IS(pilhangko_memory_type_prepare(&types, NULL, NULL, &to.prepared), PILHANGKO_NULL_POINTER);
     IS(pilhangko_memory_type_prepare(&types, &request, NULL, NULL), PILHANGKO_NULL_POINTER);
     IS(pilhangko_memory_type_install(NULL, 1, &piece), PILHANGKO_NULL_POINTER);
     IS(pilhangko_memory_type_install(&types, 1, NULL), PILHANGKO_NULL_POINTER);
     IS(pilhangko_memory_type_abandon(NULL), PILHANGKO_NULL_POINTER);
-    IS(pilhangko_memory_type_free(NULL, &piece, &gone), PILHANGKO_NULL_POINTER);
-    IS(pilhangko_memory_type_free(&types, NULL, &gone), PILHANGKO_NULL_POINTER);
+    IS(pilhangko_memory_type_free(NULL, &piece, &to.gone), PILHANGKO_NULL_POINTER);
+    IS(pilhangko_memory_type_free(&types, NULL, &to.gone), PILHANGKO_NULL_POINTER);
     IS(pilhangko_memory_type_free(&types, &piece, NULL), PILHANGKO_NULL_POINTER);
     IS(pilhangko_memory_type_rename(NULL, &piece, NULL), PILHANGKO_NULL_POINTER);
     IS(pilhangko_memory_type_rename(&types, NULL, NULL), PILHANGKO_NULL_POINTER);
-    IS(pilhangko_memory_type_is_live(NULL, &piece, &is_live), PILHANGKO_NULL_POINTER);
-    IS(pilhangko_memory_type_is_live(&types, NULL, &is_live), PILHANGKO_NULL_POINTER);
+    IS(pilhangko_memory_type_is_live(NULL, &piece, &to.is_live), PILHANGKO_NULL_POINTER);
+    IS(pilhangko_memory_type_is_live(&types, NULL, &to.is_live), PILHANGKO_NULL_POINTER);
     IS(pilhangko_memory_type_is_live(&types, &piece, NULL), PILHANGKO_NULL_POINTER);
     IS(pilhangko_memory_type_set_budget(NULL, true, 1), PILHANGKO_NULL_POINTER);
-    IS(pilhangko_memory_type_block(NULL, 0, &gone), PILHANGKO_NULL_POINTER);
+    IS(pilhangko_memory_type_block(NULL, 0, &to.gone), PILHANGKO_NULL_POINTER);
     IS(pilhangko_memory_type_block(&types, 0, NULL), PILHANGKO_NULL_POINTER);
-    IS(pilhangko_memory_type_statistics(NULL, &told), PILHANGKO_NULL_POINTER);
-    IS(pilhangko_memory_type_block_statistics(NULL, 0, &counted), PILHANGKO_NULL_POINTER);
+    IS(pilhangko_memory_type_statistics(NULL, &to.told), PILHANGKO_NULL_POINTER);
+    IS(pilhangko_memory_type_block_statistics(NULL, 0, &to.counted), PILHANGKO_NULL_POINTER);
     IS(pilhangko_memory_type_block_statistics(&types, 0, NULL), PILHANGKO_NULL_POINTER);
-    IS(pilhangko_memory_type_next_piece(NULL, 0, 0, &view), PILHANGKO_NULL_POINTER);
+    IS(pilhangko_memory_type_next_piece(NULL, 0, 0, &to.view), PILHANGKO_NULL_POINTER);
     IS(pilhangko_memory_type_next_piece(&types, 0, 0, NULL), PILHANGKO_NULL_POINTER);
-    IS(pilhangko_memory_type_piece_name(NULL, 0, 0, NULL, 0, &length), PILHANGKO_NULL_POINTER);
-    IS(pilhangko_memory_type_piece_name(&types, 0, 0, NULL, 1, &length), PILHANGKO_NULL_POINTER);
+    IS(pilhangko_memory_type_piece_name(NULL, 0, 0, NULL, 0, &to.length), PILHANGKO_NULL_POINTER);
+    IS(pilhangko_memory_type_piece_name(&types, 0, 0, NULL, 1, &to.length), PILHANGKO_NULL_POINTER);
     IS(pilhangko_memory_type_piece_name(&types, 0, 0, NULL, 0, NULL), PILHANGKO_NULL_POINTER);
     IS(pilhangko_memory_type_statistics(&types, NULL), PILHANGKO_NULL_POINTER);
     IS(pilhangko_memory_type_destroy(NULL), PILHANGKO_NULL_POINTER);
@@ -324,7 +328,8 @@ int main(void) {
     budgets();
     awaited();
     request_and_piece_statuses();
-    handle_statuses();
+    unmade_memory_type();
+    created_once();
     null_pointers();
     return 0;
 }
