@@ -149,6 +149,22 @@ pub struct BlockStatistics {
     pub longest_gap: u64,
 }
 
+impl BlockStatistics {
+    ghost use Rattle.gpu_block.specs.Statistics.{together};
+
+    /// What is counted of two blocks together: the sums, which stay at the top of 64 bits, and the longest gap of either.
+    pub fn together(self, other: BlockStatistics) -> BlockStatistics
+        ensures { result ≡ together self other }
+    {
+        BlockStatistics {
+            pieces: self.pieces.saturating_add(other.pieces),
+            piece_bytes: self.piece_bytes.saturating_add(other.piece_bytes),
+            gaps: self.gaps.saturating_add(other.gaps),
+            longest_gap: self.longest_gap.max(other.longest_gap),
+        }
+    }
+}
+
 /// The counts with the gap from `start` to `end`, where it isn't empty.
 fn with_gap(counted: BlockStatistics, start: u64, end: u64) -> BlockStatistics
     requires { counted.gaps ≤ start }

@@ -4,7 +4,7 @@ use Rattle.gpu_values.specs.declared.report.MemoryBlockReport.{MemoryBlockReport
 use Rattle.gpu_block.specs.declared.pieces.BlockStatistics.{BlockStatistics}
 use Rattle.gpu_core.specs.Block.{Block, extents_of, size_of, allocated_bytes}
 use Rattle.gpu_core.specs.FreeList.{Extent}
-use Rattle.gpu_core.specs.Statistics.{statistics_of}
+use Rattle.gpu_core.specs.Statistics.{statistics_of, together}
 use Rattle.gpu_core.specs.Leak.{LeakOf, leaks_of}
 use Rattle.gpu_core.specs.Report.{Row, Report}
 use Rattle.gpu_core.specs.Rows.{extent_row}
@@ -38,6 +38,22 @@ pieces_in (Some s) = Some (extents_of s.block)
 abbrev pub statistics_in : {H : Type 0} → Option (Slot H) → Option BlockStatistics
 statistics_in None = None
 statistics_in (Some s) = Some (statistics_of s.block)
+
+-- the block in a slot
+abbrev pub block_in : {H : Type 0} → Option (Slot H) → Option Block
+block_in None = None
+block_in (Some s) = Some s.block
+
+-- ---- what is counted of several blocks
+
+abbrev pub nothing_counted : BlockStatistics
+nothing_counted = record { pieces = 0; piece_bytes = 0; gaps = 0; longest_gap = 0 }
+
+-- what is counted of the live blocks of all slots, beside what was counted before
+abbrev pub counted_with : {H : Type 0} → BlockStatistics → List (Option (Slot H)) → BlockStatistics
+counted_with counted [] = counted
+counted_with counted (None ∷ slots) = counted_with counted slots
+counted_with counted (Some s ∷ slots) = counted_with (together counted (statistics_of s.block)) slots
 
 -- ---- reports
 

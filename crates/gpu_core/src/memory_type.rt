@@ -9,16 +9,19 @@ mod need;
 mod report;
 mod slot;
 mod slots;
+mod statistics;
 mod type_leaks;
 
 use crate::{
     AllocationSizes, AllocationType, AllocatorReport, BlockStatistics, Leaks, Pieces, Result,
+    SubAllocator,
 };
 use need::make_room;
 pub use need::{NeedBlock, Room};
 use report::add_slots;
 use slot::{Finding, LiveBlock, find};
 use slots::Slots;
+use statistics::count_slots;
 use std::alloc::Global;
 use std::marker::Model;
 use std::num::NonZeroU64;
@@ -96,7 +99,9 @@ impl<H: Copy + Eq> MemoryType<H> {
     ghost use Rattle.gpu_core.specs.Slots.{AreSound};
     ghost use Rattle.gpu_core.specs.TypePrepare.{IsPrepared, CanInstall};
     ghost use Rattle.gpu_core.specs.TypeRelease.{has_several, IsLive, IsFreeRefusal, IsNameRefusal, ReleasesPiece, RenamesPiece};
-    ghost use Rattle.gpu_core.specs.TypeReport.{leaks_in, pieces_in, statistics_in, type_leaks, with_type};
+    ghost use Rattle.gpu_core.specs.TypeReport.{leaks_in, pieces_in, statistics_in, block_in, counted_with, nothing_counted, type_leaks, with_type};
+    ghost use Rattle.gpu_core.specs.SubAllocator.{block_of};
+    ghost use Rattle.std.specs.Option.{option_map};
     ghost use Rattle.gpu_core.specs.Report.{report_of};
 
     /// A memory type without blocks. `is_host` says which of the block sizes are its own; `granularity` is the page size
@@ -335,6 +340,24 @@ impl<H: Copy + Eq> MemoryType<H> {
     {
         match self.slots.as_slice().get(slot) {
             Some(Some(block)) => Some(block.sub.statistics()),
+            _ => None,
+        }
+    }
+
+    /// The same of all its blocks together: the sums, which stay at the top of 64 bits, and the longest gap of any. It takes no
+    /// memory.
+    pub fn total_statistics(&self) -> BlockStatistics
+        ensures { result ≡ counted_with nothing_counted self.now.slots }
+    {
+        count_slots(self.slots.as_slice())
+    }
+
+    /// The block in a slot with its pieces and gaps, lent to be looked at; `None` where there is no block.
+    pub fn sub_allocator(&self, slot: usize) -> Option<&SubAllocator>
+        ensures { option_map (λ b. block_of b.now) result ≡ block_in (slot_at self.now.slots slot) }
+    {
+        match self.slots.as_slice().get(slot) {
+            Some(Some(block)) => Some(&block.sub),
             _ => None,
         }
     }

@@ -7,7 +7,9 @@ ghost use Rattle.gpu_values.specs.Report.{report_of};
 ghost use Rattle.gpu_values.specs.declared.error.AllocationError.TheVariants.{HostOutOfMemory};
 ghost use Rattle.gpu_block.specs.Leak.{leak_text};
 ghost use Rattle.gpu_memory_types.specs.Blocks.{total_capacity, BlocksWellFormed};
-ghost use Rattle.gpu_memory_types.specs.Budgets.{budget_at, SetsBudget};
+ghost use Rattle.gpu_memory_types.specs.Budgets.{budget_at, budgets, SetsBudget};
+ghost use Rattle.gpu_memory_types.specs.Types.{slots_of, kinds};
+ghost use Rattle.gpu_d3d12_setup.specs.Setup.{kinds_told};
 ghost use Rattle.gpu_memory_types.specs.Leaks.{all_leaks};
 ghost use Rattle.gpu_memory_types.specs.Reports.{whole_report};
 ghost use Rattle.gpu_d3d12_setup.specs.DeviceVersion.{device_of, with_device};
@@ -159,6 +161,15 @@ impl<D: D3D12Device> Allocator<D> {
         ensures step { IsStep D.D3D12Device Capacity (Sum result) self.now self.now }
     {
         self.types.capacity()
+    }
+
+    /// The memory types, lent to be looked at: their blocks with pieces and gaps, and what is counted of them.
+    pub fn memory_types(&self) -> &MemoryTypes<ID3D12Heap>
+        ensures slots { slots_of result.now ≡ self.now.slots }
+        ensures budgets { budgets result.now ≡ self.now.budgets }
+        ensures kinds { kinds result.now ≡ kinds_told self.now.setup.tier }
+    {
+        &self.types
     }
 
     /// The device, lent. It holds one heap for each live block, and beside these what it held when it was handed in, and the

@@ -2,7 +2,8 @@
 
 ghost use Rattle.std.specs.Prelude.{◌≡◌, ◌≢◌, ℕ, ◌+◌, ◌^◌, ◌<◌, ◌≤◌, ◌↔◌, [], All, length, Some, None, IfOk, IfErr, OnOk, OnErr, IsTrue, map, string_bytes, codes};
 ghost use Rattle.std.specs.Int.{is_power_of_two};
-ghost use Rattle.std.specs.List.{slice_set};
+ghost use Rattle.std.specs.List.{slice_set, slice_get};
+ghost use Rattle.std.specs.Option.{option_map};
 ghost use Rattle.gpu_values.specs.declared.error.AllocationError.TheVariants.{HostOutOfMemory};
 ghost use Rattle.gpu_values.specs.Refusal.{refusal_of, refusal_in, internal};
 ghost use Rattle.gpu_memory_types.specs.Requests.{refusal_in_type, refusal_of_need};
@@ -250,6 +251,14 @@ impl<H: Copy + Eq> MemoryTypes<H> {
             → IsLiveIn H.eq (slots_of self.now) t (Some q) → KeepsPages (type_of self.now t).granularity (slots_of self.now) t p q }
     {
         let _ = &self.types;
+    }
+
+    /// The memory type at `index`, lent to be looked at; `None` where it isn't there.
+    pub fn memory_type(&self, index: usize) -> Option<&MemoryType<H>>
+        ensures { option_map (λ t. t.now) result ≡ slice_get self.now index }
+    {
+        let types = &self.types;
+        types.get(index)
     }
 
     /// How many slots the memory type at `index` has, the empty ones included; none where it isn't there.

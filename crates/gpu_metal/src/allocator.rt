@@ -5,7 +5,9 @@ ghost use Rattle.gpu_values.specs.Refusal.{refusal_of, refusal_in};
 ghost use Rattle.gpu_values.specs.Report.{report_of};
 ghost use Rattle.gpu_values.specs.declared.error.AllocationError.TheVariants.{HostOutOfMemory};
 ghost use Rattle.gpu_memory_types.specs.Blocks.{total_capacity, BlocksWellFormed};
-ghost use Rattle.gpu_memory_types.specs.Budgets.{budget_at, SetsBudget};
+ghost use Rattle.gpu_memory_types.specs.Budgets.{budget_at, budgets, SetsBudget};
+ghost use Rattle.gpu_memory_types.specs.Types.{slots_of, kinds};
+ghost use Rattle.gpu_metal_setup.specs.Setup.{kinds_told};
 ghost use Rattle.gpu_memory_types.specs.Reports.{whole_report};
 ghost use Rattle.gpu_metal_setup.specs.MemoryKinds.{locations};
 ghost use Rattle.gpu_metal_setup.specs.Residency.{MakesSet, ChangesHeld, with_committed};
@@ -218,6 +220,15 @@ impl<D: MetalDevice> Allocator<D> {
         ensures cause { IfErr result (λ e. e ≡ HostOutOfMemory) }
     {
         self.types.report(self.alloc)
+    }
+
+    /// The memory types, lent to be looked at: their blocks with pieces and gaps, and what is counted of them.
+    pub fn memory_types(&self) -> &MemoryTypes<MTLHeap>
+        ensures slots { slots_of result.now ≡ self.now.slots }
+        ensures budgets { budgets result.now ≡ self.now.budgets }
+        ensures kinds { kinds result.now ≡ kinds_told }
+    {
+        &self.types
     }
 
     /// The device, lent. It holds what it held when it was handed in, the residency set, where there is one, and just the live

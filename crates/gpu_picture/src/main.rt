@@ -1,13 +1,14 @@
-//! Draws a block after a trace: standard input to standard output. docs/REPORT.md says what it takes and writes.
+//! Draws what a trace leaves: standard input to standard output. docs/REPORT.md says what it takes and writes.
 #![tactic(auto)]
 
 mod draw;
-mod trace;
 
 use draw::{Form, draw};
+use gpu_session::{Replayed, Stage, replay_trace};
+use log::sink::Discard;
+use std::io::{BufWriter, Write};
 use std::process::ExitCode;
 use std::{env, io};
-use trace::{Ended, run};
 
 /// What is to be written: a picture, or JSON where the one argument is `json`; `None` of other arguments.
 fn form_of(rt: &HostRuntime) -> io::Result<Option<Form>> {
@@ -24,23 +25,31 @@ fn form_of(rt: &HostRuntime) -> io::Result<Option<Form>> {
     Ok(form)
 }
 
+/// Writes the stage to standard output, through a buffer.
+fn write(rt: &HostRuntime, form: Form, stage: &Stage) -> io::Result<()> {
+    let mut writer = BufWriter::new(rt.alloc(), rt.stdout())?;
+    draw(rt.alloc(), form, stage, &mut writer)?;
+    writer.flush()
+}
+
 fn main(rt: HostRuntime) -> ExitCode {
     let Ok(Some(form)) = form_of(&rt) else {
         let _ = eprintln!(rt;
-            "gpu_picture: takes no argument but json, and a block trace from standard input"
+            "gpu_picture: takes no argument but json, and a trace from standard input"
         );
         return ExitCode::from(1);
     };
     let mut reader = rt.stdin();
-    match run(rt.alloc(), &mut reader) {
-        Ok(Ended::Whole(stage)) => {
-            let mut writer = rt.stdout();
-            match draw(rt.alloc(), form, &stage, &mut writer) {
+    match replay_trace(&Discard, rt.alloc(), &mut reader) {
+        Ok(Replayed::Whole(stage)) => {
+            let written = write(&rt, form, &stage);
+            let _ = stage.end(&Discard);
+            match written {
                 Ok(()) => ExitCode::SUCCESS,
                 Err(_) => ExitCode::from(1),
             }
         }
-        Ok(Ended::Bad(number)) => {
+        Ok(Replayed::Bad(number)) => {
             let _ = eprintln!(rt; "gpu_picture: bad line {number}");
             ExitCode::from(2)
         }

@@ -6,3 +6,4 @@ pub mod Picture
 pub mod Svg
 pub mod BlocksSvg
 pub mod ReportSvg
+pub mod View

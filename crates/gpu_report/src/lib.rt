@@ -15,4 +15,4 @@ pub use blocks_json::BlocksJson;
 pub use blocks_svg::BlocksSvg;
 pub use report_json::ReportJson;
 pub use report_svg::ReportSvg;
-pub use view::BlockView;
+pub use view::{BlockView, add_views};

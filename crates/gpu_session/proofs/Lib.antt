@@ -1,3 +1,4 @@
 pub mod Runs
 pub mod Input
 pub mod Sorts
+pub mod ReplayedLines

@@ -1,3 +1,4 @@
 pub mod Configuration
 pub mod Stage
 pub mod Run
+pub mod Replay

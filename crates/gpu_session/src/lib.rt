@@ -3,11 +3,15 @@
 #![tactic(auto)]
 
 mod configuration;
+mod replay;
 mod run;
 mod stage;
 
+pub use configuration::Configuration;
 pub use gpu_vulkan_session::{Command, Given, Reply, Session, laws};
-pub use run::run_trace;
+pub use replay::{Replayed, replay_trace};
+pub use run::{TraceError, run_trace};
+pub use stage::{Outcome, Stage};
 
 #[cfg(test)]
 mod tests;

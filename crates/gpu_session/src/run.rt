@@ -19,17 +19,20 @@ pub(crate) const LIMIT: u64 = 1_048_576;
 
 /// Why a trace was not run to its end.
 #[derive(Debug, Drop, Error)]
-enum TraceError {
+pub enum TraceError {
+    /// A read failed.
     #[error("the trace could not be read: {0}")]
     Read(io::Error),
+    /// A write failed.
     #[error("the replies could not be written: {0}")]
     Write(#[from] io::Error),
+    /// Host memory for the trace itself, its lines or its configuration was refused.
     #[error("memory for the trace was refused")]
     Memory(#[from(alloc)] AllocError),
 }
 
 /// Reads a trace, and one byte more where it is too long.
-fn read_trace<R: Read>(alloc: Global, reader: &mut R) -> Result<Vec<u8>, TraceError>
+pub(crate) fn read_trace<R: Read>(alloc: Global, reader: &mut R) -> Result<Vec<u8>, TraceError>
     ensures { IfOk result (λ v. IfSome (R.remaining reader.old) (λ input. v.items ≡ take (LIMIT + 1) input)) }
 {
     let mut bytes = Vec::new(alloc);
@@ -40,14 +43,14 @@ fn read_trace<R: Read>(alloc: Global, reader: &mut R) -> Result<Vec<u8>, TraceEr
     }
 }
 
-fn lines_in(alloc: Global, text: &[u8]) -> Result<Vec<&[u8]>, AllocError>
+pub(crate) fn lines_in(alloc: Global, text: &[u8]) -> Result<Vec<&[u8]>, AllocError>
     ensures { IfOk result (λ v. texts v.items ≡ lines_of text.now) }
 {
     text.split(|b| *b == b'\n').collect(alloc)
 }
 
 /// Reads a line and serves what it says.
-fn serve<L: Log>(
+pub(crate) fn serve<L: Log>(
     log: &L,
     alloc: Global,
     stage: Stage,

@@ -14,7 +14,9 @@ ghost use Rattle.gpu_vulkan.specs.declared.allocation.Allocation.{Allocation};
 ghost use Rattle.gpu_vulkan.specs.Step.{IsStep, IsAllocateStep, Free, Rename, Write, Read, Capacity, Report, Leaks, SetBudget, Budget, Done, Bytes, Sum, Budgeted, freed_as, done_as, shown_as, told_as};
 ghost use Rattle.gpu_vulkan.specs.Rename.{Renames, StayLive};
 ghost use Rattle.gpu_memory_types.specs.Reports.{whole_report};
-ghost use Rattle.gpu_memory_types.specs.Budgets.{budget_at, SetsBudget};
+ghost use Rattle.gpu_memory_types.specs.Budgets.{budget_at, budgets, SetsBudget};
+ghost use Rattle.gpu_memory_types.specs.Types.{slots_of, kinds};
+ghost use Rattle.gpu_vulkan_setup.specs.Types.{kinds_told};
 ghost use Rattle.gpu_memory_types.specs.Leaks.{all_leaks};
 ghost use Rattle.gpu_core.specs.Leak.{leak_text};
 ghost use Rattle.gpu_core.specs.Report.{report_of};
@@ -188,6 +190,15 @@ impl<D: VulkanDevice> Allocator<D> {
         ensures step { IsStep D.VulkanDevice (Budget memory_type) (Budgeted result) self.now self.now }
     {
         self.types.budget(memory_type)
+    }
+
+    /// The memory types, lent to be looked at: their blocks with pieces and gaps, and what is counted of them.
+    pub fn memory_types(&self) -> &MemoryTypes<DeviceMemory>
+        ensures slots { slots_of result.now ≡ self.now.slots }
+        ensures budgets { budgets result.now ≡ self.now.budgets }
+        ensures kinds { kinds result.now ≡ kinds_told self.now.setup.properties }
+    {
+        &self.types
     }
 
     /// The device, lent. It holds what it held when it was handed in, and just the live blocks.

@@ -88,6 +88,13 @@ impl<D: VulkanDevice> Session<D> {
         self.allocator.device()
     }
 
+    /// The allocator, lent to be looked at.
+    pub fn allocator(&self) -> &Allocator<D>
+        ensures { result.now ≡ self.now.allocator }
+    {
+        &self.allocator
+    }
+
     /// At any time the blocks are sound, each number stands for a live allocation or a null one, and no two for one piece: the
     /// state from which the laws of sessions speak. It does nothing.
     pub fn numbers_own_their_pieces(&self)
