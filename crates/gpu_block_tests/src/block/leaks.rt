@@ -48,35 +48,60 @@ const LEAK_IMAGE: &str =
 const LEAK_DEDICATED: &str =
     "leak detected: {\n    memory type: 0\n    memory block: 1\n    dedicated allocation: {\n        size: 0x3e8,\n        name: b\n    }\n}";
 
+/// Looks at the texts of a block's leaks, and at its leaks one by one.
+fn check_leaks(
+    rt: &impl Abort,
+    alloc: Global,
+    block: &SubAllocator,
+    at: (usize, usize),
+    want: &[&str],
+) -> Result<()> {
+    check_texts(rt, &block.leak_texts(at.0, at.1)?, want);
+    assert_eq!(rt; block.leaks(at.0, at.1).count(), want.len());
+    for (leak, want) in block.leaks(at.0, at.1).zip(want) {
+        check_text(rt, alloc, &leak, want)?;
+    }
+    Ok(())
+}
+
+/// The leaks of a block, after this number was given back.
+fn check_leaks_behind(
+    rt: &impl Abort,
+    alloc: Global,
+    block: &mut SubAllocator,
+    number: u64,
+    want: &[&str],
+) -> Result<()> {
+    free(block, number)?;
+    check_leaks(rt, alloc, block, (0, 0), want)
+}
+
 #[test]
 fn leaks_print_start_and_padded_size(rt: HostRuntime) -> Result<(), Fail> {
-    let alloc = rt.alloc();
-    let mut block = two_pieces(&rt, alloc)?;
-    check_texts(&rt, &block.leak_texts(0, 0)?, &[LEAK_A, LEAK_B]);
-    assert_eq!(rt; block.leaks(0, 0).count(), 2);
-    for (leak, want) in block.leaks(0, 0).zip([LEAK_A, LEAK_B]) {
-        check_text(&rt, alloc, &leak, want)?;
-    }
-    free(&mut block, 2)?;
-    check_texts(&rt, &block.leak_texts(0, 0)?, &[LEAK_B]);
-    free(&mut block, 3)?;
-    check_texts(&rt, &block.leak_texts(0, 0)?, &[]);
+    let mut block = two_pieces(&rt, rt.alloc())?;
+    check_leaks(&rt, rt.alloc(), &block, (0, 0), &[LEAK_A, LEAK_B])?;
+    check_leaks_behind(&rt, rt.alloc(), &mut block, 2, &[LEAK_B])?;
+    check_leaks_behind(&rt, rt.alloc(), &mut block, 3, &[])?;
     Ok(())
 }
 
 #[test]
-fn leaks_name_their_block(rt: HostRuntime) -> Result<(), Fail> {
-    let alloc = rt.alloc();
-    let mut image = general(&rt, alloc, 1)?;
+fn leaks_of_a_free_list_name_their_block(rt: HostRuntime) -> Result<(), Fail> {
+    let mut block = general(&rt, rt.alloc(), 1)?;
     let asked = Request {
         kind: AllocationType::NonLinear,
         ..wanted(16, "i")
     };
-    assert_eq!(rt; allocate(&rt, &mut image, asked)?, (0, 2));
-    check_texts(&rt, &image.leak_texts(7, 2)?, &[LEAK_IMAGE]);
-    let mut block = dedicated(&rt, alloc, 1000);
-    check_texts(&rt, &block.leak_texts(0, 1)?, &[]);
+    assert_eq!(rt; allocate(&rt, &mut block, asked)?, (0, 2));
+    check_leaks(&rt, rt.alloc(), &block, (7, 2), &[LEAK_IMAGE])?;
+    Ok(())
+}
+
+#[test]
+fn leaks_of_a_dedicated_block_name_it(rt: HostRuntime) -> Result<(), Fail> {
+    let mut block = dedicated(&rt, rt.alloc(), 1000);
+    check_leaks(&rt, rt.alloc(), &block, (0, 1), &[])?;
     assert_eq!(rt; allocate(&rt, &mut block, wanted(1000, "b"))?, (0, 1));
-    check_texts(&rt, &block.leak_texts(0, 1)?, &[LEAK_DEDICATED]);
+    check_leaks(&rt, rt.alloc(), &block, (0, 1), &[LEAK_DEDICATED])?;
     Ok(())
 }

@@ -173,21 +173,32 @@ fn many_pieces_lose_nothing_where_memory_is_refused(
     refusals.end()
 }
 
+/// One piece of the block's size, with another name, and back.
+fn dedicated_calls(
+    rt: &impl Abort,
+    alloc: Global,
+    b: &mut SubAllocator,
+    refusals: &mut Refusals,
+) -> Result<()>
+    requires { HasPages (block_of b.old) 1 }
+{
+    assert_eq!(rt; take(rt, b, refusals, wanted(1000, "own"))?, (0, 1));
+    rename(rt, b, refusals, alloc, 1, "renamed")?;
+    let text = shown(b, alloc, refusals)?;
+    check_shown(rt, text.as_str(), "renamed 0 1000;");
+    assert_eq!(rt; count_leaks(b, refusals)?, 1);
+    free(b, 1)?;
+    assert!(rt; b.is_empty());
+    Ok(())
+}
+
 #[test]
 fn a_dedicated_block_loses_nothing_where_memory_is_refused(
     rt: HostRuntime,
 ) -> std::result::Result<(), Fail> {
     let mut refusals = Refusals { count: 0 };
-    let r = &mut refusals;
     let mut block = dedicated(&rt, rt.alloc(), 1000);
-    let b = &mut block;
-    assert_eq!(&rt; take(&rt, b, r, wanted(1000, "own"))?, (0, 1));
-    rename(&rt, b, r, rt.alloc(), 1, "renamed")?;
-    let text = shown(b, rt.alloc(), r)?;
-    check_shown(&rt, text.as_str(), "renamed 0 1000;");
-    assert_eq!(&rt; count_leaks(b, r)?, 1);
-    free(b, 1)?;
-    assert!(&rt; b.is_empty());
+    dedicated_calls(&rt, rt.alloc(), &mut block, &mut refusals)?;
     refusals.end()
 }
 

@@ -1,12 +1,15 @@
-//! Tests of a block of either form.
+//! Tests of a block of either form: lists of calls, each with what it answers.
 
-ghost use Rattle.std.specs.Prelude.{ℕ};
+ghost use Rattle.std.specs.Prelude.{◌≢◌, ℕ};
 ghost use Rattle.gpu_block.specs.Block.{HasPages};
 ghost use Rattle.gpu_block.specs.SubAllocator.{block_of};
 
+use self::Call::{
+    Allocated, Finds, Frees, FreesNothing, IsGeneral, Renames, RenamesNothing, Reports, Size,
+    Takes, TakesNothing,
+};
 use super::{
     MB, Request, allocate, check_report, check_text, dedicated, free, general, granularity_one,
-    wanted,
 };
 use gpu_block::{FreeListAllocator, SubAllocator};
 use gpu_values::{AllocationType, Result};
@@ -15,11 +18,84 @@ use std::num::NonZeroU64;
 use std::process::Abort;
 use std::test::Fail;
 
+/// A piece that is asked for.
+#[derive(Clone, Copy)]
+struct Asked {
+    size: u64,
+    alignment: u64,
+    linear: bool,
+    name: &'static str,
+}
+
+/// A call, and what it answers. The number 0 stands for none.
+#[derive(Clone, Copy)]
+enum Call {
+    /// A piece is taken: its offset and number.
+    Takes(Asked, (u64, u64)),
+    /// No piece is taken, for the cause of this text.
+    TakesNothing(Asked, &'static str),
+    Frees(u64),
+    FreesNothing(u64, &'static str),
+    Renames(u64, &'static str),
+    RenamesNothing(u64, &'static str),
+    /// The place of a piece: its offset and size.
+    Finds(u64, Option<(u64, u64)>),
+    Reports(&'static str),
+    /// How many bytes are taken, padding included.
+    Allocated(u64),
+    Size(u64),
+    IsGeneral(bool),
+}
+
+/// A linear piece that may begin anywhere.
+fn plain(size: u64, name: &'static str) -> Asked {
+    Asked {
+        size,
+        alignment: 1,
+        linear: true,
+        name,
+    }
+}
+
+fn kind_of(linear: bool) -> AllocationType
+    ensures { result ≢ AllocationType.Free }
+{
+    if linear {
+        AllocationType::Linear
+    } else {
+        AllocationType::NonLinear
+    }
+}
+
+fn take(
+    rt: &impl Abort,
+    block: &mut SubAllocator,
+    granularity: u64,
+    asked: Asked,
+) -> Result<(u64, u64)>
+    requires { HasPages (block_of block.old) granularity }
+    ensures { (g : ℕ) → HasPages (block_of block.old) g → HasPages (block_of block.new) g }
+{
+    let request = Request {
+        size: asked.size,
+        alignment: asked.alignment,
+        kind: kind_of(asked.linear),
+        granularity,
+        name: asked.name,
+    };
+    allocate(rt, block, request)
+}
+
 /// 0 stands for no number.
 fn rename(block: &mut SubAllocator, number: u64, name: &str) -> Result<()>
     ensures { (g : ℕ) → HasPages (block_of block.old) g → HasPages (block_of block.new) g }
 {
     block.rename_allocation(NonZeroU64::new(number), name)
+}
+
+/// 0 stands for no number.
+fn place(block: &SubAllocator, number: u64) -> Option<(u64, u64)> {
+    block.place_of(NonZeroU64::new(number)?)
 }
 
 fn check_refused<V: Drop>(
@@ -35,206 +111,234 @@ fn check_refused<V: Drop>(
     Ok(())
 }
 
+/// Makes a call that only looks, and compares its answer.
+fn look(rt: &impl Abort, alloc: Global, block: &SubAllocator, call: Call) -> Result<()> {
+    match call {
+        Finds(number, want) => assert_eq!(rt; place(block, number), want, "number {number}"),
+        Reports(want) => check_report(rt, alloc, block, want)?,
+        Allocated(want) => {
+            assert_eq!(rt; block.allocated(), want);
+            assert_eq!(rt; block.is_empty(), want == 0);
+        }
+        Size(want) => assert_eq!(rt; block.size(), want),
+        IsGeneral(want) => assert_eq!(rt; block.supports_general_allocations(), want),
+        _ => {}
+    }
+    Ok(())
+}
+
+/// Makes a call, and compares its answer.
+fn make_call(
+    rt: &impl Abort,
+    alloc: Global,
+    block: &mut SubAllocator,
+    granularity: u64,
+    call: Call,
+) -> Result<()>
+    requires { HasPages (block_of block.old) granularity }
+    ensures { (g : ℕ) → HasPages (block_of block.old) g → HasPages (block_of block.new) g }
+{
+    match call {
+        Takes(asked, want) => assert_eq!(rt; take(rt, block, granularity, asked)?, want),
+        TakesNothing(asked, want) => {
+            check_refused(rt, alloc, take(rt, block, granularity, asked), want)?
+        }
+        Frees(number) => free(block, number)?,
+        FreesNothing(number, want) => check_refused(rt, alloc, free(block, number), want)?,
+        Renames(number, name) => rename(block, number, name)?,
+        RenamesNothing(number, want) => {
+            check_refused(rt, alloc, rename(block, number, "x"), want)?
+        }
+        _ => look(rt, alloc, block, call)?,
+    }
+    Ok(())
+}
+
+fn make_calls(
+    rt: &impl Abort,
+    alloc: Global,
+    block: &mut SubAllocator,
+    granularity: u64,
+    calls: &[Call],
+) -> Result<()>
+    requires { HasPages (block_of block.old) granularity }
+{
+    for call in calls {
+        make_call(rt, alloc, block, granularity, *call)?;
+    }
+    Ok(())
+}
+
 const OUT_OF_MEMORY: &str = "Out of memory";
 
 const OTHER_SIZE: &str = "Internal error: DedicatedBlockAllocator size must match allocation size.";
 
 const NOT_ONE: &str = "Internal error: Chunk ID must be 1.";
 
+const MISSING: &str = "Internal error: Chunk ID must be a valid value.";
+
+const NOT_LISTED: &str = "Internal error: Attempting to free chunk that is not in chunk list.";
+
+const FREED_TWICE: &str = "Internal error: Attempting to free a freed allocation.";
+
+const RENAMED_AFTER_FREE: &str = "Internal error: Attempting to rename a freed allocation.";
+
+const RENAMED_UNKNOWN: &str =
+    "Internal error: Attempting to rename chunk that is not in chunk list.";
+
 #[test]
 fn a_dedicated_block_holds_one_piece_of_its_size(rt: HostRuntime) -> Result<(), Fail> {
-    let alloc = rt.alloc();
-    let mut block = dedicated(&rt, alloc, 1000);
-    let b = &mut block;
-    assert!(rt; !b.supports_general_allocations());
-    check_refused(&rt, alloc, allocate(&rt, b, wanted(999, "a")), OTHER_SIZE)?;
-    assert!(rt; b.is_empty());
-    assert_eq!(rt; allocate(&rt, b, wanted(1000, "a"))?, (0, 1));
-    check_refused(
-        &rt,
-        alloc,
-        allocate(&rt, b, wanted(999, "b")),
-        OUT_OF_MEMORY,
-    )?;
-    check_refused(
-        &rt,
-        alloc,
-        allocate(&rt, b, wanted(1000, "b")),
-        OUT_OF_MEMORY,
-    )?;
-    assert_eq!(rt; b.allocated(), 1000);
-    assert!(rt; !b.is_empty());
-    check_refused(&rt, alloc, free(b, 2), NOT_ONE)?;
-    check_refused(&rt, alloc, free(b, 0), NOT_ONE)?;
-    free(b, 1)?;
-    let freed = "Internal error: Attempting to free a freed allocation.";
-    check_refused(&rt, alloc, free(b, 1), freed)?;
-    check_refused(&rt, alloc, free(b, 2), NOT_ONE)?;
-    assert_eq!(rt; b.allocated(), 0);
+    let mut block = dedicated(&rt, rt.alloc(), 1000);
+    let calls = [
+        IsGeneral(false),
+        TakesNothing(plain(999, "a"), OTHER_SIZE),
+        Allocated(0),
+        Takes(plain(1000, "a"), (0, 1)),
+        TakesNothing(plain(999, "b"), OUT_OF_MEMORY),
+        TakesNothing(plain(1000, "b"), OUT_OF_MEMORY),
+        Allocated(1000),
+        FreesNothing(2, NOT_ONE),
+        FreesNothing(0, NOT_ONE),
+        Frees(1),
+        FreesNothing(1, FREED_TWICE),
+        FreesNothing(2, NOT_ONE),
+        Allocated(0),
+    ];
+    make_calls(&rt, rt.alloc(), &mut block, 1, &calls)?;
     Ok(())
 }
 
 #[test]
 fn a_free_list_in_a_block_gives_and_takes(rt: HostRuntime) -> Result<(), Fail> {
-    let alloc = rt.alloc();
-    let mut block = general(&rt, alloc, 1)?;
-    let b = &mut block;
-    assert!(rt; b.supports_general_allocations());
-    assert!(rt; b.is_empty());
-    assert_eq!(rt; allocate(&rt, b, wanted(10, "a"))?, (0, 2));
-    check_refused(
-        &rt,
-        alloc,
-        allocate(&rt, b, wanted(4 * MB, "b")),
-        OUT_OF_MEMORY,
-    )?;
-    let missing = "Internal error: Chunk ID must be a valid value.";
-    let unknown = "Internal error: Attempting to free chunk that is not in chunk list.";
-    check_refused(&rt, alloc, free(b, 0), missing)?;
-    check_refused(&rt, alloc, free(b, 1), unknown)?;
-    check_refused(&rt, alloc, free(b, 7), unknown)?;
-    free(b, 2)?;
-    assert!(rt; b.is_empty());
-    assert_eq!(rt; allocate(&rt, b, wanted(4 * MB, "b"))?, (0, 2));
+    let mut block = general(&rt, rt.alloc(), 1)?;
+    let calls = [
+        IsGeneral(true),
+        Allocated(0),
+        Takes(plain(10, "a"), (0, 2)),
+        TakesNothing(plain(4 * MB, "b"), OUT_OF_MEMORY),
+        FreesNothing(0, MISSING),
+        FreesNothing(1, NOT_LISTED),
+        FreesNothing(7, NOT_LISTED),
+        Frees(2),
+        Allocated(0),
+        Takes(plain(4 * MB, "b"), (0, 2)),
+    ];
+    make_calls(&rt, rt.alloc(), &mut block, 1, &calls)?;
     Ok(())
 }
 
+/// The greatest number that a piece can have.
+const LAST: u64 = 18_446_744_073_709_551_614;
+
 #[test]
 fn the_last_number_in_a_block(rt: HostRuntime) -> Result<(), Fail> {
-    let alloc = rt.alloc();
-    let last = 18_446_744_073_709_551_614;
     let granularity = granularity_one(&rt);
-    let list = FreeListAllocator::with_counter(alloc, 4_194_304, granularity, last)?;
+    let list = FreeListAllocator::with_counter(rt.alloc(), 4_194_304, granularity, LAST)?;
     let mut block = SubAllocator::FreeList(list);
-    let b = &mut block;
-    assert_eq!(rt; allocate(&rt, b, wanted(10, "a"))?, (0, last));
-    check_refused(&rt, alloc, allocate(&rt, b, wanted(10, "b")), OUT_OF_MEMORY)?;
-    assert_eq!(rt; allocate(&rt, b, wanted(4_194_294, "c"))?, (10, 1));
-    free(b, last)?;
-    assert_eq!(rt; allocate(&rt, b, wanted(10, "d"))?, (0, last));
+    let calls = [
+        Takes(plain(10, "a"), (0, LAST)),
+        TakesNothing(plain(10, "b"), OUT_OF_MEMORY),
+        Takes(plain(4_194_294, "c"), (10, 1)),
+        Frees(LAST),
+        Takes(plain(10, "d"), (0, LAST)),
+    ];
+    make_calls(&rt, rt.alloc(), &mut block, granularity, &calls)?;
     Ok(())
 }
 
 #[test]
 fn a_gap_is_refused_for_its_last_page(rt: HostRuntime) -> Result<(), Fail> {
     let mut block = general(&rt, rt.alloc(), 1024)?;
-    let b = &mut block;
-    let one = Request {
-        size: 2000,
-        alignment: 1,
-        kind: AllocationType::Linear,
-        granularity: 1024,
-        name: "a",
+    let image = Asked {
+        linear: false,
+        ..plain(100, "b")
     };
-    assert_eq!(rt; allocate(&rt, b, one)?, (0, 2));
-    let other = Request {
-        size: 100,
-        kind: AllocationType::NonLinear,
-        ..one
-    };
-    assert_eq!(rt; allocate(&rt, b, other)?, (2048, 3));
-    free(b, 2)?;
-    let half = Request { size: 1000, ..one };
-    assert_eq!(rt; allocate(&rt, b, half)?, (0, 4));
-    assert_eq!(rt; allocate(&rt, b, half)?, (3072, 5));
-    assert_eq!(rt;
-        allocate(
-            &rt,
-            b,
-            Request {
-                kind: AllocationType::NonLinear,
-                ..half
-            }
-        )?,
-        (4096, 6)
-    );
-    Ok(())
-}
-
-/// Three pieces, of which the first was given back and the second has another name.
-fn one_renamed(rt: &impl Abort, alloc: Global) -> Result<SubAllocator> {
-    let mut block = general(rt, alloc, 1)?;
-    let b = &mut block;
-    assert_eq!(rt; allocate(rt, b, wanted(10, "a"))?, (0, 2));
-    assert_eq!(rt; allocate(rt, b, wanted(20, "b"))?, (10, 3));
-    assert_eq!(rt; allocate(rt, b, wanted(30, "c"))?, (30, 4));
-    free(b, 2)?;
-    rename(b, 3, "new")?;
-    Ok(block)
-}
-
-#[test]
-fn a_piece_in_a_free_list_gets_another_name(rt: HostRuntime) -> Result<(), Fail> {
-    let block = one_renamed(&rt, rt.alloc())?;
-    check_report(&rt, rt.alloc(), &block, "new 10 20;c 30 30;")?;
+    let calls = [
+        Takes(plain(2000, "a"), (0, 2)),
+        Takes(image, (2048, 3)),
+        Frees(2),
+        Takes(plain(1000, "a"), (0, 4)),
+        Takes(plain(1000, "a"), (3072, 5)),
+        Takes(
+            Asked {
+                size: 1000,
+                ..image
+            },
+            (4096, 6),
+        ),
+    ];
+    make_calls(&rt, rt.alloc(), &mut block, 1024, &calls)?;
     Ok(())
 }
 
 #[test]
-fn a_piece_that_is_not_live_gets_no_name(rt: HostRuntime) -> Result<(), Fail> {
-    let alloc = rt.alloc();
-    let mut block = one_renamed(&rt, alloc)?;
-    let b = &mut block;
-    let missing = "Internal error: Chunk ID must be a valid value.";
-    let freed = "Internal error: Attempting to rename a freed allocation.";
-    let unknown = "Internal error: Attempting to rename chunk that is not in chunk list.";
-    check_refused(&rt, alloc, rename(b, 0, "x"), missing)?;
-    check_refused(&rt, alloc, rename(b, 1, "x"), freed)?;
-    check_refused(&rt, alloc, rename(b, 2, "x"), freed)?;
-    check_refused(&rt, alloc, rename(b, 5, "x"), unknown)?;
-    check_report(&rt, alloc, b, "new 10 20;c 30 30;")?;
+fn a_live_piece_gets_another_name_and_no_other(rt: HostRuntime) -> Result<(), Fail> {
+    let mut block = general(&rt, rt.alloc(), 1)?;
+    let calls = [
+        Takes(plain(10, "a"), (0, 2)),
+        Takes(plain(20, "b"), (10, 3)),
+        Takes(plain(30, "c"), (30, 4)),
+        Frees(2),
+        Renames(3, "new"),
+        Reports("new 10 20;c 30 30;"),
+        RenamesNothing(0, MISSING),
+        RenamesNothing(1, RENAMED_AFTER_FREE),
+        RenamesNothing(2, RENAMED_AFTER_FREE),
+        RenamesNothing(5, RENAMED_UNKNOWN),
+        Reports("new 10 20;c 30 30;"),
+    ];
+    make_calls(&rt, rt.alloc(), &mut block, 1, &calls)?;
     Ok(())
 }
 
 #[test]
 fn a_dedicated_piece_gets_another_name(rt: HostRuntime) -> Result<(), Fail> {
-    let alloc = rt.alloc();
-    let mut block = dedicated(&rt, alloc, 1000);
-    let b = &mut block;
-    let freed = "Internal error: Attempting to rename a freed allocation.";
-    check_refused(&rt, alloc, rename(b, 1, "x"), freed)?;
-    check_refused(&rt, alloc, rename(b, 2, "x"), NOT_ONE)?;
-    check_refused(&rt, alloc, rename(b, 0, "x"), NOT_ONE)?;
-    check_report(&rt, alloc, b, "")?;
-    assert_eq!(rt; allocate(&rt, b, wanted(1000, "a"))?, (0, 1));
-    check_refused(&rt, alloc, rename(b, 2, "x"), NOT_ONE)?;
-    check_report(&rt, alloc, b, "a 0 1000;")?;
-    rename(b, 1, "new")?;
-    check_report(&rt, alloc, b, "new 0 1000;")?;
+    let mut block = dedicated(&rt, rt.alloc(), 1000);
+    let calls = [
+        RenamesNothing(1, RENAMED_AFTER_FREE),
+        RenamesNothing(2, NOT_ONE),
+        RenamesNothing(0, NOT_ONE),
+        Reports(""),
+        Takes(plain(1000, "a"), (0, 1)),
+        RenamesNothing(2, NOT_ONE),
+        Reports("a 0 1000;"),
+        Renames(1, "new"),
+        Reports("new 0 1000;"),
+    ];
+    make_calls(&rt, rt.alloc(), &mut block, 1, &calls)?;
     Ok(())
-}
-
-/// 0 stands for no number.
-fn place(block: &SubAllocator, number: u64) -> Option<(u64, u64)> {
-    block.place_of(NonZeroU64::new(number)?)
 }
 
 #[test]
 fn a_live_piece_is_found_by_its_number(rt: HostRuntime) -> Result<(), Fail> {
     let mut block = general(&rt, rt.alloc(), 1)?;
-    let b = &mut block;
-    assert_eq!(rt; b.size(), 4 * MB);
-    assert_eq!(rt; allocate(&rt, b, wanted(100, "a"))?, (0, 2));
-    let aligned = Request {
+    let aligned = Asked {
         alignment: 256,
-        ..wanted(64, "b")
+        ..plain(64, "b")
     };
-    assert_eq!(rt; allocate(&rt, b, aligned)?, (256, 3));
-    assert_eq!(rt; place(b, 2), Some((0, 100)));
-    assert_eq!(rt; place(b, 3), Some((256, 64)));
-    assert_eq!(rt; place(b, 1), None);
-    assert_eq!(rt; place(b, 4), None);
+    let calls = [
+        Size(4 * MB),
+        Takes(plain(100, "a"), (0, 2)),
+        Takes(aligned, (256, 3)),
+        Finds(2, Some((0, 100))),
+        Finds(3, Some((256, 64))),
+        Finds(1, None),
+        Finds(4, None),
+    ];
+    make_calls(&rt, rt.alloc(), &mut block, 1, &calls)?;
     Ok(())
 }
 
 #[test]
 fn a_dedicated_piece_is_found_by_the_number_one(rt: HostRuntime) -> Result<(), Fail> {
     let mut block = dedicated(&rt, rt.alloc(), 1000);
-    let b = &mut block;
-    assert_eq!(rt; b.size(), 1000);
-    assert_eq!(rt; place(b, 1), None);
-    assert_eq!(rt; allocate(&rt, b, wanted(1000, "a"))?, (0, 1));
-    assert_eq!(rt; place(b, 1), Some((0, 1000)));
-    assert_eq!(rt; place(b, 2), None);
+    let calls = [
+        Size(1000),
+        Finds(1, None),
+        Takes(plain(1000, "a"), (0, 1)),
+        Finds(1, Some((0, 1000))),
+        Finds(2, None),
+    ];
+    make_calls(&rt, rt.alloc(), &mut block, 1, &calls)?;
     Ok(())
 }

@@ -109,9 +109,7 @@ impl Account {
         self.mix(offset);
         self.mix(number.unwrap_or(0));
         self.mix(allocation.memory_type_index() as u64);
-        if let Some(bytes) = a.mapped_slice_mut(&allocation) {
-            mark(bytes, tag);
-        }
+        mark_ends(a, &allocation, tag);
         self.enter(&allocation, own)?;
         self.live.push(Live { allocation, tag })?;
         Ok(())
@@ -227,6 +225,17 @@ impl Account {
         assert_eq!(rt; report.blocks.len(), self.blocks.len());
         assert_eq!(rt; report.total_allocated_bytes, self.bytes());
         assert_eq!(rt; report.total_capacity_bytes, self.capacity(None));
+    }
+}
+
+/// Gives both ends of mapped memory this byte, through one or the other of the calls that lend it to be written.
+fn mark_ends(a: &mut Allocator<SimVulkan>, allocation: &Allocation, tag: u8) {
+    if tag % 2 == 0 {
+        if let Some(bytes) = a.mapped_slice_mut(allocation) {
+            mark(bytes, tag);
+        }
+    } else if a.mapped_slice(allocation).is_some() {
+        mark(a.slice_mut(allocation), tag);
     }
 }
 
