@@ -1,0 +1,5 @@
+pub mod Values
+pub mod ReportValue
+pub mod BlocksValue
+pub mod Fits
+pub mod Printed
