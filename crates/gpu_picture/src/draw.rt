@@ -1,8 +1,9 @@
 //! What is written of the stage that a trace leaves.
 
-ghost use Rattle.std.specs.Prelude.{OnOk};
+ghost use Rattle.std.specs.Prelude.{◌≡◌, map, IfOk, OnOk};
 ghost use Rattle.std.specs.Io.KnownBytes.{Appends};
-ghost use Rattle.gpu_picture.specs.Draw.{drawing, DrawsBlock, DrawsViews, Draws};
+ghost use Rattle.gpu_report.specs.View.{shown};
+ghost use Rattle.gpu_picture.specs.Draw.{drawing, shown_types, DrawsBlock, DrawsDevice, Draws};
 
 use gpu_block_session as block;
 use gpu_device::vulkan::DeviceMemory;
@@ -60,7 +61,9 @@ fn draw_block<W: Write>(form: Form, stage: &block::Stage, writer: &mut W) -> io:
 fn views_of<'a>(
     alloc: Global,
     types: &'a MemoryTypes<DeviceMemory>,
-) -> Result<Vec<BlockView<'a>>, AllocationError> {
+) -> Result<Vec<BlockView<'a>>, AllocationError>
+    ensures { IfOk result (λ views. map shown views.items ≡ shown_types 0 types.now) }
+{
     let mut views = Vec::new(alloc);
     for index in 0..types.count() {
         if let Some(memory_type) = types.memory_type(index) {
@@ -77,7 +80,7 @@ fn draw_device<W: Write>(
     session: &Session<SimVulkan>,
     writer: &mut W,
 ) -> io::Result<()>
-    ensures { OnOk result (DrawsViews form (W.contents writer.old) (W.contents writer.new)) }
+    ensures { OnOk result (DrawsDevice form session.now (W.contents writer.old) (W.contents writer.new)) }
 {
     match views_of(alloc, session.allocator().memory_types()) {
         Ok(views) => write_views(form, &views, writer),
