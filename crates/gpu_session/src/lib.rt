@@ -12,6 +12,3 @@ pub use gpu_vulkan_session::{Command, Given, Reply, Session, laws};
 pub use replay::{Replayed, replay_trace};
 pub use run::{TraceError, run_trace};
 pub use stage::{Outcome, Stage};
-
-#[cfg(test)]
-mod tests;

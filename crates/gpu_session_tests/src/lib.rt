@@ -1,5 +1,7 @@
-//! Tests of sessions over the simulated Vulkan device.
+//! Tests of sessions over the simulated Vulkan device, and of whole traces.
 #![tactic(auto)]
 
 #[cfg(test)]
 mod sessions;
+#[cfg(test)]
+mod traces;

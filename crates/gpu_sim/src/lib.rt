@@ -10,6 +10,3 @@ pub use gpu_sim_base::Refusal;
 pub use gpu_sim_d3d12::SimD3D12;
 pub use gpu_sim_metal::SimMetal;
 pub use sim_vulkan::SimVulkan;
-
-#[cfg(test)]
-mod tests;

@@ -18,6 +18,3 @@ pub use bytes::fmt_bytes;
 pub use error::{AllocationError, Fault, Result, internal_fault};
 pub use memory_location::MemoryLocation;
 pub use report::{AllocationReport, AllocatorReport, MemoryBlockReport};
-
-#[cfg(test)]
-mod tests;

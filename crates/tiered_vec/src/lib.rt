@@ -8,6 +8,3 @@ mod tiered_vec;
 mod tiers;
 
 pub use tiered_vec::TieredVec;
-
-#[cfg(test)]
-mod tests;

@@ -1,10 +1,10 @@
 //! The answers of the simulated device, with ample memory and with memory that the host can't back.
 
 use super::{device, info};
-use crate::{Refusal, SimVulkan};
 use gpu_device::vulkan::{
     AllocationScheme, Buffer, DeviceMemory, MemoryAllocateInfo, MemoryPropertyFlags, VulkanDevice,
 };
+use gpu_sim::{Refusal, SimVulkan};
 use std::test::Fail;
 
 /// Asks for a memory and then for its bytes, and gives both answers.

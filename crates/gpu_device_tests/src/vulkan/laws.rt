@@ -5,8 +5,8 @@ ghost use Rattle.std.specs.FinMap.{get};
 ghost use Rattle.gpu_device.specs.Held.{range_of, bytes_of, size_of, with_range, HasRange, raised};
 
 use super::{device, info};
-use crate::Refusal;
 use gpu_device::vulkan::{DeviceMemory, MemoryAllocateInfo, MemoryTypeInfo, VulkanDevice};
+use gpu_sim::Refusal;
 use std::test::Fail;
 
 /// Writes bytes into a memory.

@@ -1,6 +1,9 @@
-//! Tests of what no contract says: worked rows, printed texts, and that each call succeeds while there is memory.
+//! Tests of what callers set and are told: block sizes, texts of errors, amounts, reports.
 
-use super::*;
+use gpu_values::{
+    AllocationError, AllocationReport, AllocationSizes, AllocationType, AllocatorDebugSettings,
+    AllocatorReport, Fault, MemoryBlockReport, Result, fmt_bytes, internal_fault,
+};
 use std::alloc::{AllocError, Global};
 use std::fmt::Display;
 use std::process::Abort;

@@ -1,8 +1,7 @@
-//! Tests of what no contract says: worked traces, bad lines, and readers and writers that fail.
+//! Tests of whole traces: worked ones, bad lines, and readers and writers that fail.
 
-use crate::run::{LIMIT, run_trace};
-use crate::{Command, Reply, Session};
 use gpu_device::vulkan::PhysicalDevice;
+use gpu_session::{Command, Reply, Session, run_trace};
 use gpu_sim::SimVulkan;
 use gpu_values::{AllocationSizes, AllocatorDebugSettings};
 use gpu_vulkan::{Allocator, AllocatorCreateDesc};
@@ -12,6 +11,9 @@ use std::io;
 use std::io::{ErrorKind, Read, Write};
 use std::process::Abort;
 use std::test::Fail;
+
+/// How long a trace may be, in bytes.
+const LIMIT: u64 = 1_048_576;
 
 fn check(rt: &impl Abort, alloc: Global, input: &[u8], output: &str, status: u8) {
     let mut reader = input;

@@ -1,9 +1,9 @@
-//! Tests of what no contract says: that each call succeeds while there is memory, and a run beside a plain vector.
+//! Tests of the list that an index of gaps stands on: each call with ample memory, and a run beside a plain vector.
 
-use super::*;
 use std::alloc::{AllocError, Global};
 use std::process::Abort;
 use std::test::Fail;
+use tiered_vec::TieredVec;
 
 fn put(rt: &impl Abort, v: &mut TieredVec<u32>, place: usize, entry: u32) {
     assert!(rt; place <= v.len());
