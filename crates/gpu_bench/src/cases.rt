@@ -5,7 +5,7 @@ ghost use Rattle.std.specs.Prelude.{◌≤◌, ◌<◌, ◌^◌};
 use crate::draw::Draw;
 use crate::error::Result;
 use crate::field::Field;
-use crate::show::{show_tally, show_time};
+use crate::show::{Times, show_case, show_tally, show_time};
 use std::num::NonZeroU64;
 use std::time::{Duration, Instant};
 
@@ -29,25 +29,40 @@ fn take_mixed(
     Ok(())
 }
 
+/// Fills the block once, gives all back, and adds what that took.
+fn time_round(
+    rt: &HostRuntime,
+    field: &mut Field,
+    draw: &mut Draw,
+    numbers: &mut Vec<Option<NonZeroU64>>,
+    times: &mut Times,
+) -> Result<()> {
+    let start = Instant::now(rt)?;
+    take_mixed(field, draw, 32_768, numbers)?;
+    times.taking = times.taking.saturating_add(start.elapsed(rt)?);
+    let start = Instant::now(rt)?;
+    field.give_all_back(numbers);
+    times.giving = times.giving.saturating_add(start.elapsed(rt)?);
+    Ok(())
+}
+
+fn show_fill(rt: &HostRuntime, field: &Field, times: Times, operations: u64) -> Result<()> {
+    show_tally(rt, "fill and free", field)?;
+    show_time(rt, "fill: a take", times.taking, operations)?;
+    show_time(rt, "fill: a release", times.giving, operations)?;
+    Ok(())
+}
+
 /// Fills a block with mixed pieces, and gives all back, in the order in which they came.
 pub fn fill_and_free(rt: &HostRuntime, rounds: u64) -> Result<()> {
     let mut draw = Draw::new(1);
     let mut field = Field::new(rt.alloc(), 256 * MB, 1)?;
-    let mut taking = Duration::ZERO;
-    let mut giving = Duration::ZERO;
+    let mut times = Times::new();
     for _ in 0..rounds {
         let mut numbers = Vec::new(rt.alloc());
-        let start = Instant::now(rt)?;
-        take_mixed(&mut field, &mut draw, 32_768, &mut numbers)?;
-        taking = taking.saturating_add(start.elapsed(rt)?);
-        let start = Instant::now(rt)?;
-        field.give_all_back(&numbers);
-        giving = giving.saturating_add(start.elapsed(rt)?);
+        time_round(rt, &mut field, &mut draw, &mut numbers, &mut times)?;
     }
-    show_tally(rt, "fill and free", &field)?;
-    show_time(rt, "fill: a take", taking, PIECES.wrapping_mul(rounds))?;
-    show_time(rt, "fill: a release", giving, PIECES.wrapping_mul(rounds))?;
-    Ok(())
+    show_fill(rt, &field, times, PIECES.wrapping_mul(rounds))
 }
 
 /// One piece goes and another comes, by chance.
@@ -59,19 +74,39 @@ fn exchange(field: &mut Field, draw: &mut Draw, numbers: &mut Vec<Option<NonZero
     }
 }
 
+/// What so many exchanges take.
+fn time_exchanges(
+    rt: &HostRuntime,
+    field: &mut Field,
+    draw: &mut Draw,
+    numbers: &mut Vec<Option<NonZeroU64>>,
+    turns: u64,
+) -> Result<Duration> {
+    let start = Instant::now(rt)?;
+    for _ in 0..turns {
+        exchange(field, draw, numbers);
+    }
+    Ok(start.elapsed(rt)?)
+}
+
+fn show_churn(
+    rt: &HostRuntime,
+    pages: u64,
+    field: &Field,
+    taken: Duration,
+    turns: u64,
+) -> Result<()> {
+    let case = format!(in rt.alloc(); "churn with pages of {pages}")?;
+    show_case(rt, case.as_str(), field, taken, turns)?;
+    Ok(())
+}
+
 /// Pieces that come and go by chance among many that stay.
 pub fn churn(rt: &HostRuntime, pages: u64, turns: u64) -> Result<()> {
     let mut draw = Draw::new(2);
     let mut field = Field::new(rt.alloc(), 512 * MB, pages)?;
     let mut numbers = Vec::new(rt.alloc());
     take_mixed(&mut field, &mut draw, 65_536, &mut numbers)?;
-    let start = Instant::now(rt)?;
-    for _ in 0..turns {
-        exchange(&mut field, &mut draw, &mut numbers);
-    }
-    let taken = start.elapsed(rt)?;
-    let case = format!(in rt.alloc(); "churn with pages of {pages}")?;
-    show_tally(rt, case.as_str(), &field)?;
-    show_time(rt, case.as_str(), taken, turns)?;
-    Ok(())
+    let taken = time_exchanges(rt, &mut field, &mut draw, &mut numbers, turns)?;
+    show_churn(rt, pages, &field, taken, turns)
 }

@@ -5,7 +5,7 @@ ghost use Rattle.std.specs.Prelude.{◌≢◌};
 use crate::draw::{Asked, Draw};
 use crate::error::Result;
 use crate::field::Field;
-use crate::show::{show_tally, show_time};
+use crate::show::{Times, show_tally, show_time};
 use gpu_values::AllocationType;
 use std::num::NonZeroU64;
 use std::time::{Duration, Instant};
@@ -49,40 +49,50 @@ fn take_batch(
     Ok(())
 }
 
+/// Takes a batch and gives it back, and adds what that took.
+fn time_batch(
+    rt: &HostRuntime,
+    field: &mut Field,
+    draw: &mut Draw,
+    numbers: &mut Vec<Option<NonZeroU64>>,
+    times: &mut Times,
+) -> Result<()> {
+    numbers.clear();
+    let start = Instant::now(rt)?;
+    take_batch(field, draw, numbers)?;
+    times.taking = times.taking.saturating_add(start.elapsed(rt)?);
+    let start = Instant::now(rt)?;
+    field.give_all_back(numbers);
+    times.giving = times.giving.saturating_add(start.elapsed(rt)?);
+    Ok(())
+}
+
+fn show_beside(
+    rt: &HostRuntime,
+    count: u64,
+    field: &Field,
+    times: Times,
+    operations: u64,
+) -> Result<()> {
+    let tally = format!(in rt.alloc(); "beside {count} gaps")?;
+    show_tally(rt, tally.as_str(), field)?;
+    let take = format!(in rt.alloc(); "a take beside {count} gaps")?;
+    show_time(rt, take.as_str(), times.taking, operations)?;
+    let release = format!(in rt.alloc(); "a release beside {count} gaps")?;
+    show_time(rt, release.as_str(), times.giving, operations)?;
+    Ok(())
+}
+
 /// Pieces that are taken and given back beside so many gaps.
 pub fn beside_gaps(rt: &HostRuntime, count: u64, turns: u64) -> Result<()> {
     let mut draw = Draw::new(3);
     let mut field = field_of_gaps(rt, &mut draw, count)?;
     let mut numbers = Vec::new(rt.alloc());
-    let mut taking = Duration::ZERO;
-    let mut giving = Duration::ZERO;
+    let mut times = Times::new();
     for _ in 0..turns {
-        numbers.clear();
-        let start = Instant::now(rt)?;
-        take_batch(&mut field, &mut draw, &mut numbers)?;
-        taking = taking.saturating_add(start.elapsed(rt)?);
-        let start = Instant::now(rt)?;
-        field.give_all_back(&numbers);
-        giving = giving.saturating_add(start.elapsed(rt)?);
+        time_batch(rt, &mut field, &mut draw, &mut numbers, &mut times)?;
     }
-    show_tally(
-        rt,
-        format!(in rt.alloc(); "beside {count} gaps")?.as_str(),
-        &field,
-    )?;
-    show_time(
-        rt,
-        format!(in rt.alloc(); "a take beside {count} gaps")?.as_str(),
-        taking,
-        turns.wrapping_mul(BATCH),
-    )?;
-    show_time(
-        rt,
-        format!(in rt.alloc(); "a release beside {count} gaps")?.as_str(),
-        giving,
-        turns.wrapping_mul(BATCH),
-    )?;
-    Ok(())
+    show_beside(rt, count, &field, times, turns.wrapping_mul(BATCH))
 }
 
 /// Asks so often for the same piece.
@@ -94,6 +104,29 @@ fn ask_often(field: &mut Field, asked: Asked, turns: u64)
     }
 }
 
+/// What asking so often takes.
+fn time_asking(rt: &HostRuntime, field: &mut Field, asked: Asked, turns: u64) -> Result<Duration>
+    requires { asked.kind ≢ AllocationType.Free }
+{
+    let start = Instant::now(rt)?;
+    ask_often(field, asked, turns);
+    Ok(start.elapsed(rt)?)
+}
+
+fn show_too_long(
+    rt: &HostRuntime,
+    count: u64,
+    field: &Field,
+    taken: Duration,
+    turns: u64,
+) -> Result<()> {
+    let tally = format!(in rt.alloc(); "too long for {count} gaps")?;
+    show_tally(rt, tally.as_str(), field)?;
+    let case = format!(in rt.alloc(); "a request too long for {count} gaps")?;
+    show_time(rt, case.as_str(), taken, turns)?;
+    Ok(())
+}
+
 /// Requests that are longer than each of so many gaps.
 pub fn too_long(rt: &HostRuntime, count: u64, turns: u64) -> Result<()> {
     let mut draw = Draw::new(4);
@@ -103,21 +136,8 @@ pub fn too_long(rt: &HostRuntime, count: u64, turns: u64) -> Result<()> {
         alignment: 1,
         kind: AllocationType::Linear,
     };
-    let start = Instant::now(rt)?;
-    ask_often(&mut field, asked, turns);
-    let taken = start.elapsed(rt)?;
-    show_tally(
-        rt,
-        format!(in rt.alloc(); "too long for {count} gaps")?.as_str(),
-        &field,
-    )?;
-    show_time(
-        rt,
-        format!(in rt.alloc(); "a request too long for {count} gaps")?.as_str(),
-        taken,
-        turns,
-    )?;
-    Ok(())
+    let taken = time_asking(rt, &mut field, asked, turns)?;
+    show_too_long(rt, count, &field, taken, turns)
 }
 
 /// A field that is full of linear pieces of half a page but for every other one.
@@ -137,6 +157,19 @@ fn field_of_halves(rt: &HostRuntime, pages: u64, count: u64) -> Result<Field> {
     Ok(field)
 }
 
+fn show_never(
+    rt: &HostRuntime,
+    case: &str,
+    field: &Field,
+    taken: Duration,
+    operations: u64,
+) -> Result<()> {
+    show_tally(rt, case, field)?;
+    let gap = format!(in rt.alloc(); "{case}, a gap")?;
+    show_time(rt, gap.as_str(), taken, operations)?;
+    Ok(())
+}
+
 /// Requests that fit in none of so many gaps, though each is long enough.
 pub fn never_fits(
     rt: &HostRuntime,
@@ -149,17 +182,8 @@ pub fn never_fits(
     requires { asked.kind ≢ AllocationType.Free }
 {
     let mut field = field_of_halves(rt, pages, count)?;
-    let start = Instant::now(rt)?;
-    ask_often(&mut field, asked, turns);
-    let taken = start.elapsed(rt)?;
-    show_tally(rt, case, &field)?;
-    show_time(
-        rt,
-        format!(in rt.alloc(); "{case}, a gap")?.as_str(),
-        taken,
-        turns.wrapping_mul(count),
-    )?;
-    Ok(())
+    let taken = time_asking(rt, &mut field, asked, turns)?;
+    show_never(rt, case, &field, taken, turns.wrapping_mul(count))
 }
 
 /// A piece that would have to begin where each gap ends.
