@@ -77,6 +77,25 @@ fn report(rt: &impl Abort, alloc: Global) -> AllocatorReport {
     }
 }
 
+/// Compares the numbers at these places of what was read.
+fn check_numbers(rt: &impl Abort, value: &Value, want: &[(&str, u64)]) {
+    for row in want {
+        let (path, number) = *row;
+        assert_eq!(rt; number_at(rt, value, path), number, "{path}");
+    }
+}
+
+/// The numbers of a view of two pieces.
+const TWO_PIECES: &[(&str, u64)] = &[
+    ("/blocks/0/pieces/1/offset", 512),
+    ("/blocks/0/pieces/1/padding", 212),
+    ("/blocks/0/pieces/1/size", 1000),
+    ("/blocks/0/gaps/0/start", 1512),
+    ("/blocks/0/gaps/0/size", 4_192_792),
+    ("/blocks/0/memory_type", 3),
+    ("/blocks/0/statistics/piece_bytes", 1512),
+];
+
 #[test]
 fn blocks_read_back(rt: HostRuntime) {
     let block = two_pieces(&rt, rt.alloc());
@@ -91,29 +110,22 @@ fn blocks_read_back(rt: HostRuntime) {
         .pointer("/blocks/0/pieces/0/name")
         .and_then(Value::as_str);
     assert_eq!(rt; name, Some(NAME));
-    assert_eq!(rt; number_at(&rt, &read, "/blocks/0/pieces/1/offset"), 512);
-    assert_eq!(rt; number_at(&rt, &read, "/blocks/0/pieces/1/padding"), 212);
-    assert_eq!(rt; number_at(&rt, &read, "/blocks/0/pieces/1/size"), 1000);
-    assert_eq!(rt; number_at(&rt, &read, "/blocks/0/gaps/0/start"), 1512);
-    assert_eq!(rt; number_at(&rt, &read, "/blocks/0/gaps/0/size"), 4_192_792);
-    assert_eq!(rt; number_at(&rt, &read, "/blocks/0/memory_type"), 3);
-    assert_eq!(rt;
-        number_at(&rt, &read, "/blocks/0/statistics/piece_bytes"),
-        1512
-    );
+    check_numbers(&rt, &read, TWO_PIECES);
 }
+
+/// The numbers of a report of one piece.
+const ONE_PIECE: &[(&str, u64)] = &[
+    ("/allocations/0/offset", 9_007_199_254_740_993),
+    ("/allocations/0/size", u64::MAX),
+    ("/blocks/0/allocations/end", 1),
+    ("/total_allocated_bytes", 5),
+];
 
 #[test]
 fn report_reads_back(rt: HostRuntime) {
     let report = report(&rt, rt.alloc());
     let read = read_back(&rt, rt.alloc(), &ReportJson(&report));
-    assert_eq!(rt;
-        number_at(&rt, &read, "/allocations/0/offset"),
-        9_007_199_254_740_993
-    );
-    assert_eq!(rt; number_at(&rt, &read, "/allocations/0/size"), u64::MAX);
-    assert_eq!(rt; number_at(&rt, &read, "/blocks/0/allocations/end"), 1);
-    assert_eq!(rt; number_at(&rt, &read, "/total_allocated_bytes"), 5);
+    check_numbers(&rt, &read, ONE_PIECE);
 }
 
 #[test]
