@@ -33,28 +33,47 @@ fn set(a: &mut Allocator<SimVulkan>, memory_type: usize, budget: Option<u64>) ->
     }
 }
 
-fn blocks_within(rt: &impl Abort, a: &mut Allocator<SimVulkan>) -> Outcome {
+/// Sets a budget of two blocks, and takes a whole one and the most of another.
+fn two_blocks(
+    rt: &impl Abort,
+    a: &mut Allocator<SimVulkan>,
+) -> std::result::Result<(Allocation, Allocation), Fail> {
     assert_eq!(rt; a.budget(0), None);
     set(a, 0, Some(2 * BLOCK))?;
     assert_eq!(rt; a.budget(0), Some(2 * BLOCK));
-    let whole = take(a, &download(BLOCK))?;
-    assert_eq!(rt; place(&whole), (0, 0, Some(1)));
-    let part = take(a, &download(3 * MB))?;
-    assert_eq!(rt; place(&part), (1, 0, Some(2)));
+    let whole = take_at(rt, a, &download(BLOCK), (0, 0, Some(1)))?;
+    let part = take_at(rt, a, &download(3 * MB), (1, 0, Some(2)))?;
+    Ok((whole, part))
+}
+
+/// Looks that a third block isn't asked for, and takes what the second one has left.
+fn rest_of_two(
+    rt: &impl Abort,
+    a: &mut Allocator<SimVulkan>,
+) -> std::result::Result<Allocation, Fail> {
     let asked = a.device().questions();
     assert_eq!(rt; error_of(a.allocate(&Discard, &download(3 * MB))), 11);
     assert_eq!(rt; a.device().questions(), asked);
     assert_eq!(rt; a.capacity(), 2 * BLOCK);
-    let rest = take(a, &download(MB))?;
-    assert_eq!(rt; place(&rest), (1, 3 * MB, Some(1)));
+    take_at(rt, a, &download(MB), (1, 3 * MB, Some(1)))
+}
+
+/// Takes a third block without a budget: under a budget of nothing it stays until its piece is given back.
+fn third_block(rt: &impl Abort, a: &mut Allocator<SimVulkan>) -> Outcome {
     set(a, 0, None)?;
-    let third = take(a, &download(3 * MB))?;
-    assert_eq!(rt; place(&third), (2, 0, Some(2)));
+    let third = take_at(rt, a, &download(3 * MB), (2, 0, Some(2)))?;
     assert_eq!(rt; a.capacity(), 3 * BLOCK);
     set(a, 0, Some(0))?;
     assert_eq!(rt; a.capacity(), 3 * BLOCK);
     give(a, third)?;
     assert_eq!(rt; a.capacity(), 2 * BLOCK);
+    Ok(())
+}
+
+fn blocks_within(rt: &impl Abort, a: &mut Allocator<SimVulkan>) -> Outcome {
+    let (whole, part) = two_blocks(rt, a)?;
+    let rest = rest_of_two(rt, a)?;
+    third_block(rt, a)?;
     give(a, whole)?;
     give(a, part)?;
     give(a, rest)
@@ -225,6 +244,18 @@ fn give_youngest(rt: &impl Abort, a: &mut Allocator<SimVulkan>, account: &mut Ac
     Ok(())
 }
 
+/// Asks three times, gives one back, asks once more, and gives two back.
+fn ask_and_give(rt: &impl Abort, a: &mut Allocator<SimVulkan>, account: &mut Account) -> Outcome {
+    for asks in [true, true, true, false, true, false, false] {
+        if asks {
+            ask(rt, a, account)?;
+        } else {
+            give_youngest(rt, a, account)?;
+        }
+    }
+    Ok(())
+}
+
 fn script(rt: &impl Abort, a: &mut Allocator<SimVulkan>, account: &mut Account) -> Outcome {
     for budget in [
         Some(2000),
@@ -237,13 +268,7 @@ fn script(rt: &impl Abort, a: &mut Allocator<SimVulkan>, account: &mut Account) 
     ] {
         set(a, 0, budget)?;
         account.budget = budget;
-        ask(rt, a, account)?;
-        ask(rt, a, account)?;
-        ask(rt, a, account)?;
-        give_youngest(rt, a, account)?;
-        ask(rt, a, account)?;
-        give_youngest(rt, a, account)?;
-        give_youngest(rt, a, account)?;
+        ask_and_give(rt, a, account)?;
     }
     Ok(())
 }

@@ -27,17 +27,28 @@ fn reads(a: &Allocator<SimVulkan>, x: &Allocation, bytes: &[u8]) -> bool {
     }
 }
 
-fn reuse(rt: &impl Abort, a: &mut Allocator<SimVulkan>) -> Outcome {
-    let four = managed(4, 4, MemoryLocation::CpuToGpu);
-    let x = take(a, &four)?;
-    let y = take(a, &four)?;
-    assert_eq!(rt; place(&y), (0, 4, Some(3)));
+/// Four bytes of the memory for uploads.
+fn four() -> AllocationCreateDesc<'static> {
+    managed(4, 4, MemoryLocation::CpuToGpu)
+}
+
+/// Two pieces side by side, which begin as zeros, and hold 1 to 8 then.
+fn two_written(
+    rt: &impl Abort,
+    a: &mut Allocator<SimVulkan>,
+) -> std::result::Result<(Allocation, Allocation), Fail> {
+    let x = take(a, &four())?;
+    let y = take_at(rt, a, &four(), (0, 4, Some(3)))?;
     assert!(rt; reads(a, &x, &[0, 0, 0, 0]));
     write(a, &x, &[1, 2, 3, 4])?;
     write(a, &y, &[5, 6, 7, 8])?;
+    Ok((x, y))
+}
+
+fn reuse(rt: &impl Abort, a: &mut Allocator<SimVulkan>) -> Outcome {
+    let (x, y) = two_written(rt, a)?;
     give(a, x)?;
-    let z = take(a, &four)?;
-    assert_eq!(rt; place(&z), (0, 0, Some(2)));
+    let z = take_at(rt, a, &four(), (0, 0, Some(2)))?;
     assert!(rt; reads(a, &z, &[1, 2, 3, 4]));
     write(a, &z, &[9, 9, 9, 9])?;
     assert!(rt; reads(a, &y, &[5, 6, 7, 8]));
@@ -118,34 +129,50 @@ fn ask_for_bytes(
     Ok(())
 }
 
-/// What lending leaves as it was: capacity, report, what the device holds and was asked, and all bytes. `strange` is an
-/// allocation of another allocator.
-fn lend_and_look(rt: &impl Abort, a: &mut Allocator<SimVulkan>, strange: &Allocation) -> Outcome {
-    let x = take(a, &managed(4, 4, MemoryLocation::CpuToGpu))?;
-    let y = take(a, &managed(4, 4, MemoryLocation::CpuToGpu))?;
-    let unmapped = take(a, &managed(4, 4, MemoryLocation::GpuOnly))?;
-    write(a, &x, &[1, 2, 3, 4])?;
-    write(a, &y, &[5, 6, 7, 8])?;
+/// Asks for bytes, and looks that capacity, report, and what the device holds and was asked are as they were.
+fn lend(
+    rt: &impl Abort,
+    a: &mut Allocator<SimVulkan>,
+    live: &Allocation,
+    others: [&Allocation; 3],
+) -> Outcome {
     let report = reported(a)?;
     let before = (a.capacity(), a.device().held(), a.device().questions());
-    ask_for_bytes(rt, a, &x, [&Allocation::default(), strange, &unmapped])?;
+    ask_for_bytes(rt, a, live, others)?;
     assert_eq!(rt;
         (a.capacity(), a.device().held(), a.device().questions()),
         before
     );
     check_same(rt, &report, &reported(a)?);
+    Ok(())
+}
+
+/// What lending leaves as it was, all bytes with it. `strange` is an allocation of another allocator.
+fn lend_and_look(rt: &impl Abort, a: &mut Allocator<SimVulkan>, strange: &Allocation) -> Outcome {
+    let (x, _y) = two_written(rt, a)?;
+    let unmapped = take(a, &managed(4, 4, MemoryLocation::GpuOnly))?;
+    lend(rt, a, &x, [&Allocation::default(), strange, &unmapped])?;
     assert!(rt; holds(a, x.memory(), &[1, 2, 3, 4, 5, 6, 7, 8]));
     Ok(())
+}
+
+/// An upload of an allocator that is gone then.
+fn strange_upload(
+    alloc: Global,
+    properties: &Properties,
+    sizes: AllocationSizes,
+) -> std::result::Result<Allocation, Fail> {
+    let mut other = made(alloc, properties, sizes)?;
+    let strange = take(&mut other, &managed(16, 16, MemoryLocation::CpuToGpu));
+    let _ = other.destroy(&Discard);
+    strange
 }
 
 #[test]
 fn lending_changes_nothing_by_itself(rt: HostRuntime) -> Outcome {
     let properties = one_type(&[(6, 0), (1, 0)], &[1024 * MB]);
     let sizes = AllocationSizes::new(4 * MB, 4 * MB);
-    let mut other = made(rt.alloc(), &properties, sizes)?;
-    let strange = take(&mut other, &managed(16, 16, MemoryLocation::CpuToGpu));
-    let _ = other.destroy(&Discard);
-    let strange = strange?;
+    let strange = strange_upload(rt.alloc(), &properties, sizes)?;
     let mut a = made(rt.alloc(), &properties, sizes)?;
     let done = lend_and_look(&rt, &mut a, &strange);
     let device = a.destroy(&Discard);

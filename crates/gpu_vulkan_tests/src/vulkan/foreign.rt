@@ -155,6 +155,14 @@ fn reported(a: &Allocator<SimVulkan>) -> std::result::Result<AllocatorReport, Fa
     }
 }
 
+/// Looks that a foreign allocation isn't live, and that its bytes aren't lent.
+fn check_not_lent(rt: &impl Abort, a: &mut Allocator<SimVulkan>, allocation: &Allocation) {
+    assert!(rt; !a.is_live(allocation));
+    assert!(rt; a.mapped_slice(allocation).is_none());
+    assert!(rt; a.mapped_slice_mut(allocation).is_none());
+    assert!(rt; a.try_as_mapped_slab(allocation).is_none());
+}
+
 /// Offers a foreign allocation to each call that takes one; it is as it was.
 fn offer(
     rt: &impl Abort,
@@ -162,10 +170,7 @@ fn offer(
     mut allocation: Allocation,
     row: &Row,
 ) -> Outcome {
-    assert!(rt; !a.is_live(&allocation));
-    assert!(rt; a.mapped_slice(&allocation).is_none());
-    assert!(rt; a.mapped_slice_mut(&allocation).is_none());
-    assert!(rt; a.try_as_mapped_slab(&allocation).is_none());
+    check_not_lent(rt, a, &allocation);
     let was = (allocation.memory(), allocation.size(), place(&allocation));
     match a.rename_allocation(&mut allocation, "ours") {
         Err(AllocationError::Internal(fault)) => assert_eq!(rt; fault.text, row.named),
@@ -194,21 +199,13 @@ fn holds(a: &Allocator<SimVulkan>, allocation: &Allocation, byte: u8) -> bool {
     }
 }
 
-/// Offers it beside two live pieces, whose bytes, places and names stay.
-fn beside_two(
+/// Offers it, and looks that the report, and what the device holds and was asked stay.
+fn offer_and_look(
     rt: &impl Abort,
     a: &mut Allocator<SimVulkan>,
     allocation: Allocation,
     row: &Row,
 ) -> Outcome {
-    let x = take(a, &piece_of(512, 0))?;
-    let y = take(a, &piece_of(256, 0))?;
-    assert_eq!(rt;
-        (place(&x), place(&y)),
-        ((0, 0, Some(2)), (0, 512, Some(3)))
-    );
-    fill(a, &x, 1);
-    fill(a, &y, 2);
     let report = reported(a)?;
     let before = (a.capacity(), a.device().held(), a.device().questions());
     offer(rt, a, allocation, row)?;
@@ -217,6 +214,21 @@ fn beside_two(
         before
     );
     check_same(rt, &report, &reported(a)?);
+    Ok(())
+}
+
+/// Offers it beside two live pieces, whose bytes, places and names stay.
+fn beside_two(
+    rt: &impl Abort,
+    a: &mut Allocator<SimVulkan>,
+    allocation: Allocation,
+    row: &Row,
+) -> Outcome {
+    let x = take_at(rt, a, &piece_of(512, 0), (0, 0, Some(2)))?;
+    let y = take_at(rt, a, &piece_of(256, 0), (0, 512, Some(3)))?;
+    fill(a, &x, 1);
+    fill(a, &y, 2);
+    offer_and_look(rt, a, allocation, row)?;
     assert!(rt; holds(a, &x, 1) && holds(a, &y, 2));
     give(a, x)?;
     give(a, y)

@@ -137,18 +137,28 @@ fn look(rt: &impl Abort, a: &mut Allocator<SimVulkan>, x: &Allocation) {
     assert_eq!(rt; a.device().refusals() <= 1, true);
 }
 
-fn calls(rt: &impl Abort, a: &mut Allocator<SimVulkan>, refused: &mut u64) -> Outcome {
+/// A piece of a shared block, and one that is too large for it.
+fn two_blocks(rt: &impl Abort, a: &mut Allocator<SimVulkan>, refused: &mut u64) -> Outcome {
     let x = take_again(rt, a, &managed(512, 256, MemoryLocation::GpuToCpu), refused)?;
     assert_eq!(rt; place(&x), (0, 0, Some(2)));
     let y = take_again(rt, a, &managed(5 * MB, 1, MemoryLocation::Unknown), refused)?;
     assert_eq!(rt; place(&y), (1, 0, Some(1)));
     look(rt, a, &x);
     give(a, x)?;
-    give(a, y)?;
+    give(a, y)
+}
+
+/// A piece of the shared block that stayed.
+fn block_that_stayed(rt: &impl Abort, a: &mut Allocator<SimVulkan>, refused: &mut u64) -> Outcome {
     let z = take_again(rt, a, &managed(100, 1, MemoryLocation::GpuToCpu), refused)?;
     assert_eq!(rt; place(&z), (0, 0, Some(3)));
     assert_eq!(rt; a.capacity(), 4 * MB);
-    give(a, z)?;
+    give(a, z)
+}
+
+fn calls(rt: &impl Abort, a: &mut Allocator<SimVulkan>, refused: &mut u64) -> Outcome {
+    two_blocks(rt, a, refused)?;
+    block_that_stayed(rt, a, refused)?;
     give(a, Allocation::default())
 }
 
@@ -208,6 +218,33 @@ fn named_download(name: &str, size: u64, alignment: u64) -> AllocationCreateDesc
     }
 }
 
+/// Two pieces that get other names, as nothing does.
+fn two_renamed(
+    rt: &impl Abort,
+    alloc: Global,
+    a: &mut Allocator<SimVulkan>,
+    refused: &mut u64,
+) -> std::result::Result<(Allocation, Allocation), Fail> {
+    let mut x = take_again(rt, a, &named_download("first", 100, 1), refused)?;
+    let mut y = take_again(rt, a, &named_download("second", 64, 256), refused)?;
+    rename_again(rt, alloc, a, &mut y, "b", refused)?;
+    rename_again(rt, alloc, a, &mut x, "a", refused)?;
+    let mut nothing = Allocation::default();
+    rename_again(rt, alloc, a, &mut nothing, "nothing", refused)?;
+    Ok((x, y))
+}
+
+/// Looks that a report and the leaks tell of two pieces by their new names.
+fn check_two(rt: &impl Abort, a: &Allocator<SimVulkan>, refused: &mut u64) -> Outcome {
+    let report = report_again(a, refused)?;
+    assert_eq!(rt; report.allocations.len(), 2);
+    check_row(rt, &report, 0, "a", 0, 100);
+    check_row(rt, &report, 1, "b", 256, 64);
+    check_block(rt, &report, 0, 4 * MB, 0, 2);
+    assert_eq!(rt; count_leaks(a, refused)?, 2);
+    Ok(())
+}
+
 /// Names, reports and leaks of two pieces.
 fn names(
     rt: &impl Abort,
@@ -215,18 +252,8 @@ fn names(
     a: &mut Allocator<SimVulkan>,
     refused: &mut u64,
 ) -> Outcome {
-    let mut x = take_again(rt, a, &named_download("first", 100, 1), refused)?;
-    let mut y = take_again(rt, a, &named_download("second", 64, 256), refused)?;
-    rename_again(rt, alloc, a, &mut y, "b", refused)?;
-    rename_again(rt, alloc, a, &mut x, "a", refused)?;
-    let mut nothing = Allocation::default();
-    rename_again(rt, alloc, a, &mut nothing, "nothing", refused)?;
-    let report = report_again(a, refused)?;
-    assert_eq!(rt; report.allocations.len(), 2);
-    check_row(rt, &report, 0, "a", 0, 100);
-    check_row(rt, &report, 1, "b", 256, 64);
-    check_block(rt, &report, 0, 4 * MB, 0, 2);
-    assert_eq!(rt; count_leaks(a, refused)?, 2);
+    let (x, _y) = two_renamed(rt, alloc, a, refused)?;
+    check_two(rt, a, refused)?;
     let counting = Counting::new();
     a.report_memory_leaks(&counting, Level::Warn);
     assert_eq!(rt;

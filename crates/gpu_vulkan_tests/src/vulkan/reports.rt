@@ -99,7 +99,8 @@ fn check_text(
     }
 }
 
-fn check_report(rt: &impl Abort, report: &AllocatorReport) -> Outcome {
+/// Looks at the rows, the block and the sums of `two_pieces`.
+fn check_rows(rt: &impl Abort, report: &AllocatorReport) {
     assert_eq!(rt; report.allocations.len(), 2);
     check_row(rt, report, 0, "a", 0, 100);
     check_row(rt, report, 1, "b", 256, 64);
@@ -107,6 +108,10 @@ fn check_report(rt: &impl Abort, report: &AllocatorReport) -> Outcome {
     check_block(rt, report, 0, 4_194_304, 0, 2);
     assert_eq!(rt; report.total_allocated_bytes, 320);
     assert_eq!(rt; report.total_capacity_bytes, 4_194_304);
+}
+
+/// Looks at the texts of `two_pieces`, of all pieces, of the largest and of none.
+fn check_texts(rt: &impl Abort, report: &AllocatorReport) -> Outcome {
     let all =
         "AllocatorReport { summary: 320.00 B / 4.00 MB, blocks: 1, allocations: 2, largest: [\"a\": 100.00 B, \"b\": 64.00 B] }";
     check_text(rt, report, None, all)?;
@@ -118,16 +123,27 @@ fn check_report(rt: &impl Abort, report: &AllocatorReport) -> Outcome {
     check_text(rt, report, Some(0), none)
 }
 
+fn check_report(rt: &impl Abort, report: &AllocatorReport) -> Outcome {
+    check_rows(rt, report);
+    check_texts(rt, report)
+}
+
+/// Looks at the report of `two_pieces` where the second one is named `c`.
+fn check_renamed(rt: &impl Abort, a: &Allocator<SimVulkan>) -> Outcome {
+    let again = report_of(a)?;
+    check_row(rt, &again, 0, "a", 0, 100);
+    check_row(rt, &again, 1, "c", 256, 64);
+    assert_eq!(rt; again.total_allocated_bytes, 320);
+    Ok(())
+}
+
 fn padded(rt: &impl Abort, a: &mut Allocator<SimVulkan>) -> Outcome {
     let (_first, mut second) = two_pieces(a)?;
     let report = report_of(a)?;
     check_report(rt, &report)?;
     assert_eq!(rt; report.total_capacity_bytes, a.capacity());
     rename(a, &mut second, "c")?;
-    let again = report_of(a)?;
-    check_row(rt, &again, 0, "a", 0, 100);
-    check_row(rt, &again, 1, "c", 256, 64);
-    assert_eq!(rt; again.total_allocated_bytes, 320);
+    check_renamed(rt, a)?;
     assert!(rt; a.is_live(&second));
     Ok(())
 }
@@ -188,18 +204,33 @@ const SHARED: &str =
 const UPLOAD: &str =
     "leak detected: {\n    memory type: 1\n    memory block: 0\n    chunk: {\n        chunk_id: 2,\n        size: 0x5,\n        offset: 0x0,\n        allocation_type: NonLinear,\n        name: upload\n    }\n}";
 
-/// A piece in a block of its own, which comes back, and two in shared blocks of two memory types.
-fn three_blocks(rt: &impl Abort, a: &mut Allocator<SimVulkan>) -> Outcome {
+/// A piece of the memory for uploads that is not linear.
+fn upload() -> AllocationCreateDesc<'static> {
     let mut desc = named("upload", 5, 1);
     desc.linear = false;
-    let _upload = take(a, &desc)?;
+    desc
+}
+
+/// A piece of the device's memory, in a block of its own.
+fn own() -> AllocationCreateDesc<'static> {
     let mut desc = named("own", 1000, 1);
     desc.location = MemoryLocation::GpuOnly;
     desc.allocation_scheme = AllocationScheme::DedicatedImage(Image(3));
-    let own = take(a, &desc)?;
+    desc
+}
+
+/// A piece of the device's memory, in a shared block.
+fn shared() -> AllocationCreateDesc<'static> {
     let mut desc = named("shared", 10, 1);
     desc.location = MemoryLocation::GpuOnly;
-    let _shared = take(a, &desc)?;
+    desc
+}
+
+/// A piece in a block of its own, which comes back, and two in shared blocks of two memory types.
+fn three_blocks(rt: &impl Abort, a: &mut Allocator<SimVulkan>) -> Outcome {
+    let _upload = take(a, &upload())?;
+    let own = take(a, &own())?;
+    let _shared = take(a, &shared())?;
     check_leaks(rt, a, &[OWN, SHARED, UPLOAD])?;
     check_three(rt, &report_of(a)?);
     give(a, own)?;
@@ -280,27 +311,32 @@ fn check_not_named(
     }
 }
 
-/// An allocation of another allocator: where there is no slot, where nothing has its number, where another piece has it,
-/// and where a gap has it. It keeps its name, which `log` is told each time that it is to be given back.
-fn foreign<L: Log>(
+/// Offers a new name to the second one of another allocator: where there is no slot, where nothing has its number, where
+/// another piece has it, and where a gap has it.
+fn check_never_named(
     rt: &impl Abort,
+    b: &mut Allocator<SimVulkan>,
+    second: &mut Allocation,
+) -> Outcome {
+    check_not_named(rt, b, second, "Memory block must be Some.")?;
+    let _own = take(b, &named("own", 10, 1))?;
+    let missing = "Attempting to rename chunk that is not in chunk list.";
+    check_not_named(rt, b, second, missing)?;
+    let other = take(b, &named("other", 10, 1))?;
+    let differs = "Allocation does not belong to this allocator.";
+    check_not_named(rt, b, second, differs)?;
+    give(b, other)?;
+    let freed = "Attempting to rename a freed allocation.";
+    check_not_named(rt, b, second, freed)
+}
+
+/// Offers an allocation to an allocator that isn't its own, and gives it back to its own one: `log` is told its name twice.
+fn give_to_both<L: Log>(
     log: &L,
     a: &mut Allocator<SimVulkan>,
     b: &mut Allocator<SimVulkan>,
+    second: Allocation,
 ) -> Outcome {
-    let (_first, mut second) = two_pieces(a)?;
-    check_not_named(rt, b, &mut second, "Memory block must be Some.")?;
-    let _own = take(b, &named("own", 10, 1))?;
-    let missing = "Attempting to rename chunk that is not in chunk list.";
-    check_not_named(rt, b, &mut second, missing)?;
-    let other = take(b, &named("other", 10, 1))?;
-    let differs = "Allocation does not belong to this allocator.";
-    check_not_named(rt, b, &mut second, differs)?;
-    give(b, other)?;
-    let freed = "Attempting to rename a freed allocation.";
-    check_not_named(rt, b, &mut second, freed)?;
-    check_row(rt, &report_of(b)?, 0, "own", 0, 10);
-    check_report(rt, &report_of(a)?)?;
     let Err((AllocationError::Internal(_), back)) = b.free(log, second) else {
         return Err(Fail::from("a foreign allocation was given back"));
     };
@@ -308,6 +344,20 @@ fn foreign<L: Log>(
         Ok(()) => Ok(()),
         Err((_, _)) => Err(Fail::from("a live allocation came back")),
     }
+}
+
+/// An allocation of another allocator keeps its name, which `log` is told each time that it is to be given back.
+fn foreign<L: Log>(
+    rt: &impl Abort,
+    log: &L,
+    a: &mut Allocator<SimVulkan>,
+    b: &mut Allocator<SimVulkan>,
+) -> Outcome {
+    let (_first, mut second) = two_pieces(a)?;
+    check_never_named(rt, b, &mut second)?;
+    check_row(rt, &report_of(b)?, 0, "own", 0, 10);
+    check_report(rt, &report_of(a)?)?;
+    give_to_both(log, a, b, second)
 }
 
 fn over_two<L: Log>(

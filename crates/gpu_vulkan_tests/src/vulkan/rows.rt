@@ -10,17 +10,22 @@ const DEVICE: &[(u32, u32)] = &[(1, 0)];
 
 const GIGABYTE: &[u64] = &[1024 * MB];
 
-fn first_piece(rt: &impl Abort, a: &mut Allocator<SimVulkan>) -> Outcome {
-    let x = take(a, &managed(512, 256, MemoryLocation::CpuToGpu))?;
-    assert_eq!(rt; place(&x), (0, 0, Some(2)));
+/// Looks at all that the first piece tells of itself.
+fn check_first_piece(rt: &impl Abort, x: &Allocation) {
+    assert_eq!(rt; place(x), (0, 0, Some(2)));
     assert_eq!(rt; x.size(), 512);
     assert!(rt; !x.is_dedicated());
     assert!(rt; x.is_mapped());
     assert!(rt; !x.is_null());
-    assert!(rt; a.is_live(&x));
     assert_eq!(rt; x.memory_type_index(), 0);
     assert_eq!(rt; x.memory(), DeviceMemory(1));
     assert_eq!(rt; x.memory_properties(), MemoryPropertyFlags(6));
+}
+
+fn first_piece(rt: &impl Abort, a: &mut Allocator<SimVulkan>) -> Outcome {
+    let x = take(a, &managed(512, 256, MemoryLocation::CpuToGpu))?;
+    check_first_piece(rt, &x);
+    assert!(rt; a.is_live(&x));
     assert_eq!(rt; a.capacity(), 64 * MB);
     give(a, x)
 }
@@ -42,8 +47,7 @@ fn a_piece_of_a_shared_block(rt: HostRuntime) -> Outcome {
 
 fn past_all_sums(rt: &impl Abort, a: &mut Allocator<SimVulkan>) -> Outcome {
     let half = managed(9_223_372_036_854_775_808, 1, MemoryLocation::GpuOnly);
-    let x = take(a, &half)?;
-    assert_eq!(rt; place(&x), (0, 0, Some(1)));
+    let x = take_at(rt, a, &half, (0, 0, Some(1)))?;
     assert!(rt; !x.is_mapped());
     assert!(rt; a.mapped_slice(&x).is_none());
     match a.allocate(&Discard, &half) {
@@ -100,8 +104,8 @@ fn refused_mapping(rt: &impl Abort, a: &mut Allocator<SimVulkan>) -> Outcome {
     }
     assert_eq!(rt; a.capacity(), 0);
     assert_eq!(rt; a.device().held(), 0);
-    let x = take(a, &managed(512, 256, MemoryLocation::GpuToCpu))?;
-    assert_eq!(rt; place(&x), (0, 0, Some(2)));
+    let again = managed(512, 256, MemoryLocation::GpuToCpu);
+    let _x = take_at(rt, a, &again, (0, 0, Some(2)))?;
     Ok(())
 }
 
@@ -141,13 +145,19 @@ fn uploads_are_asked_for_again_after_a_refusal(rt: HostRuntime) -> Outcome {
     Ok(())
 }
 
-fn own_memory(rt: &impl Abort, a: &mut Allocator<SimVulkan>) -> Outcome {
-    let x = take(a, &managed(300 * MB, 1, MemoryLocation::GpuOnly))?;
-    assert_eq!(rt; place(&x), (0, 0, Some(1)));
+/// A piece that is too large for a shared block.
+fn large_piece(rt: &impl Abort, a: &mut Allocator<SimVulkan>) -> Outcome {
+    let large = managed(300 * MB, 1, MemoryLocation::GpuOnly);
+    let x = take_at(rt, a, &large, (0, 0, Some(1)))?;
     assert!(rt; !x.is_dedicated());
     assert_eq!(rt; a.capacity(), 300 * MB);
     give(a, x)?;
     assert_eq!(rt; a.capacity(), 0);
+    Ok(())
+}
+
+/// A piece that is asked for with a block of its own.
+fn dedicated_piece(rt: &impl Abort, a: &mut Allocator<SimVulkan>) -> Outcome {
     let mut desc = managed(1000, 1, MemoryLocation::GpuOnly);
     desc.allocation_scheme = AllocationScheme::DedicatedBuffer(Buffer(7));
     let y = take(a, &desc)?;
@@ -165,6 +175,11 @@ fn own_memory(rt: &impl Abort, a: &mut Allocator<SimVulkan>) -> Outcome {
     Ok(())
 }
 
+fn own_memory(rt: &impl Abort, a: &mut Allocator<SimVulkan>) -> Outcome {
+    large_piece(rt, a)?;
+    dedicated_piece(rt, a)
+}
+
 #[test]
 fn large_and_dedicated_pieces_have_blocks_of_their_own(rt: HostRuntime) -> Outcome {
     let properties = one_type(DEVICE, GIGABYTE);
@@ -175,43 +190,53 @@ fn large_and_dedicated_pieces_have_blocks_of_their_own(rt: HostRuntime) -> Outco
     done
 }
 
+/// Looks that a foreign allocation is not live beside one that has its place.
+fn check_beside(rt: &impl Abort, b: &mut Allocator<SimVulkan>, back: &Allocation) -> Outcome {
+    let y = take(b, &managed(512, 1, MemoryLocation::CpuToGpu))?;
+    assert!(rt; !b.is_live(back));
+    assert!(rt; b.mapped_slice(back).is_none());
+    assert_eq!(rt; y.size(), 512);
+    Ok(())
+}
+
 fn foreign(rt: &impl Abort, a: &mut Allocator<SimVulkan>, b: &mut Allocator<SimVulkan>) -> Outcome {
     let x = take(a, &managed(256, 1, MemoryLocation::CpuToGpu))?;
     match b.free(&Discard, x) {
         Err((AllocationError::Internal(fault), back)) => {
             assert_eq!(rt; fault.text, "Memory block must be Some.");
             assert!(rt; a.is_live(&back));
-            let y = take(b, &managed(512, 1, MemoryLocation::CpuToGpu))?;
-            assert!(rt; !b.is_live(&back));
-            assert!(rt; b.mapped_slice(&back).is_none());
-            assert_eq!(rt; y.size(), 512);
+            check_beside(rt, b, &back)?;
             give(a, back)
         }
         _ => Err(Fail::from("a foreign allocation was given back")),
     }
 }
 
+/// Offers a foreign allocation to an allocator, and gives nothing back to it.
+fn over_two(
+    rt: &impl Abort,
+    a: &mut Allocator<SimVulkan>,
+    b: std::result::Result<Allocator<SimVulkan>, Fail>,
+) -> Outcome {
+    let mut b = b?;
+    let done = foreign(rt, a, &mut b);
+    let null = match b.free(&Discard, Allocation::default()) {
+        Ok(()) => true,
+        Err((_, _)) => false,
+    };
+    let _ = b.destroy(&Discard);
+    assert!(rt; null);
+    done
+}
+
 #[test]
 fn foreign_allocations_come_back(rt: HostRuntime) -> Outcome {
     let properties = one_type(HOST, GIGABYTE);
     let mut a = made(rt.alloc(), &properties, AllocationSizes::default())?;
-    match made(rt.alloc(), &properties, AllocationSizes::default()) {
-        Ok(mut b) => {
-            let done = foreign(&rt, &mut a, &mut b);
-            let null = match b.free(&Discard, Allocation::default()) {
-                Ok(()) => true,
-                Err((_, _)) => false,
-            };
-            let _ = b.destroy(&Discard);
-            let _ = a.destroy(&Discard);
-            assert!(&rt; null);
-            done
-        }
-        Err(fail) => {
-            let _ = a.destroy(&Discard);
-            Err(fail)
-        }
-    }
+    let b = made(rt.alloc(), &properties, AllocationSizes::default());
+    let done = over_two(&rt, &mut a, b);
+    let _ = a.destroy(&Discard);
+    done
 }
 
 fn is_invalid(a: &mut Allocator<SimVulkan>, size: u64, alignment: u64) -> bool {

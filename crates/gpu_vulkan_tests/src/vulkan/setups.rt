@@ -23,40 +23,49 @@ fn refusal(
     }
 }
 
+/// Looks that an allocator over this device is refused with this text.
+fn check_refusal(
+    rt: &impl Abort,
+    alloc: Global,
+    physical_device: PhysicalDevice,
+    properties: &Properties,
+    want: &str,
+) -> Outcome {
+    assert_eq!(rt; refusal(alloc, physical_device, properties)?, want);
+    Ok(())
+}
+
 /// More memory types than a device may have.
 const MANY: &[(u32, u32)] = &[(6, 1); 33];
 
 /// As many as it may have.
 const FEWER: &[(u32, u32)] = &[(6, 1); 32];
 
+/// What pages of 3 bytes and of none are refused with.
+const PAGES: &str = "buffer image granularity is not a power of two.";
+
 #[test]
 fn bad_devices_are_refused_in_order(rt: HostRuntime) -> Outcome {
     let mut properties = one_type(MANY, &[MB]);
     properties.granularity = 3;
-    let null = refusal(rt.alloc(), PhysicalDevice(0), &properties)?;
-    assert_eq!(&rt;
-        null,
-        "AllocatorCreateDesc field `physical_device` is null."
-    );
-    let pages = refusal(rt.alloc(), PhysicalDevice(1), &properties)?;
-    assert_eq!(&rt; pages, "buffer image granularity is not a power of two.");
+    let device = PhysicalDevice(1);
+    let alloc = rt.alloc();
+    let null = "AllocatorCreateDesc field `physical_device` is null.";
+    check_refusal(&rt, alloc, PhysicalDevice(0), &properties, null)?;
+    check_refusal(&rt, alloc, device, &properties, PAGES)?;
     properties.granularity = 1;
-    let count = refusal(rt.alloc(), PhysicalDevice(1), &properties)?;
-    assert_eq!(&rt; count, "more than 32 memory types.");
-    let heap = refusal(rt.alloc(), PhysicalDevice(1), &one_type(FEWER, &[MB]))?;
-    assert_eq!(&rt; heap, "memory type with a heap index out of range.");
-    let none = refusal(rt.alloc(), PhysicalDevice(1), &one_type(FEWER, &[MB, MB]))?;
-    assert_eq!(&rt; none, "none");
-    Ok(())
+    let count = "more than 32 memory types.";
+    check_refusal(&rt, alloc, device, &properties, count)?;
+    let heap = "memory type with a heap index out of range.";
+    check_refusal(&rt, alloc, device, &one_type(FEWER, &[MB]), heap)?;
+    check_refusal(&rt, alloc, device, &one_type(FEWER, &[MB, MB]), "none")
 }
 
 #[test]
 fn pages_of_no_bytes_are_refused(rt: HostRuntime) -> Outcome {
     let mut properties = one_type(&[(6, 0)], &[MB]);
     properties.granularity = 0;
-    let pages = refusal(rt.alloc(), PhysicalDevice(1), &properties)?;
-    assert_eq!(&rt; pages, "buffer image granularity is not a power of two.");
-    Ok(())
+    check_refusal(&rt, rt.alloc(), PhysicalDevice(1), &properties, PAGES)
 }
 
 /// Requests at a device without memory types: there is nothing to take, to bound or to report.

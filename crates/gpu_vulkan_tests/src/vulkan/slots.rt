@@ -28,13 +28,22 @@ fn a_piece_at_a_far_alignment_begins_a_block(rt: HostRuntime) -> Outcome {
     done
 }
 
-fn filled_slots(rt: &impl Abort, a: &mut Allocator<SimVulkan>) -> Outcome {
+/// Takes three blocks, and gives the first two back: the third is live in slot 2.
+fn third_slot(
+    rt: &impl Abort,
+    a: &mut Allocator<SimVulkan>,
+) -> std::result::Result<Allocation, Fail> {
     let x = take(a, &managed(5 * MB, 1, MemoryLocation::GpuOnly))?;
     let y = take(a, &managed(6 * MB, 1, MemoryLocation::GpuOnly))?;
     let z = take(a, &managed(7 * MB, 1, MemoryLocation::GpuOnly))?;
     assert_eq!(rt; z.memory_block_index(), 2);
     give(a, x)?;
     give(a, y)?;
+    Ok(z)
+}
+
+fn filled_slots(rt: &impl Abort, a: &mut Allocator<SimVulkan>) -> Outcome {
+    let _z = third_slot(rt, a)?;
     let shared = take(a, &managed(10, 1, MemoryLocation::GpuOnly))?;
     assert_eq!(rt; shared.memory_block_index(), 1);
     let own = take(a, &managed(5 * MB, 1, MemoryLocation::GpuOnly))?;
@@ -50,15 +59,21 @@ fn shared_blocks_take_the_highest_slot_and_dedicated_ones_the_lowest(rt: HostRun
     done
 }
 
-fn emptied(rt: &impl Abort, a: &mut Allocator<SimVulkan>) -> Outcome {
+/// Two blocks of a piece each, both of which are given back: a block stays.
+fn two_emptied(rt: &impl Abort, a: &mut Allocator<SimVulkan>) -> Outcome {
     let x = take(a, &managed(3 * MB, 1, MemoryLocation::GpuOnly))?;
     let y = take(a, &managed(3 * MB, 1, MemoryLocation::GpuOnly))?;
     give(a, x)?;
     assert_eq!(rt; a.capacity(), 4 * MB);
     give(a, y)?;
     assert_eq!(rt; a.capacity(), 4 * MB);
-    let z = take(a, &managed(4 * MB, 1, MemoryLocation::GpuOnly))?;
-    assert_eq!(rt; place(&z), (1, 0, Some(2)));
+    Ok(())
+}
+
+fn emptied(rt: &impl Abort, a: &mut Allocator<SimVulkan>) -> Outcome {
+    two_emptied(rt, a)?;
+    let whole = managed(4 * MB, 1, MemoryLocation::GpuOnly);
+    let _z = take_at(rt, a, &whole, (1, 0, Some(2)))?;
     Ok(())
 }
 

@@ -32,13 +32,22 @@ fn past_budget(rt: &impl Abort, a: &mut Allocator<SimVulkan>, refused: &mut u64)
     }
 }
 
+/// Takes the last block within a new budget.
+fn last_within(
+    rt: &impl Abort,
+    a: &mut Allocator<SimVulkan>,
+    budget: u64,
+    refused: &mut u64,
+) -> std::result::Result<Allocation, Fail> {
+    set(a, 0, Some(budget))?;
+    let last = take_within(rt, a, refused)?;
+    past_budget(rt, a, refused);
+    Ok(last)
+}
+
 fn calls(rt: &impl Abort, a: &mut Allocator<SimVulkan>, refused: &mut u64) -> Outcome {
-    set(a, 0, Some(BLOCK))?;
-    let first = take_within(rt, a, refused)?;
-    past_budget(rt, a, refused);
-    set(a, 0, Some(2 * BLOCK))?;
-    let second = take_within(rt, a, refused)?;
-    past_budget(rt, a, refused);
+    let first = last_within(rt, a, BLOCK, refused)?;
+    let second = last_within(rt, a, 2 * BLOCK, refused)?;
     assert_eq!(rt; a.budget(0), Some(2 * BLOCK));
     assert_eq!(rt; a.capacity(), 2 * BLOCK);
     give(a, first)?;
