@@ -20,6 +20,7 @@ use gpu_sim_d3d12::SimD3D12;
 use gpu_values::{AllocationSizes, AllocatorDebugSettings, MemoryLocation};
 use log::sink::Discard;
 use std::alloc::{AllocError, Global};
+use std::process::Abort;
 use std::test::Fail;
 
 /// Bytes in a megabyte.
@@ -114,6 +115,18 @@ fn take(
         Ok(allocation) => Ok(allocation),
         Err(_) => Err(Fail::from("nothing was given")),
     }
+}
+
+/// Takes what must be given, and looks where it lies: its offset, size and number.
+fn take_at(
+    rt: &impl Abort,
+    a: &mut Allocator<SimD3D12>,
+    desc: &AllocationCreateDesc,
+    want: (u64, u64, Option<u64>),
+) -> std::result::Result<Allocation, Fail> {
+    let allocation = take(a, desc)?;
+    assert_eq!(rt; place(&allocation), want);
+    Ok(allocation)
 }
 
 /// Gives back what is live.

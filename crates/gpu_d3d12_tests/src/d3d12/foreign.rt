@@ -180,21 +180,29 @@ fn state(a: &Allocator<SimD3D12>) -> std::result::Result<((u64, usize, u64), (us
     }
 }
 
+/// Offers it, and looks that what is told is as it was.
+fn offer_and_look(
+    rt: &impl Abort,
+    a: &mut Allocator<SimD3D12>,
+    allocation: Allocation,
+    row: &Row,
+) -> Outcome {
+    let before = state(a)?;
+    offer(rt, a, allocation, row)?;
+    assert!(rt; state(a)? == before);
+    Ok(())
+}
+
+/// Offers it beside two live pieces, which stay live.
 fn beside_two(
     rt: &impl Abort,
     a: &mut Allocator<SimD3D12>,
     allocation: Allocation,
     row: &Row,
 ) -> Outcome {
-    let x = take(a, &piece_of(512, GPU))?;
-    let y = take(a, &piece_of(256, GPU))?;
-    assert_eq!(rt;
-        (place(&x), place(&y)),
-        ((0, 512, Some(2)), (512, 256, Some(3)))
-    );
-    let before = state(a)?;
-    offer(rt, a, allocation, row)?;
-    assert!(rt; state(a)? == before);
+    let x = take_at(rt, a, &piece_of(512, GPU), (0, 512, Some(2)))?;
+    let y = take_at(rt, a, &piece_of(256, GPU), (512, 256, Some(3)))?;
+    offer_and_look(rt, a, allocation, row)?;
     assert!(rt; a.is_live(&x) && a.is_live(&y));
     give(a, x)?;
     give(a, y)

@@ -8,21 +8,37 @@ use gpu_device::d3d12::{
 use gpu_values::AllocationError;
 use std::process::Abort;
 
-fn first_buffers(rt: &impl Abort, a: &mut Allocator<SimD3D12>) -> Outcome {
+/// The first piece of a heap.
+fn first_buffer(
+    rt: &impl Abort,
+    a: &mut Allocator<SimD3D12>,
+) -> std::result::Result<Allocation, Fail> {
     let desc = buffer_piece(a, 512, "first");
-    let first = take(a, &desc)?;
-    assert_eq!(rt; place(&first), (0, 65536, Some(2)));
+    let first = take_at(rt, a, &desc, (0, 65536, Some(2)))?;
     assert_eq!(rt; first.heap(), ID3D12Heap(1));
     assert!(rt; !first.is_null());
     assert!(rt; a.is_live(&first));
+    Ok(first)
+}
+
+/// A piece beside it, and what a report tells then.
+fn second_buffer(
+    rt: &impl Abort,
+    a: &mut Allocator<SimD3D12>,
+) -> std::result::Result<Allocation, Fail> {
     let desc = buffer_piece(a, 70000, "second");
-    let second = take(a, &desc)?;
-    assert_eq!(rt; place(&second), (65536, 131072, Some(3)));
+    let second = take_at(rt, a, &desc, (65536, 131072, Some(3)))?;
     assert_eq!(rt; a.capacity(), 256 * MB);
     match a.generate_report() {
         Ok(report) => assert_eq!(rt; report.total_allocated_bytes, 196608),
         Err(_) => return Err(Fail::from("a report was refused")),
     }
+    Ok(second)
+}
+
+fn first_buffers(rt: &impl Abort, a: &mut Allocator<SimD3D12>) -> Outcome {
+    let first = first_buffer(rt, a)?;
+    let second = second_buffer(rt, a)?;
     give(a, first)?;
     give(a, second)?;
     assert_eq!(rt; a.capacity(), 268435456);
@@ -85,6 +101,20 @@ fn block(size: u64, properties: HeapProperties, content: HeapContent) -> Option<
     })
 }
 
+/// Looks which heap is asked for a piece of 512 bytes, and that nothing is held once it is given back.
+fn check_heap(
+    rt: &impl Abort,
+    alloc: Global,
+    tier: ResourceHeapTier,
+    desc: &AllocationCreateDesc,
+    want: Option<HeapDesc>,
+) -> Outcome {
+    let (heap, held) = heap_for(alloc, tier, desc)?;
+    assert!(rt; heap == want);
+    assert_eq!(rt; held, 0);
+    Ok(())
+}
+
 #[test]
 fn heaps_are_those_of_their_memory_type(rt: HostRuntime) -> Outcome {
     let alloc = rt.alloc();
@@ -92,22 +122,15 @@ fn heaps_are_those_of_their_memory_type(rt: HostRuntime) -> Outcome {
     let targets = piece_for(MemoryLocation::Unknown, ResourceCategory::RtvDsvTexture);
     let readback = piece_for(MemoryLocation::GpuToCpu, ResourceCategory::Buffer);
     let combined = custom(CpuPageProperty::WriteCombine);
-    let (heap, held) = heap_for(alloc, ResourceHeapTier::Tier1, &textures)?;
-    assert!(&rt; heap == block(64 * MB, combined, HeapContent::NonRtDsTextures));
-    assert_eq!(&rt; held, 0);
-    let (heap, _) = heap_for(alloc, ResourceHeapTier::Tier1, &targets)?;
-    assert!(&rt; heap == block(256 * MB, default_properties(), HeapContent::RtDsTextures));
-    let (heap, _) = heap_for(alloc, ResourceHeapTier::Tier2, &textures)?;
-    assert!(&rt; heap == block(64 * MB, combined, HeapContent::All));
-    let (heap, _) = heap_for(alloc, ResourceHeapTier::Tier2, &readback)?;
-    assert!(&rt;
-        heap == block(
-            64 * MB,
-            custom(CpuPageProperty::WriteBack),
-            HeapContent::All
-        )
-    );
-    Ok(())
+    let back = custom(CpuPageProperty::WriteBack);
+    let others = block(64 * MB, combined, HeapContent::NonRtDsTextures);
+    check_heap(&rt, alloc, ResourceHeapTier::Tier1, &textures, others)?;
+    let rendered = block(256 * MB, default_properties(), HeapContent::RtDsTextures);
+    check_heap(&rt, alloc, ResourceHeapTier::Tier1, &targets, rendered)?;
+    let all = block(64 * MB, combined, HeapContent::All);
+    check_heap(&rt, alloc, ResourceHeapTier::Tier2, &textures, all)?;
+    let all_back = block(64 * MB, back, HeapContent::All);
+    check_heap(&rt, alloc, ResourceHeapTier::Tier2, &readback, all_back)
 }
 
 #[test]
@@ -126,11 +149,8 @@ fn memory_types_by_location_and_category(rt: HostRuntime) -> Outcome {
     Ok(())
 }
 
-fn foreign(rt: &impl Abort, a: &mut Allocator<SimD3D12>, b: &mut Allocator<SimD3D12>) -> Outcome {
-    let small = piece_for(MemoryLocation::GpuOnly, ResourceCategory::Buffer);
-    let x = take(a, &small)?;
-    let mut y = take(a, &small)?;
-    let z = take(b, &small)?;
+/// Offers the second piece of another allocator to be named and to be given back: it comes back.
+fn offer(rt: &impl Abort, b: &mut Allocator<SimD3D12>, mut y: Allocation) -> Outcome {
     match b.rename_allocation(&mut y, "other") {
         Err(AllocationError::Internal(_)) => {}
         _ => return Err(Fail::from("an allocation that isn't live was named")),
@@ -142,9 +162,18 @@ fn foreign(rt: &impl Abort, a: &mut Allocator<SimD3D12>, b: &mut Allocator<SimD3
                 "Attempting to free chunk that is not in chunk list."
             );
             assert_eq!(rt; place(&back), (512, 512, Some(3)));
+            Ok(())
         }
-        _ => return Err(Fail::from("an allocation that isn't live was freed")),
+        _ => Err(Fail::from("an allocation that isn't live was freed")),
     }
+}
+
+fn foreign(rt: &impl Abort, a: &mut Allocator<SimD3D12>, b: &mut Allocator<SimD3D12>) -> Outcome {
+    let small = piece_for(MemoryLocation::GpuOnly, ResourceCategory::Buffer);
+    let x = take(a, &small)?;
+    let y = take(a, &small)?;
+    let z = take(b, &small)?;
+    offer(rt, b, y)?;
     assert!(rt; a.is_live(&x));
     give(b, z)
 }

@@ -93,31 +93,81 @@ fn text_of(alloc: Global, made: Result<ID3D12Resource>) -> std::result::Result<S
     }
 }
 
+/// A placed resource, of whose formats the device is told.
+fn placed_as_asked(rt: &impl Abort, device: &mut SimD3D12, plain: &ResourceCreateDesc) -> Outcome {
+    let with = ResourceQuestion::InLayoutWithFormats(1);
+    match create_placed(device, with, plain, ID3D12Heap(9), 65536) {
+        Ok(resource) => assert_eq!(rt; resource, ID3D12Resource(1)),
+        Err(_) => return Err(Fail::from("a resource was refused")),
+    }
+    assert_eq!(rt; device.last_formats(), Some(0));
+    assert!(rt; device.last_clear() == Some(CLEAR));
+    Ok(())
+}
+
+/// A committed resource, of whose formats it isn't told.
+fn committed_as_asked(
+    rt: &impl Abort,
+    device: &mut SimD3D12,
+    plain: &ResourceCreateDesc,
+) -> Outcome {
+    let without = ResourceQuestion::InLayout(1);
+    let buffers = HeapFlags(0xc0);
+    match create_committed(device, without, plain, &PROPERTIES, buffers) {
+        Ok(resource) => assert_eq!(rt; resource, ID3D12Resource(2)),
+        Err(_) => return Err(Fail::from("a resource was refused")),
+    }
+    assert_eq!(rt; device.last_formats(), None);
+    assert!(rt; device.last_clear() == Some(CLEAR));
+    assert!(rt; device.last_memory() == Some((PROPERTIES, buffers)));
+    Ok(())
+}
+
 #[test]
 fn made_as_asked_for(rt: HostRuntime) -> Outcome {
     let mut device = simulated(rt.alloc(), Ok(ResourceHeapTier::Tier2), &[])?;
     let desc = buffer(512);
     let plain = asked(&desc, &[], IN_LAYOUT);
-    let with = ResourceQuestion::InLayoutWithFormats(1);
-    let heap = ID3D12Heap(9);
-    match create_placed(&mut device, with, &plain, heap, 65536) {
-        Ok(resource) => assert_eq!(&rt; resource, ID3D12Resource(1)),
-        Err(_) => return Err(Fail::from("a resource was refused")),
-    }
-    assert_eq!(&rt; device.last_formats(), Some(0));
-    assert!(&rt; device.last_clear() == Some(CLEAR));
-    let without = ResourceQuestion::InLayout(1);
-    let buffers = HeapFlags(0xc0);
-    match create_committed(&mut device, without, &plain, &PROPERTIES, buffers) {
-        Ok(resource) => assert_eq!(&rt; resource, ID3D12Resource(2)),
-        Err(_) => return Err(Fail::from("a resource was refused")),
-    }
-    assert_eq!(&rt; device.last_formats(), None);
-    assert!(&rt; device.last_clear() == Some(CLEAR));
-    assert!(&rt; device.last_memory() == Some((PROPERTIES, buffers)));
+    placed_as_asked(&rt, &mut device, &plain)?;
+    committed_as_asked(&rt, &mut device, &plain)?;
     assert_eq!(&rt; device.held(), 2);
     let info = allocation_info_of(&ID3D12DeviceVersion::Device12(device), &plain);
     assert_eq!(&rt; (info.size_in_bytes, info.alignment), (65536, 65536));
+    Ok(())
+}
+
+/// Looks that the device refuses a placed buffer, and with which text.
+fn check_placed(
+    rt: &impl Abort,
+    alloc: Global,
+    device: &mut SimD3D12,
+    plain: &ResourceCreateDesc,
+    told: &str,
+) -> Outcome {
+    let placed = create_placed(
+        device,
+        ResourceQuestion::InState(1),
+        plain,
+        ID3D12Heap(9),
+        0,
+    );
+    let text = text_of(alloc, placed)?;
+    assert_eq!(rt; text.as_str(), told);
+    Ok(())
+}
+
+/// Looks that the device refuses a committed buffer, and with which text.
+fn check_committed(
+    rt: &impl Abort,
+    alloc: Global,
+    device: &mut SimD3D12,
+    plain: &ResourceCreateDesc,
+    told: &str,
+) -> Outcome {
+    let state = ResourceQuestion::InState(1);
+    let committed = create_committed(device, state, plain, &PROPERTIES, HeapFlags(0));
+    let text = text_of(alloc, committed)?;
+    assert_eq!(rt; text.as_str(), told);
     Ok(())
 }
 
@@ -134,24 +184,16 @@ fn refused_resources(rt: HostRuntime) -> Outcome {
     let mut device = simulated(alloc, Ok(ResourceHeapTier::Tier2), &script)?;
     let desc = buffer(512);
     let plain = asked(&desc, &[], IN_STATE);
-    let state = ResourceQuestion::InState(1);
-    let heap = ID3D12Heap(9);
-    let placed = create_placed(&mut device, state, &plain, heap, 0);
-    let text = text_of(alloc, placed)?;
     let told =
         "Internal error: ID3D12Device::CreatePlacedResource DEVICE_REMOVED (code -2005270523)";
-    assert_eq!(&rt; text.as_str(), told);
-    let committed = create_committed(&mut device, state, &plain, &PROPERTIES, HeapFlags(0));
-    let text = text_of(alloc, committed)?;
+    check_placed(&rt, alloc, &mut device, &plain, told)?;
     let told =
         "Internal error: ID3D12Device::CreateCommittedResource DEVICE_REMOVED (code -2005270523)";
-    assert_eq!(&rt; text.as_str(), told);
-    let text = text_of(alloc, create_placed(&mut device, state, &plain, heap, 0))?;
+    check_committed(&rt, alloc, &mut device, &plain, told)?;
     let told = "Internal error: Allocation succeeded but no resource was returned?";
-    assert_eq!(&rt; text.as_str(), told);
-    let text = text_of(alloc, create_placed(&mut device, state, &plain, heap, 0))?;
+    check_placed(&rt, alloc, &mut device, &plain, told)?;
     let told = "Internal error: ID3D12Device::CreatePlacedResource failed (code -5)";
-    assert_eq!(&rt; text.as_str(), told);
+    check_placed(&rt, alloc, &mut device, &plain, told)?;
     assert_eq!(&rt; device.refusals(), 4);
     assert_eq!(&rt; device.held(), 0);
     Ok(())

@@ -78,11 +78,14 @@ pub fn counts(a: &Allocator<SimD3D12>, memory_type: usize) -> Option<(usize, u64
     Some((statistics.num_allocations, statistics.total_size))
 }
 
-fn placed_buffers(rt: &impl Abort, a: &mut Allocator<SimD3D12>) -> Outcome {
-    let small = buffer(512);
-    let large = buffer(70000);
-    let first = make(a, &asked(&small, &[], IN_STATE, &ResourceType::Placed))?;
-    let second = make(a, &asked(&large, &[], IN_STATE, &ResourceType::Placed))?;
+/// Makes a placed buffer of this width in bytes.
+fn make_placed(a: &mut Allocator<SimD3D12>, width: u64) -> std::result::Result<Resource, Fail> {
+    let desc = buffer(width);
+    make(a, &asked(&desc, &[], IN_STATE, &ResourceType::Placed))
+}
+
+/// Looks where two placed buffers lie, and what they tell of themselves.
+fn check_two_placed(rt: &impl Abort, first: &Resource, second: &Resource) -> Outcome {
     match (first.allocation(), second.allocation()) {
         (Some(one), Some(other)) => {
             assert_eq!(rt; place(one), (0, 65536, Some(2)));
@@ -93,12 +96,25 @@ fn placed_buffers(rt: &impl Abort, a: &mut Allocator<SimD3D12>) -> Outcome {
     assert_eq!(rt; (first.size(), second.size()), (65536, 131072));
     assert!(rt; first.memory_location() == MemoryLocation::GpuOnly);
     assert!(rt; first.resource() != second.resource());
+    Ok(())
+}
+
+/// Looks at the report of two placed buffers, and at their device.
+fn check_told(rt: &impl Abort, a: &Allocator<SimD3D12>) -> Outcome {
     match a.generate_report() {
         Ok(report) => assert_eq!(rt; report.total_allocated_bytes, 196608),
         Err(_) => return Err(Fail::from("a report was refused")),
     }
     assert!(rt; a.device().device().last_clear() == Some(CLEAR));
     assert_eq!(rt; a.device().device().held(), 3);
+    Ok(())
+}
+
+fn placed_buffers(rt: &impl Abort, a: &mut Allocator<SimD3D12>) -> Outcome {
+    let first = make_placed(a, 512)?;
+    let second = make_placed(a, 70000)?;
+    check_two_placed(rt, &first, &second)?;
+    check_told(rt, a)?;
     unmake(a, first)?;
     unmake(a, second)?;
     assert_eq!(rt; a.capacity(), 268435456);
@@ -115,16 +131,23 @@ fn placed_buffers_share_a_block(rt: HostRuntime) -> Outcome {
     done
 }
 
-fn committed_buffers(rt: &impl Abort, a: &mut Allocator<SimD3D12>) -> Outcome {
+/// A committed buffer that is counted while it is live.
+fn small_buffer(rt: &impl Abort, a: &mut Allocator<SimD3D12>) -> Outcome {
     let own = own_memory();
     let small = buffer(512);
-    let greatest = buffer(u64::MAX);
     let first = make(a, &asked(&small, &[], IN_STATE, &own))?;
     assert!(rt; first.allocation().is_none());
     assert_eq!(rt; counts(a, 0), Some((1, 65536)));
     assert_eq!(rt; a.capacity(), 0);
     unmake(a, first)?;
     assert_eq!(rt; counts(a, 0), Some((0, 0)));
+    Ok(())
+}
+
+/// A committed buffer beside which no other has 64 bits.
+fn greatest_buffer(rt: &impl Abort, a: &mut Allocator<SimD3D12>) -> Outcome {
+    let own = own_memory();
+    let greatest = buffer(u64::MAX);
     let first = make(a, &asked(&greatest, &[], IN_STATE, &own))?;
     assert_eq!(rt; counts(a, 0), Some((1, 18446744073709486080)));
     let questions = a.device().device().questions();
@@ -136,6 +159,11 @@ fn committed_buffers(rt: &impl Abort, a: &mut Allocator<SimD3D12>) -> Outcome {
     assert_eq!(rt; counts(a, 0), Some((1, 18446744073709486080)));
     assert_eq!(rt; counts(a, 3), None);
     unmake(a, first)
+}
+
+fn committed_buffers(rt: &impl Abort, a: &mut Allocator<SimD3D12>) -> Outcome {
+    small_buffer(rt, a)?;
+    greatest_buffer(rt, a)
 }
 
 #[test]
@@ -159,15 +187,75 @@ fn number_of(made: &Result<Resource>) -> u32 {
     }
 }
 
-/// What a resource in a layout comes to by an interface, and what the device was asked.
-fn by_interface(
-    version: ID3D12DeviceVersion<SimD3D12>,
-    alloc: Global,
-    formats: &[Format],
+/// An interface by which a device is used.
+#[derive(Clone, Copy)]
+enum Interface {
+    First,
+    Tenth,
+    Twelfth,
+}
+
+/// A committed resource at a device of an interface: its castable formats and how it begins. What it comes to: the number of
+/// the error, how much the device was asked, and the formats that it was told.
+struct Row {
+    interface: Interface,
+    formats: &'static [Format],
     start: ResourceStateOrBarrierLayout,
-) -> std::result::Result<(u32, u64, Option<usize>), Fail> {
+    want: (u32, u64, Option<usize>),
+}
+
+const ROWS: &[Row] = &[
+    Row {
+        interface: Interface::Twelfth,
+        formats: &[Format(28)],
+        start: IN_STATE,
+        want: (8, 0, None),
+    },
+    Row {
+        interface: Interface::Tenth,
+        formats: &[Format(28)],
+        start: IN_LAYOUT,
+        want: (9, 0, None),
+    },
+    Row {
+        interface: Interface::First,
+        formats: &[Format(28)],
+        start: IN_LAYOUT,
+        want: (9, 0, None),
+    },
+    Row {
+        interface: Interface::First,
+        formats: &[],
+        start: IN_LAYOUT,
+        want: (7, 0, None),
+    },
+    Row {
+        interface: Interface::Twelfth,
+        formats: &[],
+        start: IN_LAYOUT,
+        want: (0, 1, Some(0)),
+    },
+    Row {
+        interface: Interface::Tenth,
+        formats: &[],
+        start: IN_LAYOUT,
+        want: (0, 1, None),
+    },
+];
+
+fn version(interface: Interface, device: SimD3D12) -> ID3D12DeviceVersion<SimD3D12> {
+    match interface {
+        Interface::First => ID3D12DeviceVersion::Device(device),
+        Interface::Tenth => ID3D12DeviceVersion::Device10(device),
+        Interface::Twelfth => ID3D12DeviceVersion::Device12(device),
+    }
+}
+
+/// What the resource of a row comes to, and what the device was asked.
+fn by_interface(alloc: Global, row: &Row) -> std::result::Result<(u32, u64, Option<usize>), Fail> {
+    let device = simulated(alloc, Ok(ResourceHeapTier::Tier2), &[])?;
     let desc = AllocatorCreateDesc {
-        device: version,
+        device: version(row.interface, device),
         debug_settings: AllocatorDebugSettings::default(),
         allocation_sizes: AllocationSizes::default(),
     };
@@ -176,7 +264,7 @@ fn by_interface(
     };
     let small = buffer(512);
     let own = own_memory();
-    let answer = a.create_resource(&Discard, &asked(&small, formats, start, &own));
+    let answer = a.create_resource(&Discard, &asked(&small, row.formats, row.start, &own));
     let number = number_of(&answer);
     let device = destroyed(a);
     Ok((number, device.questions(), device.last_formats()))
@@ -184,33 +272,10 @@ fn by_interface(
 
 #[test]
 fn interfaces_decide(rt: HostRuntime) -> Outcome {
-    let alloc = rt.alloc();
-    let tier = Ok(ResourceHeapTier::Tier2);
-    let formats = [Format(28)];
-    let device = ID3D12DeviceVersion::Device12(simulated(alloc, tier, &[])?);
-    assert_eq!(&rt;
-        by_interface(device, alloc, &formats, IN_STATE)?,
-        (8, 0, None)
-    );
-    let device = ID3D12DeviceVersion::Device10(simulated(alloc, tier, &[])?);
-    assert_eq!(&rt;
-        by_interface(device, alloc, &formats, IN_LAYOUT)?,
-        (9, 0, None)
-    );
-    let device = ID3D12DeviceVersion::Device(simulated(alloc, tier, &[])?);
-    assert_eq!(&rt;
-        by_interface(device, alloc, &formats, IN_LAYOUT)?,
-        (9, 0, None)
-    );
-    let device = ID3D12DeviceVersion::Device(simulated(alloc, tier, &[])?);
-    assert_eq!(&rt; by_interface(device, alloc, &[], IN_LAYOUT)?, (7, 0, None));
-    let device = ID3D12DeviceVersion::Device12(simulated(alloc, tier, &[])?);
-    assert_eq!(&rt;
-        by_interface(device, alloc, &[], IN_LAYOUT)?,
-        (0, 1, Some(0))
-    );
-    let device = ID3D12DeviceVersion::Device10(simulated(alloc, tier, &[])?);
-    assert_eq!(&rt; by_interface(device, alloc, &[], IN_LAYOUT)?, (0, 1, None));
+    for (number, row) in ROWS.iter().enumerate() {
+        let got = by_interface(rt.alloc(), row)?;
+        assert_eq!(&rt; got, row.want, "row {number}");
+    }
     Ok(())
 }
 
@@ -239,19 +304,41 @@ fn second_refused(
     }
 }
 
+/// Looks at what a placed buffer of this width is refused with, and at the capacity and what is held then.
+fn check_second_refused(
+    rt: &impl Abort,
+    alloc: Global,
+    buffer: (u64, Refusal),
+    told: &str,
+    left: (u64, usize),
+) -> Outcome {
+    let (width, refusal) = buffer;
+    let (text, capacity, held) = second_refused(alloc, width, refusal)?;
+    assert_eq!(rt; text.as_str(), told);
+    assert_eq!(rt; (capacity, held), left);
+    Ok(())
+}
+
 #[test]
 fn refused_resources_leave_no_piece(rt: HostRuntime) -> Outcome {
     let alloc = rt.alloc();
-    let (text, capacity, held) = second_refused(alloc, 512, Refusal::Code(-2005270523))?;
+    let small = (512, Refusal::Code(-2005270523));
     let told =
         "Internal error: ID3D12Device::CreatePlacedResource DEVICE_REMOVED (code -2005270523)";
-    assert_eq!(&rt; text.as_str(), told);
-    assert_eq!(&rt; (capacity, held), (268435456, 1));
-    let (text, capacity, held) = second_refused(alloc, 314572800, Refusal::Null)?;
+    check_second_refused(&rt, alloc, small, told, (268435456, 1))?;
+    let large = (314572800, Refusal::Null);
     let told = "Internal error: Allocation succeeded but no resource was returned?";
-    assert_eq!(&rt; text.as_str(), told);
-    assert_eq!(&rt; (capacity, held), (0, 0));
-    Ok(())
+    check_second_refused(&rt, alloc, large, told, (0, 0))
+}
+
+fn no_such_type(rt: &impl Abort, a: &mut Allocator<SimD3D12>) -> Outcome {
+    match a.set_budget(3, None) {
+        Err(AllocationError::Internal(fault)) => {
+            assert_eq!(rt; fault.text, "No such memory type.");
+            Ok(())
+        }
+        _ => Err(Fail::from("a budget of no memory type")),
+    }
 }
 
 fn over_budget(rt: &impl Abort, a: &mut Allocator<SimD3D12>) -> Outcome {
@@ -269,13 +356,7 @@ fn over_budget(rt: &impl Abort, a: &mut Allocator<SimD3D12>) -> Outcome {
     assert_eq!(rt; a.device().device().questions(), 0);
     let first = make(a, &asked(&small, &[], IN_STATE, &own))?;
     unmake(a, first)?;
-    match a.set_budget(3, None) {
-        Err(AllocationError::Internal(fault)) => {
-            assert_eq!(rt; fault.text, "No such memory type.")
-        }
-        _ => return Err(Fail::from("a budget of no memory type")),
-    }
-    Ok(())
+    no_such_type(rt, a)
 }
 
 #[test]
