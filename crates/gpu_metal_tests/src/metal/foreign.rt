@@ -143,6 +143,20 @@ fn state(a: &Allocator<SimMetal>) -> std::result::Result<((u64, usize, u64), (us
     }
 }
 
+/// Offers it, and looks that what is told is as it was.
+fn offer_and_look(
+    rt: &impl Abort,
+    a: &mut Allocator<SimMetal>,
+    allocation: Allocation,
+    row: &Row,
+) -> Outcome {
+    let before = state(a)?;
+    offer(rt, a, allocation, row)?;
+    assert!(rt; state(a)? == before);
+    Ok(())
+}
+
+/// Offers it beside two live pieces, which stay live.
 fn beside_two(
     rt: &impl Abort,
     a: &mut Allocator<SimMetal>,
@@ -152,9 +166,7 @@ fn beside_two(
     let x = take(a, &piece(512, GPU))?;
     let y = take(a, &piece(256, GPU))?;
     assert_eq!(rt; (x.offset(), y.offset()), (0, 512));
-    let before = state(a)?;
-    offer(rt, a, allocation, row)?;
-    assert!(rt; state(a)? == before);
+    offer_and_look(rt, a, allocation, row)?;
     assert!(rt; a.is_live(&x) && a.is_live(&y));
     give(a, x)?;
     give(a, y)

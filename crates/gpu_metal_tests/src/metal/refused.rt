@@ -53,11 +53,21 @@ fn report_again(rt: &impl Abort, a: &Allocator<SimMetal>, refused: &mut u64) -> 
     Ok(())
 }
 
-fn calls(rt: &impl Abort, a: &mut Allocator<SimMetal>, refused: &mut u64) -> Outcome {
+/// Two pieces of a shared block, and between them one that is too large for it.
+fn three_pieces(
+    rt: &impl Abort,
+    a: &mut Allocator<SimMetal>,
+    refused: &mut u64,
+) -> std::result::Result<[Allocation; 3], Fail> {
     let x = take_again(rt, a, &piece(512, MemoryLocation::GpuToCpu), refused)?;
     let y = take_again(rt, a, &piece(5 * MB, MemoryLocation::Unknown), refused)?;
     let z = take_again(rt, a, &piece(100, MemoryLocation::GpuToCpu), refused)?;
     assert_eq!(rt; (x.offset(), y.offset(), z.offset()), (0, 0, 512));
+    Ok([x, y, z])
+}
+
+fn calls(rt: &impl Abort, a: &mut Allocator<SimMetal>, refused: &mut u64) -> Outcome {
+    let [x, y, z] = three_pieces(rt, a, refused)?;
     a.commit_residency_set();
     report_again(rt, a, refused)?;
     assert!(rt; a.set_budget(0, Some(6 * MB)).is_ok());

@@ -3,21 +3,37 @@
 use super::*;
 use gpu_device::metal::TextureDescriptor;
 
-/// A large buffer for the GPU and a small one for uploads: each has a block, and both heaps are listed in order.
-fn two_buffers(rt: &impl Abort, a: &mut Allocator<SimMetal>, first: u64) -> Outcome {
-    let large = MTLHeap(first);
-    let small = MTLHeap(first.saturating_add(1));
+/// A large buffer for the GPU, in that heap of its own.
+fn large_buffer(
+    rt: &impl Abort,
+    a: &mut Allocator<SimMetal>,
+    large: MTLHeap,
+) -> std::result::Result<Allocation, Fail> {
     let desc = buffer(a, "large", 314_572_800, MemoryLocation::GpuOnly);
     let one = take(a, &desc)?;
     assert!(rt; one.heap() == large);
     assert_eq!(rt; (one.offset(), one.size()), (0, 314_572_800));
     assert!(rt; one.name() == Some("large"));
     assert!(rt; a.device().last_heap() == Some((PRIVATE, 314_572_800)));
+    Ok(one)
+}
+
+/// A small buffer for uploads, in that heap.
+fn small_buffer(
+    rt: &impl Abort,
+    a: &mut Allocator<SimMetal>,
+    small: MTLHeap,
+) -> std::result::Result<Allocation, Fail> {
     let desc = buffer(a, "small", 512, MemoryLocation::CpuToGpu);
     let other = take(a, &desc)?;
     assert!(rt; other.heap() == small);
     assert_eq!(rt; (other.offset(), other.size()), (0, 512));
     assert!(rt; a.device().last_heap() == Some((UPLOADS, 67_108_864)));
+    Ok(other)
+}
+
+/// Looks that both heaps are listed in order, and those of a residency set, which are committed then.
+fn check_both(rt: &impl Abort, a: &mut Allocator<SimMetal>, large: MTLHeap, small: MTLHeap) {
     check_live(rt, a, &[large, small]);
     if let Some(set) = set_of(a) {
         check_heaps(rt, a.device().members(set), &[large, small]);
@@ -25,15 +41,29 @@ fn two_buffers(rt: &impl Abort, a: &mut Allocator<SimMetal>, first: u64) -> Outc
         a.commit_residency_set();
         check_heaps(rt, a.device().committed_members(set), &[large, small]);
     }
-    assert!(rt; a.is_live(&one));
-    give(a, one)?;
-    assert!(rt; a.is_live(&other));
+}
+
+/// Looks that the small one's heap is left, where a residency set has both committed still.
+fn check_small(rt: &impl Abort, a: &Allocator<SimMetal>, large: MTLHeap, small: MTLHeap) {
     check_live(rt, a, &[small]);
     if let Some(set) = set_of(a) {
         check_heaps(rt, a.device().members(set), &[small]);
         check_heaps(rt, a.device().committed_members(set), &[large, small]);
     }
     assert_eq!(rt; a.capacity(), 67_108_864);
+}
+
+/// A large buffer for the GPU and a small one for uploads: each has a block, and both heaps are listed in order.
+fn two_buffers(rt: &impl Abort, a: &mut Allocator<SimMetal>, first: u64) -> Outcome {
+    let large = MTLHeap(first);
+    let small = MTLHeap(first.saturating_add(1));
+    let one = large_buffer(rt, a, large)?;
+    let other = small_buffer(rt, a, small)?;
+    check_both(rt, a, large, small);
+    assert!(rt; a.is_live(&one));
+    give(a, one)?;
+    assert!(rt; a.is_live(&other));
+    check_small(rt, a, large, small);
     give(a, other)?;
     check_live(rt, a, &[small]);
     Ok(())

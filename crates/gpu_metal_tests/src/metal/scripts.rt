@@ -148,6 +148,17 @@ pub fn calls(
     Ok(())
 }
 
+/// Looks that a device has nothing left but a residency set, where there was one, without members.
+fn check_left(rt: &impl Abort, device: &SimMetal, set: Option<MTLResidencySet>) {
+    match set {
+        None => assert_eq!(rt; device.held(), 0),
+        Some(set) => {
+            assert_eq!(rt; device.held(), 1);
+            check_heaps(rt, device.members(set), &[]);
+        }
+    }
+}
+
 /// A script over a device that refuses one question, or none. Tells whether the device refused any.
 fn script(
     rt: &impl Abort,
@@ -171,13 +182,7 @@ fn script(
     let set = set_of(&a);
     let device = a.destroy();
     done?;
-    match set {
-        None => assert_eq!(rt; device.held(), 0),
-        Some(set) => {
-            assert_eq!(rt; device.held(), 1);
-            check_heaps(rt, device.members(set), &[]);
-        }
-    }
+    check_left(rt, &device, set);
     assert_eq!(rt; account.refused, device.refusals());
     Ok(device.refusals() > 0)
 }
