@@ -105,38 +105,77 @@ pub fn check_place(rt: &impl Abort, piece: &Piece<Handle>, slot: usize, offset: 
     assert_eq!(rt; piece.number.get(), number);
 }
 
-#[test]
-fn a_piece_without_a_place_gets_a_new_block(rt: HostRuntime) -> Result<(), Fail> {
-    let sizes = AllocationSizes::new(4 * MB, 4 * MB);
-    let mut blocks = memory_type(&rt, rt.alloc(), true);
-    let b = &mut blocks;
-    let first = place(&rt, b, &sizes, 1, Handle::Red)?;
-    check_place(&rt, &first, 0, 0, 2);
-    let far = linear(1, 9_223_372_036_854_775_808);
-    let second = take(&rt, b, &sizes, &far, Handle::Green)?;
-    check_place(&rt, &second, 1, 0, 2);
-    assert!(rt; second.block == Handle::Green);
+/// Takes a piece of that size at alignment 1, and looks where it lies: its slot, offset and number.
+fn place_at(
+    rt: &impl Abort,
+    blocks: &mut MemoryType<Handle>,
+    sizes: &AllocationSizes,
+    asked: (u64, Handle),
+    want: (usize, u64, u64),
+) -> Result<Piece<Handle>> {
+    let (size, number) = asked;
+    let (slot, offset, own) = want;
+    let piece = place(rt, blocks, sizes, size, number)?;
+    check_place(rt, &piece, slot, offset, own);
+    Ok(piece)
+}
+
+/// Looks that there are two shared blocks, of which the first is red.
+fn check_two_blocks(rt: &impl Abort, b: &MemoryType<Handle>) {
     assert_eq!(rt; b.capacity(), 8 * MB);
     assert_eq!(rt; b.active_general_blocks(), 2);
     assert_eq!(rt; b.slots(), 2);
     assert!(rt; b.block(0) == Some(Handle::Red));
     assert!(rt; b.block(2).is_none());
+}
+
+#[test]
+fn a_piece_without_a_place_gets_a_new_block(rt: HostRuntime) -> Result<(), Fail> {
+    let sizes = AllocationSizes::new(4 * MB, 4 * MB);
+    let mut blocks = memory_type(&rt, rt.alloc(), true);
+    let b = &mut blocks;
+    place_at(&rt, b, &sizes, (1, Handle::Red), (0, 0, 2))?;
+    let far = linear(1, 9_223_372_036_854_775_808);
+    let second = take(&rt, b, &sizes, &far, Handle::Green)?;
+    check_place(&rt, &second, 1, 0, 2);
+    assert!(rt; second.block == Handle::Green);
+    check_two_blocks(&rt, b);
     Ok(())
+}
+
+/// A piece that is larger than a shared block.
+fn large_piece(rt: &impl Abort, b: &mut MemoryType<Handle>) -> Result<Piece<Handle>> {
+    let sizes = AllocationSizes::default();
+    let piece = place_at(rt, b, &sizes, (300 * MB, Handle::Red), (0, 0, 1))?;
+    assert_eq!(rt; piece.size, 300 * MB);
+    assert_eq!(rt; b.capacity(), 300 * MB);
+    assert_eq!(rt; b.active_general_blocks(), 0);
+    Ok(piece)
 }
 
 #[test]
 fn a_piece_larger_than_a_shared_block_has_a_block_of_its_size(rt: HostRuntime) -> Result<(), Fail> {
-    let sizes = AllocationSizes::default();
     let mut blocks = memory_type(&rt, rt.alloc(), false);
     let b = &mut blocks;
-    let piece = place(&rt, b, &sizes, 300 * MB, Handle::Red)?;
-    check_place(&rt, &piece, 0, 0, 1);
-    assert_eq!(rt; piece.size, 300 * MB);
-    assert_eq!(rt; b.capacity(), 300 * MB);
-    assert_eq!(rt; b.active_general_blocks(), 0);
+    let piece = large_piece(&rt, b)?;
     assert!(rt; b.free(&piece)? == Some(Handle::Red));
     assert_eq!(rt; b.capacity(), 0);
     assert!(rt; b.block(0).is_none());
+    Ok(())
+}
+
+/// Takes three blocks for a piece each, and gives the first two back.
+fn third_of_three(
+    rt: &impl Abort,
+    b: &mut MemoryType<Handle>,
+    sizes: &AllocationSizes,
+) -> Result<()> {
+    let first = place(rt, b, sizes, 5 * MB, Handle::Red)?;
+    let second = place(rt, b, sizes, 6 * MB, Handle::Green)?;
+    place_at(rt, b, sizes, (7 * MB, Handle::Blue), (2, 0, 1))?;
+    assert_eq!(rt; b.active_general_blocks(), 0);
+    assert!(rt; b.free(&first)? == Some(Handle::Red));
+    assert!(rt; b.free(&second)? == Some(Handle::Green));
     Ok(())
 }
 
@@ -147,17 +186,22 @@ fn dedicated_blocks_fill_from_below_and_shared_ones_from_above(
     let sizes = AllocationSizes::new(4 * MB, 4 * MB);
     let mut blocks = memory_type(&rt, rt.alloc(), true);
     let b = &mut blocks;
-    let first = place(&rt, b, &sizes, 5 * MB, Handle::Red)?;
-    let second = place(&rt, b, &sizes, 6 * MB, Handle::Green)?;
-    let third = place(&rt, b, &sizes, 7 * MB, Handle::Blue)?;
-    check_place(&rt, &third, 2, 0, 1);
-    assert_eq!(rt; b.active_general_blocks(), 0);
+    third_of_three(&rt, b, &sizes)?;
+    place_at(&rt, b, &sizes, (10, Handle::Grey), (1, 0, 2))?;
+    place_at(&rt, b, &sizes, (5 * MB, Handle::Red), (0, 0, 1))?;
+    Ok(())
+}
+
+/// Gives back the pieces of two shared blocks: the second block stays.
+fn two_emptied(rt: &impl Abort, b: &mut MemoryType<Handle>, sizes: &AllocationSizes) -> Result<()> {
+    let first = place(rt, b, sizes, 3 * MB, Handle::Red)?;
+    let second = place(rt, b, sizes, 3 * MB, Handle::Green)?;
+    assert!(rt; b.is_live(&first) && b.is_live(&second));
     assert!(rt; b.free(&first)? == Some(Handle::Red));
-    assert!(rt; b.free(&second)? == Some(Handle::Green));
-    let shared = place(&rt, b, &sizes, 10, Handle::Grey)?;
-    check_place(&rt, &shared, 1, 0, 2);
-    let large = place(&rt, b, &sizes, 5 * MB, Handle::Red)?;
-    check_place(&rt, &large, 0, 0, 1);
+    assert_eq!(rt; b.capacity(), 4 * MB);
+    assert!(rt; b.free(&second)?.is_none());
+    assert_eq!(rt; b.capacity(), 4 * MB);
+    assert!(rt; !b.is_live(&second));
     Ok(())
 }
 
@@ -166,17 +210,22 @@ fn the_last_shared_block_stays(rt: HostRuntime) -> Result<(), Fail> {
     let sizes = AllocationSizes::new(4 * MB, 4 * MB);
     let mut blocks = memory_type(&rt, rt.alloc(), true);
     let b = &mut blocks;
-    let first = place(&rt, b, &sizes, 3 * MB, Handle::Red)?;
-    let second = place(&rt, b, &sizes, 3 * MB, Handle::Green)?;
-    assert!(rt; b.is_live(&first) && b.is_live(&second));
-    assert!(rt; b.free(&first)? == Some(Handle::Red));
-    assert_eq!(rt; b.capacity(), 4 * MB);
-    assert!(rt; b.free(&second)?.is_none());
-    assert_eq!(rt; b.capacity(), 4 * MB);
-    assert!(rt; !b.is_live(&second));
-    let whole = place(&rt, b, &sizes, 4 * MB, Handle::Blue)?;
-    check_place(&rt, &whole, 1, 0, 2);
+    two_emptied(&rt, b, &sizes)?;
+    place_at(&rt, b, &sizes, (4 * MB, Handle::Blue), (1, 0, 2))?;
     Ok(())
+}
+
+/// Four pieces in blocks of 4, 8 and 16 MB; the first one.
+fn first_of_four(
+    rt: &impl Abort,
+    b: &mut MemoryType<Handle>,
+    sizes: &AllocationSizes,
+) -> Result<Piece<Handle>> {
+    let first = place(rt, b, sizes, 4 * MB, Handle::Red)?;
+    place_at(rt, b, sizes, (4 * MB, Handle::Green), (1, 0, 2))?;
+    place_at(rt, b, sizes, (4 * MB, Handle::Blue), (1, 4 * MB, 1))?;
+    place_at(rt, b, sizes, (5 * MB, Handle::Blue), (2, 0, 2))?;
+    Ok(first)
 }
 
 #[test]
@@ -184,20 +233,20 @@ fn shared_blocks_double(rt: HostRuntime) -> Result<(), Fail> {
     let sizes = AllocationSizes::new(4 * MB, 4 * MB).with_max_device_memblock_size(64 * MB);
     let mut blocks = memory_type(&rt, rt.alloc(), false);
     let b = &mut blocks;
-    let first = place(&rt, b, &sizes, 4 * MB, Handle::Red)?;
-    let second = place(&rt, b, &sizes, 4 * MB, Handle::Green)?;
-    check_place(&rt, &second, 1, 0, 2);
-    let third = place(&rt, b, &sizes, 4 * MB, Handle::Blue)?;
-    check_place(&rt, &third, 1, 4 * MB, 1);
-    let fourth = place(&rt, b, &sizes, 5 * MB, Handle::Blue)?;
-    check_place(&rt, &fourth, 2, 0, 2);
+    let first = first_of_four(&rt, b, &sizes)?;
     assert!(rt; b.free(&first)? == Some(Handle::Red));
-    let own = place(&rt, b, &sizes, 17 * MB, Handle::Grey)?;
-    check_place(&rt, &own, 0, 0, 1);
+    place_at(&rt, b, &sizes, (17 * MB, Handle::Grey), (0, 0, 1))?;
     assert_eq!(rt; b.capacity(), 42_991_616);
     assert_eq!(rt; needed(&rt, b, &sizes, 64 * MB)?, Some(64 * MB));
     assert_eq!(rt; b.capacity(), 42_991_616);
     Ok(())
+}
+
+/// Looks that a piece isn't live, and is neither given back nor named.
+fn check_not_live(rt: &impl Abort, b: &mut MemoryType<Handle>, other: &Piece<Handle>) {
+    assert!(rt; !b.is_live(other));
+    assert!(rt; b.free(other).is_err());
+    assert!(rt; b.rename(other, "third").is_err());
 }
 
 #[test]
@@ -216,9 +265,7 @@ fn a_piece_that_is_not_live_is_refused(rt: HostRuntime) -> Result<(), Fail> {
             ..piece
         },
     ] {
-        assert!(rt; !b.is_live(&other));
-        assert!(rt; b.free(&other).is_err());
-        assert!(rt; b.rename(&other, "third").is_err());
+        check_not_live(&rt, b, &other);
     }
     assert!(rt; b.is_live(&piece));
     assert!(rt; b.free(&piece)?.is_none());
@@ -318,20 +365,34 @@ fn three_pieces(rt: &impl Abort, alloc: Global) -> Result<MemoryType<Handle>> {
     Ok(blocks)
 }
 
+/// Looks at the report of `three_pieces`.
+fn check_three(rt: &impl Abort, report: &AllocatorReport) {
+    assert_eq!(rt; report.allocations.len(), 3);
+    check_row(rt, report, 0, "a", 0, 100);
+    check_row(rt, report, 1, "b", 256, 64);
+    check_row(rt, report, 2, "c", 0, 6 * MB);
+    assert_eq!(rt; report.blocks.len(), 2);
+    check_block(rt, report, 0, 4 * MB, 0, 2);
+    check_block(rt, report, 1, 6 * MB, 2, 3);
+    assert_eq!(rt; report.total_allocated_bytes, 6_291_776);
+    assert_eq!(rt; report.total_capacity_bytes, 10 * MB);
+}
+
 #[test]
 fn a_type_reports_by_slot_and_offset(rt: HostRuntime) -> Result<(), Fail> {
     let blocks = three_pieces(&rt, rt.alloc())?;
     let report = report_of(rt.alloc(), &blocks)?;
-    assert_eq!(rt; report.allocations.len(), 3);
-    check_row(&rt, &report, 0, "a", 0, 100);
-    check_row(&rt, &report, 1, "b", 256, 64);
-    check_row(&rt, &report, 2, "c", 0, 6 * MB);
-    assert_eq!(rt; report.blocks.len(), 2);
-    check_block(&rt, &report, 0, 4 * MB, 0, 2);
-    check_block(&rt, &report, 1, 6 * MB, 2, 3);
-    assert_eq!(rt; report.total_allocated_bytes, 6_291_776);
-    assert_eq!(rt; report.total_capacity_bytes, 10 * MB);
+    check_three(&rt, &report);
     Ok(())
+}
+
+/// Looks at the report of `three_pieces` of one memory type behind another.
+fn check_three_behind(rt: &impl Abort, report: &AllocatorReport) {
+    assert_eq!(rt; (report.allocations.len(), report.blocks.len()), (6, 4));
+    check_row(rt, report, 4, "b", 256, 64);
+    check_block(rt, report, 2, 4 * MB, 3, 5);
+    check_block(rt, report, 3, 6 * MB, 5, 6);
+    assert_eq!(rt; report.total_capacity_bytes, 20 * MB);
 }
 
 #[test]
@@ -346,11 +407,7 @@ fn a_second_type_is_reported_behind_the_first(rt: HostRuntime) -> Result<(), Fai
             .is_some()
     );
     second.report(&mut report)?;
-    assert_eq!(rt; (report.allocations.len(), report.blocks.len()), (6, 4));
-    check_row(&rt, &report, 4, "b", 256, 64);
-    check_block(&rt, &report, 2, 4 * MB, 3, 5);
-    check_block(&rt, &report, 3, 6 * MB, 5, 6);
-    assert_eq!(rt; report.total_capacity_bytes, 20 * MB);
+    check_three_behind(&rt, &report);
     Ok(())
 }
 
@@ -432,23 +489,38 @@ fn all_leaks_of_a_type_come_by_slot_and_offset(rt: HostRuntime) -> Result<(), Fa
     Ok(())
 }
 
+/// Looks that there is no budget, and that a block of any size is within it.
+fn check_unbounded(rt: &impl Abort, b: &MemoryType<Handle>) {
+    assert_eq!(rt; b.budget(), None);
+    assert!(rt; b.fits_budget(u64::MAX));
+}
+
+/// Sets a budget of two blocks, of which there is one.
+fn bound_by_two(rt: &impl Abort, b: &mut MemoryType<Handle>) {
+    b.set_budget(Some(8 * MB));
+    assert_eq!(rt; b.budget(), Some(8 * MB));
+    assert!(rt; b.fits_budget(4 * MB));
+    assert!(rt; !b.fits_budget(4 * MB + 1));
+    assert!(rt; !b.fits_budget(u64::MAX));
+}
+
+/// Sets a budget of less than there is, which stays.
+fn bound_by_less(rt: &impl Abort, b: &mut MemoryType<Handle>) {
+    b.set_budget(Some(MB));
+    assert!(rt; !b.fits_budget(0));
+    assert_eq!(rt; b.capacity(), 4 * MB);
+}
+
 #[test]
 fn a_budget_counts_whole_blocks(rt: HostRuntime) -> Result<(), Fail> {
     let sizes = AllocationSizes::new(4 * MB, 4 * MB);
     let mut blocks = memory_type(&rt, rt.alloc(), true);
     let b = &mut blocks;
-    assert_eq!(&rt; b.budget(), None);
-    assert!(rt; b.fits_budget(u64::MAX));
+    check_unbounded(&rt, b);
     let piece = place(&rt, b, &sizes, 100, Handle::Red)?;
-    assert!(rt; b.fits_budget(u64::MAX));
-    b.set_budget(Some(8 * MB));
-    assert_eq!(&rt; b.budget(), Some(8 * MB));
-    assert!(rt; b.fits_budget(4 * MB));
-    assert!(rt; !b.fits_budget(4 * MB + 1));
-    assert!(rt; !b.fits_budget(u64::MAX));
-    b.set_budget(Some(MB));
-    assert!(rt; !b.fits_budget(0));
-    assert_eq!(&rt; b.capacity(), 4 * MB);
+    check_unbounded(&rt, b);
+    bound_by_two(&rt, b);
+    bound_by_less(&rt, b);
     assert!(rt; b.is_live(&piece));
     b.set_budget(None);
     assert!(rt; b.fits_budget(4 * MB + 1));

@@ -257,22 +257,45 @@ fn all_leaks_come_in_order(rt: HostRuntime) -> Result<(), Fail> {
     Ok(())
 }
 
-#[test]
-fn a_budget_bounds_the_blocks_of_one_memory_type(rt: HostRuntime) -> Result<(), Fail> {
-    let mut types = three_pieces(&rt, rt.alloc())?;
-    let t = &mut types;
+/// Bounds the first memory type: its next block may be as large as the one that it has.
+fn bound_first(rt: &impl Abort, t: &mut MemoryTypes<Handle>) -> Result<()> {
     t.set_budget(0, Some(8 * MB))?;
-    assert_eq!(&rt; (t.budget(0), t.budget(1)), (Some(8 * MB), None));
+    assert_eq!(rt; (t.budget(0), t.budget(1)), (Some(8 * MB), None));
     for (index, size, want) in [
         (0, 4 * MB, Answer::Own(4 * MB)),
         (0, 4 * MB + 1, Answer::BudgetExceeded),
         (1, 4 * MB + 1, Answer::Own(4 * MB + 1)),
     ] {
-        assert_eq!(&rt; ask(&rt, t, index, &own("d", size))?, want);
+        assert_eq!(rt; ask(rt, t, index, &own("d", size))?, want);
     }
+    Ok(())
+}
+
+#[test]
+fn a_budget_bounds_the_blocks_of_one_memory_type(rt: HostRuntime) -> Result<(), Fail> {
+    let mut types = three_pieces(&rt, rt.alloc())?;
+    let t = &mut types;
+    bound_first(&rt, t)?;
     let (_, answer) = take(&rt, t, 0, &named("e", 3 * MB, 1), Handle::Blue)?;
     assert_eq!(&rt; answer, Answer::Taken);
     assert_eq!(&rt; t.capacity(), 9 * MB);
+    Ok(())
+}
+
+/// Takes as many bytes as a number of 64 bits counts: most of them in a block of their own, which is the first piece.
+fn take_all(rt: &impl Abort, t: &mut MemoryTypes<Handle>) -> Result<Piece<Handle>> {
+    let (most, _) = take(rt, t, 0, &own("most", u64::MAX - 4 * MB), Handle::Red)?;
+    let (_, rest) = take(rt, t, 2, &named("rest", 1, 1), Handle::Green)?;
+    assert_eq!(rt; rest, Answer::Shared(4 * MB));
+    assert_eq!(rt; t.capacity(), u64::MAX);
+    Ok(most)
+}
+
+/// Asks where no other block can be counted: a budget is looked at behind that, and a piece of a block is given.
+fn ask_past_all(rt: &impl Abort, t: &mut MemoryTypes<Handle>) -> Result<()> {
+    t.set_budget(1, Some(0))?;
+    assert_eq!(rt; ask(rt, t, 1, &own("one", 1))?, Answer::OutOfMemory);
+    assert_eq!(rt; ask(rt, t, 2, &named("two", 1, 1))?, Answer::Taken);
     Ok(())
 }
 
@@ -280,17 +303,32 @@ fn a_budget_bounds_the_blocks_of_one_memory_type(rt: HostRuntime) -> Result<(), 
 fn all_blocks_sum_up_to_64_bits(rt: HostRuntime) -> Result<(), Fail> {
     let mut types = three_types(&rt, rt.alloc())?;
     let t = &mut types;
-    let (most, _) = take(&rt, t, 0, &own("most", u64::MAX - 4 * MB), Handle::Red)?;
-    let (_, rest) = take(&rt, t, 2, &named("rest", 1, 1), Handle::Green)?;
-    assert_eq!(&rt; rest, Answer::Shared(4 * MB));
-    assert_eq!(&rt; t.capacity(), u64::MAX);
-    t.set_budget(1, Some(0))?;
-    assert_eq!(&rt; ask(&rt, t, 1, &own("one", 1))?, Answer::OutOfMemory);
-    assert_eq!(&rt; ask(&rt, t, 2, &named("two", 1, 1))?, Answer::Taken);
+    let most = take_all(&rt, t)?;
+    ask_past_all(&rt, t)?;
     assert!(&rt; t.free(0, &most)? == Some(Handle::Red));
     assert_eq!(&rt; ask(&rt, t, 1, &own("one", 1))?, Answer::BudgetExceeded);
     assert_eq!(&rt; t.capacity(), 4 * MB);
     Ok(())
+}
+
+/// Looks that a piece isn't live at a memory type, and is neither given back nor named there.
+fn check_not_there(
+    rt: &impl Abort,
+    t: &mut MemoryTypes<Handle>,
+    index: usize,
+    piece: &Piece<Handle>,
+) {
+    assert!(rt; !t.is_live(index, piece));
+    check_fault(rt, &t.free(index, piece), NO_BLOCK);
+    check_fault(rt, &t.rename(index, piece, "b"), NO_BLOCK);
+}
+
+/// Looks that there is one block, where the piece is live.
+fn check_alone(rt: &impl Abort, t: &MemoryTypes<Handle>, piece: &Piece<Handle>) {
+    assert_eq!(rt; (t.slots(0), t.slots(3)), (1, 0));
+    assert!(rt; t.block(0, 0) == Some(Handle::Red));
+    assert!(rt; t.block(3, 0).is_none());
+    assert!(rt; t.is_live(0, piece));
 }
 
 #[test]
@@ -301,14 +339,9 @@ fn a_memory_type_that_is_not_there_is_refused(rt: HostRuntime) -> Result<(), Fai
     check_fault(&rt, &t.set_budget(3, Some(1)), NO_TYPE);
     assert_eq!(&rt; t.budget(3), None);
     for index in [1, 2, 3] {
-        assert!(&rt; !t.is_live(index, &piece));
-        check_fault(&rt, &t.free(index, &piece), NO_BLOCK);
-        check_fault(&rt, &t.rename(index, &piece, "b"), NO_BLOCK);
+        check_not_there(&rt, t, index, &piece);
     }
-    assert_eq!(&rt; (t.slots(0), t.slots(3)), (1, 0));
-    assert!(&rt; t.block(0, 0) == Some(Handle::Red));
-    assert!(&rt; t.block(3, 0).is_none());
-    assert!(&rt; t.is_live(0, &piece));
+    check_alone(&rt, t, &piece);
     Ok(())
 }
 

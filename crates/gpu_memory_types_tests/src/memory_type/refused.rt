@@ -132,21 +132,57 @@ fn count_leaks(b: &MemoryType<Handle>) -> usize {
     count
 }
 
-/// Gives all but the last back: the first shared block goes with its last piece, and the dedicated one.
-fn give_three(rt: &impl Abort, script: &mut Script, pieces: &[Piece<Handle>; 4]) -> Result<()> {
-    let [a, b, c, d] = pieces;
-    let blocks = &mut script.blocks;
-    assert_eq!(rt; count_leaks(blocks), 4);
+/// Gives both pieces of a shared block back, which goes with the last.
+fn give_block(
+    rt: &impl Abort,
+    blocks: &mut MemoryType<Handle>,
+    a: &Piece<Handle>,
+    b: &Piece<Handle>,
+) -> Result<()> {
     assert!(rt; blocks.free(a)?.is_none());
     assert!(rt; !blocks.is_live(a) && blocks.is_live(b));
     assert!(rt; blocks.free(a).is_err());
     assert!(rt; blocks.free(b)? == Some(Handle::Red));
-    assert!(rt; blocks.free(c)? == Some(Handle::Green));
+    Ok(())
+}
+
+/// Looks at the last block, and that there is no other.
+fn check_last(rt: &impl Abort, blocks: &MemoryType<Handle>, d: &Piece<Handle>) {
     assert!(rt; blocks.is_live(d));
     assert!(rt; blocks.leaks(0, 0).is_none() && blocks.leaks(0, 2).is_some());
     assert!(rt; blocks.block(0).is_none());
     assert!(rt; blocks.block(2) == Some(Handle::Blue));
     check_type(rt, blocks, 3, 1, 8 * MB);
+}
+
+/// Gives all but the last back: the first shared block goes with its last piece, and the dedicated one.
+fn give_three(rt: &impl Abort, script: &mut Script, pieces: &[Piece<Handle>; 4]) -> Result<()> {
+    let [a, b, c, d] = pieces;
+    let blocks = &mut script.blocks;
+    assert_eq!(rt; count_leaks(blocks), 4);
+    give_block(rt, blocks, a, b)?;
+    assert!(rt; blocks.free(c)? == Some(Handle::Green));
+    check_last(rt, blocks, d);
+    Ok(())
+}
+
+/// Gives a piece another name, and asks for one that is too large for a shared block.
+fn name_and_ask(rt: &impl Abort, s: &mut Script, b: &Piece<Handle>) -> Result<()> {
+    s.rename(rt, b, "renamed")?;
+    check_row(rt, &s.report()?, 1, "renamed", 3 * MB, 1);
+    assert_eq!(rt; s.ask_alone(rt, &named("e", 65 * MB, 1))?, Some(65 * MB));
+    Ok(())
+}
+
+/// Fills the slots below the last block, and gives that block's piece back, and one of the new ones.
+fn fill_slots(rt: &impl Abort, s: &mut Script, d: &Piece<Handle>) -> Result<()> {
+    let high = s.take(rt, &named("f", 5 * MB, 1), Handle::Red)?;
+    check_place(rt, &high, 1, 0, 2);
+    let low = s.take(rt, &named("g", 17 * MB, 1), Handle::Green)?;
+    check_place(rt, &low, 0, 0, 1);
+    assert!(rt; s.blocks.free(&high)? == Some(Handle::Red));
+    assert!(rt; s.blocks.free(d)?.is_none());
+    check_type(rt, &s.blocks, 3, 1, 25 * MB);
     Ok(())
 }
 
@@ -161,17 +197,9 @@ fn memory_types_lose_nothing_where_memory_is_refused(rt: HostRuntime) -> Result<
     let s = &mut script;
     let pieces = take_four(&rt, s)?;
     let [_, b, _, d] = &pieces;
-    s.rename(&rt, b, "renamed")?;
-    check_row(&rt, &s.report()?, 1, "renamed", 3 * MB, 1);
-    assert_eq!(rt; s.ask_alone(&rt, &named("e", 65 * MB, 1))?, Some(65 * MB));
+    name_and_ask(&rt, s, b)?;
     give_three(&rt, s, &pieces)?;
-    let high = s.take(&rt, &named("f", 5 * MB, 1), Handle::Red)?;
-    check_place(&rt, &high, 1, 0, 2);
-    let low = s.take(&rt, &named("g", 17 * MB, 1), Handle::Green)?;
-    check_place(&rt, &low, 0, 0, 1);
-    assert!(rt; s.blocks.free(&high)? == Some(Handle::Red));
-    assert!(rt; s.blocks.free(d)?.is_none());
-    check_type(&rt, &s.blocks, 3, 1, 25 * MB);
+    fill_slots(&rt, s, d)?;
     assert!(rt; script.refused <= 1);
     if script.refused == 1 {
         return Err(Fail::new(TOLD));

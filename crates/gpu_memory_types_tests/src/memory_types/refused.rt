@@ -142,13 +142,15 @@ impl Script {
         check_place(rt, &piece, slot, offset, number);
         assert!(rt; piece.size == request.size && piece.block == block);
         assert!(rt; self.types.is_live(index, &piece));
-        if let Answer::Shared(size) | Answer::Own(size) = want {
+        self.keep(request.name, piece, answer)
+    }
+
+    /// Keeps a piece that was taken, and counts the new block that it needed.
+    fn keep(&mut self, name: &'static str, piece: Piece<Handle>, answer: Answer) -> Result<()> {
+        if let Answer::Shared(size) | Answer::Own(size) = answer {
             self.capacity = self.capacity.saturating_add(size);
         }
-        self.kept.push(Kept {
-            name: request.name,
-            piece,
-        })?;
+        self.kept.push(Kept { name, piece })?;
         Ok(())
     }
 
@@ -270,6 +272,19 @@ impl Script {
         Ok(())
     }
 
+    /// Makes a call that only looks.
+    fn look(&mut self, rt: &impl Abort, call: Call) -> Result<()> {
+        match call {
+            Call::CheckType(index, budget, blocks) => self.check_type(rt, index, budget, blocks),
+            Call::Leaks(want) => self.check_leaks(rt, want)?,
+            Call::Report(want) => check_report(rt, &self.report()?, want),
+            Call::Count(want) => assert_eq!(rt; self.types.count(), want),
+            Call::Apart => self.types.pieces_are_apart(),
+            _ => {}
+        }
+        Ok(())
+    }
+
     /// Makes one call, and looks at the sum of all blocks' sizes.
     fn call(&mut self, rt: &impl Abort, call: Call) -> Result<()> {
         match call {
@@ -284,11 +299,7 @@ impl Script {
                 self.foreign(rt, index, &piece, freed, renamed)?
             }
             Call::SetBudget(index, budget, fault) => self.set_budget(rt, index, budget, fault)?,
-            Call::CheckType(index, budget, blocks) => self.check_type(rt, index, budget, blocks),
-            Call::Leaks(want) => self.check_leaks(rt, want)?,
-            Call::Report(want) => check_report(rt, &self.report()?, want),
-            Call::Count(want) => assert_eq!(rt; self.types.count(), want),
-            Call::Apart => self.types.pieces_are_apart(),
+            _ => self.look(rt, call)?,
         }
         assert_eq!(rt; self.types.capacity(), self.capacity);
         Ok(())
