@@ -90,6 +90,75 @@ pub(super) fn write_of(
     })
 }
 
+/// A request for a piece that the host reads: uploads are asked for again where the device lacks host memory.
+fn download_of(
+    alloc: Global,
+    key: u64,
+    size: u64,
+    alignment: u64,
+    name: &str,
+) -> std::result::Result<Command, AllocError> {
+    Ok(Command::Alloc {
+        key,
+        requirements: MemoryRequirements {
+            size,
+            alignment,
+            memory_type_bits: 1,
+        },
+        location: MemoryLocation::GpuToCpu,
+        linear: true,
+        scheme: AllocationScheme::GpuAllocatorManaged,
+        name: name.to_string(alloc)?,
+    })
+}
+
+/// A command, whose name and bytes are borrowed. Each but the last three begins with its number.
+#[derive(Clone, Copy)]
+enum Call<'a> {
+    /// A request of this size for a piece that the host writes.
+    Upload(u64, u64, &'a str),
+    /// A request of this size and alignment for a piece that the host reads.
+    Download(u64, u64, u64, &'a str),
+    /// Writes at this offset.
+    Write(u64, u64, &'a [u8]),
+    /// Reads so many bytes behind this offset.
+    Read(u64, u64, u64),
+    Free(u64),
+    Null(u64),
+    Rename(u64, &'a str),
+    Report,
+    Leaks,
+    Capacity,
+}
+
+fn command_of(alloc: Global, call: Call) -> std::result::Result<Command, AllocError> {
+    Ok(match call {
+        Call::Upload(key, size, name) => alloc_of(alloc, key, size, name)?,
+        Call::Download(key, size, alignment, name) => {
+            download_of(alloc, key, size, alignment, name)?
+        }
+        Call::Write(key, at, bytes) => write_of(alloc, key, at, bytes)?,
+        Call::Read(key, at, size) => Command::Read { key, at, size },
+        Call::Free(key) => Command::Free { key },
+        Call::Null(key) => Command::Null { key },
+        Call::Rename(key, name) => Command::Rename {
+            key,
+            name: name.to_string(alloc)?,
+        },
+        Call::Report => Command::Report,
+        Call::Leaks => Command::Leaks,
+        Call::Capacity => Command::Capacity,
+    })
+}
+
+fn commands_of(alloc: Global, calls: &[Call]) -> std::result::Result<Vec<Command>, AllocError> {
+    let mut commands = Vec::new(alloc);
+    for call in calls {
+        commands.push(command_of(alloc, *call)?)?;
+    }
+    Ok(commands)
+}
+
 /// Runs one command.
 fn one(
     session: &mut Session<SimVulkan>,
@@ -126,8 +195,53 @@ fn is_bytes(reply: &Reply, bytes: &[u8]) -> bool {
     }
 }
 
-/// The script of a place that is used again, by commands.
-fn script(rt: &impl Abort, s: &mut Session<SimVulkan>, alloc: Global) -> Outcome {
+/// What a command answers.
+#[derive(Clone, Copy)]
+enum Answer {
+    /// The offset, size and number of a new allocation.
+    Given(u64, u64, u64),
+    Done,
+    Bytes(&'static [u8]),
+    Unbound,
+    Busy,
+    Unmapped,
+    OutOfRange,
+    /// The request is refused for what it asks.
+    Invalid,
+}
+
+fn is_answer(reply: &Reply, want: Answer) -> bool {
+    match want {
+        Answer::Given(offset, size, number) => given_at(reply) == Some((offset, size, number)),
+        Answer::Done => is_done(reply),
+        Answer::Bytes(bytes) => is_bytes(reply, bytes),
+        Answer::Unbound => matches!(reply, Reply::Unbound),
+        Answer::Busy => matches!(reply, Reply::Busy),
+        Answer::Unmapped => matches!(reply, Reply::Unmapped),
+        Answer::OutOfRange => matches!(reply, Reply::OutOfRange),
+        Answer::Invalid => matches!(
+            reply,
+            Reply::Error(AllocationError::InvalidAllocationCreateDesc)
+        ),
+    }
+}
+
+/// Runs commands one by one, and looks at each answer.
+fn make_calls(
+    rt: &impl Abort,
+    s: &mut Session<SimVulkan>,
+    alloc: Global,
+    calls: &[(Call, Answer)],
+) -> Outcome {
+    for (number, (call, want)) in calls.iter().enumerate() {
+        let reply = one(s, command_of(alloc, *call)?, alloc)?;
+        assert!(rt; is_answer(&reply, *want), "call {number}");
+    }
+    Ok(())
+}
+
+/// Looks at all that is told of the first piece.
+fn check_first(rt: &impl Abort, s: &mut Session<SimVulkan>, alloc: Global) -> Outcome {
     let first = one(s, alloc_of(alloc, 1, 4, "a")?, alloc)?;
     match &first {
         Reply::Given(given) => {
@@ -145,27 +259,25 @@ fn script(rt: &impl Abort, s: &mut Session<SimVulkan>, alloc: Global) -> Outcome
         }
         _ => return Err(Fail::from("nothing was given")),
     }
-    let second = one(s, alloc_of(alloc, 2, 4, "b")?, alloc)?;
-    assert_eq!(rt; given_at(&second), Some((4, 4, 3)));
-    assert!(rt; is_done(&one(s, write_of(alloc, 1, 0, &[1, 2, 3, 4])?, alloc)?));
-    assert!(rt; is_done(&one(s, write_of(alloc, 2, 0, &[5, 6, 7, 8])?, alloc)?));
-    assert!(rt; is_done(&one(s, Command::Free { key: 1 }, alloc)?));
-    let third = one(s, alloc_of(alloc, 3, 4, "c")?, alloc)?;
-    assert_eq!(rt; given_at(&third), Some((0, 4, 2)));
-    let read = Command::Read {
-        key: 3,
-        at: 0,
-        size: 4,
-    };
-    assert!(rt; is_bytes(&one(s, read, alloc)?, &[1, 2, 3, 4]));
-    assert!(rt; is_done(&one(s, write_of(alloc, 3, 0, &[9, 9, 9, 9])?, alloc)?));
-    let read = Command::Read {
-        key: 2,
-        at: 1,
-        size: 3,
-    };
-    assert!(rt; is_bytes(&one(s, read, alloc)?, &[6, 7, 8]));
     Ok(())
+}
+
+/// A second piece, and a third one that has the place of the first.
+const USED_AGAIN: &[(Call, Answer)] = &[
+    (Call::Upload(2, 4, "b"), Answer::Given(4, 4, 3)),
+    (Call::Write(1, 0, &[1, 2, 3, 4]), Answer::Done),
+    (Call::Write(2, 0, &[5, 6, 7, 8]), Answer::Done),
+    (Call::Free(1), Answer::Done),
+    (Call::Upload(3, 4, "c"), Answer::Given(0, 4, 2)),
+    (Call::Read(3, 0, 4), Answer::Bytes(&[1, 2, 3, 4])),
+    (Call::Write(3, 0, &[9, 9, 9, 9]), Answer::Done),
+    (Call::Read(2, 1, 3), Answer::Bytes(&[6, 7, 8])),
+];
+
+/// The script of a place that is used again, by commands.
+fn script(rt: &impl Abort, s: &mut Session<SimVulkan>, alloc: Global) -> Outcome {
+    check_first(rt, s, alloc)?;
+    make_calls(rt, s, alloc, USED_AGAIN)
 }
 
 #[test]
@@ -178,85 +290,54 @@ fn a_place_is_used_again(rt: HostRuntime) -> Outcome {
     done
 }
 
-/// What is told under numbers that stand for nothing, or for a null allocation.
-fn told_of_numbers(rt: &impl Abort, s: &mut Session<SimVulkan>, alloc: Global) -> Outcome {
-    assert!(rt; matches!(one(s, Command::Free { key: 1 }, alloc)?, Reply::Unbound));
-    assert!(rt; matches!(one(s, write_of(alloc, 1, 9, &[1])?, alloc)?, Reply::Unbound));
-    assert!(rt; is_done(&one(s, Command::Null { key: 1 }, alloc)?));
-    assert!(rt; matches!(one(s, Command::Null { key: 1 }, alloc)?, Reply::Busy));
-    assert!(rt; matches!(one(s, alloc_of(alloc, 1, 0, "a")?, alloc)?, Reply::Busy));
-    assert!(rt;
-        matches!(
-            one(s, write_of(alloc, 1, 9, &[1])?, alloc)?,
-            Reply::Unmapped
-        )
-    );
-    let name = "n".to_string(alloc)?;
-    assert!(rt; is_done(&one(s, Command::Rename { key: 1, name }, alloc)?));
-    let name = "n".to_string(alloc)?;
-    assert!(rt;
-        matches!(
-            one(s, Command::Rename { key: 2, name }, alloc)?,
-            Reply::Unbound
-        )
-    );
-    assert!(rt; is_done(&one(s, Command::Free { key: 1 }, alloc)?));
-    assert!(rt; matches!(one(s, Command::Free { key: 1 }, alloc)?, Reply::Unbound));
-    Ok(())
-}
+/// Numbers that stand for nothing, or for a null allocation.
+const NUMBERS: &[(Call, Answer)] = &[
+    (Call::Free(1), Answer::Unbound),
+    (Call::Write(1, 9, &[1]), Answer::Unbound),
+    (Call::Null(1), Answer::Done),
+    (Call::Null(1), Answer::Busy),
+    (Call::Upload(1, 0, "a"), Answer::Busy),
+    (Call::Write(1, 9, &[1]), Answer::Unmapped),
+    (Call::Rename(1, "n"), Answer::Done),
+    (Call::Rename(2, "n"), Answer::Unbound),
+    (Call::Free(1), Answer::Done),
+    (Call::Free(1), Answer::Unbound),
+];
 
 #[test]
 fn each_number_out_of_place_is_told(rt: HostRuntime) -> Outcome {
     let mut s = session(rt.alloc())?;
-    let done = told_of_numbers(&rt, &mut s, rt.alloc());
+    let done = make_calls(&rt, &mut s, rt.alloc(), NUMBERS);
     let device = s.destroy(&Discard);
     assert_eq!(&rt; device.held(), 0);
     done
 }
 
-/// What is told of a request for nothing, which leaves its number free, and of ranges that end past a piece.
-fn told_of_sizes(rt: &impl Abort, s: &mut Session<SimVulkan>, alloc: Global) -> Outcome {
-    match one(s, alloc_of(alloc, 1, 0, "a")?, alloc)? {
-        Reply::Error(error) => {
-            assert!(rt; matches!(error, AllocationError::InvalidAllocationCreateDesc))
-        }
-        _ => return Err(Fail::from("a request for nothing was not refused")),
-    }
-    assert_eq!(rt;
-        given_at(&one(s, alloc_of(alloc, 1, 4, "a")?, alloc)?),
-        Some((0, 4, 2))
-    );
-    assert!(rt;
-        matches!(
-            one(s, write_of(alloc, 1, 3, &[1, 2])?, alloc)?,
-            Reply::OutOfRange
-        )
-    );
-    let read = Command::Read {
-        key: 1,
-        at: 1,
-        size: 4,
-    };
-    assert!(rt; matches!(one(s, read, alloc)?, Reply::OutOfRange));
-    Ok(())
-}
+/// A request for nothing, which leaves its number free, and ranges that end past a piece.
+const SIZES: &[(Call, Answer)] = &[
+    (Call::Upload(1, 0, "a"), Answer::Invalid),
+    (Call::Upload(1, 4, "a"), Answer::Given(0, 4, 2)),
+    (Call::Write(1, 3, &[1, 2]), Answer::OutOfRange),
+    (Call::Read(1, 1, 4), Answer::OutOfRange),
+];
 
 #[test]
 fn each_size_out_of_range_is_told(rt: HostRuntime) -> Outcome {
     let mut s = session(rt.alloc())?;
-    let done = told_of_sizes(&rt, &mut s, rt.alloc());
+    let done = make_calls(&rt, &mut s, rt.alloc(), SIZES);
     let device = s.destroy(&Discard);
     assert_eq!(&rt; device.held(), 0);
     done
 }
 
-fn shown(rt: &impl Abort, s: &mut Session<SimVulkan>, alloc: Global) -> Outcome {
-    assert_eq!(rt;
-        given_at(&one(s, alloc_of(alloc, 7, 100, "a")?, alloc)?),
-        Some((0, 100, 2))
-    );
-    let name = "b".to_string(alloc)?;
-    assert!(rt; is_done(&one(s, Command::Rename { key: 7, name }, alloc)?));
+/// A piece that gets another name.
+const NAMED: &[(Call, Answer)] = &[
+    (Call::Upload(7, 100, "a"), Answer::Given(0, 100, 2)),
+    (Call::Rename(7, "b"), Answer::Done),
+];
+
+/// Looks at the report of that piece.
+fn show_report(rt: &impl Abort, s: &mut Session<SimVulkan>, alloc: Global) -> Outcome {
     match one(s, Command::Report, alloc)? {
         Reply::Report(report) => {
             assert_eq!(rt; report.allocations.len(), 1);
@@ -268,6 +349,12 @@ fn shown(rt: &impl Abort, s: &mut Session<SimVulkan>, alloc: Global) -> Outcome 
         }
         _ => return Err(Fail::from("no report was made")),
     }
+    Ok(())
+}
+
+fn shown(rt: &impl Abort, s: &mut Session<SimVulkan>, alloc: Global) -> Outcome {
+    make_calls(rt, s, alloc, NAMED)?;
+    show_report(rt, s, alloc)?;
     match one(s, Command::Leaks, alloc)? {
         Reply::Leaks(texts) => assert_eq!(rt; texts.len(), 1),
         _ => return Err(Fail::from("no leaks were told")),
@@ -291,21 +378,39 @@ fn reports_leaks_and_capacity(rt: HostRuntime) -> Outcome {
 /// Two parties, 1 and 2: the second writes `theirs`, and what the first has taken after the second gave its piece back begins
 /// with that.
 fn parties(alloc: Global, theirs: u8) -> std::result::Result<Vec<Command>, AllocError> {
-    let mut commands = Vec::new(alloc);
-    commands.push(alloc_of(alloc, 2, 8, "theirs")?)?;
-    commands.push(write_of(alloc, 2, 0, &[theirs; 8])?)?;
-    commands.push(alloc_of(alloc, 3, 8, "theirs")?)?;
-    commands.push(Command::Free { key: 2 })?;
-    commands.push(alloc_of(alloc, 1, 8, "ours")?)?;
-    commands.push(write_of(alloc, 1, 2, &[1, 2, 3])?)?;
-    commands.push(write_of(alloc, 3, 0, &[theirs; 8])?)?;
-    commands.push(Command::Read {
-        key: 1,
-        at: 0,
-        size: 8,
-    })?;
-    commands.push(Command::Capacity)?;
-    Ok(commands)
+    let bytes = [theirs; 8];
+    let calls = [
+        Call::Upload(2, 8, "theirs"),
+        Call::Write(2, 0, &bytes),
+        Call::Upload(3, 8, "theirs"),
+        Call::Free(2),
+        Call::Upload(1, 8, "ours"),
+        Call::Write(1, 2, &[1, 2, 3]),
+        Call::Write(3, 0, &bytes),
+        Call::Read(1, 0, 8),
+        Call::Capacity,
+    ];
+    commands_of(alloc, &calls)
+}
+
+/// The bytes that our read gave, and where our piece lies.
+fn our_bytes(rt: &impl Abort, replies: &[Reply]) -> std::result::Result<([u8; 8], u64), Fail> {
+    let [_, _, _, _, given, _, _, ours, capacity] = replies else {
+        return Err(Fail::from("there is another count of replies"));
+    };
+    let Some((offset, _, _)) = given_at(given) else {
+        return Err(Fail::from("nothing was given to us"));
+    };
+    assert!(rt; matches!(capacity, Reply::Capacity(67_108_864)));
+    let Reply::Bytes(bytes) = ours else {
+        return Err(Fail::from("nothing was read"));
+    };
+    let mut read = [0; 8];
+    if bytes.len() != 8 {
+        return Err(Fail::from("another length was read"));
+    }
+    read.copy_from_slice(bytes);
+    Ok((read, offset))
 }
 
 /// The bytes that our read gives in a run of the two parties, and where our piece lies.
@@ -322,22 +427,7 @@ fn our_read(
     let Ok(replies) = ran else {
         return Err(Fail::from("the session refused to run"));
     };
-    let [_, _, _, _, given, _, _, ours, capacity] = replies.as_slice() else {
-        return Err(Fail::from("there is another count of replies"));
-    };
-    let Some((offset, _, _)) = given_at(given) else {
-        return Err(Fail::from("nothing was given to us"));
-    };
-    assert!(rt; matches!(capacity, Reply::Capacity(67_108_864)));
-    let Reply::Bytes(bytes) = ours else {
-        return Err(Fail::from("nothing was read"));
-    };
-    let mut read = [0; 8];
-    if bytes.len() != 8 {
-        return Err(Fail::from("another length was read"));
-    }
-    read.copy_from_slice(bytes);
-    Ok((read, offset))
+    our_bytes(rt, &replies)
 }
 
 /// What is read at places that we wrote doesn't depend on the other party's bytes; elsewhere our piece begins with them.

@@ -46,58 +46,25 @@ fn check_row(
     }
 }
 
-/// A request for a piece that the host reads: uploads are asked for again where the device lacks host memory.
-fn download_of(
-    alloc: Global,
-    key: u64,
-    size: u64,
-    alignment: u64,
-    name: &str,
-) -> std::result::Result<Command, AllocError> {
-    Ok(Command::Alloc {
-        key,
-        requirements: MemoryRequirements {
-            size,
-            alignment,
-            memory_type_bits: 1,
-        },
-        location: MemoryLocation::GpuToCpu,
-        linear: true,
-        scheme: AllocationScheme::GpuAllocatorManaged,
-        name: name.to_string(alloc)?,
-    })
-}
-
-fn rename_of(alloc: Global, key: u64, name: &str) -> std::result::Result<Command, AllocError> {
-    let name = name.to_string(alloc)?;
-    Ok(Command::Rename { key, name })
-}
-
-fn read_of(key: u64, at: u64, size: u64) -> Command {
-    Command::Read { key, at, size }
-}
-
 /// Two pieces of a block of 4 MB and a null allocation, and then a piece of 5 MB. Two pieces stay.
-fn commands(alloc: Global) -> std::result::Result<Vec<Command>, AllocError> {
-    let mut commands = Vec::new(alloc);
-    commands.push(download_of(alloc, 1, 100, 1, "first")?)?;
-    commands.push(download_of(alloc, 2, 64, 256, "second")?)?;
-    commands.push(write_of(alloc, 1, 0, &[1, 2, 3, 4])?)?;
-    commands.push(write_of(alloc, 2, 60, &[5, 6, 7, 8])?)?;
-    commands.push(read_of(1, 1, 4))?;
-    commands.push(read_of(2, 59, 5))?;
-    commands.push(rename_of(alloc, 2, "b")?)?;
-    commands.push(Command::Null { key: 3 })?;
-    commands.push(rename_of(alloc, 3, "nothing")?)?;
-    commands.push(Command::Report)?;
-    commands.push(Command::Leaks)?;
-    commands.push(Command::Capacity)?;
-    commands.push(Command::Free { key: 1 })?;
-    commands.push(Command::Free { key: 3 })?;
-    commands.push(download_of(alloc, 4, 5 * MB, 1, "large")?)?;
-    commands.push(Command::Capacity)?;
-    Ok(commands)
-}
+const CALLS: &[Call] = &[
+    Call::Download(1, 100, 1, "first"),
+    Call::Download(2, 64, 256, "second"),
+    Call::Write(1, 0, &[1, 2, 3, 4]),
+    Call::Write(2, 60, &[5, 6, 7, 8]),
+    Call::Read(1, 1, 4),
+    Call::Read(2, 59, 5),
+    Call::Rename(2, "b"),
+    Call::Null(3),
+    Call::Rename(3, "nothing"),
+    Call::Report,
+    Call::Leaks,
+    Call::Capacity,
+    Call::Free(1),
+    Call::Free(3),
+    Call::Download(4, 5 * MB, 1, "large"),
+    Call::Capacity,
+];
 
 /// What stands under the numbers, as their replies tell.
 #[derive(Clone, Copy)]
@@ -301,23 +268,29 @@ fn served(
     check_all(rt, &replies[9..], &standing, refused)
 }
 
+/// A session; else the host refused memory, and a device that was there came back as it was.
+fn begin(rt: &impl Abort, alloc: Global) -> Option<Session<SimVulkan>> {
+    let Ok(device) = simulated(alloc) else {
+        return None;
+    };
+    match made(alloc, device, AllocationSizes::new(4 * MB, 4 * MB)) {
+        Ok(a) => Some(Session::new(alloc, a)),
+        Err((error, device)) => {
+            assert!(rt; is_want_of_memory(&error));
+            assert_eq!(rt; device.held(), 0);
+            None
+        }
+    }
+}
+
 #[test]
 fn a_session_loses_nothing_where_memory_is_refused(rt: HostRuntime) -> Outcome {
-    let Ok(commands) = commands(rt.alloc()) else {
+    let Ok(commands) = commands_of(rt.alloc(), CALLS) else {
         return Err(Fail::new(TOLD));
     };
-    let Ok(device) = simulated(rt.alloc()) else {
+    let Some(mut s) = begin(&rt, rt.alloc()) else {
         return Err(Fail::new(TOLD));
     };
-    let a = match made(rt.alloc(), device, AllocationSizes::new(4 * MB, 4 * MB)) {
-        Ok(a) => a,
-        Err((error, device)) => {
-            assert!(&rt; is_want_of_memory(&error));
-            assert_eq!(&rt; device.held(), 0);
-            return Err(Fail::new(TOLD));
-        }
-    };
-    let mut s = Session::new(rt.alloc(), a);
     let mut refused = 0;
     let done = served(&rt, &mut s, &commands, &mut refused);
     let device = s.destroy(&Discard);
