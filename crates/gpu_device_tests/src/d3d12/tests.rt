@@ -8,6 +8,7 @@ use gpu_device::d3d12::{
 };
 use gpu_sim::SimD3D12;
 use gpu_sim_base::Refusal;
+use std::process::Abort;
 use std::test::Fail;
 
 const PROPERTIES: HeapProperties = HeapProperties {
@@ -55,6 +56,15 @@ fn buffer1(width: u64) -> ResourceDesc1 {
     }
 }
 
+/// Looks that a device was asked for nothing.
+fn check_new(rt: &impl Abort, sim: &SimD3D12) {
+    assert_eq!(rt; (sim.held(), sim.questions(), sim.refusals()), (0, 0, 0));
+    assert!(rt; sim.last_heap().is_none());
+    assert!(rt; sim.last_formats().is_none());
+    assert!(rt; sim.last_clear().is_none());
+    assert!(rt; sim.last_memory().is_none());
+}
+
 #[test]
 fn tells_what_it_was_given(rt: HostRuntime) {
     let sim = SimD3D12::new(
@@ -64,11 +74,7 @@ fn tells_what_it_was_given(rt: HostRuntime) {
     );
     assert!(rt; sim.resource_heap_tier() == Ok(ResourceHeapTier::Tier1));
     assert_eq!(rt; sim.device_removed_reason(), -2005270523);
-    assert_eq!(rt; (sim.held(), sim.questions(), sim.refusals()), (0, 0, 0));
-    assert!(rt; sim.last_heap().is_none());
-    assert!(rt; sim.last_formats().is_none());
-    assert!(rt; sim.last_clear().is_none());
-    assert!(rt; sim.last_memory().is_none());
+    check_new(&rt, &sim);
     let none = SimD3D12::new(rt.alloc(), Err(-5), Vec::new(rt.alloc()));
     assert!(rt; none.resource_heap_tier() == Err(-5));
 }
@@ -96,14 +102,8 @@ fn sizes(rt: HostRuntime) {
     }
 }
 
-#[test]
-fn numbers_after_a_refusal(rt: HostRuntime) -> Result<(), Fail> {
-    let refusals = vec![in rt.alloc();
-        (2, Refusal::Code(-7)),
-        (2, Refusal::Null),
-        (4, Refusal::Null),
-    ]?;
-    let mut sim = SimD3D12::new(rt.alloc(), Ok(ResourceHeapTier::Tier2), refusals);
+/// A heap and a resource, with a heap refused behind each.
+fn two_refused(rt: &impl Abort, sim: &mut SimD3D12) {
     assert!(rt; sim.create_heap(&HEAP) == Ok(Some(ID3D12Heap(1))));
     let small = HeapDesc {
         size: 65536,
@@ -116,6 +116,10 @@ fn numbers_after_a_refusal(rt: HostRuntime) -> Result<(), Fail> {
     assert!(rt; sim.last_clear() == Some(CLEAR));
     assert!(rt; sim.create_heap(&HEAP) == Ok(None));
     assert_eq!(rt; (sim.held(), sim.questions(), sim.refusals()), (2, 4, 2));
+}
+
+/// Gives back what isn't there, and then the heap, twice, and the resource.
+fn release_all(rt: &impl Abort, sim: &mut SimD3D12) {
     sim.release_heap(ID3D12Heap(2));
     sim.release_resource(ID3D12Resource(1));
     sim.release_resource(ID3D12Resource(9));
@@ -124,6 +128,18 @@ fn numbers_after_a_refusal(rt: HostRuntime) -> Result<(), Fail> {
     sim.release_heap(ID3D12Heap(1));
     sim.release_heap(ID3D12Heap(1));
     assert_eq!(rt; sim.held(), 0);
+}
+
+#[test]
+fn numbers_after_a_refusal(rt: HostRuntime) -> Result<(), Fail> {
+    let refusals = vec![in rt.alloc();
+        (2, Refusal::Code(-7)),
+        (2, Refusal::Null),
+        (4, Refusal::Null),
+    ]?;
+    let mut sim = SimD3D12::new(rt.alloc(), Ok(ResourceHeapTier::Tier2), refusals);
+    two_refused(&rt, &mut sim);
+    release_all(&rt, &mut sim);
     assert!(rt; sim.create_heap(&HEAP) == Ok(Some(ID3D12Heap(3))));
     Ok(())
 }
@@ -139,19 +155,18 @@ fn a_null_heap(rt: HostRuntime) -> Result<(), Fail> {
     Ok(())
 }
 
-#[test]
-fn formats_clear_values_and_memory(rt: HostRuntime) {
-    let mut sim = SimD3D12::new(
-        rt.alloc(),
-        Ok(ResourceHeapTier::Tier2),
-        Vec::new(rt.alloc()),
-    );
+/// A committed resource without formats.
+fn committed(rt: &impl Abort, sim: &mut SimD3D12) {
     let flags = HeapFlags(0xc0);
     let committed = sim.create_committed_resource(&PROPERTIES, flags, &buffer(1), 0, Some(&CLEAR));
     assert!(rt; committed == Ok(Some(ID3D12Resource(1))));
     assert!(rt; sim.last_formats().is_none());
     assert!(rt; sim.last_clear() == Some(CLEAR));
     assert!(rt; sim.last_memory() == Some((PROPERTIES, flags)));
+}
+
+/// A committed resource with two formats, and without a clear value.
+fn committed_with_formats(rt: &impl Abort, sim: &mut SimD3D12) {
     let formats = [Format(28), Format(29)];
     let textures = HeapFlags(0x44);
     let later = sim.create_committed_resource3(
@@ -166,6 +181,10 @@ fn formats_clear_values_and_memory(rt: HostRuntime) {
     assert!(rt; sim.last_formats() == Some(2));
     assert!(rt; sim.last_clear().is_none());
     assert!(rt; sim.last_memory() == Some((PROPERTIES, textures)));
+}
+
+/// A placed resource with a list of no formats.
+fn placed_with_formats(rt: &impl Abort, sim: &mut SimD3D12) {
     let placed = sim.create_placed_resource2(
         ID3D12Heap(7),
         65536,
@@ -178,6 +197,18 @@ fn formats_clear_values_and_memory(rt: HostRuntime) {
     assert!(rt; sim.last_formats() == Some(0));
     assert!(rt; sim.last_clear() == Some(CLEAR));
     assert!(rt; sim.last_memory().is_none());
+}
+
+#[test]
+fn formats_clear_values_and_memory(rt: HostRuntime) {
+    let mut sim = SimD3D12::new(
+        rt.alloc(),
+        Ok(ResourceHeapTier::Tier2),
+        Vec::new(rt.alloc()),
+    );
+    committed(&rt, &mut sim);
+    committed_with_formats(&rt, &mut sim);
+    placed_with_formats(&rt, &mut sim);
     let early = sim.create_placed_resource2(ID3D12Heap(7), 0, &buffer1(1), 0, None, None);
     assert!(rt; early == Ok(Some(ID3D12Resource(4))));
     assert!(rt; sim.last_formats().is_none());

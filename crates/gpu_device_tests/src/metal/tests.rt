@@ -7,6 +7,7 @@ use gpu_device::metal::{
 };
 use gpu_sim::SimMetal;
 use gpu_sim_base::Refusal;
+use std::process::Abort;
 use std::test::Fail;
 
 pub(super) const PRIVATE: HeapDescriptor = HeapDescriptor {
@@ -54,14 +55,8 @@ fn sizes(rt: HostRuntime) {
     }
 }
 
-#[test]
-fn heaps_and_sets(rt: HostRuntime) -> Result<(), Fail> {
-    let refusals = vec![in rt.alloc();
-        (2, Refusal::Code(-7)),
-        (4, Refusal::Null),
-        (5, Refusal::Code(-3)),
-    ]?;
-    let mut sim = SimMetal::new(rt.alloc(), true, refusals);
+/// A set and a heap, with a heap and two sets refused.
+fn three_refused(rt: &impl Abort, sim: &mut SimMetal) -> Result<MTLHeap, Fail> {
     assert!(rt; sim.last_heap().is_none());
     let set = MTLResidencySet(1);
     assert!(rt; sim.new_residency_set("set") == Ok(set));
@@ -71,13 +66,30 @@ fn heaps_and_sets(rt: HostRuntime) -> Result<(), Fail> {
     assert!(rt; heap == MTLHeap(2));
     assert!(rt; sim.new_residency_set("set") == Err(-1));
     assert!(rt; sim.new_residency_set("set") == Err(-3));
-    assert_eq!(rt; (sim.held(), sim.questions(), sim.refusals()), (2, 5, 3));
-    assert!(rt; sim.members(MTLResidencySet(2)).is_none());
-    assert!(rt; sim.committed_members(MTLResidencySet(9)).is_none());
+    Ok(heap)
+}
+
+/// Gives back what is no heap, and then the heap, twice.
+fn release_all(rt: &impl Abort, sim: &mut SimMetal, heap: MTLHeap) {
     sim.release_heap(MTLHeap(1));
     sim.release_heap(heap);
     sim.release_heap(heap);
     assert_eq!(rt; sim.held(), 1);
+}
+
+#[test]
+fn heaps_and_sets(rt: HostRuntime) -> Result<(), Fail> {
+    let refusals = vec![in rt.alloc();
+        (2, Refusal::Code(-7)),
+        (4, Refusal::Null),
+        (5, Refusal::Code(-3)),
+    ]?;
+    let mut sim = SimMetal::new(rt.alloc(), true, refusals);
+    let heap = three_refused(&rt, &mut sim)?;
+    assert_eq!(rt; (sim.held(), sim.questions(), sim.refusals()), (2, 5, 3));
+    assert!(rt; sim.members(MTLResidencySet(2)).is_none());
+    assert!(rt; sim.committed_members(MTLResidencySet(9)).is_none());
+    release_all(&rt, &mut sim, heap);
     assert!(rt; sim.new_heap(&PRIVATE, 1, "heap") == Some(MTLHeap(3)));
     Ok(())
 }

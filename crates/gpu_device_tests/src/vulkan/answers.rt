@@ -5,6 +5,7 @@ use gpu_device::vulkan::{
     AllocationScheme, Buffer, DeviceMemory, MemoryAllocateInfo, MemoryPropertyFlags, VulkanDevice,
 };
 use gpu_sim::{Refusal, SimVulkan};
+use std::process::Abort;
 use std::test::Fail;
 
 /// Asks for a memory and then for its bytes, and gives both answers.
@@ -21,6 +22,14 @@ fn ask_both(
     (answer, mapping)
 }
 
+/// Looks that a device was asked for nothing.
+fn check_new(rt: &impl Abort, sim: &SimVulkan) {
+    assert_eq!(rt; sim.held(), 0);
+    assert_eq!(rt; sim.questions(), 0);
+    assert_eq!(rt; sim.refusals(), 0);
+    assert!(rt; sim.last_info().is_none());
+}
+
 #[test]
 fn tells_what_it_was_given(rt: HostRuntime) -> Result<(), Fail> {
     let sim = device(rt.alloc(), u64::MAX, Vec::new(rt.alloc()))?;
@@ -30,20 +39,20 @@ fn tells_what_it_was_given(rt: HostRuntime) -> Result<(), Fail> {
     assert!(rt; sim.memory_type(0).property_flags == MemoryPropertyFlags::DEVICE_LOCAL);
     assert_eq!(rt; sim.memory_type(1).property_flags.0, 6);
     assert_eq!(rt; sim.buffer_image_granularity(), 64);
-    assert_eq!(rt; sim.held(), 0);
-    assert_eq!(rt; sim.questions(), 0);
-    assert_eq!(rt; sim.refusals(), 0);
-    assert!(rt; sim.last_info().is_none());
+    check_new(&rt, &sim);
     Ok(())
 }
 
-#[test]
-fn numbers_and_bytes(rt: HostRuntime) -> Result<(), Fail> {
-    let mut sim = device(rt.alloc(), u64::MAX, Vec::new(rt.alloc()))?;
+/// Asks for two memories, and for the bytes of the second.
+fn ask_for_two(rt: &impl Abort, sim: &mut SimVulkan) {
     assert!(rt; sim.allocate_memory(&info(4)) == Ok(DeviceMemory(1)));
-    assert!(rt; ask_both(&mut sim, 4) == (Ok(DeviceMemory(2)), Some(Ok(true))));
+    assert!(rt; ask_both(sim, 4) == (Ok(DeviceMemory(2)), Some(Ok(true))));
     assert_eq!(rt; sim.held(), 2);
     assert_eq!(rt; sim.questions(), 3);
+}
+
+/// Looks which bytes are there and which aren't, and writes some.
+fn look_and_write(rt: &impl Abort, sim: &mut SimVulkan) -> Result<(), Fail> {
     assert!(rt; sim.bytes(DeviceMemory(1), 0, 0).is_none());
     assert!(rt; sim.bytes(DeviceMemory(2), 0, 5).is_none());
     assert!(rt; sim.bytes(DeviceMemory(2), u64::MAX, 2).is_none());
@@ -54,6 +63,11 @@ fn numbers_and_bytes(rt: HostRuntime) -> Result<(), Fail> {
         sim.bytes(DeviceMemory(2), 0, 4).ok_or("all")?,
         [0u8, 7, 7, 0].as_slice()
     );
+    Ok(())
+}
+
+/// Gives bytes and memories back that are there, and some that aren't.
+fn give_back(rt: &impl Abort, sim: &mut SimVulkan) {
     sim.unmap_memory(DeviceMemory(2));
     assert!(rt; sim.bytes(DeviceMemory(2), 0, 0).is_none());
     assert!(rt; sim.bytes_mut(DeviceMemory(2), 0, 0).is_none());
@@ -61,10 +75,40 @@ fn numbers_and_bytes(rt: HostRuntime) -> Result<(), Fail> {
     sim.free_memory(DeviceMemory(2));
     sim.unmap_memory(DeviceMemory(9));
     assert_eq!(rt; sim.held(), 1);
+}
+
+#[test]
+fn numbers_and_bytes(rt: HostRuntime) -> Result<(), Fail> {
+    let mut sim = device(rt.alloc(), u64::MAX, Vec::new(rt.alloc()))?;
+    ask_for_two(&rt, &mut sim);
+    look_and_write(&rt, &mut sim)?;
+    give_back(&rt, &mut sim);
     assert!(rt; sim.allocate_memory(&info(0)) == Ok(DeviceMemory(3)));
     assert_eq!(rt; sim.refusals(), 0);
     assert_eq!(rt; sim.questions(), 4);
     Ok(())
+}
+
+/// Asks for memories and their bytes, of which one memory is granted without bytes, and one with a code for them.
+fn refused_by_numbers(rt: &impl Abort, sim: &mut SimVulkan) {
+    assert!(rt; ask_both(sim, 1) == (Err(-9), None));
+    assert!(rt; ask_both(sim, 2) == (Err(-2), None));
+    assert_eq!(rt; sim.held(), 0);
+    assert!(rt; ask_both(sim, 3) == (Ok(DeviceMemory(1)), Some(Ok(false))));
+    assert!(rt; sim.bytes(DeviceMemory(1), 0, 0).is_none());
+    assert!(rt; ask_both(sim, 4) == (Ok(DeviceMemory(2)), Some(Err(-3))));
+}
+
+/// Asks for the memory of a buffer, which is refused.
+fn refused_dedicated(rt: &impl Abort, sim: &mut SimVulkan) {
+    let dedicated = MemoryAllocateInfo {
+        size: 5,
+        memory_type_index: 7,
+        device_address: false,
+        scheme: AllocationScheme::DedicatedBuffer(Buffer(8)),
+    };
+    assert!(rt; sim.allocate_memory(&dedicated) == Err(-1000001004));
+    assert!(rt; sim.last_info() == Some(dedicated));
 }
 
 #[test]
@@ -78,20 +122,8 @@ fn scripted_refusals(rt: HostRuntime) -> Result<(), Fail> {
         (7, Refusal::Code(-1000001004)),
     ]?;
     let mut sim = device(rt.alloc(), u64::MAX, script)?;
-    assert!(rt; ask_both(&mut sim, 1) == (Err(-9), None));
-    assert!(rt; ask_both(&mut sim, 2) == (Err(-2), None));
-    assert_eq!(rt; sim.held(), 0);
-    assert!(rt; ask_both(&mut sim, 3) == (Ok(DeviceMemory(1)), Some(Ok(false))));
-    assert!(rt; sim.bytes(DeviceMemory(1), 0, 0).is_none());
-    assert!(rt; ask_both(&mut sim, 4) == (Ok(DeviceMemory(2)), Some(Err(-3))));
-    let dedicated = MemoryAllocateInfo {
-        size: 5,
-        memory_type_index: 7,
-        device_address: false,
-        scheme: AllocationScheme::DedicatedBuffer(Buffer(8)),
-    };
-    assert!(rt; sim.allocate_memory(&dedicated) == Err(-1000001004));
-    assert!(rt; sim.last_info() == Some(dedicated));
+    refused_by_numbers(&rt, &mut sim);
+    refused_dedicated(&rt, &mut sim);
     assert_eq!(rt; sim.refusals(), 5);
     assert_eq!(rt; sim.questions(), 7);
     assert_eq!(rt; sim.held(), 2);
@@ -112,13 +144,13 @@ fn sizes_above_the_limits(rt: HostRuntime) -> Result<(), Fail> {
     Ok(())
 }
 
-/// Where the host refuses memory, the answer is code -1, and the counts and the latest question alone tell of it.
-#[test]
-fn refused_by_the_host(rt: HostRuntime) -> Result<(), Fail> {
-    let Ok(mut sim) = device(rt.alloc(), u64::MAX, Vec::new(rt.alloc())) else {
-        return Ok(());
-    };
-    match ask_both(&mut sim, 4) {
+/// Looks at what a device tells after both answers.
+fn check_both(
+    rt: &impl Abort,
+    sim: &SimVulkan,
+    answers: (Result<DeviceMemory, i32>, Option<Result<bool, i32>>),
+) -> Result<(), Fail> {
+    match answers {
         (Ok(memory), Some(Ok(mapped))) => {
             assert!(rt; mapped);
             assert_eq!(rt; memory.0, 1);
@@ -140,6 +172,17 @@ fn refused_by_the_host(rt: HostRuntime) -> Result<(), Fail> {
         }
         _ => return Err(Fail::from("no mapping was asked for")),
     }
+    Ok(())
+}
+
+/// Where the host refuses memory, the answer is code -1, and the counts and the latest question alone tell of it.
+#[test]
+fn refused_by_the_host(rt: HostRuntime) -> Result<(), Fail> {
+    let Ok(mut sim) = device(rt.alloc(), u64::MAX, Vec::new(rt.alloc())) else {
+        return Ok(());
+    };
+    let answers = ask_both(&mut sim, 4);
+    check_both(&rt, &sim, answers)?;
     assert!(rt; sim.last_info() == Some(info(4)));
     Ok(())
 }
