@@ -58,11 +58,20 @@ fn rest_of_two(
     take_at(rt, a, &download(MB), (1, 3 * MB, Some(1)))
 }
 
-/// Takes a third block without a budget: under a budget of nothing it stays until its piece is given back.
-fn third_block(rt: &impl Abort, a: &mut Allocator<SimVulkan>) -> Outcome {
+/// Takes a third block without a budget.
+fn take_third(
+    rt: &impl Abort,
+    a: &mut Allocator<SimVulkan>,
+) -> std::result::Result<Allocation, Fail> {
     set(a, 0, None)?;
     let third = take_at(rt, a, &download(3 * MB), (2, 0, Some(2)))?;
     assert_eq!(rt; a.capacity(), 3 * BLOCK);
+    Ok(third)
+}
+
+/// Under a budget of nothing a third block stays until its piece is given back.
+fn third_block(rt: &impl Abort, a: &mut Allocator<SimVulkan>) -> Outcome {
+    let third = take_third(rt, a)?;
     set(a, 0, Some(0))?;
     assert_eq!(rt; a.capacity(), 3 * BLOCK);
     give(a, third)?;
@@ -89,15 +98,21 @@ fn a_budget_bounds_blocks_and_not_pieces(rt: HostRuntime) -> Outcome {
     done
 }
 
-fn no_such_type(rt: &impl Abort, a: &mut Allocator<SimVulkan>) -> Outcome {
-    set(a, 0, Some(7))?;
+/// Looks that there is no second memory type to bound.
+fn check_not_bounded(rt: &impl Abort, a: &mut Allocator<SimVulkan>) -> Outcome {
     match a.set_budget(1, Some(0)) {
         Err(AllocationError::Internal(fault)) => {
             assert_eq!(rt; fault.text, "No such memory type.");
             assert_eq!(rt; fault.code, None);
+            Ok(())
         }
-        _ => return Err(Fail::from("there is one memory type")),
+        _ => Err(Fail::from("there is one memory type")),
     }
+}
+
+fn no_such_type(rt: &impl Abort, a: &mut Allocator<SimVulkan>) -> Outcome {
+    set(a, 0, Some(7))?;
+    check_not_bounded(rt, a)?;
     assert_eq!(rt; a.budget(0), Some(7));
     assert_eq!(rt; a.budget(1), None);
     Ok(())
@@ -137,14 +152,24 @@ fn an_upload_past_a_budget_asks_the_plainer_type(rt: HostRuntime) -> Outcome {
     Ok(())
 }
 
-fn earlier_causes(rt: &impl Abort, a: &mut Allocator<SimVulkan>) -> Outcome {
+/// Looks for this error of a request under a budget of nothing.
+fn check_under_none(
+    rt: &impl Abort,
+    a: &mut Allocator<SimVulkan>,
+    desc: &AllocationCreateDesc,
+    want: u64,
+) -> Outcome {
     set(a, 0, Some(0))?;
+    assert_eq!(rt; error_of(a.allocate(&Discard, desc)), want);
+    Ok(())
+}
+
+fn earlier_causes(rt: &impl Abort, a: &mut Allocator<SimVulkan>) -> Outcome {
     let half = managed(9_223_372_036_854_775_808, 1, MemoryLocation::GpuOnly);
-    assert_eq!(rt; error_of(a.allocate(&Discard, &half)), 11);
+    check_under_none(rt, a, &half, 11)?;
     set(a, 0, None)?;
     let taken = take(a, &half)?;
-    set(a, 0, Some(0))?;
-    assert_eq!(rt; error_of(a.allocate(&Discard, &half)), 1);
+    check_under_none(rt, a, &half, 1)?;
     assert_eq!(rt; a.device().questions(), 1);
     give(a, taken)
 }
@@ -158,16 +183,18 @@ fn sums_past_all_numbers_come_before_budgets(rt: HostRuntime) -> Outcome {
     done
 }
 
+/// Requests above their heap and within it.
+fn above_and_within(rt: &impl Abort, a: &mut Allocator<SimVulkan>) -> Outcome {
+    check_under_none(rt, a, &download(5 * MB), 1)?;
+    check_under_none(rt, a, &download(MB), 11)
+}
+
 #[test]
 fn requests_above_their_heap_come_before_budgets(rt: HostRuntime) -> Outcome {
     let properties = one_type(&[(6, 0)], &[4 * MB]);
     let mut a = made(rt.alloc(), &properties, AllocationSizes::default())?;
-    let done = set(&mut a, 0, Some(0));
-    let above = error_of(a.allocate(&Discard, &download(5 * MB)));
-    let within = error_of(a.allocate(&Discard, &download(MB)));
+    let done = above_and_within(&rt, &mut a);
     let _ = a.destroy(&Discard);
-    assert_eq!(&rt; above, 1);
-    assert_eq!(&rt; within, 11);
     done
 }
 
@@ -210,6 +237,23 @@ fn agrees(a: &Allocator<SimVulkan>, account: &Account) -> bool {
         && a.budget(0) == account.budget
 }
 
+/// Looks at why a block was refused, where these were the questions and the refusals before.
+fn check_refused(
+    rt: &impl Abort,
+    a: &Allocator<SimVulkan>,
+    account: &mut Account,
+    error: &AllocationError,
+    before: (u64, u64),
+) {
+    if matches!(error, AllocationError::BudgetExceeded) {
+        assert!(rt; !account.has_budget());
+        assert_eq!(rt; (a.device().questions(), a.device().refusals()), before);
+    } else {
+        assert!(rt; account.has_budget() && a.device().refusals() > before.1);
+        account.refused = account.refused.saturating_add(1);
+    }
+}
+
 /// Asks for a block: the budget is looked at before the device.
 fn ask(rt: &impl Abort, a: &mut Allocator<SimVulkan>, account: &mut Account) -> Outcome {
     let before = (a.device().questions(), a.device().refusals());
@@ -222,14 +266,7 @@ fn ask(rt: &impl Abort, a: &mut Allocator<SimVulkan>, account: &mut Account) -> 
             assert!(rt; account.has_budget());
             account.live.push(allocation)?;
         }
-        Err(AllocationError::BudgetExceeded) => {
-            assert!(rt; !account.has_budget());
-            assert_eq!(rt; (a.device().questions(), a.device().refusals()), before);
-        }
-        Err(_) => {
-            assert!(rt; account.has_budget() && a.device().refusals() > before.1);
-            account.refused = account.refused.saturating_add(1);
-        }
+        Err(error) => check_refused(rt, a, account, &error, before),
     }
     assert!(rt; agrees(a, account));
     Ok(())

@@ -110,6 +110,12 @@ fn holds(a: &Allocator<SimVulkan>, memory: DeviceMemory, front: &[u8]) -> bool {
     }
 }
 
+/// Looks that bytes aren't lent.
+fn check_not_lent(rt: &impl Abort, a: &mut Allocator<SimVulkan>, other: &Allocation) {
+    assert!(rt; a.mapped_slice_mut(other).is_none());
+    assert!(rt; a.try_as_mapped_slab(other).is_none());
+}
+
 /// Asks for bytes that aren't lent, and then for those of a live allocation, which are let go as they are.
 fn ask_for_bytes(
     rt: &impl Abort,
@@ -118,8 +124,7 @@ fn ask_for_bytes(
     others: [&Allocation; 3],
 ) -> Outcome {
     for other in others {
-        assert!(rt; a.mapped_slice_mut(other).is_none());
-        assert!(rt; a.try_as_mapped_slab(other).is_none());
+        check_not_lent(rt, a, other);
     }
     assert!(rt; a.mapped_slice_mut(live).is_some());
     match a.try_as_mapped_slab(live) {

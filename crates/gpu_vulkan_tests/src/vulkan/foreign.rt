@@ -163,6 +163,27 @@ fn check_not_lent(rt: &impl Abort, a: &mut Allocator<SimVulkan>, allocation: &Al
     assert!(rt; a.try_as_mapped_slab(allocation).is_none());
 }
 
+/// Its device memory, its size and its place.
+fn identity(allocation: &Allocation) -> (DeviceMemory, u64, (usize, u64, Option<u64>)) {
+    (allocation.memory(), allocation.size(), place(allocation))
+}
+
+/// Looks that a foreign allocation isn't named, with this text.
+fn check_not_named(
+    rt: &impl Abort,
+    a: &mut Allocator<SimVulkan>,
+    allocation: &mut Allocation,
+    text: &str,
+) -> Outcome {
+    match a.rename_allocation(allocation, "ours") {
+        Err(AllocationError::Internal(fault)) => {
+            assert_eq!(rt; fault.text, text);
+            Ok(())
+        }
+        _ => Err(Fail::from("a foreign allocation was named")),
+    }
+}
+
 /// Offers a foreign allocation to each call that takes one; it is as it was.
 fn offer(
     rt: &impl Abort,
@@ -171,15 +192,12 @@ fn offer(
     row: &Row,
 ) -> Outcome {
     check_not_lent(rt, a, &allocation);
-    let was = (allocation.memory(), allocation.size(), place(&allocation));
-    match a.rename_allocation(&mut allocation, "ours") {
-        Err(AllocationError::Internal(fault)) => assert_eq!(rt; fault.text, row.named),
-        _ => return Err(Fail::from("a foreign allocation was named")),
-    }
+    let was = identity(&allocation);
+    check_not_named(rt, a, &mut allocation, row.named)?;
     match a.free(&Discard, allocation) {
         Err((AllocationError::Internal(fault), back)) => {
             assert_eq!(rt; fault.text, row.freed);
-            assert!(rt; (back.memory(), back.size(), place(&back)) == was);
+            assert!(rt; identity(&back) == was);
             Ok(())
         }
         _ => Err(Fail::from("a foreign allocation was given back")),

@@ -137,11 +137,17 @@ fn check_renamed(rt: &impl Abort, a: &Allocator<SimVulkan>) -> Outcome {
     Ok(())
 }
 
-fn padded(rt: &impl Abort, a: &mut Allocator<SimVulkan>) -> Outcome {
-    let (_first, mut second) = two_pieces(a)?;
+/// Looks at the report of `two_pieces`, and that it tells the allocator's capacity.
+fn check_told(rt: &impl Abort, a: &Allocator<SimVulkan>) -> Outcome {
     let report = report_of(a)?;
     check_report(rt, &report)?;
     assert_eq!(rt; report.total_capacity_bytes, a.capacity());
+    Ok(())
+}
+
+fn padded(rt: &impl Abort, a: &mut Allocator<SimVulkan>) -> Outcome {
+    let (_first, mut second) = two_pieces(a)?;
+    check_told(rt, a)?;
     rename(a, &mut second, "c")?;
     check_renamed(rt, a)?;
     assert!(rt; a.is_live(&second));

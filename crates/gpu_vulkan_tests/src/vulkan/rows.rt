@@ -45,18 +45,27 @@ fn a_piece_of_a_shared_block(rt: HostRuntime) -> Outcome {
     done
 }
 
-fn past_all_sums(rt: &impl Abort, a: &mut Allocator<SimVulkan>) -> Outcome {
-    let half = managed(9_223_372_036_854_775_808, 1, MemoryLocation::GpuOnly);
-    let x = take_at(rt, a, &half, (0, 0, Some(1)))?;
-    assert!(rt; !x.is_mapped());
-    assert!(rt; a.mapped_slice(&x).is_none());
-    match a.allocate(&Discard, &half) {
+/// Looks that a second half of all numbers is refused, and the device not asked for it.
+fn second_half(
+    rt: &impl Abort,
+    a: &mut Allocator<SimVulkan>,
+    half: &AllocationCreateDesc,
+) -> Outcome {
+    match a.allocate(&Discard, half) {
         Err(AllocationError::OutOfMemory) => {}
         _ => return Err(Fail::from("the sum of block sizes is past u64::MAX")),
     }
     assert_eq!(rt; a.device().questions(), 1);
     assert_eq!(rt; a.capacity(), 9_223_372_036_854_775_808);
     Ok(())
+}
+
+fn past_all_sums(rt: &impl Abort, a: &mut Allocator<SimVulkan>) -> Outcome {
+    let half = managed(9_223_372_036_854_775_808, 1, MemoryLocation::GpuOnly);
+    let x = take_at(rt, a, &half, (0, 0, Some(1)))?;
+    assert!(rt; !x.is_mapped());
+    assert!(rt; a.mapped_slice(&x).is_none());
+    second_half(rt, a, &half)
 }
 
 #[test]
@@ -249,18 +258,23 @@ fn is_invalid(a: &mut Allocator<SimVulkan>, size: u64, alignment: u64) -> bool {
     }
 }
 
-#[test]
-fn bad_requests_are_refused(rt: HostRuntime) -> Outcome {
-    let properties = one_type(DEVICE, GIGABYTE);
-    let mut a = made(rt.alloc(), &properties, AllocationSizes::default())?;
-    let invalid = is_invalid(&mut a, 0, 1) && is_invalid(&mut a, 1, 3) && is_invalid(&mut a, 1, 0);
+/// Requests of no bytes, at what is no alignment, and for memory of no type.
+fn bad_requests(rt: &impl Abort, a: &mut Allocator<SimVulkan>) {
+    let invalid = is_invalid(a, 0, 1) && is_invalid(a, 1, 3) && is_invalid(a, 1, 0);
     let none = match a.allocate(&Discard, &managed(1, 1, MemoryLocation::CpuToGpu)) {
         Err(AllocationError::NoCompatibleMemoryTypeFound) => true,
         _ => false,
     };
+    assert!(rt; invalid);
+    assert!(rt; none);
+}
+
+#[test]
+fn bad_requests_are_refused(rt: HostRuntime) -> Outcome {
+    let properties = one_type(DEVICE, GIGABYTE);
+    let mut a = made(rt.alloc(), &properties, AllocationSizes::default())?;
+    bad_requests(&rt, &mut a);
     let device = a.destroy(&Discard);
-    assert!(&rt; invalid);
-    assert!(&rt; none);
     assert_eq!(&rt; device.questions(), 0);
     Ok(())
 }

@@ -28,14 +28,19 @@ fn a_piece_at_a_far_alignment_begins_a_block(rt: HostRuntime) -> Outcome {
     done
 }
 
+/// Takes a piece of the device's memory, at alignment 1.
+fn take_of(a: &mut Allocator<SimVulkan>, size: u64) -> std::result::Result<Allocation, Fail> {
+    take(a, &managed(size, 1, MemoryLocation::GpuOnly))
+}
+
 /// Takes three blocks, and gives the first two back: the third is live in slot 2.
 fn third_slot(
     rt: &impl Abort,
     a: &mut Allocator<SimVulkan>,
 ) -> std::result::Result<Allocation, Fail> {
-    let x = take(a, &managed(5 * MB, 1, MemoryLocation::GpuOnly))?;
-    let y = take(a, &managed(6 * MB, 1, MemoryLocation::GpuOnly))?;
-    let z = take(a, &managed(7 * MB, 1, MemoryLocation::GpuOnly))?;
+    let x = take_of(a, 5 * MB)?;
+    let y = take_of(a, 6 * MB)?;
+    let z = take_of(a, 7 * MB)?;
     assert_eq!(rt; z.memory_block_index(), 2);
     give(a, x)?;
     give(a, y)?;
@@ -44,9 +49,9 @@ fn third_slot(
 
 fn filled_slots(rt: &impl Abort, a: &mut Allocator<SimVulkan>) -> Outcome {
     let _z = third_slot(rt, a)?;
-    let shared = take(a, &managed(10, 1, MemoryLocation::GpuOnly))?;
+    let shared = take_of(a, 10)?;
     assert_eq!(rt; shared.memory_block_index(), 1);
-    let own = take(a, &managed(5 * MB, 1, MemoryLocation::GpuOnly))?;
+    let own = take_of(a, 5 * MB)?;
     assert_eq!(rt; own.memory_block_index(), 0);
     Ok(())
 }
@@ -61,8 +66,8 @@ fn shared_blocks_take_the_highest_slot_and_dedicated_ones_the_lowest(rt: HostRun
 
 /// Two blocks of a piece each, both of which are given back: a block stays.
 fn two_emptied(rt: &impl Abort, a: &mut Allocator<SimVulkan>) -> Outcome {
-    let x = take(a, &managed(3 * MB, 1, MemoryLocation::GpuOnly))?;
-    let y = take(a, &managed(3 * MB, 1, MemoryLocation::GpuOnly))?;
+    let x = take_of(a, 3 * MB)?;
+    let y = take_of(a, 3 * MB)?;
     give(a, x)?;
     assert_eq!(rt; a.capacity(), 4 * MB);
     give(a, y)?;
