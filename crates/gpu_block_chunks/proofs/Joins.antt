@@ -3,7 +3,7 @@ use Rattle.std.proofs.Common.{◌≡◌, ℕ, ◌+◌, ◌<◌, ◌^◌, List, [
 use Rattle.std.specs.Option.{option_map}
 use Rattle.std.proofs.lemmas.Bool.{cases_eq}
 use Rattle.gpu_block_chunks.specs.declared.chunk.Chunk.{Chunk}
-use Rattle.gpu_block_chunks.specs.declared.chain.node.Node.{Node}
+use Rattle.gpu_block_chunks.specs.Chain.{Node}
 use Rattle.gpu_block_chunks.specs.Chain.{with_prev, joined_node, is_at, ChangesAt, ChangesAtOpt, SetsAt}
 use Rattle.gpu_block_chunks.specs.ChunkList.{Covers}
 use Rattle.gpu_block_chunks.specs.Chain.{first_or, last_or, node_of, Held, Apart, Distinct, Numbered, Among, IsChain, CanJoin, JoinsNext, longer, chunks_in}
@@ -167,7 +167,8 @@ module _ (k r : ℕ) (c d : Chunk) (back : List (ℕ × Chunk)) where
       }
 
 -- ---- what the code asks and gives
-right_is : (f : ℕ → Option Node) (k r : ℕ) (c d : Chunk) (front back : List (ℕ × Chunk)) (n : Node) → Held f None (two k r c d back front) None → f r ≡ Some n → n ≡ node_of d (Some k) (first_or back None)
+right_is : (f : ℕ → Option Node) (k r : ℕ) (c d : Chunk) (front back : List (ℕ × Chunk)) (n : Node) → Held f None (two k r c d back front) None → f r ≡ Some n
+    → n ≡ node_of d (Some k) (first_or back None)
 right_is f k r c d front back n h at =
     let hb = held_back f None front ((k, c) ∷ (r, d) ∷ back) None h in
     let e : Some n ≡ Some (node_of d (Some k) (first_or back None)) = sym at ∙ hb.1.0 in
@@ -190,14 +191,16 @@ join_fits f f1 k r n j at c1 =
     let fits = j.fits in
     subst (λ (o : Option Node). IsSomeAnd o (λ m. (m.chunk).size + (n.chunk).size < 2 ^ 64)) (sym e) (omega (arith, w, s))
 
-next_held : (f f1 f2 : ℕ → Option Node) (k r more : ℕ) (next : Option ℕ) (o : Option ℕ) → ((q : ℕ) → o ≡ Some q → IsSome (f q) × (r ≡ q → ⊥)) → SetsAt r None f f1 → ChangesAt k (joined_node more next) f1 f2 → IfSome o (λ p. IsSome (f2 p))
+next_held : (f f1 f2 : ℕ → Option Node) (k r more : ℕ) (next : Option ℕ) (o : Option ℕ) → ((q : ℕ) → o ≡ Some q → IsSome (f q) × (r ≡ q → ⊥)) → SetsAt r None f f1
+    → ChangesAt k (joined_node more next) f1 f2 → IfSome o (λ p. IsSome (f2 p))
 next_held f f1 f2 k r more next None h c1 c2 = search rules
 next_held f f1 f2 k r more next (Some p) h c1 c2 =
     let x = h p refl in
     let e = c1 p ∙ ap (λ (b : Bool). cond b None (f p)) (apart_test r p x.1) in
     subst (λ (o : Option Node). IsSome o) (sym (c2 p)) (some_changed (k == p) (joined_node more next) (f1 p) (subst (λ (o : Option Node). IsSome o) (sym e) x.0))
 
-pub join_next_held : (f f1 f2 : ℕ → Option Node) (k r : ℕ) (n : Node) → CanJoin f k r → f r ≡ Some n → SetsAt r None f f1 → ChangesAt k (joined_node (n.chunk).size n.next) f1 f2 → IfSome n.next (λ p. IsSome (f2 p))
+pub join_next_held : (f f1 f2 : ℕ → Option Node) (k r : ℕ) (n : Node) → CanJoin f k r → f r ≡ Some n → SetsAt r None f f1 → ChangesAt k (joined_node (n.chunk).size n.next) f1 f2
+    → IfSome n.next (λ p. IsSome (f2 p))
 join_next_held f f1 f2 k r n j at c1 c2 =
     let is = right_is f k r j.chunk j.next j.front j.back n (j.linked).held at in
     let e : n.next ≡ first_or j.back None = ap (λ (m : Node). m.next) is in
@@ -209,7 +212,8 @@ join_next_held f f1 f2 k r n j at c1 c2 =
     (subst (λ (o : Option Node). IsSome o) (sym h.1) (search rules), apart_among r q m.0 j.back db.1.0 m.1))
     c1 c2
 
-pub joins_next : (f f1 f2 f3 : ℕ → Option Node) (k r : ℕ) (n : Node) → f r ≡ Some n → SetsAt r None f f1 → ChangesAt k (joined_node (n.chunk).size n.next) f1 f2 → ChangesAtOpt n.next (with_prev (Some k)) f2 f3 → JoinsNext k r f f3
+pub joins_next : (f f1 f2 f3 : ℕ → Option Node) (k r : ℕ) (n : Node) → f r ≡ Some n → SetsAt r None f f1 → ChangesAt k (joined_node (n.chunk).size n.next) f1 f2
+    → ChangesAtOpt n.next (with_prev (Some k)) f2 f3 → JoinsNext k r f f3
 joins_next f f1 f2 f3 k r n at c1 c2 c3 = λ first size front c d back l.
     let is = right_is f k r c d front back n l.held at in
     linked_join k r c d back f f3 front

@@ -1,6 +1,9 @@
 pub mod Parts
 pub mod Links
+pub mod Slots
+pub mod FreeSlots
 pub mod Splits
 pub mod Joins
 pub mod Unlinks
+pub mod Neighbours
 pub mod Listing

@@ -5,7 +5,7 @@ use Rattle.std.specs.Option.{option_map}
 use Rattle.std.proofs.lemmas.List.{append_assoc}
 use Rattle.std.proofs.lemmas.List.Elements.{All-nil, All-cons, All-head, All-tail}
 use Rattle.gpu_block_chunks.specs.declared.chunk.Chunk.{Chunk}
-use Rattle.gpu_block_chunks.specs.declared.chain.node.Node.{Node}
+use Rattle.gpu_block_chunks.specs.Chain.{Node}
 use Rattle.gpu_block_chunks.specs.declared.chain.Beside.{Beside}
 use Rattle.gpu_values.specs.declared.allocation_type.AllocationType.{AllocationType}
 use Rattle.gpu_values.specs.declared.allocation_type.AllocationType.TheVariants.{Free, Linear, NonLinear}
@@ -135,7 +135,8 @@ pub from_first : (f : ℕ → Option Node) (first size : ℕ) (ps : List (ℕ ×
 from_first f first size ps cs chain e =
     subst (λ (xs : List Chunk). from_number (Some first) xs ≡ xs) e (ap (λ (o : Option ℕ). from_number o (chunks_in ps)) (sym chain.starts) ∙ from_rest [] ps chain.distinct chain.numbered)
 
-pub chunk_at : (f : ℕ → Option Node) (first size : ℕ) (ps : List (ℕ × Chunk)) (cs : List Chunk) → IsChain f first size ps → chunks_in ps ≡ cs → (k : ℕ) (n : Node) → f k ≡ Some n → IsChunkAt cs k n.chunk n.next
+pub chunk_at : (f : ℕ → Option Node) (first size : ℕ) (ps : List (ℕ × Chunk)) (cs : List Chunk) → IsChain f first size ps → chunks_in ps ≡ cs → (k : ℕ) (n : Node) → f k ≡ Some n
+    → IsChunkAt cs k n.chunk n.next
 chunk_at f first size ps cs chain e k n at =
     let s = stands_from k n.chunk ps (chain.every k n at) in
     let h = subst (λ (ys : List (ℕ × Chunk)). Held f None ys None) s.is chain.held in
@@ -165,21 +166,24 @@ none_held f first size ps cs chain e k none =
 pub can_split : (ps : List (ℕ × Chunk)) (cs : List Chunk) (k taken : ℕ) → chunks_in ps ≡ cs → Numbered ps → IsLonger cs k taken → CanSplit ps k taken
 can_split ps cs k taken e n l = record { chunk = l.chunk; among = among_stands ps cs k l.chunk e n l.at; longer = l.longer }
 
-pub split_listed : (ps qs : List (ℕ × Chunk)) (cs : List Chunk) (k taken number offset : ℕ) (kind : AllocationType) (name : Name) → chunks_in ps ≡ cs → Numbered ps → IsCut ps k taken number offset kind name qs → IsSplit cs k taken number offset kind name (chunks_in qs)
+pub split_listed : (ps qs : List (ℕ × Chunk)) (cs : List Chunk) (k taken number offset : ℕ) (kind : AllocationType) (name : Name) → chunks_in ps ≡ cs → Numbered ps
+    → IsCut ps k taken number offset kind name qs → IsSplit cs k taken number offset kind name (chunks_in qs)
 split_listed ps qs cs k taken number offset kind name e n c = record {
   chunk = c.chunk;
   at = stands_of ps c.front c.back cs k c.chunk c.was e n;
   is = ap chunks_in c.is ∙ chunks_append c.front ((number, front_piece c.chunk taken offset kind number name) ∷ (k, cut_chunk c.chunk taken) ∷ c.back);
 }
 
-pub fill_listed : (ps qs front back : List (ℕ × Chunk)) (cs : List Chunk) (c : Chunk) (k offset : ℕ) (kind : AllocationType) (name : Name) → chunks_in ps ≡ cs → Numbered ps → ps ≡ front ++ (k, c) ∷ back → qs ≡ front ++ (k, filled_chunk c offset kind name) ∷ back → IsFilled cs k offset kind name (chunks_in qs)
+pub fill_listed : (ps qs front back : List (ℕ × Chunk)) (cs : List Chunk) (c : Chunk) (k offset : ℕ) (kind : AllocationType) (name : Name) → chunks_in ps ≡ cs → Numbered ps
+    → ps ≡ front ++ (k, c) ∷ back → qs ≡ front ++ (k, filled_chunk c offset kind name) ∷ back → IsFilled cs k offset kind name (chunks_in qs)
 fill_listed ps qs front back cs c k offset kind name e n was is = record {
   chunk = c;
   at = stands_of ps front back cs k c was e n;
   is = ap chunks_in is ∙ chunks_append front ((k, filled_chunk c offset kind name) ∷ back);
 }
 
-right_by : (kind : AllocationType) (c : Chunk) (y : ℕ × Chunk) (ys : List (ℕ × Chunk)) → cond (is_free_kind kind) (longer c (y.1).size) c ∷ chunks_in (cond (is_free_kind kind) ys (y ∷ ys)) ≡ join_kinds kind c y.1 (chunks_in ys)
+right_by : (kind : AllocationType) (c : Chunk) (y : ℕ × Chunk) (ys : List (ℕ × Chunk))
+    → cond (is_free_kind kind) (longer c (y.1).size) c ∷ chunks_in (cond (is_free_kind kind) ys (y ∷ ys)) ≡ join_kinds kind c y.1 (chunks_in ys)
 right_by Free c y ys = refl
 right_by Linear c y ys = refl
 right_by NonLinear c y ys = refl
@@ -188,7 +192,8 @@ right_listed : (c : Chunk) (back : List (ℕ × Chunk)) → right_chunk c back �
 right_listed c [] = refl
 right_listed c (y ∷ ys) = right_by (y.1).kind c y ys
 
-left_by : (kind : AllocationType) (x : ℕ × Chunk) (k : ℕ) (c : Chunk) (back : List (ℕ × Chunk)) → chunks_in (cond (is_free_kind kind) ((x.0, longer x.1 c.size) ∷ back) (x ∷ (k, c) ∷ back)) ≡ join_kinds kind x.1 c (chunks_in back)
+left_by : (kind : AllocationType) (x : ℕ × Chunk) (k : ℕ) (c : Chunk) (back : List (ℕ × Chunk))
+    → chunks_in (cond (is_free_kind kind) ((x.0, longer x.1 c.size) ∷ back) (x ∷ (k, c) ∷ back)) ≡ join_kinds kind x.1 c (chunks_in back)
 left_by Free x k c back = refl
 left_by Linear x k c back = refl
 left_by NonLinear x k c back = refl
@@ -198,7 +203,8 @@ left_listed [] k c back = refl
 left_listed (x ∷ []) k c back = left_by (x.1).kind x k c back
 left_listed (x ∷ (y ∷ ys)) k c back = ap (λ (cs : List Chunk). x.1 ∷ cs) (left_listed (y ∷ ys) k c back)
 
-pub release_listed : (ps qs front back : List (ℕ × Chunk)) (cs : List Chunk) (c : Chunk) (k : ℕ) (empty : Name) → chunks_in ps ≡ cs → Numbered ps → ps ≡ front ++ (k, c) ∷ back → qs ≡ glue_left front k (right_chunk (freed c empty) back) (right_rest back) → IsReleased cs k empty (chunks_in qs)
+pub release_listed : (ps qs front back : List (ℕ × Chunk)) (cs : List Chunk) (c : Chunk) (k : ℕ) (empty : Name) → chunks_in ps ≡ cs → Numbered ps → ps ≡ front ++ (k, c) ∷ back
+    → qs ≡ glue_left front k (right_chunk (freed c empty) back) (right_rest back) → IsReleased cs k empty (chunks_in qs)
 release_listed ps qs front back cs c k empty e n was is = record {
   chunk = c;
   at = stands_of ps front back cs k c was e n;
@@ -218,7 +224,8 @@ module _ (f : ℕ → Option Node) (first size : ℕ) (ps : List (ℕ × Chunk))
       let d = fill_done f g first size ps k offset kind name o change in
       (d.0, fill_listed ps (walk size g (Some first)) o.front o.back cs o.chunk k offset kind name shown chain.numbered o.was d.1)
 
-  pub released : (f1 f2 f3 : ℕ → Option Node) (k start : ℕ) (empty : Name) → HasNumber cs k → ((n : Node) → f k ≡ Some n → start ≡ (n.chunk).start) → ChangesAt k (used_node start Free empty) f f1 → JoinsRight k f1 f2 → JoinsLeft k f2 f3
+  pub released : (f1 f2 f3 : ℕ → Option Node) (k start : ℕ) (empty : Name) → HasNumber cs k → ((n : Node) → f k ≡ Some n → start ≡ (n.chunk).start)
+      → ChangesAt k (used_node start Free empty) f f1 → JoinsRight k f1 f2 → JoinsLeft k f2 f3
       → IsChain f3 first size (walk size f3 (Some first)) × IsReleased cs k empty (chunks_in (walk size f3 (Some first)))
   released f1 f2 f3 k start empty has ends change right left =
       let o = open_at k has in
@@ -251,7 +258,8 @@ pub record SameSplit (front : List Chunk) (c : Chunk) (back other : List Chunk) 
   pub chunks : c ≡ d
   pub backs : back ≡ rest
 
-pub one_split : (front : List Chunk) (c : Chunk) (back other : List Chunk) (d : Chunk) (rest : List Chunk) → front ++ c ∷ back ≡ other ++ d ∷ rest → AreDistinct (front ++ c ∷ back) → c.number ≡ d.number → SameSplit front c back other d rest
+pub one_split : (front : List Chunk) (c : Chunk) (back other : List Chunk) (d : Chunk) (rest : List Chunk) → front ++ c ∷ back ≡ other ++ d ∷ rest → AreDistinct (front ++ c ∷ back)
+    → c.number ≡ d.number → SameSplit front c back other d rest
 one_split [] c back [] d rest e w n =
     let p = cons_parts c d back rest e in
     record { fronts = refl; chunks = p.0; backs = p.1 }

@@ -3,7 +3,7 @@ use Rattle.std.proofs.Common.{◌≡◌, ℕ, ◌+◌, ◌-◌, ◌<◌, ◌≤�
 use Rattle.std.specs.Option.{option_map}
 use Rattle.std.proofs.lemmas.Bool.{cases_eq}
 use Rattle.gpu_block_chunks.specs.declared.chunk.Chunk.{Chunk}
-use Rattle.gpu_block_chunks.specs.declared.chain.node.Node.{Node}
+use Rattle.gpu_block_chunks.specs.Chain.{Node}
 use Rattle.gpu_values.specs.declared.allocation_type.AllocationType.{AllocationType}
 use Rattle.gpu_block_chunks.specs.Chain.{with_next, cut_node, is_at, ChangesAt, ChangesAtOpt, SetsAt}
 use Rattle.gpu_block_chunks.specs.ChunkList.{Covers, cut_chunk}
@@ -170,7 +170,8 @@ at_opt_other (Some p) q ne = apart_test p q (λ (e : p ≡ q). ne (ap (λ (j : �
 pub at_opt_same : (o : Option ℕ) (q : ℕ) → o ≡ Some q → is_at o q ≡ true
 at_opt_same o q e = ap (λ (p : Option ℕ). is_at p q) e ∙ same_test q
 
-pub kept_by : (b : Bool) (change : Node → Node) → ((m : Node) → (change m).chunk ≡ m.chunk) → (o : Option Node) (n : Node) → cond b (option_map change o) o ≡ Some n → (m : Node) × (o ≡ Some m) × (n.chunk ≡ m.chunk)
+pub kept_by : (b : Bool) (change : Node → Node) → ((m : Node) → (change m).chunk ≡ m.chunk) → (o : Option Node) (n : Node) → cond b (option_map change o) o ≡ Some n
+    → (m : Node) × (o ≡ Some m) × (n.chunk ≡ m.chunk)
 kept_by true change same None n e = cc
 kept_by true change same (Some m) n e = let f : change m ≡ n = cc in (m, refl, ap (λ (x : Node). x.chunk) (sym f) ∙ same m)
 kept_by false change same None n e = cc
@@ -182,26 +183,27 @@ last_not_among k (x ∷ xs) h e = last_is_not k x.0 xs h.1 h.0 e
 
 pub relinks : (f f1 f2 f3 : ℕ → Option Node) (number k taken offset : ℕ) (kind : AllocationType) (name : Name) (front back : List (ℕ × Chunk)) (n : Node)
     → f k ≡ Some n → n.prev ≡ last_or None front → n.next ≡ first_or back None → Apart k front → Apart number front → (number ≡ k → ⊥)
-    → ChangesAt k (cut_node taken (Some number)) f f1
-    → SetsAt number (Some (node_of (front_piece n.chunk taken offset kind number name) n.prev (Some k))) f1 f2
+    → SetsAt number (Some (node_of (front_piece n.chunk taken offset kind number name) n.prev (Some k))) f f1
+    → ChangesAt k (cut_node taken (Some number)) f1 f2
     → ChangesAtOpt n.prev (with_next (Some number)) f2 f3
     → IsRelinked number k n.chunk taken offset kind name back f f3 front
 relinks f f1 f2 f3 number k taken offset kind name front back n at prev next kf nf ne c1 c2 c3 =
     let new_not : n.prev ≡ Some number → ⊥ = λ (e : n.prev ≡ Some number). last_not_among number front nf (sym prev ∙ e) in
     let old_not : n.prev ≡ Some k → ⊥ = λ (e : n.prev ≡ Some k). last_not_among k front kf (sym prev ∙ e) in
     let other_two : (q : ℕ) → (k ≡ q → ⊥) → (number ≡ q → ⊥) → f2 q ≡ f q = λ q nk nn.
-    c2 q ∙ ap (λ (b : Bool). cond b (Some (node_of (front_piece n.chunk taken offset kind number name) n.prev (Some k))) (f1 q)) (apart_test number q nn)
-    ∙ c1 q ∙ ap (λ (b : Bool). cond b (option_map (cut_node taken (Some number)) (f q)) (f q)) (apart_test k q nk) in
+    c2 q ∙ ap (λ (b : Bool). cond b (option_map (cut_node taken (Some number)) (f1 q)) (f1 q)) (apart_test k q nk)
+    ∙ c1 q ∙ ap (λ (b : Bool). cond b (Some (node_of (front_piece n.chunk taken offset kind number name) n.prev (Some k))) (f q)) (apart_test number q nn) in
     record {
       at_new = c3 number
           ∙ ap (λ (b : Bool). cond b (option_map (with_next (Some number)) (f2 number)) (f2 number)) (at_opt_other n.prev number new_not)
-          ∙ c2 number ∙ ap (λ (b : Bool). cond b (Some (node_of (front_piece n.chunk taken offset kind number name) n.prev (Some k))) (f1 number)) (same_test number)
+          ∙ c2 number ∙ ap (λ (b : Bool). cond b (option_map (cut_node taken (Some number)) (f1 number)) (f1 number)) (apart_test k number (λ (e : k ≡ number). ne (sym e)))
+          ∙ c1 number ∙ ap (λ (b : Bool). cond b (Some (node_of (front_piece n.chunk taken offset kind number name) n.prev (Some k))) (f number)) (same_test number)
           ∙ ap (λ (o : Option ℕ). Some (node_of (front_piece n.chunk taken offset kind number name) o (Some k))) prev;
       at_old = c3 k
           ∙ ap (λ (b : Bool). cond b (option_map (with_next (Some number)) (f2 k)) (f2 k)) (at_opt_other n.prev k old_not)
-          ∙ c2 k ∙ ap (λ (b : Bool). cond b (Some (node_of (front_piece n.chunk taken offset kind number name) n.prev (Some k))) (f1 k)) (apart_test number k ne)
-          ∙ c1 k ∙ ap (λ (b : Bool). cond b (option_map (cut_node taken (Some number)) (f k)) (f k)) (same_test k)
-          ∙ ap (λ (o : Option Node). option_map (cut_node taken (Some number)) o) at
+          ∙ c2 k ∙ ap (λ (b : Bool). cond b (option_map (cut_node taken (Some number)) (f1 k)) (f1 k)) (same_test k)
+          ∙ ap (λ (o : Option Node). option_map (cut_node taken (Some number)) o) (c1 k
+          ∙ ap (λ (b : Bool). cond b (Some (node_of (front_piece n.chunk taken offset kind number name) n.prev (Some k))) (f k)) (apart_test number k ne) ∙ at)
           ∙ ap (λ (o : Option ℕ). Some (node_of (cut_chunk n.chunk taken) (Some number) o)) next;
       at_last = λ q m e fq nk nn. c3 q
           ∙ ap (λ (b : Bool). cond b (option_map (with_next (Some number)) (f2 q)) (f2 q)) (at_opt_same n.prev q (prev ∙ e))
@@ -244,8 +246,8 @@ pub record SplitDone (g : ℕ → Option Node) (first size : ℕ) (cs : List (�
 
 pub split_chain : (f f1 f2 f3 : ℕ → Option Node) (first size : ℕ) (cs : List (ℕ × Chunk)) (number k taken offset : ℕ) (kind : AllocationType) (name : Name) (n : Node)
     → IsChain f first size cs → f k ≡ Some n → 0 < taken → taken < (n.chunk).size → Apart number cs
-    → ChangesAt k (cut_node taken (Some number)) f f1
-    → SetsAt number (Some (node_of (front_piece n.chunk taken offset kind number name) n.prev (Some k))) f1 f2
+    → SetsAt number (Some (node_of (front_piece n.chunk taken offset kind number name) n.prev (Some k))) f f1
+    → ChangesAt k (cut_node taken (Some number)) f1 f2
     → ChangesAtOpt n.prev (with_next (Some number)) f2 f3
     → SplitDone f3 (first_after n.prev number first) size cs k taken number offset kind name
 split_chain f f1 f2 f3 first size cs number k taken offset kind name n chain at pos short fresh_cs c1 c2 c3 =
@@ -267,7 +269,9 @@ split_chain f f1 f2 f3 first size cs number k taken offset kind name n chain at 
       split = record { front = s.front; chunk = n.chunk; back = s.back; was = s.is; is = refl };
       chain = record {
         held = held_split number k n.chunk taken offset kind name s.back f f3 s.front r held distinct fresh;
-        starts = first_split s.front k number first n.chunk (front_piece n.chunk taken offset kind number name) s.back ((k, cut_chunk n.chunk taken) ∷ s.back) (ap (λ (ys : List (ℕ × Chunk)). first_or ys None) (sym s.is) ∙ chain.starts)
+        starts =
+            first_split s.front k number first n.chunk (front_piece n.chunk taken offset kind number name) s.back ((k, cut_chunk n.chunk taken) ∷ s.back)
+            (ap (λ (ys : List (ℕ × Chunk)). first_or ys None) (sym s.is) ∙ chain.starts)
             ∙ ap (λ (o : Option ℕ). Some (first_after o number first)) (sym prev);
         covers = covers_split number k n.chunk taken offset kind name s.back s.front 0 size pos short covers;
         distinct = distinct_split number k n.chunk taken offset kind name s.back s.front fresh distinct;
@@ -299,27 +303,28 @@ some_set : (b : Bool) (n : Node) (o : Option Node) → IsSome o → IsSome (cond
 some_set true n o h = search rules
 some_set false n o h = h
 
-pub still_held : (f f1 f2 : ℕ → Option Node) (k m : ℕ) (change : Node → Node) (n : Node) → ChangesAt k change f f1 → SetsAt m (Some n) f1 f2 → (o : Option ℕ) → IfSome o (λ p. IsSome (f p)) → IfSome o (λ p. IsSome (f2 p))
+pub still_held : (f f1 f2 : ℕ → Option Node) (k m : ℕ) (change : Node → Node) (n : Node) → SetsAt m (Some n) f f1 → ChangesAt k change f1 f2 → (o : Option ℕ)
+    → IfSome o (λ p. IsSome (f p)) → IfSome o (λ p. IsSome (f2 p))
 still_held f f1 f2 k m change n c1 c2 None h = h
 still_held f f1 f2 k m change n c1 c2 (Some p) h =
-    subst (λ (o : Option Node). IsSome o) (sym (c2 p)) (some_set (m == p) n (f1 p) (subst (λ (o : Option Node). IsSome o) (sym (c1 p)) (some_changed (k == p) change (f p) h)))
+    subst (λ (o : Option Node). IsSome o) (sym (c2 p)) (some_changed (k == p) change (f1 p) (subst (λ (o : Option Node). IsSome o) (sym (c1 p)) (some_set (m == p) n (f p) h)))
 
 pub split_chain_at : (f f1 f2 f3 : ℕ → Option Node) (first size : ℕ) (cs ds : List (ℕ × Chunk)) (number k taken offset : ℕ) (kind : AllocationType) (name : Name) (start : ℕ) (prev : Option ℕ)
     → IsChain f first size cs → cs ≡ ds → CanSplit ds k taken → 0 < taken → Apart number ds
     → ((n : Node) → f k ≡ Some n → (start ≡ (n.chunk).start) × (prev ≡ n.prev))
-    → ChangesAt k (cut_node taken (Some number)) f f1
-    → SetsAt number (Some (node_of (record { start = start; size = taken; offset = offset; kind = kind; number = number; name = name }) prev (Some k))) f1 f2
+    → SetsAt number (Some (node_of (record { start = start; size = taken; offset = offset; kind = kind; number = number; name = name }) prev (Some k))) f f1
+    → ChangesAt k (cut_node taken (Some number)) f1 f2
     → ChangesAtOpt prev (with_next (Some number)) f2 f3
     → SplitDone f3 (first_after prev number first) size ds k taken number offset kind name
 split_chain_at f f1 f2 f3 first size cs ds number k taken offset kind name start prev chain_cs same can pos fresh ends c1 c2 c3 =
     let chain = subst (λ (ys : List (ℕ × Chunk)). IsChain f first size ys) same chain_cs in
     let r = split_ready f first size ds chain k taken can in
     let e = ends r.0 r.1 in
-    let d2 = subst (λ (s : ℕ). SetsAt number (Some (node_of (record { start = s; size = taken; offset = offset; kind = kind; number = number; name = name }) prev (Some k))) f1 f2) e.0 c2 in
-    let e2 = subst (λ (p : Option ℕ). SetsAt number (Some (node_of (front_piece (r.0).chunk taken offset kind number name) p (Some k))) f1 f2) e.1 d2 in
+    let d2 = subst (λ (s : ℕ). SetsAt number (Some (node_of (record { start = s; size = taken; offset = offset; kind = kind; number = number; name = name }) prev (Some k))) f f1) e.0 c1 in
+    let e2 = subst (λ (p : Option ℕ). SetsAt number (Some (node_of (front_piece (r.0).chunk taken offset kind number name) p (Some k))) f f1) e.1 d2 in
     let e3 = subst (λ (p : Option ℕ). ChangesAtOpt p (with_next (Some number)) f2 f3) e.1 c3 in
     subst (λ (p : Option ℕ). SplitDone f3 (first_after p number first) size ds k taken number offset kind name) (sym e.1)
-    (split_chain f f1 f2 f3 first size ds number k taken offset kind name r.0 chain r.1 pos r.2 fresh c1 e2 e3)
+    (split_chain f f1 f2 f3 first size ds number k taken offset kind name r.0 chain r.1 pos r.2 fresh e2 c2 e3)
 
 pub split_walk : (g : ℕ → Option Node) (first size : ℕ) (cs : List (ℕ × Chunk)) (k taken number offset : ℕ) (kind : AllocationType) (name : Name)
     → SplitDone g first size cs k taken number offset kind name → IsChain g first size (walk size g (Some first)) × IsCut cs k taken number offset kind name (walk size g (Some first))

@@ -4,7 +4,7 @@ use Rattle.std.specs.Option.{option_map}
 use Rattle.std.proofs.lemmas.Bool.{cases_eq}
 use Rattle.std.proofs.lemmas.List.{append_assoc}
 use Rattle.gpu_block_chunks.specs.declared.chunk.Chunk.{Chunk}
-use Rattle.gpu_block_chunks.specs.declared.chain.node.Node.{Node}
+use Rattle.gpu_block_chunks.specs.Chain.{Node}
 use Rattle.gpu_values.specs.declared.allocation_type.AllocationType.{AllocationType}
 use Rattle.gpu_values.specs.declared.allocation_type.AllocationType.TheVariants.{Free}
 use Rattle.gpu_block_chunks.specs.Chain.{used_node, ChangesAt, SetsAt}
@@ -13,7 +13,8 @@ use Rattle.gpu_block_chunks.specs.Chain.{first_or, last_or, node_of, Apart, Dist
 use Rattle.gpu_block_chunks.proofs.Links.{stands_from, same_test, apart_test, apart_front, held_front, held_back, held_join, walk_chain, chain_walk}
 use Rattle.gpu_block_chunks.proofs.Splits.{Same, distinct_back, opt_none, same_from, held_same, among_front, among_back, among_cases}
 
-at_is : (f : ℕ → Option Node) (k first size : ℕ) (front : List (ℕ × Chunk)) (c : Chunk) (back : List (ℕ × Chunk)) → IsChain f first size (front ++ (k, c) ∷ back) → f k ≡ Some (node_of c (last_or None front) (first_or back None))
+at_is : (f : ℕ → Option Node) (k first size : ℕ) (front : List (ℕ × Chunk)) (c : Chunk) (back : List (ℕ × Chunk)) → IsChain f first size (front ++ (k, c) ∷ back)
+    → f k ≡ Some (node_of c (last_or None front) (first_or back None))
 at_is f k first size front c back l = (held_back f None front ((k, c) ∷ back) None l.held).0
 
 pub linked_has : (f : ℕ → Option Node) (k : ℕ) → LinkedAt f k → IsSome (f k)
@@ -70,7 +71,8 @@ module _ (f : ℕ → Option Node) (k : ℕ) (next : Option ℕ) (ends : (n : No
   pub right_none : next ≡ None → JoinsRight k f f
   right_none e = λ first size front c back l.
       let n = back_nil back (sym (next_is first size front c back l) ∙ e) in
-      subst (λ (bs : List (ℕ × Chunk)). IsChain f first size (front ++ (k, right_chunk c bs) ∷ right_rest bs)) (sym n) (subst (λ (bs : List (ℕ × Chunk)). IsChain f first size (front ++ (k, c) ∷ bs)) n l)
+      subst (λ (bs : List (ℕ × Chunk)). IsChain f first size (front ++ (k, right_chunk c bs) ∷ right_rest bs)) (sym n)
+      (subst (λ (bs : List (ℕ × Chunk)). IsChain f first size (front ++ (k, c) ∷ bs)) n l)
 
   module _ (r : ℕ) (e : next ≡ Some r) (b : Bool) (tells : (n : Node) → f r ≡ Some n → b ≡ is_free_kind (n.chunk).kind) where
     kind_is : (first size : ℕ) (front : List (ℕ × Chunk)) (c y : Chunk) (ys : List (ℕ × Chunk)) → IsChain f first size (front ++ (k, c) ∷ (r, y) ∷ ys) → b ≡ is_free_kind y.kind
@@ -152,7 +154,8 @@ module _ (f g : ℕ → Option Node) (k offset : ℕ) (kind : AllocationType) (n
   use_starts [] c d back = refl
   use_starts (x ∷ xs) c d back = refl
 
-  use_covers : (front : List (ℕ × Chunk)) (c : Chunk) (back : List (ℕ × Chunk)) (from to : ℕ) → Covers (chunks_in (front ++ (k, c) ∷ back)) from to → Covers (chunks_in (front ++ (k, filled_chunk c offset kind name) ∷ back)) from to
+  use_covers : (front : List (ℕ × Chunk)) (c : Chunk) (back : List (ℕ × Chunk)) (from to : ℕ) → Covers (chunks_in (front ++ (k, c) ∷ back)) from to
+      → Covers (chunks_in (front ++ (k, filled_chunk c offset kind name) ∷ back)) from to
   use_covers [] c back from to h = h
   use_covers (x ∷ xs) c back from to h = (h.0, h.1, use_covers xs c back (from + (x.1).size) to h.2)
 
@@ -168,7 +171,8 @@ module _ (f g : ℕ → Option Node) (k offset : ℕ) (kind : AllocationType) (n
   use_numbered [] c back h = h
   use_numbered (x ∷ xs) c back h = (h.0, use_numbered xs c back h.1)
 
-  pub linked_use : (first size : ℕ) (front : List (ℕ × Chunk)) (c : Chunk) (back : List (ℕ × Chunk)) → IsChain f first size (front ++ (k, c) ∷ back) → IsChain g first size (front ++ (k, filled_chunk c offset kind name) ∷ back)
+  pub linked_use : (first size : ℕ) (front : List (ℕ × Chunk)) (c : Chunk) (back : List (ℕ × Chunk)) → IsChain f first size (front ++ (k, c) ∷ back)
+      → IsChain g first size (front ++ (k, filled_chunk c offset kind name) ∷ back)
   linked_use first size front c back l =
       let hf = held_front f None front ((k, c) ∷ back) None l.held in
       let hb = held_back f None front ((k, c) ∷ back) None l.held in
@@ -177,7 +181,9 @@ module _ (f g : ℕ → Option Node) (k offset : ℕ) (kind : AllocationType) (n
       let at : g k ≡ Some (node_of (filled_chunk c offset kind name) (last_or None front) (first_or back None)) =
       change k ∙ ap (λ (b : Bool). cond b (option_map (used_node offset kind name) (f k)) (f k)) (same_test k) ∙ ap (λ (o : Option Node). option_map (used_node offset kind name) o) hb.0 in
       record {
-        held = held_join g None front ((k, filled_chunk c offset kind name) ∷ back) None (held_same f g None front (Some k) (use_same front kf) hf) (at, held_same f g (Some k) back None (use_same back kb) hb.1);
+        held =
+            held_join g None front ((k, filled_chunk c offset kind name) ∷ back) None (held_same f g None front (Some k) (use_same front kf) hf)
+            (at, held_same f g (Some k) back None (use_same back kb) hb.1);
         starts = use_starts front c (filled_chunk c offset kind name) back ∙ l.starts;
         covers = use_covers front c back 0 size l.covers;
         distinct = use_distinct front c (filled_chunk c offset kind name) back l.distinct;
@@ -220,7 +226,8 @@ pub opened_has : (f : ℕ → Option Node) (first size : ℕ) (ds : List (ℕ ×
 opened_has f first size ds k o = subst (λ (x : Option Node). IsSome x) (sym (at_is f k first size o.front o.chunk o.back o.linked)) (search rules)
 
 -- the list after another use
-pub fill_done : (f g : ℕ → Option Node) (first size : ℕ) (ds : List (ℕ × Chunk)) (k offset : ℕ) (kind : AllocationType) (name : Name) → (o : Opened f first size ds k) → ChangesAt k (used_node offset kind name) f g
+pub fill_done : (f g : ℕ → Option Node) (first size : ℕ) (ds : List (ℕ × Chunk)) (k offset : ℕ) (kind : AllocationType) (name : Name) → (o : Opened f first size ds k)
+    → ChangesAt k (used_node offset kind name) f g
     → IsChain g first size (walk size g (Some first)) × (walk size g (Some first) ≡ o.front ++ (k, filled_chunk o.chunk offset kind name) ∷ o.back)
 fill_done f g first size ds k offset kind name o change =
     let c = linked_use f g k offset kind name change first size o.front o.chunk o.back o.linked in
@@ -251,10 +258,14 @@ module _ (f f1 : ℕ → Option Node) (first size : ℕ) (ds : List (ℕ × Chun
       fits = fits;
     }
 
-    pub release_done : (f3 : ℕ → Option Node) → JoinsLeft k f2 f3 → IsChain f3 first size (walk size f3 (Some first)) × (walk size f3 (Some first) ≡ glue_left o.front k (right_chunk (freed o.chunk empty) o.back) (right_rest o.back))
+    pub release_done : (f3 : ℕ → Option Node) → JoinsLeft k f2 f3
+        → IsChain f3 first size (walk size f3 (Some first)) × (walk size f3 (Some first) ≡ glue_left o.front k (right_chunk (freed o.chunk empty) o.back) (right_rest o.back))
     release_done f3 left =
-        let c = left first size o.front (right_chunk (freed o.chunk empty) o.back) (right_rest o.back) (joins first size o.front (freed o.chunk empty) o.back released_first) in
-        (walk_chain f3 first size (glue_left o.front k (right_chunk (freed o.chunk empty) o.back) (right_rest o.back)) c, chain_walk f3 first size (glue_left o.front k (right_chunk (freed o.chunk empty) o.back) (right_rest o.back)) c)
+        let c = left first size o.front (right_chunk (freed o.chunk empty) o.back) (right_rest o.back) (joins first size o.front (freed o.chunk empty) o.back released_first) in (
+          walk_chain f3 first size (glue_left o.front k (right_chunk (freed o.chunk empty) o.back) (right_rest o.back)) c,
+          chain_walk f3 first size
+              (glue_left o.front k (right_chunk (freed o.chunk empty) o.back) (right_rest o.back)) c,
+        )
 
 -- ---- a fresh block
 pub fresh_chain : (f g : ℕ → Option Node) (size : ℕ) (c : Chunk) → ((q : ℕ) → f q ≡ None) → SetsAt 1 (Some (node_of c None None)) f g → 0 < size → c.start ≡ 0 → c.size ≡ size → c.number ≡ 1

@@ -6,7 +6,6 @@ use Rattle.std.specs.declared.alloc.Global.{Global}
 use Rattle.gpu_values.specs.declared.allocation_type.AllocationType.{AllocationType}
 use Rattle.gpu_values.specs.declared.allocation_type.AllocationType.TheVariants.{Free, Linear, NonLinear}
 use Rattle.gpu_block_chunks.specs.declared.chunk.Chunk.{Chunk}
-use Rattle.gpu_block_chunks.specs.declared.chain.node.Node.{Node}
 use Rattle.gpu_block_chunks.specs.declared.chain.Beside.{Beside}
 use Rattle.gpu_block_chunks.specs.declared.chain.Around.{Around}
 use Rattle.gpu_block_chunks.specs.ChunkList.{Covers, cut_chunk, filled_chunk, join_back, join_front}
@@ -110,6 +109,12 @@ pub record IsReleased (old : List Chunk) (k : ℕ) (empty : Name) (new : List Ch
   pub is : new ≡ join_front at.front (join_back (filled_chunk chunk chunk.start Free empty) at.back)
 
 -- ---- how the map holds the list: each chunk beside the number that it is held under
+
+-- a chunk, and the numbers of the ones beside it
+pub record Node : Type 0 where
+  pub chunk : Chunk
+  pub prev : Option ℕ
+  pub next : Option ℕ
 
 -- the first number of a list, or else what follows it
 abbrev pub first_or : List (ℕ × Chunk) → Option ℕ → Option ℕ
@@ -282,3 +287,8 @@ ChangesAtOpt o change f g = (q : ℕ) → g q ≡ cond (is_at o q) (option_map c
 
 abbrev pub used_node : ℕ → AllocationType → Name → Node → Node
 used_node offset kind name n = record { chunk = filled_chunk n.chunk offset kind name; prev = n.prev; next = n.next }
+
+-- no node is held under that number, or linked to it
+pub record IsUnlinked (k : ℕ) (f : ℕ → Option Node) : Type 0 where
+  pub none : f k ≡ None
+  pub apart : (q : ℕ) (n : Node) → f q ≡ Some n → (n.prev ≢ Some k) × (n.next ≢ Some k)

@@ -1,4 +1,6 @@
 pub mod ChunkList
 pub mod Chain
+pub mod Slots
+pub mod FreeSlots
 pub mod Nodes
 pub use Rattle.gpu_cost.specs.Cost

@@ -1,15 +1,69 @@
--- The map of a chain's nodes by number, each node in memory of its own.
-use Rattle.std.specs.Prelude.{ℕ, Option, nat_eq}
+-- A chain's chunks in slots, the slot of each number, and links from a chunk to the slots of the ones beside it.
+use Rattle.std.specs.Prelude.{◌≡◌, ℕ, List, Option, Some, None, is_some, IsSomeAnd, IfSome, IsSome, length, count_by, slice_index_or, nat_eq}
 use Rattle.std.specs.Option.{option_map}
-use Rattle.std.specs.Box.{box_value}
-use Rattle.std.specs.HashMap.{get, spare}
-use Rattle.gpu_block_chunks.specs.declared.chain.node.Node.{Node}
-use Rattle.gpu_block_chunks.specs.declared.chain.nodes.Nodes.{Nodes}
+use Rattle.std.specs.Map.{lookup}
+use Rattle.gpu_block_chunks.specs.declared.chain.link.Link.{Link}
+use Rattle.gpu_block_chunks.specs.declared.chain.link.LinkedChunk.{LinkedChunk}
+use Rattle.gpu_block_chunks.specs.Chain.{Node}
+
+-- the slot of each number, the chunk in each slot, and for how many more chunks there is room
+pub record Slotted : Type 0 where
+  pub slots : List (ℕ × ℕ)
+  pub chunks : List (Option LinkedChunk)
+  pub room : ℕ
+
+abbrev pub link_number : Option Link → Option ℕ
+link_number None = None
+link_number (Some link) = Some link.number
+
+-- a chunk with the numbers of the ones beside it, and not their slots
+abbrev pub node_value : LinkedChunk → Node
+node_value n = record { chunk = n.chunk; prev = link_number n.prev; next = link_number n.next }
+
+-- the slot of a number
+abbrev pub slot_in : List (ℕ × ℕ) → ℕ → Option ℕ
+slot_in slots k = lookup (nat_eq k) slots
+
+-- what stands in a slot, if there is one
+abbrev pub stored_in : List (Option LinkedChunk) → Option ℕ → Option LinkedChunk
+stored_in chunks None = None
+stored_in chunks (Some s) = slice_index_or chunks s None
+
+-- the chunk of a number, with its links
+abbrev pub stored_at : Slotted → ℕ → Option LinkedChunk
+stored_at nodes k = stored_in nodes.chunks (slot_in nodes.slots k)
 
 -- the node that is held under a number
-abbrev pub held_at : Nodes → ℕ → Option Node
-held_at nodes k = option_map box_value (get nat_eq nodes.map k)
+abbrev pub held_at : Slotted → ℕ → Option Node
+held_at nodes k = option_map node_value (stored_at nodes k)
 
 -- for how many more nodes there is room
-abbrev pub room_of : Nodes → ℕ
-room_of nodes = spare nodes.map
+abbrev pub room_of : Slotted → ℕ
+room_of nodes = nodes.room
+
+-- where the chunk that a link names is held, it stands in the link's slot
+abbrev pub LeadsIn : List (ℕ × ℕ) → Option Link → Type 0
+LeadsIn slots None = Unit {0}
+LeadsIn slots (Some link) = (s : ℕ) → slot_in slots link.number ≡ Some s → link.slot ≡ s
+
+abbrev pub Leads : Slotted → Option Link → Type 0
+Leads nodes link = LeadsIn nodes.slots link
+
+-- the chunk that a link names is held, and stands in the link's slot
+abbrev pub Reaches : Slotted → Option Link → Type 0
+Reaches nodes link = Leads nodes link × IfSome (link_number link) (λ k. IsSome (held_at nodes k))
+
+-- each link that led right still does
+abbrev pub KeepsLinks : Slotted → Slotted → Type 0
+KeepsLinks old new = (link : Option Link) → Leads old link → Leads new link
+
+-- each link to a chunk that was held leads right
+abbrev pub KeepsReached : Slotted → Slotted → Type 0
+KeepsReached old new = (link : Option Link) → Reaches old link → Leads new link
+
+-- each number's slot has its chunk, no slot is taken beside these, and the links of a chunk lead right
+pub record AreSound (slots : List (ℕ × ℕ)) (chunks : List (Option LinkedChunk)) : Type 0 where
+  pub numbered : (k s : ℕ) → slot_in slots k ≡ Some s → IsSomeAnd (stored_in chunks (Some s)) (λ n. (n.chunk).number ≡ k)
+  pub counted : count_by is_some chunks ≡ length slots
+  pub prev : (k : ℕ) (n : LinkedChunk) → stored_in chunks (slot_in slots k) ≡ Some n → LeadsIn slots n.prev
+  pub next : (k : ℕ) (n : LinkedChunk) → stored_in chunks (slot_in slots k) ≡ Some n → LeadsIn slots n.next

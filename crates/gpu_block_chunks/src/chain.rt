@@ -1,21 +1,24 @@
-//! The chunks of a block, in a hashed map by number, each linked to the ones beside it.
+//! The chunks of a block, in slots that a hashed map finds by number, each linked to the slots of the ones beside it.
 
-ghost use Rattle.std.specs.Prelude.{◌≡◌, ◌+◌, ◌-◌, ◌<◌, ◌≤◌, is_some, if◌then◌else◌, IfOk, OnOk, IsOk, MatchOption, Some, None};
-ghost use Rattle.std.specs.Option.{option_copied};
+ghost use Rattle.std.specs.Prelude.{◌≡◌, ◌+◌, ◌-◌, ◌<◌, ◌≤◌, is_some, if◌then◌else◌, IfSome, IfOk, OnOk, IsOk, MatchOption, Some, None};
+ghost use Rattle.std.specs.Option.{option_copied, option_map};
 ghost use Rattle.gpu_cost.specs.Cost.{LooksUp, LooksUpBetween};
-ghost use Rattle.gpu_block_chunks.specs.Nodes.{held_at};
+ghost use Rattle.gpu_block_chunks.specs.Nodes.{held_at, node_value, link_number, Leads, Reaches};
 ghost use Rattle.gpu_block_chunks.specs.ChunkList.{Covers, AreDistinct};
 ghost use Rattle.gpu_block_chunks.specs.Chain.{HasNumber, HasNoNumber, IsAround, neighbours, IsSplit, IsFilled, IsReleased, from_number, beside, beside_of, first_after, IsChunkAt, IsFresh, IsLonger};
 
+mod link;
 mod new_chunk;
 mod node;
 mod nodes;
+mod slots;
 
 use crate::chunk::Chunk;
 use gpu_cost::Cost;
 use gpu_values::AllocationType;
+use link::{Link, LinkedChunk, number_of};
 pub use new_chunk::NewChunk;
-use node::{Node, cut_front, ends_of, join_left, join_right, set_next_of, set_use};
+use node::{cut_front, ends_of, join_left, join_right, linked_at, set_next_of, set_use};
 use nodes::Nodes;
 use std::alloc::{AllocError, Global};
 use std::marker::Model;
@@ -62,8 +65,9 @@ impl Model for Chain {
 }
 
 /// The one way to read a chunk by its number.
-fn node_at<'a>(nodes: &'a Nodes, number: u64, cost: &mut Cost) -> Option<&'a Node>
-    ensures value { option_copied result ≡ held_at nodes.now number }
+fn node_at<'a>(nodes: &'a Nodes, number: u64, cost: &mut Cost) -> Option<&'a LinkedChunk>
+    ensures value { option_map node_value (option_copied result) ≡ held_at nodes.now number }
+    ensures links { IfSome result (λ n. Leads nodes.now n.now.prev × Leads nodes.now n.now.next) }
     ensures counted { LooksUp 1 cost.old cost.new }
 {
     cost.look_up();
@@ -81,14 +85,14 @@ fn short(chunk: &Chunk) -> Beside
     }
 }
 
-/// The chunk of a number, where there is one.
-fn beside_at(nodes: &Nodes, number: Option<u64>, cost: &mut Cost) -> Option<Beside>
-    ensures value { result ≡ beside_of (held_at nodes.now) number }
-    ensures counted { LooksUp (if is_some number then 1 else 0) cost.old cost.new }
+/// The chunk that a link leads to, if it is one.
+fn beside_at(nodes: &Nodes, link: Option<Link>, cost: &mut Cost) -> Option<Beside>
+    requires { Reaches nodes.now link }
+    ensures value { result ≡ beside_of (held_at nodes.now) (link_number link) }
+    ensures counted { LooksUp (if is_some link then 1 else 0) cost.old cost.new }
 {
-    let number = number?;
-    let node = node_at(nodes, number, cost)?;
-    Some(short(&node.chunk))
+    let link = link?;
+    Some(short(&linked_at(nodes, link, cost).chunk))
 }
 
 /// The number of the first chunk, after one was put behind `prev`.
@@ -115,7 +119,7 @@ impl Chain {
             number: 1,
         };
         let chunk = NewChunk::new(alloc, String::new(alloc))?;
-        nodes.put(1, chunk.node(here, 0, None, None));
+        nodes.put(1, chunk.linked(here, 0, None, None));
         Ok(Chain {
             nodes,
             first: 1,
@@ -146,7 +150,7 @@ impl Chain {
     {
         let _size = self.size;
         let node = node_at(&self.nodes, number, cost)?;
-        Some((&node.chunk, node.next))
+        Some((&node.chunk, number_of(node.next)))
     }
 
     /// The chunk of that number, and what stands beside it.
@@ -198,8 +202,8 @@ impl Chain {
         ensures counted { LooksUpBetween 3 4 cost.old cost.new }
     {
         let _size = self.size;
-        let ends = ends_of(&self.nodes, number, cost);
-        cut_front(&mut self.nodes, number, taken, Some(new), cost);
+        let rest = self.nodes.link_to(number);
+        let ends = ends_of(&self.nodes, rest, cost);
         let here = Beside {
             start: ends.start,
             size: taken,
@@ -207,10 +211,12 @@ impl Chain {
             number: new,
         };
         cost.look_up();
-        self.nodes
-            .put(new, chunk.node(here, offset, ends.prev, Some(number)));
-        set_next_of(&mut self.nodes, ends.prev, Some(new), cost);
-        self.first = first_of(ends.prev, new, self.first);
+        let piece = self
+            .nodes
+            .put(new, chunk.linked(here, offset, ends.prev, Some(rest)));
+        cut_front(&mut self.nodes, rest, taken, Some(piece), cost);
+        set_next_of(&mut self.nodes, ends.prev, Some(piece), cost);
+        self.first = first_of(number_of(ends.prev), new, self.first);
     }
 
     /// Gives a chunk another offset, kind and name. It takes no memory.
@@ -227,7 +233,8 @@ impl Chain {
         ensures size { self.new.size ≡ self.old.size }
         ensures counted { LooksUp 1 cost.old cost.new }
     {
-        set_use(&mut self.nodes, number, offset, kind, name, cost);
+        let at = self.nodes.link_to(number);
+        set_use(&mut self.nodes, at, offset, kind, name, cost);
         let _size = self.size;
     }
 
@@ -239,16 +246,17 @@ impl Chain {
         ensures counted { LooksUpBetween 4 12 cost.old cost.new }
     {
         let _size = self.size;
-        let start = ends_of(&self.nodes, number, cost).start;
+        let at = self.nodes.link_to(number);
+        let start = ends_of(&self.nodes, at, cost).start;
         set_use(
             &mut self.nodes,
-            number,
+            at,
             start,
             AllocationType::Free,
             empty,
             cost,
         );
-        join_right(&mut self.nodes, number, cost);
-        join_left(&mut self.nodes, number, cost);
+        join_right(&mut self.nodes, at, cost);
+        join_left(&mut self.nodes, at, cost);
     }
 }

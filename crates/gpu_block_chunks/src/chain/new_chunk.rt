@@ -2,19 +2,18 @@
 
 ghost use Rattle.std.specs.Prelude.{◌≡◌, IfOk};
 ghost use Rattle.gpu_block_chunks.specs.Chain.{node_of};
+ghost use Rattle.gpu_block_chunks.specs.Nodes.{node_value, link_number};
 
 use super::Beside;
-use super::node::Node;
+use super::link::{Link, LinkedChunk};
 use crate::chunk::Chunk;
-use gpu_values::AllocationType;
 use std::alloc::{AllocError, Global};
 use std::marker::Model;
 
-/// The name of a chunk that is in no chain yet, and memory for its node.
+/// The name of a chunk that is in no chain yet.
 #[derive(Drop)]
 pub struct NewChunk {
     name: String,
-    memory: Box<Node>,
 }
 
 impl Model for NewChunk {
@@ -26,42 +25,28 @@ impl Model for NewChunk {
 }
 
 impl NewChunk {
-    /// A chunk that will have that name. It takes the memory that a chain needs for it, but for the room of its map.
-    pub fn new(alloc: Global, name: String) -> Result<NewChunk, AllocError>
+    /// A chunk that will have that name. What a chain needs for it beside the name is the room that `Chain::reserve` makes, so it
+    /// takes no memory and is not refused.
+    pub fn new(_alloc: Global, name: String) -> Result<NewChunk, AllocError>
         ensures { IfOk result (λ n. n ≡ name) }
     {
-        let nothing = Chunk {
-            start: 0,
-            size: 0,
-            offset: 0,
-            kind: AllocationType::Free,
-            number: 0,
-            name: String::new(alloc),
-        };
-        let memory = Box::new(
-            alloc,
-            Node {
-                chunk: nothing,
-                prev: None,
-                next: None,
-            },
-        )?;
-        Ok(NewChunk { name, memory })
+        Ok(NewChunk { name })
     }
 
-    /// Its node, where it stands there and these are beside it.
-    pub(super) fn node(
+    /// The chunk, where it stands there and these are beside it.
+    pub(super) fn linked(
         self,
         here: Beside,
         offset: u64,
-        prev: Option<u64>,
-        next: Option<u64>,
-    ) -> Box<Node>
-        ensures { result.value ≡ node_of
+        prev: Option<Link>,
+        next: Option<Link>,
+    ) -> LinkedChunk
+        ensures links { (result.prev ≡ prev) × (result.next ≡ next) }
+        ensures value { node_value result ≡ node_of
             (record { start = here.start; size = here.size; offset = offset; kind = here.kind; number = here.number; name = self })
-            prev next }
+            (link_number prev) (link_number next) }
     {
-        let NewChunk { name, mut memory } = self;
+        let NewChunk { name } = self;
         let chunk = Chunk {
             start: here.start,
             size: here.size,
@@ -70,7 +55,6 @@ impl NewChunk {
             number: here.number,
             name,
         };
-        let _ = Box::replace(&mut memory, Node { chunk, prev, next });
-        memory
+        LinkedChunk { chunk, prev, next }
     }
 }

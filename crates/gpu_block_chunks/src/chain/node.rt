@@ -1,218 +1,237 @@
-//! The steps that change the map of a chain.
+//! The steps that change the chunks of a chain. Each goes straight to the slots of the chunks that it reads and writes.
 
 ghost use Rattle.std.specs.Prelude.{◌≡◌, ◌+◌, ◌-◌, ◌^◌, ◌<◌, ◌≤◌, is_some, if◌then◌else◌, IsSome, IsSomeAnd, IfSome, Some};
 ghost use Rattle.gpu_cost.specs.Cost.{LooksUp, LooksUpBetween};
-ghost use Rattle.gpu_block_chunks.specs.Nodes.{held_at, room_of};
-ghost use Rattle.gpu_block_chunks.specs.Chain.{CanJoin, JoinsNext, JoinsRight, JoinsLeft, LinkedAt, is_free_kind, ChangesAt, ChangesAtOpt, with_next, with_prev, cut_node, joined_node, used_node};
+ghost use Rattle.gpu_block_chunks.specs.Nodes.{held_at, room_of, node_value, link_number, Leads, Reaches, KeepsLinks};
+ghost use Rattle.gpu_block_chunks.specs.Chain.{Node, CanJoin, JoinsNext, JoinsRight, JoinsLeft, LinkedAt, is_free_kind};
+ghost use Rattle.gpu_block_chunks.specs.Chain.{ChangesAt, ChangesAtOpt, with_next, with_prev, cut_node, joined_node, used_node};
 
+use super::link::{Link, LinkedChunk};
 use super::nodes::Nodes;
-use crate::chunk::Chunk;
 use gpu_cost::Cost;
 use gpu_values::AllocationType;
 
-/// A chunk, and the numbers of the ones beside it.
-#[derive(Drop)]
-pub struct Node {
-    pub chunk: Chunk,
-    pub prev: Option<u64>,
-    pub next: Option<u64>,
+/// The one way to read a chunk that a link leads to.
+pub fn linked_at<'a>(nodes: &'a Nodes, at: Link, cost: &mut Cost) -> &'a LinkedChunk
+    requires { Reaches nodes.now (Some at) }
+    ensures value { held_at nodes.now at.number ≡ Some (node_value result.now) }
+    ensures links { Leads nodes.now result.now.prev × Leads nodes.now result.now.next }
+    ensures counted { LooksUp 1 cost.old cost.new }
+{
+    cost.look_up();
+    nodes.linked(at)
 }
 
 /// Links a chunk to another next one.
-pub fn set_next(nodes: &mut Nodes, number: u64, next: Option<u64>, cost: &mut Cost)
-    requires { IsSome (held_at nodes.old number) }
-    ensures changes { ChangesAt number (with_next next) (held_at nodes.old) (held_at nodes.new) }
+pub fn set_next(nodes: &mut Nodes, at: Link, next: Option<Link>, cost: &mut Cost)
+    requires there { Reaches nodes.old (Some at) }
+    requires next { Leads nodes.old next }
+    ensures changes { ChangesAt at.number (with_next (link_number next)) (held_at nodes.old) (held_at nodes.new) }
+    ensures slots { nodes.new.slots ≡ nodes.old.slots }
     ensures room { room_of nodes.new ≡ room_of nodes.old }
     ensures counted { LooksUp 1 cost.old cost.new }
 {
     cost.look_up();
-    match nodes.map.get_mut(&number) {
-        Some(node) => node.next = next,
+    match nodes.chunks.get_mut(at.slot) {
+        Some(linked) => linked.next = next,
         None => unreachable!(),
     }
 }
 
 /// Links a chunk to another one before it.
-pub fn set_prev(nodes: &mut Nodes, number: u64, prev: Option<u64>, cost: &mut Cost)
-    requires { IsSome (held_at nodes.old number) }
-    ensures changes { ChangesAt number (with_prev prev) (held_at nodes.old) (held_at nodes.new) }
+pub fn set_prev(nodes: &mut Nodes, at: Link, prev: Option<Link>, cost: &mut Cost)
+    requires there { Reaches nodes.old (Some at) }
+    requires prev { Leads nodes.old prev }
+    ensures changes { ChangesAt at.number (with_prev (link_number prev)) (held_at nodes.old) (held_at nodes.new) }
+    ensures slots { nodes.new.slots ≡ nodes.old.slots }
     ensures room { room_of nodes.new ≡ room_of nodes.old }
     ensures counted { LooksUp 1 cost.old cost.new }
 {
     cost.look_up();
-    match nodes.map.get_mut(&number) {
-        Some(node) => node.prev = prev,
+    match nodes.chunks.get_mut(at.slot) {
+        Some(linked) => linked.prev = prev,
         None => unreachable!(),
     }
 }
 
 /// Takes that much off a chunk's front.
-pub fn cut_front(nodes: &mut Nodes, number: u64, taken: u64, prev: Option<u64>, cost: &mut Cost)
-    requires { IsSomeAnd (held_at nodes.old number) (λ n. (taken < (n.chunk).size) × ((n.chunk).start + (n.chunk).size < 2 ^ 64)) }
-    ensures changes { ChangesAt number (cut_node taken prev) (held_at nodes.old) (held_at nodes.new) }
+pub fn cut_front(nodes: &mut Nodes, at: Link, taken: u64, prev: Option<Link>, cost: &mut Cost)
+    requires longer { IsSomeAnd (held_at nodes.old at.number) (λ n. (taken < (n.chunk).size) × ((n.chunk).start + (n.chunk).size < 2 ^ 64)) }
+    requires leads { Leads nodes.old (Some at) }
+    requires prev { Leads nodes.old prev }
+    ensures changes { ChangesAt at.number (cut_node taken (link_number prev)) (held_at nodes.old) (held_at nodes.new) }
+    ensures slots { nodes.new.slots ≡ nodes.old.slots }
     ensures room { room_of nodes.new ≡ room_of nodes.old }
     ensures counted { LooksUp 1 cost.old cost.new }
 {
     cost.look_up();
-    match nodes.map.get_mut(&number) {
-        Some(node) => {
-            let chunk = &mut node.chunk;
+    match nodes.chunks.get_mut(at.slot) {
+        Some(linked) => {
+            let chunk = &mut linked.chunk;
             let start = chunk.start + taken;
             chunk.start = start;
             chunk.size -= taken;
             chunk.offset = start;
-            node.prev = prev;
+            linked.prev = prev;
         }
         None => unreachable!(),
     }
 }
 
 /// Makes a chunk longer.
-pub fn lengthen(nodes: &mut Nodes, number: u64, more: u64, next: Option<u64>, cost: &mut Cost)
-    requires { IsSomeAnd (held_at nodes.old number) (λ n. (n.chunk).size + more < 2 ^ 64) }
-    ensures changes { ChangesAt number (joined_node more next) (held_at nodes.old) (held_at nodes.new) }
+pub fn lengthen(nodes: &mut Nodes, at: Link, more: u64, next: Option<Link>, cost: &mut Cost)
+    requires fits { IsSomeAnd (held_at nodes.old at.number) (λ n. (n.chunk).size + more < 2 ^ 64) }
+    requires leads { Leads nodes.old (Some at) }
+    requires next { Leads nodes.old next }
+    ensures changes { ChangesAt at.number (joined_node more (link_number next)) (held_at nodes.old) (held_at nodes.new) }
+    ensures slots { nodes.new.slots ≡ nodes.old.slots }
     ensures room { room_of nodes.new ≡ room_of nodes.old }
     ensures counted { LooksUp 1 cost.old cost.new }
 {
     cost.look_up();
-    match nodes.map.get_mut(&number) {
-        Some(node) => {
-            node.chunk.size += more;
-            node.next = next;
+    match nodes.chunks.get_mut(at.slot) {
+        Some(linked) => {
+            linked.chunk.size += more;
+            linked.next = next;
         }
         None => unreachable!(),
     }
 }
 
-/// The same for the chunk of a number, if it is one.
-pub fn set_next_of(nodes: &mut Nodes, number: Option<u64>, next: Option<u64>, cost: &mut Cost)
-    requires { IfSome number (λ k. IsSome (held_at nodes.old k)) }
-    ensures changes { ChangesAtOpt number (with_next next) (held_at nodes.old) (held_at nodes.new) }
+/// The same for the chunk that a link leads to, if it is one.
+pub fn set_next_of(nodes: &mut Nodes, at: Option<Link>, next: Option<Link>, cost: &mut Cost)
+    requires there { Reaches nodes.old at }
+    requires next { Leads nodes.old next }
+    ensures changes { ChangesAtOpt (link_number at) (with_next (link_number next)) (held_at nodes.old) (held_at nodes.new) }
+    ensures slots { nodes.new.slots ≡ nodes.old.slots }
     ensures room { room_of nodes.new ≡ room_of nodes.old }
-    ensures counted { LooksUp (if is_some number then 1 else 0) cost.old cost.new }
+    ensures counted { LooksUp (if is_some at then 1 else 0) cost.old cost.new }
 {
-    if let Some(number) = number {
-        set_next(nodes, number, next, cost);
+    if let Some(at) = at {
+        set_next(nodes, at, next, cost);
     }
 }
 
-/// The same for the chunk of a number, if it is one.
-pub fn set_prev_of(nodes: &mut Nodes, number: Option<u64>, prev: Option<u64>, cost: &mut Cost)
-    requires { IfSome number (λ k. IsSome (held_at nodes.old k)) }
-    ensures changes { ChangesAtOpt number (with_prev prev) (held_at nodes.old) (held_at nodes.new) }
+/// The same for the chunk that a link leads to, if it is one.
+pub fn set_prev_of(nodes: &mut Nodes, at: Option<Link>, prev: Option<Link>, cost: &mut Cost)
+    requires there { Reaches nodes.old at }
+    requires prev { Leads nodes.old prev }
+    ensures changes { ChangesAtOpt (link_number at) (with_prev (link_number prev)) (held_at nodes.old) (held_at nodes.new) }
+    ensures slots { nodes.new.slots ≡ nodes.old.slots }
     ensures room { room_of nodes.new ≡ room_of nodes.old }
-    ensures counted { LooksUp (if is_some number then 1 else 0) cost.old cost.new }
+    ensures counted { LooksUp (if is_some at then 1 else 0) cost.old cost.new }
 {
-    if let Some(number) = number {
-        set_prev(nodes, number, prev, cost);
+    if let Some(at) = at {
+        set_prev(nodes, at, prev, cost);
     }
 }
 
-/// The start of a chunk, and the numbers of the ones beside it.
+/// The start of a chunk, and where the ones beside it are found.
 #[derive(Clone, Copy)]
 pub struct Ends {
     pub start: u64,
-    pub prev: Option<u64>,
-    pub next: Option<u64>,
+    pub prev: Option<Link>,
+    pub next: Option<Link>,
 }
 
-/// Where the chunk of that number stands.
-pub fn ends_of(nodes: &Nodes, number: u64, cost: &mut Cost) -> Ends
-    requires { IsSome (held_at nodes.now number) }
-    ensures ends { (n : Node) → held_at nodes.now number ≡ Some n → (result.start ≡ (n.chunk).start) × (result.prev ≡ n.prev) × (result.next ≡ n.next) }
+/// Where the chunk that a link leads to stands.
+pub fn ends_of(nodes: &Nodes, at: Link, cost: &mut Cost) -> Ends
+    requires { Reaches nodes.now (Some at) }
+    ensures ends { (n : Node) → held_at nodes.now at.number ≡ Some n →
+        (result.start ≡ (n.chunk).start) × (link_number result.prev ≡ n.prev) × (link_number result.next ≡ n.next) }
+    ensures links { Leads nodes.now result.prev × Leads nodes.now result.next }
     ensures counted { LooksUp 1 cost.old cost.new }
 {
-    cost.look_up();
-    match nodes.get(number) {
-        Some(node) => Ends {
-            start: node.chunk.start,
-            prev: node.prev,
-            next: node.next,
-        },
-        None => unreachable!(),
+    let linked = linked_at(nodes, at, cost);
+    Ends {
+        start: linked.chunk.start,
+        prev: linked.prev,
+        next: linked.next,
     }
 }
 
 /// Makes one chunk of two neighbours. It takes no memory.
-pub fn join_next(nodes: &mut Nodes, left: u64, right: u64, cost: &mut Cost)
-    requires { CanJoin (held_at nodes.old) left right }
-    ensures joins { JoinsNext left right (held_at nodes.old) (held_at nodes.new) }
+pub fn join_next(nodes: &mut Nodes, left: Link, right: Link, cost: &mut Cost)
+    requires joins { CanJoin (held_at nodes.old) left.number right.number }
+    requires leads { Leads nodes.old (Some left) × Leads nodes.old (Some right) }
+    ensures joins { JoinsNext left.number right.number (held_at nodes.old) (held_at nodes.new) }
+    ensures kept { KeepsLinks nodes.old nodes.new }
     ensures room { room_of nodes.old ≤ room_of nodes.new }
     ensures counted { LooksUpBetween 2 3 cost.old cost.new }
 {
     cost.look_up();
-    let node = nodes.take_out(right);
-    lengthen(nodes, left, node.chunk.size, node.next, cost);
-    set_prev_of(nodes, node.next, Some(left), cost);
+    let gone = nodes.take_out(right);
+    lengthen(nodes, left, gone.chunk.size, gone.next, cost);
+    set_prev_of(nodes, gone.next, Some(left), cost);
 }
 
 /// Gives a chunk another use.
 pub fn set_use(
     nodes: &mut Nodes,
-    number: u64,
+    at: Link,
     offset: u64,
     kind: AllocationType,
     name: String,
     cost: &mut Cost,
 )
-    requires { IsSome (held_at nodes.old number) }
-    ensures changes { ChangesAt number (used_node offset kind name) (held_at nodes.old) (held_at nodes.new) }
+    requires { Reaches nodes.old (Some at) }
+    ensures changes { ChangesAt at.number (used_node offset kind name) (held_at nodes.old) (held_at nodes.new) }
+    ensures slots { nodes.new.slots ≡ nodes.old.slots }
     ensures room { room_of nodes.new ≡ room_of nodes.old }
     ensures counted { LooksUp 1 cost.old cost.new }
 {
     cost.look_up();
-    match nodes.map.get_mut(&number) {
-        Some(node) => {
-            node.chunk.offset = offset;
-            node.chunk.kind = kind;
-            node.chunk.name = name;
+    match nodes.chunks.get_mut(at.slot) {
+        Some(linked) => {
+            linked.chunk.offset = offset;
+            linked.chunk.kind = kind;
+            linked.chunk.name = name;
         }
         None => unreachable!(),
     }
 }
 
-/// Whether the chunk of that number is free.
-pub fn is_free_at(nodes: &Nodes, number: u64, cost: &mut Cost) -> bool
-    requires { IsSome (held_at nodes.now number) }
-    ensures free { (n : Node) → held_at nodes.now number ≡ Some n → result ≡ is_free_kind (n.chunk).kind }
+/// Whether the chunk that a link leads to is free.
+pub fn is_free_at(nodes: &Nodes, at: Link, cost: &mut Cost) -> bool
+    requires { Reaches nodes.now (Some at) }
+    ensures free { (n : Node) → held_at nodes.now at.number ≡ Some n → result ≡ is_free_kind (n.chunk).kind }
     ensures counted { LooksUp 1 cost.old cost.new }
 {
-    cost.look_up();
-    match nodes.get(number) {
-        Some(node) => match node.chunk.kind {
-            AllocationType::Free => true,
-            AllocationType::Linear | AllocationType::NonLinear => false,
-        },
-        None => unreachable!(),
+    match linked_at(nodes, at, cost).chunk.kind {
+        AllocationType::Free => true,
+        AllocationType::Linear | AllocationType::NonLinear => false,
     }
 }
 
 /// Joins a chunk with the next one, if that is free.
-pub fn join_right(nodes: &mut Nodes, number: u64, cost: &mut Cost)
-    requires { LinkedAt (held_at nodes.old) number }
-    ensures joins { JoinsRight number (held_at nodes.old) (held_at nodes.new) }
+pub fn join_right(nodes: &mut Nodes, at: Link, cost: &mut Cost)
+    requires linked { LinkedAt (held_at nodes.old) at.number }
+    requires leads { Leads nodes.old (Some at) }
+    ensures joins { JoinsRight at.number (held_at nodes.old) (held_at nodes.new) }
+    ensures kept { KeepsLinks nodes.old nodes.new }
     ensures room { room_of nodes.old ≤ room_of nodes.new }
     ensures counted { LooksUpBetween 1 5 cost.old cost.new }
 {
-    let ends = ends_of(nodes, number, cost);
+    let ends = ends_of(nodes, at, cost);
     if let Some(right) = ends.next {
         if is_free_at(nodes, right, cost) {
-            join_next(nodes, number, right, cost);
+            join_next(nodes, at, right, cost);
         }
     }
 }
 
 /// Joins a chunk with the one before it, if that is free.
-pub fn join_left(nodes: &mut Nodes, number: u64, cost: &mut Cost)
-    requires { LinkedAt (held_at nodes.old) number }
-    ensures joins { JoinsLeft number (held_at nodes.old) (held_at nodes.new) }
+pub fn join_left(nodes: &mut Nodes, at: Link, cost: &mut Cost)
+    requires linked { LinkedAt (held_at nodes.old) at.number }
+    requires leads { Leads nodes.old (Some at) }
+    ensures joins { JoinsLeft at.number (held_at nodes.old) (held_at nodes.new) }
     ensures room { room_of nodes.old ≤ room_of nodes.new }
     ensures counted { LooksUpBetween 1 5 cost.old cost.new }
 {
-    let ends = ends_of(nodes, number, cost);
+    let ends = ends_of(nodes, at, cost);
     if let Some(left) = ends.prev {
         if is_free_at(nodes, left, cost) {
-            join_next(nodes, left, number, cost);
+            join_next(nodes, left, at, cost);
         }
     }
 }

@@ -1,79 +1,135 @@
-//! The map of a chain's nodes by number.
+//! The chunks of a chain in slots, and the slot of each number.
 
-ghost use Rattle.std.specs.Prelude.{◌≡◌, ℕ, ◌+◌, ◌≤◌, ◌<◌, IsSome, IfOk, OnOk, Some, None};
-ghost use Rattle.std.specs.Option.{option_copied};
-ghost use Rattle.gpu_block_chunks.specs.Chain.{SetsAt};
-ghost use Rattle.gpu_block_chunks.specs.Nodes.{held_at, room_of};
+ghost use Rattle.std.specs.Prelude.{◌≡◌, ℕ, ◌+◌, ◌≤◌, ◌<◌, IsSome, IfOk, OnOk, IfSome, Some, None};
+ghost use Rattle.std.specs.Option.{option_copied, option_map};
+ghost use Rattle.gpu_block_chunks.specs.Chain.{SetsAt, IsUnlinked};
+ghost use Rattle.gpu_block_chunks.specs.Nodes.{held_at, room_of, node_value, Leads, Reaches, KeepsLinks, KeepsReached};
 
-use super::node::Node;
+use super::link::{Link, LinkedChunk};
+use super::slots::Slots;
 use std::alloc::{AllocError, Global};
 use std::collections::HashMap;
+use std::marker::Model;
 
-/// The nodes of a chain by number, each in memory of its own: where the map's room doubles, it is room for no more than
-/// where a node is.
+/// The chunks of a chain, each in a slot of its own, and the slot of each number. A chunk keeps its slot until it is taken out;
+/// then the slot is the first to be used again.
 #[derive(Drop)]
 pub struct Nodes {
-    pub(super) map: HashMap<u64, Box<Node>>,
+    pub(super) slots: HashMap<u64, usize>,
+    pub(super) chunks: Slots,
+}
+
+impl Model for Nodes {
+    ghost use Rattle.std.specs.Prelude.{min};
+    ghost use Rattle.std.specs.HashMap.{spare};
+    ghost use Rattle.gpu_block_chunks.specs.Nodes.{Slotted, AreSound};
+
+    ghost Value = { Slotted };
+
+    ghost view = { λ n. record {
+      slots = n.slots.entries;
+      chunks = n.chunks.slots;
+      room = min (spare n.slots) n.chunks.room;
+    } };
+
+    ghost invariant = { λ n. AreSound n.slots.entries n.chunks.slots };
 }
 
 impl Nodes {
-    /// No nodes, and room for that many.
+    /// No chunks, and room for that many.
     pub fn with_capacity(alloc: Global, capacity: usize) -> Result<Nodes, AllocError>
         ensures none { IfOk result (λ n. (k : ℕ) → held_at n k ≡ None) }
         ensures room { IfOk result (λ n. capacity ≤ room_of n) }
     {
-        let map = HashMap::with_capacity(alloc, capacity)?;
-        Ok(Nodes { map })
+        let slots = HashMap::with_capacity(alloc, capacity)?;
+        let chunks = Slots::with_capacity(alloc, capacity)?;
+        Ok(Nodes { slots, chunks })
     }
 
-    /// The node of a number.
-    pub fn get(&self, number: u64) -> Option<&Node>
-        ensures { option_copied result ≡ held_at self.now number }
+    /// The chunk of a number.
+    pub fn get(&self, number: u64) -> Option<&LinkedChunk>
+        ensures value { option_map node_value (option_copied result) ≡ held_at self.now number }
+        ensures links { IfSome result (λ n. Leads self.now n.now.prev × Leads self.now n.now.next) }
     {
-        match self.map.get(&number) {
-            Some(node) => Some(&**node),
-            None => None,
+        let slot = self.slots.get(&number)?;
+        self.chunks.get(*slot)
+    }
+
+    /// Where the chunk of a number is found.
+    pub fn link_to(&self, number: u64) -> Link
+        requires { IsSome (held_at self.now number) }
+        ensures number { result.number ≡ number }
+        ensures leads { Leads self.now (Some result) }
+    {
+        match self.slots.get(&number) {
+            Some(slot) => Link {
+                number,
+                slot: *slot,
+            },
+            None => unreachable!(),
         }
     }
 
-    /// For how many more nodes there is room.
+    /// The chunk that a link leads to.
+    pub fn linked(&self, link: Link) -> &LinkedChunk
+        requires { Reaches self.now (Some link) }
+        ensures value { held_at self.now link.number ≡ Some (node_value result.now) }
+        ensures links { Leads self.now result.now.prev × Leads self.now result.now.next }
+    {
+        let _slots = &self.slots;
+        match self.chunks.get(link.slot) {
+            Some(chunk) => chunk,
+            None => unreachable!(),
+        }
+    }
+
+    /// For how many more chunks there is room.
     pub fn room(&self) -> usize
         ensures { result ≡ room_of self.now }
     {
-        self.map.capacity() - self.map.len()
+        let slots = self.slots.capacity() - self.slots.len();
+        slots.min(self.chunks.room())
     }
 
-    /// Makes room for that many more nodes. A refusal changes no node.
+    /// Makes room for that many more chunks. A refusal changes no chunk.
     pub fn reserve(&mut self, more: usize) -> Result<(), AllocError>
         ensures same { (k : ℕ) → held_at self.new k ≡ held_at self.old k }
         ensures room { OnOk result (more ≤ room_of self.new) }
         ensures kept { room_of self.old ≤ room_of self.new }
     {
-        self.map.reserve(more)
+        self.slots.reserve(more)?;
+        self.chunks.reserve(more)
     }
 
-    /// Puts a node under a number that no other has. There is room for it, so no memory is taken.
-    pub fn put(&mut self, number: u64, node: Box<Node>)
+    /// Puts a chunk under its number, which no other has. There is room for it, so no memory is taken.
+    pub fn put(&mut self, number: u64, chunk: LinkedChunk) -> Link
         requires room { 0 < room_of self.old }
-        ensures sets { SetsAt number (Some node.value) (held_at self.old) (held_at self.new) }
+        requires numbered { (chunk.chunk).number ≡ number }
+        requires unlinked { IsUnlinked number (held_at self.old) }
+        requires prev { Reaches self.old chunk.prev }
+        requires next { Reaches self.old chunk.next }
+        ensures sets { SetsAt number (Some (node_value chunk)) (held_at self.old) (held_at self.new) }
+        ensures link { (result.number ≡ number) × Leads self.new (Some result) }
+        ensures links { KeepsReached self.old self.new }
         ensures room { room_of self.old ≤ room_of self.new + 1 }
     {
-        match self.map.insert(number, node) {
-            Ok(_) => {}
+        let slot = self.chunks.insert_reserved(chunk);
+        match self.slots.insert(number, slot) {
+            Ok(_) => Link { number, slot },
             Err(_) => unreachable!(),
         }
     }
 
-    /// Takes the node of a number out.
-    pub fn take_out(&mut self, number: u64) -> Node
-        requires { IsSome (held_at self.old number) }
-        ensures node { held_at self.old number ≡ Some result }
-        ensures sets { SetsAt number None (held_at self.old) (held_at self.new) }
+    /// Takes the chunk that a link leads to out of its slot.
+    pub fn take_out(&mut self, link: Link) -> LinkedChunk
+        requires { Reaches self.old (Some link) }
+        ensures node { held_at self.old link.number ≡ Some (node_value result) }
+        ensures links { Leads self.old result.prev × Leads self.old result.next }
+        ensures sets { SetsAt link.number None (held_at self.old) (held_at self.new) }
+        ensures kept { KeepsLinks self.old self.new }
         ensures room { room_of self.old ≤ room_of self.new }
     {
-        match self.map.remove(&number) {
-            Some(node) => Box::into_inner(node),
-            None => unreachable!(),
-        }
+        let _ = self.slots.remove(&link.number);
+        self.chunks.remove(link.slot)
     }
 }

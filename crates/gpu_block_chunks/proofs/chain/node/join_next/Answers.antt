@@ -1,20 +1,32 @@
+use Rattle.std.proofs.Common.{Some}
 use Rattle.gpu_block_chunks.proofs.Joins.{join_has, join_fits, join_next_held, joins_next}
-use Rattle.gpu_block_chunks.specs.Nodes.{held_at}
+use Rattle.gpu_block_chunks.specs.Nodes.{held_at, node_value}
 use Rattle.gpu_block_chunks.proofs.chain.node.join_next.Goals as goal
 
-pub take_out-node-requires : goal.take_out-node-requires
-take_out-node-requires c = join_has (held_at c.args.nodes.now) c.args.left c.args.right c.requires
+pub take_out-gone-requires : goal.take_out-gone-requires
+take_out-gone-requires c = (c.requires.leads.1, join_has (held_at c.args.nodes.now) c.args.left.number c.args.right.number c.requires.joins)
 
-pub lengthen-requires : goal.lengthen-requires
-lengthen-requires c =
-    join_fits (held_at c.args.nodes.now) (held_at c.take_out-node.new.self) c.args.left c.args.right c.take_out-node.result c.requires c.take_out-node.ensures.node c.take_out-node.ensures.sets
+pub lengthen-requires-clause-fits : goal.lengthen-requires-clause-fits
+lengthen-requires-clause-fits c =
+    join_fits (held_at c.args.nodes.now) (held_at c.take_out-gone.new.self) c.args.left.number c.args.right.number (node_value c.take_out-gone.result) c.requires.joins
+    c.take_out-gone.ensures.node c.take_out-gone.ensures.sets
 
-pub set_prev_of-requires : goal.set_prev_of-requires
-set_prev_of-requires c =
-    join_next_held (held_at c.args.nodes.now) (held_at c.take_out-node.new.self) (held_at c.lengthen.new.nodes) c.args.left c.args.right c.take_out-node.result c.requires
-    c.take_out-node.ensures.node c.take_out-node.ensures.sets c.lengthen.ensures.changes
+pub set_prev_of-requires-clause-there : goal.set_prev_of-requires-clause-there
+set_prev_of-requires-clause-there c = (
+  rw c.lengthen.ensures.slots (c.take_out-gone.ensures.kept c.take_out-gone.result.next c.take_out-gone.ensures.links.1),
+  join_next_held (held_at c.args.nodes.now) (held_at c.take_out-gone.new.self) (held_at c.lengthen.new.nodes) c.args.left.number c.args.right.number
+      (node_value c.take_out-gone.result) c.requires.joins
+      c.take_out-gone.ensures.node c.take_out-gone.ensures.sets c.lengthen.ensures.changes,
+)
 
 pub returns-clause-joins : goal.returns-clause-joins
 returns-clause-joins c =
-    joins_next (held_at c.args.nodes.now) (held_at c.take_out-node.new.self) (held_at c.lengthen.new.nodes) (held_at c.set_prev_of.new.nodes) c.args.left c.args.right c.take_out-node.result
-    c.take_out-node.ensures.node c.take_out-node.ensures.sets c.lengthen.ensures.changes c.set_prev_of.ensures.changes
+    joins_next (held_at c.args.nodes.now) (held_at c.take_out-gone.new.self) (held_at c.lengthen.new.nodes) (held_at c.set_prev_of.new.nodes) c.args.left.number c.args.right.number
+    (node_value c.take_out-gone.result)
+    c.take_out-gone.ensures.node c.take_out-gone.ensures.sets c.lengthen.ensures.changes c.set_prev_of.ensures.changes
+
+pub lengthen-requires-clause-leads : goal.lengthen-requires-clause-leads
+lengthen-requires-clause-leads c = c.take_out-gone.ensures.kept (Some c.args.left) c.requires.leads.0
+
+pub set_prev_of-requires-clause-prev : goal.set_prev_of-requires-clause-prev
+set_prev_of-requires-clause-prev c = rw c.lengthen.ensures.slots (c.take_out-gone.ensures.kept (Some c.args.left) c.requires.leads.0)

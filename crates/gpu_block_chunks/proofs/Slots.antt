@@ -1,0 +1,282 @@
+-- Chunks in slots: what is held under each number after one slot is written, a chunk is put into a slot, or taken out of it.
+use Rattle.std.proofs.Common.{◌≡◌, ◌≢◌, ℕ, Bool, ◌+◌, true, ◌<◌, List, length, get_or, set, count_by}
+use Rattle.std.proofs.Common.{Option, Some, None, is_some, IsSome, IsSomeAnd, IfSome, cond, ◌==◌, refl, sym, ap, ◌∙◌, subst, inl, inr, arith}
+use Rattle.std.specs.Borrow.{Bor}
+use Rattle.std.specs.Option.{option_map, option_copied}
+use Rattle.std.proofs.lemmas.Bool.{cases_eq, false≢true}
+use Rattle.std.proofs.lemmas.List.{get_or-set_same, get_or-set_other, get_or_past}
+use Rattle.std.proofs.lemmas.List.Sums.{sum_by-set}
+use Rattle.gpu_block_chunks.specs.declared.chain.link.Link.{Link}
+use Rattle.gpu_block_chunks.specs.declared.chain.link.LinkedChunk.{LinkedChunk}
+use Rattle.gpu_block_chunks.specs.Chain.{Node, ChangesAt, IsUnlinked}
+use Rattle.gpu_block_chunks.specs.Nodes.{Slotted, AreSound, LeadsIn, Leads, Reaches, slot_in, stored_in, held_at, node_value, link_number}
+use Rattle.gpu_block_chunks.proofs.Links.{same_test, apart_test}
+
+-- ---- where a link leads to
+found_in : (slots : List (ℕ × ℕ)) (chunks : List (Option LinkedChunk)) (k s : ℕ) (o : Option ℕ) → slot_in slots k ≡ o
+    → IsSome (option_map node_value (stored_in chunks o)) → ((t : ℕ) → slot_in slots k ≡ Some t → s ≡ t) → slot_in slots k ≡ Some s
+found_in slots chunks k s None e there leads = absurd (false≢true there)
+found_in slots chunks k s (Some t) e there leads = e ∙ ap (λ (u : ℕ). Some u) (sym (leads t e))
+
+pub found : (v : Slotted) (at : Link) → Reaches v (Some at) → slot_in v.slots at.number ≡ Some at.slot
+found v at r = found_in v.slots v.chunks at.number at.slot (slot_in v.slots at.number) refl r.1 r.0
+
+pub some_and : (P : Node → Type 0) → (o : Option Node) → IsSomeAnd o P → IsSome o
+some_and P None h = absurd h
+some_and P (Some n) h = refl
+
+same_number : (o : Option LinkedChunk) (k q : ℕ) → IsSomeAnd o (λ n. (n.chunk).number ≡ k) → IsSomeAnd o (λ n. (n.chunk).number ≡ q) → k ≡ q
+same_number None k q a b = absurd a
+same_number (Some n) k q a b = sym a ∙ b
+
+pub linked_some : (link : Option Link) → is_some (link_number link) ≡ is_some link
+linked_some None = refl
+linked_some (Some l) = refl
+
+-- two numbers have two slots
+one_number : (slots : List (ℕ × ℕ)) (chunks : List (Option LinkedChunk)) → AreSound slots chunks → (k q s : ℕ) → slot_in slots k ≡ Some s → slot_in slots q ≡ Some s → k ≡ q
+one_number slots chunks sound k q s at_k at_q = same_number (stored_in chunks (Some s)) k q (sound.numbered k s at_k) (sound.numbered q s at_q)
+
+-- a number that nothing is held under has no slot
+none_there : (o : Option LinkedChunk) (k : ℕ) → IsSomeAnd o (λ x. (x.chunk).number ≡ k) → option_map node_value o ≡ None → ⊥
+none_there None k h none = h
+none_there (Some x) k h none = cc
+
+no_slot : (slots : List (ℕ × ℕ)) (chunks : List (Option LinkedChunk)) → AreSound slots chunks → (k : ℕ) (o : Option ℕ) → slot_in slots k ≡ o
+    → option_map node_value (stored_in chunks o) ≡ None → slot_in slots k ≡ None
+no_slot slots chunks sound k None e none = e
+no_slot slots chunks sound k (Some t) e none = absurd (none_there (get_or chunks t None) k (sound.numbered k t e) none)
+
+pub slotless : (w v : Slotted) → w ≡ v → AreSound w.slots w.chunks → (k : ℕ) → held_at v k ≡ None → slot_in w.slots k ≡ None
+slotless w v is sound k none = no_slot w.slots w.chunks sound k (slot_in w.slots k) refl (subst (λ (u : Slotted). held_at u k ≡ None) (sym is) none)
+
+-- ---- one slot is written
+module _ (slots : List (ℕ × ℕ)) (old new : List (Option LinkedChunk)) (sound : AreSound slots old) (k s : ℕ) (at : slot_in slots k ≡ Some s)
+    (n m : LinkedChunk) (was : get_or old s None ≡ Some n) (here : get_or new s None ≡ Some m) (others : (t : ℕ) → t ≢ s → get_or new t None ≡ get_or old t None) where
+  write_numbered : (m.chunk).number ≡ (n.chunk).number → (q t : ℕ) → slot_in slots q ≡ Some t → IsSomeAnd (get_or new t None) (λ x. (x.chunk).number ≡ q)
+  write_numbered same q t e =
+      elim (cases_eq t s) [
+        | inl is ↦
+            let a : IsSomeAnd (get_or old t None) (λ x. (x.chunk).number ≡ q) = sound.numbered q t e in
+            let b : IsSomeAnd (Some n) (λ x. (x.chunk).number ≡ q) = subst (λ (o : Option LinkedChunk). IsSomeAnd o (λ x. (x.chunk).number ≡ q)) (ap (λ (u : ℕ). get_or old u None) is ∙ was) a in
+            subst (λ (o : Option LinkedChunk). IsSomeAnd o (λ x. (x.chunk).number ≡ q)) (sym (ap (λ (u : ℕ). get_or new u None) is ∙ here)) (same ∙ b)
+        | inr ne ↦ subst (λ (o : Option LinkedChunk). IsSomeAnd o (λ x. (x.chunk).number ≡ q)) (sym (others t ne)) (sound.numbered q t e)
+      ]
+
+  -- what stands in a slot afterwards stood there before, or was written
+  written : (P : LinkedChunk → Type 0) → P m → ((q : ℕ) (x : LinkedChunk) → stored_in old (slot_in slots q) ≡ Some x → P x)
+      → (q : ℕ) (x : LinkedChunk) (o : Option ℕ) → slot_in slots q ≡ o → stored_in new o ≡ Some x → P x
+  written P p keeps q x None e f = absurd (let no : None ≡ Some x = f in cc)
+  written P p keeps q x (Some t) e f =
+      elim (cases_eq t s) [
+        | inl is ↦ let w : Some m ≡ Some x = sym here ∙ ap (λ (u : ℕ). get_or new u None) (sym is) ∙ f in let v : m ≡ x = cc in subst P v p
+        | inr ne ↦ keeps q x (ap (λ (o : Option ℕ). stored_in old o) e ∙ sym (others t ne) ∙ f)
+      ]
+
+  pub write_sound : count_by is_some new ≡ count_by is_some old → (m.chunk).number ≡ (n.chunk).number → LeadsIn slots m.prev → LeadsIn slots m.next → AreSound slots new
+  write_sound count same prev next =
+      record {
+        numbered = write_numbered same;
+        counted = count ∙ sound.counted;
+        prev = λ q x f. written (λ x. LeadsIn slots x.prev) prev sound.prev q x (slot_in slots q) refl f;
+        next = λ q x f. written (λ x. LeadsIn slots x.next) next sound.next q x (slot_in slots q) refl f;
+      }
+
+  untouched : (q : ℕ) → (k ≡ q → ⊥) → (o : Option ℕ) → slot_in slots q ≡ o → stored_in new o ≡ stored_in old o
+  untouched q ne None e = refl
+  untouched q ne (Some t) e = others t (λ (is : t ≡ s). ne (one_number slots old sound k q s at (e ∙ ap (λ (u : ℕ). Some u) is)))
+
+  pub write_changes : (change : Node → Node) → node_value m ≡ change (node_value n) → (q : ℕ)
+      → option_map node_value (stored_in new (slot_in slots q)) ≡ cond (k == q) (option_map change (option_map node_value (stored_in old (slot_in slots q))))
+      (option_map node_value (stored_in old (slot_in slots q)))
+  write_changes change makes q =
+      elim (cases_eq k q) [
+        | inl is ↦
+            let e : slot_in slots q ≡ Some s = ap (slot_in slots) (sym is) ∙ at in
+            rw (e, here, was, sym is, same_test k) (ap (λ (y : Node). Some y) makes)
+        | inr ne ↦ rw (apart_test k q ne) (ap (λ (o : Option LinkedChunk). option_map node_value o) (untouched q ne (slot_in slots q) refl))
+      ]
+
+-- a chunk for a chunk: as many slots are taken
+set_count : (xs : List (Option LinkedChunk)) (i : ℕ) (n m : LinkedChunk) → i < length xs → get_or xs i None ≡ Some n → count_by is_some (set xs i (Some m)) ≡ count_by is_some xs
+set_count xs i n m within was =
+    let taken : is_some (get_or xs i None) ≡ true = ap (λ (o : Option LinkedChunk). is_some o) was in
+    let e = sum_by-set (λ (o : Option LinkedChunk). cond (is_some o) 1 0) xs i (Some m) None within in
+    let f = rw taken at e in
+    omega (arith, f)
+
+-- the same, for a write through a link
+module _ (w v : Slotted) (is : w ≡ v) (sound : AreSound w.slots w.chunks) (at : Link) (reaches : Reaches v (Some at)) where
+  pub reached : slot_in w.slots at.number ≡ Some at.slot
+  reached = found w at (subst (λ (u : Slotted). Reaches u (Some at)) (sym is) reaches)
+
+  pub given : (link : Option Link) → Leads v link → LeadsIn w.slots link
+  given link leads = subst (λ (u : Slotted). Leads u link) (sym is) leads
+
+  module _ (n : LinkedChunk) (was : Some n ≡ get_or w.chunks at.slot None) where
+    -- the links that it had lead right
+    pub prev_kept : LeadsIn w.slots n.prev
+    prev_kept = sound.prev at.number n (ap (λ (o : Option ℕ). stored_in w.chunks o) reached ∙ sym was)
+
+    pub next_kept : LeadsIn w.slots n.next
+    next_kept = sound.next at.number n (ap (λ (o : Option ℕ). stored_in w.chunks o) reached ∙ sym was)
+
+    within : at.slot < length w.chunks
+    within = grind (arith, get_or_past)
+
+    pub set_sound : (m : LinkedChunk) → (m.chunk).number ≡ (n.chunk).number → LeadsIn w.slots m.prev → LeadsIn w.slots m.next → AreSound w.slots (set w.chunks at.slot (Some m))
+    set_sound m =
+        write_sound w.slots w.chunks (set w.chunks at.slot (Some m)) sound at.number at.slot reached n m (sym was)
+        (get_or-set_same w.chunks at.slot (Some m) None within) (λ t ne. get_or-set_other w.chunks at.slot t (Some m) None ne)
+        (set_count w.chunks at.slot n m within (sym was))
+
+    pub set_changes : (m : LinkedChunk) (change : Node → Node) → node_value m ≡ change (node_value n)
+        → ChangesAt at.number change (held_at v) (λ q. option_map node_value (stored_in (set w.chunks at.slot (Some m)) (slot_in w.slots q)))
+    set_changes m change makes =
+        subst (λ (u : Slotted). ChangesAt at.number change (held_at u) (λ q. option_map node_value (stored_in (set w.chunks at.slot (Some m)) (slot_in w.slots q)))) is
+        (write_changes w.slots w.chunks (set w.chunks at.slot (Some m)) sound at.number at.slot reached n m (sym was)
+        (get_or-set_same w.chunks at.slot (Some m) None within) (λ t ne. get_or-set_other w.chunks at.slot t (Some m) None ne) change makes)
+
+-- ---- a chunk is put into a slot that is empty
+module _ (slots slots2 : List (ℕ × ℕ)) (old new : List (Option LinkedChunk)) (sound : AreSound slots old) (k s : ℕ) (m : LinkedChunk)
+    (put : (q : ℕ) → slot_in slots2 q ≡ cond (k == q) (Some s) (slot_in slots q)) (vacant : get_or old s None ≡ None)
+    (here : get_or new s None ≡ Some m) (others : (t : ℕ) → t ≢ s → get_or new t None ≡ get_or old t None) where
+  put_at : (q : ℕ) → k ≡ q → slot_in slots2 q ≡ Some s
+  put_at q is = put q ∙ ap (λ (j : ℕ). cond (k == j) (Some s) (slot_in slots j)) (sym is) ∙ ap (λ (b : Bool). cond b (Some s) (slot_in slots k)) (same_test k)
+
+  put_other : (q : ℕ) → (k ≡ q → ⊥) → slot_in slots2 q ≡ slot_in slots q
+  put_other q ne = put q ∙ ap (λ (b : Bool). cond b (Some s) (slot_in slots q)) (apart_test k q ne)
+
+  -- no number had the slot
+  unshared : (q t : ℕ) → slot_in slots q ≡ Some t → t ≢ s
+  unshared q t e = λ (is : t ≡ s). subst (λ (o : Option LinkedChunk). IsSomeAnd o (λ x. (x.chunk).number ≡ q)) (ap (λ (u : ℕ). get_or old u None) is ∙ vacant) (sound.numbered q t e)
+
+  put_same : (q : ℕ) (o : Option ℕ) → slot_in slots q ≡ o → stored_in new o ≡ stored_in old o
+  put_same q None e = refl
+  put_same q (Some t) e = others t (unshared q t e)
+
+  put_stored : (q : ℕ) → (k ≡ q → ⊥) → stored_in new (slot_in slots2 q) ≡ stored_in old (slot_in slots q)
+  put_stored q ne = ap (λ (o : Option ℕ). stored_in new o) (put_other q ne) ∙ put_same q (slot_in slots q) refl
+
+  pub put_sets : (q : ℕ) → option_map node_value (stored_in new (slot_in slots2 q)) ≡ cond (k == q) (Some (node_value m)) (option_map node_value (stored_in old (slot_in slots q)))
+  put_sets q =
+      elim (cases_eq k q) [
+        | inl is ↦ rw (put_at q is, here, sym is, same_test k) refl
+        | inr ne ↦ rw (apart_test k q ne) (ap (λ (o : Option LinkedChunk). option_map node_value o) (put_stored q ne))
+      ]
+
+  leads_more : (l : Option Link) → link_number l ≢ Some k → LeadsIn slots l → LeadsIn slots2 l
+  leads_more None ne h = tt
+  leads_more (Some l) ne h = λ t e. h t (sym (put_other l.number (λ (is : k ≡ l.number). ne (ap (λ (j : ℕ). Some j) (sym is)))) ∙ e)
+
+  put_links : (link : LinkedChunk → Option Link) → LeadsIn slots2 (link m) → ((q : ℕ) (x : LinkedChunk) → stored_in old (slot_in slots q) ≡ Some x → LeadsIn slots (link x))
+      → ((q : ℕ) (x : LinkedChunk) → stored_in old (slot_in slots q) ≡ Some x → link_number (link x) ≢ Some k)
+      → (q : ℕ) (x : LinkedChunk) → stored_in new (slot_in slots2 q) ≡ Some x → LeadsIn slots2 (link x)
+  put_links link mine keeps apart q x f =
+      elim (cases_eq k q) [
+        | inl is ↦
+            let w : Some m ≡ Some x = sym here ∙ ap (λ (o : Option ℕ). stored_in new o) (sym (put_at q is)) ∙ f in let v : m ≡ x = cc in
+            subst (λ (y : LinkedChunk). LeadsIn slots2 (link y)) v mine
+        | inr ne ↦ let g = sym (put_stored q ne) ∙ f in leads_more (link x) (apart q x g) (keeps q x g)
+      ]
+
+  put_numbered : (m.chunk).number ≡ k → (q t : ℕ) → slot_in slots2 q ≡ Some t → IsSomeAnd (get_or new t None) (λ x. (x.chunk).number ≡ q)
+  put_numbered same q t e =
+      elim (cases_eq k q) [
+        | inl is ↦
+            let w : Some s ≡ Some t = sym (put_at q is) ∙ e in let v : s ≡ t = cc in
+            subst (λ (o : Option LinkedChunk). IsSomeAnd o (λ x. (x.chunk).number ≡ q)) (sym (ap (λ (u : ℕ). get_or new u None) (sym v) ∙ here)) (same ∙ is)
+        | inr ne ↦
+            let g = sym (put_other q ne) ∙ e in
+            subst (λ (o : Option LinkedChunk). IsSomeAnd o (λ x. (x.chunk).number ≡ q)) (sym (others t (unshared q t g))) (sound.numbered q t g)
+      ]
+
+  node_is : (q : ℕ) (x : LinkedChunk) → stored_in old (slot_in slots q) ≡ Some x → option_map node_value (stored_in old (slot_in slots q)) ≡ Some (node_value x)
+  node_is q x f = ap (λ (o : Option LinkedChunk). option_map node_value o) f
+
+  reached_apart : (l : Option ℕ) → IfSome l (λ j. IsSome (option_map node_value (stored_in old (slot_in slots j)))) → option_map node_value (stored_in old (slot_in slots k)) ≡ None → l ≢ Some k
+  reached_apart None h none = λ (e : None ≡ Some k). cc
+  reached_apart (Some j) h none = λ (e : Some j ≡ Some k).
+      let is : j ≡ k = cc in
+      let no : IsSome {T = Node} None = subst (λ (o : Option Node). IsSome o) (ap (λ (i : ℕ). option_map node_value (stored_in old (slot_in slots i))) is ∙ none) h in
+      false≢true no
+
+  pub put_sound : (length slots2 ≡ length slots + 1) → (count_by is_some new ≡ count_by is_some old + 1) → (m.chunk).number ≡ k
+      → IsUnlinked k (λ q. option_map node_value (stored_in old (slot_in slots q)))
+      → LeadsIn slots m.prev × IfSome (link_number m.prev) (λ j. IsSome (option_map node_value (stored_in old (slot_in slots j))))
+      → LeadsIn slots m.next × IfSome (link_number m.next) (λ j. IsSome (option_map node_value (stored_in old (slot_in slots j)))) → AreSound slots2 new
+  put_sound more count same un prev next =
+      record {
+        numbered = put_numbered same;
+        counted = let was = sound.counted in omega (arith, more, count, was);
+        prev = put_links (λ x. x.prev) (leads_more m.prev (reached_apart (link_number m.prev) prev.1 un.none) prev.0) sound.prev (λ q x f. (un.apart q (node_value x) (node_is q x f)).0);
+        next = put_links (λ x. x.next) (leads_more m.next (reached_apart (link_number m.next) next.1 un.none) next.0) sound.next (λ q x f. (un.apart q (node_value x) (node_is q x f)).1);
+      }
+
+-- ---- a chunk is taken out of its slot
+module _ (slots slots2 : List (ℕ × ℕ)) (old new : List (Option LinkedChunk)) (sound : AreSound slots old) (k s : ℕ) (at : slot_in slots k ≡ Some s)
+    (out : (q : ℕ) → slot_in slots2 q ≡ cond (k == q) None (slot_in slots q)) (others : (t : ℕ) → t ≢ s → get_or new t None ≡ get_or old t None) where
+  out_at : (q : ℕ) → k ≡ q → slot_in slots2 q ≡ None
+  out_at q is = out q ∙ ap (λ (j : ℕ). cond (k == j) None (slot_in slots j)) (sym is) ∙ ap (λ (b : Bool). cond b None (slot_in slots k)) (same_test k)
+
+  out_other : (q : ℕ) → (k ≡ q → ⊥) → slot_in slots2 q ≡ slot_in slots q
+  out_other q ne = out q ∙ ap (λ (b : Bool). cond b None (slot_in slots q)) (apart_test k q ne)
+
+  -- no other number had the slot
+  unshared_out : (q t : ℕ) → (k ≡ q → ⊥) → slot_in slots q ≡ Some t → t ≢ s
+  unshared_out q t ne e = λ (is : t ≡ s). ne (one_number slots old sound k q s at (e ∙ ap (λ (u : ℕ). Some u) is))
+
+  out_same : (q : ℕ) → (k ≡ q → ⊥) → (o : Option ℕ) → slot_in slots q ≡ o → stored_in new o ≡ stored_in old o
+  out_same q ne None e = refl
+  out_same q ne (Some t) e = others t (unshared_out q t ne e)
+
+  out_stored : (q : ℕ) → (k ≡ q → ⊥) → stored_in new (slot_in slots2 q) ≡ stored_in old (slot_in slots q)
+  out_stored q ne = ap (λ (o : Option ℕ). stored_in new o) (out_other q ne) ∙ out_same q ne (slot_in slots q) refl
+
+  pub out_sets : (q : ℕ) → option_map node_value (stored_in new (slot_in slots2 q)) ≡ cond (k == q) None (option_map node_value (stored_in old (slot_in slots q)))
+  out_sets q =
+      elim (cases_eq k q) [
+        | inl is ↦ rw (out_at q is, sym is, same_test k) refl
+        | inr ne ↦ rw (apart_test k q ne) (ap (λ (o : Option LinkedChunk). option_map node_value o) (out_stored q ne))
+      ]
+
+  still_in : (q t : ℕ) → slot_in slots2 q ≡ Some t → (k ≡ q → ⊥) × (slot_in slots q ≡ Some t)
+  still_in q t e =
+      elim (cases_eq k q) [
+        | inl is ↦ absurd (let no : None ≡ Some t = sym (out_at q is) ∙ e in cc)
+        | inr ne ↦ (ne, sym (out_other q ne) ∙ e)
+      ]
+
+  leads_less : (l : Option Link) → LeadsIn slots l → LeadsIn slots2 l
+  leads_less None h = tt
+  leads_less (Some l) h = λ t e. h t (still_in l.number t e).1
+
+  out_links : (link : LinkedChunk → Option Link) → ((q : ℕ) (x : LinkedChunk) → stored_in old (slot_in slots q) ≡ Some x → LeadsIn slots (link x))
+      → (q : ℕ) (x : LinkedChunk) → stored_in new (slot_in slots2 q) ≡ Some x → LeadsIn slots2 (link x)
+  out_links link keeps q x f =
+      elim (cases_eq k q) [
+        | inl is ↦ absurd (let no : None ≡ Some x = ap (λ (o : Option ℕ). stored_in new o) (sym (out_at q is)) ∙ f in cc)
+        | inr ne ↦ leads_less (link x) (keeps q x (sym (out_stored q ne) ∙ f))
+      ]
+
+  out_numbered : (q t : ℕ) → slot_in slots2 q ≡ Some t → IsSomeAnd (get_or new t None) (λ x. (x.chunk).number ≡ q)
+  out_numbered q t e =
+      let w = still_in q t e in
+      subst (λ (o : Option LinkedChunk). IsSomeAnd o (λ x. (x.chunk).number ≡ q)) (sym (others t (unshared_out q t w.0 w.1))) (sound.numbered q t w.1)
+
+  pub out_sound : (length slots2 + 1 ≡ length slots) → (count_by is_some new + 1 ≡ count_by is_some old) → AreSound slots2 new
+  out_sound less count =
+      record {
+        numbered = out_numbered;
+        counted = let was = sound.counted in omega (arith, less, count, was);
+        prev = out_links (λ x. x.prev) sound.prev;
+        next = out_links (λ x. x.next) sound.next;
+      }
+
+-- ---- the links of a chunk that is held
+pub links_lead : (w v : Slotted) → w ≡ v → AreSound w.slots w.chunks → (k s : ℕ) → Some s ≡ slot_in w.slots k → (o : Option (Bor LinkedChunk)) → option_copied o ≡ get_or w.chunks s None
+    → IfSome o (λ n. Leads v n.now.prev × Leads v n.now.next)
+links_lead w v is sound k s at None e = tt
+links_lead w v is sound k s at (Some r) e =
+    let f : stored_in w.chunks (slot_in w.slots k) ≡ Some r.now = ap (λ (o : Option ℕ). stored_in w.chunks o) (sym at) ∙ sym e in
+    subst (λ (u : Slotted). Leads u r.now.prev × Leads u r.now.next) is (sound.prev k r.now f, sound.next k r.now f)

@@ -1,0 +1,16 @@
+use Rattle.std.proofs.Common.{refl}
+use Rattle.gpu_block_chunks.specs.Chain.{cut_node}
+use Rattle.gpu_block_chunks.specs.Nodes.{link_number}
+use Rattle.gpu_block_chunks.proofs.Slots.{set_sound, set_changes, next_kept, given, some_and}
+use Rattle.gpu_block_chunks.proofs.chain.node.cut_front.Goals as goal
+
+pub invariant_of-nodes : goal.invariant_of-nodes
+invariant_of-nodes c =
+    set_sound _ _ c.nodes.view_is c.nodes.invariant c.args.at (c.requires.leads, some_and _ _ c.requires.longer) c.in-Some.linked.now c.in-Some.ensures.value _ refl
+    (given _ _ c.nodes.view_is c.nodes.invariant c.args.at (c.requires.leads, some_and _ _ c.requires.longer) _ c.requires.prev)
+    (next_kept _ _ c.nodes.view_is c.nodes.invariant c.args.at (c.requires.leads, some_and _ _ c.requires.longer) c.in-Some.linked.now c.in-Some.ensures.value)
+
+pub returns-clause-changes : goal.returns-clause-changes
+returns-clause-changes c =
+    set_changes _ _ c.nodes.view_is c.nodes.invariant c.args.at (c.requires.leads, some_and _ _ c.requires.longer) c.in-Some.linked.now c.in-Some.ensures.value _
+    (cut_node c.args.taken (link_number c.args.prev)) refl
