@@ -27,6 +27,3 @@ read-number_of n read fits said =
 
 pub reads_number : (j : Json) (read : Option ℕ) → IsRead j read → (n : ℕ) → Fits n → j ≡ number_of n → read ≡ Some n
 reads_number j read said n fits e = read-number_of n read fits (subst (λ k. IsRead k read) e said)
-
-pub reads_nothing : (j : Json) (read : Option ℕ) → IsRead j read → as_number j ≡ None → read ≡ None
-reads_nothing j read said e = subst (λ (number : Option (List ℕ)). MatchOption number (read ≡ None) (λ text. ParsesUnsigned 64 10 text (ok_or read text))) e said
