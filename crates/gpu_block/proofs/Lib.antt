@@ -2,7 +2,6 @@ pub mod Blocks
 pub mod LongestCounted
 pub mod Runs
 pub mod Showing
-pub mod Sums
 pub mod Texts
 pub mod Whole
 pub use Rattle.gpu_block_pieces.proofs.Separation

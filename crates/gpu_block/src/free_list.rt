@@ -1,6 +1,6 @@
 //! A block that is cut into pieces, and what its searches cost so far.
 
-ghost use Rattle.std.specs.Prelude.{◌≡◌, ◌≢◌, ◌<◌, ℕ, OnOk, OnErr, IfOk, IfErr, IfSome, IsSomeAnd, IsTrue, ◌↔◌, []};
+ghost use Rattle.std.specs.Prelude.{◌≡◌, ◌≢◌, ◌<◌, ◌≤◌, ℕ, OnOk, OnErr, IfOk, IfErr, IfSome, IsSomeAnd, IsTrue, ◌↔◌, []};
 ghost use Rattle.std.specs.Int.{is_power_of_two};
 ghost use Rattle.std.specs.Int.NonZero.{non_zero_u64_get};
 ghost use Rattle.gpu_values.specs.Refusal.{refusal_of};
@@ -32,7 +32,7 @@ impl Model for FreeListAllocator {
 }
 
 impl FreeListAllocator {
-    ghost use Rattle.gpu_block_pieces.specs.FreeList.{SomeExtent, IsGap};
+    ghost use Rattle.gpu_block_pieces.specs.FreeList.{SomeExtent, IsGap, extent_bytes};
     ghost use Rattle.gpu_block_pieces.specs.Request.{Request, request};
     ghost use Rattle.gpu_cost.specs.Cost.{Rises};
     ghost use Rattle.gpu_block_pieces.specs.Place.{HasNoPlace};
@@ -113,6 +113,14 @@ impl FreeListAllocator {
         ensures cost { Rises self.old.cost self.new.cost }
     {
         self.pieces.rename(chunk_id, name, &mut self.cost)
+    }
+
+    /// The bytes of all pieces, padding included. It looks at no piece.
+    pub fn allocated(&self) -> u64
+        ensures sum { result ≡ extent_bytes self.now.block.extents }
+        ensures within { result ≤ self.now.block.size }
+    {
+        self.pieces.allocated()
     }
 
     /// The size of the block in bytes.

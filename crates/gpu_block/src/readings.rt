@@ -10,7 +10,7 @@ ghost use Rattle.gpu_block.specs.Rows.{extent_row};
 ghost use Rattle.gpu_block.specs.Leak.{leak_of};
 ghost use Rattle.gpu_block.specs.Pieces.{LieBetween};
 
-use crate::rows::{rows_of, taken_bytes};
+use crate::rows::rows_of;
 use crate::{DedicatedBlockAllocator, FreeListAllocator, Leaks, Pieces};
 use gpu_block_chunks::Walk;
 use gpu_block_pieces::CutBlock;
@@ -25,7 +25,7 @@ struct Reading;
 impl BeginsCount for Reading {}
 
 impl FreeListAllocator {
-    ghost use Rattle.gpu_block_pieces.specs.FreeList.{FindsPlace, fresh_free_list, extent_bytes};
+    ghost use Rattle.gpu_block_pieces.specs.FreeList.{FindsPlace, fresh_free_list};
     ghost use Rattle.gpu_block_pieces.specs.Laws.{IsSound, IsInOrder};
 
     /// A block of `size` bytes without pieces: one gap with number 1, and 2 is the next new number. `size` isn't 0.
@@ -57,14 +57,6 @@ impl FreeListAllocator {
             pieces: CutBlock::new(alloc, size, granularity, counter)?,
             cost: Cost::begin(&Reading),
         })
-    }
-
-    /// The bytes of all pieces, padding included.
-    pub fn allocated(&self) -> u64
-        ensures sum { result ≡ extent_bytes self.now.block.extents }
-        ensures within { result ≤ self.now.block.size }
-    {
-        taken_bytes(self.pieces.walk(), &mut Cost::begin(&Reading))
     }
 
     /// The offset and the size in bytes of the live piece with that number.

@@ -1,9 +1,8 @@
-//! The rows of a report, one for each piece, and the sum of their bytes.
+//! The rows of a report, one for each piece.
 
-ghost use Rattle.std.specs.Prelude.{◌≡◌, ℕ, ◌+◌, ◌^◌, ◌<◌, [], ◌∷◌, ◌++◌, map, All, IfOk, OnOk, string_bytes};
+ghost use Rattle.std.specs.Prelude.{◌≡◌, ℕ, ◌^◌, ◌<◌, [], ◌∷◌, ◌++◌, map, All, IfOk, OnOk, string_bytes};
 ghost use Rattle.gpu_block_chunks.specs.ChunkList.{Covers};
 ghost use Rattle.gpu_block_pieces.specs.Chunks.{IsChunk, extents_of};
-ghost use Rattle.gpu_block_pieces.specs.FreeList.{extent_bytes};
 ghost use Rattle.gpu_values.specs.Report.{row_of};
 ghost use Rattle.gpu_block.specs.Rows.{extent_row};
 
@@ -50,19 +49,4 @@ pub fn rows_of(
         }
     }
     Ok(rows)
-}
-
-/// The bytes of all chunks that aren't free.
-pub fn taken_bytes(chunks: Walk<'_>, cost: &mut Cost) -> u64
-    requires { (from : ℕ) × (to : ℕ) × (to < 2 ^ 64) × Covers chunks from to }
-    ensures { result ≡ extent_bytes (extents_of chunks.entry) }
-{
-    let mut chunks = chunks;
-    let mut sum = 0;
-    while let Some(chunk) = chunks.next(cost) {
-        if !is_free(chunk.kind) {
-            sum += chunk.size;
-        }
-    }
-    sum
 }

@@ -32,3 +32,4 @@ pub mod LongestGap
 pub mod Spending
 pub mod Holding
 pub mod Costing
+pub mod Amounts

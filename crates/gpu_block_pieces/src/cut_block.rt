@@ -23,14 +23,17 @@ pub struct CutBlock {
     alloc: Global,
     granularity: u64,
     counter: u64,
+    /// The bytes of all pieces, padding included.
+    allocated: u64,
     chunks: Chunks,
 }
 
 impl Model for CutBlock {
     ghost use Rattle.std.specs.Prelude.{IsTrue, ◌<◌, ◌^◌};
     ghost use Rattle.std.specs.Int.{is_power_of_two};
-    ghost use Rattle.gpu_block_pieces.specs.FreeList.{FreeList};
-    ghost use Rattle.gpu_block_pieces.specs.Chunks.{AreChunks, free_list_of};
+    ghost use Rattle.std.specs.Prelude.{◌≡◌};
+    ghost use Rattle.gpu_block_pieces.specs.FreeList.{FreeList, extent_bytes};
+    ghost use Rattle.gpu_block_pieces.specs.Chunks.{AreChunks, extents_of, free_list_of};
     ghost use Rattle.gpu_block_pieces.specs.Laws.{IsPageSeparated};
 
     ghost Value = { FreeList };
@@ -40,13 +43,14 @@ impl Model for CutBlock {
     ghost invariant = { λ a. IsTrue (is_power_of_two a.granularity)
         × AreChunks a.chunks.items a.chunks.size a.counter
         × IsPageSeparated (free_list_of a.chunks.size a.granularity a.counter a.chunks.items)
-        × (a.chunks.size < 2 ^ 64) };
+        × (a.chunks.size < 2 ^ 64)
+        × (a.allocated ≡ extent_bytes (extents_of a.chunks.items)) };
 }
 
 impl CutBlock {
     ghost use Rattle.gpu_cost.specs.Cost.{counts_of, LooksUp, LooksUpBetween};
     ghost use Rattle.gpu_block_chunks.specs.ChunkList.{Covers};
-    ghost use Rattle.gpu_block_pieces.specs.FreeList.{FindsPlace, SomeExtent, IsGap, IsLongestGap, fresh_free_list};
+    ghost use Rattle.gpu_block_pieces.specs.FreeList.{FindsPlace, SomeExtent, IsGap, IsLongestGap, extent_bytes, fresh_free_list};
     ghost use Rattle.gpu_block_pieces.specs.Request.{Request, request};
     ghost use Rattle.gpu_block_pieces.specs.Place.{HasNoPlace};
     ghost use Rattle.gpu_block_pieces.specs.Search.{IsSearch};
@@ -71,6 +75,7 @@ impl CutBlock {
             alloc,
             granularity,
             counter,
+            allocated: 0,
             chunks,
         })
     }
@@ -125,6 +130,7 @@ impl CutBlock {
         let number = self
             .chunks
             .take(self.alloc, found, wanted, self.counter, text, cost)?;
+        self.allocated += found.offset + size - found.gap.start;
         if rest {
             self.counter += 1;
         }
@@ -155,6 +161,7 @@ impl CutBlock {
         };
         let empty = String::new(self.alloc);
         self.chunks.release(around, empty, cost);
+        self.allocated -= around.here.size;
         Ok(())
     }
 
@@ -210,6 +217,15 @@ impl CutBlock {
         ensures law { (r : Request) → result < r.size → HasNoPlace self.now r }
     {
         self.chunks.longest_gap()
+    }
+
+    /// The bytes of all pieces, padding included. It looks at no piece.
+    pub fn allocated(&self) -> u64
+        ensures sum { result ≡ extent_bytes self.now.extents }
+        ensures within { result ≤ self.now.size }
+    {
+        let _size = self.chunks.size();
+        self.allocated
     }
 
     /// The size of the block in bytes.

@@ -20,6 +20,7 @@ use Rattle.gpu_block_pieces.specs.Indexed.{chosen_at}
 use Rattle.gpu_cost.specs.Cost.{counts_of}
 use Rattle.gpu_cost.specs.declared.cost.Cost.{Cost}
 use Rattle.gpu_block_pieces.specs.Search.{IsSearch}
+use Rattle.gpu_block_pieces.proofs.Amounts.{bytes_of, taken_bytes, room_for}
 use Rattle.gpu_block_pieces.proofs.Costing.{Taking, searched, nothing_taken, not_taken, place_taken}
 use Rattle.gpu_block_pieces.proofs.Holding.{chosen_fits, fresh_number, rest_of_chunk, no_rest_of_chunk}
 use Rattle.gpu_block_pieces.proofs.cut_block.CutBlock.allocate.Goals as goal
@@ -92,15 +93,41 @@ the_whole c n e is =
     (whole_taken_are i.chunks.items c.take.new.self.items i.chunks.size i.counter w f c.in_ok-text.text c.in_ok-number.number c.self.invariant.1 c.requires.sized c.requires.piece h.best (c.in_ok-number.ensures.taken h) whole)
     (whole_takes i.chunks.items c.take.new.self.items i.chunks.size i.counter w f c.in_ok-text.text c.in_ok-number.number c.self.invariant.1 c.requires.sized c.requires.piece h.best (c.in_ok-number.ensures.taken h) whole c.args.name.now c.in_ok-text.ensures.ok)
 
+-- what the pieces take then
+the_bytes : (c : In_ok-number) → bytes_of c.take.new.self.items ≡ bytes_of c.self.inside.chunks.items + (c.in-Some.found.offset + c.args.size - c.in-Some.found.gap.start)
+the_bytes c =
+    let i = c.self.inside in
+    let w : Wanted = record { size = c.args.size; alignment = c.args.alignment; kind = c.args.kind; granularity = c.args.granularity } in
+    let h = c.in-Some.ensures.found in
+    taken_bytes i.chunks.items c.take.new.self.items w c.in-Some.found i.counter c.in_ok-number.number c.in_ok-text.text h c.requires.piece (c.in_ok-number.ensures.taken h)
+
+pub overflow_add-self : goal.overflow_add-self
+overflow_add-self c =
+    let w : Wanted = record { size = c.args.size; alignment = c.args.alignment; kind = c.args.kind; granularity = c.args.granularity } in
+    let f = chosen_fits c.self.inside.chunks.items w c.in-Some.found c.self.inside.chunks.size c.self.invariant.1.covers c.self.invariant.3 c.in-Some.ensures.found in
+    omega (arith, f.high, f.ends)
+
+pub overflow_add-self-2 : goal.overflow_add-self-2
+overflow_add-self-2 c =
+    let w : Wanted = record { size = c.args.size; alignment = c.args.alignment; kind = c.args.kind; granularity = c.args.granularity } in
+    let room = room_for c.self.inside.chunks.items c.self.inside.chunks.size w c.in-Some.found c.in-Some.ensures.found c.self.invariant.1.covers in
+    let held = c.self.invariant.4 in
+    let size = c.self.invariant.3 in
+    omega arith
+
 pub invariant_of-self-then-rest-2 : goal.invariant_of-self-then-rest-2
 invariant_of-self-then-rest-2 c =
     let s = the_rest ((goal.at.invariant_of-self-then-rest-2 c).In_ok-number) c.in_ok-number.number refl c.if-rest-2.true in
-    rw c.in_ok-number.ensures.size (c.self.invariant.0, s.are, s.separated, c.self.invariant.3)
+    let b = the_bytes ((goal.at.invariant_of-self-then-rest-2 c).In_ok-number) in
+    let held = c.self.invariant.4 in
+    rw c.in_ok-number.ensures.size (c.self.invariant.0, s.are, s.separated, c.self.invariant.3, omega arith)
 
 pub invariant_of-self-else-rest-2 : goal.invariant_of-self-else-rest-2
 invariant_of-self-else-rest-2 c =
     let s = the_whole ((goal.at.invariant_of-self-else-rest-2 c).In_ok-number) c.in_ok-number.number refl c.if-rest-2.false in
-    rw c.in_ok-number.ensures.size (c.self.invariant.0, s.are, s.separated, c.self.invariant.3)
+    let b = the_bytes ((goal.at.invariant_of-self-else-rest-2 c).In_ok-number) in
+    let held = c.self.invariant.4 in
+    rw c.in_ok-number.ensures.size (c.self.invariant.0, s.are, s.separated, c.self.invariant.3, omega arith)
 
 pub non_zero-requires : goal.non_zero-requires
 non_zero-requires c =

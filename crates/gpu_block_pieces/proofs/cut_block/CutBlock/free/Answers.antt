@@ -1,4 +1,4 @@
-use Rattle.std.proofs.Common.{◌≡◌, ◌∙◌, ℕ, sym, subst}
+use Rattle.std.proofs.Common.{◌≡◌, ◌∙◌, ◌+◌, ℕ, sym, subst, arith}
 use Rattle.std.specs.Int.NonZero.{non_zero_u64_get}
 use Rattle.gpu_block_pieces.specs.FreeList.{FreeList, SomeExtent}
 use Rattle.gpu_block_pieces.specs.Changes.{Releases}
@@ -9,6 +9,7 @@ use Rattle.gpu_block_pieces.proofs.Sound.{sound_block}
 use Rattle.gpu_block_pieces.proofs.Ordered.{ordered_block}
 use Rattle.gpu_block_pieces.proofs.Covering.{sound_covered}
 use Rattle.gpu_block_pieces.proofs.Holding.{released_there}
+use Rattle.gpu_block_pieces.proofs.Amounts.{bytes_of, released_bytes}
 use Rattle.gpu_block_pieces.proofs.cut_block.CutBlock.free.Goals as goal
 use Rattle.gpu_block_pieces.proofs.cut_block.CutBlock.free.Goals.{After-release}
 use Rattle.std.specs.Prelude.{IfSome, IsSomeAnd}
@@ -27,21 +28,37 @@ returns-in_default-piece_around-clause-not_live c =
     subst (λ o. IfSome o (λ n. SomeExtent c.args.self.now (λ x. x.number ≡ non_zero_u64_get n) → ⊥)) (sym c.in-Some.is)
     (subst (λ (b : FreeList). SomeExtent b (λ x. x.number ≡ non_zero_u64_get c.in-Some.number) → ⊥) c.self.view_is (none_live i.chunks.size i.granularity i.counter i.chunks.items (non_zero_u64_get c.in-Some.number) none))
 
+the_bytes : (c : After-release) → bytes_of c.self.inside.chunks.items ≡ c.in-Some-piece_around.around.here.size + bytes_of c.release.new.self.items
+the_bytes c =
+    released_bytes c.self.inside.chunks.items c.release.new.self.items c.in-Some-piece_around.around c.new-empty.result c.self.invariant.1.distinct c.in-Some-piece_around.ensures.piece.1 c.release.ensures.released
+
+pub overflow_sub-self : goal.overflow_sub-self
+overflow_sub-self c =
+    let b = the_bytes ((goal.at.overflow_sub-self c).After-release) in
+    let i = c.self.invariant.4 in
+    omega arith
+
 pub invariant_of-self : goal.invariant_of-self
-invariant_of-self c = rw c.release.ensures.size (c.self.invariant.0, (the_release c).are, releases_separated (free_list_of c.self.inside.chunks.size c.self.inside.granularity c.self.inside.counter c.self.inside.chunks.items) (non_zero_u64_get c.in-Some.number) (free_list_of c.self.inside.chunks.size c.self.inside.granularity c.self.inside.counter c.release.new.self.items) c.self.invariant.2 (the_release c).releases, c.self.invariant.3)
+invariant_of-self c =
+    let at = (goal.at.invariant_of-self c).After-release in
+    let i = c.self.inside in
+    let r = the_release at in
+    let b = the_bytes at in
+    let held = c.self.invariant.4 in
+    rw c.release.ensures.size (c.self.invariant.0, r.are, releases_separated (free_list_of i.chunks.size i.granularity i.counter i.chunks.items) (non_zero_u64_get c.in-Some.number) (free_list_of i.chunks.size i.granularity i.counter c.release.new.self.items) c.self.invariant.2 r.releases, c.self.invariant.3, omega arith)
 
 pub returns-clause-freed : goal.returns-clause-freed
 returns-clause-freed c =
     let i = c.self.inside in
     let new = free_list_of i.chunks.size i.granularity i.counter c.release.new.self.items in
     rw c.release.ensures.size (subst (λ o. IsSomeAnd o (λ n. Releases c.args.self.now (non_zero_u64_get n) new)) (sym c.in-Some.is)
-    (subst (λ b. Releases b (non_zero_u64_get c.in-Some.number) new) c.self.view_is (the_release c).releases))
+    (subst (λ b. Releases b (non_zero_u64_get c.in-Some.number) new) c.self.view_is (the_release ((goal.at.returns-clause-freed c).After-release)).releases))
 
 pub returns-clause-sound : goal.returns-clause-sound
-returns-clause-sound c = rw c.release.ensures.size (sound_block c.release.new.self.items c.self.inside.chunks.size c.self.inside.granularity c.self.inside.counter (the_release c).are)
+returns-clause-sound c = rw c.release.ensures.size (sound_block c.release.new.self.items c.self.inside.chunks.size c.self.inside.granularity c.self.inside.counter (the_release ((goal.at.returns-clause-sound c).After-release)).are)
 
 pub returns-clause-separated : goal.returns-clause-separated
-returns-clause-separated c = releases_separated (free_list_of c.self.inside.chunks.size c.self.inside.granularity c.self.inside.counter c.self.inside.chunks.items) (non_zero_u64_get c.in-Some.number) (free_list_of c.self.inside.chunks.size c.self.inside.granularity c.self.inside.counter c.release.new.self.items) c.self.invariant.2 (the_release c).releases
+returns-clause-separated c = releases_separated (free_list_of c.self.inside.chunks.size c.self.inside.granularity c.self.inside.counter c.self.inside.chunks.items) (non_zero_u64_get c.in-Some.number) (free_list_of c.self.inside.chunks.size c.self.inside.granularity c.self.inside.counter c.release.new.self.items) c.self.invariant.2 (the_release ((goal.at.returns-clause-separated c).After-release)).releases
 
 pub returns-clause-covered : goal.returns-clause-covered
 returns-clause-covered c =
@@ -50,4 +67,4 @@ returns-clause-covered c =
     rw c.release.ensures.size (sound_covered (free_list_of i.chunks.size i.granularity i.counter c.release.new.self.items) (sound_block c.release.new.self.items i.chunks.size i.granularity i.counter (the_release at).are))
 
 pub returns-clause-ordered : goal.returns-clause-ordered
-returns-clause-ordered c = rw c.release.ensures.size (ordered_block c.release.new.self.items c.self.inside.chunks.size c.self.inside.granularity c.self.inside.counter (the_release c).are)
+returns-clause-ordered c = rw c.release.ensures.size (ordered_block c.release.new.self.items c.self.inside.chunks.size c.self.inside.granularity c.self.inside.counter (the_release ((goal.at.returns-clause-ordered c).After-release)).are)

@@ -1,4 +1,4 @@
-use Rattle.std.proofs.Common.{length, refl, sym, ◌∙◌, subst, true, false}
+use Rattle.std.proofs.Common.{◌≡◌, length, refl, sym, ◌∙◌, subst, true, false}
 use Rattle.std.specs.Prelude.{IsSomeAnd}
 use Rattle.std.specs.Int.NonZero.{non_zero_u64_get}
 use Rattle.gpu_block_pieces.specs.Changes.{Renames}
@@ -10,6 +10,7 @@ use Rattle.gpu_block_pieces.proofs.Covering.{sound_covered}
 use Rattle.gpu_block_pieces.proofs.Numbered.{rename_none, rename_live, rename_host, gap_told, none_in_view, live_in_view}
 use Rattle.gpu_block_pieces.proofs.Renaming.{Renamed, renamed, renames_separated}
 use Rattle.gpu_block_chunks.specs.Chain.{StandsAt}
+use Rattle.gpu_block_pieces.proofs.Amounts.{bytes_of, named_bytes}
 use Rattle.gpu_block_pieces.proofs.Holding.{held_at}
 use Rattle.gpu_block_pieces.proofs.cut_block.CutBlock.rename.Goals as goal
 use Rattle.gpu_block_pieces.proofs.cut_block.CutBlock.rename.Goals.{After-rename}
@@ -21,11 +22,19 @@ the_rename c =
     renamed c.self.inside.chunks.size c.self.inside.granularity c.self.inside.counter c.self.inside.chunks.items c.rename.new.self.items (length e.1.front) (non_zero_u64_get c.in-Some.number) c.in_ok-text.text c.args.name.now c.in_ok-text.ensures.ok c.self.invariant.1
     (subst (λ n. HoldsNumber c.self.inside.chunks.items n (length e.1.front)) c.get.ensures.value h) (c.rename.ensures.named (length e.1.front) (subst (λ n. HoldsNumber c.self.inside.chunks.items n (length e.1.front)) (c.get.ensures.value ∙ sym c.get-2.ensures.value) h))
 
+the_bytes : (c : After-rename) → bytes_of c.rename.new.self.items ≡ bytes_of c.self.inside.chunks.items
+the_bytes c =
+    let e = c.in-Some-piece.ensures.piece in
+    let h = subst (λ n. HoldsNumber c.self.inside.chunks.items n (length e.1.front)) (c.get.ensures.value ∙ sym c.get-2.ensures.value) (held_at c.self.inside.chunks.items c.in-Some-piece.piece.now c.get.result e.0 e.1) in
+    named_bytes c.self.inside.chunks.items c.rename.new.self.items c.get-2.result (length e.1.front) c.in_ok-text.text h (c.rename.ensures.named (length e.1.front) h)
+
 pub invariant_of-self : goal.invariant_of-self
 invariant_of-self c =
     let i = c.self.inside in
     let r = the_rename c in
-    rw c.rename.ensures.size (c.self.invariant.0, r.are, renames_separated (free_list_of i.chunks.size i.granularity i.counter i.chunks.items) (non_zero_u64_get c.in-Some.number) c.args.name.now (free_list_of i.chunks.size i.granularity i.counter c.rename.new.self.items) c.self.invariant.2 r.renames, c.self.invariant.3)
+    let b = the_bytes c in
+    let held = c.self.invariant.4 in
+    rw c.rename.ensures.size (c.self.invariant.0, r.are, renames_separated (free_list_of i.chunks.size i.granularity i.counter i.chunks.items) (non_zero_u64_get c.in-Some.number) c.args.name.now (free_list_of i.chunks.size i.granularity i.counter c.rename.new.self.items) c.self.invariant.2 r.renames, c.self.invariant.3, held ∙ sym b)
 
 pub returns-clause-renamed : goal.returns-clause-renamed
 returns-clause-renamed c =
