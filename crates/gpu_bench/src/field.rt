@@ -94,6 +94,11 @@ impl Field {
         }
     }
 
+    /// How many pieces a report shows.
+    pub fn report(&self) -> Result<usize> {
+        Ok(self.block.report_allocations()?.len())
+    }
+
     pub fn tally(&self) -> Tally {
         self.tally
     }

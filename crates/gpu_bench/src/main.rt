@@ -1,17 +1,22 @@
-// Times a block that is cut into pieces. What was granted and refused goes to standard output and is the same in every
-// run; what an operation took goes to standard error. With the argument `large` the runs are longer.
+// Times blocks, memory types and lent bytes. What was granted and refused goes to standard output and is the same in every
+// run; what an operation took goes to standard error. With the argument `large` the runs are longer; with `hold` nothing is
+// timed, and pieces are held while tools/host_memory counts their memory.
 #![tactic(auto)]
 
+mod blocks;
 mod cases;
 mod draw;
 mod error;
 mod field;
 mod gaps;
+mod lent;
 mod show;
 
 use crate::error::Result;
-use cases::{churn, fill_and_free};
+use blocks::beside_blocks;
+use cases::{Order, churn, fill_and_free, hold, report};
 use gaps::{beside_gaps, misaligned, never_fits, of_another_page, too_long};
+use lent::live_allocations;
 use std::env;
 
 /// How long the runs are.
@@ -22,6 +27,8 @@ struct Length {
     batches: u64,
     requests: u64,
     most_gaps: u64,
+    most_blocks: u64,
+    reports: u64,
 }
 
 const SHORT: Length = Length {
@@ -30,6 +37,8 @@ const SHORT: Length = Length {
     batches: 20,
     requests: 10,
     most_gaps: 10_000,
+    most_blocks: 100,
+    reports: 1,
 };
 
 const LONG: Length = Length {
@@ -38,13 +47,23 @@ const LONG: Length = Length {
     batches: 2_000,
     requests: 2_000,
     most_gaps: 50_000,
+    most_blocks: 1_000,
+    reports: 100,
 };
 
 /// What the argument asks for.
-fn length_asked(rt: &HostRuntime) -> Result<Length> {
+#[derive(Clone, Copy)]
+enum Run {
+    Timed(Length),
+    /// Nothing is timed: pieces are held while their memory is counted.
+    Held,
+}
+
+fn run_asked(rt: &HostRuntime) -> Result<Run> {
     match env::args(rt)?.nth(1) {
-        Some(word) if word.as_str() == "large" => Ok(LONG),
-        _ => Ok(SHORT),
+        Some(word) if word.as_str() == "large" => Ok(Run::Timed(LONG)),
+        Some(word) if word.as_str() == "hold" => Ok(Run::Held),
+        _ => Ok(Run::Timed(SHORT)),
     }
 }
 
@@ -73,12 +92,32 @@ fn refused(rt: &HostRuntime, length: Length) -> Result<()> {
     Ok(())
 }
 
-fn main(rt: HostRuntime) -> Result<()> {
-    let length = length_asked(&rt)?;
-    fill_and_free(&rt, length.rounds)?;
-    churn(&rt, 1, length.turns)?;
-    churn(&rt, 1_024, length.turns)?;
-    beside_more_gaps(&rt, length)?;
-    refused(&rt, length)?;
+/// Takes and releases beside more and more full blocks.
+fn beside_more_blocks(rt: &HostRuntime, length: Length) -> Result<()> {
+    for count in [1, 100, 1_000] {
+        if count <= length.most_blocks {
+            beside_blocks(rt, count, length.batches)?;
+        }
+    }
     Ok(())
+}
+
+/// One case after another.
+fn time_all(rt: &HostRuntime, length: Length) -> Result<()> {
+    fill_and_free(rt, Order::AsTaken, length.rounds)?;
+    fill_and_free(rt, Order::Mixed, length.rounds)?;
+    churn(rt, 1, length.turns)?;
+    churn(rt, 1_024, length.turns)?;
+    beside_more_gaps(rt, length)?;
+    refused(rt, length)?;
+    beside_more_blocks(rt, length)?;
+    report(rt, length.reports)?;
+    live_allocations(rt, length.reports)
+}
+
+fn main(rt: HostRuntime) -> Result<()> {
+    match run_asked(&rt)? {
+        Run::Timed(length) => time_all(&rt, length),
+        Run::Held => hold(&rt),
+    }
 }
