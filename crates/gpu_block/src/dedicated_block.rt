@@ -4,7 +4,7 @@ ghost use Rattle.std.specs.Prelude.{◌≡◌, ◌<◌, ◌≤◌, IfOk, OnOk, O
 ghost use Rattle.std.specs.Int.NonZero.{non_zero_u64_get};
 ghost use Rattle.gpu_values.specs.Refusal.{refusal_of, internal};
 
-use gpu_block_chunks::Chunk;
+use gpu_block_chunks::{Chunk, Name};
 use gpu_values::{AllocationError, AllocationType, Result, internal_fault};
 use std::alloc::Global;
 use std::marker::Model;
@@ -73,7 +73,7 @@ impl DedicatedBlockAllocator {
         if size != self.size {
             return Err(internal_fault("DedicatedBlockAllocator size must match allocation size."));
         }
-        let name = String::from_str(self.alloc, name)?;
+        let name = Name::new(self.alloc, name)?;
         self.piece = Some(Chunk {
             start: 0,
             size,
@@ -115,7 +115,7 @@ impl DedicatedBlockAllocator {
         match &mut self.piece {
             None => Err(internal_fault("Attempting to rename a freed allocation.")),
             Some(chunk) => {
-                chunk.name = String::from_str(self.alloc, name)?;
+                chunk.name = Name::new(self.alloc, name)?;
                 Ok(())
             }
         }

@@ -1,6 +1,6 @@
 //! The rows of a report, one for each piece.
 
-ghost use Rattle.std.specs.Prelude.{◌≡◌, ℕ, ◌^◌, ◌<◌, [], ◌∷◌, ◌++◌, map, All, IfOk, OnOk, string_bytes};
+ghost use Rattle.std.specs.Prelude.{◌≡◌, ℕ, ◌^◌, ◌<◌, [], ◌∷◌, ◌++◌, map, All, IfOk, OnOk};
 ghost use Rattle.gpu_block_chunks.specs.ChunkList.{Covers};
 ghost use Rattle.gpu_block_pieces.specs.Chunks.{IsChunk, extents_of};
 ghost use Rattle.gpu_values.specs.Report.{row_of};
@@ -12,7 +12,7 @@ use gpu_values::AllocationReport;
 use std::alloc::{AllocError, Global};
 
 fn row_of(alloc: Global, chunk: &Chunk, size: u64) -> Result<AllocationReport, AllocError>
-    ensures { IfOk result (λ a. row_of a ≡ record { name = string_bytes chunk.now.name; offset = chunk.now.offset; size = size }) }
+    ensures { IfOk result (λ a. row_of a ≡ record { name = chunk.now.name; offset = chunk.now.offset; size = size }) }
 {
     Ok(AllocationReport {
         name: String::from_str(alloc, chunk.name.as_str())?,

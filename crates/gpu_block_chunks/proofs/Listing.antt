@@ -203,12 +203,12 @@ left_listed [] k c back = refl
 left_listed (x ∷ []) k c back = left_by (x.1).kind x k c back
 left_listed (x ∷ (y ∷ ys)) k c back = ap (λ (cs : List Chunk). x.1 ∷ cs) (left_listed (y ∷ ys) k c back)
 
-pub release_listed : (ps qs front back : List (ℕ × Chunk)) (cs : List Chunk) (c : Chunk) (k : ℕ) (empty : Name) → chunks_in ps ≡ cs → Numbered ps → ps ≡ front ++ (k, c) ∷ back
-    → qs ≡ glue_left front k (right_chunk (freed c empty) back) (right_rest back) → IsReleased cs k empty (chunks_in qs)
-release_listed ps qs front back cs c k empty e n was is = record {
+pub release_listed : (ps qs front back : List (ℕ × Chunk)) (cs : List Chunk) (c : Chunk) (k : ℕ) → chunks_in ps ≡ cs → Numbered ps → ps ≡ front ++ (k, c) ∷ back
+    → qs ≡ glue_left front k (right_chunk (freed c []) back) (right_rest back) → IsReleased cs k (chunks_in qs)
+release_listed ps qs front back cs c k e n was is = record {
   chunk = c;
   at = stands_of ps front back cs k c was e n;
-  is = ap chunks_in is ∙ left_listed front k (right_chunk (freed c empty) back) (right_rest back) ∙ ap (join_front (chunks_in front)) (right_listed (freed c empty) back);
+  is = ap chunks_in is ∙ left_listed front k (right_chunk (freed c []) back) (right_rest back) ∙ ap (join_front (chunks_in front)) (right_listed (freed c []) back);
 }
 
 -- ---- what the chain's methods use
@@ -224,13 +224,13 @@ module _ (f : ℕ → Option Node) (first size : ℕ) (ps : List (ℕ × Chunk))
       let d = fill_done f g first size ps k offset kind name o change in
       (d.0, fill_listed ps (walk size g (Some first)) o.front o.back cs o.chunk k offset kind name shown chain.numbered o.was d.1)
 
-  pub released : (f1 f2 f3 : ℕ → Option Node) (k start : ℕ) (empty : Name) → HasNumber cs k → ((n : Node) → f k ≡ Some n → start ≡ (n.chunk).start)
-      → ChangesAt k (used_node start Free empty) f f1 → JoinsRight k f1 f2 → JoinsLeft k f2 f3
-      → IsChain f3 first size (walk size f3 (Some first)) × IsReleased cs k empty (chunks_in (walk size f3 (Some first)))
-  released f1 f2 f3 k start empty has ends change right left =
+  pub released : (f1 f2 f3 : ℕ → Option Node) (k start : ℕ) → HasNumber cs k → ((n : Node) → f k ≡ Some n → start ≡ (n.chunk).start)
+      → ChangesAt k (used_node start Free []) f f1 → JoinsRight k f1 f2 → JoinsLeft k f2 f3
+      → IsChain f3 first size (walk size f3 (Some first)) × IsReleased cs k (chunks_in (walk size f3 (Some first)))
+  released f1 f2 f3 k start has ends change right left =
       let o = open_at k has in
-      let d = release_done f f1 first size ps k start empty o ends change f2 right f3 left in
-      (d.0, release_listed ps (walk size f3 (Some first)) o.front o.back cs o.chunk k empty shown chain.numbered o.was d.1)
+      let d = release_done f f1 first size ps k start [] o ends change f2 right f3 left in
+      (d.0, release_listed ps (walk size f3 (Some first)) o.front o.back cs o.chunk k shown chain.numbered o.was d.1)
 
 -- a number that no chunk has: nothing is met
 pub from_none : (k : ℕ) (cs : List Chunk) → HasNoNumber cs k → from_number (Some k) cs ≡ []

@@ -1,8 +1,7 @@
 -- Chunks that a map holds by number, linked to their neighbours' numbers, and the list that they make.
-use Rattle.std.specs.Prelude.{◌≡◌, ◌≢◌, ℕ, ◌+◌, ◌^◌, ◌<◌, ◌⊎◌, zero, suc, List, [], ◌∷◌, ◌++◌, All, Option, Some, None, is_some, if◌then◌else◌, Bool, true, false, cond, ◌==◌, String}
+use Rattle.std.specs.Prelude.{◌≡◌, ◌≢◌, ℕ, ◌+◌, ◌^◌, ◌<◌, ◌⊎◌, zero, suc, List, [], ◌∷◌, ◌++◌, All, Option, Some, None, is_some, if◌then◌else◌, Bool, true, false, cond, ◌==◌}
 use Rattle.std.specs.Borrow.{Bor}
 use Rattle.std.specs.Option.{option_map}
-use Rattle.std.specs.declared.alloc.Global.{Global}
 use Rattle.gpu_values.specs.declared.allocation_type.AllocationType.{AllocationType}
 use Rattle.gpu_values.specs.declared.allocation_type.AllocationType.TheVariants.{Free, Linear, NonLinear}
 use Rattle.gpu_block_chunks.specs.declared.chunk.Chunk.{Chunk}
@@ -10,8 +9,9 @@ use Rattle.gpu_block_chunks.specs.declared.chain.Beside.{Beside}
 use Rattle.gpu_block_chunks.specs.declared.chain.Around.{Around}
 use Rattle.gpu_block_chunks.specs.ChunkList.{Covers, cut_chunk, filled_chunk, join_back, join_front}
 
+-- the bytes of a name
 abbrev pub Name : Type 0
-Name = String Global
+Name = List ℕ
 
 -- what a contract sees of a chain: its chunks in order, the block's size, and for how many more chunks it has room
 pub record Linked : Type 0 where
@@ -103,10 +103,10 @@ pub record IsFilled (old : List Chunk) (k offset : ℕ) (kind : AllocationType) 
   pub is : new ≡ at.front ++ filled_chunk chunk offset kind name ∷ at.back
 
 -- the chunk of number k is free, and one with the free chunks beside it
-pub record IsReleased (old : List Chunk) (k : ℕ) (empty : Name) (new : List Chunk) : Type 0 where
+pub record IsReleased (old : List Chunk) (k : ℕ) (new : List Chunk) : Type 0 where
   pub chunk : Chunk
   pub at : StandsAt old k chunk
-  pub is : new ≡ join_front at.front (join_back (filled_chunk chunk chunk.start Free empty) at.back)
+  pub is : new ≡ join_front at.front (join_back (filled_chunk chunk chunk.start Free []) at.back)
 
 -- ---- how the map holds the list: each chunk beside the number that it is held under
 

@@ -1,6 +1,5 @@
 -- Lists of chunks in the order of their starts: what they cover, and what a cut, another use and a join make of them.
-use Rattle.std.specs.Prelude.{◌≡◌, ◌≢◌, ℕ, ◌+◌, ◌-◌, ◌<◌, List, [], ◌∷◌, All, String}
-use Rattle.std.specs.declared.alloc.Global.{Global}
+use Rattle.std.specs.Prelude.{◌≡◌, ◌≢◌, ℕ, ◌+◌, ◌-◌, ◌<◌, List, [], ◌∷◌, All}
 use Rattle.gpu_values.specs.declared.allocation_type.AllocationType.{AllocationType}
 use Rattle.gpu_values.specs.declared.allocation_type.AllocationType.TheVariants.{Free, Linear, NonLinear}
 use Rattle.gpu_block_chunks.specs.declared.chunk.Chunk.{Chunk}
@@ -24,7 +23,7 @@ AreDistinct (c ∷ cs) = All (λ d. d.number ≢ c.number) cs × AreDistinct cs
 abbrev pub cut_chunk : Chunk → ℕ → Chunk
 cut_chunk c taken = record c { start = c.start + taken; size = c.size - taken; offset = c.start + taken }
 
-abbrev pub filled_chunk : Chunk → ℕ → AllocationType → String Global → Chunk
+abbrev pub filled_chunk : Chunk → ℕ → AllocationType → List ℕ → Chunk
 filled_chunk c offset kind name = record c { offset = offset; kind = kind; name = name }
 
 -- two chunks as one

@@ -1,3 +1,4 @@
+pub mod Name
 pub mod ChunkList
 pub mod Chain
 pub mod Slots

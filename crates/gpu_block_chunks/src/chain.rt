@@ -8,16 +8,15 @@ ghost use Rattle.gpu_block_chunks.specs.ChunkList.{Covers, AreDistinct};
 ghost use Rattle.gpu_block_chunks.specs.Chain.{HasNumber, HasNoNumber, IsAround, neighbours, IsSplit, IsFilled, IsReleased, from_number, beside, beside_of, first_after, IsChunkAt, IsFresh, IsLonger};
 
 mod link;
-mod new_chunk;
 mod node;
 mod nodes;
 mod slots;
 
 use crate::chunk::Chunk;
+use crate::name::Name;
 use gpu_cost::Cost;
 use gpu_values::AllocationType;
 use link::{Link, LinkedChunk, number_of};
-pub use new_chunk::NewChunk;
 use node::{cut_front, ends_of, join_left, join_right, linked_at, set_next_of, set_use};
 use nodes::Nodes;
 use std::alloc::{AllocError, Global};
@@ -118,8 +117,7 @@ impl Chain {
             kind: AllocationType::Free,
             number: 1,
         };
-        let chunk = NewChunk::new(alloc, String::new(alloc))?;
-        nodes.put(1, chunk.linked(here, 0, None, None));
+        nodes.put(1, LinkedChunk::new(here, 0, Name::empty(), None, None));
         Ok(Chain {
             nodes,
             first: 1,
@@ -190,14 +188,14 @@ impl Chain {
         taken: u64,
         offset: u64,
         kind: AllocationType,
-        chunk: NewChunk,
+        name: Name,
         cost: &mut Cost,
     )
         requires longer { IsLonger self.old.chunks number taken }
         requires positive { 0 < taken }
         requires fresh { HasNoNumber self.old.chunks new }
         requires room { 0 < self.old.room }
-        ensures chunks { IsSplit self.old.chunks number taken new offset kind chunk self.new.chunks }
+        ensures chunks { IsSplit self.old.chunks number taken new offset kind name self.new.chunks }
         ensures size { self.new.size ≡ self.old.size }
         ensures counted { LooksUpBetween 3 4 cost.old cost.new }
     {
@@ -213,7 +211,7 @@ impl Chain {
         cost.look_up();
         let piece = self
             .nodes
-            .put(new, chunk.linked(here, offset, ends.prev, Some(rest)));
+            .put(new, LinkedChunk::new(here, offset, name, ends.prev, Some(rest)));
         cut_front(&mut self.nodes, rest, taken, Some(piece), cost);
         set_next_of(&mut self.nodes, ends.prev, Some(piece), cost);
         self.first = first_of(number_of(ends.prev), new, self.first);
@@ -225,7 +223,7 @@ impl Chain {
         number: u64,
         offset: u64,
         kind: AllocationType,
-        name: String,
+        name: Name,
         cost: &mut Cost,
     )
         requires there { HasNumber self.old.chunks number }
@@ -239,9 +237,9 @@ impl Chain {
     }
 
     /// Frees a chunk, and joins it with the free chunks beside it. It takes no memory.
-    pub fn release(&mut self, number: u64, empty: String, cost: &mut Cost)
+    pub fn release(&mut self, number: u64, cost: &mut Cost)
         requires there { HasNumber self.old.chunks number }
-        ensures chunks { IsReleased self.old.chunks number empty self.new.chunks }
+        ensures chunks { IsReleased self.old.chunks number self.new.chunks }
         ensures size { self.new.size ≡ self.old.size }
         ensures counted { LooksUpBetween 4 12 cost.old cost.new }
     {
@@ -253,7 +251,7 @@ impl Chain {
             at,
             start,
             AllocationType::Free,
-            empty,
+            Name::empty(),
             cost,
         );
         join_right(&mut self.nodes, at, cost);

@@ -2,6 +2,7 @@
 
 ghost use Rattle.std.specs.Prelude.{IsTrue, ◌↔◌};
 
+use crate::name::Name;
 use gpu_values::AllocationType;
 
 /// The bytes `start..start + size` of a block, which belong to one piece or are free.
@@ -13,7 +14,7 @@ pub struct Chunk {
     pub offset: u64,
     pub kind: AllocationType,
     pub number: u64,
-    pub name: String,
+    pub name: Name,
 }
 
 ghost use Rattle.gpu_block_chunks.specs.ChunkList.{IsFree};

@@ -3,8 +3,10 @@
 
 mod chain;
 mod chunk;
+mod name;
 mod walk;
 
-pub use chain::{Around, Beside, Chain, NewChunk};
+pub use chain::{Around, Beside, Chain};
 pub use chunk::{Chunk, is_free};
+pub use name::Name;
 pub use walk::Walk;

@@ -1,5 +1,5 @@
 -- The order of gaps.
-use Rattle.std.proofs.Common.{sym, ◌+◌, ◌-◌, ◌≤◌, List, length, get_or, ◌≡◌, ℕ, ◌<◌, inl, inr, ⊎_elim, arith, subst}
+use Rattle.std.proofs.Common.{sym, ◌∙◌, ◌+◌, ◌-◌, ◌≤◌, List, length, get_or, ◌≡◌, ℕ, ◌<◌, inl, inr, ⊎_elim, arith, subst}
 use Rattle.std.specs.List.{AllPairs, insert, remove}
 use Rattle.std.proofs.lemmas.List.Edits.{length-insert, get_or-insert_below, get_or-insert_at, get_or-insert_above}
 use Rattle.std.proofs.lemmas.Bool.{cases_lt}
@@ -110,3 +110,26 @@ pub is_removed : (xs gs new : List Gap) (l s p : ℕ) (d : Gap) → gs ≡ xs �
 is_removed xs gs new l s p d eg ordered place has_gs is =
     let w = place_within xs gs l s p d eg ordered place has_gs in
     subst (λ (zs : List Gap). IsRemoved zs l s new) (sym eg) (record { place = p; within = w.0; key = w.1; is = is })
+
+-- the place of an entry is that of its key
+pub place_of_key : (gs : List Gap) (size start place : ℕ) → AllPairs Before gs → place < length gs → ((d : Gap) → HasKey (get_or gs place d) size start) → IsPlaceOf gs size start place
+place_of_key gs size start place ordered within key =
+    record {
+      within = omega arith;
+      below = λ k d lt. (let h = key d in
+          elim (ordered k place d lt within) [
+            | inl shorter ↦ inl (omega (arith, h.0))
+            | inr same ↦ inr (same.0 ∙ h.0, omega (arith, same.1, h.1))
+          ]);
+      from = λ k d le lt before. (let h = key d in
+          elim (cases_lt place k) [
+            | inl behind ↦ elim (ordered place k d behind lt) [
+              | inl longer ↦ elim before [ inl a ↦ omega (arith, h.0) | inr b ↦ omega (arith, h.0, b.0) ]
+              | inr same ↦ elim before [ inl a ↦ omega (arith, h.0, same.0) | inr b ↦ omega (arith, h.1, same.1, b.1) ]
+            ]
+            | inr up ↦
+                let is : place ≡ k = omega arith in
+                let here : HasKey (get_or gs k d) size start = subst (λ j. HasKey (get_or gs j d) size start) is h in
+                elim before [ inl a ↦ omega (arith, here.0) | inr b ↦ omega (arith, here.1, b.1) ]
+          ]);
+    }

@@ -2,7 +2,7 @@
 ghost use Rattle.std.specs.Prelude.{◌≡◌, ℕ, ◌+◌, ◌<◌, ◌≤◌, List, [], length, slice_index_or, OnOk, OnErr, IsOk, IsTrue};
 ghost use Rattle.std.specs.List.{AllPairs, insert, remove};
 ghost use Rattle.gpu_cost.specs.Cost.{Halves};
-ghost use Rattle.gpu_block_gaps.specs.Index.{Before, IsBefore, IsPlaceOf, HasNoKey, HasKeyAt, IsInserted, IsRemoved, IsReplaced, HasLength, place_without};
+ghost use Rattle.gpu_block_gaps.specs.Index.{Before, IsBefore, IsPlaceOf, HasKey, HasNoKey, HasKeyAt, IsInserted, IsRemoved, IsReplaced, HasLength, place_without};
 
 use crate::scan::Scan;
 use gpu_cost::Cost;
@@ -62,6 +62,34 @@ fn place_of(entries: &TieredVec<Gap>, size: u64, start: u64) -> usize
         }
     }
     low
+}
+
+/// Whether the entry at a place, if there is one, has that key.
+fn has_key_at(entries: &TieredVec<Gap>, place: usize, size: u64, start: u64) -> bool
+    ensures { IsTrue result → (place < length entries.now.entries) × ((d : Gap) → HasKey (slice_index_or entries.now.entries place d) size start) }
+{
+    if place >= entries.len() {
+        return false;
+    }
+    let gap = entries.get(place);
+    gap.length == size && gap.start == start
+}
+
+/// The place of the key among entries in order, where one with that key may stand at the place where it was seen: then it isn't
+/// looked for.
+fn place_near(
+    entries: &TieredVec<Gap>,
+    size: u64,
+    start: u64,
+    seen: Option<usize>,
+) -> usize
+    requires { AllPairs Before entries.now.entries }
+    ensures { IsPlaceOf entries.now.entries size start result }
+{
+    match seen {
+        Some(place) if has_key_at(entries, place, size, start) => place,
+        _ => place_of(entries, size, start),
+    }
 }
 
 /// The place of the first entry of at least that length, among entries in order.
@@ -171,26 +199,27 @@ impl GapIndex {
         self.entries.insert(place, gap);
     }
 
-    /// Takes the gap of that length and start away.
-    pub fn remove(&mut self, size: u64, start: u64)
+    /// Takes the gap of that length and start away. It isn't looked for where it stands at the place where it was seen.
+    pub fn remove(&mut self, size: u64, start: u64, seen: Option<usize>)
         requires { HasKeyAt self.old.gaps size start }
         ensures gaps { IsRemoved self.old.gaps size start self.new.gaps }
         ensures ordered { AllPairs Before self.old.gaps }
         ensures room { self.new.room ≡ self.old.room }
     {
-        let place = place_of(&self.entries, size, start);
+        let place = place_near(&self.entries, size, start, seen);
         let _ = self.entries.remove(place);
     }
 
-    /// Puts a gap in its place, and the one of that length and start away. It takes no memory.
-    pub fn replace(&mut self, size: u64, start: u64, gap: Gap)
+    /// Puts a gap in its place, and the one of that length and start away, which isn't looked for where it stands at the place where it
+    /// was seen. It takes no memory.
+    pub fn replace(&mut self, size: u64, start: u64, seen: Option<usize>, gap: Gap)
         requires there { HasKeyAt self.old.gaps size start }
         requires fresh { (rest : List Gap) → IsRemoved self.old.gaps size start rest → HasNoKey rest gap.length gap.start }
         ensures gaps { IsReplaced self.old.gaps size start gap self.new.gaps }
         ensures ordered { AllPairs Before self.old.gaps }
         ensures room { self.new.room ≡ self.old.room }
     {
-        let from = place_of(&self.entries, size, start);
+        let from = place_near(&self.entries, size, start, seen);
         let to = place_of(&self.entries, gap.length, gap.start);
         move_entry(&mut self.entries, from, to, gap);
     }

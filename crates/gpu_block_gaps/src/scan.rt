@@ -60,6 +60,13 @@ impl<'a> Scan<'a> {
         }
     }
 
+    /// The place of the next gap.
+    pub fn place(&self) -> usize
+        ensures { result ≡ self.now.place }
+    {
+        self.end - self.piece.len()
+    }
+
     /// The next gap, to be tested.
     pub fn next(&mut self, cost: &mut Cost) -> Option<Gap>
         ensures gap { result ≡ slice_get self.old.gaps self.old.place }

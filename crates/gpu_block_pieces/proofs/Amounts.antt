@@ -1,7 +1,5 @@
 -- The bytes of a block's pieces, padding included, and what a take, a release and a new name make of them.
 use Rattle.std.proofs.Common.{◌≡◌, ◌≢◌, ℕ, ◌+◌, ◌-◌, ◌≤◌, List, [], ◌∷◌, ◌++◌, refl, sym, ap, ◌∙◌, subst, inl, inr, arith}
-use Rattle.std.specs.Prelude.{String}
-use Rattle.std.specs.declared.alloc.Global.{Global}
 use Rattle.std.proofs.lemmas.List.Sums.{sum_by-append, sum_by-cons}
 use Rattle.gpu_block_chunks.specs.declared.chunk.Chunk.{Chunk}
 use Rattle.gpu_block_chunks.specs.declared.chain.Beside.{Beside}
@@ -92,12 +90,12 @@ bytes-front (a ∷ b ∷ front) c back f =
     let three = bytes-cons a (b ∷ front) in
     omega arith
 
-pub released_bytes : (cs ds : List Chunk) (a : Around) (empty : String Global) → AreDistinct cs → IsPieceAt cs a → IsReleased cs a.here.number empty ds → bytes_of cs ≡ a.here.size + bytes_of ds
-released_bytes cs ds a empty w p r =
+pub released_bytes : (cs ds : List Chunk) (a : Around) → AreDistinct cs → IsPieceAt cs a → IsReleased cs a.here.number ds → bytes_of cs ≡ a.here.size + bytes_of ds
+released_bytes cs ds a w p r =
     let at = p.around.at in
     let chunk = p.around.chunk in
     let s = stands_once cs at.front at.back chunk r.chunk a.here.number w r.at at.split at.numbered in
-    let gap = filled_chunk r.chunk r.chunk.start Free empty in
+    let gap = filled_chunk r.chunk r.chunk.start Free [] in
     let j = joined gap r.at.back tt in
     let live : IsFree r.chunk.kind → ⊥ = λ f. p.live (subst (λ (b : Beside). IsFree b.kind) (sym p.around.here) (subst (λ (x : Chunk). IsFree x.kind) (sym s.chunks) f)) in
     let size : a.here.size ≡ r.chunk.size = ap (λ (b : Beside). b.size) p.around.here ∙ ap (λ (x : Chunk). x.size) s.chunks in
@@ -113,7 +111,7 @@ not_free Free ne f = ne refl
 not_free Linear ne f = f
 not_free NonLinear ne f = f
 
-pub taken_bytes : (cs ds : List Chunk) (w : Wanted) (f : Found) (counter number : ℕ) (name : String Global) → (h : IsChosen cs w f) → w.kind ≢ Free → IsTaken cs (chosen_at cs w f h) w counter name number ds
+pub taken_bytes : (cs ds : List Chunk) (w : Wanted) (f : Found) (counter number : ℕ) (name : List ℕ) → (h : IsChosen cs w f) → w.kind ≢ Free → IsTaken cs (chosen_at cs w f h) w counter name number ds
     → bytes_of ds ≡ bytes_of cs + (f.offset + w.size - f.gap.start)
 taken_bytes cs ds w f counter number name h kind taken =
     let fits = h.best.fits in
@@ -150,6 +148,6 @@ room_for cs size w f h covers =
 
 -- ---- a new name
 
-pub named_bytes : (cs ds : List Chunk) (number i : ℕ) (name : String Global) → HoldsNumber cs number i → IsNamedAt cs i name ds → bytes_of ds ≡ bytes_of cs
+pub named_bytes : (cs ds : List Chunk) (number i : ℕ) (name : List ℕ) → HoldsNumber cs number i → IsNamedAt cs i name ds → bytes_of ds ≡ bytes_of cs
 named_bytes cs ds number i name h named =
     bytes-mid ds h.front h.back (named_chunk h.chunk name) (named h.front h.chunk h.back h.split h.index) h.live ∙ sym (bytes-mid cs h.front h.back h.chunk h.split h.live)

@@ -189,13 +189,13 @@ module _ (cs ds : List Chunk) (w : Wanted) (f : Found) (counter : ℕ) (name : N
 
 -- ---- what the free list reads of a change
 
-pub record ReleasedThere (cs ds : List Chunk) (n : ℕ) (empty : Name) : Type 0 where
+pub record ReleasedThere (cs ds : List Chunk) (n : ℕ) : Type 0 where
   pub index : ℕ
   pub held : HoldsNumber cs n index
-  pub released : IsReleasedAt cs index empty ds
+  pub released : IsReleasedAt cs index ds
 
-pub released_there : (cs ds : List Chunk) (a : Around) (n : ℕ) (empty : Name) → AreDistinct cs → a.here.number ≡ n → IsPieceAt cs a → IsReleased cs a.here.number empty ds → ReleasedThere cs ds n empty
-released_there cs ds a n empty w e p r =
+pub released_there : (cs ds : List Chunk) (a : Around) (n : ℕ) → AreDistinct cs → a.here.number ≡ n → IsPieceAt cs a → IsReleased cs a.here.number ds → ReleasedThere cs ds n
+released_there cs ds a n w e p r =
     let at = p.around.at in
     let chunk = p.around.chunk in
     record {
@@ -212,9 +212,9 @@ released_there cs ds a n empty w e p r =
       released = λ front c back q len.
           let m = same_parts cs front back at.front at.back c chunk q at.split len in
           let s = stands_once cs front back c r.chunk a.here.number w r.at q (ap (λ (x : Chunk). x.number) m.middle ∙ at.numbered) in
-          r.is ∙ (ap (λ (xs : List Chunk). join_front xs (join_back (filled_chunk r.chunk r.chunk.start Free empty) r.at.back)) (sym s.fronts)
-          ∙ (ap (λ (x : Chunk). join_front front (join_back (filled_chunk x x.start Free empty) r.at.back)) (sym s.chunks)
-          ∙ ap (λ (xs : List Chunk). join_front front (join_back (filled_chunk c c.start Free empty) xs)) (sym s.backs)));
+          r.is ∙ (ap (λ (xs : List Chunk). join_front xs (join_back (filled_chunk r.chunk r.chunk.start Free []) r.at.back)) (sym s.fronts)
+          ∙ (ap (λ (x : Chunk). join_front front (join_back (filled_chunk x x.start Free []) r.at.back)) (sym s.chunks)
+          ∙ ap (λ (xs : List Chunk). join_front front (join_back (filled_chunk c c.start Free []) xs)) (sym s.backs)));
     }
 
 pub held_at : (cs : List Chunk) (c : Chunk) (n : ℕ) → (IsFree c.kind → ⊥) → (s : StandsAt cs n c) → HoldsNumber cs n (length s.front)

@@ -11,7 +11,7 @@ use Rattle.gpu_values.specs.declared.allocation_type.AllocationType.{AllocationT
 use Rattle.gpu_values.specs.declared.allocation_type.AllocationType.TheVariants.{Free, Linear, NonLinear}
 use Rattle.gpu_block_chunks.specs.ChunkList.{IsFree, Covers, AreDistinct, filled_chunk, joined_chunk, join_back, join_front}
 use Rattle.gpu_block_pieces.specs.Chunks.{NotBothFree, NoneTouch, last_kind, extents_of, extent}
-use Rattle.gpu_block_chunks.specs.Chain.{Name, HasNumber, IsReleased, beside, last_beside, first_beside}
+use Rattle.gpu_block_chunks.specs.Chain.{HasNumber, IsReleased, beside, last_beside, first_beside}
 use Rattle.gpu_block_gaps.specs.Index.{Before, HasKeyAt, HasNoKey, IsRemoved, IsInserted}
 use Rattle.gpu_block_pieces.specs.Indexed.{gap_between, kind_or, gap_first, gaps_between, HasSame, IsListed, IsPieceAt, Forgets, ForgetsBy, IsGapBeside, MayForget, MayForgetBy, first_of, first_by}
 use Rattle.gpu_block_pieces.proofs.Tiling.{around, last_kind-push}
@@ -238,7 +238,7 @@ right_side k (r ∷ bs) touch = elim (free_or_live r.kind) [
 
 -- ---- the whole release
 
-module _ (cs ds : List Chunk) (gs : List Gap) (a : Around) (empty : Name) (listed : IsListed cs gs) (piece : IsPieceAt cs a) (distinct : AreDistinct cs) (released : IsReleased cs a.here.number empty ds) where
+module _ (cs ds : List Chunk) (gs : List Gap) (a : Around) (listed : IsListed cs gs) (piece : IsPieceAt cs a) (distinct : AreDistinct cs) (released : IsReleased cs a.here.number ds) where
   abbrev pub front : List Chunk
   front = piece.around.at.front
 
@@ -249,7 +249,7 @@ module _ (cs ds : List Chunk) (gs : List Gap) (a : Around) (empty : Name) (liste
   back = piece.around.at.back
 
   abbrev pub freed : Chunk
-  freed = filled_chunk chunk chunk.start Free empty
+  freed = filled_chunk chunk chunk.start Free []
 
   live : IsFree chunk.kind → ⊥
   live f = piece.live (subst (λ (b : Beside). IsFree b.kind) (sym piece.around.here) f)
@@ -269,8 +269,8 @@ module _ (cs ds : List Chunk) (gs : List Gap) (a : Around) (empty : Name) (liste
   released_is : ds ≡ join_front front (join_back freed back)
   released_is =
       let s = stands_once cs front back chunk released.chunk a.here.number distinct released.at piece.around.at.split piece.around.at.numbered in
-      released.is ∙ (ap (λ (xs : List Chunk). join_front xs (join_back (filled_chunk released.chunk released.chunk.start Free empty) released.at.back)) (sym s.fronts)
-      ∙ (ap (λ (x : Chunk). join_front front (join_back (filled_chunk x x.start Free empty) released.at.back)) (sym s.chunks)
+      released.is ∙ (ap (λ (xs : List Chunk). join_front xs (join_back (filled_chunk released.chunk released.chunk.start Free []) released.at.back)) (sym s.fronts)
+      ∙ (ap (λ (x : Chunk). join_front front (join_back (filled_chunk x x.start Free []) released.at.back)) (sym s.chunks)
       ∙ ap (λ (xs : List Chunk). join_front front (join_back freed xs)) (sym s.backs)))
 
   pub gap_split : ds ≡ left.outer ++ gap ∷ right.rest

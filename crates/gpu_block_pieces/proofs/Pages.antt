@@ -46,6 +46,21 @@ up_within x l m r pos order e near =
     let multiple : next_multiple_of x m ≤ l / m * m = (next_up x m pos).least (l / m * m) (omega arith) (mul-mod_left (l / m) m) in
     omega arith
 
+-- where the last multiple up to l is before x, there is none from x on up to l
+pub no_multiple_within : (x l m r : ℕ) → 0 < m → x ≤ l → r ≡ l % m → l - x < r → next_multiple_of x m ≤ l → ⊥
+no_multiple_within x l m r pos order e near within =
+    let up = next_up x m pos in
+    let low = up.up in
+    let whole = div-add-mod' l m in
+    let below : l % m < m = mod_below l m pos in
+    elim (cases_lt (l / m * m) (next_multiple_of x m)) [
+      | inl above ↦
+          let next = next_multiple_above m (next_multiple_of x m) (l / m) pos up.multiple above in
+          let step : (l / m + 1) * m ≡ l / m * m + m = omega arith in
+          omega arith
+      | inr ge ↦ omega arith
+    ]
+
 pub over : (x m r : ℕ) → 0 < m → r ≡ x % m → (r ≡ 0 → ⊥) → x + (m - r) ≡ next_multiple_of x m
 over x m r pos e some =
     let below : x % m < m = mod_below x m pos in

@@ -1,7 +1,6 @@
 -- A take by the allocator, from what the search and the edit say.
 use Rattle.std.proofs.Common.{◌≡◌, ◌≢◌, ℕ, ◌+◌, ◌-◌, ◌^◌, ◌<◌, ◌≤◌, List, ◌∷◌, ◌++◌, length, refl, sym, ap, ◌∙◌, subst, inl, inr, arith, Bool, true, false}
-use Rattle.std.specs.Prelude.{Contains, String, string_bytes, Result, Ok, Err, IfErr, IsErrAnd}
-use Rattle.std.specs.declared.alloc.Global.{Global}
+use Rattle.std.specs.Prelude.{Contains, Result, Ok, Err, IfErr, IsErrAnd}
 use Rattle.gpu_block_chunks.specs.declared.chunk.Chunk.{Chunk}
 use Rattle.gpu_block_pieces.specs.declared.place.Wanted.{Wanted}
 use Rattle.gpu_block_pieces.specs.Chunks.{FoundAt}
@@ -33,7 +32,7 @@ are_at cs ds size counter e h = subst (λ (xs : List Chunk). AreChunks xs size c
 pub laid_out : (cs : List Chunk) (size counter : ℕ) → size < 2 ^ 64 → AreChunks cs size counter → IsLaidOut cs
 laid_out cs size counter lt h = (size, lt, h.covers)
 
-module _ (cs new : List Chunk) (size counter : ℕ) (w : Wanted) (f : FoundAt) (name : String Global) (number : ℕ) (are : AreChunks cs size counter) (pos : 0 < w.size) (piece : w.kind ≢ Free) (best : IsBestOf cs w (length cs) f) (taken : IsTaken cs f w counter name number new) where
+module _ (cs new : List Chunk) (size counter : ℕ) (w : Wanted) (f : FoundAt) (name : List ℕ) (number : ℕ) (are : AreChunks cs size counter) (pos : 0 < w.size) (piece : w.kind ≢ Free) (best : IsBestOf cs w (length cs) f) (taken : IsTaken cs f w counter name number new) where
   the_taken : TakenFrom best.fits.front best.fits.chunk best.fits.back f w counter name number new
   the_taken = taken best.fits.front best.fits.chunk best.fits.back best.fits.split best.fits.index
 
@@ -78,7 +77,7 @@ module _ (cs new : List Chunk) (size counter : ℕ) (w : Wanted) (f : FoundAt) (
         are_at _ new size (counter + 1) (sym (the_taken.rest rest).1)
         (rest_are size counter best.fits.front best.fits.back best.fits.chunk rest_piece parts best.fits.free (piece_live w.kind piece) refl (omega arith) (omega arith) rest_chunk refl)
 
-    pub rest_takes : (text : List ℕ) → string_bytes name ≡ text → counter < 2 ^ 64 - 1 → Takes (free_list_of size w.granularity counter cs) (request w.size w.alignment w.kind text) f.offset number (free_list_of size w.granularity (counter + 1) new)
+    pub rest_takes : (text : List ℕ) → name ≡ text → counter < 2 ^ 64 - 1 → Takes (free_list_of size w.granularity counter cs) (request w.size w.alignment w.kind text) f.offset number (free_list_of size w.granularity (counter + 1) new)
     rest_takes text e left =
         let l = low in let h = high in
         let t = the_taken.rest rest in
@@ -90,8 +89,8 @@ module _ (cs new : List Chunk) (size counter : ℕ) (w : Wanted) (f : FoundAt) (
           start = fs.chunk.start;
           end = fs.chunk.start + fs.chunk.size;
           chosen = chosen_of_best cs size counter w text are.covers are.none_touch piece f best;
-          extent = ap extents_of t.1 ∙ (xs ∙ (ap (λ ys. with_extent (shown (string_bytes name) (fs.chunk.start + (f.offset + w.size - fs.chunk.start)) counter) (extents_of ys)) (sym fs.split)
-              ∙ (ap (λ k. with_extent (shown (string_bytes name) k counter) (extents_of cs)) end ∙ (ap (λ k. with_extent (shown k (f.offset + w.size) counter) (extents_of cs)) e ∙ ap (λ k. with_extent (shown text (f.offset + w.size) k) (extents_of cs)) (sym t.0)))));
+          extent = ap extents_of t.1 ∙ (xs ∙ (ap (λ ys. with_extent (shown (name) (fs.chunk.start + (f.offset + w.size - fs.chunk.start)) counter) (extents_of ys)) (sym fs.split)
+              ∙ (ap (λ k. with_extent (shown (name) k counter) (extents_of cs)) end ∙ (ap (λ k. with_extent (shown k (f.offset + w.size) counter) (extents_of cs)) e ∙ ap (λ k. with_extent (shown text (f.offset + w.size) k) (extents_of cs)) (sym t.0)))));
           rest = λ _. (t.0, refl, ap gaps_of t.1 ∙ (gs ∙ (ap (λ k. moved_gap fs.chunk.start k (gaps_of (fs.front ++ fs.chunk ∷ fs.back))) end ∙ ap (λ ys. moved_gap fs.chunk.start (f.offset + w.size) (gaps_of ys)) (sym fs.split))), left);
           no_rest = λ q. absurd (omega arith);
           same = (refl, refl);
@@ -109,7 +108,7 @@ module _ (cs new : List Chunk) (size counter : ℕ) (w : Wanted) (f : FoundAt) (
         are_at _ new size counter (sym (the_taken.whole whole).1)
         (whole_are size counter best.fits.front best.fits.back best.fits.chunk whole_piece parts best.fits.free (piece_live w.kind piece) refl refl whole_chunk refl)
 
-    pub whole_takes : (text : List ℕ) → string_bytes name ≡ text → Takes (free_list_of size w.granularity counter cs) (request w.size w.alignment w.kind text) f.offset number (free_list_of size w.granularity counter new)
+    pub whole_takes : (text : List ℕ) → name ≡ text → Takes (free_list_of size w.granularity counter cs) (request w.size w.alignment w.kind text) f.offset number (free_list_of size w.granularity counter new)
     whole_takes text e =
         let l = low in let h = high in
         let t = the_taken.whole whole in
@@ -122,8 +121,8 @@ module _ (cs new : List Chunk) (size counter : ℕ) (w : Wanted) (f : FoundAt) (
           start = fs.chunk.start;
           end = fs.chunk.start + fs.chunk.size;
           chosen = chosen_of_best cs size counter w text are.covers are.none_touch piece f best;
-          extent = ap extents_of t.1 ∙ (xs ∙ (ap (λ ys. with_extent (shown (string_bytes name) (fs.chunk.start + fs.chunk.size) fs.chunk.number) (extents_of ys)) (sym fs.split)
-              ∙ (ap (λ k. with_extent (shown (string_bytes name) k fs.chunk.number) (extents_of cs)) end ∙ (ap (λ k. with_extent (shown k (f.offset + w.size) fs.chunk.number) (extents_of cs)) e ∙ ap (λ k. with_extent (shown text (f.offset + w.size) k) (extents_of cs)) (sym t.0)))));
+          extent = ap extents_of t.1 ∙ (xs ∙ (ap (λ ys. with_extent (shown (name) (fs.chunk.start + fs.chunk.size) fs.chunk.number) (extents_of ys)) (sym fs.split)
+              ∙ (ap (λ k. with_extent (shown (name) k fs.chunk.number) (extents_of cs)) end ∙ (ap (λ k. with_extent (shown k (f.offset + w.size) fs.chunk.number) (extents_of cs)) e ∙ ap (λ k. with_extent (shown text (f.offset + w.size) k) (extents_of cs)) (sym t.0)))));
           rest = λ q. absurd (omega arith);
           no_rest = λ _. (subst (λ k. Contains (gaps_of cs) (fs.chunk.start, k)) (sym t.0) (subst (λ (ys : List Chunk). Contains (gaps_of ys) (fs.chunk.start, fs.chunk.number)) (sym fs.split) ns), refl, ap gaps_of t.1 ∙ (gs ∙ ap (λ ys. without_gap fs.chunk.start (gaps_of ys)) (sym fs.split)));
           same = (refl, refl);

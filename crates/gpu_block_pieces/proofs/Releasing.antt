@@ -1,7 +1,6 @@
 -- What a release leaves, said of the block.
 use Rattle.std.proofs.Common.{◌≡◌, ◌≢◌, ℕ, ◌+◌, ◌<◌, ◌≤◌, ◌⊎◌, List, [], ◌∷◌, ◌++◌, length, refl, sym, ap, ◌∙◌, subst, inl, inr, arith, eqb}
-use Rattle.std.specs.Prelude.{All, String, not}
-use Rattle.std.specs.declared.alloc.Global.{Global}
+use Rattle.std.specs.Prelude.{All, not}
 use Rattle.std.proofs.lemmas.List.{append_assoc, append-nil}
 use Rattle.std.proofs.lemmas.List.Elements.{All-nil, All-cons, All-head, All-tail, All-weaker, All-append, All-contains, filter-append}
 use Rattle.gpu_block_chunks.specs.declared.chunk.Chunk.{Chunk}
@@ -24,14 +23,14 @@ is_free_kind Free h = refl
 is_free_kind Linear h = absurd h
 is_free_kind NonLinear h = absurd h
 
-abbrev pub freed : Chunk → String Global → Chunk
-freed c empty = filled_chunk c c.start Free empty
+abbrev pub freed : Chunk → Chunk
+freed c = filled_chunk c c.start Free []
 
 -- the freed chunk and what stands behind it, after the join
-pub record Behind (counter size : ℕ) (c : Chunk) (empty : String Global) (back : List Chunk) : Type 0 where
+pub record Behind (counter size : ℕ) (c : Chunk) (back : List Chunk) : Type 0 where
   pub gap : Chunk
   pub rest : List Chunk
-  pub is : join_back (freed c empty) back ≡ gap ∷ rest
+  pub is : join_back (freed c) back ≡ gap ∷ rest
   pub start : gap.start ≡ c.start
   pub number : gap.number ≡ c.number
   pub offset : gap.offset ≡ c.start
@@ -45,10 +44,10 @@ pub record Behind (counter size : ℕ) (c : Chunk) (empty : String Global) (back
   pub carry : (k : ℕ) → All (Not k) (c ∷ back) → All (Not k) (gap ∷ rest)
   pub distinct : AreDistinct (c ∷ back) → AreDistinct (gap ∷ rest)
 
-pub behind : (counter size : ℕ) (c : Chunk) (empty : String Global) (back : List Chunk) → Covers back (c.start + c.size) size → NoneTouch c.kind back → All (IsChunk counter) back → Behind counter size c empty back
-behind counter size c empty [] covers touch each =
-    record { gap = freed c empty; rest = []; is = refl; start = refl; number = refl; offset = refl; free = tt; longer = omega arith; covers = covers; touch = tt; each = each; extents = refl; gaps = refl; carry = same_number c (freed c empty) [] refl; distinct = same_distinct c (freed c empty) [] refl }
-behind counter size c empty (b ∷ bs) covers touch each =
+pub behind : (counter size : ℕ) (c : Chunk) (back : List Chunk) → Covers back (c.start + c.size) size → NoneTouch c.kind back → All (IsChunk counter) back → Behind counter size c back
+behind counter size c [] covers touch each =
+    record { gap = freed c; rest = []; is = refl; start = refl; number = refl; offset = refl; free = tt; longer = omega arith; covers = covers; touch = tt; each = each; extents = refl; gaps = refl; carry = same_number c (freed c) [] refl; distinct = same_distinct c (freed c) [] refl }
+behind counter size c (b ∷ bs) covers touch each =
     let at : b.start ≡ c.start + c.size = covers.0 in
     let pos : 0 < b.size = covers.1 in
     let high : All (λ p. p.0 ≢ c.start + c.size) (gaps_of bs) = All-weaker (GapIn (c.start + c.size + b.size) size) (λ p. p.0 ≢ c.start + c.size) (λ p q. (let l = q.0 in λ e. absurd (omega arith))) (gaps_of bs) (gaps_in bs (c.start + c.size + b.size) size covers.2) in
@@ -56,9 +55,9 @@ behind counter size c empty (b ∷ bs) covers touch each =
       | inl f ↦
           let sum : c.start + (c.size + b.size) ≡ c.start + c.size + b.size = omega arith in
           record {
-            gap = joined_chunk (freed c empty) b;
+            gap = joined_chunk (freed c) b;
             rest = bs;
-            is = join_kinds-free b.kind (freed c empty) b bs f;
+            is = join_kinds-free b.kind (freed c) b bs f;
             start = refl;
             number = refl;
             offset = refl;
@@ -69,14 +68,14 @@ behind counter size c empty (b ∷ bs) covers touch each =
             each = All-tail (IsChunk counter) b bs each;
             extents = sym (extents-free b bs f);
             gaps = sym (ap (without_gap (c.start + c.size)) (gaps-free b bs f) ∙ kept_mid (λ p. p.0) (c.start + c.size) (b.start, b.number) [] (gaps_of bs) at (All-nil (λ p. p.0 ≢ c.start + c.size)) high);
-            carry = λ k h. joined_number (freed c empty) b bs k (same_number c (freed c empty) (b ∷ bs) refl k h);
-            distinct = λ h. joined_distinct (freed c empty) b bs (same_distinct c (freed c empty) (b ∷ bs) refl h);
+            carry = λ k h. joined_number (freed c) b bs k (same_number c (freed c) (b ∷ bs) refl k h);
+            distinct = λ h. joined_distinct (freed c) b bs (same_distinct c (freed c) (b ∷ bs) refl h);
           }
       | inr l ↦
           record {
-            gap = freed c empty;
+            gap = freed c;
             rest = b ∷ bs;
-            is = join_kinds-live b.kind (freed c empty) b bs l;
+            is = join_kinds-live b.kind (freed c) b bs l;
             start = refl;
             number = refl;
             offset = refl;
@@ -87,12 +86,12 @@ behind counter size c empty (b ∷ bs) covers touch each =
             each = each;
             extents = refl;
             gaps = gaps-live b bs l ∙ sym (ap (without_gap (c.start + c.size)) (gaps-live b bs l) ∙ kept_all (λ p. p.0) (c.start + c.size) (gaps_of bs) high);
-            carry = same_number c (freed c empty) (b ∷ bs) refl;
-            distinct = same_distinct c (freed c empty) (b ∷ bs) refl;
+            carry = same_number c (freed c) (b ∷ bs) refl;
+            distinct = same_distinct c (freed c) (b ∷ bs) refl;
           }
     ]
 
-module _ (size g counter : ℕ) (cs front back : List Chunk) (c : Chunk) (empty : String Global) (split : cs ≡ front ++ c ∷ back) (are : AreChunks cs size counter) (live : IsFree c.kind → ⊥) where
+module _ (size g counter : ℕ) (cs front back : List Chunk) (c : Chunk) (split : cs ≡ front ++ c ∷ back) (are : AreChunks cs size counter) (live : IsFree c.kind → ⊥) where
   abbrev pub parts : AreChunks (front ++ c ∷ back) size counter
   parts = subst (λ (xs : List Chunk). AreChunks xs size counter) split are
 
@@ -105,8 +104,8 @@ module _ (size g counter : ℕ) (cs front back : List Chunk) (c : Chunk) (empty 
   the_each : Each counter front c back
   the_each = each_of counter front c back parts.each
 
-  pub the_behind : Behind counter size c empty back
-  the_behind = behind counter size c empty back the_around.after the_touching.after the_each.after
+  pub the_behind : Behind counter size c back
+  the_behind = behind counter size c back the_around.after the_touching.after the_each.after
 
   -- what the block's lists are without the chunk
   old_extents : without_extent c.start (extents_of cs) ≡ extents_of front ++ extents_of back
@@ -232,27 +231,27 @@ no_gap_behind size g counter cs before back l c split live pos end s gap =
     let m = All-contains (λ (y : Extent). (y.end ≤ s) ⊎ (c.start ≤ y.start)) (extents_of cs) (extent l) gap.meets_none (contains_chunk cs before (c ∷ back) l split live) in
     elim m [ inl a ↦ omega arith | inr a ↦ omega arith ]
 
-released_alone : (size g counter : ℕ) (cs front back : List Chunk) (c : Chunk) (empty : String Global) (split : cs ≡ front ++ c ∷ back) (are : AreChunks cs size counter) (live : IsFree c.kind → ⊥) (number : ℕ) → c.number ≡ number → (new : List Chunk) → NotBothFree (last_kind Linear front) Free → new ≡ front ++ (the_behind size g counter cs front back c empty split are live).gap ∷ (the_behind size g counter cs front back c empty split are live).rest → ((s : ℕ) → IsGap (free_list_of size g counter cs) s c.start → ⊥) → Released size g counter cs new number
-released_alone size g counter cs front back c empty split are live number num new alone is none =
+released_alone : (size g counter : ℕ) (cs front back : List Chunk) (c : Chunk) (split : cs ≡ front ++ c ∷ back) (are : AreChunks cs size counter) (live : IsFree c.kind → ⊥) (number : ℕ) → c.number ≡ number → (new : List Chunk) → NotBothFree (last_kind Linear front) Free → new ≡ front ++ (the_behind size g counter cs front back c split are live).gap ∷ (the_behind size g counter cs front back c split are live).rest → ((s : ℕ) → IsGap (free_list_of size g counter cs) s c.start → ⊥) → Released size g counter cs new number
+released_alone size g counter cs front back c split are live number num new alone is none =
     record {
-      are = alone_are size g counter cs front back c empty split are live alone new is;
+      are = alone_are size g counter cs front back c split are live alone new is;
       releases = record {
         gone = extent c;
         held = contains_chunk cs front back c split live;
         numbered = num;
-        extents = alone_extents size g counter cs front back c empty split are live alone new is;
-        numbers = inr (none, alone_gaps size g counter cs front back c empty split are live alone new is ∙ ap (λ k. with_gap c.start k (without_gap (c.start + c.size) (gaps_of cs))) num);
+        extents = alone_extents size g counter cs front back c split are live alone new is;
+        numbers = inr (none, alone_gaps size g counter cs front back c split are live alone new is ∙ ap (λ k. with_gap c.start k (without_gap (c.start + c.size) (gaps_of cs))) num);
         same = (refl, refl, refl);
       };
     }
 
-pub released : (size g counter : ℕ) (cs front back : List Chunk) (c : Chunk) (empty : String Global) (split : cs ≡ front ++ c ∷ back) (are : AreChunks cs size counter) (live : IsFree c.kind → ⊥) (number : ℕ) → c.number ≡ number → (new : List Chunk) → new ≡ join_front front (join_back (freed c empty) back) → Released size g counter cs new number
-released size g counter cs [] back c empty split are live number num new is =
-    let b = the_behind size g counter cs [] back c empty split are live in
-    let zero_start : 0 ≡ c.start = (the_around size g counter cs [] back c empty split are live).before in
-    released_alone size g counter cs [] back c empty split are live number num new tt (is ∙ b.is) (λ s gap. (let m = gap.nonempty in omega arith))
-released size g counter cs (f ∷ fs) back c empty split are live number num new is =
-    let b = the_behind size g counter cs (f ∷ fs) back c empty split are live in
+pub released : (size g counter : ℕ) (cs front back : List Chunk) (c : Chunk) (split : cs ≡ front ++ c ∷ back) (are : AreChunks cs size counter) (live : IsFree c.kind → ⊥) (number : ℕ) → c.number ≡ number → (new : List Chunk) → new ≡ join_front front (join_back (freed c) back) → Released size g counter cs new number
+released size g counter cs [] back c split are live number num new is =
+    let b = the_behind size g counter cs [] back c split are live in
+    let zero_start : 0 ≡ c.start = (the_around size g counter cs [] back c split are live).before in
+    released_alone size g counter cs [] back c split are live number num new tt (is ∙ b.is) (λ s gap. (let m = gap.nonempty in omega arith))
+released size g counter cs (f ∷ fs) back c split are live number num new is =
+    let b = the_behind size g counter cs (f ∷ fs) back c split are live in
     let left = left_of cs size f fs c back (placed_at cs size (f ∷ fs) c back split are.covers are.none_touch) in
     let l = left.chunk in
     let pos = (around left.before l (c ∷ back) 0 size (subst (λ (xs : List Chunk). Covers xs 0 size) left.split are.covers)).nonempty in
@@ -263,13 +262,13 @@ released size g counter cs (f ∷ fs) back c empty split are live number num new
           let at : new ≡ left.before ++ joined_chunk l b.gap ∷ b.rest = kinds ∙ ap (λ ys. left.before ++ ys) (join_kinds-free l.kind l b.gap b.rest free) in
           let gap : IsGap (free_list_of size g counter cs) l.start c.start = subst (λ e. IsGap (free_list_of size g counter cs) l.start e) left.ends (gap_of_chunk cs size g counter left.before (c ∷ back) l left.split are.covers are.none_touch free) in
           record {
-            are = joined_are size g counter cs (f ∷ fs) back c empty split are live left.before l left.is free new at;
+            are = joined_are size g counter cs (f ∷ fs) back c split are live left.before l left.is free new at;
             releases = record {
               gone = extent c;
               held = contains_chunk cs (f ∷ fs) back c split live;
               numbered = num;
-              extents = joined_extents size g counter cs (f ∷ fs) back c empty split are live left.before l left.is free new at;
-              numbers = inl (l.start, gap, joined_gaps size g counter cs (f ∷ fs) back c empty split are live left.before l left.is free new at);
+              extents = joined_extents size g counter cs (f ∷ fs) back c split are live left.before l left.is free new at;
+              numbers = inl (l.start, gap, joined_gaps size g counter cs (f ∷ fs) back c split are live left.before l left.is free new at);
               same = (refl, refl, refl);
             };
           }
@@ -277,15 +276,15 @@ released size g counter cs (f ∷ fs) back c empty split are live number num new
           let at : new ≡ left.before ++ l ∷ b.gap ∷ b.rest = kinds ∙ ap (λ ys. left.before ++ ys) (join_kinds-live l.kind l b.gap b.rest alive) in
           let fronts : new ≡ (f ∷ fs) ++ b.gap ∷ b.rest = at ∙ (sym (append_assoc left.before (l ∷ []) (b.gap ∷ b.rest)) ∙ ap (λ ys. ys ++ b.gap ∷ b.rest) (sym left.is)) in
           let last : last_kind Linear (f ∷ fs) ≡ l.kind = ap (last_kind Linear) left.is ∙ last_kind-push Linear left.before l in
-          released_alone size g counter cs (f ∷ fs) back c empty split are live number num new (subst (λ k. NotBothFree k Free) (sym last) (live_before l.kind Free alive)) fronts
+          released_alone size g counter cs (f ∷ fs) back c split are live number num new (subst (λ k. NotBothFree k Free) (sym last) (live_before l.kind Free alive)) fronts
           (no_gap_behind size g counter cs left.before back l c left.split alive pos left.ends)
     ]
 
 -- ---- by the number
 
-pub released_at : (size g counter : ℕ) (cs new : List Chunk) (i number : ℕ) (empty : String Global) → AreChunks cs size counter → HoldsNumber cs number i → IsReleasedAt cs i empty new → Released size g counter cs new number
-released_at size g counter cs new i number empty are h rel =
-    released size g counter cs h.front h.back h.chunk empty h.split are h.live number h.numbered new (rel h.front h.chunk h.back h.split h.index)
+pub released_at : (size g counter : ℕ) (cs new : List Chunk) (i number : ℕ) → AreChunks cs size counter → HoldsNumber cs number i → IsReleasedAt cs i new → Released size g counter cs new number
+released_at size g counter cs new i number are h rel =
+    released size g counter cs h.front h.back h.chunk h.split are h.live number h.numbered new (rel h.front h.chunk h.back h.split h.index)
 
 pub none_live : (size g counter : ℕ) (cs : List Chunk) (number : ℕ) → ((k : ℕ) → HoldsNumber cs number k → ⊥) → SomeExtent (free_list_of size g counter cs) (λ x. x.number ≡ number) → ⊥
 none_live size g counter cs number none w =

@@ -1,7 +1,6 @@
 -- What a new name leaves.
 use Rattle.std.proofs.Common.{◌≡◌, ◌≢◌, ℕ, List, [], ◌∷◌, ◌++◌, map, refl, sym, ap, ◌∙◌, subst, inl, inr, arith, Bool, true, false, cond, eqb}
-use Rattle.std.specs.Prelude.{All, Contains, String, string_bytes}
-use Rattle.std.specs.declared.alloc.Global.{Global}
+use Rattle.std.specs.Prelude.{All, Contains}
 use Rattle.std.proofs.lemmas.List.Elements.{All-nil, All-cons, All-head, All-tail, All-append, All-contains, All-weaker, All-contains_itself, All-map}
 use Rattle.gpu_block_chunks.specs.declared.chunk.Chunk.{Chunk}
 use Rattle.gpu_values.specs.declared.allocation_type.AllocationType.TheVariants.{Linear}
@@ -28,7 +27,7 @@ pub record Renamed (size g counter : ℕ) (cs new : List Chunk) (number : ℕ) (
   pub are : AreChunks new size counter
   pub renames : Renames (free_list_of size g counter cs) number text (free_list_of size g counter new)
 
-pub renamed : (size g counter : ℕ) (cs new : List Chunk) (i number : ℕ) (name : String Global) (text : List ℕ) → string_bytes name ≡ text → AreChunks cs size counter → HoldsNumber cs number i → IsNamedAt cs i name new → Renamed size g counter cs new number text
+pub renamed : (size g counter : ℕ) (cs new : List Chunk) (i number : ℕ) (name : List ℕ) (text : List ℕ) → name ≡ text → AreChunks cs size counter → HoldsNumber cs number i → IsNamedAt cs i name new → Renamed size g counter cs new number text
 renamed size g counter cs new i number name text et are h named =
     let f = h.front in let c = h.chunk in let b = h.back in
     let d = named_chunk c name in

@@ -1,6 +1,5 @@
 -- The sorted list of chunks behind a block: free chunks are its gaps, the others its extents.
-use Rattle.std.specs.Prelude.{◌≡◌, ℕ, ◌+◌, ◌-◌, ◌^◌, ◌<◌, ◌≤◌, ◌⊎◌, zero, suc, length, ◌++◌, List, [], ◌∷◌, All, Option, Some, None, String, string_bytes, Bool, false, ◌==◌}
-use Rattle.std.specs.declared.alloc.Global.{Global}
+use Rattle.std.specs.Prelude.{◌≡◌, ℕ, ◌+◌, ◌-◌, ◌^◌, ◌<◌, ◌≤◌, ◌⊎◌, zero, suc, length, ◌++◌, List, [], ◌∷◌, All, Option, Some, None, Bool, false, ◌==◌}
 use Rattle.std.specs.List.{filter_map}
 use Rattle.gpu_values.specs.declared.allocation_type.AllocationType.{AllocationType}
 use Rattle.gpu_values.specs.declared.allocation_type.AllocationType.TheVariants.{Free, Linear, NonLinear}
@@ -11,7 +10,7 @@ use Rattle.gpu_block_pieces.specs.FreeList.{Extent, FreeList}
 use Rattle.gpu_block_pieces.specs.Place.{FitsBetween}
 
 abbrev pub extent : Chunk → Extent
-extent c = record { start = c.start; offset = c.offset; end = c.start + c.size; kind = c.kind; number = c.number; name = string_bytes c.name }
+extent c = record { start = c.start; offset = c.offset; end = c.start + c.size; kind = c.kind; number = c.number; name = c.name }
 
 abbrev pub extent_by : AllocationType → Chunk → Option Extent
 extent_by Free c = None
@@ -138,26 +137,26 @@ pub record HoldsNumber (cs : List Chunk) (number i : ℕ) : Type 0 where
   pub live : IsFree chunk.kind → ⊥
   pub numbered : chunk.number ≡ number
 
-abbrev pub named_chunk : Chunk → String Global → Chunk
+abbrev pub named_chunk : Chunk → List ℕ → Chunk
 named_chunk c name = record c { name = name }
 
-abbrev pub IsNamedAt : List Chunk → ℕ → String Global → List Chunk → Type 0
+abbrev pub IsNamedAt : List Chunk → ℕ → List ℕ → List Chunk → Type 0
 IsNamedAt old i name new =
     (front : List Chunk) (c : Chunk) (back : List Chunk) → old ≡ front ++ c ∷ back → length front ≡ i → new ≡ front ++ named_chunk c name ∷ back
 
-abbrev pub IsReleasedAt : List Chunk → ℕ → String Global → List Chunk → Type 0
-IsReleasedAt old i empty new =
+abbrev pub IsReleasedAt : List Chunk → ℕ → List Chunk → Type 0
+IsReleasedAt old i new =
     (front : List Chunk) (c : Chunk) (back : List Chunk) → old ≡ front ++ c ∷ back → length front ≡ i →
-    new ≡ join_front front (join_back (filled_chunk c c.start Free empty) back)
+    new ≡ join_front front (join_back (filled_chunk c c.start Free []) back)
 
-abbrev pub piece_of : Chunk → FoundAt → Wanted → ℕ → String Global → Chunk
+abbrev pub piece_of : Chunk → FoundAt → Wanted → ℕ → List ℕ → Chunk
 piece_of c f w number name = record { start = c.start; size = f.offset + w.size - c.start; offset = f.offset; kind = w.kind; number = number; name = name }
 
 -- the chunk c between front and back was given to the piece, or its front was
-pub record TakenFrom (front : List Chunk) (c : Chunk) (back : List Chunk) (f : FoundAt) (w : Wanted) (counter : ℕ) (name : String Global) (number : ℕ) (new : List Chunk) : Type 0 where
+pub record TakenFrom (front : List Chunk) (c : Chunk) (back : List Chunk) (f : FoundAt) (w : Wanted) (counter : ℕ) (name : List ℕ) (number : ℕ) (new : List Chunk) : Type 0 where
   pub rest : f.offset + w.size < c.start + c.size → (number ≡ counter) × (new ≡ front ++ piece_of c f w counter name ∷ cut_chunk c (f.offset + w.size - c.start) ∷ back)
   pub whole : c.start + c.size ≤ f.offset + w.size → (number ≡ c.number) × (new ≡ front ++ filled_chunk c f.offset w.kind name ∷ back)
 
-abbrev pub IsTaken : List Chunk → FoundAt → Wanted → ℕ → String Global → ℕ → List Chunk → Type 0
+abbrev pub IsTaken : List Chunk → FoundAt → Wanted → ℕ → List ℕ → ℕ → List Chunk → Type 0
 IsTaken old f w counter name number new =
     (front : List Chunk) (c : Chunk) (back : List Chunk) → old ≡ front ++ c ∷ back → length front ≡ f.index → TakenFrom front c back f w counter name number new

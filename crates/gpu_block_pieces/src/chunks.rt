@@ -2,6 +2,7 @@
 
 ghost use Rattle.std.specs.Prelude.{◌≡◌, ◌≢◌, ℕ, ◌+◌, ◌-◌, ◌^◌, ◌<◌, ◌≤◌, length, [], IfOk, OnOk, OnErr, MatchOption, IsTrue, ◌↔◌};
 ghost use Rattle.std.specs.List.{list_any};
+ghost use Rattle.std.specs.Int.{is_power_of_two};
 ghost use Rattle.gpu_cost.specs.Cost.{LooksUp, LooksUpBetween};
 ghost use Rattle.gpu_block_chunks.specs.ChunkList.{IsFree};
 ghost use Rattle.gpu_block_pieces.specs.Chunks.{NoneFits, IsTaken, IsNamedAt, HoldsNumber, extents_of, is_gap_by};
@@ -11,7 +12,7 @@ ghost use Rattle.gpu_block_pieces.specs.Indexed.{IsChosen, chosen_at, Spends, Is
 use crate::edit::{release, take_front, take_whole};
 use crate::place::Wanted;
 use crate::search::{Found, find};
-use gpu_block_chunks::{Around, Chain, Chunk, NewChunk, Walk, is_free};
+use gpu_block_chunks::{Around, Chain, Chunk, Name, Walk, is_free};
 use gpu_block_gaps::{Gap, GapIndex};
 use gpu_cost::Cost;
 use gpu_values::AllocationType;
@@ -69,8 +70,8 @@ impl Chunks {
     /// The shortest gap in which the request fits, and of equal ones the lowest.
     pub fn find_place(&self, wanted: Wanted, cost: &mut Cost) -> Option<Found>
         requires sized { 0 < wanted.size }
-        requires aligned { 0 < wanted.alignment }
-        requires paged { 0 < wanted.granularity }
+        requires aligned { IsTrue (is_power_of_two wanted.alignment) }
+        requires paged { IsTrue (is_power_of_two wanted.granularity) }
         ensures found { MatchOption result
             (NoneFits self.now.items wanted (length self.now.items)) (λ f. IsChosen self.now.items wanted f) }
         ensures cost { Spends self.now.items wanted.size result cost.old cost.new }
@@ -92,11 +93,10 @@ impl Chunks {
     /// the piece's release will need.
     pub fn take(
         &mut self,
-        alloc: Global,
         found: Found,
         wanted: Wanted,
         counter: u64,
-        name: String,
+        name: Name,
         cost: &mut Cost,
     ) -> Result<u64, AllocError>
         requires chosen { IsChosen self.old.items wanted found }
@@ -116,7 +116,6 @@ impl Chunks {
         make_room(&mut self.chain, &mut self.index, self.live)?;
         let taken = found.offset + wanted.size - found.gap.start;
         if taken < found.gap.length {
-            let chunk = NewChunk::new(alloc, name)?;
             self.live += 1;
             take_front(
                 &mut self.chain,
@@ -125,7 +124,7 @@ impl Chunks {
                 taken,
                 wanted.kind,
                 counter,
-                chunk,
+                name,
                 cost,
             );
             return Ok(counter);
@@ -158,15 +157,15 @@ impl Chunks {
     }
 
     /// Frees a live piece, and joins its place with the gaps beside it. It takes no memory.
-    pub fn release(&mut self, around: Around, empty: String, cost: &mut Cost)
+    pub fn release(&mut self, around: Around, cost: &mut Cost)
         requires piece { IsPieceAt self.old.items around }
-        ensures released { IsReleased self.old.items around.here.number empty self.new.items }
+        ensures released { IsReleased self.old.items around.here.number self.new.items }
         ensures size { self.new.size ≡ self.old.size }
         ensures counted { LooksUpBetween 5 15 cost.old cost.new }
     {
         let _size = self.chain.size();
         self.live -= 1;
-        release(&mut self.chain, &mut self.index, around, empty, cost);
+        release(&mut self.chain, &mut self.index, around, cost);
     }
 
     /// The live piece of that number.
@@ -202,7 +201,7 @@ impl Chunks {
         number: u64,
         offset: u64,
         kind: AllocationType,
-        text: String,
+        text: Name,
         cost: &mut Cost,
     )
         requires piece { IsPieceOf self.old.items number offset kind }

@@ -9,7 +9,7 @@ ghost use Rattle.gpu_values.specs.declared.error.AllocationError.TheVariants.{Ho
 use crate::chunks::Chunks;
 use crate::place::Wanted;
 use crate::search::Found;
-use gpu_block_chunks::Walk;
+use gpu_block_chunks::{Name, Walk};
 use gpu_cost::Cost;
 use gpu_values::{AllocationError, AllocationType, Result, internal_fault};
 use std::alloc::Global;
@@ -126,10 +126,8 @@ impl CutBlock {
         if rest && self.counter == u64::MAX {
             return Err(AllocationError::OutOfMemory);
         }
-        let text = String::from_str(self.alloc, name)?;
-        let number = self
-            .chunks
-            .take(self.alloc, found, wanted, self.counter, text, cost)?;
+        let text = Name::new(self.alloc, name)?;
+        let number = self.chunks.take(found, wanted, self.counter, text, cost)?;
         self.allocated += found.offset + size - found.gap.start;
         if rest {
             self.counter += 1;
@@ -159,8 +157,7 @@ impl CutBlock {
         let Some(around) = self.chunks.piece_around(number.get(), cost) else {
             return Err(internal_fault("Attempting to free chunk that is not in chunk list."));
         };
-        let empty = String::new(self.alloc);
-        self.chunks.release(around, empty, cost);
+        self.chunks.release(around, cost);
         self.allocated -= around.here.size;
         Ok(())
     }
@@ -195,7 +192,7 @@ impl CutBlock {
         };
         let offset = piece.offset;
         let kind = piece.kind;
-        let text = String::from_str(self.alloc, name)?;
+        let text = Name::new(self.alloc, name)?;
         self.chunks.rename(number.get(), offset, kind, text, cost);
         Ok(())
     }

@@ -10,7 +10,7 @@ ghost use Rattle.gpu_block_gaps.specs.declared.index.Gap.{Gap};
 ghost use Rattle.gpu_block_gaps.specs.Index.{HasNoKey};
 
 use crate::search::Found;
-use gpu_block_chunks::{Around, Beside, Chain, NewChunk, is_free};
+use gpu_block_chunks::{Around, Beside, Chain, Name, is_free};
 use gpu_block_gaps::{Gap, GapIndex};
 use gpu_cost::Cost;
 use gpu_values::AllocationType;
@@ -23,7 +23,7 @@ pub fn take_front(
     taken: u64,
     kind: AllocationType,
     number: u64,
-    chunk: NewChunk,
+    name: Name,
     cost: &mut Cost,
 )
     requires listed { IsListed chain.old.chunks index.old.gaps }
@@ -33,7 +33,7 @@ pub fn take_front(
     requires piece { kind ≢ AllocationType.Free }
     requires fresh { HasNoNumber chain.old.chunks number }
     requires room { (0 < chain.old.room) × (length index.old.gaps ≤ index.old.room) }
-    ensures chunks { IsSplit chain.old.chunks found.gap.number taken number found.offset kind chunk chain.new.chunks }
+    ensures chunks { IsSplit chain.old.chunks found.gap.number taken number found.offset kind name chain.new.chunks }
     ensures listed { IsListed chain.new.chunks index.new.gaps }
     ensures live { length (extents_of chain.new.chunks) ≡ length (extents_of chain.old.chunks) + 1 }
     ensures size { (chain.new.size ≡ chain.old.size) × (index.new.room ≡ index.old.room) }
@@ -41,7 +41,7 @@ pub fn take_front(
 {
     let _size = chain.size();
     let gap = found.gap;
-    chain.split_front(gap.number, number, taken, found.offset, kind, chunk, cost);
+    chain.split_front(gap.number, number, taken, found.offset, kind, name, cost);
     index.in_order();
     let rest = Gap {
         length: gap.length - taken,
@@ -50,7 +50,7 @@ pub fn take_front(
         before: kind,
         after: gap.after,
     };
-    index.replace(gap.length, gap.start, rest);
+    index.replace(gap.length, gap.start, Some(found.place), rest);
 }
 
 /// Gives the whole found gap to a piece. It takes no memory.
@@ -59,7 +59,7 @@ pub fn take_whole(
     index: &mut GapIndex,
     found: Found,
     kind: AllocationType,
-    name: String,
+    name: Name,
     cost: &mut Cost,
 )
     requires listed { IsListed chain.old.chunks index.old.gaps }
@@ -73,7 +73,7 @@ pub fn take_whole(
 {
     let _size = chain.size();
     let gap = found.gap;
-    index.remove(gap.length, gap.start);
+    index.remove(gap.length, gap.start, Some(found.place));
     chain.fill(gap.number, found.offset, kind, name, cost);
 }
 
@@ -85,7 +85,7 @@ fn forget(index: &mut GapIndex, beside: Option<Beside>)
 {
     if let Some(beside) = beside {
         if is_free(beside.kind) {
-            index.remove(beside.size, beside.start);
+            index.remove(beside.size, beside.start, None);
         }
     }
 }
@@ -111,7 +111,7 @@ fn put(index: &mut GapIndex, beside: Option<Beside>, gap: Gap)
     match beside {
         Some(beside) => {
             if is_free(beside.kind) {
-                index.replace(beside.size, beside.start, gap);
+                index.replace(beside.size, beside.start, None, gap);
             } else {
                 index.insert(gap);
             }
@@ -184,24 +184,18 @@ fn first_number(around: Around) -> u64
 }
 
 /// Frees a piece, and joins it with the gaps beside it. It takes no memory.
-pub fn release(
-    chain: &mut Chain,
-    index: &mut GapIndex,
-    around: Around,
-    empty: String,
-    cost: &mut Cost,
-)
+pub fn release(chain: &mut Chain, index: &mut GapIndex, around: Around, cost: &mut Cost)
     requires listed { IsListed chain.old.chunks index.old.gaps }
     requires piece { IsPieceAt chain.old.chunks around }
     requires room { length (extents_of chain.old.chunks) + 1 ≤ index.old.room }
-    ensures chunks { IsReleased chain.old.chunks around.here.number empty chain.new.chunks }
+    ensures chunks { IsReleased chain.old.chunks around.here.number chain.new.chunks }
     ensures listed { IsListed chain.new.chunks index.new.gaps }
     ensures live { length (extents_of chain.new.chunks) + 1 ≡ length (extents_of chain.old.chunks) }
     ensures size { (chain.new.size ≡ chain.old.size) × (index.new.room ≡ index.old.room) }
     ensures counted { LooksUpBetween 5 15 cost.old cost.new }
 {
     let _size = chain.size();
-    chain.release(around.here.number, empty, cost);
+    chain.release(around.here.number, cost);
     let _size = chain.size();
     index.in_order();
     let gap = gap_at(chain, first_number(around), cost);

@@ -2,7 +2,7 @@
 
 ghost use Rattle.std.specs.Prelude.{◌≡◌, ℕ, ◌+◌, ◌%◌, ◌^◌, ◌<◌, ◌≤◌, IsTrue, ◌↔◌, MatchOption};
 ghost use Rattle.std.specs.Option.{SomeIff};
-ghost use Rattle.std.specs.Int.{next_multiple_of};
+ghost use Rattle.std.specs.Int.{is_power_of_two, next_multiple_of};
 ghost use Rattle.gpu_block_pieces.specs.Place.{page, MayBegin, IsOffsetIn, FitsBetween};
 ghost use Rattle.gpu_block_pieces.specs.Chunks.{Differ};
 
@@ -29,22 +29,18 @@ pub fn differ(left: AllocationType, right: AllocationType) -> bool
     }
 }
 
-/// How far a place is past the last multiple of `step`; of a power of two, without a division.
+/// How far a place is past the last multiple of `step`, a power of two: by a mask, without a division.
 fn remainder(place: u64, step: u64) -> u64
-    requires { 0 < step }
+    requires { IsTrue (is_power_of_two step) }
     ensures { result ≡ place % step }
 {
-    if step.is_power_of_two() {
-        place & (step - 1)
-    } else {
-        place % step
-    }
+    place & (step - 1)
 }
 
 /// The least multiple of `step` from a place on, if it isn't behind `last`.
 fn round_up(place: u64, last: u64, step: u64) -> Option<u64>
     requires order { place ≤ last }
-    requires some { 0 < step }
+    requires power { IsTrue (is_power_of_two step) }
     ensures { SomeIff result (next_multiple_of place step ≤ last) (next_multiple_of place step) }
 {
     // Then the greatest multiple up to `last` lies before the place. Most gaps that don't fit end here, and no sum can overflow.
@@ -62,8 +58,8 @@ fn round_up(place: u64, last: u64, step: u64) -> Option<u64>
 /// The least place for a piece from `start` on, if it isn't behind `last`.
 fn offset_from(start: u64, last: u64, alignment: u64, granularity: u64, other: bool) -> Option<u64>
     requires order { start ≤ last }
-    requires aligned { 0 < alignment }
-    requires paged { 0 < granularity }
+    requires aligned { IsTrue (is_power_of_two alignment) }
+    requires paged { IsTrue (is_power_of_two granularity) }
     requires behind { IsTrue other → 0 < start }
     ensures { MatchOption result
         ((o : ℕ) → MayBegin granularity alignment (IsTrue other) start o → last < o)
@@ -80,7 +76,7 @@ fn offset_from(start: u64, last: u64, alignment: u64, granularity: u64, other: b
 /// Whether two places lie on one page.
 fn share_page(place: u64, end: u64, granularity: u64) -> bool
     requires order { place ≤ end }
-    requires paged { 0 < granularity }
+    requires paged { IsTrue (is_power_of_two granularity) }
     ensures { IsTrue result ↔ page granularity place ≡ page granularity end }
 {
     end - place <= remainder(end, granularity)
@@ -96,8 +92,8 @@ pub fn place_between(
 ) -> Option<u64>
     requires bounded { start + length < 2 ^ 64 }
     requires sized { 0 < wanted.size }
-    requires aligned { 0 < wanted.alignment }
-    requires paged { 0 < wanted.granularity }
+    requires aligned { IsTrue (is_power_of_two wanted.alignment) }
+    requires paged { IsTrue (is_power_of_two wanted.granularity) }
     requires behind { Differ left wanted.kind → 0 < start }
     ensures { MatchOption result
         ((o : ℕ) → FitsBetween wanted.granularity wanted.alignment wanted.size (Differ left wanted.kind) (Differ right wanted.kind) start (start + length) o → ⊥)

@@ -1,7 +1,8 @@
 //! The search for the chosen gap: the first that is long enough is found by halving, and from there gaps are tested in
 //! the index's order up to the first that fits.
 
-ghost use Rattle.std.specs.Prelude.{◌≡◌, ℕ, ◌+◌, ◌-◌, ◌<◌, ◌≤◌, length, take, MatchOption};
+ghost use Rattle.std.specs.Prelude.{◌≡◌, ℕ, ◌+◌, ◌-◌, ◌<◌, ◌≤◌, length, take, MatchOption, IsTrue};
+ghost use Rattle.std.specs.Int.{is_power_of_two};
 ghost use Rattle.std.specs.List.{AllPairs, count_by};
 ghost use Rattle.gpu_cost.specs.Cost.{digits};
 ghost use Rattle.gpu_block_gaps.specs.Index.{Before};
@@ -11,19 +12,20 @@ use crate::place::{Wanted, place_between};
 use gpu_block_gaps::{Gap, GapIndex};
 use gpu_cost::Cost;
 
-/// A gap that serves, and the piece's offset in it.
+/// A gap that serves, the piece's offset in it, and the gap's place in the index.
 #[derive(Clone, Copy)]
 pub struct Found {
     pub gap: Gap,
     pub offset: u64,
+    pub place: usize,
 }
 
 /// The place of the request in the gap, if it fits.
 fn place_in(gap: Gap, wanted: Wanted) -> Option<u64>
     requires placed { IsPlaced gap }
     requires sized { 0 < wanted.size }
-    requires aligned { 0 < wanted.alignment }
-    requires paged { 0 < wanted.granularity }
+    requires aligned { IsTrue (is_power_of_two wanted.alignment) }
+    requires paged { IsTrue (is_power_of_two wanted.granularity) }
     ensures { MatchOption result ((o : ℕ) → FitsGap wanted gap o → ⊥) (λ o. FitsGap wanted gap o) }
 {
     place_between(gap.start, gap.length, gap.before, gap.after, wanted)
@@ -33,8 +35,8 @@ fn place_in(gap: Gap, wanted: Wanted) -> Option<u64>
 pub fn find(index: &GapIndex, wanted: Wanted, cost: &mut Cost) -> Option<Found>
     requires placed { ArePlaced index.now.gaps }
     requires sized { 0 < wanted.size }
-    requires aligned { 0 < wanted.alignment }
-    requires paged { 0 < wanted.granularity }
+    requires aligned { IsTrue (is_power_of_two wanted.alignment) }
+    requires paged { IsTrue (is_power_of_two wanted.granularity) }
     ensures found { MatchOption result
         (NoGapFits index.now.gaps wanted × (cost.new.tests ≡ cost.old.tests + count_by (is_long wanted.size) index.now.gaps))
         (λ f. (place : ℕ) × IsFirstFit index.now.gaps wanted f place
@@ -49,7 +51,8 @@ pub fn find(index: &GapIndex, wanted: Wanted, cost: &mut Cost) -> Option<Found>
     let mut scan = index.scan(place);
     while let Some(gap) = scan.next(cost) {
         if let Some(offset) = place_in(gap, wanted) {
-            return Some(Found { gap, offset });
+            let place = scan.place() - 1;
+            return Some(Found { gap, offset, place });
         }
     }
     None

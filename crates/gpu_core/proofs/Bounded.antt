@@ -19,7 +19,7 @@ pub placeless_block : (b : Block) (r : Request) → HasNoPlaceIn b r → BlockCa
 placeless_block (free_list b) r none = none
 placeless_block (dedicated b) r none = tt
 
-past_slots : {H : Type 0} (slots : List (Option (Slot H))) (i : ℕ) → length slots ≤ i → slot_at slots i ≡ None
+pub past_slots : {H : Type 0} (slots : List (Option (Slot H))) (i : ℕ) → length slots ≤ i → slot_at slots i ≡ None
 past_slots [] i le = refl
 past_slots (s ∷ ss) zero le = absurd (omega arith)
 past_slots (s ∷ ss) (suc i) le = past_slots ss i (omega arith)

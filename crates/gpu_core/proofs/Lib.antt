@@ -8,3 +8,4 @@ pub mod Dead
 pub mod Kept
 pub mod OneOutcome
 pub mod Bounded
+pub mod Passing

@@ -3,6 +3,7 @@ pub mod TypeTake
 pub mod TypePrepare
 pub mod TypeRelease
 pub mod TypeReport
+pub mod Longest
 pub mod Slots
 pub use Rattle.gpu_values.specs.Refusal
 pub use Rattle.gpu_values.specs.ErrorText

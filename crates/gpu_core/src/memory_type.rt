@@ -5,6 +5,7 @@ ghost use Rattle.std.specs.Int.{is_power_of_two};
 ghost use Rattle.gpu_values.specs.declared.error.AllocationError.TheVariants.{HostOutOfMemory};
 ghost use Rattle.gpu_core.specs.Refusal.{refusal_of};
 
+mod longest;
 mod need;
 mod report;
 mod slot;

@@ -1,9 +1,12 @@
 //! Chunks with links to the ones beside them.
 
 ghost use Rattle.std.specs.Prelude.{◌≡◌};
-ghost use Rattle.gpu_block_chunks.specs.Nodes.{link_number};
+ghost use Rattle.gpu_block_chunks.specs.Chain.{node_of};
+ghost use Rattle.gpu_block_chunks.specs.Nodes.{node_value, link_number};
 
+use super::Beside;
 use crate::chunk::Chunk;
+use crate::name::Name;
 
 /// Where a chunk is found: its number, and the slot that it stands in.
 #[derive(Clone, Copy)]
@@ -18,6 +21,32 @@ pub struct LinkedChunk {
     pub chunk: Chunk,
     pub prev: Option<Link>,
     pub next: Option<Link>,
+}
+
+impl LinkedChunk {
+    /// The chunk of that name, where it stands there and these are beside it.
+    pub fn new(
+        here: Beside,
+        offset: u64,
+        name: Name,
+        prev: Option<Link>,
+        next: Option<Link>,
+    ) -> LinkedChunk
+        ensures links { (result.prev ≡ prev) × (result.next ≡ next) }
+        ensures value { node_value result ≡ node_of
+            (record { start = here.start; size = here.size; offset = offset; kind = here.kind; number = here.number; name = name })
+            (link_number prev) (link_number next) }
+    {
+        let chunk = Chunk {
+            start: here.start,
+            size: here.size,
+            offset,
+            kind: here.kind,
+            number: here.number,
+            name,
+        };
+        LinkedChunk { chunk, prev, next }
+    }
 }
 
 /// The number of the chunk that a link leads to, if there is one.

@@ -8,6 +8,7 @@ ghost use Rattle.gpu_block_chunks.specs.Chain.{ChangesAt, ChangesAtOpt, with_nex
 
 use super::link::{Link, LinkedChunk};
 use super::nodes::Nodes;
+use crate::name::Name;
 use gpu_cost::Cost;
 use gpu_values::AllocationType;
 
@@ -171,7 +172,7 @@ pub fn set_use(
     at: Link,
     offset: u64,
     kind: AllocationType,
-    name: String,
+    name: Name,
     cost: &mut Cost,
 )
     requires { Reaches nodes.old (Some at) }

@@ -108,7 +108,7 @@ fn count_leaks(block: &SubAllocator, refusals: &mut Refusals) -> Result<usize> {
     Ok(answer?.len())
 }
 
-/// Two pieces with names, a gap, and a piece in it.
+/// Two pieces with names, one of them long enough to have memory of its own, a gap, and a piece in it.
 fn calls(
     rt: &impl Abort,
     alloc: Global,
@@ -119,10 +119,29 @@ fn calls(
     ensures { (g : ℕ) → HasPages (block_of b.old) g → HasPages (block_of b.new) g }
 {
     assert_eq!(rt; take(rt, b, refusals, wanted(100, "first"))?, (0, 2));
-    assert_eq!(rt; take(rt, b, refusals, wanted(64, "second"))?, (100, 3));
-    rename(rt, b, refusals, alloc, 3, "b")?;
+    assert_eq!(rt;
+        take(
+            rt,
+            b,
+            refusals,
+            wanted(64, "a second piece with a longer name")
+        )?,
+        (100, 3)
+    );
+    rename(
+        rt,
+        b,
+        refusals,
+        alloc,
+        3,
+        "a name of more than thirty bytes",
+    )?;
     let text = shown(b, alloc, refusals)?;
-    check_shown(rt, text.as_str(), "first 0 100;b 100 64;");
+    check_shown(
+        rt,
+        text.as_str(),
+        "first 0 100;a name of more than thirty bytes 100 64;",
+    );
     assert_eq!(rt; count_leaks(b, refusals)?, 2);
     assert_eq!(rt; b.allocated(), 164);
     assert_eq!(rt; b.size(), 4 * MB);
@@ -182,10 +201,29 @@ fn dedicated_calls(
 ) -> Result<()>
     requires { HasPages (block_of b.old) 1 }
 {
-    assert_eq!(rt; take(rt, b, refusals, wanted(1000, "own"))?, (0, 1));
-    rename(rt, b, refusals, alloc, 1, "renamed")?;
+    assert_eq!(rt;
+        take(
+            rt,
+            b,
+            refusals,
+            wanted(1000, "a piece that has a block of its own")
+        )?,
+        (0, 1)
+    );
+    rename(
+        rt,
+        b,
+        refusals,
+        alloc,
+        1,
+        "the same piece under another name",
+    )?;
     let text = shown(b, alloc, refusals)?;
-    check_shown(rt, text.as_str(), "renamed 0 1000;");
+    check_shown(
+        rt,
+        text.as_str(),
+        "the same piece under another name 0 1000;",
+    );
     assert_eq!(rt; count_leaks(b, refusals)?, 1);
     free(b, 1)?;
     assert!(rt; b.is_empty());

@@ -11,6 +11,7 @@ ghost use Rattle.gpu_core.specs.TypeRelease.{IsLive, IsFreeRefusal, IsNameRefusa
 ghost use Rattle.gpu_core.specs.TypeTake.{asked, PreparesPiece, NoneServes, new_slot, with_block};
 ghost use Rattle.gpu_core.specs.Slots.{slot_of, slots_of, AreSound, AreBounded, OthersAreBounded, IsEmptyAt, gone_number, gone_size, gone_shared};
 
+use super::longest::Longest;
 use super::slot::{Gone, LiveBlock, longest_in, release, rename, take_in};
 use super::{Piece, Request};
 use crate::{AllocationType, Result};
@@ -19,11 +20,11 @@ use std::alloc::Global;
 use std::marker::Model;
 
 /// The slots of a memory type, each empty or with a live block, and beside them the length of each shared block's longest gap:
-/// a search looks at no block whose gaps are all too short.
+/// a search looks at no block whose gaps are all too short, and passes over runs of such blocks at once.
 #[derive(Drop)]
 pub struct Slots<H> {
     blocks: Vec<Option<LiveBlock<H>>>,
-    longest: Vec<u64>,
+    longest: Longest,
 }
 
 impl<H> Model for Slots<H> {
@@ -32,9 +33,9 @@ impl<H> Model for Slots<H> {
 
     ghost Value = { SlotList H };
 
-    ghost view = { λ s. record { slots = slots_of s.blocks.items; room = min (vec_capacity s.blocks) (vec_capacity s.longest) } };
+    ghost view = { λ s. record { slots = slots_of s.blocks.items; room = min (vec_capacity s.blocks) s.longest.room } };
 
-    ghost invariant = { λ s. AreBounded s.longest.items (slots_of s.blocks.items) };
+    ghost invariant = { λ s. AreBounded s.longest.lengths (slots_of s.blocks.items) };
 }
 
 impl<H: Copy + Eq> Slots<H> {
@@ -44,7 +45,7 @@ impl<H: Copy + Eq> Slots<H> {
     {
         Slots {
             blocks: Vec::new(alloc),
-            longest: Vec::new(alloc),
+            longest: Longest::new(alloc),
         }
     }
 
@@ -93,7 +94,7 @@ impl<H: Copy + Eq> Slots<H> {
     {
         if highest_empty(&self.blocks).is_none() {
             self.blocks.reserve(1)?;
-            self.longest.reserve(1)?;
+            self.longest.reserve()?;
         }
         Ok(())
     }
@@ -108,7 +109,7 @@ impl<H: Copy + Eq> Slots<H> {
     {
         let slot = put_block(&mut self.blocks, block, is_dedicated);
         if slot == self.longest.len() {
-            self.longest.push_reserved(0);
+            self.longest.push();
         }
         measure(&mut self.longest, &self.blocks, slot);
         slot
@@ -150,20 +151,20 @@ impl<H: Copy + Eq> Slots<H> {
 }
 
 /// Notes the longest gap of a slot's block, after a change of the block.
-fn measure<H>(longest: &mut Vec<u64>, slots: &[Option<LiveBlock<H>>], slot: usize)
+fn measure<H>(longest: &mut Longest, slots: &[Option<LiveBlock<H>>], slot: usize)
     requires within { slot < length slots.now }
-    requires others { OthersAreBounded slot longest.old.items (slots_of slots.now) }
-    ensures bounded { AreBounded longest.new.items (slots_of slots.now) }
-    ensures room { vec_capacity longest.new ≡ vec_capacity longest.old }
+    requires others { OthersAreBounded slot longest.old.lengths (slots_of slots.now) }
+    ensures bounded { AreBounded longest.new.lengths (slots_of slots.now) }
+    ensures room { longest.new.room ≡ longest.old.room }
 {
-    longest[slot] = longest_in(&slots[slot]);
+    longest.set(slot, longest_in(&slots[slot]));
 }
 
 /// Takes a piece of the highest shared block that has a place, or answers `None` where none has. Only blocks with a gap that is
 /// long enough are asked. The only refusal is `HostOutOfMemory`.
 fn take_shared<H: Copy>(
     slots: &mut Vec<Option<LiveBlock<H>>>,
-    longest: &[u64],
+    longest: &Longest,
     request: &Request,
     granularity: u64,
 ) -> Result<Option<Piece<H>>>
@@ -171,7 +172,7 @@ fn take_shared<H: Copy>(
     requires aligned { IsTrue (is_power_of_two request.now.alignment) }
     requires piece { request.now.kind ≢ AllocationType.Free }
     requires sound { AreSound granularity (slots_of slots.old.items) }
-    requires bounded { AreBounded longest.now (slots_of slots.old.items) }
+    requires bounded { AreBounded longest.now.lengths (slots_of slots.old.items) }
     ensures took { IfOk result (λ o. IfSome o (λ p.
         PreparesPiece (slots_of slots.old.items) (asked request.now) p (slots_of slots.new.items))) }
     ensures none { IfOk result (λ o. IsNone o → NoneServes (slots_of slots.old.items) (asked request.now)
@@ -181,15 +182,12 @@ fn take_shared<H: Copy>(
     ensures room { vec_capacity slots.new ≡ vec_capacity slots.old }
     ensures kept { AreSound granularity (slots_of slots.new.items) }
 {
-    let mut below = slots.len();
+    let mut below = longest.pass_over(slots.len(), request.size);
     while below > 0 {
         below -= 1;
-        if longest[below] < request.size {
-            continue;
-        }
         let slot = &mut slots[below];
         match take_in(slot, request, granularity)? {
-            None => {}
+            None => below = longest.pass_over(below, request.size),
             Some(taken) => {
                 return Ok(Some(Piece {
                     slot: below,

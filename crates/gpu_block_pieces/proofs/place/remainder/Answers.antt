@@ -1,6 +1,8 @@
-use Rattle.std.proofs.Common.{sym, ◌∙◌}
-use Rattle.gpu_block_pieces.proofs.Powers.{masked}
+use Rattle.gpu_block_pieces.proofs.Powers.{masked, positive_from_test}
 use Rattle.gpu_block_pieces.proofs.place.remainder.Goals as goal
 
-pub returns-then-is_power_of_two : goal.returns-then-is_power_of_two
-returns-then-is_power_of_two c = masked c.args.place c.args.step (sym c.is_power_of_two.ensures ∙ c.if-is_power_of_two.true)
+pub overflow_sub-result : goal.overflow_sub-result
+overflow_sub-result c = positive_from_test c.args.step c.requires
+
+pub returns : goal.returns
+returns c = masked c.args.place c.args.step c.requires

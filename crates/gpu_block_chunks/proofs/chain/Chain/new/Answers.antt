@@ -6,14 +6,14 @@ use Rattle.gpu_block_chunks.proofs.chain.Chain.new.Goals as goal
 
 pub invariant_of-result : goal.invariant_of-result
 invariant_of-result c =
-    (fresh_chain (held_at c.in_ok-nodes.nodes) (held_at c.put.new.self) c.args.size _ c.in_ok-nodes.ensures.none (rw c.linked.ensures.value at c.put.ensures.sets) c.requires refl refl refl).0
+    (fresh_chain (held_at c.in_ok-nodes.nodes) (held_at c.put.new.self) c.args.size _ c.in_ok-nodes.ensures.none (rw c.new.ensures.value at c.put.ensures.sets) c.requires refl refl refl).0
 
 pub returns : goal.returns
 returns c = (
   refl,
   (
-    c.in_ok-chunk.chunk,
+    c.empty.result,
     ap chunks_in (fresh_chain (held_at c.in_ok-nodes.nodes) (held_at c.put.new.self) c.args.size _ c.in_ok-nodes.ensures.none
-        (rw c.linked.ensures.value at c.put.ensures.sets) c.requires refl refl refl).1,
+        (rw c.new.ensures.value at c.put.ensures.sets) c.requires refl refl refl).1,
   ),
 )

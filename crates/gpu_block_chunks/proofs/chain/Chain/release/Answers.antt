@@ -1,4 +1,4 @@
-use Rattle.std.proofs.Common.{ap, arith, Some}
+use Rattle.std.proofs.Common.{ap, arith, Some, []}
 use Rattle.gpu_block_chunks.specs.Chain.{Linked}
 use Rattle.gpu_block_chunks.proofs.Unlinks.{opened_has, right_ready, left_ready}
 use Rattle.gpu_block_chunks.proofs.Listing.{open_at, released}
@@ -32,18 +32,18 @@ set_use-requires c = (
 pub join_right-requires-clause-linked : goal.join_right-requires-clause-linked
 join_right-requires-clause-linked c =
     rw c.link_to-at.ensures.number (right_ready (held_at c.self.inside.nodes) (held_at c.set_use.new.nodes) c.self.inside.first c.self.inside.size _ c.args.number
-    c.ends_of-start.result.start c.args.empty
+    c.ends_of-start.result.start []
     (open_at (held_at c.self.inside.nodes) c.self.inside.first c.self.inside.size _ c.args.self.now.chunks c.self.invariant (ap (λ (v : Linked). v.chunks) c.self.view_is)
     c.args.number c.requires.there)
-    (λ n h. (c.ends_of-start.ensures.ends n (rw c.link_to-at.ensures.number h)).0) (rw c.link_to-at.ensures.number at c.set_use.ensures.changes) (omega arith))
+    (λ n h. (c.ends_of-start.ensures.ends n (rw c.link_to-at.ensures.number h)).0) (rw (c.link_to-at.ensures.number, c.empty.ensures) at c.set_use.ensures.changes) (omega arith))
 
 pub join_left-requires-clause-linked : goal.join_left-requires-clause-linked
 join_left-requires-clause-linked c =
     rw c.link_to-at.ensures.number (left_ready (held_at c.self.inside.nodes) (held_at c.set_use.new.nodes) c.self.inside.first c.self.inside.size _ c.args.number
-    c.ends_of-start.result.start c.args.empty
+    c.ends_of-start.result.start []
     (open_at (held_at c.self.inside.nodes) c.self.inside.first c.self.inside.size _ c.args.self.now.chunks c.self.invariant (ap (λ (v : Linked). v.chunks) c.self.view_is)
     c.args.number c.requires.there)
-    (λ n h. (c.ends_of-start.ensures.ends n (rw c.link_to-at.ensures.number h)).0) (rw c.link_to-at.ensures.number at c.set_use.ensures.changes) (held_at c.join_right.new.nodes)
+    (λ n h. (c.ends_of-start.ensures.ends n (rw c.link_to-at.ensures.number h)).0) (rw (c.link_to-at.ensures.number, c.empty.ensures) at c.set_use.ensures.changes) (held_at c.join_right.new.nodes)
     (rw c.link_to-at.ensures.number at c.join_right.ensures.joins) (omega arith))
 
 pub join_left-requires-clause-leads : goal.join_left-requires-clause-leads
@@ -53,15 +53,15 @@ join_left-requires-clause-leads c =
 pub invariant_of-self : goal.invariant_of-self
 invariant_of-self c =
     (released (held_at c.self.inside.nodes) c.self.inside.first c.self.inside.size _ c.args.self.now.chunks c.self.invariant (ap (λ (v : Linked). v.chunks) c.self.view_is)
-    (held_at c.set_use.new.nodes) (held_at c.join_right.new.nodes) (held_at c.join_left.new.nodes) c.args.number c.ends_of-start.result.start c.args.empty c.requires.there
+    (held_at c.set_use.new.nodes) (held_at c.join_right.new.nodes) (held_at c.join_left.new.nodes) c.args.number c.ends_of-start.result.start c.requires.there
     (λ n h. (c.ends_of-start.ensures.ends n (rw c.link_to-at.ensures.number h)).0)
-    (rw c.link_to-at.ensures.number at c.set_use.ensures.changes)
+    (rw (c.link_to-at.ensures.number, c.empty.ensures) at c.set_use.ensures.changes)
     (rw c.link_to-at.ensures.number at c.join_right.ensures.joins) (rw c.link_to-at.ensures.number at c.join_left.ensures.joins)).0
 
 pub returns-clause-chunks : goal.returns-clause-chunks
 returns-clause-chunks c =
     (released (held_at c.self.inside.nodes) c.self.inside.first c.self.inside.size _ c.args.self.now.chunks c.self.invariant (ap (λ (v : Linked). v.chunks) c.self.view_is)
-    (held_at c.set_use.new.nodes) (held_at c.join_right.new.nodes) (held_at c.join_left.new.nodes) c.args.number c.ends_of-start.result.start c.args.empty c.requires.there
+    (held_at c.set_use.new.nodes) (held_at c.join_right.new.nodes) (held_at c.join_left.new.nodes) c.args.number c.ends_of-start.result.start c.requires.there
     (λ n h. (c.ends_of-start.ensures.ends n (rw c.link_to-at.ensures.number h)).0)
-    (rw c.link_to-at.ensures.number at c.set_use.ensures.changes)
+    (rw (c.link_to-at.ensures.number, c.empty.ensures) at c.set_use.ensures.changes)
     (rw c.link_to-at.ensures.number at c.join_right.ensures.joins) (rw c.link_to-at.ensures.number at c.join_left.ensures.joins)).1

@@ -31,11 +31,11 @@ put-piece-requires-clause-prev c =
     (can_split _ c.args.self.now.chunks c.args.number c.args.taken (ap (λ (v : Linked). v.chunks) c.self.view_is) c.self.invariant.numbered c.requires.longer) in
     let e = (c.ends_of-ends.ensures.ends r.0 (rw c.link_to-rest.ensures.number r.1)).1 in
     let held = prev_held (held_at c.self.inside.nodes) c.self.inside.first c.self.inside.size _ c.self.invariant c.args.number r.0 r.1 in
-    rw c.linked.ensures.links.0 (c.ends_of-ends.ensures.links.0, rw e held)
+    rw c.new.ensures.links.0 (c.ends_of-ends.ensures.links.0, rw e held)
 
 pub put-piece-requires-clause-next : goal.put-piece-requires-clause-next
 put-piece-requires-clause-next c =
-    rw c.linked.ensures.links.1 (
+    rw c.new.ensures.links.1 (
       c.link_to-rest.ensures.leads,
       rw c.link_to-rest.ensures.number (split_needs (held_at c.self.inside.nodes) c.self.inside.first c.self.inside.size _ c.self.invariant c.args.number c.args.taken
           (can_split _ c.args.self.now.chunks c.args.number c.args.taken (ap (λ (v : Linked). v.chunks) c.self.view_is) c.self.invariant.numbered c.requires.longer) (omega arith)).0,
@@ -66,7 +66,7 @@ set_next_of-requires-clause-there c =
     let held = prev_held (held_at c.self.inside.nodes) c.self.inside.first c.self.inside.size _ c.self.invariant c.args.number r.0 r.1 in (
       rw c.cut_front.ensures.slots (c.put-piece.ensures.links c.ends_of-ends.result.prev (c.ends_of-ends.ensures.links.0, rw e held)),
       rw e (still_held (held_at c.self.inside.nodes) (held_at c.put-piece.new.self) (held_at c.cut_front.new.nodes) c.args.number c.args.new (cut_node c.args.taken (Some c.args.new)) _
-          (rw (c.linked.ensures.value, c.link_to-rest.ensures.number) at c.put-piece.ensures.sets)
+          (rw (c.new.ensures.value, c.link_to-rest.ensures.number) at c.put-piece.ensures.sets)
           (rw (c.link_to-rest.ensures.number, c.put-piece.ensures.link.0) at c.cut_front.ensures.changes) (r.0).prev held),
     )
 
@@ -75,14 +75,14 @@ invariant_of-self c =
     let ps = walk c.self.inside.size (held_at c.self.inside.nodes) (Some c.self.inside.first) in
     let view = (ap (λ (v : Linked). v.chunks) c.self.view_is) in
     let d = split_chain_at (held_at c.self.inside.nodes) (held_at c.put-piece.new.self) (held_at c.cut_front.new.nodes) (held_at c.set_next_of.new.nodes)
-    c.self.inside.first c.self.inside.size ps ps c.args.new c.args.number c.args.taken c.args.offset c.args.kind c.args.chunk c.ends_of-ends.result.start (link_number c.ends_of-ends.result.prev)
+    c.self.inside.first c.self.inside.size ps ps c.args.new c.args.number c.args.taken c.args.offset c.args.kind c.args.name c.ends_of-ends.result.start (link_number c.ends_of-ends.result.prev)
     c.self.invariant refl (can_split ps c.args.self.now.chunks c.args.number c.args.taken view c.self.invariant.numbered c.requires.longer) c.requires.positive
     (apart_of c.args.new ps (subst (λ (xs : List Chunk). HasNoNumber xs c.args.new) (sym view) c.requires.fresh) c.self.invariant.numbered)
     (λ n h. let e = c.ends_of-ends.ensures.ends n (rw c.link_to-rest.ensures.number h) in (e.0, e.1))
-    (rw (c.linked.ensures.value, c.link_to-rest.ensures.number) at c.put-piece.ensures.sets)
+    (rw (c.new.ensures.value, c.link_to-rest.ensures.number) at c.put-piece.ensures.sets)
     (rw (c.link_to-rest.ensures.number, c.put-piece.ensures.link.0) at c.cut_front.ensures.changes) (rw c.put-piece.ensures.link.0 at c.set_next_of.ensures.changes) in
     let g = first_after (link_number c.ends_of-ends.result.prev) c.args.new c.self.inside.first in
-    let w = split_walk (held_at c.set_next_of.new.nodes) g c.self.inside.size ps c.args.number c.args.taken c.args.new c.args.offset c.args.kind c.args.chunk d in
+    let w = split_walk (held_at c.set_next_of.new.nodes) g c.self.inside.size ps c.args.number c.args.taken c.args.new c.args.offset c.args.kind c.args.name d in
     rw (c.first_of-self-inside.ensures, c.number_of.ensures) w.0
 
 pub returns-clause-chunks : goal.returns-clause-chunks
@@ -90,14 +90,14 @@ returns-clause-chunks c =
     let ps = walk c.self.inside.size (held_at c.self.inside.nodes) (Some c.self.inside.first) in
     let view = (ap (λ (v : Linked). v.chunks) c.self.view_is) in
     let d = split_chain_at (held_at c.self.inside.nodes) (held_at c.put-piece.new.self) (held_at c.cut_front.new.nodes) (held_at c.set_next_of.new.nodes)
-    c.self.inside.first c.self.inside.size ps ps c.args.new c.args.number c.args.taken c.args.offset c.args.kind c.args.chunk c.ends_of-ends.result.start (link_number c.ends_of-ends.result.prev)
+    c.self.inside.first c.self.inside.size ps ps c.args.new c.args.number c.args.taken c.args.offset c.args.kind c.args.name c.ends_of-ends.result.start (link_number c.ends_of-ends.result.prev)
     c.self.invariant refl (can_split ps c.args.self.now.chunks c.args.number c.args.taken view c.self.invariant.numbered c.requires.longer) c.requires.positive
     (apart_of c.args.new ps (subst (λ (xs : List Chunk). HasNoNumber xs c.args.new) (sym view) c.requires.fresh) c.self.invariant.numbered)
     (λ n h. let e = c.ends_of-ends.ensures.ends n (rw c.link_to-rest.ensures.number h) in (e.0, e.1))
-    (rw (c.linked.ensures.value, c.link_to-rest.ensures.number) at c.put-piece.ensures.sets)
+    (rw (c.new.ensures.value, c.link_to-rest.ensures.number) at c.put-piece.ensures.sets)
     (rw (c.link_to-rest.ensures.number, c.put-piece.ensures.link.0) at c.cut_front.ensures.changes) (rw c.put-piece.ensures.link.0 at c.set_next_of.ensures.changes) in
     let g = first_after (link_number c.ends_of-ends.result.prev) c.args.new c.self.inside.first in
-    let w = split_walk (held_at c.set_next_of.new.nodes) g c.self.inside.size ps c.args.number c.args.taken c.args.new c.args.offset c.args.kind c.args.chunk d in
+    let w = split_walk (held_at c.set_next_of.new.nodes) g c.self.inside.size ps c.args.number c.args.taken c.args.new c.args.offset c.args.kind c.args.name d in
     rw (c.first_of-self-inside.ensures, c.number_of.ensures)
-    (split_listed ps (walk c.self.inside.size (held_at c.set_next_of.new.nodes) (Some g)) c.args.self.now.chunks c.args.number c.args.taken c.args.new c.args.offset c.args.kind c.args.chunk
+    (split_listed ps (walk c.self.inside.size (held_at c.set_next_of.new.nodes) (Some g)) c.args.self.now.chunks c.args.number c.args.taken c.args.new c.args.offset c.args.kind c.args.name
     view c.self.invariant.numbered w.1)

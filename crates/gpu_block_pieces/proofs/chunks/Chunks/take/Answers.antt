@@ -42,7 +42,7 @@ returns-then-taken-found-clause-taken c =
     let f = chosen_fits c.self.inside.chain.chunks c.args.wanted c.args.found c.self.inside.chain.size c.size-size.ensures.covers (omega (arith, c.size-size.ensures.value)) h in
     front_taken c.args.self.now.items c.take_front.new.chain.chunks c.args.wanted c.args.found c.args.counter c.args.name (subst (λ (xs : List Chunk). AreDistinct xs) v c.size-size.ensures.distinct)
     (c.args.found.offset + c.args.wanted.size - c.args.found.gap.start) refl c.if-taken-found.true f.low
-    (subst (λ (xs : List Chunk). IsSplit xs c.args.found.gap.number (c.args.found.offset + c.args.wanted.size - c.args.found.gap.start) c.args.counter c.args.found.offset c.args.wanted.kind c.args.name c.take_front.new.chain.chunks) (c.in_ok-make_room.ensures.chain.0 ∙ v) (rw c.in_ok-chunk.ensures at c.take_front.ensures.chunks))
+    (subst (λ (xs : List Chunk). IsSplit xs c.args.found.gap.number (c.args.found.offset + c.args.wanted.size - c.args.found.gap.start) c.args.counter c.args.found.offset c.args.wanted.kind c.args.name c.take_front.new.chain.chunks) (c.in_ok-make_room.ensures.chain.0 ∙ v) c.take_front.ensures.chunks)
 
 pub returns-clause-taken : goal.returns-clause-taken
 returns-clause-taken c =

@@ -13,7 +13,6 @@ use Rattle.std.specs.Int.{is_power_of_two}
 use Rattle.gpu_block_pieces.proofs.Sound.{sound_block}
 use Rattle.gpu_block_pieces.proofs.Ordered.{ordered_block}
 use Rattle.gpu_block_pieces.proofs.Covering.{sound_covered}
-use Rattle.gpu_block_pieces.proofs.Powers.{positive_from_test}
 use Rattle.gpu_block_pieces.specs.Chunks.{FoundAt}
 use Rattle.gpu_block_gaps.specs.declared.index.Gap.{Gap}
 use Rattle.gpu_block_pieces.specs.Indexed.{chosen_at}
@@ -80,7 +79,7 @@ the_rest c n e is =
     ] in
     stepped c.args.self.now (request c.args.size c.args.alignment c.args.kind c.args.name.now) c.in-Some.found.offset n c.in_ok-number.number i.chunks.size i.granularity c.args.granularity i.counter (i.counter + 1) i.chunks.items c.take.new.self.items c.self.view_is c.requires.paged e c.self.invariant.0 c.requires.sized c.self.invariant.1 c.self.invariant.2
     (rest_taken_are i.chunks.items c.take.new.self.items i.chunks.size i.counter w f c.in_ok-text.text c.in_ok-number.number c.self.invariant.1 c.requires.sized c.requires.piece h.best (c.in_ok-number.ensures.taken h) rest)
-    (rest_takes i.chunks.items c.take.new.self.items i.chunks.size i.counter w f c.in_ok-text.text c.in_ok-number.number c.self.invariant.1 c.requires.sized c.requires.piece h.best (c.in_ok-number.ensures.taken h) rest c.args.name.now c.in_ok-text.ensures.ok left)
+    (rest_takes i.chunks.items c.take.new.self.items i.chunks.size i.counter w f c.in_ok-text.text c.in_ok-number.number c.self.invariant.1 c.requires.sized c.requires.piece h.best (c.in_ok-number.ensures.taken h) rest c.args.name.now c.in_ok-text.ensures.text left)
 
 the_whole : (c : In_ok-number) (n : ℕ) → n ≡ c.in_ok-number.number → c.leaves_rest-rest.result ≡ false → Steps c n c.self.inside.counter
 the_whole c n e is =
@@ -91,7 +90,7 @@ the_whole c n e is =
     let whole = no_rest_of_chunk i.chunks.items w c.in-Some.found c.leaves_rest-rest.result h is c.leaves_rest-rest.ensures.1 in
     stepped c.args.self.now (request c.args.size c.args.alignment c.args.kind c.args.name.now) c.in-Some.found.offset n c.in_ok-number.number i.chunks.size i.granularity c.args.granularity i.counter i.counter i.chunks.items c.take.new.self.items c.self.view_is c.requires.paged e c.self.invariant.0 c.requires.sized c.self.invariant.1 c.self.invariant.2
     (whole_taken_are i.chunks.items c.take.new.self.items i.chunks.size i.counter w f c.in_ok-text.text c.in_ok-number.number c.self.invariant.1 c.requires.sized c.requires.piece h.best (c.in_ok-number.ensures.taken h) whole)
-    (whole_takes i.chunks.items c.take.new.self.items i.chunks.size i.counter w f c.in_ok-text.text c.in_ok-number.number c.self.invariant.1 c.requires.sized c.requires.piece h.best (c.in_ok-number.ensures.taken h) whole c.args.name.now c.in_ok-text.ensures.ok)
+    (whole_takes i.chunks.items c.take.new.self.items i.chunks.size i.counter w f c.in_ok-text.text c.in_ok-number.number c.self.invariant.1 c.requires.sized c.requires.piece h.best (c.in_ok-number.ensures.taken h) whole c.args.name.now c.in_ok-text.ensures.text)
 
 -- what the pieces take then
 the_bytes : (c : In_ok-number) → bytes_of c.take.new.self.items ≡ bytes_of c.self.inside.chunks.items + (c.in-Some.found.offset + c.args.size - c.in-Some.found.gap.start)
@@ -171,10 +170,10 @@ returns-clause-separated c =
     ]
 
 pub find_place-requires-clause-aligned : goal.find_place-requires-clause-aligned
-find_place-requires-clause-aligned c = positive_from_test c.args.alignment c.requires.aligned
+find_place-requires-clause-aligned c = c.requires.aligned
 
 pub find_place-requires-clause-paged : goal.find_place-requires-clause-paged
-find_place-requires-clause-paged c = positive_from_test c.args.granularity (subst (λ k. IsTrue (is_power_of_two k)) (sym (granularity_of c.self.inside.chunks.size c.self.inside.granularity c.self.inside.counter c.self.inside.chunks.items c.args.self.now c.args.granularity c.self.view_is c.requires.paged)) c.self.invariant.0)
+find_place-requires-clause-paged c = subst (λ k. IsTrue (is_power_of_two k)) (sym (granularity_of c.self.inside.chunks.size c.self.inside.granularity c.self.inside.counter c.self.inside.chunks.items c.args.self.now c.args.granularity c.self.view_is c.requires.paged)) c.self.invariant.0
 
 -- ---- host memory is refused where there is a place
 

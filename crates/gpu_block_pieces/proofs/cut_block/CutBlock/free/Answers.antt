@@ -17,8 +17,8 @@ use Rattle.std.specs.Prelude.{IfSome, IsSomeAnd}
 the_release : (c : After-release) → Released c.self.inside.chunks.size c.self.inside.granularity c.self.inside.counter c.self.inside.chunks.items c.release.new.self.items (non_zero_u64_get c.in-Some.number)
 the_release c =
     let e = c.in-Some-piece_around.ensures.piece in
-    let r = released_there c.self.inside.chunks.items c.release.new.self.items c.in-Some-piece_around.around (non_zero_u64_get c.in-Some.number) c.new-empty.result c.self.invariant.1.distinct (e.0 ∙ c.get.ensures.value) e.1 c.release.ensures.released in
-    released_at c.self.inside.chunks.size c.self.inside.granularity c.self.inside.counter c.self.inside.chunks.items c.release.new.self.items r.index (non_zero_u64_get c.in-Some.number) c.new-empty.result c.self.invariant.1 r.held r.released
+    let r = released_there c.self.inside.chunks.items c.release.new.self.items c.in-Some-piece_around.around (non_zero_u64_get c.in-Some.number) c.self.invariant.1.distinct (e.0 ∙ c.get.ensures.value) e.1 c.release.ensures.released in
+    released_at c.self.inside.chunks.size c.self.inside.granularity c.self.inside.counter c.self.inside.chunks.items c.release.new.self.items r.index (non_zero_u64_get c.in-Some.number) c.self.invariant.1 r.held r.released
 
 pub returns-in_default-piece_around-clause-not_live : goal.returns-in_default-piece_around-clause-not_live
 returns-in_default-piece_around-clause-not_live c =
@@ -30,7 +30,7 @@ returns-in_default-piece_around-clause-not_live c =
 
 the_bytes : (c : After-release) → bytes_of c.self.inside.chunks.items ≡ c.in-Some-piece_around.around.here.size + bytes_of c.release.new.self.items
 the_bytes c =
-    released_bytes c.self.inside.chunks.items c.release.new.self.items c.in-Some-piece_around.around c.new-empty.result c.self.invariant.1.distinct c.in-Some-piece_around.ensures.piece.1 c.release.ensures.released
+    released_bytes c.self.inside.chunks.items c.release.new.self.items c.in-Some-piece_around.around c.self.invariant.1.distinct c.in-Some-piece_around.ensures.piece.1 c.release.ensures.released
 
 pub overflow_sub-self : goal.overflow_sub-self
 overflow_sub-self c =

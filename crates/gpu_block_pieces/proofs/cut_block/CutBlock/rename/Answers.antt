@@ -19,7 +19,7 @@ the_rename : (c : After-rename) → Renamed c.self.inside.chunks.size c.self.ins
 the_rename c =
     let e = c.in-Some-piece.ensures.piece in
     let h = held_at c.self.inside.chunks.items c.in-Some-piece.piece.now c.get.result e.0 e.1 in
-    renamed c.self.inside.chunks.size c.self.inside.granularity c.self.inside.counter c.self.inside.chunks.items c.rename.new.self.items (length e.1.front) (non_zero_u64_get c.in-Some.number) c.in_ok-text.text c.args.name.now c.in_ok-text.ensures.ok c.self.invariant.1
+    renamed c.self.inside.chunks.size c.self.inside.granularity c.self.inside.counter c.self.inside.chunks.items c.rename.new.self.items (length e.1.front) (non_zero_u64_get c.in-Some.number) c.in_ok-text.text c.args.name.now c.in_ok-text.ensures.text c.self.invariant.1
     (subst (λ n. HoldsNumber c.self.inside.chunks.items n (length e.1.front)) c.get.ensures.value h) (c.rename.ensures.named (length e.1.front) (subst (λ n. HoldsNumber c.self.inside.chunks.items n (length e.1.front)) (c.get.ensures.value ∙ sym c.get-2.ensures.value) h))
 
 the_bytes : (c : After-rename) → bytes_of c.rename.new.self.items ≡ bytes_of c.self.inside.chunks.items

@@ -9,15 +9,15 @@ use Rattle.gpu_core.proofs.Bounded.{put_inside, put_behind, put_there, bound_roo
 use Rattle.gpu_core.proofs.memory_type.slots.Slots.put.Goals as goal
 use Rattle.gpu_core.proofs.memory_type.slots.Slots.put.Goals.{then-slot-len, else-slot-len}
 
-pub push_reserved-requires : goal.push_reserved-requires
-push_reserved-requires g c =
+pub push-requires : goal.push-requires
+push-requires g c =
     let i = c.self.inside in
     let old = slots_of i.blocks.items in
     let room = subst (λ t. (is_some (highest_empty t.slots) || nat_lt (length t.slots) t.room) ≡ true) (sym c.self.view_is) c.requires in
     let noted = c.self.invariant.length_is in
-    let end : new_slot c.args.is_dedicated old ≡ length old = omega (arith, c.put_block-slot.ensures.slot, c.if-slot-len.true, i.longest.ok.0) in
-    let fits = bound_room c.args.is_dedicated old (vec_capacity i.blocks) (vec_capacity i.longest) room end in
-    omega (arith, i.longest.ok.0)
+    let end : new_slot c.args.is_dedicated old ≡ length old = omega (arith, c.put_block-slot.ensures.slot, c.if-slot-len.true, c.len.ensures) in
+    let fits = bound_room c.args.is_dedicated old (vec_capacity i.blocks) i.longest.room room end in
+    omega arith
 
 pub measure-requires-clause-within : goal.measure-requires-clause-within
 measure-requires-clause-within g c =
@@ -42,13 +42,13 @@ measure-requires-clause-others g c =
       | then-slot-len w ↦ ap (λ x. x.blocks.items) w.self-inside-is
       | else-slot-len w ↦ ap (λ x. x.blocks.items) w.self-inside-is
     ] in
-    let bounded : OthersAreBounded slot c.if-slot-len.self-inside.longest.items (slots_of new) = elim c.if-slot-len.branch [
+    let bounded : OthersAreBounded slot c.if-slot-len.self-inside.longest.lengths (slots_of new) = elim c.if-slot-len.branch [
       | then-slot-len w ↦
-          subst (λ x. OthersAreBounded slot x.longest.items (slots_of new)) (sym w.self-inside-is) (subst (λ l. OthersAreBounded slot l (slots_of new)) (sym w.push_reserved.ensures.items)
-          (put_behind i.longest.items old c.args.is_dedicated slot (slot_of c.args.block) (slots_of new) c.self.invariant put.slot put.slots (omega (arith, w.if-slot-len.true, i.longest.ok.0))))
+          subst (λ x. OthersAreBounded slot x.longest.lengths (slots_of new)) (sym w.self-inside-is) (subst (λ l. OthersAreBounded slot l (slots_of new)) (sym w.push.ensures.lengths)
+          (put_behind i.longest.lengths old c.args.is_dedicated slot (slot_of c.args.block) (slots_of new) c.self.invariant put.slot put.slots (omega (arith, w.if-slot-len.true, c.len.ensures))))
       | else-slot-len w ↦
-          subst (λ x. OthersAreBounded slot x.longest.items (slots_of new)) (sym w.self-inside-is)
-          (put_inside i.longest.items old c.args.is_dedicated slot (slot_of c.args.block) (slots_of new) c.self.invariant put.slot put.slots
-          (λ e. absurd (omega (arith, e, w.if-slot-len.false, i.longest.ok.0))))
+          subst (λ x. OthersAreBounded slot x.longest.lengths (slots_of new)) (sym w.self-inside-is)
+          (put_inside i.longest.lengths old c.args.is_dedicated slot (slot_of c.args.block) (slots_of new) c.self.invariant put.slot put.slots
+          (λ e. absurd (omega (arith, e, w.if-slot-len.false, c.len.ensures))))
     ] in
-    subst (λ xs. OthersAreBounded slot c.if-slot-len.self-inside.longest.items (slots_of xs)) (sym blocks) bounded
+    subst (λ xs. OthersAreBounded slot c.if-slot-len.self-inside.longest.lengths (slots_of xs)) (sym blocks) bounded

@@ -9,5 +9,5 @@ measure-requires-clause-others g c =
     let i = c.self.inside in
     let new = c.take_shared.new.slots.items in
     let took : PreparesPiece (slots_of i.blocks.items) (asked c.args.request.now) c.in-Some.piece (slots_of new) = rw c.in-Some.is at c.in_ok-take_shared.ensures.took in
-    subst (λ xs. OthersAreBounded c.in-Some.piece.slot i.longest.items (slots_of xs)) (sym c.deref-in-Some.ensures.value)
-    (others_kept i.longest.items (slots_of i.blocks.items) c.in-Some.piece.slot (Some (record took.slot { block = took.after })) (slots_of new) c.self.invariant took.slots)
+    subst (λ xs. OthersAreBounded c.in-Some.piece.slot i.longest.lengths (slots_of xs)) (sym c.deref.ensures.value)
+    (others_kept i.longest.lengths (slots_of i.blocks.items) c.in-Some.piece.slot (Some (record took.slot { block = took.after })) (slots_of new) c.self.invariant took.slots)
