@@ -16,11 +16,13 @@ first_covers cs rest c from to e h =
     let d : Covers (c ∷ rest) from to = subst (λ (xs : List Chunk). Covers xs from to) e h in
     (d.0, d.2, Covers-le rest (from + c.size) to d.2)
 
-pub rows_free : (cs rest : List Chunk) (c : Chunk) (rows all : List Row) → cs ≡ c ∷ rest → IsFree c.kind → rows ++ map extent_row (extents_of cs) ≡ all → rows ++ map extent_row (extents_of rest) ≡ all
+pub rows_free : (cs rest : List Chunk) (c : Chunk) (rows all : List Row) → cs ≡ c ∷ rest → IsFree c.kind → rows ++ map extent_row (extents_of cs) ≡ all → rows ++ map extent_row (extents_of rest) ≡
+    all
 rows_free cs rest c rows all e f so_far =
     ap (λ xs. rows ++ map extent_row xs) (sym (extents-free c rest f) ∙ ap extents_of (sym e)) ∙ so_far
 
-pub rows_live : (cs rest : List Chunk) (c : Chunk) (rows new : List AllocationReport) (a : AllocationReport) (all : List Row) → cs ≡ c ∷ rest → (IsFree c.kind → ⊥) → row_of a ≡ extent_row (extent c) → new ≡ rows ++ a ∷ []
+pub rows_live : (cs rest : List Chunk) (c : Chunk) (rows new : List AllocationReport) (a : AllocationReport) (all : List Row) → cs ≡ c ∷ rest → (IsFree c.kind → ⊥) → row_of a ≡ extent_row (extent c)
+    → new ≡ rows ++ a ∷ []
     → map row_of rows ++ map extent_row (extents_of cs) ≡ all → map row_of new ++ map extent_row (extents_of rest) ≡ all
 rows_live cs rest c rows new a all e l row add so_far =
     ap (λ xs. map row_of xs ++ map extent_row (extents_of rest)) add

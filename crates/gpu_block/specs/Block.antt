@@ -11,7 +11,8 @@ use Rattle.gpu_block_pieces.specs.Search.{IsSearch}
 use Rattle.gpu_block_pieces.specs.Changes.{Takes, Releases, Renames}
 use Rattle.gpu_values.specs.Refusal.{Refusal, refusal_of}
 use Rattle.gpu_block_pieces.specs.BlockRefusal.{IsTakeRefusal, release_refusal, IsRenameRefusal}
-use Rattle.gpu_block.specs.Dedicated.{Dedicated, held_extents, IsWhole, DedicatedTakes, IsDedicatedTakeRefusal, DedicatedReleases, IsDedicatedReleaseRefusal, DedicatedRenames, IsDedicatedRenameRefusal}
+use Rattle.gpu_block.specs.Dedicated.{Dedicated, held_extents, IsWhole, DedicatedTakes, IsDedicatedTakeRefusal, DedicatedReleases, IsDedicatedReleaseRefusal, DedicatedRenames}
+use Rattle.gpu_block.specs.Dedicated.{IsDedicatedRenameRefusal}
 use Rattle.gpu_block_pieces.specs.Laws.{IsSound, IsInOrder, IsPageSeparated, IsLongEnough, IsForNumbers, IsCovered}
 
 -- either form

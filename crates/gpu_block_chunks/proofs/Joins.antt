@@ -8,7 +8,8 @@ use Rattle.gpu_block_chunks.specs.Chain.{with_prev, joined_node, is_at, ChangesA
 use Rattle.gpu_block_chunks.specs.ChunkList.{Covers}
 use Rattle.gpu_block_chunks.specs.Chain.{first_or, last_or, node_of, Held, Apart, Distinct, Numbered, Among, IsChain, CanJoin, JoinsNext, longer, chunks_in}
 use Rattle.gpu_block_chunks.proofs.Links.{held_among, same_test, apart_test, apart_append, apart_front, held_front, held_back, held_join, stands_within}
-use Rattle.gpu_block_chunks.proofs.Splits.{OptApart, opt_none, opt_from, distinct_back, Same, held_same, same_from, at_opt_other, at_opt_same, kept_by, among_front, among_back, among_cases, some_changed}
+use Rattle.gpu_block_chunks.proofs.Splits.{OptApart, opt_none, opt_from, distinct_back, Same, held_same, same_from, at_opt_other, at_opt_same, kept_by, among_front, among_back, among_cases}
+use Rattle.gpu_block_chunks.proofs.Splits.{some_changed}
 
 pub apart_among : (j q : ℕ) (c : Chunk) (ys : List (ℕ × Chunk)) → Apart j ys → Among q c ys → j ≡ q → ⊥
 apart_among j q c [] h m e = elim m [ ]

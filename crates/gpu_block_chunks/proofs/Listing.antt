@@ -10,7 +10,9 @@ use Rattle.gpu_block_chunks.specs.declared.chain.Beside.{Beside}
 use Rattle.gpu_values.specs.declared.allocation_type.AllocationType.{AllocationType}
 use Rattle.gpu_values.specs.declared.allocation_type.AllocationType.TheVariants.{Free, Linear, NonLinear}
 use Rattle.gpu_block_chunks.specs.ChunkList.{filled_chunk, cut_chunk, join_kinds, join_back, join_front, AreDistinct}
-use Rattle.gpu_block_chunks.specs.Chain.{Name, first_or, last_or, node_of, Held, Apart, Distinct, Numbered, Among, IsChain, chunks_in, StandsAt, HasNumber, HasNoNumber, IsAround, IsChunkAt, IsLonger, IsSplit, IsFilled, IsReleased, from_number, beside, beside_of, last_beside, first_beside, longer, right_chunk, right_rest, glue_left, is_free_kind, front_piece, ChangesAt, used_node, JoinsRight, JoinsLeft, walk}
+use Rattle.gpu_block_chunks.specs.Chain.{Name, first_or, last_or, node_of, Held, Apart, Distinct, Numbered, Among, IsChain, chunks_in, StandsAt, HasNumber, HasNoNumber, IsAround, IsChunkAt}
+use Rattle.gpu_block_chunks.specs.Chain.{IsLonger, IsSplit, IsFilled, IsReleased, from_number, beside, beside_of, last_beside, first_beside, longer, right_chunk, right_rest, glue_left}
+use Rattle.gpu_block_chunks.specs.Chain.{is_free_kind, front_piece, ChangesAt, used_node, JoinsRight, JoinsLeft, walk}
 use Rattle.gpu_block_chunks.proofs.Links.{stands_from, same_test, apart_test, apart_front, held_front, held_back, apart_from_none}
 use Rattle.gpu_block_chunks.proofs.Parts.{All-parts}
 use Rattle.gpu_block_chunks.proofs.Splits.{IsCut, CanSplit}

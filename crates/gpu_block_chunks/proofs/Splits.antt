@@ -1,5 +1,6 @@
 -- A chunk that is split in front.
-use Rattle.std.proofs.Common.{◌≡◌, ℕ, ◌+◌, ◌-◌, ◌<◌, ◌≤◌, ◌⊎◌, List, [], ◌∷◌, ◌++◌, Option, Some, None, IsSome, IsSomeAnd, IfSome, ◌^◌, refl, sym, ap, ◌∙◌, subst, inl, inr, ⊎_elim, arith, rules, cond, Bool, true, false, ◌==◌}
+use Rattle.std.proofs.Common.{◌≡◌, ℕ, ◌+◌, ◌-◌, ◌<◌, ◌≤◌, ◌⊎◌, List, [], ◌∷◌, ◌++◌, Option, Some, None, IsSome, IsSomeAnd, IfSome, ◌^◌, refl, sym, ap, ◌∙◌, subst, inl, inr, ⊎_elim, arith, rules}
+use Rattle.std.proofs.Common.{cond, Bool, true, false, ◌==◌}
 use Rattle.std.specs.Option.{option_map}
 use Rattle.std.proofs.lemmas.Bool.{cases_eq}
 use Rattle.gpu_block_chunks.specs.declared.chunk.Chunk.{Chunk}

@@ -9,7 +9,8 @@ use Rattle.gpu_values.specs.declared.allocation_type.AllocationType.{AllocationT
 use Rattle.gpu_values.specs.declared.allocation_type.AllocationType.TheVariants.{Free}
 use Rattle.gpu_block_chunks.specs.Chain.{used_node, ChangesAt, SetsAt}
 use Rattle.gpu_block_chunks.specs.ChunkList.{Covers, filled_chunk}
-use Rattle.gpu_block_chunks.specs.Chain.{first_or, last_or, node_of, Apart, Distinct, Numbered, Among, LinkedAt, IsChain, CanJoin, JoinsNext, JoinsRight, JoinsLeft, longer, is_free_kind, right_chunk, right_rest, glue_left, Name, walk, chunks_in}
+use Rattle.gpu_block_chunks.specs.Chain.{first_or, last_or, node_of, Apart, Distinct, Numbered, Among, LinkedAt, IsChain, CanJoin, JoinsNext, JoinsRight, JoinsLeft, longer, is_free_kind}
+use Rattle.gpu_block_chunks.specs.Chain.{right_chunk, right_rest, glue_left, Name, walk, chunks_in}
 use Rattle.gpu_block_chunks.proofs.Links.{stands_from, same_test, apart_test, apart_front, held_front, held_back, held_join, walk_chain, chain_walk}
 use Rattle.gpu_block_chunks.proofs.Splits.{Same, distinct_back, opt_none, same_from, held_same, among_front, among_back, among_cases}
 

@@ -209,9 +209,10 @@ impl Chain {
             number: new,
         };
         cost.look_up();
-        let piece = self
-            .nodes
-            .put(new, LinkedChunk::new(here, offset, name, ends.prev, Some(rest)));
+        let piece = self.nodes.put(
+            new,
+            LinkedChunk::new(here, offset, name, ends.prev, Some(rest)),
+        );
         cut_front(&mut self.nodes, rest, taken, Some(piece), cost);
         set_next_of(&mut self.nodes, ends.prev, Some(piece), cost);
         self.first = first_of(number_of(ends.prev), new, self.first);

@@ -48,7 +48,8 @@ all_pairs_insert {X} R xs p y in_list ordered low high i j d lt below =
     (subst (λ (b : X). R (get_or (insert xs p y) i d) b) (sym (get_or-insert_above xs p y d (j - 1) pk in_list))
     (⊎_elim
     (λ (is : i < p + 1). let f : i ≡ p = omega arith in
-    subst (λ (m : ℕ). R (get_or (insert xs p y) m d) (get_or xs (j - 1) d)) (sym f) (subst (λ (a : X). R a (get_or xs (j - 1) d)) (sym (get_or-insert_at xs p y d in_list)) (high (j - 1) d pk (omega arith))))
+    subst (λ (m : ℕ). R (get_or (insert xs p y) m d) (get_or xs (j - 1) d)) (sym f)
+    (subst (λ (a : X). R a (get_or xs (j - 1) d)) (sym (get_or-insert_at xs p y d in_list)) (high (j - 1) d pk (omega arith))))
     (λ (si : p + 1 ≤ i). let f : i - 1 + 1 ≡ i = omega arith in let qk : p ≤ i - 1 = omega arith in
     subst (λ (m : ℕ). R (get_or (insert xs p y) m d) (get_or xs (j - 1) d)) f
     (subst (λ (a : X). R a (get_or xs (j - 1) d)) (sym (get_or-insert_above xs p y d (i - 1) qk in_list)) (ordered (i - 1) (j - 1) d (omega arith) (omega arith))))
@@ -94,7 +95,8 @@ place_is xs l s p ordered place h d =
     (cases_lt h.at p)
 
 -- after an insert at a gap's place
-pub stays_ordered : (xs gs new : List Gap) (g : Gap) (p : ℕ) → gs ≡ xs → AllPairs Before xs → IsPlaceOf xs g.length g.start p → HasNoKey gs g.length g.start → new ≡ insert xs p g → AllPairs Before new
+pub stays_ordered : (xs gs new : List Gap) (g : Gap) (p : ℕ) → gs ≡ xs → AllPairs Before xs → IsPlaceOf xs g.length g.start p → HasNoKey gs g.length g.start → new ≡ insert xs p g → AllPairs Before
+    new
 stays_ordered xs gs new g p eg ordered place fresh_gs is =
     let fresh = subst (λ (zs : List Gap). HasNoKey zs g.length g.start) eg fresh_gs in
     subst (λ (zs : List Gap). AllPairs Before zs) (sym is)

@@ -77,12 +77,7 @@ fn has_key_at(entries: &TieredVec<Gap>, place: usize, size: u64, start: u64) -> 
 
 /// The place of the key among entries in order, where one with that key may stand at the place where it was seen: then it isn't
 /// looked for.
-fn place_near(
-    entries: &TieredVec<Gap>,
-    size: u64,
-    start: u64,
-    seen: Option<usize>,
-) -> usize
+fn place_near(entries: &TieredVec<Gap>, size: u64, start: u64, seen: Option<usize>) -> usize
     requires { AllPairs Before entries.now.entries }
     ensures { IsPlaceOf entries.now.entries size start result }
 {

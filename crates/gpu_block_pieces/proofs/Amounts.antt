@@ -65,7 +65,14 @@ joined : (c : Chunk) (back : List Chunk) → IsFree c.kind → Joined c back
 joined c [] f = record { gap = c; rest = []; is = refl; free = f; bytes = bytes-free c [] f }
 joined c (b ∷ bs) f =
     elim (free_or_live b.kind) [
-      | inl g ↦ record { gap = record c { size = c.size + b.size }; rest = bs; is = join_kinds-free b.kind c b bs g; free = f; bytes = bytes-free (record c { size = c.size + b.size }) bs f ∙ sym (bytes-free b bs g) }
+      | inl g ↦ record {
+        gap = record c { size = c.size + b.size };
+        rest = bs;
+        is = join_kinds-free b.kind c b bs g;
+        free = f;
+        bytes = bytes-free (record c { size = c.size + b.size }) bs f ∙ sym
+            (bytes-free b bs g);
+      }
       | inr l ↦ record { gap = c; rest = b ∷ bs; is = join_kinds-live b.kind c b bs l; free = f; bytes = bytes-free c (b ∷ bs) f }
     ]
 

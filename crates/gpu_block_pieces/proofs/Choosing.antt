@@ -77,7 +77,8 @@ module _ (cs : List Chunk) (gs : List Gap) (w : Wanted) (size : ℕ) (covers : C
         let n = q.index in
         let es = e.size in
         let et = e.start in
-        let low : f.gap.start ≤ q.chunk.start → length the_gap.front ≤ k = λ le. elim (order_of the_gap.front the_gap.back q.front q.back the_gap.chunk q.chunk 0 size (sym the_gap.split ∙ q.split) (subst (λ (ys : List Chunk). Covers ys 0 size) the_gap.split covers)) [
+        let low : f.gap.start ≤ q.chunk.start → length the_gap.front ≤ k = λ le. elim
+        (order_of the_gap.front the_gap.back q.front q.back the_gap.chunk q.chunk 0 size (sym the_gap.split ∙ q.split) (subst (λ (ys : List Chunk). Covers ys 0 size) the_gap.split covers)) [
           | earlier l h ↦ (let pos = chunk_some q.front q.back q.chunk 0 size (subst (λ (ys : List Chunk). Covers ys 0 size) q.split covers) in absurd (omega arith))
           | same u v ↦ (let l = ap (λ (ys : List Chunk). length ys) u in omega arith)
           | later l h ↦ omega arith

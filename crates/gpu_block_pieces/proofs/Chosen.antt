@@ -41,7 +41,8 @@ around_in cs size f b c h p = around f c b 0 size (subst (λ (xs : List Chunk). 
 
 -- ---- an extent of the other kind before a free chunk
 
-pub left_shows : (cs : List Chunk) (size g n : ℕ) (front back : List Chunk) (c : Chunk) (kind : AllocationType) → Placed cs size front c back → IsFree c.kind → Differ (last_kind Free front) kind → OtherEnds (free_list_of size g n cs) kind c.start
+pub left_shows : (cs : List Chunk) (size g n : ℕ) (front back : List Chunk) (c : Chunk) (kind : AllocationType) → Placed cs size front c back → IsFree c.kind → Differ (last_kind Free front) kind →
+    OtherEnds (free_list_of size g n cs) kind c.start
 left_shows cs size g n [] back c kind p free d = absurd d
 left_shows cs size g n (f ∷ fs) back c kind p free d =
     let l = left_of cs size f fs c back p in
@@ -49,7 +50,8 @@ left_shows cs size g n (f ∷ fs) back c kind p free d =
     let dl : Differ l.chunk.kind kind = subst (λ h. Differ h kind) k d in
     (extent l.chunk, contains_chunk cs l.before (c ∷ back) l.chunk l.split (differ_live l.chunk.kind kind dl), (differ_ne l.chunk.kind kind dl, l.ends))
 
-pub left_seen : (cs : List Chunk) (size g n : ℕ) (front back : List Chunk) (c : Chunk) (kind : AllocationType) → Covers cs 0 size → kind ≢ Free → Placed cs size front c back → OtherEnds (free_list_of size g n cs) kind c.start → Differ (last_kind Free front) kind
+pub left_seen : (cs : List Chunk) (size g n : ℕ) (front back : List Chunk) (c : Chunk) (kind : AllocationType) → Covers cs 0 size → kind ≢ Free → Placed cs size front c back → OtherEnds
+    (free_list_of size g n cs) kind c.start → Differ (last_kind Free front) kind
 left_seen cs size g n [] back c kind covers piece p w =
     let m = member_of cs w.0 w.1 in
     let r = around_in cs size m.front m.back m.chunk covers m.split in
@@ -81,14 +83,16 @@ left_seen cs size g n (f ∷ fs) back c kind covers piece p w =
 
 -- ---- and behind it
 
-pub right_shows : (cs : List Chunk) (size g n : ℕ) (front back : List Chunk) (c : Chunk) (kind : AllocationType) → Placed cs size front c back → Differ (first_kind back) kind → OtherStarts (free_list_of size g n cs) kind (c.start + c.size)
+pub right_shows : (cs : List Chunk) (size g n : ℕ) (front back : List Chunk) (c : Chunk) (kind : AllocationType) → Placed cs size front c back → Differ (first_kind back) kind → OtherStarts
+    (free_list_of size g n cs) kind (c.start + c.size)
 right_shows cs size g n front [] c kind p d = absurd d
 right_shows cs size g n front (b ∷ bs) c kind p d =
     let r = around front c (b ∷ bs) 0 size p.covers in
     let split : cs ≡ (front ++ c ∷ []) ++ b ∷ bs = p.split ∙ sym (append_assoc front (c ∷ []) (b ∷ bs)) in
     (extent b, contains_chunk cs (front ++ c ∷ []) bs b split (differ_live b.kind kind d), (differ_ne b.kind kind d, r.after.0))
 
-pub right_seen : (cs : List Chunk) (size g n : ℕ) (front back : List Chunk) (c : Chunk) (kind : AllocationType) → Covers cs 0 size → kind ≢ Free → Placed cs size front c back → OtherStarts (free_list_of size g n cs) kind (c.start + c.size) → Differ (first_kind back) kind
+pub right_seen : (cs : List Chunk) (size g n : ℕ) (front back : List Chunk) (c : Chunk) (kind : AllocationType) → Covers cs 0 size → kind ≢ Free → Placed cs size front c back → OtherStarts
+    (free_list_of size g n cs) kind (c.start + c.size) → Differ (first_kind back) kind
 right_seen cs size g n front [] c kind covers piece p w =
     let m = member_of cs w.0 w.1 in
     let r = around_in cs size m.front m.back m.chunk covers m.split in
@@ -133,24 +137,28 @@ FitsBetween-same g a n L R L' R' s e o to back right f =
     }
 
 module _ (cs : List Chunk) (size n : ℕ) (w : Wanted) (name : List ℕ) (covers : Covers cs 0 size) (touch : NoneTouch Linear cs) (piece : w.kind ≢ Free) where
-  pub fits_of_chunk : (i o : ℕ) → (f : FitsAt cs w i o) → Fits (free_list_of size w.granularity n cs) (record { size = w.size; alignment = w.alignment; kind = w.kind; name = name }) f.chunk.start (f.chunk.start + f.chunk.size) o
+  pub fits_of_chunk : (i o : ℕ) → (f : FitsAt cs w i o) → Fits (free_list_of size w.granularity n cs) (record { size = w.size; alignment = w.alignment; kind = w.kind; name = name }) f.chunk.start
+      (f.chunk.start + f.chunk.size) o
   fits_of_chunk i o f =
       let p = placed_at cs size f.front f.chunk f.back f.split covers touch in
       record {
         gap = gap_of_chunk cs size w.granularity n f.front f.back f.chunk f.split covers touch f.free;
         between = FitsBetween-same w.granularity w.alignment w.size (Differ (last_kind Free f.front) w.kind) (Differ (first_kind f.back) w.kind)
-            (OtherEnds (free_list_of size w.granularity n cs) w.kind f.chunk.start) (OtherStarts (free_list_of size w.granularity n cs) w.kind (f.chunk.start + f.chunk.size)) f.chunk.start (f.chunk.start + f.chunk.size) o
+            (OtherEnds (free_list_of size w.granularity n cs) w.kind f.chunk.start) (OtherStarts (free_list_of size w.granularity n cs) w.kind (f.chunk.start + f.chunk.size)) f.chunk.start
+            (f.chunk.start + f.chunk.size) o
             (left_shows cs size w.granularity n f.front f.back f.chunk w.kind p f.free)
             (left_seen cs size w.granularity n f.front f.back f.chunk w.kind covers piece p)
             (right_seen cs size w.granularity n f.front f.back f.chunk w.kind covers piece p)
             f.between;
       }
 
-  pub chunk_of_fits : (s e o : ℕ) → Fits (free_list_of size w.granularity n cs) (record { size = w.size; alignment = w.alignment; kind = w.kind; name = name }) s e o → (c : FreeChunk cs s e) × FitsAt cs w (length c.front) o
+  pub chunk_of_fits : (s e o : ℕ) → Fits (free_list_of size w.granularity n cs) (record { size = w.size; alignment = w.alignment; kind = w.kind; name = name }) s e o → (c : FreeChunk cs s e) × FitsAt
+      cs w (length c.front) o
   chunk_of_fits s e o f =
       let c = chunk_of_gap cs size w.granularity n s e covers touch f.gap in
       let p = placed_at cs size c.front c.chunk c.back c.split covers touch in
-      let between : FitsBetween w.granularity w.alignment w.size (OtherEnds (free_list_of size w.granularity n cs) w.kind c.chunk.start) (OtherStarts (free_list_of size w.granularity n cs) w.kind (c.chunk.start + c.chunk.size)) c.chunk.start (c.chunk.start + c.chunk.size) o = rw (c.ends, c.starts) f.between in (
+      let between : FitsBetween w.granularity w.alignment w.size (OtherEnds (free_list_of size w.granularity n cs) w.kind c.chunk.start)
+      (OtherStarts (free_list_of size w.granularity n cs) w.kind (c.chunk.start + c.chunk.size)) c.chunk.start (c.chunk.start + c.chunk.size) o = rw (c.ends, c.starts) f.between in (
         c,
         record {
           front = c.front;
@@ -175,7 +183,8 @@ module _ (cs : List Chunk) (size n : ℕ) (w : Wanted) (name : List ℕ) (covers
       let len : length cs ≡ length c.0.front + suc (length c.0.back) = ap length c.0.split ∙ length-append c.0.front (c.0.chunk ∷ c.0.back) in
       none (length c.0.front) o (omega arith) c.1
 
-  pub chosen_of_best : (f : FoundAt) → (b : IsBestOf cs w (length cs) f) → IsBestFit (free_list_of size w.granularity n cs) (record { size = w.size; alignment = w.alignment; kind = w.kind; name = name }) b.fits.chunk.start (b.fits.chunk.start + b.fits.chunk.size) f.offset
+  pub chosen_of_best : (f : FoundAt) → (b : IsBestOf cs w (length cs) f) → IsBestFit (free_list_of size w.granularity n cs)
+      (record { size = w.size; alignment = w.alignment; kind = w.kind; name = name }) b.fits.chunk.start (b.fits.chunk.start + b.fits.chunk.size) f.offset
   chosen_of_best f b =
       let x = b.fits.chunk in
       let fsize : f.size ≡ x.size = b.size ∙ (ap (size_at cs) (sym b.fits.index) ∙ (ap (λ ys. size_at ys (length b.fits.front)) b.fits.split ∙ size_at-split b.fits.front x b.fits.back)) in

@@ -1,5 +1,6 @@
 -- What a search costs, said of the block.
-use Rattle.std.proofs.Common.{◌≡◌, ◌≢◌, ℕ, ◌+◌, ◌-◌, ◌<◌, ◌≤◌, List, [], ◌∷◌, ◌++◌, length, map, refl, sym, ap, ◌∙◌, subst, inl, inr, arith, Option, Some, None, MatchOption, Bool, true, false, cond, count_by}
+use Rattle.std.proofs.Common.{◌≡◌, ◌≢◌, ℕ, ◌+◌, ◌-◌, ◌<◌, ◌≤◌, List, [], ◌∷◌, ◌++◌, length, map, refl, sym, ap, ◌∙◌, subst, inl, inr, arith, Option, Some, None, MatchOption, Bool, true, false}
+use Rattle.std.proofs.Common.{cond, count_by}
 use Rattle.std.specs.Prelude.{All, nat_le, nat_lt, ◌&&◌, ◌||◌, ◌==◌}
 use Rattle.std.proofs.lemmas.List.{append_assoc, length-map}
 use Rattle.std.proofs.lemmas.List.Sums.{sum_by-cons}
@@ -66,8 +67,10 @@ spans_from before b k (d ∷ ds) from size c h e =
           ∙ (ap (λ (ys : List (ℕ × ℕ)). (d.size, d.start) ∷ ys) (spans_from before d.kind d.kind ds (from + d.size) size c.2 h.1 more)
           ∙ ap (map span) (sym (first_free d.kind g (gaps_between d.kind ds Free) f)))))
       | inr l ↦
-          let xs : before ++ extents_of (d ∷ ds) ≡ (before ++ extent d ∷ []) ++ extents_of ds = ap (λ (ys : List Extent). before ++ ys) (extents-live d ds l) ∙ sym (append_assoc before (extent d ∷ []) (extents_of ds)) in
-          let all : All (λ (x : Extent). x.start < from + d.size) (before ++ extent d ∷ []) = All-append (λ (x : Extent). x.start < from + d.size) before (extent d ∷ []) more (All-cons (λ (x : Extent). x.start < from + d.size) (extent d) [] (omega arith) (All-nil (λ (x : Extent). x.start < from + d.size))) in
+          let xs : before ++ extents_of (d ∷ ds) ≡ (before ++ extent d ∷ []) ++ extents_of ds = ap (λ (ys : List Extent). before ++ ys) (extents-live d ds l) ∙ sym
+          (append_assoc before (extent d ∷ []) (extents_of ds)) in
+          let all : All (λ (x : Extent). x.start < from + d.size) (before ++ extent d ∷ []) = All-append (λ (x : Extent). x.start < from + d.size) before (extent d ∷ []) more
+          (All-cons (λ (x : Extent). x.start < from + d.size) (extent d) [] (omega arith) (All-nil (λ (x : Extent). x.start < from + d.size))) in
           ap (λ (ys : List Extent). map (λ g. (gap_end size ys g.0 - g.0, g.0)) (gaps_of (d ∷ ds))) xs
           ∙ (ap (λ (gs : List (ℕ × ℕ)). map (λ g. (gap_end size ((before ++ extent d ∷ []) ++ extents_of ds) g.0 - g.0, g.0)) gs) (gaps-live d ds l)
           ∙ (spans_from (before ++ extent d ∷ []) d.kind d.kind ds (from + d.size) size c.2 h.1 all
@@ -130,7 +133,8 @@ place_taken w o f found taken e front whole =
           record { comparisons = l.comparisons; tests = l.tests; from = omega arith; to = omega arith; none = λ n. absurd (some n); whole = λ g eg le. omega arith }
     ]
 
-module _ (cs : List Chunk) (size k counter : ℕ) (w : Wanted) (text : List ℕ) (v : FreeList) (are : AreChunks cs size counter) (piece : w.kind ≢ Free) (view : free_list_of size w.granularity counter cs ≡ v) where
+module _ (cs : List Chunk) (size k counter : ℕ) (w : Wanted) (text : List ℕ) (v : FreeList) (are : AreChunks cs size counter) (piece : w.kind ≢ Free)
+    (view : free_list_of size w.granularity counter cs ≡ v) where
   abbrev r : Request
   r = request w.size w.alignment w.kind text
 
@@ -146,7 +150,8 @@ module _ (cs : List Chunk) (size k counter : ℕ) (w : Wanted) (text : List ℕ)
 
   best_is : (f : Found) → IsChosen cs w f → (s e o : ℕ) → IsBestFit v r s e o → (f.gap.start ≡ s) × (f.gap.length ≡ e - s)
   best_is f h s e o q =
-      let mine = subst (λ x. IsBestFit x r h.best.fits.chunk.start (h.best.fits.chunk.start + h.best.fits.chunk.size) f.offset) view (chosen_of_best cs size counter w text are.covers are.none_touch piece (chosen_at cs w f h) h.best) in
+      let mine = subst (λ x. IsBestFit x r h.best.fits.chunk.start (h.best.fits.chunk.start + h.best.fits.chunk.size) f.offset) view
+      (chosen_of_best cs size counter w text are.covers are.none_touch piece (chosen_at cs w f h) h.best) in
       let same = chosen_once v r h.best.fits.chunk.start s (h.best.fits.chunk.start + h.best.fits.chunk.size) e f.offset o mine q in
       let a : f.gap.start ≡ h.best.fits.chunk.start = ap (λ (x : Gap). x.start) h.gap in
       let b : f.gap.length ≡ h.best.fits.chunk.size = ap (λ (x : Gap). x.length) h.gap in
@@ -156,12 +161,14 @@ module _ (cs : List Chunk) (size k counter : ℕ) (w : Wanted) (text : List ℕ)
 
   offset_is : (f : Found) → IsChosen cs w f → (s e o : ℕ) → IsBestFit v r s e o → f.offset ≡ o
   offset_is f h s e o q =
-      let mine = subst (λ x. IsBestFit x r h.best.fits.chunk.start (h.best.fits.chunk.start + h.best.fits.chunk.size) f.offset) view (chosen_of_best cs size counter w text are.covers are.none_touch piece (chosen_at cs w f h) h.best) in
+      let mine = subst (λ x. IsBestFit x r h.best.fits.chunk.start (h.best.fits.chunk.start + h.best.fits.chunk.size) f.offset) view
+      (chosen_of_best cs size counter w text are.covers are.none_touch piece (chosen_at cs w f h) h.best) in
       (chosen_once v r h.best.fits.chunk.start s (h.best.fits.chunk.start + h.best.fits.chunk.size) e f.offset o mine q).offsets
 
   best_fits : (f : Found) → IsChosen cs w f → (s : ℕ) × (e : ℕ) × (o : ℕ) × Fits v r s e o
   best_fits f h =
-      let mine = subst (λ x. IsBestFit x r h.best.fits.chunk.start (h.best.fits.chunk.start + h.best.fits.chunk.size) f.offset) view (chosen_of_best cs size counter w text are.covers are.none_touch piece (chosen_at cs w f h) h.best) in
+      let mine = subst (λ x. IsBestFit x r h.best.fits.chunk.start (h.best.fits.chunk.start + h.best.fits.chunk.size) f.offset) view
+      (chosen_of_best cs size counter w text are.covers are.none_touch piece (chosen_at cs w f h) h.best) in
       (h.best.fits.chunk.start, h.best.fits.chunk.start + h.best.fits.chunk.size, f.offset, mine.fits)
 
   no_fits : NoneFits cs w (length cs) → (s e o : ℕ) → Fits v r s e o → ⊥
@@ -203,7 +210,8 @@ module _ (cs : List Chunk) (size k counter : ℕ) (w : Wanted) (text : List ℕ)
   none_of (Some f) searched after h t none = (let b = best_fits f h in absurd (none b.0 b.1 b.2 b.3))
 
   -- the cost of a search and a taking, as the contract of `allocate` has it
-  pub searched : (o : Option Found) (old new last : Cost) (before after : Counts) → IsFound o → Spends cs w.size o old new → Taking w o new last → before ≡ counts_of old → after ≡ counts_of last → IsSearch v r before after
+  pub searched : (o : Option Found) (old new last : Cost) (before after : Counts) → IsFound o → Spends cs w.size o old new → Taking w o new last → before ≡ counts_of old → after ≡ counts_of last →
+      IsSearch v r before after
   searched o old new last before after h s k eb ea =
       let t = tests_are o old new h s.tests in
       let kc = k.comparisons in

@@ -41,7 +41,8 @@ up_to p size x xs r before =
         high = before;
         inside = omega arith;
         meets_none = All-cons (λ (y : Extent). (y.end ≤ s) ⊎ (x.start ≤ y.start)) x xs (inr (omega arith))
-            (All-weaker (λ (y : Extent). (y.end ≤ s) ⊎ (e ≤ y.start)) (λ (y : Extent). (y.end ≤ s) ⊎ (x.start ≤ y.start)) (λ y h. elim h [ inl a ↦ inl a | inr a ↦ inr (omega arith) ]) xs r.meets_none);
+            (All-weaker (λ (y : Extent). (y.end ≤ s) ⊎ (e ≤ y.start)) (λ (y : Extent). (y.end ≤ s) ⊎ (x.start ≤ y.start)) (λ y h. elim h [ inl a ↦ inl a | inr a ↦ inr (omega arith) ]) xs
+            r.meets_none);
         starts = still_or x xs (s ≡ 0) (λ y. y.end ≡ s) r.starts;
         ends = inr (x, here x xs, refl);
       }
@@ -87,7 +88,16 @@ from_end p size x xs r behind =
 
 held_or_room : (p size : ℕ) (xs : List Extent) → p < size → Held p xs ⊎ Room p size xs
 held_or_room p size [] lt =
-    inr (record { start = 0; end = size; low = omega arith; high = lt; inside = omega arith; meets_none = All-nil (λ (x : Extent). (x.end ≤ 0) ⊎ (size ≤ x.start)); starts = inl refl; ends = inl refl })
+    inr (record {
+      start = 0;
+      end = size;
+      low = omega arith;
+      high = lt;
+      inside = omega arith;
+      meets_none = All-nil (λ (x : Extent). (x.end ≤ 0) ⊎ (size ≤ x.start));
+      starts = inl refl;
+      ends = inl refl;
+    })
 held_or_room p size (x ∷ xs) lt =
     elim (held_or_room p size xs lt) [
       | inl h ↦ inl (still x xs (λ y. (y.start ≤ p) × (p < y.end)) h)

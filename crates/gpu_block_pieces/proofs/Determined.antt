@@ -34,7 +34,8 @@ pub record SameTake (o o' n n' : ℕ) (new new' : FreeList) : Type 0 where
   pub numbers : n ≡ n'
   pub blocks : new ≡ new'
 
-pub takes_once : (old : FreeList) (r : Request) (o o' n n' : ℕ) (new new' : FreeList) → ((s k k' : ℕ) → Contains old.gap_numbers (s, k) → Contains old.gap_numbers (s, k') → k ≡ k') → Takes old r o n new → Takes old r o' n' new' → SameTake o o' n n' new new'
+pub takes_once : (old : FreeList) (r : Request) (o o' n n' : ℕ) (new new' : FreeList) → ((s k k' : ℕ) → Contains old.gap_numbers (s, k) → Contains old.gap_numbers (s, k') → k ≡ k') → Takes old r o n
+    new → Takes old r o' n' new' → SameTake o o' n n' new new'
 takes_once old r o o' n n' new new' once t u =
     let c = chosen_once old r t.start u.start t.end u.end o o' t.chosen u.chosen in
     let cs = c.starts in let ce = c.ends in let co = c.offsets in

@@ -20,7 +20,8 @@ Covers-joined front back a b from to h =
     let pos : 0 < a.size = q.1 in
     (q.0, omega arith, rw sum inner.2))
 
-pub Covers-cut : (front back : List Chunk) (c piece : Chunk) (from to : ℕ) → piece.start ≡ c.start → 0 < piece.size → piece.size < c.size → Covers (front ++ c ∷ back) from to → Covers (front ++ piece ∷ cut_chunk c piece.size ∷ back) from to
+pub Covers-cut : (front back : List Chunk) (c piece : Chunk) (from to : ℕ) → piece.start ≡ c.start → 0 < piece.size → piece.size < c.size → Covers (front ++ c ∷ back) from to → Covers
+    (front ++ piece ∷ cut_chunk c piece.size ∷ back) from to
 Covers-cut front back c piece from to s pos lt h =
     Covers-swap front (c ∷ back) (piece ∷ cut_chunk c piece.size ∷ back) from to h (λ m q.
     let sum : m + piece.size + (c.size - piece.size) ≡ m + c.size = omega arith in

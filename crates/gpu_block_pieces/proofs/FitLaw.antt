@@ -104,7 +104,8 @@ page_step g x e pos le =
     let up : x / g + 1 ≤ e / g = le-div (x / g + 1) e g pos (omega arith) in
     omega arith
 
-fits_at : (b : FreeList) (r : Request) (s e o : ℕ) → IsPowerOfTwo b.granularity → IsPowerOfTwo r.alignment → 0 < r.size → IsGap b s e → IsLongEnough b r s e → IsOffsetIn b.granularity r.alignment (OtherEnds b r.kind s) s o → o < s + max r.alignment b.granularity → Fits b r s e o
+fits_at : (b : FreeList) (r : Request) (s e o : ℕ) → IsPowerOfTwo b.granularity → IsPowerOfTwo r.alignment → 0 < r.size → IsGap b s e → IsLongEnough b r s e → IsOffsetIn b.granularity r.alignment
+    (OtherEnds b r.kind s) s o → o < s + max r.alignment b.granularity → Fits b r s e o
 fits_at b r s e o pg pa some gap long begins near =
     let pos = power_positive b.granularity pg in
     let len = gap.nonempty in
@@ -129,8 +130,11 @@ fit_law b r s e sound pg pa some gap long =
           let q1 = q.1 in
           let end : w.0.end ≡ s = w.2.1 in
           let behind : 0 < s = omega arith in
-          let o = next_multiple_of (next_multiple_of s g) a in
-          (o, fits_at b r s e o pg pa some gap long (offset_some g a (OtherEnds b r.kind s) s (next_multiple_of s g) o ap' (first_next g (OtherEnds b r.kind s) s gp behind other) refl) (near_other g a s pg pa))
+          let o = next_multiple_of (next_multiple_of s g) a in (
+            o,
+            fits_at b r s e o pg pa some gap long (offset_some g a (OtherEnds b r.kind s) s (next_multiple_of s g) o ap' (first_next g (OtherEnds b r.kind s) s gp behind other) refl)
+                (near_other g a s pg pa),
+          )
       | inr none ↦
           let o = next_multiple_of s a in
           let n = (next_up s a ap').near in
@@ -138,7 +142,8 @@ fit_law b r s e sound pg pa some gap long =
           (o, fits_at b r s e o pg pa some gap long (offset_some g a (OtherEnds b r.kind s) s s o ap' (first_here g (OtherEnds b r.kind s) s none) refl) (omega arith))
     ]
 
-pub law_of_refusal : (b : FreeList) (r : Request) (s e : ℕ) (err : AllocationError) → IsSound b → IsPowerOfTwo b.granularity → IsPowerOfTwo r.alignment → 0 < r.size → IsGap b s e → IsLongEnough b r s e → IsTakeRefusal b r err → IsForNumbers b err
+pub law_of_refusal : (b : FreeList) (r : Request) (s e : ℕ) (err : AllocationError) → IsSound b → IsPowerOfTwo b.granularity → IsPowerOfTwo r.alignment → 0 < r.size → IsGap b s e → IsLongEnough b r s
+    e → IsTakeRefusal b r err → IsForNumbers b err
 law_of_refusal b r s e errors.OutOfMemory sound pg pa some gap long h =
     let f = fit_law b r s e sound pg pa some gap long in
     elim h [ inl none ↦ absurd (none s e f.0 f.1) | inr w ↦ w.5 ]

@@ -64,7 +64,8 @@ size_of : (cs : List Chunk) (size : ℕ) (f b : List Chunk) (c : Chunk) → Cove
 size_of cs size f b c h p = around f c b 0 size (subst (λ (xs : List Chunk). Covers xs 0 size) p h)
 
 -- an extent that is apart from a free chunk
-apart_from : (cs : List Chunk) (size : ℕ) (f b : List Chunk) (c : Chunk) → Covers cs 0 size → cs ≡ f ++ c ∷ b → IsFree c.kind → (x : Extent) → Member cs x → (x.end ≤ c.start) ⊎ (c.start + c.size ≤ x.start)
+apart_from : (cs : List Chunk) (size : ℕ) (f b : List Chunk) (c : Chunk) → Covers cs 0 size → cs ≡ f ++ c ∷ b → IsFree c.kind → (x : Extent) → Member cs x → (x.end ≤ c.start) ⊎
+    (c.start + c.size ≤ x.start)
 apart_from cs size f b c h p free x m =
     let e1 : x.end ≡ m.chunk.start + m.chunk.size = ap (λ y. y.end) m.same in
     let e2 : x.start ≡ m.chunk.start = ap (λ y. y.start) m.same in
@@ -76,13 +77,15 @@ apart_from cs size f b c h p free x m =
 
 -- ---- a free chunk is a gap
 
-starts_of : (cs : List Chunk) (size g n : ℕ) (front back : List Chunk) (c : Chunk) → Placed cs size front c back → IsFree c.kind → (c.start ≡ 0) ⊎ SomeExtent (free_list_of size g n cs) (λ x. x.end ≡ c.start)
+starts_of : (cs : List Chunk) (size g n : ℕ) (front back : List Chunk) (c : Chunk) → Placed cs size front c back → IsFree c.kind → (c.start ≡ 0) ⊎ SomeExtent (free_list_of size g n cs)
+    (λ x. x.end ≡ c.start)
 starts_of cs size g n [] back c p free = inl p.covers.0
 starts_of cs size g n (f ∷ fs) back c p free =
     let l = left_of cs size f fs c back p in
     inr (extent l.chunk, contains_chunk cs l.before (c ∷ back) l.chunk l.split (l.live free), l.ends)
 
-ends_of : (cs : List Chunk) (size g n : ℕ) (front back : List Chunk) (c : Chunk) → Placed cs size front c back → IsFree c.kind → (c.start + c.size ≡ size) ⊎ SomeExtent (free_list_of size g n cs) (λ x. x.start ≡ c.start + c.size)
+ends_of : (cs : List Chunk) (size g n : ℕ) (front back : List Chunk) (c : Chunk) → Placed cs size front c back → IsFree c.kind → (c.start + c.size ≡ size) ⊎ SomeExtent (free_list_of size g n cs)
+    (λ x. x.start ≡ c.start + c.size)
 ends_of cs size g n front [] c p free = inl (around front c [] 0 size p.covers).after
 ends_of cs size g n front (b ∷ bs) c p free =
     let r = around front c (b ∷ bs) 0 size p.covers in
@@ -90,7 +93,8 @@ ends_of cs size g n front (b ∷ bs) c p free =
     let split : cs ≡ (front ++ c ∷ []) ++ b ∷ bs = p.split ∙ sym (append_assoc front (c ∷ []) (b ∷ bs)) in
     inr (extent b, contains_chunk cs (front ++ c ∷ []) bs b split (live_right c.kind b.kind t free), r.after.0)
 
-pub gap_of_chunk : (cs : List Chunk) (size g n : ℕ) (front back : List Chunk) (c : Chunk) → cs ≡ front ++ c ∷ back → Covers cs 0 size → NoneTouch Linear cs → IsFree c.kind → IsGap (free_list_of size g n cs) c.start (c.start + c.size)
+pub gap_of_chunk : (cs : List Chunk) (size g n : ℕ) (front back : List Chunk) (c : Chunk) → cs ≡ front ++ c ∷ back → Covers cs 0 size → NoneTouch Linear cs → IsFree c.kind → IsGap
+    (free_list_of size g n cs) c.start (c.start + c.size)
 gap_of_chunk cs size g n front back c p h t free =
     let at = placed_at cs size front c back p h t in
     let r = around front c back 0 size at.covers in
@@ -187,7 +191,8 @@ not_past cs size g n s e covers gap h =
           ]
     ]
 
-not_before : (cs : List Chunk) (size g n s e : ℕ) (front back : List Chunk) (c : Chunk) → Placed cs size front c back → IsFree c.kind → c.start ≤ s → s < c.start + c.size → IsGap (free_list_of size g n cs) s e → e ≤ c.start + c.size
+not_before : (cs : List Chunk) (size g n s e : ℕ) (front back : List Chunk) (c : Chunk) → Placed cs size front c back → IsFree c.kind → c.start ≤ s → s < c.start + c.size → IsGap
+    (free_list_of size g n cs) s e → e ≤ c.start + c.size
 not_before cs size g n s e front [] c p free low high gap =
     let r = around front c [] 0 size p.covers in
     let end : c.start + c.size ≡ size = r.after in

@@ -47,7 +47,8 @@ none_gap NonLinear n c ne = refl
 none_any : (cs : List Chunk) (n : ℕ) → HasNoNumber cs n → list_any (λ c. is_gap_by c.kind n c) cs ≡ false
 none_any [] n h = refl
 none_any (c ∷ cs) n h =
-    ap (λ (b : Bool). b || list_any (λ x. is_gap_by x.kind n x) cs) (none_gap c.kind n c (All-head (λ (x : Chunk). x.number ≢ n) c cs h)) ∙ none_any cs n (All-tail (λ (x : Chunk). x.number ≢ n) c cs h)
+    ap (λ (b : Bool). b || list_any (λ x. is_gap_by x.kind n x) cs) (none_gap c.kind n c (All-head (λ (x : Chunk). x.number ≢ n) c cs h)) ∙ none_any cs n
+    (All-tail (λ (x : Chunk). x.number ≢ n) c cs h)
 
 pub no_gap_of : (cs : List Chunk) (n : ℕ) → HasNoNumber cs n → false ≡ list_any (λ c. is_gap_by c.kind n c) cs
 no_gap_of cs n h = sym (none_any cs n h)
@@ -108,7 +109,8 @@ module _ (cs ds : List Chunk) (k offset : ℕ) (kind : AllocationType) (name : N
       record {
         touch = subst (λ (xs : List Chunk). NoneTouch Linear xs) (sym named_is) (touch_join Linear p.at.front named p.at.back (record { before = t.before; at = t.at; after = t.after }));
         same = same_to gs (gaps_between Free cs Free) (gaps_between Free ds Free) listed.same
-            (ap (λ (xs : List Chunk). gaps_between Free xs Free) p.at.split ∙ (gaps_live p.at.front p.chunk p.at.back p.live ∙ sym (ap (λ (xs : List Chunk). gaps_between Free xs Free) named_is ∙ gaps_live p.at.front named p.at.back p.live)));
+            (ap (λ (xs : List Chunk). gaps_between Free xs Free) p.at.split ∙
+            (gaps_live p.at.front p.chunk p.at.back p.live ∙ sym (ap (λ (xs : List Chunk). gaps_between Free xs Free) named_is ∙ gaps_live p.at.front named p.at.back p.live)));
       }
 
   pub named_live : length (extents_of ds) ≡ length (extents_of cs)
@@ -125,7 +127,8 @@ module _ (cs ds : List Chunk) (k offset : ℕ) (kind : AllocationType) (name : N
   named_at i h = λ front c back q len.
       let r = same_parts cs front back h.front h.back c h.chunk q h.split (len ∙ sym h.index) in
       let s = stands_once cs front back c p.chunk k w p.at q (ap (λ (x : Chunk). x.number) r.middle ∙ h.numbered) in
-      named_is ∙ (ap (λ (xs : List Chunk). xs ++ named ∷ p.at.back) (sym s.fronts) ∙ (ap (λ (x : Chunk). front ++ named_chunk x name ∷ p.at.back) (sym s.chunks) ∙ ap (λ (xs : List Chunk). front ++ named_chunk c name ∷ xs) (sym s.backs)))
+      named_is ∙ (ap (λ (xs : List Chunk). xs ++ named ∷ p.at.back) (sym s.fronts) ∙
+      (ap (λ (x : Chunk). front ++ named_chunk x name ∷ p.at.back) (sym s.chunks) ∙ ap (λ (xs : List Chunk). front ++ named_chunk c name ∷ xs) (sym s.backs)))
 
 -- ---- the chosen gap
 
@@ -149,7 +152,8 @@ chosen_fits cs w f size covers lt h =
     record { low = omega arith; high = omega arith; ends = omega arith }
 
 module _ (cs ds : List Chunk) (w : Wanted) (f : Found) (counter : ℕ) (name : Name) (distinct : AreDistinct cs) where
-  number_at : (h : IsChosen cs w f) (front back : List Chunk) (c : Chunk) → cs ≡ front ++ c ∷ back → length front ≡ h.index → (c.number ≡ f.gap.number) × (f.gap.start ≡ c.start) × (f.gap.length ≡ c.size)
+  number_at : (h : IsChosen cs w f) (front back : List Chunk) (c : Chunk) → cs ≡ front ++ c ∷ back → length front ≡ h.index → (c.number ≡ f.gap.number) × (f.gap.start ≡ c.start) ×
+      (f.gap.length ≡ c.size)
   number_at h front back c p len =
       let b = h.best.fits in
       let r = same_parts cs front back b.front b.back c b.chunk p b.split (len ∙ sym b.index) in (
@@ -158,7 +162,8 @@ module _ (cs ds : List Chunk) (w : Wanted) (f : Found) (counter : ℕ) (name : N
         ap (λ (x : Gap). x.length) h.gap ∙ ap (λ (x : Chunk). x.size) (sym r.middle),
       )
 
-  pub front_taken : (taken : ℕ) → taken ≡ f.offset + w.size - f.gap.start → taken < f.gap.length → f.gap.start ≤ f.offset → IsSplit cs f.gap.number taken counter f.offset w.kind name ds → (h : IsChosen cs w f) → IsTaken cs (chosen_at cs w f h) w counter name counter ds
+  pub front_taken : (taken : ℕ) → taken ≡ f.offset + w.size - f.gap.start → taken < f.gap.length → f.gap.start ≤ f.offset → IsSplit cs f.gap.number taken counter f.offset w.kind name ds →
+      (h : IsChosen cs w f) → IsTaken cs (chosen_at cs w f h) w counter name counter ds
   front_taken taken et lt low split h = λ front c back p len.
       let n = number_at h front back c p len in
       let s = stands_once cs front back c split.chunk f.gap.number distinct split.at p n.0 in
@@ -173,7 +178,8 @@ module _ (cs ds : List Chunk) (w : Wanted) (f : Found) (counter : ℕ) (name : N
         whole = λ ge. absurd (omega arith);
       }
 
-  pub whole_taken : f.gap.length ≤ f.offset + w.size - f.gap.start → 0 < f.gap.length → IsFilled cs f.gap.number f.offset w.kind name ds → (h : IsChosen cs w f) → IsTaken cs (chosen_at cs w f h) w counter name f.gap.number ds
+  pub whole_taken : f.gap.length ≤ f.offset + w.size - f.gap.start → 0 < f.gap.length → IsFilled cs f.gap.number f.offset w.kind name ds → (h : IsChosen cs w f) → IsTaken cs (chosen_at cs w f h) w
+      counter name f.gap.number ds
   whole_taken ge pos filled h = λ front c back p len.
       let n = number_at h front back c p len in
       let s = stands_once cs front back c filled.chunk f.gap.number distinct filled.at p n.0 in
@@ -227,10 +233,12 @@ pub laid_from : (cs : List Chunk) (size counter : ℕ) → size < 2 ^ 64 → Are
 laid_from cs size counter lt h = (0, size, lt, h.covers)
 
 -- whether a rest is left, said of the chosen chunk
-pub rest_of_chunk : (cs : List Chunk) (w : Wanted) (f : Found) → (h : IsChosen cs w f) → f.offset + w.size < f.gap.start + f.gap.length → f.offset + w.size < h.best.fits.chunk.start + h.best.fits.chunk.size
+pub rest_of_chunk : (cs : List Chunk) (w : Wanted) (f : Found) → (h : IsChosen cs w f) → f.offset + w.size < f.gap.start + f.gap.length → f.offset + w.size < h.best.fits.chunk.start +
+    h.best.fits.chunk.size
 rest_of_chunk cs w f h lt = subst (λ (g : Gap). f.offset + w.size < g.start + g.length) h.gap lt
 
-pub no_rest_of_chunk : (cs : List Chunk) (w : Wanted) (f : Found) (b : Bool) → (h : IsChosen cs w f) → b ≡ false → (f.offset + w.size < f.gap.start + f.gap.length → IsTrue b) → h.best.fits.chunk.start + h.best.fits.chunk.size ≤ f.offset + w.size
+pub no_rest_of_chunk : (cs : List Chunk) (w : Wanted) (f : Found) (b : Bool) → (h : IsChosen cs w f) → b ≡ false → (f.offset + w.size < f.gap.start + f.gap.length → IsTrue b) →
+    h.best.fits.chunk.start + h.best.fits.chunk.size ≤ f.offset + w.size
 no_rest_of_chunk cs w f b h e told =
     let ge : f.gap.start + f.gap.length ≤ f.offset + w.size = not_rest b (f.offset + w.size) (f.gap.start + f.gap.length) e told in
     subst (λ (g : Gap). g.start + g.length ≤ f.offset + w.size) h.gap ge

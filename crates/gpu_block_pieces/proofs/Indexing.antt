@@ -107,17 +107,20 @@ gaps_start b (c ∷ cs) a from to h =
     let rest = All-weaker (StartsWithin (from + c.size) to) (StartsWithin from to) (λ x q. (omega arith, q.1)) (gaps_between c.kind cs a) (gaps_start c.kind cs a (from + c.size) to h.2) in
     let g = gap_between b c (kind_or cs a) in
     elim (free_or_live c.kind) [
-      | inl f ↦ subst (λ (gs : List Gap). All (StartsWithin from to) gs) (sym (first_free c.kind g (gaps_between c.kind cs a) f)) (All-cons (StartsWithin from to) g (gaps_between c.kind cs a) (omega arith, omega arith) rest)
+      | inl f ↦ subst (λ (gs : List Gap). All (StartsWithin from to) gs) (sym (first_free c.kind g (gaps_between c.kind cs a) f))
+          (All-cons (StartsWithin from to) g (gaps_between c.kind cs a) (omega arith, omega arith) rest)
       | inr l ↦ subst (λ (gs : List Gap). All (StartsWithin from to) gs) (sym (first_live c.kind g (gaps_between c.kind cs a) l)) rest
     ]
 
 -- of the gaps beside a chunk none starts in it
-pub other_starts : (front : List Chunk) (c : Chunk) (back : List Chunk) (to : ℕ) (b k a : AllocationType) (s : ℕ) → Covers (front ++ c ∷ back) 0 to → c.start ≤ s → s < c.start + c.size → All (λ g. g.start ≢ s) (gaps_between Free front k ++ gaps_between b back a)
+pub other_starts : (front : List Chunk) (c : Chunk) (back : List Chunk) (to : ℕ) (b k a : AllocationType) (s : ℕ) → Covers (front ++ c ∷ back) 0 to → c.start ≤ s → s < c.start + c.size → All
+    (λ g. g.start ≢ s) (gaps_between Free front k ++ gaps_between b back a)
 other_starts front c back to b k a s h low high =
     let r = around front c back 0 to h in
     All-append (λ g. g.start ≢ s) (gaps_between Free front k) (gaps_between b back a)
     (All-weaker (StartsWithin 0 c.start) (λ g. g.start ≢ s) (λ g q. (let l = q.1 in λ e. absurd (omega arith))) (gaps_between Free front k) (gaps_start Free front k 0 c.start r.before))
-    (All-weaker (StartsWithin (c.start + c.size) to) (λ g. g.start ≢ s) (λ g q. (let l = q.0 in λ e. absurd (omega arith))) (gaps_between b back a) (gaps_start b back a (c.start + c.size) to r.after))
+    (All-weaker (StartsWithin (c.start + c.size) to) (λ g. g.start ≢ s) (λ g q. (let l = q.0 in λ e. absurd (omega arith))) (gaps_between b back a)
+    (gaps_start b back a (c.start + c.size) to r.after))
 
 -- ---- how many there are
 
@@ -194,7 +197,8 @@ gap_of_member cs g h =
 pub member_at : (cs front back : List Chunk) (c : Chunk) → cs ≡ front ++ c ∷ back → IsFree c.kind → Contains (gaps_between Free cs Free) (gap_between (last_kind Free front) c (kind_or back Free))
 member_at cs front back c p f =
     let g = gap_between (last_kind Free front) c (kind_or back Free) in
-    subst (λ (gs : List Gap). Contains gs g) (sym (ap (λ (xs : List Chunk). gaps_between Free xs Free) p ∙ gaps_free front c back f)) (contains_mid (gaps_between Free front c.kind) (gaps_between c.kind back Free) g)
+    subst (λ (gs : List Gap). Contains gs g) (sym (ap (λ (xs : List Chunk). gaps_between Free xs Free) p ∙ gaps_free front c back f))
+    (contains_mid (gaps_between Free front c.kind) (gaps_between c.kind back Free) g)
 
 -- ---- the same gaps
 

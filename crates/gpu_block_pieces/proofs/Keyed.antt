@@ -44,7 +44,8 @@ module _ {X : Type 0} (key : X → ℕ) where
       ap (λ c. cond (not c) (x ∷ filter (λ z. not (eqb (key z) k)) ys) (filter (λ z. not (eqb (key z) k)) ys)) (eq_true (key x) k e) ∙ kept_all k ys b
   kept_mid k x (y ∷ xs) ys e a b =
       let ne = eq_false (key y) k (All-head (λ z. key z ≢ k) y xs a) in
-      ap (λ c. cond (not c) (y ∷ filter (λ z. not (eqb (key z) k)) (xs ++ x ∷ ys)) (filter (λ z. not (eqb (key z) k)) (xs ++ x ∷ ys))) ne ∙ ap (λ zs. y ∷ zs) (kept_mid k x xs ys e (All-tail (λ z. key z ≢ k) y xs a) b)
+      ap (λ c. cond (not c) (y ∷ filter (λ z. not (eqb (key z) k)) (xs ++ x ∷ ys)) (filter (λ z. not (eqb (key z) k)) (xs ++ x ∷ ys))) ne ∙ ap (λ zs. y ∷ zs)
+      (kept_mid k x xs ys e (All-tail (λ z. key z ≢ k) y xs a) b)
 
   pub changed_none : (k : ℕ) (f : X → X) (xs : List X) → All (λ y. key y ≢ k) xs → map (λ y. cond (eqb (key y) k) (f y) y) xs ≡ xs
   changed_none k f [] h = refl
@@ -52,7 +53,8 @@ module _ {X : Type 0} (key : X → ℕ) where
       let ne = eq_false (key y) k (All-head (λ z. key z ≢ k) y xs h) in
       ap (λ b. cond b (f y) y ∷ map (λ z. cond (eqb (key z) k) (f z) z) xs) ne ∙ ap (λ zs. y ∷ zs) (changed_none k f xs (All-tail (λ z. key z ≢ k) y xs h))
 
-  pub changed_mid : (k : ℕ) (f : X → X) (x : X) (xs ys : List X) → key x ≡ k → All (λ y. key y ≢ k) xs → All (λ y. key y ≢ k) ys → map (λ y. cond (eqb (key y) k) (f y) y) (xs ++ x ∷ ys) ≡ xs ++ f x ∷ ys
+  pub changed_mid : (k : ℕ) (f : X → X) (x : X) (xs ys : List X) → key x ≡ k → All (λ y. key y ≢ k) xs → All (λ y. key y ≢ k) ys → map (λ y. cond (eqb (key y) k) (f y) y) (xs ++ x ∷ ys) ≡ xs ++ f x ∷
+      ys
   changed_mid k f x [] ys e a b =
       ap (λ c. cond c (f x) x ∷ map (λ z. cond (eqb (key z) k) (f z) z) ys) (eq_true (key x) k e) ∙ ap (λ zs. f x ∷ zs) (changed_none k f ys b)
   changed_mid k f x (y ∷ xs) ys e a b =

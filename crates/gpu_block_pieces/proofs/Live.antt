@@ -29,7 +29,8 @@ placed_keeps : {X : Type 0} (key : X → ℕ) (x : X) (xs : List X) → All (Con
 placed_keeps key x [] = All-nil (Contains (placed key x []))
 placed_keeps key x (y ∷ ys) =
     elim (ltb (key y) (key x)) as (λ b. All (Contains (cond b (y ∷ placed key x ys) (x ∷ y ∷ ys))) (y ∷ ys)) [
-      | true ↦ All-cons (Contains (y ∷ placed key x ys)) y ys (here y (placed key x ys)) (All-weaker (Contains (placed key x ys)) (Contains (y ∷ placed key x ys)) (λ z q. there y z (placed key x ys) q) ys (placed_keeps key x ys))
+      | true ↦ All-cons (Contains (y ∷ placed key x ys)) y ys (here y (placed key x ys))
+          (All-weaker (Contains (placed key x ys)) (Contains (y ∷ placed key x ys)) (λ z q. there y z (placed key x ys) q) ys (placed_keeps key x ys))
       | false ↦ All-weaker (Contains (y ∷ ys)) (Contains (x ∷ y ∷ ys)) (λ z q. there x z (y ∷ ys) q) (y ∷ ys) (All-contains_itself (y ∷ ys))
     ]
 
@@ -81,4 +82,5 @@ releases_keeps old n new sound t x h ne =
       | inl same ↦ ne (ap (λ y. y.number) same ∙ t.numbered)
       | inr sides ↦ elim sides [ inl before ↦ omega arith | inr behind ↦ omega arith ]
     ] in
-    subst (λ (ys : List Extent). Contains ys x) (sym t.extents) (All-contains (λ z. p z ≡ true → Contains (filter p old.extents) z) old.extents x (filter_keeps p old.extents) h (ap not (eq_false x.start t.gone.start elsewhere)))
+    subst (λ (ys : List Extent). Contains ys x) (sym t.extents)
+    (All-contains (λ z. p z ≡ true → Contains (filter p old.extents) z) old.extents x (filter_keeps p old.extents) h (ap not (eq_false x.start t.gone.start elsewhere)))

@@ -19,7 +19,8 @@ use Rattle.gpu_block_pieces.proofs.Views.{free_or_live, extents-free, extents-ap
 use Rattle.gpu_block_pieces.proofs.Edits.{snoc, join_front-push, join_kinds-free, join_kinds-live}
 use Rattle.gpu_block_pieces.proofs.Takings.{Touching, touching, touch_join, live_after, live_before}
 use Rattle.gpu_block_chunks.proofs.Listing.{stands_once}
-use Rattle.gpu_block_pieces.proofs.Indexing.{free_is, first_free, gaps_append, gaps_free, gaps_live, after_same, before_same, few_gaps, other_starts, same_member, same_back, same_length, key_there, no_key, same_less, same_more, same_to}
+use Rattle.gpu_block_pieces.proofs.Indexing.{free_is, first_free, gaps_append, gaps_free, gaps_live, after_same, before_same, few_gaps, other_starts, same_member, same_back, same_length, key_there}
+use Rattle.gpu_block_pieces.proofs.Indexing.{no_key, same_less, same_more, same_to}
 
 -- ---- what is forgotten of the index
 
@@ -129,7 +130,8 @@ module _ (k : AllocationType) (fs : List Chunk) (l : Chunk) (touch : NoneTouch L
         gone = g ∷ [];
         joined = λ x. joined_chunk l x;
         goes = subst (λ (o : Option Beside). GoesBy o (g ∷ [])) (sym (last_beside-push None fs l)) (goes_free (beside l) g f refl refl);
-        gaps = gaps_append Free fs (l ∷ []) k ∙ (ap (λ (gs : List Gap). gs ++ gap_first l.kind g []) (after_same Free Linear fs l.kind Free last) ∙ ap (λ (gs : List Gap). gaps_between Free fs Free ++ gs) (first_free l.kind g [] f));
+        gaps = gaps_append Free fs (l ∷ []) k ∙ (ap (λ (gs : List Gap). gs ++ gap_first l.kind g []) (after_same Free Linear fs l.kind Free last) ∙ ap
+            (λ (gs : List Gap). gaps_between Free fs Free ++ gs) (first_free l.kind g [] f));
         joins = λ x ys. join_front-push fs l x ys ∙ ap (λ (zs : List Chunk). fs ++ zs) (join_kinds-free l.kind l x ys f);
         free = λ x h. f;
         number = λ x. sym (ap (λ (o : Option Beside). first_of o x.number) (last_beside-push None fs l) ∙ first_by_free l.kind l.number x.number f);

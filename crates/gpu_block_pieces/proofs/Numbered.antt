@@ -27,13 +27,16 @@ gap_of_chunks n [] = refl
 gap_of_chunks n (c ∷ cs) = one_more c.kind c n (gaps_of cs) ∙ ap (λ b. is_gap_by c.kind n c || b) (gap_of_chunks n cs)
 
 -- why a number that no live piece has is not renamed
-pub rename_none : (b : FreeList) (id : Option NonZeroU64) (n : NonZeroU64) (refusal : Refusal) (t : Bool) → id ≡ Some n → (SomeExtent b (λ x. x.number ≡ non_zero_u64_get n) → ⊥) → has_gap_number b (non_zero_u64_get n) ≡ t → refusal ≡ internal (cond t (codes "Attempting to rename a freed allocation.") (codes "Attempting to rename chunk that is not in chunk list.")) None → IsRenameRefusal b id refusal
+pub rename_none : (b : FreeList) (id : Option NonZeroU64) (n : NonZeroU64) (refusal : Refusal) (t : Bool) → id ≡ Some n → (SomeExtent b (λ x. x.number ≡ non_zero_u64_get n) → ⊥) → has_gap_number b
+    (non_zero_u64_get n) ≡ t → refusal ≡ internal (cond t (codes "Attempting to rename a freed allocation.") (codes "Attempting to rename chunk that is not in chunk list.")) None → IsRenameRefusal b
+    id refusal
 rename_none b id n refusal t is none gap e =
     subst (λ o. IsRenameRefusal b o refusal) (sym is)
     (inl (none, e ∙ ap (λ u. internal (cond u (codes "Attempting to rename a freed allocation.") (codes "Attempting to rename chunk that is not in chunk list.")) None) (sym gap)))
 
 -- a live piece's new name is refused for want of host memory alone
-pub rename_live : (b : FreeList) (id : Option NonZeroU64) (n : NonZeroU64) (refusal : Refusal) → id ≡ Some n → SomeExtent b (λ x. x.number ≡ non_zero_u64_get n) → refusal ≡ host_out_of_memory → IsRenameRefusal b id refusal
+pub rename_live : (b : FreeList) (id : Option NonZeroU64) (n : NonZeroU64) (refusal : Refusal) → id ≡ Some n → SomeExtent b (λ x. x.number ≡ non_zero_u64_get n) → refusal ≡ host_out_of_memory →
+    IsRenameRefusal b id refusal
 rename_live b id n refusal is live e = subst (λ o. IsRenameRefusal b o refusal) (sym is) (inr (live, e))
 
 pub gap_in_view : (size g counter : ℕ) (cs : List Chunk) (v : FreeList) (n : ℕ) → free_list_of size g counter cs ≡ v → has_gap_number v n ≡ list_any (λ c. is_gap_by c.kind n c) cs
@@ -43,15 +46,18 @@ pub live_in_view : (size g counter : ℕ) (cs : List Chunk) (v : FreeList) (n i 
 live_in_view size g counter cs v n i e h =
     subst (λ b. SomeExtent b (λ x. x.number ≡ n)) e (extent h.chunk, contains_chunk cs h.front h.back h.chunk h.split h.live, h.numbered)
 
-pub gap_told : (size g counter : ℕ) (cs ds : List Chunk) (v : FreeList) (n m : ℕ) (t : Bool) → free_list_of size g counter cs ≡ v → ds ≡ cs → m ≡ n → t ≡ list_any (λ c. is_gap_by c.kind m c) ds → has_gap_number v n ≡ t
+pub gap_told : (size g counter : ℕ) (cs ds : List Chunk) (v : FreeList) (n m : ℕ) (t : Bool) → free_list_of size g counter cs ≡ v → ds ≡ cs → m ≡ n → t ≡ list_any (λ c. is_gap_by c.kind m c) ds →
+    has_gap_number v n ≡ t
 gap_told size g counter cs ds v n m t e same number h =
     gap_in_view size g counter cs v n e ∙ sym (h ∙ (ap (λ ys. list_any (λ c. is_gap_by c.kind m c) ys) same ∙ ap (λ k. list_any (λ c. is_gap_by c.kind k c) cs) number))
 
-pub none_in_view : (size g counter : ℕ) (cs ds : List Chunk) (v : FreeList) (n m : ℕ) → free_list_of size g counter cs ≡ v → ds ≡ cs → m ≡ n → ((k : ℕ) → HoldsNumber ds m k → ⊥) → SomeExtent v (λ x. x.number ≡ n) → ⊥
+pub none_in_view : (size g counter : ℕ) (cs ds : List Chunk) (v : FreeList) (n m : ℕ) → free_list_of size g counter cs ≡ v → ds ≡ cs → m ≡ n → ((k : ℕ) → HoldsNumber ds m k → ⊥) → SomeExtent v
+    (λ x. x.number ≡ n) → ⊥
 none_in_view size g counter cs ds v n m e same number none live =
     none_live size g counter cs n (λ k h. none k (subst (λ (xs : List Chunk). HoldsNumber xs m k) (sym same) (subst (λ i. HoldsNumber cs i k) (sym number) h)))
     (subst (λ (b : FreeList). SomeExtent b (λ x. x.number ≡ n)) (sym e) live)
 
-pub rename_host : {V : Type 0} (res : Result V AllocationError) (b : FreeList) (id : Option NonZeroU64) → IsErrAnd res (λ e. e ≡ HostOutOfMemory) → IsRenameRefusal b id host_out_of_memory → IfErr res (λ e. IsRenameRefusal b id (refusal_of e))
+pub rename_host : {V : Type 0} (res : Result V AllocationError) (b : FreeList) (id : Option NonZeroU64) → IsErrAnd res (λ e. e ≡ HostOutOfMemory) → IsRenameRefusal b id host_out_of_memory → IfErr res
+    (λ e. IsRenameRefusal b id (refusal_of e))
 rename_host (Ok x) b id e h = tt
 rename_host (Err x) b id e h = subst (λ y. IsRenameRefusal b id (refusal_of y)) (sym e) h

@@ -11,7 +11,8 @@ abbrev pub Not : ℕ → Chunk → Type 0
 Not k d = d.number ≢ k
 
 -- a run behind other chunks gives way to another one
-pub distinct_swap : (Q : Chunk → Type 0) (front xs ys : List Chunk) → All Q front → ((f : Chunk) → Q f → All (Not f.number) xs → All (Not f.number) ys) → (AreDistinct xs → AreDistinct ys) → AreDistinct (front ++ xs) → AreDistinct (front ++ ys)
+pub distinct_swap : (Q : Chunk → Type 0) (front xs ys : List Chunk) → All Q front → ((f : Chunk) → Q f → All (Not f.number) xs → All (Not f.number) ys) → (AreDistinct xs → AreDistinct ys) →
+    AreDistinct (front ++ xs) → AreDistinct (front ++ ys)
 distinct_swap Q [] xs ys q carry to h = to h
 distinct_swap Q (f ∷ front) xs ys q carry to h =
     let parts = All-parts (Not f.number) front xs h.0 in
@@ -38,12 +39,14 @@ pub joined_distinct : (a b : Chunk) (back : List Chunk) → AreDistinct (a ∷ b
 joined_distinct a b back h = (All-tail (Not a.number) b back h.0, h.1.1)
 
 -- a piece with a number that was not given out yet
-pub distinct_cut : (counter : ℕ) (front back : List Chunk) (c piece : Chunk) → piece.number ≡ counter → All (IsChunk counter) (front ++ c ∷ back) → AreDistinct (front ++ c ∷ back) → AreDistinct (front ++ piece ∷ cut_chunk c piece.size ∷ back)
+pub distinct_cut : (counter : ℕ) (front back : List Chunk) (c piece : Chunk) → piece.number ≡ counter → All (IsChunk counter) (front ++ c ∷ back) → AreDistinct (front ++ c ∷ back) → AreDistinct
+    (front ++ piece ∷ cut_chunk c piece.size ∷ back)
 distinct_cut counter front back c piece e each h =
     let parts = All-parts (IsChunk counter) front (c ∷ back) each in
     let fresh : All (Not piece.number) (c ∷ back) = All-weaker (IsChunk counter) (Not piece.number) (λ d i q. (let g = i.given in absurd (omega arith))) (c ∷ back) parts.1 in
     distinct_swap (IsChunk counter) front (c ∷ back) (piece ∷ cut_chunk c piece.size ∷ back) parts.0
-    (λ f i rest. All-cons (Not f.number) piece (cut_chunk c piece.size ∷ back) (λ q. (let g = i.given in absurd (omega arith))) (All-cons (Not f.number) (cut_chunk c piece.size) back (All-head (Not f.number) c back rest) (All-tail (Not f.number) c back rest)))
+    (λ f i rest. All-cons (Not f.number) piece (cut_chunk c piece.size ∷ back) (λ q. (let g = i.given in absurd (omega arith)))
+    (All-cons (Not f.number) (cut_chunk c piece.size) back (All-head (Not f.number) c back rest) (All-tail (Not f.number) c back rest)))
     (λ rest. (All-cons (Not piece.number) (cut_chunk c piece.size) back (All-head (Not piece.number) c back fresh) (All-tail (Not piece.number) c back fresh), (rest.0, rest.1)))
     h
 

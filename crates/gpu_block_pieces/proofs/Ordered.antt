@@ -80,8 +80,11 @@ ordered_block cs size g counter are = record {
       let f = chunk_of_gap cs size g counter s e are.covers are.none_touch gap in
       (f.chunk.number, subst (λ (n : ℕ). Contains (gaps_of cs) (n, f.chunk.number)) f.starts (contains_gap cs f.front f.back f.chunk f.split f.free));
   only_gaps = λ s k has.
-      let m = gap_member cs (s, k) has in
-      (m.chunk.start + m.chunk.size, subst (λ (n : ℕ). IsGap (free_list_of size g counter cs) n (m.chunk.start + m.chunk.size)) (sym m.start) (gap_of_chunk cs size g counter m.front m.back m.chunk m.split are.covers are.none_touch m.free));
+      let m = gap_member cs (s, k) has in (
+        m.chunk.start + m.chunk.size,
+        subst (λ (n : ℕ). IsGap (free_list_of size g counter cs) n (m.chunk.start + m.chunk.size)) (sym m.start)
+            (gap_of_chunk cs size g counter m.front m.back m.chunk m.split are.covers are.none_touch m.free),
+      );
   count = (let n = gaps_counted Free cs Free in let f = few_gaps Free Linear cs Free are.none_touch in omega arith);
 }
 

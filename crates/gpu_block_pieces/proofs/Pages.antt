@@ -120,7 +120,8 @@ none_within g a last Other s first pos f refused o m =
       | inr le ↦ absurd (refused le)
     ]
 
-pub offset_within : (g a last : ℕ) (Other : Type 0) (s first : ℕ) (r : Option ℕ) → 0 < a → IsFirst g Other s first → SomeIff r (next_multiple_of first a ≤ last) (next_multiple_of first a) → MatchOption r ((o : ℕ) → MayBegin g a Other s o → last < o) (λ o. IsOffsetIn g a Other s o × (o ≤ last))
+pub offset_within : (g a last : ℕ) (Other : Type 0) (s first : ℕ) (r : Option ℕ) → 0 < a → IsFirst g Other s first → SomeIff r (next_multiple_of first a ≤ last) (next_multiple_of first a) →
+    MatchOption r ((o : ℕ) → MayBegin g a Other s o → last < o) (λ o. IsOffsetIn g a Other s o × (o ≤ last))
 offset_within g a last Other s first None pos f h = none_within g a last Other s first pos f h
 offset_within g a last Other s first (Some v) pos f h = (offset_some g a Other s first v pos f h.1, rw h.1 h.0)
 

@@ -32,7 +32,8 @@ are_at cs ds size counter e h = subst (λ (xs : List Chunk). AreChunks xs size c
 pub laid_out : (cs : List Chunk) (size counter : ℕ) → size < 2 ^ 64 → AreChunks cs size counter → IsLaidOut cs
 laid_out cs size counter lt h = (size, lt, h.covers)
 
-module _ (cs new : List Chunk) (size counter : ℕ) (w : Wanted) (f : FoundAt) (name : List ℕ) (number : ℕ) (are : AreChunks cs size counter) (pos : 0 < w.size) (piece : w.kind ≢ Free) (best : IsBestOf cs w (length cs) f) (taken : IsTaken cs f w counter name number new) where
+module _ (cs new : List Chunk) (size counter : ℕ) (w : Wanted) (f : FoundAt) (name : List ℕ) (number : ℕ) (are : AreChunks cs size counter) (pos : 0 < w.size) (piece : w.kind ≢ Free)
+    (best : IsBestOf cs w (length cs) f) (taken : IsTaken cs f w counter name number new) where
   the_taken : TakenFrom best.fits.front best.fits.chunk best.fits.back f w counter name number new
   the_taken = taken best.fits.front best.fits.chunk best.fits.back best.fits.split best.fits.index
 
@@ -77,7 +78,8 @@ module _ (cs new : List Chunk) (size counter : ℕ) (w : Wanted) (f : FoundAt) (
         are_at _ new size (counter + 1) (sym (the_taken.rest rest).1)
         (rest_are size counter best.fits.front best.fits.back best.fits.chunk rest_piece parts best.fits.free (piece_live w.kind piece) refl (omega arith) (omega arith) rest_chunk refl)
 
-    pub rest_takes : (text : List ℕ) → name ≡ text → counter < 2 ^ 64 - 1 → Takes (free_list_of size w.granularity counter cs) (request w.size w.alignment w.kind text) f.offset number (free_list_of size w.granularity (counter + 1) new)
+    pub rest_takes : (text : List ℕ) → name ≡ text → counter < 2 ^ 64 - 1 → Takes (free_list_of size w.granularity counter cs) (request w.size w.alignment w.kind text) f.offset number
+        (free_list_of size w.granularity (counter + 1) new)
     rest_takes text e left =
         let l = low in let h = high in
         let t = the_taken.rest rest in
@@ -90,8 +92,15 @@ module _ (cs new : List Chunk) (size counter : ℕ) (w : Wanted) (f : FoundAt) (
           end = fs.chunk.start + fs.chunk.size;
           chosen = chosen_of_best cs size counter w text are.covers are.none_touch piece f best;
           extent = ap extents_of t.1 ∙ (xs ∙ (ap (λ ys. with_extent (shown (name) (fs.chunk.start + (f.offset + w.size - fs.chunk.start)) counter) (extents_of ys)) (sym fs.split)
-              ∙ (ap (λ k. with_extent (shown (name) k counter) (extents_of cs)) end ∙ (ap (λ k. with_extent (shown k (f.offset + w.size) counter) (extents_of cs)) e ∙ ap (λ k. with_extent (shown text (f.offset + w.size) k) (extents_of cs)) (sym t.0)))));
-          rest = λ _. (t.0, refl, ap gaps_of t.1 ∙ (gs ∙ (ap (λ k. moved_gap fs.chunk.start k (gaps_of (fs.front ++ fs.chunk ∷ fs.back))) end ∙ ap (λ ys. moved_gap fs.chunk.start (f.offset + w.size) (gaps_of ys)) (sym fs.split))), left);
+              ∙ (ap (λ k. with_extent (shown (name) k counter) (extents_of cs)) end ∙
+              (ap (λ k. with_extent (shown k (f.offset + w.size) counter) (extents_of cs)) e ∙ ap (λ k. with_extent (shown text (f.offset + w.size) k) (extents_of cs)) (sym t.0)))));
+          rest = λ _. (
+            t.0,
+            refl,
+            ap gaps_of t.1 ∙ (gs ∙
+                (ap (λ k. moved_gap fs.chunk.start k (gaps_of (fs.front ++ fs.chunk ∷ fs.back))) end ∙ ap (λ ys. moved_gap fs.chunk.start (f.offset + w.size) (gaps_of ys)) (sym fs.split))),
+            left,
+          );
           no_rest = λ q. absurd (omega arith);
           same = (refl, refl);
         }
@@ -108,7 +117,8 @@ module _ (cs new : List Chunk) (size counter : ℕ) (w : Wanted) (f : FoundAt) (
         are_at _ new size counter (sym (the_taken.whole whole).1)
         (whole_are size counter best.fits.front best.fits.back best.fits.chunk whole_piece parts best.fits.free (piece_live w.kind piece) refl refl whole_chunk refl)
 
-    pub whole_takes : (text : List ℕ) → name ≡ text → Takes (free_list_of size w.granularity counter cs) (request w.size w.alignment w.kind text) f.offset number (free_list_of size w.granularity counter new)
+    pub whole_takes : (text : List ℕ) → name ≡ text → Takes (free_list_of size w.granularity counter cs) (request w.size w.alignment w.kind text) f.offset number
+        (free_list_of size w.granularity counter new)
     whole_takes text e =
         let l = low in let h = high in
         let t = the_taken.whole whole in
@@ -122,9 +132,14 @@ module _ (cs new : List Chunk) (size counter : ℕ) (w : Wanted) (f : FoundAt) (
           end = fs.chunk.start + fs.chunk.size;
           chosen = chosen_of_best cs size counter w text are.covers are.none_touch piece f best;
           extent = ap extents_of t.1 ∙ (xs ∙ (ap (λ ys. with_extent (shown (name) (fs.chunk.start + fs.chunk.size) fs.chunk.number) (extents_of ys)) (sym fs.split)
-              ∙ (ap (λ k. with_extent (shown (name) k fs.chunk.number) (extents_of cs)) end ∙ (ap (λ k. with_extent (shown k (f.offset + w.size) fs.chunk.number) (extents_of cs)) e ∙ ap (λ k. with_extent (shown text (f.offset + w.size) k) (extents_of cs)) (sym t.0)))));
+              ∙ (ap (λ k. with_extent (shown (name) k fs.chunk.number) (extents_of cs)) end ∙
+              (ap (λ k. with_extent (shown k (f.offset + w.size) fs.chunk.number) (extents_of cs)) e ∙ ap (λ k. with_extent (shown text (f.offset + w.size) k) (extents_of cs)) (sym t.0)))));
           rest = λ q. absurd (omega arith);
-          no_rest = λ _. (subst (λ k. Contains (gaps_of cs) (fs.chunk.start, k)) (sym t.0) (subst (λ (ys : List Chunk). Contains (gaps_of ys) (fs.chunk.start, fs.chunk.number)) (sym fs.split) ns), refl, ap gaps_of t.1 ∙ (gs ∙ ap (λ ys. without_gap fs.chunk.start (gaps_of ys)) (sym fs.split)));
+          no_rest = λ _. (
+            subst (λ k. Contains (gaps_of cs) (fs.chunk.start, k)) (sym t.0) (subst (λ (ys : List Chunk). Contains (gaps_of ys) (fs.chunk.start, fs.chunk.number)) (sym fs.split) ns),
+            refl,
+            ap gaps_of t.1 ∙ (gs ∙ ap (λ ys. without_gap fs.chunk.start (gaps_of ys)) (sym fs.split)),
+          );
           same = (refl, refl);
         }
 
@@ -133,22 +148,26 @@ module _ (cs new : List Chunk) (size counter : ℕ) (w : Wanted) (f : FoundAt) (
 pub view_at : (size g counter : ℕ) (cs : List Chunk) (v : FreeList) → free_list_of size g counter cs ≡ v → (k : ℕ) → k ≡ v.granularity → free_list_of size k counter cs ≡ v
 view_at size g counter cs v e k h = ap (λ y. free_list_of size y counter cs) (h ∙ sym (ap (λ b. b.granularity) e)) ∙ e
 
-pub no_place_none : (cs : List Chunk) (size counter : ℕ) (w : Wanted) (v : FreeList) (text : List ℕ) → AreChunks cs size counter → w.kind ≢ Free → free_list_of size w.granularity counter cs ≡ v → NoneFits cs w (length cs) → HasNoPlace v (request w.size w.alignment w.kind text)
+pub no_place_none : (cs : List Chunk) (size counter : ℕ) (w : Wanted) (v : FreeList) (text : List ℕ) → AreChunks cs size counter → w.kind ≢ Free → free_list_of size w.granularity counter cs ≡ v →
+    NoneFits cs w (length cs) → HasNoPlace v (request w.size w.alignment w.kind text)
 no_place_none cs size counter w v text are piece e none =
     inl (subst (λ b. (s e' o : ℕ) → Fits b (request w.size w.alignment w.kind text) s e' o → ⊥) e (none_of_chunks cs size counter w text are.covers are.none_touch piece none))
 
-pub no_place_counter : (cs : List Chunk) (size counter : ℕ) (w : Wanted) (v : FreeList) (text : List ℕ) (f : FoundAt) → AreChunks cs size counter → w.kind ≢ Free → free_list_of size w.granularity counter cs ≡ v → (b : IsBestOf cs w (length cs) f) → f.offset + w.size < b.fits.chunk.start + b.fits.chunk.size → counter ≡ 2 ^ 64 - 1 → HasNoPlace v (request w.size w.alignment w.kind text)
+pub no_place_counter : (cs : List Chunk) (size counter : ℕ) (w : Wanted) (v : FreeList) (text : List ℕ) (f : FoundAt) → AreChunks cs size counter → w.kind ≢ Free → free_list_of size w.granularity
+    counter cs ≡ v → (b : IsBestOf cs w (length cs) f) → f.offset + w.size < b.fits.chunk.start + b.fits.chunk.size → counter ≡ 2 ^ 64 - 1 → HasNoPlace v (request w.size w.alignment w.kind text)
 no_place_counter cs size counter w v text f are piece e b rest last =
     inr (
       b.fits.chunk.start,
       b.fits.chunk.start + b.fits.chunk.size,
       f.offset,
-      subst (λ x. IsBestFit x (request w.size w.alignment w.kind text) b.fits.chunk.start (b.fits.chunk.start + b.fits.chunk.size) f.offset) e (chosen_of_best cs size counter w text are.covers are.none_touch piece f b),
+      subst (λ x. IsBestFit x (request w.size w.alignment w.kind text) b.fits.chunk.start (b.fits.chunk.start + b.fits.chunk.size) f.offset) e
+          (chosen_of_best cs size counter w text are.covers are.none_touch piece f b),
       rest,
       ap (λ x. x.counter) (sym e) ∙ last,
     )
 
-pub Takes-at : (size g k counter after : ℕ) (cs new : List Chunk) (v : FreeList) (r : Request) (o n number : ℕ) → free_list_of size g counter cs ≡ v → k ≡ v.granularity → n ≡ number → Takes (free_list_of size k counter cs) r o number (free_list_of size k after new) → Takes v r o n (free_list_of size g after new)
+pub Takes-at : (size g k counter after : ℕ) (cs new : List Chunk) (v : FreeList) (r : Request) (o n number : ℕ) → free_list_of size g counter cs ≡ v → k ≡ v.granularity → n ≡ number → Takes
+    (free_list_of size k counter cs) r o number (free_list_of size k after new) → Takes v r o n (free_list_of size g after new)
 Takes-at size g k counter after cs new v r o n number e h m t =
     let same : k ≡ g = h ∙ sym (ap (λ b. b.granularity) e) in
     let one : Takes v r o number (free_list_of size k after new) = subst (λ b. Takes b r o number (free_list_of size k after new)) (view_at size g counter cs v e k h) t in
@@ -158,10 +177,12 @@ Takes-at size g k counter after cs new v r o n number e h m t =
 pub not_rest : (rest : Bool) (a b : ℕ) → rest ≡ false → (a < b → rest ≡ true) → b ≤ a
 not_rest rest a b e h = elim (cases_lt a b) [ inl lt ↦ absurd (false≢true (sym e ∙ h lt)) | inr ge ↦ ge ]
 
-pub has_place : (cs : List Chunk) (size counter : ℕ) (w : Wanted) (v : FreeList) (text : List ℕ) (f : FoundAt) → AreChunks cs size counter → w.kind ≢ Free → free_list_of size w.granularity counter cs ≡ v → (b : IsBestOf cs w (length cs) f) → (f.offset + w.size < b.fits.chunk.start + b.fits.chunk.size → counter < 2 ^ 64 - 1) → HasNoPlace v (request w.size w.alignment w.kind text) → ⊥
+pub has_place : (cs : List Chunk) (size counter : ℕ) (w : Wanted) (v : FreeList) (text : List ℕ) (f : FoundAt) → AreChunks cs size counter → w.kind ≢ Free → free_list_of size w.granularity counter cs
+    ≡ v → (b : IsBestOf cs w (length cs) f) → (f.offset + w.size < b.fits.chunk.start + b.fits.chunk.size → counter < 2 ^ 64 - 1) → HasNoPlace v (request w.size w.alignment w.kind text) → ⊥
 has_place cs size counter w v text f are piece e b left =
     best_has_place v (request w.size w.alignment w.kind text) b.fits.chunk.start (b.fits.chunk.start + b.fits.chunk.size) f.offset
-    (subst (λ x. IsBestFit x (request w.size w.alignment w.kind text) b.fits.chunk.start (b.fits.chunk.start + b.fits.chunk.size) f.offset) e (chosen_of_best cs size counter w text are.covers are.none_touch piece f b))
+    (subst (λ x. IsBestFit x (request w.size w.alignment w.kind text) b.fits.chunk.start (b.fits.chunk.start + b.fits.chunk.size) f.offset) e
+    (chosen_of_best cs size counter w text are.covers are.none_touch piece f b))
     (λ lt. subst (λ (x : FreeList). x.counter < 2 ^ 64 - 1) e (left lt))
 
 -- want of host memory is the cause only where there is a place

@@ -46,11 +46,28 @@ pub record Behind (counter size : ℕ) (c : Chunk) (back : List Chunk) : Type 0 
 
 pub behind : (counter size : ℕ) (c : Chunk) (back : List Chunk) → Covers back (c.start + c.size) size → NoneTouch c.kind back → All (IsChunk counter) back → Behind counter size c back
 behind counter size c [] covers touch each =
-    record { gap = freed c; rest = []; is = refl; start = refl; number = refl; offset = refl; free = tt; longer = omega arith; covers = covers; touch = tt; each = each; extents = refl; gaps = refl; carry = same_number c (freed c) [] refl; distinct = same_distinct c (freed c) [] refl }
+    record {
+      gap = freed c;
+      rest = [];
+      is = refl;
+      start = refl;
+      number = refl;
+      offset = refl;
+      free = tt;
+      longer = omega arith;
+      covers = covers;
+      touch = tt;
+      each = each;
+      extents = refl;
+      gaps = refl;
+      carry = same_number c (freed c) [] refl;
+      distinct = same_distinct c (freed c) [] refl;
+    }
 behind counter size c (b ∷ bs) covers touch each =
     let at : b.start ≡ c.start + c.size = covers.0 in
     let pos : 0 < b.size = covers.1 in
-    let high : All (λ p. p.0 ≢ c.start + c.size) (gaps_of bs) = All-weaker (GapIn (c.start + c.size + b.size) size) (λ p. p.0 ≢ c.start + c.size) (λ p q. (let l = q.0 in λ e. absurd (omega arith))) (gaps_of bs) (gaps_in bs (c.start + c.size + b.size) size covers.2) in
+    let high : All (λ p. p.0 ≢ c.start + c.size) (gaps_of bs) = All-weaker (GapIn (c.start + c.size + b.size) size) (λ p. p.0 ≢ c.start + c.size) (λ p q. (let l = q.0 in λ e. absurd (omega arith)))
+    (gaps_of bs) (gaps_in bs (c.start + c.size + b.size) size covers.2) in
     elim (free_or_live b.kind) [
       | inl f ↦
           let sum : c.start + (c.size + b.size) ≡ c.start + c.size + b.size = omega arith in
@@ -67,7 +84,8 @@ behind counter size c (b ∷ bs) covers touch each =
             touch = subst (λ k. NoneTouch k bs) (is_free_kind b.kind f) touch.1;
             each = All-tail (IsChunk counter) b bs each;
             extents = sym (extents-free b bs f);
-            gaps = sym (ap (without_gap (c.start + c.size)) (gaps-free b bs f) ∙ kept_mid (λ p. p.0) (c.start + c.size) (b.start, b.number) [] (gaps_of bs) at (All-nil (λ p. p.0 ≢ c.start + c.size)) high);
+            gaps = sym (ap (without_gap (c.start + c.size)) (gaps-free b bs f) ∙ kept_mid (λ p. p.0) (c.start + c.size) (b.start, b.number) [] (gaps_of bs) at (All-nil (λ p. p.0 ≢ c.start + c.size))
+                high);
             carry = λ k h. joined_number (freed c) b bs k (same_number c (freed c) (b ∷ bs) refl k h);
             distinct = λ h. joined_distinct (freed c) b bs (same_distinct c (freed c) (b ∷ bs) refl h);
           }
@@ -121,7 +139,8 @@ module _ (size g counter : ℕ) (cs front back : List Chunk) (c : Chunk) (split 
   old_gaps =
       let r = the_around in
       let pos = r.nonempty in
-      let low : All (λ p. p.0 ≢ c.start + c.size) (gaps_of front) = All-weaker (GapIn 0 c.start) (λ p. p.0 ≢ c.start + c.size) (λ p q. (let l = q.1 in λ e. absurd (omega arith))) (gaps_of front) (gaps_in front 0 c.start r.before) in
+      let low : All (λ p. p.0 ≢ c.start + c.size) (gaps_of front) = All-weaker (GapIn 0 c.start) (λ p. p.0 ≢ c.start + c.size) (λ p q. (let l = q.1 in λ e. absurd (omega arith))) (gaps_of front)
+      (gaps_in front 0 c.start r.before) in
       let lists : gaps_of cs ≡ gaps_of front ++ gaps_of back = ap gaps_of split ∙ (gaps-append front (c ∷ back) ∙ ap (λ ys. gaps_of front ++ ys) (gaps-live c back live)) in
       ap (without_gap (c.start + c.size)) lists ∙ (filter-append (λ p. not (eqb p.0 (c.start + c.size))) (gaps_of front) (gaps_of back) ∙
       (ap (λ ys. ys ++ without_gap (c.start + c.size) (gaps_of back)) (kept_all (λ p. p.0) (c.start + c.size) (gaps_of front) low) ∙ ap (λ ys. gaps_of front ++ ys) (sym the_behind.gaps)))
@@ -160,7 +179,8 @@ module _ (size g counter : ℕ) (cs front back : List Chunk) (c : Chunk) (split 
         let s = b.start in
         subst (λ (xs : List Chunk). AreChunks xs size counter) (sym is) (record {
           covers = Covers-join front (b.gap ∷ b.rest) 0 c.start size the_around.before (s, omega arith, b.covers);
-          none_touch = touch_join Linear front b.gap b.rest (record { before = the_touching.before; at = rw (is_free_kind b.gap.kind b.free) alone; after = rw (is_free_kind b.gap.kind b.free) b.touch });
+          none_touch = touch_join Linear front b.gap b.rest
+              (record { before = the_touching.before; at = rw (is_free_kind b.gap.kind b.free) alone; after = rw (is_free_kind b.gap.kind b.free) b.touch });
           each = All-append (IsChunk counter) front (b.gap ∷ b.rest) the_each.before (All-cons (IsChunk counter) b.gap b.rest gap_chunk b.each);
           distinct = distinct_less front (c ∷ back) (b.gap ∷ b.rest) b.carry b.distinct parts.distinct;
         })
@@ -173,7 +193,9 @@ module _ (size g counter : ℕ) (cs front back : List Chunk) (c : Chunk) (split 
     pub alone_gaps : gaps_of new ≡ with_gap c.start c.number (without_gap (c.start + c.size) (gaps_of cs))
     alone_gaps =
         let b = the_behind in
-        ap gaps_of is ∙ (gaps-append front (b.gap ∷ b.rest) ∙ (ap (λ ys. gaps_of front ++ ys) (gaps-free b.gap b.rest b.free ∙ (ap (λ k. (k, b.gap.number) ∷ gaps_of b.rest) b.start ∙ ap (λ k. (c.start, k) ∷ gaps_of b.rest) b.number)) ∙ sym with_old))
+        ap gaps_of is ∙ (gaps-append front (b.gap ∷ b.rest) ∙
+        (ap (λ ys. gaps_of front ++ ys) (gaps-free b.gap b.rest b.free ∙ (ap (λ k. (k, b.gap.number) ∷ gaps_of b.rest) b.start ∙ ap (λ k. (c.start, k) ∷ gaps_of b.rest) b.number)) ∙ sym
+        with_old))
 
   -- ---- a free chunk stands before it
 
@@ -198,7 +220,8 @@ module _ (size g counter : ℕ) (cs front back : List Chunk) (c : Chunk) (split 
         subst (λ (xs : List Chunk). AreChunks xs size counter) (sym is) (record {
           covers = Covers-join before (joined_chunk l b.gap ∷ b.rest) 0 l.start size left_around.before (refl, omega arith, rw sum b.covers);
           none_touch = touch_join Linear before (joined_chunk l b.gap) b.rest (record { before = left_touching.before; at = left_touching.at; after = rw (is_free_kind l.kind free) b.touch });
-          each = All-append (IsChunk counter) before (joined_chunk l b.gap ∷ b.rest) left_each.before (All-cons (IsChunk counter) (joined_chunk l b.gap) b.rest (record { after = x; before = omega arith; positive = at.positive; given = at.given }) b.each);
+          each = All-append (IsChunk counter) before (joined_chunk l b.gap ∷ b.rest) left_each.before
+              (All-cons (IsChunk counter) (joined_chunk l b.gap) b.rest (record { after = x; before = omega arith; positive = at.positive; given = at.given }) b.each);
           distinct = distinct_less before (l ∷ c ∷ back) (joined_chunk l b.gap ∷ b.rest)
               (λ k h. joined_number l b.gap b.rest k (All-cons (Not k) l (b.gap ∷ b.rest) (All-head (Not k) l (c ∷ back) h) (b.carry k (All-tail (Not k) l (c ∷ back) h))))
               (λ h. joined_distinct l b.gap b.rest (b.carry l.number h.0, b.distinct h.1))
@@ -208,8 +231,10 @@ module _ (size g counter : ℕ) (cs front back : List Chunk) (c : Chunk) (split 
     pub joined_extents : extents_of new ≡ without_extent c.start (extents_of cs)
     joined_extents =
         let b = the_behind in
-        let lone : extents_of front ≡ extents_of before = ap extents_of fronts ∙ (extents-append before (l ∷ []) ∙ (ap (λ ys. extents_of before ++ ys) (extents-free l [] free) ∙ append-nil (extents_of before))) in
-        ap extents_of is ∙ (extents-append before (joined_chunk l b.gap ∷ b.rest) ∙ (ap (λ ys. extents_of before ++ ys) (extents-free (joined_chunk l b.gap) b.rest free ∙ b.extents) ∙ (ap (λ ys. ys ++ extents_of back) (sym lone) ∙ sym old_extents)))
+        let lone : extents_of front ≡ extents_of before = ap extents_of fronts ∙
+        (extents-append before (l ∷ []) ∙ (ap (λ ys. extents_of before ++ ys) (extents-free l [] free) ∙ append-nil (extents_of before))) in
+        ap extents_of is ∙ (extents-append before (joined_chunk l b.gap ∷ b.rest) ∙
+        (ap (λ ys. extents_of before ++ ys) (extents-free (joined_chunk l b.gap) b.rest free ∙ b.extents) ∙ (ap (λ ys. ys ++ extents_of back) (sym lone) ∙ sym old_extents)))
 
     pub joined_gaps : gaps_of new ≡ without_gap (c.start + c.size) (gaps_of cs)
     joined_gaps =
@@ -225,13 +250,16 @@ pub record Released (size g counter : ℕ) (cs new : List Chunk) (number : ℕ) 
   pub releases : Releases (free_list_of size g counter cs) number (free_list_of size g counter new)
 
 -- no gap ends at the start of a chunk behind a piece
-no_gap_behind : (size g counter : ℕ) (cs before back : List Chunk) (l c : Chunk) → cs ≡ before ++ l ∷ c ∷ back → (IsFree l.kind → ⊥) → 0 < l.size → l.start + l.size ≡ c.start → (s : ℕ) → IsGap (free_list_of size g counter cs) s c.start → ⊥
+no_gap_behind : (size g counter : ℕ) (cs before back : List Chunk) (l c : Chunk) → cs ≡ before ++ l ∷ c ∷ back → (IsFree l.kind → ⊥) → 0 < l.size → l.start + l.size ≡ c.start → (s : ℕ) → IsGap
+    (free_list_of size g counter cs) s c.start → ⊥
 no_gap_behind size g counter cs before back l c split live pos end s gap =
     let more = gap.nonempty in
     let m = All-contains (λ (y : Extent). (y.end ≤ s) ⊎ (c.start ≤ y.start)) (extents_of cs) (extent l) gap.meets_none (contains_chunk cs before (c ∷ back) l split live) in
     elim m [ inl a ↦ omega arith | inr a ↦ omega arith ]
 
-released_alone : (size g counter : ℕ) (cs front back : List Chunk) (c : Chunk) (split : cs ≡ front ++ c ∷ back) (are : AreChunks cs size counter) (live : IsFree c.kind → ⊥) (number : ℕ) → c.number ≡ number → (new : List Chunk) → NotBothFree (last_kind Linear front) Free → new ≡ front ++ (the_behind size g counter cs front back c split are live).gap ∷ (the_behind size g counter cs front back c split are live).rest → ((s : ℕ) → IsGap (free_list_of size g counter cs) s c.start → ⊥) → Released size g counter cs new number
+released_alone : (size g counter : ℕ) (cs front back : List Chunk) (c : Chunk) (split : cs ≡ front ++ c ∷ back) (are : AreChunks cs size counter) (live : IsFree c.kind → ⊥) (number : ℕ) → c.number ≡
+    number → (new : List Chunk) → NotBothFree (last_kind Linear front) Free → new ≡ front ++ (the_behind size g counter cs front back c split are live).gap ∷
+    (the_behind size g counter cs front back c split are live).rest → ((s : ℕ) → IsGap (free_list_of size g counter cs) s c.start → ⊥) → Released size g counter cs new number
 released_alone size g counter cs front back c split are live number num new alone is none =
     record {
       are = alone_are size g counter cs front back c split are live alone new is;
@@ -245,7 +273,8 @@ released_alone size g counter cs front back c split are live number num new alon
       };
     }
 
-pub released : (size g counter : ℕ) (cs front back : List Chunk) (c : Chunk) (split : cs ≡ front ++ c ∷ back) (are : AreChunks cs size counter) (live : IsFree c.kind → ⊥) (number : ℕ) → c.number ≡ number → (new : List Chunk) → new ≡ join_front front (join_back (freed c) back) → Released size g counter cs new number
+pub released : (size g counter : ℕ) (cs front back : List Chunk) (c : Chunk) (split : cs ≡ front ++ c ∷ back) (are : AreChunks cs size counter) (live : IsFree c.kind → ⊥) (number : ℕ) → c.number ≡
+    number → (new : List Chunk) → new ≡ join_front front (join_back (freed c) back) → Released size g counter cs new number
 released size g counter cs [] back c split are live number num new is =
     let b = the_behind size g counter cs [] back c split are live in
     let zero_start : 0 ≡ c.start = (the_around size g counter cs [] back c split are live).before in
@@ -260,7 +289,8 @@ released size g counter cs (f ∷ fs) back c split are live number num new is =
     elim (free_or_live l.kind) [
       | inl free ↦
           let at : new ≡ left.before ++ joined_chunk l b.gap ∷ b.rest = kinds ∙ ap (λ ys. left.before ++ ys) (join_kinds-free l.kind l b.gap b.rest free) in
-          let gap : IsGap (free_list_of size g counter cs) l.start c.start = subst (λ e. IsGap (free_list_of size g counter cs) l.start e) left.ends (gap_of_chunk cs size g counter left.before (c ∷ back) l left.split are.covers are.none_touch free) in
+          let gap : IsGap (free_list_of size g counter cs) l.start c.start = subst (λ e. IsGap (free_list_of size g counter cs) l.start e) left.ends
+          (gap_of_chunk cs size g counter left.before (c ∷ back) l left.split are.covers are.none_touch free) in
           record {
             are = joined_are size g counter cs (f ∷ fs) back c split are live left.before l left.is free new at;
             releases = record {

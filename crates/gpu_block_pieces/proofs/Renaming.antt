@@ -20,14 +20,16 @@ numbers_shown k (c ∷ cs) h =
     let rest = numbers_shown k cs (All-tail (Not k) c cs h) in
     elim (free_or_live c.kind) [
       | inl f ↦ subst (λ (xs : List Extent). All (λ (x : Extent). x.number ≢ k) xs) (sym (extents-free c cs f)) rest
-      | inr l ↦ subst (λ (xs : List Extent). All (λ (x : Extent). x.number ≢ k) xs) (sym (extents-live c cs l)) (All-cons (λ (x : Extent). x.number ≢ k) (extent c) (extents_of cs) (All-head (Not k) c cs h) rest)
+      | inr l ↦ subst (λ (xs : List Extent). All (λ (x : Extent). x.number ≢ k) xs) (sym (extents-live c cs l))
+          (All-cons (λ (x : Extent). x.number ≢ k) (extent c) (extents_of cs) (All-head (Not k) c cs h) rest)
     ]
 
 pub record Renamed (size g counter : ℕ) (cs new : List Chunk) (number : ℕ) (text : List ℕ) : Type 0 where
   pub are : AreChunks new size counter
   pub renames : Renames (free_list_of size g counter cs) number text (free_list_of size g counter new)
 
-pub renamed : (size g counter : ℕ) (cs new : List Chunk) (i number : ℕ) (name : List ℕ) (text : List ℕ) → name ≡ text → AreChunks cs size counter → HoldsNumber cs number i → IsNamedAt cs i name new → Renamed size g counter cs new number text
+pub renamed : (size g counter : ℕ) (cs new : List Chunk) (i number : ℕ) (name : List ℕ) (text : List ℕ) → name ≡ text → AreChunks cs size counter → HoldsNumber cs number i → IsNamedAt cs i name new →
+    Renamed size g counter cs new number text
 renamed size g counter cs new i number name text et are h named =
     let f = h.front in let c = h.chunk in let b = h.back in
     let d = named_chunk c name in
@@ -44,13 +46,21 @@ renamed size g counter cs new i number name text et are h named =
       are = subst (λ (xs : List Chunk). AreChunks xs size counter) (sym is) (record {
         covers = Covers-like f b c d 0 size refl refl parts.covers;
         none_touch = touch_join Linear f d b (record { before = t.before; at = t.at; after = t.after });
-        each = All-append (IsChunk counter) f (d ∷ b) e.before (All-cons (IsChunk counter) d b (record { after = e.at.after; before = e.at.before; positive = e.at.positive; given = e.at.given }) e.after);
+        each = All-append (IsChunk counter) f (d ∷ b) e.before
+            (All-cons (IsChunk counter) d b (record { after = e.at.after; before = e.at.before; positive = e.at.positive; given = e.at.given }) e.after);
         distinct = distinct_less f (c ∷ b) (d ∷ b) (same_number c d b refl) (same_distinct c d b refl) parts.distinct;
       });
       renames = record {
         held = (extent c, contains_chunk cs f b c h.split h.live, h.numbered);
-        extents = new_list ∙ (ap (λ k. extents_of f ++ record (extent c) { name = k } ∷ extents_of b) et ∙ (sym mapped ∙ (ap (λ ys. map (with_name c.number text) ys) (sym old_list) ∙ ap (λ k. map (with_name k text) (extents_of cs)) h.numbered)));
-        same = (refl, refl, refl, ap gaps_of is ∙ (gaps-append f (d ∷ b) ∙ (ap (λ ys. gaps_of f ++ ys) (gaps-live d b h.live ∙ sym (gaps-live c b h.live)) ∙ (sym (gaps-append f (c ∷ b)) ∙ ap gaps_of (sym h.split)))));
+        extents = new_list ∙ (ap (λ k. extents_of f ++ record (extent c) { name = k } ∷ extents_of b) et ∙
+            (sym mapped ∙ (ap (λ ys. map (with_name c.number text) ys) (sym old_list) ∙ ap (λ k. map (with_name k text) (extents_of cs)) h.numbered)));
+        same = (
+          refl,
+          refl,
+          refl,
+          ap gaps_of is ∙
+              (gaps-append f (d ∷ b) ∙ (ap (λ ys. gaps_of f ++ ys) (gaps-live d b h.live ∙ sym (gaps-live c b h.live)) ∙ (sym (gaps-append f (c ∷ b)) ∙ ap gaps_of (sym h.split)))),
+        );
       };
     }
 
@@ -71,7 +81,8 @@ shown_by xs false text x h = record { from = x; held = h; kind = refl; start = r
 shown_of : (xs : List Extent) (number : ℕ) (text : List ℕ) (x : Extent) → Contains (map (with_name number text) xs) x → Shown xs x
 shown_of xs number text x h =
     All-contains (Shown xs) (map (with_name number text) xs) x
-    (All-map (Shown xs) (with_name number text) xs (All-weaker (Contains xs) (λ y. Shown xs (with_name number text y)) (λ y q. shown_by xs (eqb y.number number) text y q) xs (All-contains_itself xs))) h
+    (All-map (Shown xs) (with_name number text) xs
+    (All-weaker (Contains xs) (λ y. Shown xs (with_name number text y)) (λ y q. shown_by xs (eqb y.number number) text y q) xs (All-contains_itself xs))) h
 
 pub renames_separated : (old : FreeList) (n : ℕ) (text : List ℕ) (new : FreeList) → IsPageSeparated old → Renames old n text new → IsPageSeparated new
 renames_separated old n text new apart t = λ x y hx hy ne le.

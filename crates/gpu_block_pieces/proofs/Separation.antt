@@ -33,7 +33,8 @@ all_placed P key x (y ∷ ys) p h =
 
 pub in_placed : {X : Type 0} (key : X → ℕ) (x y : X) (xs : List X) → Contains (placed key x xs) y → (y ≡ x) ⊎ Contains xs y
 in_placed key x y xs h =
-    All-contains (λ z. (z ≡ x) ⊎ Contains xs z) (placed key x xs) y (all_placed (λ z. (z ≡ x) ⊎ Contains xs z) key x xs (inl refl) (All-weaker (Contains xs) (λ z. (z ≡ x) ⊎ Contains xs z) (λ z q. inr q) xs (All-contains_itself xs))) h
+    All-contains (λ z. (z ≡ x) ⊎ Contains xs z) (placed key x xs) y
+    (all_placed (λ z. (z ≡ x) ⊎ Contains xs z) key x xs (inl refl) (All-weaker (Contains xs) (λ z. (z ≡ x) ⊎ Contains xs z) (λ z q. inr q) xs (All-contains_itself xs))) h
 
 pub in_filter : {X : Type 0} (p : X → Bool) (y : X) (xs : List X) → Contains (filter p xs) y → Contains xs y
 in_filter p y xs h = All-contains (Contains xs) (filter p xs) y (All-filter p (Contains xs) xs (All-contains_itself xs)) h

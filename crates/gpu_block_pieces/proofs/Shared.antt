@@ -14,7 +14,8 @@ module _ (b : FreeList) (pos : 0 < b.granularity) (apart : IsPageSeparated b) wh
       let high = page_mono b.granularity y.offset q pos above in
       omega arith
 
-  pub no_shared_page : IsSound b → (x y : Extent) → Contains b.extents x → Contains b.extents y → x.kind ≢ y.kind → (p q : ℕ) → x.offset ≤ p → p < x.end → y.offset ≤ q → q < y.end → page b.granularity p ≢ page b.granularity q
+  pub no_shared_page : IsSound b → (x y : Extent) → Contains b.extents x → Contains b.extents y → x.kind ≢ y.kind → (p q : ℕ) → x.offset ≤ p → p < x.end → y.offset ≤ q → q < y.end → page
+      b.granularity p ≢ page b.granularity q
   no_shared_page sound x y hx hy ne p q x0 x1 y0 y1 same =
       elim (sound.apart x y hx hy) [
         | inl one ↦ ne (ap (λ k. k.kind) one)

@@ -1,5 +1,6 @@
 -- What a search costs, said of the gaps of the chunks.
-use Rattle.std.proofs.Common.{◌≡◌, ℕ, suc, ◌+◌, ◌<◌, ◌≤◌, List, [], ◌∷◌, ◌++◌, length, get_or, take, drop, refl, sym, ap, ◌∙◌, subst, inl, inr, arith, Option, Some, None, MatchOption, Bool, true, false, cond, count_by}
+use Rattle.std.proofs.Common.{◌≡◌, ℕ, suc, ◌+◌, ◌<◌, ◌≤◌, List, [], ◌∷◌, ◌++◌, length, get_or, take, drop, refl, sym, ap, ◌∙◌, subst, inl, inr, arith, Option, Some, None, MatchOption, Bool, true}
+use Rattle.std.proofs.Common.{false, cond, count_by}
 use Rattle.std.specs.Prelude.{nat_lt, nat_le, ◌&&◌, ◌||◌, ◌==◌}
 use Rattle.std.specs.List.{AllPairs}
 use Rattle.std.proofs.lemmas.List.{take-append-drop, get_or-take, get_or-drop, length-take-le, length-append}
@@ -79,7 +80,8 @@ count_none p (x ∷ xs) h =
     count_cons p x xs ∙ (ap (λ (b : Bool). one b + count_by p xs) e ∙ (let z : 0 + count_by p xs ≡ count_by p xs = omega arith in z ∙ r))
 
 -- the tests up to a place in an index in order
-tried_to : (gs : List Gap) (n place : ℕ) (g : Gap) → AllPairs Before gs → place < length gs → ((d : Gap) → get_or gs place d ≡ g) → count_by (is_tried n g) gs ≡ count_by (is_long n) (take (place + 1) gs)
+tried_to : (gs : List Gap) (n place : ℕ) (g : Gap) → AllPairs Before gs → place < length gs → ((d : Gap) → get_or gs place d ≡ g) → count_by (is_tried n g) gs ≡ count_by (is_long n)
+    (take (place + 1) gs)
 tried_to gs n place g ordered within is =
     let m = place + 1 in
     let len : length (take m gs) ≡ m = length-take-le m gs (omega arith) in
@@ -98,8 +100,10 @@ tried_to gs n place g ordered within is =
     let ok : not_behind g x ≡ false = behind_not g x (subst (λ (y : Gap). Before y x) (is d) (ordered place (m + k) d (omega arith) (omega arith))) in
     ap (is_tried n g) at ∙ and_false (is_long n x) (not_behind g x) ok) in
     let split = ap (λ (xs : List Gap). count_by (is_tried n g) xs) (sym (take-append-drop m gs)) in
-    let sums : count_by (is_tried n g) (take m gs ++ drop m gs) ≡ count_by (is_tried n g) (take m gs) + count_by (is_tried n g) (drop m gs) = sum_by-append (λ (y : Gap). cond (is_tried n g y) 1 0) (take m gs) (drop m gs) in
-    split ∙ (sums ∙ (ap (λ (k : ℕ). count_by (is_tried n g) (take m gs) + k) last ∙ (let z : count_by (is_tried n g) (take m gs) + 0 ≡ count_by (is_tried n g) (take m gs) = omega arith in z ∙ first)))
+    let sums : count_by (is_tried n g) (take m gs ++ drop m gs) ≡ count_by (is_tried n g) (take m gs) + count_by (is_tried n g) (drop m gs) = sum_by-append (λ (y : Gap). cond (is_tried n g y) 1 0)
+    (take m gs) (drop m gs) in
+    split ∙ (sums ∙ (ap (λ (k : ℕ). count_by (is_tried n g) (take m gs) + k) last ∙
+    (let z : count_by (is_tried n g) (take m gs) + 0 ≡ count_by (is_tried n g) (take m gs) = omega arith in z ∙ first)))
 
 module _ (cs : List Chunk) (gs : List Gap) (w : Wanted) (old new : Cost) (same : HasSame gs (gaps_between Free cs Free)) (ordered : AllPairs Before gs) where
   tests_of : (o : Option Found) → MatchOption o
@@ -115,7 +119,8 @@ module _ (cs : List Chunk) (gs : List Gap) (w : Wanted) (old new : Cost) (same :
   pub spends : (o : Option Found) → MatchOption o
       (NoGapFits gs w × (new.tests ≡ old.tests + count_by (is_long w.size) gs))
       (λ f. (place : ℕ) × IsFirstFit gs w f place × (new.tests ≡ old.tests + count_by (is_long w.size) (take (place + 1) gs)))
-      → (old.comparisons ≤ new.comparisons) × (old.comparisons + digits (length gs) ≤ new.comparisons + 1) × (new.comparisons ≤ old.comparisons + digits (length gs)) → new.lookups ≡ old.lookups → Spends cs w.size o old new
+      → (old.comparisons ≤ new.comparisons) × (old.comparisons + digits (length gs) ≤ new.comparisons + 1) × (new.comparisons ≤ old.comparisons + digits (length gs)) → new.lookups ≡ old.lookups →
+      Spends cs w.size o old new
   spends o h c l = record {
     rises = c.0;
     compared_from = subst (λ (n : ℕ). old.comparisons + digits n ≤ new.comparisons + 1) (same_length gs (gaps_between Free cs Free) same) c.1;

@@ -99,7 +99,8 @@ more_given counter cs h = All-weaker (IsChunk counter) (IsChunk (counter + 1)) (
 
 -- ---- a take that leaves a rest
 
-module _ (size counter : ℕ) (front back : List Chunk) (c piece : Chunk) (are : AreChunks (front ++ c ∷ back) size counter) (free : IsFree c.kind) (live : IsFree piece.kind → ⊥) (starts : piece.start ≡ c.start) where
+module _ (size counter : ℕ) (front back : List Chunk) (c piece : Chunk) (are : AreChunks (front ++ c ∷ back) size counter) (free : IsFree c.kind) (live : IsFree piece.kind → ⊥)
+    (starts : piece.start ≡ c.start) where
   take_around : Around front c back 0 size
   take_around = around front c back 0 size are.covers
 
@@ -107,7 +108,8 @@ module _ (size counter : ℕ) (front back : List Chunk) (c piece : Chunk) (are :
   low_extents x e = All-weaker (StartsIn 0 c.start) (λ y. y.start < x.start) (λ y q. (let l = q.1 in omega arith)) (extents_of front) (extents_in front 0 c.start take_around.before)
 
   high_extents : (x : Extent) → x.start ≡ c.start → All (λ y. x.start ≤ y.start) (extents_of back)
-  high_extents x e = All-weaker (StartsIn (c.start + c.size) size) (λ y. x.start ≤ y.start) (λ y q. (let l = q.0 in omega arith)) (extents_of back) (extents_in back (c.start + c.size) size take_around.after)
+  high_extents x e = All-weaker (StartsIn (c.start + c.size) size) (λ y. x.start ≤ y.start) (λ y q. (let l = q.0 in omega arith)) (extents_of back)
+      (extents_in back (c.start + c.size) size take_around.after)
 
   low_gaps : All (λ p. p.0 ≢ c.start) (gaps_of front)
   low_gaps = All-weaker (GapIn 0 c.start) (λ p. p.0 ≢ c.start) (λ p q. (let l = q.1 in λ e. absurd (omega arith))) (gaps_of front) (gaps_in front 0 c.start take_around.before)
@@ -126,7 +128,8 @@ module _ (size counter : ℕ) (front back : List Chunk) (c piece : Chunk) (are :
   -- the piece among the extents, whatever stands for the free chunk behind it
   placed_extent : with_extent (extent piece) (extents_of (front ++ c ∷ back)) ≡ extents_of front ++ extent piece ∷ extents_of back
   placed_extent =
-      ap (with_extent (extent piece)) old_extents ∙ placed-mid (λ y. y.start) (extent piece) (extents_of front) (extents_of back) (low_extents (extent piece) starts) (high_extents (extent piece) starts)
+      ap (with_extent (extent piece)) old_extents ∙ placed-mid (λ y. y.start) (extent piece) (extents_of front) (extents_of back) (low_extents (extent piece) starts)
+      (high_extents (extent piece) starts)
 
   module _ (pos : 0 < piece.size) (shorter : piece.size < c.size) (chunk : IsChunk (counter + 1) piece) (numbered : piece.number ≡ counter) where
     pub rest_are : AreChunks (front ++ piece ∷ cut_chunk c piece.size ∷ back) size (counter + 1)
@@ -138,7 +141,8 @@ module _ (size counter : ℕ) (front back : List Chunk) (c piece : Chunk) (are :
         let cut : IsChunk (counter + 1) (cut_chunk c piece.size) = record { after = omega arith; before = omega arith; positive = at.positive; given = omega arith } in
         record {
           covers = Covers-cut front back c piece 0 size starts pos shorter are.covers;
-          none_touch = touch_join Linear front piece (cut_chunk c piece.size ∷ back) (record { before = t.before; at = live_after (last_kind Linear front) piece.kind live; after = (live_before piece.kind c.kind live, t.after) });
+          none_touch = touch_join Linear front piece (cut_chunk c piece.size ∷ back)
+              (record { before = t.before; at = live_after (last_kind Linear front) piece.kind live; after = (live_before piece.kind c.kind live, t.after) });
           each = All-append (IsChunk (counter + 1)) front (piece ∷ cut_chunk c piece.size ∷ back) (more_given counter front e.before)
               (All-cons (IsChunk (counter + 1)) piece (cut_chunk c piece.size ∷ back) chunk (All-cons (IsChunk (counter + 1)) (cut_chunk c piece.size) back cut (more_given counter back e.after)));
           distinct = distinct_cut counter front back c piece numbered are.each are.distinct;
@@ -151,8 +155,10 @@ module _ (size counter : ℕ) (front back : List Chunk) (c piece : Chunk) (are :
     pub rest_gaps : gaps_of (front ++ piece ∷ cut_chunk c piece.size ∷ back) ≡ moved_gap c.start (c.start + piece.size) (gaps_of (front ++ c ∷ back))
     rest_gaps =
         let new : gaps_of (front ++ piece ∷ cut_chunk c piece.size ∷ back) ≡ gaps_of front ++ (c.start + piece.size, c.number) ∷ gaps_of back =
-        gaps-append front (piece ∷ cut_chunk c piece.size ∷ back) ∙ ap (λ ys. gaps_of front ++ ys) (gaps-live piece (cut_chunk c piece.size ∷ back) live ∙ gaps-free (cut_chunk c piece.size) back free) in
-        new ∙ sym (ap (moved_gap c.start (c.start + piece.size)) old_gaps ∙ changed_mid (λ p. p.0) c.start (λ p. (c.start + piece.size, p.1)) (c.start, c.number) (gaps_of front) (gaps_of back) refl low_gaps high_gaps)
+        gaps-append front (piece ∷ cut_chunk c piece.size ∷ back) ∙ ap (λ ys. gaps_of front ++ ys)
+        (gaps-live piece (cut_chunk c piece.size ∷ back) live ∙ gaps-free (cut_chunk c piece.size) back free) in
+        new ∙ sym (ap (moved_gap c.start (c.start + piece.size)) old_gaps ∙ changed_mid (λ p. p.0) c.start (λ p. (c.start + piece.size, p.1)) (c.start, c.number) (gaps_of front) (gaps_of back) refl
+        low_gaps high_gaps)
 
   -- ---- a take of the whole chunk
 
@@ -163,7 +169,8 @@ module _ (size counter : ℕ) (front back : List Chunk) (c piece : Chunk) (are :
         let e = each_of counter front c back are.each in
         record {
           covers = Covers-like front back c piece 0 size starts same_size are.covers;
-          none_touch = touch_join Linear front piece back (record { before = t.before; at = live_after (last_kind Linear front) piece.kind live; after = after_live piece.kind back c.kind live t.after });
+          none_touch = touch_join Linear front piece back
+              (record { before = t.before; at = live_after (last_kind Linear front) piece.kind live; after = after_live piece.kind back c.kind live t.after });
           each = All-append (IsChunk counter) front (piece ∷ back) e.before (All-cons (IsChunk counter) piece back chunk e.after);
           distinct = distinct_less front (c ∷ back) (piece ∷ back) (same_number c piece back numbered) (same_distinct c piece back numbered) are.distinct;
         }

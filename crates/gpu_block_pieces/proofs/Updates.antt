@@ -19,7 +19,8 @@ use Rattle.gpu_block_pieces.proofs.Takings.{Touching, touching, touch_join, live
 use Rattle.std.proofs.lemmas.List.Elements.{All-head}
 use Rattle.gpu_block_chunks.proofs.Parts.{All-parts}
 use Rattle.gpu_block_chunks.proofs.Listing.{stands_once}
-use Rattle.gpu_block_pieces.proofs.Indexing.{free_is, first_free, gaps_free, gaps_live, after_same, before_same, none_after, other_starts, member_at, same_member, same_back, key_there, no_key, same_less, same_more, same_to}
+use Rattle.gpu_block_pieces.proofs.Indexing.{free_is, first_free, gaps_free, gaps_live, after_same, before_same, none_after, other_starts, member_at, same_member, same_back, key_there, no_key}
+use Rattle.gpu_block_pieces.proofs.Indexing.{same_less, same_more, same_to}
 
 -- ---- what stands beside a chunk
 
@@ -31,7 +32,8 @@ first_beside_kind : (xs : List Chunk) → beside_kind (first_beside xs) ≡ kind
 first_beside_kind [] = refl
 first_beside_kind (x ∷ xs) = refl
 
-pub gap_here : (cs front back : List Chunk) (c : Chunk) (k : ℕ) (a : Around) (before after : AllocationType) → AreDistinct cs → IsAround cs k a → before ≡ beside_kind a.before → after ≡ beside_kind a.after → cs ≡ front ++ c ∷ back → c.number ≡ k
+pub gap_here : (cs front back : List Chunk) (c : Chunk) (k : ℕ) (a : Around) (before after : AllocationType) → AreDistinct cs → IsAround cs k a → before ≡ beside_kind a.before → after ≡ beside_kind
+    a.after → cs ≡ front ++ c ∷ back → c.number ≡ k
     → record { length = a.here.size; start = a.here.start; number = a.here.number; before = before; after = after } ≡ gap_between (last_kind Free front) c (kind_or back Free)
 gap_here cs front back c k a before after w m eb ea p n =
     let s = stands_once cs front back c m.chunk k w m.at p n in
@@ -62,7 +64,8 @@ module _ (cs : List Chunk) (gs : List Gap) (g : Gap) (listed : IsListed cs gs) (
   pub gap_held : Contains gs g
   gap_held =
       subst (λ (x : Gap). Contains gs x) (sym m.is)
-      (same_member (gaps_between Free cs Free) gs (gap_between (last_kind Free m.front) m.chunk (kind_or m.back Free)) (same_back gs (gaps_between Free cs Free) listed.same) (member_at cs m.front m.back m.chunk m.split m.free))
+      (same_member (gaps_between Free cs Free) gs (gap_between (last_kind Free m.front) m.chunk (kind_or m.back Free)) (same_back gs (gaps_between Free cs Free) listed.same)
+      (member_at cs m.front m.back m.chunk m.split m.free))
 
   pub gap_key : HasKeyAt gs g.length g.start
   gap_key = key_there gs g gap_held
@@ -96,7 +99,8 @@ module _ (cs : List Chunk) (gs : List Gap) (g : Gap) (listed : IsListed cs gs) (
 
   -- ---- its front is taken
 
-  module _ (ds : List Chunk) (taken number offset : ℕ) (kind : AllocationType) (name : Name) (distinct : AreDistinct cs) (live : kind ≡ Free → ⊥) (split : IsSplit cs g.number taken number offset kind name ds) where
+  module _ (ds : List Chunk) (taken number offset : ℕ) (kind : AllocationType) (name : Name) (distinct : AreDistinct cs) (live : kind ≡ Free → ⊥)
+      (split : IsSplit cs g.number taken number offset kind name ds) where
     abbrev piece : Chunk
     piece = front_piece m.chunk taken offset kind number name
 
@@ -132,7 +136,8 @@ module _ (cs : List Chunk) (gs : List Gap) (g : Gap) (listed : IsListed cs gs) (
         let d = old_shown in
         omega arith
 
-    pub front_no_key : (mid : List Gap) (size : ℕ) → Covers cs 0 size → 0 < taken → taken < g.length → AllPairs Before gs → IsRemoved gs g.length g.start mid → HasNoKey mid (g.length - taken) (g.start + taken)
+    pub front_no_key : (mid : List Gap) (size : ℕ) → Covers cs 0 size → 0 < taken → taken < g.length → AllPairs Before gs → IsRemoved gs g.length g.start mid → HasNoKey mid (g.length - taken)
+        (g.start + taken)
     front_no_key mid size covers pos lt ordered r =
         let e1 : g.start ≡ m.chunk.start = ap (λ (x : Gap). x.start) m.is in
         let e2 : g.length ≡ m.chunk.size = ap (λ (x : Gap). x.length) m.is in
@@ -144,7 +149,8 @@ module _ (cs : List Chunk) (gs : List Gap) (g : Gap) (listed : IsListed cs gs) (
         let t = touch_at in
         record {
           touch = subst (λ (xs : List Chunk). NoneTouch Linear xs) (sym front_is)
-              (touch_join Linear m.front piece (rest ∷ m.back) (record { before = t.before; at = live_after (last_kind Linear m.front) kind (piece_kind kind live); after = (live_before kind m.chunk.kind (piece_kind kind live), t.after) }));
+              (touch_join Linear m.front piece (rest ∷ m.back)
+              (record { before = t.before; at = live_after (last_kind Linear m.front) kind (piece_kind kind live); after = (live_before kind m.chunk.kind (piece_kind kind live), t.after) }));
           same = same_to new (low ++ rest_gap ∷ high) (gaps_between Free ds Free) (same_more mid new low high rest_gap (mid_same mid ordered r) i) (sym front_gaps);
         }
 
@@ -181,7 +187,8 @@ module _ (cs : List Chunk) (gs : List Gap) (g : Gap) (listed : IsListed cs gs) (
         let t = touch_at in
         record {
           touch = subst (λ (xs : List Chunk). NoneTouch Linear xs) (sym whole_is)
-              (touch_join Linear m.front whole m.back (record { before = t.before; at = live_after (last_kind Linear m.front) kind (piece_kind kind live); after = after_live kind m.back m.chunk.kind (piece_kind kind live) t.after }));
+              (touch_join Linear m.front whole m.back (record
+              { before = t.before; at = live_after (last_kind Linear m.front) kind (piece_kind kind live); after = after_live kind m.back m.chunk.kind (piece_kind kind live) t.after }));
           same = same_to mid (low ++ high) (gaps_between Free ds Free) (mid_same mid ordered r) (sym whole_gaps);
         }
 

@@ -41,7 +41,8 @@ pub record Releases (old : FreeList) (number : ℕ) (new : FreeList) : Type 0 wh
   pub held : Contains old.extents gone
   pub numbered : gone.number ≡ number
   pub extents : new.extents ≡ without_extent gone.start old.extents
-  pub numbers : ((s : ℕ) × IsGap old s gone.start × (new.gap_numbers ≡ without_gap gone.end old.gap_numbers)) ⊎ (((s : ℕ) → IsGap old s gone.start → ⊥) × (new.gap_numbers ≡ with_gap gone.start number (without_gap gone.end old.gap_numbers)))
+  pub numbers : ((s : ℕ) × IsGap old s gone.start × (new.gap_numbers ≡ without_gap gone.end old.gap_numbers)) ⊎
+      (((s : ℕ) → IsGap old s gone.start → ⊥) × (new.gap_numbers ≡ with_gap gone.start number (without_gap gone.end old.gap_numbers)))
   pub same : (new.size ≡ old.size) × (new.granularity ≡ old.granularity) × (new.counter ≡ old.counter)
 
 -- the extent with the name, if it has the number

@@ -49,7 +49,8 @@ cond_swap false false x y z apart = refl
 
 insert_step : (key : ℕ) (e : ℕ × NonZeroU64) (es : Bound) (v : NonZeroU64) (q : ℕ) (o : Ordering) → o ≡ nat_cmp key e.0
     → lookup (is_at (nat_cmp q)) (insert_entry nat_cmp es key v) ≡ cond (is_at (nat_cmp key) q) (Some v) (lookup (is_at (nat_cmp q)) es)
-    → lookup (is_at (nat_cmp q)) (match_ordering o ((key, v) ∷ e ∷ es) ((e.0, v) ∷ es) (e ∷ insert_entry nat_cmp es key v)) ≡ cond (is_at (nat_cmp key) q) (Some v) (lookup (is_at (nat_cmp q)) (e ∷ es))
+    → lookup (is_at (nat_cmp q)) (match_ordering o ((key, v) ∷ e ∷ es) ((e.0, v) ∷ es) (e ∷ insert_entry nat_cmp es key v)) ≡ cond (is_at (nat_cmp key) q) (Some v)
+    (lookup (is_at (nat_cmp q)) (e ∷ es))
 insert_step key e es v q Less is rest = ap (λ b. cond b (Some v) (lookup (is_at (nat_cmp q)) (e ∷ es))) (at_sym q key)
 insert_step key e es v q Equal is rest =
     let same : key ≡ e.0 = ranked key e.0 Equal is in
@@ -88,7 +89,8 @@ adds_in (free_list old) r o n (free_list new) is t = takes_adds old r o n new t
 adds_in (free_list old) r o n (dedicated new) is t = absurd t
 adds_in (dedicated old) r o n new is t = absurd (false≢true is)
 
-new_number_in : (old : Block) (r : Request) (o n : ℕ) (new : Block) → is_general old ≡ true → IsSoundBlock old → IsSoundBlock new → TakesIn old r o n new → (x : Extent) → Contains (extents_of old) x → x.number ≡ n → ⊥
+new_number_in : (old : Block) (r : Request) (o n : ℕ) (new : Block) → is_general old ≡ true → IsSoundBlock old → IsSoundBlock new → TakesIn old r o n new → (x : Extent) → Contains (extents_of old) x
+    → x.number ≡ n → ⊥
 new_number_in (free_list old) r o n (free_list new) is before after t x h e = takes_new_number old r o n new before after t (x, h, e)
 new_number_in (free_list old) r o n (dedicated new) is before after t x h e = t
 new_number_in (dedicated old) r o n new is before after t x h e = false≢true is
@@ -98,7 +100,8 @@ stays_general (free_list old) r o n (free_list new) is t = refl
 stays_general (free_list old) r o n (dedicated new) is t = absurd t
 stays_general (dedicated old) r o n new is t = absurd (false≢true is)
 
-others_in : (old : Block) (n : ℕ) (new : Block) → is_general old ≡ true → IsSoundBlock old → ReleasesIn old n new → (x : Extent) → Contains (extents_of old) x → x.number ≢ n → Contains (extents_of new) x
+others_in : (old : Block) (n : ℕ) (new : Block) → is_general old ≡ true → IsSoundBlock old → ReleasesIn old n new → (x : Extent) → Contains (extents_of old) x → x.number ≢ n → Contains
+    (extents_of new) x
 others_in (free_list old) n (free_list new) is sound t x h ne = releases_keeps old n new sound t x h ne
 others_in (free_list old) n (dedicated new) is sound t x h ne = absurd t
 others_in (dedicated old) n new is sound t x h ne = absurd (false≢true is)
@@ -110,7 +113,8 @@ still_general (dedicated old) n new is t = absurd (false≢true is)
 
 -- ---- a give and a take
 
-pub owns_released : (old : State) (key : ℕ) (n : NonZeroU64) (block : Block) (bound : Bound) → OwnsPieces old → piece_at old key ≡ Some n → ReleasesIn old.block (non_zero_u64_get n) block → IsSoundBlock block → SetsAt old.bound key None bound
+pub owns_released : (old : State) (key : ℕ) (n : NonZeroU64) (block : Block) (bound : Bound) → OwnsPieces old → piece_at old key ≡ Some n → ReleasesIn old.block (non_zero_u64_get n) block →
+    IsSoundBlock block → SetsAt old.bound key None bound
     → OwnsPieces (record { block = block; bound = bound })
 owns_released old key n block bound own is t sound set =
     let before : (q : ℕ) (m : NonZeroU64) → lookup (is_at (nat_cmp q)) bound ≡ Some m → (q ≢ key) × (piece_at old q ≡ Some m) =
@@ -126,7 +130,8 @@ owns_released old key n block bound own is t sound set =
       apart = λ j k m m' e f same. own.apart j k m m' (before j m e).1 (before k m' f).1 same;
     }
 
-pub owns_taken : (old : State) (key : ℕ) (r : Request) (o : ℕ) (n : NonZeroU64) (block : Block) (bound : Bound) → OwnsPieces old → TakesIn old.block r o (non_zero_u64_get n) block → IsSoundBlock block → SetsAt old.bound key (Some n) bound
+pub owns_taken : (old : State) (key : ℕ) (r : Request) (o : ℕ) (n : NonZeroU64) (block : Block) (bound : Bound) → OwnsPieces old → TakesIn old.block r o (non_zero_u64_get n) block → IsSoundBlock
+    block → SetsAt old.bound key (Some n) bound
     → OwnsPieces (record { block = block; bound = bound })
 owns_taken old key r o n block bound own t sound set =
     let before : (q : ℕ) (m : NonZeroU64) → lookup (is_at (nat_cmp q)) bound ≡ Some m → ((q ≡ key) × (m ≡ n)) ⊎ (piece_at old q ≡ Some m) =

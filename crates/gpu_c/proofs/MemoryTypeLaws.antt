@@ -12,7 +12,8 @@ use Rattle.gpu_core.specs.TypeRelease.{SlotHolds, IsLive, has_several, ReleasesP
 use Rattle.gpu_core.specs.declared.memory_type.Piece.{Piece}
 use Rattle.gpu_core.specs.declared.memory_type.need.NeedBlock.{NeedBlock}
 use Rattle.gpu_c.specs.Request.{kind_named}
-use Rattle.gpu_c.specs.MemoryType.{AwaitingState, state_of, type_of, told_piece, told_block, SlotHasPiece, IsLiveIn, asked_of_type, TakesPiece, AwaitsNeeded, Awaits, InstallsBy, InstallsAwaited, FreesPiece, NamesMemory}
+use Rattle.gpu_c.specs.MemoryType.{AwaitingState, state_of, type_of, told_piece, told_block, SlotHasPiece, IsLiveIn, asked_of_type, TakesPiece, AwaitsNeeded, Awaits, InstallsBy, InstallsAwaited}
+use Rattle.gpu_c.specs.MemoryType.{FreesPiece, NamesMemory}
 use Rattle.gpu_c.specs.declared.memory_type_values.MemoryRequest.{MemoryRequest}
 use Rattle.gpu_c.specs.declared.memory_type_values.MemoryPiece.{MemoryPiece}
 use Rattle.gpu_c.specs.declared.memory_type_values.MemoryBlock.{MemoryBlock}
@@ -41,7 +42,8 @@ live_told t sizes a p h = (p.number.ok, slot_has p (slot_at t.slots p.slot) h)
 -- ---- install, free, rename
 
 pub installs_awaited : (old : AwaitingState) (t t' : TypeState ℕ) (sizes : Sizes) (a a' : Option NeedBlock) (need : NeedBlock) (number : ℕ) (p : Piece ℕ) (answer : MemoryPiece)
-    → state_of t sizes a ≡ old → a ≡ Some need → a' ≡ None → answer ≡ told_piece p → Installs t.slots need.dedicated need.room number p t'.slots → capacity_of t'.slots ≡ capacity_of t.slots + need.size → Stays t t'
+    → state_of t sizes a ≡ old → a ≡ Some need → a' ≡ None → answer ≡ told_piece p → Installs t.slots need.dedicated need.room number p t'.slots → capacity_of t'.slots ≡ capacity_of t.slots +
+    need.size → Stays t t'
     → InstallsAwaited old number answer (state_of t' sizes a')
 installs_awaited old t t' sizes a a' need number p answer view awaited done told installs capacity stays =
     subst (λ (s : AwaitingState). InstallsAwaited s number answer (state_of t' sizes a')) view
@@ -49,12 +51,25 @@ installs_awaited old t t' sizes a a' need number p answer view awaited done told
     (record { piece = p; told = told; installs = installs; capacity = capacity; formed = record { sound = stays.sound; empty = stays.empty }; same = changed t t' sizes a a' None stays done }))
 
 pub frees_piece : (old : AwaitingState) (t t' : TypeState ℕ) (sizes : Sizes) (a : Option NeedBlock) (p : Piece ℕ) (cp : MemoryPiece) (went : Option ℕ) (gone : MemoryBlock)
-    → state_of t sizes a ≡ old → a ≡ None → told_piece p ≡ cp → IsLive nat_eq t.slots p → ReleasesPiece (IsTrue (has_several t.slots)) t.slots p went t'.slots → gone ≡ told_block went → capacity_of t'.slots ≤ capacity_of t.slots → Stays t t'
+    → state_of t sizes a ≡ old → a ≡ None → told_piece p ≡ cp → IsLive nat_eq t.slots p → ReleasesPiece (IsTrue (has_several t.slots)) t.slots p went t'.slots → gone ≡ told_block went → capacity_of
+    t'.slots ≤ capacity_of t.slots → Stays t t'
     → FreesPiece old cp gone (state_of t' sizes a)
 frees_piece old t t' sizes a p cp went gone view idle told live releases tells capacity stays =
     subst (λ (s : AwaitingState). FreesPiece s cp gone (state_of t' sizes a)) view
     (subst (λ (q : MemoryPiece). FreesPiece (state_of t sizes a) q gone (state_of t' sizes a)) told
-    (record { idle = idle; live = live_told t sizes a p live; piece = p; told = refl; went = went; releases = releases; told_gone = tells; capacity = capacity; formed = record { sound = stays.sound; empty = stays.empty }; same = changed t t' sizes a a a stays refl }))
+    (record {
+      idle = idle;
+      live = live_told t sizes a p live;
+      piece = p;
+      told = refl;
+      went = went;
+      releases = releases;
+      told_gone = tells;
+      capacity = capacity;
+      formed = record
+          { sound = stays.sound; empty = stays.empty };
+      same = changed t t' sizes a a a stays refl;
+    }))
 
 pub names_memory : (old : AwaitingState) (t t' : TypeState ℕ) (sizes : Sizes) (a : Option NeedBlock) (p : Piece ℕ) (cp : MemoryPiece) (name : List ℕ)
     → state_of t sizes a ≡ old → a ≡ None → told_piece p ≡ cp → IsLive nat_eq t.slots p → RenamesPiece t.slots p name t'.slots → capacity_of t'.slots ≡ capacity_of t.slots → Stays t t'
@@ -62,7 +77,17 @@ pub names_memory : (old : AwaitingState) (t t' : TypeState ℕ) (sizes : Sizes) 
 names_memory old t t' sizes a p cp name view idle told live renames capacity stays =
     subst (λ (s : AwaitingState). NamesMemory s cp name (state_of t' sizes a)) view
     (subst (λ (q : MemoryPiece). NamesMemory (state_of t sizes a) q name (state_of t' sizes a)) told
-    (record { idle = idle; live = live_told t sizes a p live; piece = p; told = refl; renames = renames; capacity = capacity; formed = record { sound = stays.sound; empty = stays.empty }; same = changed t t' sizes a a a stays refl }))
+    (record {
+      idle = idle;
+      live = live_told t sizes a p live;
+      piece = p;
+      told = refl;
+      renames = renames;
+      capacity = capacity;
+      formed = record { sound = stays.sound; empty = stays.empty };
+      same =
+          changed t t' sizes a a a stays refl;
+    }))
 
 -- ---- prepare
 
@@ -75,11 +100,21 @@ pub is_idle : (old : AwaitingState) (t : TypeState ℕ) (sizes : Sizes) (a : Opt
 is_idle old t sizes a view idle = ap (λ (s : AwaitingState). s.awaited) (sym view) ∙ idle
 
 pub takes_piece : (old : AwaitingState) (t t' : TypeState ℕ) (sizes : Sizes) (a : Option NeedBlock) (r : MemoryRequest) (name : List ℕ) (s : Request) (p : Piece ℕ) (answer : MemoryPiece)
-    → state_of t sizes a ≡ old → s ≡ asked_of_type r name → answer ≡ told_piece p → has_own_block t sizes r.dedicated r.size ≡ false → PreparesPiece t.slots s p t'.slots → capacity_of t'.slots ≡ capacity_of t.slots → Stays t t'
+    → state_of t sizes a ≡ old → s ≡ asked_of_type r name → answer ≡ told_piece p → has_own_block t sizes r.dedicated r.size ≡ false → PreparesPiece t.slots s p t'.slots → capacity_of t'.slots ≡
+    capacity_of t.slots → Stays t t'
     → TakesPiece old r name answer (state_of t' sizes a)
 takes_piece old t t' sizes a r name s p answer view same told shared takes capacity stays =
     subst (λ (z : AwaitingState). TakesPiece z r name answer (state_of t' sizes a)) view
-    (record { piece = p; told = told; shared = shared; takes = subst (λ (q : Request). PreparesPiece t.slots q p t'.slots) same takes; capacity = capacity; formed = record { sound = stays.sound; empty = stays.empty }; same = changed t t' sizes a a a stays refl })
+    (record {
+      piece = p;
+      told = told;
+      shared = shared;
+      takes = subst (λ (q : Request). PreparesPiece t.slots q p t'.slots) same takes;
+      capacity = capacity;
+      formed = record
+          { sound = stays.sound; empty = stays.empty };
+      same = changed t t' sizes a a a stays refl;
+    })
 
 pub needs_block : (t : TypeState ℕ) (sizes : Sizes) (a : Option NeedBlock) (r : MemoryRequest) (s : Request) (need : NeedBlock)
     → NeedsBlock t sizes r.dedicated s need.size need.dedicated need.room → NeedsBlock (type_of (state_of t sizes a)) sizes r.dedicated s need.size need.dedicated need.room
@@ -96,10 +131,12 @@ pub awaits : (old : AwaitingState) (t t' : TypeState ℕ) (sizes : Sizes) (a a' 
     → (capacity_of t'.slots + need.size < 2 ^ 64) × (fits_budget t'.budget (capacity_of t'.slots + need.size) ≡ true)
     → Awaits old r name size is_dedicated (state_of t' sizes a')
 awaits old t t' sizes a a' r name s need size is_dedicated view same e es ed needs slots stays fits =
-    let cap : capacity_of t'.slots + need.size ≡ capacity_of t.slots + size = ap (λ (xs : List (Option (Slot ℕ))). capacity_of xs + need.size) slots ∙ ap (λ (n : ℕ). capacity_of t.slots + n) (sym es) in
+    let cap : capacity_of t'.slots + need.size ≡ capacity_of t.slots + size = ap (λ (xs : List (Option (Slot ℕ))). capacity_of xs + need.size) slots ∙ ap (λ (n : ℕ). capacity_of t.slots + n) (sym es)
+    in
     subst (λ (z : AwaitingState). Awaits z r name size is_dedicated (state_of t' sizes a')) view
     (record {
-      needed = awaits_needed (state_of t sizes a) r name size is_dedicated a' need e es ed (needs_block t sizes a r (asked_of_type r name) need (subst (λ (q : Request). NeedsBlock t sizes r.dedicated q need.size need.dedicated need.room) same needs));
+      needed = awaits_needed (state_of t sizes a) r name size is_dedicated a' need e es ed
+          (needs_block t sizes a r (asked_of_type r name) need (subst (λ (q : Request). NeedsBlock t sizes r.dedicated q need.size need.dedicated need.room) same needs));
       fits = subst (λ (n : ℕ). n < 2 ^ 64) cap fits.0;
       in_budget = subst (λ (b : Option ℕ). fits_budget b (capacity_of t.slots + size) ≡ true) stays.budget (subst (λ (n : ℕ). fits_budget t'.budget n ≡ true) cap fits.1);
       same = λ i. record { is_host = stays.kind.0 i; granularity = stays.kind.1 i; slots = slots i; budget = stays.budget i; sizes = sizes; awaited = a' };

@@ -17,7 +17,8 @@ pub none_lives : (b' b : Block) (piece : VirtualPiece) (n : ℕ) → b' ≡ b �
 none_lives b' b piece n same named h live = let l = subst (λ (z : Block). IsLivePiece z piece) (sym same) live in h l.1.0 l.1.1 (l.1.2 ∙ sym named)
 
 -- a piece that lies elsewhere isn't the one that is named
-pub lives_elsewhere : (b' b : Block) (piece : VirtualPiece) (n : ℕ) (place : ℕ × ℕ) → b' ≡ b → n ≡ piece.number → is_general b' ≡ true → IsSoundBlock b' → FindsPlace (extents_of b') n (Some place) → (place.0 ≡ piece.offset → ⊥) → IsLivePiece b piece → ⊥
+pub lives_elsewhere : (b' b : Block) (piece : VirtualPiece) (n : ℕ) (place : ℕ × ℕ) → b' ≡ b → n ≡ piece.number → is_general b' ≡ true → IsSoundBlock b' → FindsPlace (extents_of b') n (Some place) →
+    (place.0 ≡ piece.offset → ⊥) → IsLivePiece b piece → ⊥
 lives_elsewhere b' b piece n place same named general sound h other live =
     let l = subst (λ (z : Block). IsLivePiece z piece) (sym same) live in
     let is = one_piece b' h.0 l.1.0 general sound h.1 l.1.1 (h.2 ∙ (named ∙ sym l.1.2)) in

@@ -4,7 +4,8 @@ use Rattle.std.specs.Int.{is_power_of_two}
 use Rattle.gpu_values.specs.declared.error.AllocationError.{AllocationError}
 use Rattle.gpu_block.specs.FreeList.{Extent, fresh_free_list}
 use Rattle.gpu_block.specs.Dedicated.{empty_dedicated}
-use Rattle.gpu_block.specs.Block.{Block, free_list, dedicated, extents_of, size_of, is_general, HasPages, TakesIn, ReleasesIn, RenamesIn, IsTakeRefusalIn, IsFitLaw, IsSoundBlock, IsOrderedBlock, HasPagesApart, IsCoveredBlock}
+use Rattle.gpu_block.specs.Block.{Block, free_list, dedicated, extents_of, size_of, is_general, HasPages, TakesIn, ReleasesIn, RenamesIn, IsTakeRefusalIn, IsFitLaw, IsSoundBlock, IsOrderedBlock}
+use Rattle.gpu_block.specs.Block.{HasPagesApart, IsCoveredBlock}
 use Rattle.gpu_block.specs.Statistics.{statistics_of}
 use Rattle.gpu_block.specs.Request.{Request, request}
 use Rattle.gpu_c.specs.Request.{IsServed, kind_named}
@@ -43,7 +44,8 @@ pub record IsWellFormed (b : Block) : Type 0 where
   pub separated : HasPagesApart b
   pub covered : IsCoveredBlock b
 
--- a request that is served has been refused for that cause: it has no place, or host memory was refused. Where a gap is long enough for it whatever its neighbours are, want of a place is never the cause while the block has numbers
+-- a request that is served has been refused for that cause: it has no place, or host memory was refused. Where a gap is long enough for it whatever its neighbours are, want of a place is never the
+-- cause while the block has numbers
 pub record IsRefusedFor (b : Block) (r : VirtualRequest) (name : List ℕ) (e : AllocationError) : Type 0 where
   pub served : IsServed r.size r.alignment r.kind name
   pub cause : IsTakeRefusalIn b (asked r name) e

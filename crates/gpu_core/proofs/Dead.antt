@@ -25,7 +25,8 @@ none_held : (o : Option Extent) (x : Extent) → o ≡ None → Contains (option
 none_held None x e h = (let l = h.1 in omega arith)
 none_held (Some z) x e h = absurd (cc)
 
-not_held : (b : Dedicated) (n : NonZeroU64) (freed : List ℕ) (refusal : Refusal) (x : Extent) → IsWhole b → IsNotHeld b (Some n) freed refusal → Contains (option_to_list b.piece) x → x.number ≡ non_zero_u64_get n → ⊥
+not_held : (b : Dedicated) (n : NonZeroU64) (freed : List ℕ) (refusal : Refusal) (x : Extent) → IsWhole b → IsNotHeld b (Some n) freed refusal → Contains (option_to_list b.piece) x → x.number ≡
+    non_zero_u64_get n → ⊥
 not_held b n freed refusal x whole h at e =
     elim h [
       | inl other ↦ other.0 (sym e ∙ first_number b.piece b.size x whole at)
@@ -36,7 +37,8 @@ release_refused : (b : Block) (n : NonZeroU64) (refusal : Refusal) (o size : ℕ
 release_refused (free_list b) n refusal o size sound h x = h.1 (x.0, x.1, x.2)
 release_refused (dedicated b) n refusal o size sound h x = not_held b n _ refusal x.0 sound h x.1 x.2
 
-rename_refused : (b : Block) (n : NonZeroU64) (refusal : Refusal) (o size : ℕ) → IsSoundBlock b → IsRenameRefusalIn b (Some n) refusal → (refusal ≡ host_out_of_memory → ⊥) → HoldsPiece b (non_zero_u64_get n) o size → ⊥
+rename_refused : (b : Block) (n : NonZeroU64) (refusal : Refusal) (o size : ℕ) → IsSoundBlock b → IsRenameRefusalIn b (Some n) refusal → (refusal ≡ host_out_of_memory → ⊥) → HoldsPiece b
+    (non_zero_u64_get n) o size → ⊥
 rename_refused (free_list b) n refusal o size sound h other x =
     elim h [
       | inl none ↦ none.0 (x.0, x.1, x.2)
@@ -56,7 +58,8 @@ free_dead eq p g (Some s) refusal sound h live =
       | inr other ↦ other.0 live
     ]
 
-pub name_dead : {H : Type 0} (eq : H → H → Bool) (p : Piece H) (g : ℕ) (s : Option (Slot H)) (refusal : Refusal) → SlotIsSound g s → IsNameRefusal eq p s refusal → (refusal ≡ host_out_of_memory → ⊥) → SlotHolds eq p s → ⊥
+pub name_dead : {H : Type 0} (eq : H → H → Bool) (p : Piece H) (g : ℕ) (s : Option (Slot H)) (refusal : Refusal) → SlotIsSound g s → IsNameRefusal eq p s refusal → (refusal ≡ host_out_of_memory → ⊥)
+    → SlotHolds eq p s → ⊥
 name_dead eq p g None refusal sound h host live = live
 name_dead eq p g (Some s) refusal sound h host live =
     elim h [
@@ -85,7 +88,8 @@ host_held (dedicated b) n sound h none =
     ]
 
 -- a new name for want of host memory was refused to a live piece
-pub starved_live : {H : Type 0} (eq : H → H → Bool) (p : Piece H) (s : Slot H) (f : Finding) (refusal : Refusal) → Finds eq p s f → (f ≡ findings.Other → ⊥) → IsSoundBlock s.block → IsRenameRefusalIn s.block (Some p.number) refusal → refusal ≡ host_out_of_memory → SlotHolds eq p (Some s)
+pub starved_live : {H : Type 0} (eq : H → H → Bool) (p : Piece H) (s : Slot H) (f : Finding) (refusal : Refusal) → Finds eq p s f → (f ≡ findings.Other → ⊥) → IsSoundBlock s.block → IsRenameRefusalIn
+    s.block (Some p.number) refusal → refusal ≡ host_out_of_memory → SlotHolds eq p (Some s)
 starved_live eq p s findings.Piece refusal h other sound cause e = h
 starved_live eq p s findings.Other refusal h other sound cause e = absurd (other refl)
 starved_live eq p s findings.Nothing refusal h other sound cause e =

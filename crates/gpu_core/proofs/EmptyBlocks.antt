@@ -99,7 +99,8 @@ two_above f (s ∷ ss) (suc i) (suc j) none ne = let b = two_above f ss i j none
 
 -- ---- one slot is changed
 
-pub one_empty_after : {H : Type 0} (old : List (Option (Slot H))) (i : ℕ) (s : Option (Slot H)) (new : List (Option (Slot H))) → KeepsOneEmptyAtMost old → OnlyAt old i s new → (HasEmptyBlock s → HasOneGap s × ((j : ℕ) → j ≢ i → HasEmptyBlock (slot_at old j) → ⊥)) → KeepsOneEmptyAtMost new
+pub one_empty_after : {H : Type 0} (old : List (Option (Slot H))) (i : ℕ) (s : Option (Slot H)) (new : List (Option (Slot H))) → KeepsOneEmptyAtMost old → OnlyAt old i s new →
+    (HasEmptyBlock s → HasOneGap s × ((j : ℕ) → j ≢ i → HasEmptyBlock (slot_at old j) → ⊥)) → KeepsOneEmptyAtMost new
 one_empty_after {H = H} old i s new kept only here =
     let at : HasEmptyBlock (slot_at new i) → HasEmptyBlock s = λ h. subst (λ (x : Option (Slot H)). HasEmptyBlock x) only.at h in
     let before : (j : ℕ) → j ≢ i → HasEmptyBlock (slot_at new j) → HasEmptyBlock (slot_at old j) = λ j ne h. subst (λ (x : Option (Slot H)). HasEmptyBlock x) (only.others j ne) h in
@@ -128,27 +129,33 @@ at_below (x ∷ xs) zero s h = omega arith
 at_below (x ∷ xs) (suc i) s h = let b = at_below xs i s h in omega arith
 
 -- the slot is replaced by one whose block has a piece, or by an empty one
-pub one_empty_set : {H : Type 0} (slots : List (Option (Slot H))) (i : ℕ) (old : Slot H) (s : Option (Slot H)) (new : List (Option (Slot H))) → KeepsOneEmptyAtMost slots → slot_at slots i ≡ Some old → new ≡ slice_set slots i s → (HasEmptyBlock s → ⊥) → KeepsOneEmptyAtMost new
+pub one_empty_set : {H : Type 0} (slots : List (Option (Slot H))) (i : ℕ) (old : Slot H) (s : Option (Slot H)) (new : List (Option (Slot H))) → KeepsOneEmptyAtMost slots → slot_at slots i ≡ Some old
+    → new ≡ slice_set slots i s → (HasEmptyBlock s → ⊥) → KeepsOneEmptyAtMost new
 one_empty_set slots i old s new kept at e none =
     one_empty_after slots i s new kept (subst (OnlyAt slots i s) (sym e) (set_only slots i s (at_below slots i old at))) (λ h. absurd (none h))
 
-pub prepared_empty : {H : Type 0} (slots : List (Option (Slot H))) (r : Request) (p : Piece H) (new : List (Option (Slot H))) → KeepsOneEmptyAtMost slots → PreparesPiece slots r p new → KeepsOneEmptyAtMost new
+pub prepared_empty : {H : Type 0} (slots : List (Option (Slot H))) (r : Request) (p : Piece H) (new : List (Option (Slot H))) → KeepsOneEmptyAtMost slots → PreparesPiece slots r p new →
+    KeepsOneEmptyAtMost new
 prepared_empty {H = H} slots r p new kept t =
     let after : Slot H = record { number = t.slot.number; block = t.after } in
-    one_empty_set slots p.slot t.slot (Some after) new kept t.at t.slots (holds_some t.after (non_zero_u64_get p.number) p.offset r.size (takes_holds t.slot.block r p.offset (non_zero_u64_get p.number) t.after t.takes))
+    one_empty_set slots p.slot t.slot (Some after) new kept t.at t.slots
+    (holds_some t.after (non_zero_u64_get p.number) p.offset r.size (takes_holds t.slot.block r p.offset (non_zero_u64_get p.number) t.after t.takes))
 
-renamed_slot : {H : Type 0} (slots : List (Option (Slot H))) (i n : ℕ) (name : List ℕ) (s q : Option (Slot H)) (new : List (Option (Slot H))) → KeepsOneEmptyAtMost slots → slot_at slots i ≡ s → SlotRenames n name s q → new ≡ slice_set slots i q → KeepsOneEmptyAtMost new
+renamed_slot : {H : Type 0} (slots : List (Option (Slot H))) (i n : ℕ) (name : List ℕ) (s q : Option (Slot H)) (new : List (Option (Slot H))) → KeepsOneEmptyAtMost slots → slot_at slots i ≡ s →
+    SlotRenames n name s q → new ≡ slice_set slots i q → KeepsOneEmptyAtMost new
 renamed_slot slots i n name None q new kept at t e = absurd t
 renamed_slot slots i n name (Some s) None new kept at t e = absurd t
 renamed_slot slots i n name (Some s) (Some q) new kept at t e =
     one_empty_set slots i s (Some q) new kept at e (renames_some s.block n name q.block t.1)
 
-pub renamed_empty : {H : Type 0} (slots : List (Option (Slot H))) (p : Piece H) (name : List ℕ) (new : List (Option (Slot H))) → KeepsOneEmptyAtMost slots → RenamesPiece slots p name new → KeepsOneEmptyAtMost new
+pub renamed_empty : {H : Type 0} (slots : List (Option (Slot H))) (p : Piece H) (name : List ℕ) (new : List (Option (Slot H))) → KeepsOneEmptyAtMost slots → RenamesPiece slots p name new →
+    KeepsOneEmptyAtMost new
 renamed_empty slots p name new kept t =
     renamed_slot slots p.slot (non_zero_u64_get p.number) name (slot_at slots p.slot) t.slot new kept refl t.renames t.slots
 
 -- an emptied block that stays is the only shared one
-module _ {H : Type 0} (slots : List (Option (Slot H))) (i n : ℕ) (several : Type 0) (s q : Slot H) (kept : KeepsOneEmptyAtMost slots) (sound : IsSoundBlock s.block) (at : slot_at slots i ≡ Some s) (t : ReleasesIn s.block n q.block) (stays : Goes several q.block → ⊥) (counts : 2 ≤ shared_count slots → several) where
+module _ {H : Type 0} (slots : List (Option (Slot H))) (i n : ℕ) (several : Type 0) (s q : Slot H) (kept : KeepsOneEmptyAtMost slots) (sound : IsSoundBlock s.block) (at : slot_at slots i ≡ Some s)
+    (t : ReleasesIn s.block n q.block) (stays : Goes several q.block → ⊥) (counts : 2 ≤ shared_count slots → several) where
   stays_shared : extents_of q.block ≡ [] → is_general q.block ≡ false → ⊥
   stays_shared e h = stays (e, inl h)
 
@@ -164,13 +171,16 @@ module _ {H : Type 0} (slots : List (Option (Slot H))) (i n : ℕ) (several : Ty
   pub stays_gap : HasEmptyBlock (Some q) → HasOneGap (Some q) × ((j : ℕ) → j ≢ i → HasEmptyBlock (slot_at slots j) → ⊥)
   stays_gap e = (released_gap s.block n q.block sound t e (stays_shared e), others_hold e)
 
-freed_slot : {H : Type 0} (g : ℕ) (slots : List (Option (Slot H))) (several : Type 0) (i n : ℕ) (s : Option (Slot H)) (went : Option H) (q : Option (Slot H)) (new : List (Option (Slot H))) → KeepsOneEmptyAtMost slots → SlotIsSound g s → (2 ≤ shared_count slots → several) → slot_at slots i ≡ s → SlotReleases several n s went q → new ≡ slice_set slots i q → KeepsOneEmptyAtMost new
+freed_slot : {H : Type 0} (g : ℕ) (slots : List (Option (Slot H))) (several : Type 0) (i n : ℕ) (s : Option (Slot H)) (went : Option H) (q : Option (Slot H)) (new : List (Option (Slot H))) →
+    KeepsOneEmptyAtMost slots → SlotIsSound g s → (2 ≤ shared_count slots → several) → slot_at slots i ≡ s → SlotReleases several n s went q → new ≡ slice_set slots i q → KeepsOneEmptyAtMost new
 freed_slot g slots several i n None went q new kept sound counts at t e = absurd t
 freed_slot g slots several i n (Some s) went None new kept sound counts at t e = one_empty_set slots i s None new kept at e (λ h. h)
 freed_slot g slots several i n (Some s) went (Some q) new kept sound counts at t e =
-    one_empty_after slots i (Some q) new kept (subst (OnlyAt slots i (Some q)) (sym e) (set_only slots i (Some q) (at_below slots i s at))) (stays_gap slots i n several s q kept sound.1 at t.2 t.3 counts)
+    one_empty_after slots i (Some q) new kept (subst (OnlyAt slots i (Some q)) (sym e) (set_only slots i (Some q) (at_below slots i s at)))
+    (stays_gap slots i n several s q kept sound.1 at t.2 t.3 counts)
 
-pub freed_empty : {H : Type 0} (g : ℕ) (slots : List (Option (Slot H))) (several : Type 0) (p : Piece H) (went : Option H) (new : List (Option (Slot H))) → AreSound g slots → KeepsOneEmptyAtMost slots → (2 ≤ shared_count slots → several) → ReleasesPiece several slots p went new → KeepsOneEmptyAtMost new
+pub freed_empty : {H : Type 0} (g : ℕ) (slots : List (Option (Slot H))) (several : Type 0) (p : Piece H) (went : Option H) (new : List (Option (Slot H))) → AreSound g slots → KeepsOneEmptyAtMost
+    slots → (2 ≤ shared_count slots → several) → ReleasesPiece several slots p went new → KeepsOneEmptyAtMost new
 freed_empty g slots several p went new sound kept counts t =
     freed_slot g slots several p.slot (non_zero_u64_get p.number) (slot_at slots p.slot) went t.slot new kept (sound p.slot) counts refl t.releases t.slots
 

@@ -27,7 +27,8 @@ one_in (free_list b) x y sound h k e = sound.one_number x y h k e
 one_in (dedicated b) x y sound h k e = only_one b.piece x y h k
 
 -- another place under the number is another record
-pub other_place : {H : Type 0} (eq : H → H → Bool) (p : Piece H) (s : Slot H) (offset size : ℕ) → IsSoundBlock s.block → HoldsPiece s.block (non_zero_u64_get p.number) offset size → (offset ≢ p.offset) ⊎ (size ≢ p.size) → SlotHolds eq p (Some s) → ⊥
+pub other_place : {H : Type 0} (eq : H → H → Bool) (p : Piece H) (s : Slot H) (offset size : ℕ) → IsSoundBlock s.block → HoldsPiece s.block (non_zero_u64_get p.number) offset size →
+    (offset ≢ p.offset) ⊎ (size ≢ p.size) → SlotHolds eq p (Some s) → ⊥
 other_place eq p s offset size sound x differ h =
     let y = h.1 in
     let same : x.0 ≡ y.0 = one_in s.block x.0 y.0 sound x.1 y.1 (x.2 ∙ sym y.2) in
@@ -35,7 +36,8 @@ other_place eq p s offset size sound x differ h =
     let e : offset + size ≡ p.offset + p.size = sym x.4 ∙ (ap (λ z. z.end) same ∙ y.4) in
     elim differ [ inl ne ↦ ne o | inr ne ↦ ne (omega arith) ]
 
-held_in : (o : Option Extent) (size n : ℕ) → IfSome o (λ x. (x.start ≡ 0) × (x.offset ≡ 0) × (x.end ≡ size) × (x.number ≡ 1)) → IsSome o → n ≡ 1 → ((x : Extent) → Contains (option_to_list o) x → x.number ≡ n → ⊥) → ⊥
+held_in : (o : Option Extent) (size n : ℕ) → IfSome o (λ x. (x.start ≡ 0) × (x.offset ≡ 0) × (x.end ≡ size) × (x.number ≡ 1)) → IsSome o → n ≡ 1 →
+    ((x : Extent) → Contains (option_to_list o) x → x.number ≡ n → ⊥) → ⊥
 held_in None size n whole some one none = false≢true some
 held_in (Some z) size n whole some one none = none z (0, omega arith, refl) (whole.3 ∙ sym one)
 
@@ -55,12 +57,14 @@ renamed_held (dedicated b) n name (free_list after) sound t none = t
 renamed_held (dedicated b) n name (dedicated after) sound t none = dedicated_held b n sound t.0 t.1 none
 
 -- what succeeds under a number that was looked for, and not found to be another's, was the piece's own
-pub released_live : {H : Type 0} (eq : H → H → Bool) (p : Piece H) (s : Slot H) (f : Finding) (after : Block) → Finds eq p s f → (f ≡ findings.Other → ⊥) → IsSoundBlock s.block → ReleasesIn s.block (non_zero_u64_get p.number) after → SlotHolds eq p (Some s)
+pub released_live : {H : Type 0} (eq : H → H → Bool) (p : Piece H) (s : Slot H) (f : Finding) (after : Block) → Finds eq p s f → (f ≡ findings.Other → ⊥) → IsSoundBlock s.block → ReleasesIn s.block
+    (non_zero_u64_get p.number) after → SlotHolds eq p (Some s)
 released_live eq p s findings.Piece after h other sound t = h
 released_live eq p s findings.Other after h other sound t = absurd (other refl)
 released_live eq p s findings.Nothing after h other sound t = absurd (released_held s.block (non_zero_u64_get p.number) after sound t h)
 
-pub renamed_live : {H : Type 0} (eq : H → H → Bool) (p : Piece H) (s : Slot H) (f : Finding) (name : List ℕ) (after : Block) → Finds eq p s f → (f ≡ findings.Other → ⊥) → IsSoundBlock s.block → RenamesIn s.block (non_zero_u64_get p.number) name after → SlotHolds eq p (Some s)
+pub renamed_live : {H : Type 0} (eq : H → H → Bool) (p : Piece H) (s : Slot H) (f : Finding) (name : List ℕ) (after : Block) → Finds eq p s f → (f ≡ findings.Other → ⊥) → IsSoundBlock s.block →
+    RenamesIn s.block (non_zero_u64_get p.number) name after → SlotHolds eq p (Some s)
 renamed_live eq p s findings.Piece name after h other sound t = h
 renamed_live eq p s findings.Other name after h other sound t = absurd (other refl)
 renamed_live eq p s findings.Nothing name after h other sound t = absurd (renamed_held s.block (non_zero_u64_get p.number) name after sound t h)

@@ -29,13 +29,15 @@ renames_same (dedicated old) n name (free_list new) t = absurd t
 renames_same (dedicated old) n name (dedicated new) t = (ap (λ d. d.size) t.2, refl)
 
 -- a slot is replaced by one that counts the same
-sum_same : {H : Type 0} (f : Option (Slot H) → ℕ) (slots : List (Option (Slot H))) (i : ℕ) (s : Slot H) (new : Option (Slot H)) → slot_at slots i ≡ Some s → f new ≡ f (Some s) → slots_sum f (slice_set slots i new) ≡ slots_sum f slots
+sum_same : {H : Type 0} (f : Option (Slot H) → ℕ) (slots : List (Option (Slot H))) (i : ℕ) (s : Slot H) (new : Option (Slot H)) → slot_at slots i ≡ Some s → f new ≡ f (Some s) → slots_sum f
+    (slice_set slots i new) ≡ slots_sum f slots
 sum_same f slots i s new at same =
     let e = sum-set f slots i new (at_below slots i s at) in
     let here : f (slot_at slots i) ≡ f (Some s) = ap f at in
     omega arith
 
-pub prepared_kept : {H : Type 0} (g : ℕ) (slots : List (Option (Slot H))) (capacity general : ℕ) (r : Request) (p : Piece H) (new : List (Option (Slot H))) → AreKept g slots capacity general → AreSound g new → PreparesPiece slots r p new → AreKept g new capacity general
+pub prepared_kept : {H : Type 0} (g : ℕ) (slots : List (Option (Slot H))) (capacity general : ℕ) (r : Request) (p : Piece H) (new : List (Option (Slot H))) → AreKept g slots capacity general →
+    AreSound g new → PreparesPiece slots r p new → AreKept g new capacity general
 prepared_kept {H = H} g slots capacity general r p new kept sound t =
     let same = takes_same t.slot.block r p.offset (non_zero_u64_get p.number) t.after t.takes in
     let after : Slot H = record { number = t.slot.number; block = t.after } in
@@ -48,10 +50,13 @@ prepared_kept {H = H} g slots capacity general r p new kept sound t =
     }
 
 -- equal slots keep the same
-pub same_kept : {H : Type 0} (g : ℕ) (slots : List (Option (Slot H))) (capacity general : ℕ) (new : List (Option (Slot H))) → AreKept g slots capacity general → new ≡ slots → AreKept g new capacity general
+pub same_kept : {H : Type 0} (g : ℕ) (slots : List (Option (Slot H))) (capacity general : ℕ) (new : List (Option (Slot H))) → AreKept g slots capacity general → new ≡ slots → AreKept g new capacity
+    general
 same_kept g slots capacity general new kept e = subst (λ xs. AreKept g xs capacity general) (sym e) kept
 
-pub freed_kept : {H : Type 0} (g : ℕ) (slots : List (Option (Slot H))) (capacity general : ℕ) (p : Piece H) (went : Option H) (new : List (Option (Slot H))) (size shared : ℕ) → AreKept g slots capacity general → AreSound g new → ReleasesPiece (IsTrue (nat_lt 1 general)) slots p went new → capacity_of new + size ≡ capacity_of slots → shared_count new + shared ≡ shared_count slots → AreKept g new (capacity - size) (general - shared)
+pub freed_kept : {H : Type 0} (g : ℕ) (slots : List (Option (Slot H))) (capacity general : ℕ) (p : Piece H) (went : Option H) (new : List (Option (Slot H))) (size shared : ℕ) → AreKept g slots
+    capacity general → AreSound g new → ReleasesPiece (IsTrue (nat_lt 1 general)) slots p went new → capacity_of new + size ≡ capacity_of slots → shared_count new + shared ≡ shared_count slots →
+    AreKept g new (capacity - size) (general - shared)
 freed_kept g slots capacity general p went new size shared kept sound t c s =
     let cap = kept.capacity_is in
     let gen = kept.general_is in
@@ -63,7 +68,8 @@ freed_kept g slots capacity general p went new size shared kept sound t c s =
       empty = freed_empty g slots (IsTrue (nat_lt 1 general)) p went new kept.sound kept.empty (λ two. lt-ltb 1 general (omega arith)) t;
     }
 
-renamed_slots : {H : Type 0} (g : ℕ) (slots : List (Option (Slot H))) (capacity general i n : ℕ) (name : List ℕ) (s : Option (Slot H)) (q : Option (Slot H)) (new : List (Option (Slot H))) → AreKept g slots capacity general → AreSound g new → KeepsOneEmptyAtMost new → slot_at slots i ≡ s → SlotRenames n name s q → new ≡ slice_set slots i q → AreKept g new capacity general
+renamed_slots : {H : Type 0} (g : ℕ) (slots : List (Option (Slot H))) (capacity general i n : ℕ) (name : List ℕ) (s : Option (Slot H)) (q : Option (Slot H)) (new : List (Option (Slot H))) → AreKept g
+    slots capacity general → AreSound g new → KeepsOneEmptyAtMost new → slot_at slots i ≡ s → SlotRenames n name s q → new ≡ slice_set slots i q → AreKept g new capacity general
 renamed_slots g slots capacity general i n name None q new kept sound empty at t e = absurd t
 renamed_slots g slots capacity general i n name (Some s) None new kept sound empty at t e = absurd t
 renamed_slots g slots capacity general i n name (Some s) (Some q) new kept sound empty at t e =
@@ -76,7 +82,8 @@ renamed_slots g slots capacity general i n name (Some s) (Some q) new kept sound
       empty = empty;
     }
 
-pub renamed_kept : {H : Type 0} (g : ℕ) (slots : List (Option (Slot H))) (capacity general : ℕ) (p : Piece H) (name : List ℕ) (new : List (Option (Slot H))) → AreKept g slots capacity general → AreSound g new → RenamesPiece slots p name new → AreKept g new capacity general
+pub renamed_kept : {H : Type 0} (g : ℕ) (slots : List (Option (Slot H))) (capacity general : ℕ) (p : Piece H) (name : List ℕ) (new : List (Option (Slot H))) → AreKept g slots capacity general →
+    AreSound g new → RenamesPiece slots p name new → AreKept g new capacity general
 renamed_kept g slots capacity general p name new kept sound t =
     renamed_slots g slots capacity general p.slot (non_zero_u64_get p.number) name (slot_at slots p.slot) t.slot new kept sound (renamed_empty slots p name new kept.empty t) refl t.renames t.slots
 
@@ -109,7 +116,8 @@ with_empty slots i s below = grind (arith, common_steps, below)
 pub with_end : {H : Type 0} (slots : List (Option (Slot H))) (i : ℕ) (s : Slot H) → i ≡ length slots → with_block slots i s ≡ slots ++ Some s ∷ []
 with_end slots i s e = grind (arith, common_steps, e)
 
-put_sum : {H : Type 0} (f : Option (Slot H) → ℕ) (slots : List (Option (Slot H))) (i : ℕ) (s : Slot H) → f None ≡ 0 → IsNewSlot slots i → slots_sum f (with_block slots i s) ≡ slots_sum f slots + f (Some s)
+put_sum : {H : Type 0} (f : Option (Slot H) → ℕ) (slots : List (Option (Slot H))) (i : ℕ) (s : Slot H) → f None ≡ 0 → IsNewSlot slots i → slots_sum f (with_block slots i s) ≡ slots_sum f slots + f
+    (Some s)
 put_sum f slots i s none (empty_slot at) =
     let e = sum-set f slots i (Some s) at.below in
     let here : f (slot_at slots i) ≡ f None = ap f at.empty in
@@ -122,10 +130,13 @@ pub put_only : {H : Type 0} (slots : List (Option (Slot H))) (i : ℕ) (s : Slot
 put_only slots i s (empty_slot at) = subst (OnlyAt slots i (Some s)) (sym (with_empty slots i s at.below)) (set_only slots i (Some s) at.below)
 put_only slots i s (the_end at) = subst (OnlyAt slots i (Some s)) (sym (with_end slots i s at)) (subst (λ k. OnlyAt slots k (Some s) (slots ++ Some s ∷ [])) (sym at) (end_only slots (Some s)))
 
-pub installed_capacity : {H : Type 0} (slots : List (Option (Slot H))) (is_dedicated : Bool) (s : Slot H) → capacity_of (with_block slots (new_slot is_dedicated slots) s) ≡ capacity_of slots + size_of s.block
+pub installed_capacity : {H : Type 0} (slots : List (Option (Slot H))) (is_dedicated : Bool) (s : Slot H) → capacity_of (with_block slots (new_slot is_dedicated slots) s) ≡ capacity_of slots +
+    size_of s.block
 installed_capacity slots is_dedicated s = put_sum slot_size slots (new_slot is_dedicated slots) s refl (is_new_slot is_dedicated slots)
 
-pub installed_kept : {H : Type 0} (g : ℕ) (slots : List (Option (Slot H))) (capacity general : ℕ) (is_dedicated : Bool) (s : Slot H) (new : List (Option (Slot H))) (size shared : ℕ) → AreKept g slots capacity general → SlotIsSound g (Some s) → (extents_of s.block ≡ [] → ⊥) → new ≡ with_block slots (new_slot is_dedicated slots) s → size_of s.block ≡ size → shared_in (Some s) ≡ shared → AreKept g new (capacity + size) (general + shared)
+pub installed_kept : {H : Type 0} (g : ℕ) (slots : List (Option (Slot H))) (capacity general : ℕ) (is_dedicated : Bool) (s : Slot H) (new : List (Option (Slot H))) (size shared : ℕ) → AreKept g slots
+    capacity general → SlotIsSound g (Some s) → (extents_of s.block ≡ [] → ⊥) → new ≡ with_block slots (new_slot is_dedicated slots) s → size_of s.block ≡ size → shared_in (Some s) ≡ shared → AreKept
+    g new (capacity + size) (general + shared)
 installed_kept g slots capacity general is_dedicated s new size shared kept here holds e sized counted =
     let at = is_new_slot is_dedicated slots in
     let i = new_slot is_dedicated slots in

@@ -48,7 +48,8 @@ fresh_list_error size granularity r errors.CastableFormatsRequiresEnhancedBarrie
 fresh_list_error size granularity r errors.CastableFormatsRequiresAtLeastDevice12 some le h = absurd h
 fresh_list_error size granularity r errors.BudgetExceeded some le h = absurd h
 
-pub fresh_error : (is_dedicated : Bool) (size granularity : ℕ) (r : Request) (e : AllocationError) → (is_dedicated ≡ true → size ≡ r.size) → r.size ≤ size → 0 < r.size → IsTakeRefusalIn (fresh_block is_dedicated size granularity) r e → e ≡ errors.HostOutOfMemory
+pub fresh_error : (is_dedicated : Bool) (size granularity : ℕ) (r : Request) (e : AllocationError) → (is_dedicated ≡ true → size ≡ r.size) → r.size ≤ size → 0 < r.size → IsTakeRefusalIn
+    (fresh_block is_dedicated size granularity) r e → e ≡ errors.HostOutOfMemory
 fresh_error true size granularity r e exact le some h =
     elim h [
       | inl taken ↦ absurd (false≢true taken.0)
@@ -64,7 +65,8 @@ none_of None h = refl
 none_of (Some x) h = absurd (h x refl)
 
 -- what is taken of a fresh block begins at its start
-pub fresh_begins : (is_dedicated : Bool) (size granularity : ℕ) (r : Request) (o n : ℕ) (new : Block) → 0 < r.size → r.size ≤ size → TakesIn (fresh_block is_dedicated size granularity) r o n new → o ≡ 0
+pub fresh_begins : (is_dedicated : Bool) (size granularity : ℕ) (r : Request) (o n : ℕ) (new : Block) → 0 < r.size → r.size ≤ size → TakesIn (fresh_block is_dedicated size granularity) r o n new → o
+    ≡ 0
 fresh_begins true size granularity r o n (free_list new) some le t = absurd t
 fresh_begins true size granularity r o n (dedicated new) some le t = t.2
 fresh_begins false size granularity r o n (free_list new) some le t =
@@ -81,7 +83,8 @@ fresh_kind true size granularity = refl
 fresh_kind false size granularity = refl
 
 -- what is taken of a fresh block has its size and form
-pub fresh_taken : (is_dedicated : Bool) (size granularity : ℕ) (r : Request) (o n : ℕ) (new : Block) → TakesIn (fresh_block is_dedicated size granularity) r o n new → (size_of new ≡ size) × (is_general new ≡ not is_dedicated)
+pub fresh_taken : (is_dedicated : Bool) (size granularity : ℕ) (r : Request) (o n : ℕ) (new : Block) → TakesIn (fresh_block is_dedicated size granularity) r o n new → (size_of new ≡ size) ×
+    (is_general new ≡ not is_dedicated)
 fresh_taken is_dedicated size granularity r o n new t =
     let same = takes_same (fresh_block is_dedicated size granularity) r o n new t in
     (same.0 ∙ fresh_size is_dedicated size granularity, same.1 ∙ fresh_kind is_dedicated size granularity)

@@ -57,7 +57,8 @@ one_slot old r p q new next t u =
           ]
     ]
 
-pub prepared_once : {H : Type 0} (g : ℕ) (old : List (Option (Slot H))) (r : Request) (p q : Piece H) (new next : List (Option (Slot H))) → AreSound g old → PreparesPiece old r p new → PreparesPiece old r q next → (p ≡ q) × (new ≡ next)
+pub prepared_once : {H : Type 0} (g : ℕ) (old : List (Option (Slot H))) (r : Request) (p q : Piece H) (new next : List (Option (Slot H))) → AreSound g old → PreparesPiece old r p new → PreparesPiece
+    old r q next → (p ≡ q) × (new ≡ next)
 prepared_once {H} g old r p q new next sound t u =
     let at = one_slot old r p q new next t u in
     let same : t.slot ≡ u.slot = some_alike t.slot u.slot (sym t.at ∙ (ap (slot_at old) at ∙ u.at)) in
@@ -90,19 +91,23 @@ fresh_sound false size g =
 ready_alike : (a b : Ready) → a.block ≡ b.block → a.offset ≡ b.offset → a.number ≡ b.number → a.size ≡ b.size → a ≡ b
 ready_alike a b x o n z = λ i. record { block = x i; offset = o i; number = n i; size = z i }
 
-pub needed_once : {H : Type 0} (t : TypeState H) (sizes : Sizes) (own : Bool) (r : Request) (size other : ℕ) (is_dedicated kind : Bool) (ready next : Ready) → NeedsBlock t sizes own r size is_dedicated ready → NeedsBlock t sizes own r other kind next → (size ≡ other) × (is_dedicated ≡ kind) × (ready ≡ next)
+pub needed_once : {H : Type 0} (t : TypeState H) (sizes : Sizes) (own : Bool) (r : Request) (size other : ℕ) (is_dedicated kind : Bool) (ready next : Ready) → NeedsBlock t sizes own r size
+    is_dedicated ready → NeedsBlock t sizes own r other kind next → (size ≡ other) × (is_dedicated ≡ kind) × (ready ≡ next)
 needed_once t sizes own r size other is_dedicated kind ready next a b =
     let kinds = a.kind ∙ sym b.kind in
     let sized : size ≡ other = a.size_is ∙ (ap (λ k. cond k r.size (next_shared_size t sizes)) kinds ∙ sym b.size_is) in
     let fresh : fresh_block is_dedicated size t.granularity ≡ fresh_block kind other t.granularity = λ i. fresh_block (kinds i) (sized i) t.granularity in
     let taken : TakesIn (fresh_block is_dedicated size t.granularity) r next.offset next.number next.block = subst (λ x. TakesIn x r next.offset next.number next.block) (sym fresh) b.takes in
-    let once = take_once_in (fresh_block is_dedicated size t.granularity) r ready.offset next.offset ready.number next.number ready.block next.block (fresh_sound is_dedicated size t.granularity) a.takes taken in
+    let once = take_once_in (fresh_block is_dedicated size t.granularity) r ready.offset next.offset ready.number next.number ready.block next.block (fresh_sound is_dedicated size t.granularity)
+    a.takes taken in
     (sized, kinds, ready_alike ready next once.2 once.0 once.1 (a.piece ∙ sym b.piece))
 
-pub serves_or_needs : {H : Type 0} (t : TypeState H) (sizes : Sizes) (own : Bool) (r : Request) (p : Piece H) (new : List (Option (Slot H))) (size : ℕ) (is_dedicated : Bool) (ready : Ready) → has_own_block t sizes own r.size ≡ false → PreparesPiece t.slots r p new → NeedsBlock t sizes own r size is_dedicated ready → ⊥
+pub serves_or_needs : {H : Type 0} (t : TypeState H) (sizes : Sizes) (own : Bool) (r : Request) (p : Piece H) (new : List (Option (Slot H))) (size : ℕ) (is_dedicated : Bool) (ready : Ready) →
+    has_own_block t sizes own r.size ≡ false → PreparesPiece t.slots r p new → NeedsBlock t sizes own r size is_dedicated ready → ⊥
 serves_or_needs t sizes own r p new size is_dedicated ready shared s n = slot_served t.slots r p new s (n.none (n.kind ∙ shared) p.slot)
 
-pub installed_once : {H : Type 0} (old : List (Option (Slot H))) (is_dedicated : Bool) (ready : Ready) (number : H) (p q : Piece H) (new next : List (Option (Slot H))) → Installs old is_dedicated ready number p new → Installs old is_dedicated ready number q next → (p ≡ q) × (new ≡ next)
+pub installed_once : {H : Type 0} (old : List (Option (Slot H))) (is_dedicated : Bool) (ready : Ready) (number : H) (p q : Piece H) (new next : List (Option (Slot H))) → Installs old is_dedicated
+    ready number p new → Installs old is_dedicated ready number q next → (p ≡ q) × (new ≡ next)
 installed_once old is_dedicated ready number p q new next a b = (
   pieces_alike p q (a.slot ∙ sym b.slot) (a.piece.1 ∙ sym b.piece.1) (a.piece.0 ∙ sym b.piece.0) (a.piece.2 ∙ sym b.piece.2) (a.piece.3 ∙ sym b.piece.3),
   a.slots ∙ sym b.slots,
@@ -113,7 +118,8 @@ installed_once old is_dedicated ready number p q new next a b = (
 slots_alike : {H : Type 0} (s q : Slot H) → s.number ≡ q.number → s.block ≡ q.block → s ≡ q
 slots_alike s q n b = λ i. record { number = n i; block = b i }
 
-slot_released_once : {H : Type 0} (g : ℕ) (several : Type 0) (n : ℕ) (old : Option (Slot H)) (went goes : Option H) (new next : Option (Slot H)) → SlotIsSound g old → SlotReleases several n old went new → SlotReleases several n old goes next → (went ≡ goes) × (new ≡ next)
+slot_released_once : {H : Type 0} (g : ℕ) (several : Type 0) (n : ℕ) (old : Option (Slot H)) (went goes : Option H) (new next : Option (Slot H)) → SlotIsSound g old → SlotReleases several n old went
+    new → SlotReleases several n old goes next → (went ≡ goes) × (new ≡ next)
 slot_released_once g several n None went goes new next sound t u = absurd t
 slot_released_once g several n (Some old) went goes (Some new) (Some next) sound t u =
     (t.0 ∙ sym u.0, ap Some (slots_alike new next (t.1 ∙ sym u.1) (release_once_in old.block n new.block next.block sound.1 t.2 u.2)))
@@ -123,7 +129,8 @@ slot_released_once g several n (Some old) went goes None (Some next) sound t u =
     absurd (u.3 (subst (Goes several) (release_once_in old.block n t.1.0 next.block sound.1 t.1.1 u.2) t.1.2))
 slot_released_once g several n (Some old) went goes None None sound t u = (t.0 ∙ sym u.0, refl)
 
-pub released_once : {H : Type 0} (g : ℕ) (several : Type 0) (old : List (Option (Slot H))) (p : Piece H) (went goes : Option H) (new next : List (Option (Slot H))) → AreSound g old → ReleasesPiece several old p went new → ReleasesPiece several old p goes next → (went ≡ goes) × (new ≡ next)
+pub released_once : {H : Type 0} (g : ℕ) (several : Type 0) (old : List (Option (Slot H))) (p : Piece H) (went goes : Option H) (new next : List (Option (Slot H))) → AreSound g old → ReleasesPiece
+    several old p went new → ReleasesPiece several old p goes next → (went ≡ goes) × (new ≡ next)
 released_once g several old p went goes new next sound t u =
     let once = slot_released_once g several (non_zero_u64_get p.number) (slot_at old p.slot) went goes t.slot u.slot (sound p.slot) t.releases u.releases in
     (once.0, t.slots ∙ (ap (slice_set old p.slot) once.1 ∙ sym u.slots))
@@ -137,7 +144,8 @@ slot_renamed_once n name (Some old) (Some new) (Some next) t u =
 slot_renamed_once n name (Some old) (Some new) None t u = absurd u
 slot_renamed_once n name (Some old) None next t u = absurd t
 
-pub renamed_once : {H : Type 0} (old : List (Option (Slot H))) (p : Piece H) (name : List ℕ) (new next : List (Option (Slot H))) → RenamesPiece old p name new → RenamesPiece old p name next → new ≡ next
+pub renamed_once : {H : Type 0} (old : List (Option (Slot H))) (p : Piece H) (name : List ℕ) (new next : List (Option (Slot H))) → RenamesPiece old p name new → RenamesPiece old p name next → new ≡
+    next
 renamed_once old p name new next t u =
     t.slots ∙ (ap (slice_set old p.slot) (slot_renamed_once (non_zero_u64_get p.number) name (slot_at old p.slot) t.slot u.slot t.renames u.renames) ∙ sym u.slots)
 
@@ -179,7 +187,8 @@ refusal_once eq g p (Some o) r s sound h k =
 
 -- ---- why a piece isn't named, where host memory isn't why
 
-block_name_refusal_once : (b : Block) (n : NonZeroU64) (r s : Refusal) → (r ≡ host_out_of_memory → ⊥) → (s ≡ host_out_of_memory → ⊥) → IsRenameRefusalIn b (Some n) r → IsRenameRefusalIn b (Some n) s → r ≡ s
+block_name_refusal_once : (b : Block) (n : NonZeroU64) (r s : Refusal) → (r ≡ host_out_of_memory → ⊥) → (s ≡ host_out_of_memory → ⊥) → IsRenameRefusalIn b (Some n) r → IsRenameRefusalIn b (Some n) s
+    → r ≡ s
 block_name_refusal_once (free_list b) n r s nr ns h k =
     elim h [
       | inl a ↦ elim k [ inl c ↦ a.1 ∙ sym c.1 | inr c ↦ absurd (ns c.1) ]
@@ -197,7 +206,8 @@ block_name_refusal_once (dedicated b) n r s nr ns h k =
       ]
     ]
 
-name_not_held : (b : Block) (n : NonZeroU64) (r : Refusal) → IsSoundBlock b → (r ≡ host_out_of_memory → ⊥) → IsRenameRefusalIn b (Some n) r → (x : Extent) → Contains (extents_of b) x → x.number ≡ non_zero_u64_get n → ⊥
+name_not_held : (b : Block) (n : NonZeroU64) (r : Refusal) → IsSoundBlock b → (r ≡ host_out_of_memory → ⊥) → IsRenameRefusalIn b (Some n) r → (x : Extent) → Contains (extents_of b) x → x.number ≡
+    non_zero_u64_get n → ⊥
 name_not_held (free_list b) n r sound nr h x held e = elim h [ inl a ↦ a.0 (x, held, e) | inr a ↦ nr a.1 ]
 name_not_held (dedicated b) n r sound nr h x held e =
     let w = some_in b.piece (non_zero_u64_get n) (whole_number b.piece b.size sound) x held e in
@@ -206,7 +216,8 @@ name_not_held (dedicated b) n r sound nr h x held e =
       | inl a ↦ elim a [ inl y ↦ y.0 w.0 | inr y ↦ w.1 y.1 ]
     ]
 
-pub name_refusal_once : {H : Type 0} (eq : H → H → Bool) (g : ℕ) (p : Piece H) (old : Option (Slot H)) (r s : Refusal) → SlotIsSound g old → (r ≡ host_out_of_memory → ⊥) → (s ≡ host_out_of_memory → ⊥) → IsNameRefusal eq p old r → IsNameRefusal eq p old s → r ≡ s
+pub name_refusal_once : {H : Type 0} (eq : H → H → Bool) (g : ℕ) (p : Piece H) (old : Option (Slot H)) (r s : Refusal) → SlotIsSound g old → (r ≡ host_out_of_memory → ⊥) →
+    (s ≡ host_out_of_memory → ⊥) → IsNameRefusal eq p old r → IsNameRefusal eq p old s → r ≡ s
 name_refusal_once eq g p None r s sound nr ns h k = h ∙ sym k
 name_refusal_once eq g p (Some o) r s sound nr ns h k =
     elim h [

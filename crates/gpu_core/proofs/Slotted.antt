@@ -29,14 +29,16 @@ edits xs i old new below read =
     }
 
 -- the slots from n on can't serve, nor can the one before them
-pub none_from : {H : Type 0} (slots : List (Option (Slot H))) (r : Request) (n : ℕ) → 0 < n → ((i : ℕ) → n ≤ i → CannotServe r (slot_at slots i)) → CannotServe r (slot_at slots (n - 1)) → (i : ℕ) → n - 1 ≤ i → CannotServe r (slot_at slots i)
+pub none_from : {H : Type 0} (slots : List (Option (Slot H))) (r : Request) (n : ℕ) → 0 < n → ((i : ℕ) → n ≤ i → CannotServe r (slot_at slots i)) → CannotServe r (slot_at slots (n - 1)) → (i : ℕ) → n
+    - 1 ≤ i → CannotServe r (slot_at slots i)
 none_from slots r n pos above here i le =
     elim (cases_eq i (n - 1)) [
       | inl e ↦ subst (λ k. CannotServe r (slot_at slots k)) (sym e) here
       | inr ne ↦ above i (omega arith)
     ]
 
-pub prepares : {H : Type 0} (slots : List (Option (Slot H))) (r : Request) (p : Piece H) (old new : Option (Slot H)) (after : List (Option (Slot H))) → slot_at slots p.slot ≡ old → SlotTakes old r p.offset (non_zero_u64_get p.number) p.block new → p.size ≡ r.size → ((i : ℕ) → p.slot < i → CannotServe r (slot_at slots i)) → after ≡ slice_set slots p.slot new → PreparesPiece slots r p after
+pub prepares : {H : Type 0} (slots : List (Option (Slot H))) (r : Request) (p : Piece H) (old new : Option (Slot H)) (after : List (Option (Slot H))) → slot_at slots p.slot ≡ old → SlotTakes old r
+    p.offset (non_zero_u64_get p.number) p.block new → p.size ≡ r.size → ((i : ℕ) → p.slot < i → CannotServe r (slot_at slots i)) → after ≡ slice_set slots p.slot new → PreparesPiece slots r p after
 prepares slots r p None new after at t size above e = absurd t
 prepares slots r p (Some s) None after at t size above e = absurd t
 prepares slots r p (Some s) (Some q) after at t size above e =
@@ -71,7 +73,8 @@ pub record OnlyAt {H : Type 0} (old : List (Option (Slot H))) (i : ℕ) (s : Opt
 pub set_only : {H : Type 0} (slots : List (Option (Slot H))) (i : ℕ) (s : Option (Slot H)) → i < length slots → OnlyAt slots i s (slice_set slots i s)
 set_only slots i s below = record { at = get_or-set_same slots i s None below; others = λ j ne. get_or-set_other slots i j s None ne }
 
-pub sound_after : {H : Type 0} (g : ℕ) (old : List (Option (Slot H))) (i : ℕ) (s : Option (Slot H)) (new : List (Option (Slot H))) → AreSound g old → OnlyAt old i s new → SlotIsSound g s → AreSound g new
+pub sound_after : {H : Type 0} (g : ℕ) (old : List (Option (Slot H))) (i : ℕ) (s : Option (Slot H)) (new : List (Option (Slot H))) → AreSound g old → OnlyAt old i s new → SlotIsSound g s → AreSound g
+    new
 sound_after g old i s new sound only here j =
     elim (cases_eq j i) [
       | inl e ↦ subst (SlotIsSound g) (sym (ap (slot_at new) e ∙ only.at)) here
@@ -79,21 +82,25 @@ sound_after g old i s new sound only here j =
     ]
 
 -- the same of the code's slots, one of which is written
-pub edited_sound : {H : Type 0} (g : ℕ) (xs : List (Option (LiveBlock H))) (i : ℕ) (old new : Option (LiveBlock H)) → i < length xs → Edits xs i old new → AreSound g (slots_of xs) → (SlotIsSound g (option_map slot_of old) → SlotIsSound g (option_map slot_of new)) → AreSound g (slots_of (slice_set xs i new))
+pub edited_sound : {H : Type 0} (g : ℕ) (xs : List (Option (LiveBlock H))) (i : ℕ) (old new : Option (LiveBlock H)) → i < length xs → Edits xs i old new → AreSound g (slots_of xs) →
+    (SlotIsSound g (option_map slot_of old) → SlotIsSound g (option_map slot_of new)) → AreSound g (slots_of (slice_set xs i new))
 edited_sound g xs i old new below e sound to =
     let within : i < length (slots_of xs) = rw (length-map xs (option_map slot_of)) below in
     let here : SlotIsSound g (option_map slot_of old) = subst (SlotIsSound g) e.before (sound i) in
-    subst (AreSound g) (sym e.slots) (sound_after g (slots_of xs) i (option_map slot_of new) (slice_set (slots_of xs) i (option_map slot_of new)) sound (set_only (slots_of xs) i (option_map slot_of new) within) (to here))
+    subst (AreSound g) (sym e.slots) (sound_after g (slots_of xs) i (option_map slot_of new) (slice_set (slots_of xs) i (option_map slot_of new)) sound
+    (set_only (slots_of xs) i (option_map slot_of new) within) (to here))
 
 -- ---- sums
 
-pub sum-set : {H : Type 0} (f : Option (Slot H) → ℕ) (slots : List (Option (Slot H))) (i : ℕ) (s : Option (Slot H)) → i < length slots → slots_sum f (slice_set slots i s) + f (slot_at slots i) ≡ slots_sum f slots + f s
+pub sum-set : {H : Type 0} (f : Option (Slot H) → ℕ) (slots : List (Option (Slot H))) (i : ℕ) (s : Option (Slot H)) → i < length slots → slots_sum f (slice_set slots i s) + f (slot_at slots i) ≡
+    slots_sum f slots + f s
 sum-set f [] i s h = absurd (omega arith)
 sum-set f (x ∷ xs) zero s h = omega arith
 sum-set f (x ∷ xs) (suc i) s h = let e = sum-set f xs i s (omega arith) in omega arith
 
 -- the sum of the slots after one is replaced
-pub edited_sum : {H : Type 0} (f : Option (Slot H) → ℕ) (xs : List (Option (LiveBlock H))) (i : ℕ) (old new : Option (LiveBlock H)) (less : ℕ) → i < length xs → Edits xs i old new → f (option_map slot_of new) + less ≡ f (option_map slot_of old) → slots_sum f (slots_of (slice_set xs i new)) + less ≡ slots_sum f (slots_of xs)
+pub edited_sum : {H : Type 0} (f : Option (Slot H) → ℕ) (xs : List (Option (LiveBlock H))) (i : ℕ) (old new : Option (LiveBlock H)) (less : ℕ) → i < length xs → Edits xs i old new → f
+    (option_map slot_of new) + less ≡ f (option_map slot_of old) → slots_sum f (slots_of (slice_set xs i new)) + less ≡ slots_sum f (slots_of xs)
 edited_sum f xs i old new less below e sum =
     let within : i < length (slots_of xs) = rw (length-map xs (option_map slot_of)) below in
     let s = sum-set f (slots_of xs) i (option_map slot_of new) within in

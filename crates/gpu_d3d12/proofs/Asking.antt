@@ -25,7 +25,8 @@ use Rattle.gpu_d3d12.specs.State.{interface_of}
 use Rattle.gpu_d3d12.specs.Step.{AskedResource, IsAskedWith, resource_answer, granted_number, CountsAndNames}
 
 -- the interface alone decides by which question a resource is made
-pub same_question : {D : Type 0} (v : ID3D12DeviceVersion D) (s : ResourceStateOrBarrierLayout) (castable : List Format) → resource_question (interface_of v) s castable ≡ resource_question v s castable
+pub same_question : {D : Type 0} (v : ID3D12DeviceVersion D) (s : ResourceStateOrBarrierLayout) (castable : List Format) → resource_question (interface_of v) s castable ≡ resource_question v s
+    castable
 same_question v (ResourceState s) [] = refl
 same_question v (ResourceState s) (f ∷ fs) = refl
 same_question (Device12 d) (BarrierLayout l) castable = refl
@@ -50,7 +51,8 @@ pub answer_is : (question : ResourceQuestion) (d : ResourceCreateDesc) (memory :
 answer_is question d memory None = refl
 answer_is question d memory (Some answer) = refl
 
-pub asked_with : (question : ResourceQuestion) (d : ResourceCreateDesc) (memory : Option (HeapProperties × HeapFlags)) (o : Option ResourceAnswer) → IsAskedWith question d memory (asked_of question d memory o)
+pub asked_with : (question : ResourceQuestion) (d : ResourceCreateDesc) (memory : Option (HeapProperties × HeapFlags)) (o : Option ResourceAnswer) → IsAskedWith question d memory
+    (asked_of question d memory o)
 asked_with question d memory None = tt
 asked_with question d memory (Some answer) = (refl, refl, refl)
 
@@ -77,7 +79,8 @@ module _ {D : Type 0} (g : Ghosts D) (question : ResourceQuestion) (d : Resource
       → IsAfterResource g device question d memory entry o to → HoldsJustLiveBlocks tier (with_granted aside (granted_number o) entry) (g.held to) ss
   asked_holds tier aside ss None device to h is = subst (λ (k : Held). HoldsJustLiveBlocks tier aside k ss) (sym (ap g.held is)) h
   asked_holds tier aside ss (Some answer) device to h is =
-      subst (λ (k : Held). HoldsJustLiveBlocks tier (with_granted aside (resource_number answer) entry) k ss) (sym is.held) (granted_holds tier aside (g.held device) ss (resource_number answer) entry h is.number)
+      subst (λ (k : Held). HoldsJustLiveBlocks tier (with_granted aside (resource_number answer) entry) k ss) (sym is.held)
+      (granted_holds tier aside (g.held device) ss (resource_number answer) entry h is.number)
 
   pub asked_constant : (o : Option ResourceAnswer) (device to : D) → IsAfterResource g device question d memory entry o to → g.properties to ≡ g.properties device
   asked_constant None device to is = ap g.properties is

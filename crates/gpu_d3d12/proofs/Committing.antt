@@ -21,7 +21,8 @@ use Rattle.gpu_d3d12.proofs.Asking.{asked_of, answer_is, asked_with, asked_count
 use Rattle.gpu_d3d12.proofs.Outcomes.{Outcome}
 use Rattle.gpu_d3d12.proofs.Steps.{counts_same}
 
-module _ {D : Type 0} (g : Ghosts D) (before : State D) (d : ResourceCreateDesc) (question : ResourceQuestion) (own : HeapProperties × HeapFlags) (index size : ℕ) (left : Committed) (to : D) (made : Result ID3D12Resource AllocationError) where
+module _ {D : Type 0} (g : Ghosts D) (before : State D) (d : ResourceCreateDesc) (question : ResourceQuestion) (own : HeapProperties × HeapFlags) (index size : ℕ) (left : Committed) (to : D)
+    (made : Result ID3D12Resource AllocationError) where
   abbrev reply : Reply
   reply = made_reply index None size (resource_reply made)
 

@@ -36,7 +36,8 @@ module _ {D : Type 0} (g : Ghosts D) (d : ResourceCreateDesc) (result : Result R
       }
 
 -- where there is none the device isn't asked, and nothing changes
-pub not_asked : {D : Type 0} (g : Ghosts D) (d : ResourceCreateDesc) (s : State D) (e : AllocationError) → resource_question s.device d.initial_state_or_layout d.castable_formats.now ≡ Err (refusal_of e)
+pub not_asked : {D : Type 0} (g : Ghosts D) (d : ResourceCreateDesc) (s : State D) (e : AllocationError) → resource_question s.device d.initial_state_or_layout d.castable_formats.now ≡ Err
+    (refusal_of e)
     → IsCreateStep g d (Err e) s s
 not_asked g d s e why = record {
   reply = Fails (refusal_of e);

@@ -19,7 +19,8 @@ use Rattle.gpu_d3d12.proofs.Outcomes.{Outcome}
 use Rattle.gpu_d3d12.proofs.Steps.{counts_same, after_gone}
 
 -- what the caller gets is what giving back came to
-pub same_reply_ok : (given : Result (Unit {0}) (AllocationError × Resource)) (freed : Result (Unit {0}) AllocationError) (u v : Unit {0}) → given ≡ Ok u → freed ≡ Ok v → freed_as given ≡ renamed_as freed
+pub same_reply_ok : (given : Result (Unit {0}) (AllocationError × Resource)) (freed : Result (Unit {0}) AllocationError) (u v : Unit {0}) → given ≡ Ok u → freed ≡ Ok v → freed_as given ≡ renamed_as
+    freed
 same_reply_ok given freed u v is was = ap (λ (x : Result (Unit {0}) (AllocationError × Resource)). freed_as x) is ∙ sym (ap renamed_as was)
 
 pub same_reply_err : (given : Result (Unit {0}) (AllocationError × Resource)) (freed : Result (Unit {0}) AllocationError) (e : AllocationError) (r : Resource) → given ≡ Err (e, r) → freed ≡ Err e
@@ -45,14 +46,17 @@ module _ {D : Type 0} (g : Ghosts D) (before : State D) (r : Resource) (slots : 
 
   gone_holds : (after : D) → IsWithoutResource g device r.resource.0 after → HoldsJustLiveBlocks before.setup.tier (without_resource aside r.resource.0) (g.held after) before.slots
   gone_holds after w =
-      subst (λ k. HoldsJustLiveBlocks before.setup.tier (without_resource aside r.resource.0) k before.slots) (sym w.held) (given_holds before.setup.tier aside (g.held device) before.slots r.resource.0 h)
+      subst (λ k. HoldsJustLiveBlocks before.setup.tier (without_resource aside r.resource.0) k before.slots) (sym w.held)
+      (given_holds before.setup.tier aside (g.held device) before.slots r.resource.0 h)
 
-  back_outcome : (o : Option Allocation) (freed : Result (Unit {0}) AllocationError) → FreesResource g o r before.slots before.committed device freed slots left to → Outcome g before (S o) (renamed_as freed) slots left to
+  back_outcome : (o : Option Allocation) (freed : Result (Unit {0}) AllocationError) → FreesResource g o r before.slots before.committed device freed slots left to → Outcome g before (S o)
+      (renamed_as freed) slots left to
   back_outcome (Some a) (Ok u) f =
       let between = f.0.1.0 in
       let gone = f.0.1.1 in
       let rel = f.0.1.2 in
-      let done = released_holds g before.setup.tier (without_resource aside r.resource.0) a.memory_type_index before.slots (type_below before.slots a.memory_type_index (piece_of a) f.0.0) (piece_of a) between slots to rel (gone_holds between gone) in
+      let done = released_holds g before.setup.tier (without_resource aside r.resource.0) a.memory_type_index before.slots (type_below before.slots a.memory_type_index (piece_of a) f.0.0)
+      (piece_of a) between slots to rel (gone_holds between gone) in
       record {
         aside = without_resource aside r.resource.0;
         holds = done.0;
@@ -98,5 +102,6 @@ module _ {D : Type 0} (g : Ghosts D) (before : State D) (r : Resource) (slots : 
     step = λ new same bounds records beside. (refl, bounds, ((f.0.0, f.0.1, records ∙ f.0.2), same ∙ f.1, beside));
   }
 
-  pub freed_outcome : (freed : Result (Unit {0}) AllocationError) → FreesResource g r.allocation r before.slots before.committed device freed slots left to → Outcome g before (S r.allocation) (renamed_as freed) slots left to
+  pub freed_outcome : (freed : Result (Unit {0}) AllocationError) → FreesResource g r.allocation r before.slots before.committed device freed slots left to → Outcome g before (S r.allocation)
+      (renamed_as freed) slots left to
   freed_outcome freed f = back_outcome r.allocation freed f

@@ -54,7 +54,8 @@ module _ {D : Type 0} (g : Ghosts D) (setup : Setup) (question : ResourceQuestio
 
   module _ (old mid : Types ID3D12Heap) (device between : D) (told : kinds old ≡ kinds_told setup.tier) (kept : MemoryTypesInvariant old) (same : kinds mid ≡ kinds old)
       (keeps : MemoryTypesInvariant old → MemoryTypesInvariant mid) (a : Allocation) (allocates : Allocates g setup (budgets old) p (slots_of old) device (Ok a) (slots_of mid) between)
-      (answer : ResourceAnswer) (then : D) (asks : AsksResource g between question d None (Placed a.heap.0 a.offset (made_size (g.properties between) question d.resource_desc.now d.castable_formats.now)) answer then) where
+      (answer : ResourceAnswer) (then : D) (asks : AsksResource g between question d None
+      (Placed a.heap.0 a.offset (made_size (g.properties between) question d.resource_desc.now d.castable_formats.now)) answer then) where
     abbrev made : ℕ
     made = made_size (g.properties device) question d.resource_desc.now d.castable_formats.now
 

@@ -25,7 +25,8 @@ use Rattle.gpu_d3d12.specs.Allocate.{Allocates}
 use Rattle.gpu_d3d12.specs.Live.{piece_of, IsGiven}
 use Rattle.gpu_d3d12.specs.Resource.{piece_desc, LiesIn, IsGivenAs, EndsBy, PlacesBy, IsPlaced}
 use Rattle.gpu_d3d12.specs.State.{State, Basis, basis_of, beside_of}
-use Rattle.gpu_d3d12.specs.Step.{Reply, Given, Fails, Done, Sum, Shows, Tells, Made, Counts, Budgeted, info_of, size_made, made_reply, PlacedBy, PlacesThen, PlaceStep, ReleaseStep, CountsAndNames, Replies, RepliesResource}
+use Rattle.gpu_d3d12.specs.Step.{Reply, Given, Fails, Done, Sum, Shows, Tells, Made, Counts, Budgeted, info_of, size_made, made_reply, PlacedBy, PlacesThen, PlaceStep, ReleaseStep, CountsAndNames}
+use Rattle.gpu_d3d12.specs.Step.{Replies, RepliesResource}
 use Rattle.gpu_d3d12.specs.declared.allocation.Allocation.{Allocation}
 use Rattle.gpu_d3d12.specs.declared.resource.Resource.{Resource}
 use Rattle.gpu_d3d12.proofs.Asking.{asked_of, asked_with, asked_counts, asked_holds}
@@ -62,7 +63,8 @@ refused_told : (d : ResourceCreateDesc) (result : Result Resource AllocationErro
 refused_told d (Ok r) f is = absurd (none_some f is)
 refused_told d (Err e) f is = some_same (refusal_of e) f is
 
-made_told : (d : ResourceCreateDesc) (a : Allocation) (t : ℕ) (q : Piece ID3D12Heap) (number size : ℕ) (result : Result Resource AllocationError) → IsGiven t d.name.now q a → IsGivenAs d a number size result
+made_told : (d : ResourceCreateDesc) (a : Allocation) (t : ℕ) (q : Piece ID3D12Heap) (number size : ℕ) (result : Result Resource AllocationError) → IsGiven t d.name.now q a → IsGivenAs d a number
+    size result
     → RepliesResource d result (Made t (Some q) number size)
 made_told d a t q number size (Err e) given h = absurd h
 made_told d a t q number size (Ok r) given h = record {
@@ -101,7 +103,8 @@ module _ {D : Type 0} (g : Ghosts D) (before : State D) (d : ResourceCreateDesc)
     abbrev device : D
     device = device_of before.device
 
-    not_taken : (e : AllocationError) → Allocates g before.setup before.budgets p before.slots device (Err e) mid between → PlacesBy g question d size made (Err e) result mid between slots to → PlacedOutcome
+    not_taken : (e : AllocationError) → Allocates g before.setup before.budgets p before.slots device (Err e) mid between → PlacesBy g question d size made (Err e) result mid between slots to →
+        PlacedOutcome
     not_taken e allocates places =
         let t = taken g before.setup before.budgets p before.slots device (Err e) mid between allocates in
         let after = allocated_holds g before.setup before.budgets p aside before.slots many device (Err e) mid between allocates h in
@@ -167,8 +170,11 @@ module _ {D : Type 0} (g : Ghosts D) (before : State D) (d : ResourceCreateDesc)
                 sound = sound_mid;
                 allocates = t.step;
                 places =
-                    subst (λ r. PlacesThen basis d question r (asked_of question d None (Some (Granted n))) (Made u (Some q) n size) mid new.slots aside new.beside) (sym is_given)
-                    (asked_with question d None (Some (Granted n)), refl, (same ∙ ends.1, beside ∙ ap (λ (x : Piece ID3D12Heap). insert aside n (entries.Placed x.block.0 x.offset made)) in_it.piece));
+                    subst (λ r. PlacesThen basis d question r (asked_of question d None (Some (Granted n))) (Made u (Some q) n size) mid new.slots aside new.beside) (sym is_given) (
+                      asked_with question d None (Some (Granted n)),
+                      refl,
+                      (same ∙ ends.1, beside ∙ ap (λ (x : Piece ID3D12Heap). insert aside n (entries.Placed x.block.0 x.offset made)) in_it.piece),
+                    );
                 budgets = bounds;
                 committed = records;
               };
@@ -176,7 +182,8 @@ module _ {D : Type 0} (g : Ghosts D) (before : State D) (d : ResourceCreateDesc)
             replies = made_told d a u q n size result in_it ends.0;
           }
 
-      placed_refused : (answer : ResourceAnswer) (f : Refusal) → number_or_refusal placed_texts answer ≡ Err f → resource_number answer ≡ None → AsksResource g between question d None entry answer then
+      placed_refused : (answer : ResourceAnswer) (f : Refusal) → number_or_refusal placed_texts answer ≡ Err f → resource_number answer ≡ None → AsksResource g between question d None entry answer
+          then
           → (refusal_in result ≡ Some f) × IsReleased g a.memory_type_index (piece_of a) mid then slots to → PlacedOutcome
       placed_refused answer f is none asks ends =
           let given = reply_given p a t.reply t.replies in
@@ -221,12 +228,14 @@ module _ {D : Type 0} (g : Ghosts D) (before : State D) (d : ResourceCreateDesc)
             replies = refused_told d result f ends.0;
           }
 
-      answered : (answer : ResourceAnswer) → AsksResource g between question d None entry answer then → EndsBy g d size a (number_or_refusal placed_texts answer) result mid then slots to → PlacedOutcome
+      answered : (answer : ResourceAnswer) → AsksResource g between question d None entry answer then → EndsBy g d size a (number_or_refusal placed_texts answer) result mid then slots to →
+          PlacedOutcome
       answered (Granted n) asks ends = placed_granted n asks ends
       answered (Declined code reason) asks ends = placed_refused (Declined code reason) _ refl refl asks ends
       answered Null asks ends = placed_refused Null _ refl refl asks ends
 
-    place_by : (r : Result Allocation AllocationError) → Allocates g before.setup before.budgets p before.slots device r mid between → PlacesBy g question d size made r result mid between slots to → PlacedOutcome
+    place_by : (r : Result Allocation AllocationError) → Allocates g before.setup before.budgets p before.slots device r mid between → PlacesBy g question d size made r result mid between slots to →
+        PlacedOutcome
     place_by (Err e) allocates places = not_taken e allocates places
     place_by (Ok a) allocates places = answered a allocates places.between places.answer places.asks places.ends
 

@@ -25,7 +25,9 @@ use Rattle.gpu_d3d12.specs.Allocate.{is_valid}
 use Rattle.gpu_d3d12.specs.Live.{piece_of}
 use Rattle.gpu_d3d12.specs.Resource.{piece_desc, record_of}
 use Rattle.gpu_d3d12.specs.State.{Basis, Contents}
-use Rattle.gpu_d3d12.specs.Step.{Call, Allocate, Free, Rename, Capacity, Report, Leaks, CreateResource, FreeResource, Statistics, SetBudget, Budget, Budgeted, SetBudgetStep, BudgetStep, Reply, Given, Fails, Done, Sum, Shows, Tells, Made, Counts, Environment, AskedResource, info_of, size_made, resource_answer, made_reply, CommitStep, PlacedBy, PlacesThen, PlaceStep, MakesBy, CreateBy, beside_after, GiveStep, FreeResourceStep, ChangesBlocks, BlockStep, StatisticsStep, Step}
+use Rattle.gpu_d3d12.specs.Step.{Call, Allocate, Free, Rename, Capacity, Report, Leaks, CreateResource, FreeResource, Statistics, SetBudget, Budget, Budgeted, SetBudgetStep, BudgetStep, Reply}
+use Rattle.gpu_d3d12.specs.Step.{Given, Fails, Done, Sum, Shows, Tells, Made, Counts, Environment, AskedResource, info_of, size_made, resource_answer, made_reply, CommitStep, PlacedBy, PlacesThen}
+use Rattle.gpu_d3d12.specs.Step.{PlaceStep, MakesBy, CreateBy, beside_after, GiveStep, FreeResourceStep, ChangesBlocks, BlockStep, StatisticsStep, Step}
 use Rattle.gpu_d3d12.specs.declared.allocation.Allocation.{Allocation}
 use Rattle.gpu_d3d12.specs.declared.resource.Resource.{Resource}
 use Rattle.gpu_d3d12.proofs.OneStep.{allocate_once, release_once, free_once, block_step_once}
@@ -49,7 +51,8 @@ commit_once basis d question own o x y old new next a b =
     let types : a.memory_type ≡ b.memory_type = one_first d.memory_location d.resource_category (memory_kinds basis.setup.tier) a.memory_type b.memory_type a.first b.first in
     let other : Commits o.attempt.host (records_at old.committed a.memory_type) size (resource_answer o.resource) b.number b.left =
     subst (λ t. Commits o.attempt.host (records_at old.committed t) size (resource_answer o.resource) b.number b.left) (sym types) b.commits in
-    let once = commits_by (fits (records_at old.committed a.memory_type) size) o.attempt.host (records_at old.committed a.memory_type) size (resource_answer o.resource) a.number b.number a.left b.left a.commits other in
+    let once = commits_by (fits (records_at old.committed a.memory_type) size) o.attempt.host (records_at old.committed a.memory_type) size (resource_answer o.resource) a.number b.number a.left
+    b.left a.commits other in
     let numbers = once.0 in
     let lists = once.1 in (
       a.reply_is ∙ (λ i. made_reply (types i) None size (numbers i)) ∙ sym b.reply_is,
@@ -130,7 +133,8 @@ give_once t r x y old new next a b =
     (give_reply t r y old next b))
     (give_reply t r x old new a)
 
-free_resource_once : (o : Option Allocation) (r : Resource) (x y : Reply) (old new next : Contents) → BlocksWellFormed 1 old.slots → new.budgets ≡ next.budgets → FreeResourceStep o r x old new → FreeResourceStep o r y old next
+free_resource_once : (o : Option Allocation) (r : Resource) (x y : Reply) (old new next : Contents) → BlocksWellFormed 1 old.slots → new.budgets ≡ next.budgets → FreeResourceStep o r x old new →
+    FreeResourceStep o r y old next
     → (x ≡ y) × (new ≡ next)
 free_resource_once (Some a) r x y old new next sound bounds f h =
     let once = free_once a.memory_type_index (piece_of a) x y old.slots new.slots next.slots sound f.0 h.0 in
@@ -192,7 +196,8 @@ sets_once t budget old (Some r) (Some s) new next a b = (ap Some (a.1 ∙ sym b.
 -- ---- any call
 
 on_blocks : (basis : Basis) (call : Call) (o : Environment) (x y : Reply) (old new next : Contents) → BlocksWellFormed 1 old.slots
-    → ChangesBlocks o old new × BlockStep basis.setup old.budgets call o.attempt x old.slots new.slots → ChangesBlocks o old next × BlockStep basis.setup old.budgets call o.attempt y old.slots next.slots → (x ≡ y) × (new ≡ next)
+    → ChangesBlocks o old new × BlockStep basis.setup old.budgets call o.attempt x old.slots new.slots → ChangesBlocks o old next × BlockStep basis.setup old.budgets call o.attempt y old.slots
+    next.slots → (x ≡ y) × (new ≡ next)
 on_blocks basis call o x y old new next sound a b =
     let once = block_step_once basis.setup old.budgets call o.attempt x y old.slots new.slots next.slots sound a.1 b.1 in
     let one = a.0 in

@@ -22,7 +22,8 @@ use Rattle.gpu_d3d12_blocks.specs.Suballocation.{AttemptEnvironment, asked_block
 use Rattle.gpu_d3d12_blocks.specs.Blocks.{Slots}
 use Rattle.gpu_d3d12.specs.Live.{piece_of}
 use Rattle.gpu_d3d12_blocks.specs.Release.{is_same_heap}
-use Rattle.gpu_d3d12.specs.Step.{Call, Allocate, Free, Rename, Capacity, Report, Leaks, CreateResource, FreeResource, Statistics, SetBudget, Budget, Budgeted, Reply, Given, Fails, Done, Sum, Shows, Tells, Made, Counts, reply_of, ServeStep, AllocateStep, ReleaseStep, FreeStep, RenameStep, ReportStep, LeaksStep, BlockStep}
+use Rattle.gpu_d3d12.specs.Step.{Call, Allocate, Free, Rename, Capacity, Report, Leaks, CreateResource, FreeResource, Statistics, SetBudget, Budget, Budgeted, Reply, Given, Fails, Done, Sum, Shows}
+use Rattle.gpu_d3d12.specs.Step.{Tells, Made, Counts, reply_of, ServeStep, AllocateStep, ReleaseStep, FreeStep, RenameStep, ReportStep, LeaksStep, BlockStep}
 
 -- ---- an allocation
 

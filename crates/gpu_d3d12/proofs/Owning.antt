@@ -69,7 +69,8 @@ refused_owns : (old new : Slots) (alignment : ℕ) (result : Result Allocation A
 refused_owns old new alignment (Ok a) r is same = absurd (none_some r is)
 refused_owns old new alignment (Err e) r is same = record { keeps = λ b live. subst (λ (ss : Slots). IsLive ss b) (sym same) live; gives = tt; aligned = tt }
 
-module _ {D : Type 0} (g : Ghosts D) (setup : Setup) (budgets : Budgets) (d : AllocationCreateDesc) (old new : Slots) (many : length old ≡ length (memory_kinds setup.tier)) (sound : BlocksWellFormed 1 old)
+module _ {D : Type 0} (g : Ghosts D) (setup : Setup) (budgets : Budgets) (d : AllocationCreateDesc) (old new : Slots) (many : length old ≡ length (memory_kinds setup.tier))
+    (sound : BlocksWellFormed 1 old)
     (sound_after : BlocksWellFormed 1 new) where
   owns_by : (device : D) (result : Result Allocation AllocationError) (after : D) (valid : Bool) → AllocatesBy g setup budgets d valid old device result new after → Owns old new d.alignment result
   owns_by device result after true s = attempt_owns setup budgets d s.memory_type old new g device result after (first_below setup d old many s.memory_type s.first) sound sound_after s.attempt

@@ -84,12 +84,14 @@ lies_alone : (t : ℕ) (d : ResourceCreateDesc) (o : Option Allocation) (old new
 lies_alone t d None old new h = tt
 lies_alone t d (Some a) old new h = absurd h
 
-replied_alone : (d : ResourceCreateDesc) (r : Resource) (old new : Slots) (t size : ℕ) (number : Result ℕ Refusal) → RepliesResource d (Ok r) (made_reply t None size number) → IsNewIn old new r.allocation
+replied_alone : (d : ResourceCreateDesc) (r : Resource) (old new : Slots) (t size : ℕ) (number : Result ℕ Refusal) → RepliesResource d (Ok r) (made_reply t None size number) → IsNewIn old new
+    r.allocation
 replied_alone d r old new t size (Ok n) h = lies_alone t d r.allocation old new h.allocation
 replied_alone d r old new t size (Err f) h = absurd h
 
 -- it lies in no piece
-pub committed_gives : {D : Type 0} (g : Ghosts D) (basis : Basis) (d : ResourceCreateDesc) (question : ResourceQuestion) (own : HeapProperties × HeapFlags) (result : Result Resource AllocationError) (before then : State D) (old new : Slots)
+pub committed_gives : {D : Type 0} (g : Ghosts D) (basis : Basis) (d : ResourceCreateDesc) (question : ResourceQuestion) (own : HeapProperties × HeapFlags) (result : Result Resource AllocationError)
+    (before then : State D) (old new : Slots)
     → IsMadeBy g (CommitStep basis d question own) d result before then → IfOk result (λ r. IsNewIn old new r.allocation)
 committed_gives g basis d question own (Err e) before then old new h = tt
 committed_gives g basis d question own (Ok r) before then old new h =
@@ -98,7 +100,8 @@ committed_gives g basis d question own (Ok r) before then old new h =
 
 -- ---- a resource that is given back
 
-pub freed_keeps : {D : Type 0} (g : Ghosts D) (o : Option Allocation) (r : Resource) (old : Slots) (committed : Committed) (device : D) (freed : Result (Unit {0}) AllocationError) (new : Slots) (left : Committed) (after : D)
+pub freed_keeps : {D : Type 0} (g : Ghosts D) (o : Option Allocation) (r : Resource) (old : Slots) (committed : Committed) (device : D) (freed : Result (Unit {0}) AllocationError) (new : Slots)
+    (left : Committed) (after : D)
     → BlocksWellFormed 1 old → FreesResource g o r old committed device freed new left after → (b : Allocation) → IsLive old b → IsBeside b o → IsLive new b
 freed_keeps g (Some a) r old committed device (Ok u) new left after sound f b live other = released_others g a old f.0.1.0 new after sound f.0.0 f.0.1.2 b live other
 freed_keeps g (Some a) r old committed device (Err e) new left after sound f b live other = subst (λ (ss : Slots). IsLive ss b) (sym f.0.2) live

@@ -96,10 +96,11 @@ module _ {D : Type 0} (g : Ghosts D) (setup : Setup) (budgets : Budgets) (d : Al
   allocated_holds device result new after s h = held_by device result new after (is_valid d) s h
 
 -- an allocation leaves what the device tells of itself
-module _ {D : Type 0} (g : Ghosts D) (setup : Setup) (budgets : Budgets) (d : AllocationCreateDesc) (old : Slots) (device : D) (result : Result Allocation AllocationError) (new : Slots) (after : D) where
-  constant_by : (valid : Bool) → AllocatesBy g setup budgets d valid old device result new after → g.properties after ≡ g.properties device
-  constant_by true s = after_constant g setup budgets s.memory_type s.attempt.environment.asked device after s.attempt.asked
-  constant_by false s = ap g.properties s.device_is
+module _ {D : Type 0} (g : Ghosts D) (setup : Setup) (budgets : Budgets) (d : AllocationCreateDesc) (old : Slots) (device : D) (result : Result Allocation AllocationError) (new : Slots) (after : D)
+  where
+    constant_by : (valid : Bool) → AllocatesBy g setup budgets d valid old device result new after → g.properties after ≡ g.properties device
+    constant_by true s = after_constant g setup budgets s.memory_type s.attempt.environment.asked device after s.attempt.asked
+    constant_by false s = ap g.properties s.device_is
 
-  pub allocated_constant : Allocates g setup budgets d old device result new after → g.properties after ≡ g.properties device
-  allocated_constant s = constant_by (is_valid d) s
+    pub allocated_constant : Allocates g setup budgets d old device result new after → g.properties after ≡ g.properties device
+    allocated_constant s = constant_by (is_valid d) s

@@ -29,7 +29,8 @@ use Rattle.gpu_d3d12.specs.Rename.{Renames}
 use Rattle.gpu_d3d12_blocks.specs.Blocks.{Slots}
 use Rattle.gpu_d3d12_setup.specs.declared.setup.Setup.{Setup}
 use Rattle.gpu_d3d12.specs.State.{State, contents_of, beside_of}
-use Rattle.gpu_d3d12.specs.Step.{Capacity, Sum, Free, freed_as, Reply, Environment, Fails, Rename, Report, Leaks, nothing_met, reply_of, ServeStep, AllocateStep, RenameStep, ChangesBlocks, CountsAndNames, IsStep, Replies, IsAllocateStep, renamed_as, shown_as, told_as}
+use Rattle.gpu_d3d12.specs.Step.{Capacity, Sum, Free, freed_as, Reply, Environment, Fails, Rename, Report, Leaks, nothing_met, reply_of, ServeStep, AllocateStep, RenameStep, ChangesBlocks}
+use Rattle.gpu_d3d12.specs.Step.{CountsAndNames, IsStep, Replies, IsAllocateStep, renamed_as, shown_as, told_as}
 use Rattle.gpu_d3d12.specs.declared.allocation.Allocation.{Allocation}
 
 -- a device is what it is
@@ -66,7 +67,8 @@ module _ {D : Type 0} (g : Ghosts D) where
 
   pub counts_after : (host : Bool) (o : Option Asked) (device after : D) → IsAfter g device o after → CountsAndNames g device (met (record { host = host; asked = o })) after
   counts_after host None device after is = counts_same host device after is
-  counts_after host (Some a) device after is = record { count = is.count; latest_heap = is.latest_heap; latest_formats = is.latest_formats; latest_clear = is.latest_clear; latest_memory = is.latest_memory }
+  counts_after host (Some a) device after is = record
+      { count = is.count; latest_heap = is.latest_heap; latest_formats = is.latest_formats; latest_clear = is.latest_clear; latest_memory = is.latest_memory }
 
   -- the call changed the blocks alone
   pub record Alone (old new : State D) : Type 0 where
@@ -101,7 +103,8 @@ module _ {D : Type 0} (g : Ghosts D) where
     pub counts : CountsAndNames g device (met environment) after
     pub replies : Replies d result reply
 
-  taken_by : (setup : Setup) (budgets : Budgets) (d : AllocationCreateDesc) (old : Slots) (device : D) (result : Result Allocation AllocationError) (new : Slots) (after : D) (valid : Bool) → is_valid d ≡ valid
+  taken_by : (setup : Setup) (budgets : Budgets) (d : AllocationCreateDesc) (old : Slots) (device : D) (result : Result Allocation AllocationError) (new : Slots) (after : D) (valid : Bool) → is_valid
+      d ≡ valid
       → AllocatesBy g setup budgets d valid old device result new after → Taken setup budgets d old device result new after
   taken_by setup budgets d old device result new after true is s =
       let a = s.attempt in
@@ -169,13 +172,20 @@ module _ {D : Type 0} (g : Ghosts D) where
 
   gone_counts : (went : Option ID3D12Heap) (device after : D) → GivesBack g device went after → CountsAndNames g device (met nothing_met) after
   gone_counts None device after is = counts_same true device after is
-  gone_counts (Some heap) device after is = record { count = is.count; latest_heap = is.latest_heap; latest_formats = is.latest_formats; latest_clear = is.latest_clear; latest_memory = is.latest_memory }
+  gone_counts (Some heap) device after is = record
+      { count = is.count; latest_heap = is.latest_heap; latest_formats = is.latest_formats; latest_clear = is.latest_clear; latest_memory = is.latest_memory }
 
   -- a heap that goes is no question
   pub after_gone : (o : Environment) (went : Option ID3D12Heap) (device between after : D) → CountsAndNames g device o between → GivesBack g between went after → CountsAndNames g device o after
   after_gone o None device between after c is = subst (λ (d : D). CountsAndNames g device o d) (sym is) c
   after_gone o (Some heap) device between after c is =
-      record { count = is.count ∙ c.count; latest_heap = is.latest_heap ∙ c.latest_heap; latest_formats = is.latest_formats ∙ c.latest_formats; latest_clear = is.latest_clear ∙ c.latest_clear; latest_memory = is.latest_memory ∙ c.latest_memory }
+      record {
+        count = is.count ∙ c.count;
+        latest_heap = is.latest_heap ∙ c.latest_heap;
+        latest_formats = is.latest_formats ∙ c.latest_formats;
+        latest_clear = is.latest_clear ∙ c.latest_clear;
+        latest_memory = is.latest_memory ∙ c.latest_memory;
+      }
 
   pub free_step : (old new : State D) (a : Allocation) (result : Result (Unit {0}) (AllocationError × Allocation)) → Frees g a old.slots (device_of old.device) result new.slots (device_of new.device)
       → Alone old new → IsStep g (Free a) (freed_as result) old new

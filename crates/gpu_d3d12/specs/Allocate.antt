@@ -22,7 +22,8 @@ Answers t d (Err e) (Gave p) = ⊥
 Answers t d (Err e) (Refused r) = refusal_of e ≡ r
 
 -- an attempt at the t-th memory type, over a device
-pub record IsAttempt {D : Type 0} (g : Ghosts D) (setup : Setup) (budgets : Budgets) (t : ℕ) (d : AllocationCreateDesc) (old : Slots) (device : D) (result : Result Allocation AllocationError) (new : Slots) (after : D) : Type 0 where
+pub record IsAttempt {D : Type 0} (g : Ghosts D) (setup : Setup) (budgets : Budgets) (t : ℕ) (d : AllocationCreateDesc) (old : Slots) (device : D) (result : Result Allocation AllocationError)
+    (new : Slots) (after : D) : Type 0 where
   pub environment : AttemptEnvironment
   pub answer : Answer
   pub allocates : AllocatesInType (request_at setup budgets t d) old environment.host (asked_block environment.asked) answer new
@@ -41,7 +42,8 @@ pub record IsRefused {D : Type 0} (refusal : Refusal) (old : Slots) (device : D)
   pub device_is : after ≡ device
 
 -- an attempt at the first memory type that serves the location and the category
-pub record IsServed {D : Type 0} (g : Ghosts D) (setup : Setup) (budgets : Budgets) (d : AllocationCreateDesc) (old : Slots) (device : D) (result : Result Allocation AllocationError) (new : Slots) (after : D) : Type 0 where
+pub record IsServed {D : Type 0} (g : Ghosts D) (setup : Setup) (budgets : Budgets) (d : AllocationCreateDesc) (old : Slots) (device : D) (result : Result Allocation AllocationError) (new : Slots)
+    (after : D) : Type 0 where
   pub memory_type : ℕ
   pub first : IsFirstServing d.location d.resource_category (memory_kinds setup.tier) memory_type
   pub attempt : IsAttempt g setup budgets memory_type d old device result new after

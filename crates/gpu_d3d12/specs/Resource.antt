@@ -104,19 +104,22 @@ EndsBy g d size a (Err refusal) result mid between new after =
     (refusal_in result ≡ Some refusal) × IsReleased g a.memory_type_index (piece_of a) mid between new after
 
 -- the device is asked for a resource in the piece of this allocation
-pub record IsPlacedAt {D : Type 0} (g : Ghosts D) (question : ResourceQuestion) (d : ResourceCreateDesc) (size made : ℕ) (a : Allocation) (result : Result Resource AllocationError) (mid : Slots) (device : D) (new : Slots) (after : D) : Type 0 where
+pub record IsPlacedAt {D : Type 0} (g : Ghosts D) (question : ResourceQuestion) (d : ResourceCreateDesc) (size made : ℕ) (a : Allocation) (result : Result Resource AllocationError) (mid : Slots)
+    (device : D) (new : Slots) (after : D) : Type 0 where
   pub answer : ResourceAnswer
   pub between : D
   pub asks : AsksResource g device question d None (Placed a.heap.0 a.offset made) answer between
   pub ends : EndsBy g d size a (number_or_refusal placed_texts answer) result mid between new after
 
 -- without a piece the device isn't asked
-abbrev pub PlacesBy : {D : Type 0} → Ghosts D → ResourceQuestion → ResourceCreateDesc → (size made : ℕ) → Result Allocation AllocationError → Result Resource AllocationError → Slots → D → Slots → D → Type 0
+abbrev pub PlacesBy : {D : Type 0} → Ghosts D → ResourceQuestion → ResourceCreateDesc → (size made : ℕ) → Result Allocation AllocationError → Result Resource AllocationError → Slots → D → Slots → D →
+    Type 0
 PlacesBy g question d size made (Err e) result mid device new after = (refusal_in result ≡ Some (refusal_of e)) × (new ≡ mid) × (after ≡ device)
 PlacesBy g question d size made (Ok a) result mid device new after = IsPlacedAt g question d size made a result mid device new after
 
 -- a piece is allocated, and then the device asked for the resource; `made` is the size of the device's entry
-pub record IsPlaced {D : Type 0} (g : Ghosts D) (setup : Setup) (budgets : Budgets) (question : ResourceQuestion) (d : ResourceCreateDesc) (p : AllocationCreateDesc) (made : ℕ) (old : Slots) (device : D) (result : Result Resource AllocationError) (new : Slots) (after : D) : Type 0 where
+pub record IsPlaced {D : Type 0} (g : Ghosts D) (setup : Setup) (budgets : Budgets) (question : ResourceQuestion) (d : ResourceCreateDesc) (p : AllocationCreateDesc) (made : ℕ) (old : Slots)
+    (device : D) (result : Result Resource AllocationError) (new : Slots) (after : D) : Type 0 where
   pub taken : Result Allocation AllocationError
   pub mid : Slots
   pub sound : BlocksWellFormed 1 mid

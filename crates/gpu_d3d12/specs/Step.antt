@@ -372,7 +372,8 @@ RepliesResource d (Ok r) (Made t piece number size) = IsMade d t piece number si
 RepliesResource d (Err e) (Fails refusal) = refusal_of e ≡ refusal
 RepliesResource d _ _ = ⊥
 
-pub record IsMadeBy {D : Type 0} (g : Ghosts D) (S : Environment → Reply → Contents → Contents → Type 0) (d : ResourceCreateDesc) (result : Result Resource AllocationError) (old new : State D) : Type 0 where
+pub record IsMadeBy {D : Type 0} (g : Ghosts D) (S : Environment → Reply → Contents → Contents → Type 0) (d : ResourceCreateDesc) (result : Result Resource AllocationError) (old new : State D) : Type
+    0 where
   pub reply : Reply
   pub step : IsStepBy g S reply old new
   pub replies : RepliesResource d result reply

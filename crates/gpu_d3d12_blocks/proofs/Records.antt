@@ -1,5 +1,6 @@
 -- Records of committed resources, by memory type: one memory type's change.
-use Rattle.std.proofs.Common.{◌≡◌, ◌≢◌, ◌∙◌, refl, sym, ap, subst, ℕ, zero, suc, ◌+◌, ◌^◌, ◌<◌, ◌≤◌, List, [], ◌∷◌, ◌++◌, length, map, slice_get, slice_set, slice_index_or, Some, None, Result, Ok, Err, nat_lt, true, false, arith, ⊎_elim}
+use Rattle.std.proofs.Common.{◌≡◌, ◌≢◌, ◌∙◌, refl, sym, ap, subst, ℕ, zero, suc, ◌+◌, ◌^◌, ◌<◌, ◌≤◌, List, [], ◌∷◌, ◌++◌, length, map, slice_get, slice_set, slice_index_or, Some, None, Result, Ok}
+use Rattle.std.proofs.Common.{Err, nat_lt, true, false, arith, ⊎_elim}
 use Rattle.std.specs.Prelude.{OnOk, OnErr, Vec, All}
 use Rattle.std.specs.Global.{Global}
 use Rattle.std.specs.List.{remove}
@@ -107,50 +108,54 @@ refused_reply texts (Granted n) r is = absurd (none_some r is)
 refused_reply texts (Declined code reason) r is = (ap Err (sym (some_same _ _ is)), refl)
 refused_reply texts Null r is = (ap Err (sym (some_same _ _ is)), refl)
 
-module _ {D : Type 0} (g : Ghosts D) (question : ResourceQuestion) (d : ResourceCreateDesc) (own : HeapProperties × HeapFlags) (entry : Entry) (size : ℕ) (old : List CommittedRecord) (device : D) where
-  pub too_much : (e : AllocationError) → refusal_of e ≡ out_of_memory → 2 ^ 64 ≤ total_size old + size → IsCommitted g question d own entry size old device (Err e) old device
-  too_much e why above = record {
-    host = true;
-    answer = None;
-    commits = subst (λ b. CommitsBy b true old size None (Err (refusal_of e)) old) (sym (fits_false old size above)) (refl, refl, ap Err why, refl);
-    asked = refl;
-  }
+module _ {D : Type 0} (g : Ghosts D) (question : ResourceQuestion) (d : ResourceCreateDesc) (own : HeapProperties × HeapFlags) (entry : Entry) (size : ℕ) (old : List CommittedRecord) (device : D)
+  where
+    pub too_much : (e : AllocationError) → refusal_of e ≡ out_of_memory → 2 ^ 64 ≤ total_size old + size → IsCommitted g question d own entry size old device (Err e) old device
+    too_much e why above = record {
+      host = true;
+      answer = None;
+      commits = subst (λ b. CommitsBy b true old size None (Err (refusal_of e)) old) (sym (fits_false old size above)) (refl, refl, ap Err why, refl);
+      asked = refl;
+    }
 
-  pub no_room : (e : AllocationError) → refusal_of e ≡ host_out_of_memory → total_size old + size < 2 ^ 64 → IsCommitted g question d own entry size old device (Err e) old device
-  no_room e why below = record {
-    host = false;
-    answer = None;
-    commits = subst (λ b. CommitsBy b false old size None (Err (refusal_of e)) old) (sym (fits_true old size below)) (refl, ap Err why, refl);
-    asked = refl;
-  }
+    pub no_room : (e : AllocationError) → refusal_of e ≡ host_out_of_memory → total_size old + size < 2 ^ 64 → IsCommitted g question d own entry size old device (Err e) old device
+    no_room e why below = record {
+      host = false;
+      answer = None;
+      commits = subst (λ b. CommitsBy b false old size None (Err (refusal_of e)) old) (sym (fits_true old size below)) (refl, ap Err why, refl);
+      asked = refl;
+    }
 
-  pub refused : (e : AllocationError) (answer : ResourceAnswer) (after : D) → total_size old + size < 2 ^ 64 → AsksResource g device question d (Some own) entry answer after
-      → resource_refusal committed_texts answer ≡ Some (refusal_of e) → IsCommitted g question d own entry size old device (Err e) old after
-  refused e answer after below asks why =
-      let told = refused_reply committed_texts answer (refusal_of e) why in
-      record {
-        host = true;
-        answer = Some answer;
-        commits =
-            subst (λ b. CommitsBy b true old size (Some answer) (Err (refusal_of e)) old) (sym (fits_true old size below)) (told.0, ap (with_record old size) (sym told.1));
-        asked = asks;
-      }
+    pub refused : (e : AllocationError) (answer : ResourceAnswer) (after : D) → total_size old + size < 2 ^ 64 → AsksResource g device question d (Some own) entry answer after
+        → resource_refusal committed_texts answer ≡ Some (refusal_of e) → IsCommitted g question d own entry size old device (Err e) old after
+    refused e answer after below asks why =
+        let told = refused_reply committed_texts answer (refusal_of e) why in
+        record {
+          host = true;
+          answer = Some answer;
+          commits =
+              subst (λ b. CommitsBy b true old size (Some answer) (Err (refusal_of e)) old) (sym (fits_true old size below)) (told.0, ap (with_record old size) (sym told.1));
+          asked = asks;
+        }
 
-  pub granted : (r : ID3D12Resource) (answer : ResourceAnswer) (after : D) (new : List CommittedRecord) → total_size old + size < 2 ^ 64 → AsksResource g device question d (Some own) entry answer after
-      → answer ≡ Granted r.0 → new ≡ old ++ record { resource = r; size = size } ∷ [] → IsCommitted g question d own entry size old device (Ok r) new after
-  granted r answer after new below asks is added = record {
-    host = true;
-    answer = Some answer;
-    commits =
-        subst (λ b. CommitsBy b true old size (Some answer) (Ok r.0) new) (sym (fits_true old size below))
-        (ap (number_or_refusal committed_texts) (sym is), added ∙ ap (λ (a : ResourceAnswer). with_record old size (resource_number a)) (sym is));
-    asked = asks;
-  }
+    pub granted : (r : ID3D12Resource) (answer : ResourceAnswer) (after : D) (new : List CommittedRecord) → total_size old + size < 2 ^ 64 → AsksResource g device question d (Some own) entry answer
+        after
+        → answer ≡ Granted r.0 → new ≡ old ++ record { resource = r; size = size } ∷ [] → IsCommitted g question d own entry size old device (Ok r) new after
+    granted r answer after new below asks is added = record {
+      host = true;
+      answer = Some answer;
+      commits =
+          subst (λ b. CommitsBy b true old size (Some answer) (Ok r.0) new) (sym (fits_true old size below))
+          (ap (number_or_refusal committed_texts) (sym is), added ∙ ap (λ (a : ResourceAnswer). with_record old size (resource_number a)) (sym is));
+      asked = asks;
+    }
 
 -- the same of a memory type whose vector was lent
-pub lent_committed : {D : Type 0} (g : Ghosts D) (question : ResourceQuestion) (d : ResourceCreateDesc) (own : HeapProperties × HeapFlags) (entry : Entry) (size : ℕ) (rows : Rows) (i : ℕ) (old : Committed) (v w : Vec CommittedRecord Global)
+pub lent_committed : {D : Type 0} (g : Ghosts D) (question : ResourceQuestion) (d : ResourceCreateDesc) (own : HeapProperties × HeapFlags) (entry : Entry) (size : ℕ) (rows : Rows) (i : ℕ)
+    (old : Committed) (v w : Vec CommittedRecord Global)
     (device : D) (result : Result ID3D12Resource AllocationError) (after : D) → i < length rows → v ≡ slice_index_or rows i v → lists rows ≡ old
-    → IsCommitted g question d own entry size v.items device result w.items after → IsCommitted g question d own entry size (records_at old i) device result (records_at (lists (slice_set rows i w)) i) after
+    → IsCommitted g question d own entry size v.items device result w.items after → IsCommitted g question d own entry size (records_at old i) device result
+    (records_at (lists (slice_set rows i w)) i) after
 lent_committed g question d own entry size rows i old v w device result after below read view h =
     subst (λ (rs : List CommittedRecord). IsCommitted g question d own entry size (records_at old i) device result rs after) (sym (row_after rows i w below))
     (subst (λ (rs : List CommittedRecord). IsCommitted g question d own entry size rs device result w.items after)

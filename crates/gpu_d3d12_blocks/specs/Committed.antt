@@ -48,7 +48,8 @@ number_or_refusal texts (Declined code reason) = Err (code_refusal texts code re
 number_or_refusal texts Null = Err (internal (codes "Allocation succeeded but no resource was returned?") None)
 
 -- the device after a question for a resource: untouched where it wasn't asked
-abbrev pub IsAfterResource : {D : Type 0} → Ghosts D → (old : D) → ResourceQuestion → ResourceCreateDesc → (memory : Option (HeapProperties × HeapFlags)) → Entry → Option ResourceAnswer → (new : D) → Type 0
+abbrev pub IsAfterResource : {D : Type 0} → Ghosts D → (old : D) → ResourceQuestion → ResourceCreateDesc → (memory : Option (HeapProperties × HeapFlags)) → Entry → Option ResourceAnswer → (new : D) →
+    Type 0
 IsAfterResource g old question d memory entry None new = new ≡ old
 IsAfterResource g old question d memory entry (Some answer) new = AsksResource g old question d memory entry answer new
 
@@ -78,7 +79,8 @@ abbrev pub Commits : (host : Bool) → List CommittedRecord → (size : ℕ) →
 Commits host old size answer reply new = CommitsBy (fits old size) host old size answer reply new
 
 -- the same over a device, which is asked with these heap properties and flags, and in whose map the resource has this entry
-pub record IsCommitted {D : Type 0} (g : Ghosts D) (question : ResourceQuestion) (d : ResourceCreateDesc) (own : HeapProperties × HeapFlags) (entry : Entry) (size : ℕ) (old : List CommittedRecord) (device : D) (result : Result ID3D12Resource AllocationError) (new : List CommittedRecord) (after : D) : Type 0 where
+pub record IsCommitted {D : Type 0} (g : Ghosts D) (question : ResourceQuestion) (d : ResourceCreateDesc) (own : HeapProperties × HeapFlags) (entry : Entry) (size : ℕ) (old : List CommittedRecord)
+    (device : D) (result : Result ID3D12Resource AllocationError) (new : List CommittedRecord) (after : D) : Type 0 where
   pub host : Bool
   pub answer : Option ResourceAnswer
   pub commits : Commits host old size answer (resource_reply result) new

@@ -67,7 +67,8 @@ IsAfter g old None new = new ≡ old
 IsAfter g old (Some a) new = AsksHeap g old a.desc a.answer new
 
 -- what a request for a piece of the t-th memory type comes to
-pub record IsSuballocated {D : Type 0} (g : Ghosts D) (setup : Setup) (budgets : Budgets) (t : ℕ) (d : AllocationCreateDesc) (old : Slots) (device : D) (result : Result (Piece ID3D12Heap) AllocationError) (new : Slots) (after : D) : Type 0 where
+pub record IsSuballocated {D : Type 0} (g : Ghosts D) (setup : Setup) (budgets : Budgets) (t : ℕ) (d : AllocationCreateDesc) (old : Slots) (device : D)
+    (result : Result (Piece ID3D12Heap) AllocationError) (new : Slots) (after : D) : Type 0 where
   pub environment : AttemptEnvironment
   pub allocates : AllocatesInType (request_at setup budgets t d) old environment.host (asked_block environment.asked) (answer_of result) new
   pub asked_for : IsAskedFor setup t environment.asked

@@ -44,7 +44,8 @@ IsReasonTold told Null = Unit {0}
 
 -- the device was asked for a resource by this question, with these heap properties and flags for a committed one, and answered so; the
 -- entry is the one that a new resource has
-pub record AsksResource {D : Type 0} (g : Ghosts D) (old : D) (question : ResourceQuestion) (d : ResourceCreateDesc) (memory : Option (HeapProperties × HeapFlags)) (entry : Entry) (answer : ResourceAnswer) (new : D) : Type 0 where
+pub record AsksResource {D : Type 0} (g : Ghosts D) (old : D) (question : ResourceQuestion) (d : ResourceCreateDesc) (memory : Option (HeapProperties × HeapFlags)) (entry : Entry)
+    (answer : ResourceAnswer) (new : D) : Type 0 where
   pub number : IsNew (g.held old) (resource_number answer)
   pub held : g.held new ≡ with_granted (g.held old) (resource_number answer) entry
   pub count : g.refused new ≡ counted (g.refused old) (resource_number answer)

@@ -3,7 +3,8 @@ use Rattle.std.proofs.Common.{◌≡◌, ◌≢◌, ℕ, List, length, Option, S
 use Rattle.std.proofs.lemmas.Bool.{cases_eq}
 use Rattle.std.specs.FinMap.{get, insert, remove}
 use Rattle.gpu_device.specs.declared.vulkan.types.MemoryAllocateInfo.{MemoryAllocateInfo}
-use Rattle.gpu_device.specs.Held.{Entry, Held, HasRange, IsUnmapped, IsUnmappedEntry, entry_bytes, entry_size, bytes_of, size_of, new_entry, with_bytes, map_entry, mapped_with, unmap_entry, unmapped, put_entry, with_range}
+use Rattle.gpu_device.specs.Held.{Entry, Held, HasRange, IsUnmapped, IsUnmappedEntry, entry_bytes, entry_size, bytes_of, size_of, new_entry, with_bytes, map_entry, mapped_with, unmap_entry}
+use Rattle.gpu_device.specs.Held.{unmapped, put_entry, with_range}
 use Rattle.gpu_device.proofs.Maps.{held_alike, remove-insert, get-insert_same, get-insert_other, get-remove_same, get-remove_other}
 
 -- ---- a new memory
@@ -107,4 +108,20 @@ pub remove-written : (h : Held) (n start : ℕ) (ws : List ℕ) → remove (with
 remove-written h n start ws = remove_alike (with_range h n start ws) h n (λ m ne. put_other h n (get h n) start ws m ne)
 
 -- what a caller at any device needs of the calls' clauses
-pub ruleset changes = (new_is_unmapped, size-new, get-mapped_other, bytes-mapped, size-mapped, range_mapped, get-unmapped_other, remove-mapped, remove-unmapped, remove-written, remove-insert, get-insert_same, get-insert_other, get-remove_same, get-remove_other)
+pub ruleset changes = (
+  new_is_unmapped,
+  size-new,
+  get-mapped_other,
+  bytes-mapped,
+  size-mapped,
+  range_mapped,
+  get-unmapped_other,
+  remove-mapped,
+  remove-unmapped,
+  remove-written,
+  remove-insert,
+  get-insert_same,
+  get-insert_other,
+  get-remove_same,
+  get-remove_other,
+)

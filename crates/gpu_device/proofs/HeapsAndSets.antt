@@ -4,7 +4,8 @@ use Rattle.std.proofs.lemmas.Bool.{cases_eq}
 use Rattle.std.specs.FinMap.{get, insert}
 use Rattle.gpu_device.specs.declared.metal.types.HeapDescriptor.{HeapDescriptor}
 use Rattle.gpu_device.specs.declared.metal.types.MTLHeap.{MTLHeap}
-use Rattle.gpu_device.specs.Metal.{Entry, Heap, Set, Held, IsHeapEntry, IsHeap, IsSetEntry, IsSet, remove_if_heap, without_heap, change_set, with_member, without_member, with_commit, add_member, remove_member}
+use Rattle.gpu_device.specs.Metal.{Entry, Heap, Set, Held, IsHeapEntry, IsHeap, IsSetEntry, IsSet, remove_if_heap, without_heap, change_set, with_member, without_member, with_commit, add_member}
+use Rattle.gpu_device.specs.Metal.{remove_member}
 use Rattle.gpu_device.proofs.Maps.{remove-insert, get-insert_same, get-insert_other, get-remove_other}
 
 heap_other : (h : Held) (n : ℕ) (x : Option Entry) (m : ℕ) → m ≢ n → get (remove_if_heap h n x) m ≡ get h m
@@ -108,7 +109,18 @@ pub insert-is_set : (h : Held) (n : ℕ) (members committed : List MTLHeap) → 
 insert-is_set h n members committed = subst IsSetEntry (sym (get-insert_same h n (Set members committed))) tt
 
 -- what a caller at any device needs of the calls' clauses
-pub ruleset metal_changes = (get-insert_same, get-insert_other, get-without_heap_other, get-with_member_other, get-without_member_other, get-with_commit_other, heap_undone, get-with_member, get-without_member, get-with_commit)
+pub ruleset metal_changes = (
+  get-insert_same,
+  get-insert_other,
+  get-without_heap_other,
+  get-with_member_other,
+  get-without_member_other,
+  get-with_commit_other,
+  heap_undone,
+  get-with_member,
+  get-without_member,
+  get-with_commit,
+)
 
 -- what is new is a heap or a set, and what was one stays one
 pub ruleset metal_kinds = (insert-is_heap, insert-is_set, with_member-keeps_heap, with_member-keeps_set, without_member-keeps_heap, without_member-keeps_set, insert-keeps_heap, insert-keeps_set)

@@ -5,7 +5,8 @@ use Rattle.gpu_core.specs.Request.{Request}
 use Rattle.gpu_core.specs.TypeState.{Slot}
 use Rattle.gpu_core.specs.TypeTake.{Ready}
 use Rattle.gpu_core.specs.declared.memory_type.Piece.{Piece}
-use Rattle.gpu_memory_types.specs.Attempt.{RequestAt, type_asked, BlockResult, Allocated, NotAllocated, AskedBlock, Plan, NoHostMemory, SharedBlock, NewBlock, IsPlan, Gave, IsAfterResult, IsCarriedOut, AllocatesInType}
+use Rattle.gpu_memory_types.specs.Attempt.{RequestAt, type_asked, BlockResult, Allocated, NotAllocated, AskedBlock, Plan, NoHostMemory, SharedBlock, NewBlock, IsPlan, Gave, IsAfterResult}
+use Rattle.gpu_memory_types.specs.Attempt.{IsCarriedOut, AllocatesInType}
 use Rattle.gpu_memory_types.specs.Blocks.{Slots, slots_at, total_capacity}
 use Rattle.gpu_memory_types.proofs.OneOutcome.{gave_refused}
 use Rattle.gpu_memory_types.proofs.StayLive.{gave_same}
@@ -29,7 +30,8 @@ module _ {H : Type 0} (q : RequestAt) (old : Slots H) where
   at_offset : (p r : Piece H) (o : ℕ) → Gave p ≡ Gave r → r.offset ≡ o → IsAligned o a → IsAligned p.offset a
   at_offset p r o same begins fits = subst (λ k. IsAligned k a) (sym (ap (λ (z : Piece H). z.offset) (gave_same p r same) ∙ begins)) fits
 
-  granted_aligned : (own : Bool) (ready : Ready) (g : BlockResult H) (p : Piece H) (x : List (Option (Slot H))) → IsAligned ready.offset a → IsAfterResult (slots_at old q.memory_type) own ready g (Gave p) x → IsAligned p.offset a
+  granted_aligned : (own : Bool) (ready : Ready) (g : BlockResult H) (p : Piece H) (x : List (Option (Slot H))) → IsAligned ready.offset a → IsAfterResult (slots_at old q.memory_type) own ready g
+      (Gave p) x → IsAligned p.offset a
   granted_aligned own ready (NotAllocated refusal) p x fits s = absurd (gave_refused p refusal s.0)
   granted_aligned own ready (Allocated n) p x fits s = at_offset p s.0 ready.offset s.1 s.2.piece.0 fits
 

@@ -1,5 +1,6 @@
 -- What a call of one memory type is among all of them.
-use Rattle.std.proofs.Common.{◌≡◌, ◌≢◌, ◌∙◌, refl, sym, ap, subst, ℕ, zero, suc, [], ◌∷◌, ◌<◌, Bool, List, length, slice_get, slice_set, Option, Some, None, Ok, Err, Result, arith, inl, inr, IsTrue, IfOk, IfErr, OnOk, OnErr}
+use Rattle.std.proofs.Common.{◌≡◌, ◌≢◌, ◌∙◌, refl, sym, ap, subst, ℕ, zero, suc, [], ◌∷◌, ◌<◌, Bool, List, length, slice_get, slice_set, Option, Some, None, Ok, Err, Result, arith, inl, inr}
+use Rattle.std.proofs.Common.{IsTrue, IfOk, IfErr, OnOk, OnErr}
 use Rattle.std.proofs.Common.{get_or}
 use Rattle.std.proofs.lemmas.Option.{slice_get-get_or}
 use Rattle.gpu_values.specs.Refusal.{Refusal, refusal_of}

@@ -6,7 +6,8 @@ use Rattle.gpu_core.specs.Block.{Block, free_list, dedicated, size_of, TakesIn}
 use Rattle.gpu_core.specs.Request.{Request}
 use Rattle.gpu_core.specs.TypeState.{Slot}
 use Rattle.gpu_core.specs.TypeTake.{Ready, fresh_block}
-use Rattle.gpu_memory_types.specs.Attempt.{RequestAt, type_asked, BlockResult, Allocated, NotAllocated, AskedBlock, Plan, NoHostMemory, SharedBlock, NewBlock, IsPlan, Answer, IsAfterResult, IsCarriedOut, AllocatesInType, IsEntryOf, HoldsResult, HoldsAsked}
+use Rattle.gpu_memory_types.specs.Attempt.{RequestAt, type_asked, BlockResult, Allocated, NotAllocated, AskedBlock, Plan, NoHostMemory, SharedBlock, NewBlock, IsPlan, Answer, IsAfterResult}
+use Rattle.gpu_memory_types.specs.Attempt.{IsCarriedOut, AllocatesInType, IsEntryOf, HoldsResult, HoldsAsked}
 use Rattle.gpu_memory_types.specs.Blocks.{Slots, slots_at, total_capacity}
 use Rattle.gpu_memory_types.specs.Held.{HasEntry, HoldsBlocks}
 use Rattle.gpu_memory_types.proofs.Holding.{changed_holds, added_holds}

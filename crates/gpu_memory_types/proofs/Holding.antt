@@ -26,7 +26,8 @@ resized : {E : Type 0} (IsEntry : (t size : ℕ) → E → Type 0) (t : ℕ) (a 
 resized IsEntry t a b None same entry = entry
 resized IsEntry t a b (Some e) same entry = subst (λ n. IsEntry t n e) (sym same) entry
 
-module _ {H E : Type 0} (number_of : H → ℕ) (IsEntry : (t size : ℕ) → E → Type 0) (first held : FinMap nat_cmp E) (old new : Slots H) (t i : ℕ) (a b : Slot H) (at : block_at old t i ≡ Some a) (only : OnlyBlock old t i (Some b) new)
+module _ {H E : Type 0} (number_of : H → ℕ) (IsEntry : (t size : ℕ) → E → Type 0) (first held : FinMap nat_cmp E) (old new : Slots H) (t i : ℕ) (a b : Slot H) (at : block_at old t i ≡ Some a)
+    (only : OnlyBlock old t i (Some b) new)
     (number : b.number ≡ a.number) (size : size_of b.block ≡ size_of a.block) (h : HoldsBlocks number_of IsEntry first held old) where
   -- a live block of the new slots was one before, of the same number and size
   before : (u j : ℕ) (s : Slot H) → block_at new u j ≡ Some s
@@ -66,7 +67,8 @@ module _ {H E : Type 0} (number_of : H → ℕ) (IsEntry : (t size : ℕ) → E 
     others = λ n none. h.others n (λ u j r found is. let s = after u j r found in none u j s.0 s.1 (ap number_of s.2 ∙ is));
   }
 
-module _ {H E : Type 0} (number_of : H → ℕ) (IsEntry : (t size : ℕ) → E → Type 0) (first held now : FinMap nat_cmp E) (old new : Slots H) (t i : ℕ) (b : Slot H) (empty : block_at old t i ≡ None) (only : OnlyBlock old t i (Some b) new)
+module _ {H E : Type 0} (number_of : H → ℕ) (IsEntry : (t size : ℕ) → E → Type 0) (first held now : FinMap nat_cmp E) (old new : Slots H) (t i : ℕ) (b : Slot H) (empty : block_at old t i ≡ None)
+    (only : OnlyBlock old t i (Some b) new)
     (fresh : get held (number_of b.number) ≡ None) (entry : HasEntry IsEntry t b.block (get now (number_of b.number))) (same : (n : ℕ) → n ≢ (number_of b.number) → get now n ≡ get held n)
     (h : HoldsBlocks number_of IsEntry first held old) where
   -- a live block of the new slots is the new one, or was one before
@@ -116,7 +118,8 @@ module _ {H E : Type 0} (number_of : H → ℕ) (IsEntry : (t size : ℕ) → E 
     others = λ n out. same n (λ is. out t i b only.at (sym is)) ∙ h.others n (λ u j r found is. out u j r (stays u j r found) is);
   }
 
-module _ {H E : Type 0} (number_of : H → ℕ) (IsEntry : (t size : ℕ) → E → Type 0) (first held now : FinMap nat_cmp E) (old new : Slots H) (t i : ℕ) (a : Slot H) (at : block_at old t i ≡ Some a) (only : OnlyBlock old t i None new)
+module _ {H E : Type 0} (number_of : H → ℕ) (IsEntry : (t size : ℕ) → E → Type 0) (first held now : FinMap nat_cmp E) (old new : Slots H) (t i : ℕ) (a : Slot H) (at : block_at old t i ≡ Some a)
+    (only : OnlyBlock old t i None new)
     (went : now ≡ remove held (number_of a.number)) (h : HoldsBlocks number_of IsEntry first held old) where
   -- a live block of the new slots was one before, and isn't the one that went
   left : (u j : ℕ) (s : Slot H) → block_at new u j ≡ Some s → (block_at old u j ≡ Some s) × ((number_of s.number) ≢ (number_of a.number))

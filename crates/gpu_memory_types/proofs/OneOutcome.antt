@@ -6,7 +6,8 @@ use Rattle.gpu_core.specs.TypeTake.{Ready}
 use Rattle.gpu_core.specs.Refusal.{Refusal}
 use Rattle.gpu_core.specs.declared.memory_type.Piece.{Piece}
 use Rattle.gpu_core.proofs.OneOutcome.{prepared_once, needed_once, serves_or_needs, installed_once}
-use Rattle.gpu_memory_types.specs.Attempt.{RequestAt, type_asked, BlockResult, Allocated, NotAllocated, AskedBlock, Plan, NoHostMemory, SharedBlock, NewBlock, IsPlan, Answer, Gave, Refused, IsAfterResult, IsCarriedOut, AllocatesInType}
+use Rattle.gpu_memory_types.specs.Attempt.{RequestAt, type_asked, BlockResult, Allocated, NotAllocated, AskedBlock, Plan, NoHostMemory, SharedBlock, NewBlock, IsPlan, Answer, Gave, Refused}
+use Rattle.gpu_memory_types.specs.Attempt.{IsAfterResult, IsCarriedOut, AllocatesInType}
 use Rattle.gpu_memory_types.specs.Blocks.{Slots, slots_at, total_capacity, BlocksWellFormed}
 use Rattle.gpu_memory_types.specs.Budgets.{block_refusal}
 use Rattle.gpu_memory_types.proofs.Options.{some_same}
@@ -89,7 +90,8 @@ carried_same used budget old (SharedBlock p after) (Some a) r new c = absurd c
 carried_same used budget old (NewBlock size own ready) None r new c = c.3
 carried_same used budget old (NewBlock size own ready) (Some a) r new c = granted_same old own ready a.result r new c.2
 
-pub refused_same : {H : Type 0} (q : RequestAt) (old : Slots H) (host : Bool) (asked : Option (AskedBlock H)) (r : Refusal) (new : Slots H) → AllocatesInType q old host asked (Refused r) new → new ≡ old
+pub refused_same : {H : Type 0} (q : RequestAt) (old : Slots H) (host : Bool) (asked : Option (AskedBlock H)) (r : Refusal) (new : Slots H) → AllocatesInType q old host asked (Refused r) new → new ≡
+    old
 refused_same q old host asked r new a =
     a.slots
     ∙ ap (slice_set old q.memory_type) (carried_same (total_capacity old) q.budget (slots_at old q.memory_type) a.plan asked r a.left a.is_carried_out)

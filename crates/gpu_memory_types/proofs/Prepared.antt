@@ -92,7 +92,8 @@ module _ {H : Type 0} (i : ℕ) (types : Types H) (sizes : Sizes) (r : type_requ
       let after = (type_of new i).slots in
       record {
         plan = SharedBlock p after;
-        is_plan = subst (λ ss. IsPlan q (record { is_host = t.is_host; granularity = t.granularity; slots = ss; room = 0; budget = t.budget }) true (SharedBlock p after)) here (refl, h.prepares.0, h.prepares.1);
+        is_plan = subst (λ ss. IsPlan q (record { is_host = t.is_host; granularity = t.granularity; slots = ss; room = 0; budget = t.budget }) true (SharedBlock p after)) here
+            (refl, h.prepares.0, h.prepares.1);
         left = after;
         is_carried_out = (refl, refl);
         slots = h.slots;

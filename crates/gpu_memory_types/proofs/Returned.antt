@@ -48,7 +48,8 @@ module _ {H E : Type 0} (number_of : H → ℕ) where
       let one : suc i + 1 ≡ suc (i + 1) = omega arith in
       ap (λ k. without number_of held (take k (s ∷ ss))) one ∙ without_next (without_block number_of held (block_number s)) ss i (omega (arith, below))
 
-  pub without_all_next : (held : FinMap nat_cmp E) (ss : Slots H) (t : ℕ) → t < length ss → without_all number_of held (take (t + 1) ss) ≡ without number_of (without_all number_of held (take t ss)) (slots_at ss t)
+  pub without_all_next : (held : FinMap nat_cmp E) (ss : Slots H) (t : ℕ) → t < length ss → without_all number_of held (take (t + 1) ss) ≡ without number_of (without_all number_of held (take t ss))
+      (slots_at ss t)
   without_all_next held [] t below = absurd (omega (arith, below))
   without_all_next held (s ∷ ss) zero below = refl
   without_all_next held (s ∷ ss) (suc t) below =

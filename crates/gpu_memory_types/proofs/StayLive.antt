@@ -15,7 +15,8 @@ use Rattle.gpu_core.proofs.EmptyBlocks.{takes_holds, holds_some}
 use Rattle.gpu_core.proofs.Finding.{only_one}
 use Rattle.gpu_core.proofs.Slotted.{set_only}
 use Rattle.gpu_block_pieces.proofs.Live.{takes_keeps, takes_new_number, releases_keeps}
-use Rattle.gpu_memory_types.specs.Attempt.{RequestAt, type_asked, BlockResult, Allocated, NotAllocated, AskedBlock, Plan, NoHostMemory, SharedBlock, NewBlock, IsPlan, Answer, Gave, Refused, IsAfterResult, IsCarriedOut, AllocatesInType}
+use Rattle.gpu_memory_types.specs.Attempt.{RequestAt, type_asked, BlockResult, Allocated, NotAllocated, AskedBlock, Plan, NoHostMemory, SharedBlock, NewBlock, IsPlan, Answer, Gave, Refused}
+use Rattle.gpu_memory_types.specs.Attempt.{IsAfterResult, IsCarriedOut, AllocatesInType}
 use Rattle.gpu_memory_types.specs.Blocks.{Slots, slots_at, block_at, total_capacity, BlocksWellFormed}
 use Rattle.gpu_memory_types.specs.Live.{IsLiveIn}
 use Rattle.gpu_memory_types.proofs.OneOutcome.{gave_refused}
@@ -175,7 +176,8 @@ module _ {H : Type 0} (eq : H → H → Bool) (granularity t : ℕ) (old : Slots
   n = non_zero_u64_get p.number
 
   left_by : (several : Type 0) (a b : Option (Slot H)) (went : Option H) → block_at old t p.slot ≡ a → SlotReleases several n a went b
-      → (u : ℕ) (z : Piece H) → (u ≡ t → z.slot ≡ p.slot → non_zero_u64_get z.number ≡ n → ⊥) → IsLiveIn eq old u (Some z) → IsLiveIn eq (slice_set old t (slice_set (slots_at old t) p.slot b)) u (Some z)
+      → (u : ℕ) (z : Piece H) → (u ≡ t → z.slot ≡ p.slot → non_zero_u64_get z.number ≡ n → ⊥) → IsLiveIn eq old u (Some z) → IsLiveIn eq (slice_set old t (slice_set (slots_at old t) p.slot b)) u
+      (Some z)
   left_by several None b went at rel u z other live = absurd rel
   left_by several (Some a) (Some b) went at rel u z other live =
       let slots = slots_at old t in

@@ -12,7 +12,8 @@ use Rattle.gpu_core.specs.declared.memory_type.Piece.{Piece}
 use Rattle.gpu_memory_types.specs.Blocks.{Slots, slots_at, total_capacity}
 use Rattle.gpu_memory_types.specs.Budgets.{block_refusal}
 
--- a request at one of an allocator's memory types: its index, whether its blocks are of the host's sizes, its page size and budget, the sizes of blocks, and whether the request wants a block of its own
+-- a request at one of an allocator's memory types: its index, whether its blocks are of the host's sizes, its page size and budget, the sizes of blocks, and whether the request wants a block of its
+-- own
 pub record RequestAt : Type 0 where
   pub memory_type : ℕ
   pub is_host : Bool

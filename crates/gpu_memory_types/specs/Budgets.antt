@@ -16,7 +16,8 @@ budgets types = map (λ t. t.budget) types
 abbrev pub budget_at : Budgets → (t : ℕ) → Option ℕ
 budget_at budgets t = slice_index_or budgets t None
 
--- why the device isn't asked for a new block of that size, where all blocks sum up to `used` and those of its memory type to `capacity`: their sum would pass 64 bits, else that of its type the budget
+-- why the device isn't asked for a new block of that size, where all blocks sum up to `used` and those of its memory type to `capacity`: their sum would pass 64 bits, else that of its type the
+-- budget
 abbrev pub block_refusal : (used : ℕ) → (budget : Option ℕ) → (capacity size : ℕ) → Option Refusal
 block_refusal used budget capacity size =
     if nat_lt (used + size) (2 ^ 64) then (if fits_budget budget (capacity + size) then None else Some budget_exceeded) else Some out_of_memory

@@ -76,7 +76,8 @@ module _ {D : Type 0} (g : Ghosts D) (setup : Setup) (i : ℕ) (d : AllocationCr
         → IsSuballocated g setup (budgets types) i d ss device (Err e) (slots_of mid) after
     device_refused e why asks_it = record {
       environment = record { host = true; asked = Some (record { desc = heap_descriptor l; size = need.size; answer = None }) };
-      allocates = subst (λ f. AllocatesInType (request_at setup (budgets types) i d) ss true (Some (record { size = need.size; result = NotAllocated heap_refusal })) (Refused f) (slots_of mid)) (sym why)
+      allocates = subst (λ f. AllocatesInType (request_at setup (budgets types) i d) ss true (Some (record { size = need.size; result = NotAllocated heap_refusal })) (Refused f) (slots_of mid))
+          (sym why)
           (subst (λ (q : RequestAt). AllocatesInType q ss true (Some (record { size = need.size; result = NotAllocated heap_refusal })) (Refused heap_refusal) (slots_of mid)) request_is
           (prepares.block_declined i types setup.sizes r below need mid h heap_refusal));
       asked_for = asked_kind i l at;

@@ -27,7 +27,8 @@ use Rattle.gpu_metal.proofs.Steps.{served_step, released_step, dead_step, commit
 abbrev pub after : {D : Type 0} → State D → D → Slots → Budgets → State D
 after old device slots budgets = record { device = device; first = old.first; setup = old.setup; slots = slots; budgets = budgets }
 
-module _ {D : Type 0} (g : Ghosts D) (old : State D) (device : D) (slots : Slots) (bs : Budgets) (same : bs ≡ old.budgets) (h : HoldsJustLiveBlocks old.setup.residency_set (g.held old.first) (g.held old.device) old.slots) where
+module _ {D : Type 0} (g : Ghosts D) (old : State D) (device : D) (slots : Slots) (bs : Budgets) (same : bs ≡ old.budgets)
+    (h : HoldsJustLiveBlocks old.setup.residency_set (g.held old.first) (g.held old.device) old.slots) where
   abbrev set : Option MTLResidencySet
   set = old.setup.residency_set
 

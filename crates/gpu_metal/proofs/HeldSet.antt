@@ -63,7 +63,8 @@ new_block first held slots h heap b = ap (λ (x : MTLHeap). get first x.0) (sym 
 -- ---- the members
 
 -- what is held as before leaves the live blocks' heaps
-pub members_same : (first held now : Held) (old new : Slots) (members : List MTLHeap) → now ≡ held → Holds first held old → Holds first now new → AreHeapsOfBlocks members old → AreHeapsOfBlocks members new
+pub members_same : (first held now : Held) (old new : Slots) (members : List MTLHeap) → now ≡ held → Holds first held old → Holds first now new → AreHeapsOfBlocks members old → AreHeapsOfBlocks
+    members new
 members_same first held now old new members same h k m =
     let moved : Holds first held new = subst (λ (x : Held). Holds first x new) same k in
     record {
@@ -78,7 +79,8 @@ members_same first held now old new members same h k m =
     }
 
 -- a heap more
-module _ (first held : Held) (old new : Slots) (members : List MTLHeap) (x : MTLHeap) (e : Entry) (fresh : get held x.0 ≡ None) (h : Holds first held old) (k : Holds first (insert held x.0 e) new) (m : AreHeapsOfBlocks members old) where
+module _ (first held : Held) (old new : Slots) (members : List MTLHeap) (x : MTLHeap) (e : Entry) (fresh : get held x.0 ≡ None) (h : Holds first held old) (k : Holds first (insert held x.0 e) new)
+    (m : AreHeapsOfBlocks members old) where
   out : In members x → ⊥
   out is =
       let f = held_block first held old h x (m.live x (contains_of members x is)) in
@@ -126,7 +128,8 @@ module _ (first held : Held) (old new : Slots) (members : List MTLHeap) (x : MTL
       })
 
 -- a heap less
-module _ (first held : Held) (old new : Slots) (members : List MTLHeap) (x : MTLHeap) (block : IsBlockHeap old x) (h : Holds first held old) (k : Holds first (remove held x.0) new) (m : AreHeapsOfBlocks members old) where
+module _ (first held : Held) (old new : Slots) (members : List MTLHeap) (x : MTLHeap) (block : IsBlockHeap old x) (h : Holds first held old) (k : Holds first (remove held x.0) new)
+    (m : AreHeapsOfBlocks members old) where
   pub members_removed : AreHeapsOfBlocks (remove_member members x) new
   members_removed = record {
     live = λ heap is.

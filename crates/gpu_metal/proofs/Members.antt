@@ -1,5 +1,6 @@
 -- Lists of heaps, as one is added or taken out.
-use Rattle.std.proofs.Common.{◌≡◌, ◌≢◌, ◌∙◌, ◌<◌, ◌⊎◌, ◌||◌, refl, sym, ap, subst, ℕ, zero, suc, Bool, true, false, cond, if◌then◌else◌, nat_eq, not, List, [], ◌∷◌, ◌++◌, length, filter, Contains, inl, inr, ⊎_elim, arith}
+use Rattle.std.proofs.Common.{◌≡◌, ◌≢◌, ◌∙◌, ◌<◌, ◌⊎◌, ◌||◌, refl, sym, ap, subst, ℕ, zero, suc, Bool, true, false, cond, if◌then◌else◌, nat_eq, not, List, [], ◌∷◌, ◌++◌, length, filter, Contains}
+use Rattle.std.proofs.Common.{inl, inr, ⊎_elim, arith}
 use Rattle.std.specs.List.{AllByRecursion, IsDistinct, list_any, slice_index_or}
 use Rattle.gpu_block_pieces.proofs.Live.{here, there}
 use Rattle.gpu_device.specs.Metal.{add_member, remove_member}

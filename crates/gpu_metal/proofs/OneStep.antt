@@ -19,7 +19,8 @@ use Rattle.gpu_metal.specs.Attempt.{AttemptEnvironment, asked_block, request_at}
 use Rattle.gpu_metal.specs.Blocks.{is_same_heap}
 use Rattle.gpu_metal.specs.Live.{piece_of}
 use Rattle.gpu_metal.specs.State.{Model}
-use Rattle.gpu_metal.specs.Step.{Call, Allocate, Free, Commit, SetBudget, Budget, Capacity, LiveHeaps, Report, Reply, Given, Fails, Done, Sum, Lists, Shows, Budgeted, left, reply_of, ServeStep, AllocateStep, ReleaseStep, FreeStep, SetBudgetStep, ReportStep, Step}
+use Rattle.gpu_metal.specs.Step.{Call, Allocate, Free, Commit, SetBudget, Budget, Capacity, LiveHeaps, Report, Reply, Given, Fails, Done, Sum, Lists, Shows, Budgeted, left, reply_of, ServeStep}
+use Rattle.gpu_metal.specs.Step.{AllocateStep, ReleaseStep, FreeStep, SetBudgetStep, ReportStep, Step}
 
 alike : (a b : Model) → a.slots ≡ b.slots → a.budgets ≡ b.budgets → a.residency ≡ b.residency → a ≡ b
 alike a b slots budgets residency = λ i. record { slots = slots i; budgets = budgets i; residency = residency i }

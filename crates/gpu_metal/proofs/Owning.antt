@@ -70,6 +70,7 @@ frees_by g set old device a (Ok u) new after sound f b live other =
     b.memory_type_index (piece_of b) (λ type slot number. other type slot number) live)
 
 -- a free leaves every other live allocation live
-pub frees_others : {D : Type 0} (g : Ghosts D) (set : Option MTLResidencySet) (old : Slots) (device : D) (a : Allocation) (result : Result (Unit {0}) (AllocationError × Allocation)) (new : Slots) (after : D)
+pub frees_others : {D : Type 0} (g : Ghosts D) (set : Option MTLResidencySet) (old : Slots) (device : D) (a : Allocation) (result : Result (Unit {0}) (AllocationError × Allocation)) (new : Slots)
+    (after : D)
     → BlocksWellFormed 1 old → Frees g set a old device result new after → (b : Allocation) → IsLive old b → AreDistinct b a → IsLive new b
 frees_others g set old device a result new after sound f = frees_by g set old device a result new after sound f

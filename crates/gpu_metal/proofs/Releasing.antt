@@ -34,7 +34,8 @@ went_live several n None b m rel = absurd rel
 went_live several n (Some a) (Some b) m rel = absurd (none_some m (sym rel.0))
 went_live several n (Some a) None m rel = (a, refl, sym (some_same m a.number rel.0))
 
-pub went_block : (t : ℕ) (old : Slots) (p : Piece MTLHeap) (m : MTLHeap) (after : List (Option (Slot MTLHeap))) → ReleasesPiece (IsTrue (has_several (slots_at old t))) (slots_at old t) p (Some m) after → IsBlockHeap old m
+pub went_block : (t : ℕ) (old : Slots) (p : Piece MTLHeap) (m : MTLHeap) (after : List (Option (Slot MTLHeap))) → ReleasesPiece (IsTrue (has_several (slots_at old t))) (slots_at old t) p (Some m)
+    after → IsBlockHeap old m
 went_block t old p m after r = let live = went_live _ _ (block_at old t p.slot) r.slot m r.releases in (t, p.slot, live.0, live.1, live.2)
 
 -- a block that goes is a heap's
@@ -87,7 +88,8 @@ module _ (set : MTLResidencySet) (first held : Held) (old new : Slots) (h : Hold
     goes : IsBlockHeap old heap → without_heap (with_left held (Some set) heap) heap.0 ≡ remove held_less heap.0
     goes block = ap (λ x. without_heap x heap.0) leaves ∙ heap_goes held_less heap.0 (went_heap held_less old heap (are_heaps own_less held_less old less) block)
 
-    set_shrinks : (now : Held) → IsBlockHeap old heap → now ≡ without_heap (with_left held (Some set) heap) heap.0 → Holds own_less (remove held_less heap.0) new → After (Some set) first held now new (Some heap)
+    set_shrinks : (now : Held) → IsBlockHeap old heap → now ≡ without_heap (with_left held (Some set) heap) heap.0 → Holds own_less (remove held_less heap.0) new → After (Some set) first held now new
+        (Some heap)
     set_shrinks now block is k =
         let fewer : Residency = record { members = rest; committed = committed } in
         let blocks : Holds own_less now new = subst (λ x. Holds own_less x new) (sym (is ∙ goes block)) k in

@@ -156,7 +156,8 @@ module _ (set : MTLResidencySet) (first held : Held) (old new : Slots) (h : Hold
         record { new = h.new; residency = more; members = members_added own held old new members heap e fresh h.blocks k h.members; blocks = blocks } in
         (after, residency_is set first now new after ∙ ap (λ r. joined r (Some heap)) (sym (residency_is set first held old h)))
 
-served : (set : Option MTLResidencySet) (first held now : Held) (old new : Slots) (x : Option (MTLHeap × Entry)) → now ≡ with_grant set held x → IsFresh held x → HoldsJustLiveBlocks set first held old
+served : (set : Option MTLResidencySet) (first held now : Held) (old new : Slots) (x : Option (MTLHeap × Entry)) → now ≡ with_grant set held x → IsFresh held x → HoldsJustLiveBlocks set first held
+    old
     → ((own : Held) → Holds own held old → Holds own (with_heap held x) new) → After set first held now new (heap_of x)
 served None first was now old new None is fresh h k = (subst (λ y. Holds first y new) (sym is) (k first h), refl)
 served None first was now old new (Some x) is fresh h k = (subst (λ y. Holds first y new) (sym is) (k first h), refl)
@@ -164,7 +165,8 @@ served (Some set) first was now old new None is fresh h k = set_same set first w
 served (Some set) first was now old new (Some x) is fresh h k = set_grows set first was old new h x.0 x.1 fresh (k _ h.blocks) now is
 
 -- an attempt
-pub attempt_holds : {D : Type 0} (g : Ghosts D) (setup : Setup) (budgets : Budgets) (t : ℕ) (d : AllocationCreateDesc) (first : Held) (old : Slots) → t < length old → (device : D) (result : Result Allocation AllocationError) (new : Slots) (after : D)
+pub attempt_holds : {D : Type 0} (g : Ghosts D) (setup : Setup) (budgets : Budgets) (t : ℕ) (d : AllocationCreateDesc) (first : Held) (old : Slots) → t < length old → (device : D)
+    (result : Result Allocation AllocationError) (new : Slots) (after : D)
     → (a : IsAttempt g setup budgets t d old device result new after) → HoldsJustLiveBlocks setup.residency_set first (g.held device) old
     → HoldsJustLiveBlocks setup.residency_set first (g.held after) new × (g.properties after ≡ g.properties device)
     × (residency_of (g.held after) setup.residency_set ≡ joined (residency_of (g.held device) setup.residency_set) (granted a.environment.asked))

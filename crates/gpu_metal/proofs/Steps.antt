@@ -20,7 +20,8 @@ use Rattle.gpu_metal.specs.Blocks.{residency_of}
 use Rattle.gpu_metal.specs.Free.{Frees, GivesBack}
 use Rattle.gpu_metal.specs.HeapList.{all_heaps}
 use Rattle.gpu_metal.specs.State.{State, model_of}
-use Rattle.gpu_metal.specs.Step.{Free, Commit, SetBudget, Budget, Capacity, LiveHeaps, Report, Fails, Done, Sum, Lists, Budgeted, nothing_met, joined, left, committed, reply_of, granted, ServeStep, AllocateStep, SetBudgetStep, CountsAndNames, IsStep, Replies, IsAllocateStep, done_as, shown_as}
+use Rattle.gpu_metal.specs.Step.{Free, Commit, SetBudget, Budget, Capacity, LiveHeaps, Report, Fails, Done, Sum, Lists, Budgeted, nothing_met, joined, left, committed, reply_of, granted, ServeStep}
+use Rattle.gpu_metal.specs.Step.{AllocateStep, SetBudgetStep, CountsAndNames, IsStep, Replies, IsAllocateStep, done_as, shown_as}
 use Rattle.gpu_metal.specs.declared.allocation.Allocation.{Allocation}
 
 module _ {D : Type 0} (g : Ghosts D) where

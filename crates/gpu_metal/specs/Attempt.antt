@@ -67,7 +67,8 @@ IsAfter g setup old None new = new ≡ old
 IsAfter g setup old (Some a) new = AsksHeap g setup.residency_set old a.desc a.size a.answer new
 
 -- what a request for a piece of the t-th memory type comes to
-pub record IsSuballocated {D : Type 0} (g : Ghosts D) (setup : Setup) (budgets : Budgets) (t : ℕ) (d : AllocationCreateDesc) (old : Slots) (device : D) (result : Result (Piece MTLHeap) AllocationError) (new : Slots) (after : D) : Type 0 where
+pub record IsSuballocated {D : Type 0} (g : Ghosts D) (setup : Setup) (budgets : Budgets) (t : ℕ) (d : AllocationCreateDesc) (old : Slots) (device : D)
+    (result : Result (Piece MTLHeap) AllocationError) (new : Slots) (after : D) : Type 0 where
   pub environment : AttemptEnvironment
   pub allocates : AllocatesInType (request_at setup budgets t d) old environment.host (asked_block environment.asked) (answer_of result) new
   pub asked_for : IsAskedFor t environment.asked

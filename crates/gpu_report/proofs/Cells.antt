@@ -8,7 +8,8 @@ use Rattle.gpu_core.specs.FreeList.{Extent}
 use Rattle.gpu_report.specs.Picture.{Cell, gap_cells, padding_cells, piece_cell, cells_between}
 
 pub texts-step : (text : Cell → List ℕ) (from to : ℕ) (x : Extent) (xs : List Extent)
-    → flat_map text (cells_between from (x ∷ xs) to) ≡ flat_map text (gap_cells from x.start) ++ (flat_map text (padding_cells x) ++ (text (piece_cell x) ++ flat_map text (cells_between x.end xs to)))
+    → flat_map text (cells_between from (x ∷ xs) to) ≡ flat_map text (gap_cells from x.start) ++
+    (flat_map text (padding_cells x) ++ (text (piece_cell x) ++ flat_map text (cells_between x.end xs to)))
 texts-step text from to x xs =
     flat_map-append text (gap_cells from x.start) (padding_cells x ++ piece_cell x ∷ cells_between x.end xs to)
     ∙ ap (λ t. flat_map text (gap_cells from x.start) ++ t) (flat_map-append text (padding_cells x) (piece_cell x ∷ cells_between x.end xs to))

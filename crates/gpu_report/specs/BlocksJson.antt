@@ -46,7 +46,8 @@ place_json v = codes "],\"memory_type\":" ++ (decimal v.memory_type ++ (codes ",
 
 unfoldable pub sums_json : BlockView → List ℕ
 sums_json v =
-    codes "],\"size\":" ++ (decimal (size_of (block_of v.block.now)) ++ (codes ",\"slot\":" ++ (decimal v.slot ++ (codes "," ++ (statistics_json (statistics_of (block_of v.block.now)) ++ codes "}")))))
+    codes "],\"size\":" ++ (decimal (size_of (block_of v.block.now)) ++
+    (codes ",\"slot\":" ++ (decimal v.slot ++ (codes "," ++ (statistics_json (statistics_of (block_of v.block.now)) ++ codes "}")))))
 
 -- a block: each gap once and each piece once, in order
 unfoldable pub block_json : BlockView → List ℕ

@@ -24,7 +24,8 @@ too_long (Some input) text old mid new read long wrote kept =
     }
 
 -- all was read
-pub all_read : (known : Option (List ℕ)) (text : List ℕ) (lines : List (List ℕ)) (old mid new : Option (List ℕ)) (bad : Option ℕ) → IfSome known (λ input. text ≡ take (LIMIT + 1) input) → length text ≤ LIMIT
+pub all_read : (known : Option (List ℕ)) (text : List ℕ) (lines : List (List ℕ)) (old mid new : Option (List ℕ)) (bad : Option ℕ) → IfSome known (λ input. text ≡ take (LIMIT + 1) input) → length text
+    ≤ LIMIT
     → lines ≡ lines_of text → HasRun lines old mid bad → Keeps mid new → IfSome known (λ input. Answers input old new bad)
 all_read None text lines old mid new bad read short is ran kept = tt
 all_read (Some input) text lines old mid new bad read short is ran kept =

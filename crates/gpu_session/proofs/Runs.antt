@@ -51,7 +51,8 @@ begins lines start = record { replies = []; written = Appends-none start; whole 
 split_at : (lines : List (List ℕ)) (n : ℕ) (line : List ℕ) → n < length lines → line ≡ get_or lines n [] → drop n lines ≡ line ∷ drop (n + 1) lines
 split_at lines n line lt is = rw (is, add-one) (drop-cons lines n [] lt)
 
-after_quiet : (lines : List (List ℕ)) (start now next : Option (List ℕ)) (stage stage' : Stage) (n : ℕ) (line : List ℕ) (l : Line) → SoFar lines start now stage n → n < length lines → line ≡ get_or lines n []
+after_quiet : (lines : List (List ℕ)) (start now next : Option (List ℕ)) (stage stage' : Stage) (n : ℕ) (line : List ℕ) (l : Line) → SoFar lines start now stage n → n < length lines → line ≡ get_or
+    lines n []
     → Means line l → Quietly stage l stage' → Appends now next [] → SoFar lines start next stage' (n + 1)
 after_quiet lines start now next stage stage' n line l s lt is means did wrote =
     record {
@@ -65,7 +66,8 @@ after_quiet lines start now next stage stage' n line l s lt is means did wrote =
 one_more : (rs : List Reply) (r : Reply) → flat_map reply_line (rs ++ r ∷ []) ≡ flat_map reply_line rs ++ reply_line r
 one_more rs r = flat_map-append reply_line rs (r ∷ []) ∙ ap (λ (t : List ℕ). flat_map reply_line rs ++ t) (append-nil (reply_line r))
 
-after_reply : (lines : List (List ℕ)) (start now next : Option (List ℕ)) (stage stage' : Stage) (n : ℕ) (line : List ℕ) (l : Line) (r : Reply) → SoFar lines start now stage n → n < length lines → line ≡ get_or lines n []
+after_reply : (lines : List (List ℕ)) (start now next : Option (List ℕ)) (stage stage' : Stage) (n : ℕ) (line : List ℕ) (l : Line) (r : Reply) → SoFar lines start now stage n → n < length lines →
+    line ≡ get_or lines n []
     → Means line l → Step stage l r stage' → Appends now next (reply_line r) → SoFar lines start next stage' (n + 1)
 after_reply lines start now next stage stage' n line l r s lt is means step wrote =
     record {
@@ -103,7 +105,8 @@ texts_below : (lines : List (Bor (List ℕ))) (n : ℕ) → n < length lines →
 texts_below lines n lt = rw length-map lt
 
 pub line_done : (lines : List (Bor (List ℕ))) (d : Bor (List ℕ)) (start now next : Option (List ℕ)) (stage stage' : Stage) (n : ℕ) (o : Outcome)
-    → SoFar (texts lines) start now stage n → n < length lines → Serves stage (get_or lines n d).now o stage' → is_bad o ≡ false → Appends now next (outcome_text (n + 1) o) → SoFar (texts lines) start next stage' (n + 1)
+    → SoFar (texts lines) start now stage n → n < length lines → Serves stage (get_or lines n d).now o stage' → is_bad o ≡ false → Appends now next (outcome_text (n + 1) o) → SoFar (texts lines)
+    start next stage' (n + 1)
 line_done lines d start now next stage stage' n Nothing s lt did goes wrote =
     after_quiet (texts lines) start now next stage stage' n (get_or lines n d).now did.0 s (texts_below lines n lt) (text_at lines n d lt) did.1 did.2 wrote
 line_done lines d start now next stage stage' n (Replied r) s lt did goes wrote =
@@ -111,7 +114,8 @@ line_done lines d start now next stage stage' n (Replied r) s lt did goes wrote 
 line_done lines d start now next stage stage' n Bad s lt did goes wrote = cc
 
 pub bad_done : (lines : List (Bor (List ℕ))) (d : Bor (List ℕ)) (start now next : Option (List ℕ)) (stage stage' : Stage) (n : ℕ) (o : Outcome)
-    → SoFar (texts lines) start now stage n → n < length lines → Serves stage (get_or lines n d).now o stage' → is_bad o ≡ true → Appends now next (outcome_text (n + 1) o) → HasRun (texts lines) start next (Some (n + 1))
+    → SoFar (texts lines) start now stage n → n < length lines → Serves stage (get_or lines n d).now o stage' → is_bad o ≡ true → Appends now next (outcome_text (n + 1) o) → HasRun (texts lines)
+    start next (Some (n + 1))
 bad_done lines d start now next stage stage' n Nothing s lt did stop wrote = cc
 bad_done lines d start now next stage stage' n (Replied r) s lt did stop wrote = cc
 bad_done lines d start now next stage stage' n Bad s lt did stop wrote =

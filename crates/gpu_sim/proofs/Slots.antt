@@ -1,5 +1,6 @@
 -- What each change of a slot makes of the memories that a simulated device holds.
-use Rattle.std.proofs.Common.{◌≡◌, ◌≢◌, ℕ, zero, suc, ◌+◌, ◌-◌, ◌<◌, ◌≤◌, List, [], ◌∷◌, ◌++◌, length, get_or, set, Some, None, IsSome, is_some, cond, count_by, refl, sym, ap, subst, ◌∙◌, arith, ⊎_elim}
+use Rattle.std.proofs.Common.{◌≡◌, ◌≢◌, ℕ, zero, suc, ◌+◌, ◌-◌, ◌<◌, ◌≤◌, List, [], ◌∷◌, ◌++◌, length, get_or, set, Some, None, IsSome, is_some, cond, count_by, refl, sym, ap, subst, ◌∙◌, arith}
+use Rattle.std.proofs.Common.{⊎_elim}
 use Rattle.std.proofs.lemmas.Bool.{cases_eq, cases_lt}
 use Rattle.std.proofs.lemmas.List.{get_or_past}
 use Rattle.std.proofs.lemmas.List.Sums.{sum_by-cons}
@@ -9,7 +10,8 @@ use Rattle.std.specs.FinMap.{len as map_len}
 use Rattle.std.specs.Cmp.{nat_cmp_total}
 use Rattle.std.specs.Global.{Vec}
 use Rattle.gpu_device.specs.Held as device
-use Rattle.gpu_device.specs.Held.{Entry, HasRange, entry_bytes, bytes_of, entry_size, size_of, range_in, range_of, with_bytes, put_bytes, put_range, put_entry, with_range, unmap_entry, unmapped, map_entry, mapped_with, IsAsLong, IsWhole}
+use Rattle.gpu_device.specs.Held.{Entry, HasRange, entry_bytes, bytes_of, entry_size, size_of, range_in, range_of, with_bytes, put_bytes, put_range, put_entry, with_range, unmap_entry, unmapped}
+use Rattle.gpu_device.specs.Held.{map_entry, mapped_with, IsAsLong, IsWhole}
 use Rattle.gpu_device.proofs.Maps.{held_alike, get-insert_same, get-insert_other, get-remove_same, get-remove_other, remove_none}
 use Rattle.gpu_device.proofs.Writes.{range_is_there}
 use Rattle.gpu_sim.specs.declared.memory.Slot.{Slot}

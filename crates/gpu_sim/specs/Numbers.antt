@@ -1,13 +1,15 @@
 -- The memories of a simulated device keep the laws of a device: look-ups by number, what a write leaves, and that sizes
 -- and bytes agree.
-use Rattle.std.proofs.Common.{◌≡◌, ◌≢◌, ℕ, zero, suc, ◌+◌, ◌<◌, ◌≤◌, List, [], ◌∷◌, ◌++◌, length, get_or, set, take, drop, Option, Some, None, refl, sym, ap, subst, ◌∙◌, arith, ⊎_elim, length-append, length-take, length-drop}
+use Rattle.std.proofs.Common.{◌≡◌, ◌≢◌, ℕ, zero, suc, ◌+◌, ◌<◌, ◌≤◌, List, [], ◌∷◌, ◌++◌, length, get_or, set, take, drop, Option, Some, None, refl, sym, ap, subst, ◌∙◌, arith, ⊎_elim}
+use Rattle.std.proofs.Common.{length-append, length-take, length-drop}
 use Rattle.std.proofs.lemmas.Bool.{cases_eq, cases_lt}
 use Rattle.std.proofs.lemmas.List.{take-append-le, drop-drop, get_or-set_same, get_or-set_other, get_or_past, set_past}
 use Rattle.std.specs.FinMap.{get, insert, get-empty}
 use Rattle.std.specs.Global.{Vec}
 use Rattle.std.specs.Vec.{with_items_from}
 use Rattle.gpu_device.specs.Held as device
-use Rattle.gpu_device.specs.Held.{Entry, HasRange, entry_bytes, bytes_of, entry_size, size_of, range_in, range_of, with_bytes, put_bytes, put_range, put_entry, with_range, unmap_entry, unmapped, map_entry, mapped_with, IsAsLong, IsWhole}
+use Rattle.gpu_device.specs.Held.{Entry, HasRange, entry_bytes, bytes_of, entry_size, size_of, range_in, range_of, with_bytes, put_bytes, put_range, put_entry, with_range, unmap_entry, unmapped}
+use Rattle.gpu_device.specs.Held.{map_entry, mapped_with, IsAsLong, IsWhole}
 use Rattle.gpu_device.proofs.Maps.{held_alike, get-insert_same, get-insert_other}
 use Rattle.gpu_device.proofs.Writes.{length-put_range, written_entry, get_there, get_elsewhere}
 use Rattle.gpu_sim.specs.declared.memory.Contents.{Contents}

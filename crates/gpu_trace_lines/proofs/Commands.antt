@@ -8,7 +8,8 @@ use Rattle.gpu_trace_lines.specs.declared.block.command.Command.TheVariants.{Blo
 use Rattle.gpu_trace_lines.specs.BlockCommand.{IsPowerOfTwo, Spells}
 use Rattle.gpu_trace_lines.specs.Words.{texts}
 
-pub granularity_only : (arguments : List (Bor (List ℕ))) (d : Bor (List ℕ)) → ((n : ℕ) → n < 2 ^ 64 → IsPowerOfTwo n → (get_or arguments 4 d).now ≢ decimal n) → (x : Command) → Spells (codes "block" ∷ texts arguments) x → ⊥
+pub granularity_only : (arguments : List (Bor (List ℕ))) (d : Bor (List ℕ)) → ((n : ℕ) → n < 2 ^ 64 → IsPowerOfTwo n → (get_or arguments 4 d).now ≢ decimal n) → (x : Command) → Spells
+    (codes "block" ∷ texts arguments) x → ⊥
 granularity_only (a ∷ b ∷ m ∷ k ∷ e ∷ rest) d h (Block s x y z g) f = h g f.fits.3 f.fits.4 (let i = f.is in cc)
 granularity_only arguments d h (Block s x y z g) f = let i = f.is in cc
 granularity_only arguments d h (Take k n a y t) f = let i = f.is in cc

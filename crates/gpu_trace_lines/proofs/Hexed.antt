@@ -27,7 +27,8 @@ hex_at (b ∷ bs) (suc i) lt =
 pub take_two : (xs : List ℕ) (n : ℕ) → n + 1 < length xs → take (n + 2) xs ≡ take n xs ++ get_or xs n 0 ∷ get_or xs (n + 1) 0 ∷ []
 take_two xs n lt =
     let two : n + 2 ≡ (n + 1) + 1 = omega arith in
-    ap (λ k. take k xs) two ∙ (take_more xs (n + 1) 0 lt ∙ (ap (λ ys. ys ++ get_or xs (n + 1) 0 ∷ []) (take_more xs n 0 (omega (arith, lt))) ∙ append_assoc (take n xs) (get_or xs n 0 ∷ []) (get_or xs (n + 1) 0 ∷ [])))
+    ap (λ k. take k xs) two ∙ (take_more xs (n + 1) 0 lt ∙
+    (ap (λ ys. ys ++ get_or xs (n + 1) 0 ∷ []) (take_more xs n 0 (omega (arith, lt))) ∙ append_assoc (take n xs) (get_or xs n 0 ∷ []) (get_or xs (n + 1) 0 ∷ [])))
 
 digit_same : (a b : ℕ) → a < 16 → b < 16 → hex_digit a ≡ hex_digit b → a ≡ b
 digit_same a b h k e = grind (arith, nat_tests, h, k, e)

@@ -8,7 +8,8 @@ use Rattle.gpu_trace_lines.specs.declared.device.setting.Setting.TheVariants.{He
 use Rattle.gpu_trace_lines.specs.Setting.{Spells}
 use Rattle.gpu_trace_lines.specs.Words.{texts}
 
-pub last_size_only : (arguments : List (Bor (List ℕ))) (d : Bor (List ℕ)) → ((n : ℕ) → n < 2 ^ 64 → (get_or arguments 3 d).now ≢ decimal n) → (x : Setting) → Spells (codes "sizes" ∷ texts arguments) x → ⊥
+pub last_size_only : (arguments : List (Bor (List ℕ))) (d : Bor (List ℕ)) → ((n : ℕ) → n < 2 ^ 64 → (get_or arguments 3 d).now ≢ decimal n) → (x : Setting) → Spells (codes "sizes" ∷ texts arguments)
+    x → ⊥
 last_size_only (a ∷ b ∷ m ∷ k ∷ rest) d h (Sizes x y z w) f = h w f.fits.3 (let i = f.is in cc)
 last_size_only arguments d h (Sizes x y z w) f = let i = f.is in cc
 last_size_only arguments d h (Heap n) f = let i = f.is in cc

@@ -98,19 +98,22 @@ module _ (setup : Setup) (budgets : Budgets) (d : AllocationCreateDesc) where
   given_offset x None p e = absurd (none_some p e)
   given_offset x (Some n) p e = ap (λ (q : Piece DeviceMemory). q.offset) (some_same _ p e)
 
-  answer_aligned : (t : ℕ) (old : Slots) (o : AttemptEnvironment) (answer : Answer) (new : Slots) (result : Result Allocation AllocationError) → Attempts setup budgets old t d o answer new → Answers setup t d result answer
+  answer_aligned : (t : ℕ) (old : Slots) (o : AttemptEnvironment) (answer : Answer) (new : Slots) (result : Result Allocation AllocationError) → Attempts setup budgets old t d o answer new → Answers
+      setup t d result answer
       → IfOk result (λ x. IsAligned x.offset a)
   answer_aligned t old o (Gave p) new (Ok x) at given = subst (λ k. IsAligned k a) (sym (given_offset x x.chunk_id p given.piece)) (attempt_aligned t old o p new at)
   answer_aligned t old o (Gave p) new (Err e) at given = absurd given
   answer_aligned t old o (Refused r) new (Ok x) at given = absurd given
   answer_aligned t old o (Refused r) new (Err e) at given = tt
 
-  followed_aligned : {D : Type 0} (g : Ghosts D) (o : Option ℕ) (mid : Slots) (between : D) (r result : Result Allocation AllocationError) (new : Slots) (after : D) → IfOk r (λ x. IsAligned x.offset a)
+  followed_aligned : {D : Type 0} (g : Ghosts D) (o : Option ℕ) (mid : Slots) (between : D) (r result : Result Allocation AllocationError) (new : Slots) (after : D) → IfOk r
+      (λ x. IsAligned x.offset a)
       → IsFollowed g setup budgets d o mid between r result new after → IfOk result (λ x. IsAligned x.offset a)
   followed_aligned g None mid between r result new after first is = subst (λ z. IfOk z (λ x. IsAligned x.offset a)) (sym is.0) first
   followed_aligned g (Some u) mid between r result new after first two = answer_aligned u mid two.environment two.answer new result two.attempts two.answers
 
-  pub served_aligned : {D : Type 0} (g : Ghosts D) (t : ℕ) (old : Slots) (device : D) (result : Result Allocation AllocationError) (new : Slots) (after : D) → IsServed g setup budgets t d old device result new after
+  pub served_aligned : {D : Type 0} (g : Ghosts D) (t : ℕ) (old : Slots) (device : D) (result : Result Allocation AllocationError) (new : Slots) (after : D) → IsServed g setup budgets t d old device
+      result new after
       → IfOk result (λ x. x.offset % d.requirements.alignment ≡ 0)
   served_aligned g t old device result new after s =
       followed_aligned g (next_after setup d s.first) s.mid s.between s.first result new after

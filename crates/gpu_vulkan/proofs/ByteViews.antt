@@ -9,7 +9,8 @@ use Rattle.gpu_device.specs.Held.{Held, bytes_of}
 use Rattle.gpu_device.specs.declared.vulkan.types.DeviceMemory.{DeviceMemory}
 use Rattle.gpu_vulkan_blocks.specs.Blocks.{Slots}
 use Rattle.gpu_memory_types.specs.Blocks.{block_at}
-use Rattle.gpu_vulkan.specs.ByteView.{AllocationId, is_same_id, ByteView, byte_view_of, list_in, rest_in, piece_bytes, piece_of_number, byte_at, lies_in, IsOutOf, TakesOut, PutsBack, AddsBlock, DropsBlock}
+use Rattle.gpu_vulkan.specs.ByteView.{AllocationId, is_same_id, ByteView, byte_view_of, list_in, rest_in, piece_bytes, piece_of_number, byte_at, lies_in, IsOutOf, TakesOut, PutsBack, AddsBlock}
+use Rattle.gpu_vulkan.specs.ByteView.{DropsBlock}
 use Rattle.gpu_vulkan.proofs.Joins.{OneMore}
 use Rattle.gpu_vulkan.proofs.Parts.{HasRoom, in_range, left_of, left_with, taken_list, no_piece, other_pieces, put_back}
 use Rattle.gpu_memory_types.proofs.Placed.{OnlyBlock, same_place}
@@ -66,7 +67,8 @@ lists_but t i n old new others lists q isnt =
     (λ away. (others q.memory_type q.slot away).allocation_bytes q.number)
     (same_place q.memory_type t q.slot i)
 
-rest_by : (t i : ℕ) (test : ℕ → Bool) (f : ℕ → Option ℕ) (old new : ByteView) → OthersSame t i old new → ((at : ℕ) → new.unallocated_bytes t i at ≡ (if test at then f at else old.unallocated_bytes t i at))
+rest_by : (t i : ℕ) (test : ℕ → Bool) (f : ℕ → Option ℕ) (old new : ByteView) → OthersSame t i old new →
+    ((at : ℕ) → new.unallocated_bytes t i at ≡ (if test at then f at else old.unallocated_bytes t i at))
     → (u j at : ℕ) → new.unallocated_bytes u j at ≡ (if at_block t i u j && test at then f at else old.unallocated_bytes u j at)
 rest_by t i test f old new others rest u j at =
     ⊎_elim
@@ -89,7 +91,8 @@ takes_out mapped t i n o size old new others fresh list lists rest = record {
 
 pub puts_back : (t i n o size : ℕ) (old new : ByteView) → OthersSame t i old new → new.allocation_bytes (place t i n) ≡ None
     → ((k : ℕ) → k ≢ n → new.allocation_bytes (place t i k) ≡ old.allocation_bytes (place t i k))
-    → ((at : ℕ) → new.unallocated_bytes t i at ≡ (if in_range o size at then byte_at (old.allocation_bytes (place t i n)) (at - o) else old.unallocated_bytes t i at)) → PutsBack (place t i n) o size old new
+    → ((at : ℕ) → new.unallocated_bytes t i at ≡ (if in_range o size at then byte_at (old.allocation_bytes (place t i n)) (at - o) else old.unallocated_bytes t i at)) → PutsBack (place t i n) o size
+    old new
 puts_back t i n o size old new others gone lists rest = record {
   gone = gone;
   others = lists_but t i n old new others lists;
@@ -115,7 +118,8 @@ same_blocks held now old new t i stay bytes u j away = record {
     same_rest None e at = refl
     same_rest (Some s) e at = ap (λ b. left_of b (extents_of s.block) at) (bytes u j s away e)
 
-module _ (held : Held) (old new : Slots) (t i : ℕ) (a b : Slot DeviceMemory) (at_old : block_at old t i ≡ Some a) (only : OnlyBlock old t i (Some b) new) (number : b.number ≡ a.number) (mapped : Bool) (n o size : ℕ) (room : HasRoom mapped (bytes_of held a.number.0) o size) where
+module _ (held : Held) (old new : Slots) (t i : ℕ) (a b : Slot DeviceMemory) (at_old : block_at old t i ≡ Some a) (only : OnlyBlock old t i (Some b) new) (number : b.number ≡ a.number)
+    (mapped : Bool) (n o size : ℕ) (room : HasRoom mapped (bytes_of held a.number.0) o size) where
   bytes_is : bytes_of held b.number.0 ≡ bytes_of held a.number.0
   bytes_is = ap (λ (m : DeviceMemory). bytes_of held m.0) number
 
@@ -142,7 +146,8 @@ module _ (held : Held) (old new : Slots) (t i : ℕ) (a b : Slot DeviceMemory) (
       let more = extents_of b.block in
       takes_out mapped t i n o size (byte_view_of held old) (byte_view_of held new) others
       (list_old n ∙ no_piece bytes xs more n o size one)
-      (subst (IsOutOf mapped (λ at. rest_in held (block_at old t i) at) o size) (sym (list_new n)) (taken_list mapped bytes (λ at. rest_in held (block_at old t i) at) xs more n o size one room rest_old))
+      (subst (IsOutOf mapped (λ at. rest_in held (block_at old t i) at) o size) (sym (list_new n))
+      (taken_list mapped bytes (λ at. rest_in held (block_at old t i) at) xs more n o size one room rest_old))
       (λ k ne. list_new k ∙ other_pieces bytes xs more n o size one k ne ∙ sym (list_old k))
       (λ at. rest_new at ∙ left_with bytes xs more n o size one at ∙ ap (λ r. if in_range o size at then None else r) (sym (rest_old at)))
 
@@ -166,7 +171,8 @@ with_new t i bytes old = record { allocation_bytes = old.allocation_bytes; unall
 pub with_new_adds : (t i : ℕ) (bytes : Option (List ℕ)) (old : ByteView) → AddsBlock t i bytes old (with_new t i bytes old)
 with_new_adds t i bytes old = record { allocation_bytes = λ q. refl; unallocated_bytes = λ u j at. refl }
 
-module _ (held now : Held) (old new : Slots) (t i : ℕ) (b : Slot DeviceMemory) (none : block_at old t i ≡ None) (only : OnlyBlock old t i (Some b) new) (mapped : Bool) (n o size : ℕ) (room : HasRoom mapped (bytes_of now b.number.0) o size)
+module _ (held now : Held) (old new : Slots) (t i : ℕ) (b : Slot DeviceMemory) (none : block_at old t i ≡ None) (only : OnlyBlock old t i (Some b) new) (mapped : Bool) (n o size : ℕ)
+    (room : HasRoom mapped (bytes_of now b.number.0) o size)
     (stays : (u j : ℕ) (s : Slot DeviceMemory) → block_at old u j ≡ Some s → bytes_of now s.number.0 ≡ bytes_of held s.number.0) where
   -- a new block's piece is taken out of that block's bytes
   pub installed_byte_view : OneMore [] (extents_of b.block) n o size → TakesOut mapped (place t i n) o size (with_new t i (bytes_of now b.number.0) (byte_view_of held old)) (byte_view_of now new)
@@ -196,7 +202,8 @@ with_back p o size old = record {
 }
 
 place_itself : (p : AllocationId) → is_same_id p p ≡ true
-place_itself p = ap (λ b. b && ((p.slot == p.slot) && (p.number == p.number))) (eq_true p.memory_type p.memory_type refl) ∙ ap (λ b. b && (p.number == p.number)) (eq_true p.slot p.slot refl) ∙ eq_true p.number p.number refl
+place_itself p = ap (λ b. b && ((p.slot == p.slot) && (p.number == p.number))) (eq_true p.memory_type p.memory_type refl) ∙ ap (λ b. b && (p.number == p.number)) (eq_true p.slot p.slot refl) ∙
+    eq_true p.number p.number refl
 
 pub with_back_puts : (p : AllocationId) (o size : ℕ) (old : ByteView) → PutsBack p o size old (with_back p o size old)
 with_back_puts p o size old = record {

@@ -12,7 +12,8 @@ use Rattle.gpu_device.specs.declared.vulkan.types.MemoryAllocateInfo.{MemoryAllo
 use Rattle.gpu_memory_types.specs.Budgets.{Budgets, budget_at, SetsBudget}
 use Rattle.gpu_vulkan.proofs.KeptBudgets.{keeps_budgets}
 use Rattle.gpu_vulkan.specs.Allocate.{Attempts, IsTooLarge, IsWithinHeap, is_valid, is_for_upload, is_short}
-use Rattle.gpu_vulkan.specs.EqualButBytes.{EqualButBytesAnswer, EqualButBytesAsked, EqualButBytesAttemptEnvironment, EqualButBytesCallEnvironment, EqualButBytesDescription, EqualButBytesCall, EqualButBytesReply}
+use Rattle.gpu_vulkan.specs.EqualButBytes.{EqualButBytesAnswer, EqualButBytesAsked, EqualButBytesAttemptEnvironment, EqualButBytesCallEnvironment, EqualButBytesDescription, EqualButBytesCall}
+use Rattle.gpu_vulkan.specs.EqualButBytes.{EqualButBytesReply}
 use Rattle.gpu_memory_types.specs.Attempt.{RequestAt, Allocated, AllocatesInType, Gave, Refused}
 use Rattle.gpu_memory_types.proofs.OneOutcome.{allocates_once}
 use Rattle.gpu_vulkan_blocks.specs.Suballocation.{AttemptEnvironment, Asked, Answer, asked_block, block_result, request_at}
@@ -27,10 +28,12 @@ use Rattle.gpu_vulkan.specs.Live.{piece_of, IsMapped}
 use Rattle.gpu_memory_types.specs.Leaks.{all_leaks}
 use Rattle.gpu_memory_types.specs.Reports.{whole_report}
 use Rattle.gpu_vulkan_setup.specs.Setup.{Setup}
-use Rattle.gpu_vulkan.specs.Step.{ModelState, Call, Allocate, Free, Write, Rename, Report, Leaks, Read, Capacity, SetBudget, Budget, Reply, Given, Fails, Done, Bytes, Sum, Shows, Tells, Budgeted, RenameStep, CallEnvironment, AttemptStep, reply_of, next_by, Follows, ServeStep, RefuseStep, FoundStep, AllocateStep, FreeStep, IsRead, Step}
+use Rattle.gpu_vulkan.specs.Step.{ModelState, Call, Allocate, Free, Write, Rename, Report, Leaks, Read, Capacity, SetBudget, Budget, Reply, Given, Fails, Done, Bytes, Sum, Shows, Tells, Budgeted}
+use Rattle.gpu_vulkan.specs.Step.{RenameStep, CallEnvironment, AttemptStep, reply_of, next_by, Follows, ServeStep, RefuseStep, FoundStep, AllocateStep, FreeStep, IsRead, Step}
 use Rattle.gpu_vulkan.specs.declared.allocation.Allocation.{Allocation}
 use Rattle.gpu_vulkan_setup.specs.declared.describe.AllocationCreateDesc.{AllocationCreateDesc}
-use Rattle.gpu_vulkan.proofs.OneStep.{mid_sound, free_reply, done_or_fails, rename_reply, named_or_fails, rename_fails_once, shown_reply, told_reply, by_host, write_reply, read_reply, sum_reply, budget_reply, set_reply, sets_once, done_by}
+use Rattle.gpu_vulkan.proofs.OneStep.{mid_sound, free_reply, done_or_fails, rename_reply, named_or_fails, rename_fails_once, shown_reply, told_reply, by_host, write_reply, read_reply, sum_reply}
+use Rattle.gpu_vulkan.proofs.OneStep.{budget_reply, set_reply, sets_once, done_by}
 
 -- ---- descriptions that ask for the same
 
@@ -81,7 +84,8 @@ module _ (setup : Setup) (d e : AllocationCreateDesc) (same : EqualButBytesDescr
         request = requests j;
       }
 
-  within_alike : (budgets : Budgets) (old : Slots) (t : ℕ) (o p : AttemptEnvironment) (x y : Answer) (new next : Slots) → BlocksWellFormed setup.properties.granularity old → EqualButBytesAttemptEnvironment o p
+  within_alike : (budgets : Budgets) (old : Slots) (t : ℕ) (o p : AttemptEnvironment) (x y : Answer) (new next : Slots) → BlocksWellFormed setup.properties.granularity old →
+      EqualButBytesAttemptEnvironment o p
       → IsWithinHeap setup budgets old t d o x new → IsWithinHeap setup budgets old t e p y next → (x ≡ y) × (new ≡ next)
   within_alike budgets old t o p x y new next sound met a b =
       let other : AllocatesInType (request_at setup budgets t d) old o.host (asked_block o.asked) y next =
@@ -90,7 +94,8 @@ module _ (setup : Setup) (d e : AllocationCreateDesc) (same : EqualButBytesDescr
       (subst (λ k. AllocatesInType (request_at setup budgets t e) old p.host k y next) (sym (asked_alike o.asked p.asked met.asked)) b.allocates)) in
       allocates_once (request_at setup budgets t d) old o.host (asked_block o.asked) x y new next sound a.allocates other
 
-  attempts_alike : (budgets : Budgets) (old : Slots) (t : ℕ) (o p : AttemptEnvironment) (x y : Answer) (new next : Slots) → BlocksWellFormed setup.properties.granularity old → EqualButBytesAttemptEnvironment o p
+  attempts_alike : (budgets : Budgets) (old : Slots) (t : ℕ) (o p : AttemptEnvironment) (x y : Answer) (new next : Slots) → BlocksWellFormed setup.properties.granularity old →
+      EqualButBytesAttemptEnvironment o p
       → Attempts setup budgets old t d o x new → Attempts setup budgets old t e p y next → (x ≡ y) × (new ≡ next)
   attempts_alike budgets old t o p x y new next sound met a b =
       ⊎_elim
@@ -107,20 +112,24 @@ module _ (setup : Setup) (d e : AllocationCreateDesc) (same : EqualButBytesDescr
       a
 
   -- the same from two states with the same blocks and budgets
-  attempt_alike : (t : ℕ) (o p : AttemptEnvironment) (x y : Answer) (old new twin next : ModelState) → BlocksWellFormed setup.properties.granularity old.slots → old.slots ≡ twin.slots → old.budgets ≡ twin.budgets → EqualButBytesAttemptEnvironment o p
+  attempt_alike : (t : ℕ) (o p : AttemptEnvironment) (x y : Answer) (old new twin next : ModelState) → BlocksWellFormed setup.properties.granularity old.slots → old.slots ≡ twin.slots → old.budgets ≡
+      twin.budgets → EqualButBytesAttemptEnvironment o p
       → AttemptStep setup t d o x old new → AttemptStep setup t e p y twin next → (x ≡ y) × (new.slots ≡ next.slots)
   attempt_alike t o p x y old new twin next sound slots budgets met a b =
       attempts_alike old.budgets old.slots t o p x y new.slots next.slots sound met a.slots
       (subst (λ z. Attempts setup z old.slots t e p y next.slots) (sym budgets) (subst (λ z. Attempts setup twin.budgets z t e p y next.slots) (sym slots) b.slots))
 
-  follows_alike : (u : Option ℕ) (o p : AttemptEnvironment) (t : ℕ) (first : Answer) (mid twin : ModelState) (x y : Reply) (new next : ModelState) → ((v : ℕ) → u ≡ Some v → BlocksWellFormed setup.properties.granularity mid.slots)
-      → mid.slots ≡ twin.slots → mid.budgets ≡ twin.budgets → EqualButBytesAttemptEnvironment o p → Follows setup d u o t first mid x new → Follows setup e u p t first twin y next → (x ≡ y) × (new.slots ≡ next.slots)
+  follows_alike : (u : Option ℕ) (o p : AttemptEnvironment) (t : ℕ) (first : Answer) (mid twin : ModelState) (x y : Reply) (new next : ModelState) →
+      ((v : ℕ) → u ≡ Some v → BlocksWellFormed setup.properties.granularity mid.slots)
+      → mid.slots ≡ twin.slots → mid.budgets ≡ twin.budgets → EqualButBytesAttemptEnvironment o p → Follows setup d u o t first mid x new → Follows setup e u p t first twin y next → (x ≡ y) ×
+      (new.slots ≡ next.slots)
   follows_alike None o p t first mid twin x y new next sound slots budgets met a b = (a.1 ∙ sym b.1, ap (λ s. s.slots) a.2 ∙ slots ∙ sym (ap (λ s. s.slots) b.2))
   follows_alike (Some u) o p t first mid twin x y new next sound slots budgets met a b =
       let once = attempt_alike u o p a.0 b.0 mid new twin next (sound u refl) slots budgets met a.1 b.1 in
       (a.2 ∙ ap (reply_of u) once.0 ∙ sym b.2, once.1)
 
-  serve_alike : (t : ℕ) (o p : CallEnvironment) (x y : Reply) (old new twin next : ModelState) → BlocksWellFormed setup.properties.granularity old.slots → old.slots ≡ twin.slots → old.budgets ≡ twin.budgets → EqualButBytesCallEnvironment o p
+  serve_alike : (t : ℕ) (o p : CallEnvironment) (x y : Reply) (old new twin next : ModelState) → BlocksWellFormed setup.properties.granularity old.slots → old.slots ≡ twin.slots → old.budgets ≡
+      twin.budgets → EqualButBytesCallEnvironment o p
       → ServeStep setup t d o x old new → ServeStep setup t e p y twin next → (x ≡ y) × (new.slots ≡ next.slots)
   serve_alike t o p x y old new twin next sound slots budgets met a b =
       let first = attempt_alike t o.first p.first a.answer b.answer old a.mid twin b.mid sound slots budgets met.first a.attempt b.attempt in
@@ -129,17 +138,21 @@ module _ (setup : Setup) (d e : AllocationCreateDesc) (same : EqualButBytesDescr
       subst (λ w. Follows setup e (next_by setup e w) p.second t w b.mid y next) (sym answers) b.follows in
       let other : Follows setup e (next_by setup d a.answer) p.second t a.answer b.mid y next =
       subst (λ u. Follows setup e u p.second t a.answer b.mid y next) (sym (next_alike setup d e a.answer same)) named in
-      follows_alike (next_by setup d a.answer) o.second p.second t a.answer a.mid b.mid x y new next (λ v is. mid_sound setup t v d o.first a.answer old a.mid sound a.attempt is) first.1 (a.attempt.budgets ∙ budgets ∙ sym b.attempt.budgets) met.second a.follows other
+      follows_alike (next_by setup d a.answer) o.second p.second t a.answer a.mid b.mid x y new next (λ v is. mid_sound setup t v d o.first a.answer old a.mid sound a.attempt is) first.1
+      (a.attempt.budgets ∙ budgets ∙ sym b.attempt.budgets) met.second a.follows other
 
-  refuse_alike : (r : Refusal) (o p : CallEnvironment) (x y : Reply) (old new twin next : ModelState) → old.slots ≡ twin.slots → RefuseStep r o x old new → RefuseStep r p y twin next → (x ≡ y) × (new.slots ≡ next.slots)
+  refuse_alike : (r : Refusal) (o p : CallEnvironment) (x y : Reply) (old new twin next : ModelState) → old.slots ≡ twin.slots → RefuseStep r o x old new → RefuseStep r p y twin next → (x ≡ y) ×
+      (new.slots ≡ next.slots)
   refuse_alike r o p x y old new twin next slots a b = (a.reply_is ∙ sym b.reply_is, ap (λ s. s.slots) a.same ∙ slots ∙ sym (ap (λ s. s.slots) b.same))
 
-  found_alike : (t : Option ℕ) (o p : CallEnvironment) (x y : Reply) (old new twin next : ModelState) → BlocksWellFormed setup.properties.granularity old.slots → old.slots ≡ twin.slots → old.budgets ≡ twin.budgets → EqualButBytesCallEnvironment o p
+  found_alike : (t : Option ℕ) (o p : CallEnvironment) (x y : Reply) (old new twin next : ModelState) → BlocksWellFormed setup.properties.granularity old.slots → old.slots ≡ twin.slots → old.budgets
+      ≡ twin.budgets → EqualButBytesCallEnvironment o p
       → FoundStep setup d t o x old new → FoundStep setup e t p y twin next → (x ≡ y) × (new.slots ≡ next.slots)
   found_alike None o p x y old new twin next sound slots budgets met a b = refuse_alike _ o p x y old new twin next slots a b
   found_alike (Some t) o p x y old new twin next sound slots budgets met a b = serve_alike t o p x y old new twin next sound slots budgets met a b
 
-  allocate_alike : (valid : Bool) (o p : CallEnvironment) (x y : Reply) (old new twin next : ModelState) → BlocksWellFormed setup.properties.granularity old.slots → old.slots ≡ twin.slots → old.budgets ≡ twin.budgets → EqualButBytesCallEnvironment o p
+  allocate_alike : (valid : Bool) (o p : CallEnvironment) (x y : Reply) (old new twin next : ModelState) → BlocksWellFormed setup.properties.granularity old.slots → old.slots ≡ twin.slots →
+      old.budgets ≡ twin.budgets → EqualButBytesCallEnvironment o p
       → AllocateStep setup d valid o x old new → AllocateStep setup e valid p y twin next → (x ≡ y) × (new.slots ≡ next.slots)
   allocate_alike false o p x y old new twin next sound slots budgets met a b = refuse_alike _ o p x y old new twin next slots a b
   allocate_alike true o p x y old new twin next sound slots budgets met a b =
@@ -153,17 +166,20 @@ module _ (setup : Setup) (d e : AllocationCreateDesc) (same : EqualButBytesDescr
 -- ---- a free
 
 module _ (setup : Setup) (t : ℕ) where
-  free_done_alike : (p : Option (Piece DeviceMemory)) (old new twin next : ModelState) → BlocksWellFormed setup.properties.granularity old.slots → old.slots ≡ twin.slots → FreeStep t p Done old new → FreeStep t p Done twin next → new.slots ≡ next.slots
+  free_done_alike : (p : Option (Piece DeviceMemory)) (old new twin next : ModelState) → BlocksWellFormed setup.properties.granularity old.slots → old.slots ≡ twin.slots → FreeStep t p Done old new →
+      FreeStep t p Done twin next → new.slots ≡ next.slots
   free_done_alike None old new twin next sound slots a b = ap (λ s. s.slots) a ∙ slots ∙ sym (ap (λ s. s.slots) b)
   free_done_alike (Some p) old new twin next sound slots a b =
       let here = a.1 in
       let there = b.1 in
       let R : Slots → Type 0 = λ z. ReleasesPiece (IsTrue (has_several (slots_at z t))) (slots_at z t) p there.went there.left in
       let other : R old.slots = subst R (sym slots) there.releases in
-      let once = released_once setup.properties.granularity (IsTrue (has_several (slots_at old.slots t))) (slots_at old.slots t) p here.went there.went here.left there.left (sound t) here.releases other in
+      let once = released_once setup.properties.granularity (IsTrue (has_several (slots_at old.slots t))) (slots_at old.slots t) p here.went there.went here.left there.left (sound t) here.releases
+      other in
       here.slots ∙ (ap (slice_set old.slots t) once.1 ∙ (ap (λ z. slice_set z t there.left) slots ∙ sym there.slots))
 
-  free_fails_alike : (p : Option (Piece DeviceMemory)) (r s : Refusal) (old new next : ModelState) → BlocksWellFormed setup.properties.granularity old.slots → FreeStep t p (Fails r) old new → FreeStep t p (Fails s) old next → r ≡ s
+  free_fails_alike : (p : Option (Piece DeviceMemory)) (r s : Refusal) (old new next : ModelState) → BlocksWellFormed setup.properties.granularity old.slots → FreeStep t p (Fails r) old new →
+      FreeStep t p (Fails s) old next → r ≡ s
   free_fails_alike None r s old new next sound a b = absurd a
   free_fails_alike (Some p) r s old new next sound a b = refusal_once is_same_memory setup.properties.granularity p (slot_at (slots_at old.slots t) p.slot) r s (sound t p.slot) a.1 b.1
 
@@ -183,7 +199,8 @@ module _ (setup : Setup) (t : ℕ) where
   done_or_failed : (p : Option (Piece DeviceMemory)) (r : Refusal) (old new twin next : ModelState) → old.slots ≡ twin.slots → FreeStep t p Done old new → FreeStep t p (Fails r) twin next → ⊥
   done_or_failed p r old new twin next slots a b = done_or_fails t p r old new old a (failed_twin p r old twin next slots b)
 
-  free_alike : (p : Option (Piece DeviceMemory)) (x y : Reply) (old new twin next : ModelState) → BlocksWellFormed setup.properties.granularity old.slots → old.slots ≡ twin.slots → FreeStep t p x old new → FreeStep t p y twin next → (x ≡ y) × (new.slots ≡ next.slots)
+  free_alike : (p : Option (Piece DeviceMemory)) (x y : Reply) (old new twin next : ModelState) → BlocksWellFormed setup.properties.granularity old.slots → old.slots ≡ twin.slots → FreeStep t p x old
+      new → FreeStep t p y twin next → (x ≡ y) × (new.slots ≡ next.slots)
   free_alike p x y old new twin next sound slots a b =
       ⊎_elim
       (λ ok. ⊎_elim
@@ -202,7 +219,8 @@ module _ (setup : Setup) (t : ℕ) where
 
 module _ (setup : Setup) (t : ℕ) (name : List ℕ) where
   -- what the step says of the blocks, as if all else had stayed
-  rename_done_alike : (p : Option (Piece DeviceMemory)) (host : Bool) (old new twin next : ModelState) → old.slots ≡ twin.slots → RenameStep t p name host Done old new → RenameStep t p name host Done twin next → new.slots ≡ next.slots
+  rename_done_alike : (p : Option (Piece DeviceMemory)) (host : Bool) (old new twin next : ModelState) → old.slots ≡ twin.slots → RenameStep t p name host Done old new → RenameStep t p name host Done
+      twin next → new.slots ≡ next.slots
   rename_done_alike None host old new twin next slots a b = ap (λ s. s.slots) a.1 ∙ slots ∙ sym (ap (λ s. s.slots) b.1)
   rename_done_alike (Some p) host old new twin next slots a b =
       let other = subst (λ z. RenamesPiece (slots_at z t) p name b.1.left) (sym slots) b.1.renames in
@@ -213,7 +231,8 @@ module _ (setup : Setup) (t : ℕ) (name : List ℕ) where
   named_same None host r old new a = ap (λ s. s.slots) a.2
   named_same (Some p) host r old new a = ap (λ s. s.slots) a.1
 
-  named_twin : (p : Option (Piece DeviceMemory)) (host other : Bool) (r : Refusal) (old twin next : ModelState) → host ≡ other → old.slots ≡ twin.slots → RenameStep t p name other (Fails r) twin next → RenameStep t p name host (Fails r) old old
+  named_twin : (p : Option (Piece DeviceMemory)) (host other : Bool) (r : Refusal) (old twin next : ModelState) → host ≡ other → old.slots ≡ twin.slots → RenameStep t p name other (Fails r) twin next
+      → RenameStep t p name host (Fails r) old old
   named_twin None host other r old twin next same slots a = (same ∙ a.0, a.1, refl)
   named_twin (Some p) host other r old twin next same slots a = (
     ⊎_elim
@@ -231,7 +250,8 @@ module _ (setup : Setup) (t : ℕ) (name : List ℕ) where
       → RenameStep t p name host Done old new → RenameStep t p name other (Fails r) twin next → ⊥
   named_or_failed p host other r old new twin next same slots a b = named_or_fails t p name host r old new old a (named_twin p host other r old twin next same slots b)
 
-  rename_alike : (p : Option (Piece DeviceMemory)) (host other : Bool) (x y : Reply) (old new twin next : ModelState) → BlocksWellFormed setup.properties.granularity old.slots → host ≡ other → old.slots ≡ twin.slots
+  rename_alike : (p : Option (Piece DeviceMemory)) (host other : Bool) (x y : Reply) (old new twin next : ModelState) → BlocksWellFormed setup.properties.granularity old.slots → host ≡ other →
+      old.slots ≡ twin.slots
       → RenameStep t p name host x old new → RenameStep t p name other y twin next → (x ≡ y) × (new.slots ≡ next.slots)
   rename_alike p host other x y old new twin next sound same slots a b =
       ⊎_elim
@@ -280,11 +300,13 @@ same_alike (Budgeted n) y e = e
 
 -- ---- any call
 
-module _ (setup : Setup) (o p : CallEnvironment) (x y : Reply) (old new twin next : ModelState) (sound : BlocksWellFormed setup.properties.granularity old.slots) (slots : old.slots ≡ twin.slots) (budgets : old.budgets ≡ twin.budgets) (met : EqualButBytesCallEnvironment o p) where
+module _ (setup : Setup) (o p : CallEnvironment) (x y : Reply) (old new twin next : ModelState) (sound : BlocksWellFormed setup.properties.granularity old.slots) (slots : old.slots ≡ twin.slots)
+    (budgets : old.budgets ≡ twin.budgets) (met : EqualButBytesCallEnvironment o p) where
   -- the same call
   same_call : (call : Call) → Step setup call o x old new → Step setup call p y twin next → EqualButBytesReply x y × (new.slots ≡ next.slots)
   same_call (Allocate d) a b =
-      let once = allocate_alike setup d d (record { requirements = refl; location = refl; linear = refl; scheme = refl; name = refl }) (is_valid d) o p x y old new twin next sound slots budgets met a b in
+      let once = allocate_alike setup d d (record { requirements = refl; location = refl; linear = refl; scheme = refl; name = refl }) (is_valid d) o p x y old new twin next sound slots budgets met a
+      b in
       (same_alike x y once.0, once.1)
   same_call (Free f) a b =
       let once = free_alike setup f.memory_type_index (piece_of f) x y old new twin next sound slots a.1 b.1 in

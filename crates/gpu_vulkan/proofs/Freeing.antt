@@ -54,81 +54,83 @@ goes_as_held a n o size after sound rel y held numbered begins ends =
       ends = ap (λ (z : Extent). z.end) same ∙ ends;
     }
 
-module _ {D : Type 0} (g : Ghosts D) (setup : Setup) (first : Held) (t : ℕ) (old : Slots) (below : t < length old) (sound : BlocksWellFormed setup.properties.granularity old) (p : Piece DeviceMemory) where
-  abbrev n : ℕ
-  n = non_zero_u64_get p.number
+module _ {D : Type 0} (g : Ghosts D) (setup : Setup) (first : Held) (t : ℕ) (old : Slots) (below : t < length old) (sound : BlocksWellFormed setup.properties.granularity old) (p : Piece DeviceMemory)
+  where
+    abbrev n : ℕ
+    n = non_zero_u64_get p.number
 
-  abbrev one_less : Block → Slot DeviceMemory → Type 0
-  one_less after a = OneMore (extents_of after) (extents_of a.block) n p.offset p.size
+    abbrev one_less : Block → Slot DeviceMemory → Type 0
+    one_less after a = OneMore (extents_of after) (extents_of a.block) n p.offset p.size
 
-  one_from : (a : Slot DeviceMemory) (after : Block) → block_at old t p.slot ≡ Some a → SlotHolds is_same_memory p (Some a) → ReleasesIn a.block n after → one_less after a
-  one_from a after at live rel =
-      let here : SlotIsSound setup.properties.granularity (Some a) = subst (SlotIsSound setup.properties.granularity) at (sound t p.slot) in
-      goes_as_held a.block n p.offset p.size after here.1 rel live.1.0 live.1.1 live.1.2 live.1.3 live.1.4
+    one_from : (a : Slot DeviceMemory) (after : Block) → block_at old t p.slot ≡ Some a → SlotHolds is_same_memory p (Some a) → ReleasesIn a.block n after → one_less after a
+    one_from a after at live rel =
+        let here : SlotIsSound setup.properties.granularity (Some a) = subst (SlotIsSound setup.properties.granularity) at (sound t p.slot) in
+        goes_as_held a.block n p.offset p.size after here.1 rel live.1.0 live.1.1 live.1.2 live.1.3 live.1.4
 
-  -- what is left of the bytes
-  pub record Left (went : Option DeviceMemory) (held now : Held) (new : Slots) : Type 0 where
-    pub mid : ByteView
-    pub back : PutsBack (id_in t p) p.offset p.size (byte_view_of held old) mid
-    pub drops : MayDrop t p.slot went mid (byte_view_of now new)
+    -- what is left of the bytes
+    pub record Left (went : Option DeviceMemory) (held now : Held) (new : Slots) : Type 0 where
+      pub mid : ByteView
+      pub back : PutsBack (id_in t p) p.offset p.size (byte_view_of held old) mid
+      pub drops : MayDrop t p.slot went mid (byte_view_of now new)
 
-  settled_bytes : (several : Type 0) (a b : Option (Slot DeviceMemory)) (went : Option DeviceMemory) (device after : D)
-      → block_at old t p.slot ≡ a → SlotReleases several n a went b → GivesBack g device went after → SlotHolds is_same_memory p a
-      → HoldsJustLiveBlocks setup.properties first (g.held device) old → ((m : ℕ) → IsWhole (get (g.held device) m))
-      → Left went (g.held device) (g.held after) (slice_set old t (slice_set (slots_at old t) p.slot b))
-  settled_bytes several None b went device after at rel back live h whole = absurd rel
-  settled_bytes several (Some a) None None device after at rel back live h whole = absurd (none_some a.number rel.0)
-  settled_bytes several (Some a) (Some b) (Some m) device after at rel back live h whole = absurd (none_some m (sym rel.0))
-  settled_bytes several (Some a) (Some b) None device after at rel back live h whole =
-      let held = g.held device in
-      let slots = slots_at old t in
-      let new = slice_set old t (slice_set slots p.slot (Some b)) in
-      let inside = some_below slots p.slot a at in
-      let only = only_block old t p.slot (Some b) (slice_set slots p.slot (Some b)) below (set_only slots p.slot (Some b) inside) in
-      let is_live : IsLiveIn old t (Some p) = subst (SlotHolds is_same_memory p) (sym at) live in
-      let room : HasRoom (is_mapped setup.properties t) (bytes_of held a.number.0) p.offset p.size =
-      subst (λ k. HasRoom (is_mapped setup.properties t) (bytes_of held k) p.offset p.size) (sym (eqb-true a.number.0 p.block.0 live.0)) (live_room setup first held old sound h whole t p is_live) in
-      record {
-        mid = byte_view_of held new;
-        back = released_byte_view held old new t p.slot a b at only rel.1 (is_mapped setup.properties t) n p.offset p.size room (one_from a b.block at live rel.2);
-        drops = ap (λ (x : D). byte_view_of (g.held x) new) back;
-      }
-  settled_bytes several (Some a) None (Some m) device after at rel back live h whole =
-      let held = g.held device in
-      let slots = slots_at old t in
-      let new = slice_set old t (slice_set slots p.slot None) in
-      let inside = some_below slots p.slot a at in
-      let only = only_block old t p.slot None (slice_set slots p.slot None) below (set_only slots p.slot None inside) in
-      let emptied : extents_of rel.1.0 ≡ [] = rel.1.2.0 in
-      let one : OneMore [] (extents_of a.block) n p.offset p.size = subst (λ (xs : List Extent). OneMore xs (extents_of a.block) n p.offset p.size) emptied (one_from a rel.1.0 at live rel.1.1) in
-      let same : m ≡ a.number = some_same m a.number rel.0 in
-      record {
-        mid = with_back (id_in t p) p.offset p.size (byte_view_of held old);
-        back = with_back_puts (id_in t p) p.offset p.size (byte_view_of held old);
-        drops = dropped_byte_view held (g.held after) old new t p.slot a at only n p.offset p.size
-            (λ u j s away found.
-            ap (λ (k : Held). bytes_of k s.number.0) back.held
-            ∙ ap entry_bytes (get-remove_other held m.0 s.number.0 (λ e. let place = h.one_block u j t p.slot s a found at (e ∙ ap (λ (k : DeviceMemory). k.0) same) in away place.0 place.1)))
-            one;
-      }
+    settled_bytes : (several : Type 0) (a b : Option (Slot DeviceMemory)) (went : Option DeviceMemory) (device after : D)
+        → block_at old t p.slot ≡ a → SlotReleases several n a went b → GivesBack g device went after → SlotHolds is_same_memory p a
+        → HoldsJustLiveBlocks setup.properties first (g.held device) old → ((m : ℕ) → IsWhole (get (g.held device) m))
+        → Left went (g.held device) (g.held after) (slice_set old t (slice_set (slots_at old t) p.slot b))
+    settled_bytes several None b went device after at rel back live h whole = absurd rel
+    settled_bytes several (Some a) None None device after at rel back live h whole = absurd (none_some a.number rel.0)
+    settled_bytes several (Some a) (Some b) (Some m) device after at rel back live h whole = absurd (none_some m (sym rel.0))
+    settled_bytes several (Some a) (Some b) None device after at rel back live h whole =
+        let held = g.held device in
+        let slots = slots_at old t in
+        let new = slice_set old t (slice_set slots p.slot (Some b)) in
+        let inside = some_below slots p.slot a at in
+        let only = only_block old t p.slot (Some b) (slice_set slots p.slot (Some b)) below (set_only slots p.slot (Some b) inside) in
+        let is_live : IsLiveIn old t (Some p) = subst (SlotHolds is_same_memory p) (sym at) live in
+        let room : HasRoom (is_mapped setup.properties t) (bytes_of held a.number.0) p.offset p.size =
+        subst (λ k. HasRoom (is_mapped setup.properties t) (bytes_of held k) p.offset p.size) (sym (eqb-true a.number.0 p.block.0 live.0)) (live_room setup first held old sound h whole t p is_live)
+        in
+        record {
+          mid = byte_view_of held new;
+          back = released_byte_view held old new t p.slot a b at only rel.1 (is_mapped setup.properties t) n p.offset p.size room (one_from a b.block at live rel.2);
+          drops = ap (λ (x : D). byte_view_of (g.held x) new) back;
+        }
+    settled_bytes several (Some a) None (Some m) device after at rel back live h whole =
+        let held = g.held device in
+        let slots = slots_at old t in
+        let new = slice_set old t (slice_set slots p.slot None) in
+        let inside = some_below slots p.slot a at in
+        let only = only_block old t p.slot None (slice_set slots p.slot None) below (set_only slots p.slot None inside) in
+        let emptied : extents_of rel.1.0 ≡ [] = rel.1.2.0 in
+        let one : OneMore [] (extents_of a.block) n p.offset p.size = subst (λ (xs : List Extent). OneMore xs (extents_of a.block) n p.offset p.size) emptied (one_from a rel.1.0 at live rel.1.1) in
+        let same : m ≡ a.number = some_same m a.number rel.0 in
+        record {
+          mid = with_back (id_in t p) p.offset p.size (byte_view_of held old);
+          back = with_back_puts (id_in t p) p.offset p.size (byte_view_of held old);
+          drops = dropped_byte_view held (g.held after) old new t p.slot a at only n p.offset p.size
+              (λ u j s away found.
+              ap (λ (k : Held). bytes_of k s.number.0) back.held
+              ∙ ap entry_bytes (get-remove_other held m.0 s.number.0 (λ e. let place = h.one_block u j t p.slot s a found at (e ∙ ap (λ (k : DeviceMemory). k.0) same) in away place.0 place.1)))
+              one;
+        }
 
-  pub released_step : (device : D) (new : Slots) (after : D) → IsReleased g t p old device new after → IsLiveIn old t (Some p)
-      → HoldsJustLiveBlocks setup.properties first (g.held device) old → ((m : ℕ) → IsWhole (get (g.held device) m))
-      → (before now : Budgets) → now ≡ before
-      → ReleaseStep t p (record { slots = old; budgets = before; byte_view = byte_view_of (g.held device) old }) (record { slots = new; budgets = now; byte_view = byte_view_of (g.held after) new })
-  released_step device new after r live h whole before now same =
-      let left = settled_bytes _ (slot_at (slots_at old t) p.slot) r.releases.slot r.went device after refl r.releases.releases r.gives_back live h whole in
-      let new_is : new ≡ slice_set old t (slice_set (slots_at old t) p.slot r.releases.slot) = r.slots ∙ ap (slice_set old t) r.releases.slots in
-      record {
-        went = r.went;
-        left = r.left;
-        releases = r.releases;
-        slots = r.slots;
-        mid = left.mid;
-        back = left.back;
-        drops = subst (λ (ss : Slots). MayDrop t p.slot r.went left.mid (byte_view_of (g.held after) ss)) (sym new_is) left.drops;
-        budgets = same;
-      }
+    pub released_step : (device : D) (new : Slots) (after : D) → IsReleased g t p old device new after → IsLiveIn old t (Some p)
+        → HoldsJustLiveBlocks setup.properties first (g.held device) old → ((m : ℕ) → IsWhole (get (g.held device) m))
+        → (before now : Budgets) → now ≡ before
+        → ReleaseStep t p (record { slots = old; budgets = before; byte_view = byte_view_of (g.held device) old }) (record { slots = new; budgets = now; byte_view = byte_view_of (g.held after) new })
+    released_step device new after r live h whole before now same =
+        let left = settled_bytes _ (slot_at (slots_at old t) p.slot) r.releases.slot r.went device after refl r.releases.releases r.gives_back live h whole in
+        let new_is : new ≡ slice_set old t (slice_set (slots_at old t) p.slot r.releases.slot) = r.slots ∙ ap (slice_set old t) r.releases.slots in
+        record {
+          went = r.went;
+          left = r.left;
+          releases = r.releases;
+          slots = r.slots;
+          mid = left.mid;
+          back = left.back;
+          drops = subst (λ (ss : Slots). MayDrop t p.slot r.went left.mid (byte_view_of (g.held after) ss)) (sym new_is) left.drops;
+          budgets = same;
+        }
 
 -- ---- the call
 
@@ -136,12 +138,14 @@ back_counts : {D : Type 0} (g : Ghosts D) (went : Option DeviceMemory) (device a
 back_counts g None device after back = (ap g.refused back, ap g.latest back)
 back_counts g (Some m) device after back = (back.count, back.latest)
 
-module _ {D : Type 0} (g : Ghosts D) (first : Held) (old new : State D) (sound : BlocksWellFormed old.setup.properties.granularity old.slots) (h : HoldsJustLiveBlocks old.setup.properties first (g.held old.device) old.slots) (whole : (m : ℕ) → IsWhole (get (g.held old.device) m))
+module _ {D : Type 0} (g : Ghosts D) (first : Held) (old new : State D) (sound : BlocksWellFormed old.setup.properties.granularity old.slots)
+    (h : HoldsJustLiveBlocks old.setup.properties first (g.held old.device) old.slots) (whole : (m : ℕ) → IsWhole (get (g.held old.device) m))
     (budgets : new.budgets ≡ old.budgets) where
   same_model : new.slots ≡ old.slots → new.device ≡ old.device → model_of g new ≡ model_of g old
   same_model slots device = λ i. record { slots = slots i; budgets = budgets i; byte_view = byte_view_of (g.held (device i)) (slots i) }
 
-  frees_as : (a : Allocation) (o : Option (Piece DeviceMemory)) → piece_of a ≡ o → (result : Result (Unit {0}) (AllocationError × Allocation)) → FreesPiece g a o old.slots old.device result new.slots new.device
+  frees_as : (a : Allocation) (o : Option (Piece DeviceMemory)) → piece_of a ≡ o → (result : Result (Unit {0}) (AllocationError × Allocation)) → FreesPiece g a o old.slots old.device result new.slots
+      new.device
       → FreeStep a.memory_type_index o (freed_as result) (model_of g old) (model_of g new) × (g.refused new.device ≡ g.refused old.device) × (g.latest new.device ≡ g.latest old.device)
   frees_as a None is (Ok u) f = (same_model f.0 f.1, ap g.refused f.1, ap g.latest f.1)
   frees_as a None is (Err e) f = absurd f
@@ -151,7 +155,8 @@ module _ {D : Type 0} (g : Ghosts D) (first : Held) (old new : State D) (sound :
       ((f.0, released_step g old.setup first t old.slots (type_below old.slots t p f.0) sound p old.device new.slots new.device f.1 f.0 h whole old.budgets new.budgets budgets), counts.0, counts.1)
   frees_as a (Some p) is (Err e) f = ((f.0, f.1, same_model f.3 f.4), ap g.refused f.4, ap g.latest f.4)
 
-  pub free_step : (a : Allocation) (result : Result (Unit {0}) (AllocationError × Allocation)) → Frees g a old.slots old.device result new.slots new.device → IsStep g (Free a) (freed_as result) old new
+  pub free_step : (a : Allocation) (result : Result (Unit {0}) (AllocationError × Allocation)) → Frees g a old.slots old.device result new.slots new.device → IsStep g (Free a) (freed_as result) old
+      new
   free_step a result f =
       let s = frees_as a (piece_of a) refl result f in
       record {

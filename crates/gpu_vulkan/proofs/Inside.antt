@@ -28,7 +28,8 @@ bytes_range : (o : Option (List ℕ)) (offset size n : ℕ) → is_some o ≡ tr
 bytes_range None offset size n some long fits = cc
 bytes_range (Some xs) offset size n some long fits = omega (arith, long, fits)
 
-entry_range : (p : Properties) (t : ℕ) (b : Block) (e : Option Entry) (offset size : ℕ) → is_mapped p t ≡ true → HasEntry (IsBlockEntry p) t b e → IsWhole e → offset + size ≤ size_of b → HasRange (entry_bytes e) offset size
+entry_range : (p : Properties) (t : ℕ) (b : Block) (e : Option Entry) (offset size : ℕ) → is_mapped p t ≡ true → HasEntry (IsBlockEntry p) t b e → IsWhole e → offset + size ≤ size_of b → HasRange
+    (entry_bytes e) offset size
 entry_range p t b None offset size mapped entry whole fits = absurd entry
 entry_range p t b (Some e) offset size mapped entry whole fits = bytes_range e.bytes offset size e.size (entry.2 ∙ mapped) whole (omega (arith, entry.0, fits))
 
@@ -89,7 +90,8 @@ no_range (Some xs) o l e = cc
 abbrev pub piece_with : Allocation → Option NonZeroU64 → Option (Piece DeviceMemory)
 piece_with a chunk = option_map (λ n. record { slot = a.memory_block_index; number = n; offset = a.offset; size = a.size; block = a.device_memory }) chunk
 
-module _ (p : Properties) (first held : Held) (ss : Slots) (sound : BlocksWellFormed p.granularity ss) (h : HoldsJustLiveBlocks p first held ss) (whole : (n : ℕ) → IsWhole (get held n)) (a : Allocation) where
+module _ (p : Properties) (first held : Held) (ss : Slots) (sound : BlocksWellFormed p.granularity ss) (h : HoldsJustLiveBlocks p first held ss) (whole : (n : ℕ) → IsWhole (get held n))
+    (a : Allocation) where
   range_told : (chunk : Option NonZeroU64) (m : Bool) → is_mapped p a.memory_type_index ≡ m → a.chunk_id ≡ chunk → IsLiveIn ss a.memory_type_index (piece_with a chunk)
       → (r : Option (Bor (List ℕ))) → option_copied r ≡ range_of held a.device_memory.0 a.offset a.size
       → (IsSome r → IsMapped p ss a) × (IsMapped p ss a → IsSome r)

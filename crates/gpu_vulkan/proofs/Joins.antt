@@ -1,5 +1,6 @@
 -- A list of live pieces with one piece more: which number stands for which piece, and which bytes lie in one.
-use Rattle.std.proofs.Common.{◌≡◌, ◌≢◌, ◌∙◌, ◌⊎◌, ℕ, ◌+◌, ◌<◌, ◌≤◌, refl, sym, ap, subst, Bool, true, false, cond, List, [], ◌∷◌, Option, Some, None, Contains, arith, inl, inr, ⊎_elim, ltb, not, IfSome, IsSome}
+use Rattle.std.proofs.Common.{◌≡◌, ◌≢◌, ◌∙◌, ◌⊎◌, ℕ, ◌+◌, ◌<◌, ◌≤◌, refl, sym, ap, subst, Bool, true, false, cond, List, [], ◌∷◌, Option, Some, None, Contains, arith, inl, inr, ⊎_elim, ltb, not}
+use Rattle.std.proofs.Common.{IfSome, IsSome}
 use Rattle.std.specs.Prelude.{◌||◌, ◌==◌, All, filter}
 use Rattle.std.specs.List.{list_any}
 use Rattle.std.specs.Option.{option_to_list}
@@ -43,7 +44,8 @@ some_is a b h = cc
 
 -- an element stands in front or behind
 split_cons : {X : Type 0} (y : X) (ys : List X) (x : X) → Contains (y ∷ ys) x → (x ≡ y) ⊎ Contains ys x
-split_cons y ys x h = All-contains (λ z. (z ≡ y) ⊎ Contains ys z) (y ∷ ys) x (All-cons (λ z. (z ≡ y) ⊎ Contains ys z) y ys (inl refl) (All-weaker (Contains ys) (λ z. (z ≡ y) ⊎ Contains ys z) (λ z q. inr q) ys (All-contains_itself ys))) h
+split_cons y ys x h = All-contains (λ z. (z ≡ y) ⊎ Contains ys z) (y ∷ ys) x
+    (All-cons (λ z. (z ≡ y) ⊎ Contains ys z) y ys (inl refl) (All-weaker (Contains ys) (λ z. (z ≡ y) ⊎ Contains ys z) (λ z q. inr q) ys (All-contains_itself ys))) h
 
 pub found_number : (xs : List Extent) (k : ℕ) (x : Extent) → piece_of_number xs k ≡ Some x → Contains xs x × (x.number ≡ k)
 found_number [] k x e = cc
@@ -118,7 +120,8 @@ module _ (p : Extent → Bool) (gone : Extent) where
   left_number (y ∷ ys) k ne all =
       let P : Extent → Type 0 = λ z. (p z ≡ true) ⊎ (z ≡ gone) in
       let rest = left_number ys k ne (All-tail P y ys all) in
-      let dropped : y ≡ gone → piece_of_number (y ∷ ys) k ≡ piece_of_number ys k = λ same. ap (λ b. cond b (Some y) (piece_of_number ys k)) (eq_false y.number k (λ e. ne (sym e ∙ ap (λ (z : Extent). z.number) same))) in
+      let dropped : y ≡ gone → piece_of_number (y ∷ ys) k ≡ piece_of_number ys k = λ same. ap (λ b. cond b (Some y) (piece_of_number ys k))
+      (eq_false y.number k (λ e. ne (sym e ∙ ap (λ (z : Extent). z.number) same))) in
       ⊎_elim
       (λ stays. ap (λ o. cond (y.number == k) (Some y) o) rest ∙ sym (ap (λ b. piece_of_number (cond b (y ∷ filter p ys) (filter p ys)) k) stays))
       (λ goes.
@@ -195,17 +198,23 @@ joins_released old n new sound t =
     let stays_or_is : All (λ y. (p y ≡ true) ⊎ (y ≡ x)) old.extents =
     all_of old.extents (λ y. (p y ≡ true) ⊎ (y ≡ x)) (λ y h. ⊎_elim (λ e. inr (from_start y h e)) (λ ne. inl (ap not (eq_false y.start x.start ne))) (cases_eq y.start x.start)) in
     let left : (y : Extent) → Contains (filter p old.extents) y → Contains old.extents y × (y ≡ x → ⊥) =
-    λ y h. (in_filter p y old.extents h, λ same. false_true (sym (ap not (eq_true y.start x.start (ap (λ (z : Extent). z.start) same))) ∙ All-contains (λ z. p z ≡ true) (filter p old.extents) y (filtered_passes p old.extents) h)) in
+    λ y h. (
+      in_filter p y old.extents h,
+      λ same. false_true
+          (sym (ap not (eq_true y.start x.start (ap (λ (z : Extent). z.start) same))) ∙ All-contains (λ z. p z ≡ true) (filter p old.extents) y (filtered_passes p old.extents) h),
+    ) in
     record {
       there = number_found old.extents x (all_of old.extents (λ y. y.number ≡ x.number → y ≡ x) (λ y h e. sound.one_number y x h t.held e)) t.held;
       others = λ k ne. left_number p x old.extents k ne stays_or_is ∙ ap (λ (xs : List Extent). piece_of_number xs k) (sym t.extents);
-      fresh = ap (λ (xs : List Extent). piece_of_number xs x.number) t.extents ∙ number_missing (filter p old.extents) x.number (all_of (filter p old.extents) (λ y. y.number ≢ x.number) (λ y h e. (left y h).1 (sound.one_number y x (left y h).0 t.held e)));
+      fresh = ap (λ (xs : List Extent). piece_of_number xs x.number) t.extents ∙ number_missing (filter p old.extents) x.number
+          (all_of (filter p old.extents) (λ y. y.number ≢ x.number) (λ y h e. (left y h).1 (sound.one_number y x (left y h).0 t.held e)));
       free = λ at is. ap (λ (xs : List Extent). is_covered xs at) t.extents ∙ none_of (λ y. covers y at) (filter p old.extents) (λ y h.
           let there = left y h in
           let wy = within_of old y sound there.0 in
           let wx = within_of old x sound t.held in
           let c = covers_range x at is in
-          below_or_above y at (⊎_elim (λ same. absurd (there.1 same)) (λ apart. ⊎_elim (λ a. inr (omega (arith, a, c.0, wx.0))) (λ a. inl (omega (arith, a, c.1, wy.0))) apart) (sound.apart y x there.0 t.held)));
+          below_or_above y at (⊎_elim (λ same. absurd (there.1 same)) (λ apart. ⊎_elim (λ a. inr (omega (arith, a, c.0, wx.0))) (λ a. inl (omega (arith, a, c.1, wy.0))) apart)
+          (sound.apart y x there.0 t.held)));
       covered = λ at is. any_of (λ y. covers y at) old.extents x t.held is;
       kept = λ at out. left_covered p x old.extents at out stays_or_is ∙ ap (λ (xs : List Extent). is_covered xs at) (sym t.extents);
     }
@@ -221,12 +230,14 @@ pub record OneMore (xs more : List Extent) (number offset size : ℕ) : Type 0 w
   pub ends : x.end ≡ offset + size
 
 pub one_more_taken : (old : Block) (r : Request) (o n : ℕ) (new : Block) → IsSoundBlock old → IsSoundBlock new → TakesIn old r o n new → OneMore (extents_of old) (extents_of new) n o r.size
-one_more_taken (free_list old) r o n (free_list new) before after t = record { x = piece_of old r o n new t; joins = joins_taken old r o n new before after t; numbered = refl; begins = refl; ends = refl }
+one_more_taken (free_list old) r o n (free_list new) before after t = record
+    { x = piece_of old r o n new t; joins = joins_taken old r o n new before after t; numbered = refl; begins = refl; ends = refl }
 one_more_taken (free_list old) r o n (dedicated new) before after t = absurd t
 one_more_taken (dedicated old) r o n (free_list new) before after t = absurd t
 one_more_taken (dedicated old) r o n (dedicated new) before after t = record {
   x = whole_extent r;
-  joins = subst (λ (xs : List Extent). Joins (whole_extent r) xs (held_extents new)) (sym (ap option_to_list t.0)) (subst (λ (d : Dedicated). Joins (whole_extent r) [] (held_extents d)) (sym t.4) (joins_one (whole_extent r)));
+  joins = subst (λ (xs : List Extent). Joins (whole_extent r) xs (held_extents new)) (sym (ap option_to_list t.0))
+      (subst (λ (d : Dedicated). Joins (whole_extent r) [] (held_extents d)) (sym t.4) (joins_one (whole_extent r)));
   numbered = sym t.3;
   begins = sym t.2;
   ends = (let e = t.2 in omega (arith, e));

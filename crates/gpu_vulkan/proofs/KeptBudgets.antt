@@ -6,7 +6,8 @@ use Rattle.gpu_device.specs.declared.vulkan.types.DeviceMemory.{DeviceMemory}
 use Rattle.gpu_vulkan.specs.Allocate.{is_valid}
 use Rattle.gpu_vulkan.specs.Budgets.{SetsNoBudget}
 use Rattle.gpu_vulkan.specs.Live.{piece_of}
-use Rattle.gpu_vulkan.specs.Step.{ModelState, Call, Allocate, Free, Write, Rename, Report, Leaks, Read, Capacity, SetBudget, Budget, CallEnvironment, Reply, Fails, Done, Step, AllocateStep, FoundStep, Follows, FreeStep, RenameStep, next_by}
+use Rattle.gpu_vulkan.specs.Step.{ModelState, Call, Allocate, Free, Write, Rename, Report, Leaks, Read, Capacity, SetBudget, Budget, CallEnvironment, Reply, Fails, Done, Step, AllocateStep}
+use Rattle.gpu_vulkan.specs.Step.{FoundStep, Follows, FreeStep, RenameStep, next_by}
 use Rattle.gpu_vulkan_blocks.specs.Suballocation.{AttemptEnvironment, Answer}
 use Rattle.gpu_vulkan_setup.specs.Setup.{Setup}
 use Rattle.gpu_vulkan_setup.specs.declared.describe.AllocationCreateDesc.{AllocationCreateDesc}

@@ -1,5 +1,6 @@
 -- A live allocation's list is the bytes at its place, and a write at its place changes that list alone.
-use Rattle.std.proofs.Common.{◌≡◌, ◌∙◌, ◌⊎◌, ℕ, ◌+◌, ◌-◌, ◌<◌, ◌≤◌, refl, sym, ap, subst, true, false, List, length, take, drop, slice_get, Option, Some, None, Contains, arith, inl, inr, ⊎_elim, Bor, IsSome, IfSome, option_copied, Result, Ok, Err}
+use Rattle.std.proofs.Common.{◌≡◌, ◌∙◌, ◌⊎◌, ℕ, ◌+◌, ◌-◌, ◌<◌, ◌≤◌, refl, sym, ap, subst, true, false, List, length, take, drop, slice_get, Option, Some, None, Contains, arith, inl, inr, ⊎_elim}
+use Rattle.std.proofs.Common.{Bor, IsSome, IfSome, option_copied, Result, Ok, Err}
 use Rattle.std.specs.Prelude.{if◌then◌else◌}
 use Rattle.std.specs.FinMap.{get}
 use Rattle.std.proofs.lemmas.Bool.{cases_eq, cases_Bool, cases_lt}
@@ -43,7 +44,8 @@ offset_below : (b : Block) (y : Extent) → IsSoundBlock b → Contains (extents
 offset_below (free_list b) y sound k = let w = within_of b y sound k in omega (arith, w.1)
 offset_below (dedicated b) y sound k = let zero = whole_offset b.piece b.size y sound k in omega (arith, zero)
 
-module _ (setup : Setup) (first held : Held) (ss : Slots) (sound : BlocksWellFormed setup.properties.granularity ss) (h : HoldsJustLiveBlocks setup.properties first held ss) (whole : (n : ℕ) → IsWhole (get held n)) (a : Allocation) where
+module _ (setup : Setup) (first held : Held) (ss : Slots) (sound : BlocksWellFormed setup.properties.granularity ss) (h : HoldsJustLiveBlocks setup.properties first held ss)
+    (whole : (n : ℕ) → IsWhole (get held n)) (a : Allocation) where
   sound_at : (s : Slot DeviceMemory) (t i : ℕ) → block_at ss t i ≡ Some s → IsSoundBlock s.block
   sound_at s t i at = (subst (SlotIsSound setup.properties.granularity) at (sound t i)).1
 
@@ -148,7 +150,8 @@ module _ (setup : Setup) (first held : Held) (ss : Slots) (sound : BlocksWellFor
         within_covers : (z : Extent) (k : ℕ) → z.offset ≤ k → k < z.end → covers z k ≡ true
         within_covers z k low high = grind (arith, nat_tests)
 
-    same_byte : (t i at : ℕ) (s : Slot DeviceMemory) → block_at ss t i ≡ Some s → is_covered (extents_of s.block) at ≡ false → byte_at (bytes_of now s.number.0) at ≡ byte_at (bytes_of held s.number.0) at
+    same_byte : (t i at : ℕ) (s : Slot DeviceMemory) → block_at ss t i ≡ Some s → is_covered (extents_of s.block) at ≡ false → byte_at (bytes_of now s.number.0) at ≡ byte_at
+        (bytes_of held s.number.0) at
     same_byte t i at s here out =
         ⊎_elim
         (λ is.
@@ -180,7 +183,8 @@ module _ (setup : Setup) (first held : Held) (ss : Slots) (sound : BlocksWellFor
 
 -- ---- over a device
 
-module _ {D : Type 0} (g : Ghosts D) (first : Held) (s : State D) (sound : BlocksWellFormed s.setup.properties.granularity s.slots) (h : HoldsJustLiveBlocks s.setup.properties first (g.held s.device) s.slots) (whole : (n : ℕ) → IsWhole (get (g.held s.device) n)) (a : Allocation) where
+module _ {D : Type 0} (g : Ghosts D) (first : Held) (s : State D) (sound : BlocksWellFormed s.setup.properties.granularity s.slots)
+    (h : HoldsJustLiveBlocks s.setup.properties first (g.held s.device) s.slots) (whole : (n : ℕ) → IsWhole (get (g.held s.device) n)) (a : Allocation) where
   -- a write through what is lent of an allocation is a step
   pub write_step : (written : (n start : ℕ) (ws : List ℕ) → g.held (g.written s.device n start ws) ≡ with_range (g.held s.device) n start ws)
       → ((n start : ℕ) (ws : List ℕ) → g.refused (g.written s.device n start ws) ≡ g.refused s.device)

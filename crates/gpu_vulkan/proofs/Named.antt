@@ -1,5 +1,6 @@
 -- A new name, a report and the leaks' texts are steps of the model.
-use Rattle.std.proofs.Common.{◌≡◌, ◌∙◌, ℕ, ◌-◌, ◌<◌, refl, sym, ap, subst, Bool, true, false, List, [], ◌∷◌, map, length, slice_set, Option, Some, None, Ok, Err, Result, inl, inr, ⊎_elim, IfOk, IfErr}
+use Rattle.std.proofs.Common.{◌≡◌, ◌∙◌, ℕ, ◌-◌, ◌<◌, refl, sym, ap, subst, Bool, true, false, List, [], ◌∷◌, map, length, slice_set, Option, Some, None, Ok, Err, Result, inl, inr, ⊎_elim, IfOk}
+use Rattle.std.proofs.Common.{IfErr}
 use Rattle.std.specs.Prelude.{if◌then◌else◌, ◌||◌, ◌==◌, ◌&&◌, string_bytes, nat_lt, nat_le, Vec, String}
 use Rattle.std.specs.Global.{Global}
 use Rattle.std.specs.Option.{option_map, option_to_list}
@@ -97,7 +98,8 @@ one_covered None name at = refl
 one_covered (Some x) name at = refl
 
 block_number_alike : (old : Block) (n : ℕ) (name : List ℕ) (new : Block) → RenamesIn old n name new → (k : ℕ) → IsAlike (piece_of_number (extents_of new) k) (piece_of_number (extents_of old) k)
-block_number_alike (free_list old) n name (free_list new) r k = subst (λ (xs : List Extent). IsAlike (piece_of_number xs k) (piece_of_number old.extents k)) (sym r.extents) (named_number n name old.extents k)
+block_number_alike (free_list old) n name (free_list new) r k = subst (λ (xs : List Extent). IsAlike (piece_of_number xs k) (piece_of_number old.extents k)) (sym r.extents)
+    (named_number n name old.extents k)
 block_number_alike (free_list old) n name (dedicated new) r k = absurd r
 block_number_alike (dedicated old) n name (free_list new) r k = absurd r
 block_number_alike (dedicated old) n name (dedicated new) r k =
@@ -171,7 +173,8 @@ module _ {D : Type 0} (g : Ghosts D) (old new : State D) (device : new.device �
     pub host : Bool
     pub step : RenameStep a.memory_type_index o name host (done_as result) (model_of g old) (model_of g new)
 
-  renaming : (a b : Allocation) (o : Option (Piece DeviceMemory)) (name : List ℕ) (result : Result (Unit {0}) AllocationError) → RenamesBy a o name old.slots result b new.slots → Renaming a o name result
+  renaming : (a b : Allocation) (o : Option (Piece DeviceMemory)) (name : List ℕ) (result : Result (Unit {0}) AllocationError) → RenamesBy a o name old.slots result b new.slots → Renaming a o name
+      result
   renaming a b None name (Ok u) r = record { host = true; step = (refl, same_model r.1) }
   renaming a b None name (Err e) r = record { host = false; step = (refl, r.0, same_model r.2) }
   renaming a b (Some p) name (Ok u) r = record {
@@ -195,11 +198,13 @@ module _ {D : Type 0} (g : Ghosts D) (old new : State D) (device : new.device �
       }
 
 module _ {D : Type 0} (g : Ghosts D) (s : State D) where
-  pub report_step : (result : Result AllocatorReport AllocationError) → IfOk result (λ r. report_of r ≡ whole_report s.slots) → IfErr result (λ e. e ≡ HostOutOfMemory) → IsStep g Report (shown_as result) s s
+  pub report_step : (result : Result AllocatorReport AllocationError) → IfOk result (λ r. report_of r ≡ whole_report s.slots) → IfErr result (λ e. e ≡ HostOutOfMemory) → IsStep g Report
+      (shown_as result) s s
   report_step (Ok r) told refused = record { environment = no_question true; step = ((refl, refl), (refl, told, refl)); count = refl; latest = refl }
   report_step (Err e) told refused = record { environment = no_question false; step = ((refl, refl), (refl, ap refusal_of refused, refl)); count = refl; latest = refl }
 
-  pub leaks_step : (result : Result (Vec (String Global) Global) AllocationError) → IfOk result (λ v. map string_bytes v.items ≡ map leak_text (all_leaks s.slots)) → IfErr result (λ e. e ≡ HostOutOfMemory)
+  pub leaks_step : (result : Result (Vec (String Global) Global) AllocationError) → IfOk result (λ v. map string_bytes v.items ≡ map leak_text (all_leaks s.slots)) → IfErr result
+      (λ e. e ≡ HostOutOfMemory)
       → IsStep g Leaks (told_as result) s s
   leaks_step (Ok v) told refused = record { environment = no_question true; step = ((refl, refl), (refl, told, refl)); count = refl; latest = refl }
   leaks_step (Err e) told refused = record { environment = no_question false; step = ((refl, refl), (refl, ap refusal_of refused, refl)); count = refl; latest = refl }

@@ -24,14 +24,17 @@ use Rattle.gpu_vulkan.specs.Live.{piece_of}
 use Rattle.gpu_memory_types.specs.Leaks.{all_leaks}
 use Rattle.gpu_memory_types.specs.Reports.{whole_report}
 use Rattle.gpu_vulkan_setup.specs.Setup.{Setup}
-use Rattle.gpu_vulkan.specs.Step.{ModelState, Call, Allocate, Free, Write, Rename, Report, Leaks, Read, Capacity, SetBudget, Budget, Reply, Given, Fails, Done, Bytes, Sum, Shows, Tells, Budgeted, RenameStep, SetBudgetStep, ReportStep, LeaksStep, CallEnvironment, BytesAfter, AttemptStep, reply_of, next_by, Follows, ServeStep, RefuseStep, FoundStep, AllocateStep, MayDrop, ReleaseStep, FreeStep, WriteStep, IsRead, Step, id_in, id_of}
+use Rattle.gpu_vulkan.specs.Step.{ModelState, Call, Allocate, Free, Write, Rename, Report, Leaks, Read, Capacity, SetBudget, Budget, Reply, Given, Fails, Done, Bytes, Sum, Shows, Tells, Budgeted}
+use Rattle.gpu_vulkan.specs.Step.{RenameStep, SetBudgetStep, ReportStep, LeaksStep, CallEnvironment, BytesAfter, AttemptStep, reply_of, next_by, Follows, ServeStep, RefuseStep, FoundStep}
+use Rattle.gpu_vulkan.specs.Step.{AllocateStep, MayDrop, ReleaseStep, FreeStep, WriteStep, IsRead, Step, id_in, id_of}
 use Rattle.gpu_vulkan.specs.declared.allocation.Allocation.{Allocation}
 use Rattle.gpu_vulkan_setup.specs.declared.describe.AllocationCreateDesc.{AllocationCreateDesc}
 use Rattle.gpu_vulkan.proofs.Steps.{refused_same, none_next}
 
 -- ---- an attempt
 
-attempts_once : (setup : Setup) (budgets : Budgets) (old : Slots) (t : ℕ) (d : AllocationCreateDesc) (o : AttemptEnvironment) (x y : Answer) (new next : Slots) → BlocksWellFormed setup.properties.granularity old
+attempts_once : (setup : Setup) (budgets : Budgets) (old : Slots) (t : ℕ) (d : AllocationCreateDesc) (o : AttemptEnvironment) (x y : Answer) (new next : Slots) → BlocksWellFormed
+    setup.properties.granularity old
     → Attempts setup budgets old t d o x new → Attempts setup budgets old t d o y next → (x ≡ y) × (new ≡ next)
 attempts_once setup budgets old t d o x y new next sound a b =
     ⊎_elim
@@ -83,7 +86,8 @@ place_same p q e =
     let numbers = eqb-true p.number q.number b.1 in
     λ i. record { memory_type = types i; slot = slots i; number = numbers i }
 
-lists_alike : (p : AllocationId) (old new next : ByteView) → new.allocation_bytes p ≡ next.allocation_bytes p → ((q : AllocationId) → is_same_id p q ≡ false → new.allocation_bytes q ≡ old.allocation_bytes q) → ((q : AllocationId) → is_same_id p q ≡ false → next.allocation_bytes q ≡ old.allocation_bytes q)
+lists_alike : (p : AllocationId) (old new next : ByteView) → new.allocation_bytes p ≡ next.allocation_bytes p →
+    ((q : AllocationId) → is_same_id p q ≡ false → new.allocation_bytes q ≡ old.allocation_bytes q) → ((q : AllocationId) → is_same_id p q ≡ false → next.allocation_bytes q ≡ old.allocation_bytes q)
     → (q : AllocationId) → new.allocation_bytes q ≡ next.allocation_bytes q
 lists_alike p old new next here a b q =
     ⊎_elim
@@ -123,7 +127,8 @@ attempt_once : (setup : Setup) (t : ℕ) (d : AllocationCreateDesc) (o : Attempt
     → AttemptStep setup t d o x old new → AttemptStep setup t d o y old next → (x ≡ y) × (new ≡ next)
 attempt_once setup t d o x y old new next sound a b =
     let once = attempts_once setup old.budgets old.slots t d o x y new.slots next.slots sound a.slots b.slots in
-    let other : BytesAfter (is_mapped setup.properties t) t o.asked x old.byte_view next.byte_view = subst (λ w. BytesAfter (is_mapped setup.properties t) t o.asked w old.byte_view next.byte_view) (sym once.0) b.bytes in
+    let other : BytesAfter (is_mapped setup.properties t) t o.asked x old.byte_view next.byte_view = subst (λ w. BytesAfter (is_mapped setup.properties t) t o.asked w old.byte_view next.byte_view)
+    (sym once.0) b.bytes in
     (once.0, states_alike new next once.1 (a.budgets ∙ sym b.budgets) (bytes_once (is_mapped setup.properties t) t o.asked x old.byte_view new.byte_view next.byte_view a.bytes other))
 
 -- ---- an allocation
@@ -135,7 +140,8 @@ follows_once setup d (Some u) o t first mid x y new next sound a b =
     let once = attempt_once setup u d o a.0 b.0 mid new next (sound u refl) a.1 b.1 in
     (a.2 ∙ ap (reply_of u) once.0 ∙ sym b.2, once.1)
 
-pub mid_sound : (setup : Setup) (t u : ℕ) (d : AllocationCreateDesc) (o : AttemptEnvironment) (answer : Answer) (old mid : ModelState) → BlocksWellFormed setup.properties.granularity old.slots → AttemptStep setup t d o answer old mid
+pub mid_sound : (setup : Setup) (t u : ℕ) (d : AllocationCreateDesc) (o : AttemptEnvironment) (answer : Answer) (old mid : ModelState) → BlocksWellFormed setup.properties.granularity old.slots →
+    AttemptStep setup t d o answer old mid
     → next_by setup d answer ≡ Some u → BlocksWellFormed setup.properties.granularity mid.slots
 mid_sound setup t u d o (Gave p) old mid sound a is = absurd (none_next setup d u p is)
 mid_sound setup t u d o (Refused r) old mid sound a is = subst (BlocksWellFormed setup.properties.granularity) (sym (refused_same setup old.budgets old.slots t d o r mid.slots a.slots)) sound
@@ -166,12 +172,14 @@ allocate_once setup d true o x y old new next sound a b = found_once setup d _ o
 
 -- ---- a free
 
-release_once : (setup : Setup) (t : ℕ) (p : Piece DeviceMemory) (old new next : ModelState) → BlocksWellFormed setup.properties.granularity old.slots → ReleaseStep t p old new → ReleaseStep t p old next → new ≡ next
+release_once : (setup : Setup) (t : ℕ) (p : Piece DeviceMemory) (old new next : ModelState) → BlocksWellFormed setup.properties.granularity old.slots → ReleaseStep t p old new → ReleaseStep t p old
+    next → new ≡ next
 release_once setup t p old new next sound a b =
     let once = released_once setup.properties.granularity (IsTrue (has_several (slots_at old.slots t))) (slots_at old.slots t) p a.went b.went a.left b.left (sound t) a.releases b.releases in
     let mids = puts_back_once (id_in t p) p.offset p.size old.byte_view a.mid b.mid a.back b.back in
     let went = once.0 in
-    let other : MayDrop t p.slot a.went a.mid next.byte_view = subst (λ m. MayDrop t p.slot a.went m next.byte_view) (sym mids) (subst (λ w. MayDrop t p.slot w b.mid next.byte_view) (sym went) b.drops) in
+    let other : MayDrop t p.slot a.went a.mid next.byte_view = subst (λ m. MayDrop t p.slot a.went m next.byte_view) (sym mids)
+    (subst (λ w. MayDrop t p.slot w b.mid next.byte_view) (sym went) b.drops) in
     states_alike new next (a.slots ∙ (ap (slice_set old.slots t) once.1 ∙ sym b.slots)) (a.budgets ∙ sym b.budgets) (drops_once t p.slot a.went a.mid new.byte_view next.byte_view a.drops other)
 
 -- a free is done, or refused
@@ -194,7 +202,8 @@ free_reply t (Some p) (Shows w) old new s = absurd s
 free_reply t (Some p) (Tells zs) old new s = absurd s
 free_reply t (Some p) (Budgeted n) old new s = absurd s
 
-free_done_once : (setup : Setup) (t : ℕ) (p : Option (Piece DeviceMemory)) (old new next : ModelState) → BlocksWellFormed setup.properties.granularity old.slots → FreeStep t p Done old new → FreeStep t p Done old next → new ≡ next
+free_done_once : (setup : Setup) (t : ℕ) (p : Option (Piece DeviceMemory)) (old new next : ModelState) → BlocksWellFormed setup.properties.granularity old.slots → FreeStep t p Done old new → FreeStep
+    t p Done old next → new ≡ next
 free_done_once setup t None old new next sound a b = a ∙ sym b
 free_done_once setup t (Some p) old new next sound a b = release_once setup t p old new next sound a.1 b.1
 
@@ -202,12 +211,14 @@ pub done_or_fails : (t : ℕ) (p : Option (Piece DeviceMemory)) (r : Refusal) (o
 done_or_fails t None r old new next a b = b
 done_or_fails t (Some p) r old new next a b = b.0 a.0
 
-free_fails_once : (setup : Setup) (t : ℕ) (p : Option (Piece DeviceMemory)) (r s : Refusal) (old new next : ModelState) → BlocksWellFormed setup.properties.granularity old.slots → FreeStep t p (Fails r) old new → FreeStep t p (Fails s) old next → (r ≡ s) × (new ≡ next)
+free_fails_once : (setup : Setup) (t : ℕ) (p : Option (Piece DeviceMemory)) (r s : Refusal) (old new next : ModelState) → BlocksWellFormed setup.properties.granularity old.slots → FreeStep t p
+    (Fails r) old new → FreeStep t p (Fails s) old next → (r ≡ s) × (new ≡ next)
 free_fails_once setup t None r s old new next sound a b = absurd a
 free_fails_once setup t (Some p) r s old new next sound a b =
     (refusal_once is_same_memory setup.properties.granularity p (slot_at (slots_at old.slots t) p.slot) r s (sound t p.slot) a.1 b.1, a.2 ∙ sym b.2)
 
-free_once : (setup : Setup) (t : ℕ) (p : Option (Piece DeviceMemory)) (x y : Reply) (old new next : ModelState) → BlocksWellFormed setup.properties.granularity old.slots → FreeStep t p x old new → FreeStep t p y old next → (x ≡ y) × (new ≡ next)
+free_once : (setup : Setup) (t : ℕ) (p : Option (Piece DeviceMemory)) (x y : Reply) (old new next : ModelState) → BlocksWellFormed setup.properties.granularity old.slots → FreeStep t p x old new →
+    FreeStep t p y old next → (x ≡ y) × (new ≡ next)
 free_once setup t p x y old new next sound a b =
     ⊎_elim
     (λ ok. ⊎_elim
@@ -241,18 +252,21 @@ rename_reply t (Some p) name host (Shows w) old new s = absurd s
 rename_reply t (Some p) name host (Tells zs) old new s = absurd s
 rename_reply t (Some p) name host (Budgeted n) old new s = absurd s
 
-rename_done_once : (t : ℕ) (p : Option (Piece DeviceMemory)) (name : List ℕ) (host : Bool) (old new next : ModelState) → RenameStep t p name host Done old new → RenameStep t p name host Done old next → new ≡ next
+rename_done_once : (t : ℕ) (p : Option (Piece DeviceMemory)) (name : List ℕ) (host : Bool) (old new next : ModelState) → RenameStep t p name host Done old new → RenameStep t p name host Done old next
+    → new ≡ next
 rename_done_once t None name host old new next a b = a.1 ∙ sym b.1
 rename_done_once t (Some p) name host old new next a b =
     let left = renamed_once (slots_at old.slots t) p name a.1.left b.1.left a.1.renames b.1.renames in
     states_alike new next (a.1.slots ∙ (ap (slice_set old.slots t) left ∙ sym b.1.slots)) (a.3 ∙ sym b.3) (a.2 ∙ sym b.2)
 
-pub named_or_fails : (t : ℕ) (p : Option (Piece DeviceMemory)) (name : List ℕ) (host : Bool) (r : Refusal) (old new next : ModelState) → RenameStep t p name host Done old new → RenameStep t p name host (Fails r) old next → ⊥
+pub named_or_fails : (t : ℕ) (p : Option (Piece DeviceMemory)) (name : List ℕ) (host : Bool) (r : Refusal) (old new next : ModelState) → RenameStep t p name host Done old new → RenameStep t p name
+    host (Fails r) old next → ⊥
 named_or_fails t None name host r old new next a b = false_true (sym b.0 ∙ a.0)
 named_or_fails t (Some p) name host r old new next a b =
     ⊎_elim (λ starved. false_true (sym starved.0 ∙ a.0)) (λ dead. dead.0 a.1.live) b.0
 
-pub rename_fails_once : (setup : Setup) (t : ℕ) (p : Option (Piece DeviceMemory)) (name : List ℕ) (host : Bool) (r s : Refusal) (old new next : ModelState) → BlocksWellFormed setup.properties.granularity old.slots
+pub rename_fails_once : (setup : Setup) (t : ℕ) (p : Option (Piece DeviceMemory)) (name : List ℕ) (host : Bool) (r s : Refusal) (old new next : ModelState) → BlocksWellFormed
+    setup.properties.granularity old.slots
     → RenameStep t p name host (Fails r) old new → RenameStep t p name host (Fails s) old next → (r ≡ s) × (new ≡ next)
 rename_fails_once setup t None name host r s old new next sound a b = (a.1 ∙ sym b.1, a.2 ∙ sym b.2)
 rename_fails_once setup t (Some p) name host r s old new next sound a b = (
@@ -266,7 +280,8 @@ rename_fails_once setup t (Some p) name host r s old new next sound a b = (
   a.1 ∙ sym b.1,
 )
 
-rename_once : (setup : Setup) (t : ℕ) (p : Option (Piece DeviceMemory)) (name : List ℕ) (host : Bool) (x y : Reply) (old new next : ModelState) → BlocksWellFormed setup.properties.granularity old.slots
+rename_once : (setup : Setup) (t : ℕ) (p : Option (Piece DeviceMemory)) (name : List ℕ) (host : Bool) (x y : Reply) (old new next : ModelState) → BlocksWellFormed setup.properties.granularity
+    old.slots
     → RenameStep t p name host x old new → RenameStep t p name host y old next → (x ≡ y) × (new ≡ next)
 rename_once setup t p name host x y old new next sound a b =
     ⊎_elim
@@ -283,7 +298,8 @@ rename_once setup t p name host x y old new next sound a b =
 -- ---- what is shown and told
 
 -- a reply to a call that shows something, or wants host memory
-pub shown_reply : (host : Bool) (x : Reply) (old new : ModelState) → ReportStep host x old new → (new ≡ old) × (((host ≡ true) × (x ≡ Shows (whole_report old.slots))) ⊎ ((host ≡ false) × (x ≡ Fails host_out_of_memory)))
+pub shown_reply : (host : Bool) (x : Reply) (old new : ModelState) → ReportStep host x old new → (new ≡ old) ×
+    (((host ≡ true) × (x ≡ Shows (whole_report old.slots))) ⊎ ((host ≡ false) × (x ≡ Fails host_out_of_memory)))
 shown_reply host (Given u q) old new s = absurd s
 shown_reply host (Fails r) old new s = (s.2, inr (s.0, ap Fails s.1))
 shown_reply host Done old new s = absurd s
@@ -293,7 +309,8 @@ shown_reply host (Shows w) old new s = (s.2, inl (s.0, ap Shows s.1))
 shown_reply host (Tells zs) old new s = absurd s
 shown_reply host (Budgeted n) old new s = absurd s
 
-pub told_reply : (host : Bool) (x : Reply) (old new : ModelState) → LeaksStep host x old new → (new ≡ old) × (((host ≡ true) × (x ≡ Tells (map leak_text (all_leaks old.slots)))) ⊎ ((host ≡ false) × (x ≡ Fails host_out_of_memory)))
+pub told_reply : (host : Bool) (x : Reply) (old new : ModelState) → LeaksStep host x old new → (new ≡ old) ×
+    (((host ≡ true) × (x ≡ Tells (map leak_text (all_leaks old.slots)))) ⊎ ((host ≡ false) × (x ≡ Fails host_out_of_memory)))
 told_reply host (Given u q) old new s = absurd s
 told_reply host (Fails r) old new s = (s.2, inr (s.0, ap Fails s.1))
 told_reply host Done old new s = absurd s
@@ -313,10 +330,12 @@ by_host host x y a b h k =
 -- ---- bytes
 
 writes_once : (p : AllocationId) (ws : List ℕ) (old new next : ByteView) → Writes p ws old new → Writes p ws old next → new ≡ next
-writes_once p ws old new next a b = byte_views_alike new next (lists_alike p old new next (a.list ∙ sym b.list) a.others b.others) (λ t i at. a.unallocated_bytes t i at ∙ sym (b.unallocated_bytes t i at))
+writes_once p ws old new next a b = byte_views_alike new next (lists_alike p old new next (a.list ∙ sym b.list) a.others b.others)
+    (λ t i at. a.unallocated_bytes t i at ∙ sym (b.unallocated_bytes t i at))
 
 write_once : (setup : Setup) (a : Allocation) (ws : List ℕ) (old new next : ModelState) → WriteStep setup a ws old new → WriteStep setup a ws old next → new ≡ next
-write_once setup a ws old new next x y = states_alike new next (x.slots ∙ sym y.slots) (x.budgets ∙ sym y.budgets) (writes_once (id_of a) ws old.byte_view new.byte_view next.byte_view x.writes y.writes)
+write_once setup a ws old new next x y = states_alike new next (x.slots ∙ sym y.slots) (x.budgets ∙ sym y.budgets)
+    (writes_once (id_of a) ws old.byte_view new.byte_view next.byte_view x.writes y.writes)
 
 read_once : (setup : Setup) (a : Allocation) (s : ModelState) (x y : Option (List ℕ)) → IsRead setup a s x → IsRead setup a s y → x ≡ y
 read_once setup a s None None h k = refl
@@ -326,7 +345,8 @@ read_once setup a s (Some xs) (Some ys) h k = sym h.1 ∙ k.1
 
 -- ---- the replies that a call may give
 
-pub write_reply : (setup : Setup) (a : Allocation) (ws : List ℕ) (o : CallEnvironment) (x : Reply) (old new : ModelState) → Step setup (Write a ws) o x old new → (x ≡ Done) × WriteStep setup a ws old new
+pub write_reply : (setup : Setup) (a : Allocation) (ws : List ℕ) (o : CallEnvironment) (x : Reply) (old new : ModelState) → Step setup (Write a ws) o x old new → (x ≡ Done) × WriteStep setup a ws old
+    new
 write_reply setup a ws o (Given u q) old new s = absurd s
 write_reply setup a ws o (Fails r) old new s = absurd s
 write_reply setup a ws o Done old new s = (refl, s.1)
@@ -336,7 +356,8 @@ write_reply setup a ws o (Shows w) old new s = absurd s
 write_reply setup a ws o (Tells zs) old new s = absurd s
 write_reply setup a ws o (Budgeted n) old new s = absurd s
 
-pub read_reply : (setup : Setup) (a : Allocation) (o : CallEnvironment) (x : Reply) (old new : ModelState) → Step setup (Read a) o x old new → (xs : Option (List ℕ)) × (x ≡ Bytes xs) × IsRead setup a old xs × (new ≡ old)
+pub read_reply : (setup : Setup) (a : Allocation) (o : CallEnvironment) (x : Reply) (old new : ModelState) → Step setup (Read a) o x old new → (xs : Option (List ℕ)) × (x ≡ Bytes xs) × IsRead setup a
+    old xs × (new ≡ old)
 read_reply setup a o (Given u q) old new s = absurd s
 read_reply setup a o (Fails r) old new s = absurd s
 read_reply setup a o Done old new s = absurd s

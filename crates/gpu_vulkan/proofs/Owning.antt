@@ -75,7 +75,8 @@ pub has : (a : Allocation) (p : Piece DeviceMemory) → piece_of a ≡ Some p �
 has a p e = has_by a a.chunk_id refl p e
 
 -- a live allocation stands for a live piece
-pub stands_by : (ss : Slots) (b : Allocation) (o : Option (Piece DeviceMemory)) → piece_of b ≡ o → IsLiveIn ss b.memory_type_index o → (q : Piece DeviceMemory) × Has b q × IsLiveIn ss b.memory_type_index (Some q)
+pub stands_by : (ss : Slots) (b : Allocation) (o : Option (Piece DeviceMemory)) → piece_of b ≡ o → IsLiveIn ss b.memory_type_index o → (q : Piece DeviceMemory) × Has b q × IsLiveIn ss
+    b.memory_type_index (Some q)
 stands_by ss b None is live = absurd live
 stands_by ss b (Some q) is live = (q, has b q is, live)
 
@@ -102,8 +103,10 @@ answer_owns setup d t old mid new (Gave p) (Err e) stay was k given = absurd giv
 answer_owns setup d t old mid new (Refused r) (Ok a) stay was k given = absurd given
 answer_owns setup d t old mid new (Refused r) (Err e) stay was k given = record { keeps = λ b live. live_in mid new k.keeps b (stay b live); gives = tt }
 
-module _ {D : Type 0} (g : Ghosts D) (setup : Setup) (budgets : Budgets) (d : AllocationCreateDesc) (t : ℕ) (old : Slots) (device : D) (result : Result Allocation AllocationError) (new : Slots) (after : D) (below : t < length old)
-    (long : length old ≡ length setup.properties.types) (sound : BlocksWellFormed setup.properties.granularity old) (sound_after : BlocksWellFormed setup.properties.granularity new) (s : IsServed g setup budgets t d old device result new after) where
+module _ {D : Type 0} (g : Ghosts D) (setup : Setup) (budgets : Budgets) (d : AllocationCreateDesc) (t : ℕ) (old : Slots) (device : D) (result : Result Allocation AllocationError) (new : Slots)
+    (after : D) (below : t < length old)
+    (long : length old ≡ length setup.properties.types) (sound : BlocksWellFormed setup.properties.granularity old) (sound_after : BlocksWellFormed setup.properties.granularity new)
+    (s : IsServed g setup budgets t d old device result new after) where
   abbrev one : IsAttempt g setup budgets t d old device s.first s.mid s.between
   one = s.attempt
 
@@ -120,7 +123,8 @@ module _ {D : Type 0} (g : Ghosts D) (setup : Setup) (budgets : Budgets) (d : Al
       let inside = next_below setup d s.first u is in
       let far : u < length s.mid = subst (λ (ss : Slots). u < length ss) (sym same) (omega (arith, inside, long)) in
       let k = attempt_keeps setup budgets d u s.mid far sound_mid two.environment two.answer new two.attempts sound_after in
-      answer_owns setup d u old s.mid new two.answer result (λ b live. subst (λ (ss : Slots). IsLive ss b) (sym same) live) (λ v q live. subst (λ (ss : Slots). IsLiveIn ss v (Some q)) (sym same) live) k two.answers
+      answer_owns setup d u old s.mid new two.answer result (λ b live. subst (λ (ss : Slots). IsLive ss b) (sym same) live)
+      (λ v q live. subst (λ (ss : Slots). IsLiveIn ss v (Some q)) (sym same) live) k two.answers
 
   pub served_owns : Owns old new result
   served_owns = owns_by (next_after setup d s.first) refl s.followed
@@ -139,7 +143,8 @@ other_lives : (old new : Slots) (u : ℕ) (b : Allocation) (o : Option (Piece De
 other_lives old new u b None is keeps live = absurd live
 other_lives old new u b (Some q) is keeps live = keeps q (has b q is) live
 
-frees_by : {D : Type 0} (g : Ghosts D) (setup : Setup) (old : Slots) (device : D) (a : Allocation) (o : Option (Piece DeviceMemory)) → piece_of a ≡ o → (result : Result (Unit {0}) (AllocationError × Allocation)) (new : Slots) (after : D)
+frees_by : {D : Type 0} (g : Ghosts D) (setup : Setup) (old : Slots) (device : D) (a : Allocation) (o : Option (Piece DeviceMemory)) → piece_of a ≡ o →
+    (result : Result (Unit {0}) (AllocationError × Allocation)) (new : Slots) (after : D)
     → BlocksWellFormed setup.properties.granularity old → FreesPiece g a o old device result new after → (b : Allocation) → IsLive old b → AreDistinct b a → IsLive new b
 frees_by g setup old device a None is (Ok u) new after sound f b live other = subst (λ (ss : Slots). IsLive ss b) (sym f.0) live
 frees_by g setup old device a None is (Err e) new after sound f b live other = absurd f

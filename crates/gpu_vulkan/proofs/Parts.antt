@@ -1,5 +1,6 @@
 -- A piece's part of its block's bytes, and what is left of them for the rest.
-use Rattle.std.proofs.Common.{◌≡◌, ◌≢◌, ◌∙◌, ℕ, zero, suc, ◌+◌, ◌-◌, ◌<◌, ◌≤◌, refl, sym, ap, subst, Bool, true, false, cond, List, [], ◌∷◌, length, take, drop, Option, Some, None, arith, ⊎_elim, nat_le, nat_lt, slice_get, length-take, length-drop}
+use Rattle.std.proofs.Common.{◌≡◌, ◌≢◌, ◌∙◌, ℕ, zero, suc, ◌+◌, ◌-◌, ◌<◌, ◌≤◌, refl, sym, ap, subst, Bool, true, false, cond, List, [], ◌∷◌, length, take, drop, Option, Some, None, arith, ⊎_elim}
+use Rattle.std.proofs.Common.{nat_le, nat_lt, slice_get, length-take, length-drop}
 use Rattle.std.specs.Prelude.{if◌then◌else◌, ◌&&◌}
 use Rattle.std.proofs.lemmas.Bool.{cases_Bool}
 use Rattle.std.proofs.lemmas.Bool.Decides.{nat_tests}
@@ -116,6 +117,7 @@ pub put_back : (mapped : Bool) (bytes : Option (List ℕ)) (xs more : List Exten
 put_back mapped bytes xs more n o size one room at =
     let list = piece_bytes bytes (piece_of_number more n) in
     ⊎_elim
-    (λ is. left_there bytes xs more n o size one at is ∙ sym (ap (λ l. byte_at l (at - o)) (piece_range bytes xs more n o size one) ∙ back_byte mapped bytes o size at room is) ∙ sym (ap (λ b. if b then byte_at list (at - o) else left_of bytes more at) is))
+    (λ is. left_there bytes xs more n o size one at is ∙ sym (ap (λ l. byte_at l (at - o)) (piece_range bytes xs more n o size one) ∙ back_byte mapped bytes o size at room is) ∙ sym
+    (ap (λ b. if b then byte_at list (at - o) else left_of bytes more at) is))
     (λ isnt. sym (left_with bytes xs more n o size one at ∙ ap (λ b. if b then None else left_of bytes xs at) isnt) ∙ sym (ap (λ b. if b then byte_at list (at - o) else left_of bytes more at) isnt))
     (cases_Bool (in_range o size at))

@@ -49,7 +49,8 @@ room_by true mapped is bytes o size range none = subst (λ c. HasRoom c bytes o 
 room_by false mapped is bytes o size range none = subst (λ c. HasRoom c bytes o size) (sym is) (none is)
 
 -- a live piece has room in its block's bytes
-pub live_room : (setup : Setup) (first held : Held) (ss : Slots) → BlocksWellFormed setup.properties.granularity ss → HoldsJustLiveBlocks setup.properties first held ss → ((n : ℕ) → IsWhole (get held n))
+pub live_room : (setup : Setup) (first held : Held) (ss : Slots) → BlocksWellFormed setup.properties.granularity ss → HoldsJustLiveBlocks setup.properties first held ss →
+    ((n : ℕ) → IsWhole (get held n))
     → (t : ℕ) (p : Piece DeviceMemory) → IsLiveIn ss t (Some p) → HasRoom (is_mapped setup.properties t) (bytes_of held p.block.0) p.offset p.size
 live_room setup first held ss sound h whole t p live =
     room_by (is_mapped setup.properties t) (is_mapped setup.properties t) refl (bytes_of held p.block.0) p.offset p.size
@@ -57,7 +58,8 @@ live_room setup first held ss sound h whole t p live =
     (λ unmapped. live_unmapped setup.properties first held ss sound h t p unmapped live)
 
 -- a piece of a block that stands in its slot is live
-pub live_at : (ss : Slots) (t : ℕ) (p : Piece DeviceMemory) (b : Slot DeviceMemory) → block_at ss t p.slot ≡ Some b → b.number ≡ p.block → HoldsPiece b.block (non_zero_u64_get p.number) p.offset p.size → IsLiveIn ss t (Some p)
+pub live_at : (ss : Slots) (t : ℕ) (p : Piece DeviceMemory) (b : Slot DeviceMemory) → block_at ss t p.slot ≡ Some b → b.number ≡ p.block → HoldsPiece b.block (non_zero_u64_get p.number) p.offset
+    p.size → IsLiveIn ss t (Some p)
 live_at ss t p b at number holds =
     subst (SlotHolds is_same_memory p) (sym at) (eq_true b.number.0 p.block.0 (ap (λ (m : DeviceMemory). m.0) number), holds)
 
@@ -71,7 +73,8 @@ fresh_extents false size granularity = refl
 same_size : (xs more : List Extent) (n o size other : ℕ) → size ≡ other → OneMore xs more n o size → OneMore xs more n o other
 same_size xs more n o size other e one = subst (OneMore xs more n o) e one
 
-module _ {D : Type 0} (g : Ghosts D) (setup : Setup) (budgets : Budgets) (d : AllocationCreateDesc) (first : Held) (t : ℕ) (old : Slots) (below : t < length old) (sound : BlocksWellFormed setup.properties.granularity old) where
+module _ {D : Type 0} (g : Ghosts D) (setup : Setup) (budgets : Budgets) (d : AllocationCreateDesc) (first : Held) (t : ℕ) (old : Slots) (below : t < length old)
+    (sound : BlocksWellFormed setup.properties.granularity old) where
   abbrev mapped : Bool
   mapped = is_mapped setup.properties t
 
@@ -104,7 +107,8 @@ module _ {D : Type 0} (g : Ghosts D) (setup : Setup) (budgets : Budgets) (d : Al
   installed_bytes : (own : Bool) (size : ℕ) (ready : Ready) (r : _) (n : ℕ) (bytes : Option (List ℕ)) (p : Piece DeviceMemory) (x : List (Option (Slot DeviceMemory))) (held now : Held)
       → TakesIn (fresh_block own size setup.properties.granularity) r ready.offset ready.number ready.block → ready.size ≡ r.size → Installs (slots_at old t) own ready (memory n) p x
       → get held n ≡ None → bytes_of now n ≡ bytes → ((m : ℕ) → m ≢ n → get now m ≡ get held m)
-      → BlocksWellFormed setup.properties.granularity (slice_set old t x) → HoldsJustLiveBlocks setup.properties first held old → HoldsJustLiveBlocks setup.properties first now (slice_set old t x) → ((m : ℕ) → IsWhole (get now m))
+      → BlocksWellFormed setup.properties.granularity (slice_set old t x) → HoldsJustLiveBlocks setup.properties first held old → HoldsJustLiveBlocks setup.properties first now (slice_set old t x) →
+      ((m : ℕ) → IsWhole (get now m))
       → (mid : ByteView) × AddsBlock t p.slot bytes (byte_view_of held old) mid × TakesOut mapped (id_in t p) p.offset p.size mid (byte_view_of now (slice_set old t x))
   installed_bytes own size ready r n bytes p x held now takes sized made fresh there same after before holds whole =
       let new = slice_set old t x in
@@ -116,12 +120,14 @@ module _ {D : Type 0} (g : Ghosts D) (setup : Setup) (budgets : Budgets) (d : Al
       let taken : HoldsPiece ready.block ready.number ready.offset r.size = takes_holds (fresh_block own size setup.properties.granularity) r ready.offset ready.number ready.block takes in
       let long : p.size ≡ r.size = made.piece.2 ∙ sized in
       let holds_piece : HoldsPiece ready.block k p.offset p.size =
-      subst (HoldsPiece ready.block k p.offset) (sym long) (subst (λ o. HoldsPiece ready.block k o r.size) (sym made.piece.0) (subst (λ m. HoldsPiece ready.block m ready.offset r.size) (sym made.piece.1) taken)) in
+      subst (HoldsPiece ready.block k p.offset) (sym long)
+      (subst (λ o. HoldsPiece ready.block k o r.size) (sym made.piece.0) (subst (λ m. HoldsPiece ready.block m ready.offset r.size) (sym made.piece.1) taken)) in
       let live = live_at new t p b only.at (sym made.piece.3) holds_piece in
       let room : HasRoom mapped (bytes_of now n) p.offset p.size =
       subst (λ (m : DeviceMemory). HasRoom mapped (bytes_of now m.0) p.offset p.size) made.piece.3 (live_room setup first now new after holds whole t p live) in
       let fresh_one : OneMore (extents_of (fresh_block own size setup.properties.granularity)) (extents_of ready.block) ready.number ready.offset r.size =
-      one_more_taken (fresh_block own size setup.properties.granularity) r ready.offset ready.number ready.block (fresh_sound own size setup.properties.granularity) (sound_at setup new t p.slot b after only.at) takes in
+      one_more_taken (fresh_block own size setup.properties.granularity) r ready.offset ready.number ready.block (fresh_sound own size setup.properties.granularity)
+      (sound_at setup new t p.slot b after only.at) takes in
       let one : OneMore [] (extents_of ready.block) k p.offset p.size =
       subst (OneMore [] (extents_of ready.block) k p.offset) (sym long)
       (subst (λ o. OneMore [] (extents_of ready.block) k o r.size) (sym made.piece.0)
@@ -138,7 +144,8 @@ module _ {D : Type 0} (g : Ghosts D) (setup : Setup) (budgets : Budgets) (d : Al
   settled_bytes : (own : Bool) (size : ℕ) (ready : Ready) (r : _) (a : Asked) (answer : Answer) (x : List (Option (Slot DeviceMemory))) (device after : D)
       → TakesIn (fresh_block own size setup.properties.granularity) r ready.offset ready.number ready.block → ready.size ≡ r.size
       → (b : BlockAnswer) → a.answer ≡ b → IsAfterResult (slots_at old t) own ready (block_result b) answer x → Asks g device a.info mapped b after
-      → BlocksWellFormed setup.properties.granularity (slice_set old t x) → HoldsJustLiveBlocks setup.properties first (g.held device) old → HoldsJustLiveBlocks setup.properties first (g.held after) (slice_set old t x) → ((m : ℕ) → IsWhole (get (g.held after) m))
+      → BlocksWellFormed setup.properties.granularity (slice_set old t x) → HoldsJustLiveBlocks setup.properties first (g.held device) old → HoldsJustLiveBlocks setup.properties first (g.held after)
+      (slice_set old t x) → ((m : ℕ) → IsWhole (get (g.held after) m))
       → BytesAfter mapped t (Some a) answer (byte_view_of (g.held device) old) (byte_view_of (g.held after) (slice_set old t x))
   settled_bytes own size ready r a answer x device after takes sized (Declined code) is settles asks sound_after before holds whole =
       same_bytes (Some a) _ answer x (g.held device) (g.held after) settles.0 settles.1 asks.held (λ b e. e)
@@ -164,7 +171,8 @@ module _ {D : Type 0} (g : Ghosts D) (setup : Setup) (budgets : Budgets) (d : Al
       → IsPlan (request_at setup budgets t d) (type_asked (request_at setup budgets t d) old) host plan
       → IsCarriedOut (total_capacity old) (budget_at budgets t) (slots_at old t) plan (asked_block o) answer x
       → IsAfter g device mapped o after
-      → BlocksWellFormed setup.properties.granularity (slice_set old t x) → HoldsJustLiveBlocks setup.properties first (g.held device) old → HoldsJustLiveBlocks setup.properties first (g.held after) (slice_set old t x) → ((m : ℕ) → IsWhole (get (g.held after) m))
+      → BlocksWellFormed setup.properties.granularity (slice_set old t x) → HoldsJustLiveBlocks setup.properties first (g.held device) old → HoldsJustLiveBlocks setup.properties first (g.held after)
+      (slice_set old t x) → ((m : ℕ) → IsWhole (get (g.held after) m))
       → BytesAfter mapped t o answer (byte_view_of (g.held device) old) (byte_view_of (g.held after) (slice_set old t x))
   planned_bytes NoHostMemory None host answer x device after plan comes asked sound_after before holds whole =
       same_bytes None _ answer x (g.held device) (g.held after) comes.0 comes.1 (ap g.held asked) (λ b e. e)
@@ -209,4 +217,5 @@ module _ {D : Type 0} (g : Ghosts D) (setup : Setup) (budgets : Budgets) (d : Al
           let at = within.allocates in
           subst (λ (ss : Slots). BytesAfter mapped t a.environment.asked a.answer (byte_view_of (g.held device) old) (byte_view_of (g.held after) ss)) (sym at.slots)
           (planned_bytes at.plan a.environment.asked a.environment.host a.answer at.left device after at.is_plan at.is_carried_out a.asked
-          (subst (BlocksWellFormed setup.properties.granularity) at.slots sound_after) before (subst (λ (ss : Slots). HoldsJustLiveBlocks setup.properties first (g.held after) ss) at.slots holds) whole)
+          (subst (BlocksWellFormed setup.properties.granularity) at.slots sound_after) before (subst (λ (ss : Slots). HoldsJustLiveBlocks setup.properties first (g.held after) ss) at.slots holds)
+          whole)

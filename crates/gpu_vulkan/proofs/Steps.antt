@@ -19,7 +19,8 @@ use Rattle.gpu_vulkan.specs.ByteView.{byte_view_of}
 use Rattle.gpu_vulkan_setup.specs.Choice.{best_type}
 use Rattle.gpu_vulkan_setup.specs.Setup.{Setup}
 use Rattle.gpu_vulkan.specs.State.{State}
-use Rattle.gpu_vulkan.specs.Step.{ModelState, model_of, CallEnvironment, Reply, Fails, reply_of, next_by, AttemptStep, Follows, ServeStep, RefuseStep, FoundStep, AllocateStep, IsAllocateStep, Replies, nothing_met, count_after, latest_after}
+use Rattle.gpu_vulkan.specs.Step.{ModelState, model_of, CallEnvironment, Reply, Fails, reply_of, next_by, AttemptStep, Follows, ServeStep, RefuseStep, FoundStep, AllocateStep, IsAllocateStep}
+use Rattle.gpu_vulkan.specs.Step.{Replies, nothing_met, count_after, latest_after}
 use Rattle.gpu_vulkan.specs.declared.allocation.Allocation.{Allocation}
 use Rattle.gpu_vulkan_setup.specs.declared.describe.AllocationCreateDesc.{AllocationCreateDesc}
 use Rattle.gpu_vulkan.proofs.Following.{next_below}
@@ -39,7 +40,8 @@ named g mapped (Some a) device after is = is.latest
 
 -- ---- a refused attempt leaves the slots
 
-pub refused_same : (setup : Setup) (budgets : Budgets) (old : Slots) (t : ℕ) (d : AllocationCreateDesc) (o : AttemptEnvironment) (r : Refusal) (new : Slots) → Attempts setup budgets old t d o (Refused r) new → new ≡ old
+pub refused_same : (setup : Setup) (budgets : Budgets) (old : Slots) (t : ℕ) (d : AllocationCreateDesc) (o : AttemptEnvironment) (r : Refusal) (new : Slots) → Attempts setup budgets old t d o
+    (Refused r) new → new ≡ old
 refused_same setup budgets old t d o r new a =
     ⊎_elim
     (λ (large : IsTooLarge setup old t d o (Refused r) new). large.same)
@@ -48,13 +50,15 @@ refused_same setup budgets old t d o r new a =
 
 -- ---- what the caller gets
 
-replies_of : (setup : Setup) (t : ℕ) (d : AllocationCreateDesc) (result : Result Allocation AllocationError) (answer : Answer) → Answers setup t d result answer → Replies setup d result (reply_of t answer)
+replies_of : (setup : Setup) (t : ℕ) (d : AllocationCreateDesc) (result : Result Allocation AllocationError) (answer : Answer) → Answers setup t d result answer → Replies setup d result
+    (reply_of t answer)
 replies_of setup t d (Ok a) (Gave p) h = h
 replies_of setup t d (Ok a) (Refused r) h = absurd h
 replies_of setup t d (Err e) (Gave p) h = absurd h
 replies_of setup t d (Err e) (Refused r) h = h
 
-pub next_same : (setup : Setup) (t : ℕ) (d : AllocationCreateDesc) (result : Result Allocation AllocationError) (answer : Answer) → Answers setup t d result answer → next_after setup d result ≡ next_by setup d answer
+pub next_same : (setup : Setup) (t : ℕ) (d : AllocationCreateDesc) (result : Result Allocation AllocationError) (answer : Answer) → Answers setup t d result answer → next_after setup d result ≡
+    next_by setup d answer
 next_same setup t d (Ok a) (Gave p) h = refl
 next_same setup t d (Ok a) (Refused r) h = absurd h
 next_same setup t d (Err e) (Gave p) h = absurd h
@@ -64,7 +68,8 @@ pub none_next : (setup : Setup) (d : AllocationCreateDesc) (u : ℕ) (p : Piece 
 none_next setup d u p e = cc
 
 -- a second attempt begins where a refused one left everything
-pub mid_is_old : (setup : Setup) (budgets : Budgets) (d : AllocationCreateDesc) (t u : ℕ) (old : Slots) (o : AttemptEnvironment) (answer : Answer) (mid : Slots) → next_by setup d answer ≡ Some u → Attempts setup budgets old t d o answer mid → mid ≡ old
+pub mid_is_old : (setup : Setup) (budgets : Budgets) (d : AllocationCreateDesc) (t u : ℕ) (old : Slots) (o : AttemptEnvironment) (answer : Answer) (mid : Slots) → next_by setup d answer ≡ Some u →
+    Attempts setup budgets old t d o answer mid → mid ≡ old
 mid_is_old setup budgets d t u old o (Gave p) mid is a = absurd (none_next setup d u p is)
 mid_is_old setup budgets d t u old o (Refused r) mid is a = refused_same setup budgets old t d o r mid a
 
@@ -87,7 +92,8 @@ module _ {D : Type 0} (g : Ghosts D) (whole : (x : D) (n : ℕ) → IsWhole (get
     pub replies : Replies setup d result reply
 
   module _ (t : ℕ) (old : Slots) (device : D) (result : Result Allocation AllocationError) (new : Slots) (after : D) (below : t < length old) (long : length old ≡ length setup.properties.types)
-      (sound : BlocksWellFormed setup.properties.granularity old) (sound_after : BlocksWellFormed setup.properties.granularity new) (before : HoldsJustLiveBlocks setup.properties first (g.held device) old) (s : IsServed g setup budgets t d old device result new after) where
+      (sound : BlocksWellFormed setup.properties.granularity old) (sound_after : BlocksWellFormed setup.properties.granularity new)
+      (before : HoldsJustLiveBlocks setup.properties first (g.held device) old) (s : IsServed g setup budgets t d old device result new after) where
     abbrev one : IsAttempt g setup budgets t d old device s.first s.mid s.between
     one = s.attempt
 
@@ -112,7 +118,8 @@ module _ {D : Type 0} (g : Ghosts D) (whole : (x : D) (n : ℕ) → IsWhole (get
         }
     served_by (Some u) is two =
         let next : next_by setup d one.answer ≡ Some u = sym (next_same setup t d s.first one.answer one.answers) ∙ is in
-        let sound_mid : BlocksWellFormed setup.properties.granularity s.mid = subst (BlocksWellFormed setup.properties.granularity) (sym (mid_is_old setup budgets d t u old one.environment one.answer s.mid next one.attempts)) sound in
+        let sound_mid : BlocksWellFormed setup.properties.granularity s.mid = subst (BlocksWellFormed setup.properties.granularity)
+        (sym (mid_is_old setup budgets d t u old one.environment one.answer s.mid next one.attempts)) sound in
         let here = attempt_step t old device s.first s.mid s.between below sound sound_mid before one in
         let mid = attempt_holds g setup budgets d first t old below device s.first s.mid s.between one before in
         let inside = next_below setup d s.first u is in
@@ -126,8 +133,10 @@ module _ {D : Type 0} (g : Ghosts D) (whole : (x : D) (n : ℕ) → IsWhole (get
             attempt = here;
             follows = subst (λ o. Follows setup d o two.environment t one.answer (at s.between s.mid) (reply_of u two.answer) (at after new)) (sym next) (two.answer, there, refl);
           };
-          count = counted g (is_mapped setup.properties u) two.environment.asked s.between after two.asked ∙ ap (λ n. count_after n two.environment.asked) (counted g (is_mapped setup.properties t) one.environment.asked device s.between one.asked);
-          latest = named g (is_mapped setup.properties u) two.environment.asked s.between after two.asked ∙ ap (λ n. latest_after n two.environment.asked) (named g (is_mapped setup.properties t) one.environment.asked device s.between one.asked);
+          count = counted g (is_mapped setup.properties u) two.environment.asked s.between after two.asked ∙ ap (λ n. count_after n two.environment.asked)
+              (counted g (is_mapped setup.properties t) one.environment.asked device s.between one.asked);
+          latest = named g (is_mapped setup.properties u) two.environment.asked s.between after two.asked ∙ ap (λ n. latest_after n two.environment.asked)
+              (named g (is_mapped setup.properties t) one.environment.asked device s.between one.asked);
           replies = replies_of setup u d result two.answer two.answers;
         }
 
@@ -163,7 +172,8 @@ refused_replies : (setup : Setup) (d : AllocationCreateDesc) (result : Result Al
 refused_replies setup d (Ok a) r is = absurd (none_some r is)
 refused_replies setup d (Err e) r is = some_same (refusal_of e) r is
 
-module _ {D : Type 0} (g : Ghosts D) (d : AllocationCreateDesc) (old new : State D) (result : Result Allocation AllocationError) (device : new.device ≡ old.device) (slots : new.slots ≡ old.slots) (budgets : new.budgets ≡ old.budgets) where
+module _ {D : Type 0} (g : Ghosts D) (d : AllocationCreateDesc) (old new : State D) (result : Result Allocation AllocationError) (device : new.device ≡ old.device) (slots : new.slots ≡ old.slots)
+    (budgets : new.budgets ≡ old.budgets) where
   refused_with : (r : Refusal) → RefuseStep r (record { first = nothing_met; second = nothing_met }) (Fails r) (model_of g old) (model_of g new)
   refused_with r = record {
     met = (refl, refl);
@@ -187,11 +197,13 @@ module _ {D : Type 0} (g : Ghosts D) (d : AllocationCreateDesc) (old new : State
   pub invalid_step : refusal_in result ≡ Some invalid_allocation_create_desc → is_valid d ≡ false → IsAllocateStep g d result old new
   invalid_step is invalid =
       refused_by invalid_allocation_create_desc is
-      (subst (λ v. AllocateStep old.setup d v (record { first = nothing_met; second = nothing_met }) (Fails invalid_allocation_create_desc) (model_of g old) (model_of g new)) (sym invalid) (refused_with invalid_allocation_create_desc))
+      (subst (λ v. AllocateStep old.setup d v (record { first = nothing_met; second = nothing_met }) (Fails invalid_allocation_create_desc) (model_of g old) (model_of g new)) (sym invalid)
+      (refused_with invalid_allocation_create_desc))
 
   pub unfit_step : refusal_in result ≡ Some no_compatible_memory_type_found → is_valid d ≡ true
       → best_type old.setup.properties.types d.requirements.memory_type_bits d.location ≡ None → IsAllocateStep g d result old new
   unfit_step is valid none =
       refused_by no_compatible_memory_type_found is
       (subst (λ v. AllocateStep old.setup d v (record { first = nothing_met; second = nothing_met }) (Fails no_compatible_memory_type_found) (model_of g old) (model_of g new)) (sym valid)
-      (subst (λ o. FoundStep old.setup d o (record { first = nothing_met; second = nothing_met }) (Fails no_compatible_memory_type_found) (model_of g old) (model_of g new)) (sym none) (refused_with no_compatible_memory_type_found)))
+      (subst (λ o. FoundStep old.setup d o (record { first = nothing_met; second = nothing_met }) (Fails no_compatible_memory_type_found) (model_of g old) (model_of g new)) (sym none)
+      (refused_with no_compatible_memory_type_found)))

@@ -64,7 +64,8 @@ module _ {D : Type 0} (g : Ghosts D) where
       → IsAttempt g setup budgets t d old device result new after → StayHeld (g.held device) (g.held after)
   attempt_leaves setup budgets t d old device result new after a = asked_leaves (is_mapped setup.properties t) a.environment.asked device after a.asked
 
-  followed_leaves : (setup : Setup) (budgets : Budgets) (d : AllocationCreateDesc) (next : Option ℕ) (mid : Slots) (between : D) (first result : Result Allocation AllocationError) (new : Slots) (after : D)
+  followed_leaves : (setup : Setup) (budgets : Budgets) (d : AllocationCreateDesc) (next : Option ℕ) (mid : Slots) (between : D) (first result : Result Allocation AllocationError) (new : Slots)
+      (after : D)
       → IsFollowed g setup budgets d next mid between first result new after → StayHeld (g.held between) (g.held after)
   followed_leaves setup budgets d None mid between first result new after f = same_held (g.held between) (g.held after) (ap g.held f.2)
   followed_leaves setup budgets d (Some t) mid between first result new after f = attempt_leaves setup budgets t d mid between result new after f
@@ -91,12 +92,14 @@ module _ {D : Type 0} (g : Ghosts D) where
     | inr apart ↦ some_same y x (sym f ∙ (ap (λ (h : Held). get h number) is.held ∙ (get-remove_other (g.held device) m.0 number (λ z. apart (sym z)) ∙ e)))
   ]
 
-  piece_leaves : (a : Allocation) (p : Option (Piece DeviceMemory)) (old new : Slots) (device after : D) (result : Result (Unit {0}) (AllocationError × Allocation)) → FreesPiece g a p old device result new after
+  piece_leaves : (a : Allocation) (p : Option (Piece DeviceMemory)) (old new : Slots) (device after : D) (result : Result (Unit {0}) (AllocationError × Allocation)) → FreesPiece g a p old device
+      result new after
       → LeavesMemory (g.held device) (g.held after)
   piece_leaves a None old new device after (Ok u) f = same_leaves (g.held device) (g.held after) (ap g.held f.1)
   piece_leaves a None old new device after (Err e) f = absurd f
   piece_leaves a (Some p) old new device after (Ok u) f = given_back f.1.went device after f.1.gives_back
   piece_leaves a (Some p) old new device after (Err e) f = same_leaves (g.held device) (g.held after) (ap g.held f.4)
 
-  pub free_leaves : (a : Allocation) (old new : Slots) (device after : D) (result : Result (Unit {0}) (AllocationError × Allocation)) → Frees g a old device result new after → LeavesMemory (g.held device) (g.held after)
+  pub free_leaves : (a : Allocation) (old new : Slots) (device after : D) (result : Result (Unit {0}) (AllocationError × Allocation)) → Frees g a old device result new after → LeavesMemory
+      (g.held device) (g.held after)
   free_leaves a old new device after result f = piece_leaves a (piece_of a) old new device after result f

@@ -17,7 +17,8 @@ use Rattle.gpu_vulkan.specs.declared.allocation.Allocation.{Allocation}
 use Rattle.gpu_vulkan.specs.Allocate.{Attempts, IsTooLarge, IsWithinHeap, is_valid, is_for_upload, is_short}
 use Rattle.gpu_vulkan.specs.Budgets.{MayAsk, MeetsNoBudget, without_budgets}
 use Rattle.gpu_vulkan.specs.Live.{piece_of}
-use Rattle.gpu_vulkan.specs.Step.{ModelState, Call, Allocate, Free, Write, Rename, Report, Leaks, Read, Capacity, SetBudget, Budget, CallEnvironment, Reply, Given, Fails, Done, Bytes, Sum, Shows, Tells, Budgeted, Step, AttemptStep, AllocateStep, FoundStep, Follows, FreeStep, RenameStep, ReportStep, LeaksStep, next_by}
+use Rattle.gpu_vulkan.specs.Step.{ModelState, Call, Allocate, Free, Write, Rename, Report, Leaks, Read, Capacity, SetBudget, Budget, CallEnvironment, Reply, Given, Fails, Done, Bytes, Sum, Shows}
+use Rattle.gpu_vulkan.specs.Step.{Tells, Budgeted, Step, AttemptStep, AllocateStep, FoundStep, Follows, FreeStep, RenameStep, ReportStep, LeaksStep, next_by}
 use Rattle.gpu_vulkan.proofs.OneStep.{free_reply, rename_reply}
 use Rattle.gpu_memory_types.proofs.Options.{none_some}
 
@@ -152,7 +153,8 @@ write_plain setup w ws o (Shows z) old new a = absurd a
 write_plain setup w ws o (Tells zs) old new a = absurd a
 write_plain setup w ws o (Budgeted b) old new a = absurd a
 
-read_plain : (setup : Setup) (r : Allocation) (o : CallEnvironment) (x : Reply) (old new : ModelState) → Step setup (Read r) o x old new → Step setup (Read r) o x (without_budgets old) (without_budgets new)
+read_plain : (setup : Setup) (r : Allocation) (o : CallEnvironment) (x : Reply) (old new : ModelState) → Step setup (Read r) o x old new → Step setup (Read r) o x (without_budgets old)
+    (without_budgets new)
 read_plain setup r o (Bytes None) old new a = (a.0, a.1, ap without_budgets a.2)
 read_plain setup r o (Bytes (Some xs)) old new a = (a.0, a.1, ap without_budgets a.2)
 read_plain setup r o Done old new a = absurd a

@@ -1,7 +1,9 @@
 -- An allocation: which memory types are asked, and what each attempt comes to.
 use Rattle.std.specs.Prelude.{◌≡◌, ℕ, ◌<◌, ◌≤◌, ◌⊎◌, ◌==◌, ◌&&◌, not, Bool, true, false, if◌then◌else◌, Option, Some, None, Result, Ok, Err}
 use Rattle.std.specs.Int.{is_power_of_two}
-use Rattle.gpu_core.specs.Refusal.{Refusal, refusal_of, refusal_in, out_of_memory, failed_to_map, no_compatible_memory_type_found, invalid_allocation_create_desc, invalid_allocator_create_desc, internal, barrier_layout_needs_device10, castable_formats_requires_enhanced_barriers, castable_formats_requires_at_least_device12, host_out_of_memory, budget_exceeded}
+use Rattle.gpu_core.specs.Refusal.{Refusal, refusal_of, refusal_in, out_of_memory, failed_to_map, no_compatible_memory_type_found, invalid_allocation_create_desc, invalid_allocator_create_desc}
+use Rattle.gpu_core.specs.Refusal.{internal, barrier_layout_needs_device10, castable_formats_requires_enhanced_barriers, castable_formats_requires_at_least_device12, host_out_of_memory}
+use Rattle.gpu_core.specs.Refusal.{budget_exceeded}
 use Rattle.gpu_values.specs.declared.memory_location.MemoryLocation.{MemoryLocation}
 use Rattle.gpu_values.specs.declared.memory_location.MemoryLocation.TheVariants.{Unknown, GpuOnly, CpuToGpu, GpuToCpu}
 use Rattle.gpu_values.specs.declared.error.AllocationError.{AllocationError}
@@ -44,7 +46,8 @@ Answers setup t d (Err e) (Gave p) = ⊥
 Answers setup t d (Err e) (Refused r) = refusal_of e ≡ r
 
 -- an attempt over a device
-pub record IsAttempt {D : Type 0} (g : Ghosts D) (setup : Setup) (budgets : Budgets) (t : ℕ) (d : AllocationCreateDesc) (old : Slots) (device : D) (result : Result Allocation AllocationError) (new : Slots) (after : D) : Type 0 where
+pub record IsAttempt {D : Type 0} (g : Ghosts D) (setup : Setup) (budgets : Budgets) (t : ℕ) (d : AllocationCreateDesc) (old : Slots) (device : D) (result : Result Allocation AllocationError)
+    (new : Slots) (after : D) : Type 0 where
   pub environment : AttemptEnvironment
   pub answer : Answer
   pub attempts : Attempts setup budgets old t d environment answer new
@@ -83,12 +86,14 @@ next_after setup d (Ok a) = None
 next_after setup d (Err e) = next_type setup d (refusal_of e)
 
 -- the second attempt, where there is one, answers
-abbrev pub IsFollowed : {D : Type 0} → Ghosts D → Setup → Budgets → AllocationCreateDesc → Option ℕ → (mid : Slots) → (between : D) → (first result : Result Allocation AllocationError) → (new : Slots) → (after : D) → Type 0
+abbrev pub IsFollowed : {D : Type 0} → Ghosts D → Setup → Budgets → AllocationCreateDesc → Option ℕ → (mid : Slots) → (between : D) → (first result : Result Allocation AllocationError) →
+    (new : Slots) → (after : D) → Type 0
 IsFollowed g setup budgets d None mid between first result new after = (result ≡ first) × (new ≡ mid) × (after ≡ between)
 IsFollowed g setup budgets d (Some t) mid between first result new after = IsAttempt g setup budgets t d mid between result new after
 
 -- the attempts that begin at the t-th memory type
-pub record IsServed {D : Type 0} (g : Ghosts D) (setup : Setup) (budgets : Budgets) (t : ℕ) (d : AllocationCreateDesc) (old : Slots) (device : D) (result : Result Allocation AllocationError) (new : Slots) (after : D) : Type 0 where
+pub record IsServed {D : Type 0} (g : Ghosts D) (setup : Setup) (budgets : Budgets) (t : ℕ) (d : AllocationCreateDesc) (old : Slots) (device : D) (result : Result Allocation AllocationError)
+    (new : Slots) (after : D) : Type 0 where
   pub first : Result Allocation AllocationError
   pub mid : Slots
   pub between : D

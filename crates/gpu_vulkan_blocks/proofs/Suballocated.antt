@@ -68,7 +68,8 @@ module _ {D : Type 0} (g : Ghosts D) (setup : Setup) (i : ℕ) (d : AllocationCr
         asked = refl;
       }
 
-  pub shared_block_serves : (p : Piece DeviceMemory) (new : Types DeviceMemory) → PreparesAt i types setup.sizes r (prepared.Taken p) new → IsSuballocated g setup (budgets types) i d ss device (Ok p) (slots_of new) device
+  pub shared_block_serves : (p : Piece DeviceMemory) (new : Types DeviceMemory) → PreparesAt i types setup.sizes r (prepared.Taken p) new → IsSuballocated g setup (budgets types) i d ss device (Ok p)
+      (slots_of new) device
   shared_block_serves p new h = record {
     environment = record { host = true; asked = None };
     allocates = subst (λ (q : RequestAt). AllocatesInType q ss true None (Gave p) (slots_of new)) request_is (prepares.shared_block_serves i types setup.sizes r below p new h);

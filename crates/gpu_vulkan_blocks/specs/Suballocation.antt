@@ -77,7 +77,8 @@ IsAfter g old mapped None new = new ≡ old
 IsAfter g old mapped (Some a) new = Asks g old a.info mapped a.answer new
 
 -- what a request for a piece of the t-th memory type comes to
-pub record IsSuballocated {D : Type 0} (g : Ghosts D) (setup : Setup) (budgets : Budgets) (t : ℕ) (d : AllocationCreateDesc) (old : Slots) (device : D) (result : Result (Piece DeviceMemory) AllocationError) (new : Slots) (after : D) : Type 0 where
+pub record IsSuballocated {D : Type 0} (g : Ghosts D) (setup : Setup) (budgets : Budgets) (t : ℕ) (d : AllocationCreateDesc) (old : Slots) (device : D)
+    (result : Result (Piece DeviceMemory) AllocationError) (new : Slots) (after : D) : Type 0 where
   pub environment : AttemptEnvironment
   pub allocates : AllocatesInType (request_at setup budgets t d) old environment.host (asked_block environment.asked) (answer_of result) new
   pub asked_for : IsAskedFor setup t d environment.asked

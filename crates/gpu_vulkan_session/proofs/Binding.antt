@@ -24,7 +24,8 @@ bound_other b key k to apart = ap (λ z. if z then to else b k) (eq_false key k 
 abbrev pub bindings : List (ℕ × Allocation) → Bindings
 bindings entries = λ key. lookup (nat_eq key) entries
 
-pub rebound : (old new : List (ℕ × Allocation)) (key : ℕ) (to : Option Allocation) → ((k : ℕ) → lookup (nat_eq k) new ≡ cond (nat_eq key k) to (lookup (nat_eq k) old)) → bindings new ≡ bind (bindings old) key to
+pub rebound : (old new : List (ℕ × Allocation)) (key : ℕ) (to : Option Allocation) → ((k : ℕ) → lookup (nat_eq k) new ≡ cond (nat_eq key k) to (lookup (nat_eq k) old)) → bindings new ≡ bind
+    (bindings old) key to
 rebound old new key to h = λ i k. h k i
 
 pub same_bindings : (old new : List (ℕ × Allocation)) → ((k : ℕ) → lookup (nat_eq k) new ≡ lookup (nat_eq k) old) → bindings new ≡ bindings old

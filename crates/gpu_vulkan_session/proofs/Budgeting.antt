@@ -10,8 +10,10 @@ use Rattle.gpu_vulkan_session.specs.Reply.{SessionReply}
 use Rattle.gpu_vulkan_session.specs.Session.{reply_by}
 use Rattle.gpu_vulkan_session.specs.Served.{SessionValue, session_of, IsServed}
 
-pub budget_set : {D : Type 0} (g : Ghosts D) (old new : SessionValue D) (t : ℕ) (budget : Option ℕ) (model_reply : model.Reply) (reply : SessionReply) → reply_by model_reply ≡ Some reply → new.bound ≡ old.bound
-    → new.allocator ≡ record old.allocator { budgets = new.allocator.budgets } → IsStep g (model.SetBudget t budget) model_reply old.allocator new.allocator → IsServed g (SetBudget t budget) reply old new
+pub budget_set : {D : Type 0} (g : Ghosts D) (old new : SessionValue D) (t : ℕ) (budget : Option ℕ) (model_reply : model.Reply) (reply : SessionReply) → reply_by model_reply ≡ Some reply → new.bound
+    ≡ old.bound
+    → new.allocator ≡ record old.allocator { budgets = new.allocator.budgets } → IsStep g (model.SetBudget t budget) model_reply old.allocator new.allocator → IsServed g (SetBudget t budget) reply
+    old new
 budget_set {D} g old new t budget model_reply reply is bound others step = record {
   environment = record { room = true; call = step.environment };
   serves = record { model_reply = model_reply; step = step.step; reply_is = is; bound = ap (λ b. (session_of g (record old { bound = b })).bound) bound };

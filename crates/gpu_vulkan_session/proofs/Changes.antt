@@ -13,7 +13,8 @@ use Rattle.gpu_vulkan_setup.specs.Types.{is_mapped}
 use Rattle.gpu_vulkan.specs.ByteView.{AllocationId, is_same_id, ByteView, IsOutOf, TakesOut}
 use Rattle.gpu_vulkan.specs.Live.{piece_of}
 use Rattle.gpu_vulkan_setup.specs.Setup.{Setup}
-use Rattle.gpu_vulkan.specs.Step.{ModelState, CallEnvironment, Reply, Given, Fails, Done, Bytes, Sum, Shows, Tells, Budgeted, Step, Allocate, Free, Rename, Report, Leaks, Capacity, SetBudget, id_in, id_of, BytesAfter, AttemptStep, Follows, next_by, FoundStep, AllocateStep, MayDrop, FreeStep, RenameStep, reply_of}
+use Rattle.gpu_vulkan.specs.Step.{ModelState, CallEnvironment, Reply, Given, Fails, Done, Bytes, Sum, Shows, Tells, Budgeted, Step, Allocate, Free, Rename, Report, Leaks, Capacity, SetBudget}
+use Rattle.gpu_vulkan.specs.Step.{id_in, id_of, BytesAfter, AttemptStep, Follows, next_by, FoundStep, AllocateStep, MayDrop, FreeStep, RenameStep, reply_of}
 use Rattle.gpu_vulkan.specs.declared.allocation.Allocation.{Allocation}
 use Rattle.gpu_vulkan.proofs.OneStep.{set_reply}
 use Rattle.gpu_vulkan_setup.specs.declared.describe.AllocationCreateDesc.{AllocationCreateDesc}
@@ -33,7 +34,8 @@ as_long_as false rest start size list h = ap (option_map length) h
 as_long_as true rest start size None h = absurd h
 as_long_as true rest start size (Some xs) h = ap Some h.0
 
-taken_out : (mapped : Bool) (q : AllocationId) (start size : ℕ) (old mid new : ByteView) → ((r : AllocationId) → mid.allocation_bytes r ≡ old.allocation_bytes r) → TakesOut mapped q start size mid new → Gained mapped q size old new
+taken_out : (mapped : Bool) (q : AllocationId) (start size : ℕ) (old mid new : ByteView) → ((r : AllocationId) → mid.allocation_bytes r ≡ old.allocation_bytes r) → TakesOut mapped q start size mid
+    new → Gained mapped q size old new
 taken_out mapped q start size old mid new same t = record {
   here = as_long_as mapped (mid.unallocated_bytes q.memory_type q.slot) start size (new.allocation_bytes q) t.list;
   others = λ r apart. t.others r apart ∙ same r;
@@ -69,7 +71,8 @@ module _ (setup : Setup) (d : AllocationCreateDesc) where
       subst H (sym same.1) (subst G (sym same.0) here)
   given_by u t o (Refused r) p old new e a = given_fails t p r e
 
-  given_after : (next : Option ℕ) (t u : ℕ) (o : AttemptEnvironment) (r : Refusal) (p : Piece DeviceMemory) (old mid new : ModelState) → mid.byte_view ≡ old.byte_view → Follows setup d next o u (Refused r) mid (Given t p) new
+  given_after : (next : Option ℕ) (t u : ℕ) (o : AttemptEnvironment) (r : Refusal) (p : Piece DeviceMemory) (old mid new : ModelState) → mid.byte_view ≡ old.byte_view → Follows setup d next o u
+      (Refused r) mid (Given t p) new
       → Gained (is_mapped setup.properties t) (id_in t p) p.size old.byte_view new.byte_view
   given_after None t u o r p old mid new same f = given_fails t p r f.1
   given_after (Some v) t u o r p old mid new same f =
@@ -94,16 +97,19 @@ module _ (setup : Setup) (d : AllocationCreateDesc) where
   valid_given false t o p old new h = given_fails t p _ h.reply_is
   valid_given true t o p old new h = found_given _ t o p old new h
 
-  pub gained : (t : ℕ) (o : CallEnvironment) (p : Piece DeviceMemory) (old new : ModelState) → Step setup (Allocate d) o (Given t p) old new → Gained (is_mapped setup.properties t) (id_in t p) p.size old.byte_view new.byte_view
+  pub gained : (t : ℕ) (o : CallEnvironment) (p : Piece DeviceMemory) (old new : ModelState) → Step setup (Allocate d) o (Given t p) old new → Gained (is_mapped setup.properties t) (id_in t p) p.size
+      old.byte_view new.byte_view
   gained t o p old new h = valid_given (is_valid d) t o p old new h
 
   -- ---- a refusal leaves the bytes
 
-  failed_by : (u : ℕ) (o : AttemptEnvironment) (answer : Answer) (r : Refusal) (old new : ModelState) → Fails r ≡ reply_of u answer → AttemptStep setup u d o answer old new → new.byte_view ≡ old.byte_view
+  failed_by : (u : ℕ) (o : AttemptEnvironment) (answer : Answer) (r : Refusal) (old new : ModelState) → Fails r ≡ reply_of u answer → AttemptStep setup u d o answer old new → new.byte_view ≡
+      old.byte_view
   failed_by u o (Gave q) r old new e a = fails_given u q r e
   failed_by u o (Refused s) r old new e a = attempt_refused (is_mapped setup.properties u) u o.asked s old.byte_view new.byte_view a.bytes
 
-  failed_after : (next : Option ℕ) (u : ℕ) (o : AttemptEnvironment) (s r : Refusal) (old mid new : ModelState) → mid.byte_view ≡ old.byte_view → Follows setup d next o u (Refused s) mid (Fails r) new → new.byte_view ≡ old.byte_view
+  failed_after : (next : Option ℕ) (u : ℕ) (o : AttemptEnvironment) (s r : Refusal) (old mid new : ModelState) → mid.byte_view ≡ old.byte_view → Follows setup d next o u (Refused s) mid (Fails r) new
+      → new.byte_view ≡ old.byte_view
   failed_after None u o s r old mid new same f = ap (λ x. x.byte_view) f.2 ∙ same
   failed_after (Some v) u o s r old mid new same f = failed_by v o f.0 r mid new f.2 f.1 ∙ same
 
@@ -144,7 +150,8 @@ dropped : (t i : ℕ) (went : Option DeviceMemory) (mid new : ByteView) → MayD
 dropped t i None mid new h r = ap (λ b. b.allocation_bytes r) h
 dropped t i (Some m) mid new h r = h.allocation_bytes r
 
-pub lost : (setup : Setup) (a : Allocation) (o : CallEnvironment) (p : Piece DeviceMemory) (old new : ModelState) → Step setup (Free a) o Done old new → piece_of a ≡ Some p → Lost (id_in a.memory_type_index p) old.byte_view new.byte_view
+pub lost : (setup : Setup) (a : Allocation) (o : CallEnvironment) (p : Piece DeviceMemory) (old new : ModelState) → Step setup (Free a) o Done old new → piece_of a ≡ Some p → Lost
+    (id_in a.memory_type_index p) old.byte_view new.byte_view
 lost setup a o p old new step is =
     let freed = subst (λ z. FreeStep a.memory_type_index z Done old new) is step.1 in
     let release = freed.1 in
@@ -174,7 +181,8 @@ renamed_bytes t (Some p) name host (Shows w) old new h = absurd h
 renamed_bytes t (Some p) name host (Tells zs) old new h = absurd h
 renamed_bytes t (Some p) name host (Budgeted b) old new h = absurd h
 
-pub named_bytes : (setup : Setup) (a : Allocation) (name : List ℕ) (o : CallEnvironment) (reply : Reply) (old new : ModelState) → Step setup (Rename a name) o reply old new → new.byte_view ≡ old.byte_view
+pub named_bytes : (setup : Setup) (a : Allocation) (name : List ℕ) (o : CallEnvironment) (reply : Reply) (old new : ModelState) → Step setup (Rename a name) o reply old new → new.byte_view ≡
+    old.byte_view
 named_bytes setup a name o reply old new h = renamed_bytes a.memory_type_index (piece_of a) name o.first.host reply old new h.1
 
 pub shown_same : (setup : Setup) (o : CallEnvironment) (reply : Reply) (old new : ModelState) → Step setup Report o reply old new → new ≡ old
@@ -207,5 +215,6 @@ summed_same setup o (Shows r) old new h = absurd h
 summed_same setup o (Tells ts) old new h = absurd h
 summed_same setup o (Budgeted b) old new h = absurd h
 
-pub budget_set_bytes : (setup : Setup) (t : ℕ) (budget : Option ℕ) (o : CallEnvironment) (reply : Reply) (old new : ModelState) → Step setup (SetBudget t budget) o reply old new → new.byte_view ≡ old.byte_view
+pub budget_set_bytes : (setup : Setup) (t : ℕ) (budget : Option ℕ) (o : CallEnvironment) (reply : Reply) (old new : ModelState) → Step setup (SetBudget t budget) o reply old new → new.byte_view ≡
+    old.byte_view
 budget_set_bytes setup t budget o reply old new h = (set_reply t budget reply old new h.1).4

@@ -10,7 +10,8 @@ use Rattle.gpu_vulkan_session.specs.Reply.{SessionReply}
 use Rattle.gpu_vulkan_session.specs.Session.{SessionState, IsOwn, CommandEnvironment, WritesIn, WritesOver, ServesAt}
 use Rattle.gpu_vulkan_session.proofs.EqualButBytes.{other_place}
 
-module _ (setup : Setup) (key other at : ℕ) (bytes : List ℕ) (o : CommandEnvironment) (reply : SessionReply) (old new : SessionState) (b : Allocation) (own : IsOwn old) (apart : key ≢ other) (bound : old.bound other ≡ Some b) (live : IsLive old.model.slots b) where
+module _ (setup : Setup) (key other at : ℕ) (bytes : List ℕ) (o : CommandEnvironment) (reply : SessionReply) (old new : SessionState) (b : Allocation) (own : IsOwn old) (apart : key ≢ other)
+    (bound : old.bound other ≡ Some b) (live : IsLive old.model.slots b) where
   abbrev Leaves : Type 0
   Leaves = new.model.byte_view.allocation_bytes (id_of b) ≡ old.model.byte_view.allocation_bytes (id_of b)
 

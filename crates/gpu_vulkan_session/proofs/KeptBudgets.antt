@@ -17,7 +17,8 @@ use Rattle.gpu_vulkan_session.specs.Laws.{EqualButBytesCommand, EqualButBytesCom
 abbrev budgets_of : SessionState → List (Option ℕ)
 budgets_of s = s.model.budgets
 
-taken : (setup : Setup) (key : ℕ) (w : Wanted) (room : Bool) (o : CallEnvironment) (reply : SessionReply) (s new : SessionState) → ServesAlloc setup key w room o reply s new → new.model.budgets ≡ s.model.budgets
+taken : (setup : Setup) (key : ℕ) (w : Wanted) (room : Bool) (o : CallEnvironment) (reply : SessionReply) (s new : SessionState) → ServesAlloc setup key w room o reply s new → new.model.budgets ≡
+    s.model.budgets
 taken setup key w false o reply s new h = ap budgets_of h.2
 taken setup key w true o reply s new h = keeps_budgets setup (model.Allocate h.description) o h.model_reply s.model new.model tt h.step
 
@@ -25,17 +26,20 @@ null_taken : (key : ℕ) (room : Bool) (reply : SessionReply) (s new : SessionSt
 null_taken key false reply s new h = ap budgets_of h.1
 null_taken key true reply s new h = ap budgets_of h.1
 
-put_in : (setup : Setup) (a : Allocation) (at : ℕ) (others bytes : List ℕ) (fits : Bool) (o : CommandEnvironment) (reply : SessionReply) (s new : SessionState) → WritesIn setup a at others bytes fits o reply s new
+put_in : (setup : Setup) (a : Allocation) (at : ℕ) (others bytes : List ℕ) (fits : Bool) (o : CommandEnvironment) (reply : SessionReply) (s new : SessionState) → WritesIn setup a at others bytes fits
+    o reply s new
     → new.model.budgets ≡ s.model.budgets
 put_in setup a at others bytes false o reply s new h = ap budgets_of h.1.1
 put_in setup a at others bytes true o reply s new h = keeps_budgets setup (model.Write a _) o.call model.Done s.model new.model tt h.1
 
-put_over : (setup : Setup) (a : Allocation) (at : ℕ) (others : List ℕ) (x : Option (List ℕ)) (o : CommandEnvironment) (reply : SessionReply) (s new : SessionState) → WritesOver setup a at others x o reply s new
+put_over : (setup : Setup) (a : Allocation) (at : ℕ) (others : List ℕ) (x : Option (List ℕ)) (o : CommandEnvironment) (reply : SessionReply) (s new : SessionState) → WritesOver setup a at others x o
+    reply s new
     → new.model.budgets ≡ s.model.budgets
 put_over setup a at others None o reply s new h = ap budgets_of h.1.1
 put_over setup a at others (Some bytes) o reply s new h = put_in setup a at others bytes (nat_le (at + length others) (length bytes)) o reply s new h
 
-bound_kept : (setup : Setup) (key : ℕ) (a : Allocation) (command : KeyCommand) (o : CommandEnvironment) (reply : SessionReply) (s new : SessionState) → ServesBound setup key a command o reply s new → new.model.budgets ≡ s.model.budgets
+bound_kept : (setup : Setup) (key : ℕ) (a : Allocation) (command : KeyCommand) (o : CommandEnvironment) (reply : SessionReply) (s new : SessionState) → ServesBound setup key a command o reply s new →
+    new.model.budgets ≡ s.model.budgets
 bound_kept setup key a (Alloc w) o reply s new h = ap budgets_of h.1.1
 bound_kept setup key a Null o reply s new h = ap budgets_of h.1.1
 bound_kept setup key a Free o reply s new h = keeps_budgets setup (model.Free a) o.call model.Done s.model new.model tt h.step
@@ -43,7 +47,8 @@ bound_kept setup key a (Rename name) o reply s new h = keeps_budgets setup (mode
 bound_kept setup key a (Write at bytes) o reply s new h = put_over setup a at bytes h.0 o reply s new h.2
 bound_kept setup key a (Read at size) o reply s new h = ap budgets_of h.3.1
 
-free_kept : (setup : Setup) (key : ℕ) (command : KeyCommand) (o : CommandEnvironment) (reply : SessionReply) (s new : SessionState) → ServesUnbound setup key command o reply s new → new.model.budgets ≡ s.model.budgets
+free_kept : (setup : Setup) (key : ℕ) (command : KeyCommand) (o : CommandEnvironment) (reply : SessionReply) (s new : SessionState) → ServesUnbound setup key command o reply s new → new.model.budgets
+    ≡ s.model.budgets
 free_kept setup key (Alloc w) o reply s new h = taken setup key w o.room o.call reply s new h
 free_kept setup key Null o reply s new h = null_taken key o.room reply s new h.1
 free_kept setup key Free o reply s new h = ap budgets_of h.1.1
@@ -51,18 +56,22 @@ free_kept setup key (Rename name) o reply s new h = ap budgets_of h.1.1
 free_kept setup key (Write at bytes) o reply s new h = ap budgets_of h.1.1
 free_kept setup key (Read at size) o reply s new h = ap budgets_of h.1.1
 
-under_kept : (setup : Setup) (key : ℕ) (found : Option Allocation) (command : KeyCommand) (o : CommandEnvironment) (reply : SessionReply) (s new : SessionState) → ServesAt setup key found command o reply s new
+under_kept : (setup : Setup) (key : ℕ) (found : Option Allocation) (command : KeyCommand) (o : CommandEnvironment) (reply : SessionReply) (s new : SessionState) → ServesAt setup key found command o
+    reply s new
     → new.model.budgets ≡ s.model.budgets
 under_kept setup key None command o reply s new h = free_kept setup key command o reply s new h
 under_kept setup key (Some a) command o reply s new h = bound_kept setup key a command o reply s new h
 
-module _ (ours : ℕ → Bool) (setup : Setup) (s t new next : SessionState) (o p : CommandEnvironment) (reply other_reply : SessionReply) (sound : BlocksWellFormed setup.properties.granularity s.model.slots)
+module _ (ours : ℕ → Bool) (setup : Setup) (s t new next : SessionState) (o p : CommandEnvironment) (reply other_reply : SessionReply)
+    (sound : BlocksWellFormed setup.properties.granularity s.model.slots)
     (slots : s.model.slots ≡ t.model.slots) (budgets : s.model.budgets ≡ t.model.budgets) (met : EqualButBytesCommandEnvironment o p) where
-  same_call : (call : model.Call) → ((other : model.Call) → call ≡ other → EqualButBytesCall call other) → Asks setup call o.call reply s new → Asks setup call p.call other_reply t next → new.model.budgets ≡ next.model.budgets
+  same_call : (call : model.Call) → ((other : model.Call) → call ≡ other → EqualButBytesCall call other) → Asks setup call o.call reply s new → Asks setup call p.call other_reply t next →
+      new.model.budgets ≡ next.model.budgets
   same_call call alike h k = budgets_alike setup o.call p.call h.model_reply k.model_reply s.model new.model t.model next.model sound slots budgets met.call call call (alike call refl) h.step k.step
 
   -- commands that differ at most in bytes leave the same budgets
-  pub budgets_next : (command other : SessionCommand) → EqualButBytesCommand ours command other → Serves setup command o reply s new → Serves setup other p other_reply t next → new.model.budgets ≡ next.model.budgets
+  pub budgets_next : (command other : SessionCommand) → EqualButBytesCommand ours command other → Serves setup command o reply s new → Serves setup other p other_reply t next → new.model.budgets ≡
+      next.model.budgets
   budgets_next (Under key command) (Under to other) e h k =
       under_kept setup key (s.bound key) command o reply s new h ∙ budgets ∙ sym (under_kept setup to (t.bound to) other p other_reply t next k)
   budgets_next (Under key command) Report e h k = absurd (cc)

@@ -28,7 +28,8 @@ same_of a b None name e old new h = h.1
 same_of a b (Some p) name e old new h = h.1
 
 module _ {D : Type 0} (g : Ghosts D) (old new : SessionValue D) (key : ℕ) (name : List ℕ) (a b : Allocation) (reply : SessionReply) (found : bindings old.bound key ≡ Some a)
-    (is : bindings new.bound ≡ bind (bindings old.bound) key (Some b)) (constant : (new.allocator.setup ≡ old.allocator.setup) × (new.allocator.first ≡ old.allocator.first)) (device : new.allocator.device ≡ old.allocator.device) where
+    (is : bindings new.bound ≡ bind (bindings old.bound) key (Some b)) (constant : (new.allocator.setup ≡ old.allocator.setup) × (new.allocator.first ≡ old.allocator.first))
+    (device : new.allocator.device ≡ old.allocator.device) where
   pub renamed : IsNamed a name b → reply ≡ replies.Done → IsStep g (model.Rename a name) model.Done old.allocator new.allocator → IsServed g (Under key (Rename name)) reply old new
   renamed named fine step =
       let o : CommandEnvironment = record { room = true; call = step.environment } in
@@ -42,7 +43,8 @@ module _ {D : Type 0} (g : Ghosts D) (old new : SessionValue D) (key : ℕ) (nam
         constant = constant;
       }
 
-  pub not_renamed : (e : AllocationError) → b ≡ a → reply ≡ replies.Error (refusal_of e) → IsStep g (model.Rename a name) (model.Fails (refusal_of e)) old.allocator new.allocator → IsServed g (Under key (Rename name)) reply old new
+  pub not_renamed : (e : AllocationError) → b ≡ a → reply ≡ replies.Error (refusal_of e) → IsStep g (model.Rename a name) (model.Fails (refusal_of e)) old.allocator new.allocator → IsServed g
+      (Under key (Rename name)) reply old new
   not_renamed e same fails step =
       let o : CommandEnvironment = record { room = true; call = step.environment } in
       let unchanged : bindings new.bound ≡ bindings old.bound = is ∙ bind_same (bindings old.bound) key (Some b) (found ∙ ap Some (sym same)) in

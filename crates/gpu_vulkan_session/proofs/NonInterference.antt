@@ -22,8 +22,10 @@ use Rattle.gpu_vulkan_setup.specs.declared.describe.AllocationCreateDesc.{Alloca
 use Rattle.gpu_vulkan.proofs.EqualButBytes.{step_alike}
 use Rattle.gpu_vulkan_session.specs.Command.{Wanted, Describes, KeyCommand, Alloc, Null, Free, Rename, Write, Read, SessionCommand, Under, Report, Leaks, Capacity, SetBudget}
 use Rattle.gpu_vulkan_session.specs.Reply.{SessionReply, Given, Done, Bytes, Busy, Unbound, Unmapped, OutOfRange, Error}
-use Rattle.gpu_vulkan_session.specs.Session.{SessionState, SessionInvariant, shown, CommandEnvironment, Stays, Binds, ServesAlloc, ServesNull, Frees, BindsNamed, Renames, overwritten, WritesIn, WritesOver, WritesAt, reply_to_part, reply_to_read, ReadsAt, ServesBound, ServesUnbound, ServesAt, reply_by, Asks, Serves, Runs}
-use Rattle.gpu_vulkan_session.specs.Laws.{EqualButBytesKeyCommand, EqualButBytesCommand, EqualButBytesCommandEnvironment, Written, everything, written_after, EqualButBytesAnswer, EqualButBytesReplies, NonInterference}
+use Rattle.gpu_vulkan_session.specs.Session.{SessionState, SessionInvariant, shown, CommandEnvironment, Stays, Binds, ServesAlloc, ServesNull, Frees, BindsNamed, Renames, overwritten, WritesIn}
+use Rattle.gpu_vulkan_session.specs.Session.{WritesOver, WritesAt, reply_to_part, reply_to_read, ReadsAt, ServesBound, ServesUnbound, ServesAt, reply_by, Asks, Serves, Runs}
+use Rattle.gpu_vulkan_session.specs.Laws.{EqualButBytesKeyCommand, EqualButBytesCommand, EqualButBytesCommandEnvironment, Written, everything, written_after, EqualButBytesAnswer}
+use Rattle.gpu_vulkan_session.specs.Laws.{EqualButBytesReplies, NonInterference}
 use Rattle.gpu_vulkan_session.proofs.Binding.{bound_here}
 use Rattle.gpu_vulkan_session.proofs.Owning.{null_dead, some_same, none_some, freed_null}
 use Rattle.gpu_vulkan_session.proofs.Changes.{Gained, Lost, gained, not_gained, place_piece, lost, named_bytes, shown_same, told_same, summed_same, budget_set_bytes}
@@ -44,10 +46,12 @@ same_place_of a b slots same live =
     let q : piece_of b ≡ Some p.0 = sym (ap (λ h. h.piece) same) ∙ p.1 in
     place_piece a p.0 p.1 ∙ ap (λ t. id_in t p.0) (ap (λ h. h.memory_type) same) ∙ sym (place_piece b p.0 q)
 
-free_as : (setup : Setup) (a b : Allocation) (o : CallEnvironment) (s new : ModelState) → handle a ≡ handle b → Step setup (model.Free b) o model.Done s new → Step setup (model.Free a) o model.Done s new
+free_as : (setup : Setup) (a b : Allocation) (o : CallEnvironment) (s new : ModelState) → handle a ≡ handle b → Step setup (model.Free b) o model.Done s new → Step setup (model.Free a) o model.Done s
+    new
 free_as setup a b o s new same h = (h.0, subst (λ z. FreeStep z.memory_type z.piece model.Done s new) (sym same) h.1)
 
-rename_as : (setup : Setup) (a b : Allocation) (name : List ℕ) (o : CallEnvironment) (model_reply : model.Reply) (s new : ModelState) → handle a ≡ handle b → Step setup (model.Rename b name) o model_reply s new → Step setup (model.Rename a name) o model_reply s new
+rename_as : (setup : Setup) (a b : Allocation) (name : List ℕ) (o : CallEnvironment) (model_reply : model.Reply) (s new : ModelState) → handle a ≡ handle b → Step setup (model.Rename b name) o
+    model_reply s new → Step setup (model.Rename a name) o model_reply s new
 rename_as setup a b name o model_reply s new same h = (h.0, subst (λ z. RenameStep z.memory_type z.piece name o.first.host model_reply s new) (sym same) h.1)
 
 named_handle : (a b : Allocation) (name : List ℕ) → IsNamed a name b → handle b ≡ handle a
@@ -118,9 +122,11 @@ pub record Next (ours : ℕ → Bool) (written : Written) (command : SessionComm
   pub reply_alike : EqualButBytesAnswer ours written command reply other_reply
   pub alike : Alike ours (written_after command reply written) new next
 
-module _ (ours : ℕ → Bool) (written : Written) (setup : Setup) (s t new next : SessionState) (o p : CommandEnvironment) (reply other_reply : SessionReply) (kept : SessionInvariant setup s) (kept_new : SessionInvariant setup new) (alike : Alike ours written s t)
+module _ (ours : ℕ → Bool) (written : Written) (setup : Setup) (s t new next : SessionState) (o p : CommandEnvironment) (reply other_reply : SessionReply) (kept : SessionInvariant setup s)
+    (kept_new : SessionInvariant setup new) (alike : Alike ours written s t)
     (budgets : s.model.budgets ≡ t.model.budgets) (met : EqualButBytesCommandEnvironment o p) where
-  next_at : (command : SessionCommand) (x y : SessionReply) → reply ≡ x → other_reply ≡ y → EqualButBytesAnswer ours written command x y → Alike ours (written_after command x written) new next → Next ours written command reply other_reply new next
+  next_at : (command : SessionCommand) (x y : SessionReply) → reply ≡ x → other_reply ≡ y → EqualButBytesAnswer ours written command x y → Alike ours (written_after command x written) new next → Next
+      ours written command reply other_reply new next
   next_at command x y e f same now =
       subst (λ z. Next ours written command z other_reply new next) (sym e) (subst (λ z. Next ours written command x z new next) (sym f) (record { reply_alike = same; alike = now }))
 
@@ -132,8 +138,10 @@ module _ (ours : ℕ → Bool) (written : Written) (setup : Setup) (s t new next
 
   -- ---- requests
 
-  given_both : (key u : ℕ) (w : Wanted) (d e : AllocationCreateDesc) (q : Piece DeviceMemory) → new.model.slots ≡ next.model.slots → Step setup (model.Allocate d) o.call (model.Given u q) s.model new.model
-      → Step setup (model.Allocate e) p.call (model.Given u q) t.model next.model → Binds setup key w d (model.Given u q) reply s.bound new.bound → Binds setup key w e (model.Given u q) other_reply t.bound next.bound
+  given_both : (key u : ℕ) (w : Wanted) (d e : AllocationCreateDesc) (q : Piece DeviceMemory) → new.model.slots ≡ next.model.slots → Step setup (model.Allocate d) o.call (model.Given u q) s.model
+      new.model
+      → Step setup (model.Allocate e) p.call (model.Given u q) t.model next.model → Binds setup key w d (model.Given u q) reply s.bound new.bound → Binds setup key w e (model.Given u q) other_reply
+      t.bound next.bound
       → Next ours written (Under key (Alloc w)) reply other_reply new next
   given_both key u w d e q slots h k b c =
       let one = b.0 in
@@ -148,18 +156,23 @@ module _ (ours : ℕ → Bool) (written : Written) (setup : Setup) (s t new next
       (alike_given ours written setup s t new next kept kept_new alike key one two (is_mapped setup.properties u) q.size b.3 c.3 same live slots m n)
 
   failed_both : (key : ℕ) (w : Wanted) (d e : AllocationCreateDesc) (r : Refusal) → new.model.slots ≡ next.model.slots → Step setup (model.Allocate d) o.call (model.Fails r) s.model new.model
-      → Step setup (model.Allocate e) p.call (model.Fails r) t.model next.model → Binds setup key w d (model.Fails r) reply s.bound new.bound → Binds setup key w e (model.Fails r) other_reply t.bound next.bound
+      → Step setup (model.Allocate e) p.call (model.Fails r) t.model next.model → Binds setup key w d (model.Fails r) reply s.bound new.bound → Binds setup key w e (model.Fails r) other_reply t.bound
+      next.bound
       → Next ours written (Under key (Alloc w)) reply other_reply new next
   failed_both key w d e r slots h k b c =
       next_at (Under key (Alloc w)) (Error r) (Error r) b.0 c.0 refl
       (alike_kept ours written setup s t new next kept kept_new alike b.1 c.1 slots (not_gained setup d o.call r s.model new.model h) (not_gained setup e p.call r t.model next.model k))
 
-  binds_both : (key : ℕ) (w : Wanted) (d e : AllocationCreateDesc) (x y : model.Reply) → EqualButBytesReply x y → new.model.slots ≡ next.model.slots → Step setup (model.Allocate d) o.call x s.model new.model
-      → Step setup (model.Allocate e) p.call y t.model next.model → Binds setup key w d x reply s.bound new.bound → Binds setup key w e y other_reply t.bound next.bound → Next ours written (Under key (Alloc w)) reply other_reply new next
+  binds_both : (key : ℕ) (w : Wanted) (d e : AllocationCreateDesc) (x y : model.Reply) → EqualButBytesReply x y → new.model.slots ≡ next.model.slots → Step setup (model.Allocate d) o.call x s.model
+      new.model
+      → Step setup (model.Allocate e) p.call y t.model next.model → Binds setup key w d x reply s.bound new.bound → Binds setup key w e y other_reply t.bound next.bound → Next ours written
+      (Under key (Alloc w)) reply other_reply new next
   binds_both key w d e (model.Given u q) y same slots h k b c =
-      given_both key u w d e q slots h (subst (λ z. Step setup (model.Allocate e) p.call z t.model next.model) (sym same) k) b (subst (λ z. Binds setup key w e z other_reply t.bound next.bound) (sym same) c)
+      given_both key u w d e q slots h (subst (λ z. Step setup (model.Allocate e) p.call z t.model next.model) (sym same) k) b
+      (subst (λ z. Binds setup key w e z other_reply t.bound next.bound) (sym same) c)
   binds_both key w d e (model.Fails r) y same slots h k b c =
-      failed_both key w d e r slots h (subst (λ z. Step setup (model.Allocate e) p.call z t.model next.model) (sym same) k) b (subst (λ z. Binds setup key w e z other_reply t.bound next.bound) (sym same) c)
+      failed_both key w d e r slots h (subst (λ z. Step setup (model.Allocate e) p.call z t.model next.model) (sym same) k) b
+      (subst (λ z. Binds setup key w e z other_reply t.bound next.bound) (sym same) c)
   binds_both key w d e model.Done y same slots h k b c = absurd b
   binds_both key w d e (model.Bytes xs) y same slots h k b c = absurd b
   binds_both key w d e (model.Sum n) y same slots h k b c = absurd b
@@ -167,10 +180,12 @@ module _ (ours : ℕ → Bool) (written : Written) (setup : Setup) (s t new next
   binds_both key w d e (model.Tells ts) y same slots h k b c = absurd b
   binds_both key w d e (model.Budgeted z) y same slots h k b2 c = absurd b2
 
-  take_both : (key : ℕ) (w : Wanted) (room also : Bool) → room ≡ also → ServesAlloc setup key w room o.call reply s new → ServesAlloc setup key w also p.call other_reply t next → Next ours written (Under key (Alloc w)) reply other_reply new next
+  take_both : (key : ℕ) (w : Wanted) (room also : Bool) → room ≡ also → ServesAlloc setup key w room o.call reply s new → ServesAlloc setup key w also p.call other_reply t next → Next ours written
+      (Under key (Alloc w)) reply other_reply new next
   take_both key w false false e h k = next_at (Under key (Alloc w)) (Error host_out_of_memory) (Error host_out_of_memory) h.1 k.1 refl (unchanged h.2 k.2)
   take_both key w true true e h k =
-      let law = step_alike setup o.call p.call h.model_reply k.model_reply s.model new.model t.model next.model kept.sound alike.slots budgets met.call (model.Allocate h.description) (model.Allocate k.description)
+      let law = step_alike setup o.call p.call h.model_reply k.model_reply s.model new.model t.model next.model kept.sound alike.slots budgets met.call (model.Allocate h.description)
+      (model.Allocate k.description)
       (same_description h.description k.description w h.describes k.describes) h.step k.step in
       binds_both key w h.description k.description h.model_reply k.model_reply law.0 law.1 h.step k.step h.binds k.binds
   take_both key w false true e h k = absurd (cc)
@@ -187,7 +202,8 @@ module _ (ours : ℕ → Bool) (written : Written) (setup : Setup) (s t new next
 
   -- ---- an allocation goes
 
-  return_both : (key : ℕ) (a b : Allocation) → handle a ≡ handle b → s.bound key ≡ Some a → Frees setup key a o.call reply s new → Frees setup key b p.call other_reply t next → Next ours written (Under key Free) reply other_reply new next
+  return_both : (key : ℕ) (a b : Allocation) → handle a ≡ handle b → s.bound key ≡ Some a → Frees setup key a o.call reply s new → Frees setup key b p.call other_reply t next → Next ours written
+      (Under key Free) reply other_reply new next
   return_both key a b same found h k =
       let step = free_as setup a b p.call t.model next.model same k.step in
       let law = step_alike setup o.call p.call model.Done model.Done s.model new.model t.model next.model kept.sound alike.slots budgets met.call (model.Free a) (model.Free a) refl h.step step in
@@ -205,7 +221,8 @@ module _ (ours : ℕ → Bool) (written : Written) (setup : Setup) (s t new next
 
   -- ---- a new name
 
-  named_both : (key : ℕ) (a b : Allocation) (name : List ℕ) (x y : model.Reply) → handle a ≡ handle b → s.bound key ≡ Some a → EqualButBytesReply x y → new.model.slots ≡ next.model.slots → new.model.byte_view ≡ s.model.byte_view → next.model.byte_view ≡ t.model.byte_view
+  named_both : (key : ℕ) (a b : Allocation) (name : List ℕ) (x y : model.Reply) → handle a ≡ handle b → s.bound key ≡ Some a → EqualButBytesReply x y → new.model.slots ≡ next.model.slots →
+      new.model.byte_view ≡ s.model.byte_view → next.model.byte_view ≡ t.model.byte_view
       → BindsNamed key a name x reply s.bound new.bound → BindsNamed key b name y other_reply t.bound next.bound → Next ours written (Under key (Rename name)) reply other_reply new next
   named_both key a b name model.Done y same found model_reply slots m n h k =
       let k2 = subst (λ z. BindsNamed key b name z other_reply t.bound next.bound) (sym model_reply) k in
@@ -222,17 +239,22 @@ module _ (ours : ℕ → Bool) (written : Written) (setup : Setup) (s t new next
   named_both key a b name (model.Tells ts) y same found model_reply slots m n h k = absurd h
   named_both key a b name (model.Budgeted z) y same found model_reply slots m n h k = absurd h
 
-  rename_both : (key : ℕ) (a b : Allocation) (name : List ℕ) → handle a ≡ handle b → s.bound key ≡ Some a → Renames setup key a name o.call reply s new → Renames setup key b name p.call other_reply t next
+  rename_both : (key : ℕ) (a b : Allocation) (name : List ℕ) → handle a ≡ handle b → s.bound key ≡ Some a → Renames setup key a name o.call reply s new → Renames setup key b name p.call other_reply t
+      next
       → Next ours written (Under key (Rename name)) reply other_reply new next
   rename_both key a b name same found h k =
       let step = rename_as setup a b name p.call k.model_reply t.model next.model same k.step in
-      let law = step_alike setup o.call p.call h.model_reply k.model_reply s.model new.model t.model next.model kept.sound alike.slots budgets met.call (model.Rename a name) (model.Rename a name) refl h.step step in
-      named_both key a b name h.model_reply k.model_reply same found law.0 law.1 (named_bytes setup a name o.call h.model_reply s.model new.model h.step) (named_bytes setup a name p.call k.model_reply t.model next.model step) h.binds k.binds
+      let law = step_alike setup o.call p.call h.model_reply k.model_reply s.model new.model t.model next.model kept.sound alike.slots budgets met.call (model.Rename a name) (model.Rename a name)
+      refl h.step step in
+      named_both key a b name h.model_reply k.model_reply same found law.0 law.1 (named_bytes setup a name o.call h.model_reply s.model new.model h.step)
+      (named_bytes setup a name p.call k.model_reply t.model next.model step) h.binds k.binds
 
   -- ---- writes
 
-  put_fits : (key at : ℕ) (ws vs : List ℕ) (a b : Allocation) (x y : Option (List ℕ)) (fits : Bool) → length ws ≡ length vs → (ours key ≡ true → ws ≡ vs) → s.bound key ≡ Some a → (r : BothRead s t a b x y)
-      → nat_le (at + length ws) (length r.xs) ≡ fits → nat_le (at + length vs) (length r.ys) ≡ fits → WritesIn setup a at ws r.xs fits o reply s new → WritesIn setup b at vs r.ys fits p other_reply t next
+  put_fits : (key at : ℕ) (ws vs : List ℕ) (a b : Allocation) (x y : Option (List ℕ)) (fits : Bool) → length ws ≡ length vs → (ours key ≡ true → ws ≡ vs) → s.bound key ≡ Some a →
+      (r : BothRead s t a b x y)
+      → nat_le (at + length ws) (length r.xs) ≡ fits → nat_le (at + length vs) (length r.ys) ≡ fits → WritesIn setup a at ws r.xs fits o reply s new → WritesIn setup b at vs r.ys fits p other_reply t
+      next
       → Next ours written (Under key (Write at ws)) reply other_reply new next
   put_fits key at ws vs a b x y false as_many mine found r fit fit_too h k = next_at (Under key (Write at ws)) OutOfRange OutOfRange h.0 k.0 refl (unchanged h.1.1 k.1.1)
   put_fits key at ws vs a b x y true as_many mine found r fit fit_too h k =
@@ -242,9 +264,11 @@ module _ (ours : ℕ → Bool) (written : Written) (setup : Setup) (s t new next
       let two = k.1.1 in
       let n = subst (λ q. Writes q (overwritten r.ys at vs) t.model.byte_view next.model.byte_view) (sym r.place) two.writes in
       next_at (Under key (Write at ws)) Done Done h.0 k.0 refl
-      (alike_written ours written setup s t new next kept kept_new alike key at a ws vs r.xs r.ys found r.live h.2 k.2 (one.slots ∙ alike.slots ∙ sym two.slots) as_many mine r.here r.there le le_too one.writes n)
+      (alike_written ours written setup s t new next kept kept_new alike key at a ws vs r.xs r.ys found r.live h.2 k.2 (one.slots ∙ alike.slots ∙ sym two.slots) as_many mine r.here r.there le le_too
+      one.writes n)
 
-  put_both : (key at : ℕ) (ws vs : List ℕ) (a b : Allocation) → length ws ≡ length vs → (ours key ≡ true → ws ≡ vs) → handle a ≡ handle b → s.bound key ≡ Some a → WritesAt setup a at ws o reply s new → WritesAt setup b at vs p other_reply t next
+  put_both : (key at : ℕ) (ws vs : List ℕ) (a b : Allocation) → length ws ≡ length vs → (ours key ≡ true → ws ≡ vs) → handle a ≡ handle b → s.bound key ≡ Some a → WritesAt setup a at ws o reply s new
+      → WritesAt setup b at vs p other_reply t next
       → Next ours written (Under key (Write at ws)) reply other_reply new next
   put_both key at ws vs a b as_many mine same found h k = ⊎_elim
       (λ none.
@@ -263,7 +287,8 @@ module _ (ours : ℕ → Bool) (written : Written) (setup : Setup) (s t new next
 
   part_both : (key at size : ℕ) (a : Allocation) (xs ys : List ℕ) (room also : Bool) → room ≡ also → length xs ≡ length ys → at + size ≤ length xs
       → (ours key ≡ true → (i : ℕ) → written key i ≡ true → slice_get xs i ≡ slice_get ys i)
-      → reply ≡ reply_to_part room (take size (drop at xs)) → other_reply ≡ reply_to_part also (take size (drop at ys)) → Alike ours written new next → Next ours written (Under key (Read at size)) reply other_reply new next
+      → reply ≡ reply_to_part room (take size (drop at xs)) → other_reply ≡ reply_to_part also (take size (drop at ys)) → Alike ours written new next → Next ours written (Under key (Read at size))
+      reply other_reply new next
   part_both key at size a xs ys false false e long fit bytes h k now = next_at (Under key (Read at size)) (Error host_out_of_memory) (Error host_out_of_memory) h k refl now
   part_both key at size a xs ys true true e long fit bytes h k now =
       let fit_too : at + size ≤ length ys = omega (arith, long, fit) in
@@ -277,7 +302,8 @@ module _ (ours : ℕ → Bool) (written : Written) (setup : Setup) (s t new next
   part_both key at size a xs ys true false e long fit bytes h k now = absurd (cc)
 
   read_both : (key at size : ℕ) (a b : Allocation) (x y : Option (List ℕ)) (r : BothRead s t a b x y) (fits : Bool) → nat_le (at + size) (length r.xs) ≡ fits → s.bound key ≡ Some a
-      → reply ≡ (if fits then reply_to_part o.room (take size (drop at r.xs)) else OutOfRange) → other_reply ≡ (if fits then reply_to_part p.room (take size (drop at r.ys)) else OutOfRange) → Alike ours written new next
+      → reply ≡ (if fits then reply_to_part o.room (take size (drop at r.xs)) else OutOfRange) → other_reply ≡ (if fits then reply_to_part p.room (take size (drop at r.ys)) else OutOfRange) → Alike
+      ours written new next
       → Next ours written (Under key (Read at size)) reply other_reply new next
   read_both key at size a b x y r false fit found h k now = next_at (Under key (Read at size)) OutOfRange OutOfRange h k refl now
   read_both key at size a b x y r true fit found h k now =
@@ -285,7 +311,8 @@ module _ (ours : ℕ → Bool) (written : Written) (setup : Setup) (s t new next
       part_both key at size a r.xs r.ys o.room p.room met.room r.long le
       (λ mine i w. sym (ap (λ z. byte_of z i) r.here) ∙ alike.bytes key a mine found r.live i w ∙ ap (λ z. byte_of z i) r.there) h k now
 
-  get_both : (key at size : ℕ) (a b : Allocation) → handle a ≡ handle b → s.bound key ≡ Some a → ReadsAt setup a at size o reply s new → ReadsAt setup b at size p other_reply t next → Next ours written (Under key (Read at size)) reply other_reply new next
+  get_both : (key at size : ℕ) (a b : Allocation) → handle a ≡ handle b → s.bound key ≡ Some a → ReadsAt setup a at size o reply s new → ReadsAt setup b at size p other_reply t next → Next ours
+      written (Under key (Read at size)) reply other_reply new next
   get_both key at size a b same found h k =
       let now = unchanged h.3.1 k.3.1 in
       ⊎_elim
@@ -299,11 +326,13 @@ module _ (ours : ℕ → Bool) (written : Written) (setup : Setup) (s t new next
 
   -- ---- under a number
 
-  stay_both : (command : SessionCommand) (x : SessionReply) → EqualButBytesAnswer ours written command x x → ((now : Alike ours written new next) → Alike ours (written_after command x written) new next)
+  stay_both : (command : SessionCommand) (x : SessionReply) → EqualButBytesAnswer ours written command x x →
+      ((now : Alike ours written new next) → Alike ours (written_after command x written) new next)
       → (reply ≡ x) × Stays o s new → (other_reply ≡ x) × Stays p t next → Next ours written command reply other_reply new next
   stay_both command x same onward h k = next_at command x x h.0 k.0 same (onward (unchanged h.1.1 k.1.1))
 
-  free_both : (key : ℕ) (command to : KeyCommand) → EqualButBytesKeyCommand (ours key) command to → ServesUnbound setup key command o reply s new → ServesUnbound setup key to p other_reply t next → Next ours written (Under key command) reply other_reply new next
+  free_both : (key : ℕ) (command to : KeyCommand) → EqualButBytesKeyCommand (ours key) command to → ServesUnbound setup key command o reply s new → ServesUnbound setup key to p other_reply t next →
+      Next ours written (Under key command) reply other_reply new next
   free_both key (Alloc w) to e h k = take_both key w o.room p.room met.room h (subst (λ d. ServesUnbound setup key d p other_reply t next) (sym e) k)
   free_both key Null to e h k =
       let k2 = subst (λ d. ServesUnbound setup key d p other_reply t next) (sym e) k in
@@ -318,21 +347,24 @@ module _ (ours : ℕ → Bool) (written : Written) (setup : Setup) (s t new next
   free_both key (Write at ws) (Rename name) e h k = absurd (cc)
   free_both key (Write at ws) (Read there size) e h k = absurd (cc)
 
-  bound_both : (key : ℕ) (command to : KeyCommand) (a b : Allocation) → EqualButBytesKeyCommand (ours key) command to → handle a ≡ handle b → s.bound key ≡ Some a → ServesBound setup key a command o reply s new → ServesBound setup key b to p other_reply t next
+  bound_both : (key : ℕ) (command to : KeyCommand) (a b : Allocation) → EqualButBytesKeyCommand (ours key) command to → handle a ≡ handle b → s.bound key ≡ Some a → ServesBound setup key a command o
+      reply s new → ServesBound setup key b to p other_reply t next
       → Next ours written (Under key command) reply other_reply new next
   bound_both key (Alloc w) to a b e same found h k = stay_both (Under key (Alloc w)) Busy refl (λ z. z) h (subst (λ d. ServesBound setup key b d p other_reply t next) (sym e) k)
   bound_both key Null to a b e same found h k = stay_both (Under key Null) Busy refl (λ z. z) h (subst (λ d. ServesBound setup key b d p other_reply t next) (sym e) k)
   bound_both key Free to a b e same found h k = return_both key a b same found h (subst (λ d. ServesBound setup key b d p other_reply t next) (sym e) k)
   bound_both key (Rename name) to a b e same found h k = rename_both key a b name same found h (subst (λ d. ServesBound setup key b d p other_reply t next) (sym e) k)
   bound_both key (Read at size) to a b e same found h k = get_both key at size a b same found h (subst (λ d. ServesBound setup key b d p other_reply t next) (sym e) k)
-  bound_both key (Write at ws) (Write there vs) a b e same found h k = put_both key at ws vs a b e.1 e.2 same found h (subst (λ z. ServesBound setup key b (Write z vs) p other_reply t next) (sym e.0) k)
+  bound_both key (Write at ws) (Write there vs) a b e same found h k = put_both key at ws vs a b e.1 e.2 same found h
+      (subst (λ z. ServesBound setup key b (Write z vs) p other_reply t next) (sym e.0) k)
   bound_both key (Write at ws) (Alloc w) a b e same found h k = absurd (cc)
   bound_both key (Write at ws) Null a b e same found h k = absurd (cc)
   bound_both key (Write at ws) Free a b e same found h k = absurd (cc)
   bound_both key (Write at ws) (Rename name) a b e same found h k = absurd (cc)
   bound_both key (Write at ws) (Read there size) a b e same found h k = absurd (cc)
 
-  under_both : (key : ℕ) (command to : KeyCommand) (x y : Option Allocation) → EqualButBytesKeyCommand (ours key) command to → option_map handle x ≡ option_map handle y → s.bound key ≡ x → ServesAt setup key x command o reply s new → ServesAt setup key y to p other_reply t next
+  under_both : (key : ℕ) (command to : KeyCommand) (x y : Option Allocation) → EqualButBytesKeyCommand (ours key) command to → option_map handle x ≡ option_map handle y → s.bound key ≡ x → ServesAt
+      setup key x command o reply s new → ServesAt setup key y to p other_reply t next
       → Next ours written (Under key command) reply other_reply new next
   under_both key command to None None e same found h k = free_both key command to e h k
   under_both key command to (Some a) (Some b) e same found h k = bound_both key command to a b e (some_same (handle a) (handle b) same) found h k
@@ -362,11 +394,13 @@ module _ (ours : ℕ → Bool) (written : Written) (setup : Setup) (s t new next
         alike_kept ours written setup s t new next kept kept_new alike h.bound k.bound both.1 one two,
       )
 
-  lawful : (call : model.Call) → ((other : model.Call) → call ≡ other → EqualButBytesCall call other) → (x y : model.Reply) → Step setup call o.call x s.model new.model → Step setup call p.call y t.model next.model
+  lawful : (call : model.Call) → ((other : model.Call) → call ≡ other → EqualButBytesCall call other) → (x y : model.Reply) → Step setup call o.call x s.model new.model → Step setup call p.call y
+      t.model next.model
       → EqualButBytesReply x y × (new.model.slots ≡ next.model.slots)
   lawful call same x y h k = step_alike setup o.call p.call x y s.model new.model t.model next.model kept.sound alike.slots budgets met.call call call (same call refl) h k
 
-  step_next : (command other : SessionCommand) → EqualButBytesCommand ours command other → Serves setup command o reply s new → Serves setup other p other_reply t next → Next ours written command reply other_reply new next
+  step_next : (command other : SessionCommand) → EqualButBytesCommand ours command other → Serves setup command o reply s new → Serves setup other p other_reply t next → Next ours written command
+      reply other_reply new next
   step_next (Under key command) (Under to deed2) e h k =
       let k2 = subst (λ z. Serves setup (Under z deed2) p other_reply t next) (sym e.0) k in
       under_both key command deed2 (s.bound key) (t.bound key) e.1 (alike.bound key) refl h k2
@@ -375,13 +409,16 @@ module _ (ours : ℕ → Bool) (written : Written) (setup : Setup) (s t new next
   step_next (Under key command) Capacity e h k = absurd (cc)
   step_next (Under key command) (SetBudget u budget) e h k = absurd (cc)
   step_next Report other e h k =
-      let both = asks_both model.Report (λ z x y w a. ap (λ q. q.byte_view) (shown_same setup z x y w a)) (lawful model.Report (λ z f. f)) h (subst (λ z. Serves setup z p other_reply t next) (sym e) k) in
+      let both = asks_both model.Report (λ z x y w a. ap (λ q. q.byte_view) (shown_same setup z x y w a)) (lawful model.Report (λ z f. f)) h
+      (subst (λ z. Serves setup z p other_reply t next) (sym e) k) in
       record { reply_alike = both.0; alike = both.1 }
   step_next Leaks other e h k =
-      let both = asks_both model.Leaks (λ z x y w a. ap (λ q. q.byte_view) (told_same setup z x y w a)) (lawful model.Leaks (λ z f. f)) h (subst (λ z. Serves setup z p other_reply t next) (sym e) k) in
+      let both = asks_both model.Leaks (λ z x y w a. ap (λ q. q.byte_view) (told_same setup z x y w a)) (lawful model.Leaks (λ z f. f)) h (subst (λ z. Serves setup z p other_reply t next) (sym e) k)
+      in
       record { reply_alike = both.0; alike = both.1 }
   step_next Capacity other e h k =
-      let both = asks_both model.Capacity (λ z x y w a. ap (λ q. q.byte_view) (summed_same setup z x y w a)) (lawful model.Capacity (λ z f. f)) h (subst (λ z. Serves setup z p other_reply t next) (sym e) k) in
+      let both = asks_both model.Capacity (λ z x y w a. ap (λ q. q.byte_view) (summed_same setup z x y w a)) (lawful model.Capacity (λ z f. f)) h
+      (subst (λ z. Serves setup z p other_reply t next) (sym e) k) in
       record { reply_alike = both.0; alike = both.1 }
   step_next (SetBudget u budget) other e h k =
       let call = model.SetBudget u budget in
@@ -390,8 +427,10 @@ module _ (ours : ℕ → Bool) (written : Written) (setup : Setup) (s t new next
 
 -- ---- whole runs
 
-runs_alike : (ours : ℕ → Bool) (written : Written) (setup : Setup) (s t end other_end : SessionState) (commands others : List SessionCommand) (o p : List CommandEnvironment) (reply other_reply : List SessionReply) → SessionInvariant setup s → Alike ours written s t → s.model.budgets ≡ t.model.budgets
-    → AllZip (EqualButBytesCommand ours) commands others → AllZip EqualButBytesCommandEnvironment o p → Runs setup s commands o reply end → Runs setup t others p other_reply other_end → EqualButBytesReplies ours written commands reply other_reply
+runs_alike : (ours : ℕ → Bool) (written : Written) (setup : Setup) (s t end other_end : SessionState) (commands others : List SessionCommand) (o p : List CommandEnvironment)
+    (reply other_reply : List SessionReply) → SessionInvariant setup s → Alike ours written s t → s.model.budgets ≡ t.model.budgets
+    → AllZip (EqualButBytesCommand ours) commands others → AllZip EqualButBytesCommandEnvironment o p → Runs setup s commands o reply end → Runs setup t others p other_reply other_end →
+    EqualButBytesReplies ours written commands reply other_reply
 runs_alike ours written setup s t end other_end [] [] [] [] [] [] kept a same x c h k = tt
 runs_alike ours written setup s t end other_end [] [] [] [] [] (v ∷ other_reply) kept a same x c h k = absurd k
 runs_alike ours written setup s t end other_end [] [] [] [] (u ∷ reply) other_reply kept a same x c h k = absurd h

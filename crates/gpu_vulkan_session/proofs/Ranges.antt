@@ -23,7 +23,8 @@ length_put xs at ws le = simp (length-append, length-take, length-drop) (omega (
 abbrev pub lies_in : (at size i : ℕ) → Bool
 lies_in at size i = nat_le at i && nat_lt i (at + size)
 
-pub get_put : (xs : List ℕ) (s : ℕ) (ws : List ℕ) (i : ℕ) → s + length ws ≤ length xs → slice_get (overwritten xs s ws) i ≡ (if nat_le s i && nat_lt i (s + length ws) then slice_get ws (i - s) else slice_get xs i)
+pub get_put : (xs : List ℕ) (s : ℕ) (ws : List ℕ) (i : ℕ) → s + length ws ≤ length xs → slice_get (overwritten xs s ws) i ≡
+    (if nat_le s i && nat_lt i (s + length ws) then slice_get ws (i - s) else slice_get xs i)
 get_put xs s ws i le =
     let front : length (take s xs) ≡ s = omega (arith, length-take s xs) in
     elim (cases_lt i s) [
@@ -31,11 +32,13 @@ get_put xs s ws i le =
           let a : slice_get (overwritten xs s ws) i ≡ slice_get xs i = slice_get-left (take s xs) (ws ++ drop (s + length ws) xs) i (omega arith) ∙ slice_get-take s xs i below in
           grind (arith, nat_tests, a)
       | inr above ↦
-          let a : slice_get (overwritten xs s ws) i ≡ slice_get (ws ++ drop (s + length ws) xs) (i - s) = slice_get-right (take s xs) (ws ++ drop (s + length ws) xs) i (omega arith) ∙ ap (λ k. slice_get (ws ++ drop (s + length ws) xs) (i - k)) front in
+          let a : slice_get (overwritten xs s ws) i ≡ slice_get (ws ++ drop (s + length ws) xs) (i - s) = slice_get-right (take s xs) (ws ++ drop (s + length ws) xs) i (omega arith) ∙ ap
+          (λ k. slice_get (ws ++ drop (s + length ws) xs) (i - k)) front in
           elim (cases_lt (i - s) (length ws)) [
             | inl inside ↦ let b = slice_get-left ws (drop (s + length ws) xs) (i - s) inside in grind (arith, nat_tests, a, b)
             | inr past ↦
-                let b : slice_get (ws ++ drop (s + length ws) xs) (i - s) ≡ slice_get xs i = slice_get-right ws (drop (s + length ws) xs) (i - s) past ∙ (slice_get-drop (s + length ws) xs (i - s - length ws) ∙ (let e : s + length ws + (i - s - length ws) ≡ i = omega arith in ap (slice_get xs) e)) in
+                let b : slice_get (ws ++ drop (s + length ws) xs) (i - s) ≡ slice_get xs i = slice_get-right ws (drop (s + length ws) xs) (i - s) past ∙
+                (slice_get-drop (s + length ws) xs (i - s - length ws) ∙ (let e : s + length ws + (i - s - length ws) ≡ i = omega arith in ap (slice_get xs) e)) in
                 grind (arith, nat_tests, a, b)
           ]
     ]

@@ -17,12 +17,14 @@ use Rattle.gpu_vulkan_session.proofs.Ranges.{length_put}
 use Rattle.gpu_vulkan_session.proofs.Serving.{quiet, stayed, served_quietly, serves_at}
 
 -- bytes that are read in the model
-pub read_of : {D : Type 0} (g : Ghosts D) (s : SessionValue D) (a : Allocation) (bytes : Option (List ℕ)) → IsStep g (model.Read a) (model.Bytes bytes) s.allocator s.allocator → IsRead s.allocator.setup a (session_of g s).model bytes
+pub read_of : {D : Type 0} (g : Ghosts D) (s : SessionValue D) (a : Allocation) (bytes : Option (List ℕ)) → IsStep g (model.Read a) (model.Bytes bytes) s.allocator s.allocator → IsRead
+    s.allocator.setup a (session_of g s).model bytes
 read_of g s a bytes step = step.step.1
 
 module _ {D : Type 0} (g : Ghosts D) (s : SessionValue D) (key at : ℕ) where
   -- a read that is reply something, with room for its bytes or not
-  pub gets_bound : (size : ℕ) (a : Allocation) (bytes : Option (List ℕ)) (o : CommandEnvironment) (reply : SessionReply) → bindings s.bound key ≡ Some a → IsRead s.allocator.setup a (session_of g s).model bytes
+  pub gets_bound : (size : ℕ) (a : Allocation) (bytes : Option (List ℕ)) (o : CommandEnvironment) (reply : SessionReply) → bindings s.bound key ≡ Some a → IsRead s.allocator.setup a
+      (session_of g s).model bytes
       → o.call ≡ quiet.call → reply ≡ reply_to_read o.room at size bytes → IsServed g (Under key (Read at size)) reply s s
   gets_bound size a bytes o reply found read met is =
       served_quietly g key (Read at size) reply s o (Some a) met found (bytes, read, is, (subst (λ c. model.MeetsNothing c) (sym met) (refl, refl), refl))
@@ -53,7 +55,8 @@ module _ {D : Type 0} (g : Ghosts D) (s : SessionValue D) (key at : ℕ) where
   puts_bound others a xs ys zs size after found read fits same put long writes constant =
       let is : xs ≡ ys = cc in
       let put_xs : zs ≡ overwritten xs at others = put ∙ ap (λ l. overwritten l at others) (sym is) in
-      let step = subst (λ l. IsStep g (model.Write a l) model.Done s.allocator after) put_xs (writes (ap length put_xs ∙ length_put xs at others (fits_le (at + length others) (length xs) fits) ∙ long)) in
+      let step = subst (λ l. IsStep g (model.Write a l) model.Done s.allocator after) put_xs
+      (writes (ap length put_xs ∙ length_put xs at others (fits_le (at + length others) (length xs) fits) ∙ long)) in
       let o : CommandEnvironment = record { room = true; call = step.environment } in
       let new : SessionValue D = record { allocator = after; bound = s.bound } in
       record {

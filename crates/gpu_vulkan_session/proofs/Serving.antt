@@ -26,12 +26,14 @@ short = record { room = false; call = record { first = nothing_met; second = not
 pub stayed : (s : SessionState) → Stays quiet s s
 stayed s = ((refl, refl), refl)
 
-pub serves_at : (setup : Setup) (s new : SessionState) (key : ℕ) (command : KeyCommand) (o : CommandEnvironment) (reply : SessionReply) (found : Option Allocation) → s.bound key ≡ found → ServesAt setup key found command o reply s new → Serves setup (Under key command) o reply s new
+pub serves_at : (setup : Setup) (s new : SessionState) (key : ℕ) (command : KeyCommand) (o : CommandEnvironment) (reply : SessionReply) (found : Option Allocation) → s.bound key ≡ found → ServesAt
+    setup key found command o reply s new → Serves setup (Under key command) o reply s new
 serves_at setup s new key command o reply found e h = subst (λ f. ServesAt setup key f command o reply s new) (sym e) h
 
 module _ {D : Type 0} (g : Ghosts D) where
   -- nothing is asked and nothing changes
-  pub served_quietly : (key : ℕ) (command : KeyCommand) (reply : SessionReply) (old : SessionValue D) (o : CommandEnvironment) (found : Option Allocation) → o.call ≡ quiet.call → (session_of g old).bound key ≡ found
+  pub served_quietly : (key : ℕ) (command : KeyCommand) (reply : SessionReply) (old : SessionValue D) (o : CommandEnvironment) (found : Option Allocation) → o.call ≡ quiet.call →
+      (session_of g old).bound key ≡ found
       → ServesAt old.allocator.setup key found command o reply (session_of g old) (session_of g old) → IsServed g (Under key command) reply old old
   served_quietly key command reply old o found met e h = record {
     environment = o;
@@ -43,15 +45,18 @@ module _ {D : Type 0} (g : Ghosts D) where
   }
 
   -- a call that is no one number's
-  pub asked : (call : model.Call) (model_reply : model.Reply) (reply : SessionReply) (old : SessionValue D) → reply_by model_reply ≡ Some reply → (step : IsStep g call model_reply old.allocator old.allocator)
+  pub asked : (call : model.Call) (model_reply : model.Reply) (reply : SessionReply) (old : SessionValue D) → reply_by model_reply ≡ Some reply →
+      (step : IsStep g call model_reply old.allocator old.allocator)
       → Asks old.allocator.setup call step.environment reply (session_of g old) (session_of g old)
   asked call model_reply reply old is step = record { model_reply = model_reply; step = step.step; reply_is = is; bound = refl }
 
 -- ---- runs
 
 -- a run goes on by one command
-pub runs_more : (setup : Setup) (s mid new : SessionState) (commands : List SessionCommand) (command : SessionCommand) (environment : List CommandEnvironment) (o : CommandEnvironment) (reply : List SessionReply) (t : SessionReply)
-    → Runs setup s commands environment reply mid → Serves setup command o t mid new → SessionInvariant setup new → Runs setup s (commands ++ command ∷ []) (environment ++ o ∷ []) (reply ++ t ∷ []) new
+pub runs_more : (setup : Setup) (s mid new : SessionState) (commands : List SessionCommand) (command : SessionCommand) (environment : List CommandEnvironment) (o : CommandEnvironment)
+    (reply : List SessionReply) (t : SessionReply)
+    → Runs setup s commands environment reply mid → Serves setup command o t mid new → SessionInvariant setup new → Runs setup s (commands ++ command ∷ []) (environment ++ o ∷ []) (reply ++ t ∷ [])
+    new
 runs_more setup s mid new [] command [] o [] t same step own = (new, subst (λ x. Serves setup command o t x new) same step, own, refl)
 runs_more setup s mid new [] command [] o (t2 ∷ reply) t run step own = absurd run
 runs_more setup s mid new [] command (o2 ∷ environment) o reply t run step own = absurd run
@@ -77,7 +82,8 @@ pub map_take_more : {A B : Type 0} (f : A → B) (xs : List A) (i : ℕ) (x : A)
 map_take_more f xs i x lt at = ap (map f) (take_more xs i x lt ∙ ap (λ y. take i xs ++ y ∷ []) (sym at)) ∙ map_push f (take i xs) x
 
 -- the blocks are sound and the numbers own their pieces, in the words of callers
-pub kept_at : {D : Type 0} (g : Ghosts D) (allocator : State D) (bound : List (ℕ × Allocation)) (s : SessionValue D) (setup : Setup) → record { allocator = allocator; bound = bound } ≡ s → s.allocator.setup ≡ setup
+pub kept_at : {D : Type 0} (g : Ghosts D) (allocator : State D) (bound : List (ℕ × Allocation)) (s : SessionValue D) (setup : Setup) → record { allocator = allocator; bound = bound } ≡ s →
+    s.allocator.setup ≡ setup
     → BlocksWellFormed allocator.setup.properties.granularity allocator.slots → IsOwn (session_of g (record { allocator = allocator; bound = bound })) → SessionInvariant setup (session_of g s)
 kept_at g allocator bound s setup is same sound own =
     subst (λ x. SessionInvariant setup (session_of g x)) is (record {
@@ -86,7 +92,8 @@ kept_at g allocator bound s setup is same sound own =
     })
 
 -- one command more is served
-pub each_more : {D : Type 0} (g : Ghosts D) (old mid new : SessionValue D) (commands : List SessionCommand) (command : SessionCommand) (reply : List SessionReply) (t : SessionReply) → ServesEach g commands reply old mid → IsServed g command t mid new
+pub each_more : {D : Type 0} (g : Ghosts D) (old mid new : SessionValue D) (commands : List SessionCommand) (command : SessionCommand) (reply : List SessionReply) (t : SessionReply) → ServesEach g
+    commands reply old mid → IsServed g command t mid new
     → ServesEach g (commands ++ command ∷ []) (reply ++ t ∷ []) old new
 each_more g old mid new [] command [] t same step = (new, subst (λ x. IsServed g command t x new) same step, refl)
 each_more g old mid new [] command (u ∷ reply) t run step = absurd run

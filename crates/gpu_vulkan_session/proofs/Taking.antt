@@ -28,7 +28,8 @@ use Rattle.gpu_vulkan_session.proofs.Binding.{bindings}
 use Rattle.gpu_vulkan_session.proofs.Serving.{serves_at}
 
 -- the model_reply of the model, where an allocation is given
-given_reply : (setup : Setup) (d : AllocationCreateDesc) (a : Allocation) (model_reply : model.Reply) → Replies setup d (Ok a) model_reply → (t : ℕ) × (p : Piece DeviceMemory) × (model_reply ≡ model.Given t p) × IsGiven setup t d p a
+given_reply : (setup : Setup) (d : AllocationCreateDesc) (a : Allocation) (model_reply : model.Reply) → Replies setup d (Ok a) model_reply → (t : ℕ) × (p : Piece DeviceMemory) ×
+    (model_reply ≡ model.Given t p) × IsGiven setup t d p a
 given_reply setup d a (model.Given t p) h = (t, p, refl, h)
 given_reply setup d a (model.Fails r) h = absurd h
 given_reply setup d a model.Done h = absurd h
@@ -77,7 +78,8 @@ shown_same setup d w t p a wants given =
         }
 
 module _ {D : Type 0} (g : Ghosts D) (old new : SessionValue D) (key : ℕ) (w : Wanted) (d : AllocationCreateDesc) (wants : Describes d w) where
-  pub not_taken : (e : AllocationError) → bindings old.bound key ≡ None → bindings new.bound ≡ bindings old.bound → IsAllocateStep g d (Err e) old.allocator new.allocator → Allocates g old.allocator.setup old.allocator.budgets d old.allocator.slots old.allocator.device (Err e) new.allocator.slots new.allocator.device
+  pub not_taken : (e : AllocationError) → bindings old.bound key ≡ None → bindings new.bound ≡ bindings old.bound → IsAllocateStep g d (Err e) old.allocator new.allocator → Allocates g
+      old.allocator.setup old.allocator.budgets d old.allocator.slots old.allocator.device (Err e) new.allocator.slots new.allocator.device
       → (new.allocator.first ≡ old.allocator.first) × (new.allocator.setup ≡ old.allocator.setup) → IsServed g (Under key (Alloc w)) (replies.Error (refusal_of e)) old new
   not_taken e none same s allocates constant =
       let is = failed_reply old.allocator.setup d e s.reply s.replies in
@@ -97,7 +99,8 @@ module _ {D : Type 0} (g : Ghosts D) (old new : SessionValue D) (key : ℕ) (w :
         constant = (constant.1, constant.0);
       }
 
-  pub taken : (a : Allocation) (reply : replies.SessionReply) → bindings old.bound key ≡ None → bindings new.bound ≡ bind (bindings old.bound) key (Some a) → IsAllocateStep g d (Ok a) old.allocator new.allocator → Allocates g old.allocator.setup old.allocator.budgets d old.allocator.slots old.allocator.device (Ok a) new.allocator.slots new.allocator.device
+  pub taken : (a : Allocation) (reply : replies.SessionReply) → bindings old.bound key ≡ None → bindings new.bound ≡ bind (bindings old.bound) key (Some a) → IsAllocateStep g d (Ok a) old.allocator
+      new.allocator → Allocates g old.allocator.setup old.allocator.budgets d old.allocator.slots old.allocator.device (Ok a) new.allocator.slots new.allocator.device
       → (new.allocator.first ≡ old.allocator.first) × (new.allocator.setup ≡ old.allocator.setup) → reply ≡ replies.Given (shown_allocation a) → IsServed g (Under key (Alloc w)) reply old new
   taken a reply none same s allocates constant is_told =
       let is = given_reply old.allocator.setup d a s.reply s.replies in

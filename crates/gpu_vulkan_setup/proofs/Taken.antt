@@ -1,5 +1,6 @@
 -- Lists that a loop goes through one by one.
-use Rattle.std.proofs.Common.{◌≡◌, ℕ, suc, ◌+◌, ◌<◌, ◌||◌, Bool, true, false, List, [], ◌∷◌, ◌++◌, take, length, Option, Some, slice_get, ap, sym, ◌∙◌, arith, refl, subst, not, IfSome, None, ◌≤◌, ⊎_elim}
+use Rattle.std.proofs.Common.{◌≡◌, ℕ, suc, ◌+◌, ◌<◌, ◌||◌, Bool, true, false, List, [], ◌∷◌, ◌++◌, take, length, Option, Some, slice_get, ap, sym, ◌∙◌, arith, refl, subst, not, IfSome, None, ◌≤◌}
+use Rattle.std.proofs.Common.{⊎_elim}
 use Rattle.std.specs.List.{list_any}
 use Rattle.std.proofs.Math.Seq.{take-suc}
 use Rattle.std.proofs.Common.{get_or}

@@ -3,7 +3,8 @@ use Rattle.std.proofs.Common.{◌≡◌, ℕ, zero, suc, ◌+◌, ◌*◌, ◌<�
 use Rattle.std.proofs.lemmas.List.{take-append-drop, length-take, length-drop, length-append, drop-drop, get_or-take, get_or-drop}
 use Rattle.std.specs.List.{insert, remove}
 use Rattle.tiered_vec.specs.Rings.{joined, filled, filled_around}
-use Rattle.tiered_vec.proofs.Edits.{take_one_more, drop_one_more, take_of_remove, drop_of_remove, take_of_insert, drop_of_insert, take_before_remove, drop_before_remove, take_before_insert, drop_before_insert, same_fronts, same_lasts, take_all, drop_all}
+use Rattle.tiered_vec.proofs.Edits.{take_one_more, drop_one_more, take_of_remove, drop_of_remove, take_of_insert, drop_of_insert, take_before_remove, drop_before_remove, take_before_insert}
+use Rattle.tiered_vec.proofs.Edits.{drop_before_insert, same_fronts, same_lasts, take_all, drop_all}
 
 module _ {X : Type 0} where
   -- ---- the rings and what they hold
@@ -98,7 +99,8 @@ module _ {X : Type 0} where
   pub get-filled : (v k p n : ℕ) (xs : List X) (d : X) → k < n → p ≤ v → get_or (get_or (filled v n xs) k []) p d ≡ get_or xs (suc v * k + p) d
   get-filled v k p zero xs d h l = absurd (omega arith)
   get-filled v zero p (suc n) xs d h l = get_or-take (suc v) xs p d (omega arith) ∙ (let e : p ≡ suc v * 0 + p = omega arith in ap (λ m. get_or xs m d) e)
-  get-filled v (suc k) p (suc n) xs d h l = get-filled v k p n (drop (suc v) xs) d (omega arith) l ∙ (get_or-drop (suc v) xs (suc v * k + p) d ∙ (let e : suc v + (suc v * k + p) ≡ suc v * suc k + p = omega arith in ap (λ m. get_or xs m d) e))
+  get-filled v (suc k) p (suc n) xs d h l = get-filled v k p n (drop (suc v) xs) d (omega arith) l ∙
+      (get_or-drop (suc v) xs (suc v * k + p) d ∙ (let e : suc v + (suc v * k + p) ≡ suc v * suc k + p = omega arith in ap (λ m. get_or xs m d) e))
 
   -- ---- an entry leaves or comes in
 

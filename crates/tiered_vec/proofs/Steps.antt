@@ -5,7 +5,8 @@ use Rattle.std.proofs.lemmas.List.Edits.{length-insert, length-remove}
 use Rattle.std.specs.List.{insert, remove}
 use Rattle.tiered_vec.specs.Rings.{joined, filled, filled_around}
 use Rattle.tiered_vec.specs.TieredVec.{IsPieceFrom}
-use Rattle.tiered_vec.proofs.Dealing.{another_ring, few_in, few_in_around, fewer_rings, get-filled, inserted, joined-filled, joined-filled_around, length-filled, length-filled_around, pulled, pushed, removed, ring-filled, ring-free}
+use Rattle.tiered_vec.proofs.Dealing.{another_ring, few_in, few_in_around, fewer_rings, get-filled, inserted, joined-filled, joined-filled_around, length-filled, length-filled_around, pulled}
+use Rattle.tiered_vec.proofs.Dealing.{pushed, removed, ring-filled, ring-free}
 
 module _ {X : Type 0} where
   pub pulled_at : (v k j n : ℕ) (rs : List (List X)) (xs : List X) (e : X) (next rest at new : List X) → j ≡ suc k → j < n → rs ≡ filled_around v k n xs

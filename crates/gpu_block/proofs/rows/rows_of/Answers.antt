@@ -21,7 +21,8 @@ loop-chunk-preserved-in-Continue-branch-2 c =
     let h = first_covers c.loop-chunk.chunks c.next.new.self c.in-Some.chunk.now l.0 l.1 c.in-Some.ensures.chunk l.3 in
     let e = c.loop-chunk.invariant.each in
     record {
-      rows = rows_live c.loop-chunk.chunks c.next.new.self c.in-Some.chunk.now c.loop-chunk.rows.items c.add.new.rows.items c.in_ok-row.row _ c.in-Some.ensures.chunk (λ f. false≢true (sym c.if-not-is_free.true ∙ c.is_free.ensures.1 f)) c.in_ok-row.ensures c.in_ok-add.ensures c.loop-chunk.invariant.rows;
+      rows = rows_live c.loop-chunk.chunks c.next.new.self c.in-Some.chunk.now c.loop-chunk.rows.items c.add.new.rows.items c.in_ok-row.row _ c.in-Some.ensures.chunk
+          (λ f. false≢true (sym c.if-not-is_free.true ∙ c.is_free.ensures.1 f)) c.in_ok-row.ensures c.in_ok-add.ensures c.loop-chunk.invariant.rows;
       laid_out = (l.0 + c.in-Some.chunk.now.size, l.1, l.2, h.1);
       each = (e.0, All-tail (IsChunk e.0) c.in-Some.chunk.now c.next.new.self (subst (λ (xs : List Chunk). All (IsChunk e.0) xs) c.in-Some.ensures.chunk e.1));
     }
@@ -32,7 +33,8 @@ loop-chunk-preserved c =
     let h = first_covers c.loop-chunk.chunks c.next.new.self c.in-Some.chunk.now l.0 l.1 c.in-Some.ensures.chunk l.3 in
     let e = c.loop-chunk.invariant.each in
     record {
-      rows = rows_free c.loop-chunk.chunks c.next.new.self c.in-Some.chunk.now (map row_of c.loop-chunk.rows.items) _ c.in-Some.ensures.chunk (c.is_free.ensures.0 c.if-not-is_free.false) c.loop-chunk.invariant.rows;
+      rows = rows_free c.loop-chunk.chunks c.next.new.self c.in-Some.chunk.now (map row_of c.loop-chunk.rows.items) _ c.in-Some.ensures.chunk (c.is_free.ensures.0 c.if-not-is_free.false)
+          c.loop-chunk.invariant.rows;
       laid_out = (l.0 + c.in-Some.chunk.now.size, l.1, l.2, h.1);
       each = (e.0, All-tail (IsChunk e.0) c.in-Some.chunk.now c.next.new.self (subst (λ (xs : List Chunk). All (IsChunk e.0) xs) c.in-Some.ensures.chunk e.1));
     }

@@ -26,7 +26,8 @@ loop-low-preserved-then-get-size c =
     let k = leaves (c.loop-low.high - c.loop-low.low) (c.loop-low.high - (c.loop-low.low + (c.loop-low.high - c.loop-low.low) / 2 + 1)) m.0 (omega arith) m.1 in
     record {
       within = omega arith;
-      below = holds_to Before (λ a. a.length < c.args.size) c.args.entries.now.entries c.requires (λ a b. shorter_falls a b c.args.size) _ _ (omega arith) (subst (λ (a : Gap). a.length < c.args.size) c.get.ensures c.if-get-size.true);
+      below = holds_to Before (λ a. a.length < c.args.size) c.args.entries.now.entries c.requires (λ a b. shorter_falls a b c.args.size) _ _ (omega arith)
+          (subst (λ (a : Gap). a.length < c.args.size) c.get.ensures c.if-get-size.true);
       from = c.loop-low.invariant.from;
       left = (h.0, h.2, omega (arith, h.1, l.2));
       least = (k.0, k.2, omega (arith, k.1, m.2));

@@ -12,14 +12,18 @@ gap_at-gap-requires c =
     record { there = subst (λ (n : ℕ). HasNumber c.release.new.self.chunks n) (sym c.first_number.ensures) h }
 
 -- the entry that goes in
-entry_is : (c : After-gap_at-gap) → c.gap_at-gap.result ≡ entry c.args.chain.now.chunks c.release.new.self.chunks c.args.index.now.gaps c.args.around c.requires.listed c.requires.piece c.size-size.ensures.distinct c.release.ensures.chunks
+entry_is : (c : After-gap_at-gap) → c.gap_at-gap.result ≡ entry c.args.chain.now.chunks c.release.new.self.chunks c.args.index.now.gaps c.args.around c.requires.listed c.requires.piece
+    c.size-size.ensures.distinct c.release.ensures.chunks
 entry_is c =
-    c.gap_at-gap.ensures.gap _ (gap c.args.chain.now.chunks c.release.new.self.chunks c.args.index.now.gaps c.args.around c.requires.listed c.requires.piece c.size-size.ensures.distinct c.release.ensures.chunks) _
+    c.gap_at-gap.ensures.gap _ (gap c.args.chain.now.chunks c.release.new.self.chunks c.args.index.now.gaps c.args.around c.requires.listed c.requires.piece c.size-size.ensures.distinct
+    c.release.ensures.chunks) _
     (gap_split c.args.chain.now.chunks c.release.new.self.chunks c.args.index.now.gaps c.args.around c.requires.listed c.requires.piece c.size-size.ensures.distinct c.release.ensures.chunks)
-    (gap_number c.args.chain.now.chunks c.release.new.self.chunks c.args.index.now.gaps c.args.around c.requires.listed c.requires.piece c.size-size.ensures.distinct c.release.ensures.chunks ∙ sym c.first_number.ensures)
+    (gap_number c.args.chain.now.chunks c.release.new.self.chunks c.args.index.now.gaps c.args.around c.requires.listed c.requires.piece c.size-size.ensures.distinct c.release.ensures.chunks ∙ sym
+    c.first_number.ensures)
 
 pub put_joined-requires-clause-before : goal.put_joined-requires-clause-before
-put_joined-requires-clause-before c = may_before c.args.chain.now.chunks c.release.new.self.chunks c.args.index.now.gaps c.args.around c.requires.listed c.requires.piece c.size-size.ensures.distinct c.release.ensures.chunks
+put_joined-requires-clause-before c = may_before c.args.chain.now.chunks c.release.new.self.chunks c.args.index.now.gaps c.args.around c.requires.listed c.requires.piece c.size-size.ensures.distinct
+    c.release.ensures.chunks
 
 pub put_joined-requires-clause-after : goal.put_joined-requires-clause-after
 put_joined-requires-clause-after c = λ one first.
@@ -41,7 +45,8 @@ pub returns-clause-listed : goal.returns-clause-listed
 returns-clause-listed c =
     let j = c.put_joined.ensures.gaps in
     release_listed c.args.chain.now.chunks c.release.new.self.chunks c.args.index.now.gaps c.args.around c.requires.listed c.requires.piece c.size-size.ensures.distinct c.release.ensures.chunks
-    j.one j.two c.in_order.ensures j.first (forgets_ordered c.args.around.before c.args.index.now.gaps j.one c.in_order.ensures j.first) j.second c.put_joined.new.index.gaps c.gap_at-gap.result (entry_is ((goal.at.returns-clause-listed c).After-gap_at-gap)) j.put
+    j.one j.two c.in_order.ensures j.first (forgets_ordered c.args.around.before c.args.index.now.gaps j.one c.in_order.ensures j.first) j.second c.put_joined.new.index.gaps c.gap_at-gap.result
+    (entry_is ((goal.at.returns-clause-listed c).After-gap_at-gap)) j.put
 
 pub returns-clause-live : goal.returns-clause-live
 returns-clause-live c =

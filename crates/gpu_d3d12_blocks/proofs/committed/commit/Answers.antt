@@ -23,8 +23,10 @@ returns-in-Err-clause-committed g c =
     let entry = Committed (made_size (V.properties c.args.device.now) c.args.question d.resource_desc.now d.castable_formats.now) in
     let old = c.args.records.now.items in
     let e = c.in-Err.ensures in
-    subst (λ (rs : List CommittedRecord). IsCommitted V c.args.question d (c.args.own.heap_properties.now, c.args.own.heap_flags) entry c.args.size old c.args.device.now (Err c.in-Err.error) rs c.create_committed.new.device) (sym c.reserve.ensures.items)
-    (refused V c.args.question d (c.args.own.heap_properties.now, c.args.own.heap_flags) entry c.args.size old c.args.device.now c.in-Err.error e.0 c.create_committed.new.device (below g after) e.1 e.2)
+    subst (λ (rs : List CommittedRecord). IsCommitted V c.args.question d (c.args.own.heap_properties.now, c.args.own.heap_flags) entry c.args.size old c.args.device.now (Err c.in-Err.error) rs
+    c.create_committed.new.device) (sym c.reserve.ensures.items)
+    (refused V c.args.question d (c.args.own.heap_properties.now, c.args.own.heap_flags) entry c.args.size old c.args.device.now c.in-Err.error e.0 c.create_committed.new.device (below g after) e.1
+    e.2)
 
 pub returns-in-Ok-clause-committed : goal.returns-in-Ok-clause-committed
 returns-in-Ok-clause-committed g c =
@@ -33,5 +35,6 @@ returns-in-Ok-clause-committed g c =
     let d = c.args.desc.now in
     let entry = Committed (made_size (V.properties c.args.device.now) c.args.question d.resource_desc.now d.castable_formats.now) in
     let e = c.in-Ok.ensures in
-    granted V c.args.question d (c.args.own.heap_properties.now, c.args.own.heap_flags) entry c.args.size c.args.records.now.items c.args.device.now c.in-Ok.resource e.0 c.create_committed.new.device c.push_reserved.new.self.items (below g after) e.1 e.2
+    granted V c.args.question d (c.args.own.heap_properties.now, c.args.own.heap_flags) entry c.args.size c.args.records.now.items c.args.device.now c.in-Ok.resource e.0 c.create_committed.new.device
+    c.push_reserved.new.self.items (below g after) e.1 e.2
     (c.push_reserved.ensures.items ∙ ap (λ (rs : List CommittedRecord). rs ++ record { resource = c.in-Ok.resource; size = c.args.size } ∷ []) c.reserve.ensures.items)

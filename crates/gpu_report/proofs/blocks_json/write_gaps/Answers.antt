@@ -8,7 +8,8 @@ loop-gap-init g c = writes-none g.W.Write.write_str_gives c.write_gap.new.f _ _ 
 
 pub loop-gap-preserved : goal.loop-gap-preserved
 loop-gap-preserved g c =
-    writes-next g.W.Write.write_str_gives gap_json c.write_gap.new.f c.loop-gap.f c.write_str.new.self c.write_gap-in-loop-gap.new.f c.in-Some-gap.gap c.loop-gap.gap-iterator c.next-in-loop-gap.new.self _
+    writes-next g.W.Write.write_str_gives gap_json c.write_gap.new.f c.loop-gap.f c.write_str.new.self c.write_gap-in-loop-gap.new.f c.in-Some-gap.gap c.loop-gap.gap-iterator
+    c.next-in-loop-gap.new.self _
     c.in-Some-gap.ensures.steps c.loop-gap.invariant (λ plain. c.in_ok-write_str.ensures.writes plain refl) (λ plain. c.in_ok-write_gap-2.ensures plain refl)
 
 pub returns : goal.returns

@@ -12,7 +12,8 @@ loop-piece-preserved g c =
     let size = c.args.scale.size in
     let text : Cell → List ℕ = cell_svg size c.args.scale.width in
     let x = c.in-Some.piece in
-    let split : flat_map text (cells_between c.loop-piece.end c.loop-piece.piece-iterator size) ≡ flat_map text (gap_cells c.loop-piece.end x.start) ++ (flat_map text (padding_cells x) ++ (text (piece_cell x) ++ flat_map text (cells_between x.end c.next.new.self size))) =
+    let split : flat_map text (cells_between c.loop-piece.end c.loop-piece.piece-iterator size) ≡ flat_map text (gap_cells c.loop-piece.end x.start) ++
+    (flat_map text (padding_cells x) ++ (text (piece_cell x) ++ flat_map text (cells_between x.end c.next.new.self size))) =
     ap (λ xs. flat_map text (cells_between c.loop-piece.end xs size)) c.in-Some.ensures.steps ∙ texts-step text c.loop-piece.end size x c.next.new.self in
     let whole : List ℕ = flat_map text (cells_between 0 c.into_iter-piece-iterator.result size) in
     let gap : List ℕ = flat_map text (gap_cells c.loop-piece.end x.start) in

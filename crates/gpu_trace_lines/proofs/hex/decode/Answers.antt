@@ -25,7 +25,8 @@ loop-i-preserved c =
     let lt : 2 * i + 1 < length c.args.text.now = omega (arith, c.loop-i-test.true, c.if-count-text.false) in
     let even : 2 * (i + 1) ≡ 2 * i + 2 = omega arith in
     record {
-      spelled = ap (λ k. take k c.args.text.now) even ∙ (take_two c.args.text.now (2 * i) lt ∙ (ap (λ (xs : List ℕ). xs ++ get_or c.args.text.now (2 * i) 0 ∷ get_or c.args.text.now (2 * i + 1) 0 ∷ []) c.loop-i.invariant.spelled
+      spelled = ap (λ k. take k c.args.text.now) even ∙
+          (take_two c.args.text.now (2 * i) lt ∙ (ap (λ (xs : List ℕ). xs ++ get_or c.args.text.now (2 * i) 0 ∷ get_or c.args.text.now (2 * i + 1) 0 ∷ []) c.loop-i.invariant.spelled
           ∙ (ap (λ (ys : List ℕ). hex c.loop-i.bytes.items ++ ys) c.in-Some.ensures ∙ (sym (hex_push c.loop-i.bytes.items c.in-Some.byte) ∙ sym (ap hex c.push_reserved.ensures.items)))));
       count = grind (arith, common_steps, c.loop-i.invariant.count);
       room = grind (arith, common_steps, c.loop-i.invariant.room);

@@ -64,7 +64,8 @@ pub install-requires-clause-sum : goal.install-requires-clause-sum
 install-requires-clause-sum g c =
     let after = (goal.at.install-requires-clause-sum g c).After-prepare in
     let need : NeedBlock = c.in-Ok-NeedBlock.need in
-    let told : PreparesAt c.args.index c.args.types.now c.sizes.result c.request_of.result (prepared.NeedBlock need) c.prepare.new.self = rw c.in-Ok-NeedBlock.field-0-is at c.in-Ok-NeedBlock.ensures.prepared in
+    let told : PreparesAt c.args.index c.args.types.now c.sizes.result c.request_of.result (prepared.NeedBlock need) c.prepare.new.self = rw c.in-Ok-NeedBlock.field-0-is at
+    c.in-Ok-NeedBlock.ensures.prepared in
     let h = needed g after need told in
     let same = ap (λ (ss : Slots). total_capacity ss) (slots_wait g after need h) in
     let fits = sum_fits (total_capacity (slots_of c.args.types.now)) (type_of c.args.types.now c.args.index).budget (capacity_of (type_of c.args.types.now c.args.index).slots) need.size h.fits in
@@ -76,7 +77,8 @@ returns-in-Err-allocate_block_memory-clause-suballocates g c =
     let after = (goal.at.returns-in-Err-allocate_block_memory-clause-suballocates g c).After-prepare in
     let setup = c.args.setup.now in
     let need : NeedBlock = c.in-Ok-NeedBlock.need in
-    let told : PreparesAt c.args.index c.args.types.now c.sizes.result c.request_of.result (prepared.NeedBlock need) c.prepare.new.self = rw c.in-Ok-NeedBlock.field-0-is at c.in-Ok-NeedBlock.ensures.prepared in
+    let told : PreparesAt c.args.index c.args.types.now c.sizes.result c.request_of.result (prepared.NeedBlock need) c.prepare.new.self = rw c.in-Ok-NeedBlock.field-0-is at
+    c.in-Ok-NeedBlock.ensures.prepared in
     let mapped = mapped_is setup.properties c.args.index c.is_mapped.result c.requires.there c.is_mapped.ensures in
     let e = c.in-Err-allocate_block_memory.ensures in
     let after_device = c.allocate_block_memory.new.device in
@@ -93,7 +95,8 @@ returns-in-Ok-clause-suballocates g c =
     let after = (goal.at.returns-in-Ok-clause-suballocates g c).After-prepare in
     let setup = c.args.setup.now in
     let need : NeedBlock = c.in-Ok-NeedBlock.need in
-    let told : PreparesAt c.args.index c.args.types.now c.sizes.result c.request_of.result (prepared.NeedBlock need) c.prepare.new.self = rw c.in-Ok-NeedBlock.field-0-is at c.in-Ok-NeedBlock.ensures.prepared in
+    let told : PreparesAt c.args.index c.args.types.now c.sizes.result c.request_of.result (prepared.NeedBlock need) c.prepare.new.self = rw c.in-Ok-NeedBlock.field-0-is at
+    c.in-Ok-NeedBlock.ensures.prepared in
     let mapped = mapped_is setup.properties c.args.index c.is_mapped.result c.requires.there c.is_mapped.ensures in
     let e = c.in-Ok.ensures in
     let after_device = c.allocate_block_memory.new.device in

@@ -35,7 +35,8 @@ loop-info-preserved c =
       empty =
           subst (λ (ts : Types DeviceMemory). All (λ slots. slots ≡ []) (slots_of ts)) (sym pushed)
           (subst (λ (ss : Slots DeviceMemory). All (λ slots. slots ≡ []) ss) (sym (map-append _ types (t ∷ [])))
-          (All-append (λ slots. slots ≡ []) (slots_of types) (t.slots ∷ []) c.loop-info.invariant.empty (All-cons (λ slots. slots ≡ []) t.slots [] c.new.ensures.slots (All-nil (λ slots. slots ≡ [])))));
+          (All-append (λ slots. slots ≡ []) (slots_of types) (t.slots ∷ []) c.loop-info.invariant.empty
+          (All-cons (λ slots. slots ≡ []) t.slots [] c.new.ensures.slots (All-nil (λ slots. slots ≡ [])))));
       unbounded =
           subst (λ (ts : Types DeviceMemory). All (λ b. b ≡ None) (budgets ts)) (sym pushed)
           (subst (λ (bs : Budgets). All (λ b. b ≡ None) bs) (sym (map-append (λ (x : TypeState DeviceMemory). x.budget) types (t ∷ [])))

@@ -12,5 +12,9 @@ pull-requires-clause-some g c =
     rw add-one (has_first 255 c.loop-free.free (vec_len c.args.rings.now) c.loop-free.rings.items (joined c.args.rings.now.items) (omega arith) c.loop-free.invariant.2 (omega arith))
 
 pub loop-free-preserved : goal.loop-free-preserved
-loop-free-preserved g c =
-    (omega arith, c.pull.ensures.rings ∙ c.loop-free.invariant.1, rw (← c.loop-free.invariant.1) (c.pull.ensures.place (joined c.args.rings.now.items) (rw c.loop-free.invariant.1 c.loop-free.invariant.2)))
+loop-free-preserved g c = (
+  omega arith,
+  c.pull.ensures.rings ∙ c.loop-free.invariant.1,
+  rw (← c.loop-free.invariant.1)
+      (c.pull.ensures.place (joined c.args.rings.now.items) (rw c.loop-free.invariant.1 c.loop-free.invariant.2)),
+)

@@ -15,8 +15,10 @@ insert-requires-clause-room g c =
 
 pub returns-clause-entries : goal.returns-clause-entries
 returns-clause-entries g c =
-    (put_in_at (vec_len c.args.rings.now) c.args.place c.args.rings.now.items c.index_mut.result.now c.insert.new.self c.args.entry c.requires.before c.requires.ring c.requires.within c.index_mut.ensures.value c.insert.ensures).entries
+    (put_in_at (vec_len c.args.rings.now) c.args.place c.args.rings.now.items c.index_mut.result.now c.insert.new.self c.args.entry c.requires.before c.requires.ring c.requires.within
+    c.index_mut.ensures.value c.insert.ensures).entries
 
 pub returns-clause-after : goal.returns-clause-after
 returns-clause-after g c =
-    (put_in_at (vec_len c.args.rings.now) c.args.place c.args.rings.now.items c.index_mut.result.now c.insert.new.self c.args.entry c.requires.before c.requires.ring c.requires.within c.index_mut.ensures.value c.insert.ensures).rings
+    (put_in_at (vec_len c.args.rings.now) c.args.place c.args.rings.now.items c.index_mut.result.now c.insert.new.self c.args.entry c.requires.before c.requires.ring c.requires.within
+    c.index_mut.ensures.value c.insert.ensures).rings

@@ -19,8 +19,10 @@ returns-clause-value g c =
 
 pub returns-clause-entries : goal.returns-clause-entries
 returns-clause-entries g c =
-    (take_out_at (vec_len c.args.rings.now) c.args.place c.args.rings.now.items c.index_mut.result.now c.remove.new.self c.requires.before c.requires.within c.index_mut.ensures.value c.remove.ensures.rest).entries
+    (take_out_at (vec_len c.args.rings.now) c.args.place c.args.rings.now.items c.index_mut.result.now c.remove.new.self c.requires.before c.requires.within c.index_mut.ensures.value
+    c.remove.ensures.rest).entries
 
 pub returns-clause-after : goal.returns-clause-after
 returns-clause-after g c =
-    (take_out_at (vec_len c.args.rings.now) c.args.place c.args.rings.now.items c.index_mut.result.now c.remove.new.self c.requires.before c.requires.within c.index_mut.ensures.value c.remove.ensures.rest).rings
+    (take_out_at (vec_len c.args.rings.now) c.args.place c.args.rings.now.items c.index_mut.result.now c.remove.new.self c.requires.before c.requires.within c.index_mut.ensures.value
+    c.remove.ensures.rest).rings

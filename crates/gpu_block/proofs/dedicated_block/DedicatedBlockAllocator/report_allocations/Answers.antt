@@ -12,5 +12,8 @@ rows_of-requires-clause-laid_out c =
     (0, w.0, w.1, subst (λ (xs : List Chunk). Covers xs 0 w.0) (sym c.of_list-chunks.ensures) w.2)
 
 pub rows_of-requires-clause-each : goal.rows_of-requires-clause-each
-rows_of-requires-clause-each c =
-    (2, subst (λ (xs : List Chunk). All (IsChunk 2) xs) (sym c.of_list-chunks.ensures) (whole_each c.self.inside.piece c.as_slice.result.now c.self.inside.size c.as_slice.ensures c.self.invariant.0 c.self.invariant.2))
+rows_of-requires-clause-each c = (
+  2,
+  subst (λ (xs : List Chunk). All (IsChunk 2) xs) (sym c.of_list-chunks.ensures)
+      (whole_each c.self.inside.piece c.as_slice.result.now c.self.inside.size c.as_slice.ensures c.self.invariant.0 c.self.invariant.2),
+)

@@ -14,9 +14,11 @@ find-requires-clause-placed c =
 pub returns-clause-found : goal.returns-clause-found
 returns-clause-found c =
     subst (λ (xs : List Chunk). MatchOption c.find.result (NoneFits xs c.args.wanted (length xs)) (λ f. IsChosen xs c.args.wanted f)) (ap (λ (v : LaidChunks). v.items) c.self.view_is)
-    (found_chosen c.self.inside.chain.chunks c.self.inside.index.gaps c.args.wanted c.self.inside.chain.size c.size-size.ensures.covers c.self.invariant.listed.same _ _ c.find.result c.find.ensures.ordered c.find.ensures.found)
+    (found_chosen c.self.inside.chain.chunks c.self.inside.index.gaps c.args.wanted c.self.inside.chain.size c.size-size.ensures.covers c.self.invariant.listed.same _ _ c.find.result
+    c.find.ensures.ordered c.find.ensures.found)
 
 pub returns-clause-cost : goal.returns-clause-cost
 returns-clause-cost c =
     subst (λ (xs : List Chunk). Spends xs c.args.wanted.size c.find.result c.args.cost.now c.find.new.cost) (ap (λ (v : LaidChunks). v.items) c.self.view_is)
-    (spends c.self.inside.chain.chunks c.self.inside.index.gaps c.args.wanted c.args.cost.now c.find.new.cost c.self.invariant.listed.same c.find.ensures.ordered c.find.result c.find.ensures.found c.find.ensures.comparisons c.find.ensures.lookups)
+    (spends c.self.inside.chain.chunks c.self.inside.index.gaps c.args.wanted c.args.cost.now c.find.new.cost c.self.invariant.listed.same c.find.ensures.ordered c.find.result c.find.ensures.found
+    c.find.ensures.comparisons c.find.ensures.lookups)

@@ -6,5 +6,6 @@ use Rattle.gpu_block_pieces.proofs.chunks.Chunks.release.Goals as goal
 
 pub overflow_sub-self : goal.overflow_sub-self
 overflow_sub-self c =
-    let n = piece_counted c.self.inside.chain.chunks c.args.around (subst (λ (xs : List Chunk). IsPieceAt xs c.args.around) (sym (ap (λ (v : LaidChunks). v.items) c.self.view_is)) c.requires.piece) in
+    let n = piece_counted c.self.inside.chain.chunks c.args.around (subst (λ (xs : List Chunk). IsPieceAt xs c.args.around) (sym (ap (λ (v : LaidChunks). v.items) c.self.view_is)) c.requires.piece)
+    in
     omega (arith, n, c.self.invariant.counted)

@@ -14,8 +14,10 @@ pub invariant_of-self : goal.invariant_of-self
 invariant_of-self c =
     let p = subst (λ (xs : List Chunk). IsPieceOf xs c.args.number c.args.offset c.args.kind) (sym (ap (λ (v : LaidChunks). v.items) c.self.view_is)) c.requires.piece in
     record {
-      listed = named_listed c.self.inside.chain.chunks c.fill.new.self.chunks c.args.number c.args.offset c.args.kind c.args.text c.size-size.ensures.distinct p c.fill.ensures.chunks c.self.inside.index.gaps c.self.invariant.listed;
-      counted = c.self.invariant.counted ∙ sym (named_live c.self.inside.chain.chunks c.fill.new.self.chunks c.args.number c.args.offset c.args.kind c.args.text c.size-size.ensures.distinct p c.fill.ensures.chunks);
+      listed = named_listed c.self.inside.chain.chunks c.fill.new.self.chunks c.args.number c.args.offset c.args.kind c.args.text c.size-size.ensures.distinct p c.fill.ensures.chunks
+          c.self.inside.index.gaps c.self.invariant.listed;
+      counted = c.self.invariant.counted ∙ sym (named_live c.self.inside.chain.chunks c.fill.new.self.chunks c.args.number c.args.offset c.args.kind c.args.text c.size-size.ensures.distinct p
+          c.fill.ensures.chunks);
       roomy = c.self.invariant.roomy;
     }
 

@@ -42,7 +42,8 @@ returns-then-taken-found-clause-taken c =
     let f = chosen_fits c.self.inside.chain.chunks c.args.wanted c.args.found c.self.inside.chain.size c.size-size.ensures.covers (omega (arith, c.size-size.ensures.value)) h in
     front_taken c.args.self.now.items c.take_front.new.chain.chunks c.args.wanted c.args.found c.args.counter c.args.name (subst (λ (xs : List Chunk). AreDistinct xs) v c.size-size.ensures.distinct)
     (c.args.found.offset + c.args.wanted.size - c.args.found.gap.start) refl c.if-taken-found.true f.low
-    (subst (λ (xs : List Chunk). IsSplit xs c.args.found.gap.number (c.args.found.offset + c.args.wanted.size - c.args.found.gap.start) c.args.counter c.args.found.offset c.args.wanted.kind c.args.name c.take_front.new.chain.chunks) (c.in_ok-make_room.ensures.chain.0 ∙ v) c.take_front.ensures.chunks)
+    (subst (λ (xs : List Chunk). IsSplit xs c.args.found.gap.number (c.args.found.offset + c.args.wanted.size - c.args.found.gap.start) c.args.counter c.args.found.offset c.args.wanted.kind
+    c.args.name c.take_front.new.chain.chunks) (c.in_ok-make_room.ensures.chain.0 ∙ v) c.take_front.ensures.chunks)
 
 pub returns-clause-taken : goal.returns-clause-taken
 returns-clause-taken c =
@@ -52,4 +53,5 @@ returns-clause-taken c =
     let some = c.requires.sized in
     whole_taken c.args.self.now.items c.take_whole.new.chain.chunks c.args.wanted c.args.found c.args.counter c.args.name (subst (λ (xs : List Chunk). AreDistinct xs) v c.size-size.ensures.distinct)
     (omega (arith, c.if-taken-found.false)) (omega (arith, f.low, f.high))
-    (subst (λ (xs : List Chunk). IsFilled xs c.args.found.gap.number c.args.found.offset c.args.wanted.kind c.args.name c.take_whole.new.chain.chunks) (c.in_ok-make_room.ensures.chain.0 ∙ v) c.take_whole.ensures.chunks)
+    (subst (λ (xs : List Chunk). IsFilled xs c.args.found.gap.number c.args.found.offset c.args.wanted.kind c.args.name c.take_whole.new.chain.chunks) (c.in_ok-make_room.ensures.chain.0 ∙ v)
+    c.take_whole.ensures.chunks)

@@ -23,7 +23,8 @@ use Rattle.gpu_block_pieces.proofs.Amounts.{bytes_of, taken_bytes, room_for}
 use Rattle.gpu_block_pieces.proofs.Costing.{Taking, searched, nothing_taken, not_taken, place_taken}
 use Rattle.gpu_block_pieces.proofs.Holding.{chosen_fits, fresh_number, rest_of_chunk, no_rest_of_chunk}
 use Rattle.gpu_block_pieces.proofs.cut_block.CutBlock.allocate.Goals as goal
-use Rattle.gpu_block_pieces.proofs.cut_block.CutBlock.allocate.Goals.{In-Some, In_ok-number, After-find_place, After-leaves_rest-rest, In_default, then-rest-2, else-rest-2, else-rest-via-then-rest+else-self, else-rest-via-else-rest}
+use Rattle.gpu_block_pieces.proofs.cut_block.CutBlock.allocate.Goals.{In-Some, In_ok-number, After-find_place, After-leaves_rest-rest, In_default, then-rest-2, else-rest-2}
+use Rattle.gpu_block_pieces.proofs.cut_block.CutBlock.allocate.Goals.{else-rest-via-then-rest+else-self, else-rest-via-else-rest}
 
 -- what is asked, and of whom
 abbrev asked : After-find_place → Wanted
@@ -48,23 +49,27 @@ returns-in_default-clause-cause c = the_none c
 pub returns-in_default-clause-law : goal.returns-in_default-clause-law
 returns-in_default-clause-law c = λ s t gap long.
     let at = (goal.at.returns-in_default-clause-law c).After-find_place in
-    law_at c.self.inside.chunks.size c.self.inside.granularity c.self.inside.counter c.self.inside.chunks.items c.args.self.now (the_request at) OutOfMemory c.self.view_is c.self.invariant.1 c.self.invariant.0 c.requires.aligned c.requires.sized (the_none c) s t gap long
+    law_at c.self.inside.chunks.size c.self.inside.granularity c.self.inside.counter c.self.inside.chunks.items c.args.self.now (the_request at) OutOfMemory c.self.view_is c.self.invariant.1
+    c.self.invariant.0 c.requires.aligned c.requires.sized (the_none c) s t gap long
 
 -- the gap that the search found
 abbrev the_found : (c : In-Some) → FoundAt
-the_found c = chosen_at c.self.inside.chunks.items (record { size = c.args.size; alignment = c.args.alignment; kind = c.args.kind; granularity = c.args.granularity }) c.in-Some.found c.in-Some.ensures.found
+the_found c = chosen_at c.self.inside.chunks.items (record { size = c.args.size; alignment = c.args.alignment; kind = c.args.kind; granularity = c.args.granularity }) c.in-Some.found
+    c.in-Some.ensures.found
 
 pub returns-then-self-clause-cause : goal.returns-then-self-clause-cause
 returns-then-self-clause-cause c =
     let at = (goal.at.returns-then-self-clause-cause c).After-find_place in
     let h = c.in-Some.ensures.found in
-    no_place_counter c.self.inside.chunks.items c.self.inside.chunks.size c.self.inside.counter (asked at) c.args.self.now c.args.name.now (the_found ((goal.at.returns-then-self-clause-cause c).In-Some)) c.self.invariant.1 c.requires.piece (the_view at) h.best
+    no_place_counter c.self.inside.chunks.items c.self.inside.chunks.size c.self.inside.counter (asked at) c.args.self.now c.args.name.now
+    (the_found ((goal.at.returns-then-self-clause-cause c).In-Some)) c.self.invariant.1 c.requires.piece (the_view at) h.best
     (rest_of_chunk c.self.inside.chunks.items (asked at) c.in-Some.found h (c.leaves_rest-rest.ensures.0 c.if-rest.true)) c.if-self.true
 
 -- ---- the two outcomes
 
 abbrev Steps : In_ok-number → ℕ → ℕ → Type 0
-Steps c n after = Stepped c.args.self.now (request c.args.size c.args.alignment c.args.kind c.args.name.now) c.in-Some.found.offset n c.self.inside.chunks.size c.self.inside.granularity after c.take.new.self.items
+Steps c n after = Stepped c.args.self.now (request c.args.size c.args.alignment c.args.kind c.args.name.now) c.in-Some.found.offset n c.self.inside.chunks.size c.self.inside.granularity after
+    c.take.new.self.items
 
 the_rest : (c : In_ok-number) (n : ℕ) → n ≡ c.in_ok-number.number → c.leaves_rest-rest.result ≡ true → Steps c n (c.self.inside.counter + 1)
 the_rest c n e is =
@@ -77,9 +82,12 @@ the_rest c n e is =
       | else-rest-via-then-rest+else-self v ↦ (let ne = v.if-self.false in omega arith)
       | else-rest-via-else-rest v ↦ absurd (false≢true (sym v.if-rest.false ∙ is))
     ] in
-    stepped c.args.self.now (request c.args.size c.args.alignment c.args.kind c.args.name.now) c.in-Some.found.offset n c.in_ok-number.number i.chunks.size i.granularity c.args.granularity i.counter (i.counter + 1) i.chunks.items c.take.new.self.items c.self.view_is c.requires.paged e c.self.invariant.0 c.requires.sized c.self.invariant.1 c.self.invariant.2
-    (rest_taken_are i.chunks.items c.take.new.self.items i.chunks.size i.counter w f c.in_ok-text.text c.in_ok-number.number c.self.invariant.1 c.requires.sized c.requires.piece h.best (c.in_ok-number.ensures.taken h) rest)
-    (rest_takes i.chunks.items c.take.new.self.items i.chunks.size i.counter w f c.in_ok-text.text c.in_ok-number.number c.self.invariant.1 c.requires.sized c.requires.piece h.best (c.in_ok-number.ensures.taken h) rest c.args.name.now c.in_ok-text.ensures.text left)
+    stepped c.args.self.now (request c.args.size c.args.alignment c.args.kind c.args.name.now) c.in-Some.found.offset n c.in_ok-number.number i.chunks.size i.granularity c.args.granularity i.counter
+    (i.counter + 1) i.chunks.items c.take.new.self.items c.self.view_is c.requires.paged e c.self.invariant.0 c.requires.sized c.self.invariant.1 c.self.invariant.2
+    (rest_taken_are i.chunks.items c.take.new.self.items i.chunks.size i.counter w f c.in_ok-text.text c.in_ok-number.number c.self.invariant.1 c.requires.sized c.requires.piece h.best
+    (c.in_ok-number.ensures.taken h) rest)
+    (rest_takes i.chunks.items c.take.new.self.items i.chunks.size i.counter w f c.in_ok-text.text c.in_ok-number.number c.self.invariant.1 c.requires.sized c.requires.piece h.best
+    (c.in_ok-number.ensures.taken h) rest c.args.name.now c.in_ok-text.ensures.text left)
 
 the_whole : (c : In_ok-number) (n : ℕ) → n ≡ c.in_ok-number.number → c.leaves_rest-rest.result ≡ false → Steps c n c.self.inside.counter
 the_whole c n e is =
@@ -88,9 +96,12 @@ the_whole c n e is =
     let h = c.in-Some.ensures.found in
     let f = chosen_at i.chunks.items w c.in-Some.found h in
     let whole = no_rest_of_chunk i.chunks.items w c.in-Some.found c.leaves_rest-rest.result h is c.leaves_rest-rest.ensures.1 in
-    stepped c.args.self.now (request c.args.size c.args.alignment c.args.kind c.args.name.now) c.in-Some.found.offset n c.in_ok-number.number i.chunks.size i.granularity c.args.granularity i.counter i.counter i.chunks.items c.take.new.self.items c.self.view_is c.requires.paged e c.self.invariant.0 c.requires.sized c.self.invariant.1 c.self.invariant.2
-    (whole_taken_are i.chunks.items c.take.new.self.items i.chunks.size i.counter w f c.in_ok-text.text c.in_ok-number.number c.self.invariant.1 c.requires.sized c.requires.piece h.best (c.in_ok-number.ensures.taken h) whole)
-    (whole_takes i.chunks.items c.take.new.self.items i.chunks.size i.counter w f c.in_ok-text.text c.in_ok-number.number c.self.invariant.1 c.requires.sized c.requires.piece h.best (c.in_ok-number.ensures.taken h) whole c.args.name.now c.in_ok-text.ensures.text)
+    stepped c.args.self.now (request c.args.size c.args.alignment c.args.kind c.args.name.now) c.in-Some.found.offset n c.in_ok-number.number i.chunks.size i.granularity c.args.granularity i.counter
+    i.counter i.chunks.items c.take.new.self.items c.self.view_is c.requires.paged e c.self.invariant.0 c.requires.sized c.self.invariant.1 c.self.invariant.2
+    (whole_taken_are i.chunks.items c.take.new.self.items i.chunks.size i.counter w f c.in_ok-text.text c.in_ok-number.number c.self.invariant.1 c.requires.sized c.requires.piece h.best
+    (c.in_ok-number.ensures.taken h) whole)
+    (whole_takes i.chunks.items c.take.new.self.items i.chunks.size i.counter w f c.in_ok-text.text c.in_ok-number.number c.self.invariant.1 c.requires.sized c.requires.piece h.best
+    (c.in_ok-number.ensures.taken h) whole c.args.name.now c.in_ok-text.ensures.text)
 
 -- what the pieces take then
 the_bytes : (c : In_ok-number) → bytes_of c.take.new.self.items ≡ bytes_of c.self.inside.chunks.items + (c.in-Some.found.offset + c.args.size - c.in-Some.found.gap.start)
@@ -132,7 +143,8 @@ pub non_zero-requires : goal.non_zero-requires
 non_zero-requires c =
     let at = (goal.at.non_zero-requires c).After-find_place in
     let h = c.in-Some.ensures.found in
-    some_number c.self.inside.chunks.items c.take.new.self.items c.self.inside.chunks.size c.self.inside.counter (asked at) (the_found ((goal.at.non_zero-requires c).In-Some)) c.in_ok-text.text c.in_ok-number.number c.self.invariant.1 c.requires.sized c.requires.piece h.best (c.in_ok-number.ensures.taken h)
+    some_number c.self.inside.chunks.items c.take.new.self.items c.self.inside.chunks.size c.self.inside.counter (asked at) (the_found ((goal.at.non_zero-requires c).In-Some)) c.in_ok-text.text
+    c.in_ok-number.number c.self.invariant.1 c.requires.sized c.requires.piece h.best (c.in_ok-number.ensures.taken h)
 
 pub returns-clause-took : goal.returns-clause-took
 returns-clause-took c =
@@ -147,8 +159,10 @@ returns-clause-sound c =
     let at = (goal.at.returns-clause-sound c).In_ok-number in
     let i = c.self.inside in
     elim c.if-rest-2.branch [
-      | then-rest-2 w ↦ rw (w.self-is, c.in_ok-number.ensures.size) (sound_block c.take.new.self.items i.chunks.size i.granularity (i.counter + 1) (the_rest at c.in_ok-number.number refl w.if-rest-2.true).are)
-      | else-rest-2 w ↦ rw (w.self-is, c.in_ok-number.ensures.size) (sound_block c.take.new.self.items i.chunks.size i.granularity i.counter (the_whole at c.in_ok-number.number refl w.if-rest-2.false).are)
+      | then-rest-2 w ↦ rw (w.self-is, c.in_ok-number.ensures.size)
+          (sound_block c.take.new.self.items i.chunks.size i.granularity (i.counter + 1) (the_rest at c.in_ok-number.number refl w.if-rest-2.true).are)
+      | else-rest-2 w ↦ rw (w.self-is, c.in_ok-number.ensures.size)
+          (sound_block c.take.new.self.items i.chunks.size i.granularity i.counter (the_whole at c.in_ok-number.number refl w.if-rest-2.false).are)
     ]
 
 pub returns-clause-covered : goal.returns-clause-covered
@@ -157,8 +171,12 @@ returns-clause-covered c =
     let i = c.self.inside in
     let ds = c.take.new.self.items in
     elim c.if-rest-2.branch [
-      | then-rest-2 w ↦ rw (w.self-is, c.in_ok-number.ensures.size) (sound_covered (free_list_of i.chunks.size i.granularity (i.counter + 1) ds) (sound_block ds i.chunks.size i.granularity (i.counter + 1) (the_rest at c.in_ok-number.number refl w.if-rest-2.true).are))
-      | else-rest-2 w ↦ rw (w.self-is, c.in_ok-number.ensures.size) (sound_covered (free_list_of i.chunks.size i.granularity i.counter ds) (sound_block ds i.chunks.size i.granularity i.counter (the_whole at c.in_ok-number.number refl w.if-rest-2.false).are))
+      | then-rest-2 w ↦ rw (w.self-is, c.in_ok-number.ensures.size)
+          (sound_covered (free_list_of i.chunks.size i.granularity (i.counter + 1) ds)
+          (sound_block ds i.chunks.size i.granularity (i.counter + 1) (the_rest at c.in_ok-number.number refl w.if-rest-2.true).are))
+      | else-rest-2 w ↦ rw (w.self-is, c.in_ok-number.ensures.size)
+          (sound_covered (free_list_of i.chunks.size i.granularity i.counter ds)
+          (sound_block ds i.chunks.size i.granularity i.counter (the_whole at c.in_ok-number.number refl w.if-rest-2.false).are))
     ]
 
 pub returns-clause-separated : goal.returns-clause-separated
@@ -173,7 +191,9 @@ pub find_place-requires-clause-aligned : goal.find_place-requires-clause-aligned
 find_place-requires-clause-aligned c = c.requires.aligned
 
 pub find_place-requires-clause-paged : goal.find_place-requires-clause-paged
-find_place-requires-clause-paged c = subst (λ k. IsTrue (is_power_of_two k)) (sym (granularity_of c.self.inside.chunks.size c.self.inside.granularity c.self.inside.counter c.self.inside.chunks.items c.args.self.now c.args.granularity c.self.view_is c.requires.paged)) c.self.invariant.0
+find_place-requires-clause-paged c = subst (λ k. IsTrue (is_power_of_two k))
+    (sym (granularity_of c.self.inside.chunks.size c.self.inside.granularity c.self.inside.counter c.self.inside.chunks.items c.args.self.now c.args.granularity c.self.view_is c.requires.paged))
+    c.self.invariant.0
 
 -- ---- host memory is refused where there is a place
 
@@ -183,7 +203,8 @@ returns-in_err-text-clause-cause c =
     let i = c.self.inside in
     let h = c.in-Some.ensures.found in
     host_refusal c.from_residual.result c.args.self.now (the_request at) c.from_residual.ensures.1
-    (has_place i.chunks.items i.chunks.size i.counter (asked at) c.args.self.now c.args.name.now (chosen_at i.chunks.items (asked at) c.in-Some.found h) c.self.invariant.1 c.requires.piece (the_view at) h.best (λ lt.
+    (has_place i.chunks.items i.chunks.size i.counter (asked at) c.args.self.now c.args.name.now (chosen_at i.chunks.items (asked at) c.in-Some.found h) c.self.invariant.1 c.requires.piece
+    (the_view at) h.best (λ lt.
     let is = c.leaves_rest-rest.ensures.1 (subst (λ (g : Gap). c.in-Some.found.offset + c.args.size < g.start + g.length) (sym h.gap) lt) in
     elim c.else-rest.branch [
       | else-rest-via-then-rest+else-self v ↦ (let ne = v.if-self.false in omega arith)
@@ -196,7 +217,8 @@ returns-in_err-number-clause-cause c =
     let i = c.self.inside in
     let h = c.in-Some.ensures.found in
     host_refusal c.from_residual-in_err-number.result c.args.self.now (the_request at) c.from_residual-in_err-number.ensures.1
-    (has_place i.chunks.items i.chunks.size i.counter (asked at) c.args.self.now c.args.name.now (chosen_at i.chunks.items (asked at) c.in-Some.found h) c.self.invariant.1 c.requires.piece (the_view at) h.best (λ lt.
+    (has_place i.chunks.items i.chunks.size i.counter (asked at) c.args.self.now c.args.name.now (chosen_at i.chunks.items (asked at) c.in-Some.found h) c.self.invariant.1 c.requires.piece
+    (the_view at) h.best (λ lt.
     let is = c.leaves_rest-rest.ensures.1 (subst (λ (g : Gap). c.in-Some.found.offset + c.args.size < g.start + g.length) (sym h.gap) lt) in
     elim c.else-rest.branch [
       | else-rest-via-then-rest+else-self v ↦ (let ne = v.if-self.false in omega arith)
@@ -214,7 +236,8 @@ take-requires-clause-fresh c = fresh_number c.self.inside.counter c.self.inside.
 
 -- ---- what the search and the taking cost
 
-searched_at : (c : After-find_place) (last : Cost) → Taking (asked c) c.find_place.result c.find_place.new.cost last → IsSearch c.args.self.now (the_request c) (counts_of c.args.cost.now) (counts_of last)
+searched_at : (c : After-find_place) (last : Cost) → Taking (asked c) c.find_place.result c.find_place.new.cost last → IsSearch c.args.self.now (the_request c) (counts_of c.args.cost.now)
+    (counts_of last)
 searched_at c last taking =
     searched c.self.inside.chunks.items c.self.inside.chunks.size c.args.granularity c.self.inside.counter (asked c) c.args.name.now c.args.self.now c.self.invariant.1 c.requires.piece (the_view c)
     c.find_place.result c.args.cost.now c.find_place.new.cost last _ _ c.find_place.ensures.found c.find_place.ensures.cost taking refl refl
@@ -251,6 +274,8 @@ returns-clause-ordered c =
     let at = (goal.at.returns-clause-ordered c).In_ok-number in
     let i = c.self.inside in
     elim c.if-rest-2.branch [
-      | then-rest-2 w ↦ rw (w.self-is, c.in_ok-number.ensures.size) (ordered_block c.take.new.self.items i.chunks.size i.granularity (i.counter + 1) (the_rest at c.in_ok-number.number refl w.if-rest-2.true).are)
-      | else-rest-2 w ↦ rw (w.self-is, c.in_ok-number.ensures.size) (ordered_block c.take.new.self.items i.chunks.size i.granularity i.counter (the_whole at c.in_ok-number.number refl w.if-rest-2.false).are)
+      | then-rest-2 w ↦ rw (w.self-is, c.in_ok-number.ensures.size)
+          (ordered_block c.take.new.self.items i.chunks.size i.granularity (i.counter + 1) (the_rest at c.in_ok-number.number refl w.if-rest-2.true).are)
+      | else-rest-2 w ↦ rw (w.self-is, c.in_ok-number.ensures.size)
+          (ordered_block c.take.new.self.items i.chunks.size i.granularity i.counter (the_whole at c.in_ok-number.number refl w.if-rest-2.false).are)
     ]

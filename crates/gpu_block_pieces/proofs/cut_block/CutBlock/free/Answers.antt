@@ -14,11 +14,14 @@ use Rattle.gpu_block_pieces.proofs.cut_block.CutBlock.free.Goals as goal
 use Rattle.gpu_block_pieces.proofs.cut_block.CutBlock.free.Goals.{After-release}
 use Rattle.std.specs.Prelude.{IfSome, IsSomeAnd}
 
-the_release : (c : After-release) → Released c.self.inside.chunks.size c.self.inside.granularity c.self.inside.counter c.self.inside.chunks.items c.release.new.self.items (non_zero_u64_get c.in-Some.number)
+the_release : (c : After-release) → Released c.self.inside.chunks.size c.self.inside.granularity c.self.inside.counter c.self.inside.chunks.items c.release.new.self.items
+    (non_zero_u64_get c.in-Some.number)
 the_release c =
     let e = c.in-Some-piece_around.ensures.piece in
-    let r = released_there c.self.inside.chunks.items c.release.new.self.items c.in-Some-piece_around.around (non_zero_u64_get c.in-Some.number) c.self.invariant.1.distinct (e.0 ∙ c.get.ensures.value) e.1 c.release.ensures.released in
-    released_at c.self.inside.chunks.size c.self.inside.granularity c.self.inside.counter c.self.inside.chunks.items c.release.new.self.items r.index (non_zero_u64_get c.in-Some.number) c.self.invariant.1 r.held r.released
+    let r = released_there c.self.inside.chunks.items c.release.new.self.items c.in-Some-piece_around.around (non_zero_u64_get c.in-Some.number) c.self.invariant.1.distinct
+    (e.0 ∙ c.get.ensures.value) e.1 c.release.ensures.released in
+    released_at c.self.inside.chunks.size c.self.inside.granularity c.self.inside.counter c.self.inside.chunks.items c.release.new.self.items r.index (non_zero_u64_get c.in-Some.number)
+    c.self.invariant.1 r.held r.released
 
 pub returns-in_default-piece_around-clause-not_live : goal.returns-in_default-piece_around-clause-not_live
 returns-in_default-piece_around-clause-not_live c =
@@ -26,7 +29,8 @@ returns-in_default-piece_around-clause-not_live c =
     let none : (k : ℕ) → HoldsNumber i.chunks.items (non_zero_u64_get c.in-Some.number) k → ⊥ =
     λ k h. c.in_default-piece_around.ensures.piece k (subst (λ n. HoldsNumber i.chunks.items n k) (sym c.get.ensures.value) h) in
     subst (λ o. IfSome o (λ n. SomeExtent c.args.self.now (λ x. x.number ≡ non_zero_u64_get n) → ⊥)) (sym c.in-Some.is)
-    (subst (λ (b : FreeList). SomeExtent b (λ x. x.number ≡ non_zero_u64_get c.in-Some.number) → ⊥) c.self.view_is (none_live i.chunks.size i.granularity i.counter i.chunks.items (non_zero_u64_get c.in-Some.number) none))
+    (subst (λ (b : FreeList). SomeExtent b (λ x. x.number ≡ non_zero_u64_get c.in-Some.number) → ⊥) c.self.view_is
+    (none_live i.chunks.size i.granularity i.counter i.chunks.items (non_zero_u64_get c.in-Some.number) none))
 
 the_bytes : (c : After-release) → bytes_of c.self.inside.chunks.items ≡ c.in-Some-piece_around.around.here.size + bytes_of c.release.new.self.items
 the_bytes c =
@@ -45,7 +49,14 @@ invariant_of-self c =
     let r = the_release at in
     let b = the_bytes at in
     let held = c.self.invariant.4 in
-    rw c.release.ensures.size (c.self.invariant.0, r.are, releases_separated (free_list_of i.chunks.size i.granularity i.counter i.chunks.items) (non_zero_u64_get c.in-Some.number) (free_list_of i.chunks.size i.granularity i.counter c.release.new.self.items) c.self.invariant.2 r.releases, c.self.invariant.3, omega arith)
+    rw c.release.ensures.size (
+      c.self.invariant.0,
+      r.are,
+      releases_separated (free_list_of i.chunks.size i.granularity i.counter i.chunks.items) (non_zero_u64_get c.in-Some.number)
+          (free_list_of i.chunks.size i.granularity i.counter c.release.new.self.items) c.self.invariant.2 r.releases,
+      c.self.invariant.3,
+      omega arith,
+    )
 
 pub returns-clause-freed : goal.returns-clause-freed
 returns-clause-freed c =
@@ -55,16 +66,21 @@ returns-clause-freed c =
     (subst (λ b. Releases b (non_zero_u64_get c.in-Some.number) new) c.self.view_is (the_release ((goal.at.returns-clause-freed c).After-release)).releases))
 
 pub returns-clause-sound : goal.returns-clause-sound
-returns-clause-sound c = rw c.release.ensures.size (sound_block c.release.new.self.items c.self.inside.chunks.size c.self.inside.granularity c.self.inside.counter (the_release ((goal.at.returns-clause-sound c).After-release)).are)
+returns-clause-sound c = rw c.release.ensures.size
+    (sound_block c.release.new.self.items c.self.inside.chunks.size c.self.inside.granularity c.self.inside.counter (the_release ((goal.at.returns-clause-sound c).After-release)).are)
 
 pub returns-clause-separated : goal.returns-clause-separated
-returns-clause-separated c = releases_separated (free_list_of c.self.inside.chunks.size c.self.inside.granularity c.self.inside.counter c.self.inside.chunks.items) (non_zero_u64_get c.in-Some.number) (free_list_of c.self.inside.chunks.size c.self.inside.granularity c.self.inside.counter c.release.new.self.items) c.self.invariant.2 (the_release ((goal.at.returns-clause-separated c).After-release)).releases
+returns-clause-separated c = releases_separated (free_list_of c.self.inside.chunks.size c.self.inside.granularity c.self.inside.counter c.self.inside.chunks.items) (non_zero_u64_get c.in-Some.number)
+    (free_list_of c.self.inside.chunks.size c.self.inside.granularity c.self.inside.counter c.release.new.self.items) c.self.invariant.2
+    (the_release ((goal.at.returns-clause-separated c).After-release)).releases
 
 pub returns-clause-covered : goal.returns-clause-covered
 returns-clause-covered c =
     let at = (goal.at.returns-clause-covered c).After-release in
     let i = c.self.inside in
-    rw c.release.ensures.size (sound_covered (free_list_of i.chunks.size i.granularity i.counter c.release.new.self.items) (sound_block c.release.new.self.items i.chunks.size i.granularity i.counter (the_release at).are))
+    rw c.release.ensures.size (sound_covered (free_list_of i.chunks.size i.granularity i.counter c.release.new.self.items)
+    (sound_block c.release.new.self.items i.chunks.size i.granularity i.counter (the_release at).are))
 
 pub returns-clause-ordered : goal.returns-clause-ordered
-returns-clause-ordered c = rw c.release.ensures.size (ordered_block c.release.new.self.items c.self.inside.chunks.size c.self.inside.granularity c.self.inside.counter (the_release ((goal.at.returns-clause-ordered c).After-release)).are)
+returns-clause-ordered c = rw c.release.ensures.size
+    (ordered_block c.release.new.self.items c.self.inside.chunks.size c.self.inside.granularity c.self.inside.counter (the_release ((goal.at.returns-clause-ordered c).After-release)).are)

@@ -22,9 +22,11 @@ overflow_sub-result c = let f = (shown c).inside in omega arith
 
 pub returns-in-Some-clause-place : goal.returns-in-Some-clause-place
 returns-in-Some-clause-place c =
-    subst (λ (b : FreeList). FindsPlace b.extents (non_zero_u64_get c.args.number) (Some (c.in-Some.piece.now.offset, c.in-Some.piece.now.start + c.in-Some.piece.now.size - c.in-Some.piece.now.offset))) c.self.view_is (shown c).found
+    subst (λ (b : FreeList). FindsPlace b.extents (non_zero_u64_get c.args.number)
+    (Some (c.in-Some.piece.now.offset, c.in-Some.piece.now.start + c.in-Some.piece.now.size - c.in-Some.piece.now.offset))) c.self.view_is (shown c).found
 
 pub returns-in-None-clause-place : goal.returns-in-None-clause-place
 returns-in-None-clause-place c =
     subst (λ (b : FreeList). FindsPlace b.extents (non_zero_u64_get c.args.number) None) c.self.view_is
-    (λ x held is. none_live 0 1 0 c.self.inside.chunks.items (non_zero_u64_get c.args.number) (λ k h. c.in-None.ensures.piece k (subst (λ n. HoldsNumber c.self.inside.chunks.items n k) (sym c.get.ensures.value) h)) (x, held, is))
+    (λ x held is. none_live 0 1 0 c.self.inside.chunks.items (non_zero_u64_get c.args.number)
+    (λ k h. c.in-None.ensures.piece k (subst (λ n. HoldsNumber c.self.inside.chunks.items n k) (sym c.get.ensures.value) h)) (x, held, is))

@@ -15,17 +15,21 @@ use Rattle.gpu_block_pieces.proofs.Holding.{held_at}
 use Rattle.gpu_block_pieces.proofs.cut_block.CutBlock.rename.Goals as goal
 use Rattle.gpu_block_pieces.proofs.cut_block.CutBlock.rename.Goals.{After-rename}
 
-the_rename : (c : After-rename) → Renamed c.self.inside.chunks.size c.self.inside.granularity c.self.inside.counter c.self.inside.chunks.items c.rename.new.self.items (non_zero_u64_get c.in-Some.number) c.args.name.now
+the_rename : (c : After-rename) → Renamed c.self.inside.chunks.size c.self.inside.granularity c.self.inside.counter c.self.inside.chunks.items c.rename.new.self.items
+    (non_zero_u64_get c.in-Some.number) c.args.name.now
 the_rename c =
     let e = c.in-Some-piece.ensures.piece in
     let h = held_at c.self.inside.chunks.items c.in-Some-piece.piece.now c.get.result e.0 e.1 in
-    renamed c.self.inside.chunks.size c.self.inside.granularity c.self.inside.counter c.self.inside.chunks.items c.rename.new.self.items (length e.1.front) (non_zero_u64_get c.in-Some.number) c.in_ok-text.text c.args.name.now c.in_ok-text.ensures.text c.self.invariant.1
-    (subst (λ n. HoldsNumber c.self.inside.chunks.items n (length e.1.front)) c.get.ensures.value h) (c.rename.ensures.named (length e.1.front) (subst (λ n. HoldsNumber c.self.inside.chunks.items n (length e.1.front)) (c.get.ensures.value ∙ sym c.get-2.ensures.value) h))
+    renamed c.self.inside.chunks.size c.self.inside.granularity c.self.inside.counter c.self.inside.chunks.items c.rename.new.self.items (length e.1.front) (non_zero_u64_get c.in-Some.number)
+    c.in_ok-text.text c.args.name.now c.in_ok-text.ensures.text c.self.invariant.1
+    (subst (λ n. HoldsNumber c.self.inside.chunks.items n (length e.1.front)) c.get.ensures.value h)
+    (c.rename.ensures.named (length e.1.front) (subst (λ n. HoldsNumber c.self.inside.chunks.items n (length e.1.front)) (c.get.ensures.value ∙ sym c.get-2.ensures.value) h))
 
 the_bytes : (c : After-rename) → bytes_of c.rename.new.self.items ≡ bytes_of c.self.inside.chunks.items
 the_bytes c =
     let e = c.in-Some-piece.ensures.piece in
-    let h = subst (λ n. HoldsNumber c.self.inside.chunks.items n (length e.1.front)) (c.get.ensures.value ∙ sym c.get-2.ensures.value) (held_at c.self.inside.chunks.items c.in-Some-piece.piece.now c.get.result e.0 e.1) in
+    let h = subst (λ n. HoldsNumber c.self.inside.chunks.items n (length e.1.front)) (c.get.ensures.value ∙ sym c.get-2.ensures.value)
+    (held_at c.self.inside.chunks.items c.in-Some-piece.piece.now c.get.result e.0 e.1) in
     named_bytes c.self.inside.chunks.items c.rename.new.self.items c.get-2.result (length e.1.front) c.in_ok-text.text h (c.rename.ensures.named (length e.1.front) h)
 
 pub invariant_of-self : goal.invariant_of-self
@@ -34,7 +38,14 @@ invariant_of-self c =
     let r = the_rename c in
     let b = the_bytes c in
     let held = c.self.invariant.4 in
-    rw c.rename.ensures.size (c.self.invariant.0, r.are, renames_separated (free_list_of i.chunks.size i.granularity i.counter i.chunks.items) (non_zero_u64_get c.in-Some.number) c.args.name.now (free_list_of i.chunks.size i.granularity i.counter c.rename.new.self.items) c.self.invariant.2 r.renames, c.self.invariant.3, held ∙ sym b)
+    rw c.rename.ensures.size (
+      c.self.invariant.0,
+      r.are,
+      renames_separated (free_list_of i.chunks.size i.granularity i.counter i.chunks.items) (non_zero_u64_get c.in-Some.number) c.args.name.now
+          (free_list_of i.chunks.size i.granularity i.counter c.rename.new.self.items) c.self.invariant.2 r.renames,
+      c.self.invariant.3,
+      held ∙ sym b,
+    )
 
 pub returns-clause-renamed : goal.returns-clause-renamed
 returns-clause-renamed c =
@@ -52,7 +63,8 @@ pub returns-clause-separated : goal.returns-clause-separated
 returns-clause-separated c =
     let at = (goal.at.returns-clause-separated c).After-rename in
     let i = c.self.inside in
-    renames_separated (free_list_of i.chunks.size i.granularity i.counter i.chunks.items) (non_zero_u64_get c.in-Some.number) c.args.name.now (free_list_of i.chunks.size i.granularity i.counter c.rename.new.self.items) c.self.invariant.2 (the_rename at).renames
+    renames_separated (free_list_of i.chunks.size i.granularity i.counter i.chunks.items) (non_zero_u64_get c.in-Some.number) c.args.name.now
+    (free_list_of i.chunks.size i.granularity i.counter c.rename.new.self.items) c.self.invariant.2 (the_rename at).renames
 
 -- ---- the refusals
 
@@ -62,7 +74,8 @@ returns-then-has_gap-clause-cause c =
     let n = non_zero_u64_get c.in-Some.number in
     rename_none c.args.self.now c.args.chunk_id c.in-Some.number _ true c.in-Some.is
     (none_in_view i.chunks.size i.granularity i.counter i.chunks.items i.chunks.items c.args.self.now n c.get.result c.self.view_is refl c.get.ensures.value c.in_default-piece.ensures.piece)
-    (gap_told i.chunks.size i.granularity i.counter i.chunks.items i.chunks.items c.args.self.now n c.get-in_default-piece.result c.has_gap.result c.self.view_is refl c.get-in_default-piece.ensures.value c.has_gap.ensures.gap ∙ c.if-has_gap.true)
+    (gap_told i.chunks.size i.granularity i.counter i.chunks.items i.chunks.items c.args.self.now n c.get-in_default-piece.result c.has_gap.result c.self.view_is refl
+    c.get-in_default-piece.ensures.value c.has_gap.ensures.gap ∙ c.if-has_gap.true)
     c.internal_fault-then-has_gap.ensures
 
 pub returns-in_default-piece-clause-cause : goal.returns-in_default-piece-clause-cause
@@ -71,7 +84,8 @@ returns-in_default-piece-clause-cause c =
     let n = non_zero_u64_get c.in-Some.number in
     rename_none c.args.self.now c.args.chunk_id c.in-Some.number _ false c.in-Some.is
     (none_in_view i.chunks.size i.granularity i.counter i.chunks.items i.chunks.items c.args.self.now n c.get.result c.self.view_is refl c.get.ensures.value c.in_default-piece.ensures.piece)
-    (gap_told i.chunks.size i.granularity i.counter i.chunks.items i.chunks.items c.args.self.now n c.get-in_default-piece.result c.has_gap.result c.self.view_is refl c.get-in_default-piece.ensures.value c.has_gap.ensures.gap ∙ c.if-has_gap.false)
+    (gap_told i.chunks.size i.granularity i.counter i.chunks.items i.chunks.items c.args.self.now n c.get-in_default-piece.result c.has_gap.result c.self.view_is refl
+    c.get-in_default-piece.ensures.value c.has_gap.ensures.gap ∙ c.if-has_gap.false)
     c.internal_fault-in_default-piece.ensures
 
 pub returns-in_err-text-clause-cause : goal.returns-in_err-text-clause-cause
@@ -81,18 +95,29 @@ returns-in_err-text-clause-cause c =
     let e = c.in-Some-piece.ensures.piece in
     let h = subst (λ k. HoldsNumber i.chunks.items k (length e.1.front)) c.get.ensures.value (held_at i.chunks.items c.in-Some-piece.piece.now c.get.result e.0 e.1) in
     rename_host c.from_residual.result c.args.self.now c.args.chunk_id c.from_residual.ensures.1
-    (rename_live c.args.self.now c.args.chunk_id c.in-Some.number host_out_of_memory c.in-Some.is (live_in_view i.chunks.size i.granularity i.counter i.chunks.items c.args.self.now n (length e.1.front) c.self.view_is h) refl)
+    (rename_live c.args.self.now c.args.chunk_id c.in-Some.number host_out_of_memory c.in-Some.is
+    (live_in_view i.chunks.size i.granularity i.counter i.chunks.items c.args.self.now n (length e.1.front) c.self.view_is h) refl)
 
 pub returns-clause-covered : goal.returns-clause-covered
 returns-clause-covered c =
     let at = (goal.at.returns-clause-covered c).After-rename in
     let i = c.self.inside in
-    rw c.rename.ensures.size (sound_covered (free_list_of i.chunks.size i.granularity i.counter c.rename.new.self.items) (sound_block c.rename.new.self.items i.chunks.size i.granularity i.counter (the_rename at).are))
+    rw c.rename.ensures.size (sound_covered (free_list_of i.chunks.size i.granularity i.counter c.rename.new.self.items)
+    (sound_block c.rename.new.self.items i.chunks.size i.granularity i.counter (the_rename at).are))
 
 pub rename-requires : goal.rename-requires
 rename-requires c =
     let e = c.in-Some-piece.ensures.piece in
-    record { piece = record { chunk = c.in-Some-piece.piece.now; at = subst (λ n. StandsAt c.self.inside.chunks.items n c.in-Some-piece.piece.now) (c.get.ensures.value ∙ sym c.get-2.ensures.value) e.1; live = e.0; offset_is = refl; kind_is = refl } }
+    record {
+      piece = record {
+        chunk = c.in-Some-piece.piece.now;
+        at = subst (λ n. StandsAt c.self.inside.chunks.items n c.in-Some-piece.piece.now) (c.get.ensures.value ∙ sym c.get-2.ensures.value)
+            e.1;
+        live = e.0;
+        offset_is = refl;
+        kind_is = refl;
+      };
+    }
 
 pub returns-clause-ordered : goal.returns-clause-ordered
 returns-clause-ordered c =

@@ -21,8 +21,15 @@ the_soundness : (c : After-unwrap) → IsSoundBlock (block_of c.free.new.self)
 the_soundness c = rw c.unwrap.ensures at c.free.ensures.sound
 
 pub invariant_of-self : goal.invariant_of-self
-invariant_of-self c = (released_size (block_of c.self.inside.block) (non_zero_u64_get c.in-Some.chunk) (block_of c.free.new.self) (the_release c) ∙ c.self.invariant.0, c.free.ensures.pages c.self.inside.granularity c.self.invariant.1, owns_released (before c) c.args.key c.in-Some.chunk (block_of c.free.new.self) c.remove.new.self.entries c.self.invariant.2 (bound_before c) (the_release c) (the_soundness c) c.remove.ensures.updates.0)
+invariant_of-self c = (
+  released_size (block_of c.self.inside.block) (non_zero_u64_get c.in-Some.chunk) (block_of c.free.new.self) (the_release c) ∙ c.self.invariant.0,
+  c.free.ensures.pages
+      c.self.inside.granularity c.self.invariant.1,
+  owns_released (before c) c.args.key c.in-Some.chunk (block_of c.free.new.self) c.remove.new.self.entries c.self.invariant.2 (bound_before c)
+      (the_release c) (the_soundness c) c.remove.ensures.updates.0,
+)
 
 pub returns-in-Some : goal.returns-in-Some
 returns-in-Some c =
-    subst (λ s. Giving s c.args.key Given (record { block = block_of c.free.new.self; bound = c.remove.new.self.entries })) c.self.view_is (c.in-Some.chunk, bound_before c, the_release c, c.remove.ensures.entries)
+    subst (λ s. Giving s c.args.key Given (record { block = block_of c.free.new.self; bound = c.remove.new.self.entries })) c.self.view_is
+    (c.in-Some.chunk, bound_before c, the_release c, c.remove.ensures.entries)

@@ -7,5 +7,8 @@ use Rattle.gpu_block_session.proofs.session.BlockSession.take.Goals as goal
 pub invariant_of-self : goal.invariant_of-self
 invariant_of-self c =
     let old : State = record { block = block_of c.self.inside.block; bound = c.self.inside.bound.entries } in
-    let new : State = record { block = block_of c.take_unbound.new.block; bound = c.take_unbound.new.bound.entries } in
-    (size_after_taking old c.args.key _ c.take_unbound.result new c.take_unbound.ensures.taking ∙ c.self.invariant.0, c.take_unbound.ensures.pages c.self.inside.granularity c.self.invariant.1, owns_after_taking old c.args.key _ c.take_unbound.result new c.take_unbound.ensures.taking (c.take_unbound.ensures.sound c.self.invariant.2.sound) c.self.invariant.2)
+    let new : State = record { block = block_of c.take_unbound.new.block; bound = c.take_unbound.new.bound.entries } in (
+      size_after_taking old c.args.key _ c.take_unbound.result new c.take_unbound.ensures.taking ∙ c.self.invariant.0,
+      c.take_unbound.ensures.pages c.self.inside.granularity c.self.invariant.1,
+      owns_after_taking old c.args.key _ c.take_unbound.result new c.take_unbound.ensures.taking (c.take_unbound.ensures.sound c.self.invariant.2.sound) c.self.invariant.2,
+    )

@@ -9,11 +9,13 @@ use Rattle.gpu_core.proofs.Kept.{freed_kept}
 use Rattle.gpu_core.proofs.memory_type.MemoryType.free.Goals as goal
 use Rattle.gpu_core.proofs.memory_type.MemoryType.free.Goals.{In_ok-free, then-gone, else-gone}
 
-kept : (g : _) (c : In_ok-free g) → AreKept c.self.inside.granularity c.free.new.self.slots (c.self.inside.capacity - gone_size c.in_ok-free.field-0) (c.self.inside.general - gone_shared c.in_ok-free.field-0)
+kept : (g : _) (c : In_ok-free g) → AreKept c.self.inside.granularity c.free.new.self.slots (c.self.inside.capacity - gone_size c.in_ok-free.field-0)
+    (c.self.inside.general - gone_shared c.in_ok-free.field-0)
 kept g c =
     let i = c.self.inside in
     let went = c.in_ok-free in
-    freed_kept i.granularity i.slots.slots i.capacity i.general c.args.piece.now (gone_number went.field-0) c.free.new.self.slots (gone_size went.field-0) (gone_shared went.field-0) c.self.invariant (c.free.ensures.kept i.granularity c.self.invariant.sound) went.ensures.released went.ensures.size went.ensures.shared
+    freed_kept i.granularity i.slots.slots i.capacity i.general c.args.piece.now (gone_number went.field-0) c.free.new.self.slots (gone_size went.field-0) (gone_shared went.field-0) c.self.invariant
+    (c.free.ensures.kept i.granularity c.self.invariant.sound) went.ensures.released went.ensures.size went.ensures.shared
 
 pub invariant_of-self-in-None : goal.invariant_of-self-in-None
 invariant_of-self-in-None g c =
@@ -45,7 +47,9 @@ returns-after-gone-clause-empty g c =
 
 pub returns-in_err-free-clause-dead : goal.returns-in_err-free-clause-dead
 returns-in_err-free-clause-dead g c =
-    on_err c.from_residual.result _ (λ live. free_dead g.H.PartialEq.eq c.args.piece.now c.self.inside.granularity (slot_at c.self.inside.slots.slots c.args.piece.now.slot) _ (c.self.invariant.sound c.args.piece.now.slot) c.in_err-free.ensures.cause (subst (λ t. SlotHolds g.H.PartialEq.eq c.args.piece.now (slot_at t.slots c.args.piece.now.slot)) (sym c.self.view_is) live))
+    on_err c.from_residual.result _ (λ live. free_dead g.H.PartialEq.eq c.args.piece.now c.self.inside.granularity (slot_at c.self.inside.slots.slots c.args.piece.now.slot) _
+    (c.self.invariant.sound c.args.piece.now.slot) c.in_err-free.ensures.cause
+    (subst (λ t. SlotHolds g.H.PartialEq.eq c.args.piece.now (slot_at t.slots c.args.piece.now.slot)) (sym c.self.view_is) live))
 
 pub returns-in-None-clause-sound : goal.returns-in-None-clause-sound
 returns-in-None-clause-sound g c = (kept g ((goal.at.returns-in-None-clause-sound g c).In_ok-free)).sound

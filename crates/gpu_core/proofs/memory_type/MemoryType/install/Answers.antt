@@ -9,7 +9,8 @@ use Rattle.gpu_core.proofs.Kept.{installed_kept, count_le}
 use Rattle.gpu_core.proofs.memory_type.MemoryType.install.Goals as goal
 use Rattle.gpu_core.proofs.memory_type.MemoryType.install.Goals.{After-put-slot, then-not-dedicated, else-not-dedicated}
 
-kept_with : (g : _) (c : After-put-slot g) (shared : ℕ) → cond (not c.args.need.dedicated) 1 0 ≡ shared → AreKept c.self.inside.granularity c.put-slot.new.self.slots (c.self.inside.capacity + c.args.need.size) (c.self.inside.general + shared)
+kept_with : (g : _) (c : After-put-slot g) (shared : ℕ) → cond (not c.args.need.dedicated) 1 0 ≡ shared → AreKept c.self.inside.granularity c.put-slot.new.self.slots
+    (c.self.inside.capacity + c.args.need.size) (c.self.inside.general + shared)
 kept_with g c shared counts =
     let i = c.self.inside in
     let ready = c.requires.ready in
@@ -17,7 +18,10 @@ kept_with g c shared counts =
     let same : block ≡ c.args.need.room.block = ap (λ r. r.block) c.room.view_is in
     let put = c.put-slot.ensures in
     let s : Slot g.row.H.Denot = record { number = c.args.number; block = block } in
-    installed_kept i.granularity i.slots.slots i.capacity i.general c.args.need.dedicated s c.put-slot.new.self.slots c.args.need.size shared c.self.invariant (rw same (rw (ap (λ t. t.granularity) c.self.view_is) ready.pages, ready.sound, ready.separated)) (rw same (holds_some c.args.need.room.block c.args.need.room.number c.args.need.room.offset c.args.need.room.size ready.holds)) (put.slots ∙ ap (λ k. with_block i.slots.slots k s) put.slot) (ap size_of same ∙ ready.size_is) (ap (λ b. cond (is_general b) 1 0) same ∙ (ap (λ b. cond b 1 0) ready.kind ∙ counts))
+    installed_kept i.granularity i.slots.slots i.capacity i.general c.args.need.dedicated s c.put-slot.new.self.slots c.args.need.size shared c.self.invariant
+    (rw same (rw (ap (λ t. t.granularity) c.self.view_is) ready.pages, ready.sound, ready.separated))
+    (rw same (holds_some c.args.need.room.block c.args.need.room.number c.args.need.room.offset c.args.need.room.size ready.holds)) (put.slots ∙ ap (λ k. with_block i.slots.slots k s) put.slot)
+    (ap size_of same ∙ ready.size_is) (ap (λ b. cond (is_general b) 1 0) same ∙ (ap (λ b. cond b 1 0) ready.kind ∙ counts))
 
 pub overflow_add-self-then-not-dedicated : goal.overflow_add-self-then-not-dedicated
 overflow_add-self-then-not-dedicated g c =
@@ -34,7 +38,8 @@ invariant_of-self g c =
 
 pub invariant_of-self-else-not-dedicated : goal.invariant_of-self-else-not-dedicated
 invariant_of-self-else-not-dedicated g c =
-    subst (λ n. AreKept c.self.inside.granularity c.put-slot.new.self.slots (c.self.inside.capacity + c.args.need.size) n) (omega arith) (kept_with g ((goal.at.invariant_of-self-else-not-dedicated g c).After-put-slot) 0 (rw c.if-not-dedicated.false refl))
+    subst (λ n. AreKept c.self.inside.granularity c.put-slot.new.self.slots (c.self.inside.capacity + c.args.need.size) n) (omega arith)
+    (kept_with g ((goal.at.invariant_of-self-else-not-dedicated g c).After-put-slot) 0 (rw c.if-not-dedicated.false refl))
 
 pub returns-clause-capacity : goal.returns-clause-capacity
 returns-clause-capacity g c =

@@ -17,11 +17,16 @@ the_slot g c =
 
 pub find-requires : goal.find-requires
 find-requires g c =
-    let sound : SlotIsSound c.self.inside.granularity (Some (slot_of c.in-Some-Some.block)) = subst (SlotIsSound c.self.inside.granularity) (the_slot g ((goal.at.find-requires g c).In-Some-Some)) (c.self.invariant.sound c.args.piece.now.slot) in
+    let sound : SlotIsSound c.self.inside.granularity (Some (slot_of c.in-Some-Some.block)) = subst (SlotIsSound c.self.inside.granularity) (the_slot g ((goal.at.find-requires g c).In-Some-Some))
+    (c.self.invariant.sound c.args.piece.now.slot) in
     sound.1
 
 pub returns-in_default-find : goal.returns-in_default-find
 returns-in_default-find g c =
     let at = the_slot g ((goal.at.returns-in_default-find g c).In-Some-Some) in
-    let none : SlotHolds g.H.PartialEq.eq c.args.piece.now (Some (slot_of c.in-Some-Some.block)) → ⊥ = not_found g.H.PartialEq.eq c.args.piece.now (slot_of c.in-Some-Some.block) c.find.result c.find.ensures c.in_default-find.not-Piece in
-    (λ w. absurd (false≢true w), λ live. absurd (none (subst (SlotHolds g.H.PartialEq.eq c.args.piece.now) at (subst (λ t. IsLive g.H.PartialEq.eq t.slots c.args.piece.now) (sym c.self.view_is) live))))
+    let none : SlotHolds g.H.PartialEq.eq c.args.piece.now (Some (slot_of c.in-Some-Some.block)) → ⊥ = not_found g.H.PartialEq.eq c.args.piece.now (slot_of c.in-Some-Some.block) c.find.result
+    c.find.ensures c.in_default-find.not-Piece in (
+      λ w. absurd (false≢true w),
+      λ live. absurd
+          (none (subst (SlotHolds g.H.PartialEq.eq c.args.piece.now) at (subst (λ t. IsLive g.H.PartialEq.eq t.slots c.args.piece.now) (sym c.self.view_is) live))),
+    )

@@ -9,20 +9,24 @@ use Rattle.gpu_core.specs.Slots.{AreKept}
 use Rattle.gpu_core.proofs.Needs.{none_of, fresh_taken}
 use Rattle.gpu_core.proofs.Kept.{prepared_kept, same_kept}
 use Rattle.gpu_core.proofs.memory_type.MemoryType.prepare.Goals as goal
-use Rattle.gpu_core.proofs.memory_type.MemoryType.prepare.Goals.{After-reserve, In-Some, then-not-dedicated+in_ok-piece+in_default, else-not-dedicated, then-request, else-request, then-dedicated, else-dedicated}
+use Rattle.gpu_core.proofs.memory_type.MemoryType.prepare.Goals.{After-reserve, In-Some, then-not-dedicated+in_ok-piece+in_default, else-not-dedicated, then-request, else-request, then-dedicated}
+use Rattle.gpu_core.proofs.memory_type.MemoryType.prepare.Goals.{else-dedicated}
 
-inside_kept : (g : _) (c : After-reserve g) → AreKept c.if-not-dedicated.self-inside.granularity c.if-not-dedicated.self-inside.slots.slots c.if-not-dedicated.self-inside.capacity c.if-not-dedicated.self-inside.general
+inside_kept : (g : _) (c : After-reserve g) → AreKept c.if-not-dedicated.self-inside.granularity c.if-not-dedicated.self-inside.slots.slots c.if-not-dedicated.self-inside.capacity
+    c.if-not-dedicated.self-inside.general
 inside_kept g c =
     let i = c.self.inside in
     elim c.if-not-dedicated.branch [
       | then-not-dedicated+in_ok-piece+in_default w ↦
           (let none : IsNone w.in_ok-piece.field-0 = none_of w.in_ok-piece.field-0 w.in_default.not-Some in
           let same = w.in_ok-piece.ensures.none none in
-          subst (λ x. AreKept x.granularity x.slots.slots x.capacity x.general) (sym w.self-inside-is) (same_kept i.granularity i.slots.slots i.capacity i.general w.take.new.self.slots c.self.invariant same.1))
+          subst (λ x. AreKept x.granularity x.slots.slots x.capacity x.general) (sym w.self-inside-is)
+          (same_kept i.granularity i.slots.slots i.capacity i.general w.take.new.self.slots c.self.invariant same.1))
       | else-not-dedicated w ↦ subst (λ x. AreKept x.granularity x.slots.slots x.capacity x.general) (sym w.self-inside-is) c.self.invariant
     ]
 
-reserved_kept : (g : _) (c : After-reserve g) → AreKept c.if-not-dedicated.self-inside.granularity c.reserve.new.self.slots c.if-not-dedicated.self-inside.capacity c.if-not-dedicated.self-inside.general
+reserved_kept : (g : _) (c : After-reserve g) → AreKept c.if-not-dedicated.self-inside.granularity c.reserve.new.self.slots c.if-not-dedicated.self-inside.capacity
+    c.if-not-dedicated.self-inside.general
 reserved_kept g c =
     let x = c.if-not-dedicated.self-inside in
     same_kept x.granularity x.slots.slots x.capacity x.general c.reserve.new.self.slots (inside_kept g c) c.reserve.ensures.slots
@@ -61,7 +65,8 @@ pub returns-clause-empty : goal.returns-clause-empty
 returns-clause-empty g c = (reserved_kept g ((goal.at.returns-clause-empty g c).After-reserve)).empty
 
 -- what went before the slot was reserved: a look through the shared blocks that found none, or nothing
-inside_same : (g : _) (c : After-reserve g) → (c.if-not-dedicated.self-inside.granularity ≡ c.self.inside.granularity) × (c.if-not-dedicated.self-inside.slots.slots ≡ c.self.inside.slots.slots) × (c.if-request.dedicated ≡ false → NoneServes c.self.inside.slots.slots (asked c.args.request.now))
+inside_same : (g : _) (c : After-reserve g) → (c.if-not-dedicated.self-inside.granularity ≡ c.self.inside.granularity) × (c.if-not-dedicated.self-inside.slots.slots ≡ c.self.inside.slots.slots) ×
+    (c.if-request.dedicated ≡ false → NoneServes c.self.inside.slots.slots (asked c.args.request.now))
 inside_same g c =
     elim c.if-not-dedicated.branch [
       | then-not-dedicated+in_ok-piece+in_default w ↦
@@ -95,13 +100,15 @@ returns-clause-prepared g c =
       | then-dedicated w ↦ w.size-is ∙ sym (ap (λ b. cond b c.args.request.now.size (next_shared_size c.args.self.now c.args.sizes.now)) w.if-dedicated.true)
       | else-dedicated w ↦ w.size-is ∙ (next_is g at ∙ sym (ap (λ b. cond b c.args.request.now.size (next_shared_size c.args.self.now c.args.sizes.now)) w.if-dedicated.false))
     ] in
-    let taken = fresh_taken c.if-request.dedicated c.if-dedicated.size c.if-not-dedicated.self-inside.granularity (asked c.args.request.now) c.in_ok-room.room.offset c.in_ok-room.room.number c.in_ok-room.room.block c.in_ok-room.ensures.takes in
+    let taken = fresh_taken c.if-request.dedicated c.if-dedicated.size c.if-not-dedicated.self-inside.granularity (asked c.args.request.now) c.in_ok-room.room.offset c.in_ok-room.room.number
+    c.in_ok-room.room.block c.in_ok-room.ensures.takes in
     let needs : NeedsBlock c.args.self.now c.args.sizes.now c.args.request.now.dedicated (asked c.args.request.now) c.if-dedicated.size c.if-request.dedicated c.in_ok-room.room =
     record {
       kind = kind_is g at;
       size_is = size;
       none = λ h. subst (λ xs. NoneServes xs (asked c.args.request.now)) seen (same.2 h);
-      takes = subst (λ n. TakesIn (fresh_block c.if-request.dedicated c.if-dedicated.size n) (asked c.args.request.now) c.in_ok-room.room.offset c.in_ok-room.room.number c.in_ok-room.room.block) pages c.in_ok-room.ensures.takes;
+      takes = subst (λ n. TakesIn (fresh_block c.if-request.dedicated c.if-dedicated.size n) (asked c.args.request.now) c.in_ok-room.room.offset c.in_ok-room.room.number c.in_ok-room.room.block)
+          pages c.in_ok-room.ensures.takes;
       piece = c.in_ok-room.ensures.piece;
       begins = c.in_ok-room.ensures.begins;
     } in (

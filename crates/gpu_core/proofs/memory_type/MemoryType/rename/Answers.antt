@@ -15,7 +15,9 @@ kept g c =
     let i = c.self.inside in
     let before = i.slots.slots in
     let after = c.rename.new.self.slots in
-    either_way c.rename.result _ _ (on_ok c.rename.result _ _ c.rename.ensures.renamed (renamed_kept i.granularity before i.capacity i.general c.args.piece.now c.args.name.now after c.self.invariant (c.rename.ensures.kept i.granularity c.self.invariant.sound))) c.rename.ensures.refused (same_kept i.granularity before i.capacity i.general after c.self.invariant)
+    either_way c.rename.result _ _ (on_ok c.rename.result _ _ c.rename.ensures.renamed
+    (renamed_kept i.granularity before i.capacity i.general c.args.piece.now c.args.name.now after c.self.invariant (c.rename.ensures.kept i.granularity c.self.invariant.sound)))
+    c.rename.ensures.refused (same_kept i.granularity before i.capacity i.general after c.self.invariant)
 
 pub invariant_of-self : goal.invariant_of-self
 invariant_of-self g c = kept g ((goal.at.invariant_of-self g c).After-rename)
@@ -25,7 +27,10 @@ returns-clause-empty g c = (kept g ((goal.at.returns-clause-empty g c).After-ren
 
 pub returns-clause-dead : goal.returns-clause-dead
 returns-clause-dead g c =
-    if_error c.rename.result _ _ c.rename.ensures.cause (λ e cause other live. name_dead g.H.PartialEq.eq c.args.piece.now c.self.inside.granularity (slot_at c.self.inside.slots.slots c.args.piece.now.slot) (refusal_of e) (c.self.invariant.sound c.args.piece.now.slot) cause (λ h. other (host_error e h)) (subst (λ t. SlotHolds g.H.PartialEq.eq c.args.piece.now (slot_at t.slots c.args.piece.now.slot)) (sym c.self.view_is) live))
+    if_error c.rename.result _ _ c.rename.ensures.cause
+    (λ e cause other live. name_dead g.H.PartialEq.eq c.args.piece.now c.self.inside.granularity (slot_at c.self.inside.slots.slots c.args.piece.now.slot) (refusal_of e)
+    (c.self.invariant.sound c.args.piece.now.slot) cause (λ h. other (host_error e h))
+    (subst (λ t. SlotHolds g.H.PartialEq.eq c.args.piece.now (slot_at t.slots c.args.piece.now.slot)) (sym c.self.view_is) live))
 
 pub returns-clause-sound : goal.returns-clause-sound
 returns-clause-sound g c = c.rename.ensures.kept c.self.inside.granularity c.self.invariant.sound

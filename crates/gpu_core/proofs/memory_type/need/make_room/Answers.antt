@@ -6,7 +6,8 @@ use Rattle.gpu_core.proofs.memory_type.need.make_room.Goals as goal
 
 pub returns-in-Ok-clause-begins : goal.returns-in-Ok-clause-begins
 returns-in-Ok-clause-begins c =
-    fresh_begins c.args.is_dedicated c.args.size c.args.granularity (asked c.args.request.now) c.in-Ok.offset c.in-Ok.number.value (block_of c.allocate.new.self) c.requires.sized c.requires.fits (rw c.in_ok-sub.ensures.fresh at c.in-Ok.ensures.took)
+    fresh_begins c.args.is_dedicated c.args.size c.args.granularity (asked c.args.request.now) c.in-Ok.offset c.in-Ok.number.value (block_of c.allocate.new.self) c.requires.sized c.requires.fits
+    (rw c.in_ok-sub.ensures.fresh at c.in-Ok.ensures.took)
 
 pub returns-in-Ok-clause-holds : goal.returns-in-Ok-clause-holds
 returns-in-Ok-clause-holds c =
@@ -14,4 +15,5 @@ returns-in-Ok-clause-holds c =
 
 pub returns-in-Err-clause-cause : goal.returns-in-Err-clause-cause
 returns-in-Err-clause-cause c =
-    fresh_error c.args.is_dedicated c.args.size c.args.granularity (asked c.args.request.now) c.in-Err.error c.requires.exact c.requires.fits c.requires.sized (rw c.in_ok-sub.ensures.fresh at c.in-Err.ensures.cause)
+    fresh_error c.args.is_dedicated c.args.size c.args.granularity (asked c.args.request.now) c.in-Err.error c.requires.exact c.requires.fits c.requires.sized
+    (rw c.in_ok-sub.ensures.fresh at c.in-Err.ensures.cause)

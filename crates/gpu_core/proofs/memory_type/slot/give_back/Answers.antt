@@ -9,7 +9,8 @@ pub returns-in_default : goal.returns-in_default
 returns-in_default g c =
     record {
       released = c.free.ensures.freed;
-      live = on_ok c.free.result _ _ c.free.ensures.freed (λ t. released_live g.H.PartialEq.eq c.args.piece.now (slot_of c.args.block.now) c.find.result (block_of c.free.new.self) c.find.ensures c.in_default.not-Other c.requires t);
+      live = on_ok c.free.result _ _ c.free.ensures.freed
+          (λ t. released_live g.H.PartialEq.eq c.args.piece.now (slot_of c.args.block.now) c.find.result (block_of c.free.new.self) c.find.ensures c.in_default.not-Other c.requires t);
       cause = if_error c.free.result _ _ c.free.ensures.cause (λ e h. inl h);
       refused = on_error c.free.result _ _ c.free.ensures.refused (λ e. ap (λ (b : Block). record { number = c.args.block.now.number; block = b }) e);
       number = refl;

@@ -21,13 +21,15 @@ pub returns-clause-size : goal.returns-clause-size
 returns-clause-size g c =
     let below : c.args.piece.now.slot < length c.args.slots.now.items = omega arith in
     let e = edits c.args.slots.now.items c.args.piece.now.slot c.index_mut-slot.result.now c.release.new.slot below c.index_mut-slot.ensures.value in
-    if_ok c.release.result _ _ c.release.ensures.size (λ went s. edited_sum slot_size c.args.slots.now.items c.args.piece.now.slot c.index_mut-slot.result.now c.release.new.slot (gone_size went) below e s)
+    if_ok c.release.result _ _ c.release.ensures.size
+    (λ went s. edited_sum slot_size c.args.slots.now.items c.args.piece.now.slot c.index_mut-slot.result.now c.release.new.slot (gone_size went) below e s)
 
 pub returns-clause-shared : goal.returns-clause-shared
 returns-clause-shared g c =
     let below : c.args.piece.now.slot < length c.args.slots.now.items = omega arith in
     let e = edits c.args.slots.now.items c.args.piece.now.slot c.index_mut-slot.result.now c.release.new.slot below c.index_mut-slot.ensures.value in
-    if_ok c.release.result _ _ c.release.ensures.shared (λ went s. edited_sum shared_in c.args.slots.now.items c.args.piece.now.slot c.index_mut-slot.result.now c.release.new.slot (gone_shared went) below e s)
+    if_ok c.release.result _ _ c.release.ensures.shared
+    (λ went s. edited_sum shared_in c.args.slots.now.items c.args.piece.now.slot c.index_mut-slot.result.now c.release.new.slot (gone_shared went) below e s)
 
 pub returns-clause-refused : goal.returns-clause-refused
 returns-clause-refused g c =

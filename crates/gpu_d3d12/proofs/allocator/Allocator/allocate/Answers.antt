@@ -15,17 +15,21 @@ use Rattle.gpu_d3d12.proofs.allocator.Allocator.allocate.Goals as goal
 use Rattle.gpu_d3d12.proofs.allocator.Allocator.allocate.Goals.{After-serve}
 
 -- the call, from the device that the allocator has
-served : (g : _) (c : After-serve g) → Allocates g.D.D3D12Device c.self.inside.setup (budgets c.self.inside.types) c.args.desc.now (slots_of c.self.inside.types) (device_of c.self.inside.device) c.serve.result (slots_of c.serve.new.types) c.serve.new.device
+served : (g : _) (c : After-serve g) → Allocates g.D.D3D12Device c.self.inside.setup (budgets c.self.inside.types) c.args.desc.now (slots_of c.self.inside.types) (device_of c.self.inside.device)
+    c.serve.result (slots_of c.serve.new.types) c.serve.new.device
 served g c =
     let V = g.D.D3D12Device in
     subst (λ d. Allocates V c.self.inside.setup (budgets c.self.inside.types) c.args.desc.now (slots_of c.self.inside.types) d c.serve.result (slots_of c.serve.new.types) c.serve.new.device)
     c.device_mut-device.ensures.value c.serve.ensures.allocates
 
-holds : (g : _) (c : After-serve g) → Holds g.D.D3D12Device c.self.inside.setup c.self.inside.first.value (beside (g.D.D3D12Device.held (device_of c.self.inside.device)) (slots_of c.self.inside.types)) (slots_of c.self.inside.types) (device_of c.self.inside.device) (slots_of c.serve.new.types) c.serve.new.device
+holds : (g : _) (c : After-serve g) → Holds g.D.D3D12Device c.self.inside.setup c.self.inside.first.value
+    (beside (g.D.D3D12Device.held (device_of c.self.inside.device)) (slots_of c.self.inside.types)) (slots_of c.self.inside.types) (device_of c.self.inside.device) (slots_of c.serve.new.types)
+    c.serve.new.device
 holds g c =
     let V = g.D.D3D12Device in
     let i = c.self.inside in
-    allocated_holds V i.setup (budgets i.types) c.args.desc.now (beside (V.held (device_of i.device)) (slots_of i.types)) (slots_of i.types) c.self.invariant.1.types (device_of i.device) c.serve.result
+    allocated_holds V i.setup (budgets i.types) c.args.desc.now (beside (V.held (device_of i.device)) (slots_of i.types)) (slots_of i.types) c.self.invariant.1.types (device_of i.device)
+    c.serve.result
     (slots_of c.serve.new.types) c.serve.new.device (served g c) c.self.invariant.1.holds
 
 pub invariant_of-self : goal.invariant_of-self
@@ -44,7 +48,8 @@ returns-clause-step g c =
     let to = c.serve.new.device in
     let slots = slots_of c.serve.new.types in
     let before : State g.row.D.Denot = record { device = i.device; first = i.first.value; setup = i.setup; slots = slots_of i.types; budgets = budgets i.types; committed = i.committed } in
-    let then : State g.row.D.Denot = record { device = with_device i.device to; first = i.first.value; setup = i.setup; slots = slots; budgets = budgets c.serve.new.types; committed = i.committed } in
+    let then : State g.row.D.Denot = record { device = with_device i.device to; first = i.first.value; setup = i.setup; slots = slots; budgets = budgets c.serve.new.types; committed = i.committed }
+    in
     let allocates : Allocates V i.setup (budgets i.types) d (slots_of i.types) (device_of i.device) c.serve.result slots (device_of (with_device i.device to)) =
     subst (λ x. Allocates V i.setup (budgets i.types) d (slots_of i.types) (device_of i.device) c.serve.result slots x) (sym (device_with i.device to)) (served g after) in
     subst (λ (s : State g.row.D.Denot). IsAllocateStep V d c.serve.result s then) c.self.view_is

@@ -18,7 +18,9 @@ use Rattle.gpu_d3d12.proofs.allocator.Allocator.commit.Goals.{After-create, in-E
 abbrev before : (g : _) (c : After-create g) → State g.row.D.Denot
 before g c = (let i = c.self.inside in record { device = i.device; first = i.first.value; setup = i.setup; slots = slots_of i.types; budgets = budgets i.types; committed = i.committed })
 
-outcome : (g : _) (c : After-create g) → Outcome g.D.D3D12Device (before g c) (CommitStep (basis_of g.D.D3D12Device (before g c)) c.args.desc.now c.args.question (c.args.own.heap_properties.now, c.args.own.heap_flags)) (made_reply c.type_for-index.result None c.allocation_info_of-size.result.size_in_bytes (resource_reply c.create.result)) (slots_of c.self.inside.types) c.create.new.self c.create.new.device
+outcome : (g : _) (c : After-create g) → Outcome g.D.D3D12Device (before g c)
+    (CommitStep (basis_of g.D.D3D12Device (before g c)) c.args.desc.now c.args.question (c.args.own.heap_properties.now, c.args.own.heap_flags))
+    (made_reply c.type_for-index.result None c.allocation_info_of-size.result.size_in_bytes (resource_reply c.create.result)) (slots_of c.self.inside.types) c.create.new.self c.create.new.device
 outcome g c =
     let V = g.D.D3D12Device in
     let i = c.self.inside in
@@ -26,9 +28,12 @@ outcome g c =
     let index = c.type_for-index.result in
     let size = c.allocation_info_of-size.result.size_in_bytes in
     committed_outcome V (before g c) d c.args.question (c.args.own.heap_properties.now, c.args.own.heap_flags) index size c.create.new.self c.create.new.device c.create.result
-    (ap (λ info. info.size_in_bytes) c.allocation_info_of-size.ensures ∙ ap (λ info. info.size_in_bytes) (sym (same_info (V.properties (device_of i.device)) i.device d.resource_desc.now d.castable_formats.now)))
+    (ap (λ info. info.size_in_bytes) c.allocation_info_of-size.ensures ∙ ap (λ info. info.size_in_bytes)
+    (sym (same_info (V.properties (device_of i.device)) i.device d.resource_desc.now d.castable_formats.now)))
     c.type_for-index.ensures.first c.self.invariant.1.holds
-    (subst (λ x. IsCommitted V c.args.question d (c.args.own.heap_properties.now, c.args.own.heap_flags) (entries.Committed (made_size (V.properties x) c.args.question d.resource_desc.now d.castable_formats.now)) size (records_at i.committed index) x c.create.result (records_at c.create.new.self index) c.create.new.device)
+    (subst (λ x. IsCommitted V c.args.question d (c.args.own.heap_properties.now, c.args.own.heap_flags)
+    (entries.Committed (made_size (V.properties x) c.args.question d.resource_desc.now d.castable_formats.now)) size (records_at i.committed index) x c.create.result
+    (records_at c.create.new.self index) c.create.new.device)
     c.device_mut-device.ensures.value c.create.ensures.committed)
     c.create.ensures.others
 
@@ -49,7 +54,15 @@ returns-clause-step g c =
     let size = c.allocation_info_of-size.result.size_in_bytes in
     let result = c.match-create.result in
     let at = (goal.at.returns-clause-step g c).After-create in
-    let then : State g.row.D.Denot = record { device = with_device i.device c.create.new.device; first = i.first.value; setup = i.setup; slots = slots_of i.types; budgets = budgets i.types; committed = c.create.new.self } in
+    let then : State g.row.D.Denot = record {
+      device = with_device i.device c.create.new.device;
+      first = i.first.value;
+      setup = i.setup;
+      slots = slots_of i.types;
+      budgets = budgets i.types;
+      committed
+          = c.create.new.self;
+    } in
     let told : RepliesResource d result (made_reply index None size (resource_reply c.create.result)) =
     elim c.match-create.branch [
       | in-Err w ↦ replies_err d index size result c.create.result w.in-Err.error w.result-is w.in-Err.is
@@ -59,7 +72,8 @@ returns-clause-step g c =
     (record {
       reply = made_reply index None size (resource_reply c.create.result);
       step =
-          step_by V (before g at) (CommitStep (basis_of V (before g at)) d c.args.question (c.args.own.heap_properties.now, c.args.own.heap_flags)) (made_reply index None size (resource_reply c.create.result)) (slots_of i.types) c.create.new.self c.create.new.device
+          step_by V (before g at) (CommitStep (basis_of V (before g at)) d c.args.question (c.args.own.heap_properties.now, c.args.own.heap_flags))
+          (made_reply index None size (resource_reply c.create.result)) (slots_of i.types) c.create.new.self c.create.new.device
           (budgets i.types) refl (outcome g at);
       replies = told;
     })

@@ -17,7 +17,9 @@ use Rattle.gpu_d3d12.proofs.allocator.Allocator.free.Goals as goal
 use Rattle.gpu_d3d12.proofs.allocator.Allocator.free.Goals.{After-free_piece}
 
 -- what the device holds after the call
-holds : (g : _) (c : After-free_piece g) → Holds g.D.D3D12Device c.self.inside.setup c.self.inside.first.value (beside (g.D.D3D12Device.held (device_of c.self.inside.device)) (slots_of c.self.inside.types)) (slots_of c.self.inside.types) (device_of c.self.inside.device) (slots_of c.free_piece.new.types) c.free_piece.new.device
+holds : (g : _) (c : After-free_piece g) → Holds g.D.D3D12Device c.self.inside.setup c.self.inside.first.value
+    (beside (g.D.D3D12Device.held (device_of c.self.inside.device)) (slots_of c.self.inside.types)) (slots_of c.self.inside.types) (device_of c.self.inside.device) (slots_of c.free_piece.new.types)
+    c.free_piece.new.device
 holds g c =
     let V = g.D.D3D12Device in
     let i = c.self.inside in
@@ -46,7 +48,8 @@ holds g c =
 pub invariant_of-self : goal.invariant_of-self
 invariant_of-self g c =
     let i = c.self.inside in
-    kept_after g.D.D3D12Device i.setup i.first.value i.device i.types c.free_piece.new.types i.committed i.committed (beside (g.D.D3D12Device.held (device_of i.device)) (slots_of i.types)) c.free_piece.new.device
+    kept_after g.D.D3D12Device i.setup i.first.value i.device i.types c.free_piece.new.types i.committed i.committed (beside (g.D.D3D12Device.held (device_of i.device)) (slots_of i.types))
+    c.free_piece.new.device
     c.self.invariant c.free_piece.ensures.kinds c.free_piece.ensures.kept refl (holds g (goal.at.invariant_of-self g c).After-free_piece)
 
 pub returns-clause-step : goal.returns-clause-step
@@ -57,13 +60,22 @@ returns-clause-step g c =
     let slots = slots_of c.free_piece.new.types in
     let result = c.match-free_piece.result in
     let before : State g.row.D.Denot = record { device = i.device; first = i.first.value; setup = i.setup; slots = slots_of i.types; budgets = budgets i.types; committed = i.committed } in
-    let then : State g.row.D.Denot = record { device = with_device i.device to; first = i.first.value; setup = i.setup; slots = slots; budgets = budgets c.free_piece.new.types; committed = i.committed } in
+    let then : State g.row.D.Denot = record {
+      device = with_device i.device to;
+      first = i.first.value;
+      setup = i.setup;
+      slots = slots;
+      budgets = budgets c.free_piece.new.types;
+      committed =
+          i.committed;
+    } in
     let frees : Frees V c.args.allocation (slots_of i.types) c.device_mut-device.result.now result slots to = search rules in
     let here : Frees V c.args.allocation (slots_of i.types) (device_of i.device) result slots (device_of (with_device i.device to)) =
     subst (λ x. Frees V c.args.allocation (slots_of i.types) (device_of i.device) result slots x) (sym (device_with i.device to))
     (subst (λ x. Frees V c.args.allocation (slots_of i.types) x result slots to) c.device_mut-device.ensures.value frees) in
     subst (λ (s : State g.row.D.Denot). IsStep V (Free c.args.allocation) (freed_as result) s then) c.self.view_is
-    (free_step V before then c.args.allocation result here (alone_after V before slots to (budgets c.free_piece.new.types) c.free_piece.ensures.budgets (holds g (goal.at.returns-clause-step g c).After-free_piece).0))
+    (free_step V before then c.args.allocation result here
+    (alone_after V before slots to (budgets c.free_piece.new.types) c.free_piece.ensures.budgets (holds g (goal.at.returns-clause-step g c).After-free_piece).0))
 
 pub returns-clause-keeps : goal.returns-clause-keeps
 returns-clause-keeps g c = λ b live other.

@@ -35,7 +35,8 @@ returns-clause-step g c =
     let named = renamed_holds i.setup.tier (beside held (slots_of i.types)) held (slots_of i.types) c.self.invariant.1.holds c.args.allocation.now c.args.name.now
     c.rename.result c.rename.new.allocation slots c.rename.ensures.renames in
     subst (λ (s : State g.row.D.Denot). IsStep V (Rename c.args.allocation.now c.args.name.now) (renamed_as c.rename.result) s after) c.self.view_is
-    (rename_step V before after c.args.allocation.now c.rename.new.allocation c.args.name.now c.rename.result refl (alone_here V before slots (budgets c.rename.new.types) c.rename.ensures.budgets named.0) c.rename.ensures.renames)
+    (rename_step V before after c.args.allocation.now c.rename.new.allocation c.args.name.now c.rename.result refl
+    (alone_here V before slots (budgets c.rename.new.types) c.rename.ensures.budgets named.0) c.rename.ensures.renames)
 
 pub returns-clause-live : goal.returns-clause-live
 returns-clause-live g c = λ x live.

@@ -29,7 +29,8 @@ returns-clause-committed g c =
     let V = g.D.D3D12Device in
     let d = c.args.desc.now in
     let entry = entries.Committed (made_size (V.properties c.args.device.now) c.args.question d.resource_desc.now d.castable_formats.now) in
-    lent_committed V c.args.question d (c.args.own.heap_properties.now, c.args.own.heap_flags) entry c.args.size c.self.inside.types.items c.args.index c.args.self.now c.index_mut.result.now c.commit.new.records c.args.device.now
+    lent_committed V c.args.question d (c.args.own.heap_properties.now, c.args.own.heap_flags) entry c.args.size c.self.inside.types.items c.args.index c.args.self.now c.index_mut.result.now
+    c.commit.new.records c.args.device.now
     c.commit.result c.commit.new.device (below g (goal.at.returns-clause-committed g c).After-index_mut) c.index_mut.ensures.value c.self.view_is c.commit.ensures.committed
 
 pub returns-clause-others : goal.returns-clause-others

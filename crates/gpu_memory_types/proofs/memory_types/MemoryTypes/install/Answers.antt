@@ -16,13 +16,16 @@ pub install-requires-clause-sum : goal.install-requires-clause-sum
 install-requires-clause-sum g c =
     let at = old_at g ((goal.at.install-requires-clause-sum g c).After-index_mut) in
     let share = share_below c.self.inside.types.items c.args.index c.index_mut.result.now at in
-    let sum : total_capacity (slots_of c.self.inside.types.items) + c.args.need.size < 2 ^ 64 = subst (λ (ts : Types _). total_capacity (slots_of ts) + c.args.need.size < 2 ^ 64) (sym c.self.view_is) c.requires.sum in
+    let sum : total_capacity (slots_of c.self.inside.types.items) + c.args.need.size < 2 ^ 64 = subst (λ (ts : Types _). total_capacity (slots_of ts) + c.args.need.size < 2 ^ 64) (sym c.self.view_is)
+    c.requires.sum in
     omega (arith, share, sum)
 
-kept_after : (g : _) (c : After-install g) → slice_get c.self.inside.types.items c.args.index ≡ Some c.index_mut.result.now → MemoryTypesInvariant (slice_set c.self.inside.types.items c.args.index c.install.new.self)
+kept_after : (g : _) (c : After-install g) → slice_get c.self.inside.types.items c.args.index ≡ Some c.index_mut.result.now → MemoryTypesInvariant
+    (slice_set c.self.inside.types.items c.args.index c.install.new.self)
 kept_after g c at =
     let there : c.args.index < length c.self.inside.types.items = subst (λ (ts : Types _). c.args.index < length ts) (sym c.self.view_is) c.requires.there in
-    let sum : total_capacity (slots_of c.self.inside.types.items) + c.args.need.size < 2 ^ 64 = subst (λ (ts : Types _). total_capacity (slots_of ts) + c.args.need.size < 2 ^ 64) (sym c.self.view_is) c.requires.sum in
+    let sum : total_capacity (slots_of c.self.inside.types.items) + c.args.need.size < 2 ^ 64 = subst (λ (ts : Types _). total_capacity (slots_of ts) + c.args.need.size < 2 ^ 64) (sym c.self.view_is)
+    c.requires.sum in
     invariant_set c.self.inside.types.items c.args.index c.index_mut.result.now c.install.new.self at (omega (arith, there)) c.self.invariant c.install.ensures.sound
     (omega (arith, sum, c.install.ensures.capacity))
 

@@ -39,7 +39,8 @@ returns-clause-kept g c = kept_after g ((goal.at.returns-clause-kept g c).After-
 pub returns-in_err-prepared-clause-refused : goal.returns-in_err-prepared-clause-refused
 returns-in_err-prepared-clause-refused g c =
     let at = old_at g ((goal.at.returns-in_err-prepared-clause-refused g c).After-prepare) in
-    on_any_error c.from_residual.result _ (same_slots c.self.inside.types.items c.args.index c.index_mut-memory_type.result.now c.prepare.new.self at c.in_err-prepared.ensures.refused ∙ ap slots_of c.self.view_is)
+    on_any_error c.from_residual.result _ (same_slots c.self.inside.types.items c.args.index c.index_mut-memory_type.result.now c.prepare.new.self at c.in_err-prepared.ensures.refused ∙ ap slots_of
+    c.self.view_is)
 
 pub returns-in_err-prepared-clause-budgets : goal.returns-in_err-prepared-clause-budgets
 returns-in_err-prepared-clause-budgets g c =

@@ -27,13 +27,15 @@ pub returns-clause-renamed : goal.returns-clause-renamed
 returns-clause-renamed g c =
     let at = old_at g ((goal.at.returns-clause-renamed g c).After-rename) in
     rw (← c.self.view_is)
-    (renamed c.self.inside.types.items c.args.index c.index_mut.result.now c.rename.new.self at g.H.PartialEq.eq c.args.piece.now c.args.name.now c.rename.result c.rename.ensures.live c.rename.ensures.renamed)
+    (renamed c.self.inside.types.items c.args.index c.index_mut.result.now c.rename.new.self at g.H.PartialEq.eq c.args.piece.now c.args.name.now c.rename.result c.rename.ensures.live
+    c.rename.ensures.renamed)
 
 pub returns-clause-cause : goal.returns-clause-cause
 returns-clause-cause g c =
     let at = old_at g ((goal.at.returns-clause-cause g c).After-rename) in
     rw (← c.self.view_is)
-    (named_cause c.self.inside.types.items c.args.index c.index_mut.result.now c.rename.new.self at g.H.PartialEq.eq c.args.piece.now c.rename.result c.rename.ensures.dead c.rename.ensures.starved c.rename.ensures.cause)
+    (named_cause c.self.inside.types.items c.args.index c.index_mut.result.now c.rename.new.self at g.H.PartialEq.eq c.args.piece.now c.rename.result c.rename.ensures.dead c.rename.ensures.starved
+    c.rename.ensures.cause)
 
 pub returns-clause-budgets : goal.returns-clause-budgets
 returns-clause-budgets g c =

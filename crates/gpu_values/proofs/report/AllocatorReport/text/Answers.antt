@@ -9,7 +9,9 @@ returns-clause-text c =
     let r = c.args.self.now in
     let sums = string_bytes c.in_ok-sums.sums in
     let largest = string_bytes c.in_ok-largest.largest in
-    let counts = c.in_ok-counts.ensures.text ∙ (ap (λ i. counts_text i c.len-2.result) (c.len.ensures ∙ r.blocks.ok.0) ∙ ap (λ i. counts_text (length r.blocks.items) i) (c.len-2.ensures ∙ r.allocations.ok.0 ∙ sym (length-map r.allocations.items row_of))) in (
+    let counts = c.in_ok-counts.ensures.text ∙
+    (ap (λ i. counts_text i c.len-2.result) (c.len.ensures ∙ r.blocks.ok.0) ∙ ap (λ i. counts_text (length r.blocks.items) i)
+    (c.len-2.ensures ∙ r.allocations.ok.0 ∙ sym (length-map r.allocations.items row_of))) in (
       sums,
       largest,
       c.in_ok-sums.ensures.text,

@@ -21,7 +21,9 @@ invariant_of-self g c =
     let types = i.types in
     let lent = ap length c.memory_types.ensures in
     let kept = c.allocate_with_fallback.ensures.kept c.self.invariant.2 in
-    let served = served_holds V i.setup (budgets types) c.args.desc.now (V.held i.first.value) c.in-Some.index (slots_of types) i.device c.allocate_with_fallback.result (slots_of c.allocate_with_fallback.new.types) c.allocate_with_fallback.new.device (omega (arith, c.in-Some.ensures.there, lent, old.types)) old.types c.allocate_with_fallback.ensures.served old.holds in (
+    let served = served_holds V i.setup (budgets types) c.args.desc.now (V.held i.first.value) c.in-Some.index (slots_of types) i.device c.allocate_with_fallback.result
+    (slots_of c.allocate_with_fallback.new.types) c.allocate_with_fallback.new.device (omega (arith, c.in-Some.ensures.there, lent, old.types)) old.types c.allocate_with_fallback.ensures.served
+    old.holds in (
       c.allocate_with_fallback.ensures.kinds ∙ c.self.invariant.0,
       record {
         told_is = old.told_is;
@@ -61,16 +63,28 @@ returns-in-Some-clause-step g c =
     let first = V.held i.first.value in
     let valid : is_valid d ≡ true = search rules in
     let found : best_type i.setup.properties.types d.requirements.memory_type_bits d.location ≡ Some c.in-Some.index = search rules in
-    let steps = served V g.met.D.VulkanDevice.whole i.setup (budgets types) d first c.in-Some.index (slots_of types) i.device c.allocate_with_fallback.result (slots_of c.allocate_with_fallback.new.types) c.allocate_with_fallback.new.device (omega (arith, c.in-Some.ensures.there, lent, old.types)) old.types old.sound (well_formed_told i.setup.properties c.allocate_with_fallback.new.types (c.allocate_with_fallback.ensures.kinds ∙ c.self.invariant.0) (c.allocate_with_fallback.ensures.kept c.self.invariant.2)) old.holds c.allocate_with_fallback.ensures.served in
+    let steps = served V g.met.D.VulkanDevice.whole i.setup (budgets types) d first c.in-Some.index (slots_of types) i.device c.allocate_with_fallback.result
+    (slots_of c.allocate_with_fallback.new.types) c.allocate_with_fallback.new.device (omega (arith, c.in-Some.ensures.there, lent, old.types)) old.types old.sound
+    (well_formed_told i.setup.properties c.allocate_with_fallback.new.types (c.allocate_with_fallback.ensures.kinds ∙ c.self.invariant.0)
+    (c.allocate_with_fallback.ensures.kept c.self.invariant.2)) old.holds c.allocate_with_fallback.ensures.served in
     let before : State g.row.D.Denot = record { device = i.device; first = i.first.value; setup = i.setup; slots = slots_of types; budgets = budgets types } in
-    let after : State g.row.D.Denot = record { device = c.allocate_with_fallback.new.device; first = i.first.value; setup = i.setup; slots = slots_of c.allocate_with_fallback.new.types; budgets = budgets c.allocate_with_fallback.new.types } in
+    let after : State g.row.D.Denot = record {
+      device = c.allocate_with_fallback.new.device;
+      first = i.first.value;
+      setup = i.setup;
+      slots = slots_of c.allocate_with_fallback.new.types;
+      budgets =
+          budgets c.allocate_with_fallback.new.types;
+    } in
     subst (λ (s : State g.row.D.Denot). IsAllocateStep V d c.allocate_with_fallback.result s after) c.self.view_is
-    (served_step V g.met.D.VulkanDevice.whole i.setup (budgets types) d first c.in-Some.index before after c.allocate_with_fallback.result refl refl c.allocate_with_fallback.ensures.budgets found valid steps)
+    (served_step V g.met.D.VulkanDevice.whole i.setup (budgets types) d first c.in-Some.index before after c.allocate_with_fallback.result refl refl c.allocate_with_fallback.ensures.budgets found
+    valid steps)
 
 pub returns-in-Some-clause-aligned : goal.returns-in-Some-clause-aligned
 returns-in-Some-clause-aligned g c =
     let i = c.self.inside in
-    served_aligned i.setup (budgets i.types) c.args.desc.now g.D.VulkanDevice c.in-Some.index (slots_of i.types) i.device c.allocate_with_fallback.result (slots_of c.allocate_with_fallback.new.types) c.allocate_with_fallback.new.device c.allocate_with_fallback.ensures.served
+    served_aligned i.setup (budgets i.types) c.args.desc.now g.D.VulkanDevice c.in-Some.index (slots_of i.types) i.device c.allocate_with_fallback.result (slots_of c.allocate_with_fallback.new.types)
+    c.allocate_with_fallback.new.device c.allocate_with_fallback.ensures.served
 
 owns : (g : _) (c : goal.After-allocate_with_fallback g) → Owns c.args.self.now.slots (slots_of c.allocate_with_fallback.new.types) c.allocate_with_fallback.result
 owns g c =
@@ -78,7 +92,10 @@ owns g c =
     let old = c.self.invariant.1 in
     let types = i.types in
     let lent = ap length c.memory_types.ensures in
-    let here = served_owns g.D.VulkanDevice i.setup (budgets types) c.args.desc.now c.in-Some.index (slots_of types) i.device c.allocate_with_fallback.result (slots_of c.allocate_with_fallback.new.types) c.allocate_with_fallback.new.device (omega (arith, c.in-Some.ensures.there, lent, old.types)) old.types old.sound (well_formed_told i.setup.properties c.allocate_with_fallback.new.types (c.allocate_with_fallback.ensures.kinds ∙ c.self.invariant.0) (c.allocate_with_fallback.ensures.kept c.self.invariant.2)) c.allocate_with_fallback.ensures.served in
+    let here = served_owns g.D.VulkanDevice i.setup (budgets types) c.args.desc.now c.in-Some.index (slots_of types) i.device c.allocate_with_fallback.result
+    (slots_of c.allocate_with_fallback.new.types) c.allocate_with_fallback.new.device (omega (arith, c.in-Some.ensures.there, lent, old.types)) old.types old.sound
+    (well_formed_told i.setup.properties c.allocate_with_fallback.new.types (c.allocate_with_fallback.ensures.kinds ∙ c.self.invariant.0)
+    (c.allocate_with_fallback.ensures.kept c.self.invariant.2)) c.allocate_with_fallback.ensures.served in
     subst (λ (s : State g.row.D.Denot). Owns s.slots (slots_of c.allocate_with_fallback.new.types) c.allocate_with_fallback.result) c.self.view_is here
 
 pub returns-in-Some-clause-keeps : goal.returns-in-Some-clause-keeps

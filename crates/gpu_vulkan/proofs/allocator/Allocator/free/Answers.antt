@@ -59,7 +59,14 @@ returns-clause-step g c =
     let i = c.self.inside in
     let kept = c.self.invariant.1 in
     let before : State g.row.D.Denot = record { device = i.device; first = i.first.value; setup = i.setup; slots = slots_of i.types; budgets = budgets i.types } in
-    let after : State g.row.D.Denot = record { device = c.free_piece.new.device; first = i.first.value; setup = i.setup; slots = slots_of c.free_piece.new.types; budgets = budgets c.free_piece.new.types } in
+    let after : State g.row.D.Denot = record {
+      device = c.free_piece.new.device;
+      first = i.first.value;
+      setup = i.setup;
+      slots = slots_of c.free_piece.new.types;
+      budgets = budgets
+          c.free_piece.new.types;
+    } in
     let frees : Frees V c.args.allocation before.slots before.device c.match-free_piece.result after.slots after.device = search rules in
     subst (λ (s : State g.row.D.Denot). IsStep V (Free c.args.allocation) (freed_as c.match-free_piece.result) s after) c.self.view_is
     (free_step V (V.held i.first.value) before after kept.sound kept.holds (λ n. g.met.D.VulkanDevice.whole i.device n) c.free_piece.ensures.budgets c.args.allocation c.match-free_piece.result frees)

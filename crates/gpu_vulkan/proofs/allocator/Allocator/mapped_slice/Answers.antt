@@ -34,6 +34,7 @@ returns-clause-step g c =
     let s = c.args.self.now in
     let kept : AllocatorInvariant (V.properties s.first) (V.properties s.device) (V.held s.first) (V.held s.device) s.setup s.slots = rw (← c.self.view_is) c.self.invariant.1 in
     let told : option_copied c.bytes.result ≡ range_of (V.held s.device) a.device_memory.0 a.offset a.size = rw (← c.self.view_is) c.bytes.ensures in
-    let both = lent_where_mapped s.setup.properties (V.held s.first) (V.held s.device) s.slots kept.sound kept.holds (λ n. g.met.D.VulkanDevice.whole s.device n) a (c.is_live.ensures.0 c.if-not-is_live.false) c.bytes.result told in
+    let both = lent_where_mapped s.setup.properties (V.held s.first) (V.held s.device) s.slots kept.sound kept.holds (λ n. g.met.D.VulkanDevice.whole s.device n) a
+    (c.is_live.ensures.0 c.if-not-is_live.false) c.bytes.result told in
     read_step V (V.held s.first) s kept.sound kept.holds (λ n. g.met.D.VulkanDevice.whole s.device n) a (option_copied c.bytes.result)
     (λ some. both.0 (some_copied c.bytes.result some)) (λ live. copied_some c.bytes.result (both.1 live)) (λ xs is. sym told ∙ is)

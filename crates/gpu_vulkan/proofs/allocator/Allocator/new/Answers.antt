@@ -21,5 +21,9 @@ invariant_of-result g c =
     let long = length-map types (λ (t : TypeState DeviceMemory). t.slots) ∙ as_many setup.properties types kinds in
     let ss = slots_of types in
     let device = c.args.desc.device in
-    let valid : IsValid setup.properties = subst IsValid (sym same) c.in-Ok.ensures.valid in
-    (kinds, subst (λ f. AllocatorInvariant (V.properties f) told (V.held f) (V.held device) setup ss) (sym c.of-first.ensures) (empty_kept told (V.held device) setup ss same valid long c.in-Ok.ensures.empty), c.in-Ok.ensures.kept)
+    let valid : IsValid setup.properties = subst IsValid (sym same) c.in-Ok.ensures.valid in (
+      kinds,
+      subst (λ f. AllocatorInvariant (V.properties f) told (V.held f) (V.held device) setup ss) (sym c.of-first.ensures)
+          (empty_kept told (V.held device) setup ss same valid long c.in-Ok.ensures.empty),
+      c.in-Ok.ensures.kept,
+    )

@@ -18,7 +18,8 @@ invariant_of-self g c =
     let old = slots_of i.types in
     let new = slots_of c.rename.new.types in
     let inv = c.rename.ensures.kept c.self.invariant.2 in
-    let holds = renamed_holds i.setup.properties (V.held i.first.value) (V.held i.device) old kept.holds c.args.allocation.now c.args.name.now c.rename.result c.rename.new.allocation new c.rename.ensures.renames in (
+    let holds = renamed_holds i.setup.properties (V.held i.first.value) (V.held i.device) old kept.holds c.args.allocation.now c.args.name.now c.rename.result c.rename.new.allocation new
+    c.rename.ensures.renames in (
       c.rename.ensures.kinds ∙ c.self.invariant.0,
       record {
         told_is = kept.told_is;

@@ -25,7 +25,8 @@ loop-command-preserved g c =
     record {
       run = rw (commands, rest) (record {
         environment = before.environment ++ step.environment ∷ [];
-        runs = runs_more setup (session_of V old) (session_of V mid) (session_of V new) (map command_of (take c.loop-command.command-index c.args.commands.now)) command before.environment step.environment
+        runs = runs_more setup (session_of V old) (session_of V mid) (session_of V new) (map command_of (take c.loop-command.command-index c.args.commands.now)) command before.environment
+            step.environment
             (map reply_of c.loop-command.replies.items) reply before.runs serves kept;
         count = step.count ∙ ap (λ n. count_after (count_after n step.environment.call.first.asked) step.environment.call.second.asked) before.count
             ∙ sym (count_more (V.refused old.allocator.device) before.environment step.environment);
@@ -33,7 +34,8 @@ loop-command-preserved g c =
             ∙ sym (latest_more (V.latest old.allocator.device) before.environment step.environment);
         constant = (step.constant.0 ∙ before.constant.0, step.constant.1 ∙ before.constant.1);
       });
-      each = rw (commands, rest) (each_more V old mid new (map command_of (take c.loop-command.command-index c.args.commands.now)) command (map reply_of c.loop-command.replies.items) reply c.loop-command.invariant.each step);
+      each = rw (commands, rest) (each_more V old mid new (map command_of (take c.loop-command.command-index c.args.commands.now)) command (map reply_of c.loop-command.replies.items) reply
+          c.loop-command.invariant.each step);
       count = grind (arith, common_steps, c.loop-command.invariant.count);
       room = grind (arith, common_steps, c.loop-command.invariant.room);
     }

@@ -18,7 +18,8 @@ returns-then-contains_key g c =
     let V = g.D.VulkanDevice in
     let s : SessionValue g.row.D.Denot = record { allocator = c.self.inside.allocator; bound = c.self.inside.bound.entries } in
     let a = some_bound (lookup (nat_eq c.args.key) s.bound) c.contains_key.result c.contains_key.ensures c.if-contains_key.true in
-    λ w d. subst (λ x. IsServed V (Under c.args.key (Alloc w)) replies.Busy x x) c.self.view_is (served_quietly V c.args.key (Alloc w) replies.Busy s quiet (Some a.0) refl a.1 (refl, stayed (session_of V s)))
+    λ w d. subst (λ x. IsServed V (Under c.args.key (Alloc w)) replies.Busy x x) c.self.view_is
+    (served_quietly V c.args.key (Alloc w) replies.Busy s quiet (Some a.0) refl a.1 (refl, stayed (session_of V s)))
 
 pub returns-then-is_err : goal.returns-then-is_err
 returns-then-is_err g c =
@@ -59,7 +60,8 @@ returns-in-Err g c =
     let new : SessionValue g.row.D.Denot = record { allocator = c.allocate.new.self; bound = c.reserve.new.self.entries } in
     let none = none_bound (lookup (nat_eq c.args.key) s.bound) c.contains_key.result c.contains_key.ensures c.if-contains_key.false in
     λ w d. subst (λ x. IsServed V (Under c.args.key (Alloc w)) (replies.Error (refusal_of c.in-Err.error)) x new) c.self.view_is
-    (not_taken V s new c.args.key w c.args.desc.now d c.in-Err.error none (same_bindings s.bound new.bound (c.reserve.ensures.entries.2)) c.in-Err.ensures.step c.in-Err.ensures.allocates (c.allocate.ensures.constant.0, c.allocate.ensures.constant.1))
+    (not_taken V s new c.args.key w c.args.desc.now d c.in-Err.error none (same_bindings s.bound new.bound (c.reserve.ensures.entries.2)) c.in-Err.ensures.step c.in-Err.ensures.allocates
+    (c.allocate.ensures.constant.0, c.allocate.ensures.constant.1))
 
 pub returns-in-Ok : goal.returns-in-Ok
 returns-in-Ok g c =
@@ -69,4 +71,5 @@ returns-in-Ok g c =
     let none = none_bound (lookup (nat_eq c.args.key) s.bound) c.contains_key.result c.contains_key.ensures c.if-contains_key.false in
     let is = bound_after s.bound c.reserve.new.self.entries new.bound c.args.key (Some c.in-Ok.allocation) (c.reserve.ensures.entries.2) c.bind.ensures in
     λ w d. subst (λ x. IsServed V (Under c.args.key (Alloc w)) (reply_of c.given-given.result) x new) c.self.view_is
-    (taken V s new c.args.key w c.args.desc.now d c.in-Ok.allocation (reply_of c.given-given.result) none is c.in-Ok.ensures.step c.in-Ok.ensures.allocates (c.allocate.ensures.constant.0, c.allocate.ensures.constant.1) c.given-given.ensures)
+    (taken V s new c.args.key w c.args.desc.now d c.in-Ok.allocation (reply_of c.given-given.result) none is c.in-Ok.ensures.step c.in-Ok.ensures.allocates
+    (c.allocate.ensures.constant.0, c.allocate.ensures.constant.1) c.given-given.ensures)

@@ -5,4 +5,5 @@ use Rattle.tiered_vec.proofs.tiers.Tiers.insert.Goals as goal
 
 pub move_free_place-requires-clause-before : goal.move_free_place-requires-clause-before
 move_free_place-requires-clause-before g c =
-    c.self.invariant.0 ∙ filled_as_around 255 (c.self.inside.len / 256) (vec_len c.self.inside.rings) (joined c.self.inside.rings.items) (omega (arith, ap (λ t. t.spare) c.self.view_is)) (omega arith)
+    c.self.invariant.0 ∙ filled_as_around 255 (c.self.inside.len / 256) (vec_len c.self.inside.rings) (joined c.self.inside.rings.items) (omega (arith, ap (λ t. t.spare) c.self.view_is))
+    (omega arith)

@@ -12,5 +12,7 @@ piece_from-requires g c =
 pub returns-clause-piece : goal.returns-clause-piece
 returns-clause-piece g c =
     subst (λ xs. IsPieceFrom xs c.args.place c.piece_from.result.now) (ap (λ t. t.entries) c.self.view_is)
-    (reads_piece 255 (c.args.place / 256) (c.args.place % 256) (vec_len c.self.inside.rings) c.args.place c.self.inside.rings.items (joined c.self.inside.rings.items) c.index.result.now c.piece_from.result.now
-    (reads_at (vec_len c.self.inside.rings) c.args.place c.self.inside.rings.items c.index.result.now c.self.invariant.0 (omega (arith, ap (λ t. length t.entries) c.self.view_is)) c.index.ensures) c.piece_from.ensures.piece)
+    (reads_piece 255 (c.args.place / 256) (c.args.place % 256) (vec_len c.self.inside.rings) c.args.place c.self.inside.rings.items (joined c.self.inside.rings.items) c.index.result.now
+    c.piece_from.result.now
+    (reads_at (vec_len c.self.inside.rings) c.args.place c.self.inside.rings.items c.index.result.now c.self.invariant.0 (omega (arith, ap (λ t. length t.entries) c.self.view_is)) c.index.ensures)
+    c.piece_from.ensures.piece)
