@@ -36,11 +36,11 @@ impl<'a> Model for Leak<'a> {
 /// The live pieces of a block in order of offset. It takes no memory.
 #[derive(Drop)]
 pub struct Leaks<'a> {
-    pub(crate) memory_type: usize,
-    pub(crate) memory_block: usize,
-    pub(crate) general: bool,
-    pub(crate) rest: Walk<'a>,
-    pub(crate) cost: Cost,
+    memory_type: usize,
+    memory_block: usize,
+    general: bool,
+    rest: Walk<'a>,
+    cost: Cost,
 }
 
 impl<'a> Model for Leaks<'a> {
@@ -51,6 +51,29 @@ impl<'a> Model for Leaks<'a> {
     ghost Value = { List LeakOf };
 
     ghost view = { λ l. map (leak_of l.memory_type l.memory_block l.general) (extents_of l.rest) };
+}
+
+impl<'a> Leaks<'a> {
+    ghost use Rattle.gpu_block.specs.Leak.{leak_of};
+
+    /// The live pieces along that walk, which count in their own counter, of a free list or of a dedicated block.
+    pub(crate) fn new(
+        memory_type: usize,
+        memory_block: usize,
+        general: bool,
+        rest: Walk<'a>,
+        cost: Cost,
+    ) -> Leaks<'a>
+        ensures { result ≡ map (leak_of memory_type memory_block general) (extents_of rest.entry) }
+    {
+        Leaks {
+            memory_type,
+            memory_block,
+            general,
+            rest,
+            cost,
+        }
+    }
 }
 
 impl<'a> Iterator for Leaks<'a> {

@@ -93,8 +93,8 @@ impl<'a> LivePiece<'a> {
 /// The live pieces of a block in order of offset. It takes no memory.
 #[derive(Drop)]
 pub struct Pieces<'a> {
-    pub(crate) rest: Walk<'a>,
-    pub(crate) cost: Cost,
+    rest: Walk<'a>,
+    cost: Cost,
 }
 
 impl<'a> Model for Pieces<'a> {
@@ -108,6 +108,16 @@ impl<'a> Model for Pieces<'a> {
     ghost view = { λ p. extents_of p.rest };
 
     ghost invariant = { λ p. IsRun p.rest };
+}
+
+impl<'a> Pieces<'a> {
+    /// The live pieces along that walk, which count in their own counter.
+    pub(crate) fn new(rest: Walk<'a>, cost: Cost) -> Pieces<'a>
+        requires run { IsRun rest }
+        ensures { result ≡ extents_of rest.entry }
+    {
+        Pieces { rest, cost }
+    }
 }
 
 /// The first chunk that isn't free; those behind it are left.

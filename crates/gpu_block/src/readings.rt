@@ -79,13 +79,13 @@ impl FreeListAllocator {
     pub fn leaks(&self, memory_type: usize, memory_block: usize) -> Leaks<'_>
         ensures { result ≡ map (leak_of memory_type memory_block true) self.now.block.extents }
     {
-        Leaks {
+        Leaks::new(
             memory_type,
             memory_block,
-            general: true,
-            rest: self.pieces.walk(),
-            cost: Cost::begin(&Reading),
-        }
+            true,
+            self.pieces.walk(),
+            Cost::begin(&Reading),
+        )
     }
 
     /// The live pieces in order of offset. It takes no memory.
@@ -94,10 +94,7 @@ impl FreeListAllocator {
         ensures laid_out { LieBetween 0 result self.now.block.size }
     {
         let rest = self.pieces.walk();
-        Pieces {
-            rest,
-            cost: Cost::begin(&Reading),
-        }
+        Pieces::new(rest, Cost::begin(&Reading))
     }
 }
 
@@ -118,13 +115,14 @@ impl DedicatedBlockAllocator {
     pub fn leaks(&self, memory_type: usize, memory_block: usize) -> Leaks<'_>
         ensures { result ≡ map (leak_of memory_type memory_block false) (held_extents self.now) }
     {
-        Leaks {
+        let piece = Walk::of_list(self.piece.as_slice());
+        Leaks::new(
             memory_type,
             memory_block,
-            general: false,
-            rest: Walk::of_list(self.piece.as_slice()),
-            cost: Cost::begin(&Reading),
-        }
+            false,
+            piece,
+            Cost::begin(&Reading),
+        )
     }
 
     /// The live pieces in order of offset. It takes no memory.
@@ -133,9 +131,6 @@ impl DedicatedBlockAllocator {
         ensures laid_out { LieBetween 0 result self.now.size }
     {
         let rest = Walk::of_list(self.piece.as_slice());
-        Pieces {
-            rest,
-            cost: Cost::begin(&Reading),
-        }
+        Pieces::new(rest, Cost::begin(&Reading))
     }
 }

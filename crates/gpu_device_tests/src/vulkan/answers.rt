@@ -66,6 +66,21 @@ fn look_and_write(rt: &impl Abort, sim: &mut SimVulkan) -> Result<(), Fail> {
     Ok(())
 }
 
+/// Asks for bytes that can't be lent, and lets some go as they are: nothing changes.
+fn lend_and_let_go(rt: &impl Abort, sim: &mut SimVulkan) -> Result<(), Fail> {
+    assert!(rt; sim.bytes_mut(DeviceMemory(1), 0, 0).is_none());
+    assert!(rt; sim.bytes_mut(DeviceMemory(2), 0, 5).is_none());
+    assert!(rt; sim.bytes_mut(DeviceMemory(2), 0, 4).is_some());
+    assert_eq!(rt; sim.held(), 2);
+    assert_eq!(rt; sim.questions(), 3);
+    assert_eq!(rt; sim.refusals(), 0);
+    assert_eq!(rt;
+        sim.bytes(DeviceMemory(2), 0, 4).ok_or("all")?,
+        [0u8, 7, 7, 0].as_slice()
+    );
+    Ok(())
+}
+
 /// Gives bytes and memories back that are there, and some that aren't.
 fn give_back(rt: &impl Abort, sim: &mut SimVulkan) {
     sim.unmap_memory(DeviceMemory(2));
@@ -82,6 +97,7 @@ fn numbers_and_bytes(rt: HostRuntime) -> Result<(), Fail> {
     let mut sim = device(rt.alloc(), u64::MAX, Vec::new(rt.alloc()))?;
     ask_for_two(&rt, &mut sim);
     look_and_write(&rt, &mut sim)?;
+    lend_and_let_go(&rt, &mut sim)?;
     give_back(&rt, &mut sim);
     assert!(rt; sim.allocate_memory(&info(0)) == Ok(DeviceMemory(3)));
     assert_eq!(rt; sim.refusals(), 0);
