@@ -12,5 +12,6 @@ pub mod Apart
 pub mod Keeping
 pub mod Steps
 pub mod OneStep
+pub mod WithoutBudgets
 pub mod Calls
 pub mod Beginning

@@ -6,4 +6,5 @@ pub mod Allocate
 pub mod Free
 pub mod State
 pub mod Step
+pub mod Budgets
 pub mod Apart

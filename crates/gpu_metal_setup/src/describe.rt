@@ -25,7 +25,7 @@ pub struct AllocatorCreateDesc<D> {
 }
 
 /// What an allocation is asked for. Sizes and alignments are bytes.
-#[derive(Clone, Copy, Debug)]
+#[derive(Clone, Debug, Drop)]
 pub struct AllocationCreateDesc<'a> {
     /// Names the allocation in reports and log lines.
     pub name: &'a str,
@@ -39,7 +39,7 @@ pub struct AllocationCreateDesc<'a> {
 
 /// Committed resources of a memory type: how many, and the sum of their sizes in bytes. No call answers it, as none does in
 /// the crate that this one stands for.
-#[derive(Clone, Copy, Debug, PartialEq, Eq)]
+#[derive(Debug, Drop)]
 pub struct CommittedAllocationStatistics {
     pub num_allocations: usize,
     pub total_size: u64,

@@ -71,18 +71,27 @@ fn described(
     }
 }
 
-/// An allocator over a simulated device, with these sizes of blocks, and with a residency set or without.
+/// An allocator over this device, with these sizes of blocks, and with a residency set or without.
+fn made_over(
+    alloc: Global,
+    device: SimMetal,
+    sizes: AllocationSizes,
+    residency: bool,
+) -> std::result::Result<Allocator<SimMetal>, Fail> {
+    match Allocator::new(alloc, described(device, sizes, residency)) {
+        Ok(allocator) => Ok(allocator),
+        Err((_, _)) => Err(Fail::from("the allocator can't be made")),
+    }
+}
+
+/// The same over a simulated device that has residency sets and refuses these questions.
 fn made_with(
     alloc: Global,
     sizes: AllocationSizes,
     residency: bool,
     script: &[(u64, Refusal)],
 ) -> std::result::Result<Allocator<SimMetal>, Fail> {
-    let device = simulated(alloc, true, script)?;
-    match Allocator::new(alloc, described(device, sizes, residency)) {
-        Ok(allocator) => Ok(allocator),
-        Err((_, _)) => Err(Fail::from("the allocator can't be made")),
-    }
+    made_over(alloc, simulated(alloc, true, script)?, sizes, residency)
 }
 
 /// The same with the default sizes.

@@ -5,13 +5,13 @@ use gpu_values::AllocationError;
 use log::Log;
 use log::sink::{Lines, Memory};
 
-/// Settings that log all of this, or nothing.
-fn settings(all: bool) -> AllocatorDebugSettings {
+/// Settings that log allocations or frees, or both. This allocator has no line of the other two sorts.
+fn settings(log_allocations: bool, log_frees: bool) -> AllocatorDebugSettings {
     AllocatorDebugSettings {
-        log_memory_information: all,
-        log_leaks_on_shutdown: all,
-        log_allocations: all,
-        log_frees: all,
+        log_memory_information: true,
+        log_leaks_on_shutdown: true,
+        log_allocations,
+        log_frees,
     }
 }
 
@@ -31,11 +31,15 @@ fn calls<L: Log>(log: &L, a: &mut Allocator<SimMetal>) -> Outcome {
     Ok(())
 }
 
-fn lines_of(alloc: Global, all: bool) -> std::result::Result<Lines, Fail> {
+fn lines_of(
+    alloc: Global,
+    log_allocations: bool,
+    log_frees: bool,
+) -> std::result::Result<Lines, Fail> {
     let sink = Memory::new(alloc);
     let device = simulated(alloc, true, &[])?;
     let mut desc = described(device, AllocationSizes::default(), false);
-    desc.debug_settings = settings(all);
+    desc.debug_settings = settings(log_allocations, log_frees);
     let Ok(mut a) = Allocator::new(alloc, desc) else {
         return Err(Fail::from("the allocator can't be made"));
     };
@@ -52,19 +56,30 @@ fn check_lines(rt: &impl Abort, lines: &Lines, want: &[&str]) {
     }
 }
 
+/// Before the description is looked at.
+const ALLOCATING: [&str; 2] = [
+    "[DEBUG gpu] Allocating `piece` of 512 bytes with an alignment of 256.",
+    "[DEBUG gpu] Allocating `piece` of 0 bytes with an alignment of 256.",
+];
+
+const FREEING: &str = "[DEBUG gpu] Freeing `piece`.";
+
 #[test]
 fn allocations_and_frees_are_logged(rt: HostRuntime) -> Outcome {
-    let want = [
-        "[DEBUG gpu] Allocating `piece` of 512 bytes with an alignment of 256.",
-        "[DEBUG gpu] Allocating `piece` of 0 bytes with an alignment of 256.",
-        "[DEBUG gpu] Freeing `piece`.",
-    ];
-    check_lines(&rt, &lines_of(rt.alloc(), true)?, &want);
+    let want = [ALLOCATING[0], ALLOCATING[1], FREEING];
+    check_lines(&rt, &lines_of(rt.alloc(), true, true)?, &want);
+    Ok(())
+}
+
+#[test]
+fn each_setting_logs_its_own_lines(rt: HostRuntime) -> Outcome {
+    check_lines(&rt, &lines_of(rt.alloc(), true, false)?, &ALLOCATING);
+    check_lines(&rt, &lines_of(rt.alloc(), false, true)?, &[FREEING]);
     Ok(())
 }
 
 #[test]
 fn without_settings_nothing_is_logged(rt: HostRuntime) -> Outcome {
-    check_lines(&rt, &lines_of(rt.alloc(), false)?, &[]);
+    check_lines(&rt, &lines_of(rt.alloc(), false, false)?, &[]);
     Ok(())
 }

@@ -3,25 +3,35 @@
 use super::*;
 use gpu_values::AllocationError;
 
-#[test]
-fn a_refused_residency_set(rt: HostRuntime) -> Outcome {
-    let alloc = rt.alloc();
-    let device = simulated(alloc, true, &[(1, Refusal::Code(-7))])?;
+/// A device that refuses the residency set comes back, was asked once, and holds nothing.
+fn refused_set(rt: &impl Abort, alloc: Global, device: SimMetal) -> Outcome {
     match Allocator::new(alloc, described(device, AllocationSizes::default(), true)) {
         Ok(a) => {
             let device = a.destroy();
-            assert_eq!(&rt; device.held(), 0);
+            assert_eq!(rt; device.held(), 0);
             Err(Fail::from("an allocator without its residency set"))
         }
         Err((error, device)) => {
             let message = error.to_string(alloc)?;
             let want =
                 "Internal error: Failed to create MTLResidencySet.  Unsupported MacOS/iOS version?";
-            assert_eq!(&rt; message.as_str(), want);
-            assert_eq!(&rt; (device.held(), device.questions()), (0, 1));
+            assert_eq!(rt; message.as_str(), want);
+            assert_eq!(rt; (device.held(), device.questions()), (0, 1));
             Ok(())
         }
     }
+}
+
+#[test]
+fn a_refused_residency_set(rt: HostRuntime) -> Outcome {
+    let device = simulated(rt.alloc(), true, &[(1, Refusal::Code(-7))])?;
+    refused_set(&rt, rt.alloc(), device)
+}
+
+#[test]
+fn a_residency_set_on_a_device_without(rt: HostRuntime) -> Outcome {
+    let device = simulated(rt.alloc(), false, &[])?;
+    refused_set(&rt, rt.alloc(), device)
 }
 
 /// A piece whose heap is refused: nothing stays, and the next one is given.

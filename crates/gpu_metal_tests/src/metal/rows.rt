@@ -32,9 +32,19 @@ fn small_buffer(
     Ok(other)
 }
 
-/// Looks that both heaps are listed in order, and those of a residency set, which are committed then.
+/// The number of the first live piece in slot 0 of the memory type at `index`, where there is one.
+fn first_number(a: &Allocator<SimMetal>, index: usize) -> Option<u64> {
+    let mut pieces = a.memory_types().memory_type(index)?.pieces(0)?;
+    let first = pieces.next()?;
+    Some(first.number())
+}
+
+/// Looks that both heaps are listed in order, the large one of memory type 0 and the small one of memory type 1, and those of a
+/// residency set, which are committed then.
 fn check_both(rt: &impl Abort, a: &mut Allocator<SimMetal>, large: MTLHeap, small: MTLHeap) {
     check_live(rt, a, &[large, small]);
+    assert!(rt; first_number(a, 0) == Some(1));
+    assert!(rt; first_number(a, 1) == Some(2));
     if let Some(set) = set_of(a) {
         check_heaps(rt, a.device().members(set), &[large, small]);
         check_heaps(rt, a.device().committed_members(set), &[]);
@@ -46,6 +56,8 @@ fn check_both(rt: &impl Abort, a: &mut Allocator<SimMetal>, large: MTLHeap, smal
 /// Looks that the small one's heap is left, where a residency set has both committed still.
 fn check_small(rt: &impl Abort, a: &Allocator<SimMetal>, large: MTLHeap, small: MTLHeap) {
     check_live(rt, a, &[small]);
+    assert!(rt; first_number(a, 0).is_none());
+    assert!(rt; first_number(a, 1) == Some(2));
     if let Some(set) = set_of(a) {
         check_heaps(rt, a.device().members(set), &[small]);
         check_heaps(rt, a.device().committed_members(set), &[large, small]);
@@ -86,36 +98,33 @@ fn two_buffers_with_a_residency_set(rt: HostRuntime) -> Outcome {
     done
 }
 
-#[test]
-fn two_buffers_without_a_residency_set(rt: HostRuntime) -> Outcome {
-    let mut a = made(rt.alloc(), false, &[])?;
-    let done = two_buffers(&rt, &mut a, 1);
+/// The same over this device without a residency set: there is none to commit, and none is left.
+fn two_buffers_without_a_set(rt: &impl Abort, alloc: Global, device: SimMetal) -> Outcome {
+    let mut a = made_over(alloc, device, AllocationSizes::default(), false)?;
+    let done = two_buffers(rt, &mut a, 1);
     let set = set_of(&a);
     a.commit_residency_set();
     let device = a.destroy();
     assert!(rt; set.is_none());
-    assert_eq!(&rt; (device.held(), device.questions()), (0, 2));
+    assert_eq!(rt; (device.held(), device.questions()), (0, 2));
     done
 }
 
-/// A piece of 512 bytes at this location, and the heap that was asked for it; the report shows it, and nothing else.
-fn heap_at(
-    rt: &impl Abort,
-    alloc: Global,
-    location: MemoryLocation,
-    want: HeapDescriptor,
-    size: u64,
-) -> Outcome {
-    let mut a = made(alloc, true, &[])?;
-    let desc = buffer(&a, "buffer", 512, location);
-    let taken = take(&mut a, &desc);
-    let report = a.generate_report();
-    let device = a.destroy();
-    assert!(rt; device.last_heap() == Some((want, size)));
-    check_heaps(rt, device.members(MTLResidencySet(1)), &[]);
-    let allocation = taken?;
-    assert_eq!(rt; (allocation.offset(), allocation.size()), (0, 512));
-    let Ok(report) = report else {
+#[test]
+fn two_buffers_without_a_residency_set(rt: HostRuntime) -> Outcome {
+    let device = simulated(rt.alloc(), true, &[])?;
+    two_buffers_without_a_set(&rt, rt.alloc(), device)
+}
+
+#[test]
+fn two_buffers_on_a_device_without_residency_sets(rt: HostRuntime) -> Outcome {
+    let device = simulated(rt.alloc(), false, &[])?;
+    two_buffers_without_a_set(&rt, rt.alloc(), device)
+}
+
+/// Looks that the report shows one piece, of 512 bytes, and one block, of `size` bytes.
+fn check_report(rt: &impl Abort, a: &Allocator<SimMetal>, size: u64) -> Outcome {
+    let Ok(report) = a.generate_report() else {
         return Err(Fail::from("a report was refused"));
     };
     assert_eq!(rt;
@@ -126,22 +135,64 @@ fn heap_at(
     Ok(())
 }
 
+/// A piece of 512 bytes at this location, of the memory type at `index`: while it is live, the heap that was asked for it is
+/// the only one and the only member of the residency set, and the report shows it and nothing else.
+fn buffer_at(
+    rt: &impl Abort,
+    a: &mut Allocator<SimMetal>,
+    location: MemoryLocation,
+    index: usize,
+    want: (HeapDescriptor, u64),
+) -> Outcome {
+    let desc = buffer(a, "buffer", 512, location);
+    let allocation = take(a, &desc)?;
+    assert_eq!(rt; (allocation.offset(), allocation.size()), (0, 512));
+    assert!(rt; allocation.heap() == MTLHeap(2));
+    assert!(rt; a.device().last_heap() == Some(want));
+    assert!(rt; first_number(a, index) == Some(2));
+    check_live(rt, a, &[MTLHeap(2)]);
+    check_heaps(rt, a.device().members(MTLResidencySet(1)), &[MTLHeap(2)]);
+    check_report(rt, a, want.1)
+}
+
+/// The same, and the residency set is empty once the allocator is destroyed.
+fn heap_at(
+    rt: &impl Abort,
+    alloc: Global,
+    location: MemoryLocation,
+    index: usize,
+    want: (HeapDescriptor, u64),
+) -> Outcome {
+    let mut a = made(alloc, true, &[])?;
+    let done = buffer_at(rt, &mut a, location, index, want);
+    let device = a.destroy();
+    check_heaps(rt, device.members(MTLResidencySet(1)), &[]);
+    done
+}
+
 #[test]
 fn heaps_by_location(rt: HostRuntime) -> Outcome {
     let alloc = rt.alloc();
-    heap_at(&rt, alloc, MemoryLocation::Unknown, PRIVATE, 268_435_456)?;
-    heap_at(&rt, alloc, MemoryLocation::GpuOnly, PRIVATE, 268_435_456)?;
-    heap_at(&rt, alloc, MemoryLocation::CpuToGpu, UPLOADS, 67_108_864)?;
-    heap_at(&rt, alloc, MemoryLocation::GpuToCpu, READS, 67_108_864)
+    let for_the_gpu = (PRIVATE, 268_435_456);
+    heap_at(&rt, alloc, MemoryLocation::Unknown, 0, for_the_gpu)?;
+    heap_at(&rt, alloc, MemoryLocation::GpuOnly, 0, for_the_gpu)?;
+    heap_at(
+        &rt,
+        alloc,
+        MemoryLocation::CpuToGpu,
+        1,
+        (UPLOADS, 67_108_864),
+    )?;
+    heap_at(&rt, alloc, MemoryLocation::GpuToCpu, 2, (READS, 67_108_864))
 }
 
-/// A texture of 8 times 4 texels.
+/// A texture of 10 times 10 texels: 400 bytes, which the device rounds up.
 fn texture(storage_mode: StorageMode) -> TextureDescriptor {
     TextureDescriptor {
         storage_mode,
-        width: 8,
-        height: 4,
-        bytes_per_texel: 16,
+        width: 10,
+        height: 10,
+        bytes_per_texel: 4,
     }
 }
 
@@ -188,12 +239,26 @@ fn textures(rt: HostRuntime) -> Outcome {
     }
 }
 
+/// What an acceleration structure of so many bytes is asked for.
+fn check_structure(
+    rt: &impl Abort,
+    device: &SimMetal,
+    bytes: u64,
+    location: MemoryLocation,
+    size: u64,
+) {
+    let desc = AllocationCreateDesc::acceleration_structure_with_size(
+        device, "rays", bytes, location,
+    );
+    assert!(rt; desc.name == "rays");
+    assert_eq!(rt; (desc.size, desc.alignment), (size, 256));
+    assert!(rt; desc.location == location);
+}
+
 #[test]
 fn acceleration_structures(rt: HostRuntime) -> Outcome {
     let device = simulated(rt.alloc(), true, &[])?;
-    let at = MemoryLocation::GpuToCpu;
-    let desc = AllocationCreateDesc::acceleration_structure_with_size(&device, "rays", 257, at);
-    assert_eq!(&rt; (desc.size, desc.alignment), (512, 256));
-    assert!(rt; desc.location == at);
+    check_structure(&rt, &device, 1000, MemoryLocation::GpuOnly, 1024);
+    check_structure(&rt, &device, 257, MemoryLocation::GpuToCpu, 512);
     Ok(())
 }
