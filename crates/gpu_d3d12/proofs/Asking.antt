@@ -22,7 +22,7 @@ use Rattle.gpu_d3d12_blocks.specs.Committed.{IsAfterResource}
 use Rattle.gpu_d3d12_blocks.specs.Suballocation.{AttemptEnvironment}
 use Rattle.gpu_d3d12_blocks.proofs.Beside.{granted_holds}
 use Rattle.gpu_d3d12.specs.State.{interface_of}
-use Rattle.gpu_d3d12.specs.Step.{AskedResource, IsAskedWith, resource_answer, granted_number, CountsAndNames}
+use Rattle.gpu_d3d12.specs.Step.{AskedResource, IsAskedWith, resource_answer, granted_number, CountsAndNames, TellsReason}
 
 -- the interface alone decides by which question a resource is made
 pub same_question : {D : Type 0} (v : ID3D12DeviceVersion D) (s : ResourceStateOrBarrierLayout) (castable : List Format) → resource_question (interface_of v) s castable ≡ resource_question v s
@@ -85,3 +85,8 @@ module _ {D : Type 0} (g : Ghosts D) (question : ResourceQuestion) (d : Resource
   pub asked_constant : (o : Option ResourceAnswer) (device to : D) → IsAfterResource g device question d memory entry o to → g.properties to ≡ g.properties device
   asked_constant None device to is = ap g.properties is
   asked_constant (Some answer) device to is = is.constant
+
+  -- the reason is told by the device that answered
+  pub asked_reason : (o : Option ResourceAnswer) (device to : D) → IsAfterResource g device question d memory entry o to → TellsReason g (asked_of question d memory o) to
+  asked_reason None device to is = record { answered = to; told = tt; went = None; gives_back = refl }
+  asked_reason (Some answer) device to is = record { answered = to; told = is.reason; went = None; gives_back = refl }

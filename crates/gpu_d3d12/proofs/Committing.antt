@@ -17,7 +17,7 @@ use Rattle.gpu_d3d12.specs.Resource.{IsMade}
 use Rattle.gpu_d3d12.specs.State.{State, basis_of, beside_of}
 use Rattle.gpu_d3d12.specs.Step.{Reply, info_of, size_made, granted_number, resource_answer, made_reply, CommitStep, RepliesResource}
 use Rattle.gpu_d3d12.specs.declared.resource.Resource.{Resource}
-use Rattle.gpu_d3d12.proofs.Asking.{asked_of, answer_is, asked_with, asked_counts, asked_holds, asked_constant}
+use Rattle.gpu_d3d12.proofs.Asking.{asked_of, answer_is, asked_with, asked_counts, asked_holds, asked_constant, asked_reason}
 use Rattle.gpu_d3d12.proofs.Outcomes.{Outcome}
 use Rattle.gpu_d3d12.proofs.Steps.{counts_same}
 
@@ -41,6 +41,7 @@ module _ {D : Type 0} (g : Ghosts D) (before : State D) (d : ResourceCreateDesc)
         many = refl;
         environment = record { attempt = record { host = c.host; asked = None }; resource = asked_of question d (Some own) c.answer };
         counts = asked_counts g question d (Some own) entry (record { host = c.host; asked = None }) c.answer device device to (counts_same g c.host device device refl) c.asked;
+        reason = asked_reason g question d (Some own) entry c.answer device to c.asked;
         step = λ new slots bounds records beside. record {
           memory_type = index;
           first = first;

@@ -12,7 +12,7 @@ use Rattle.gpu_d3d12.specs.State.{State, basis_of, contents_of}
 use Rattle.gpu_d3d12.specs.Step.{Fails, nothing_at_all, MakesBy, CreateBy, IsMadeBy, IsCreateStep}
 use Rattle.gpu_d3d12.specs.declared.resource.Resource.{Resource}
 use Rattle.gpu_d3d12.proofs.Asking.{same_question}
-use Rattle.gpu_d3d12.proofs.Steps.{counts_same, same_device}
+use Rattle.gpu_d3d12.proofs.Steps.{counts_same, no_reason, same_device}
 
 module _ {D : Type 0} (g : Ghosts D) (d : ResourceCreateDesc) (result : Result Resource AllocationError) (old new : State D) where
   -- a step by the question, where there is one
@@ -33,6 +33,7 @@ module _ {D : Type 0} (g : Ghosts D) (d : ResourceCreateDesc) (result : Result R
           same_version = s.same_version;
         };
         replies = h.replies;
+        reason = h.reason;
       }
 
 -- where there is none the device isn't asked, and nothing changes
@@ -50,4 +51,5 @@ not_asked g d s e why = record {
     same_version = same_device s.device;
   };
   replies = refl;
+  reason = no_reason g (device_of s.device);
 }

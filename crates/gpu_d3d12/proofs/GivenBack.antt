@@ -16,7 +16,7 @@ use Rattle.gpu_d3d12.specs.Step.{Reply, Environment, nothing_at_all, FreeResourc
 use Rattle.gpu_d3d12.specs.declared.allocation.Allocation.{Allocation}
 use Rattle.gpu_d3d12.specs.declared.resource.Resource.{Resource}
 use Rattle.gpu_d3d12.proofs.Outcomes.{Outcome}
-use Rattle.gpu_d3d12.proofs.Steps.{counts_same, after_gone}
+use Rattle.gpu_d3d12.proofs.Steps.{counts_same, no_reason, after_gone}
 
 -- what the caller gets is what giving back came to
 pub same_reply_ok : (given : Result (Unit {0}) (AllocationError × Resource)) (freed : Result (Unit {0}) AllocationError) (u v : Unit {0}) → given ≡ Ok u → freed ≡ Ok v → freed_as given ≡ renamed_as
@@ -64,6 +64,7 @@ module _ {D : Type 0} (g : Ghosts D) (before : State D) (r : Resource) (slots : 
         many = done.2;
         environment = nothing_at_all;
         counts = after_gone g nothing_at_all rel.went device between to (gone_counts between gone) rel.gives_back;
+        reason = no_reason g to;
         step = λ new same bounds records beside. (
           refl,
           bounds,
@@ -79,6 +80,7 @@ module _ {D : Type 0} (g : Ghosts D) (before : State D) (r : Resource) (slots : 
     many = ap (λ (ss : Slots). length ss) f.0.2;
     environment = nothing_at_all;
     counts = counts_same g true device to f.0.3;
+    reason = no_reason g to;
     step = λ new same bounds records beside. (refl, bounds, ((f.0.0, f.0.1, same ∙ f.0.2), records ∙ f.1, beside));
   }
   back_outcome None (Ok u) f = record {
@@ -88,6 +90,7 @@ module _ {D : Type 0} (g : Ghosts D) (before : State D) (r : Resource) (slots : 
     many = ap (λ (ss : Slots). length ss) f.1;
     environment = nothing_at_all;
     counts = gone_counts to f.0.1;
+    reason = no_reason g to;
     step = λ new same bounds records beside. (refl, bounds, (record { place = f.0.0.place; stands = f.0.0.stands; records = records ∙ f.0.0.records }, same ∙ f.1, beside));
   }
   back_outcome None (Err e) f = record {
@@ -99,6 +102,7 @@ module _ {D : Type 0} (g : Ghosts D) (before : State D) (r : Resource) (slots : 
     many = ap (λ (ss : Slots). length ss) f.1;
     environment = nothing_at_all;
     counts = counts_same g true device to f.0.3;
+    reason = no_reason g to;
     step = λ new same bounds records beside. (refl, bounds, ((f.0.0, f.0.1, records ∙ f.0.2), same ∙ f.1, beside));
   }
 

@@ -33,7 +33,7 @@ use Rattle.gpu_d3d12.proofs.Asking.{asked_of, asked_with, asked_counts, asked_ho
 use Rattle.gpu_d3d12.proofs.Outcomes.{Outcome}
 use Rattle.gpu_d3d12.proofs.Owning.{allocated_owns}
 use Rattle.gpu_d3d12.proofs.Serving.{allocated_holds}
-use Rattle.gpu_d3d12.proofs.Steps.{taken, Taken, after_gone}
+use Rattle.gpu_d3d12.proofs.Steps.{taken, Taken, no_reason, after_gone}
 
 -- ---- what an allocation's caller got, as what the model replied
 
@@ -120,6 +120,7 @@ module _ {D : Type 0} (g : Ghosts D) (before : State D) (d : ResourceCreateDesc)
             many = ap (λ (ss : Slots). length ss) places.1 ∙ after.2;
             environment = record { attempt = t.environment; resource = None };
             counts = asked_counts g question d None (entries.Committed 0) t.environment None device between to t.counts places.2;
+            reason = no_reason g to;
             step = λ new same bounds records beside. record {
               taken = t.reply;
               mid = mid;
@@ -164,6 +165,7 @@ module _ {D : Type 0} (g : Ghosts D) (before : State D) (d : ResourceCreateDesc)
               many = ap (λ (ss : Slots). length ss) ends.1 ∙ held_mid.2;
               environment = record { attempt = t.environment; resource = asked_of question d None (Some (Granted n)) };
               counts = subst (λ x. CountsAndNames g device (record { attempt = t.environment; resource = asked_of question d None (Some (Granted n)) }) x) (sym ends.2) counts;
+              reason = record { answered = to; told = tt; went = None; gives_back = refl };
               step = λ new same bounds records beside. record {
                 taken = t.reply;
                 mid = mid;
@@ -210,6 +212,7 @@ module _ {D : Type 0} (g : Ghosts D) (before : State D) (d : ResourceCreateDesc)
               many = left.2 ∙ held_mid.2;
               environment = record { attempt = t.environment; resource = asked_of question d None (Some answer) };
               counts = after_gone g (record { attempt = t.environment; resource = asked_of question d None (Some answer) }) rel.went device then to counts rel.gives_back;
+              reason = record { answered = then; told = asks.reason; went = rel.went; gives_back = rel.gives_back };
               step = λ new same bounds records beside. record {
                 taken = t.reply;
                 mid = mid;

@@ -16,3 +16,4 @@ pub mod InPlace
 pub mod GivenBack
 pub mod Creating
 pub mod Keeping
+pub mod WithoutBudgets

@@ -1,6 +1,6 @@
 -- What a call for a resource came to: what the device holds beside the blocks then, and the step that it is.
 use Rattle.gpu_memory_types.specs.Budgets.{Budgets}
-use Rattle.std.proofs.Common.{◌≡◌, ◌∙◌, refl, sym, ap, length}
+use Rattle.std.proofs.Common.{◌≡◌, ◌∙◌, refl, sym, ap, subst, length}
 use Rattle.gpu_device.specs.D3D12.{Held}
 use Rattle.gpu_device.specs.declared.d3d12.device.D3D12Device.{Ghosts}
 use Rattle.gpu_d3d12_setup.specs.DeviceVersion.{device_of, with_device}
@@ -8,7 +8,7 @@ use Rattle.gpu_d3d12_blocks.specs.Blocks.{Slots, HoldsJustLiveBlocks, beside}
 use Rattle.gpu_d3d12_blocks.specs.Committed.{Committed}
 use Rattle.gpu_d3d12_blocks.proofs.Beside.{beside_is}
 use Rattle.gpu_d3d12.specs.State.{State, Contents, contents_of}
-use Rattle.gpu_d3d12.specs.Step.{Reply, Environment, CountsAndNames, IsStepBy}
+use Rattle.gpu_d3d12.specs.Step.{Reply, Environment, CountsAndNames, TellsReason, IsStepBy}
 use Rattle.gpu_d3d12.proofs.Steps.{device_with}
 
 module _ {D : Type 0} (g : Ghosts D) (before : State D) (S : Environment → Reply → Contents → Contents → Type 0) (reply : Reply) (slots : Slots) (left : Committed) (to : D) where
@@ -20,6 +20,7 @@ module _ {D : Type 0} (g : Ghosts D) (before : State D) (S : Environment → Rep
     pub many : length slots ≡ length before.slots
     pub environment : Environment
     pub counts : CountsAndNames g (device_of before.device) environment to
+    pub reason : TellsReason g environment.resource to
     pub step : (new : Contents) → new.slots ≡ slots → new.budgets ≡ before.budgets → new.committed ≡ left → new.beside ≡ aside → S environment reply (contents_of g before) new
 
   abbrev pub after : Budgets → State D
@@ -40,3 +41,7 @@ module _ {D : Type 0} (g : Ghosts D) (before : State D) (S : Environment → Rep
         };
         same_version = ap (with_device before.device) (sym is);
       }
+
+  pub told_by : (budgets : Budgets) (same : budgets ≡ before.budgets) (o : Outcome) → TellsReason g (step_by budgets same o).environment.resource (device_of (after budgets).device)
+  unfolding step_by
+  told_by budgets same o = subst (λ (d : D). TellsReason g o.environment.resource d) (sym (device_with before.device to)) o.reason

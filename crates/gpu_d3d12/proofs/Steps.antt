@@ -30,7 +30,7 @@ use Rattle.gpu_d3d12_blocks.specs.Blocks.{Slots}
 use Rattle.gpu_d3d12_setup.specs.declared.setup.Setup.{Setup}
 use Rattle.gpu_d3d12.specs.State.{State, contents_of, beside_of}
 use Rattle.gpu_d3d12.specs.Step.{Capacity, Sum, Free, freed_as, Reply, Environment, Fails, Rename, Report, Leaks, nothing_met, reply_of, ServeStep, AllocateStep, RenameStep, ChangesBlocks}
-use Rattle.gpu_d3d12.specs.Step.{CountsAndNames, IsStep, Replies, IsAllocateStep, renamed_as, shown_as, told_as}
+use Rattle.gpu_d3d12.specs.Step.{CountsAndNames, TellsReason, IsStep, Replies, IsAllocateStep, renamed_as, shown_as, told_as}
 use Rattle.gpu_d3d12.specs.declared.allocation.Allocation.{Allocation}
 
 -- a device is what it is
@@ -69,6 +69,10 @@ module _ {D : Type 0} (g : Ghosts D) where
   counts_after host None device after is = counts_same host device after is
   counts_after host (Some a) device after is = record
       { count = is.count; latest_heap = is.latest_heap; latest_formats = is.latest_formats; latest_clear = is.latest_clear; latest_memory = is.latest_memory }
+
+  -- no resource was asked for, and no reason is told
+  pub no_reason : (after : D) → TellsReason g None after
+  no_reason after = record { answered = after; told = tt; went = None; gives_back = refl }
 
   -- the call changed the blocks alone
   pub record Alone (old new : State D) : Type 0 where

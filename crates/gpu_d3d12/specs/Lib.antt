@@ -7,3 +7,4 @@ pub mod FreeResource
 pub mod State
 pub mod Step
 pub mod Apart
+pub mod Budgets

@@ -1,6 +1,6 @@
 -- A resource, as its owner holds it, and what asking for one comes to.
 use Rattle.gpu_memory_types.specs.Budgets.{Budgets}
-use Rattle.std.specs.Prelude.{◌≡◌, ℕ, ◌+◌, ◌≤◌, Option, Some, None, Result, Ok, Err}
+use Rattle.std.specs.Prelude.{◌≡◌, ℕ, ◌+◌, ◌≤◌, ◌%◌, Option, Some, None, Result, Ok, Err}
 use Rattle.std.specs.FinMap.{get}
 use Rattle.gpu_device.specs.declared.d3d12.types.HeapDesc.{HeapDesc}
 use Rattle.gpu_values.specs.Refusal.{Refusal, refusal_of, refusal_in}
@@ -62,6 +62,11 @@ pub record IsMade (d : ResourceCreateDesc) (t : ℕ) (piece : Option (Piece ID3D
 abbrev pub IsNewIn : (old new : Slots) → Option Allocation → Type 0
 IsNewIn old new None = Unit {0}
 IsNewIn old new (Some a) = IsLive new a × ((b : Allocation) → IsLive old b → AreDistinct b a)
+
+-- the piece that the resource lies in, if it lies in one, begins at a multiple of this
+abbrev pub BeginsAligned : (alignment : ℕ) → Option Allocation → Type 0
+BeginsAligned alignment None = Unit {0}
+BeginsAligned alignment (Some a) = a.offset % alignment ≡ 0
 
 -- an allocation is another piece than the one that the resource lies in, if it lies in one
 abbrev pub IsBeside : Allocation → Option Allocation → Type 0

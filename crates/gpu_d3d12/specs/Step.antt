@@ -1,6 +1,6 @@
 -- An allocator as a model: what each call makes of its contents, and what it answers, given what it met with.
 use Rattle.gpu_memory_types.specs.Budgets.{Budgets, budget_at, SetsBudget}
-use Rattle.std.specs.Prelude.{◌≡◌, ◌≢◌, ◌⊎◌, ℕ, Vec, String, Bool, true, false, List, map, IsTrue, string_bytes, Option, Some, None, Result, Ok, Err}
+use Rattle.std.specs.Prelude.{◌≡◌, ◌≢◌, ◌⊎◌, ℕ, ℤ, Vec, String, Bool, true, false, List, map, IsTrue, string_bytes, Option, Some, None, Result, Ok, Err}
 use Rattle.std.specs.Global.{Global}
 use Rattle.std.specs.List.{slice_set}
 use Rattle.gpu_values.specs.Refusal.{Refusal, refusal_of, host_out_of_memory, invalid_allocation_create_desc}
@@ -30,7 +30,7 @@ use Rattle.gpu_d3d12.specs.Allocate.{is_valid}
 use Rattle.gpu_d3d12_blocks.specs.Suballocation.{AttemptEnvironment, Asked, Answer, asked_block, request_at, IsAskedFor}
 use Rattle.gpu_d3d12_blocks.specs.Blocks.{Slots}
 use Rattle.gpu_d3d12.specs.Live.{piece_of, IsGiven}
-use Rattle.gpu_d3d12_blocks.specs.Release.{is_same_heap, IsLiveIn}
+use Rattle.gpu_d3d12_blocks.specs.Release.{is_same_heap, IsLiveIn, GivesBack}
 use Rattle.gpu_d3d12.specs.State.{State, Contents, Basis, contents_of, basis_of}
 use Rattle.std.specs.Prelude.{length}
 use Rattle.std.specs.FinMap.{insert}
@@ -43,7 +43,7 @@ use Rattle.gpu_device.specs.declared.d3d12.types.HeapFlags.{HeapFlags}
 use Rattle.gpu_device.specs.declared.d3d12.types.HeapProperties.{HeapProperties}
 use Rattle.gpu_device.specs.declared.d3d12.types.ResourceAllocationInfo.{ResourceAllocationInfo}
 use Rattle.gpu_d3d12_setup.specs.Question.{resource_question, told_info, made_size, handed_on}
-use Rattle.gpu_d3d12_setup.specs.ResourceAnswer.{ResourceAnswer, resource_number, placed_texts}
+use Rattle.gpu_d3d12_setup.specs.ResourceAnswer.{ResourceAnswer, IsReasonTold, resource_number, placed_texts}
 use Rattle.gpu_d3d12_setup.specs.declared.question.CommittedAllocationStatistics.{CommittedAllocationStatistics}
 use Rattle.gpu_d3d12_setup.specs.declared.question.ResourceCreateDesc.{ResourceCreateDesc}
 use Rattle.gpu_d3d12_setup.specs.declared.question.ResourceQuestion.{ResourceQuestion}
@@ -344,6 +344,18 @@ pub record CountsAndNames {D : Type 0} (g : Ghosts D) (old : D) (o : Environment
   pub latest_clear : g.latest_clear new ≡ clear_after (g.latest_clear old) o.resource
   pub latest_memory : g.latest_memory new ≡ memory_after (g.latest_memory old) o.resource
 
+-- the reason in the answer for a resource, if there is one, is this
+abbrev pub IsReasonMet : (told : ℤ) → Option AskedResource → Type 0
+IsReasonMet told None = Unit {0}
+IsReasonMet told (Some a) = IsReasonTold told a.answer
+
+-- the reason that was met with is the one that the device told when it had answered; it has at most given a heap back since
+pub record TellsReason {D : Type 0} (g : Ghosts D) (asked : Option AskedResource) (new : D) : Type 0 where
+  pub answered : D
+  pub told : IsReasonMet (g.removal_reason answered) asked
+  pub went : Option ID3D12Heap
+  pub gives_back : GivesBack g answered went new
+
 -- contents change by this relation at what was met with, and the device counts and names just that
 pub record IsStepBy {D : Type 0} (g : Ghosts D) (S : Environment → Reply → Contents → Contents → Type 0) (reply : Reply) (old new : State D) : Type 0 where
   pub environment : Environment
@@ -377,6 +389,7 @@ pub record IsMadeBy {D : Type 0} (g : Ghosts D) (S : Environment → Reply → C
   pub reply : Reply
   pub step : IsStepBy g S reply old new
   pub replies : RepliesResource d result reply
+  pub reason : TellsReason g step.environment.resource (device_of new.device)
 
 abbrev pub IsCreateStep : {D : Type 0} → Ghosts D → ResourceCreateDesc → Result Resource AllocationError → (old new : State D) → Type 0
 IsCreateStep g d result old new = IsMadeBy g (Step (basis_of g old) (CreateResource d)) d result old new

@@ -23,10 +23,10 @@ ghost use Rattle.gpu_d3d12.specs.Free.{Frees};
 ghost use Rattle.gpu_d3d12_blocks.specs.Release.{AsksNothing};
 ghost use Rattle.gpu_d3d12.specs.Live.{IsLive, AreDistinct, StayLive};
 ghost use Rattle.gpu_d3d12.specs.Rename.{Renames};
-ghost use Rattle.gpu_d3d12.specs.Resource.{IsBeside, IsLivePlaced, IsNewIn, LiesInHeap};
+ghost use Rattle.gpu_d3d12.specs.Resource.{BeginsAligned, IsBeside, IsLivePlaced, IsNewIn, LiesInHeap};
 ghost use Rattle.gpu_d3d12.specs.declared.resource.Resource.{Resource};
 ghost use Rattle.gpu_d3d12.specs.State.{basis_of, beside_of};
-ghost use Rattle.gpu_d3d12.specs.Step.{IsMadeBy, IsCreateStep, CommitStep, PlaceStep, FreeResource, Statistics, SetBudget, Budget, Budgeted, Counts, IsStep, IsAllocateStep, Free, Rename, Capacity, Report, Leaks, Sum, freed_as, renamed_as, shown_as, told_as};
+ghost use Rattle.gpu_d3d12.specs.Step.{IsMadeBy, IsCreateStep, CommitStep, PlaceStep, FreeResource, Statistics, SetBudget, Budget, Budgeted, Counts, info_of, IsStep, IsAllocateStep, Free, Rename, Capacity, Report, Leaks, Sum, freed_as, renamed_as, shown_as, told_as};
 ghost use Rattle.gpu_d3d12.specs.declared.allocation.Allocation.{Allocation};
 
 use crate::attempt::serve;
@@ -288,6 +288,7 @@ impl<D: D3D12Device> Allocator<D> {
         ensures constant { (self.new.first ≡ self.old.first) × (self.new.setup ≡ self.old.setup) × (self.new.committed ≡ self.old.committed) }
         ensures keeps { StayLive self.old.slots self.new.slots }
         ensures gives { IfOk result (λ r. IsNewIn self.old.slots self.new.slots r.allocation) }
+        ensures aligned { IfOk result (λ r. BeginsAligned (info_of (basis_of D.D3D12Device self.old) desc.now).alignment r.allocation) }
     {
         let asked = piece_desc(desc, allocation_info_of(&self.device, desc));
         log_allocate(log, self.setup.debug, &asked);
@@ -327,6 +328,7 @@ impl<D: D3D12Device> Allocator<D> {
         ensures constant { (self.new.first ≡ self.old.first) × (self.new.setup ≡ self.old.setup) }
         ensures keeps { StayLive self.old.slots self.new.slots }
         ensures gives { IfOk result (λ r. IsNewIn self.old.slots self.new.slots r.allocation) }
+        ensures aligned { IfOk result (λ r. BeginsAligned (info_of (basis_of D.D3D12Device self.old) desc.now).alignment r.allocation) }
     {
         let question = match question_for(&self.device, desc) {
             Err(error) => return Err(error),

@@ -2,6 +2,7 @@
 
 ghost use Rattle.std.specs.Prelude.{◌≡◌};
 ghost use Rattle.gpu_memory_types.specs.Blocks.{BlocksWellFormed};
+ghost use Rattle.gpu_d3d12.specs.Budgets.{MeetsNoBudget, without_budgets};
 ghost use Rattle.gpu_d3d12.specs.State.{Basis, Contents};
 ghost use Rattle.gpu_d3d12.specs.Step.{Call, Reply, Environment, Step};
 
@@ -9,4 +10,11 @@ ghost use Rattle.gpu_d3d12.specs.Step.{Call, Reply, Environment, Step};
 pub fn one_step()
     ensures { (basis : Basis) (call : Call) (met : Environment) (a b : Reply) (old new next : Contents) → BlocksWellFormed 1 old.slots
         → Step basis call met a old new → Step basis call met b old next → (a ≡ b) × (new ≡ next) }
+{}
+
+/// Budgets of memory types that aren't asked decide nothing: a call that asks no memory type with a budget answers and steps
+/// as if there were no budgets.
+pub fn unasked_budgets_decide_nothing()
+    ensures { (basis : Basis) (call : Call) (met : Environment) (reply : Reply) (old new : Contents) → MeetsNoBudget basis call old.budgets
+        → Step basis call met reply old new → Step basis call met reply (without_budgets old) (without_budgets new) }
 {}

@@ -21,7 +21,7 @@ pub struct AllocatorCreateDesc<D> {
 }
 
 /// What an allocation is asked for. Sizes and alignments are bytes.
-#[derive(Clone, Copy, Debug)]
+#[derive(Clone, Debug, Drop)]
 pub struct AllocationCreateDesc<'a> {
     /// Names the allocation in reports, leaks and log lines.
     pub name: &'a str,

@@ -231,6 +231,7 @@ impl Account {
         }
         assert_eq!(rt; report.allocations.len(), live);
         assert_eq!(rt; bytes, self.piece_bytes());
+        assert_eq!(rt; report.total_allocated_bytes, self.piece_bytes());
         assert_eq!(rt; report.blocks.len(), self.blocks.len());
         assert_eq!(rt; report.total_capacity_bytes, self.capacity());
     }

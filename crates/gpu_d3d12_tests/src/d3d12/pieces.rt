@@ -115,37 +115,101 @@ fn check_heap(
     Ok(())
 }
 
-#[test]
-fn heaps_are_those_of_their_memory_type(rt: HostRuntime) -> Outcome {
-    let alloc = rt.alloc();
-    let textures = piece_for(MemoryLocation::CpuToGpu, ResourceCategory::OtherTexture);
-    let targets = piece_for(MemoryLocation::Unknown, ResourceCategory::RtvDsvTexture);
-    let readback = piece_for(MemoryLocation::GpuToCpu, ResourceCategory::Buffer);
-    let combined = custom(CpuPageProperty::WriteCombine);
-    let back = custom(CpuPageProperty::WriteBack);
-    let others = block(64 * MB, combined, HeapContent::NonRtDsTextures);
-    check_heap(&rt, alloc, ResourceHeapTier::Tier1, &textures, others)?;
-    let rendered = block(256 * MB, default_properties(), HeapContent::RtDsTextures);
-    check_heap(&rt, alloc, ResourceHeapTier::Tier1, &targets, rendered)?;
-    let all = block(64 * MB, combined, HeapContent::All);
-    check_heap(&rt, alloc, ResourceHeapTier::Tier2, &textures, all)?;
-    let all_back = block(64 * MB, back, HeapContent::All);
-    check_heap(&rt, alloc, ResourceHeapTier::Tier2, &readback, all_back)
+/// A location with its heaps: how large they are in bytes, and their properties.
+#[derive(Drop)]
+struct Place {
+    location: MemoryLocation,
+    size: u64,
+    properties: HeapProperties,
+}
+
+/// The locations that have memory types, in order.
+fn places() -> [Place; 3] {
+    [
+        Place {
+            location: MemoryLocation::GpuOnly,
+            size: 256 * MB,
+            properties: default_properties(),
+        },
+        Place {
+            location: MemoryLocation::CpuToGpu,
+            size: 64 * MB,
+            properties: custom(CpuPageProperty::WriteCombine),
+        },
+        Place {
+            location: MemoryLocation::GpuToCpu,
+            size: 64 * MB,
+            properties: custom(CpuPageProperty::WriteBack),
+        },
+    ]
+}
+
+/// The categories in the order of their memory types, and what heaps for one of them alone may hold.
+const CATEGORIES: &[(ResourceCategory, HeapContent)] = &[
+    (ResourceCategory::Buffer, HeapContent::Buffers),
+    (ResourceCategory::RtvDsvTexture, HeapContent::RtDsTextures),
+    (ResourceCategory::OtherTexture, HeapContent::NonRtDsTextures),
+];
+
+/// Looks at the heaps of a location at tier 1, where each category has a memory type.
+fn check_each_category(rt: &impl Abort, alloc: Global, number: usize, place: &Place) -> Outcome {
+    let tier = ResourceHeapTier::Tier1;
+    for (index, (category, content)) in CATEGORIES.iter().enumerate() {
+        let memory_type = number.saturating_mul(3).saturating_add(index);
+        assert_eq!(rt; type_for(tier, place.location, *category), memory_type);
+        let want = block(place.size, place.properties, *content);
+        check_heap(rt, alloc, tier, &piece_for(place.location, *category), want)?;
+    }
+    Ok(())
+}
+
+/// Looks at the heaps of a location at tier 2, where all categories have one memory type.
+fn check_all_categories(rt: &impl Abort, alloc: Global, number: usize, place: &Place) -> Outcome {
+    let tier = ResourceHeapTier::Tier2;
+    for (category, _) in CATEGORIES {
+        assert_eq!(rt; type_for(tier, place.location, *category), number);
+        let want = block(place.size, place.properties, HeapContent::All);
+        check_heap(rt, alloc, tier, &piece_for(place.location, *category), want)?;
+    }
+    Ok(())
 }
 
 #[test]
-fn memory_types_by_location_and_category(rt: HostRuntime) -> Outcome {
-    let one = ResourceHeapTier::Tier1;
-    let two = ResourceHeapTier::Tier2;
-    let other = ResourceCategory::OtherTexture;
+fn heaps_are_those_of_their_memory_type(rt: HostRuntime) -> Outcome {
+    for (number, place) in places().iter().enumerate() {
+        check_each_category(&rt, rt.alloc(), number, place)?;
+        check_all_categories(&rt, rt.alloc(), number, place)?;
+    }
+    Ok(())
+}
+
+#[test]
+fn the_first_memory_type_serves_where_no_location_is_asked_for(rt: HostRuntime) -> Outcome {
     let target = ResourceCategory::RtvDsvTexture;
-    assert_eq!(&rt; type_for(one, MemoryLocation::CpuToGpu, other), 5);
-    assert_eq!(&rt; type_for(one, MemoryLocation::Unknown, target), 1);
-    assert_eq!(&rt;
-        type_for(two, MemoryLocation::GpuOnly, ResourceCategory::Buffer),
-        0
-    );
-    assert_eq!(&rt; type_for(two, MemoryLocation::GpuToCpu, target), 2);
+    let textures = piece_for(MemoryLocation::Unknown, target);
+    let tier = ResourceHeapTier::Tier1;
+    assert_eq!(&rt; type_for(tier, MemoryLocation::Unknown, target), 1);
+    let want = block(256 * MB, default_properties(), HeapContent::RtDsTextures);
+    check_heap(&rt, rt.alloc(), tier, &textures, want)
+}
+
+/// A texture with these flags.
+fn texture(flags: u32) -> ResourceDesc {
+    ResourceDesc {
+        dimension: ResourceDimension::Texture2D,
+        flags,
+        ..buffer(512)
+    }
+}
+
+#[test]
+fn flags_of_textures_decide_their_category(rt: HostRuntime) -> Outcome {
+    let target = ResourceCategory::RtvDsvTexture;
+    let other = ResourceCategory::OtherTexture;
+    // no flag, a render target, a depth stencil, and unordered access
+    for (flags, want) in [(0, other), (1, target), (2, target), (4, other)] {
+        assert_eq!(&rt; ResourceCategory::from(&texture(flags)), want);
+    }
     Ok(())
 }
 

@@ -3,7 +3,7 @@
 //! looks for that text.
 
 use super::account::Account;
-use super::scripts::{CALLS, Reports, foreign_piece, run_over};
+use super::scripts::{CALLS, Reports, foreign_values, run_over};
 use super::*;
 use gpu_values::AllocationError;
 use std::process::Abort;
@@ -40,7 +40,7 @@ fn the_directx_12_allocator_loses_nothing_where_memory_is_refused(rt: HostRuntim
     let Ok(mut account) = Account::new(alloc, CALLS) else {
         return Err(Fail::new(TOLD));
     };
-    let Some(mut foreign) = foreign_piece(alloc) else {
+    let Some(mut foreign) = foreign_values(alloc) else {
         return Err(Fail::new(TOLD));
     };
     let Some(a) = begin(&rt, alloc) else {

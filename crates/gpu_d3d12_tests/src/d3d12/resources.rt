@@ -195,8 +195,8 @@ enum Interface {
     Twelfth,
 }
 
-/// A committed resource at a device of an interface: its castable formats and how it begins. What it comes to: the number of
-/// the error, how much the device was asked, and the formats that it was told.
+/// A resource at a device of an interface: its castable formats and how it begins. What it comes to: the number of the error,
+/// how much the device was asked, and the formats that it was told.
 struct Row {
     interface: Interface,
     formats: &'static [Format],
@@ -204,7 +204,8 @@ struct Row {
     want: (u32, u64, Option<usize>),
 }
 
-const ROWS: &[Row] = &[
+/// Those that are refused, wherever their memory comes from.
+const REFUSED: &[Row] = &[
     Row {
         interface: Interface::Twelfth,
         formats: &[Format(28)],
@@ -229,6 +230,10 @@ const ROWS: &[Row] = &[
         start: IN_LAYOUT,
         want: (7, 0, None),
     },
+];
+
+/// Those that are made, with memory of their own.
+const MADE: &[Row] = &[
     Row {
         interface: Interface::Twelfth,
         formats: &[],
@@ -251,8 +256,12 @@ fn version(interface: Interface, device: SimD3D12) -> ID3D12DeviceVersion<SimD3D
     }
 }
 
-/// What the resource of a row comes to, and what the device was asked.
-fn by_interface(alloc: Global, row: &Row) -> std::result::Result<(u32, u64, Option<usize>), Fail> {
+/// What the resource of a row comes to, and what the device was asked; and what that holds then.
+fn by_interface(
+    alloc: Global,
+    row: &Row,
+    resource_type: &ResourceType,
+) -> std::result::Result<((u32, u64, Option<usize>), usize), Fail> {
     let device = simulated(alloc, Ok(ResourceHeapTier::Tier2), &[])?;
     let desc = AllocatorCreateDesc {
         device: version(row.interface, device),
@@ -263,20 +272,34 @@ fn by_interface(alloc: Global, row: &Row) -> std::result::Result<(u32, u64, Opti
         return Err(Fail::from("the allocator can't be made"));
     };
     let small = buffer(512);
-    let own = own_memory();
-    let answer = a.create_resource(&Discard, &asked(&small, row.formats, row.start, &own));
-    let number = number_of(&answer);
+    let asked = asked(&small, row.formats, row.start, resource_type);
+    let number = number_of(&a.create_resource(&Discard, &asked));
     let device = destroyed(a);
-    Ok((number, device.questions(), device.last_formats()))
+    let got = (number, device.questions(), device.last_formats());
+    Ok((got, device.held()))
+}
+
+/// Looks at what the resources of these rows come to, and at what each device holds then.
+fn check_rows(
+    rt: &impl Abort,
+    alloc: Global,
+    rows: &[Row],
+    resource_type: &ResourceType,
+    held: usize,
+) -> Outcome {
+    for (number, row) in rows.iter().enumerate() {
+        let got = by_interface(alloc, row, resource_type)?;
+        assert_eq!(rt; got, (row.want, held), "row {number}");
+    }
+    Ok(())
 }
 
 #[test]
 fn interfaces_decide(rt: HostRuntime) -> Outcome {
-    for (number, row) in ROWS.iter().enumerate() {
-        let got = by_interface(rt.alloc(), row)?;
-        assert_eq!(&rt; got, row.want, "row {number}");
-    }
-    Ok(())
+    let own = own_memory();
+    check_rows(&rt, rt.alloc(), REFUSED, &own, 0)?;
+    check_rows(&rt, rt.alloc(), REFUSED, &ResourceType::Placed, 0)?;
+    check_rows(&rt, rt.alloc(), MADE, &own, 1)
 }
 
 /// What a placed buffer of this width is refused with at the second question, and the capacity and what is held then.

@@ -3,6 +3,7 @@
 use super::account::Account;
 use super::resources::{IN_STATE, asked, own_memory};
 use super::*;
+use gpu_d3d12::Resource;
 use gpu_d3d12_setup::ResourceType;
 use gpu_device::d3d12::D3D12Device;
 use gpu_values::{AllocationError, AllocatorReport};
@@ -21,10 +22,12 @@ pub enum Reports {
     Sometimes,
 }
 
-/// A piece of an allocator that is gone, of a memory type that the script never asks.
+/// What an allocator that is gone gave: a piece, a placed and a committed resource, of sizes that the script asks for none of.
 #[derive(Drop)]
 pub struct Foreign {
     piece: Option<Allocation>,
+    placed: Option<Resource>,
+    committed: Option<Resource>,
 }
 
 /// The next of a list of numbers that look like chance.
@@ -102,7 +105,7 @@ fn allocate(
     let size = match (seed >> 40) % 4 {
         0 => 300 * MB,
         1 => 50 * MB,
-        _ => 1000,
+        _ => 65536,
     };
     let location = if (seed >> 50) % 2 == 0 {
         MemoryLocation::GpuOnly
@@ -111,6 +114,7 @@ fn allocate(
     };
     let desc = AllocationCreateDesc {
         size,
+        alignment: 65536,
         ..piece_for(location, ResourceCategory::Buffer)
     };
     match a.allocate(&Discard, &desc) {
@@ -219,18 +223,67 @@ fn rename(a: &mut Allocator<SimD3D12>, account: &mut Account, seed: u64) -> Outc
     }
 }
 
-/// Gives back what isn't live: it comes back.
-fn free_foreign(a: &mut Allocator<SimD3D12>, foreign: &mut Foreign) -> Outcome {
-    let Some(piece) = foreign.piece.take() else {
-        return Ok(());
+/// Names a piece that isn't live, and gives it back: it comes back as it was.
+fn offer_piece(
+    rt: &impl Abort,
+    a: &mut Allocator<SimD3D12>,
+    mut piece: Allocation,
+) -> std::result::Result<Allocation, Fail> {
+    let was = (piece.heap(), place(&piece));
+    assert!(rt; !a.is_live(&piece));
+    let Err(AllocationError::Internal(_)) = a.rename_allocation(&mut piece, "another") else {
+        return Err(Fail::from("a foreign allocation was named"));
     };
     match a.free(&Discard, piece) {
         Err((AllocationError::Internal(_), back)) => {
-            foreign.piece = Some(back);
-            Ok(())
+            assert!(rt; (back.heap(), place(&back)) == was);
+            Ok(back)
         }
         _ => Err(Fail::from("a foreign allocation was given back")),
     }
+}
+
+/// Gives back a resource that isn't live: it comes back as it was.
+fn offer_resource(
+    rt: &impl Abort,
+    a: &mut Allocator<SimD3D12>,
+    resource: Resource,
+) -> std::result::Result<Resource, Fail> {
+    let was = (*resource.resource(), resource.size());
+    match a.free_resource(&Discard, resource) {
+        Err((AllocationError::Internal(_), back)) => {
+            assert!(rt; (*back.resource(), back.size()) == was);
+            Ok(back)
+        }
+        _ => Err(Fail::from("a foreign resource was given back")),
+    }
+}
+
+/// Offers what isn't live.
+fn offer_foreign(
+    rt: &impl Abort,
+    a: &mut Allocator<SimD3D12>,
+    foreign: &mut Foreign,
+    seed: u64,
+) -> Outcome {
+    match (seed >> 40) % 3 {
+        0 => {
+            if let Some(piece) = foreign.piece.take() {
+                foreign.piece = Some(offer_piece(rt, a, piece)?);
+            }
+        }
+        1 => {
+            if let Some(resource) = foreign.placed.take() {
+                foreign.placed = Some(offer_resource(rt, a, resource)?);
+            }
+        }
+        _ => {
+            if let Some(resource) = foreign.committed.take() {
+                foreign.committed = Some(offer_resource(rt, a, resource)?);
+            }
+        }
+    }
+    Ok(())
 }
 
 /// Bounds the GPU's memory type, or no longer. There is no memory type 3.
@@ -269,7 +322,7 @@ fn call(
         6 | 7 => free_placed(a, account, seed),
         8 | 9 => free_committed(a, account, seed),
         10 => rename(a, account, seed),
-        11 => free_foreign(a, foreign),
+        11 => offer_foreign(rt, a, foreign, seed),
         12 => set_budget(rt, a, account, seed),
         _ => allocate(rt, a, account, seed),
     }
@@ -301,20 +354,30 @@ fn calls(
     Ok(())
 }
 
-/// A piece of an allocator that is gone; none where the host refuses memory.
-pub fn foreign_piece(alloc: Global) -> Option<Foreign> {
+/// What an allocator gives that shall be foreign to another; none where the host refuses memory.
+fn given_by(a: &mut Allocator<SimD3D12>) -> Option<Foreign> {
+    let small = piece_for(MemoryLocation::GpuOnly, ResourceCategory::Buffer);
+    let large = buffer(655360);
+    let own = own_memory();
+    let placed = asked(&large, &[], IN_STATE, &ResourceType::Placed);
+    let committed = asked(&large, &[], IN_STATE, &own);
+    Some(Foreign {
+        piece: Some(a.allocate(&Discard, &small).ok()?),
+        placed: Some(a.create_resource(&Discard, &placed).ok()?),
+        committed: Some(a.create_resource(&Discard, &committed).ok()?),
+    })
+}
+
+/// What an allocator that is gone gave; none where the host refuses memory.
+pub fn foreign_values(alloc: Global) -> Option<Foreign> {
     let device = SimD3D12::new(alloc, Ok(ResourceHeapTier::Tier2), Vec::new(alloc));
     let mut a = match Allocator::new(alloc, described(device)) {
         Ok(a) => a,
         Err((_, _)) => return None,
     };
-    let desc = piece_for(MemoryLocation::GpuToCpu, ResourceCategory::Buffer);
-    let taken = a.allocate(&Discard, &desc);
+    let given = given_by(&mut a);
     let _ = destroyed(a);
-    match taken {
-        Ok(piece) => Some(Foreign { piece: Some(piece) }),
-        Err(_) => None,
-    }
+    given
 }
 
 /// Runs the script at an allocator that has nothing yet, and destroys it; how many questions its device refused.
@@ -341,8 +404,8 @@ fn run(
     alloc: Global,
     script: &[(u64, Refusal)],
 ) -> std::result::Result<u64, Fail> {
-    let Some(mut foreign) = foreign_piece(alloc) else {
-        return Err(Fail::from("no foreign piece"));
+    let Some(mut foreign) = foreign_values(alloc) else {
+        return Err(Fail::from("nothing is foreign"));
     };
     let mut account = Account::new(alloc, CALLS)?;
     let a = made(alloc, ResourceHeapTier::Tier2, script)?;

@@ -11,7 +11,7 @@ use Rattle.gpu_d3d12.specs.Step.{IsMadeBy, CommitStep, RepliesResource, made_rep
 use Rattle.gpu_d3d12.proofs.Asking.{same_info}
 use Rattle.gpu_d3d12.proofs.Committing.{committed_outcome, replies_err, replies_ok}
 use Rattle.gpu_d3d12.proofs.Keeping.{kept_after}
-use Rattle.gpu_d3d12.proofs.Outcomes.{Outcome, step_by}
+use Rattle.gpu_d3d12.proofs.Outcomes.{Outcome, step_by, told_by}
 use Rattle.gpu_d3d12.proofs.allocator.Allocator.commit.Goals as goal
 use Rattle.gpu_d3d12.proofs.allocator.Allocator.commit.Goals.{After-create, in-Err, in-Ok}
 
@@ -76,4 +76,8 @@ returns-clause-step g c =
           (made_reply index None size (resource_reply c.create.result)) (slots_of i.types) c.create.new.self c.create.new.device
           (budgets i.types) refl (outcome g at);
       replies = told;
+      reason =
+          told_by V (before g at) (CommitStep (basis_of V (before g at)) d c.args.question (c.args.own.heap_properties.now, c.args.own.heap_flags))
+          (made_reply index None size (resource_reply c.create.result)) (slots_of i.types) c.create.new.self c.create.new.device
+          (budgets i.types) refl (outcome g at);
     })

@@ -1,8 +1,11 @@
-use Rattle.std.proofs.Common.{◌∙◌, sym, ap}
+use Rattle.std.proofs.Common.{◌∙◌, sym, ap, Option}
 use Rattle.gpu_d3d12_setup.specs.Question.{resource_question}
-use Rattle.gpu_d3d12.specs.State.{State}
+use Rattle.gpu_d3d12.specs.Resource.{IsNewIn, BeginsAligned}
+use Rattle.gpu_d3d12.specs.State.{State, basis_of}
+use Rattle.gpu_d3d12.specs.Step.{info_of}
+use Rattle.gpu_d3d12.specs.declared.allocation.Allocation.{Allocation}
 use Rattle.gpu_d3d12.proofs.Creating.{by_question, not_asked}
-use Rattle.gpu_d3d12.proofs.OwningResources.{committed_gives}
+use Rattle.gpu_d3d12.proofs.OwningResources.{committed_alone}
 use Rattle.gpu_d3d12.proofs.allocator.Allocator.create_resource.Goals as goal
 
 pub returns-in-Err-clause-step : goal.returns-in-Err-clause-step
@@ -25,4 +28,10 @@ returns-in-Placed-clause-step g c =
 
 pub returns-in-Committed-clause-gives : goal.returns-in-Committed-clause-gives
 returns-in-Committed-clause-gives g c =
-    committed_gives g.D.D3D12Device _ c.args.desc.now c.in-Ok.question _ c.commit.result c.args.self.now c.commit.new.self _ _ c.commit.ensures.step
+    committed_alone g.D.D3D12Device _ c.args.desc.now c.in-Ok.question _ c.commit.result c.args.self.now c.commit.new.self
+    (λ (o : Option Allocation). IsNewIn c.args.self.now.slots c.commit.new.self.slots o) tt c.commit.ensures.step
+
+pub returns-in-Committed-clause-aligned : goal.returns-in-Committed-clause-aligned
+returns-in-Committed-clause-aligned g c =
+    committed_alone g.D.D3D12Device _ c.args.desc.now c.in-Ok.question _ c.commit.result c.args.self.now c.commit.new.self
+    (λ (o : Option Allocation). BeginsAligned (info_of (basis_of g.D.D3D12Device c.args.self.now) c.args.desc.now).alignment o) tt c.commit.ensures.step

@@ -11,7 +11,7 @@ use Rattle.gpu_d3d12.specs.Step.{IsMadeBy, PlaceStep, info_of}
 use Rattle.gpu_d3d12.proofs.Asking.{same_info}
 use Rattle.gpu_d3d12.proofs.InPlace.{PlacedOutcome, placed_outcome}
 use Rattle.gpu_d3d12.proofs.Keeping.{kept_after}
-use Rattle.gpu_d3d12.proofs.Outcomes.{step_by}
+use Rattle.gpu_d3d12.proofs.Outcomes.{step_by, told_by}
 use Rattle.gpu_d3d12.proofs.OwningResources.{OwnsResource, placed_owns}
 use Rattle.gpu_d3d12.proofs.allocator.Allocator.place.Goals as goal
 use Rattle.gpu_d3d12.proofs.allocator.Allocator.place.Goals.{After-make_placed}
@@ -47,12 +47,13 @@ outcome g c =
     c.self.invariant.1.sound
     c.self.invariant.1.holds (is_placed g c)
 
-owns : (g : _) (c : After-make_placed g) → OwnsResource c.args.self.now.slots (slots_of c.make_placed.new.types) c.make_placed.result
+owns : (g : _) (c : After-make_placed g) → OwnsResource c.args.self.now.slots (slots_of c.make_placed.new.types)
+    (info_of (basis_of g.D.D3D12Device c.args.self.now) c.args.desc.now).alignment c.make_placed.result
 owns g c =
     let V = g.D.D3D12Device in
     let i = c.self.inside in
     let d = c.args.desc.now in
-    subst (λ (s : State g.row.D.Denot). OwnsResource s.slots (slots_of c.make_placed.new.types) c.make_placed.result) c.self.view_is
+    subst (λ (s : State g.row.D.Denot). OwnsResource s.slots (slots_of c.make_placed.new.types) (info_of (basis_of V s) d).alignment c.make_placed.result) c.self.view_is
     (placed_owns V i.setup (budgets i.types) c.args.question d (piece_desc d (info_of (basis_of V (before g c)) d))
     (made_size (V.properties (device_of i.device)) c.args.question d.resource_desc.now d.castable_formats.now) (slots_of i.types)
     (device_of i.device) c.make_placed.result (slots_of c.make_placed.new.types) c.make_placed.new.device c.self.invariant.1.types c.self.invariant.1.sound (is_placed g c))
@@ -89,6 +90,8 @@ returns-clause-step g c =
       step = step_by V (before g at) (PlaceStep (basis_of V (before g at)) d c.args.question) p.reply slots i.committed c.make_placed.new.device (budgets c.make_placed.new.types)
           c.make_placed.ensures.budgets p.outcome;
       replies = p.replies;
+      reason = told_by V (before g at) (PlaceStep (basis_of V (before g at)) d c.args.question) p.reply slots i.committed c.make_placed.new.device (budgets c.make_placed.new.types)
+          c.make_placed.ensures.budgets p.outcome;
     })
 
 pub returns-clause-keeps : goal.returns-clause-keeps
@@ -96,3 +99,6 @@ returns-clause-keeps g c = (owns g (goal.at.returns-clause-keeps g c).After-make
 
 pub returns-clause-gives : goal.returns-clause-gives
 returns-clause-gives g c = (owns g (goal.at.returns-clause-gives g c).After-make_placed).gives
+
+pub returns-clause-aligned : goal.returns-clause-aligned
+returns-clause-aligned g c = (owns g (goal.at.returns-clause-aligned g c).After-make_placed).aligned
