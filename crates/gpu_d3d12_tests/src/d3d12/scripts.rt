@@ -45,6 +45,15 @@ fn pick<T>(live: &mut Vec<T>, seed: u64) -> Option<T> {
     Some(live.swap_remove((seed >> 33) as usize % count))
 }
 
+/// A name, now and then one of more than thirty bytes, which takes host memory of its own.
+fn name_by(seed: u64) -> &'static str {
+    if (seed >> 46) % 2 == 0 {
+        "another"
+    } else {
+        "another name, of more than thirty bytes"
+    }
+}
+
 /// A report, which is asked for once more where the host refused memory.
 fn report_again(
     a: &Allocator<SimD3D12>,
@@ -115,6 +124,7 @@ fn allocate(
     let desc = AllocationCreateDesc {
         size,
         alignment: 65536,
+        name: name_by(seed),
         ..piece_for(location, ResourceCategory::Buffer)
     };
     match a.allocate(&Discard, &desc) {
@@ -209,11 +219,12 @@ fn rename(a: &mut Allocator<SimD3D12>, account: &mut Account, seed: u64) -> Outc
     let Some((mut piece, location)) = pick(&mut account.pieces, seed) else {
         return Ok(());
     };
-    let named = match a.rename_allocation(&mut piece, "another") {
+    let name = name_by(seed);
+    let named = match a.rename_allocation(&mut piece, name) {
         Ok(()) => Ok(()),
         Err(error) => {
             account.count(&error);
-            a.rename_allocation(&mut piece, "another")
+            a.rename_allocation(&mut piece, name)
         }
     };
     account.pieces.push((piece, location))?;

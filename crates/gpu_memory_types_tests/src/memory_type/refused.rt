@@ -118,7 +118,11 @@ fn take_four(rt: &impl Abort, script: &mut Script) -> Result<[Piece<Handle>; 4]>
     };
     let c = script.take(rt, &own, Handle::Green)?;
     check_place(rt, &c, 1, 0, 1);
-    let d = script.take(rt, &named("d", 4 * MB, 1), Handle::Blue)?;
+    let d = script.take(
+        rt,
+        &named("a name of more than thirty bytes", 4 * MB, 1),
+        Handle::Blue,
+    )?;
     check_place(rt, &d, 2, 0, 2);
     check_type(rt, &script.blocks, 3, 2, 12 * MB + 5);
     Ok([a, b, c, d])
@@ -168,8 +172,15 @@ fn give_three(rt: &impl Abort, script: &mut Script, pieces: &[Piece<Handle>; 4])
 
 /// Gives a piece another name, and asks for one that is too large for a shared block.
 fn name_and_ask(rt: &impl Abort, s: &mut Script, b: &Piece<Handle>) -> Result<()> {
-    s.rename(rt, b, "renamed")?;
-    check_row(rt, &s.report()?, 1, "renamed", 3 * MB, 1);
+    s.rename(rt, b, "renamed by more than thirty bytes")?;
+    check_row(
+        rt,
+        &s.report()?,
+        1,
+        "renamed by more than thirty bytes",
+        3 * MB,
+        1,
+    );
     assert_eq!(rt; s.ask_alone(rt, &named("e", 65 * MB, 1))?, Some(65 * MB));
     Ok(())
 }

@@ -38,6 +38,15 @@ fn location_by(number: u64) -> MemoryLocation {
     }
 }
 
+/// A name: that of large pieces has more than thirty bytes, and takes host memory of its own.
+fn name_by(size: u64) -> &'static str {
+    if size > MB {
+        "a piece of three or five megabytes"
+    } else {
+        "piece"
+    }
+}
+
 /// Asks for a piece. Where the device refuses its heap, or the host memory, or where it is past the budget, the account stays
 /// as it is.
 fn ask(
@@ -46,7 +55,11 @@ fn ask(
     account: &mut Account,
     seed: &mut u64,
 ) -> Outcome {
-    let desc = piece(size_by(next(seed)), location_by(next(seed)));
+    let size = size_by(next(seed));
+    let desc = AllocationCreateDesc {
+        name: name_by(size),
+        ..piece(size, location_by(next(seed)))
+    };
     let asked = a.device().questions();
     match a.allocate(&Discard, &desc) {
         Ok(allocation) => return account.give(allocation, a.device().last_heap(), SHARED),

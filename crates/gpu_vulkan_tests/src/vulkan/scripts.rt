@@ -96,7 +96,16 @@ const CALLS: &[Call] = &[
     Call::Take(MB, MemoryLocation::GpuOnly),
 ];
 
-/// The request of a call that takes memory, and whether its block is its own.
+/// A name: every second one has more than thirty bytes, and takes host memory of its own.
+fn name_by(number: usize) -> &'static str {
+    if number.is_multiple_of(2) {
+        "another"
+    } else {
+        "another name, of more than thirty bytes"
+    }
+}
+
+/// The request of a call that takes memory, and whether its block is its own. What takes three megabytes has a long name.
 fn request_of(
     size: u64,
     location: MemoryLocation,
@@ -104,6 +113,7 @@ fn request_of(
 ) -> (AllocationCreateDesc<'static>, bool) {
     let own = size > SHARED || scheme != AllocationScheme::GpuAllocatorManaged;
     let desc = AllocationCreateDesc {
+        name: name_by((size / MB) as usize),
         linear: scheme != AllocationScheme::DedicatedImage(Image(9)),
         allocation_scheme: scheme,
         ..managed(size, 256, location)
@@ -225,12 +235,12 @@ fn rename(a: &mut Allocator<SimVulkan>, account: &mut Account, index: usize) -> 
     let Some(live) = account.live.get_mut(index) else {
         return Ok(());
     };
-    match a.rename_allocation(&mut live.allocation, "another") {
+    match a.rename_allocation(&mut live.allocation, name_by(index)) {
         Ok(()) => return Ok(()),
         Err(AllocationError::HostOutOfMemory) => {}
         Err(_) => return Err(Fail::from("a new name was refused for another cause")),
     }
-    let again = a.rename_allocation(&mut live.allocation, "another");
+    let again = a.rename_allocation(&mut live.allocation, name_by(index));
     account.count();
     match again {
         Ok(()) => Ok(()),

@@ -20,6 +20,11 @@ const GAP: &str = "Attempting to rename a freed allocation.";
 /// What is told of a number in a block of a piece's own.
 const NOT_ONE: &str = "Chunk ID must be 1.";
 
+/// Names of more than thirty bytes, which take host memory of their own: one that is asked with, and one that is given later.
+const STAGING: &str = "a staging buffer of four megabytes";
+
+const IMAGE: &str = "an image in a block of its own memory";
+
 /// How a piece is asked for: of which kind, size and alignment, or of which size in a block of its own.
 #[derive(Clone, Copy)]
 pub enum Form {
@@ -105,7 +110,7 @@ pub const CALLS: &[Call] = &[
     ),
     Call::Take(
         0,
-        "d",
+        STAGING,
         Form::Linear(4 * MB, 1),
         Answer::Shared(8 * MB),
         At(2, 0, 2, Handle::Blue),
@@ -191,7 +196,7 @@ pub const CALLS: &[Call] = &[
     // names
     Call::Rename(0, "b", "an image"),
     Call::Rename(1, "i", ""),
-    Call::Rename(2, "h", "a block of its own"),
+    Call::Rename(2, "h", IMAGE),
     Call::Report(&ELEVEN),
     Call::Apart,
     // emptied blocks go, and the slots that they leave are filled: from below by blocks of pieces' own, from above by shared ones
@@ -249,7 +254,7 @@ pub const CALLS: &[Call] = &[
     ),
     Call::Foreign(2, "f", Change::Nothing, NOT_OURS, NOT_OURS),
     // all back
-    Call::Free(0, "d", Freed::Piece),
+    Call::Free(0, STAGING, Freed::Piece),
     Call::Free(0, "e", Freed::Block(Handle::Blue, 8 * MB)),
     Call::Free(0, "n", Freed::Block(Handle::Green, 16 * MB)),
     Call::Free(0, "e", Freed::Refused(NO_BLOCK)),
@@ -282,7 +287,7 @@ const EIGHT: Shown = Shown {
         ("a", 0, 100),
         ("b", 1024, 300),
         ("c", 0, 5),
-        ("d", 0, 4 * MB),
+        (STAGING, 0, 4 * MB),
         ("e", 4 * MB, MB),
         ("f", 0, 64),
         ("g", 256, 64),
@@ -305,14 +310,14 @@ const ELEVEN: Shown = Shown {
         ("a", 0, 100),
         ("an image", 1024, 300),
         ("c", 0, 5),
-        ("d", 0, 4 * MB),
+        (STAGING, 0, 4 * MB),
         ("e", 4 * MB, MB),
         ("", 0, 100),
         ("j", 128, 200),
         ("f", 0, 64),
         ("g", 256, 64),
         ("k", 320, 1000),
-        ("a block of its own", 0, 5 * MB),
+        (IMAGE, 0, 5 * MB),
     ],
     blocks: &[
         (4 * MB, 0, 2),
