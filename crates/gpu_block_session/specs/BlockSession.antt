@@ -12,11 +12,11 @@ use Rattle.gpu_core.specs.Request.{Request}
 use Rattle.gpu_core.specs.Block.{Block, free_list, extents_of, size_of, allocated_bytes, is_general, TakesIn, ReleasesIn, IsTakeRefusalIn, IsSoundBlock}
 use Rattle.gpu_core.specs.Report.{row_of}
 use Rattle.gpu_core.specs.Rows.{extent_row}
-use Rattle.gpu_trace_lines.specs.declared.block.reply.Report.{Report}
-use Rattle.gpu_trace_lines.specs.declared.error_number.ErrorNumber.{ErrorNumber}
-use Rattle.gpu_trace_lines.specs.declared.error_number.ErrorNumber.TheVariants.{E1, E2, E3, E4, E5, E6, E7, E8, E9, E10, E11}
-use Rattle.gpu_trace_lines.specs.declared.block.reply.Reply.{Reply}
-use Rattle.gpu_trace_lines.specs.declared.block.reply.Reply.TheVariants as replies
+use Rattle.gpu_commands.specs.declared.block.reply.Report.{Report}
+use Rattle.gpu_commands.specs.declared.error_number.ErrorNumber.{ErrorNumber}
+use Rattle.gpu_commands.specs.declared.error_number.ErrorNumber.TheVariants.{E1, E2, E3, E4, E5, E6, E7, E8, E9, E10, E11}
+use Rattle.gpu_commands.specs.declared.block.reply.Reply.{Reply}
+use Rattle.gpu_commands.specs.declared.block.reply.Reply.TheVariants as replies
 
 -- the block, and the numbers of its pieces by the caller's numbers, in the order of these
 pub record State : Type 0 where

@@ -1,2 +1,1 @@
 pub mod BlockSession
-pub mod BlockStage

@@ -1,8 +1,6 @@
-// Sessions of one block, under the caller's own numbers, and how far a block trace has come.
+// Sessions of one block, whose pieces stand under the caller's own numbers.
 #![tactic(auto)]
 
 mod session;
-mod stage;
 
 pub use session::BlockSession;
-pub use stage::Stage;

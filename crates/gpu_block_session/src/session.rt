@@ -9,10 +9,9 @@ ghost use Rattle.gpu_core.specs.Block.{is_general, HasPages, IsSoundBlock};
 ghost use Rattle.gpu_core.specs.SubAllocator.{block_of};
 ghost use Rattle.gpu_block_session.specs.BlockSession.{Taking};
 
+use gpu_commands::block::{Kind, Reply, Report};
+use gpu_commands::{ErrorNumber, number_of};
 use gpu_core::{AllocationType, FreeListAllocator, SubAllocator};
-use gpu_trace_lines::block::command::Kind;
-use gpu_trace_lines::block::reply::{Reply, Report};
-use gpu_trace_lines::{ErrorNumber, number_of};
 use std::alloc::Global;
 use std::collections::BTreeMap;
 use std::collections::btree_map::Entry;
@@ -59,7 +58,7 @@ impl BlockSession {
     ghost use Rattle.std.specs.Int.{is_power_of_two};
     ghost use Rattle.gpu_core.specs.Request.{request};
     ghost use Rattle.gpu_values.specs.declared.error.AllocationError.TheVariants.{HostOutOfMemory};
-    ghost use Rattle.gpu_trace_lines.specs.BlockCommand.{type_of_kind};
+    ghost use Rattle.gpu_commands.specs.BlockCommand.{type_of_kind};
     ghost use Rattle.gpu_block_session.specs.BlockSession.{unused, Taking, Giving, Reporting};
 
     /// A block of `size` bytes without pieces. The only refusal is `HostOutOfMemory`.

@@ -9,10 +9,10 @@ use Rattle.gpu_report.specs.declared.view.BlockView.{BlockView}
 use Rattle.gpu_report.specs.View.{ShownBlock, shown, shown_from}
 use Rattle.gpu_report.specs.BlocksJson.{blocks_json}
 use Rattle.gpu_report.specs.BlocksSvg.{blocks_svg}
-use Rattle.gpu_block_session.specs.declared.stage.Stage.{Stage as BlockStage}
-use Rattle.gpu_block_session.specs.declared.stage.Stage.TheVariants as block_stages
-use Rattle.gpu_session.specs.declared.stage.Stage.{Stage}
-use Rattle.gpu_session.specs.declared.stage.Stage.TheVariants.{Block, Device}
+use Rattle.gpu_trace_run.specs.declared.block_stage.BlockStage.{BlockStage}
+use Rattle.gpu_trace_run.specs.declared.block_stage.BlockStage.TheVariants as block_stages
+use Rattle.gpu_trace_run.specs.declared.stage.Stage.{Stage}
+use Rattle.gpu_trace_run.specs.declared.stage.Stage.TheVariants.{Block, Device}
 use Rattle.gpu_sim.specs.declared.sim_vulkan.SimVulkan.{SimVulkan}
 use Rattle.gpu_vulkan_session.specs.Served.{SessionValue}
 use Rattle.gpu_picture.specs.declared.draw.Form.{Form}

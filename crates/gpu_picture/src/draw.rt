@@ -5,13 +5,13 @@ ghost use Rattle.std.specs.Io.KnownBytes.{Appends};
 ghost use Rattle.gpu_report.specs.View.{shown};
 ghost use Rattle.gpu_picture.specs.Draw.{drawing, shown_types, DrawsBlock, DrawsDevice, Draws};
 
-use gpu_block_session as block;
 use gpu_device::vulkan::DeviceMemory;
 use gpu_memory_types::MemoryTypes;
 use gpu_report::{BlockView, BlocksJson, BlocksSvg, add_views};
-use gpu_session::{Session, Stage};
 use gpu_sim::SimVulkan;
+use gpu_trace_run::{BlockStage, Stage};
 use gpu_values::AllocationError;
+use gpu_vulkan_session::Session;
 use std::alloc::Global;
 use std::io;
 use std::io::Write;
@@ -40,11 +40,11 @@ fn write_views<W: Write>(form: Form, views: &[BlockView<'_>], writer: &mut W) ->
 }
 
 /// Writes the block of a block trace, or none where it made none.
-fn draw_block<W: Write>(form: Form, stage: &block::Stage, writer: &mut W) -> io::Result<()>
+fn draw_block<W: Write>(form: Form, stage: &BlockStage, writer: &mut W) -> io::Result<()>
     ensures { OnOk result (DrawsBlock form stage.now (W.contents writer.old) (W.contents writer.new)) }
 {
     match stage {
-        block::Stage::Open(session) => {
+        BlockStage::Open(session) => {
             let view = BlockView {
                 memory_type: 0,
                 slot: 0,
@@ -53,7 +53,7 @@ fn draw_block<W: Write>(form: Form, stage: &block::Stage, writer: &mut W) -> io:
             };
             write_views(form, &[view], writer)
         }
-        block::Stage::Before | block::Stage::Closed => write_views(form, &[], writer),
+        BlockStage::Before | BlockStage::Closed => write_views(form, &[], writer),
     }
 }
 

@@ -4,7 +4,7 @@
 mod draw;
 
 use draw::{Form, draw};
-use gpu_session::{Replayed, Stage, replay_trace};
+use gpu_trace_run::{Replayed, Stage, replay_trace};
 use log::sink::Discard;
 use std::io::{BufWriter, Write};
 use std::process::ExitCode;

@@ -1,14 +1,8 @@
-// Sessions and traces: how far a trace has come, what a line does, and the run of a whole trace. Sessions of the Vulkan allocator,
-// which stand below, are given again here.
+// Sessions and traces, for users: each is given again from the crate that proves it.
 #![tactic(auto)]
 
-mod configuration;
-mod replay;
-mod run;
-mod stage;
-
-pub use configuration::Configuration;
-pub use gpu_vulkan_session::{Command, Given, Reply, Session, laws};
-pub use replay::{Replayed, replay_trace};
-pub use run::{TraceError, run_trace};
-pub use stage::{Outcome, Stage};
+pub use gpu_commands::vulkan::{Command, Given, Reply};
+pub use gpu_trace_run::{
+    Configuration, Outcome, Replayed, Stage, TraceError, replay_trace, run_trace,
+};
+pub use gpu_vulkan_session::{Session, laws};

@@ -3,9 +3,10 @@
 mod refused;
 
 use gpu_allocator::vulkan::*;
+use gpu_commands::vulkan::{Command, Given, Reply};
 use gpu_sim::SimVulkan;
 use gpu_values::{AllocationError, AllocationSizes, AllocatorDebugSettings, MemoryLocation};
-use gpu_vulkan_session::{Command, Given, Reply, Session};
+use gpu_vulkan_session::Session;
 use log::sink::Discard;
 use std::alloc::{AllocError, Global};
 use std::process::Abort;

@@ -1,32 +1,22 @@
 -- What a line of a block trace says. Each command has one spelling: its words, with decimal numbers and no leading zeros.
-use Rattle.std.specs.Prelude.{◌≡◌, ℕ, ◌<◌, ◌^◌, List, [], ◌∷◌, Option, Some, None, Bool, true, false, codes, string_bytes, IsTrue}
+use Rattle.std.specs.Prelude.{◌≡◌, ℕ, ◌<◌, ◌^◌, List, [], ◌∷◌, Option, Some, None, codes, string_bytes, IsTrue}
 use Rattle.std.specs.Int.{is_power_of_two}
 use Rattle.std.specs.Fmt.{decimal}
-use Rattle.gpu_values.specs.declared.allocation_type.AllocationType.{AllocationType}
-use Rattle.gpu_values.specs.declared.allocation_type.AllocationType.TheVariants as types
-use Rattle.gpu_trace_lines.specs.declared.block.command.Side.{Side}
-use Rattle.gpu_trace_lines.specs.declared.block.command.Side.TheVariants.{Device, Host}
-use Rattle.gpu_trace_lines.specs.declared.block.command.Kind.{Kind}
-use Rattle.gpu_trace_lines.specs.declared.block.command.Kind.TheVariants.{Linear, NonLinear}
-use Rattle.gpu_trace_lines.specs.declared.block.command.Command.{Command}
-use Rattle.gpu_trace_lines.specs.declared.block.command.Command.TheVariants.{Block, Take, Give, Report}
+use Rattle.gpu_commands.specs.declared.block.command.Side.{Side}
+use Rattle.gpu_commands.specs.declared.block.command.Side.TheVariants.{Device, Host}
+use Rattle.gpu_commands.specs.declared.block.command.Kind.{Kind}
+use Rattle.gpu_commands.specs.declared.block.command.Kind.TheVariants.{Linear, NonLinear}
+use Rattle.gpu_commands.specs.declared.block.command.Command.{Command}
+use Rattle.gpu_commands.specs.declared.block.command.Command.TheVariants.{Block, Take, Give, Report}
 use Rattle.gpu_trace_lines.specs.Words.{IsName}
 
 abbrev pub side_word : Side → List ℕ
 side_word Device = codes "device"
 side_word Host = codes "host"
 
-abbrev pub is_host : Side → Bool
-is_host Device = false
-is_host Host = true
-
 abbrev pub kind_word : Kind → List ℕ
 kind_word Linear = codes "linear"
 kind_word NonLinear = codes "nonlinear"
-
-abbrev pub type_of_kind : Kind → AllocationType
-type_of_kind Linear = types.Linear
-type_of_kind NonLinear = types.NonLinear
 
 abbrev pub words : Command → List (List ℕ)
 words (Block side min max count granularity) = codes "block" ∷ side_word side ∷ decimal min ∷ decimal max ∷ decimal count ∷ decimal granularity ∷ []

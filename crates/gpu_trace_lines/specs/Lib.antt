@@ -1,5 +1,4 @@
 pub mod Words
-pub mod ErrorNumber
 pub mod BlockCommand
 pub mod BlockReply
 pub mod Hex

@@ -1,4 +1,6 @@
-//! Block traces: commands to one block, and the replies.
+//! Block traces: what a line asks of a block, and how its replies print.
 
-pub mod command;
+mod command;
 pub mod reply;
+
+pub use command::command_of;

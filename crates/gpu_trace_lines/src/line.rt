@@ -5,11 +5,11 @@ ghost use Rattle.std.specs.Str.{IsAscii};
 ghost use Rattle.gpu_trace_lines.specs.Line.{Means, Reads, ReadsAlone};
 ghost use Rattle.gpu_trace_lines.specs.Words.{texts, words_of};
 
-use crate::block::command as block;
-use crate::device;
 use crate::device::setting::{Setting, setting_of};
 use crate::words::words;
-use gpu_session_values as session;
+use crate::{block, device};
+use gpu_commands::block::Command;
+use gpu_commands::vulkan::Command as Ask;
 use std::alloc::{AllocError, Global};
 use std::str;
 
@@ -19,13 +19,13 @@ pub enum Line {
     /// Nothing: it is empty or a remark.
     Blank,
     /// A command of a block trace. `report` is one of device traces too.
-    Says(block::Command),
+    Says(Command),
     /// A configuration of a device trace.
     Configures(Setting),
     /// The end of the configuration: the allocator is to be made.
     New,
     /// A command of a device trace.
-    Asks(session::Command),
+    Asks(Ask),
     /// The end of a device trace.
     Destroy,
     Bad,

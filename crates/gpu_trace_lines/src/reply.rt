@@ -1,7 +1,8 @@
 //! What is answered to a line of a trace.
 
-use crate::block::reply as block;
+use crate::block::reply::write_reply;
 use crate::device::reply as device;
+use gpu_commands::block;
 use std::fmt;
 
 /// The answer to a line of a trace.
@@ -19,7 +20,7 @@ impl fmt::Display for Reply {
 
     fn fmt<W: fmt::Write>(&self, f: &mut fmt::Formatter<W>) -> fmt::Result {
         match self {
-            Reply::Block(reply) => write!(f, "{reply}"),
+            Reply::Block(reply) => write_reply(reply, f),
             Reply::Device(reply) => write!(f, "{reply}"),
         }
     }

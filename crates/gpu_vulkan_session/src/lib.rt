@@ -4,5 +4,4 @@
 pub mod laws;
 mod session;
 
-pub use gpu_session_values::{Command, Given, Reply};
 pub use session::Session;

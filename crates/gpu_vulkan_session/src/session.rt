@@ -11,8 +11,8 @@ ghost use Rattle.gpu_vulkan_session.specs.Command.{Wanted, Describes, Alloc, Nul
 ghost use Rattle.gpu_vulkan_session.specs.Session.{IsOwn, SessionInvariant, overwritten};
 ghost use Rattle.gpu_vulkan_session.specs.Served.{session_of, command_of, reply_of, shown_allocation, IsServed, IsRun, ServesEach};
 
+use gpu_commands::vulkan::{Command, Given, Reply};
 use gpu_device::vulkan::VulkanDevice;
-use gpu_session_values::{Command, Given, Reply};
 use gpu_values::{AllocationError, Result};
 use gpu_vulkan::{Allocation, AllocationCreateDesc, Allocator};
 use log::Log;

@@ -3,75 +3,13 @@
 ghost use Rattle.std.specs.Prelude.{◌≡◌, ◌≢◌, ℕ, ◌<◌, ◌^◌, ◌∷◌, [], IfOk, MatchOption, codes};
 ghost use Rattle.std.specs.Fmt.{decimal};
 ghost use Rattle.gpu_trace_lines.specs.Words.{texts};
-ghost use Rattle.gpu_trace_lines.specs.BlockCommand.{IsPowerOfTwo, side_word, kind_word, is_host, type_of_kind, Says};
-ghost use Rattle.gpu_trace_lines.specs.declared.block.command.Side.{Side};
-ghost use Rattle.gpu_trace_lines.specs.declared.block.command.Kind.{Kind};
+ghost use Rattle.gpu_commands.specs.declared.block.command.Side.{Side};
+ghost use Rattle.gpu_commands.specs.declared.block.command.Kind.{Kind};
+ghost use Rattle.gpu_trace_lines.specs.BlockCommand.{IsPowerOfTwo, side_word, kind_word, Says};
 
 use crate::words::{is_name, number};
-use gpu_core::AllocationType;
+use gpu_commands::block::{Command, Kind, Side};
 use std::alloc::{AllocError, Global};
-
-/// Whose block sizes count: those of the device's own memory, or of memory that the host can see.
-#[derive(Clone, Copy, Debug, PartialEq, Eq)]
-pub enum Side {
-    Device,
-    Host,
-}
-
-/// How a piece is laid out.
-#[derive(Clone, Copy, Debug, PartialEq, Eq)]
-pub enum Kind {
-    Linear,
-    NonLinear,
-}
-
-/// A line of a block trace. Sizes and alignments are bytes; `key` is the caller's number of a piece.
-#[derive(Debug, Drop)]
-pub enum Command {
-    Block {
-        side: Side,
-        min: u64,
-        max: u64,
-        count: u64,
-        granularity: u64,
-    },
-    Take {
-        key: u64,
-        size: u64,
-        alignment: u64,
-        kind: Kind,
-        name: String,
-    },
-    Give {
-        key: u64,
-    },
-    Report,
-}
-
-impl Side {
-    /// Whether it is the side that the host can see.
-    pub fn is_host(self) -> bool
-        ensures { result ≡ is_host self }
-    {
-        match self {
-            Side::Device => false,
-            Side::Host => true,
-        }
-    }
-}
-
-impl Kind {
-    /// The kind as the allocator names it.
-    pub fn allocation_type(self) -> AllocationType
-        ensures same { result ≡ type_of_kind self }
-        ensures piece { result ≢ AllocationType.Free }
-    {
-        match self {
-            Kind::Linear => AllocationType::Linear,
-            Kind::NonLinear => AllocationType::NonLinear,
-        }
-    }
-}
 
 fn side_of(word: &str) -> Option<Side>
     ensures { MatchOption result ((s : Side) → word.now ≢ side_word s) (λ s. word.now ≡ side_word s) }

@@ -1,46 +1,16 @@
 //! What is answered to a line of a block trace.
 
-ghost use Rattle.std.specs.Prelude.{Some};
+ghost use Rattle.std.specs.Prelude.{Some, map};
+ghost use Rattle.std.specs.List.{flat_map};
 ghost use Rattle.std.specs.Fmt.{DisplaysOnOk};
 ghost use Rattle.gpu_core.specs.Report.{row_of};
-ghost use Rattle.gpu_trace_lines.specs.BlockReply.{piece_line};
+ghost use Rattle.gpu_trace_lines.specs.BlockReply.{piece_line, report_text, reply_text};
 
-use crate::error_number::ErrorNumber;
+use gpu_commands::block::{Reply, Report};
 use gpu_core::AllocationReport;
 use std::fmt;
-use std::num::NonZeroU64;
 
-/// The answer to a line of a block trace. Sizes and offsets are bytes.
-#[derive(Drop)]
-pub enum Reply {
-    /// The block was made.
-    Block { size: u64 },
-    /// The piece lies at `offset`, under the block's number `chunk`.
-    Taken { offset: u64, chunk: NonZeroU64 },
-    /// The piece was given back.
-    Given,
-    Refused(ErrorNumber),
-    /// The caller's number stands for a piece already.
-    Busy,
-    /// The caller's number stands for no piece.
-    Unbound,
-    Report(Report),
-}
-
-/// The live pieces by offset, and the sums. Sizes and offsets are bytes.
-#[derive(Drop)]
-pub struct Report {
-    pub pieces: Vec<AllocationReport>,
-    /// What the pieces take, with their padding.
-    pub total: u64,
-    /// The size of the block.
-    pub capacity: u64,
-}
-
-pub fn write_piece<W: fmt::Write>(
-    piece: &AllocationReport,
-    f: &mut fmt::Formatter<W>,
-) -> fmt::Result
+fn write_piece<W: fmt::Write>(piece: &AllocationReport, f: &mut fmt::Formatter<W>) -> fmt::Result
     ensures { DisplaysOnOk W.write_str_gives f.old result (Some (piece_line (row_of piece.now))) f.new }
 {
     let name = piece.name.as_str();
@@ -49,38 +19,42 @@ pub fn write_piece<W: fmt::Write>(
     writeln!(f, "piece {name} {offset} {size}")
 }
 
-impl fmt::Display for Report {
-    ghost use Rattle.gpu_trace_lines.specs.BlockReply.{report_text};
-
-    ghost output = { λ r. Some (report_text r) };
-
-    fn fmt<W: fmt::Write>(&self, f: &mut fmt::Formatter<W>) -> fmt::Result {
-        for piece in &self.pieces {
-            write_piece(piece, f)?;
-        }
-        let total = self.total;
-        let capacity = self.capacity;
-        write!(f, "total {total} capacity {capacity}")
+/// Live pieces, a line each.
+pub fn write_pieces<W: fmt::Write>(
+    pieces: &[AllocationReport],
+    f: &mut fmt::Formatter<W>,
+) -> fmt::Result
+    ensures { DisplaysOnOk W.write_str_gives f.old result (Some (flat_map piece_line (map row_of pieces.now))) f.new }
+{
+    for piece in pieces {
+        write_piece(piece, f)?;
     }
+    Ok(())
 }
 
-impl fmt::Display for Reply {
-    ghost use Rattle.gpu_trace_lines.specs.BlockReply.{reply_text};
+fn write_report<W: fmt::Write>(report: &Report, f: &mut fmt::Formatter<W>) -> fmt::Result
+    ensures { DisplaysOnOk W.write_str_gives f.old result (Some (report_text report.now)) f.new }
+{
+    write_pieces(&report.pieces, f)?;
+    let total = report.total;
+    let capacity = report.capacity;
+    write!(f, "total {total} capacity {capacity}")
+}
 
-    ghost output = { λ r. Some (reply_text r) };
-
-    fn fmt<W: fmt::Write>(&self, f: &mut fmt::Formatter<W>) -> fmt::Result {
-        match self {
-            Reply::Block { size } => write!(f, "block {size}"),
-            Reply::Taken { offset, chunk } => {
-                let chunk = chunk.get();
-                write!(f, "ok offset {offset} chunk {chunk}")
-            }
-            Reply::Given => write!(f, "ok"),
-            Reply::Refused(number) => write!(f, "error {number}"),
-            Reply::Busy => write!(f, "busy"),
-            Reply::Unbound => write!(f, "unbound"),
-            Reply::Report(report) => write!(f, "{report}"),
+/// What a session of one block answers, as a trace shows it.
+pub fn write_reply<W: fmt::Write>(reply: &Reply, f: &mut fmt::Formatter<W>) -> fmt::Result
+    ensures { DisplaysOnOk W.write_str_gives f.old result (Some (reply_text reply.now)) f.new }
+{
+    match reply {
+        Reply::Block { size } => write!(f, "block {size}"),
+        Reply::Taken { offset, chunk } => {
+            let chunk = chunk.get();
+            write!(f, "ok offset {offset} chunk {chunk}")
         }
+        Reply::Given => write!(f, "ok"),
+        Reply::Refused(number) => write!(f, "error {number}"),
+        Reply::Busy => write!(f, "busy"),
+        Reply::Unbound => write!(f, "unbound"),
+        Reply::Report(report) => write_report(report, f),
     }
 }

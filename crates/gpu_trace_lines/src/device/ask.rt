@@ -10,8 +10,8 @@ ghost use Rattle.gpu_trace_lines.specs.Ask.{location_word, linear_word, scheme_w
 
 use crate::hex;
 use crate::words::{is_name, number, small_number};
+use gpu_commands::vulkan::Command;
 use gpu_device::vulkan::{AllocationScheme, Buffer, Image, MemoryRequirements};
-use gpu_session_values::Command;
 use gpu_values::MemoryLocation;
 use std::alloc::{AllocError, Global};
 

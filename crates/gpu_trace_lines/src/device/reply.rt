@@ -8,10 +8,10 @@ ghost use Rattle.gpu_trace_lines.specs.BlockReply.{piece_line};
 ghost use Rattle.gpu_trace_lines.specs.Hex.{hex, hex_byte, hex_digit};
 ghost use Rattle.gpu_trace_lines.specs.DeviceReply.{bool_text, given_text, block_line, leak_line, leaks_text, report_text, served_text};
 
-use crate::block::reply::write_piece;
-use crate::error_number::{ErrorNumber, number_of};
-use gpu_core::{AllocationReport, AllocatorReport, MemoryBlockReport};
-use gpu_session_values::{Given, Reply as Told};
+use crate::block::reply::write_pieces;
+use gpu_commands::vulkan::{Given, Reply as Told};
+use gpu_commands::{ErrorNumber, number_of};
+use gpu_core::{AllocatorReport, MemoryBlockReport};
 use std::fmt;
 
 /// The answer to a line of a device trace.
@@ -93,18 +93,6 @@ fn write_bytes<W: fmt::Write>(bytes: &[u8], f: &mut fmt::Formatter<W>) -> fmt::R
 {
     for byte in bytes {
         write_byte(*byte, f)?;
-    }
-    Ok(())
-}
-
-fn write_pieces<W: fmt::Write>(
-    pieces: &[AllocationReport],
-    f: &mut fmt::Formatter<W>,
-) -> fmt::Result
-    ensures { DisplaysOnOk W.write_str_gives f.old result (Some (flat_map piece_line (map row_of pieces.now))) f.new }
-{
-    for piece in pieces {
-        write_piece(piece, f)?;
     }
     Ok(())
 }

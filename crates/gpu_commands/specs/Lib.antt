@@ -1,0 +1,2 @@
+pub mod BlockCommand
+pub mod ErrorNumber

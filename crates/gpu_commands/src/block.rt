@@ -1,0 +1,7 @@
+//! What a session of one block is asked for, and what it answers.
+
+mod command;
+mod reply;
+
+pub use command::{Command, Kind, Side};
+pub use reply::{Reply, Report};

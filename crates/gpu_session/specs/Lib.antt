@@ -1,4 +1,0 @@
-pub mod Configuration
-pub mod Stage
-pub mod Run
-pub mod Replay

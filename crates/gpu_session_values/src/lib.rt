@@ -1,8 +1,0 @@
-// What a session of the Vulkan allocator is asked for, and what it answers: plain values.
-#![tactic(auto)]
-
-mod command;
-mod reply;
-
-pub use command::Command;
-pub use reply::{Given, Reply};

@@ -1,0 +1,5 @@
+pub mod BlockStage
+pub mod Configuration
+pub mod Stage
+pub mod Run
+pub mod Replay
