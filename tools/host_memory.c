@@ -4,10 +4,11 @@
 #include <dlfcn.h>
 #include <fcntl.h>
 #include <malloc.h>
-#include <stddef.h>
 #include <stdio.h>
 #include <stdlib.h>
 #include <unistd.h>
+
+#include "early_memory.h"
 
 static void *(*real_malloc)(size_t);
 static void *(*real_realloc)(void *, size_t);
@@ -15,21 +16,6 @@ static void (*real_free)(void *);
 static ssize_t (*real_write)(int, const void *, size_t);
 static size_t held;
 static int told = -1;
-
-/* dlsym itself may ask for memory before the real functions are known */
-static _Alignas(16) char early[4096];
-static size_t early_used;
-
-static int is_early(const void *memory) {
-    return (const char *)memory >= early && (const char *)memory < early + sizeof early;
-}
-
-static void *early_memory(size_t size) {
-    size_t taken = (size + 15) & ~(size_t)15;
-    if (taken < size || taken > sizeof early - early_used) return NULL;
-    early_used += taken;
-    return early + early_used - taken;
-}
 
 __attribute__((constructor)) static void begin(void) {
     const char *path = getenv("MEMORY_TO");

@@ -4,26 +4,16 @@
 #define _GNU_SOURCE
 #include <dlfcn.h>
 #include <fcntl.h>
-#include <stddef.h>
 #include <stdio.h>
 #include <stdlib.h>
 #include <unistd.h>
+
+#include "early_memory.h"
 
 static void *(*real_malloc)(size_t);
 static void *(*real_realloc)(void *, size_t);
 static ssize_t (*real_write)(int, const void *, size_t);
 static long requests, writes, refused;
-
-/* dlsym itself may ask for memory before the real functions are known */
-static _Alignas(16) char early[4096];
-static size_t early_used;
-
-static void *early_memory(size_t size) {
-    size_t taken = (size + 15) & ~(size_t)15;
-    if (taken < size || taken > sizeof early - early_used) return NULL;
-    early_used += taken;
-    return early + early_used - taken;
-}
 
 __attribute__((constructor)) static void begin(void) {
     const char *nth = getenv("REFUSE_NTH");
