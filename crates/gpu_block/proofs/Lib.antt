@@ -1,8 +1,5 @@
 pub mod Blocks
 pub mod LongestCounted
-pub mod Runs
-pub mod Showing
-pub mod Texts
 pub mod Whole
 pub use Rattle.gpu_block_pieces.proofs.Separation
 pub use Rattle.gpu_block_pieces.proofs.Keyed

@@ -1,10 +1,11 @@
-pub mod Rows
 pub mod Dedicated
 pub mod Block
 pub mod SubAllocator
-pub mod Leak
-pub mod Pieces
-pub mod Statistics
+pub mod BlockViews
+pub use Rattle.gpu_block_views.specs.Rows
+pub use Rattle.gpu_block_views.specs.Leak
+pub use Rattle.gpu_block_views.specs.Pieces
+pub use Rattle.gpu_block_views.specs.Statistics
 pub use Rattle.gpu_block_pieces.specs.FreeList
 pub use Rattle.gpu_block_pieces.specs.Request
 pub use Rattle.gpu_block_pieces.specs.Place

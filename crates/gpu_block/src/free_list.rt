@@ -37,7 +37,7 @@ impl FreeListAllocator {
     ghost use Rattle.gpu_cost.specs.Cost.{Rises};
     ghost use Rattle.gpu_block_pieces.specs.Place.{HasNoPlace};
     ghost use Rattle.gpu_block_pieces.specs.Search.{IsSearch};
-    ghost use Rattle.gpu_block.specs.Pieces.{gaps_between, longest};
+    ghost use Rattle.gpu_block_views.specs.Pieces.{gaps_between, longest};
     ghost use Rattle.gpu_block_pieces.specs.Changes.{Takes, Releases, Renames};
     ghost use Rattle.gpu_block_pieces.specs.BlockRefusal.{IsTakeRefusal, release_refusal, IsRenameRefusal};
     ghost use Rattle.gpu_block_pieces.specs.Laws.{IsSound, IsInOrder, IsPageSeparated, IsLongEnough, IsForNumbers, IsCovered};
@@ -135,6 +135,7 @@ impl FreeListAllocator {
         ensures longest { result ≡ longest (gaps_between 0 self.now.block.extents self.now.block.size) }
         ensures law { (r : Request) → result < r.size → HasNoPlace self.now.block r }
     {
+        // a read, so that the proof has the invariant
         let _chunks = self.pieces.walk();
         self.pieces.longest_gap()
     }

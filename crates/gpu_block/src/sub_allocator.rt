@@ -7,11 +7,10 @@ ghost use Rattle.gpu_values.specs.declared.error.AllocationError.TheVariants.{Ho
 ghost use Rattle.gpu_values.specs.Refusal.{refusal_of};
 ghost use Rattle.gpu_block_pieces.specs.Request.{Request, request};
 ghost use Rattle.gpu_values.specs.Report.{row_of};
-ghost use Rattle.gpu_block.specs.Rows.{extent_row};
+ghost use Rattle.gpu_block_views.specs.Rows.{extent_row};
 
-use crate::leaks::texts_of;
-use crate::pieces::count;
-use crate::{BlockStatistics, DedicatedBlockAllocator, FreeListAllocator, Gaps, Leaks, Pieces};
+use crate::{DedicatedBlockAllocator, FreeListAllocator};
+use gpu_block_views::{BlockStatistics, Gaps, Leaks, Pieces, count_pieces, texts_of};
 use gpu_values::{AllocationReport, AllocationType, Result};
 use std::num::NonZeroU64;
 
@@ -27,9 +26,9 @@ pub enum SubAllocator {
 impl SubAllocator {
     ghost use Rattle.gpu_block.specs.SubAllocator.{block_of, cost_of};
     ghost use Rattle.gpu_block_pieces.specs.FreeList.{FindsPlace};
-    ghost use Rattle.gpu_block.specs.Leak.{leaks_of, leak_text};
-    ghost use Rattle.gpu_block.specs.Pieces.{LieBetween, gaps_in};
-    ghost use Rattle.gpu_block.specs.Statistics.{statistics_of};
+    ghost use Rattle.gpu_block_views.specs.Leak.{leak_text};
+    ghost use Rattle.gpu_block_views.specs.Pieces.{LieBetween};
+    ghost use Rattle.gpu_block.specs.BlockViews.{gaps_in, statistics_of, leaks_of};
     ghost use Rattle.gpu_block.specs.Block.{extents_of, size_of, allocated_bytes, is_general, HasPages, TakesIn, HasNoPlaceIn, IsTakeRefusalIn, ReleasesIn, IsReleaseRefusalIn, RenamesIn, IsRenameRefusalIn, IsSoundBlock, IsOrderedBlock, HasPagesApart, IsCoveredBlock, IsFitLaw, IsSearchIn, CountsRise};
 
     /// Takes a place for `size` bytes, and answers the piece's offset in bytes and its number. A free list takes the least place
@@ -162,11 +161,7 @@ impl SubAllocator {
     pub fn gaps(&self) -> Gaps<'_>
         ensures { result ≡ gaps_in (block_of self.now) }
     {
-        Gaps {
-            pieces: self.pieces(),
-            end: 0,
-            size: self.size(),
-        }
+        Gaps::new(self.pieces(), self.size())
     }
 
     /// How many live pieces and gaps there are, what the pieces take with their padding, and the longest gap, in bytes.
@@ -174,7 +169,7 @@ impl SubAllocator {
     pub fn statistics(&self) -> BlockStatistics
         ensures { result ≡ statistics_of (block_of self.now) }
     {
-        count(self.pieces(), self.size())
+        count_pieces(self.pieces(), self.size())
     }
 
     /// The bytes of the longest gap, 0 where there is none, which `statistics` finds by counting. A request of more bytes has no

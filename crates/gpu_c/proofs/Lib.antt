@@ -1,4 +1,2 @@
 mod VirtualBlockHandleWords
-mod VirtualBlockLaws
 mod MemoryTypeHandleWords
-mod MemoryTypeLaws

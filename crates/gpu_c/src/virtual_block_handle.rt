@@ -3,7 +3,7 @@
 ghost use Rattle.std.specs.Prelude.{◌≡◌, Option, Some, None, MatchOption};
 ghost use Rattle.gpu_block.specs.Block.{Block};
 
-use crate::virtual_block::VirtualBlock;
+use gpu_c_blocks::VirtualBlock;
 use gpu_c_box::RawBox;
 use std::alloc::Global;
 use std::marker::Model;
@@ -18,7 +18,7 @@ pub struct VirtualBlockHandle {
 
 impl Model for VirtualBlockHandle {
     ghost use Rattle.gpu_c_box.specs.Owned.{handle_owns};
-    ghost use Rattle.gpu_c.specs.contracts.virtual_block.VirtualBlock.{the_row};
+    ghost use Rattle.gpu_c_blocks.specs.contracts.virtual_block.VirtualBlock.{the_row};
 
     ghost also_owns = { λ h. handle_owns the_row h.at h.value };
 }

@@ -1,22 +1,22 @@
 -- The blocks of a memory type that are without pieces: at most one is kept, and it is shared.
-use Rattle.std.proofs.Common.{◌≡◌, ◌≢◌, ℕ, zero, suc, ◌+◌, ◌<◌, ◌≤◌, false, cond, List, [], ◌∷◌, ◌++◌, map, length, refl, sym, ◌∙◌, ap, subst, inl, inr, arith, Option, Some, None, slice_set}
+use Rattle.std.proofs.Common.{◌≡◌, ◌≢◌, ℕ, zero, suc, ◌+◌, ◌<◌, ◌≤◌, false, cond, List, [], ◌∷◌, map, refl, sym, ◌∙◌, ap, subst, inl, inr, arith, Option, Some, None, slice_set}
 use Rattle.std.specs.Prelude.{Contains, IsSome}
 use Rattle.std.specs.Option.{option_map, option_to_list}
 use Rattle.std.specs.Int.NonZero.{non_zero_u64_get}
 use Rattle.std.proofs.lemmas.Bool.{false≢true, cases_eq}
-use Rattle.gpu_core.specs.FreeList.{Extent}
-use Rattle.gpu_core.specs.Dedicated.{held_extents, renamed, whole_extent}
-use Rattle.gpu_core.specs.Request.{Request}
-use Rattle.gpu_core.specs.Block.{Block, free_list, dedicated, extents_of, is_general, HoldsPiece, TakesIn, ReleasesIn, RenamesIn, IsSoundBlock}
-use Rattle.gpu_core.specs.TypeState.{Slot, slot_at, slots_sum, shared_in, shared_count, HasEmptyBlock, IsOneGap, HasOneGap, KeepsOneEmptyAtMost}
-use Rattle.gpu_core.specs.TypeTake.{PreparesPiece}
-use Rattle.gpu_core.specs.TypeRelease.{Goes, SlotReleases, ReleasesPiece, SlotRenames, RenamesPiece}
-use Rattle.gpu_core.specs.Slots.{AreSound, SlotIsSound}
-use Rattle.gpu_core.specs.declared.memory_type.Piece.{Piece}
+use Rattle.gpu_block_pieces.specs.FreeList.{Extent}
+use Rattle.gpu_block.specs.Dedicated.{held_extents, renamed, whole_extent}
+use Rattle.gpu_block_pieces.specs.Request.{Request}
+use Rattle.gpu_block.specs.Block.{Block, free_list, dedicated, extents_of, is_general, HoldsPiece, TakesIn, ReleasesIn, RenamesIn, IsSoundBlock}
+use Rattle.gpu_slots.specs.TypeState.{Slot, slot_at, slots_sum, shared_in, shared_count, HasEmptyBlock, IsOneGap, HasOneGap, KeepsOneEmptyAtMost}
+use Rattle.gpu_slots.specs.TypeTake.{PreparesPiece}
+use Rattle.gpu_slots.specs.TypeRelease.{Goes, SlotReleases, ReleasesPiece, SlotRenames, RenamesPiece}
+use Rattle.gpu_slots.specs.Slots.{AreSound, SlotIsSound}
+use Rattle.gpu_slots.specs.declared.piece.Piece.{Piece}
 use Rattle.gpu_block_pieces.proofs.Empty.{empty_gap, empty_only}
 use Rattle.gpu_block_pieces.proofs.Live.{piece_held, piece_of}
 use Rattle.gpu_block_pieces.proofs.Separation.{within_of}
-use Rattle.gpu_core.proofs.Slotted.{OnlyAt, set_only}
+use Rattle.gpu_slots.proofs.Slotted.{OnlyAt, set_only, at_below}
 
 -- ---- blocks that hold a piece
 
@@ -123,11 +123,6 @@ one_empty_after {H = H} old i s new kept only here =
           ];
     }
 
-pub at_below : {H : Type 0} (slots : List (Option (Slot H))) (i : ℕ) (s : Slot H) → slot_at slots i ≡ Some s → i < length slots
-at_below [] i s h = absurd (cc)
-at_below (x ∷ xs) zero s h = omega arith
-at_below (x ∷ xs) (suc i) s h = let b = at_below xs i s h in omega arith
-
 -- the slot is replaced by one whose block has a piece, or by an empty one
 pub one_empty_set : {H : Type 0} (slots : List (Option (Slot H))) (i : ℕ) (old : Slot H) (s : Option (Slot H)) (new : List (Option (Slot H))) → KeepsOneEmptyAtMost slots → slot_at slots i ≡ Some old
     → new ≡ slice_set slots i s → (HasEmptyBlock s → ⊥) → KeepsOneEmptyAtMost new
@@ -183,17 +178,3 @@ pub freed_empty : {H : Type 0} (g : ℕ) (slots : List (Option (Slot H))) (sever
     slots → (2 ≤ shared_count slots → several) → ReleasesPiece several slots p went new → KeepsOneEmptyAtMost new
 freed_empty g slots several p went new sound kept counts t =
     freed_slot g slots several p.slot (non_zero_u64_get p.number) (slot_at slots p.slot) went t.slot new kept (sound p.slot) counts refl t.releases t.slots
-
-at_end : {H : Type 0} (slots : List (Option (Slot H))) (s : Option (Slot H)) → slot_at (slots ++ s ∷ []) (length slots) ≡ s
-at_end [] s = refl
-at_end (x ∷ xs) s = at_end xs s
-
-past_end : {H : Type 0} (slots : List (Option (Slot H))) (s : Option (Slot H)) (j : ℕ) → j ≢ length slots → slot_at (slots ++ s ∷ []) j ≡ slot_at slots j
-past_end [] s zero ne = absurd (ne refl)
-past_end [] s (suc j) ne = refl
-past_end (x ∷ xs) s zero ne = refl
-past_end (x ∷ xs) s (suc j) ne = past_end xs s j (λ e. ne (ap suc e))
-
--- a new block at the end
-pub end_only : {H : Type 0} (slots : List (Option (Slot H))) (s : Option (Slot H)) → OnlyAt slots (length slots) s (slots ++ s ∷ [])
-end_only slots s = record { at = at_end slots s; others = past_end slots s }

@@ -1,19 +1,19 @@
 -- What a memory type keeps by each call: the sums of its slots, and the soundness of their blocks.
-use Rattle.std.proofs.Common.{◌≡◌, ℕ, ◌+◌, ◌-◌, ◌<◌, ◌≤◌, Bool, true, false, cond, List, [], ◌∷◌, ◌++◌, length, refl, sym, ◌∙◌, ap, subst, arith, Option, Some, None, slice_set}
+use Rattle.std.proofs.Common.{◌≡◌, ℕ, ◌+◌, ◌-◌, ◌≤◌, Bool, true, false, cond, List, [], ◌∷◌, ◌++◌, length, refl, sym, ◌∙◌, ap, subst, arith, Option, Some, None, slice_set}
 use Rattle.std.specs.Prelude.{IsTrue, nat_lt}
 use Rattle.std.proofs.lemmas.Bool.{lt-ltb}
-use Rattle.std.proofs.lemmas.Grind.{common_steps}
 use Rattle.std.specs.Int.NonZero.{non_zero_u64_get}
-use Rattle.gpu_core.specs.Request.{Request}
-use Rattle.gpu_core.specs.Block.{Block, free_list, dedicated, extents_of, size_of, is_general, TakesIn, RenamesIn}
-use Rattle.gpu_core.specs.TypeState.{Slot, slot_at, slots_sum, slot_size, shared_in, capacity_of, shared_count, lowest_empty, highest_empty, KeepsOneEmptyAtMost}
-use Rattle.gpu_core.specs.TypeTake.{PreparesPiece, new_slot, with_block}
-use Rattle.gpu_core.specs.TypeRelease.{ReleasesPiece, RenamesPiece, SlotRenames}
-use Rattle.gpu_core.specs.Slots.{AreKept, AreSound, SlotIsSound, IsEmptyAt}
-use Rattle.gpu_core.specs.declared.memory_type.Piece.{Piece}
-use Rattle.gpu_core.proofs.Slotted.{OnlyAt, sum-set, set_only, sound_after}
-use Rattle.gpu_core.proofs.EmptyBlocks.{at_below, end_only, one_empty_after, prepared_empty, freed_empty, renamed_empty}
-use Rattle.gpu_core.proofs.EmptySlots.{lowest_found, highest_empty_found}
+use Rattle.gpu_block_pieces.specs.Request.{Request}
+use Rattle.gpu_block.specs.Block.{Block, free_list, dedicated, extents_of, size_of, is_general, TakesIn, RenamesIn}
+use Rattle.gpu_slots.specs.TypeState.{Slot, slot_at, slots_sum, slot_size, shared_in, capacity_of, shared_count, KeepsOneEmptyAtMost}
+use Rattle.gpu_slots.specs.TypeTake.{PreparesPiece, new_slot, with_block}
+use Rattle.gpu_slots.specs.TypeRelease.{ReleasesPiece, RenamesPiece, SlotRenames}
+use Rattle.gpu_core.specs.TypeInvariant.{AreKept}
+use Rattle.gpu_slots.specs.Slots.{AreSound, SlotIsSound}
+use Rattle.gpu_slots.specs.declared.piece.Piece.{Piece}
+use Rattle.gpu_slots.proofs.Slotted.{OnlyAt, sum-set, sound_after, at_below}
+use Rattle.gpu_slots.proofs.NewSlots.{IsNewSlot, empty_slot, the_end, is_new_slot, with_empty, with_end, put_only}
+use Rattle.gpu_core.proofs.EmptyBlocks.{one_empty_after, prepared_empty, freed_empty, renamed_empty}
 
 -- a take and a new name keep a block's form and size
 pub takes_same : (old : Block) (r : Request) (o n : ℕ) (new : Block) → TakesIn old r o n new → (size_of new ≡ size_of old) × (is_general new ≡ is_general old)
@@ -93,29 +93,6 @@ sum_end : {H : Type 0} (f : Option (Slot H) → ℕ) (slots : List (Option (Slot
 sum_end f [] s = omega arith
 sum_end f (x ∷ xs) s = let e = sum_end f xs s in omega arith
 
--- a new block's slot is empty, or it is the end
-pub data IsNewSlot {H : Type 0} (slots : List (Option (Slot H))) (i : ℕ) : Type 0 where
-  empty_slot : IsEmptyAt slots i → IsNewSlot slots i
-  the_end : i ≡ length slots → IsNewSlot slots i
-
-lowest_new : {H : Type 0} (slots : List (Option (Slot H))) (o : Option ℕ) → lowest_empty slots ≡ o → IsNewSlot slots (new_slot true slots)
-lowest_new slots None e = the_end (rw e refl)
-lowest_new slots (Some i) e = rw e (empty_slot (lowest_found slots i e))
-
-highest_new : {H : Type 0} (slots : List (Option (Slot H))) (o : Option ℕ) → highest_empty slots ≡ o → IsNewSlot slots (new_slot false slots)
-highest_new slots None e = the_end (rw e refl)
-highest_new slots (Some i) e = rw e (empty_slot (highest_empty_found slots i e))
-
-pub is_new_slot : {H : Type 0} (is_dedicated : Bool) (slots : List (Option (Slot H))) → IsNewSlot slots (new_slot is_dedicated slots)
-is_new_slot true slots = lowest_new slots (lowest_empty slots) refl
-is_new_slot false slots = highest_new slots (highest_empty slots) refl
-
-pub with_empty : {H : Type 0} (slots : List (Option (Slot H))) (i : ℕ) (s : Slot H) → i < length slots → with_block slots i s ≡ slice_set slots i (Some s)
-with_empty slots i s below = grind (arith, common_steps, below)
-
-pub with_end : {H : Type 0} (slots : List (Option (Slot H))) (i : ℕ) (s : Slot H) → i ≡ length slots → with_block slots i s ≡ slots ++ Some s ∷ []
-with_end slots i s e = grind (arith, common_steps, e)
-
 put_sum : {H : Type 0} (f : Option (Slot H) → ℕ) (slots : List (Option (Slot H))) (i : ℕ) (s : Slot H) → f None ≡ 0 → IsNewSlot slots i → slots_sum f (with_block slots i s) ≡ slots_sum f slots + f
     (Some s)
 put_sum f slots i s none (empty_slot at) =
@@ -124,11 +101,6 @@ put_sum f slots i s none (empty_slot at) =
     let w = ap (slots_sum f) (with_empty slots i s at.below) in
     omega arith
 put_sum f slots i s none (the_end at) = ap (slots_sum f) (with_end slots i s at) ∙ sum_end f slots (Some s)
-
--- the new block's slot alone is changed
-pub put_only : {H : Type 0} (slots : List (Option (Slot H))) (i : ℕ) (s : Slot H) → IsNewSlot slots i → OnlyAt slots i (Some s) (with_block slots i s)
-put_only slots i s (empty_slot at) = subst (OnlyAt slots i (Some s)) (sym (with_empty slots i s at.below)) (set_only slots i (Some s) at.below)
-put_only slots i s (the_end at) = subst (OnlyAt slots i (Some s)) (sym (with_end slots i s at)) (subst (λ k. OnlyAt slots k (Some s) (slots ++ Some s ∷ [])) (sym at) (end_only slots (Some s)))
 
 pub installed_capacity : {H : Type 0} (slots : List (Option (Slot H))) (is_dedicated : Bool) (s : Slot H) → capacity_of (with_block slots (new_slot is_dedicated slots) s) ≡ capacity_of slots +
     size_of s.block

@@ -1,11 +1,5 @@
 pub mod Needs
-pub mod Slotted
-pub mod EmptySlots
-pub mod Putting
-pub mod Finding
 pub mod EmptyBlocks
 pub mod Dead
 pub mod Kept
 pub mod OneOutcome
-pub mod Bounded
-pub mod Passing

@@ -2,14 +2,14 @@
 use Rattle.std.proofs.Common.{◌≡◌, ℕ, ◌<◌, ◌≤◌, Bool, true, false, not, Option, Some, None, refl, inl, inr, arith, sym, ◌∙◌}
 use Rattle.gpu_values.specs.declared.error.AllocationError.{AllocationError}
 use Rattle.gpu_values.specs.declared.error.AllocationError.TheVariants as errors
-use Rattle.gpu_core.specs.Refusal.{refusal_of, host_out_of_memory}
-use Rattle.gpu_core.specs.BlockRefusal.{IsTakeRefusal}
-use Rattle.gpu_core.specs.Request.{Request}
-use Rattle.gpu_core.specs.Place.{HasNoPlace}
-use Rattle.gpu_core.specs.FreeList.{fresh_free_list}
+use Rattle.gpu_values.specs.Refusal.{refusal_of, host_out_of_memory}
+use Rattle.gpu_block_pieces.specs.BlockRefusal.{IsTakeRefusal}
+use Rattle.gpu_block_pieces.specs.Request.{Request}
+use Rattle.gpu_block_pieces.specs.Place.{HasNoPlace}
+use Rattle.gpu_block_pieces.specs.FreeList.{fresh_free_list}
 use Rattle.std.specs.Prelude.{IsNone}
-use Rattle.gpu_core.specs.Block.{Block, free_list, dedicated, size_of, is_general, TakesIn, IsTakeRefusalIn}
-use Rattle.gpu_core.specs.TypeTake.{fresh_block}
+use Rattle.gpu_block.specs.Block.{Block, free_list, dedicated, size_of, is_general, TakesIn, IsTakeRefusalIn}
+use Rattle.gpu_slots.specs.TypeTake.{fresh_block}
 use Rattle.gpu_block_pieces.proofs.Determined.{chosen_once}
 use Rattle.gpu_block_pieces.proofs.Empty.{empty_chosen, empty_has_place}
 use Rattle.gpu_core.proofs.Kept.{takes_same}

@@ -1,10 +1,10 @@
-pub mod TypeState
-pub mod TypeTake
+pub mod TypeInvariant
 pub mod TypePrepare
-pub mod TypeRelease
-pub mod TypeReport
-pub mod Longest
-pub mod Slots
+pub use Rattle.gpu_slots.specs.TypeState
+pub use Rattle.gpu_slots.specs.TypeTake
+pub use Rattle.gpu_slots.specs.TypeRelease
+pub use Rattle.gpu_slots.specs.TypeReport
+pub use Rattle.gpu_slots.specs.Slots
 pub use Rattle.gpu_values.specs.Refusal
 pub use Rattle.gpu_values.specs.ErrorText
 pub use Rattle.gpu_values.specs.Sizes
@@ -26,4 +26,5 @@ pub use Rattle.gpu_block.specs.SubAllocator
 pub use Rattle.gpu_block.specs.Leak
 pub use Rattle.gpu_block.specs.Pieces
 pub use Rattle.gpu_block.specs.Statistics
+pub use Rattle.gpu_block.specs.BlockViews
 pub use Rattle.gpu_block.specs.Cost

@@ -3,14 +3,17 @@
 #![tactic(auto)]
 
 mod memory_type;
+mod need;
 pub mod type_laws;
 
 pub use gpu_block::{
     BlockStatistics, DedicatedBlockAllocator, FreeListAllocator, Gaps, Leak, Leaks, LivePiece,
     Pieces, SubAllocator, laws,
 };
+pub use gpu_slots::{Piece, Request, TypeLeaks};
 pub use gpu_values::{
     AllocationError, AllocationReport, AllocationSizes, AllocationType, AllocatorDebugSettings,
     AllocatorReport, Fault, MemoryBlockReport, MemoryLocation, Result, fmt_bytes,
 };
-pub use memory_type::{MemoryType, NeedBlock, Piece, Prepared, Request, Room, TypeLeaks};
+pub use memory_type::{MemoryType, Prepared};
+pub use need::{NeedBlock, Room};

@@ -3,56 +3,16 @@
 ghost use Rattle.std.specs.Prelude.{◌≡◌, ◌≢◌, ◌+◌, ◌^◌, ◌<◌, ◌≤◌, ◌↔◌, [], length, Some, None, IfOk, IfErr, OnOk, OnErr, IsTrue};
 ghost use Rattle.std.specs.Int.{is_power_of_two};
 ghost use Rattle.gpu_values.specs.declared.error.AllocationError.TheVariants.{HostOutOfMemory};
-ghost use Rattle.gpu_core.specs.Refusal.{refusal_of};
+ghost use Rattle.gpu_values.specs.Refusal.{refusal_of};
 
-mod longest;
-mod need;
-mod report;
-mod slot;
-mod slots;
-mod statistics;
-mod type_leaks;
-
-use crate::{
-    AllocationSizes, AllocationType, AllocatorReport, BlockStatistics, Leaks, Pieces, Result,
-    SubAllocator,
+use crate::need::{NeedBlock, make_room};
+use gpu_block::{BlockStatistics, Leaks, Pieces, SubAllocator};
+use gpu_slots::{
+    Finding, LiveBlock, Piece, Request, Slots, TypeLeaks, add_slots, count_slots, find,
 };
-use need::make_room;
-pub use need::{NeedBlock, Room};
-use report::add_slots;
-use slot::{Finding, LiveBlock, find};
-use slots::Slots;
-use statistics::count_slots;
+use gpu_values::{AllocationSizes, AllocationType, AllocatorReport, Result};
 use std::alloc::Global;
 use std::marker::Model;
-use std::num::NonZeroU64;
-pub use type_leaks::TypeLeaks;
-
-/// What is asked of a memory type. Size and alignment are bytes.
-#[derive(Clone, Copy, Debug)]
-pub struct Request<'a> {
-    /// Not 0.
-    pub size: u64,
-    /// A power of two.
-    pub alignment: u64,
-    /// Not `Free`.
-    pub kind: AllocationType,
-    /// Whether the piece shall have a block of its own.
-    pub dedicated: bool,
-    /// What reports and leaks show.
-    pub name: &'a str,
-}
-
-/// A live piece: the slot of its block, its number in the block, its place in bytes, and the device's number of the
-/// block.
-#[derive(Clone, Copy, Debug, PartialEq, Eq)]
-pub struct Piece<H> {
-    pub slot: usize,
-    pub number: NonZeroU64,
-    pub offset: u64,
-    pub size: u64,
-    pub block: H,
-}
 
 /// What a request comes to.
 #[derive(Drop)]
@@ -78,8 +38,8 @@ pub struct MemoryType<H: Copy + Eq> {
 }
 
 impl<H: Copy + Eq> Model for MemoryType<H> {
-    ghost use Rattle.gpu_core.specs.TypeState.{TypeState};
-    ghost use Rattle.gpu_core.specs.Slots.{AreKept};
+    ghost use Rattle.gpu_slots.specs.TypeState.{TypeState};
+    ghost use Rattle.gpu_core.specs.TypeInvariant.{AreKept};
 
     ghost Value = { TypeState H };
 
@@ -95,15 +55,15 @@ impl<H: Copy + Eq> Model for MemoryType<H> {
 }
 
 impl<H: Copy + Eq> MemoryType<H> {
-    ghost use Rattle.gpu_core.specs.TypeState.{slot_at, capacity_of, shared_count, block_number, fits_budget, KeepsOneEmptyAtMost};
-    ghost use Rattle.gpu_core.specs.TypeTake.{Installs};
-    ghost use Rattle.gpu_core.specs.Slots.{AreSound};
+    ghost use Rattle.gpu_slots.specs.TypeState.{slot_at, capacity_of, shared_count, block_number, fits_budget, KeepsOneEmptyAtMost};
+    ghost use Rattle.gpu_slots.specs.TypeTake.{Installs};
+    ghost use Rattle.gpu_slots.specs.Slots.{AreSound};
     ghost use Rattle.gpu_core.specs.TypePrepare.{IsPrepared, CanInstall};
-    ghost use Rattle.gpu_core.specs.TypeRelease.{has_several, IsLive, IsFreeRefusal, IsNameRefusal, ReleasesPiece, RenamesPiece};
-    ghost use Rattle.gpu_core.specs.TypeReport.{leaks_in, pieces_in, statistics_in, block_in, counted_with, nothing_counted, type_leaks, with_type};
-    ghost use Rattle.gpu_core.specs.SubAllocator.{block_of};
+    ghost use Rattle.gpu_slots.specs.TypeRelease.{has_several, IsLive, IsFreeRefusal, IsNameRefusal, ReleasesPiece, RenamesPiece};
+    ghost use Rattle.gpu_slots.specs.TypeReport.{leaks_in, pieces_in, statistics_in, block_in, counted_with, nothing_counted, type_leaks, with_type};
+    ghost use Rattle.gpu_block.specs.SubAllocator.{block_of};
     ghost use Rattle.std.specs.Option.{option_map};
-    ghost use Rattle.gpu_core.specs.Report.{report_of};
+    ghost use Rattle.gpu_values.specs.Report.{report_of};
 
     /// A memory type without blocks. `is_host` says which of the block sizes are its own; `granularity` is the page size
     /// of its blocks in bytes, a power of two: Vulkan's bufferImageGranularity, elsewhere 1. It takes no memory.
@@ -374,12 +334,7 @@ impl<H: Copy + Eq> MemoryType<H> {
     pub fn all_leaks(&self, memory_type: usize) -> TypeLeaks<'_, H>
         ensures { result ≡ type_leaks memory_type self.now.slots }
     {
-        TypeLeaks {
-            memory_type,
-            block: None,
-            next: 0,
-            slots: self.slots.as_slice(),
-        }
+        TypeLeaks::new(memory_type, self.slots.as_slice())
     }
 
     /// Adds the live blocks, their pieces and the sums of both to a report, by slot and then by offset. The only refusal

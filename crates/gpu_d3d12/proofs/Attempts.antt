@@ -4,7 +4,7 @@ use Rattle.std.proofs.Common.{refl, ℕ, false, None, Err, Result}
 use Rattle.gpu_values.specs.Refusal.{host_out_of_memory}
 use Rattle.gpu_values.specs.declared.error.AllocationError.{AllocationError}
 use Rattle.gpu_values.specs.declared.error.AllocationError.TheVariants.{HostOutOfMemory}
-use Rattle.gpu_core.specs.declared.memory_type.Piece.{Piece}
+use Rattle.gpu_slots.specs.declared.piece.Piece.{Piece}
 use Rattle.gpu_device.specs.declared.d3d12.device.D3D12Device.{Ghosts}
 use Rattle.gpu_device.specs.declared.d3d12.types.ID3D12Heap.{ID3D12Heap}
 use Rattle.gpu_memory_types.specs.Attempt.{Refused}

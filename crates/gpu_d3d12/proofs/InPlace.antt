@@ -3,7 +3,7 @@ use Rattle.std.proofs.Common.{◌≡◌, ◌∙◌, ℕ, refl, sym, ap, subst, l
 use Rattle.std.specs.FinMap.{insert}
 use Rattle.gpu_values.specs.Refusal.{Refusal, refusal_of, refusal_in}
 use Rattle.gpu_values.specs.declared.error.AllocationError.{AllocationError}
-use Rattle.gpu_core.specs.declared.memory_type.Piece.{Piece}
+use Rattle.gpu_slots.specs.declared.piece.Piece.{Piece}
 use Rattle.gpu_device.specs.D3D12 as entries
 use Rattle.gpu_device.specs.D3D12.{Held}
 use Rattle.gpu_device.specs.Granted.{with_granted}

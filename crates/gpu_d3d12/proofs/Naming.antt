@@ -12,8 +12,8 @@ use Rattle.gpu_core.specs.Dedicated.{renamed}
 use Rattle.gpu_core.specs.FreeList.{Extent}
 use Rattle.gpu_core.specs.TypeRelease.{SlotHolds, SlotRenames, IsLive as IsLivePiece}
 use Rattle.gpu_core.specs.TypeState.{Slot, slot_at}
-use Rattle.gpu_core.specs.declared.memory_type.Piece.{Piece}
-use Rattle.gpu_core.proofs.Slotted.{set_only}
+use Rattle.gpu_slots.specs.declared.piece.Piece.{Piece}
+use Rattle.gpu_slots.proofs.Slotted.{set_only}
 use Rattle.gpu_device.specs.declared.d3d12.types.ID3D12Heap.{ID3D12Heap}
 use Rattle.gpu_values.specs.declared.error.AllocationError.{AllocationError}
 use Rattle.gpu_d3d12_blocks.specs.Blocks.{Slots}

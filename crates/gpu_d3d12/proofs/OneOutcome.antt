@@ -3,7 +3,7 @@ use Rattle.gpu_memory_types.specs.Budgets.{Budgets, budget_at, SetsBudget}
 use Rattle.std.proofs.Common.{◌⊎◌, ◌≡◌, ◌∙◌, ℕ, inl, inr, refl, sym, ap, subst, Bool, true, false, List, slice_set, Option, Some, None, Result, Ok, Err, ⊎_elim, arith}
 use Rattle.std.specs.List.{remove}
 use Rattle.gpu_values.specs.Refusal.{Refusal}
-use Rattle.gpu_core.specs.declared.memory_type.Piece.{Piece}
+use Rattle.gpu_slots.specs.declared.piece.Piece.{Piece}
 use Rattle.gpu_device.specs.D3D12.{Held}
 use Rattle.gpu_device.specs.declared.d3d12.types.HeapFlags.{HeapFlags}
 use Rattle.gpu_device.specs.declared.d3d12.types.HeapProperties.{HeapProperties}

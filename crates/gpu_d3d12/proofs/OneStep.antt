@@ -4,7 +4,7 @@ use Rattle.std.proofs.Common.{◌⊎◌, ◌≡◌, ◌∙◌, ℕ, inl, inr, ma
 use Rattle.gpu_block.specs.Leak.{leak_text}
 use Rattle.gpu_core.specs.TypeRelease.{has_several}
 use Rattle.gpu_core.specs.TypeState.{slot_at}
-use Rattle.gpu_core.specs.declared.memory_type.Piece.{Piece}
+use Rattle.gpu_slots.specs.declared.piece.Piece.{Piece}
 use Rattle.gpu_core.proofs.OneOutcome.{released_once, refusal_once, renamed_once, name_refusal_once}
 use Rattle.gpu_device.specs.declared.d3d12.types.ID3D12Heap.{ID3D12Heap}
 use Rattle.gpu_memory_types.specs.Attempt.{AllocatesInType}

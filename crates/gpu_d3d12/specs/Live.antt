@@ -1,6 +1,6 @@
 -- An allocation, as its owner holds it, and the piece that it stands for.
 use Rattle.std.specs.Prelude.{◌≡◌, ℕ, List, Some, string_bytes}
-use Rattle.gpu_core.specs.declared.memory_type.Piece.{Piece}
+use Rattle.gpu_slots.specs.declared.piece.Piece.{Piece}
 use Rattle.gpu_device.specs.declared.d3d12.types.ID3D12Heap.{ID3D12Heap}
 use Rattle.gpu_memory_types.specs.Apart as pieces
 use Rattle.gpu_d3d12_blocks.specs.Blocks.{Slots}

@@ -5,10 +5,10 @@ use Rattle.std.proofs.Common.{◌≡◌, ◌∙◌, sym, ap, subst, refl, ℕ, �
 use Rattle.gpu_values.specs.Refusal.{Refusal, refusal_of}
 use Rattle.gpu_values.specs.declared.error.AllocationError.{AllocationError}
 use Rattle.gpu_core.specs.TypeTake.{asked}
-use Rattle.gpu_core.specs.declared.memory_type.Piece.{Piece}
+use Rattle.gpu_slots.specs.declared.piece.Piece.{Piece}
 use Rattle.gpu_core.specs.declared.memory_type.Prepared.TheVariants as prepared
-use Rattle.gpu_core.specs.declared.memory_type.Request as type_requests
-use Rattle.gpu_core.specs.declared.memory_type.need.NeedBlock.{NeedBlock}
+use Rattle.gpu_slots.specs.declared.piece.Request as type_requests
+use Rattle.gpu_core.specs.declared.need.NeedBlock.{NeedBlock}
 use Rattle.gpu_device.specs.declared.d3d12.device.D3D12Device.{Ghosts}
 use Rattle.gpu_device.specs.declared.d3d12.types.HeapDesc.{HeapDesc}
 use Rattle.gpu_device.specs.declared.d3d12.types.ID3D12Heap.{ID3D12Heap}

@@ -4,7 +4,7 @@ use Rattle.gpu_core.specs.Block.{Block, free_list, dedicated, TakesIn}
 use Rattle.gpu_core.specs.Request.{Request}
 use Rattle.gpu_core.specs.TypeState.{Slot}
 use Rattle.gpu_core.specs.TypeTake.{Ready}
-use Rattle.gpu_core.specs.declared.memory_type.Piece.{Piece}
+use Rattle.gpu_slots.specs.declared.piece.Piece.{Piece}
 use Rattle.gpu_memory_types.specs.Attempt.{RequestAt, type_asked, BlockResult, Allocated, NotAllocated, AskedBlock, Plan, NoHostMemory, SharedBlock, NewBlock, IsPlan, Gave, IsAfterResult}
 use Rattle.gpu_memory_types.specs.Attempt.{IsCarriedOut, AllocatesInType}
 use Rattle.gpu_memory_types.specs.Blocks.{Slots, slots_at, total_capacity}

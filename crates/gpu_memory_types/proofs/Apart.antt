@@ -10,8 +10,8 @@ use Rattle.gpu_core.specs.Place.{page}
 use Rattle.gpu_core.specs.Slots.{SlotIsSound}
 use Rattle.gpu_core.specs.TypeRelease.{SlotHolds}
 use Rattle.gpu_core.specs.TypeState.{Slot, slot_at}
-use Rattle.gpu_core.specs.declared.memory_type.Piece.{Piece}
-use Rattle.gpu_core.proofs.Finding.{one_in, only_one}
+use Rattle.gpu_slots.specs.declared.piece.Piece.{Piece}
+use Rattle.gpu_slots.proofs.Found.{one_in, only_one}
 use Rattle.gpu_block_pieces.proofs.Separation.{within_of}
 use Rattle.gpu_values.specs.declared.allocation_type.AllocationType.{AllocationType}
 use Rattle.gpu_memory_types.specs.Apart.{EndsInside, IsInside, AreDistinct, SharesNoByte, pieces_in, HasKind, KeepsPages}

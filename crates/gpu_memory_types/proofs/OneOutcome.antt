@@ -4,7 +4,7 @@ use Rattle.gpu_core.specs.Slots.{AreSound}
 use Rattle.gpu_core.specs.TypeState.{TypeState, Slot, capacity_of}
 use Rattle.gpu_core.specs.TypeTake.{Ready}
 use Rattle.gpu_core.specs.Refusal.{Refusal}
-use Rattle.gpu_core.specs.declared.memory_type.Piece.{Piece}
+use Rattle.gpu_slots.specs.declared.piece.Piece.{Piece}
 use Rattle.gpu_core.proofs.OneOutcome.{prepared_once, needed_once, serves_or_needs, installed_once}
 use Rattle.gpu_memory_types.specs.Attempt.{RequestAt, type_asked, BlockResult, Allocated, NotAllocated, AskedBlock, Plan, NoHostMemory, SharedBlock, NewBlock, IsPlan, Answer, Gave, Refused}
 use Rattle.gpu_memory_types.specs.Attempt.{IsAfterResult, IsCarriedOut, AllocatesInType}

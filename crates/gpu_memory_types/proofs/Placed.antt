@@ -8,9 +8,9 @@ use Rattle.gpu_core.specs.Slots.{IsEmptyAt}
 use Rattle.gpu_core.specs.Request.{Request}
 use Rattle.gpu_core.specs.TypeState.{Slot, slot_at, lowest_empty, highest_empty}
 use Rattle.gpu_core.specs.TypeTake.{Ready, PreparesPiece, Installs, with_block, new_slot}
-use Rattle.gpu_core.specs.declared.memory_type.Piece.{Piece}
-use Rattle.gpu_core.proofs.EmptySlots.{lowest_found, highest_empty_found}
-use Rattle.gpu_core.proofs.Slotted.{OnlyAt, set_only}
+use Rattle.gpu_slots.specs.declared.piece.Piece.{Piece}
+use Rattle.gpu_slots.proofs.EmptySlots.{lowest_found, highest_empty_found}
+use Rattle.gpu_slots.proofs.Slotted.{OnlyAt, set_only}
 use Rattle.gpu_memory_types.specs.Blocks.{Slots, slots_at, block_at}
 use Rattle.gpu_memory_types.proofs.Options.{none_some}
 use Rattle.gpu_memory_types.proofs.Types.{slots_after}

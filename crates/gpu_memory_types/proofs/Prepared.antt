@@ -4,10 +4,10 @@ use Rattle.gpu_core.specs.Refusal.{Refusal, host_out_of_memory}
 use Rattle.gpu_core.specs.Sizes.{Sizes}
 use Rattle.gpu_core.specs.TypeState.{TypeState, Slot, capacity_of}
 use Rattle.gpu_core.specs.TypeTake.{asked, Ready, NeedsBlock, Installs}
-use Rattle.gpu_core.specs.declared.memory_type.Piece.{Piece}
+use Rattle.gpu_slots.specs.declared.piece.Piece.{Piece}
 use Rattle.gpu_core.specs.declared.memory_type.Prepared.TheVariants as prepared
-use Rattle.gpu_core.specs.declared.memory_type.Request as type_requests
-use Rattle.gpu_core.specs.declared.memory_type.need.NeedBlock.{NeedBlock}
+use Rattle.gpu_slots.specs.declared.piece.Request as type_requests
+use Rattle.gpu_core.specs.declared.need.NeedBlock.{NeedBlock}
 use Rattle.gpu_memory_types.specs.Attempt.{RequestAt, type_asked, Allocated, NotAllocated, NoHostMemory, SharedBlock, NewBlock, IsPlan, Gave, Refused, AllocatesInType}
 use Rattle.gpu_memory_types.specs.Blocks.{Slots, slots_at, total_capacity}
 use Rattle.gpu_memory_types.specs.Budgets.{block_refusal}

@@ -5,8 +5,8 @@ use Rattle.std.specs.Ordering.{nat_cmp}
 use Rattle.gpu_core.specs.Block.{Block, free_list, dedicated, size_of, ReleasesIn}
 use Rattle.gpu_core.specs.TypeRelease.{SlotReleases, ReleasesPiece}
 use Rattle.gpu_core.specs.TypeState.{Slot, slot_at}
-use Rattle.gpu_core.specs.declared.memory_type.Piece.{Piece}
-use Rattle.gpu_core.proofs.Slotted.{set_only}
+use Rattle.gpu_slots.specs.declared.piece.Piece.{Piece}
+use Rattle.gpu_slots.proofs.Slotted.{set_only}
 use Rattle.gpu_memory_types.specs.Blocks.{Slots, slots_at}
 use Rattle.gpu_memory_types.specs.Held.{HoldsBlocks, without_block}
 use Rattle.gpu_memory_types.proofs.Holding.{changed_holds, removed_holds}

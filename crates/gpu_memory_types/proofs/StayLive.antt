@@ -10,10 +10,10 @@ use Rattle.gpu_core.specs.Slots.{SlotIsSound}
 use Rattle.gpu_core.specs.TypeRelease.{SlotHolds, SlotReleases, ReleasesPiece}
 use Rattle.gpu_core.specs.TypeState.{Slot, slot_at}
 use Rattle.gpu_core.specs.TypeTake.{Ready, fresh_block, PreparesPiece, Installs}
-use Rattle.gpu_core.specs.declared.memory_type.Piece.{Piece}
+use Rattle.gpu_slots.specs.declared.piece.Piece.{Piece}
 use Rattle.gpu_core.proofs.EmptyBlocks.{takes_holds, holds_some}
-use Rattle.gpu_core.proofs.Finding.{only_one}
-use Rattle.gpu_core.proofs.Slotted.{set_only}
+use Rattle.gpu_slots.proofs.Found.{only_one}
+use Rattle.gpu_slots.proofs.Slotted.{set_only}
 use Rattle.gpu_block_pieces.proofs.Live.{takes_keeps, takes_new_number, releases_keeps}
 use Rattle.gpu_memory_types.specs.Attempt.{RequestAt, type_asked, BlockResult, Allocated, NotAllocated, AskedBlock, Plan, NoHostMemory, SharedBlock, NewBlock, IsPlan, Answer, Gave, Refused}
 use Rattle.gpu_memory_types.specs.Attempt.{IsAfterResult, IsCarriedOut, AllocatesInType}

@@ -5,7 +5,7 @@ use Rattle.gpu_core.specs.Block.{extents_of, size_of}
 use Rattle.gpu_core.specs.FreeList.{Extent}
 use Rattle.gpu_core.specs.Place.{page}
 use Rattle.gpu_core.specs.TypeState.{Slot}
-use Rattle.gpu_core.specs.declared.memory_type.Piece.{Piece}
+use Rattle.gpu_slots.specs.declared.piece.Piece.{Piece}
 use Rattle.gpu_values.specs.declared.allocation_type.AllocationType.{AllocationType}
 use Rattle.gpu_memory_types.specs.Blocks.{Slots, block_at}
 

@@ -8,7 +8,7 @@ use Rattle.gpu_core.specs.Request.{Request}
 use Rattle.gpu_core.specs.Sizes.{Sizes}
 use Rattle.gpu_core.specs.TypeState.{TypeState, Slot, capacity_of}
 use Rattle.gpu_core.specs.TypeTake.{Ready, has_own_block, PreparesPiece, NeedsBlock, Installs}
-use Rattle.gpu_core.specs.declared.memory_type.Piece.{Piece}
+use Rattle.gpu_slots.specs.declared.piece.Piece.{Piece}
 use Rattle.gpu_memory_types.specs.Blocks.{Slots, slots_at, total_capacity}
 use Rattle.gpu_memory_types.specs.Budgets.{block_refusal}
 

@@ -1,7 +1,7 @@
 -- Which allocations stay live: all of them as one is given, all others as one goes; and each is aligned when it is given.
 use Rattle.std.proofs.Common.{◌≡◌, ◌∙◌, ℕ, ◌%◌, ◌<◌, refl, sym, ap, subst, true, length, Option, Some, Ok, Err, Result, IfOk}
 use Rattle.std.specs.Int.NonZero.{non_zero_u64_get}
-use Rattle.gpu_core.specs.declared.memory_type.Piece.{Piece}
+use Rattle.gpu_slots.specs.declared.piece.Piece.{Piece}
 use Rattle.gpu_block_pieces.proofs.Keyed.{eq_true}
 use Rattle.gpu_values.specs.declared.error.AllocationError.{AllocationError}
 use Rattle.gpu_device.specs.declared.metal.device.MetalDevice.{Ghosts}

@@ -3,7 +3,7 @@ use Rattle.std.proofs.Common.{◌≡◌, ◌∙◌, refl, sym, ap, subst, ℕ, z
 use Rattle.std.specs.FinMap.{get, insert, remove}
 use Rattle.gpu_core.specs.TypeRelease.{has_several, IsLive, SlotReleases, ReleasesPiece}
 use Rattle.gpu_core.specs.TypeState.{Slot}
-use Rattle.gpu_core.specs.declared.memory_type.Piece.{Piece}
+use Rattle.gpu_slots.specs.declared.piece.Piece.{Piece}
 use Rattle.gpu_device.specs.Metal.{Held, Entry, Heap, Set, IsHeapEntry, remove_member, change_set, remove_if_heap, without_heap}
 use Rattle.gpu_device.specs.declared.metal.device.MetalDevice.{Ghosts}
 use Rattle.gpu_device.specs.declared.metal.types.MTLHeap.{MTLHeap}

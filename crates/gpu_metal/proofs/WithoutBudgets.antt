@@ -1,6 +1,6 @@
 -- A call that meets no budget is the same step where there are no budgets.
 use Rattle.std.proofs.Common.{◌≡◌, refl, ap, subst, ℕ, [], Bool, true, false, None}
-use Rattle.gpu_core.specs.declared.memory_type.Piece.{Piece}
+use Rattle.gpu_slots.specs.declared.piece.Piece.{Piece}
 use Rattle.gpu_device.specs.declared.metal.types.MTLHeap.{MTLHeap}
 use Rattle.gpu_memory_types.specs.Attempt.{RequestAt, AllocatesInType}
 use Rattle.gpu_memory_types.specs.Budgets.{Budgets, budget_at}

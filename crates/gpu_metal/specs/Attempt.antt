@@ -2,7 +2,7 @@
 use Rattle.std.specs.Prelude.{◌≡◌, ℕ, Bool, false, Option, Some, None, Result, Ok, Err, IsSomeAnd}
 use Rattle.gpu_values.specs.Refusal.{refusal_of}
 use Rattle.gpu_values.specs.declared.error.AllocationError.{AllocationError}
-use Rattle.gpu_core.specs.declared.memory_type.Piece.{Piece}
+use Rattle.gpu_slots.specs.declared.piece.Piece.{Piece}
 use Rattle.gpu_device.specs.declared.metal.device.MetalDevice.{Ghosts}
 use Rattle.gpu_device.specs.declared.metal.types.HeapDescriptor.{HeapDescriptor}
 use Rattle.gpu_device.specs.declared.metal.types.MTLHeap.{MTLHeap}

@@ -6,7 +6,7 @@ use Rattle.gpu_values.specs.Refusal.{refusal_of}
 use Rattle.gpu_values.specs.declared.error.AllocationError.{AllocationError}
 use Rattle.gpu_core.specs.TypeRelease.{has_several, ReleasesPiece, IsFreeRefusal}
 use Rattle.gpu_core.specs.TypeState.{Slot, slot_at}
-use Rattle.gpu_core.specs.declared.memory_type.Piece.{Piece}
+use Rattle.gpu_slots.specs.declared.piece.Piece.{Piece}
 use Rattle.gpu_device.specs.Metal.{Held, Set, without_heap}
 use Rattle.gpu_device.specs.declared.metal.device.MetalDevice.{Ghosts}
 use Rattle.gpu_device.specs.declared.metal.types.MTLHeap.{MTLHeap}

@@ -1,6 +1,6 @@
 -- An allocation, as its owner holds it, and the piece that it stands for.
 use Rattle.std.specs.Prelude.{◌≡◌, ℕ, List, Option, Some, string_bytes}
-use Rattle.gpu_core.specs.declared.memory_type.Piece.{Piece}
+use Rattle.gpu_slots.specs.declared.piece.Piece.{Piece}
 use Rattle.gpu_device.specs.declared.metal.types.MTLHeap.{MTLHeap}
 use Rattle.gpu_memory_types.specs.Apart as all_apart
 use Rattle.gpu_memory_types.specs.Live as all

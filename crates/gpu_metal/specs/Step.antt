@@ -8,7 +8,7 @@ use Rattle.gpu_values.specs.declared.report.AllocatorReport.{AllocatorReport}
 use Rattle.gpu_values.specs.declared.error.AllocationError.{AllocationError}
 use Rattle.gpu_core.specs.TypeRelease.{has_several, ReleasesPiece, IsFreeRefusal}
 use Rattle.gpu_core.specs.TypeState.{Slot, slot_at}
-use Rattle.gpu_core.specs.declared.memory_type.Piece.{Piece}
+use Rattle.gpu_slots.specs.declared.piece.Piece.{Piece}
 use Rattle.gpu_device.specs.Granted.{counted}
 use Rattle.gpu_device.specs.Metal.{granted_heap, add_member, remove_member}
 use Rattle.gpu_device.specs.declared.metal.device.MetalDevice.{Ghosts}

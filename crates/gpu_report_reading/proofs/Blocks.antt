@@ -14,9 +14,8 @@ use Rattle.gpu_values.specs.declared.allocation_type.AllocationType.TheVariants.
 use Rattle.gpu_core.specs.FreeList.{Extent}
 use Rattle.gpu_core.specs.Block.{extents_of, size_of}
 use Rattle.gpu_core.specs.SubAllocator.{block_of}
-use Rattle.gpu_core.specs.Pieces.{gaps_in}
-use Rattle.gpu_core.specs.Statistics.{statistics_of}
-use Rattle.gpu_block.specs.declared.pieces.BlockStatistics.{BlockStatistics}
+use Rattle.gpu_core.specs.BlockViews.{gaps_in, statistics_of}
+use Rattle.gpu_block_views.specs.declared.pieces.BlockStatistics.{BlockStatistics}
 use Rattle.gpu_report.specs.declared.view.BlockView.{BlockView}
 use Rattle.gpu_report.specs.Escape.{quoted}
 use Rattle.gpu_report.specs.Json.{listed}

@@ -4,9 +4,8 @@ use Rattle.json.specs.Json.{Json, string}
 use Rattle.gpu_core.specs.FreeList.{Extent}
 use Rattle.gpu_core.specs.Block.{Block, extents_of, size_of}
 use Rattle.gpu_core.specs.SubAllocator.{block_of}
-use Rattle.gpu_core.specs.Pieces.{gaps_in}
-use Rattle.gpu_core.specs.Statistics.{statistics_of}
-use Rattle.gpu_block.specs.declared.pieces.BlockStatistics.{BlockStatistics}
+use Rattle.gpu_core.specs.BlockViews.{gaps_in, statistics_of}
+use Rattle.gpu_block_views.specs.declared.pieces.BlockStatistics.{BlockStatistics}
 use Rattle.gpu_report.specs.declared.view.BlockView.{BlockView}
 use Rattle.gpu_report.specs.BlocksJson.{kind_word}
 use Rattle.gpu_report_reading.specs.Values.{number_of, list_of, object_of}

@@ -3,7 +3,7 @@ use Rattle.std.proofs.Common.{refl, inl, inr, ℕ, ◌<◌, ◌≤◌, false, No
 use Rattle.gpu_values.specs.Refusal.{out_of_memory, host_out_of_memory}
 use Rattle.gpu_values.specs.declared.error.AllocationError.{AllocationError}
 use Rattle.gpu_values.specs.declared.error.AllocationError.TheVariants.{OutOfMemory, HostOutOfMemory}
-use Rattle.gpu_core.specs.declared.memory_type.Piece.{Piece}
+use Rattle.gpu_slots.specs.declared.piece.Piece.{Piece}
 use Rattle.gpu_device.specs.declared.vulkan.device.VulkanDevice.{Ghosts}
 use Rattle.gpu_device.specs.declared.vulkan.types.DeviceMemory.{DeviceMemory}
 use Rattle.gpu_memory_types.specs.Attempt.{Refused}

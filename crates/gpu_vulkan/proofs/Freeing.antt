@@ -9,9 +9,9 @@ use Rattle.gpu_core.specs.FreeList.{Extent}
 use Rattle.gpu_core.specs.Slots.{SlotIsSound}
 use Rattle.gpu_core.specs.TypeRelease.{SlotReleases, SlotHolds}
 use Rattle.gpu_core.specs.TypeState.{Slot, slot_at}
-use Rattle.gpu_core.specs.declared.memory_type.Piece.{Piece}
-use Rattle.gpu_core.proofs.Finding.{one_in}
-use Rattle.gpu_core.proofs.Slotted.{set_only}
+use Rattle.gpu_slots.specs.declared.piece.Piece.{Piece}
+use Rattle.gpu_slots.proofs.Found.{one_in}
+use Rattle.gpu_slots.proofs.Slotted.{set_only}
 use Rattle.gpu_values.specs.declared.error.AllocationError.{AllocationError}
 use Rattle.gpu_device.specs.Held.{Held, IsWhole, bytes_of, entry_bytes}
 use Rattle.gpu_device.specs.declared.vulkan.device.VulkanDevice.{Ghosts}

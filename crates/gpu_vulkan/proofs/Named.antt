@@ -14,8 +14,8 @@ use Rattle.gpu_core.specs.Refusal.{refusal_of}
 use Rattle.gpu_core.specs.Report.{report_of}
 use Rattle.gpu_core.specs.TypeRelease.{SlotRenames}
 use Rattle.gpu_core.specs.TypeState.{Slot, slot_at}
-use Rattle.gpu_core.specs.declared.memory_type.Piece.{Piece}
-use Rattle.gpu_core.proofs.Slotted.{set_only}
+use Rattle.gpu_slots.specs.declared.piece.Piece.{Piece}
+use Rattle.gpu_slots.proofs.Slotted.{set_only}
 use Rattle.gpu_values.specs.declared.error.AllocationError.{AllocationError}
 use Rattle.gpu_values.specs.declared.error.AllocationError.TheVariants.{HostOutOfMemory}
 use Rattle.gpu_values.specs.declared.report.AllocatorReport.{AllocatorReport}

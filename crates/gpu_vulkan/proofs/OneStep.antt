@@ -7,7 +7,7 @@ use Rattle.gpu_core.specs.Refusal.{Refusal, host_out_of_memory}
 use Rattle.gpu_core.specs.Leak.{leak_text}
 use Rattle.gpu_core.specs.TypeRelease.{has_several}
 use Rattle.gpu_core.specs.TypeState.{slot_at}
-use Rattle.gpu_core.specs.declared.memory_type.Piece.{Piece}
+use Rattle.gpu_slots.specs.declared.piece.Piece.{Piece}
 use Rattle.gpu_core.proofs.OneOutcome.{released_once, refusal_once, renamed_once, name_refusal_once}
 use Rattle.gpu_memory_types.proofs.OneOutcome.{false_true, allocates_once}
 use Rattle.gpu_memory_types.specs.Attempt.{Gave, Refused}

@@ -6,8 +6,8 @@ use Rattle.gpu_core.specs.Block.{Block, free_list, dedicated, size_of, RenamesIn
 use Rattle.gpu_core.specs.Refusal.{refusal_of}
 use Rattle.gpu_core.specs.TypeRelease.{IsLive, IsNameRefusal, SlotRenames}
 use Rattle.gpu_core.specs.TypeState.{Slot, slot_at}
-use Rattle.gpu_core.specs.declared.memory_type.Piece.{Piece}
-use Rattle.gpu_core.proofs.Slotted.{set_only}
+use Rattle.gpu_slots.specs.declared.piece.Piece.{Piece}
+use Rattle.gpu_slots.proofs.Slotted.{set_only}
 use Rattle.gpu_device.specs.Held.{Held}
 use Rattle.gpu_device.specs.Properties.{Properties}
 use Rattle.gpu_device.specs.declared.vulkan.types.DeviceMemory.{DeviceMemory}

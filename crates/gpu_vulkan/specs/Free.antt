@@ -4,7 +4,7 @@ use Rattle.gpu_core.specs.Refusal.{refusal_of}
 use Rattle.gpu_core.specs.TypeRelease.{IsFreeRefusal}
 use Rattle.gpu_core.specs.TypeState.{slot_at}
 use Rattle.gpu_values.specs.declared.error.AllocationError.{AllocationError}
-use Rattle.gpu_core.specs.declared.memory_type.Piece.{Piece}
+use Rattle.gpu_slots.specs.declared.piece.Piece.{Piece}
 use Rattle.gpu_device.specs.declared.vulkan.device.VulkanDevice.{Ghosts}
 use Rattle.gpu_device.specs.declared.vulkan.types.DeviceMemory.{DeviceMemory}
 use Rattle.gpu_vulkan_blocks.specs.Blocks.{Slots}

@@ -4,7 +4,7 @@ use Rattle.std.specs.List.{slice_set}
 use Rattle.std.specs.FinMap.{remove}
 use Rattle.gpu_core.specs.TypeRelease.{has_several, ReleasesPiece}
 use Rattle.gpu_core.specs.TypeState.{Slot}
-use Rattle.gpu_core.specs.declared.memory_type.Piece.{Piece}
+use Rattle.gpu_slots.specs.declared.piece.Piece.{Piece}
 use Rattle.gpu_device.specs.declared.vulkan.device.VulkanDevice.{Ghosts}
 use Rattle.gpu_device.specs.declared.vulkan.types.DeviceMemory.{DeviceMemory}
 use Rattle.gpu_memory_types.specs.Blocks.{slots_at}

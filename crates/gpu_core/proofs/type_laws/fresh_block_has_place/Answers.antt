@@ -1,5 +1,5 @@
 use Rattle.std.proofs.Common.{false, refl, arith}
-use Rattle.gpu_core.specs.FreeList.{fresh_free_list}
+use Rattle.gpu_block_pieces.specs.FreeList.{fresh_free_list}
 use Rattle.gpu_block_pieces.proofs.Empty.{empty_chosen}
 use Rattle.gpu_core.proofs.Needs.{fresh_served, fresh_begins}
 use Rattle.gpu_core.proofs.type_laws.fresh_block_has_place.Goals as goal

@@ -3,7 +3,7 @@ use Rattle.gpu_memory_types.specs.Types.{slots_of, type_of}
 use Rattle.gpu_memory_types.proofs.Budgets.{sum_fits}
 use Rattle.std.proofs.Common.{◌<◌, length, ap, arith}
 use Rattle.gpu_core.specs.declared.memory_type.Prepared.TheVariants as prepared
-use Rattle.gpu_core.specs.declared.memory_type.need.NeedBlock.{NeedBlock}
+use Rattle.gpu_core.specs.declared.need.NeedBlock.{NeedBlock}
 use Rattle.gpu_device.specs.declared.d3d12.types.HeapDesc.{HeapDesc}
 use Rattle.gpu_memory_types.specs.Blocks.{total_capacity}
 use Rattle.gpu_memory_types.specs.Requests.{PreparesAt}

@@ -4,7 +4,7 @@ use Rattle.gpu_core.specs.declared.memory_type.Prepared.TheVariants as prepared
 use Rattle.gpu_values.specs.Refusal.{refusal_of}
 use Rattle.gpu_memory_types.specs.Requests.{PreparesAt, IsPrepareRefusal}
 use Rattle.gpu_memory_types.specs.Types.{slots_of, type_of}
-use Rattle.gpu_core.specs.declared.memory_type.need.NeedBlock.{NeedBlock}
+use Rattle.gpu_core.specs.declared.need.NeedBlock.{NeedBlock}
 use Rattle.gpu_memory_types.specs.Blocks.{total_capacity}
 use Rattle.gpu_vulkan_setup.specs.Types.{is_mapped}
 use Rattle.gpu_vulkan_blocks.specs.Blocks.{Slots}

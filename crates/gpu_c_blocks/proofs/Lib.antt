@@ -1,0 +1,2 @@
+mod VirtualBlockLaws
+mod MemoryTypeLaws

@@ -1,0 +1,5 @@
+pub mod Status
+pub mod Request
+pub mod VirtualBlock
+pub mod Visit
+pub mod MemoryType
