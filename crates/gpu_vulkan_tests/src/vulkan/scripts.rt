@@ -105,7 +105,7 @@ fn name_by(number: usize) -> &'static str {
     }
 }
 
-/// The request of a call that takes memory, and whether its block is its own. What takes three megabytes has a long name.
+/// The request of a call that takes memory, and whether its block is its own. What takes an odd number of megabytes has a long name.
 fn request_of(
     size: u64,
     location: MemoryLocation,
