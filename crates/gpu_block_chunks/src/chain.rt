@@ -146,6 +146,7 @@ impl Chain {
         ensures value { MatchOption result (HasNoNumber self.now.chunks number) (λ p. IsChunkAt self.now.chunks number p.0.now p.1) }
         ensures counted { LooksUp 1 cost.old cost.new }
     {
+        // a read, so that the proof has the invariant
         let _size = self.size;
         let node = node_at(&self.nodes, number, cost)?;
         Some((&node.chunk, number_of(node.next)))
@@ -156,6 +157,7 @@ impl Chain {
         ensures value { MatchOption result (HasNoNumber self.now.chunks number) (λ a. IsAround self.now.chunks number a) }
         ensures counted { LooksUp (1 + neighbours result) cost.old cost.new }
     {
+        // a read, so that the proof has the invariant
         let _size = self.size;
         let node = node_at(&self.nodes, number, cost)?;
         let before = beside_at(&self.nodes, node.prev, cost);
@@ -199,6 +201,7 @@ impl Chain {
         ensures size { self.new.size ≡ self.old.size }
         ensures counted { LooksUpBetween 3 4 cost.old cost.new }
     {
+        // a read, so that the proof has the invariant
         let _size = self.size;
         let rest = self.nodes.link_to(number);
         let ends = ends_of(&self.nodes, rest, cost);
@@ -234,6 +237,7 @@ impl Chain {
     {
         let at = self.nodes.link_to(number);
         set_use(&mut self.nodes, at, offset, kind, name, cost);
+        // a read, so that the proof has the invariant
         let _size = self.size;
     }
 
@@ -244,6 +248,7 @@ impl Chain {
         ensures size { self.new.size ≡ self.old.size }
         ensures counted { LooksUpBetween 4 12 cost.old cost.new }
     {
+        // a read, so that the proof has the invariant
         let _size = self.size;
         let at = self.nodes.link_to(number);
         let start = ends_of(&self.nodes, at, cost).start;

@@ -76,6 +76,7 @@ impl Chunks {
             (NoneFits self.now.items wanted (length self.now.items)) (λ f. IsChosen self.now.items wanted f) }
         ensures cost { Spends self.now.items wanted.size result cost.old cost.new }
     {
+        // a read, so that the proof has the invariant
         let _live = self.live;
         let _size = self.chain.size();
         find(&self.index, wanted, cost)
@@ -85,6 +86,7 @@ impl Chunks {
     pub fn longest_gap(&self) -> u64
         ensures { IsLongestOf self.now.items result }
     {
+        // a read, so that the proof has the invariant
         let _live = self.live;
         self.index.longest()
     }
@@ -112,6 +114,7 @@ impl Chunks {
         ensures whole { OnOk result (found.gap.start + found.gap.length ≤ found.offset + wanted.size → LooksUp 1 cost.old cost.new) }
         ensures none { OnErr result (LooksUp 0 cost.old cost.new) }
     {
+        // a read, so that the proof has the invariant
         let _size = self.chain.size();
         make_room(&mut self.chain, &mut self.index, self.live)?;
         let taken = found.offset + wanted.size - found.gap.start;
@@ -147,6 +150,7 @@ impl Chunks {
             ((k : ℕ) → HoldsNumber self.now.items number k → ⊥) (λ a. (a.here.number ≡ number) × IsPieceAt self.now.items a) }
         ensures counted { LooksUpBetween 1 3 cost.old cost.new }
     {
+        // a read, so that the proof has the invariant
         let _live = self.live;
         let _size = self.chain.size();
         let around = self.chain.around(number, cost)?;
@@ -163,6 +167,7 @@ impl Chunks {
         ensures size { self.new.size ≡ self.old.size }
         ensures counted { LooksUpBetween 5 15 cost.old cost.new }
     {
+        // a read, so that the proof has the invariant
         let _size = self.chain.size();
         self.live -= 1;
         release(&mut self.chain, &mut self.index, around, cost);
@@ -174,6 +179,7 @@ impl Chunks {
         ensures piece { MatchOption result
             ((k : ℕ) → HoldsNumber self.now.items number k → ⊥) (λ c. (IsFree c.now.kind → ⊥) × StandsAt self.now.items number c.now) }
     {
+        // a read, so that the proof has the invariant
         let _live = self.live;
         let _size = self.chain.size();
         let (chunk, _) = self.chain.chunk(number, cost)?;
@@ -188,6 +194,7 @@ impl Chunks {
         ensures gap { result ≡ list_any (λ c. is_gap_by c.kind number c) self.now.items }
         ensures counted { LooksUp 1 cost.old cost.new }
     {
+        // a read, so that the proof has the invariant
         let _size = self.chain.size();
         match self.chain.chunk(number, cost) {
             Some((chunk, _)) => is_free(chunk.kind),
@@ -209,7 +216,9 @@ impl Chunks {
         ensures size { self.new.size ≡ self.old.size }
         ensures counted { LooksUp 1 cost.old cost.new }
     {
+        // a read, so that the proof has the invariant
         let _size = self.chain.size();
+        // a read, so that the proof has the invariant
         let _live = self.live;
         self.chain.fill(number, offset, kind, text, cost);
     }

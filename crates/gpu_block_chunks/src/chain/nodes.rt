@@ -76,6 +76,7 @@ impl Nodes {
         ensures value { held_at self.now link.number ≡ Some (node_value result.now) }
         ensures links { Leads self.now result.now.prev × Leads self.now result.now.next }
     {
+        // a read, so that the proof has the invariant
         let _slots = &self.slots;
         match self.chunks.get(link.slot) {
             Some(chunk) => chunk,
