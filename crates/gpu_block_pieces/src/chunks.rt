@@ -216,9 +216,8 @@ impl Chunks {
         ensures size { self.new.size ≡ self.old.size }
         ensures counted { LooksUp 1 cost.old cost.new }
     {
-        // a read, so that the proof has the invariant
+        // two reads, so that the proof has the invariant
         let _size = self.chain.size();
-        // a read, so that the proof has the invariant
         let _live = self.live;
         self.chain.fill(number, offset, kind, text, cost);
     }

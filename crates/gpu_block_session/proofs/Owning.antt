@@ -11,9 +11,9 @@ use Rattle.std.specs.Map.{lookup}
 use Rattle.std.proofs.lemmas.Cmp.{ranked}
 use Rattle.std.proofs.lemmas.Bool.Decides.{nat_tests}
 use Rattle.std.proofs.lemmas.Bool.{false≢true}
-use Rattle.gpu_core.specs.FreeList.{Extent}
-use Rattle.gpu_core.specs.Request.{Request}
-use Rattle.gpu_core.specs.Block.{Block, free_list, dedicated, extents_of, size_of, is_general, TakesIn, ReleasesIn, IsSoundBlock}
+use Rattle.gpu_block_pieces.specs.FreeList.{Extent}
+use Rattle.gpu_block_pieces.specs.Request.{Request}
+use Rattle.gpu_block.specs.Block.{Block, free_list, dedicated, extents_of, size_of, is_general, TakesIn, ReleasesIn, IsSoundBlock}
 use Rattle.gpu_block_pieces.proofs.Live.{takes_keeps, takes_adds, takes_new_number, releases_keeps}
 use Rattle.gpu_block_session.specs.BlockSession.{State, piece_at, Taking, OwnsPieces}
 use Rattle.gpu_commands.specs.declared.block.reply.Reply.{Reply}

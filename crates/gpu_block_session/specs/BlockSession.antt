@@ -7,11 +7,11 @@ use Rattle.std.specs.declared.num.NonZeroU64.{NonZeroU64}
 use Rattle.std.specs.BTreeMap.{insert_entry, is_at}
 use Rattle.std.specs.Map.{lookup, remove_entry}
 use Rattle.gpu_values.specs.declared.error.AllocationError.TheVariants.{OutOfMemory}
-use Rattle.gpu_core.specs.FreeList.{Extent, fresh_free_list}
-use Rattle.gpu_core.specs.Request.{Request}
-use Rattle.gpu_core.specs.Block.{Block, free_list, extents_of, size_of, allocated_bytes, is_general, TakesIn, ReleasesIn, IsTakeRefusalIn, IsSoundBlock}
-use Rattle.gpu_core.specs.Report.{row_of}
-use Rattle.gpu_core.specs.Rows.{extent_row}
+use Rattle.gpu_block_pieces.specs.FreeList.{Extent, fresh_free_list}
+use Rattle.gpu_block_pieces.specs.Request.{Request}
+use Rattle.gpu_block.specs.Block.{Block, free_list, extents_of, size_of, allocated_bytes, is_general, TakesIn, ReleasesIn, IsTakeRefusalIn, IsSoundBlock}
+use Rattle.gpu_values.specs.Report.{row_of}
+use Rattle.gpu_block_views.specs.Rows.{extent_row}
 use Rattle.gpu_commands.specs.declared.block.reply.Report.{Report}
 use Rattle.gpu_commands.specs.declared.error_number.ErrorNumber.{ErrorNumber}
 use Rattle.gpu_commands.specs.declared.error_number.ErrorNumber.TheVariants.{E1, E2, E3, E4, E5, E6, E7, E8, E9, E10, E11}

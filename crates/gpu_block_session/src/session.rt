@@ -4,14 +4,15 @@ ghost use Rattle.std.specs.Prelude.{◌≡◌, ◌≢◌, ℕ, ◌<◌, IsTrue, 
 ghost use Rattle.std.specs.Ordering.{nat_cmp};
 ghost use Rattle.std.specs.Int.{is_power_of_two};
 ghost use Rattle.std.specs.BTreeMap.{get};
-ghost use Rattle.gpu_core.specs.Request.{request};
-ghost use Rattle.gpu_core.specs.Block.{is_general, HasPages, IsSoundBlock};
-ghost use Rattle.gpu_core.specs.SubAllocator.{block_of};
+ghost use Rattle.gpu_block_pieces.specs.Request.{request};
+ghost use Rattle.gpu_block.specs.Block.{is_general, HasPages, IsSoundBlock};
+ghost use Rattle.gpu_block.specs.SubAllocator.{block_of};
 ghost use Rattle.gpu_block_session.specs.BlockSession.{Taking};
 
+use gpu_block::{FreeListAllocator, SubAllocator};
 use gpu_commands::block::{Kind, Reply, Report};
 use gpu_commands::{ErrorNumber, number_of};
-use gpu_core::{AllocationType, FreeListAllocator, SubAllocator};
+use gpu_values::AllocationType;
 use std::alloc::Global;
 use std::collections::BTreeMap;
 use std::collections::btree_map::Entry;
@@ -40,8 +41,8 @@ pub struct BlockSession {
 impl Model for BlockSession {
     ghost use Rattle.std.specs.Prelude.{◌≡◌};
     ghost use Rattle.gpu_block_session.specs.BlockSession.{State, OwnsPieces};
-    ghost use Rattle.gpu_core.specs.Block.{size_of, HasPages};
-    ghost use Rattle.gpu_core.specs.SubAllocator.{block_of};
+    ghost use Rattle.gpu_block.specs.Block.{size_of, HasPages};
+    ghost use Rattle.gpu_block.specs.SubAllocator.{block_of};
 
     ghost Value = { State };
 
@@ -53,16 +54,16 @@ impl Model for BlockSession {
 
 impl BlockSession {
     ghost use Rattle.std.specs.Prelude.{◌≡◌, ◌<◌, IsTrue, IfOk, IfErr};
-    ghost use Rattle.gpu_core.specs.Block.{HasPages};
-    ghost use Rattle.gpu_core.specs.SubAllocator.{block_of};
+    ghost use Rattle.gpu_block.specs.Block.{HasPages};
+    ghost use Rattle.gpu_block.specs.SubAllocator.{block_of};
     ghost use Rattle.std.specs.Int.{is_power_of_two};
-    ghost use Rattle.gpu_core.specs.Request.{request};
+    ghost use Rattle.gpu_block_pieces.specs.Request.{request};
     ghost use Rattle.gpu_values.specs.declared.error.AllocationError.TheVariants.{HostOutOfMemory};
     ghost use Rattle.gpu_commands.specs.BlockCommand.{type_of_kind};
     ghost use Rattle.gpu_block_session.specs.BlockSession.{unused, Taking, Giving, Reporting};
 
     /// A block of `size` bytes without pieces. The only refusal is `HostOutOfMemory`.
-    pub fn new(alloc: Global, size: u64, granularity: u64) -> gpu_core::Result<BlockSession>
+    pub fn new(alloc: Global, size: u64, granularity: u64) -> gpu_values::Result<BlockSession>
         requires sized { 0 < size }
         requires paged { IsTrue (is_power_of_two granularity) }
         ensures fresh { IfOk result (λ s. s ≡ unused size granularity) }

@@ -23,7 +23,7 @@ const MB: u64 = 1_048_576;
 
 fn check_text<D: Display>(rt: &impl Abort, alloc: Global, value: &D, want: &str) -> Result<()> {
     let text = value.to_string(alloc)?;
-    assert_eq!(rt; text.as_str(), want);
+    assert!(rt; text.as_str() == want);
     Ok(())
 }
 
@@ -117,6 +117,6 @@ fn report_text(block: &SubAllocator, alloc: Global) -> Result<String> {
 
 fn check_report(rt: &impl Abort, alloc: Global, block: &SubAllocator, want: &str) -> Result<()> {
     let text = report_text(block, alloc)?;
-    assert_eq!(rt; text.as_str(), want);
+    assert!(rt; text.as_str() == want);
     Ok(())
 }

@@ -23,10 +23,10 @@ fn change(rt: &impl Abort, v: &mut TieredVec<u32>, from: usize, to: usize, entry
 }
 
 fn check_entries(rt: &impl Abort, v: &TieredVec<u32>, want: &[u32]) {
-    assert_eq!(rt; v.len(), want.len());
+    assert!(rt; v.len() == want.len());
     for (i, entry) in want.iter().enumerate() {
         assert!(rt; i < v.len());
-        assert_eq!(rt; v.get(i), *entry, "at {i}");
+        assert!(rt; v.get(i) == *entry, "at {i}");
         let piece = v.piece_from(i);
         assert!(rt; !piece.is_empty(), "from {i}");
         assert!(rt; want[i..].starts_with(piece), "from {i}");
@@ -36,22 +36,22 @@ fn check_entries(rt: &impl Abort, v: &TieredVec<u32>, want: &[u32]) {
 #[test]
 fn each_call_once(rt: HostRuntime) -> Result<(), Fail> {
     let mut v: TieredVec<u32> = TieredVec::new(rt.alloc());
-    assert_eq!(rt; v.len(), 0);
-    assert_eq!(rt; v.spare(), 0);
+    assert!(rt; v.len() == 0);
+    assert!(rt; v.spare() == 0);
     v.reserve(0)?;
-    assert_eq!(rt; v.spare(), 0);
+    assert!(rt; v.spare() == 0);
     v.reserve(1)?;
-    assert_eq!(rt; v.spare(), 4);
+    assert!(rt; v.spare() == 4);
     put(&rt, &mut v, 0, 10);
     put(&rt, &mut v, 1, 30);
     put(&rt, &mut v, 1, 20);
-    assert_eq!(rt; v.spare(), 1);
+    assert!(rt; v.spare() == 1);
     check_entries(&rt, &v, &[10, 20, 30]);
-    assert_eq!(rt; change(&rt, &mut v, 0, 2, 40), 10);
+    assert!(rt; change(&rt, &mut v, 0, 2, 40) == 10);
     check_entries(&rt, &v, &[20, 30, 40]);
-    assert_eq!(rt; change(&rt, &mut v, 2, 0, 5), 40);
+    assert!(rt; change(&rt, &mut v, 2, 0, 5) == 40);
     check_entries(&rt, &v, &[5, 20, 30]);
-    assert_eq!(rt; take(&rt, &mut v, 1), 20);
+    assert!(rt; take(&rt, &mut v, 1) == 20);
     check_entries(&rt, &v, &[5, 30]);
     Ok(())
 }
@@ -61,17 +61,17 @@ fn room_doubles_up_to_a_ring_and_then_comes_in_rings(rt: HostRuntime) -> Result<
     let mut v: TieredVec<u32> = TieredVec::new(rt.alloc());
     for (asked, room) in [(1, 4), (5, 8), (17, 17), (18, 34), (200, 200), (201, 256)] {
         v.reserve(asked)?;
-        assert_eq!(rt; v.spare(), room);
+        assert!(rt; v.spare() == room);
     }
     put(&rt, &mut v, 0, 10);
     put(&rt, &mut v, 1, 20);
     v.reserve(254)?;
-    assert_eq!(rt; v.spare(), 254);
+    assert!(rt; v.spare() == 254);
     v.reserve(255)?;
-    assert_eq!(rt; v.spare(), 510);
+    assert!(rt; v.spare() == 510);
     check_entries(&rt, &v, &[10, 20]);
     v.reserve(511)?;
-    assert_eq!(rt; v.spare(), 766);
+    assert!(rt; v.spare() == 766);
     Ok(())
 }
 
@@ -82,11 +82,11 @@ fn more_than_memory_can_hold_is_refused(rt: HostRuntime) -> Result<(), Fail> {
     put(&rt, &mut v, 0, 10);
     assert!(rt; v.reserve(usize::MAX).is_err());
     assert!(rt; v.reserve(usize::MAX - 1).is_err());
-    assert_eq!(rt; v.spare(), 3);
+    assert!(rt; v.spare() == 3);
     v.reserve(256)?;
     assert!(rt; v.reserve(usize::MAX).is_err());
     assert!(rt; v.reserve(usize::MAX - 1).is_err());
-    assert_eq!(rt; v.spare(), 511);
+    assert!(rt; v.spare() == 511);
     check_entries(&rt, &v, &[10]);
     Ok(())
 }
@@ -128,7 +128,7 @@ fn change_each(
         let new = old ^ 0xFFFF;
         assert!(rt; to <= plain.len());
         plain.insert(to, new).map_err(AllocError::from)?;
-        assert_eq!(rt; change(rt, v, from, to, new), old);
+        assert!(rt; change(rt, v, from, to, new) == old);
     }
     Ok(())
 }
@@ -138,7 +138,7 @@ fn empty(rt: &impl Abort, v: &mut TieredVec<u32>, plain: &mut Vec<u32>) {
         let place = place_at(rt, plain.len(), plain.len());
         assert!(rt; place < plain.len());
         let old = plain.remove(place);
-        assert_eq!(rt; take(rt, v, place), old);
+        assert!(rt; take(rt, v, place) == old);
     }
 }
 
@@ -151,7 +151,7 @@ fn run(rt: &impl Abort, alloc: Global, count: u32) -> Result<(), AllocError> {
     change_each(rt, &mut v, &mut plain)?;
     check_entries(rt, &v, &plain);
     empty(rt, &mut v, &mut plain);
-    assert_eq!(rt; v.len(), 0);
+    assert!(rt; v.len() == 0);
     Ok(())
 }
 

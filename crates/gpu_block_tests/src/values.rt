@@ -14,12 +14,11 @@ const MB: u64 = 1_048_576;
 // ---- block sizes
 
 fn check_sizes(rt: &impl Abort, sizes: &AllocationSizes, count: usize, device: u64, host: u64) {
-    assert_eq!(rt;
-        sizes.memblock_size(false, count),
-        device,
+    assert!(rt;
+        sizes.memblock_size(false, count) == device,
         "device at {count}"
     );
-    assert_eq!(rt; sizes.memblock_size(true, count), host, "host at {count}");
+    assert!(rt; sizes.memblock_size(true, count) == host, "host at {count}");
 }
 
 #[test]
@@ -77,14 +76,14 @@ fn leaks_alone_are_logged_by_default(rt: HostRuntime) {
 
 #[test]
 fn kinds_have_names(rt: HostRuntime) {
-    assert_eq!(rt; AllocationType::Free.as_str(), "Free");
-    assert_eq!(rt; AllocationType::Linear.as_str(), "Linear");
-    assert_eq!(rt; AllocationType::NonLinear.as_str(), "Non-Linear");
+    assert!(rt; AllocationType::Free.as_str() == "Free");
+    assert!(rt; AllocationType::Linear.as_str() == "Linear");
+    assert!(rt; AllocationType::NonLinear.as_str() == "Non-Linear");
 }
 
 fn check_text<D: Display>(rt: &impl Abort, alloc: Global, value: &D, want: &str) -> Result<()> {
     let text = value.to_string(alloc)?;
-    assert_eq!(rt; text.as_str(), want);
+    assert!(rt; text.as_str() == want);
     Ok(())
 }
 
@@ -179,7 +178,7 @@ fn amounts_have_two_decimals(rt: HostRuntime) -> Result<(), Fail> {
         (u64::MAX, "16.00 EB"),
     ] {
         let text = fmt_bytes(rt.alloc(), amount)?;
-        assert_eq!(rt; text.as_str(), want);
+        assert!(rt; text.as_str() == want);
     }
     Ok(())
 }
@@ -217,7 +216,7 @@ fn check_report_text(
     want: &str,
 ) -> Result<()> {
     let text = report.text(limit)?;
-    assert_eq!(rt; text.as_str(), want);
+    assert!(rt; text.as_str() == want);
     Ok(())
 }
 
@@ -276,14 +275,11 @@ fn clones_of_reports_print_the_same(rt: HostRuntime) -> Result<(), Fail> {
         allocations: 3..5,
     };
     let again = block.clone()?;
-    assert_eq!(rt;
-        (again.size, again.allocations.start, again.allocations.end),
-        (9, 3, 5)
-    );
+    assert!(rt; (again.size, again.allocations.start, again.allocations.end) == (9, 3, 5));
     let line = row(rt.alloc(), "a \"b\"", 7, 1536)?;
     let copy = line.clone()?;
-    assert_eq!(rt; (copy.offset, copy.size), (7, 1536));
+    assert!(rt; (copy.offset, copy.size) == (7, 1536));
     let text = copy.text()?;
-    assert_eq!(rt; text.as_str(), "\"a \\\"b\\\"\": 1.50 KB");
+    assert!(rt; text.as_str() == "\"a \\\"b\\\"\": 1.50 KB");
     Ok(())
 }

@@ -2,7 +2,7 @@
 use Rattle.std.proofs.Common.{◌≡◌, ℕ, true, sym, ap, ◌∙◌, subst, Some, None}
 use Rattle.std.specs.Prelude.{Contains}
 use Rattle.std.proofs.lemmas.Bool.{false≢true}
-use Rattle.gpu_block.specs.FreeList.{Extent, FindsPlace}
+use Rattle.gpu_block_pieces.specs.FreeList.{Extent, FindsPlace}
 use Rattle.gpu_block.specs.Block.{Block, free_list, dedicated, extents_of, is_general, IsSoundBlock}
 use Rattle.gpu_c_blocks.specs.VirtualBlock.{IsLivePiece}
 use Rattle.gpu_c_blocks.specs.declared.virtual_block_values.VirtualPiece.{VirtualPiece}

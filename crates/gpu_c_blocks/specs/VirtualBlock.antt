@@ -2,12 +2,12 @@
 use Rattle.std.specs.Prelude.{◌≡◌, ℕ, ◌<◌, List, Contains, true, IsTrue}
 use Rattle.std.specs.Int.{is_power_of_two}
 use Rattle.gpu_values.specs.declared.error.AllocationError.{AllocationError}
-use Rattle.gpu_block.specs.FreeList.{Extent, fresh_free_list}
+use Rattle.gpu_block_pieces.specs.FreeList.{Extent, fresh_free_list}
 use Rattle.gpu_block.specs.Dedicated.{empty_dedicated}
 use Rattle.gpu_block.specs.Block.{Block, free_list, dedicated, extents_of, size_of, is_general, HasPages, TakesIn, ReleasesIn, RenamesIn, IsTakeRefusalIn, IsFitLaw, IsSoundBlock, IsOrderedBlock}
 use Rattle.gpu_block.specs.Block.{HasPagesApart, IsCoveredBlock}
 use Rattle.gpu_block.specs.BlockViews.{statistics_of}
-use Rattle.gpu_block.specs.Request.{Request, request}
+use Rattle.gpu_block_pieces.specs.Request.{Request, request}
 use Rattle.gpu_c_blocks.specs.Request.{IsServed, kind_named}
 use Rattle.gpu_c_blocks.specs.declared.virtual_block_values.VirtualRequest.{VirtualRequest}
 use Rattle.gpu_c_blocks.specs.declared.virtual_block_values.VirtualPiece.{VirtualPiece}

@@ -3,7 +3,7 @@ use Rattle.std.specs.Prelude.{◌≡◌, ℕ, true, false, List, Option, Some, N
 use Rattle.std.specs.List.{find}
 use Rattle.gpu_values.specs.declared.allocation_type.AllocationType.{AllocationType}
 use Rattle.gpu_values.specs.declared.allocation_type.AllocationType.TheVariants.{Free, Linear, NonLinear}
-use Rattle.gpu_block.specs.FreeList.{Extent}
+use Rattle.gpu_block_pieces.specs.FreeList.{Extent}
 use Rattle.gpu_c_blocks.specs.declared.request.TheConstants.{LINEAR, NON_LINEAR}
 use Rattle.gpu_c_blocks.specs.declared.virtual_block_values.PieceView.{PieceView}
 

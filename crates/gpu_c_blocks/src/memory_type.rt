@@ -2,8 +2,8 @@
 
 ghost use Rattle.std.specs.Prelude.{◌≡◌, ◌≢◌, ◌<◌, ◌≤◌, ◌+◌, ◌^◌, ◌↔◌, [], ◌∷◌, Some, None, true, false, IsSome, IsTrue, IsUtf8, MatchOption};
 ghost use Rattle.std.specs.Int.{is_power_of_two};
-ghost use Rattle.gpu_core.specs.TypeState.{slot_at, capacity_of, block_number, fits_budget};
-ghost use Rattle.gpu_core.specs.TypeReport.{pieces_in, statistics_in};
+ghost use Rattle.gpu_slots.specs.TypeState.{slot_at, capacity_of, block_number, fits_budget};
+ghost use Rattle.gpu_slots.specs.TypeReport.{pieces_in, statistics_in};
 ghost use Rattle.gpu_c_blocks.specs.Request.{IsServed};
 ghost use Rattle.gpu_c_blocks.specs.Status.{IsOneOf};
 ghost use Rattle.gpu_c_blocks.specs.MemoryType.{AwaitingState, fresh_memory_type, told_piece, no_memory_piece, told_block, number_if, IsLiveIn, Prepares, IsIdleAndServed, IsTooLarge, IsPastBudget, InstallsAwaited, Abandons, FreesPiece, NamesMemory, statistics_of, sizes_told, told_counts};
@@ -21,7 +21,9 @@ use crate::status::{
 };
 use crate::virtual_block_values::PieceView;
 use crate::visit::{first_from, name_from, no_piece};
-use gpu_core::{AllocationSizes, MemoryType, NeedBlock, Piece, Prepared, Request};
+use gpu_core::{MemoryType, NeedBlock, Prepared};
+use gpu_slots::{Piece, Request};
+use gpu_values::AllocationSizes;
 use std::alloc::Global;
 use std::marker::Model;
 use std::num::NonZeroU64;

@@ -6,7 +6,8 @@ ghost use Rattle.gpu_values.specs.declared.error.AllocationError.TheVariants.{Ho
 ghost use Rattle.gpu_values.specs.Refusal.{refusal_of};
 
 use crate::need::{NeedBlock, make_room};
-use gpu_block::{BlockStatistics, Leaks, Pieces, SubAllocator};
+use gpu_block::SubAllocator;
+use gpu_block_views::{BlockStatistics, Leaks, Pieces};
 use gpu_slots::{
     Finding, LiveBlock, Piece, Request, Slots, TypeLeaks, add_slots, count_slots, find,
 };

@@ -15,7 +15,8 @@ use Rattle.gpu_d3d12_blocks.specs.Blocks.{HoldsJustLiveBlocks}
 use Rattle.gpu_d3d12_blocks.specs.Committed.{Committed, Commits, IsCommitted, records_at, resource_reply}
 use Rattle.gpu_d3d12.specs.Resource.{IsMade}
 use Rattle.gpu_d3d12.specs.State.{State, basis_of, beside_of}
-use Rattle.gpu_d3d12.specs.Step.{Reply, info_of, size_made, granted_number, resource_answer, made_reply, CommitStep, RepliesResource}
+use Rattle.gpu_d3d12.specs.Reply.{Reply}
+use Rattle.gpu_d3d12.specs.Step.{info_of, size_made, granted_number, resource_answer, made_reply, CommitStep, RepliesResource}
 use Rattle.gpu_d3d12.specs.declared.resource.Resource.{Resource}
 use Rattle.gpu_d3d12.proofs.Asking.{asked_of, answer_is, asked_with, asked_counts, asked_holds, asked_constant, asked_reason}
 use Rattle.gpu_d3d12.proofs.Outcomes.{Outcome}

@@ -9,7 +9,8 @@ use Rattle.gpu_d3d12_setup.specs.declared.question.ResourceCreateDesc.{ResourceC
 use Rattle.gpu_d3d12_setup.specs.declared.question.ResourceQuestion.{ResourceQuestion}
 use Rattle.gpu_d3d12_setup.specs.declared.question.ResourceType.{ResourceType}
 use Rattle.gpu_d3d12.specs.State.{State, basis_of, contents_of}
-use Rattle.gpu_d3d12.specs.Step.{Fails, nothing_at_all, MakesBy, CreateBy, IsMadeBy, IsCreateStep}
+use Rattle.gpu_d3d12.specs.Reply.{Error}
+use Rattle.gpu_d3d12.specs.Step.{nothing_at_all, MakesBy, CreateBy, IsMadeBy, IsCreateStep}
 use Rattle.gpu_d3d12.specs.declared.resource.Resource.{Resource}
 use Rattle.gpu_d3d12.proofs.Asking.{same_question}
 use Rattle.gpu_d3d12.proofs.Steps.{counts_same, no_reason, same_device}
@@ -41,11 +42,11 @@ pub not_asked : {D : Type 0} (g : Ghosts D) (d : ResourceCreateDesc) (s : State 
     (refusal_of e)
     → IsCreateStep g d (Err e) s s
 not_asked g d s e why = record {
-  reply = Fails (refusal_of e);
+  reply = Error (refusal_of e);
   step = record {
     environment = nothing_at_all;
     step =
-        subst (λ q. CreateBy (basis_of g s) d q nothing_at_all (Fails (refusal_of e)) (contents_of g s) (contents_of g s))
+        subst (λ q. CreateBy (basis_of g s) d q nothing_at_all (Error (refusal_of e)) (contents_of g s) (contents_of g s))
         (sym (same_question s.device d.initial_state_or_layout d.castable_formats.now ∙ why)) (refl, refl, refl);
     counts = counts_same g true (device_of s.device) (device_of s.device) refl;
     same_version = same_device s.device;

@@ -12,7 +12,8 @@ use Rattle.gpu_d3d12_blocks.proofs.Releasing.{released_holds, type_below}
 use Rattle.gpu_d3d12.specs.FreeResource.{FreesResource}
 use Rattle.gpu_d3d12.specs.Live.{piece_of}
 use Rattle.gpu_d3d12.specs.State.{State, Contents, beside_of}
-use Rattle.gpu_d3d12.specs.Step.{Reply, Environment, nothing_at_all, FreeResourceStep, CountsAndNames, freed_as, renamed_as}
+use Rattle.gpu_d3d12.specs.Reply.{Reply}
+use Rattle.gpu_d3d12.specs.Step.{Environment, nothing_at_all, FreeResourceStep, CountsAndNames, freed_as, renamed_as}
 use Rattle.gpu_d3d12.specs.declared.allocation.Allocation.{Allocation}
 use Rattle.gpu_d3d12.specs.declared.resource.Resource.{Resource}
 use Rattle.gpu_d3d12.proofs.Outcomes.{Outcome}

@@ -25,7 +25,9 @@ use Rattle.gpu_d3d12.specs.Allocate.{Allocates}
 use Rattle.gpu_d3d12.specs.Live.{piece_of, IsGiven}
 use Rattle.gpu_d3d12.specs.Resource.{piece_desc, LiesIn, IsGivenAs, EndsBy, PlacesBy, IsPlaced}
 use Rattle.gpu_d3d12.specs.State.{State, Basis, basis_of, beside_of}
-use Rattle.gpu_d3d12.specs.Step.{Reply, Given, Fails, Done, Sum, Shows, Tells, Made, Counts, Budgeted, info_of, size_made, made_reply, PlacedBy, PlacesThen, PlaceStep, ReleaseStep, CountsAndNames}
+use Rattle.gpu_d3d12.specs.Reply as replies
+use Rattle.gpu_d3d12.specs.Reply.{Reply, Given, Error, Done, Made}
+use Rattle.gpu_d3d12.specs.Step.{info_of, size_made, made_reply, PlacedBy, PlacesThen, PlaceStep, ReleaseStep, CountsAndNames}
 use Rattle.gpu_d3d12.specs.Step.{Replies, RepliesResource}
 use Rattle.gpu_d3d12.specs.declared.allocation.Allocation.{Allocation}
 use Rattle.gpu_d3d12.specs.declared.resource.Resource.{Resource}
@@ -37,29 +39,29 @@ use Rattle.gpu_d3d12.proofs.Steps.{taken, Taken, no_reason, after_gone}
 
 -- ---- what an allocation's caller got, as what the model replied
 
-reply_fails : (p : AllocationCreateDesc) (e : AllocationError) (r : Reply) → Replies p (Err e) r → r ≡ Fails (refusal_of e)
+reply_fails : (p : AllocationCreateDesc) (e : AllocationError) (r : Reply) → Replies p (Err e) r → r ≡ Error (refusal_of e)
 reply_fails p e (Given t q) h = absurd h
-reply_fails p e (Fails f) h = ap Fails (sym h)
+reply_fails p e (Error f) h = ap Error (sym h)
 reply_fails p e Done h = absurd h
-reply_fails p e (Sum n) h = absurd h
-reply_fails p e (Shows w) h = absurd h
-reply_fails p e (Tells zs) h = absurd h
+reply_fails p e (replies.Capacity n) h = absurd h
+reply_fails p e (replies.Report w) h = absurd h
+reply_fails p e (replies.Leaks zs) h = absurd h
 reply_fails p e (Made t q number size) h = absurd h
-reply_fails p e (Counts c) h = absurd h
-reply_fails p e (Budgeted c) h = absurd h
+reply_fails p e (replies.Statistics c) h = absurd h
+reply_fails p e (replies.Budget c) h = absurd h
 
 reply_given : (p : AllocationCreateDesc) (a : Allocation) (r : Reply) → Replies p (Ok a) r → (t : ℕ) × ((q : Piece ID3D12Heap) × (r ≡ Given t q) × IsGiven t p.name.now q a)
 reply_given p a (Given t q) h = (t, (q, refl, h))
-reply_given p a (Fails f) h = absurd h
+reply_given p a (Error f) h = absurd h
 reply_given p a Done h = absurd h
-reply_given p a (Sum n) h = absurd h
-reply_given p a (Shows w) h = absurd h
-reply_given p a (Tells zs) h = absurd h
+reply_given p a (replies.Capacity n) h = absurd h
+reply_given p a (replies.Report w) h = absurd h
+reply_given p a (replies.Leaks zs) h = absurd h
 reply_given p a (Made t q number size) h = absurd h
-reply_given p a (Counts c) h = absurd h
-reply_given p a (Budgeted c) h = absurd h
+reply_given p a (replies.Statistics c) h = absurd h
+reply_given p a (replies.Budget c) h = absurd h
 
-refused_told : (d : ResourceCreateDesc) (result : Result Resource AllocationError) (f : Refusal) → refusal_in result ≡ Some f → RepliesResource d result (Fails f)
+refused_told : (d : ResourceCreateDesc) (result : Result Resource AllocationError) (f : Refusal) → refusal_in result ≡ Some f → RepliesResource d result (Error f)
 refused_told d (Ok r) f is = absurd (none_some f is)
 refused_told d (Err e) f is = some_same (refusal_of e) f is
 
@@ -110,7 +112,7 @@ module _ {D : Type 0} (g : Ghosts D) (before : State D) (d : ResourceCreateDesc)
         let after = allocated_holds g before.setup before.budgets p aside before.slots many device (Err e) mid between allocates h in
         let fails = reply_fails p e t.reply t.replies in
         record {
-          reply = Fails (refusal_of e);
+          reply = Error (refusal_of e);
           outcome = record {
             aside = aside;
             holds =
@@ -127,7 +129,7 @@ module _ {D : Type 0} (g : Ghosts D) (before : State D) (d : ResourceCreateDesc)
               sound = sound_mid;
               allocates = t.step;
               places =
-                  subst (λ r. PlacesThen basis d question r None (Fails (refusal_of e)) mid new.slots aside new.beside) (sym fails) (refl, same ∙ places.1, beside);
+                  subst (λ r. PlacesThen basis d question r None (Error (refusal_of e)) mid new.slots aside new.beside) (sym fails) (refl, same ∙ places.1, beside);
               budgets = bounds;
               committed = records;
             };
@@ -204,7 +206,7 @@ module _ {D : Type 0} (g : Ghosts D) (before : State D) (d : ResourceCreateDesc)
           subst (λ k. ReleaseStep k q mid slots) in_it.memory_type
           (subst (λ (x : Piece ID3D12Heap). ReleaseStep a.memory_type_index x mid slots) in_it.piece (record { went = rel.went; left = rel.left; releases = rel.releases; slots = rel.slots })) in
           record {
-            reply = Fails f;
+            reply = Error f;
             outcome = record {
               aside = aside;
               holds = left.0;
@@ -219,7 +221,7 @@ module _ {D : Type 0} (g : Ghosts D) (before : State D) (d : ResourceCreateDesc)
                 sound = sound_mid;
                 allocates = t.step;
                 places =
-                    subst (λ r. PlacesThen basis d question r (asked_of question d None (Some answer)) (Fails f) mid new.slots aside new.beside) (sym is_given) (
+                    subst (λ r. PlacesThen basis d question r (asked_of question d None (Some answer)) (Error f) mid new.slots aside new.beside) (sym is_given) (
                       asked_with question d None (Some answer),
                       ap (made_reply u (Some q) size) (sym is),
                       subst (λ x. PlacedBy u q size made x mid new.slots aside new.beside) (sym is) (subst (λ (ss : Slots). ReleaseStep u q mid ss) (sym same) releases, beside),

@@ -25,8 +25,10 @@ use Rattle.gpu_d3d12.specs.Allocate.{is_valid}
 use Rattle.gpu_d3d12.specs.Live.{piece_of}
 use Rattle.gpu_d3d12.specs.Resource.{piece_desc, record_of}
 use Rattle.gpu_d3d12.specs.State.{Basis, Contents}
-use Rattle.gpu_d3d12.specs.Step.{Call, Allocate, Free, Rename, Capacity, Report, Leaks, CreateResource, FreeResource, Statistics, SetBudget, Budget, Budgeted, SetBudgetStep, BudgetStep, Reply}
-use Rattle.gpu_d3d12.specs.Step.{Given, Fails, Done, Sum, Shows, Tells, Made, Counts, Environment, AskedResource, info_of, size_made, resource_answer, made_reply, CommitStep, PlacedBy, PlacesThen}
+use Rattle.gpu_d3d12.specs.Reply as replies
+use Rattle.gpu_d3d12.specs.Reply.{Reply, Given, Error, Done, Made}
+use Rattle.gpu_d3d12.specs.Step.{Call, Allocate, Free, Rename, Capacity, Report, Leaks, CreateResource, FreeResource, Statistics, SetBudget, Budget, SetBudgetStep, BudgetStep}
+use Rattle.gpu_d3d12.specs.Step.{Environment, AskedResource, info_of, size_made, resource_answer, made_reply, CommitStep, PlacedBy, PlacesThen}
 use Rattle.gpu_d3d12.specs.Step.{PlaceStep, MakesBy, CreateBy, beside_after, GiveStep, FreeResourceStep, ChangesBlocks, BlockStep, StatisticsStep, Step}
 use Rattle.gpu_d3d12.specs.declared.allocation.Allocation.{Allocation}
 use Rattle.gpu_d3d12.specs.declared.resource.Resource.{Resource}
@@ -72,15 +74,15 @@ places_once basis d question (Given t p) (Some z) x y mid slots other old new ne
     let rest = placed_once t p (info_of basis d).size_in_bytes (size_made basis question d) (number_or_refusal placed_texts z.answer) mid slots other old new next sound a.2 b.2 in
     (a.1 ∙ sym b.1, rest.0, rest.1)
 places_once basis d question (Given t p) None x y mid slots other old new next sound a b = absurd a
-places_once basis d question (Fails r) None x y mid slots other old new next sound a b = (a.0 ∙ sym b.0, a.1 ∙ sym b.1, a.2 ∙ sym b.2)
-places_once basis d question (Fails r) (Some z) x y mid slots other old new next sound a b = absurd a
+places_once basis d question (Error r) None x y mid slots other old new next sound a b = (a.0 ∙ sym b.0, a.1 ∙ sym b.1, a.2 ∙ sym b.2)
+places_once basis d question (Error r) (Some z) x y mid slots other old new next sound a b = absurd a
 places_once basis d question Done o x y mid slots other old new next sound a b = absurd a
-places_once basis d question (Sum n) o x y mid slots other old new next sound a b = absurd a
-places_once basis d question (Shows w) o x y mid slots other old new next sound a b = absurd a
-places_once basis d question (Tells zs) o x y mid slots other old new next sound a b = absurd a
+places_once basis d question (replies.Capacity n) o x y mid slots other old new next sound a b = absurd a
+places_once basis d question (replies.Report w) o x y mid slots other old new next sound a b = absurd a
+places_once basis d question (replies.Leaks zs) o x y mid slots other old new next sound a b = absurd a
 places_once basis d question (Made u q number size) o x y mid slots other old new next sound a b = absurd a
-places_once basis d question (Counts c) o x y mid slots other old new next sound a b = absurd a
-places_once basis d question (Budgeted c) o x y mid slots other old new next sound a b = absurd a
+places_once basis d question (replies.Statistics c) o x y mid slots other old new next sound a b = absurd a
+places_once basis d question (replies.Budget c) o x y mid slots other old new next sound a b = absurd a
 
 place_once : (basis : Basis) (d : ResourceCreateDesc) (question : ResourceQuestion) (o : Environment) (x y : Reply) (old new next : Contents) → BlocksWellFormed 1 old.slots
     → PlaceStep basis d question o x old new → PlaceStep basis d question o y old next → (x ≡ y) × (new ≡ next)
@@ -107,16 +109,16 @@ create_once basis d (Ok question) o x y old new next sound a b = makes_once basi
 
 -- it is done, or refused
 give_reply : (t : ℕ) (r : CommittedRecord) (x : Reply) (old new : Committed) → GiveStep t r x old new
-    → ((x ≡ Done) × GiveStep t r Done old new) ⊎ ((x ≡ Fails freed) × (place_of (records_at old t) r ≡ None) × (new ≡ old))
+    → ((x ≡ Done) × GiveStep t r Done old new) ⊎ ((x ≡ Error freed) × (place_of (records_at old t) r ≡ None) × (new ≡ old))
 give_reply t r (Given u q) old new s = absurd s
-give_reply t r (Fails f) old new s = inr (ap Fails s.1, s.0, s.2)
+give_reply t r (Error f) old new s = inr (ap Error s.1, s.0, s.2)
 give_reply t r Done old new s = inl (refl, s)
-give_reply t r (Sum n) old new s = absurd s
-give_reply t r (Shows w) old new s = absurd s
-give_reply t r (Tells zs) old new s = absurd s
+give_reply t r (replies.Capacity n) old new s = absurd s
+give_reply t r (replies.Report w) old new s = absurd s
+give_reply t r (replies.Leaks zs) old new s = absurd s
 give_reply t r (Made u q number size) old new s = absurd s
-give_reply t r (Counts c) old new s = absurd s
-give_reply t r (Budgeted c) old new s = absurd s
+give_reply t r (replies.Statistics c) old new s = absurd s
+give_reply t r (replies.Budget c) old new s = absurd s
 
 give_once : (t : ℕ) (r : CommittedRecord) (x y : Reply) (old new next : Committed) → GiveStep t r x old new → GiveStep t r y old next → (x ≡ y) × (new ≡ next)
 give_once t r x y old new next a b =
@@ -145,46 +147,46 @@ free_resource_once None r x y old new next sound bounds f h =
 
 -- ---- statistics
 
-counted : (t : ℕ) (x : Reply) (old new : Contents) → StatisticsStep t x old new → (x ≡ Counts (statistics_at old.committed t)) × (new ≡ old)
+counted : (t : ℕ) (x : Reply) (old new : Contents) → StatisticsStep t x old new → (x ≡ replies.Statistics (statistics_at old.committed t)) × (new ≡ old)
 counted t (Given u q) old new s = absurd s
-counted t (Fails f) old new s = absurd s
+counted t (Error f) old new s = absurd s
 counted t Done old new s = absurd s
-counted t (Sum n) old new s = absurd s
-counted t (Shows w) old new s = absurd s
-counted t (Tells zs) old new s = absurd s
+counted t (replies.Capacity n) old new s = absurd s
+counted t (replies.Report w) old new s = absurd s
+counted t (replies.Leaks zs) old new s = absurd s
 counted t (Made u q number size) old new s = absurd s
-counted t (Counts c) old new s = (ap Counts s.0, s.1)
-counted t (Budgeted c) old new s = absurd s
+counted t (replies.Statistics c) old new s = (ap replies.Statistics s.0, s.1)
+counted t (replies.Budget c) old new s = absurd s
 
 -- ---- budgets
 
-bounded : (t : ℕ) (x : Reply) (old new : Contents) → BudgetStep t x old new → (x ≡ Budgeted (budget_at old.budgets t)) × (new ≡ old)
+bounded : (t : ℕ) (x : Reply) (old new : Contents) → BudgetStep t x old new → (x ≡ replies.Budget (budget_at old.budgets t)) × (new ≡ old)
 bounded t (Given u q) old new s = absurd s
-bounded t (Fails f) old new s = absurd s
+bounded t (Error f) old new s = absurd s
 bounded t Done old new s = absurd s
-bounded t (Sum n) old new s = absurd s
-bounded t (Shows w) old new s = absurd s
-bounded t (Tells zs) old new s = absurd s
+bounded t (replies.Capacity n) old new s = absurd s
+bounded t (replies.Report w) old new s = absurd s
+bounded t (replies.Leaks zs) old new s = absurd s
 bounded t (Made u q number size) old new s = absurd s
-bounded t (Counts c) old new s = absurd s
-bounded t (Budgeted c) old new s = (ap Budgeted s.0, s.1)
+bounded t (replies.Statistics c) old new s = absurd s
+bounded t (replies.Budget c) old new s = (ap replies.Budget s.0, s.1)
 
 -- a reply to a call that is done or fails, and the refusal that it tells
 abbrev done_by : Option Refusal → Reply
 done_by None = Done
-done_by (Some r) = Fails r
+done_by (Some r) = Error r
 
 set_reply : (t : ℕ) (budget : Option ℕ) (x : Reply) (old new : Contents) → SetBudgetStep t budget x old new
     → (r : Option Refusal) × (x ≡ done_by r) × SetsBudget t budget old.budgets r new.budgets × (new.slots ≡ old.slots) × (new.committed ≡ old.committed) × (new.beside ≡ old.beside)
 set_reply t budget (Given u q) old new s = absurd s
-set_reply t budget (Fails r) old new s = (Some r, refl, s.0, s.1, s.2, s.3)
+set_reply t budget (Error r) old new s = (Some r, refl, s.0, s.1, s.2, s.3)
 set_reply t budget Done old new s = (None, refl, s.0, s.1, s.2, s.3)
-set_reply t budget (Sum n) old new s = absurd s
-set_reply t budget (Shows w) old new s = absurd s
-set_reply t budget (Tells zs) old new s = absurd s
+set_reply t budget (replies.Capacity n) old new s = absurd s
+set_reply t budget (replies.Report w) old new s = absurd s
+set_reply t budget (replies.Leaks zs) old new s = absurd s
 set_reply t budget (Made u q number size) old new s = absurd s
-set_reply t budget (Counts c) old new s = absurd s
-set_reply t budget (Budgeted c) old new s = absurd s
+set_reply t budget (replies.Statistics c) old new s = absurd s
+set_reply t budget (replies.Budget c) old new s = absurd s
 
 -- a budget is set or refused, and not both
 sets_once : (t : ℕ) (budget : Option ℕ) (old : Budgets) (r s : Option Refusal) (new next : Budgets) → SetsBudget t budget old r new → SetsBudget t budget old s next → (r ≡ s) × (new ≡ next)

@@ -1,9 +1,9 @@
 -- The model isn't loose: a state, a call and what it meets with decide the reply and the next state.
 use Rattle.gpu_memory_types.specs.Budgets.{Budgets}
 use Rattle.std.proofs.Common.{◌⊎◌, ◌≡◌, ◌∙◌, ℕ, inl, inr, map, refl, sym, ap, subst, Bool, true, false, List, slice_set, ⊎_elim, IsTrue}
-use Rattle.gpu_block.specs.Leak.{leak_text}
-use Rattle.gpu_core.specs.TypeRelease.{has_several}
-use Rattle.gpu_core.specs.TypeState.{slot_at}
+use Rattle.gpu_block_views.specs.Leak.{leak_text}
+use Rattle.gpu_slots.specs.TypeRelease.{has_several}
+use Rattle.gpu_slots.specs.TypeState.{slot_at}
 use Rattle.gpu_slots.specs.declared.piece.Piece.{Piece}
 use Rattle.gpu_core.proofs.OneOutcome.{released_once, refusal_once, renamed_once, name_refusal_once}
 use Rattle.gpu_device.specs.declared.d3d12.types.ID3D12Heap.{ID3D12Heap}
@@ -22,8 +22,10 @@ use Rattle.gpu_d3d12_blocks.specs.Suballocation.{AttemptEnvironment, asked_block
 use Rattle.gpu_d3d12_blocks.specs.Blocks.{Slots}
 use Rattle.gpu_d3d12.specs.Live.{piece_of}
 use Rattle.gpu_d3d12_blocks.specs.Release.{is_same_heap}
-use Rattle.gpu_d3d12.specs.Step.{Call, Allocate, Free, Rename, Capacity, Report, Leaks, CreateResource, FreeResource, Statistics, SetBudget, Budget, Budgeted, Reply, Given, Fails, Done, Sum, Shows}
-use Rattle.gpu_d3d12.specs.Step.{Tells, Made, Counts, reply_of, ServeStep, AllocateStep, ReleaseStep, FreeStep, RenameStep, ReportStep, LeaksStep, BlockStep}
+use Rattle.gpu_d3d12.specs.Reply as replies
+use Rattle.gpu_d3d12.specs.Reply.{Reply, Given, Error, Done, Made}
+use Rattle.gpu_d3d12.specs.Step.{Call, Allocate, Free, Rename, Capacity, Report, Leaks, CreateResource, FreeResource, Statistics, SetBudget, Budget}
+use Rattle.gpu_d3d12.specs.Step.{reply_of, ServeStep, AllocateStep, ReleaseStep, FreeStep, RenameStep, ReportStep, LeaksStep, BlockStep}
 
 -- ---- an allocation
 
@@ -51,16 +53,16 @@ release_once t p old new next sound a b =
 
 -- a free is done, or refused
 free_reply : (t : ℕ) (p : Piece ID3D12Heap) (x : Reply) (old new : Slots) → FreeStep t p x old new
-    → ((x ≡ Done) × FreeStep t p Done old new) ⊎ ((r : Refusal) × (x ≡ Fails r) × FreeStep t p (Fails r) old new)
+    → ((x ≡ Done) × FreeStep t p Done old new) ⊎ ((r : Refusal) × (x ≡ Error r) × FreeStep t p (Error r) old new)
 free_reply t p (Given u q) old new s = absurd s
-free_reply t p (Fails r) old new s = inr (r, refl, s)
+free_reply t p (Error r) old new s = inr (r, refl, s)
 free_reply t p Done old new s = inl (refl, s)
-free_reply t p (Sum n) old new s = absurd s
-free_reply t p (Shows w) old new s = absurd s
-free_reply t p (Tells zs) old new s = absurd s
+free_reply t p (replies.Capacity n) old new s = absurd s
+free_reply t p (replies.Report w) old new s = absurd s
+free_reply t p (replies.Leaks zs) old new s = absurd s
 free_reply t p (Made u q number size) old new s = absurd s
-free_reply t p (Counts c) old new s = absurd s
-free_reply t p (Budgeted c) old new s = absurd s
+free_reply t p (replies.Statistics c) old new s = absurd s
+free_reply t p (replies.Budget c) old new s = absurd s
 
 pub free_once : (t : ℕ) (p : Piece ID3D12Heap) (x y : Reply) (old new next : Slots) → BlocksWellFormed 1 old → FreeStep t p x old new → FreeStep t p y old next → (x ≡ y) × (new ≡ next)
 free_once t p x y old new next sound a b =
@@ -72,7 +74,7 @@ free_once t p x y old new next sound a b =
     (λ err. ⊎_elim
     (λ ok. absurd (err.2.0 ok.1.0))
     (λ also. (
-      err.1 ∙ ap Fails (refusal_once is_same_heap 1 p (slot_at (slots_at old t) p.slot) err.0 also.0 (sound t p.slot) err.2.1 also.2.1) ∙ sym also.1,
+      err.1 ∙ ap Error (refusal_once is_same_heap 1 p (slot_at (slots_at old t) p.slot) err.0 also.0 (sound t p.slot) err.2.1 also.2.1) ∙ sym also.1,
       err.2.2 ∙ sym also.2.2,
     ))
     (free_reply t p y old next b))
@@ -81,23 +83,23 @@ free_once t p x y old new next sound a b =
 -- ---- a new name
 
 rename_reply : (t : ℕ) (p : Piece ID3D12Heap) (name : List ℕ) (host : Bool) (x : Reply) (old new : Slots) → RenameStep t p name host x old new
-    → ((x ≡ Done) × RenameStep t p name host Done old new) ⊎ ((r : Refusal) × (x ≡ Fails r) × RenameStep t p name host (Fails r) old new)
+    → ((x ≡ Done) × RenameStep t p name host Done old new) ⊎ ((r : Refusal) × (x ≡ Error r) × RenameStep t p name host (Error r) old new)
 rename_reply t p name host (Given u q) old new s = absurd s
-rename_reply t p name host (Fails r) old new s = inr (r, refl, s)
+rename_reply t p name host (Error r) old new s = inr (r, refl, s)
 rename_reply t p name host Done old new s = inl (refl, s)
-rename_reply t p name host (Sum n) old new s = absurd s
-rename_reply t p name host (Shows w) old new s = absurd s
-rename_reply t p name host (Tells zs) old new s = absurd s
+rename_reply t p name host (replies.Capacity n) old new s = absurd s
+rename_reply t p name host (replies.Report w) old new s = absurd s
+rename_reply t p name host (replies.Leaks zs) old new s = absurd s
 rename_reply t p name host (Made u q number size) old new s = absurd s
-rename_reply t p name host (Counts c) old new s = absurd s
-rename_reply t p name host (Budgeted c) old new s = absurd s
+rename_reply t p name host (replies.Statistics c) old new s = absurd s
+rename_reply t p name host (replies.Budget c) old new s = absurd s
 
 named_or_fails : (t : ℕ) (p : Piece ID3D12Heap) (name : List ℕ) (host : Bool) (r : Refusal) (old new next : Slots) → RenameStep t p name host Done old new
-    → RenameStep t p name host (Fails r) old next → ⊥
+    → RenameStep t p name host (Error r) old next → ⊥
 named_or_fails t p name host r old new next a b = ⊎_elim (λ starved. false_true (sym starved.0 ∙ a.0)) (λ dead. dead.0 a.1.live) b.0
 
 rename_fails_once : (t : ℕ) (p : Piece ID3D12Heap) (name : List ℕ) (host : Bool) (r s : Refusal) (old new next : Slots) → BlocksWellFormed 1 old
-    → RenameStep t p name host (Fails r) old new → RenameStep t p name host (Fails s) old next → (r ≡ s) × (new ≡ next)
+    → RenameStep t p name host (Error r) old new → RenameStep t p name host (Error s) old next → (r ≡ s) × (new ≡ next)
 rename_fails_once t p name host r s old new next sound a b = (
   ⊎_elim
       (λ x. ⊎_elim (λ y. x.2 ∙ sym y.2) (λ dead. absurd (dead.0 x.1)) b.0)
@@ -121,7 +123,7 @@ rename_once t p name host x y old new next sound a b =
     (rename_reply t p name host y old next b))
     (λ err. ⊎_elim
     (λ ok. absurd (named_or_fails t p name host err.0 old next new ok.1 err.2))
-    (λ also. let once = rename_fails_once t p name host err.0 also.0 old new next sound err.2 also.2 in (err.1 ∙ ap Fails once.0 ∙ sym also.1, once.1))
+    (λ also. let once = rename_fails_once t p name host err.0 also.0 old new next sound err.2 also.2 in (err.1 ∙ ap Error once.0 ∙ sym also.1, once.1))
     (rename_reply t p name host y old next b))
     (rename_reply t p name host x old new a)
 
@@ -129,28 +131,28 @@ rename_once t p name host x y old new next sound a b =
 
 -- a reply to a call that shows something, or wants host memory
 shown_reply : (host : Bool) (x : Reply) (old new : Slots) → ReportStep host x old new
-    → (new ≡ old) × (((host ≡ true) × (x ≡ Shows (whole_report old))) ⊎ ((host ≡ false) × (x ≡ Fails host_out_of_memory)))
+    → (new ≡ old) × (((host ≡ true) × (x ≡ replies.Report (whole_report old))) ⊎ ((host ≡ false) × (x ≡ Error host_out_of_memory)))
 shown_reply host (Given u q) old new s = absurd s
-shown_reply host (Fails r) old new s = (s.2, inr (s.0, ap Fails s.1))
+shown_reply host (Error r) old new s = (s.2, inr (s.0, ap Error s.1))
 shown_reply host Done old new s = absurd s
-shown_reply host (Sum n) old new s = absurd s
-shown_reply host (Shows w) old new s = (s.2, inl (s.0, ap Shows s.1))
-shown_reply host (Tells zs) old new s = absurd s
+shown_reply host (replies.Capacity n) old new s = absurd s
+shown_reply host (replies.Report w) old new s = (s.2, inl (s.0, ap replies.Report s.1))
+shown_reply host (replies.Leaks zs) old new s = absurd s
 shown_reply host (Made u q number size) old new s = absurd s
-shown_reply host (Counts c) old new s = absurd s
-shown_reply host (Budgeted c) old new s = absurd s
+shown_reply host (replies.Statistics c) old new s = absurd s
+shown_reply host (replies.Budget c) old new s = absurd s
 
 told_reply : (host : Bool) (x : Reply) (old new : Slots) → LeaksStep host x old new
-    → (new ≡ old) × (((host ≡ true) × (x ≡ Tells (map leak_text (all_leaks old)))) ⊎ ((host ≡ false) × (x ≡ Fails host_out_of_memory)))
+    → (new ≡ old) × (((host ≡ true) × (x ≡ replies.Leaks (map leak_text (all_leaks old)))) ⊎ ((host ≡ false) × (x ≡ Error host_out_of_memory)))
 told_reply host (Given u q) old new s = absurd s
-told_reply host (Fails r) old new s = (s.2, inr (s.0, ap Fails s.1))
+told_reply host (Error r) old new s = (s.2, inr (s.0, ap Error s.1))
 told_reply host Done old new s = absurd s
-told_reply host (Sum n) old new s = absurd s
-told_reply host (Shows w) old new s = absurd s
-told_reply host (Tells zs) old new s = (s.2, inl (s.0, ap Tells s.1))
+told_reply host (replies.Capacity n) old new s = absurd s
+told_reply host (replies.Report w) old new s = absurd s
+told_reply host (replies.Leaks zs) old new s = (s.2, inl (s.0, ap replies.Leaks s.1))
 told_reply host (Made u q number size) old new s = absurd s
-told_reply host (Counts c) old new s = absurd s
-told_reply host (Budgeted c) old new s = absurd s
+told_reply host (replies.Statistics c) old new s = absurd s
+told_reply host (replies.Budget c) old new s = absurd s
 
 by_host : (host : Bool) (x y a b : Reply) → ((host ≡ true) × (x ≡ a)) ⊎ ((host ≡ false) × (x ≡ b)) → ((host ≡ true) × (y ≡ a)) ⊎ ((host ≡ false) × (y ≡ b)) → x ≡ y
 by_host host x y a b h k =
@@ -159,16 +161,17 @@ by_host host x y a b h k =
     (λ p. ⊎_elim (λ q. absurd (false_true (sym p.0 ∙ q.0))) (λ q. p.1 ∙ sym q.1) k)
     h
 
-sum_reply : (setup : Setup) (budgets : Budgets) (o : AttemptEnvironment) (x : Reply) (old new : Slots) → BlockStep setup budgets Capacity o x old new → (x ≡ Sum (total_capacity old)) × (new ≡ old)
+sum_reply : (setup : Setup) (budgets : Budgets) (o : AttemptEnvironment) (x : Reply) (old new : Slots) → BlockStep setup budgets Capacity o x old new
+    → (x ≡ replies.Capacity (total_capacity old)) × (new ≡ old)
 sum_reply setup budgets o (Given u q) old new s = absurd s
-sum_reply setup budgets o (Fails r) old new s = absurd s
+sum_reply setup budgets o (Error r) old new s = absurd s
 sum_reply setup budgets o Done old new s = absurd s
-sum_reply setup budgets o (Sum n) old new s = (ap Sum s.1, s.2)
-sum_reply setup budgets o (Shows w) old new s = absurd s
-sum_reply setup budgets o (Tells zs) old new s = absurd s
+sum_reply setup budgets o (replies.Capacity n) old new s = (ap replies.Capacity s.1, s.2)
+sum_reply setup budgets o (replies.Report w) old new s = absurd s
+sum_reply setup budgets o (replies.Leaks zs) old new s = absurd s
 sum_reply setup budgets o (Made u q number size) old new s = absurd s
-sum_reply setup budgets o (Counts c) old new s = absurd s
-sum_reply setup budgets o (Budgeted c) old new s = absurd s
+sum_reply setup budgets o (replies.Statistics c) old new s = absurd s
+sum_reply setup budgets o (replies.Budget c) old new s = absurd s
 
 -- ---- a call on the blocks
 

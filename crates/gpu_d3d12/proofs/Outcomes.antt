@@ -8,7 +8,8 @@ use Rattle.gpu_d3d12_blocks.specs.Blocks.{Slots, HoldsJustLiveBlocks, beside}
 use Rattle.gpu_d3d12_blocks.specs.Committed.{Committed}
 use Rattle.gpu_d3d12_blocks.proofs.Beside.{beside_is}
 use Rattle.gpu_d3d12.specs.State.{State, Contents, contents_of}
-use Rattle.gpu_d3d12.specs.Step.{Reply, Environment, CountsAndNames, TellsReason, IsStepBy}
+use Rattle.gpu_d3d12.specs.Reply.{Reply}
+use Rattle.gpu_d3d12.specs.Step.{Environment, CountsAndNames, TellsReason, IsStepBy}
 use Rattle.gpu_d3d12.proofs.Steps.{device_with}
 
 module _ {D : Type 0} (g : Ghosts D) (before : State D) (S : Environment → Reply → Contents → Contents → Type 0) (reply : Reply) (slots : Slots) (left : Committed) (to : D) where

@@ -23,7 +23,8 @@ use Rattle.gpu_d3d12.specs.FreeResource.{FreesResource}
 use Rattle.gpu_d3d12.specs.Live.{piece_of, IsLive, AreDistinct, StayLive}
 use Rattle.gpu_d3d12.specs.Resource.{LiesIn, IsNewIn, BeginsAligned, IsBeside, EndsBy, PlacesBy, IsPlaced}
 use Rattle.gpu_d3d12.specs.State.{State, Basis}
-use Rattle.gpu_d3d12.specs.Step.{Reply, CommitStep, IsMadeBy, RepliesResource, made_reply}
+use Rattle.gpu_d3d12.specs.Reply.{Reply}
+use Rattle.gpu_d3d12.specs.Step.{CommitStep, IsMadeBy, RepliesResource, made_reply}
 use Rattle.gpu_d3d12.specs.declared.allocation.Allocation.{Allocation}
 use Rattle.gpu_d3d12.specs.declared.resource.Resource.{Resource}
 use Rattle.gpu_d3d12.proofs.Owning.{Owns, allocated_owns}

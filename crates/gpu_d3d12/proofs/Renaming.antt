@@ -1,9 +1,9 @@
 -- Giving allocations other names leaves what the device holds.
 use Rattle.std.proofs.Common.{◌≡◌, ◌∙◌, refl, sym, ap, subst, ℕ, ◌<◌, List, length, slice_set, Option, Some, None, Ok, Err, Result}
 use Rattle.std.proofs.lemmas.List.{length-set}
-use Rattle.gpu_core.specs.Block.{Block, free_list, dedicated, size_of, RenamesIn}
-use Rattle.gpu_core.specs.TypeRelease.{SlotRenames}
-use Rattle.gpu_core.specs.TypeState.{Slot, slot_at}
+use Rattle.gpu_block.specs.Block.{Block, free_list, dedicated, size_of, RenamesIn}
+use Rattle.gpu_slots.specs.TypeRelease.{SlotRenames}
+use Rattle.gpu_slots.specs.TypeState.{Slot, slot_at}
 use Rattle.gpu_slots.specs.declared.piece.Piece.{Piece}
 use Rattle.gpu_slots.proofs.Slotted.{set_only}
 use Rattle.gpu_device.specs.D3D12.{Held}

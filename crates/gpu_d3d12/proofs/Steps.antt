@@ -8,7 +8,7 @@ use Rattle.gpu_values.specs.Report.{report_of}
 use Rattle.gpu_values.specs.declared.error.AllocationError.{AllocationError}
 use Rattle.gpu_values.specs.declared.error.AllocationError.TheVariants.{HostOutOfMemory}
 use Rattle.gpu_values.specs.declared.report.AllocatorReport.{AllocatorReport}
-use Rattle.gpu_block.specs.Leak.{leak_text}
+use Rattle.gpu_block_views.specs.Leak.{leak_text}
 use Rattle.gpu_device.specs.declared.d3d12.device.D3D12Device.{Ghosts}
 use Rattle.gpu_memory_types.specs.Attempt.{Gave, Refused}
 use Rattle.gpu_memory_types.specs.Leaks.{all_leaks}
@@ -29,7 +29,9 @@ use Rattle.gpu_d3d12.specs.Rename.{Renames}
 use Rattle.gpu_d3d12_blocks.specs.Blocks.{Slots}
 use Rattle.gpu_d3d12_setup.specs.declared.setup.Setup.{Setup}
 use Rattle.gpu_d3d12.specs.State.{State, contents_of, beside_of}
-use Rattle.gpu_d3d12.specs.Step.{Capacity, Sum, Free, freed_as, Reply, Environment, Fails, Rename, Report, Leaks, nothing_met, reply_of, ServeStep, AllocateStep, RenameStep, ChangesBlocks}
+use Rattle.gpu_d3d12.specs.Reply as replies
+use Rattle.gpu_d3d12.specs.Reply.{Reply, Error}
+use Rattle.gpu_d3d12.specs.Step.{Capacity, Free, freed_as, Environment, Rename, Report, Leaks, nothing_met, reply_of, ServeStep, AllocateStep, RenameStep, ChangesBlocks}
 use Rattle.gpu_d3d12.specs.Step.{CountsAndNames, TellsReason, IsStep, Replies, IsAllocateStep, renamed_as, shown_as, told_as}
 use Rattle.gpu_d3d12.specs.declared.allocation.Allocation.{Allocation}
 
@@ -95,7 +97,7 @@ module _ {D : Type 0} (g : Ghosts D) where
   replies_of t d (Err e) (Gave p) h = absurd h
   replies_of t d (Err e) (Refused r) h = h
 
-  refused_replies : (d : AllocationCreateDesc) (result : Result Allocation AllocationError) (r : Refusal) → refusal_in result ≡ Some r → Replies d result (Fails r)
+  refused_replies : (d : AllocationCreateDesc) (result : Result Allocation AllocationError) (r : Refusal) → refusal_in result ≡ Some r → Replies d result (Error r)
   refused_replies d (Ok a) r is = absurd (none_some r is)
   refused_replies d (Err e) r is = some_same (refusal_of e) r is
 
@@ -123,8 +125,8 @@ module _ {D : Type 0} (g : Ghosts D) where
       }
   taken_by setup budgets d old device result new after false is s = record {
     environment = nothing_met;
-    reply = Fails invalid_allocation_create_desc;
-    step = subst (λ v. AllocateStep setup budgets d v nothing_met (Fails invalid_allocation_create_desc) old new) (sym is) (refl, refl, s.slots);
+    reply = Error invalid_allocation_create_desc;
+    step = subst (λ v. AllocateStep setup budgets d v nothing_met (Error invalid_allocation_create_desc) old new) (sym is) (refl, refl, s.slots);
     counts = counts_same true device after s.device_is;
     replies = refused_replies d result invalid_allocation_create_desc s.cause;
   }
@@ -208,7 +210,7 @@ module _ {D : Type 0} (g : Ghosts D) where
 
   -- ---- what is told
 
-  pub capacity_step : (s : State D) (n : ℕ) → n ≡ total_capacity s.slots → IsStep g Capacity (Sum n) s s
+  pub capacity_step : (s : State D) (n : ℕ) → n ≡ total_capacity s.slots → IsStep g Capacity (replies.Capacity n) s s
   capacity_step s n is = record {
     environment = met nothing_met;
     step = (alone nothing_met s s (same_alone s), (refl, is, refl));

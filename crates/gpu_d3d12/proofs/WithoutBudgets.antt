@@ -20,8 +20,10 @@ use Rattle.gpu_d3d12.specs.Allocate.{is_valid}
 use Rattle.gpu_d3d12.specs.Budgets.{MakesWithoutBudget, MeetsNoBudget, without_budgets}
 use Rattle.gpu_d3d12.specs.Resource.{piece_desc}
 use Rattle.gpu_d3d12.specs.State.{Basis, Contents}
-use Rattle.gpu_d3d12.specs.Step.{Call, Allocate, Free, Rename, Capacity, Report, Leaks, CreateResource, FreeResource, Statistics, SetBudget, Budget, Budgeted, Reply, Given, Fails, Done, Sum, Shows}
-use Rattle.gpu_d3d12.specs.Step.{Tells, Made, Counts, Environment, info_of, ServeStep, AllocateStep, CommitStep, PlaceStep, MakesBy, CreateBy, FreeResourceStep, ChangesBlocks, StatisticsStep, Step}
+use Rattle.gpu_d3d12.specs.Reply as replies
+use Rattle.gpu_d3d12.specs.Reply.{Reply, Given, Error, Done, Made}
+use Rattle.gpu_d3d12.specs.Step.{Call, Allocate, Free, Rename, Capacity, Report, Leaks, CreateResource, FreeResource, Statistics, SetBudget, Budget}
+use Rattle.gpu_d3d12.specs.Step.{Environment, info_of, ServeStep, AllocateStep, CommitStep, PlaceStep, MakesBy, CreateBy, FreeResourceStep, ChangesBlocks, StatisticsStep, Step}
 use Rattle.gpu_d3d12.specs.declared.allocation.Allocation.{Allocation}
 use Rattle.gpu_d3d12.specs.declared.resource.Resource.{Resource}
 
@@ -107,15 +109,15 @@ changes_plain : (o : Environment) (old new : Contents) → ChangesBlocks o old n
 changes_plain o old new a = record { no_resource = a.no_resource; budgets = refl; committed = a.committed; beside = a.beside }
 
 statistics_plain : (t : ℕ) (x : Reply) (old new : Contents) → StatisticsStep t x old new → StatisticsStep t x (without_budgets old) (without_budgets new)
-statistics_plain t (Counts c) old new a = (a.0, ap without_budgets a.1)
+statistics_plain t (replies.Statistics c) old new a = (a.0, ap without_budgets a.1)
 statistics_plain t (Given u q) old new a = absurd a
-statistics_plain t (Fails r) old new a = absurd a
+statistics_plain t (Error r) old new a = absurd a
 statistics_plain t Done old new a = absurd a
-statistics_plain t (Sum n) old new a = absurd a
-statistics_plain t (Shows w) old new a = absurd a
-statistics_plain t (Tells zs) old new a = absurd a
+statistics_plain t (replies.Capacity n) old new a = absurd a
+statistics_plain t (replies.Report w) old new a = absurd a
+statistics_plain t (replies.Leaks zs) old new a = absurd a
 statistics_plain t (Made u q number size) old new a = absurd a
-statistics_plain t (Budgeted b) old new a = absurd a
+statistics_plain t (replies.Budget b) old new a = absurd a
 
 pub step_plain : (basis : Basis) (call : Call) (o : Environment) (x : Reply) (old new : Contents) → MeetsNoBudget basis call old.budgets → Step basis call o x old new
     → Step basis call o x (without_budgets old) (without_budgets new)

@@ -2,8 +2,8 @@
 use Rattle.std.specs.Prelude.{◌≡◌, ℕ, Option, Some, None, Result, Ok, Err}
 use Rattle.gpu_values.specs.Refusal.{refusal_of}
 use Rattle.gpu_values.specs.declared.error.AllocationError.{AllocationError}
-use Rattle.gpu_core.specs.TypeRelease.{IsFreeRefusal}
-use Rattle.gpu_core.specs.TypeState.{slot_at}
+use Rattle.gpu_slots.specs.TypeRelease.{IsFreeRefusal}
+use Rattle.gpu_slots.specs.TypeState.{slot_at}
 use Rattle.gpu_device.specs.declared.d3d12.device.D3D12Device.{Ghosts}
 use Rattle.gpu_memory_types.specs.Blocks.{slots_at}
 use Rattle.gpu_d3d12_blocks.specs.Blocks.{Slots}

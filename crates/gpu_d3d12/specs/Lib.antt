@@ -5,6 +5,7 @@ pub mod Rename
 pub mod Resource
 pub mod FreeResource
 pub mod State
+pub mod Reply
 pub mod Step
 pub mod Apart
 pub mod Budgets

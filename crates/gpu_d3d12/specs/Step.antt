@@ -4,13 +4,12 @@ use Rattle.std.specs.Prelude.{◌≡◌, ◌≢◌, ◌⊎◌, ℕ, ℤ, Vec, St
 use Rattle.std.specs.Global.{Global}
 use Rattle.std.specs.List.{slice_set}
 use Rattle.gpu_values.specs.Refusal.{Refusal, refusal_of, host_out_of_memory, invalid_allocation_create_desc}
-use Rattle.gpu_values.specs.Report as reports
 use Rattle.gpu_values.specs.Report.{report_of}
 use Rattle.gpu_values.specs.declared.report.AllocatorReport.{AllocatorReport}
 use Rattle.gpu_values.specs.declared.error.AllocationError.{AllocationError}
-use Rattle.gpu_block.specs.Leak.{leak_text}
-use Rattle.gpu_core.specs.TypeRelease.{has_several, ReleasesPiece, IsFreeRefusal, IsNameRefusal}
-use Rattle.gpu_core.specs.TypeState.{Slot, slot_at}
+use Rattle.gpu_block_views.specs.Leak.{leak_text}
+use Rattle.gpu_slots.specs.TypeRelease.{has_several, ReleasesPiece, IsFreeRefusal, IsNameRefusal}
+use Rattle.gpu_slots.specs.TypeState.{Slot, slot_at}
 use Rattle.gpu_slots.specs.declared.piece.Piece.{Piece}
 use Rattle.gpu_device.specs.Granted.{counted}
 use Rattle.gpu_device.specs.declared.d3d12.device.D3D12Device.{Ghosts}
@@ -44,7 +43,6 @@ use Rattle.gpu_device.specs.declared.d3d12.types.HeapProperties.{HeapProperties}
 use Rattle.gpu_device.specs.declared.d3d12.types.ResourceAllocationInfo.{ResourceAllocationInfo}
 use Rattle.gpu_d3d12_setup.specs.Question.{resource_question, told_info, made_size, handed_on}
 use Rattle.gpu_d3d12_setup.specs.ResourceAnswer.{ResourceAnswer, IsReasonTold, resource_number, placed_texts}
-use Rattle.gpu_d3d12_setup.specs.declared.question.CommittedAllocationStatistics.{CommittedAllocationStatistics}
 use Rattle.gpu_d3d12_setup.specs.declared.question.ResourceCreateDesc.{ResourceCreateDesc}
 use Rattle.gpu_d3d12_setup.specs.declared.question.ResourceQuestion.{ResourceQuestion}
 use Rattle.gpu_d3d12_setup.specs.declared.question.ResourceType.{ResourceType}
@@ -54,6 +52,8 @@ use Rattle.gpu_d3d12_blocks.specs.declared.committed_record.CommittedRecord.{Com
 use Rattle.gpu_d3d12.specs.Resource.{piece_desc, record_of, IsMade}
 use Rattle.gpu_d3d12.specs.declared.resource.Resource.{Resource}
 use Rattle.gpu_d3d12.specs.declared.allocation.Allocation.{Allocation}
+use Rattle.gpu_d3d12.specs.Reply as replies
+use Rattle.gpu_d3d12.specs.Reply.{Reply, Given, Error, Done, Made}
 
 pub data Call : Type 0 where
   Allocate : (d : AllocationCreateDesc) → Call
@@ -67,19 +67,6 @@ pub data Call : Type 0 where
   Statistics : (t : ℕ) → Call
   SetBudget : (t : ℕ) (budget : Option ℕ) → Call
   Budget : (t : ℕ) → Call
-
-pub data Reply : Type 0 where
-  -- a piece of the t-th memory type
-  Given : (t : ℕ) (piece : Piece ID3D12Heap) → Reply
-  Fails : (refusal : Refusal) → Reply
-  Done : Reply
-  Sum : (bytes : ℕ) → Reply
-  Shows : (report : reports.Report) → Reply
-  Tells : (texts : List (List ℕ)) → Reply
-  -- a resource of the t-th memory type: in this piece where it is placed, under this number, and of this size
-  Made : (t : ℕ) (piece : Option (Piece ID3D12Heap)) (number size : ℕ) → Reply
-  Counts : (statistics : Option CommittedAllocationStatistics) → Reply
-  Budgeted : (budget : Option ℕ) → Reply
 
 -- ---- what a call meets with
 
@@ -107,7 +94,7 @@ nothing_at_all = record { attempt = nothing_met; resource = None }
 
 abbrev pub reply_of : (t : ℕ) → Answer → Reply
 reply_of t (Gave p) = Given t p
-reply_of t (Refused r) = Fails r
+reply_of t (Refused r) = Error r
 
 -- the first memory type that serves the location and the category allocates it or refuses it
 pub record ServeStep (setup : Setup) (budgets : Budgets) (d : AllocationCreateDesc) (o : AttemptEnvironment) (reply : Reply) (old new : Slots) : Type 0 where
@@ -119,7 +106,7 @@ pub record ServeStep (setup : Setup) (budgets : Budgets) (d : AllocationCreateDe
   pub reply_is : reply ≡ reply_of memory_type answer
 
 abbrev pub AllocateStep : Setup → Budgets → AllocationCreateDesc → (valid : Bool) → AttemptEnvironment → Reply → Slots → Slots → Type 0
-AllocateStep setup budgets d false o reply old new = (o ≡ nothing_met) × (reply ≡ Fails invalid_allocation_create_desc) × (new ≡ old)
+AllocateStep setup budgets d false o reply old new = (o ≡ nothing_met) × (reply ≡ Error invalid_allocation_create_desc) × (new ≡ old)
 AllocateStep setup budgets d true o reply old new = ServeStep setup budgets d o reply old new
 
 -- ---- a free
@@ -133,7 +120,7 @@ pub record ReleaseStep (t : ℕ) (p : Piece ID3D12Heap) (old new : Slots) : Type
 
 abbrev pub FreeStep : (t : ℕ) → Piece ID3D12Heap → Reply → Slots → Slots → Type 0
 FreeStep t p Done old new = IsLiveIn old t (Some p) × ReleaseStep t p old new
-FreeStep t p (Fails r) old new = (IsLiveIn old t (Some p) → ⊥) × IsFreeRefusal is_same_heap p (slot_at (slots_at old t) p.slot) r × (new ≡ old)
+FreeStep t p (Error r) old new = (IsLiveIn old t (Some p) → ⊥) × IsFreeRefusal is_same_heap p (slot_at (slots_at old t) p.slot) r × (new ≡ old)
 FreeStep t p _ old new = ⊥
 
 -- ---- a new name
@@ -141,7 +128,7 @@ FreeStep t p _ old new = ⊥
 -- a live piece's record has another name; a refusal, for want of host memory or of a live piece, changes nothing
 abbrev pub RenameStep : (t : ℕ) → Piece ID3D12Heap → (name : List ℕ) → (host : Bool) → Reply → Slots → Slots → Type 0
 RenameStep t p name host Done old new = (host ≡ true) × IsRenamed is_same_heap t p name old new
-RenameStep t p name host (Fails r) old new =
+RenameStep t p name host (Error r) old new =
     (((host ≡ false) × IsLiveIn old t (Some p) × (r ≡ host_out_of_memory))
     ⊎ ((IsLiveIn old t (Some p) → ⊥) × (r ≢ host_out_of_memory) × IsNameRefusal is_same_heap p (slot_at (slots_at old t) p.slot) r))
     × (new ≡ old)
@@ -151,13 +138,13 @@ RenameStep t p name host _ old new = ⊥
 
 -- what is shown, or want of host memory
 abbrev pub ReportStep : (host : Bool) → Reply → Slots → Slots → Type 0
-ReportStep host (Shows r) old new = (host ≡ true) × (r ≡ whole_report old) × (new ≡ old)
-ReportStep host (Fails r) old new = (host ≡ false) × (r ≡ host_out_of_memory) × (new ≡ old)
+ReportStep host (replies.Report r) old new = (host ≡ true) × (r ≡ whole_report old) × (new ≡ old)
+ReportStep host (Error r) old new = (host ≡ false) × (r ≡ host_out_of_memory) × (new ≡ old)
 ReportStep host _ old new = ⊥
 
 abbrev pub LeaksStep : (host : Bool) → Reply → Slots → Slots → Type 0
-LeaksStep host (Tells texts) old new = (host ≡ true) × (texts ≡ map leak_text (all_leaks old)) × (new ≡ old)
-LeaksStep host (Fails r) old new = (host ≡ false) × (r ≡ host_out_of_memory) × (new ≡ old)
+LeaksStep host (replies.Leaks texts) old new = (host ≡ true) × (texts ≡ map leak_text (all_leaks old)) × (new ≡ old)
+LeaksStep host (Error r) old new = (host ≡ false) × (r ≡ host_out_of_memory) × (new ≡ old)
 LeaksStep host _ old new = ⊥
 
 -- ---- a resource
@@ -186,7 +173,7 @@ granted_number (Some answer) = resource_number answer
 
 abbrev pub made_reply : (t : ℕ) → Option (Piece ID3D12Heap) → (size : ℕ) → Result ℕ Refusal → Reply
 made_reply t piece size (Ok number) = Made t piece number size
-made_reply t piece size (Err refusal) = Fails refusal
+made_reply t piece size (Err refusal) = Error refusal
 
 -- a resource in memory of its own, by these heap properties and flags, which the first memory type that serves it keeps a record of
 pub record CommitStep (basis : Basis) (d : ResourceCreateDesc) (question : ResourceQuestion) (own : HeapProperties × HeapFlags) (o : Environment) (reply : Reply) (old new : Contents) : Type 0 where
@@ -214,7 +201,7 @@ PlacesThen basis d question (Given t p) (Some a) reply mid slots old new =
     IsAskedWith question d None (Some a)
     × (reply ≡ made_reply t (Some p) (info_of basis d).size_in_bytes (number_or_refusal placed_texts a.answer))
     × PlacedBy t p (info_of basis d).size_in_bytes (size_made basis question d) (number_or_refusal placed_texts a.answer) mid slots old new
-PlacesThen basis d question (Fails refusal) None reply mid slots old new = (reply ≡ Fails refusal) × (slots ≡ mid) × (new ≡ old)
+PlacesThen basis d question (Error refusal) None reply mid slots old new = (reply ≡ Error refusal) × (slots ≡ mid) × (new ≡ old)
 PlacesThen basis d question _ _ reply mid slots old new = ⊥
 
 -- a resource in a piece: the piece is allocated as for any call, and the device asked for the resource there
@@ -233,7 +220,7 @@ MakesBy basis d question kinds_of_resources.Placed o reply old new = PlaceStep b
 
 -- first it is seen by which question the resource is made, or why it isn't; then its memory decides
 abbrev pub CreateBy : Basis → ResourceCreateDesc → Result ResourceQuestion Refusal → Environment → Reply → Contents → Contents → Type 0
-CreateBy basis d (Err refusal) o reply old new = (o ≡ nothing_at_all) × (reply ≡ Fails refusal) × (new ≡ old)
+CreateBy basis d (Err refusal) o reply old new = (o ≡ nothing_at_all) × (reply ≡ Error refusal) × (new ≡ old)
 CreateBy basis d (Ok question) o reply old new = MakesBy basis d question d.resource_type.now o reply old new
 
 -- ---- a resource that is given back
@@ -245,7 +232,7 @@ beside_after _ held number = held
 -- a committed resource's record goes, if there is one
 abbrev pub GiveStep : (t : ℕ) → CommittedRecord → Reply → Committed → Committed → Type 0
 GiveStep t r Done old new = GivesRecord t r old new
-GiveStep t r (Fails refusal) old new = (place_of (records_at old t) r ≡ None) × (refusal ≡ freed) × (new ≡ old)
+GiveStep t r (Error refusal) old new = (place_of (records_at old t) r ≡ None) × (refusal ≡ freed) × (new ≡ old)
 GiveStep t r _ old new = ⊥
 
 -- the device gives the resource back where its piece or its record is live, and they go
@@ -271,7 +258,7 @@ BlockStep setup budgets (Free a) o reply old new = (o ≡ nothing_met) × FreeSt
 BlockStep setup budgets (Rename a name) o reply old new = (o.asked ≡ None) × RenameStep a.memory_type_index (piece_of a) name o.host reply old new
 BlockStep setup budgets Report o reply old new = (o.asked ≡ None) × ReportStep o.host reply old new
 BlockStep setup budgets Leaks o reply old new = (o.asked ≡ None) × LeaksStep o.host reply old new
-BlockStep setup budgets Capacity o (Sum n) old new = (o ≡ nothing_met) × (n ≡ total_capacity old) × (new ≡ old)
+BlockStep setup budgets Capacity o (replies.Capacity n) old new = (o ≡ nothing_met) × (n ≡ total_capacity old) × (new ≡ old)
 BlockStep setup budgets Capacity o _ old new = ⊥
 BlockStep setup budgets (CreateResource d) o reply old new = ⊥
 BlockStep setup budgets (FreeResource r) o reply old new = ⊥
@@ -280,17 +267,17 @@ BlockStep setup budgets (SetBudget t budget) o reply old new = ⊥
 BlockStep setup budgets (Budget t) o reply old new = ⊥
 
 abbrev pub StatisticsStep : (t : ℕ) → Reply → Contents → Contents → Type 0
-StatisticsStep t (Counts s) old new = (s ≡ statistics_at old.committed t) × (new ≡ old)
+StatisticsStep t (replies.Statistics s) old new = (s ≡ statistics_at old.committed t) × (new ≡ old)
 StatisticsStep t _ old new = ⊥
 
 -- a budget is set, where its memory type is there, and nothing else changes
 abbrev pub SetBudgetStep : (t : ℕ) → (budget : Option ℕ) → Reply → Contents → Contents → Type 0
 SetBudgetStep t budget Done old new = SetsBudget t budget old.budgets None new.budgets × (new.slots ≡ old.slots) × (new.committed ≡ old.committed) × (new.beside ≡ old.beside)
-SetBudgetStep t budget (Fails r) old new = SetsBudget t budget old.budgets (Some r) new.budgets × (new.slots ≡ old.slots) × (new.committed ≡ old.committed) × (new.beside ≡ old.beside)
+SetBudgetStep t budget (Error r) old new = SetsBudget t budget old.budgets (Some r) new.budgets × (new.slots ≡ old.slots) × (new.committed ≡ old.committed) × (new.beside ≡ old.beside)
 SetBudgetStep t budget _ old new = ⊥
 
 abbrev pub BudgetStep : (t : ℕ) → Reply → Contents → Contents → Type 0
-BudgetStep t (Budgeted b) old new = (b ≡ budget_at old.budgets t) × (new ≡ old)
+BudgetStep t (replies.Budget b) old new = (b ≡ budget_at old.budgets t) × (new ≡ old)
 BudgetStep t _ old new = ⊥
 
 -- from old, the call may give this reply and leave new, where it meets with this
@@ -370,7 +357,7 @@ IsStep g call reply old new = IsStepBy g (Step (basis_of g old) call) reply old 
 -- what an allocation's caller gets is what the model replies
 abbrev pub Replies : AllocationCreateDesc → Result Allocation AllocationError → Reply → Type 0
 Replies d (Ok a) (Given t p) = IsGiven t d.name.now p a
-Replies d (Err e) (Fails r) = refusal_of e ≡ r
+Replies d (Err e) (Error r) = refusal_of e ≡ r
 Replies d _ _ = ⊥
 
 pub record IsAllocateStep {D : Type 0} (g : Ghosts D) (d : AllocationCreateDesc) (result : Result Allocation AllocationError) (old new : State D) : Type 0 where
@@ -381,7 +368,7 @@ pub record IsAllocateStep {D : Type 0} (g : Ghosts D) (d : AllocationCreateDesc)
 -- the same of a resource's caller
 abbrev pub RepliesResource : ResourceCreateDesc → Result Resource AllocationError → Reply → Type 0
 RepliesResource d (Ok r) (Made t piece number size) = IsMade d t piece number size r
-RepliesResource d (Err e) (Fails refusal) = refusal_of e ≡ refusal
+RepliesResource d (Err e) (Error refusal) = refusal_of e ≡ refusal
 RepliesResource d _ _ = ⊥
 
 pub record IsMadeBy {D : Type 0} (g : Ghosts D) (S : Environment → Reply → Contents → Contents → Type 0) (d : ResourceCreateDesc) (result : Result Resource AllocationError) (old new : State D) : Type
@@ -396,16 +383,16 @@ IsCreateStep g d result old new = IsMadeBy g (Step (basis_of g old) (CreateResou
 
 abbrev pub freed_as : {V : Type 0} → Result (Unit {0}) (AllocationError × V) → Reply
 freed_as (Ok _) = Done
-freed_as (Err e) = Fails (refusal_of e.0)
+freed_as (Err e) = Error (refusal_of e.0)
 
 abbrev pub renamed_as : Result (Unit {0}) AllocationError → Reply
 renamed_as (Ok _) = Done
-renamed_as (Err e) = Fails (refusal_of e)
+renamed_as (Err e) = Error (refusal_of e)
 
 abbrev pub shown_as : Result AllocatorReport AllocationError → Reply
-shown_as (Ok r) = Shows (report_of r)
-shown_as (Err e) = Fails (refusal_of e)
+shown_as (Ok r) = replies.Report (report_of r)
+shown_as (Err e) = Error (refusal_of e)
 
 abbrev pub told_as : Result (Vec (String Global) Global) AllocationError → Reply
-told_as (Ok v) = Tells (map string_bytes v.items)
-told_as (Err e) = Fails (refusal_of e)
+told_as (Ok v) = replies.Leaks (map string_bytes v.items)
+told_as (Err e) = Error (refusal_of e)

@@ -2,8 +2,8 @@
 
 ghost use Rattle.std.specs.Prelude.{◌≡◌, Some, false};
 
-use gpu_core::Piece;
 use gpu_device::d3d12::ID3D12Heap;
+use gpu_slots::Piece;
 use std::num::NonZeroU64;
 
 /// A piece of a heap: bytes `offset..offset + size` of `heap`. Place a resource there. Give it back by the allocator's

@@ -5,7 +5,7 @@ ghost use Rattle.std.specs.Option.{unwrap_or};
 ghost use Rattle.gpu_values.specs.Refusal.{refusal_of, refusal_in, host_out_of_memory};
 ghost use Rattle.gpu_values.specs.Report.{report_of};
 ghost use Rattle.gpu_values.specs.declared.error.AllocationError.TheVariants.{HostOutOfMemory};
-ghost use Rattle.gpu_block.specs.Leak.{leak_text};
+ghost use Rattle.gpu_block_views.specs.Leak.{leak_text};
 ghost use Rattle.gpu_memory_types.specs.Blocks.{total_capacity, BlocksWellFormed};
 ghost use Rattle.gpu_memory_types.specs.Budgets.{budget_at, budgets, SetsBudget};
 ghost use Rattle.gpu_memory_types.specs.Types.{slots_of, kinds};
@@ -26,7 +26,8 @@ ghost use Rattle.gpu_d3d12.specs.Rename.{Renames};
 ghost use Rattle.gpu_d3d12.specs.Resource.{BeginsAligned, IsBeside, IsLivePlaced, IsNewIn, LiesInHeap};
 ghost use Rattle.gpu_d3d12.specs.declared.resource.Resource.{Resource};
 ghost use Rattle.gpu_d3d12.specs.State.{basis_of, beside_of};
-ghost use Rattle.gpu_d3d12.specs.Step.{IsMadeBy, IsCreateStep, CommitStep, PlaceStep, FreeResource, Statistics, SetBudget, Budget, Budgeted, Counts, info_of, IsStep, IsAllocateStep, Free, Rename, Capacity, Report, Leaks, Sum, freed_as, renamed_as, shown_as, told_as};
+ghost use Rattle.gpu_d3d12.specs.Reply as replies;
+ghost use Rattle.gpu_d3d12.specs.Step.{IsMadeBy, IsCreateStep, CommitStep, PlaceStep, FreeResource, Statistics, SetBudget, Budget, info_of, IsStep, IsAllocateStep, Free, Rename, Capacity, Report, Leaks, freed_as, renamed_as, shown_as, told_as};
 ghost use Rattle.gpu_d3d12.specs.declared.allocation.Allocation.{Allocation};
 
 use crate::attempt::serve;
@@ -158,7 +159,7 @@ impl<D: D3D12Device> Allocator<D> {
     /// The sum of the sizes of the live blocks, in bytes.
     pub fn capacity(&self) -> u64
         ensures sum { result ≡ total_capacity self.now.slots }
-        ensures step { IsStep D.D3D12Device Capacity (Sum result) self.now self.now }
+        ensures step { IsStep D.D3D12Device Capacity (replies.Capacity result) self.now self.now }
     {
         self.types.capacity()
     }
@@ -246,7 +247,7 @@ impl<D: D3D12Device> Allocator<D> {
     /// The budget of a memory type, in bytes; `None` where it has none, or there is no such type.
     pub fn budget(&self, memory_type: usize) -> Option<u64>
         ensures budget { result ≡ budget_at self.now.budgets memory_type }
-        ensures step { IsStep D.D3D12Device (Budget memory_type) (Budgeted result) self.now self.now }
+        ensures step { IsStep D.D3D12Device (Budget memory_type) (replies.Budget result) self.now self.now }
     {
         self.types.budget(memory_type)
     }
@@ -381,7 +382,7 @@ impl<D: D3D12Device> Allocator<D> {
     /// sum in bytes; `None` where there is no such memory type.
     pub fn committed(&self, memory_type: usize) -> Option<CommittedAllocationStatistics>
         ensures statistics { result ≡ statistics_at self.now.committed memory_type }
-        ensures step { IsStep D.D3D12Device (Statistics memory_type) (Counts result) self.now self.now }
+        ensures step { IsStep D.D3D12Device (Statistics memory_type) (replies.Statistics result) self.now self.now }
     {
         self.committed.statistics(memory_type)
     }

@@ -10,11 +10,11 @@ ghost use Rattle.gpu_d3d12.specs.Allocate.{IsAttempt, Allocates};
 ghost use Rattle.gpu_d3d12.specs.Live.{IsGiven};
 
 use crate::Allocation;
-use gpu_core::Piece;
 use gpu_d3d12_blocks::suballocate;
 use gpu_d3d12_setup::{AllocationCreateDesc, Setup, type_for};
 use gpu_device::d3d12::{D3D12Device, ID3D12Heap};
 use gpu_memory_types::MemoryTypes;
+use gpu_slots::Piece;
 use gpu_values::{AllocationError, Result};
 use std::alloc::{AllocError, Global};
 

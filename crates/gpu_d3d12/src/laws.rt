@@ -4,7 +4,8 @@ ghost use Rattle.std.specs.Prelude.{◌≡◌};
 ghost use Rattle.gpu_memory_types.specs.Blocks.{BlocksWellFormed};
 ghost use Rattle.gpu_d3d12.specs.Budgets.{MeetsNoBudget, without_budgets};
 ghost use Rattle.gpu_d3d12.specs.State.{Basis, Contents};
-ghost use Rattle.gpu_d3d12.specs.Step.{Call, Reply, Environment, Step};
+ghost use Rattle.gpu_d3d12.specs.Reply.{Reply};
+ghost use Rattle.gpu_d3d12.specs.Step.{Call, Environment, Step};
 
 /// The model isn't loose: a state, a call, and what the device and the host answered it decide the reply and the next state.
 pub fn one_step()

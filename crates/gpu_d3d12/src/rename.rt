@@ -11,9 +11,9 @@ ghost use Rattle.gpu_d3d12_blocks.specs.Release.{is_same_heap, IsLiveIn};
 ghost use Rattle.gpu_d3d12.specs.Rename.{Renames};
 
 use crate::Allocation;
-use gpu_core::Piece;
 use gpu_device::d3d12::ID3D12Heap;
 use gpu_memory_types::MemoryTypes;
+use gpu_slots::Piece;
 use gpu_values::Result;
 use std::alloc::Global;
 

@@ -4,7 +4,7 @@ use Rattle.std.specs.FinMap.{get, insert}
 use Rattle.std.specs.Prelude.{All}
 use Rattle.std.proofs.lemmas.Bool.{cases_eq}
 use Rattle.std.proofs.lemmas.List.Elements.{All-head, All-tail}
-use Rattle.gpu_core.specs.TypeState.{Slot, slot_at}
+use Rattle.gpu_slots.specs.TypeState.{Slot, slot_at}
 use Rattle.gpu_device.specs.D3D12.{Held, Entry, Heap, Committed, Placed, without_resource, remove_if_resource}
 use Rattle.gpu_device.specs.Granted.{IsNew, with_granted}
 use Rattle.gpu_device.specs.declared.d3d12.types.ID3D12Heap.{ID3D12Heap}

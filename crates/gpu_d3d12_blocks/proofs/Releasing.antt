@@ -3,9 +3,9 @@ use Rattle.std.proofs.Common.{◌≡◌, ◌∙◌, refl, sym, ap, subst, ℕ, z
 use Rattle.std.specs.Prelude.{OnOk, OnErr, IsSomeAnd}
 use Rattle.std.specs.FinMap.{get, remove}
 use Rattle.std.proofs.lemmas.List.{length-set}
-use Rattle.gpu_core.specs.Block.{Block, size_of}
-use Rattle.gpu_core.specs.TypeRelease.{IsLive, SlotReleases}
-use Rattle.gpu_core.specs.TypeState.{Slot}
+use Rattle.gpu_block.specs.Block.{Block, size_of}
+use Rattle.gpu_slots.specs.TypeRelease.{IsLive, SlotReleases}
+use Rattle.gpu_slots.specs.TypeState.{Slot}
 use Rattle.gpu_slots.specs.declared.piece.Piece.{Piece}
 use Rattle.gpu_device.specs.D3D12.{Held, Entry, Heap, without_heap}
 use Rattle.gpu_device.specs.declared.d3d12.device.D3D12Device.{Ghosts}

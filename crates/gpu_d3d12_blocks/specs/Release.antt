@@ -1,8 +1,8 @@
 -- What giving a piece back comes to, and which pieces are live.
 use Rattle.std.specs.Prelude.{◌≡◌, ℕ, List, [], ◌∷◌, IsTrue, Option, Some, None}
 use Rattle.std.specs.List.{slice_set}
-use Rattle.gpu_core.specs.TypeRelease.{has_several, ReleasesPiece}
-use Rattle.gpu_core.specs.TypeState.{Slot, block_number}
+use Rattle.gpu_slots.specs.TypeRelease.{has_several, ReleasesPiece}
+use Rattle.gpu_slots.specs.TypeState.{Slot, block_number}
 use Rattle.gpu_slots.specs.declared.piece.Piece.{Piece}
 use Rattle.gpu_device.specs.D3D12.{Held, without_heap, without_resource}
 use Rattle.gpu_device.specs.declared.d3d12.device.D3D12Device.{Ghosts}

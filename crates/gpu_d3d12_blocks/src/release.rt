@@ -2,7 +2,7 @@
 
 ghost use Rattle.std.specs.Prelude.{◌≡◌, IfErr, OnOk, OnErr, Some};
 ghost use Rattle.gpu_values.specs.Refusal.{refusal_of};
-ghost use Rattle.gpu_core.specs.TypeState.{slot_at, block_number};
+ghost use Rattle.gpu_slots.specs.TypeState.{slot_at, block_number};
 ghost use Rattle.gpu_memory_types.specs.Blocks.{slots_at};
 ghost use Rattle.gpu_memory_types.specs.Release.{IsReleaseRefusal};
 ghost use Rattle.gpu_memory_types.specs.Budgets.{budgets};
@@ -10,10 +10,10 @@ ghost use Rattle.gpu_memory_types.specs.Types.{slots_of, kinds, MemoryTypesInvar
 ghost use Rattle.gpu_d3d12_blocks.specs.Release.{IsReleased, without_block, without_slots, without_all, AsksNothing};
 ghost use Rattle.gpu_d3d12_blocks.specs.Release.{is_same_heap, IsLiveIn};
 
-use gpu_core::Piece;
 use gpu_d3d12_setup::release_block_heap;
 use gpu_device::d3d12::{D3D12Device, ID3D12Heap};
 use gpu_memory_types::MemoryTypes;
+use gpu_slots::Piece;
 use gpu_values::Result;
 
 /// Gives a piece of the memory type at `index` back, and its block with it where that goes. It takes no memory.

@@ -8,12 +8,13 @@ ghost use Rattle.gpu_d3d12_setup.specs.MemoryKinds.{memory_kinds};
 ghost use Rattle.gpu_d3d12_setup.specs.Setup.{kinds_told};
 ghost use Rattle.gpu_d3d12_blocks.specs.Suballocation.{IsSuballocated};
 
-use gpu_core::{Piece, Prepared};
+use gpu_core::Prepared;
 use gpu_d3d12_setup::{
     AllocationCreateDesc, Setup, create_block_heap, heap_desc, kind_at, request_of,
 };
 use gpu_device::d3d12::{D3D12Device, ID3D12Heap};
 use gpu_memory_types::MemoryTypes;
+use gpu_slots::Piece;
 use gpu_values::Result;
 
 /// A piece of the memory type at `index`: of a shared block, or of a new one.

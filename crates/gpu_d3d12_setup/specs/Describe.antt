@@ -1,5 +1,5 @@
 -- What a description of an allocation asks of a memory type.
-use Rattle.gpu_core.specs.Request.{Request}
+use Rattle.gpu_block_pieces.specs.Request.{Request}
 use Rattle.gpu_values.specs.declared.allocation_type.AllocationType.TheVariants.{Linear}
 use Rattle.gpu_d3d12_setup.specs.declared.describe.AllocationCreateDesc.{AllocationCreateDesc}
 

@@ -125,7 +125,7 @@ fn take_at(
     want: (u64, u64, Option<u64>),
 ) -> std::result::Result<Allocation, Fail> {
     let allocation = take(a, desc)?;
-    assert_eq!(rt; place(&allocation), want);
+    assert!(rt; place(&allocation) == want);
     Ok(allocation)
 }
 

@@ -1,9 +1,9 @@
 -- A piece that is given begins at a multiple of the alignment that was asked for.
 use Rattle.std.proofs.Common.{◌≡◌, ◌∙◌, ℕ, ◌%◌, refl, sym, ap, subst, Bool, List, Option, Some, None, arith}
-use Rattle.gpu_core.specs.Block.{Block, free_list, dedicated, TakesIn}
-use Rattle.gpu_core.specs.Request.{Request}
-use Rattle.gpu_core.specs.TypeState.{Slot}
-use Rattle.gpu_core.specs.TypeTake.{Ready}
+use Rattle.gpu_block.specs.Block.{Block, free_list, dedicated, TakesIn}
+use Rattle.gpu_block_pieces.specs.Request.{Request}
+use Rattle.gpu_slots.specs.TypeState.{Slot}
+use Rattle.gpu_slots.specs.TypeTake.{Ready}
 use Rattle.gpu_slots.specs.declared.piece.Piece.{Piece}
 use Rattle.gpu_memory_types.specs.Attempt.{RequestAt, type_asked, BlockResult, Allocated, NotAllocated, AskedBlock, Plan, NoHostMemory, SharedBlock, NewBlock, IsPlan, Gave, IsAfterResult}
 use Rattle.gpu_memory_types.specs.Attempt.{IsCarriedOut, AllocatesInType}

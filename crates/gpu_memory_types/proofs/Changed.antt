@@ -7,9 +7,9 @@ use Rattle.gpu_values.specs.Refusal.{Refusal, refusal_of}
 use Rattle.gpu_values.specs.Sizes.{Sizes}
 use Rattle.gpu_values.specs.declared.error.AllocationError.{AllocationError}
 use Rattle.gpu_values.specs.declared.error.AllocationError.TheVariants as errors
-use Rattle.gpu_core.specs.TypeState.{TypeState, Slot, slot_at, capacity_of}
-use Rattle.gpu_core.specs.TypeRelease.{has_several, ReleasesPiece, RenamesPiece, IsLive, IsNameRefusal}
-use Rattle.gpu_core.specs.TypeTake.{Ready, Installs, asked, NeedsBlock}
+use Rattle.gpu_slots.specs.TypeState.{TypeState, Slot, slot_at, capacity_of}
+use Rattle.gpu_slots.specs.TypeRelease.{has_several, ReleasesPiece, RenamesPiece, IsLive, IsNameRefusal}
+use Rattle.gpu_slots.specs.TypeTake.{Ready, Installs, asked, NeedsBlock}
 use Rattle.gpu_core.specs.TypePrepare.{IsPrepared}
 use Rattle.gpu_slots.specs.declared.piece.Piece.{Piece}
 use Rattle.gpu_core.specs.declared.memory_type.Prepared.{Prepared}

@@ -2,10 +2,10 @@
 use Rattle.std.proofs.Common.{◌≡◌, ◌∙◌, refl, sym, ap, subst, ℕ, ◌<◌, Bool, true, false, List, length, slice_set, Option, Some, None}
 use Rattle.std.specs.FinMap.{FinMap, get}
 use Rattle.std.specs.Ordering.{nat_cmp}
-use Rattle.gpu_core.specs.Block.{Block, free_list, dedicated, size_of, TakesIn}
-use Rattle.gpu_core.specs.Request.{Request}
-use Rattle.gpu_core.specs.TypeState.{Slot}
-use Rattle.gpu_core.specs.TypeTake.{Ready, fresh_block}
+use Rattle.gpu_block.specs.Block.{Block, free_list, dedicated, size_of, TakesIn}
+use Rattle.gpu_block_pieces.specs.Request.{Request}
+use Rattle.gpu_slots.specs.TypeState.{Slot}
+use Rattle.gpu_slots.specs.TypeTake.{Ready, fresh_block}
 use Rattle.gpu_memory_types.specs.Attempt.{RequestAt, type_asked, BlockResult, Allocated, NotAllocated, AskedBlock, Plan, NoHostMemory, SharedBlock, NewBlock, IsPlan, Answer, IsAfterResult}
 use Rattle.gpu_memory_types.specs.Attempt.{IsCarriedOut, AllocatesInType, IsEntryOf, HoldsResult, HoldsAsked}
 use Rattle.gpu_memory_types.specs.Blocks.{Slots, slots_at, total_capacity}

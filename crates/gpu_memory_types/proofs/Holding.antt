@@ -3,7 +3,7 @@ use Rattle.std.proofs.Common.{◌≡◌, ◌≢◌, ◌∙◌, ◌⊎◌, refl, 
 use Rattle.std.proofs.lemmas.Bool.{cases_eq}
 use Rattle.std.specs.FinMap.{FinMap, get, remove}
 use Rattle.gpu_block.specs.Block.{Block, size_of}
-use Rattle.gpu_core.specs.TypeState.{Slot}
+use Rattle.gpu_slots.specs.TypeState.{Slot}
 use Rattle.std.specs.Ordering.{nat_cmp}
 use Rattle.gpu_memory_types.specs.Blocks.{Slots, block_at}
 use Rattle.gpu_memory_types.specs.Held.{HasEntry, IsNoBlock, HoldsBlocks}

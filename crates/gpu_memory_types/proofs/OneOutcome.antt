@@ -1,9 +1,9 @@
 -- A request at one memory type has one outcome for each state, answer of the device and host memory.
 use Rattle.std.proofs.Common.{◌≡◌, ◌∙◌, ℕ, refl, sym, ap, subst, Bool, true, false, List, slice_set, Option, Some, None}
-use Rattle.gpu_core.specs.Slots.{AreSound}
-use Rattle.gpu_core.specs.TypeState.{TypeState, Slot, capacity_of}
-use Rattle.gpu_core.specs.TypeTake.{Ready}
-use Rattle.gpu_core.specs.Refusal.{Refusal}
+use Rattle.gpu_slots.specs.Slots.{AreSound}
+use Rattle.gpu_slots.specs.TypeState.{TypeState, Slot, capacity_of}
+use Rattle.gpu_slots.specs.TypeTake.{Ready}
+use Rattle.gpu_values.specs.Refusal.{Refusal}
 use Rattle.gpu_slots.specs.declared.piece.Piece.{Piece}
 use Rattle.gpu_core.proofs.OneOutcome.{prepared_once, needed_once, serves_or_needs, installed_once}
 use Rattle.gpu_memory_types.specs.Attempt.{RequestAt, type_asked, BlockResult, Allocated, NotAllocated, AskedBlock, Plan, NoHostMemory, SharedBlock, NewBlock, IsPlan, Answer, Gave, Refused}

@@ -1,9 +1,9 @@
 -- What `prepare` and `install` answer, as what a request comes to at its memory type.
 use Rattle.std.proofs.Common.{◌≡◌, ◌∙◌, refl, sym, ap, subst, ⊎_elim, ℕ, ◌<◌, Bool, true, false, List, length, slice_set, Option, Some, None}
-use Rattle.gpu_core.specs.Refusal.{Refusal, host_out_of_memory}
-use Rattle.gpu_core.specs.Sizes.{Sizes}
-use Rattle.gpu_core.specs.TypeState.{TypeState, Slot, capacity_of}
-use Rattle.gpu_core.specs.TypeTake.{asked, Ready, NeedsBlock, Installs}
+use Rattle.gpu_values.specs.Refusal.{Refusal, host_out_of_memory}
+use Rattle.gpu_values.specs.Sizes.{Sizes}
+use Rattle.gpu_slots.specs.TypeState.{TypeState, Slot, capacity_of}
+use Rattle.gpu_slots.specs.TypeTake.{asked, Ready, NeedsBlock, Installs}
 use Rattle.gpu_slots.specs.declared.piece.Piece.{Piece}
 use Rattle.gpu_core.specs.declared.memory_type.Prepared.TheVariants as prepared
 use Rattle.gpu_slots.specs.declared.piece.Request as type_requests

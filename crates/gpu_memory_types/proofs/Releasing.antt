@@ -2,9 +2,9 @@
 use Rattle.std.proofs.Common.{◌≡◌, ◌∙◌, refl, sym, ap, subst, ℕ, ◌<◌, List, length, slice_set, Option, Some, None}
 use Rattle.std.specs.FinMap.{FinMap, remove}
 use Rattle.std.specs.Ordering.{nat_cmp}
-use Rattle.gpu_core.specs.Block.{Block, free_list, dedicated, size_of, ReleasesIn}
-use Rattle.gpu_core.specs.TypeRelease.{SlotReleases, ReleasesPiece}
-use Rattle.gpu_core.specs.TypeState.{Slot, slot_at}
+use Rattle.gpu_block.specs.Block.{Block, free_list, dedicated, size_of, ReleasesIn}
+use Rattle.gpu_slots.specs.TypeRelease.{SlotReleases, ReleasesPiece}
+use Rattle.gpu_slots.specs.TypeState.{Slot, slot_at}
 use Rattle.gpu_slots.specs.declared.piece.Piece.{Piece}
 use Rattle.gpu_slots.proofs.Slotted.{set_only}
 use Rattle.gpu_memory_types.specs.Blocks.{Slots, slots_at}

@@ -2,7 +2,7 @@
 use Rattle.std.proofs.Common.{◌≡◌, ◌≢◌, ◌∙◌, ◌⊎◌, refl, sym, ap, ℕ, zero, suc, ◌+◌, ◌<◌, List, [], ◌∷◌, length, take, Option, Some, None, inl, inr, ⊎_elim, arith}
 use Rattle.std.proofs.lemmas.Bool.{cases_eq}
 use Rattle.std.specs.FinMap.{FinMap, get, remove}
-use Rattle.gpu_core.specs.TypeState.{Slot, slot_at, block_number}
+use Rattle.gpu_slots.specs.TypeState.{Slot, slot_at, block_number}
 use Rattle.std.specs.Ordering.{nat_cmp}
 use Rattle.gpu_memory_types.specs.Blocks.{Slots, slots_at}
 use Rattle.gpu_memory_types.specs.Held.{HoldsBlocks, without, without_block, without_all}

@@ -2,14 +2,14 @@
 use Rattle.std.proofs.Common.{◌≡◌, ◌≢◌, ◌∙◌, ℕ, ◌<◌, refl, sym, ap, subst, Bool, true, List, length, slice_set, Option, Some, None, Contains, IfSome, arith, ⊎_elim}
 use Rattle.std.specs.Option.{option_to_list}
 use Rattle.std.specs.Int.NonZero.{non_zero_u64_get}
-use Rattle.gpu_core.specs.Block.{Block, free_list, dedicated, is_general, TakesIn, ReleasesIn, HoldsPiece, IsSoundBlock}
-use Rattle.gpu_core.specs.FreeList.{Extent}
-use Rattle.gpu_core.specs.Refusal.{Refusal}
-use Rattle.gpu_core.specs.Request.{Request}
-use Rattle.gpu_core.specs.Slots.{SlotIsSound}
-use Rattle.gpu_core.specs.TypeRelease.{SlotHolds, SlotReleases, ReleasesPiece}
-use Rattle.gpu_core.specs.TypeState.{Slot, slot_at}
-use Rattle.gpu_core.specs.TypeTake.{Ready, fresh_block, PreparesPiece, Installs}
+use Rattle.gpu_block.specs.Block.{Block, free_list, dedicated, is_general, TakesIn, ReleasesIn, HoldsPiece, IsSoundBlock}
+use Rattle.gpu_block_pieces.specs.FreeList.{Extent}
+use Rattle.gpu_values.specs.Refusal.{Refusal}
+use Rattle.gpu_block_pieces.specs.Request.{Request}
+use Rattle.gpu_slots.specs.Slots.{SlotIsSound}
+use Rattle.gpu_slots.specs.TypeRelease.{SlotHolds, SlotReleases, ReleasesPiece}
+use Rattle.gpu_slots.specs.TypeState.{Slot, slot_at}
+use Rattle.gpu_slots.specs.TypeTake.{Ready, fresh_block, PreparesPiece, Installs}
 use Rattle.gpu_slots.specs.declared.piece.Piece.{Piece}
 use Rattle.gpu_core.proofs.EmptyBlocks.{takes_holds, holds_some}
 use Rattle.gpu_slots.proofs.Found.{only_one}

@@ -1,10 +1,10 @@
 -- What holds of all live pieces: each lies inside its block, no two share a byte, and kinds keep to pages of their own.
 use Rattle.std.specs.Prelude.{◌≡◌, ◌≢◌, ◌⊎◌, ℕ, ◌+◌, ◌-◌, ◌<◌, ◌≤◌, List, [], Contains, Option, Some, None}
 use Rattle.std.specs.Int.NonZero.{non_zero_u64_get}
-use Rattle.gpu_core.specs.Block.{extents_of, size_of}
-use Rattle.gpu_core.specs.FreeList.{Extent}
-use Rattle.gpu_core.specs.Place.{page}
-use Rattle.gpu_core.specs.TypeState.{Slot}
+use Rattle.gpu_block.specs.Block.{extents_of, size_of}
+use Rattle.gpu_block_pieces.specs.FreeList.{Extent}
+use Rattle.gpu_block_pieces.specs.Place.{page}
+use Rattle.gpu_slots.specs.TypeState.{Slot}
 use Rattle.gpu_slots.specs.declared.piece.Piece.{Piece}
 use Rattle.gpu_values.specs.declared.allocation_type.AllocationType.{AllocationType}
 use Rattle.gpu_memory_types.specs.Blocks.{Slots, block_at}

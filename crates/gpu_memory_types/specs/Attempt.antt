@@ -3,11 +3,11 @@ use Rattle.std.specs.Prelude.{◌≡◌, ◌≢◌, ℕ, Bool, true, false, List
 use Rattle.std.specs.FinMap.{FinMap, get}
 use Rattle.std.specs.List.{slice_set}
 use Rattle.std.specs.Ordering.{nat_cmp}
-use Rattle.gpu_core.specs.Refusal.{Refusal, host_out_of_memory}
-use Rattle.gpu_core.specs.Request.{Request}
-use Rattle.gpu_core.specs.Sizes.{Sizes}
-use Rattle.gpu_core.specs.TypeState.{TypeState, Slot, capacity_of}
-use Rattle.gpu_core.specs.TypeTake.{Ready, has_own_block, PreparesPiece, NeedsBlock, Installs}
+use Rattle.gpu_values.specs.Refusal.{Refusal, host_out_of_memory}
+use Rattle.gpu_block_pieces.specs.Request.{Request}
+use Rattle.gpu_values.specs.Sizes.{Sizes}
+use Rattle.gpu_slots.specs.TypeState.{TypeState, Slot, capacity_of}
+use Rattle.gpu_slots.specs.TypeTake.{Ready, has_own_block, PreparesPiece, NeedsBlock, Installs}
 use Rattle.gpu_slots.specs.declared.piece.Piece.{Piece}
 use Rattle.gpu_memory_types.specs.Blocks.{Slots, slots_at, total_capacity}
 use Rattle.gpu_memory_types.specs.Budgets.{block_refusal}

@@ -1,6 +1,6 @@
 -- Which pieces of an allocator are live.
 use Rattle.std.specs.Prelude.{ℕ, Bool, Option, Some, None}
-use Rattle.gpu_core.specs.TypeRelease.{IsLive}
+use Rattle.gpu_slots.specs.TypeRelease.{IsLive}
 use Rattle.gpu_slots.specs.declared.piece.Piece.{Piece}
 use Rattle.gpu_memory_types.specs.Blocks.{Slots, slots_at}
 

@@ -1,10 +1,10 @@
 -- What a request comes to at one memory type among all.
 use Rattle.std.specs.Prelude.{◌≡◌, ℕ, ◌⊎◌, Bool, List, Option, Some, None}
 use Rattle.std.specs.List.{slice_set}
-use Rattle.gpu_core.specs.Refusal.{Refusal, host_out_of_memory}
-use Rattle.gpu_core.specs.Sizes.{Sizes}
-use Rattle.gpu_core.specs.TypeState.{TypeState, Slot, capacity_of}
-use Rattle.gpu_core.specs.TypeTake.{asked, NeedsBlock, Installs, Ready}
+use Rattle.gpu_values.specs.Refusal.{Refusal, host_out_of_memory}
+use Rattle.gpu_values.specs.Sizes.{Sizes}
+use Rattle.gpu_slots.specs.TypeState.{TypeState, Slot, capacity_of}
+use Rattle.gpu_slots.specs.TypeTake.{asked, NeedsBlock, Installs, Ready}
 use Rattle.gpu_core.specs.TypePrepare.{IsPrepared}
 use Rattle.gpu_slots.specs.declared.piece.Piece.{Piece}
 use Rattle.gpu_core.specs.declared.memory_type.Prepared.{Prepared}

@@ -4,12 +4,13 @@ ghost use Rattle.std.specs.Prelude.{◌≡◌, ◌++◌, [], ◌∷◌, drop, ma
 ghost use Rattle.std.specs.Option.{unwrap_or};
 ghost use Rattle.std.specs.Iterator.{YieldsFirst, item_count};
 ghost use Rattle.gpu_values.specs.declared.error.AllocationError.TheVariants.{HostOutOfMemory};
-ghost use Rattle.gpu_block.specs.Leak.{leak_text};
+ghost use Rattle.gpu_block_views.specs.Leak.{leak_text};
 ghost use Rattle.gpu_memory_types.specs.Leaks.{leaks_beginning, all_leaks};
 ghost use Rattle.gpu_memory_types.specs.Types.{slots_of};
 
-use gpu_block::Leak;
-use gpu_core::{MemoryType, TypeLeaks};
+use gpu_block_views::Leak;
+use gpu_core::MemoryType;
+use gpu_slots::TypeLeaks;
 use gpu_values::Result;
 use std::alloc::Global;
 use std::marker::Model;
@@ -26,7 +27,7 @@ pub struct AllLeaks<'a, H: Copy + Eq> {
 impl<'a, H: Copy + Eq> Model for AllLeaks<'a, H> {
     ghost use Rattle.std.specs.Prelude.{List, [], ◌++◌, drop};
     ghost use Rattle.std.specs.Option.{unwrap_or};
-    ghost use Rattle.gpu_block.specs.Leak.{LeakOf};
+    ghost use Rattle.gpu_block_views.specs.Leak.{LeakOf};
     ghost use Rattle.gpu_memory_types.specs.Leaks.{leaks_beginning};
     ghost use Rattle.gpu_memory_types.specs.Types.{slots_of};
 

@@ -17,7 +17,7 @@ pub const MB: u64 = 1_048_576;
 
 pub fn check_text<D: Display>(rt: &impl Abort, alloc: Global, value: &D, want: &str) -> Result<()> {
     let text = value.to_string(alloc)?;
-    assert_eq!(rt; text.as_str(), want);
+    assert!(rt; text.as_str() == want);
     Ok(())
 }
 
@@ -100,9 +100,9 @@ fn needed(
 }
 
 pub fn check_place(rt: &impl Abort, piece: &Piece<Handle>, slot: usize, offset: u64, number: u64) {
-    assert_eq!(rt; piece.slot, slot);
-    assert_eq!(rt; piece.offset, offset);
-    assert_eq!(rt; piece.number.get(), number);
+    assert!(rt; piece.slot == slot);
+    assert!(rt; piece.offset == offset);
+    assert!(rt; piece.number.get() == number);
 }
 
 /// Takes a piece of that size at alignment 1, and looks where it lies: its slot, offset and number.
@@ -122,9 +122,9 @@ fn place_at(
 
 /// Looks that there are two shared blocks, of which the first is red.
 fn check_two_blocks(rt: &impl Abort, b: &MemoryType<Handle>) {
-    assert_eq!(rt; b.capacity(), 8 * MB);
-    assert_eq!(rt; b.active_general_blocks(), 2);
-    assert_eq!(rt; b.slots(), 2);
+    assert!(rt; b.capacity() == 8 * MB);
+    assert!(rt; b.active_general_blocks() == 2);
+    assert!(rt; b.slots() == 2);
     assert!(rt; b.block(0) == Some(Handle::Red));
     assert!(rt; b.block(2).is_none());
 }
@@ -147,9 +147,9 @@ fn a_piece_without_a_place_gets_a_new_block(rt: HostRuntime) -> Result<(), Fail>
 fn large_piece(rt: &impl Abort, b: &mut MemoryType<Handle>) -> Result<Piece<Handle>> {
     let sizes = AllocationSizes::default();
     let piece = place_at(rt, b, &sizes, (300 * MB, Handle::Red), (0, 0, 1))?;
-    assert_eq!(rt; piece.size, 300 * MB);
-    assert_eq!(rt; b.capacity(), 300 * MB);
-    assert_eq!(rt; b.active_general_blocks(), 0);
+    assert!(rt; piece.size == 300 * MB);
+    assert!(rt; b.capacity() == 300 * MB);
+    assert!(rt; b.active_general_blocks() == 0);
     Ok(piece)
 }
 
@@ -159,7 +159,7 @@ fn a_piece_larger_than_a_shared_block_has_a_block_of_its_size(rt: HostRuntime) -
     let b = &mut blocks;
     let piece = large_piece(&rt, b)?;
     assert!(rt; b.free(&piece)? == Some(Handle::Red));
-    assert_eq!(rt; b.capacity(), 0);
+    assert!(rt; b.capacity() == 0);
     assert!(rt; b.block(0).is_none());
     Ok(())
 }
@@ -173,7 +173,7 @@ fn third_of_three(
     let first = place(rt, b, sizes, 5 * MB, Handle::Red)?;
     let second = place(rt, b, sizes, 6 * MB, Handle::Green)?;
     place_at(rt, b, sizes, (7 * MB, Handle::Blue), (2, 0, 1))?;
-    assert_eq!(rt; b.active_general_blocks(), 0);
+    assert!(rt; b.active_general_blocks() == 0);
     assert!(rt; b.free(&first)? == Some(Handle::Red));
     assert!(rt; b.free(&second)? == Some(Handle::Green));
     Ok(())
@@ -198,9 +198,9 @@ fn two_emptied(rt: &impl Abort, b: &mut MemoryType<Handle>, sizes: &AllocationSi
     let second = place(rt, b, sizes, 3 * MB, Handle::Green)?;
     assert!(rt; b.is_live(&first) && b.is_live(&second));
     assert!(rt; b.free(&first)? == Some(Handle::Red));
-    assert_eq!(rt; b.capacity(), 4 * MB);
+    assert!(rt; b.capacity() == 4 * MB);
     assert!(rt; b.free(&second)?.is_none());
-    assert_eq!(rt; b.capacity(), 4 * MB);
+    assert!(rt; b.capacity() == 4 * MB);
     assert!(rt; !b.is_live(&second));
     Ok(())
 }
@@ -236,9 +236,9 @@ fn shared_blocks_double(rt: HostRuntime) -> Result<(), Fail> {
     let first = first_of_four(&rt, b, &sizes)?;
     assert!(rt; b.free(&first)? == Some(Handle::Red));
     place_at(&rt, b, &sizes, (17 * MB, Handle::Grey), (0, 0, 1))?;
-    assert_eq!(rt; b.capacity(), 42_991_616);
-    assert_eq!(rt; needed(&rt, b, &sizes, 64 * MB)?, Some(64 * MB));
-    assert_eq!(rt; b.capacity(), 42_991_616);
+    assert!(rt; b.capacity() == 42_991_616);
+    assert!(rt; needed(&rt, b, &sizes, 64 * MB)? == Some(64 * MB));
+    assert!(rt; b.capacity() == 42_991_616);
     Ok(())
 }
 
@@ -306,8 +306,8 @@ pub fn check_row(
 ) {
     assert!(rt; i < report.allocations.len(), "row {i}");
     let row = &report.allocations[i];
-    assert_eq!(rt; row.name.as_str(), name, "row {i}");
-    assert_eq!(rt; (row.offset, row.size), (offset, size), "row {i}");
+    assert!(rt; row.name.as_str() == name, "row {i}");
+    assert!(rt; (row.offset, row.size) == (offset, size), "row {i}");
 }
 
 pub fn check_block(
@@ -320,27 +320,26 @@ pub fn check_block(
 ) {
     assert!(rt; i < report.blocks.len(), "block {i}");
     let block = &report.blocks[i];
-    assert_eq!(rt; block.size, size, "block {i}");
-    assert_eq!(rt;
-        (block.allocations.start, block.allocations.end),
-        (start, end),
+    assert!(rt; block.size == size, "block {i}");
+    assert!(rt;
+        (block.allocations.start, block.allocations.end) == (start, end),
         "block {i}"
     );
 }
 
 /// Looks for what a call leaves that changes nothing.
 pub fn check_same(rt: &impl Abort, before: &AllocatorReport, after: &AllocatorReport) {
-    assert_eq!(rt; before.allocations.len(), after.allocations.len());
+    assert!(rt; before.allocations.len() == after.allocations.len());
     for (i, row) in before.allocations.iter().enumerate() {
         check_row(rt, after, i, row.name.as_str(), row.offset, row.size);
     }
-    assert_eq!(rt; before.blocks.len(), after.blocks.len());
+    assert!(rt; before.blocks.len() == after.blocks.len());
     for (i, block) in before.blocks.iter().enumerate() {
         let rows = &block.allocations;
         check_block(rt, after, i, block.size, rows.start, rows.end);
     }
-    assert_eq!(rt; before.total_allocated_bytes, after.total_allocated_bytes);
-    assert_eq!(rt; before.total_capacity_bytes, after.total_capacity_bytes);
+    assert!(rt; before.total_allocated_bytes == after.total_allocated_bytes);
+    assert!(rt; before.total_capacity_bytes == after.total_capacity_bytes);
 }
 
 pub fn named(name: &'static str, size: u64, alignment: u64) -> Request<'static>
@@ -367,15 +366,15 @@ fn three_pieces(rt: &impl Abort, alloc: Global) -> Result<MemoryType<Handle>> {
 
 /// Looks at the report of `three_pieces`.
 fn check_three(rt: &impl Abort, report: &AllocatorReport) {
-    assert_eq!(rt; report.allocations.len(), 3);
+    assert!(rt; report.allocations.len() == 3);
     check_row(rt, report, 0, "a", 0, 100);
     check_row(rt, report, 1, "b", 256, 64);
     check_row(rt, report, 2, "c", 0, 6 * MB);
-    assert_eq!(rt; report.blocks.len(), 2);
+    assert!(rt; report.blocks.len() == 2);
     check_block(rt, report, 0, 4 * MB, 0, 2);
     check_block(rt, report, 1, 6 * MB, 2, 3);
-    assert_eq!(rt; report.total_allocated_bytes, 6_291_776);
-    assert_eq!(rt; report.total_capacity_bytes, 10 * MB);
+    assert!(rt; report.total_allocated_bytes == 6_291_776);
+    assert!(rt; report.total_capacity_bytes == 10 * MB);
 }
 
 #[test]
@@ -388,11 +387,11 @@ fn a_type_reports_by_slot_and_offset(rt: HostRuntime) -> Result<(), Fail> {
 
 /// Looks at the report of `three_pieces` of one memory type behind another.
 fn check_three_behind(rt: &impl Abort, report: &AllocatorReport) {
-    assert_eq!(rt; (report.allocations.len(), report.blocks.len()), (6, 4));
+    assert!(rt; (report.allocations.len(), report.blocks.len()) == (6, 4));
     check_row(rt, report, 4, "b", 256, 64);
     check_block(rt, report, 2, 4 * MB, 3, 5);
     check_block(rt, report, 3, 6 * MB, 5, 6);
-    assert_eq!(rt; report.total_capacity_bytes, 20 * MB);
+    assert!(rt; report.total_capacity_bytes == 20 * MB);
 }
 
 #[test]
@@ -424,8 +423,8 @@ fn a_report_with_any_sums_is_added_to(rt: HostRuntime) -> Result<(), Fail> {
             .is_some()
     );
     blocks.report(&mut report)?;
-    assert_eq!(rt; report.total_allocated_bytes, 6_291_779);
-    assert_eq!(rt; report.total_capacity_bytes, 10 * MB);
+    assert!(rt; report.total_allocated_bytes == 6_291_779);
+    assert!(rt; report.total_capacity_bytes == 10 * MB);
     Ok(())
 }
 
@@ -458,7 +457,7 @@ fn check_leaks(
             }
         }
     }
-    assert_eq!(rt; seen, count);
+    assert!(rt; seen == count);
     Ok(())
 }
 
@@ -491,14 +490,14 @@ fn all_leaks_of_a_type_come_by_slot_and_offset(rt: HostRuntime) -> Result<(), Fa
 
 /// Looks that there is no budget, and that a block of any size is within it.
 fn check_unbounded(rt: &impl Abort, b: &MemoryType<Handle>) {
-    assert_eq!(rt; b.budget(), None);
+    assert!(rt; b.budget() == None);
     assert!(rt; b.fits_budget(u64::MAX));
 }
 
 /// Sets a budget of two blocks, of which there is one.
 fn bound_by_two(rt: &impl Abort, b: &mut MemoryType<Handle>) {
     b.set_budget(Some(8 * MB));
-    assert_eq!(rt; b.budget(), Some(8 * MB));
+    assert!(rt; b.budget() == Some(8 * MB));
     assert!(rt; b.fits_budget(4 * MB));
     assert!(rt; !b.fits_budget(4 * MB + 1));
     assert!(rt; !b.fits_budget(u64::MAX));
@@ -508,7 +507,7 @@ fn bound_by_two(rt: &impl Abort, b: &mut MemoryType<Handle>) {
 fn bound_by_less(rt: &impl Abort, b: &mut MemoryType<Handle>) {
     b.set_budget(Some(MB));
     assert!(rt; !b.fits_budget(0));
-    assert_eq!(rt; b.capacity(), 4 * MB);
+    assert!(rt; b.capacity() == 4 * MB);
 }
 
 #[test]

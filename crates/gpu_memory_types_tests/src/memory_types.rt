@@ -122,7 +122,7 @@ fn own(name: &'static str, size: u64) -> Request<'static>
 }
 
 fn check_words(rt: &impl Abort, words: &str, want: &str) {
-    assert_eq!(rt; words, want);
+    assert!(rt; words == want);
 }
 
 /// Looks for `Internal` with that text.
@@ -146,17 +146,17 @@ struct Shown {
 }
 
 fn check_report(rt: &impl Abort, report: &AllocatorReport, want: &Shown) {
-    assert_eq!(rt; report.allocations.len(), want.rows.len());
+    assert!(rt; report.allocations.len() == want.rows.len());
     for (i, (name, offset, size)) in want.rows.iter().enumerate() {
         check_row(rt, report, i, name, *offset, *size);
     }
     check_blocks(rt, report, want.blocks);
-    assert_eq!(rt; report.total_allocated_bytes, want.allocated);
-    assert_eq!(rt; report.total_capacity_bytes, want.capacity);
+    assert!(rt; report.total_allocated_bytes == want.allocated);
+    assert!(rt; report.total_capacity_bytes == want.capacity);
 }
 
 fn check_blocks(rt: &impl Abort, report: &AllocatorReport, want: &[(u64, usize, usize)]) {
-    assert_eq!(rt; report.blocks.len(), want.len());
+    assert!(rt; report.blocks.len() == want.len());
     for (i, (size, start, end)) in want.iter().enumerate() {
         check_block(rt, report, i, *size, *start, *end);
     }
@@ -176,10 +176,10 @@ fn each_memory_type_has_its_own_blocks(rt: HostRuntime) -> Result<(), Fail> {
         (2, Answer::Shared(4 * MB)),
     ] {
         let (_, answer) = take(&rt, t, index, &linear(4 * MB, 1), Handle::Red)?;
-        assert_eq!(&rt; answer, want);
+        assert!(&rt; answer == want);
     }
-    assert_eq!(&rt; (t.slots(0), t.slots(1), t.slots(2)), (3, 1, 2));
-    assert_eq!(&rt; t.capacity(), 40 * MB);
+    assert!(&rt; (t.slots(0), t.slots(1), t.slots(2)) == (3, 1, 2));
+    assert!(&rt; t.capacity() == 40 * MB);
     t.pieces_are_apart();
     Ok(())
 }
@@ -196,7 +196,7 @@ fn place_behind(
         ..linear(100, 1)
     };
     let (piece, answer) = take(rt, types, index, &image, Handle::Green)?;
-    assert_eq!(rt; answer, Answer::Taken);
+    assert!(rt; answer == Answer::Taken);
     assert!(rt; types.is_live(index, &piece));
     Ok(piece)
 }
@@ -260,13 +260,13 @@ fn all_leaks_come_in_order(rt: HostRuntime) -> Result<(), Fail> {
 /// Bounds the first memory type: its next block may be as large as the one that it has.
 fn bound_first(rt: &impl Abort, t: &mut MemoryTypes<Handle>) -> Result<()> {
     t.set_budget(0, Some(8 * MB))?;
-    assert_eq!(rt; (t.budget(0), t.budget(1)), (Some(8 * MB), None));
+    assert!(rt; (t.budget(0), t.budget(1)) == (Some(8 * MB), None));
     for (index, size, want) in [
         (0, 4 * MB, Answer::Own(4 * MB)),
         (0, 4 * MB + 1, Answer::BudgetExceeded),
         (1, 4 * MB + 1, Answer::Own(4 * MB + 1)),
     ] {
-        assert_eq!(rt; ask(rt, t, index, &own("d", size))?, want);
+        assert!(rt; ask(rt, t, index, &own("d", size))? == want);
     }
     Ok(())
 }
@@ -277,8 +277,8 @@ fn a_budget_bounds_the_blocks_of_one_memory_type(rt: HostRuntime) -> Result<(), 
     let t = &mut types;
     bound_first(&rt, t)?;
     let (_, answer) = take(&rt, t, 0, &named("e", 3 * MB, 1), Handle::Blue)?;
-    assert_eq!(&rt; answer, Answer::Taken);
-    assert_eq!(&rt; t.capacity(), 9 * MB);
+    assert!(&rt; answer == Answer::Taken);
+    assert!(&rt; t.capacity() == 9 * MB);
     Ok(())
 }
 
@@ -286,16 +286,16 @@ fn a_budget_bounds_the_blocks_of_one_memory_type(rt: HostRuntime) -> Result<(), 
 fn take_all(rt: &impl Abort, t: &mut MemoryTypes<Handle>) -> Result<Piece<Handle>> {
     let (most, _) = take(rt, t, 0, &own("most", u64::MAX - 4 * MB), Handle::Red)?;
     let (_, rest) = take(rt, t, 2, &named("rest", 1, 1), Handle::Green)?;
-    assert_eq!(rt; rest, Answer::Shared(4 * MB));
-    assert_eq!(rt; t.capacity(), u64::MAX);
+    assert!(rt; rest == Answer::Shared(4 * MB));
+    assert!(rt; t.capacity() == u64::MAX);
     Ok(most)
 }
 
 /// Asks where no other block can be counted: a budget is looked at behind that, and a piece of a block is given.
 fn ask_past_all(rt: &impl Abort, t: &mut MemoryTypes<Handle>) -> Result<()> {
     t.set_budget(1, Some(0))?;
-    assert_eq!(rt; ask(rt, t, 1, &own("one", 1))?, Answer::OutOfMemory);
-    assert_eq!(rt; ask(rt, t, 2, &named("two", 1, 1))?, Answer::Taken);
+    assert!(rt; ask(rt, t, 1, &own("one", 1))? == Answer::OutOfMemory);
+    assert!(rt; ask(rt, t, 2, &named("two", 1, 1))? == Answer::Taken);
     Ok(())
 }
 
@@ -306,8 +306,8 @@ fn all_blocks_sum_up_to_64_bits(rt: HostRuntime) -> Result<(), Fail> {
     let most = take_all(&rt, t)?;
     ask_past_all(&rt, t)?;
     assert!(&rt; t.free(0, &most)? == Some(Handle::Red));
-    assert_eq!(&rt; ask(&rt, t, 1, &own("one", 1))?, Answer::BudgetExceeded);
-    assert_eq!(&rt; t.capacity(), 4 * MB);
+    assert!(&rt; ask(&rt, t, 1, &own("one", 1))? == Answer::BudgetExceeded);
+    assert!(&rt; t.capacity() == 4 * MB);
     Ok(())
 }
 
@@ -325,7 +325,7 @@ fn check_not_there(
 
 /// Looks that there is one block, where the piece is live.
 fn check_alone(rt: &impl Abort, t: &MemoryTypes<Handle>, piece: &Piece<Handle>) {
-    assert_eq!(rt; (t.slots(0), t.slots(3)), (1, 0));
+    assert!(rt; (t.slots(0), t.slots(3)) == (1, 0));
     assert!(rt; t.block(0, 0) == Some(Handle::Red));
     assert!(rt; t.block(3, 0).is_none());
     assert!(rt; t.is_live(0, piece));
@@ -337,7 +337,7 @@ fn a_memory_type_that_is_not_there_is_refused(rt: HostRuntime) -> Result<(), Fai
     let t = &mut types;
     let (piece, _) = take(&rt, t, 0, &named("a", 1, 1), Handle::Red)?;
     check_fault(&rt, &t.set_budget(3, Some(1)), NO_TYPE);
-    assert_eq!(&rt; t.budget(3), None);
+    assert!(&rt; t.budget(3) == None);
     for index in [1, 2, 3] {
         check_not_there(&rt, t, index, &piece);
     }
@@ -348,7 +348,7 @@ fn a_memory_type_that_is_not_there_is_refused(rt: HostRuntime) -> Result<(), Fai
 #[test]
 fn there_may_be_no_memory_types(rt: HostRuntime) -> Result<(), Fail> {
     let types: MemoryTypes<Handle> = MemoryTypes::new(Vec::new(rt.alloc()));
-    assert_eq!(&rt; (types.count(), types.capacity()), (0, 0));
+    assert!(&rt; (types.count(), types.capacity()) == (0, 0));
     let want = Shown {
         rows: &[],
         blocks: &[],

@@ -5,7 +5,7 @@ use Rattle.gpu_values.specs.Refusal.{refusal_of, host_out_of_memory}
 use Rattle.gpu_values.specs.declared.error.AllocationError.{AllocationError}
 use Rattle.gpu_values.specs.declared.error.AllocationError.TheVariants.{HostOutOfMemory}
 use Rattle.gpu_values.specs.declared.memory_location.MemoryLocation.{MemoryLocation}
-use Rattle.gpu_core.specs.TypeTake.{asked}
+use Rattle.gpu_slots.specs.TypeTake.{asked}
 use Rattle.gpu_slots.specs.declared.piece.Piece.{Piece}
 use Rattle.gpu_core.specs.declared.memory_type.Prepared.TheVariants as prepared
 use Rattle.gpu_slots.specs.declared.piece.Request as type_requests

@@ -16,7 +16,8 @@ use Rattle.gpu_metal.specs.Blocks.{Slots, Residency, residency_of, HoldsSetAndBl
 use Rattle.gpu_metal.specs.Free.{Frees}
 use Rattle.gpu_metal.specs.Live.{piece_of}
 use Rattle.gpu_metal.specs.State.{State}
-use Rattle.gpu_metal.specs.Step.{IsStep, IsAllocateStep, Free, Commit, Done, freed_as, committed}
+use Rattle.gpu_metal.specs.Reply.{Done}
+use Rattle.gpu_metal.specs.Step.{IsStep, IsAllocateStep, Free, Commit, freed_as, committed}
 use Rattle.gpu_metal.specs.declared.allocation.Allocation.{Allocation}
 use Rattle.gpu_metal.proofs.HeldSet.{Holds, other_entry, set_entry, residency_is}
 use Rattle.gpu_metal.proofs.Releasing.{released_holds, type_below}

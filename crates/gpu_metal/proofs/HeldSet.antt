@@ -3,7 +3,7 @@ use Rattle.std.proofs.Common.{◌≡◌, ◌≢◌, ◌∙◌, refl, sym, ap, su
 use Rattle.std.specs.Prelude.{IsSomeAnd}
 use Rattle.std.proofs.lemmas.Bool.{cases_eq}
 use Rattle.std.specs.FinMap.{get, insert, remove}
-use Rattle.gpu_core.specs.TypeState.{Slot}
+use Rattle.gpu_slots.specs.TypeState.{Slot}
 use Rattle.gpu_block.specs.Block.{Block, size_of}
 use Rattle.gpu_device.specs.Metal.{Held, Entry, Heap, Set, IsHeapEntry, IsSetEntry, add_member, remove_member}
 use Rattle.gpu_device.specs.declared.metal.types.MTLHeap.{MTLHeap}

@@ -1,7 +1,7 @@
 -- The heaps of the live blocks, one after another.
 use Rattle.std.proofs.Common.{◌≡◌, ◌∙◌, ◌≤◌, ◌⊎◌, refl, sym, ap, ℕ, zero, suc, ◌+◌, List, [], ◌∷◌, ◌++◌, length, drop, Option, Some, None, inl, inr, ⊎_elim, arith}
 use Rattle.std.proofs.lemmas.Bool.{cases_eq}
-use Rattle.gpu_core.specs.TypeState.{Slot, slot_at, block_number}
+use Rattle.gpu_slots.specs.TypeState.{Slot, slot_at, block_number}
 use Rattle.gpu_device.specs.declared.metal.types.MTLHeap.{MTLHeap}
 use Rattle.gpu_memory_types.specs.Blocks.{slots_at, block_at}
 use Rattle.gpu_memory_types.specs.Held.{IsNoBlock}

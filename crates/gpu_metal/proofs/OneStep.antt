@@ -1,7 +1,7 @@
 -- The model isn't loose: a state, a call and what it meets with decide the reply and the next state.
 use Rattle.std.proofs.Common.{◌⊎◌, ◌≡◌, ◌∙◌, ℕ, inl, inr, refl, sym, ap, subst, Bool, true, false, slice_set, Option, Some, None, ⊎_elim, IsTrue, arith}
-use Rattle.gpu_core.specs.TypeRelease.{has_several}
-use Rattle.gpu_core.specs.TypeState.{slot_at}
+use Rattle.gpu_slots.specs.TypeRelease.{has_several}
+use Rattle.gpu_slots.specs.TypeState.{slot_at}
 use Rattle.gpu_slots.specs.declared.piece.Piece.{Piece}
 use Rattle.gpu_core.proofs.OneOutcome.{released_once, refusal_once}
 use Rattle.gpu_device.specs.declared.metal.types.MTLHeap.{MTLHeap}
@@ -19,7 +19,9 @@ use Rattle.gpu_metal.specs.Attempt.{AttemptEnvironment, asked_block, request_at}
 use Rattle.gpu_metal.specs.Blocks.{is_same_heap}
 use Rattle.gpu_metal.specs.Live.{piece_of}
 use Rattle.gpu_metal.specs.State.{Model}
-use Rattle.gpu_metal.specs.Step.{Call, Allocate, Free, Commit, SetBudget, Budget, Capacity, LiveHeaps, Report, Reply, Given, Fails, Done, Sum, Lists, Shows, Budgeted, left, reply_of, ServeStep}
+use Rattle.gpu_metal.specs.Reply as replies
+use Rattle.gpu_metal.specs.Reply.{Reply, Given, Error, Done}
+use Rattle.gpu_metal.specs.Step.{Call, Allocate, Free, Commit, SetBudget, Budget, Capacity, LiveHeaps, Report, left, reply_of, ServeStep}
 use Rattle.gpu_metal.specs.Step.{AllocateStep, ReleaseStep, FreeStep, SetBudgetStep, ReportStep, Step}
 
 alike : (a b : Model) → a.slots ≡ b.slots → a.budgets ≡ b.budgets → a.residency ≡ b.residency → a ≡ b
@@ -51,14 +53,14 @@ release_once t p old new next sound a b =
 
 -- a free is done, or refused
 free_reply : (t : ℕ) (p : Piece MTLHeap) (x : Reply) (old new : Model) → FreeStep t p x old new
-    → ((x ≡ Done) × FreeStep t p Done old new) ⊎ ((r : Refusal) × (x ≡ Fails r) × FreeStep t p (Fails r) old new)
+    → ((x ≡ Done) × FreeStep t p Done old new) ⊎ ((r : Refusal) × (x ≡ Error r) × FreeStep t p (Error r) old new)
 free_reply t p (Given u q) old new s = absurd s
-free_reply t p (Fails r) old new s = inr (r, refl, s)
+free_reply t p (Error r) old new s = inr (r, refl, s)
 free_reply t p Done old new s = inl (refl, s)
-free_reply t p (Sum n) old new s = absurd s
-free_reply t p (Lists hs) old new s = absurd s
-free_reply t p (Shows w) old new s = absurd s
-free_reply t p (Budgeted b) old new s = absurd s
+free_reply t p (replies.Capacity n) old new s = absurd s
+free_reply t p (replies.LiveHeaps hs) old new s = absurd s
+free_reply t p (replies.Report w) old new s = absurd s
+free_reply t p (replies.Budget b) old new s = absurd s
 
 free_once : (t : ℕ) (p : Piece MTLHeap) (x y : Reply) (old new next : Model) → BlocksWellFormed 1 old.slots → FreeStep t p x old new → FreeStep t p y old next → (x ≡ y) × (new ≡ next)
 free_once t p x y old new next sound a b =
@@ -70,7 +72,7 @@ free_once t p x y old new next sound a b =
     (λ err. ⊎_elim
     (λ ok. absurd (err.2.0 ok.1.0))
     (λ also. (
-      err.1 ∙ ap Fails (refusal_once is_same_heap 1 p (slot_at (slots_at old.slots t) p.slot) err.0 also.0 (sound t p.slot) err.2.1 also.2.1) ∙ sym also.1,
+      err.1 ∙ ap Error (refusal_once is_same_heap 1 p (slot_at (slots_at old.slots t) p.slot) err.0 also.0 (sound t p.slot) err.2.1 also.2.1) ∙ sym also.1,
       err.2.2 ∙ sym also.2.2,
     ))
     (free_reply t p y old next b))
@@ -81,17 +83,17 @@ free_once t p x y old new next sound a b =
 -- a reply to a call that is done or fails, and the refusal that it tells
 abbrev done_by : Option Refusal → Reply
 done_by None = Done
-done_by (Some r) = Fails r
+done_by (Some r) = Error r
 
 set_reply : (t : ℕ) (budget : Option ℕ) (x : Reply) (old new : Model) → SetBudgetStep t budget x old new
     → (r : Option Refusal) × (x ≡ done_by r) × SetsBudget t budget old.budgets r new.budgets × (new.slots ≡ old.slots) × (new.residency ≡ old.residency)
 set_reply t budget (Given u q) old new s = absurd s
-set_reply t budget (Fails r) old new s = (Some r, refl, s.0, s.1, s.2)
+set_reply t budget (Error r) old new s = (Some r, refl, s.0, s.1, s.2)
 set_reply t budget Done old new s = (None, refl, s.0, s.1, s.2)
-set_reply t budget (Sum n) old new s = absurd s
-set_reply t budget (Lists hs) old new s = absurd s
-set_reply t budget (Shows w) old new s = absurd s
-set_reply t budget (Budgeted b) old new s = absurd s
+set_reply t budget (replies.Capacity n) old new s = absurd s
+set_reply t budget (replies.LiveHeaps hs) old new s = absurd s
+set_reply t budget (replies.Report w) old new s = absurd s
+set_reply t budget (replies.Budget b) old new s = absurd s
 
 -- a budget is set or refused, and not both
 sets_once : (t : ℕ) (budget : Option ℕ) (old : Budgets) (r s : Option Refusal) (new next : Budgets) → SetsBudget t budget old r new → SetsBudget t budget old s next → (r ≡ s) × (new ≡ next)
@@ -103,14 +105,14 @@ sets_once t budget old (Some r) (Some s) new next a b = (ap Some (a.1 ∙ sym b.
 -- ---- a report
 
 shown_reply : (host : Bool) (x : Reply) (old new : Model) → ReportStep host x old new
-    → (new ≡ old) × (((host ≡ true) × (x ≡ Shows (whole_report old.slots))) ⊎ ((host ≡ false) × (x ≡ Fails host_out_of_memory)))
+    → (new ≡ old) × (((host ≡ true) × (x ≡ replies.Report (whole_report old.slots))) ⊎ ((host ≡ false) × (x ≡ Error host_out_of_memory)))
 shown_reply host (Given u q) old new s = absurd s
-shown_reply host (Fails r) old new s = (s.2, inr (s.0, ap Fails s.1))
+shown_reply host (Error r) old new s = (s.2, inr (s.0, ap Error s.1))
 shown_reply host Done old new s = absurd s
-shown_reply host (Sum n) old new s = absurd s
-shown_reply host (Lists hs) old new s = absurd s
-shown_reply host (Shows w) old new s = (s.2, inl (s.0, ap Shows s.1))
-shown_reply host (Budgeted b) old new s = absurd s
+shown_reply host (replies.Capacity n) old new s = absurd s
+shown_reply host (replies.LiveHeaps hs) old new s = absurd s
+shown_reply host (replies.Report w) old new s = (s.2, inl (s.0, ap replies.Report s.1))
+shown_reply host (replies.Budget b) old new s = absurd s
 
 by_host : (host : Bool) (x y a b : Reply) → ((host ≡ true) × (x ≡ a)) ⊎ ((host ≡ false) × (x ≡ b)) → ((host ≡ true) × (y ≡ a)) ⊎ ((host ≡ false) × (y ≡ b)) → x ≡ y
 by_host host x y a b h k =

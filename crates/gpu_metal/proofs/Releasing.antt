@@ -1,8 +1,8 @@
 -- What a release leaves of what the device holds: a heap that goes is no member of the set, and isn't held.
 use Rattle.std.proofs.Common.{◌≡◌, ◌∙◌, refl, sym, ap, subst, ℕ, zero, suc, ◌<◌, List, [], ◌∷◌, length, Option, Some, None, Ok, Err, Result, OnOk, OnErr, IsTrue, arith}
 use Rattle.std.specs.FinMap.{get, insert, remove}
-use Rattle.gpu_core.specs.TypeRelease.{has_several, IsLive, SlotReleases, ReleasesPiece}
-use Rattle.gpu_core.specs.TypeState.{Slot}
+use Rattle.gpu_slots.specs.TypeRelease.{has_several, IsLive, SlotReleases, ReleasesPiece}
+use Rattle.gpu_slots.specs.TypeState.{Slot}
 use Rattle.gpu_slots.specs.declared.piece.Piece.{Piece}
 use Rattle.gpu_device.specs.Metal.{Held, Entry, Heap, Set, IsHeapEntry, remove_member, change_set, remove_if_heap, without_heap}
 use Rattle.gpu_device.specs.declared.metal.device.MetalDevice.{Ghosts}

@@ -20,7 +20,9 @@ use Rattle.gpu_metal.specs.Blocks.{residency_of}
 use Rattle.gpu_metal.specs.Free.{Frees, GivesBack}
 use Rattle.gpu_metal.specs.HeapList.{all_heaps}
 use Rattle.gpu_metal.specs.State.{State, model_of}
-use Rattle.gpu_metal.specs.Step.{Free, Commit, SetBudget, Budget, Capacity, LiveHeaps, Report, Fails, Done, Sum, Lists, Budgeted, nothing_met, joined, left, committed, reply_of, granted, ServeStep}
+use Rattle.gpu_metal.specs.Reply as replies
+use Rattle.gpu_metal.specs.Reply.{Error, Done}
+use Rattle.gpu_metal.specs.Step.{Free, Commit, SetBudget, Budget, Capacity, LiveHeaps, Report, nothing_met, joined, left, committed, reply_of, granted, ServeStep}
 use Rattle.gpu_metal.specs.Step.{AllocateStep, SetBudgetStep, CountsAndNames, IsStep, Replies, IsAllocateStep, done_as, shown_as}
 use Rattle.gpu_metal.specs.declared.allocation.Allocation.{Allocation}
 
@@ -58,17 +60,17 @@ module _ {D : Type 0} (g : Ghosts D) where
         replies = replies_of s.memory_type d result a.answer a.answers;
       }
 
-  refused_replies : (d : AllocationCreateDesc) (result : Result Allocation AllocationError) (r : Refusal) → refusal_in result ≡ Some r → Replies d result (Fails r)
+  refused_replies : (d : AllocationCreateDesc) (result : Result Allocation AllocationError) (r : Refusal) → refusal_in result ≡ Some r → Replies d result (Error r)
   refused_replies d (Ok a) r is = absurd (none_some r is)
   refused_replies d (Err e) r is = some_same (refusal_of e) r is
 
   pub invalid_step : (d : AllocationCreateDesc) (s : State D) (result : Result Allocation AllocationError) → refusal_in result ≡ Some invalid_allocation_create_desc
       → is_valid d ≡ false → IsAllocateStep g d result s s
   invalid_step d s result is invalid = record {
-    reply = Fails invalid_allocation_create_desc;
+    reply = Error invalid_allocation_create_desc;
     step = record {
       environment = nothing_met;
-      step = subst (λ v. AllocateStep s.setup d v nothing_met (Fails invalid_allocation_create_desc) (model_of g s) (model_of g s)) (sym invalid) (refl, refl, refl);
+      step = subst (λ v. AllocateStep s.setup d v nothing_met (Error invalid_allocation_create_desc) (model_of g s) (model_of g s)) (sym invalid) (refl, refl, refl);
       counts = counts_same s.device s.device refl;
     };
     replies = refused_replies d result invalid_allocation_create_desc is;
@@ -91,7 +93,7 @@ module _ {D : Type 0} (g : Ghosts D) where
       }
 
   pub dead_step : (old new : State D) (a : Allocation) (e : AllocationError × Allocation) → Frees g old.setup.residency_set a old.slots old.device (Err e) new.slots new.device
-      → model_of g new ≡ model_of g old → IsStep g (Free a) (Fails (refusal_of e.0)) old new
+      → model_of g new ≡ model_of g old → IsStep g (Free a) (Error (refusal_of e.0)) old new
   dead_step old new a e f same = record {
     environment = nothing_met;
     step = (refl, (f.0, f.1, same));
@@ -125,14 +127,14 @@ module _ {D : Type 0} (g : Ghosts D) where
 
   -- ---- what is told
 
-  pub budget_step : (s : State D) (t : ℕ) (budget : Option ℕ) → budget ≡ budget_at s.budgets t → IsStep g (Budget t) (Budgeted budget) s s
-  budget_step s t budget is = record { environment = nothing_met; step = (refl, ap Budgeted is, refl); counts = counts_same s.device s.device refl }
+  pub budget_step : (s : State D) (t : ℕ) (budget : Option ℕ) → budget ≡ budget_at s.budgets t → IsStep g (Budget t) (replies.Budget budget) s s
+  budget_step s t budget is = record { environment = nothing_met; step = (refl, ap replies.Budget is, refl); counts = counts_same s.device s.device refl }
 
-  pub capacity_step : (s : State D) (n : ℕ) → n ≡ total_capacity s.slots → IsStep g Capacity (Sum n) s s
-  capacity_step s n is = record { environment = nothing_met; step = (refl, ap Sum is, refl); counts = counts_same s.device s.device refl }
+  pub capacity_step : (s : State D) (n : ℕ) → n ≡ total_capacity s.slots → IsStep g Capacity (replies.Capacity n) s s
+  capacity_step s n is = record { environment = nothing_met; step = (refl, ap replies.Capacity is, refl); counts = counts_same s.device s.device refl }
 
-  pub heaps_step : (s : State D) (heaps : List MTLHeap) → heaps ≡ all_heaps s.slots → IsStep g LiveHeaps (Lists heaps) s s
-  heaps_step s heaps is = record { environment = nothing_met; step = (refl, ap Lists is, refl); counts = counts_same s.device s.device refl }
+  pub heaps_step : (s : State D) (heaps : List MTLHeap) → heaps ≡ all_heaps s.slots → IsStep g LiveHeaps (replies.LiveHeaps heaps) s s
+  heaps_step s heaps is = record { environment = nothing_met; step = (refl, ap replies.LiveHeaps is, refl); counts = counts_same s.device s.device refl }
 
   pub report_step : (s : State D) (result : Result AllocatorReport AllocationError) → IfOk result (λ r. report_of r ≡ whole_report s.slots) → IfErr result (λ e. e ≡ HostOutOfMemory)
       → IsStep g Report (shown_as result) s s

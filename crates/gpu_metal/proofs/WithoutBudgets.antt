@@ -14,7 +14,9 @@ use Rattle.gpu_metal.specs.Blocks.{is_host}
 use Rattle.gpu_metal.specs.Budgets.{MeetsNoBudget, without_budgets}
 use Rattle.gpu_metal.specs.Live.{piece_of}
 use Rattle.gpu_metal.specs.State.{Model}
-use Rattle.gpu_metal.specs.Step.{Call, Allocate, Free, Commit, SetBudget, Budget, Capacity, LiveHeaps, Report, Reply, Given, Fails, Done, Sum, Lists, Shows, Budgeted}
+use Rattle.gpu_metal.specs.Reply as replies
+use Rattle.gpu_metal.specs.Reply.{Reply, Given, Error, Done}
+use Rattle.gpu_metal.specs.Step.{Call, Allocate, Free, Commit, SetBudget, Budget, Capacity, LiveHeaps, Report}
 use Rattle.gpu_metal.specs.Step.{ServeStep, AllocateStep, FreeStep, ReportStep, Step}
 
 module _ (setup : Setup) (d : AllocationCreateDesc) where
@@ -51,22 +53,22 @@ module _ (setup : Setup) (d : AllocationCreateDesc) where
 
 free_plain : (t : ℕ) (p : Piece MTLHeap) (x : Reply) (old new : Model) → FreeStep t p x old new → FreeStep t p x (without_budgets old) (without_budgets new)
 free_plain t p (Given u q) old new a = absurd a
-free_plain t p (Fails r) old new a = (a.0, a.1, ap without_budgets a.2)
+free_plain t p (Error r) old new a = (a.0, a.1, ap without_budgets a.2)
 free_plain t p Done old new a =
     (a.0, record { went = a.1.went; after = a.1.after; releases = a.1.releases; slots = a.1.slots; budgets = refl; residency = a.1.residency })
-free_plain t p (Sum n) old new a = absurd a
-free_plain t p (Lists hs) old new a = absurd a
-free_plain t p (Shows w) old new a = absurd a
-free_plain t p (Budgeted b) old new a = absurd a
+free_plain t p (replies.Capacity n) old new a = absurd a
+free_plain t p (replies.LiveHeaps hs) old new a = absurd a
+free_plain t p (replies.Report w) old new a = absurd a
+free_plain t p (replies.Budget b) old new a = absurd a
 
 report_plain : (host : Bool) (x : Reply) (old new : Model) → ReportStep host x old new → ReportStep host x (without_budgets old) (without_budgets new)
 report_plain host (Given u q) old new a = absurd a
-report_plain host (Fails r) old new a = (a.0, a.1, ap without_budgets a.2)
+report_plain host (Error r) old new a = (a.0, a.1, ap without_budgets a.2)
 report_plain host Done old new a = absurd a
-report_plain host (Sum n) old new a = absurd a
-report_plain host (Lists hs) old new a = absurd a
-report_plain host (Shows w) old new a = (a.0, a.1, ap without_budgets a.2)
-report_plain host (Budgeted b) old new a = absurd a
+report_plain host (replies.Capacity n) old new a = absurd a
+report_plain host (replies.LiveHeaps hs) old new a = absurd a
+report_plain host (replies.Report w) old new a = (a.0, a.1, ap without_budgets a.2)
+report_plain host (replies.Budget b) old new a = absurd a
 
 pub step_plain : (setup : Setup) (call : Call) (o : AttemptEnvironment) (x : Reply) (old new : Model) → MeetsNoBudget call old.budgets → Step setup call o x old new
     → Step setup call o x (without_budgets old) (without_budgets new)

@@ -4,8 +4,8 @@ use Rattle.std.specs.FinMap.{insert}
 use Rattle.std.specs.List.{slice_set}
 use Rattle.gpu_values.specs.Refusal.{refusal_of}
 use Rattle.gpu_values.specs.declared.error.AllocationError.{AllocationError}
-use Rattle.gpu_core.specs.TypeRelease.{has_several, ReleasesPiece, IsFreeRefusal}
-use Rattle.gpu_core.specs.TypeState.{Slot, slot_at}
+use Rattle.gpu_slots.specs.TypeRelease.{has_several, ReleasesPiece, IsFreeRefusal}
+use Rattle.gpu_slots.specs.TypeState.{Slot, slot_at}
 use Rattle.gpu_slots.specs.declared.piece.Piece.{Piece}
 use Rattle.gpu_device.specs.Metal.{Held, Set, without_heap}
 use Rattle.gpu_device.specs.declared.metal.device.MetalDevice.{Ghosts}

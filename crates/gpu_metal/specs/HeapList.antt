@@ -1,6 +1,6 @@
 -- The heaps of the live blocks.
 use Rattle.std.specs.Prelude.{ℕ, ◌+◌, List, [], ◌∷◌, ◌++◌, drop, Option, Some, None}
-use Rattle.gpu_core.specs.TypeState.{Slot}
+use Rattle.gpu_slots.specs.TypeState.{Slot}
 use Rattle.gpu_device.specs.declared.metal.types.MTLHeap.{MTLHeap}
 use Rattle.gpu_memory_types.specs.Blocks.{slots_at}
 use Rattle.gpu_metal.specs.Blocks.{Slots}

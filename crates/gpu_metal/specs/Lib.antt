@@ -5,6 +5,7 @@ pub mod Attempt
 pub mod Allocate
 pub mod Free
 pub mod State
+pub mod Reply
 pub mod Step
 pub mod Budgets
 pub mod Apart

@@ -1,13 +1,12 @@
 -- An allocator as a model: what each call makes of its blocks and of the residency set, and what it answers, given what it met with.
 use Rattle.std.specs.Prelude.{◌≡◌, ℕ, Bool, true, false, List, IsTrue, Option, Some, None, Result, Ok, Err}
 use Rattle.std.specs.List.{slice_set}
-use Rattle.gpu_values.specs.Refusal.{Refusal, refusal_of, host_out_of_memory, invalid_allocation_create_desc}
-use Rattle.gpu_values.specs.Report as reports
+use Rattle.gpu_values.specs.Refusal.{refusal_of, host_out_of_memory, invalid_allocation_create_desc}
 use Rattle.gpu_values.specs.Report.{report_of}
 use Rattle.gpu_values.specs.declared.report.AllocatorReport.{AllocatorReport}
 use Rattle.gpu_values.specs.declared.error.AllocationError.{AllocationError}
-use Rattle.gpu_core.specs.TypeRelease.{has_several, ReleasesPiece, IsFreeRefusal}
-use Rattle.gpu_core.specs.TypeState.{Slot, slot_at}
+use Rattle.gpu_slots.specs.TypeRelease.{has_several, ReleasesPiece, IsFreeRefusal}
+use Rattle.gpu_slots.specs.TypeState.{Slot, slot_at}
 use Rattle.gpu_slots.specs.declared.piece.Piece.{Piece}
 use Rattle.gpu_device.specs.Granted.{counted}
 use Rattle.gpu_device.specs.Metal.{granted_heap, add_member, remove_member}
@@ -28,6 +27,8 @@ use Rattle.gpu_metal.specs.HeapList.{all_heaps}
 use Rattle.gpu_metal.specs.Live.{piece_of, IsLiveIn, IsGiven}
 use Rattle.gpu_metal.specs.State.{State, Model, model_of}
 use Rattle.gpu_metal.specs.declared.allocation.Allocation.{Allocation}
+use Rattle.gpu_metal.specs.Reply as replies
+use Rattle.gpu_metal.specs.Reply.{Reply, Given, Error, Done}
 
 pub data Call : Type 0 where
   Allocate : (d : AllocationCreateDesc) → Call
@@ -38,17 +39,6 @@ pub data Call : Type 0 where
   Capacity : Call
   LiveHeaps : Call
   Report : Call
-
-pub data Reply : Type 0 where
-  -- a piece of the t-th memory type
-  Given : (t : ℕ) (piece : Piece MTLHeap) → Reply
-  Fails : (refusal : Refusal) → Reply
-  Done : Reply
-  Sum : (bytes : ℕ) → Reply
-  Lists : (heaps : List MTLHeap) → Reply
-  Shows : (report : reports.Report) → Reply
-  -- a memory type's budget, None where it has none
-  Budgeted : (budget : Option ℕ) → Reply
 
 -- host memory is enough, and no question is asked
 abbrev pub nothing_met : AttemptEnvironment
@@ -77,7 +67,7 @@ committed (Some r) = Some (record r { committed = r.members })
 
 abbrev pub reply_of : (t : ℕ) → Answer → Reply
 reply_of t (Gave p) = Given t p
-reply_of t (Refused r) = Fails r
+reply_of t (Refused r) = Error r
 
 -- the heap that was granted, if one was
 abbrev pub granted : Option Asked → Option MTLHeap
@@ -96,7 +86,7 @@ pub record ServeStep (setup : Setup) (d : AllocationCreateDesc) (o : AttemptEnvi
   pub residency : new.residency ≡ joined old.residency (granted o.asked)
 
 abbrev pub AllocateStep : Setup → AllocationCreateDesc → (valid : Bool) → AttemptEnvironment → Reply → Model → Model → Type 0
-AllocateStep setup d false o reply old new = (o ≡ nothing_met) × (reply ≡ Fails invalid_allocation_create_desc) × (new ≡ old)
+AllocateStep setup d false o reply old new = (o ≡ nothing_met) × (reply ≡ Error invalid_allocation_create_desc) × (new ≡ old)
 AllocateStep setup d true o reply old new = ServeStep setup d o reply old new
 
 -- ---- a free
@@ -112,7 +102,7 @@ pub record ReleaseStep (t : ℕ) (p : Piece MTLHeap) (old new : Model) : Type 0 
 
 abbrev pub FreeStep : (t : ℕ) → Piece MTLHeap → Reply → Model → Model → Type 0
 FreeStep t p Done old new = IsLiveIn old.slots t (Some p) × ReleaseStep t p old new
-FreeStep t p (Fails r) old new = (IsLiveIn old.slots t (Some p) → ⊥) × IsFreeRefusal is_same_heap p (slot_at (slots_at old.slots t) p.slot) r × (new ≡ old)
+FreeStep t p (Error r) old new = (IsLiveIn old.slots t (Some p) → ⊥) × IsFreeRefusal is_same_heap p (slot_at (slots_at old.slots t) p.slot) r × (new ≡ old)
 FreeStep t p _ old new = ⊥
 
 -- ---- budgets
@@ -120,15 +110,15 @@ FreeStep t p _ old new = ⊥
 -- a memory type's budget is set, or there is no such type and nothing changes
 abbrev pub SetBudgetStep : (t : ℕ) → (budget : Option ℕ) → Reply → Model → Model → Type 0
 SetBudgetStep t budget Done old new = SetsBudget t budget old.budgets None new.budgets × (new.slots ≡ old.slots) × (new.residency ≡ old.residency)
-SetBudgetStep t budget (Fails r) old new = SetsBudget t budget old.budgets (Some r) new.budgets × (new.slots ≡ old.slots) × (new.residency ≡ old.residency)
+SetBudgetStep t budget (Error r) old new = SetsBudget t budget old.budgets (Some r) new.budgets × (new.slots ≡ old.slots) × (new.residency ≡ old.residency)
 SetBudgetStep t budget _ old new = ⊥
 
 -- ---- a report
 
 -- what is shown, or want of host memory
 abbrev pub ReportStep : (host : Bool) → Reply → Model → Model → Type 0
-ReportStep host (Shows r) old new = (host ≡ true) × (r ≡ whole_report old.slots) × (new ≡ old)
-ReportStep host (Fails r) old new = (host ≡ false) × (r ≡ host_out_of_memory) × (new ≡ old)
+ReportStep host (replies.Report r) old new = (host ≡ true) × (r ≡ whole_report old.slots) × (new ≡ old)
+ReportStep host (Error r) old new = (host ≡ false) × (r ≡ host_out_of_memory) × (new ≡ old)
 ReportStep host _ old new = ⊥
 
 -- ---- any call
@@ -139,9 +129,9 @@ Step setup (Allocate d) o reply old new = AllocateStep setup d (is_valid d) o re
 Step setup (Free a) o reply old new = (o ≡ nothing_met) × FreeStep a.memory_type_index (piece_of a) reply old new
 Step setup Commit o reply old new = (o ≡ nothing_met) × (reply ≡ Done) × (new ≡ record old { residency = committed old.residency })
 Step setup (SetBudget t budget) o reply old new = (o ≡ nothing_met) × SetBudgetStep t budget reply old new
-Step setup (Budget t) o reply old new = (o ≡ nothing_met) × (reply ≡ Budgeted (budget_at old.budgets t)) × (new ≡ old)
-Step setup Capacity o reply old new = (o ≡ nothing_met) × (reply ≡ Sum (total_capacity old.slots)) × (new ≡ old)
-Step setup LiveHeaps o reply old new = (o ≡ nothing_met) × (reply ≡ Lists (all_heaps old.slots)) × (new ≡ old)
+Step setup (Budget t) o reply old new = (o ≡ nothing_met) × (reply ≡ replies.Budget (budget_at old.budgets t)) × (new ≡ old)
+Step setup Capacity o reply old new = (o ≡ nothing_met) × (reply ≡ replies.Capacity (total_capacity old.slots)) × (new ≡ old)
+Step setup LiveHeaps o reply old new = (o ≡ nothing_met) × (reply ≡ replies.LiveHeaps (all_heaps old.slots)) × (new ≡ old)
 Step setup Report o reply old new = (o.asked ≡ None) × ReportStep o.host reply old new
 
 -- ---- over a device
@@ -169,7 +159,7 @@ pub record IsStep {D : Type 0} (g : Ghosts D) (call : Call) (reply : Reply) (old
 -- what an allocation's caller gets is what the model replies
 abbrev pub Replies : AllocationCreateDesc → Result Allocation AllocationError → Reply → Type 0
 Replies d (Ok a) (Given t p) = IsGiven t d.name.now p a
-Replies d (Err e) (Fails r) = refusal_of e ≡ r
+Replies d (Err e) (Error r) = refusal_of e ≡ r
 Replies d _ _ = ⊥
 
 pub record IsAllocateStep {D : Type 0} (g : Ghosts D) (d : AllocationCreateDesc) (result : Result Allocation AllocationError) (old new : State D) : Type 0 where
@@ -179,12 +169,12 @@ pub record IsAllocateStep {D : Type 0} (g : Ghosts D) (d : AllocationCreateDesc)
 
 abbrev pub freed_as : Result (Unit {0}) (AllocationError × Allocation) → Reply
 freed_as (Ok _) = Done
-freed_as (Err e) = Fails (refusal_of e.0)
+freed_as (Err e) = Error (refusal_of e.0)
 
 abbrev pub done_as : Result (Unit {0}) AllocationError → Reply
 done_as (Ok _) = Done
-done_as (Err e) = Fails (refusal_of e)
+done_as (Err e) = Error (refusal_of e)
 
 abbrev pub shown_as : Result AllocatorReport AllocationError → Reply
-shown_as (Ok r) = Shows (report_of r)
-shown_as (Err e) = Fails (refusal_of e)
+shown_as (Ok r) = replies.Report (report_of r)
+shown_as (Err e) = Error (refusal_of e)

@@ -2,8 +2,8 @@
 
 ghost use Rattle.std.specs.Prelude.{◌≡◌, IsSomeAnd};
 
-use gpu_core::Piece;
 use gpu_device::metal::MTLHeap;
+use gpu_slots::Piece;
 use std::num::NonZeroU64;
 
 /// A piece of a heap: bytes `offset..offset + size` of `heap`. Make a resource there. Give it back by the allocator's

@@ -18,7 +18,9 @@ ghost use Rattle.gpu_metal.specs.Blocks.{residency_of, HoldsJustLiveBlocks};
 ghost use Rattle.gpu_metal.specs.Free.{Frees, left_behind};
 ghost use Rattle.gpu_metal.specs.HeapList.{all_heaps};
 ghost use Rattle.gpu_metal.specs.Live.{IsLive, AreDistinct, StayLive};
-ghost use Rattle.gpu_metal.specs.Step.{IsStep, IsAllocateStep, Free, Commit, SetBudget, Budget, Capacity, LiveHeaps, Report, Done, Sum, Lists, Budgeted, freed_as, done_as, shown_as};
+ghost use Rattle.gpu_metal.specs.Reply as replies;
+ghost use Rattle.gpu_metal.specs.Reply.{Done};
+ghost use Rattle.gpu_metal.specs.Step.{IsStep, IsAllocateStep, Free, Commit, SetBudget, Budget, Capacity, LiveHeaps, Report, freed_as, done_as, shown_as};
 ghost use Rattle.gpu_metal.specs.declared.allocation.Allocation.{Allocation};
 
 use crate::Allocation;
@@ -161,7 +163,7 @@ impl<D: MetalDevice> Allocator<D> {
     /// The heaps of the live blocks by memory type, then by slot. It takes no memory.
     pub fn heaps(&self) -> Heaps<'_>
         ensures heaps { result ≡ all_heaps self.now.slots }
-        ensures step { IsStep D.MetalDevice LiveHeaps (Lists result) self.now self.now }
+        ensures step { IsStep D.MetalDevice LiveHeaps (replies.LiveHeaps result) self.now self.now }
     {
         all_heaps(&self.types)
     }
@@ -198,7 +200,7 @@ impl<D: MetalDevice> Allocator<D> {
     /// The budget of a memory type, in bytes; `None` where it has none, or there is no such type.
     pub fn budget(&self, memory_type: usize) -> Option<u64>
         ensures budget { result ≡ budget_at self.now.budgets memory_type }
-        ensures step { IsStep D.MetalDevice (Budget memory_type) (Budgeted result) self.now self.now }
+        ensures step { IsStep D.MetalDevice (Budget memory_type) (replies.Budget result) self.now self.now }
     {
         self.types.budget(memory_type)
     }
@@ -206,7 +208,7 @@ impl<D: MetalDevice> Allocator<D> {
     /// The sum of the sizes of the live blocks, in bytes.
     pub fn capacity(&self) -> u64
         ensures sum { result ≡ total_capacity self.now.slots }
-        ensures step { IsStep D.MetalDevice Capacity (Sum result) self.now self.now }
+        ensures step { IsStep D.MetalDevice Capacity (replies.Capacity result) self.now self.now }
     {
         self.types.capacity()
     }

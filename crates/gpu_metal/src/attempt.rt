@@ -12,10 +12,11 @@ ghost use Rattle.gpu_metal.specs.Attempt.{IsSuballocated};
 ghost use Rattle.gpu_metal.specs.Live.{IsGiven};
 
 use crate::Allocation;
-use gpu_core::{Piece, Prepared};
+use gpu_core::Prepared;
 use gpu_device::metal::{MTLHeap, MetalDevice};
 use gpu_memory_types::MemoryTypes;
 use gpu_metal_setup::{AllocationCreateDesc, Setup, create_block_heap, location_at, request_of};
+use gpu_slots::Piece;
 use gpu_values::{AllocationError, Result};
 use std::alloc::{AllocError, Global};
 

@@ -6,7 +6,8 @@ ghost use Rattle.gpu_metal_setup.specs.declared.setup.Setup.{Setup};
 ghost use Rattle.gpu_metal.specs.Attempt.{AttemptEnvironment};
 ghost use Rattle.gpu_metal.specs.Budgets.{MeetsNoBudget, without_budgets};
 ghost use Rattle.gpu_metal.specs.State.{Model};
-ghost use Rattle.gpu_metal.specs.Step.{Call, Reply, Step};
+ghost use Rattle.gpu_metal.specs.Reply.{Reply};
+ghost use Rattle.gpu_metal.specs.Step.{Call, Step};
 
 /// The model isn't loose: a state, a call, and what the device and the host answered it decide the reply and the next state.
 pub fn one_step()

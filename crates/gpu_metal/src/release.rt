@@ -12,10 +12,10 @@ ghost use Rattle.gpu_metal.specs.HeapList.{all_heaps};
 ghost use Rattle.gpu_metal.specs.Live.{IsLiveIn};
 
 use crate::heaps::all_heaps;
-use gpu_core::Piece;
 use gpu_device::metal::{MTLHeap, MTLResidencySet, MetalDevice};
 use gpu_memory_types::MemoryTypes;
 use gpu_metal_setup::{leave_set, release_block_heap};
+use gpu_slots::Piece;
 use gpu_values::Result;
 
 /// Gives a piece of the memory type at `index` back, and its block with it where that goes. It takes no memory.

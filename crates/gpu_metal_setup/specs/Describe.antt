@@ -1,6 +1,6 @@
 -- What descriptions of allocations ask the device and a memory type.
 use Rattle.std.specs.Prelude.{◌≡◌, pos, codes, Some}
-use Rattle.gpu_core.specs.Request.{Request}
+use Rattle.gpu_block_pieces.specs.Request.{Request}
 use Rattle.gpu_device.specs.declared.metal.types.StorageMode.{StorageMode}
 use Rattle.gpu_device.specs.declared.metal.types.StorageMode.TheVariants.{Shared, Managed, Private, Memoryless, Other}
 use Rattle.gpu_values.specs.Refusal.{Refusal, internal}

@@ -164,7 +164,7 @@ fn check_heaps(rt: &impl Abort, heaps: Option<&[MTLHeap]>, want: &[MTLHeap]) {
     match heaps {
         None => assert!(rt; false),
         Some(heaps) => {
-            assert_eq!(rt; heaps.len(), want.len());
+            assert!(rt; heaps.len() == want.len());
             for (heap, want) in heaps.iter().zip(want) {
                 assert!(rt; *heap == *want);
             }
@@ -179,5 +179,5 @@ fn check_live(rt: &impl Abort, a: &Allocator<SimMetal>, want: &[MTLHeap]) {
         assert!(rt; want.get(seen) == Some(&heap));
         seen = seen.saturating_add(1);
     }
-    assert_eq!(rt; seen, want.len());
+    assert!(rt; seen == want.len());
 }

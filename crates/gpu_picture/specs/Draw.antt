@@ -1,7 +1,7 @@
 -- What is written of the stage that a trace leaves.
 use Rattle.std.specs.Prelude.{◌≡◌, ℕ, ◌+◌, List, [], ◌∷◌, ◌++◌, map, Option}
 use Rattle.std.specs.Io.KnownBytes.{Appends}
-use Rattle.gpu_core.specs.Block.{HasPages}
+use Rattle.gpu_block.specs.Block.{HasPages}
 use Rattle.gpu_device.specs.declared.vulkan.types.DeviceMemory.{DeviceMemory}
 use Rattle.gpu_memory_types.specs.Types.{Types, slots_of, kinds}
 use Rattle.gpu_vulkan_setup.specs.Types.{kinds_told}

@@ -4,7 +4,7 @@ use Rattle.std.proofs.Math.Seq.{drop-cons}
 use Rattle.std.specs.List.{flat_map}
 use Rattle.std.proofs.lemmas.Grind.{flat_map-append}
 use Rattle.gpu_values.specs.declared.report.MemoryBlockReport.{MemoryBlockReport}
-use Rattle.gpu_core.specs.FreeList.{Extent}
+use Rattle.gpu_block_pieces.specs.FreeList.{Extent}
 use Rattle.gpu_report.specs.Picture.{Cell, gap_cells, padding_cells, piece_cell, cells_between}
 
 pub texts-step : (text : Cell → List ℕ) (from to : ℕ) (x : Extent) (xs : List Extent)

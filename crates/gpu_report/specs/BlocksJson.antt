@@ -3,10 +3,10 @@ use Rattle.std.specs.Prelude.{ℕ, ◌-◌, List, ◌++◌, codes}
 use Rattle.std.specs.Fmt.{decimal}
 use Rattle.gpu_values.specs.declared.allocation_type.AllocationType.{AllocationType}
 use Rattle.gpu_values.specs.declared.allocation_type.AllocationType.TheVariants.{Free, Linear, NonLinear}
-use Rattle.gpu_core.specs.FreeList.{Extent}
-use Rattle.gpu_core.specs.Block.{Block, extents_of, size_of}
-use Rattle.gpu_core.specs.SubAllocator.{block_of}
-use Rattle.gpu_core.specs.BlockViews.{gaps_in, statistics_of}
+use Rattle.gpu_block_pieces.specs.FreeList.{Extent}
+use Rattle.gpu_block.specs.Block.{Block, extents_of, size_of}
+use Rattle.gpu_block.specs.SubAllocator.{block_of}
+use Rattle.gpu_block.specs.BlockViews.{gaps_in, statistics_of}
 use Rattle.gpu_block_views.specs.declared.pieces.BlockStatistics.{BlockStatistics}
 use Rattle.gpu_report.specs.declared.view.BlockView.{BlockView}
 use Rattle.gpu_report.specs.Escape.{quoted}

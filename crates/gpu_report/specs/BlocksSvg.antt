@@ -2,9 +2,9 @@
 use Rattle.std.specs.Prelude.{ℕ, ◌+◌, List, [], ◌∷◌, ◌++◌, length, max, nat_lt, if◌then◌else◌, true, false, codes}
 use Rattle.std.specs.List.{flat_map}
 use Rattle.std.specs.Fmt.{decimal}
-use Rattle.gpu_core.specs.Block.{Block, extents_of, size_of}
-use Rattle.gpu_core.specs.SubAllocator.{block_of}
-use Rattle.gpu_core.specs.BlockViews.{statistics_of}
+use Rattle.gpu_block.specs.Block.{Block, extents_of, size_of}
+use Rattle.gpu_block.specs.SubAllocator.{block_of}
+use Rattle.gpu_block.specs.BlockViews.{statistics_of}
 use Rattle.gpu_block_views.specs.declared.pieces.BlockStatistics.{BlockStatistics}
 use Rattle.gpu_report.specs.declared.view.BlockView.{BlockView}
 use Rattle.gpu_report.specs.declared.blocks_svg.Totals.{Totals}

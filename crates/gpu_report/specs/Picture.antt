@@ -2,7 +2,7 @@
 use Rattle.std.specs.Prelude.{ℕ, ◌≡◌, ◌*◌, ◌/◌, ◌<◌, ◌==◌, List, [], ◌∷◌, ◌++◌, min, nat_lt, if◌then◌else◌, Bool, true, false}
 use Rattle.gpu_values.specs.declared.allocation_type.AllocationType.{AllocationType}
 use Rattle.gpu_values.specs.declared.allocation_type.AllocationType.TheVariants as kinds
-use Rattle.gpu_core.specs.FreeList.{Extent}
+use Rattle.gpu_block_pieces.specs.FreeList.{Extent}
 use Rattle.gpu_report.specs.declared.svg.Look.{Look}
 use Rattle.gpu_report.specs.declared.svg.Shown.{Shown}
 use Rattle.gpu_report.specs.declared.svg.Look.TheVariants as looks

@@ -1,7 +1,7 @@
 -- The JSON of an allocator's report.
 use Rattle.std.specs.Prelude.{ℕ, List, ◌++◌, map, codes}
 use Rattle.std.specs.Fmt.{decimal}
-use Rattle.gpu_core.specs.Report.{Row, Report}
+use Rattle.gpu_values.specs.Report.{Row, Report}
 use Rattle.gpu_values.specs.declared.report.MemoryBlockReport.{MemoryBlockReport}
 use Rattle.gpu_report.specs.Escape.{quoted}
 use Rattle.gpu_report.specs.Json.{listed}

@@ -2,14 +2,15 @@
 
 ghost use Rattle.std.specs.Prelude.{◌≡◌, ◌≤◌, Some, ℕ};
 ghost use Rattle.std.specs.Fmt.{DisplaysOnOk};
-ghost use Rattle.gpu_core.specs.Block.{extents_of};
-ghost use Rattle.gpu_core.specs.SubAllocator.{block_of};
+ghost use Rattle.gpu_block.specs.Block.{extents_of};
+ghost use Rattle.gpu_block.specs.SubAllocator.{block_of};
 ghost use Rattle.gpu_report.specs.Json.{listed};
 ghost use Rattle.gpu_report.specs.BlocksJson.{kind_word, piece_names_json, piece_place_json, piece_json, gap_json, statistics_json, place_json, sums_json, block_json};
 
 use crate::BlockView;
 use crate::escape::write_quoted;
-use gpu_core::{AllocationType, BlockStatistics, Gaps, LivePiece, Pieces};
+use gpu_block_views::{BlockStatistics, Gaps, LivePiece, Pieces};
+use gpu_values::AllocationType;
 use std::fmt;
 
 /// The word that stands for a piece's kind.

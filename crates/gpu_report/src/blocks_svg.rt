@@ -13,7 +13,8 @@ use crate::svg::{
     Look, Scale, Shown, write_amount, write_bar_start, write_cell, write_legend, write_page_ends,
     write_picture_start, write_scale_note, write_style, write_totals,
 };
-use gpu_core::{AllocationType, BlockStatistics, LivePiece, Pieces};
+use gpu_block_views::{BlockStatistics, LivePiece, Pieces};
+use gpu_values::AllocationType;
 use std::fmt;
 
 /// What is told of all blocks. Sums stop at the largest number of 64 bits.

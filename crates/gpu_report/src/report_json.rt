@@ -2,12 +2,12 @@
 
 ghost use Rattle.std.specs.Prelude.{Some, map};
 ghost use Rattle.std.specs.Fmt.{DisplaysOnOk};
-ghost use Rattle.gpu_core.specs.Report.{row_of, report_of};
+ghost use Rattle.gpu_values.specs.Report.{row_of, report_of};
 ghost use Rattle.gpu_report.specs.Json.{listed};
 ghost use Rattle.gpu_report.specs.ReportJson.{row_json, block_row_json, sums_json};
 
 use crate::escape::write_quoted;
-use gpu_core::{AllocationReport, AllocatorReport, MemoryBlockReport};
+use gpu_values::{AllocationReport, AllocatorReport, MemoryBlockReport};
 use std::fmt;
 
 #[tactic(auto, unfolding(crate::specs::ReportJson::row_json))]
@@ -84,7 +84,7 @@ fn write_sums<W: fmt::Write>(report: &AllocatorReport, f: &mut fmt::Formatter<W>
 pub struct ReportJson<'a>(pub &'a AllocatorReport);
 
 impl<'a> fmt::Display for ReportJson<'a> {
-    ghost use Rattle.gpu_core.specs.Report.{report_of};
+    ghost use Rattle.gpu_values.specs.Report.{report_of};
     ghost use Rattle.gpu_report.specs.ReportJson.{report_json};
 
     ghost output = { λ r. Some (report_json (report_of r.0.now)) };

@@ -11,7 +11,7 @@ use crate::svg::{
     Look, Scale, Shown, write_amount, write_bar_start, write_cell, write_entry,
     write_picture_start, write_scale_note, write_style, write_totals,
 };
-use gpu_core::{AllocationReport, AllocatorReport, MemoryBlockReport};
+use gpu_values::{AllocationReport, AllocatorReport, MemoryBlockReport};
 use std::fmt;
 
 fn largest(blocks: &[MemoryBlockReport]) -> u64

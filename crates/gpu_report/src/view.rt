@@ -4,7 +4,9 @@ ghost use Rattle.std.specs.Prelude.{◌≡◌, ◌++◌, map, OnOk, IfErr};
 ghost use Rattle.gpu_values.specs.declared.error.AllocationError.TheVariants.{HostOutOfMemory};
 ghost use Rattle.gpu_report.specs.View.{shown, shown_from};
 
-use gpu_core::{MemoryType, Result, SubAllocator};
+use gpu_block::SubAllocator;
+use gpu_core::MemoryType;
+use gpu_values::Result;
 
 /// A block, where it stands in its allocator, and the page size of its memory type in bytes, 1 where pages don't matter.
 #[derive(Clone, Copy)]

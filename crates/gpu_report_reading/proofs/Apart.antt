@@ -8,13 +8,13 @@ use Rattle.std.proofs.lemmas.List.Elements.{recursion_from_All}
 use Rattle.json.specs.Json.{Json, null, string, Items, no_items, item, document}
 use Rattle.json.specs.Find.{get, as_number, as_str, as_array}
 use Rattle.json.specs.Value.{items_of}
-use Rattle.gpu_core.specs.Report.{Row, Report}
+use Rattle.gpu_values.specs.Report.{Row, Report}
 use Rattle.gpu_values.specs.declared.report.MemoryBlockReport.{MemoryBlockReport}
 use Rattle.gpu_values.specs.declared.allocation_type.AllocationType.{AllocationType}
 use Rattle.gpu_values.specs.declared.allocation_type.AllocationType.TheVariants.{Free, Linear, NonLinear}
-use Rattle.gpu_core.specs.FreeList.{Extent}
-use Rattle.gpu_core.specs.Block.{extents_of, size_of}
-use Rattle.gpu_core.specs.SubAllocator.{block_of}
+use Rattle.gpu_block_pieces.specs.FreeList.{Extent}
+use Rattle.gpu_block.specs.Block.{extents_of, size_of}
+use Rattle.gpu_block.specs.SubAllocator.{block_of}
 use Rattle.gpu_report.specs.declared.view.BlockView.{BlockView}
 use Rattle.gpu_report.specs.BlocksJson.{kind_word, blocks_json}
 use Rattle.gpu_report.specs.ReportJson.{report_json}

@@ -7,7 +7,7 @@ use Rattle.json.specs.Print.{escape_byte, IsNumber}
 use Rattle.json.specs.Tree.{depth, items_depth, HasNumbers}
 use Rattle.json.specs.Value.{items_of}
 use Rattle.json.proofs.Printed.Decimals.{IsNumber-decimal}
-use Rattle.gpu_core.specs.Report.{Row, Report}
+use Rattle.gpu_values.specs.Report.{Row, Report}
 use Rattle.gpu_values.specs.declared.report.MemoryBlockReport.{MemoryBlockReport}
 use Rattle.gpu_report.specs.Json.{listed}
 use Rattle.gpu_report.specs.ReportJson.{row_json, block_row_json, sums_json, report_json}

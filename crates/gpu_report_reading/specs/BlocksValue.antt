@@ -1,10 +1,10 @@
 -- The value that stands for blocks with their pieces and gaps.
 use Rattle.std.specs.Prelude.{ℕ, ◌-◌, List, [], ◌∷◌, codes}
 use Rattle.json.specs.Json.{Json, string}
-use Rattle.gpu_core.specs.FreeList.{Extent}
-use Rattle.gpu_core.specs.Block.{Block, extents_of, size_of}
-use Rattle.gpu_core.specs.SubAllocator.{block_of}
-use Rattle.gpu_core.specs.BlockViews.{gaps_in, statistics_of}
+use Rattle.gpu_block_pieces.specs.FreeList.{Extent}
+use Rattle.gpu_block.specs.Block.{Block, extents_of, size_of}
+use Rattle.gpu_block.specs.SubAllocator.{block_of}
+use Rattle.gpu_block.specs.BlockViews.{gaps_in, statistics_of}
 use Rattle.gpu_block_views.specs.declared.pieces.BlockStatistics.{BlockStatistics}
 use Rattle.gpu_report.specs.declared.view.BlockView.{BlockView}
 use Rattle.gpu_report.specs.BlocksJson.{kind_word}

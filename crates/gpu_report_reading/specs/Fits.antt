@@ -1,11 +1,11 @@
 -- The numbers of a report and of blocks are below 2^64, and a piece's places stand in order. It is so of all that exist.
 use Rattle.std.specs.Prelude.{ℕ, ◌^◌, ◌<◌, ◌≤◌, All}
 use Rattle.gpu_values.specs.declared.report.MemoryBlockReport.{MemoryBlockReport}
-use Rattle.gpu_core.specs.Report.{Row, Report}
-use Rattle.gpu_core.specs.FreeList.{Extent}
-use Rattle.gpu_core.specs.Block.{extents_of, size_of}
-use Rattle.gpu_core.specs.SubAllocator.{block_of}
-use Rattle.gpu_core.specs.BlockViews.{gaps_in, statistics_of}
+use Rattle.gpu_values.specs.Report.{Row, Report}
+use Rattle.gpu_block_pieces.specs.FreeList.{Extent}
+use Rattle.gpu_block.specs.Block.{extents_of, size_of}
+use Rattle.gpu_block.specs.SubAllocator.{block_of}
+use Rattle.gpu_block.specs.BlockViews.{gaps_in, statistics_of}
 use Rattle.gpu_block_views.specs.declared.pieces.BlockStatistics.{BlockStatistics}
 use Rattle.gpu_report.specs.declared.view.BlockView.{BlockView}
 

@@ -1,8 +1,8 @@
 -- What is printed of a block.
 use Rattle.std.specs.Prelude.{ℕ, List}
-use Rattle.gpu_core.specs.FreeList.{Extent}
-use Rattle.gpu_core.specs.Block.{extents_of, size_of}
-use Rattle.gpu_core.specs.SubAllocator.{block_of}
+use Rattle.gpu_block_pieces.specs.FreeList.{Extent}
+use Rattle.gpu_block.specs.Block.{extents_of, size_of}
+use Rattle.gpu_block.specs.SubAllocator.{block_of}
 use Rattle.gpu_report.specs.declared.view.BlockView.{BlockView}
 
 -- where the block stands, its page size, its size and its pieces, from which its gaps and what is counted of it follow

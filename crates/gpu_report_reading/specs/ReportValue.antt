@@ -1,7 +1,7 @@
 -- The value that stands for an allocator's report.
 use Rattle.std.specs.Prelude.{[], ◌∷◌, codes}
 use Rattle.json.specs.Json.{Json, string}
-use Rattle.gpu_core.specs.Report.{Row, Report}
+use Rattle.gpu_values.specs.Report.{Row, Report}
 use Rattle.gpu_values.specs.declared.report.MemoryBlockReport.{MemoryBlockReport}
 use Rattle.gpu_report_reading.specs.Values.{number_of, list_of, object_of}
 

@@ -1,11 +1,12 @@
 //! The numbers of what is printed fit in 64 bits.
 
 ghost use Rattle.std.specs.Prelude.{All};
-ghost use Rattle.gpu_core.specs.Report.{row_of, report_of};
+ghost use Rattle.gpu_values.specs.Report.{row_of, report_of};
 ghost use Rattle.gpu_report_reading.specs.Fits.{Fits, RowFits, BlockRowFits, ReportFits, GapFits, BlockFits};
 
-use gpu_core::{AllocationReport, AllocatorReport, Gaps, MemoryBlockReport, Pieces};
+use gpu_block_views::{Gaps, Pieces};
 use gpu_report::BlockView;
+use gpu_values::{AllocationReport, AllocatorReport, MemoryBlockReport};
 
 fn row_fits(row: &AllocationReport)
     ensures { RowFits (row_of row.now) }

@@ -3,7 +3,7 @@
 
 ghost use Rattle.std.specs.Prelude.{◌≡◌, List, map, All, Some};
 ghost use Rattle.json.specs.Json.{document};
-ghost use Rattle.gpu_core.specs.Report.{Report};
+ghost use Rattle.gpu_values.specs.Report.{Report};
 ghost use Rattle.gpu_report.specs.ReportJson.{report_json};
 ghost use Rattle.gpu_report.specs.BlocksJson.{blocks_json};
 ghost use Rattle.gpu_report.specs.declared.view.BlockView.{BlockView};

@@ -24,7 +24,7 @@ fn read_back<D: Display>(rt: &impl Abort, alloc: Global, value: &D) -> Value {
     let text = text_of(rt, alloc, value);
     let read = Value::from_str(alloc, text.as_str()).expect(rt, "it is JSON");
     let again = read.to_string(alloc).expect(rt, "there is memory");
-    assert_eq!(rt; again.as_str(), text.as_str());
+    assert!(rt; again.as_str() == text.as_str());
     read
 }
 
@@ -81,7 +81,7 @@ fn report(rt: &impl Abort, alloc: Global) -> AllocatorReport {
 fn check_numbers(rt: &impl Abort, value: &Value, want: &[(&str, u64)]) {
     for row in want {
         let (path, number) = *row;
-        assert_eq!(rt; number_at(rt, value, path), number, "{path}");
+        assert!(rt; number_at(rt, value, path) == number, "{path}");
     }
 }
 
@@ -109,7 +109,7 @@ fn blocks_read_back(rt: HostRuntime) {
     let name = read
         .pointer("/blocks/0/pieces/0/name")
         .and_then(Value::as_str);
-    assert_eq!(rt; name, Some(NAME));
+    assert!(rt; name == Some(NAME));
     check_numbers(&rt, &read, TWO_PIECES);
 }
 
@@ -131,10 +131,7 @@ fn report_reads_back(rt: HostRuntime) {
 #[test]
 fn no_blocks(rt: HostRuntime) {
     let text = text_of(&rt, rt.alloc(), &BlocksJson(&[]));
-    assert_eq!(rt;
-        text.as_str(),
-        "{\"blocks\":[],\"schema\":\"gpu_report.blocks\",\"version\":1}"
-    );
+    assert!(rt; text.as_str() == "{\"blocks\":[],\"schema\":\"gpu_report.blocks\",\"version\":1}");
 }
 
 #[test]

@@ -255,8 +255,8 @@ fn check_first(rt: &impl Abort, s: &mut Session<SimVulkan>, alloc: Global) -> Ou
                 dedicated,
                 mapped,
             } = *given;
-            assert_eq!(rt; (memory_type, slot, offset, size), (0, 0, 0, 4));
-            assert_eq!(rt; (chunk.get(), dedicated, mapped), (2, false, true));
+            assert!(rt; (memory_type, slot, offset, size) == (0, 0, 0, 4));
+            assert!(rt; (chunk.get(), dedicated, mapped) == (2, false, true));
         }
         _ => return Err(Fail::from("nothing was given")),
     }
@@ -287,7 +287,7 @@ fn a_place_is_used_again(rt: HostRuntime) -> Outcome {
     let done = script(&rt, &mut s, rt.alloc());
     s.numbers_own_their_pieces();
     let device = s.destroy(&Discard);
-    assert_eq!(&rt; device.held(), 0);
+    assert!(&rt; device.held() == 0);
     done
 }
 
@@ -310,7 +310,7 @@ fn each_number_out_of_place_is_told(rt: HostRuntime) -> Outcome {
     let mut s = session(rt.alloc())?;
     let done = make_calls(&rt, &mut s, rt.alloc(), NUMBERS);
     let device = s.destroy(&Discard);
-    assert_eq!(&rt; device.held(), 0);
+    assert!(&rt; device.held() == 0);
     done
 }
 
@@ -327,7 +327,7 @@ fn each_size_out_of_range_is_told(rt: HostRuntime) -> Outcome {
     let mut s = session(rt.alloc())?;
     let done = make_calls(&rt, &mut s, rt.alloc(), SIZES);
     let device = s.destroy(&Discard);
-    assert_eq!(&rt; device.held(), 0);
+    assert!(&rt; device.held() == 0);
     done
 }
 
@@ -341,11 +341,10 @@ const NAMED: &[(Call, Answer)] = &[
 fn show_report(rt: &impl Abort, s: &mut Session<SimVulkan>, alloc: Global) -> Outcome {
     match one(s, Command::Report, alloc)? {
         Reply::Report(report) => {
-            assert_eq!(rt; report.allocations.len(), 1);
-            assert_eq!(rt; report.allocations[0].name.as_str(), "b");
-            assert_eq!(rt;
-                (report.total_allocated_bytes, report.total_capacity_bytes),
-                (100, 64 * MB)
+            assert!(rt; report.allocations.len() == 1);
+            assert!(rt; report.allocations[0].name.as_str() == "b");
+            assert!(rt;
+                (report.total_allocated_bytes, report.total_capacity_bytes) == (100, 64 * MB)
             );
         }
         _ => return Err(Fail::from("no report was made")),
@@ -357,11 +356,11 @@ fn shown(rt: &impl Abort, s: &mut Session<SimVulkan>, alloc: Global) -> Outcome 
     make_calls(rt, s, alloc, NAMED)?;
     show_report(rt, s, alloc)?;
     match one(s, Command::Leaks, alloc)? {
-        Reply::Leaks(texts) => assert_eq!(rt; texts.len(), 1),
+        Reply::Leaks(texts) => assert!(rt; texts.len() == 1),
         _ => return Err(Fail::from("no leaks were told")),
     }
     match one(s, Command::Capacity, alloc)? {
-        Reply::Capacity(bytes) => assert_eq!(rt; bytes, 64 * MB),
+        Reply::Capacity(bytes) => assert!(rt; bytes == 64 * MB),
         _ => return Err(Fail::from("no capacity was told")),
     }
     Ok(())
@@ -372,7 +371,7 @@ fn reports_leaks_and_capacity(rt: HostRuntime) -> Outcome {
     let mut s = session(rt.alloc())?;
     let done = shown(&rt, &mut s, rt.alloc());
     let device = s.destroy(&Discard);
-    assert_eq!(&rt; device.held(), 0);
+    assert!(&rt; device.held() == 0);
     done
 }
 
@@ -424,7 +423,7 @@ fn our_read(
     let mut s = session(alloc)?;
     let ran = s.run(&Discard, &commands);
     let device = s.destroy(&Discard);
-    assert_eq!(rt; device.held(), 0);
+    assert!(rt; device.held() == 0);
     let Ok(replies) = ran else {
         return Err(Fail::from("the session refused to run"));
     };
@@ -436,8 +435,8 @@ fn our_read(
 fn others_bytes_change_nothing_that_we_wrote(rt: HostRuntime) -> Outcome {
     let (first, at) = our_read(&rt, rt.alloc(), 7)?;
     let (second, also_at) = our_read(&rt, rt.alloc(), 9)?;
-    assert_eq!(&rt; (at, also_at), (0, 0));
-    assert_eq!(&rt; first, [7, 7, 1, 2, 3, 7, 7, 7]);
-    assert_eq!(&rt; second, [9, 9, 1, 2, 3, 9, 9, 9]);
+    assert!(&rt; (at, also_at) == (0, 0));
+    assert!(&rt; first == [7, 7, 1, 2, 3, 7, 7, 7]);
+    assert!(&rt; second == [9, 9, 1, 2, 3, 9, 9, 9]);
     Ok(())
 }

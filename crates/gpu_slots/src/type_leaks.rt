@@ -7,7 +7,7 @@ ghost use Rattle.gpu_slots.specs.TypeReport.{leaks_from};
 ghost use Rattle.gpu_slots.specs.Slots.{slots_of};
 
 use crate::LiveBlock;
-use gpu_block::{Leak, Leaks};
+use gpu_block_views::{Leak, Leaks};
 use std::marker::Model;
 
 /// The live pieces of a memory type by slot, then in order of offset. It takes no memory.

@@ -8,7 +8,7 @@ use Rattle.gpu_commands.specs.declared.block.reply.Reply.{Reply}
 use Rattle.gpu_commands.specs.declared.block.reply.Reply.TheVariants.{Block, Taken, Given, Refused, Busy, Unbound}
 use Rattle.gpu_commands.specs.declared.block.reply.Reply.TheVariants as replies
 use Rattle.gpu_commands.specs.declared.block.reply.Report.{Report}
-use Rattle.gpu_core.specs.Report.{Row, row_of}
+use Rattle.gpu_values.specs.Report.{Row, row_of}
 
 -- a live piece, and the end of its line
 abbrev pub piece_line : Row → List ℕ

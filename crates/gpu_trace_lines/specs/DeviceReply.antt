@@ -5,7 +5,7 @@ use Rattle.std.specs.Fmt.{decimal}
 use Rattle.std.specs.Int.NonZero.{non_zero_u64_get}
 use Rattle.gpu_values.specs.declared.report.AllocatorReport.{AllocatorReport}
 use Rattle.gpu_values.specs.declared.report.MemoryBlockReport.{MemoryBlockReport}
-use Rattle.gpu_core.specs.Report.{row_of}
+use Rattle.gpu_values.specs.Report.{row_of}
 use Rattle.gpu_commands.specs.declared.vulkan.reply.Given.{Given}
 use Rattle.gpu_commands.specs.declared.vulkan.reply.Reply as told
 use Rattle.gpu_commands.specs.declared.vulkan.reply.Reply.TheVariants as replies

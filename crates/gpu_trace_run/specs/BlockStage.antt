@@ -1,7 +1,7 @@
 -- A block trace from its first command on: which command may come, its reply, and the stage that it leaves.
 use Rattle.std.specs.Prelude.{◌≡◌, ℕ, string_bytes}
-use Rattle.gpu_core.specs.Request.{request}
-use Rattle.gpu_core.specs.Sizes.{Sizes, only_size, with_largest, shared_block_size}
+use Rattle.gpu_block_pieces.specs.Request.{request}
+use Rattle.gpu_values.specs.Sizes.{Sizes, only_size, with_largest, shared_block_size}
 use Rattle.gpu_commands.specs.declared.block.command.Side.{Side}
 use Rattle.gpu_commands.specs.declared.block.command.Side.TheVariants.{Device, Host}
 use Rattle.gpu_commands.specs.declared.block.command.Command.{Command}

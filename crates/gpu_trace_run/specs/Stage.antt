@@ -2,7 +2,7 @@
 use Rattle.std.specs.Prelude.{◌≡◌, Bool, true, false, [], length, All, Option, Some, None}
 use Rattle.std.specs.FinMap.{empty, len as map_len}
 use Rattle.std.specs.Option.{unwrap_or}
-use Rattle.gpu_core.specs.Refusal.{refusal_of, host_out_of_memory}
+use Rattle.gpu_values.specs.Refusal.{refusal_of, host_out_of_memory}
 use Rattle.gpu_values.specs.declared.error.AllocationError.{AllocationError}
 use Rattle.gpu_values.specs.declared.allocator_debug_settings.AllocatorDebugSettings.{AllocatorDebugSettings}
 use Rattle.gpu_device.specs.declared.vulkan.device.VulkanDevice.{Ghosts}

@@ -7,7 +7,7 @@ ghost use Rattle.gpu_trace_run.specs.BlockStage.{block_size};
 use gpu_block_session::BlockSession;
 use gpu_commands::ErrorNumber;
 use gpu_commands::block::{Command, Reply, Side};
-use gpu_core::AllocationSizes;
+use gpu_values::AllocationSizes;
 use std::alloc::Global;
 
 /// How far a block trace has come.

@@ -2,11 +2,11 @@
 use Rattle.std.proofs.Common.{◌≡◌, ◌≢◌, ◌∙◌, ℕ, ◌+◌, ◌-◌, ◌%◌, ◌<◌, sym, ap, subst, Option, Some, None, Ok, Err, Result, Contains, arith, inl, inr, ⊎_elim, IfOk}
 use Rattle.std.specs.Option.{option_map}
 use Rattle.std.specs.declared.num.NonZeroU64.{NonZeroU64}
-use Rattle.gpu_core.specs.Block.{extents_of}
-use Rattle.gpu_core.specs.FreeList.{Extent}
-use Rattle.gpu_core.specs.Place.{page}
-use Rattle.gpu_core.specs.Slots.{SlotIsSound}
-use Rattle.gpu_core.specs.TypeState.{Slot}
+use Rattle.gpu_block.specs.Block.{extents_of}
+use Rattle.gpu_block_pieces.specs.FreeList.{Extent}
+use Rattle.gpu_block_pieces.specs.Place.{page}
+use Rattle.gpu_slots.specs.Slots.{SlotIsSound}
+use Rattle.gpu_slots.specs.TypeState.{Slot}
 use Rattle.gpu_slots.specs.declared.piece.Piece.{Piece}
 use Rattle.gpu_slots.proofs.Found.{one_in}
 use Rattle.gpu_values.specs.declared.allocation_type.AllocationType.{AllocationType}

@@ -2,8 +2,8 @@
 use Rattle.std.proofs.Common.{◌≡◌, ◌∙◌, refl, sym, ap, subst, ℕ, zero, suc, [], ◌∷◌, length, Some, All, arith}
 use Rattle.std.proofs.lemmas.List.Elements.{All-head, All-tail}
 use Rattle.std.proofs.lemmas.List.Sums.{sum_by-cons}
-use Rattle.gpu_core.specs.TypeState.{Slot, slot_at, capacity_of}
-use Rattle.gpu_core.specs.Slots.{AreSound}
+use Rattle.gpu_slots.specs.TypeState.{Slot, slot_at, capacity_of}
+use Rattle.gpu_slots.specs.Slots.{AreSound}
 use Rattle.gpu_device.specs.Held.{Held}
 use Rattle.gpu_device.specs.Properties.{Properties}
 use Rattle.gpu_device.specs.declared.vulkan.types.DeviceMemory.{DeviceMemory}

@@ -1,10 +1,10 @@
 -- Calls that differ at most in bytes get the same reply but for bytes, and leave the same blocks.
 use Rattle.std.proofs.Common.{inl, inr, map, ◌⊎◌, ◌≡◌, ◌∙◌, ℕ, refl, sym, ap, subst, Bool, true, false, List, slice_set, Option, Some, None, arith, ⊎_elim, IsTrue}
 use Rattle.std.specs.Prelude.{◌&&◌, not, if◌then◌else◌}
-use Rattle.gpu_core.specs.Refusal.{Refusal, host_out_of_memory}
-use Rattle.gpu_core.specs.Leak.{leak_text}
-use Rattle.gpu_core.specs.TypeRelease.{has_several, ReleasesPiece, RenamesPiece, IsFreeRefusal, IsNameRefusal}
-use Rattle.gpu_core.specs.TypeState.{slot_at}
+use Rattle.gpu_values.specs.Refusal.{Refusal, host_out_of_memory}
+use Rattle.gpu_block_views.specs.Leak.{leak_text}
+use Rattle.gpu_slots.specs.TypeRelease.{has_several, ReleasesPiece, RenamesPiece, IsFreeRefusal, IsNameRefusal}
+use Rattle.gpu_slots.specs.TypeState.{slot_at}
 use Rattle.gpu_slots.specs.declared.piece.Piece.{Piece}
 use Rattle.gpu_core.proofs.OneOutcome.{released_once, refusal_once, renamed_once}
 use Rattle.gpu_device.specs.declared.vulkan.types.DeviceMemory.{DeviceMemory}
@@ -28,7 +28,9 @@ use Rattle.gpu_vulkan.specs.Live.{piece_of, IsMapped}
 use Rattle.gpu_memory_types.specs.Leaks.{all_leaks}
 use Rattle.gpu_memory_types.specs.Reports.{whole_report}
 use Rattle.gpu_vulkan_setup.specs.Setup.{Setup}
-use Rattle.gpu_vulkan.specs.Step.{ModelState, Call, Allocate, Free, Write, Rename, Report, Leaks, Read, Capacity, SetBudget, Budget, Reply, Given, Fails, Done, Bytes, Sum, Shows, Tells, Budgeted}
+use Rattle.gpu_vulkan.specs.Reply as replies
+use Rattle.gpu_vulkan.specs.Reply.{Reply, Given, Error, Done, Bytes}
+use Rattle.gpu_vulkan.specs.Step.{ModelState, Call, Allocate, Free, Write, Rename, Report, Leaks, Read, Capacity, SetBudget, Budget}
 use Rattle.gpu_vulkan.specs.Step.{RenameStep, CallEnvironment, AttemptStep, reply_of, next_by, Follows, ServeStep, RefuseStep, FoundStep, AllocateStep, FreeStep, IsRead, Step}
 use Rattle.gpu_vulkan.specs.declared.allocation.Allocation.{Allocation}
 use Rattle.gpu_vulkan_setup.specs.declared.describe.AllocationCreateDesc.{AllocationCreateDesc}
@@ -178,17 +180,17 @@ module _ (setup : Setup) (t : ℕ) where
       other in
       here.slots ∙ (ap (slice_set old.slots t) once.1 ∙ (ap (λ z. slice_set z t there.left) slots ∙ sym there.slots))
 
-  free_fails_alike : (p : Option (Piece DeviceMemory)) (r s : Refusal) (old new next : ModelState) → BlocksWellFormed setup.properties.granularity old.slots → FreeStep t p (Fails r) old new →
-      FreeStep t p (Fails s) old next → r ≡ s
+  free_fails_alike : (p : Option (Piece DeviceMemory)) (r s : Refusal) (old new next : ModelState) → BlocksWellFormed setup.properties.granularity old.slots → FreeStep t p (Error r) old new →
+      FreeStep t p (Error s) old next → r ≡ s
   free_fails_alike None r s old new next sound a b = absurd a
   free_fails_alike (Some p) r s old new next sound a b = refusal_once is_same_memory setup.properties.granularity p (slot_at (slots_at old.slots t) p.slot) r s (sound t p.slot) a.1 b.1
 
-  failed_same : (p : Option (Piece DeviceMemory)) (r : Refusal) (old new : ModelState) → FreeStep t p (Fails r) old new → new.slots ≡ old.slots
+  failed_same : (p : Option (Piece DeviceMemory)) (r : Refusal) (old new : ModelState) → FreeStep t p (Error r) old new → new.slots ≡ old.slots
   failed_same None r old new a = absurd a
   failed_same (Some p) r old new a = ap (λ s. s.slots) a.2
 
   -- a refusal depends on the blocks alone
-  failed_twin : (p : Option (Piece DeviceMemory)) (r : Refusal) (old twin next : ModelState) → old.slots ≡ twin.slots → FreeStep t p (Fails r) twin next → FreeStep t p (Fails r) old old
+  failed_twin : (p : Option (Piece DeviceMemory)) (r : Refusal) (old twin next : ModelState) → old.slots ≡ twin.slots → FreeStep t p (Error r) twin next → FreeStep t p (Error r) old old
   failed_twin None r old twin next slots a = absurd a
   failed_twin (Some p) r old twin next slots a = (
     (λ live. a.0 (subst (λ z. IsLiveIn z t (Some p)) slots live)),
@@ -196,7 +198,7 @@ module _ (setup : Setup) (t : ℕ) where
     refl,
   )
 
-  done_or_failed : (p : Option (Piece DeviceMemory)) (r : Refusal) (old new twin next : ModelState) → old.slots ≡ twin.slots → FreeStep t p Done old new → FreeStep t p (Fails r) twin next → ⊥
+  done_or_failed : (p : Option (Piece DeviceMemory)) (r : Refusal) (old new twin next : ModelState) → old.slots ≡ twin.slots → FreeStep t p Done old new → FreeStep t p (Error r) twin next → ⊥
   done_or_failed p r old new twin next slots a b = done_or_fails t p r old new old a (failed_twin p r old twin next slots b)
 
   free_alike : (p : Option (Piece DeviceMemory)) (x y : Reply) (old new twin next : ModelState) → BlocksWellFormed setup.properties.granularity old.slots → old.slots ≡ twin.slots → FreeStep t p x old
@@ -211,7 +213,7 @@ module _ (setup : Setup) (t : ℕ) where
       (λ ok. absurd (done_or_failed p err.0 twin next old new (sym slots) ok.1 err.2))
       (λ also.
       let once = free_fails_alike p err.0 also.0 old new old sound err.2 (failed_twin p also.0 old twin next slots also.2) in
-      (err.1 ∙ ap Fails once ∙ sym also.1, failed_same p err.0 old new err.2 ∙ slots ∙ sym (failed_same p also.0 twin next also.2)))
+      (err.1 ∙ ap Error once ∙ sym also.1, failed_same p err.0 old new err.2 ∙ slots ∙ sym (failed_same p also.0 twin next also.2)))
       (free_reply t p y twin next b))
       (free_reply t p x old new a)
 
@@ -227,12 +229,12 @@ module _ (setup : Setup) (t : ℕ) (name : List ℕ) where
       let left = renamed_once (slots_at old.slots t) p name a.1.left b.1.left a.1.renames other in
       a.1.slots ∙ (ap (slice_set old.slots t) left ∙ (ap (λ z. slice_set z t b.1.left) slots ∙ sym b.1.slots))
 
-  named_same : (p : Option (Piece DeviceMemory)) (host : Bool) (r : Refusal) (old new : ModelState) → RenameStep t p name host (Fails r) old new → new.slots ≡ old.slots
+  named_same : (p : Option (Piece DeviceMemory)) (host : Bool) (r : Refusal) (old new : ModelState) → RenameStep t p name host (Error r) old new → new.slots ≡ old.slots
   named_same None host r old new a = ap (λ s. s.slots) a.2
   named_same (Some p) host r old new a = ap (λ s. s.slots) a.1
 
-  named_twin : (p : Option (Piece DeviceMemory)) (host other : Bool) (r : Refusal) (old twin next : ModelState) → host ≡ other → old.slots ≡ twin.slots → RenameStep t p name other (Fails r) twin next
-      → RenameStep t p name host (Fails r) old old
+  named_twin : (p : Option (Piece DeviceMemory)) (host other : Bool) (r : Refusal) (old twin next : ModelState) → host ≡ other → old.slots ≡ twin.slots → RenameStep t p name other (Error r) twin next
+      → RenameStep t p name host (Error r) old old
   named_twin None host other r old twin next same slots a = (same ∙ a.0, a.1, refl)
   named_twin (Some p) host other r old twin next same slots a = (
     ⊎_elim
@@ -247,7 +249,7 @@ module _ (setup : Setup) (t : ℕ) (name : List ℕ) where
   )
 
   named_or_failed : (p : Option (Piece DeviceMemory)) (host other : Bool) (r : Refusal) (old new twin next : ModelState) → host ≡ other → old.slots ≡ twin.slots
-      → RenameStep t p name host Done old new → RenameStep t p name other (Fails r) twin next → ⊥
+      → RenameStep t p name host Done old new → RenameStep t p name other (Error r) twin next → ⊥
   named_or_failed p host other r old new twin next same slots a b = named_or_fails t p name host r old new old a (named_twin p host other r old twin next same slots b)
 
   rename_alike : (p : Option (Piece DeviceMemory)) (host other : Bool) (x y : Reply) (old new twin next : ModelState) → BlocksWellFormed setup.properties.granularity old.slots → host ≡ other →
@@ -263,7 +265,7 @@ module _ (setup : Setup) (t : ℕ) (name : List ℕ) where
       (λ ok. absurd (named_or_failed p other host err.0 twin next old new (sym same) (sym slots) ok.1 err.2))
       (λ also.
       let once = rename_fails_once setup t p name host err.0 also.0 old new old sound err.2 (named_twin p host other also.0 old twin next same slots also.2) in
-      (err.1 ∙ ap Fails once.0 ∙ sym also.1, named_same p host err.0 old new err.2 ∙ slots ∙ sym (named_same p other also.0 twin next also.2)))
+      (err.1 ∙ ap Error once.0 ∙ sym also.1, named_same p host err.0 old new err.2 ∙ slots ∙ sym (named_same p other also.0 twin next also.2)))
       (rename_reply t p name other y twin next b))
       (rename_reply t p name host x old new a)
 
@@ -283,20 +285,20 @@ same_alike : (x y : Reply) → x ≡ y → EqualButBytesReply x y
 same_alike (Bytes (Some xs)) (Bytes (Some ys)) e = tt
 same_alike (Bytes (Some xs)) (Bytes None) e = e
 same_alike (Bytes (Some xs)) (Given t p) e = e
-same_alike (Bytes (Some xs)) (Fails r) e = e
+same_alike (Bytes (Some xs)) (Error r) e = e
 same_alike (Bytes (Some xs)) Done e = e
-same_alike (Bytes (Some xs)) (Sum n) e = e
-same_alike (Bytes (Some xs)) (Shows r) e = e
-same_alike (Bytes (Some xs)) (Tells ts) e = e
-same_alike (Bytes (Some xs)) (Budgeted n) e = e
+same_alike (Bytes (Some xs)) (replies.Capacity n) e = e
+same_alike (Bytes (Some xs)) (replies.Report r) e = e
+same_alike (Bytes (Some xs)) (replies.Leaks ts) e = e
+same_alike (Bytes (Some xs)) (replies.Budget n) e = e
 same_alike (Bytes None) y e = e
 same_alike (Given t p) y e = e
-same_alike (Fails r) y e = e
+same_alike (Error r) y e = e
 same_alike Done y e = e
-same_alike (Sum n) y e = e
-same_alike (Shows r) y e = e
-same_alike (Tells ts) y e = e
-same_alike (Budgeted n) y e = e
+same_alike (replies.Capacity n) y e = e
+same_alike (replies.Report r) y e = e
+same_alike (replies.Leaks ts) y e = e
+same_alike (replies.Budget n) y e = e
 
 -- ---- any call
 
@@ -325,7 +327,7 @@ module _ (setup : Setup) (o p : CallEnvironment) (x y : Reply) (old new twin nex
   same_call Capacity a b =
       let h = sum_reply setup o x old new a in
       let k = sum_reply setup p y twin next b in
-      (same_alike x y (h.0 ∙ ap (λ z. Sum (total_capacity z)) slots ∙ sym k.0), ap (λ s. s.slots) h.1 ∙ slots ∙ sym (ap (λ s. s.slots) k.1))
+      (same_alike x y (h.0 ∙ ap (λ z. replies.Capacity (total_capacity z)) slots ∙ sym k.0), ap (λ s. s.slots) h.1 ∙ slots ∙ sym (ap (λ s. s.slots) k.1))
   same_call (SetBudget t budget) a b =
       let h = set_reply t budget x old new a.1 in
       let k = set_reply t budget y twin next b.1 in
@@ -334,19 +336,21 @@ module _ (setup : Setup) (o p : CallEnvironment) (x y : Reply) (old new twin nex
   same_call (Budget t) a b =
       let h = budget_reply setup t o x old new a in
       let k = budget_reply setup t p y twin next b in
-      (same_alike x y (h.0 ∙ ap (λ z. Budgeted (budget_at z t)) budgets ∙ sym k.0), ap (λ s. s.slots) h.1 ∙ slots ∙ sym (ap (λ s. s.slots) k.1))
+      (same_alike x y (h.0 ∙ ap (λ z. replies.Budget (budget_at z t)) budgets ∙ sym k.0), ap (λ s. s.slots) h.1 ∙ slots ∙ sym (ap (λ s. s.slots) k.1))
   same_call Report a b =
       let h = shown_reply o.first.host x old new a.1 in
       let k = shown_reply p.first.host y twin next b.1 in
-      let there = subst (λ z. ((z ≡ true) × (y ≡ Shows (whole_report old.slots))) ⊎ ((z ≡ false) × (y ≡ Fails host_out_of_memory))) (sym met.first.host)
-      (subst (λ z. ((p.first.host ≡ true) × (y ≡ Shows (whole_report z))) ⊎ ((p.first.host ≡ false) × (y ≡ Fails host_out_of_memory))) (sym slots) k.1) in
-      (same_alike x y (by_host o.first.host x y (Shows (whole_report old.slots)) (Fails host_out_of_memory) h.1 there), ap (λ s. s.slots) h.0 ∙ slots ∙ sym (ap (λ s. s.slots) k.0))
+      let there = subst (λ z. ((z ≡ true) × (y ≡ replies.Report (whole_report old.slots))) ⊎ ((z ≡ false) × (y ≡ Error host_out_of_memory))) (sym met.first.host)
+      (subst (λ z. ((p.first.host ≡ true) × (y ≡ replies.Report (whole_report z))) ⊎ ((p.first.host ≡ false) × (y ≡ Error host_out_of_memory))) (sym slots) k.1) in
+      (same_alike x y (by_host o.first.host x y (replies.Report (whole_report old.slots)) (Error host_out_of_memory) h.1 there), ap (λ s. s.slots) h.0 ∙ slots ∙ sym (ap (λ s. s.slots) k.0))
   same_call Leaks a b =
       let h = told_reply o.first.host x old new a.1 in
       let k = told_reply p.first.host y twin next b.1 in
-      let there = subst (λ z. ((z ≡ true) × (y ≡ Tells (map leak_text (all_leaks old.slots)))) ⊎ ((z ≡ false) × (y ≡ Fails host_out_of_memory))) (sym met.first.host)
-      (subst (λ z. ((p.first.host ≡ true) × (y ≡ Tells (map leak_text (all_leaks z)))) ⊎ ((p.first.host ≡ false) × (y ≡ Fails host_out_of_memory))) (sym slots) k.1) in
-      (same_alike x y (by_host o.first.host x y (Tells (map leak_text (all_leaks old.slots))) (Fails host_out_of_memory) h.1 there), ap (λ s. s.slots) h.0 ∙ slots ∙ sym (ap (λ s. s.slots) k.0))
+      let there = subst (λ z. ((z ≡ true) × (y ≡ replies.Leaks (map leak_text (all_leaks old.slots)))) ⊎ ((z ≡ false) × (y ≡ Error host_out_of_memory))) (sym met.first.host)
+      (subst (λ z. ((p.first.host ≡ true) × (y ≡ replies.Leaks (map leak_text (all_leaks z)))) ⊎ ((p.first.host ≡ false) × (y ≡ Error host_out_of_memory))) (sym slots) k.1) in (
+        same_alike x y (by_host o.first.host x y (replies.Leaks (map leak_text (all_leaks old.slots))) (Error host_out_of_memory) h.1 there),
+        ap (λ s. s.slots) h.0 ∙ slots ∙ sym (ap (λ s. s.slots) k.0),
+      )
 
   to_same : (call other : Call) → call ≡ other → Step setup call o x old new → Step setup other p y twin next → EqualButBytesReply x y × (new.slots ≡ next.slots)
   to_same call other e a b = same_call call a (subst (λ c. Step setup c p y twin next) (sym e) b)

@@ -1,6 +1,6 @@
 -- What two attempts leave of what the device holds.
 use Rattle.std.proofs.Common.{◌≡◌, ◌∙◌, refl, sym, ap, subst, ℕ, suc, ◌+◌, ◌<◌, ◌&&◌, not, Bool, true, false, if◌then◌else◌, List, [], ◌∷◌, length, Option, Some, None, Ok, Err, Result, arith}
-use Rattle.gpu_core.specs.Refusal.{refusal_of}
+use Rattle.gpu_values.specs.Refusal.{refusal_of}
 use Rattle.gpu_values.specs.declared.error.AllocationError.{AllocationError}
 use Rattle.gpu_device.specs.Held.{Held}
 use Rattle.gpu_device.specs.declared.vulkan.device.VulkanDevice.{Ghosts}

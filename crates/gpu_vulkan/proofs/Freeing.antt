@@ -4,11 +4,11 @@ use Rattle.std.specs.FinMap.{get}
 use Rattle.std.specs.Prelude.{Contains}
 use Rattle.std.specs.Int.NonZero.{non_zero_u64_get}
 use Rattle.std.proofs.lemmas.Bool.{eqb-true}
-use Rattle.gpu_core.specs.Block.{Block, extents_of, ReleasesIn, IsSoundBlock}
-use Rattle.gpu_core.specs.FreeList.{Extent}
-use Rattle.gpu_core.specs.Slots.{SlotIsSound}
-use Rattle.gpu_core.specs.TypeRelease.{SlotReleases, SlotHolds}
-use Rattle.gpu_core.specs.TypeState.{Slot, slot_at}
+use Rattle.gpu_block.specs.Block.{Block, extents_of, ReleasesIn, IsSoundBlock}
+use Rattle.gpu_block_pieces.specs.FreeList.{Extent}
+use Rattle.gpu_slots.specs.Slots.{SlotIsSound}
+use Rattle.gpu_slots.specs.TypeRelease.{SlotReleases, SlotHolds}
+use Rattle.gpu_slots.specs.TypeState.{Slot, slot_at}
 use Rattle.gpu_slots.specs.declared.piece.Piece.{Piece}
 use Rattle.gpu_slots.proofs.Found.{one_in}
 use Rattle.gpu_slots.proofs.Slotted.{set_only}
@@ -28,7 +28,8 @@ use Rattle.gpu_vulkan_blocks.specs.Release.{is_same_memory, IsLiveIn}
 use Rattle.gpu_vulkan.specs.Live.{piece_of}
 use Rattle.gpu_vulkan_setup.specs.Setup.{Setup}
 use Rattle.gpu_vulkan.specs.State.{State}
-use Rattle.gpu_vulkan.specs.Step.{ModelState, model_of, Free, Done, id_in, MayDrop, ReleaseStep, FreeStep, IsStep, nothing_met, freed_as}
+use Rattle.gpu_vulkan.specs.Reply.{Done}
+use Rattle.gpu_vulkan.specs.Step.{ModelState, model_of, Free, id_in, MayDrop, ReleaseStep, FreeStep, IsStep, nothing_met, freed_as}
 use Rattle.gpu_vulkan.specs.declared.allocation.Allocation.{Allocation}
 use Rattle.gpu_vulkan.proofs.ByteViews.{released_byte_view, dropped_byte_view, with_back, with_back_puts}
 use Rattle.gpu_vulkan.proofs.Joins.{OneMore, one_more_released, found_number}

@@ -7,12 +7,12 @@ use Rattle.std.specs.Option.{option_to_list}
 use Rattle.std.proofs.lemmas.Bool.{cases_eq, cases_Bool, eqb-true}
 use Rattle.std.proofs.lemmas.Bool.Decides.{nat_tests}
 use Rattle.std.proofs.lemmas.List.Elements.{All-nil, All-cons, All-head, All-tail, All-weaker, All-contains, All-contains_itself}
-use Rattle.gpu_core.specs.Block.{Block, free_list, dedicated, extents_of, IsSoundBlock, TakesIn, ReleasesIn}
-use Rattle.gpu_core.specs.FreeList.{Extent, FreeList}
-use Rattle.gpu_core.specs.Changes.{with_extent, Takes, Releases}
-use Rattle.gpu_core.specs.Dedicated.{Dedicated, whole_extent, held_extents}
-use Rattle.gpu_core.specs.Laws.{IsSound}
-use Rattle.gpu_core.specs.Request.{Request}
+use Rattle.gpu_block.specs.Block.{Block, free_list, dedicated, extents_of, IsSoundBlock, TakesIn, ReleasesIn}
+use Rattle.gpu_block_pieces.specs.FreeList.{Extent, FreeList}
+use Rattle.gpu_block_pieces.specs.Changes.{with_extent, Takes, Releases}
+use Rattle.gpu_block.specs.Dedicated.{Dedicated, whole_extent, held_extents}
+use Rattle.gpu_block_pieces.specs.Laws.{IsSound}
+use Rattle.gpu_block_pieces.specs.Request.{Request}
 use Rattle.gpu_block_pieces.proofs.Keyed.{eq_false, eq_true}
 use Rattle.gpu_block_pieces.proofs.Live.{takes_new_number, piece_of, piece_held, here, there}
 use Rattle.gpu_block_pieces.proofs.Separation.{within_of, in_filter}

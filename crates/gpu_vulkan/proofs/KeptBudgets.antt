@@ -1,12 +1,13 @@
 -- No call but that which sets one changes a budget, and budgets of memory types that aren't asked decide nothing.
 use Rattle.std.proofs.Common.{◌≡◌, ◌∙◌, ap, ⊎_elim, ℕ, List, Bool, true, false, Option, Some, None}
-use Rattle.gpu_core.specs.Refusal.{Refusal}
+use Rattle.gpu_values.specs.Refusal.{Refusal}
 use Rattle.gpu_slots.specs.declared.piece.Piece.{Piece}
 use Rattle.gpu_device.specs.declared.vulkan.types.DeviceMemory.{DeviceMemory}
 use Rattle.gpu_vulkan.specs.Allocate.{is_valid}
 use Rattle.gpu_vulkan.specs.Budgets.{SetsNoBudget}
 use Rattle.gpu_vulkan.specs.Live.{piece_of}
-use Rattle.gpu_vulkan.specs.Step.{ModelState, Call, Allocate, Free, Write, Rename, Report, Leaks, Read, Capacity, SetBudget, Budget, CallEnvironment, Reply, Fails, Done, Step, AllocateStep}
+use Rattle.gpu_vulkan.specs.Reply.{Reply, Error, Done}
+use Rattle.gpu_vulkan.specs.Step.{ModelState, Call, Allocate, Free, Write, Rename, Report, Leaks, Read, Capacity, SetBudget, Budget, CallEnvironment, Step, AllocateStep}
 use Rattle.gpu_vulkan.specs.Step.{FoundStep, Follows, FreeStep, RenameStep, next_by}
 use Rattle.gpu_vulkan_blocks.specs.Suballocation.{AttemptEnvironment, Answer}
 use Rattle.gpu_vulkan_setup.specs.Setup.{Setup}
@@ -33,7 +34,7 @@ freed_done : (t : ℕ) (p : Option (Piece DeviceMemory)) (old new : ModelState) 
 freed_done t None old new a = ap budgets_of a
 freed_done t (Some p) old new a = a.1.budgets
 
-free_failed : (t : ℕ) (p : Option (Piece DeviceMemory)) (r : Refusal) (old new : ModelState) → FreeStep t p (Fails r) old new → new.budgets ≡ old.budgets
+free_failed : (t : ℕ) (p : Option (Piece DeviceMemory)) (r : Refusal) (old new : ModelState) → FreeStep t p (Error r) old new → new.budgets ≡ old.budgets
 free_failed t None r old new a = absurd a
 free_failed t (Some p) r old new a = ap budgets_of a.2
 
@@ -44,7 +45,7 @@ renamed_done : (t : ℕ) (p : Option (Piece DeviceMemory)) (name : List ℕ) (ho
 renamed_done t None name host old new a = ap budgets_of a.1
 renamed_done t (Some p) name host old new a = a.3
 
-rename_failed : (t : ℕ) (p : Option (Piece DeviceMemory)) (name : List ℕ) (host : Bool) (r : Refusal) (old new : ModelState) → RenameStep t p name host (Fails r) old new → new.budgets ≡ old.budgets
+rename_failed : (t : ℕ) (p : Option (Piece DeviceMemory)) (name : List ℕ) (host : Bool) (r : Refusal) (old new : ModelState) → RenameStep t p name host (Error r) old new → new.budgets ≡ old.budgets
 rename_failed t None name host r old new a = ap budgets_of a.2
 rename_failed t (Some p) name host r old new a = ap budgets_of a.1
 

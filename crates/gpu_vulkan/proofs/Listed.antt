@@ -5,10 +5,10 @@ use Rattle.std.specs.Prelude.{if◌then◌else◌}
 use Rattle.std.specs.FinMap.{get}
 use Rattle.std.proofs.lemmas.Bool.{cases_eq, cases_Bool, cases_lt}
 use Rattle.std.proofs.lemmas.Bool.Decides.{nat_tests}
-use Rattle.gpu_core.specs.Block.{Block, free_list, dedicated, extents_of, IsSoundBlock}
-use Rattle.gpu_core.specs.FreeList.{Extent}
-use Rattle.gpu_core.specs.Slots.{SlotIsSound}
-use Rattle.gpu_core.specs.TypeState.{Slot}
+use Rattle.gpu_block.specs.Block.{Block, free_list, dedicated, extents_of, IsSoundBlock}
+use Rattle.gpu_block_pieces.specs.FreeList.{Extent}
+use Rattle.gpu_slots.specs.Slots.{SlotIsSound}
+use Rattle.gpu_slots.specs.TypeState.{Slot}
 use Rattle.gpu_block_pieces.proofs.Separation.{within_of}
 use Rattle.std.specs.Option.{option_to_list}
 use Rattle.gpu_slots.proofs.Found.{one_in, only_one}
@@ -26,7 +26,9 @@ use Rattle.gpu_vulkan.specs.Lends.{number_in, written_at}
 use Rattle.gpu_vulkan.specs.Live.{IsLive, IsMapped, bytes_at}
 use Rattle.gpu_vulkan.specs.State.{State}
 use Rattle.gpu_vulkan_setup.specs.Setup.{Setup}
-use Rattle.gpu_vulkan.specs.Step.{SetBudget, Budget, Budgeted, SetBudgetStep, done_as, model_of, id_of, IsRead, IsStep, Write, Read, Bytes, Capacity, Sum, Done, nothing_met}
+use Rattle.gpu_vulkan.specs.Reply as replies
+use Rattle.gpu_vulkan.specs.Reply.{Done, Bytes}
+use Rattle.gpu_vulkan.specs.Step.{SetBudget, Budget, SetBudgetStep, done_as, model_of, id_of, IsRead, IsStep, Write, Read, Capacity, nothing_met}
 use Rattle.gpu_vulkan.specs.declared.allocation.Allocation.{Allocation}
 use Rattle.gpu_vulkan.proofs.ByteViews.{place, other_number}
 use Rattle.gpu_vulkan.proofs.Joins.{number_found, found_number, any_of, all_of}
@@ -238,7 +240,7 @@ dead_read g s a dead = record {
   latest = refl;
 }
 
-pub sum_step : {D : Type 0} (g : Ghosts D) (s : State D) (n : ℕ) → n ≡ total_capacity s.slots → IsStep g Capacity (Sum n) s s
+pub sum_step : {D : Type 0} (g : Ghosts D) (s : State D) (n : ℕ) → n ≡ total_capacity s.slots → IsStep g Capacity (replies.Capacity n) s s
 sum_step g s n is = record {
   environment = record { first = nothing_met; second = nothing_met };
   step = ((refl, refl), is, refl);
@@ -251,7 +253,7 @@ pub lent_length : (held : Held) (n o size : ℕ) (r : Option (Bor (List ℕ))) �
 lent_length held n o size None told = tt
 lent_length held n o size (Some s) told = length_of_range (bytes_of held n) o size s.now (sym told)
 
-pub budget_step : {D : Type 0} (g : Ghosts D) (s : State D) (t : ℕ) (budget : Option ℕ) → budget ≡ budget_at s.budgets t → IsStep g (Budget t) (Budgeted budget) s s
+pub budget_step : {D : Type 0} (g : Ghosts D) (s : State D) (t : ℕ) (budget : Option ℕ) → budget ≡ budget_at s.budgets t → IsStep g (Budget t) (replies.Budget budget) s s
 budget_step g s t budget is = record {
   environment = record { first = nothing_met; second = nothing_met };
   step = ((refl, refl), is, refl);

@@ -5,15 +5,15 @@ use Rattle.std.specs.Prelude.{if◌then◌else◌, ◌||◌, ◌==◌, ◌&&◌,
 use Rattle.std.specs.Global.{Global}
 use Rattle.std.specs.Option.{option_map, option_to_list}
 use Rattle.std.specs.Int.NonZero.{non_zero_u64_get}
-use Rattle.gpu_core.specs.Block.{Block, free_list, dedicated, extents_of, RenamesIn}
-use Rattle.gpu_core.specs.Changes.{with_name}
-use Rattle.gpu_core.specs.Dedicated.{renamed, held_extents}
-use Rattle.gpu_core.specs.FreeList.{Extent}
-use Rattle.gpu_core.specs.Leak.{leak_text}
-use Rattle.gpu_core.specs.Refusal.{refusal_of}
-use Rattle.gpu_core.specs.Report.{report_of}
-use Rattle.gpu_core.specs.TypeRelease.{SlotRenames}
-use Rattle.gpu_core.specs.TypeState.{Slot, slot_at}
+use Rattle.gpu_block.specs.Block.{Block, free_list, dedicated, extents_of, RenamesIn}
+use Rattle.gpu_block_pieces.specs.Changes.{with_name}
+use Rattle.gpu_block.specs.Dedicated.{renamed, held_extents}
+use Rattle.gpu_block_pieces.specs.FreeList.{Extent}
+use Rattle.gpu_block_views.specs.Leak.{leak_text}
+use Rattle.gpu_values.specs.Refusal.{refusal_of}
+use Rattle.gpu_values.specs.Report.{report_of}
+use Rattle.gpu_slots.specs.TypeRelease.{SlotRenames}
+use Rattle.gpu_slots.specs.TypeState.{Slot, slot_at}
 use Rattle.gpu_slots.specs.declared.piece.Piece.{Piece}
 use Rattle.gpu_slots.proofs.Slotted.{set_only}
 use Rattle.gpu_values.specs.declared.error.AllocationError.{AllocationError}

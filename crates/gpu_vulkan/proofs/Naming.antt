@@ -6,12 +6,12 @@ use Rattle.std.specs.Int.NonZero.{non_zero_u64_get}
 use Rattle.std.proofs.lemmas.Bool.{cases_eq}
 use Rattle.std.proofs.lemmas.List.Elements.{All-nil, All-cons, All-weaker, All-contains}
 use Rattle.gpu_block_pieces.proofs.Live.{here, there}
-use Rattle.gpu_core.specs.Block.{Block, free_list, dedicated, HoldsPiece, RenamesIn}
-use Rattle.gpu_core.specs.Changes.{with_name}
-use Rattle.gpu_core.specs.Dedicated.{renamed}
-use Rattle.gpu_core.specs.FreeList.{Extent}
-use Rattle.gpu_core.specs.TypeRelease.{SlotHolds, SlotRenames, IsLive as IsLivePiece}
-use Rattle.gpu_core.specs.TypeState.{Slot, slot_at}
+use Rattle.gpu_block.specs.Block.{Block, free_list, dedicated, HoldsPiece, RenamesIn}
+use Rattle.gpu_block_pieces.specs.Changes.{with_name}
+use Rattle.gpu_block.specs.Dedicated.{renamed}
+use Rattle.gpu_block_pieces.specs.FreeList.{Extent}
+use Rattle.gpu_slots.specs.TypeRelease.{SlotHolds, SlotRenames, IsLive as IsLivePiece}
+use Rattle.gpu_slots.specs.TypeState.{Slot, slot_at}
 use Rattle.gpu_slots.specs.declared.piece.Piece.{Piece}
 use Rattle.gpu_slots.proofs.Slotted.{set_only}
 use Rattle.gpu_device.specs.declared.vulkan.types.DeviceMemory.{DeviceMemory}

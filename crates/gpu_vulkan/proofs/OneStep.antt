@@ -3,10 +3,10 @@ use Rattle.std.proofs.Common.{inr, inl, map, ◌⊎◌, ◌≡◌, ◌∙◌, �
 use Rattle.std.proofs.lemmas.Bool.{cases_Bool, cases_lt, eqb-true}
 use Rattle.std.proofs.lemmas.Option.{slice_get_past}
 use Rattle.std.specs.Prelude.{◌&&◌, ◌==◌}
-use Rattle.gpu_core.specs.Refusal.{Refusal, host_out_of_memory}
-use Rattle.gpu_core.specs.Leak.{leak_text}
-use Rattle.gpu_core.specs.TypeRelease.{has_several}
-use Rattle.gpu_core.specs.TypeState.{slot_at}
+use Rattle.gpu_values.specs.Refusal.{Refusal, host_out_of_memory}
+use Rattle.gpu_block_views.specs.Leak.{leak_text}
+use Rattle.gpu_slots.specs.TypeRelease.{has_several}
+use Rattle.gpu_slots.specs.TypeState.{slot_at}
 use Rattle.gpu_slots.specs.declared.piece.Piece.{Piece}
 use Rattle.gpu_core.proofs.OneOutcome.{released_once, refusal_once, renamed_once, name_refusal_once}
 use Rattle.gpu_memory_types.proofs.OneOutcome.{false_true, allocates_once}
@@ -24,7 +24,9 @@ use Rattle.gpu_vulkan.specs.Live.{piece_of}
 use Rattle.gpu_memory_types.specs.Leaks.{all_leaks}
 use Rattle.gpu_memory_types.specs.Reports.{whole_report}
 use Rattle.gpu_vulkan_setup.specs.Setup.{Setup}
-use Rattle.gpu_vulkan.specs.Step.{ModelState, Call, Allocate, Free, Write, Rename, Report, Leaks, Read, Capacity, SetBudget, Budget, Reply, Given, Fails, Done, Bytes, Sum, Shows, Tells, Budgeted}
+use Rattle.gpu_vulkan.specs.Reply as replies
+use Rattle.gpu_vulkan.specs.Reply.{Reply, Given, Error, Done, Bytes}
+use Rattle.gpu_vulkan.specs.Step.{ModelState, Call, Allocate, Free, Write, Rename, Report, Leaks, Read, Capacity, SetBudget, Budget}
 use Rattle.gpu_vulkan.specs.Step.{RenameStep, SetBudgetStep, ReportStep, LeaksStep, CallEnvironment, BytesAfter, AttemptStep, reply_of, next_by, Follows, ServeStep, RefuseStep, FoundStep}
 use Rattle.gpu_vulkan.specs.Step.{AllocateStep, MayDrop, ReleaseStep, FreeStep, WriteStep, IsRead, Step, id_in, id_of}
 use Rattle.gpu_vulkan.specs.declared.allocation.Allocation.{Allocation}
@@ -184,35 +186,35 @@ release_once setup t p old new next sound a b =
 
 -- a free is done, or refused
 pub free_reply : (t : ℕ) (p : Option (Piece DeviceMemory)) (x : Reply) (old new : ModelState) → FreeStep t p x old new
-    → ((x ≡ Done) × FreeStep t p Done old new) ⊎ ((r : Refusal) × (x ≡ Fails r) × FreeStep t p (Fails r) old new)
+    → ((x ≡ Done) × FreeStep t p Done old new) ⊎ ((r : Refusal) × (x ≡ Error r) × FreeStep t p (Error r) old new)
 free_reply t None (Given u q) old new s = absurd s
-free_reply t None (Fails r) old new s = absurd s
+free_reply t None (Error r) old new s = absurd s
 free_reply t None Done old new s = inl (refl, s)
 free_reply t None (Bytes xs) old new s = absurd s
-free_reply t None (Sum n) old new s = absurd s
-free_reply t None (Shows w) old new s = absurd s
-free_reply t None (Tells zs) old new s = absurd s
-free_reply t None (Budgeted n) old new s = absurd s
+free_reply t None (replies.Capacity n) old new s = absurd s
+free_reply t None (replies.Report w) old new s = absurd s
+free_reply t None (replies.Leaks zs) old new s = absurd s
+free_reply t None (replies.Budget n) old new s = absurd s
 free_reply t (Some p) (Given u q) old new s = absurd s
-free_reply t (Some p) (Fails r) old new s = inr (r, refl, s)
+free_reply t (Some p) (Error r) old new s = inr (r, refl, s)
 free_reply t (Some p) Done old new s = inl (refl, s)
 free_reply t (Some p) (Bytes xs) old new s = absurd s
-free_reply t (Some p) (Sum n) old new s = absurd s
-free_reply t (Some p) (Shows w) old new s = absurd s
-free_reply t (Some p) (Tells zs) old new s = absurd s
-free_reply t (Some p) (Budgeted n) old new s = absurd s
+free_reply t (Some p) (replies.Capacity n) old new s = absurd s
+free_reply t (Some p) (replies.Report w) old new s = absurd s
+free_reply t (Some p) (replies.Leaks zs) old new s = absurd s
+free_reply t (Some p) (replies.Budget n) old new s = absurd s
 
 free_done_once : (setup : Setup) (t : ℕ) (p : Option (Piece DeviceMemory)) (old new next : ModelState) → BlocksWellFormed setup.properties.granularity old.slots → FreeStep t p Done old new → FreeStep
     t p Done old next → new ≡ next
 free_done_once setup t None old new next sound a b = a ∙ sym b
 free_done_once setup t (Some p) old new next sound a b = release_once setup t p old new next sound a.1 b.1
 
-pub done_or_fails : (t : ℕ) (p : Option (Piece DeviceMemory)) (r : Refusal) (old new next : ModelState) → FreeStep t p Done old new → FreeStep t p (Fails r) old next → ⊥
+pub done_or_fails : (t : ℕ) (p : Option (Piece DeviceMemory)) (r : Refusal) (old new next : ModelState) → FreeStep t p Done old new → FreeStep t p (Error r) old next → ⊥
 done_or_fails t None r old new next a b = b
 done_or_fails t (Some p) r old new next a b = b.0 a.0
 
 free_fails_once : (setup : Setup) (t : ℕ) (p : Option (Piece DeviceMemory)) (r s : Refusal) (old new next : ModelState) → BlocksWellFormed setup.properties.granularity old.slots → FreeStep t p
-    (Fails r) old new → FreeStep t p (Fails s) old next → (r ≡ s) × (new ≡ next)
+    (Error r) old new → FreeStep t p (Error s) old next → (r ≡ s) × (new ≡ next)
 free_fails_once setup t None r s old new next sound a b = absurd a
 free_fails_once setup t (Some p) r s old new next sound a b =
     (refusal_once is_same_memory setup.properties.granularity p (slot_at (slots_at old.slots t) p.slot) r s (sound t p.slot) a.1 b.1, a.2 ∙ sym b.2)
@@ -227,30 +229,30 @@ free_once setup t p x y old new next sound a b =
     (free_reply t p y old next b))
     (λ err. ⊎_elim
     (λ ok. absurd (done_or_fails t p err.0 old next new ok.1 err.2))
-    (λ also. let once = free_fails_once setup t p err.0 also.0 old new next sound err.2 also.2 in (err.1 ∙ ap Fails once.0 ∙ sym also.1, once.1))
+    (λ also. let once = free_fails_once setup t p err.0 also.0 old new next sound err.2 also.2 in (err.1 ∙ ap Error once.0 ∙ sym also.1, once.1))
     (free_reply t p y old next b))
     (free_reply t p x old new a)
 
 -- ---- a new name
 
 pub rename_reply : (t : ℕ) (p : Option (Piece DeviceMemory)) (name : List ℕ) (host : Bool) (x : Reply) (old new : ModelState) → RenameStep t p name host x old new
-    → ((x ≡ Done) × RenameStep t p name host Done old new) ⊎ ((r : Refusal) × (x ≡ Fails r) × RenameStep t p name host (Fails r) old new)
+    → ((x ≡ Done) × RenameStep t p name host Done old new) ⊎ ((r : Refusal) × (x ≡ Error r) × RenameStep t p name host (Error r) old new)
 rename_reply t None name host (Given u q) old new s = absurd s
-rename_reply t None name host (Fails r) old new s = inr (r, refl, s)
+rename_reply t None name host (Error r) old new s = inr (r, refl, s)
 rename_reply t None name host Done old new s = inl (refl, s)
 rename_reply t None name host (Bytes xs) old new s = absurd s
-rename_reply t None name host (Sum n) old new s = absurd s
-rename_reply t None name host (Shows w) old new s = absurd s
-rename_reply t None name host (Tells zs) old new s = absurd s
-rename_reply t None name host (Budgeted n) old new s = absurd s
+rename_reply t None name host (replies.Capacity n) old new s = absurd s
+rename_reply t None name host (replies.Report w) old new s = absurd s
+rename_reply t None name host (replies.Leaks zs) old new s = absurd s
+rename_reply t None name host (replies.Budget n) old new s = absurd s
 rename_reply t (Some p) name host (Given u q) old new s = absurd s
-rename_reply t (Some p) name host (Fails r) old new s = inr (r, refl, s)
+rename_reply t (Some p) name host (Error r) old new s = inr (r, refl, s)
 rename_reply t (Some p) name host Done old new s = inl (refl, s)
 rename_reply t (Some p) name host (Bytes xs) old new s = absurd s
-rename_reply t (Some p) name host (Sum n) old new s = absurd s
-rename_reply t (Some p) name host (Shows w) old new s = absurd s
-rename_reply t (Some p) name host (Tells zs) old new s = absurd s
-rename_reply t (Some p) name host (Budgeted n) old new s = absurd s
+rename_reply t (Some p) name host (replies.Capacity n) old new s = absurd s
+rename_reply t (Some p) name host (replies.Report w) old new s = absurd s
+rename_reply t (Some p) name host (replies.Leaks zs) old new s = absurd s
+rename_reply t (Some p) name host (replies.Budget n) old new s = absurd s
 
 rename_done_once : (t : ℕ) (p : Option (Piece DeviceMemory)) (name : List ℕ) (host : Bool) (old new next : ModelState) → RenameStep t p name host Done old new → RenameStep t p name host Done old next
     → new ≡ next
@@ -260,14 +262,14 @@ rename_done_once t (Some p) name host old new next a b =
     states_alike new next (a.1.slots ∙ (ap (slice_set old.slots t) left ∙ sym b.1.slots)) (a.3 ∙ sym b.3) (a.2 ∙ sym b.2)
 
 pub named_or_fails : (t : ℕ) (p : Option (Piece DeviceMemory)) (name : List ℕ) (host : Bool) (r : Refusal) (old new next : ModelState) → RenameStep t p name host Done old new → RenameStep t p name
-    host (Fails r) old next → ⊥
+    host (Error r) old next → ⊥
 named_or_fails t None name host r old new next a b = false_true (sym b.0 ∙ a.0)
 named_or_fails t (Some p) name host r old new next a b =
     ⊎_elim (λ starved. false_true (sym starved.0 ∙ a.0)) (λ dead. dead.0 a.1.live) b.0
 
 pub rename_fails_once : (setup : Setup) (t : ℕ) (p : Option (Piece DeviceMemory)) (name : List ℕ) (host : Bool) (r s : Refusal) (old new next : ModelState) → BlocksWellFormed
     setup.properties.granularity old.slots
-    → RenameStep t p name host (Fails r) old new → RenameStep t p name host (Fails s) old next → (r ≡ s) × (new ≡ next)
+    → RenameStep t p name host (Error r) old new → RenameStep t p name host (Error s) old next → (r ≡ s) × (new ≡ next)
 rename_fails_once setup t None name host r s old new next sound a b = (a.1 ∙ sym b.1, a.2 ∙ sym b.2)
 rename_fails_once setup t (Some p) name host r s old new next sound a b = (
   ⊎_elim
@@ -291,7 +293,7 @@ rename_once setup t p name host x y old new next sound a b =
     (rename_reply t p name host y old next b))
     (λ err. ⊎_elim
     (λ ok. absurd (named_or_fails t p name host err.0 old next new ok.1 err.2))
-    (λ also. let once = rename_fails_once setup t p name host err.0 also.0 old new next sound err.2 also.2 in (err.1 ∙ ap Fails once.0 ∙ sym also.1, once.1))
+    (λ also. let once = rename_fails_once setup t p name host err.0 also.0 old new next sound err.2 also.2 in (err.1 ∙ ap Error once.0 ∙ sym also.1, once.1))
     (rename_reply t p name host y old next b))
     (rename_reply t p name host x old new a)
 
@@ -299,26 +301,26 @@ rename_once setup t p name host x y old new next sound a b =
 
 -- a reply to a call that shows something, or wants host memory
 pub shown_reply : (host : Bool) (x : Reply) (old new : ModelState) → ReportStep host x old new → (new ≡ old) ×
-    (((host ≡ true) × (x ≡ Shows (whole_report old.slots))) ⊎ ((host ≡ false) × (x ≡ Fails host_out_of_memory)))
+    (((host ≡ true) × (x ≡ replies.Report (whole_report old.slots))) ⊎ ((host ≡ false) × (x ≡ Error host_out_of_memory)))
 shown_reply host (Given u q) old new s = absurd s
-shown_reply host (Fails r) old new s = (s.2, inr (s.0, ap Fails s.1))
+shown_reply host (Error r) old new s = (s.2, inr (s.0, ap Error s.1))
 shown_reply host Done old new s = absurd s
 shown_reply host (Bytes xs) old new s = absurd s
-shown_reply host (Sum n) old new s = absurd s
-shown_reply host (Shows w) old new s = (s.2, inl (s.0, ap Shows s.1))
-shown_reply host (Tells zs) old new s = absurd s
-shown_reply host (Budgeted n) old new s = absurd s
+shown_reply host (replies.Capacity n) old new s = absurd s
+shown_reply host (replies.Report w) old new s = (s.2, inl (s.0, ap replies.Report s.1))
+shown_reply host (replies.Leaks zs) old new s = absurd s
+shown_reply host (replies.Budget n) old new s = absurd s
 
 pub told_reply : (host : Bool) (x : Reply) (old new : ModelState) → LeaksStep host x old new → (new ≡ old) ×
-    (((host ≡ true) × (x ≡ Tells (map leak_text (all_leaks old.slots)))) ⊎ ((host ≡ false) × (x ≡ Fails host_out_of_memory)))
+    (((host ≡ true) × (x ≡ replies.Leaks (map leak_text (all_leaks old.slots)))) ⊎ ((host ≡ false) × (x ≡ Error host_out_of_memory)))
 told_reply host (Given u q) old new s = absurd s
-told_reply host (Fails r) old new s = (s.2, inr (s.0, ap Fails s.1))
+told_reply host (Error r) old new s = (s.2, inr (s.0, ap Error s.1))
 told_reply host Done old new s = absurd s
 told_reply host (Bytes xs) old new s = absurd s
-told_reply host (Sum n) old new s = absurd s
-told_reply host (Shows w) old new s = absurd s
-told_reply host (Budgeted n) old new s = absurd s
-told_reply host (Tells zs) old new s = (s.2, inl (s.0, ap Tells s.1))
+told_reply host (replies.Capacity n) old new s = absurd s
+told_reply host (replies.Report w) old new s = absurd s
+told_reply host (replies.Budget n) old new s = absurd s
+told_reply host (replies.Leaks zs) old new s = (s.2, inl (s.0, ap replies.Leaks s.1))
 
 pub by_host : (host : Bool) (x y a b : Reply) → ((host ≡ true) × (x ≡ a)) ⊎ ((host ≡ false) × (x ≡ b)) → ((host ≡ true) × (y ≡ a)) ⊎ ((host ≡ false) × (y ≡ b)) → x ≡ y
 by_host host x y a b h k =
@@ -348,62 +350,62 @@ read_once setup a s (Some xs) (Some ys) h k = sym h.1 ∙ k.1
 pub write_reply : (setup : Setup) (a : Allocation) (ws : List ℕ) (o : CallEnvironment) (x : Reply) (old new : ModelState) → Step setup (Write a ws) o x old new → (x ≡ Done) × WriteStep setup a ws old
     new
 write_reply setup a ws o (Given u q) old new s = absurd s
-write_reply setup a ws o (Fails r) old new s = absurd s
+write_reply setup a ws o (Error r) old new s = absurd s
 write_reply setup a ws o Done old new s = (refl, s.1)
 write_reply setup a ws o (Bytes xs) old new s = absurd s
-write_reply setup a ws o (Sum n) old new s = absurd s
-write_reply setup a ws o (Shows w) old new s = absurd s
-write_reply setup a ws o (Tells zs) old new s = absurd s
-write_reply setup a ws o (Budgeted n) old new s = absurd s
+write_reply setup a ws o (replies.Capacity n) old new s = absurd s
+write_reply setup a ws o (replies.Report w) old new s = absurd s
+write_reply setup a ws o (replies.Leaks zs) old new s = absurd s
+write_reply setup a ws o (replies.Budget n) old new s = absurd s
 
 pub read_reply : (setup : Setup) (a : Allocation) (o : CallEnvironment) (x : Reply) (old new : ModelState) → Step setup (Read a) o x old new → (xs : Option (List ℕ)) × (x ≡ Bytes xs) × IsRead setup a
     old xs × (new ≡ old)
 read_reply setup a o (Given u q) old new s = absurd s
-read_reply setup a o (Fails r) old new s = absurd s
+read_reply setup a o (Error r) old new s = absurd s
 read_reply setup a o Done old new s = absurd s
 read_reply setup a o (Bytes xs) old new s = (xs, refl, s.1, s.2)
-read_reply setup a o (Sum n) old new s = absurd s
-read_reply setup a o (Shows w) old new s = absurd s
-read_reply setup a o (Tells zs) old new s = absurd s
-read_reply setup a o (Budgeted n) old new s = absurd s
+read_reply setup a o (replies.Capacity n) old new s = absurd s
+read_reply setup a o (replies.Report w) old new s = absurd s
+read_reply setup a o (replies.Leaks zs) old new s = absurd s
+read_reply setup a o (replies.Budget n) old new s = absurd s
 
-pub sum_reply : (setup : Setup) (o : CallEnvironment) (x : Reply) (old new : ModelState) → Step setup Capacity o x old new → (x ≡ Sum (total_capacity old.slots)) × (new ≡ old)
+pub sum_reply : (setup : Setup) (o : CallEnvironment) (x : Reply) (old new : ModelState) → Step setup Capacity o x old new → (x ≡ replies.Capacity (total_capacity old.slots)) × (new ≡ old)
 sum_reply setup o (Given u q) old new s = absurd s
-sum_reply setup o (Fails r) old new s = absurd s
+sum_reply setup o (Error r) old new s = absurd s
 sum_reply setup o Done old new s = absurd s
 sum_reply setup o (Bytes xs) old new s = absurd s
-sum_reply setup o (Sum n) old new s = (ap Sum s.1, s.2)
-sum_reply setup o (Shows w) old new s = absurd s
-sum_reply setup o (Tells zs) old new s = absurd s
-sum_reply setup o (Budgeted n) old new s = absurd s
+sum_reply setup o (replies.Capacity n) old new s = (ap replies.Capacity s.1, s.2)
+sum_reply setup o (replies.Report w) old new s = absurd s
+sum_reply setup o (replies.Leaks zs) old new s = absurd s
+sum_reply setup o (replies.Budget n) old new s = absurd s
 
-pub budget_reply : (setup : Setup) (t : ℕ) (o : CallEnvironment) (x : Reply) (old new : ModelState) → Step setup (Budget t) o x old new → (x ≡ Budgeted (budget_at old.budgets t)) × (new ≡ old)
+pub budget_reply : (setup : Setup) (t : ℕ) (o : CallEnvironment) (x : Reply) (old new : ModelState) → Step setup (Budget t) o x old new → (x ≡ replies.Budget (budget_at old.budgets t)) × (new ≡ old)
 budget_reply setup t o (Given u q) old new s = absurd s
-budget_reply setup t o (Fails r) old new s = absurd s
+budget_reply setup t o (Error r) old new s = absurd s
 budget_reply setup t o Done old new s = absurd s
 budget_reply setup t o (Bytes xs) old new s = absurd s
-budget_reply setup t o (Sum n) old new s = absurd s
-budget_reply setup t o (Shows w) old new s = absurd s
-budget_reply setup t o (Tells zs) old new s = absurd s
-budget_reply setup t o (Budgeted b) old new s = (ap Budgeted s.1, s.2)
+budget_reply setup t o (replies.Capacity n) old new s = absurd s
+budget_reply setup t o (replies.Report w) old new s = absurd s
+budget_reply setup t o (replies.Leaks zs) old new s = absurd s
+budget_reply setup t o (replies.Budget b) old new s = (ap replies.Budget s.1, s.2)
 
 -- ---- budgets
 
 -- a reply to a call that is done or fails, and the refusal that it tells
 abbrev pub done_by : Option Refusal → Reply
 done_by None = Done
-done_by (Some r) = Fails r
+done_by (Some r) = Error r
 
 pub set_reply : (t : ℕ) (budget : Option ℕ) (x : Reply) (old new : ModelState) → SetBudgetStep t budget x old new
     → (r : Option Refusal) × (x ≡ done_by r) × SetsBudget t budget old.budgets r new.budgets × (new.slots ≡ old.slots) × (new.byte_view ≡ old.byte_view)
 set_reply t budget (Given u q) old new s = absurd s
-set_reply t budget (Fails r) old new s = (Some r, refl, s.0, s.1, s.2)
+set_reply t budget (Error r) old new s = (Some r, refl, s.0, s.1, s.2)
 set_reply t budget Done old new s = (None, refl, s.0, s.1, s.2)
 set_reply t budget (Bytes xs) old new s = absurd s
-set_reply t budget (Sum n) old new s = absurd s
-set_reply t budget (Shows w) old new s = absurd s
-set_reply t budget (Tells zs) old new s = absurd s
-set_reply t budget (Budgeted b) old new s = absurd s
+set_reply t budget (replies.Capacity n) old new s = absurd s
+set_reply t budget (replies.Report w) old new s = absurd s
+set_reply t budget (replies.Leaks zs) old new s = absurd s
+set_reply t budget (replies.Budget b) old new s = absurd s
 
 -- a budget is set or refused, and not both
 pub sets_once : (t : ℕ) (budget : Option ℕ) (old : Budgets) (r s : Option Refusal) (new next : Budgets) → SetsBudget t budget old r new → SetsBudget t budget old s next → (r ≡ s) × (new ≡ next)
@@ -434,11 +436,11 @@ step_once setup (Rename f name) o x y old new next sound a b = rename_once setup
 step_once setup Report o x y old new next sound a b =
     let p = shown_reply o.first.host x old new a.1 in
     let q = shown_reply o.first.host y old next b.1 in
-    (by_host o.first.host x y (Shows (whole_report old.slots)) (Fails host_out_of_memory) p.1 q.1, p.0 ∙ sym q.0)
+    (by_host o.first.host x y (replies.Report (whole_report old.slots)) (Error host_out_of_memory) p.1 q.1, p.0 ∙ sym q.0)
 step_once setup Leaks o x y old new next sound a b =
     let p = told_reply o.first.host x old new a.1 in
     let q = told_reply o.first.host y old next b.1 in
-    (by_host o.first.host x y (Tells (map leak_text (all_leaks old.slots))) (Fails host_out_of_memory) p.1 q.1, p.0 ∙ sym q.0)
+    (by_host o.first.host x y (replies.Leaks (map leak_text (all_leaks old.slots))) (Error host_out_of_memory) p.1 q.1, p.0 ∙ sym q.0)
 step_once setup (SetBudget t budget) o x y old new next sound a b =
     let p = set_reply t budget x old new a.1 in
     let q = set_reply t budget y old next b.1 in

@@ -4,7 +4,7 @@ use Rattle.std.proofs.Common.{nat_le, nat_lt, slice_get, length-take, length-dro
 use Rattle.std.specs.Prelude.{if◌then◌else◌, ◌&&◌}
 use Rattle.std.proofs.lemmas.Bool.{cases_Bool}
 use Rattle.std.proofs.lemmas.Bool.Decides.{nat_tests}
-use Rattle.gpu_core.specs.FreeList.{Extent}
+use Rattle.gpu_block_pieces.specs.FreeList.{Extent}
 use Rattle.gpu_device.specs.Held.{HasRange, range_in}
 use Rattle.gpu_device.proofs.Writes.{fits_within}
 use Rattle.gpu_vulkan.specs.ByteView.{piece_of_number, covers, is_covered, byte_at, piece_bytes, IsOutOf}

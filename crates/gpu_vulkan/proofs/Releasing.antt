@@ -2,7 +2,7 @@
 use Rattle.std.proofs.Common.{◌≡◌, ◌∙◌, sym, ap, subst, ℕ, zero, suc, ◌<◌, [], ◌∷◌, length, Option, Some, None, Ok, Err, Result, arith}
 use Rattle.std.specs.Prelude.{OnOk, OnErr}
 use Rattle.std.proofs.lemmas.List.{length-set}
-use Rattle.gpu_core.specs.TypeRelease.{IsLive}
+use Rattle.gpu_slots.specs.TypeRelease.{IsLive}
 use Rattle.gpu_slots.specs.declared.piece.Piece.{Piece}
 use Rattle.gpu_device.specs.Held.{Held}
 use Rattle.gpu_device.specs.Properties.{Properties}

@@ -2,10 +2,10 @@
 use Rattle.std.proofs.Common.{◌≡◌, ◌≢◌, ◌∙◌, refl, sym, ap, subst, ℕ, ◌<◌, List, length, slice_set, Option, Some, None, Ok, Err, Result, inl, inr}
 use Rattle.std.specs.Prelude.{OnOk}
 use Rattle.std.proofs.lemmas.List.{length-set}
-use Rattle.gpu_core.specs.Block.{Block, free_list, dedicated, size_of, RenamesIn}
-use Rattle.gpu_core.specs.Refusal.{refusal_of}
-use Rattle.gpu_core.specs.TypeRelease.{IsLive, IsNameRefusal, SlotRenames}
-use Rattle.gpu_core.specs.TypeState.{Slot, slot_at}
+use Rattle.gpu_block.specs.Block.{Block, free_list, dedicated, size_of, RenamesIn}
+use Rattle.gpu_values.specs.Refusal.{refusal_of}
+use Rattle.gpu_slots.specs.TypeRelease.{IsLive, IsNameRefusal, SlotRenames}
+use Rattle.gpu_slots.specs.TypeState.{Slot, slot_at}
 use Rattle.gpu_slots.specs.declared.piece.Piece.{Piece}
 use Rattle.gpu_slots.proofs.Slotted.{set_only}
 use Rattle.gpu_device.specs.Held.{Held}

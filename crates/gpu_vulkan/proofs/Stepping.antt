@@ -2,13 +2,13 @@
 use Rattle.std.proofs.Common.{◌≡◌, ◌≢◌, ◌∙◌, ℕ, ◌<◌, refl, sym, ap, subst, Bool, true, false, List, [], length, slice_set, Option, Some, None, Result, ⊎_elim}
 use Rattle.std.specs.FinMap.{get, insert}
 use Rattle.std.specs.Int.NonZero.{non_zero_u64_get}
-use Rattle.gpu_core.specs.Block.{extents_of, TakesIn, IsSoundBlock, HoldsPiece}
-use Rattle.gpu_core.specs.FreeList.{Extent}
-use Rattle.gpu_core.specs.Refusal.{Refusal}
-use Rattle.gpu_core.specs.Slots.{SlotIsSound}
-use Rattle.gpu_core.specs.TypeRelease.{SlotHolds}
-use Rattle.gpu_core.specs.TypeState.{Slot}
-use Rattle.gpu_core.specs.TypeTake.{Ready, fresh_block, PreparesPiece, Installs}
+use Rattle.gpu_block.specs.Block.{extents_of, TakesIn, IsSoundBlock, HoldsPiece}
+use Rattle.gpu_block_pieces.specs.FreeList.{Extent}
+use Rattle.gpu_values.specs.Refusal.{Refusal}
+use Rattle.gpu_slots.specs.Slots.{SlotIsSound}
+use Rattle.gpu_slots.specs.TypeRelease.{SlotHolds}
+use Rattle.gpu_slots.specs.TypeState.{Slot}
+use Rattle.gpu_slots.specs.TypeTake.{Ready, fresh_block, PreparesPiece, Installs}
 use Rattle.gpu_slots.specs.declared.piece.Piece.{Piece}
 use Rattle.gpu_core.proofs.EmptyBlocks.{takes_holds}
 use Rattle.gpu_core.proofs.OneOutcome.{fresh_sound}

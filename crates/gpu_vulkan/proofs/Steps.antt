@@ -1,7 +1,7 @@
 -- The calls of an allocator are steps of the model.
 use Rattle.std.proofs.Common.{◌≡◌, ◌∙◌, ℕ, ◌<◌, refl, sym, ap, subst, Bool, true, false, length, Option, Some, None, Ok, Err, Result, arith, ⊎_elim}
 use Rattle.std.specs.FinMap.{get}
-use Rattle.gpu_core.specs.Refusal.{Refusal, refusal_of, refusal_in, invalid_allocation_create_desc, no_compatible_memory_type_found}
+use Rattle.gpu_values.specs.Refusal.{Refusal, refusal_of, refusal_in, invalid_allocation_create_desc, no_compatible_memory_type_found}
 use Rattle.gpu_slots.specs.declared.piece.Piece.{Piece}
 use Rattle.gpu_values.specs.declared.error.AllocationError.{AllocationError}
 use Rattle.gpu_device.specs.Held.{Held, IsWhole}
@@ -19,7 +19,8 @@ use Rattle.gpu_vulkan.specs.ByteView.{byte_view_of}
 use Rattle.gpu_vulkan_setup.specs.Choice.{best_type}
 use Rattle.gpu_vulkan_setup.specs.Setup.{Setup}
 use Rattle.gpu_vulkan.specs.State.{State}
-use Rattle.gpu_vulkan.specs.Step.{ModelState, model_of, CallEnvironment, Reply, Fails, reply_of, next_by, AttemptStep, Follows, ServeStep, RefuseStep, FoundStep, AllocateStep, IsAllocateStep}
+use Rattle.gpu_vulkan.specs.Reply.{Reply, Error}
+use Rattle.gpu_vulkan.specs.Step.{ModelState, model_of, CallEnvironment, reply_of, next_by, AttemptStep, Follows, ServeStep, RefuseStep, FoundStep, AllocateStep, IsAllocateStep}
 use Rattle.gpu_vulkan.specs.Step.{Replies, nothing_met, count_after, latest_after}
 use Rattle.gpu_vulkan.specs.declared.allocation.Allocation.{Allocation}
 use Rattle.gpu_vulkan_setup.specs.declared.describe.AllocationCreateDesc.{AllocationCreateDesc}
@@ -168,13 +169,13 @@ module _ {D : Type 0} (g : Ghosts D) (whole : (x : D) (n : ℕ) → IsWhole (get
 
 -- ---- a refusal before any attempt
 
-refused_replies : (setup : Setup) (d : AllocationCreateDesc) (result : Result Allocation AllocationError) (r : Refusal) → refusal_in result ≡ Some r → Replies setup d result (Fails r)
+refused_replies : (setup : Setup) (d : AllocationCreateDesc) (result : Result Allocation AllocationError) (r : Refusal) → refusal_in result ≡ Some r → Replies setup d result (Error r)
 refused_replies setup d (Ok a) r is = absurd (none_some r is)
 refused_replies setup d (Err e) r is = some_same (refusal_of e) r is
 
 module _ {D : Type 0} (g : Ghosts D) (d : AllocationCreateDesc) (old new : State D) (result : Result Allocation AllocationError) (device : new.device ≡ old.device) (slots : new.slots ≡ old.slots)
     (budgets : new.budgets ≡ old.budgets) where
-  refused_with : (r : Refusal) → RefuseStep r (record { first = nothing_met; second = nothing_met }) (Fails r) (model_of g old) (model_of g new)
+  refused_with : (r : Refusal) → RefuseStep r (record { first = nothing_met; second = nothing_met }) (Error r) (model_of g old) (model_of g new)
   refused_with r = record {
     met = (refl, refl);
     reply_is = refl;
@@ -182,9 +183,9 @@ module _ {D : Type 0} (g : Ghosts D) (d : AllocationCreateDesc) (old new : State
   }
 
   refused_by : (r : Refusal) → refusal_in result ≡ Some r
-      → AllocateStep old.setup d (is_valid d) (record { first = nothing_met; second = nothing_met }) (Fails r) (model_of g old) (model_of g new) → IsAllocateStep g d result old new
+      → AllocateStep old.setup d (is_valid d) (record { first = nothing_met; second = nothing_met }) (Error r) (model_of g old) (model_of g new) → IsAllocateStep g d result old new
   refused_by r is step = record {
-    reply = Fails r;
+    reply = Error r;
     step = record {
       environment = record { first = nothing_met; second = nothing_met };
       step = step;
@@ -197,13 +198,13 @@ module _ {D : Type 0} (g : Ghosts D) (d : AllocationCreateDesc) (old new : State
   pub invalid_step : refusal_in result ≡ Some invalid_allocation_create_desc → is_valid d ≡ false → IsAllocateStep g d result old new
   invalid_step is invalid =
       refused_by invalid_allocation_create_desc is
-      (subst (λ v. AllocateStep old.setup d v (record { first = nothing_met; second = nothing_met }) (Fails invalid_allocation_create_desc) (model_of g old) (model_of g new)) (sym invalid)
+      (subst (λ v. AllocateStep old.setup d v (record { first = nothing_met; second = nothing_met }) (Error invalid_allocation_create_desc) (model_of g old) (model_of g new)) (sym invalid)
       (refused_with invalid_allocation_create_desc))
 
   pub unfit_step : refusal_in result ≡ Some no_compatible_memory_type_found → is_valid d ≡ true
       → best_type old.setup.properties.types d.requirements.memory_type_bits d.location ≡ None → IsAllocateStep g d result old new
   unfit_step is valid none =
       refused_by no_compatible_memory_type_found is
-      (subst (λ v. AllocateStep old.setup d v (record { first = nothing_met; second = nothing_met }) (Fails no_compatible_memory_type_found) (model_of g old) (model_of g new)) (sym valid)
-      (subst (λ o. FoundStep old.setup d o (record { first = nothing_met; second = nothing_met }) (Fails no_compatible_memory_type_found) (model_of g old) (model_of g new)) (sym none)
+      (subst (λ v. AllocateStep old.setup d v (record { first = nothing_met; second = nothing_met }) (Error no_compatible_memory_type_found) (model_of g old) (model_of g new)) (sym valid)
+      (subst (λ o. FoundStep old.setup d o (record { first = nothing_met; second = nothing_met }) (Error no_compatible_memory_type_found) (model_of g old) (model_of g new)) (sym none)
       (refused_with no_compatible_memory_type_found)))

@@ -1,7 +1,7 @@
 -- A call that meets no budget is the same step where there are no budgets.
 use Rattle.std.proofs.Common.{◌≡◌, ◌∙◌, refl, sym, ap, subst, ⊎_elim, inl, inr, ℕ, List, [], Bool, true, false, Option, Some, None}
 use Rattle.std.specs.Prelude.{if◌then◌else◌, ◌&&◌, not}
-use Rattle.gpu_core.specs.Refusal.{Refusal}
+use Rattle.gpu_values.specs.Refusal.{Refusal}
 use Rattle.gpu_slots.specs.declared.piece.Piece.{Piece}
 use Rattle.gpu_device.specs.declared.vulkan.types.DeviceMemory.{DeviceMemory}
 use Rattle.gpu_memory_types.specs.Attempt.{RequestAt, AllocatesInType, Gave, Refused}
@@ -17,8 +17,10 @@ use Rattle.gpu_vulkan.specs.declared.allocation.Allocation.{Allocation}
 use Rattle.gpu_vulkan.specs.Allocate.{Attempts, IsTooLarge, IsWithinHeap, is_valid, is_for_upload, is_short}
 use Rattle.gpu_vulkan.specs.Budgets.{MayAsk, MeetsNoBudget, without_budgets}
 use Rattle.gpu_vulkan.specs.Live.{piece_of}
-use Rattle.gpu_vulkan.specs.Step.{ModelState, Call, Allocate, Free, Write, Rename, Report, Leaks, Read, Capacity, SetBudget, Budget, CallEnvironment, Reply, Given, Fails, Done, Bytes, Sum, Shows}
-use Rattle.gpu_vulkan.specs.Step.{Tells, Budgeted, Step, AttemptStep, AllocateStep, FoundStep, Follows, FreeStep, RenameStep, ReportStep, LeaksStep, next_by}
+use Rattle.gpu_vulkan.specs.Reply as replies
+use Rattle.gpu_vulkan.specs.Reply.{Reply, Given, Error, Done, Bytes}
+use Rattle.gpu_vulkan.specs.Step.{ModelState, Call, Allocate, Free, Write, Rename, Report, Leaks, Read, Capacity, SetBudget, Budget, CallEnvironment}
+use Rattle.gpu_vulkan.specs.Step.{Step, AttemptStep, AllocateStep, FoundStep, Follows, FreeStep, RenameStep, ReportStep, LeaksStep, next_by}
 use Rattle.gpu_vulkan.proofs.OneStep.{free_reply, rename_reply}
 use Rattle.gpu_memory_types.proofs.Options.{none_some}
 
@@ -93,7 +95,7 @@ free_done t None old new a = ap without_budgets a
 free_done t (Some p) old new a =
     (a.0, record { went = a.1.went; left = a.1.left; releases = a.1.releases; slots = a.1.slots; mid = a.1.mid; back = a.1.back; drops = a.1.drops; budgets = refl })
 
-free_fails : (t : ℕ) (p : Option (Piece DeviceMemory)) (r : Refusal) (old new : ModelState) → FreeStep t p (Fails r) old new → FreeStep t p (Fails r) (without_budgets old) (without_budgets new)
+free_fails : (t : ℕ) (p : Option (Piece DeviceMemory)) (r : Refusal) (old new : ModelState) → FreeStep t p (Error r) old new → FreeStep t p (Error r) (without_budgets old) (without_budgets new)
 free_fails t None r old new a = absurd a
 free_fails t (Some p) r old new a = (a.0, a.1, ap without_budgets a.2)
 
@@ -109,8 +111,8 @@ rename_done : (t : ℕ) (p : Option (Piece DeviceMemory)) (name : List ℕ) (hos
 rename_done t None name host old new a = (a.0, ap without_budgets a.1)
 rename_done t (Some p) name host old new a = (a.0, a.1, a.2, refl)
 
-rename_fails : (t : ℕ) (p : Option (Piece DeviceMemory)) (name : List ℕ) (host : Bool) (r : Refusal) (old new : ModelState) → RenameStep t p name host (Fails r) old new
-    → RenameStep t p name host (Fails r) (without_budgets old) (without_budgets new)
+rename_fails : (t : ℕ) (p : Option (Piece DeviceMemory)) (name : List ℕ) (host : Bool) (r : Refusal) (old new : ModelState) → RenameStep t p name host (Error r) old new
+    → RenameStep t p name host (Error r) (without_budgets old) (without_budgets new)
 rename_fails t None name host r old new a = (a.0, a.1, ap without_budgets a.2)
 rename_fails t (Some p) name host r old new a = (a.0, ap without_budgets a.1)
 
@@ -124,34 +126,34 @@ rename_plain t p name host x old new a =
 
 report_plain : (host : Bool) (x : Reply) (old new : ModelState) → ReportStep host x old new → ReportStep host x (without_budgets old) (without_budgets new)
 report_plain host (Given u q) old new a = absurd a
-report_plain host (Fails r) old new a = (a.0, a.1, ap without_budgets a.2)
+report_plain host (Error r) old new a = (a.0, a.1, ap without_budgets a.2)
 report_plain host Done old new a = absurd a
 report_plain host (Bytes xs) old new a = absurd a
-report_plain host (Sum n) old new a = absurd a
-report_plain host (Shows w) old new a = (a.0, a.1, ap without_budgets a.2)
-report_plain host (Tells zs) old new a = absurd a
-report_plain host (Budgeted b) old new a = absurd a
+report_plain host (replies.Capacity n) old new a = absurd a
+report_plain host (replies.Report w) old new a = (a.0, a.1, ap without_budgets a.2)
+report_plain host (replies.Leaks zs) old new a = absurd a
+report_plain host (replies.Budget b) old new a = absurd a
 
 leaks_plain : (host : Bool) (x : Reply) (old new : ModelState) → LeaksStep host x old new → LeaksStep host x (without_budgets old) (without_budgets new)
 leaks_plain host (Given u q) old new a = absurd a
-leaks_plain host (Fails r) old new a = (a.0, a.1, ap without_budgets a.2)
+leaks_plain host (Error r) old new a = (a.0, a.1, ap without_budgets a.2)
 leaks_plain host Done old new a = absurd a
 leaks_plain host (Bytes xs) old new a = absurd a
-leaks_plain host (Sum n) old new a = absurd a
-leaks_plain host (Shows w) old new a = absurd a
-leaks_plain host (Tells zs) old new a = (a.0, a.1, ap without_budgets a.2)
-leaks_plain host (Budgeted b) old new a = absurd a
+leaks_plain host (replies.Capacity n) old new a = absurd a
+leaks_plain host (replies.Report w) old new a = absurd a
+leaks_plain host (replies.Leaks zs) old new a = (a.0, a.1, ap without_budgets a.2)
+leaks_plain host (replies.Budget b) old new a = absurd a
 
 write_plain : (setup : Setup) (w : Allocation) (ws : List ℕ) (o : CallEnvironment) (x : Reply) (old new : ModelState) → Step setup (Write w ws) o x old new
     → Step setup (Write w ws) o x (without_budgets old) (without_budgets new)
 write_plain setup w ws o Done old new a = (a.0, record { live = a.1.live; slots = a.1.slots; budgets = refl; writes = a.1.writes })
 write_plain setup w ws o (Given u q) old new a = absurd a
-write_plain setup w ws o (Fails r) old new a = absurd a
+write_plain setup w ws o (Error r) old new a = absurd a
 write_plain setup w ws o (Bytes xs) old new a = absurd a
-write_plain setup w ws o (Sum n) old new a = absurd a
-write_plain setup w ws o (Shows z) old new a = absurd a
-write_plain setup w ws o (Tells zs) old new a = absurd a
-write_plain setup w ws o (Budgeted b) old new a = absurd a
+write_plain setup w ws o (replies.Capacity n) old new a = absurd a
+write_plain setup w ws o (replies.Report z) old new a = absurd a
+write_plain setup w ws o (replies.Leaks zs) old new a = absurd a
+write_plain setup w ws o (replies.Budget b) old new a = absurd a
 
 read_plain : (setup : Setup) (r : Allocation) (o : CallEnvironment) (x : Reply) (old new : ModelState) → Step setup (Read r) o x old new → Step setup (Read r) o x (without_budgets old)
     (without_budgets new)
@@ -159,21 +161,21 @@ read_plain setup r o (Bytes None) old new a = (a.0, a.1, ap without_budgets a.2)
 read_plain setup r o (Bytes (Some xs)) old new a = (a.0, a.1, ap without_budgets a.2)
 read_plain setup r o Done old new a = absurd a
 read_plain setup r o (Given u q) old new a = absurd a
-read_plain setup r o (Fails e) old new a = absurd a
-read_plain setup r o (Sum n) old new a = absurd a
-read_plain setup r o (Shows z) old new a = absurd a
-read_plain setup r o (Tells zs) old new a = absurd a
-read_plain setup r o (Budgeted b) old new a = absurd a
+read_plain setup r o (Error e) old new a = absurd a
+read_plain setup r o (replies.Capacity n) old new a = absurd a
+read_plain setup r o (replies.Report z) old new a = absurd a
+read_plain setup r o (replies.Leaks zs) old new a = absurd a
+read_plain setup r o (replies.Budget b) old new a = absurd a
 
 capacity_plain : (setup : Setup) (o : CallEnvironment) (x : Reply) (old new : ModelState) → Step setup Capacity o x old new → Step setup Capacity o x (without_budgets old) (without_budgets new)
-capacity_plain setup o (Sum n) old new a = (a.0, a.1, ap without_budgets a.2)
+capacity_plain setup o (replies.Capacity n) old new a = (a.0, a.1, ap without_budgets a.2)
 capacity_plain setup o Done old new a = absurd a
 capacity_plain setup o (Given u q) old new a = absurd a
-capacity_plain setup o (Fails e) old new a = absurd a
+capacity_plain setup o (Error e) old new a = absurd a
 capacity_plain setup o (Bytes xs) old new a = absurd a
-capacity_plain setup o (Shows z) old new a = absurd a
-capacity_plain setup o (Tells zs) old new a = absurd a
-capacity_plain setup o (Budgeted b) old new a = absurd a
+capacity_plain setup o (replies.Report z) old new a = absurd a
+capacity_plain setup o (replies.Leaks zs) old new a = absurd a
+capacity_plain setup o (replies.Budget b) old new a = absurd a
 
 pub step_plain : (setup : Setup) (call : Call) (o : CallEnvironment) (x : Reply) (old new : ModelState) → MeetsNoBudget setup call old.budgets → Step setup call o x old new
     → Step setup call o x (without_budgets old) (without_budgets new)

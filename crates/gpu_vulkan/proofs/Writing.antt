@@ -5,11 +5,11 @@ use Rattle.std.specs.FinMap.{get}
 use Rattle.std.specs.Int.NonZero.{non_zero_u64_get}
 use Rattle.std.specs.declared.num.NonZeroU64.{NonZeroU64}
 use Rattle.std.proofs.lemmas.Bool.{cases_eq, eqb-true}
-use Rattle.gpu_core.specs.Block.{Block, extents_of}
-use Rattle.gpu_core.specs.FreeList.{Extent}
-use Rattle.gpu_core.specs.Slots.{SlotIsSound}
-use Rattle.gpu_core.specs.TypeRelease.{SlotHolds}
-use Rattle.gpu_core.specs.TypeState.{Slot, slot_at}
+use Rattle.gpu_block.specs.Block.{Block, extents_of}
+use Rattle.gpu_block_pieces.specs.FreeList.{Extent}
+use Rattle.gpu_slots.specs.Slots.{SlotIsSound}
+use Rattle.gpu_slots.specs.TypeRelease.{SlotHolds}
+use Rattle.gpu_slots.specs.TypeState.{Slot, slot_at}
 use Rattle.gpu_slots.specs.declared.piece.Piece.{Piece}
 use Rattle.gpu_device.specs.Held.{Held, Entry, HasRange, bytes_of, IsWhole, range_of, put_bytes, with_range}
 use Rattle.gpu_device.specs.Properties.{Properties}

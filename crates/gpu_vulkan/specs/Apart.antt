@@ -1,7 +1,7 @@
 -- What holds of all live allocations: each lies inside its block, no two share a byte, and kinds keep to pages of their own.
 use Rattle.std.specs.Prelude.{◌≡◌, ◌≢◌, ◌⊎◌, ℕ, ◌+◌, ◌-◌, ◌<◌, ◌≤◌, Contains}
-use Rattle.gpu_core.specs.FreeList.{Extent}
-use Rattle.gpu_core.specs.Place.{page}
+use Rattle.gpu_block_pieces.specs.FreeList.{Extent}
+use Rattle.gpu_block_pieces.specs.Place.{page}
 use Rattle.gpu_values.specs.declared.allocation_type.AllocationType.{AllocationType}
 use Rattle.gpu_vulkan_blocks.specs.Blocks.{Slots}
 use Rattle.gpu_memory_types.specs.Apart.{EndsInside, pieces_in}

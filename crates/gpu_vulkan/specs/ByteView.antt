@@ -1,9 +1,9 @@
 -- The bytes of an allocator as its callers see them: a list of its own for each live piece in mapped memory, and a rest of each block that no piece sees.
 use Rattle.std.specs.Prelude.{◌≡◌, ℕ, ◌+◌, ◌-◌, ◌<◌, ◌==◌, ◌&&◌, nat_le, nat_lt, Bool, true, false, if◌then◌else◌, List, length, slice_get, Option, Some, None}
 use Rattle.std.specs.List.{find, list_any}
-use Rattle.gpu_core.specs.Block.{extents_of}
-use Rattle.gpu_core.specs.FreeList.{Extent}
-use Rattle.gpu_core.specs.TypeState.{Slot}
+use Rattle.gpu_block.specs.Block.{extents_of}
+use Rattle.gpu_block_pieces.specs.FreeList.{Extent}
+use Rattle.gpu_slots.specs.TypeState.{Slot}
 use Rattle.gpu_device.specs.Held.{Held, bytes_of, range_in}
 use Rattle.gpu_device.specs.declared.vulkan.types.DeviceMemory.{DeviceMemory}
 use Rattle.gpu_vulkan_blocks.specs.Blocks.{Slots}

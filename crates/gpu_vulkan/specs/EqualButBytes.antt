@@ -2,7 +2,8 @@
 use Rattle.std.specs.Prelude.{◌≡◌, Option, Some, None}
 use Rattle.gpu_vulkan_blocks.specs.Suballocation.{AttemptEnvironment, Asked}
 use Rattle.gpu_vulkan_blocks.specs.BlockAnswer.{BlockAnswer, Mapped}
-use Rattle.gpu_vulkan.specs.Step.{Call, Allocate, Write, CallEnvironment, Reply, Bytes}
+use Rattle.gpu_vulkan.specs.Reply.{Reply, Bytes}
+use Rattle.gpu_vulkan.specs.Step.{Call, Allocate, Write, CallEnvironment}
 use Rattle.gpu_vulkan_setup.specs.declared.describe.AllocationCreateDesc.{AllocationCreateDesc}
 
 -- the same answer, but for the bytes that a newly mapped block holds

@@ -1,8 +1,8 @@
 -- What giving an allocation back comes to.
 use Rattle.std.specs.Prelude.{◌≡◌, Option, Some, None, Result, Ok, Err}
-use Rattle.gpu_core.specs.Refusal.{refusal_of}
-use Rattle.gpu_core.specs.TypeRelease.{IsFreeRefusal}
-use Rattle.gpu_core.specs.TypeState.{slot_at}
+use Rattle.gpu_values.specs.Refusal.{refusal_of}
+use Rattle.gpu_slots.specs.TypeRelease.{IsFreeRefusal}
+use Rattle.gpu_slots.specs.TypeState.{slot_at}
 use Rattle.gpu_values.specs.declared.error.AllocationError.{AllocationError}
 use Rattle.gpu_slots.specs.declared.piece.Piece.{Piece}
 use Rattle.gpu_device.specs.declared.vulkan.device.VulkanDevice.{Ghosts}

@@ -4,6 +4,7 @@ pub mod State
 pub mod Free
 pub mod Lends
 pub mod ByteView
+pub mod Reply
 pub mod Step
 pub mod Budgets
 pub mod Apart

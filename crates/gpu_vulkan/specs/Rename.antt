@@ -1,6 +1,6 @@
 -- What giving an allocation another name comes to.
 use Rattle.std.specs.Prelude.{◌≡◌, ℕ, List, IsSomeAnd, string_bytes, Option, Some, None, Result, Ok, Err}
-use Rattle.gpu_core.specs.Refusal.{refusal_of, host_out_of_memory}
+use Rattle.gpu_values.specs.Refusal.{refusal_of, host_out_of_memory}
 use Rattle.gpu_values.specs.declared.error.AllocationError.{AllocationError}
 use Rattle.gpu_slots.specs.declared.piece.Piece.{Piece}
 use Rattle.gpu_device.specs.declared.vulkan.types.DeviceMemory.{DeviceMemory}

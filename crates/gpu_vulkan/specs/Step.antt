@@ -3,12 +3,11 @@ use Rattle.std.specs.Prelude.{◌≡◌, ◌≢◌, ◌⊎◌, ℕ, Vec, String,
 use Rattle.std.specs.Global.{Global}
 use Rattle.std.specs.List.{slice_set}
 use Rattle.std.specs.Int.NonZero.{non_zero_u64_get}
-use Rattle.gpu_core.specs.Refusal.{Refusal, refusal_of, host_out_of_memory, no_compatible_memory_type_found, invalid_allocation_create_desc}
-use Rattle.gpu_core.specs.TypeRelease.{has_several, ReleasesPiece, IsFreeRefusal, IsNameRefusal}
-use Rattle.gpu_core.specs.TypeState.{Slot, slot_at}
-use Rattle.gpu_core.specs.Leak.{leak_text}
-use Rattle.gpu_core.specs.Report as reports
-use Rattle.gpu_core.specs.Report.{report_of}
+use Rattle.gpu_values.specs.Refusal.{Refusal, refusal_of, host_out_of_memory, no_compatible_memory_type_found, invalid_allocation_create_desc}
+use Rattle.gpu_slots.specs.TypeRelease.{has_several, ReleasesPiece, IsFreeRefusal, IsNameRefusal}
+use Rattle.gpu_slots.specs.TypeState.{Slot, slot_at}
+use Rattle.gpu_block_views.specs.Leak.{leak_text}
+use Rattle.gpu_values.specs.Report.{report_of}
 use Rattle.gpu_values.specs.declared.report.AllocatorReport.{AllocatorReport}
 use Rattle.gpu_values.specs.declared.error.AllocationError.{AllocationError}
 use Rattle.gpu_slots.specs.declared.piece.Piece.{Piece}
@@ -35,6 +34,8 @@ use Rattle.gpu_vulkan_setup.specs.Setup.{Setup}
 use Rattle.gpu_vulkan.specs.State.{State}
 use Rattle.gpu_vulkan.specs.declared.allocation.Allocation.{Allocation}
 use Rattle.gpu_vulkan_setup.specs.declared.describe.AllocationCreateDesc.{AllocationCreateDesc}
+use Rattle.gpu_vulkan.specs.Reply as replies
+use Rattle.gpu_vulkan.specs.Reply.{Reply, Given, Error, Done, Bytes}
 
 -- the blocks with their pieces, the budgets of memory types, and the bytes
 pub record ModelState : Type 0 where
@@ -56,19 +57,6 @@ pub data Call : Type 0 where
   Leaks : Call
   SetBudget : (t : ℕ) (budget : Option ℕ) → Call
   Budget : (t : ℕ) → Call
-
-pub data Reply : Type 0 where
-  -- a piece of the t-th memory type
-  Given : (t : ℕ) (piece : Piece DeviceMemory) → Reply
-  Fails : (refusal : Refusal) → Reply
-  Done : Reply
-  -- an allocation's bytes, None where it has none
-  Bytes : (bytes : Option (List ℕ)) → Reply
-  Sum : (bytes : ℕ) → Reply
-  Shows : (report : reports.Report) → Reply
-  Tells : (texts : List (List ℕ)) → Reply
-  -- a memory type's budget, None where it has none
-  Budgeted : (budget : Option ℕ) → Reply
 
 -- what a call meets with at its attempts; only an allocation for an upload may make a second one
 pub record CallEnvironment : Type 0 where
@@ -108,7 +96,7 @@ pub record AttemptStep (setup : Setup) (t : ℕ) (d : AllocationCreateDesc) (o :
 
 abbrev pub reply_of : (t : ℕ) → Answer → Reply
 reply_of t (Gave p) = Given t p
-reply_of t (Refused r) = Fails r
+reply_of t (Refused r) = Error r
 
 -- the memory type of the second attempt, where there is one
 abbrev pub next_by : Setup → AllocationCreateDesc → Answer → Option ℕ
@@ -128,7 +116,7 @@ pub record ServeStep (setup : Setup) (t : ℕ) (d : AllocationCreateDesc) (o : C
 
 pub record RefuseStep (refusal : Refusal) (o : CallEnvironment) (reply : Reply) (old new : ModelState) : Type 0 where
   pub met : MeetsNothing o
-  pub reply_is : reply ≡ Fails refusal
+  pub reply_is : reply ≡ Error refusal
   pub same : new ≡ old
 
 abbrev pub FoundStep : Setup → AllocationCreateDesc → Option ℕ → CallEnvironment → Reply → ModelState → ModelState → Type 0
@@ -160,7 +148,7 @@ pub record ReleaseStep (t : ℕ) (p : Piece DeviceMemory) (old new : ModelState)
 abbrev pub FreeStep : (t : ℕ) → Option (Piece DeviceMemory) → Reply → ModelState → ModelState → Type 0
 FreeStep t None Done old new = new ≡ old
 FreeStep t (Some p) Done old new = IsLiveIn old.slots t (Some p) × ReleaseStep t p old new
-FreeStep t (Some p) (Fails r) old new =
+FreeStep t (Some p) (Error r) old new =
     (IsLiveIn old.slots t (Some p) → ⊥) × IsFreeRefusal is_same_memory p (slot_at (slots_at old.slots t) p.slot) r × (new ≡ old)
 FreeStep t p _ old new = ⊥
 
@@ -169,9 +157,9 @@ FreeStep t p _ old new = ⊥
 -- a live piece's record has another name, or the null allocation has no record; a refusal, for want of host memory or of a live piece, changes nothing
 abbrev pub RenameStep : (t : ℕ) → Option (Piece DeviceMemory) → (name : List ℕ) → (host : Bool) → Reply → ModelState → ModelState → Type 0
 RenameStep t None name host Done old new = (host ≡ true) × (new ≡ old)
-RenameStep t None name host (Fails r) old new = (host ≡ false) × (r ≡ host_out_of_memory) × (new ≡ old)
+RenameStep t None name host (Error r) old new = (host ≡ false) × (r ≡ host_out_of_memory) × (new ≡ old)
 RenameStep t (Some p) name host Done old new = (host ≡ true) × IsRenamed is_same_memory t p name old.slots new.slots × (new.byte_view ≡ old.byte_view) × (new.budgets ≡ old.budgets)
-RenameStep t (Some p) name host (Fails r) old new =
+RenameStep t (Some p) name host (Error r) old new =
     (((host ≡ false) × IsLiveIn old.slots t (Some p) × (r ≡ host_out_of_memory))
     ⊎ ((IsLiveIn old.slots t (Some p) → ⊥) × (r ≢ host_out_of_memory) × IsNameRefusal is_same_memory p (slot_at (slots_at old.slots t) p.slot) r))
     × (new ≡ old)
@@ -185,13 +173,13 @@ AsksNothing o = (o.first.asked ≡ None) × (o.second ≡ nothing_met)
 
 -- what is shown, or want of host memory
 abbrev pub ReportStep : (host : Bool) → Reply → ModelState → ModelState → Type 0
-ReportStep host (Shows r) old new = (host ≡ true) × (r ≡ whole_report old.slots) × (new ≡ old)
-ReportStep host (Fails r) old new = (host ≡ false) × (r ≡ host_out_of_memory) × (new ≡ old)
+ReportStep host (replies.Report r) old new = (host ≡ true) × (r ≡ whole_report old.slots) × (new ≡ old)
+ReportStep host (Error r) old new = (host ≡ false) × (r ≡ host_out_of_memory) × (new ≡ old)
 ReportStep host _ old new = ⊥
 
 abbrev pub LeaksStep : (host : Bool) → Reply → ModelState → ModelState → Type 0
-LeaksStep host (Tells texts) old new = (host ≡ true) × (texts ≡ map leak_text (all_leaks old.slots)) × (new ≡ old)
-LeaksStep host (Fails r) old new = (host ≡ false) × (r ≡ host_out_of_memory) × (new ≡ old)
+LeaksStep host (replies.Leaks texts) old new = (host ≡ true) × (texts ≡ map leak_text (all_leaks old.slots)) × (new ≡ old)
+LeaksStep host (Error r) old new = (host ≡ false) × (r ≡ host_out_of_memory) × (new ≡ old)
 LeaksStep host _ old new = ⊥
 
 -- ---- budgets
@@ -199,7 +187,7 @@ LeaksStep host _ old new = ⊥
 -- a memory type's budget is set, or there is no such type and nothing changes
 abbrev pub SetBudgetStep : (t : ℕ) → (budget : Option ℕ) → Reply → ModelState → ModelState → Type 0
 SetBudgetStep t budget Done old new = SetsBudget t budget old.budgets None new.budgets × (new.slots ≡ old.slots) × (new.byte_view ≡ old.byte_view)
-SetBudgetStep t budget (Fails r) old new = SetsBudget t budget old.budgets (Some r) new.budgets × (new.slots ≡ old.slots) × (new.byte_view ≡ old.byte_view)
+SetBudgetStep t budget (Error r) old new = SetsBudget t budget old.budgets (Some r) new.budgets × (new.slots ≡ old.slots) × (new.byte_view ≡ old.byte_view)
 SetBudgetStep t budget _ old new = ⊥
 
 -- ---- bytes
@@ -228,10 +216,10 @@ Step setup (Rename a name) o reply old new = AsksNothing o × RenameStep a.memor
 Step setup Report o reply old new = AsksNothing o × ReportStep o.first.host reply old new
 Step setup Leaks o reply old new = AsksNothing o × LeaksStep o.first.host reply old new
 Step setup (SetBudget t budget) o reply old new = MeetsNothing o × SetBudgetStep t budget reply old new
-Step setup (Budget t) o (Budgeted b) old new = MeetsNothing o × (b ≡ budget_at old.budgets t) × (new ≡ old)
+Step setup (Budget t) o (replies.Budget b) old new = MeetsNothing o × (b ≡ budget_at old.budgets t) × (new ≡ old)
 Step setup (Write a bytes) o Done old new = MeetsNothing o × WriteStep setup a bytes old new
 Step setup (Read a) o (Bytes xs) old new = MeetsNothing o × IsRead setup a old xs × (new ≡ old)
-Step setup Capacity o (Sum n) old new = MeetsNothing o × (n ≡ total_capacity old.slots) × (new ≡ old)
+Step setup Capacity o (replies.Capacity n) old new = MeetsNothing o × (n ≡ total_capacity old.slots) × (new ≡ old)
 Step setup _ o _ old new = ⊥
 
 -- ---- over a device
@@ -255,7 +243,7 @@ pub record IsStep {D : Type 0} (g : Ghosts D) (call : Call) (reply : Reply) (old
 -- what an allocation's caller gets is what the model replies
 abbrev pub Replies : Setup → AllocationCreateDesc → Result Allocation AllocationError → Reply → Type 0
 Replies setup d (Ok a) (Given t p) = IsGiven setup t d p a
-Replies setup d (Err e) (Fails r) = refusal_of e ≡ r
+Replies setup d (Err e) (Error r) = refusal_of e ≡ r
 Replies setup d _ _ = ⊥
 
 pub record IsAllocateStep {D : Type 0} (g : Ghosts D) (d : AllocationCreateDesc) (result : Result Allocation AllocationError) (old new : State D) : Type 0 where
@@ -265,16 +253,16 @@ pub record IsAllocateStep {D : Type 0} (g : Ghosts D) (d : AllocationCreateDesc)
 
 abbrev pub freed_as : Result (Unit {0}) (AllocationError × Allocation) → Reply
 freed_as (Ok _) = Done
-freed_as (Err e) = Fails (refusal_of e.0)
+freed_as (Err e) = Error (refusal_of e.0)
 
 abbrev pub done_as : Result (Unit {0}) AllocationError → Reply
 done_as (Ok _) = Done
-done_as (Err e) = Fails (refusal_of e)
+done_as (Err e) = Error (refusal_of e)
 
 abbrev pub shown_as : Result AllocatorReport AllocationError → Reply
-shown_as (Ok r) = Shows (report_of r)
-shown_as (Err e) = Fails (refusal_of e)
+shown_as (Ok r) = replies.Report (report_of r)
+shown_as (Err e) = Error (refusal_of e)
 
 abbrev pub told_as : Result (Vec (String Global) Global) AllocationError → Reply
-told_as (Ok v) = Tells (map string_bytes v.items)
-told_as (Err e) = Fails (refusal_of e)
+told_as (Ok v) = replies.Leaks (map string_bytes v.items)
+told_as (Err e) = Error (refusal_of e)

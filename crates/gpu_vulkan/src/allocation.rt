@@ -2,8 +2,8 @@
 
 ghost use Rattle.std.specs.Prelude.{◌≡◌, Some, None, IsTrue, ◌↔◌};
 
-use gpu_core::Piece;
 use gpu_device::vulkan::{DeviceMemory, MemoryPropertyFlags};
+use gpu_slots::Piece;
 use std::num::NonZeroU64;
 
 /// A piece of device memory: bytes `offset..offset + size` of `memory`. Bind a buffer or image to it there. Give it

@@ -2,7 +2,7 @@
 
 ghost use Rattle.std.specs.Prelude.{◌≡◌, ◌↔◌, [], All, map, string_bytes, Some, None, IfOk, IfErr, OnOk, IsSome, IfSome, IsTrue, List, ℕ, length, option_copied, ◌%◌};
 ghost use Rattle.std.specs.Option.{unwrap_or};
-ghost use Rattle.gpu_core.specs.Refusal.{refusal_of, refusal_in, host_out_of_memory};
+ghost use Rattle.gpu_values.specs.Refusal.{refusal_of, refusal_in, host_out_of_memory};
 ghost use Rattle.gpu_vulkan_setup.specs.Setup.{setup_fault};
 ghost use Rattle.gpu_memory_types.specs.Blocks.{total_capacity, BlocksWellFormed};
 ghost use Rattle.gpu_vulkan_blocks.specs.Blocks.{HoldsJustLiveBlocks};
@@ -11,15 +11,17 @@ ghost use Rattle.gpu_vulkan.specs.Free.{Frees};
 ghost use Rattle.gpu_vulkan.specs.Apart.{IsInside, SharesNoByte, KeepsPages};
 ghost use Rattle.gpu_vulkan.specs.Lends.{AreDistinct};
 ghost use Rattle.gpu_vulkan.specs.declared.allocation.Allocation.{Allocation};
-ghost use Rattle.gpu_vulkan.specs.Step.{IsStep, IsAllocateStep, Free, Rename, Write, Read, Capacity, Report, Leaks, SetBudget, Budget, Done, Bytes, Sum, Budgeted, freed_as, done_as, shown_as, told_as};
+ghost use Rattle.gpu_vulkan.specs.Reply as replies;
+ghost use Rattle.gpu_vulkan.specs.Reply.{Done, Bytes};
+ghost use Rattle.gpu_vulkan.specs.Step.{IsStep, IsAllocateStep, Free, Rename, Write, Read, Capacity, Report, Leaks, SetBudget, Budget, freed_as, done_as, shown_as, told_as};
 ghost use Rattle.gpu_vulkan.specs.Rename.{Renames, StayLive};
 ghost use Rattle.gpu_memory_types.specs.Reports.{whole_report};
 ghost use Rattle.gpu_memory_types.specs.Budgets.{budget_at, budgets, SetsBudget};
 ghost use Rattle.gpu_memory_types.specs.Types.{slots_of, kinds};
 ghost use Rattle.gpu_vulkan_setup.specs.Types.{kinds_told};
 ghost use Rattle.gpu_memory_types.specs.Leaks.{all_leaks};
-ghost use Rattle.gpu_core.specs.Leak.{leak_text};
-ghost use Rattle.gpu_core.specs.Report.{report_of};
+ghost use Rattle.gpu_block_views.specs.Leak.{leak_text};
+ghost use Rattle.gpu_values.specs.Report.{report_of};
 ghost use Rattle.gpu_values.specs.declared.error.AllocationError.TheVariants.{HostOutOfMemory};
 ghost use Rattle.std.specs.Borrow.{sem};
 ghost use Rattle.gpu_vulkan.specs.Live.{IsLive, IsMapped, bytes_at};
@@ -167,7 +169,7 @@ impl<D: VulkanDevice> Allocator<D> {
     /// The sum of the sizes of the live blocks, in bytes.
     pub fn capacity(&self) -> u64
         ensures sum { result ≡ total_capacity self.now.slots }
-        ensures step { IsStep D.VulkanDevice Capacity (Sum result) self.now self.now }
+        ensures step { IsStep D.VulkanDevice Capacity (replies.Capacity result) self.now self.now }
     {
         self.types.capacity()
     }
@@ -187,7 +189,7 @@ impl<D: VulkanDevice> Allocator<D> {
     /// The budget of a memory type, in bytes; `None` where it has none, or there is no such type.
     pub fn budget(&self, memory_type: usize) -> Option<u64>
         ensures budget { result ≡ budget_at self.now.budgets memory_type }
-        ensures step { IsStep D.VulkanDevice (Budget memory_type) (Budgeted result) self.now self.now }
+        ensures step { IsStep D.VulkanDevice (Budget memory_type) (replies.Budget result) self.now self.now }
     {
         self.types.budget(memory_type)
     }

@@ -11,9 +11,9 @@ ghost use Rattle.gpu_vulkan.specs.Allocate.{IsAttempt, IsServed, next_type};
 ghost use Rattle.gpu_vulkan.specs.Live.{IsGiven};
 
 use super::Allocation;
-use gpu_core::Piece;
 use gpu_device::vulkan::{DeviceMemory, VulkanDevice};
 use gpu_memory_types::MemoryTypes;
+use gpu_slots::Piece;
 use gpu_values::{AllocationError, MemoryLocation, Result};
 use gpu_vulkan_blocks::suballocate;
 use gpu_vulkan_setup::{

@@ -12,7 +12,8 @@ ghost use Rattle.gpu_vulkan.specs.declared.allocation.Allocation.{Allocation};
 ghost use Rattle.gpu_vulkan_setup.specs.declared.describe.AllocationCreateDesc.{AllocationCreateDesc};
 ghost use Rattle.gpu_values.specs.declared.error.AllocationError.{AllocationError};
 ghost use Rattle.gpu_vulkan_setup.specs.Setup.{Setup};
-ghost use Rattle.gpu_vulkan.specs.Step.{ModelState, Call, CallEnvironment, Reply, Step};
+ghost use Rattle.gpu_vulkan.specs.Reply.{Reply};
+ghost use Rattle.gpu_vulkan.specs.Step.{ModelState, Call, CallEnvironment, Step};
 ghost use Rattle.gpu_vulkan.specs.EqualButBytes.{EqualButBytesCallEnvironment, EqualButBytesCall, EqualButBytesReply};
 
 use gpu_device::vulkan::VulkanDevice;

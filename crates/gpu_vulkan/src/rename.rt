@@ -11,9 +11,9 @@ ghost use Rattle.gpu_vulkan_blocks.specs.Release.{is_same_memory, IsLiveIn};
 ghost use Rattle.gpu_vulkan.specs.Rename.{Renames};
 
 use super::Allocation;
-use gpu_core::Piece;
 use gpu_device::vulkan::DeviceMemory;
 use gpu_memory_types::MemoryTypes;
+use gpu_slots::Piece;
 use gpu_values::Result;
 use std::alloc::Global;
 

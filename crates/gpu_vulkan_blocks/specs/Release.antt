@@ -2,8 +2,8 @@
 use Rattle.std.specs.Prelude.{◌≡◌, ℕ, ◌==◌, Bool, List, IsTrue, Option, Some, None}
 use Rattle.std.specs.List.{slice_set}
 use Rattle.std.specs.FinMap.{remove}
-use Rattle.gpu_core.specs.TypeRelease.{has_several, ReleasesPiece}
-use Rattle.gpu_core.specs.TypeState.{Slot}
+use Rattle.gpu_slots.specs.TypeRelease.{has_several, ReleasesPiece}
+use Rattle.gpu_slots.specs.TypeState.{Slot}
 use Rattle.gpu_slots.specs.declared.piece.Piece.{Piece}
 use Rattle.gpu_device.specs.declared.vulkan.device.VulkanDevice.{Ghosts}
 use Rattle.gpu_device.specs.declared.vulkan.types.DeviceMemory.{DeviceMemory}

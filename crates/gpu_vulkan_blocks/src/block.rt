@@ -2,7 +2,7 @@
 
 ghost use Rattle.std.specs.Prelude.{◌≡◌, ℕ, ℤ, List, length, Option, None, IfErr, OnErr, OnOk};
 ghost use Rattle.std.specs.FinMap.{remove};
-ghost use Rattle.gpu_core.specs.Refusal.{refusal_of};
+ghost use Rattle.gpu_values.specs.Refusal.{refusal_of};
 ghost use Rattle.gpu_device.specs.Held.{IsUnmapped, size_of, bytes_of, mapped_with, raised};
 ghost use Rattle.gpu_vulkan_blocks.specs.BlockAnswer.{BlockAnswer, Asks, Gives, memory_refusal, map_refusal};
 

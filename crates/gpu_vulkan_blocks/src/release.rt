@@ -2,7 +2,7 @@
 
 ghost use Rattle.std.specs.Prelude.{◌≡◌, IfErr, OnOk, OnErr};
 ghost use Rattle.gpu_values.specs.Refusal.{refusal_of};
-ghost use Rattle.gpu_core.specs.TypeState.{slot_at, block_number};
+ghost use Rattle.gpu_slots.specs.TypeState.{slot_at, block_number};
 ghost use Rattle.gpu_memory_types.specs.Blocks.{slots_at};
 ghost use Rattle.gpu_memory_types.specs.Held.{without, without_block};
 ghost use Rattle.gpu_memory_types.specs.Release.{IsReleaseRefusal};
@@ -13,9 +13,9 @@ ghost use Rattle.gpu_vulkan_blocks.specs.Release.{IsReleased};
 ghost use Rattle.gpu_vulkan_blocks.specs.Release.{is_same_memory, IsLiveIn};
 
 use super::block::free_block_memory;
-use gpu_core::Piece;
 use gpu_device::vulkan::{DeviceMemory, VulkanDevice};
 use gpu_memory_types::MemoryTypes;
+use gpu_slots::Piece;
 use gpu_values::Result;
 
 /// Gives a piece of the memory type at `index` back, and its block with it where that goes. It takes no memory.

@@ -8,9 +8,10 @@ ghost use Rattle.gpu_vulkan_setup.specs.Types.{kinds_told};
 ghost use Rattle.gpu_vulkan_blocks.specs.Suballocation.{IsSuballocated};
 
 use crate::block::allocate_block_memory;
-use gpu_core::{Piece, Prepared};
+use gpu_core::Prepared;
 use gpu_device::vulkan::{DeviceMemory, MemoryAllocateInfo, VulkanDevice};
 use gpu_memory_types::MemoryTypes;
+use gpu_slots::Piece;
 use gpu_values::Result;
 use gpu_vulkan_setup::{AllocationCreateDesc, Setup, request_of};
 

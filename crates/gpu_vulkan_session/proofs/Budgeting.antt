@@ -2,6 +2,7 @@
 use Rattle.std.proofs.Common.{◌≡◌, ℕ, Option, Some, true, ap}
 use Rattle.gpu_device.specs.declared.vulkan.device.VulkanDevice.{Ghosts}
 use Rattle.gpu_vulkan.specs.State.{State}
+use Rattle.gpu_vulkan.specs.Reply as answers
 use Rattle.gpu_vulkan.specs.Step as model
 use Rattle.gpu_vulkan.specs.Step.{IsStep}
 use Rattle.gpu_vulkan.proofs.Untouched.{same_leaves}
@@ -10,7 +11,7 @@ use Rattle.gpu_vulkan_session.specs.Reply.{SessionReply}
 use Rattle.gpu_vulkan_session.specs.Session.{reply_by}
 use Rattle.gpu_vulkan_session.specs.Served.{SessionValue, session_of, IsServed}
 
-pub budget_set : {D : Type 0} (g : Ghosts D) (old new : SessionValue D) (t : ℕ) (budget : Option ℕ) (model_reply : model.Reply) (reply : SessionReply) → reply_by model_reply ≡ Some reply → new.bound
+pub budget_set : {D : Type 0} (g : Ghosts D) (old new : SessionValue D) (t : ℕ) (budget : Option ℕ) (model_reply : answers.Reply) (reply : SessionReply) → reply_by model_reply ≡ Some reply → new.bound
     ≡ old.bound
     → new.allocator ≡ record old.allocator { budgets = new.allocator.budgets } → IsStep g (model.SetBudget t budget) model_reply old.allocator new.allocator → IsServed g (SetBudget t budget) reply
     old new

@@ -3,7 +3,7 @@ use Rattle.std.proofs.Common.{◌≡◌, ◌∙◌, ℕ, List, length, Option, S
 use Rattle.std.specs.Prelude.{if◌then◌else◌}
 use Rattle.std.specs.Option.{option_map}
 use Rattle.std.specs.declared.num.NonZeroU64.{NonZeroU64}
-use Rattle.gpu_core.specs.Refusal.{Refusal}
+use Rattle.gpu_values.specs.Refusal.{Refusal}
 use Rattle.gpu_slots.specs.declared.piece.Piece.{Piece}
 use Rattle.gpu_device.specs.declared.vulkan.types.DeviceMemory.{DeviceMemory}
 use Rattle.gpu_vulkan.specs.Allocate.{is_valid}
@@ -13,7 +13,8 @@ use Rattle.gpu_vulkan_setup.specs.Types.{is_mapped}
 use Rattle.gpu_vulkan.specs.ByteView.{AllocationId, is_same_id, ByteView, IsOutOf, TakesOut}
 use Rattle.gpu_vulkan.specs.Live.{piece_of}
 use Rattle.gpu_vulkan_setup.specs.Setup.{Setup}
-use Rattle.gpu_vulkan.specs.Step.{ModelState, CallEnvironment, Reply, Given, Fails, Done, Bytes, Sum, Shows, Tells, Budgeted, Step, Allocate, Free, Rename, Report, Leaks, Capacity, SetBudget}
+use Rattle.gpu_vulkan.specs.Reply as answers
+use Rattle.gpu_vulkan.specs.Step.{ModelState, CallEnvironment, Step, Allocate, Free, Rename, Report, Leaks, Capacity, SetBudget}
 use Rattle.gpu_vulkan.specs.Step.{id_in, id_of, BytesAfter, AttemptStep, Follows, next_by, FoundStep, AllocateStep, MayDrop, FreeStep, RenameStep, reply_of}
 use Rattle.gpu_vulkan.specs.declared.allocation.Allocation.{Allocation}
 use Rattle.gpu_vulkan.proofs.OneStep.{set_reply}
@@ -50,18 +51,18 @@ attempt_refused : (mapped : Bool) (t : ℕ) (asked : Option Asked) (r : Refusal)
 attempt_refused mapped t None r old new h = h
 attempt_refused mapped t (Some a) r old new h = h
 
-given_same : (t u : ℕ) (p q : Piece DeviceMemory) → Given t p ≡ Given u q → (t ≡ u) × (p ≡ q)
+given_same : (t u : ℕ) (p q : Piece DeviceMemory) → answers.Given t p ≡ answers.Given u q → (t ≡ u) × (p ≡ q)
 given_same t u p q e = (cc, cc)
 
-given_fails : {A : Type 0} (t : ℕ) (p : Piece DeviceMemory) (r : Refusal) → Given t p ≡ Fails r → A
+given_fails : {A : Type 0} (t : ℕ) (p : Piece DeviceMemory) (r : Refusal) → answers.Given t p ≡ answers.Error r → A
 given_fails t p r e = absurd (cc)
 
-fails_given : {A : Type 0} (t : ℕ) (p : Piece DeviceMemory) (r : Refusal) → Fails r ≡ Given t p → A
+fails_given : {A : Type 0} (t : ℕ) (p : Piece DeviceMemory) (r : Refusal) → answers.Error r ≡ answers.Given t p → A
 fails_given t p r e = absurd (cc)
 
 module _ (setup : Setup) (d : AllocationCreateDesc) where
   -- an attempt that gives what was told
-  given_by : (u t : ℕ) (o : AttemptEnvironment) (answer : Answer) (p : Piece DeviceMemory) (old new : ModelState) → Given t p ≡ reply_of u answer → AttemptStep setup u d o answer old new
+  given_by : (u t : ℕ) (o : AttemptEnvironment) (answer : Answer) (p : Piece DeviceMemory) (old new : ModelState) → answers.Given t p ≡ reply_of u answer → AttemptStep setup u d o answer old new
       → Gained (is_mapped setup.properties t) (id_in t p) p.size old.byte_view new.byte_view
   given_by u t o (Gave q) p old new e a =
       let same = given_same t u p q e in
@@ -72,7 +73,7 @@ module _ (setup : Setup) (d : AllocationCreateDesc) where
   given_by u t o (Refused r) p old new e a = given_fails t p r e
 
   given_after : (next : Option ℕ) (t u : ℕ) (o : AttemptEnvironment) (r : Refusal) (p : Piece DeviceMemory) (old mid new : ModelState) → mid.byte_view ≡ old.byte_view → Follows setup d next o u
-      (Refused r) mid (Given t p) new
+      (Refused r) mid (answers.Given t p) new
       → Gained (is_mapped setup.properties t) (id_in t p) p.size old.byte_view new.byte_view
   given_after None t u o r p old mid new same f = given_fails t p r f.1
   given_after (Some v) t u o r p old mid new same f =
@@ -80,54 +81,55 @@ module _ (setup : Setup) (d : AllocationCreateDesc) where
       subst G same (given_by v t o f.0 p mid new f.2 f.1)
 
   served_given : (u t : ℕ) (o : CallEnvironment) (answer : Answer) (p : Piece DeviceMemory) (old mid new : ModelState) → AttemptStep setup u d o.first answer old mid
-      → Follows setup d (next_by setup d answer) o.second u answer mid (Given t p) new → Gained (is_mapped setup.properties t) (id_in t p) p.size old.byte_view new.byte_view
+      → Follows setup d (next_by setup d answer) o.second u answer mid (answers.Given t p) new → Gained (is_mapped setup.properties t) (id_in t p) p.size old.byte_view new.byte_view
   served_given u t o (Gave q) p old mid new a f =
       let G : ModelState → Type 0 = λ s. Gained (is_mapped setup.properties t) (id_in t p) p.size old.byte_view s.byte_view in
       subst G (sym f.2) (given_by u t o.first (Gave q) p old mid f.1 a)
   served_given u t o (Refused r) p old mid new a f =
       given_after (next_by setup d (Refused r)) t u o.second r p old mid new (attempt_refused (is_mapped setup.properties u) u o.first.asked r old.byte_view mid.byte_view a.bytes) f
 
-  found_given : (found : Option ℕ) (t : ℕ) (o : CallEnvironment) (p : Piece DeviceMemory) (old new : ModelState) → FoundStep setup d found o (Given t p) old new
+  found_given : (found : Option ℕ) (t : ℕ) (o : CallEnvironment) (p : Piece DeviceMemory) (old new : ModelState) → FoundStep setup d found o (answers.Given t p) old new
       → Gained (is_mapped setup.properties t) (id_in t p) p.size old.byte_view new.byte_view
   found_given None t o p old new h = given_fails t p _ h.reply_is
   found_given (Some u) t o p old new h = served_given u t o h.answer p old h.mid new h.attempt h.follows
 
-  valid_given : (valid : Bool) (t : ℕ) (o : CallEnvironment) (p : Piece DeviceMemory) (old new : ModelState) → AllocateStep setup d valid o (Given t p) old new
+  valid_given : (valid : Bool) (t : ℕ) (o : CallEnvironment) (p : Piece DeviceMemory) (old new : ModelState) → AllocateStep setup d valid o (answers.Given t p) old new
       → Gained (is_mapped setup.properties t) (id_in t p) p.size old.byte_view new.byte_view
   valid_given false t o p old new h = given_fails t p _ h.reply_is
   valid_given true t o p old new h = found_given _ t o p old new h
 
-  pub gained : (t : ℕ) (o : CallEnvironment) (p : Piece DeviceMemory) (old new : ModelState) → Step setup (Allocate d) o (Given t p) old new → Gained (is_mapped setup.properties t) (id_in t p) p.size
-      old.byte_view new.byte_view
+  pub gained : (t : ℕ) (o : CallEnvironment) (p : Piece DeviceMemory) (old new : ModelState) → Step setup (Allocate d) o (answers.Given t p) old new
+      → Gained (is_mapped setup.properties t) (id_in t p) p.size old.byte_view new.byte_view
   gained t o p old new h = valid_given (is_valid d) t o p old new h
 
   -- ---- a refusal leaves the bytes
 
-  failed_by : (u : ℕ) (o : AttemptEnvironment) (answer : Answer) (r : Refusal) (old new : ModelState) → Fails r ≡ reply_of u answer → AttemptStep setup u d o answer old new → new.byte_view ≡
+  failed_by : (u : ℕ) (o : AttemptEnvironment) (answer : Answer) (r : Refusal) (old new : ModelState) → answers.Error r ≡ reply_of u answer → AttemptStep setup u d o answer old new → new.byte_view ≡
       old.byte_view
   failed_by u o (Gave q) r old new e a = fails_given u q r e
   failed_by u o (Refused s) r old new e a = attempt_refused (is_mapped setup.properties u) u o.asked s old.byte_view new.byte_view a.bytes
 
-  failed_after : (next : Option ℕ) (u : ℕ) (o : AttemptEnvironment) (s r : Refusal) (old mid new : ModelState) → mid.byte_view ≡ old.byte_view → Follows setup d next o u (Refused s) mid (Fails r) new
+  failed_after : (next : Option ℕ) (u : ℕ) (o : AttemptEnvironment) (s r : Refusal) (old mid new : ModelState) → mid.byte_view ≡ old.byte_view
+      → Follows setup d next o u (Refused s) mid (answers.Error r) new
       → new.byte_view ≡ old.byte_view
   failed_after None u o s r old mid new same f = ap (λ x. x.byte_view) f.2 ∙ same
   failed_after (Some v) u o s r old mid new same f = failed_by v o f.0 r mid new f.2 f.1 ∙ same
 
   served_failed : (u : ℕ) (o : CallEnvironment) (answer : Answer) (r : Refusal) (old mid new : ModelState) → AttemptStep setup u d o.first answer old mid
-      → Follows setup d (next_by setup d answer) o.second u answer mid (Fails r) new → new.byte_view ≡ old.byte_view
+      → Follows setup d (next_by setup d answer) o.second u answer mid (answers.Error r) new → new.byte_view ≡ old.byte_view
   served_failed u o (Gave q) r old mid new a f = fails_given u q r f.1
   served_failed u o (Refused s) r old mid new a f =
       failed_after (next_by setup d (Refused s)) u o.second s r old mid new (attempt_refused (is_mapped setup.properties u) u o.first.asked s old.byte_view mid.byte_view a.bytes) f
 
-  found_failed : (found : Option ℕ) (o : CallEnvironment) (r : Refusal) (old new : ModelState) → FoundStep setup d found o (Fails r) old new → new.byte_view ≡ old.byte_view
+  found_failed : (found : Option ℕ) (o : CallEnvironment) (r : Refusal) (old new : ModelState) → FoundStep setup d found o (answers.Error r) old new → new.byte_view ≡ old.byte_view
   found_failed None o r old new h = ap (λ x. x.byte_view) h.same
   found_failed (Some u) o r old new h = served_failed u o h.answer r old h.mid new h.attempt h.follows
 
-  valid_failed : (valid : Bool) (o : CallEnvironment) (r : Refusal) (old new : ModelState) → AllocateStep setup d valid o (Fails r) old new → new.byte_view ≡ old.byte_view
+  valid_failed : (valid : Bool) (o : CallEnvironment) (r : Refusal) (old new : ModelState) → AllocateStep setup d valid o (answers.Error r) old new → new.byte_view ≡ old.byte_view
   valid_failed false o r old new h = ap (λ x. x.byte_view) h.same
   valid_failed true o r old new h = found_failed _ o r old new h
 
-  pub not_gained : (o : CallEnvironment) (r : Refusal) (old new : ModelState) → Step setup (Allocate d) o (Fails r) old new → new.byte_view ≡ old.byte_view
+  pub not_gained : (o : CallEnvironment) (r : Refusal) (old new : ModelState) → Step setup (Allocate d) o (answers.Error r) old new → new.byte_view ≡ old.byte_view
   not_gained o r old new h = valid_failed (is_valid d) o r old new h
 
 -- ---- places
@@ -150,10 +152,10 @@ dropped : (t i : ℕ) (went : Option DeviceMemory) (mid new : ByteView) → MayD
 dropped t i None mid new h r = ap (λ b. b.allocation_bytes r) h
 dropped t i (Some m) mid new h r = h.allocation_bytes r
 
-pub lost : (setup : Setup) (a : Allocation) (o : CallEnvironment) (p : Piece DeviceMemory) (old new : ModelState) → Step setup (Free a) o Done old new → piece_of a ≡ Some p → Lost
+pub lost : (setup : Setup) (a : Allocation) (o : CallEnvironment) (p : Piece DeviceMemory) (old new : ModelState) → Step setup (Free a) o answers.Done old new → piece_of a ≡ Some p → Lost
     (id_in a.memory_type_index p) old.byte_view new.byte_view
 lost setup a o p old new step is =
-    let freed = subst (λ z. FreeStep a.memory_type_index z Done old new) is step.1 in
+    let freed = subst (λ z. FreeStep a.memory_type_index z answers.Done old new) is step.1 in
     let release = freed.1 in
     let same = dropped a.memory_type_index p.slot release.went release.mid new.byte_view release.drops in
     record {
@@ -163,58 +165,59 @@ lost setup a o p old new step is =
 
 -- ---- what changes no byte
 
-renamed_bytes : (t : ℕ) (p : Option (Piece DeviceMemory)) (name : List ℕ) (host : Bool) (reply : Reply) (old new : ModelState) → RenameStep t p name host reply old new → new.byte_view ≡ old.byte_view
-renamed_bytes t None name host Done old new h = ap (λ s. s.byte_view) h.1
-renamed_bytes t None name host (Fails r) old new h = ap (λ s. s.byte_view) h.2
-renamed_bytes t (Some p) name host Done old new h = h.2
-renamed_bytes t (Some p) name host (Fails r) old new h = ap (λ s. s.byte_view) h.1
-renamed_bytes t None name host (Given u q) old new h = absurd h
-renamed_bytes t None name host (Bytes xs) old new h = absurd h
-renamed_bytes t None name host (Sum n) old new h = absurd h
-renamed_bytes t None name host (Shows w) old new h = absurd h
-renamed_bytes t None name host (Tells zs) old new h = absurd h
-renamed_bytes t None name host (Budgeted b) old new h = absurd h
-renamed_bytes t (Some p) name host (Given u q) old new h = absurd h
-renamed_bytes t (Some p) name host (Bytes xs) old new h = absurd h
-renamed_bytes t (Some p) name host (Sum n) old new h = absurd h
-renamed_bytes t (Some p) name host (Shows w) old new h = absurd h
-renamed_bytes t (Some p) name host (Tells zs) old new h = absurd h
-renamed_bytes t (Some p) name host (Budgeted b) old new h = absurd h
+renamed_bytes : (t : ℕ) (p : Option (Piece DeviceMemory)) (name : List ℕ) (host : Bool) (reply : answers.Reply) (old new : ModelState) → RenameStep t p name host reply old new
+    → new.byte_view ≡ old.byte_view
+renamed_bytes t None name host answers.Done old new h = ap (λ s. s.byte_view) h.1
+renamed_bytes t None name host (answers.Error r) old new h = ap (λ s. s.byte_view) h.2
+renamed_bytes t (Some p) name host answers.Done old new h = h.2
+renamed_bytes t (Some p) name host (answers.Error r) old new h = ap (λ s. s.byte_view) h.1
+renamed_bytes t None name host (answers.Given u q) old new h = absurd h
+renamed_bytes t None name host (answers.Bytes xs) old new h = absurd h
+renamed_bytes t None name host (answers.Capacity n) old new h = absurd h
+renamed_bytes t None name host (answers.Report w) old new h = absurd h
+renamed_bytes t None name host (answers.Leaks zs) old new h = absurd h
+renamed_bytes t None name host (answers.Budget b) old new h = absurd h
+renamed_bytes t (Some p) name host (answers.Given u q) old new h = absurd h
+renamed_bytes t (Some p) name host (answers.Bytes xs) old new h = absurd h
+renamed_bytes t (Some p) name host (answers.Capacity n) old new h = absurd h
+renamed_bytes t (Some p) name host (answers.Report w) old new h = absurd h
+renamed_bytes t (Some p) name host (answers.Leaks zs) old new h = absurd h
+renamed_bytes t (Some p) name host (answers.Budget b) old new h = absurd h
 
-pub named_bytes : (setup : Setup) (a : Allocation) (name : List ℕ) (o : CallEnvironment) (reply : Reply) (old new : ModelState) → Step setup (Rename a name) o reply old new → new.byte_view ≡
+pub named_bytes : (setup : Setup) (a : Allocation) (name : List ℕ) (o : CallEnvironment) (reply : answers.Reply) (old new : ModelState) → Step setup (Rename a name) o reply old new → new.byte_view ≡
     old.byte_view
 named_bytes setup a name o reply old new h = renamed_bytes a.memory_type_index (piece_of a) name o.first.host reply old new h.1
 
-pub shown_same : (setup : Setup) (o : CallEnvironment) (reply : Reply) (old new : ModelState) → Step setup Report o reply old new → new ≡ old
-shown_same setup o (Shows r) old new h = h.1.2
-shown_same setup o (Fails r) old new h = h.1.2
-shown_same setup o (Given t p) old new h = absurd h.1
-shown_same setup o Done old new h = absurd h.1
-shown_same setup o (Bytes xs) old new h = absurd h.1
-shown_same setup o (Sum n) old new h = absurd h.1
-shown_same setup o (Tells ts) old new h = absurd h.1
-shown_same setup o (Budgeted b) old new h = absurd h.1
+pub shown_same : (setup : Setup) (o : CallEnvironment) (reply : answers.Reply) (old new : ModelState) → Step setup Report o reply old new → new ≡ old
+shown_same setup o (answers.Report r) old new h = h.1.2
+shown_same setup o (answers.Error r) old new h = h.1.2
+shown_same setup o (answers.Given t p) old new h = absurd h.1
+shown_same setup o answers.Done old new h = absurd h.1
+shown_same setup o (answers.Bytes xs) old new h = absurd h.1
+shown_same setup o (answers.Capacity n) old new h = absurd h.1
+shown_same setup o (answers.Leaks ts) old new h = absurd h.1
+shown_same setup o (answers.Budget b) old new h = absurd h.1
 
-pub told_same : (setup : Setup) (o : CallEnvironment) (reply : Reply) (old new : ModelState) → Step setup Leaks o reply old new → new ≡ old
-told_same setup o (Tells ts) old new h = h.1.2
-told_same setup o (Fails r) old new h = h.1.2
-told_same setup o (Given t p) old new h = absurd h.1
-told_same setup o Done old new h = absurd h.1
-told_same setup o (Bytes xs) old new h = absurd h.1
-told_same setup o (Sum n) old new h = absurd h.1
-told_same setup o (Shows r) old new h = absurd h.1
-told_same setup o (Budgeted b) old new h = absurd h.1
+pub told_same : (setup : Setup) (o : CallEnvironment) (reply : answers.Reply) (old new : ModelState) → Step setup Leaks o reply old new → new ≡ old
+told_same setup o (answers.Leaks ts) old new h = h.1.2
+told_same setup o (answers.Error r) old new h = h.1.2
+told_same setup o (answers.Given t p) old new h = absurd h.1
+told_same setup o answers.Done old new h = absurd h.1
+told_same setup o (answers.Bytes xs) old new h = absurd h.1
+told_same setup o (answers.Capacity n) old new h = absurd h.1
+told_same setup o (answers.Report r) old new h = absurd h.1
+told_same setup o (answers.Budget b) old new h = absurd h.1
 
-pub summed_same : (setup : Setup) (o : CallEnvironment) (reply : Reply) (old new : ModelState) → Step setup Capacity o reply old new → new ≡ old
-summed_same setup o (Sum n) old new h = h.2
-summed_same setup o (Given t p) old new h = absurd h
-summed_same setup o (Fails r) old new h = absurd h
-summed_same setup o Done old new h = absurd h
-summed_same setup o (Bytes xs) old new h = absurd h
-summed_same setup o (Shows r) old new h = absurd h
-summed_same setup o (Tells ts) old new h = absurd h
-summed_same setup o (Budgeted b) old new h = absurd h
+pub summed_same : (setup : Setup) (o : CallEnvironment) (reply : answers.Reply) (old new : ModelState) → Step setup Capacity o reply old new → new ≡ old
+summed_same setup o (answers.Capacity n) old new h = h.2
+summed_same setup o (answers.Given t p) old new h = absurd h
+summed_same setup o (answers.Error r) old new h = absurd h
+summed_same setup o answers.Done old new h = absurd h
+summed_same setup o (answers.Bytes xs) old new h = absurd h
+summed_same setup o (answers.Report r) old new h = absurd h
+summed_same setup o (answers.Leaks ts) old new h = absurd h
+summed_same setup o (answers.Budget b) old new h = absurd h
 
-pub budget_set_bytes : (setup : Setup) (t : ℕ) (budget : Option ℕ) (o : CallEnvironment) (reply : Reply) (old new : ModelState) → Step setup (SetBudget t budget) o reply old new → new.byte_view ≡
-    old.byte_view
+pub budget_set_bytes : (setup : Setup) (t : ℕ) (budget : Option ℕ) (o : CallEnvironment) (reply : answers.Reply) (old new : ModelState)
+    → Step setup (SetBudget t budget) o reply old new → new.byte_view ≡ old.byte_view
 budget_set_bytes setup t budget o reply old new h = (set_reply t budget reply old new h.1).4

@@ -1,6 +1,7 @@
 -- What a command makes of the budgets of memory types.
 use Rattle.std.proofs.Common.{◌≡◌, ◌∙◌, ◌+◌, ℕ, List, length, Option, Some, None, Bool, true, false, refl, sym, ap, subst}
 use Rattle.std.specs.Prelude.{nat_le}
+use Rattle.gpu_vulkan.specs.Reply as answers
 use Rattle.gpu_vulkan.specs.Step as model
 use Rattle.gpu_vulkan.specs.Step.{CallEnvironment}
 use Rattle.gpu_vulkan.specs.EqualButBytes.{EqualButBytesCall}
@@ -30,7 +31,7 @@ put_in : (setup : Setup) (a : Allocation) (at : ℕ) (others bytes : List ℕ) (
     o reply s new
     → new.model.budgets ≡ s.model.budgets
 put_in setup a at others bytes false o reply s new h = ap budgets_of h.1.1
-put_in setup a at others bytes true o reply s new h = keeps_budgets setup (model.Write a _) o.call model.Done s.model new.model tt h.1
+put_in setup a at others bytes true o reply s new h = keeps_budgets setup (model.Write a _) o.call answers.Done s.model new.model tt h.1
 
 put_over : (setup : Setup) (a : Allocation) (at : ℕ) (others : List ℕ) (x : Option (List ℕ)) (o : CommandEnvironment) (reply : SessionReply) (s new : SessionState) → WritesOver setup a at others x o
     reply s new
@@ -42,7 +43,7 @@ bound_kept : (setup : Setup) (key : ℕ) (a : Allocation) (command : KeyCommand)
     new.model.budgets ≡ s.model.budgets
 bound_kept setup key a (Alloc w) o reply s new h = ap budgets_of h.1.1
 bound_kept setup key a Null o reply s new h = ap budgets_of h.1.1
-bound_kept setup key a Free o reply s new h = keeps_budgets setup (model.Free a) o.call model.Done s.model new.model tt h.step
+bound_kept setup key a Free o reply s new h = keeps_budgets setup (model.Free a) o.call answers.Done s.model new.model tt h.step
 bound_kept setup key a (Rename name) o reply s new h = keeps_budgets setup (model.Rename a name) o.call h.model_reply s.model new.model tt h.step
 bound_kept setup key a (Write at bytes) o reply s new h = put_over setup a at bytes h.0 o reply s new h.2
 bound_kept setup key a (Read at size) o reply s new h = ap budgets_of h.3.1

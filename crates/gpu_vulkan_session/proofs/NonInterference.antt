@@ -4,7 +4,7 @@ use Rattle.std.specs.Prelude.{nat_le, slice_get, if◌then◌else◌}
 use Rattle.std.specs.List.{AllZip}
 use Rattle.std.specs.Option.{option_map}
 use Rattle.std.proofs.lemmas.Bool.Decides.{nat_tests}
-use Rattle.gpu_core.specs.Refusal.{Refusal, host_out_of_memory}
+use Rattle.gpu_values.specs.Refusal.{Refusal, host_out_of_memory}
 use Rattle.gpu_slots.specs.declared.piece.Piece.{Piece}
 use Rattle.gpu_device.specs.declared.vulkan.types.DeviceMemory.{DeviceMemory}
 use Rattle.gpu_vulkan.specs.EqualButBytes.{EqualButBytesDescription, EqualButBytesCall, EqualButBytesReply}
@@ -15,6 +15,7 @@ use Rattle.gpu_vulkan_blocks.specs.Release.{IsLiveIn}
 use Rattle.gpu_vulkan.specs.Live.{piece_of, null_allocation, IsLive, IsMapped}
 use Rattle.gpu_vulkan.specs.Rename.{IsNamed}
 use Rattle.gpu_vulkan_setup.specs.Setup.{Setup}
+use Rattle.gpu_vulkan.specs.Reply as answers
 use Rattle.gpu_vulkan.specs.Step as model
 use Rattle.gpu_vulkan.specs.Step.{ModelState, CallEnvironment, Step, IsRead, id_of, id_in, FreeStep, RenameStep, WriteStep}
 use Rattle.gpu_vulkan.specs.declared.allocation.Allocation.{Allocation}
@@ -46,11 +47,11 @@ same_place_of a b slots same live =
     let q : piece_of b ≡ Some p.0 = sym (ap (λ h. h.piece) same) ∙ p.1 in
     place_piece a p.0 p.1 ∙ ap (λ t. id_in t p.0) (ap (λ h. h.memory_type) same) ∙ sym (place_piece b p.0 q)
 
-free_as : (setup : Setup) (a b : Allocation) (o : CallEnvironment) (s new : ModelState) → handle a ≡ handle b → Step setup (model.Free b) o model.Done s new → Step setup (model.Free a) o model.Done s
-    new
-free_as setup a b o s new same h = (h.0, subst (λ z. FreeStep z.memory_type z.piece model.Done s new) (sym same) h.1)
+free_as : (setup : Setup) (a b : Allocation) (o : CallEnvironment) (s new : ModelState) → handle a ≡ handle b → Step setup (model.Free b) o answers.Done s new
+    → Step setup (model.Free a) o answers.Done s new
+free_as setup a b o s new same h = (h.0, subst (λ z. FreeStep z.memory_type z.piece answers.Done s new) (sym same) h.1)
 
-rename_as : (setup : Setup) (a b : Allocation) (name : List ℕ) (o : CallEnvironment) (model_reply : model.Reply) (s new : ModelState) → handle a ≡ handle b → Step setup (model.Rename b name) o
+rename_as : (setup : Setup) (a b : Allocation) (name : List ℕ) (o : CallEnvironment) (model_reply : answers.Reply) (s new : ModelState) → handle a ≡ handle b → Step setup (model.Rename b name) o
     model_reply s new → Step setup (model.Rename a name) o model_reply s new
 rename_as setup a b name o model_reply s new same h = (h.0, subst (λ z. RenameStep z.memory_type z.piece name o.first.host model_reply s new) (sym same) h.1)
 
@@ -138,10 +139,10 @@ module _ (ours : ℕ → Bool) (written : Written) (setup : Setup) (s t new next
 
   -- ---- requests
 
-  given_both : (key u : ℕ) (w : Wanted) (d e : AllocationCreateDesc) (q : Piece DeviceMemory) → new.model.slots ≡ next.model.slots → Step setup (model.Allocate d) o.call (model.Given u q) s.model
+  given_both : (key u : ℕ) (w : Wanted) (d e : AllocationCreateDesc) (q : Piece DeviceMemory) → new.model.slots ≡ next.model.slots → Step setup (model.Allocate d) o.call (answers.Given u q) s.model
       new.model
-      → Step setup (model.Allocate e) p.call (model.Given u q) t.model next.model → Binds setup key w d (model.Given u q) reply s.bound new.bound → Binds setup key w e (model.Given u q) other_reply
-      t.bound next.bound
+      → Step setup (model.Allocate e) p.call (answers.Given u q) t.model next.model → Binds setup key w d (answers.Given u q) reply s.bound new.bound
+      → Binds setup key w e (answers.Given u q) other_reply t.bound next.bound
       → Next ours written (Under key (Alloc w)) reply other_reply new next
   given_both key u w d e q slots h k b c =
       let one = b.0 in
@@ -155,30 +156,30 @@ module _ (ours : ℕ → Bool) (written : Written) (setup : Setup) (s t new next
       next_at (Under key (Alloc w)) (Given (shown setup w u q)) (Given (shown setup w u q)) b.2 c.2 refl
       (alike_given ours written setup s t new next kept kept_new alike key one two (is_mapped setup.properties u) q.size b.3 c.3 same live slots m n)
 
-  failed_both : (key : ℕ) (w : Wanted) (d e : AllocationCreateDesc) (r : Refusal) → new.model.slots ≡ next.model.slots → Step setup (model.Allocate d) o.call (model.Fails r) s.model new.model
-      → Step setup (model.Allocate e) p.call (model.Fails r) t.model next.model → Binds setup key w d (model.Fails r) reply s.bound new.bound → Binds setup key w e (model.Fails r) other_reply t.bound
-      next.bound
+  failed_both : (key : ℕ) (w : Wanted) (d e : AllocationCreateDesc) (r : Refusal) → new.model.slots ≡ next.model.slots → Step setup (model.Allocate d) o.call (answers.Error r) s.model new.model
+      → Step setup (model.Allocate e) p.call (answers.Error r) t.model next.model → Binds setup key w d (answers.Error r) reply s.bound new.bound
+      → Binds setup key w e (answers.Error r) other_reply t.bound next.bound
       → Next ours written (Under key (Alloc w)) reply other_reply new next
   failed_both key w d e r slots h k b c =
       next_at (Under key (Alloc w)) (Error r) (Error r) b.0 c.0 refl
       (alike_kept ours written setup s t new next kept kept_new alike b.1 c.1 slots (not_gained setup d o.call r s.model new.model h) (not_gained setup e p.call r t.model next.model k))
 
-  binds_both : (key : ℕ) (w : Wanted) (d e : AllocationCreateDesc) (x y : model.Reply) → EqualButBytesReply x y → new.model.slots ≡ next.model.slots → Step setup (model.Allocate d) o.call x s.model
+  binds_both : (key : ℕ) (w : Wanted) (d e : AllocationCreateDesc) (x y : answers.Reply) → EqualButBytesReply x y → new.model.slots ≡ next.model.slots → Step setup (model.Allocate d) o.call x s.model
       new.model
       → Step setup (model.Allocate e) p.call y t.model next.model → Binds setup key w d x reply s.bound new.bound → Binds setup key w e y other_reply t.bound next.bound → Next ours written
       (Under key (Alloc w)) reply other_reply new next
-  binds_both key w d e (model.Given u q) y same slots h k b c =
+  binds_both key w d e (answers.Given u q) y same slots h k b c =
       given_both key u w d e q slots h (subst (λ z. Step setup (model.Allocate e) p.call z t.model next.model) (sym same) k) b
       (subst (λ z. Binds setup key w e z other_reply t.bound next.bound) (sym same) c)
-  binds_both key w d e (model.Fails r) y same slots h k b c =
+  binds_both key w d e (answers.Error r) y same slots h k b c =
       failed_both key w d e r slots h (subst (λ z. Step setup (model.Allocate e) p.call z t.model next.model) (sym same) k) b
       (subst (λ z. Binds setup key w e z other_reply t.bound next.bound) (sym same) c)
-  binds_both key w d e model.Done y same slots h k b c = absurd b
-  binds_both key w d e (model.Bytes xs) y same slots h k b c = absurd b
-  binds_both key w d e (model.Sum n) y same slots h k b c = absurd b
-  binds_both key w d e (model.Shows r) y same slots h k b c = absurd b
-  binds_both key w d e (model.Tells ts) y same slots h k b c = absurd b
-  binds_both key w d e (model.Budgeted z) y same slots h k b2 c = absurd b2
+  binds_both key w d e answers.Done y same slots h k b c = absurd b
+  binds_both key w d e (answers.Bytes xs) y same slots h k b c = absurd b
+  binds_both key w d e (answers.Capacity n) y same slots h k b c = absurd b
+  binds_both key w d e (answers.Report r) y same slots h k b c = absurd b
+  binds_both key w d e (answers.Leaks ts) y same slots h k b c = absurd b
+  binds_both key w d e (answers.Budget z) y same slots h k b2 c = absurd b2
 
   take_both : (key : ℕ) (w : Wanted) (room also : Bool) → room ≡ also → ServesAlloc setup key w room o.call reply s new → ServesAlloc setup key w also p.call other_reply t next → Next ours written
       (Under key (Alloc w)) reply other_reply new next
@@ -206,7 +207,7 @@ module _ (ours : ℕ → Bool) (written : Written) (setup : Setup) (s t new next
       (Under key Free) reply other_reply new next
   return_both key a b same found h k =
       let step = free_as setup a b p.call t.model next.model same k.step in
-      let law = step_alike setup o.call p.call model.Done model.Done s.model new.model t.model next.model kept.sound alike.slots budgets met.call (model.Free a) (model.Free a) refl h.step step in
+      let law = step_alike setup o.call p.call answers.Done answers.Done s.model new.model t.model next.model kept.sound alike.slots budgets met.call (model.Free a) (model.Free a) refl h.step step in
       next_at (Under key Free) Done Done h.done k.done refl (⊎_elim
       (λ null.
       alike_unbound ours written setup s t new next kept kept_new alike key h.bound k.bound law.1
@@ -221,23 +222,23 @@ module _ (ours : ℕ → Bool) (written : Written) (setup : Setup) (s t new next
 
   -- ---- a new name
 
-  named_both : (key : ℕ) (a b : Allocation) (name : List ℕ) (x y : model.Reply) → handle a ≡ handle b → s.bound key ≡ Some a → EqualButBytesReply x y → new.model.slots ≡ next.model.slots →
+  named_both : (key : ℕ) (a b : Allocation) (name : List ℕ) (x y : answers.Reply) → handle a ≡ handle b → s.bound key ≡ Some a → EqualButBytesReply x y → new.model.slots ≡ next.model.slots →
       new.model.byte_view ≡ s.model.byte_view → next.model.byte_view ≡ t.model.byte_view
       → BindsNamed key a name x reply s.bound new.bound → BindsNamed key b name y other_reply t.bound next.bound → Next ours written (Under key (Rename name)) reply other_reply new next
-  named_both key a b name model.Done y same found model_reply slots m n h k =
+  named_both key a b name answers.Done y same found model_reply slots m n h k =
       let k2 = subst (λ z. BindsNamed key b name z other_reply t.bound next.bound) (sym model_reply) k in
       next_at (Under key (Rename name)) Done Done h.0 k2.0 refl
       (alike_named ours written setup s t new next kept kept_new alike key a h.1.0 k2.1.0 found h.1.2 k2.1.2 (named_handle a h.1.0 name h.1.1 ∙ same ∙ sym (named_handle b k2.1.0 name k2.1.1))
       (named_handle a h.1.0 name h.1.1) (named_place a h.1.0 name h.1.1) slots m n)
-  named_both key a b name (model.Fails r) y same found model_reply slots m n h k =
+  named_both key a b name (answers.Error r) y same found model_reply slots m n h k =
       let k2 = subst (λ z. BindsNamed key b name z other_reply t.bound next.bound) (sym model_reply) k in
       next_at (Under key (Rename name)) (Error r) (Error r) h.0 k2.0 refl (alike_kept ours written setup s t new next kept kept_new alike h.1 k2.1 slots m n)
-  named_both key a b name (model.Given u q) y same found model_reply slots m n h k = absurd h
-  named_both key a b name (model.Bytes xs) y same found model_reply slots m n h k = absurd h
-  named_both key a b name (model.Sum z) y same found model_reply slots m n h k = absurd h
-  named_both key a b name (model.Shows r) y same found model_reply slots m n h k = absurd h
-  named_both key a b name (model.Tells ts) y same found model_reply slots m n h k = absurd h
-  named_both key a b name (model.Budgeted z) y same found model_reply slots m n h k = absurd h
+  named_both key a b name (answers.Given u q) y same found model_reply slots m n h k = absurd h
+  named_both key a b name (answers.Bytes xs) y same found model_reply slots m n h k = absurd h
+  named_both key a b name (answers.Capacity z) y same found model_reply slots m n h k = absurd h
+  named_both key a b name (answers.Report r) y same found model_reply slots m n h k = absurd h
+  named_both key a b name (answers.Leaks ts) y same found model_reply slots m n h k = absurd h
+  named_both key a b name (answers.Budget z) y same found model_reply slots m n h k = absurd h
 
   rename_both : (key : ℕ) (a b : Allocation) (name : List ℕ) → handle a ≡ handle b → s.bound key ≡ Some a → Renames setup key a name o.call reply s new → Renames setup key b name p.call other_reply t
       next
@@ -373,18 +374,18 @@ module _ (ours : ℕ → Bool) (written : Written) (setup : Setup) (s t new next
 
   -- ---- what is shown and reply
 
-  told_both : (x y : model.Reply) (u v : SessionReply) → EqualButBytesReply x y → reply_by x ≡ Some u → reply_by y ≡ Some v → u ≡ v
-  told_both (model.Fails r) y u v same e f = some_same u v (sym e ∙ ap reply_by same ∙ f)
-  told_both (model.Sum n) y u v same e f = some_same u v (sym e ∙ ap reply_by same ∙ f)
-  told_both (model.Shows r) y u v same e f = some_same u v (sym e ∙ ap reply_by same ∙ f)
-  told_both (model.Tells ts) y u v same e f = some_same u v (sym e ∙ ap reply_by same ∙ f)
-  told_both (model.Given i q) y u v same e f = absurd (none_some u e)
-  told_both model.Done y u v same e f = some_same u v (sym e ∙ ap reply_by same ∙ f)
-  told_both (model.Budgeted b) y u v same e f = absurd (none_some u e)
-  told_both (model.Bytes xs) y u v same e f = absurd (none_some u e)
+  told_both : (x y : answers.Reply) (u v : SessionReply) → EqualButBytesReply x y → reply_by x ≡ Some u → reply_by y ≡ Some v → u ≡ v
+  told_both (answers.Error r) y u v same e f = some_same u v (sym e ∙ ap reply_by same ∙ f)
+  told_both (answers.Capacity n) y u v same e f = some_same u v (sym e ∙ ap reply_by same ∙ f)
+  told_both (answers.Report r) y u v same e f = some_same u v (sym e ∙ ap reply_by same ∙ f)
+  told_both (answers.Leaks ts) y u v same e f = some_same u v (sym e ∙ ap reply_by same ∙ f)
+  told_both (answers.Given i q) y u v same e f = absurd (none_some u e)
+  told_both answers.Done y u v same e f = some_same u v (sym e ∙ ap reply_by same ∙ f)
+  told_both (answers.Budget b) y u v same e f = absurd (none_some u e)
+  told_both (answers.Bytes xs) y u v same e f = absurd (none_some u e)
 
-  asks_both : (call : model.Call) → ((o : CallEnvironment) (model_reply : model.Reply) (old now : ModelState) → Step setup call o model_reply old now → now.byte_view ≡ old.byte_view)
-      → ((x y : model.Reply) → Step setup call o.call x s.model new.model → Step setup call p.call y t.model next.model → EqualButBytesReply x y × (new.model.slots ≡ next.model.slots))
+  asks_both : (call : model.Call) → ((o : CallEnvironment) (model_reply : answers.Reply) (old now : ModelState) → Step setup call o model_reply old now → now.byte_view ≡ old.byte_view)
+      → ((x y : answers.Reply) → Step setup call o.call x s.model new.model → Step setup call p.call y t.model next.model → EqualButBytesReply x y × (new.model.slots ≡ next.model.slots))
       → Asks setup call o.call reply s new → Asks setup call p.call other_reply t next → (reply ≡ other_reply) × Alike ours written new next
   asks_both call stays law h k =
       let both = law h.model_reply k.model_reply h.step k.step in
@@ -394,7 +395,7 @@ module _ (ours : ℕ → Bool) (written : Written) (setup : Setup) (s t new next
         alike_kept ours written setup s t new next kept kept_new alike h.bound k.bound both.1 one two,
       )
 
-  lawful : (call : model.Call) → ((other : model.Call) → call ≡ other → EqualButBytesCall call other) → (x y : model.Reply) → Step setup call o.call x s.model new.model → Step setup call p.call y
+  lawful : (call : model.Call) → ((other : model.Call) → call ≡ other → EqualButBytesCall call other) → (x y : answers.Reply) → Step setup call o.call x s.model new.model → Step setup call p.call y
       t.model next.model
       → EqualButBytesReply x y × (new.model.slots ≡ next.model.slots)
   lawful call same x y h k = step_alike setup o.call p.call x y s.model new.model t.model next.model kept.sound alike.slots budgets met.call call call (same call refl) h k

@@ -7,7 +7,8 @@ use Rattle.gpu_vulkan_blocks.specs.Release.{IsLiveIn}
 use Rattle.gpu_vulkan.specs.Live.{piece_of, null_allocation, IsLive}
 use Rattle.gpu_vulkan.specs.Rename.{IsNamed, StayLive}
 use Rattle.gpu_vulkan_setup.specs.Setup.{Setup}
-use Rattle.gpu_vulkan.specs.Step.{ModelState, CallEnvironment, Done, Step, Free, FreeStep}
+use Rattle.gpu_vulkan.specs.Reply as answers
+use Rattle.gpu_vulkan.specs.Step.{ModelState, CallEnvironment, Step, Free, FreeStep}
 use Rattle.gpu_vulkan.specs.declared.allocation.Allocation.{Allocation}
 use Rattle.gpu_vulkan_session.specs.Session.{SessionState, IsOwn, bind}
 use Rattle.gpu_vulkan_session.proofs.Binding.{bound_here, bound_other}
@@ -122,5 +123,5 @@ module _ (old : SessionState) (own : IsOwn old) where
       subst (λ z. AreDistinct z d) is_b (subst (λ z. AreDistinct z d) (sym alike) apart_a))
 
 -- a null allocation's free changes nothing
-pub freed_null : (setup : Setup) (a : Allocation) (o : CallEnvironment) (old new : ModelState) → Step setup (Free a) o Done old new → piece_of a ≡ None → new ≡ old
-freed_null setup a o old new step e = subst (λ p. FreeStep a.memory_type_index p Done old new) e step.1
+pub freed_null : (setup : Setup) (a : Allocation) (o : CallEnvironment) (old new : ModelState) → Step setup (Free a) o answers.Done old new → piece_of a ≡ None → new ≡ old
+freed_null setup a o old new step e = subst (λ p. FreeStep a.memory_type_index p answers.Done old new) e step.1

@@ -4,6 +4,7 @@ use Rattle.std.specs.Prelude.{nat_le, if◌then◌else◌}
 use Rattle.std.proofs.lemmas.Bool.Decides.{nat_tests}
 use Rattle.gpu_device.specs.declared.vulkan.device.VulkanDevice.{Ghosts}
 use Rattle.gpu_vulkan.specs.State.{State}
+use Rattle.gpu_vulkan.specs.Reply as answers
 use Rattle.gpu_vulkan.specs.Step as model
 use Rattle.gpu_vulkan.specs.Step.{IsRead, IsStep}
 use Rattle.gpu_vulkan.specs.declared.allocation.Allocation.{Allocation}
@@ -17,7 +18,7 @@ use Rattle.gpu_vulkan_session.proofs.Ranges.{length_put}
 use Rattle.gpu_vulkan_session.proofs.Serving.{quiet, stayed, served_quietly, serves_at}
 
 -- bytes that are read in the model
-pub read_of : {D : Type 0} (g : Ghosts D) (s : SessionValue D) (a : Allocation) (bytes : Option (List ℕ)) → IsStep g (model.Read a) (model.Bytes bytes) s.allocator s.allocator → IsRead
+pub read_of : {D : Type 0} (g : Ghosts D) (s : SessionValue D) (a : Allocation) (bytes : Option (List ℕ)) → IsStep g (model.Read a) (answers.Bytes bytes) s.allocator s.allocator → IsRead
     s.allocator.setup a (session_of g s).model bytes
 read_of g s a bytes step = step.step.1
 
@@ -50,12 +51,12 @@ module _ {D : Type 0} (g : Ghosts D) (s : SessionValue D) (key at : ℕ) where
   -- a write over an allocation's bytes
   pub puts_bound : (others : List ℕ) (a : Allocation) (xs ys zs : List ℕ) (size : ℕ) (after : State D) → bindings s.bound key ≡ Some a → IsRead s.allocator.setup a (session_of g s).model (Some xs)
       → nat_le (at + length others) (length xs) ≡ true → Some xs ≡ Some ys → zs ≡ overwritten ys at others → length xs ≡ size
-      → (length zs ≡ size → IsStep g (model.Write a zs) model.Done s.allocator after) → (after.setup ≡ s.allocator.setup) × (after.first ≡ s.allocator.first)
+      → (length zs ≡ size → IsStep g (model.Write a zs) answers.Done s.allocator after) → (after.setup ≡ s.allocator.setup) × (after.first ≡ s.allocator.first)
       → IsServed g (Under key (Write at others)) replies.Done s (record { allocator = after; bound = s.bound })
   puts_bound others a xs ys zs size after found read fits same put long writes constant =
       let is : xs ≡ ys = cc in
       let put_xs : zs ≡ overwritten xs at others = put ∙ ap (λ l. overwritten l at others) (sym is) in
-      let step = subst (λ l. IsStep g (model.Write a l) model.Done s.allocator after) put_xs
+      let step = subst (λ l. IsStep g (model.Write a l) answers.Done s.allocator after) put_xs
       (writes (ap length put_xs ∙ length_put xs at others (fits_le (at + length others) (length xs) fits) ∙ long)) in
       let o : CommandEnvironment = record { room = true; call = step.environment } in
       let new : SessionValue D = record { allocator = after; bound = s.bound } in

@@ -6,6 +6,7 @@ use Rattle.gpu_device.specs.declared.vulkan.types.MemoryAllocateInfo.{MemoryAllo
 use Rattle.gpu_memory_types.specs.Blocks.{BlocksWellFormed}
 use Rattle.gpu_vulkan_setup.specs.Setup.{Setup}
 use Rattle.gpu_vulkan.specs.State.{State}
+use Rattle.gpu_vulkan.specs.Reply as answers
 use Rattle.gpu_vulkan.specs.Step as model
 use Rattle.gpu_vulkan.specs.Step.{CallEnvironment, nothing_met, MeetsNothing, count_after, latest_after, IsStep}
 use Rattle.gpu_vulkan.proofs.Untouched.{same_leaves}
@@ -45,7 +46,7 @@ module _ {D : Type 0} (g : Ghosts D) where
   }
 
   -- a call that is no one number's
-  pub asked : (call : model.Call) (model_reply : model.Reply) (reply : SessionReply) (old : SessionValue D) → reply_by model_reply ≡ Some reply →
+  pub asked : (call : model.Call) (model_reply : answers.Reply) (reply : SessionReply) (old : SessionValue D) → reply_by model_reply ≡ Some reply →
       (step : IsStep g call model_reply old.allocator old.allocator)
       → Asks old.allocator.setup call step.environment reply (session_of g old) (session_of g old)
   asked call model_reply reply old is step = record { model_reply = model_reply; step = step.step; reply_is = is; bound = refl }

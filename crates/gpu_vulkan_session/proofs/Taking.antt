@@ -2,7 +2,7 @@
 use Rattle.std.proofs.Common.{◌≡◌, ◌∙◌, ℕ, Option, Some, None, Ok, Err, true, refl, sym, ap, subst}
 use Rattle.std.specs.Prelude.{IsSomeAnd, slice_get}
 use Rattle.std.specs.Int.NonZero.{non_zero_u64_get}
-use Rattle.gpu_core.specs.Refusal.{refusal_of}
+use Rattle.gpu_values.specs.Refusal.{refusal_of}
 use Rattle.gpu_slots.specs.declared.piece.Piece.{Piece}
 use Rattle.gpu_values.specs.declared.error.AllocationError.{AllocationError}
 use Rattle.gpu_device.specs.declared.vulkan.device.VulkanDevice.{Ghosts}
@@ -14,6 +14,7 @@ use Rattle.gpu_vulkan_setup.specs.Describe.{is_own}
 use Rattle.gpu_vulkan.specs.Lends.{number_in}
 use Rattle.gpu_vulkan.specs.Live.{piece_of, IsGiven}
 use Rattle.gpu_vulkan_setup.specs.Setup.{Setup}
+use Rattle.gpu_vulkan.specs.Reply as answers
 use Rattle.gpu_vulkan.specs.Step as model
 use Rattle.gpu_vulkan.specs.Step.{IsAllocateStep, IsStep, Replies}
 use Rattle.gpu_vulkan.specs.declared.allocation.Allocation.{Allocation}
@@ -28,26 +29,26 @@ use Rattle.gpu_vulkan_session.proofs.Binding.{bindings}
 use Rattle.gpu_vulkan_session.proofs.Serving.{serves_at}
 
 -- the model_reply of the model, where an allocation is given
-given_reply : (setup : Setup) (d : AllocationCreateDesc) (a : Allocation) (model_reply : model.Reply) → Replies setup d (Ok a) model_reply → (t : ℕ) × (p : Piece DeviceMemory) ×
-    (model_reply ≡ model.Given t p) × IsGiven setup t d p a
-given_reply setup d a (model.Given t p) h = (t, p, refl, h)
-given_reply setup d a (model.Fails r) h = absurd h
-given_reply setup d a model.Done h = absurd h
-given_reply setup d a (model.Bytes xs) h = absurd h
-given_reply setup d a (model.Sum n) h = absurd h
-given_reply setup d a (model.Shows r) h = absurd h
-given_reply setup d a (model.Tells ts) h = absurd h
-given_reply setup d a (model.Budgeted b) h = absurd h
+given_reply : (setup : Setup) (d : AllocationCreateDesc) (a : Allocation) (model_reply : answers.Reply) → Replies setup d (Ok a) model_reply → (t : ℕ) × (p : Piece DeviceMemory) ×
+    (model_reply ≡ answers.Given t p) × IsGiven setup t d p a
+given_reply setup d a (answers.Given t p) h = (t, p, refl, h)
+given_reply setup d a (answers.Error r) h = absurd h
+given_reply setup d a answers.Done h = absurd h
+given_reply setup d a (answers.Bytes xs) h = absurd h
+given_reply setup d a (answers.Capacity n) h = absurd h
+given_reply setup d a (answers.Report r) h = absurd h
+given_reply setup d a (answers.Leaks ts) h = absurd h
+given_reply setup d a (answers.Budget b) h = absurd h
 
-failed_reply : (setup : Setup) (d : AllocationCreateDesc) (e : AllocationError) (model_reply : model.Reply) → Replies setup d (Err e) model_reply → model_reply ≡ model.Fails (refusal_of e)
-failed_reply setup d e (model.Given t p) h = absurd h
-failed_reply setup d e (model.Fails r) h = ap model.Fails (sym h)
-failed_reply setup d e model.Done h = absurd h
-failed_reply setup d e (model.Bytes xs) h = absurd h
-failed_reply setup d e (model.Sum n) h = absurd h
-failed_reply setup d e (model.Shows r) h = absurd h
-failed_reply setup d e (model.Tells ts) h = absurd h
-failed_reply setup d e (model.Budgeted b) h = absurd h
+failed_reply : (setup : Setup) (d : AllocationCreateDesc) (e : AllocationError) (model_reply : answers.Reply) → Replies setup d (Err e) model_reply → model_reply ≡ answers.Error (refusal_of e)
+failed_reply setup d e (answers.Given t p) h = absurd h
+failed_reply setup d e (answers.Error r) h = ap answers.Error (sym h)
+failed_reply setup d e answers.Done h = absurd h
+failed_reply setup d e (answers.Bytes xs) h = absurd h
+failed_reply setup d e (answers.Capacity n) h = absurd h
+failed_reply setup d e (answers.Report r) h = absurd h
+failed_reply setup d e (answers.Leaks ts) h = absurd h
+failed_reply setup d e (answers.Budget b) h = absurd h
 
 mapped_is : (found : Option MemoryTypeInfo) (a : Allocation) → IsSomeAnd found (λ info. (a.memory_properties ≡ info.property_flags) × (a.mapped ≡ is_host_visible info)) → a.mapped ≡ mapped_by found
 mapped_is None a h = absurd h
@@ -89,7 +90,7 @@ module _ {D : Type 0} (g : Ghosts D) (old new : SessionValue D) (key : ℕ) (w :
         serves = serves_at old.allocator.setup (session_of g old) (session_of g new) key (Alloc w) (record { room = true; call = step.environment }) (replies.Error (refusal_of e)) None none (record {
           description = d;
           describes = wants;
-          model_reply = model.Fails (refusal_of e);
+          model_reply = answers.Error (refusal_of e);
           step = step.step;
           binds = (refl, same);
         });
@@ -110,7 +111,7 @@ module _ {D : Type 0} (g : Ghosts D) (old new : SessionValue D) (key : ℕ) (w :
         serves = serves_at old.allocator.setup (session_of g old) (session_of g new) key (Alloc w) (record { room = true; call = step.environment }) reply None none (record {
           description = d;
           describes = wants;
-          model_reply = model.Given is.0 is.1;
+          model_reply = answers.Given is.0 is.1;
           step = step.step;
           binds = (a, is.3, is_told ∙ ap replies.Given (shown_same old.allocator.setup d w is.0 is.1 a wants is.3), same);
         });

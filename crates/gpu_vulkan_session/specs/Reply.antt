@@ -1,7 +1,7 @@
 -- What a session answers.
 use Rattle.std.specs.Prelude.{ℕ, Bool, List}
-use Rattle.gpu_core.specs.Refusal.{Refusal}
-use Rattle.gpu_core.specs.Report as reports
+use Rattle.gpu_values.specs.Refusal.{Refusal}
+use Rattle.gpu_values.specs.Report as reports
 
 -- what is shown of a new allocation
 pub record Shown : Type 0 where

@@ -2,8 +2,8 @@
 use Rattle.std.specs.Prelude.{◌≡◌, ℕ, Bool, true, false, List, [], ◌∷◌, Option, nat_eq, map, string_bytes}
 use Rattle.std.specs.Map.{lookup}
 use Rattle.std.specs.Int.NonZero.{non_zero_u64_get}
-use Rattle.gpu_core.specs.Refusal.{refusal_of}
-use Rattle.gpu_core.specs.Report.{report_of}
+use Rattle.gpu_values.specs.Refusal.{refusal_of}
+use Rattle.gpu_values.specs.Report.{report_of}
 use Rattle.gpu_device.specs.declared.vulkan.device.VulkanDevice.{Ghosts}
 use Rattle.gpu_device.specs.declared.vulkan.types.MemoryAllocateInfo.{MemoryAllocateInfo}
 use Rattle.gpu_vulkan.specs.Lends.{number_in}

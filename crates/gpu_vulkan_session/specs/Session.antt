@@ -1,7 +1,7 @@
 -- A session as a model: what the caller's numbers stand for, and the allocator's blocks and bytes; and what a command makes of them and is answered.
 use Rattle.std.specs.Prelude.{◌≡◌, ◌≢◌, ◌⊎◌, ℕ, ◌+◌, ◌++◌, ◌==◌, nat_le, Bool, true, false, if◌then◌else◌, List, [], ◌∷◌, length, take, drop, Option, Some, None}
 use Rattle.std.specs.Int.NonZero.{non_zero_u64_get}
-use Rattle.gpu_core.specs.Refusal.{host_out_of_memory}
+use Rattle.gpu_values.specs.Refusal.{host_out_of_memory}
 use Rattle.gpu_slots.specs.declared.piece.Piece.{Piece}
 use Rattle.gpu_device.specs.declared.vulkan.types.DeviceMemory.{DeviceMemory}
 use Rattle.gpu_vulkan_setup.specs.Types.{is_mapped}
@@ -11,6 +11,7 @@ use Rattle.gpu_vulkan.specs.Lends.{AreDistinct}
 use Rattle.gpu_vulkan.specs.Live.{piece_of, null_allocation, IsLive, IsGiven}
 use Rattle.gpu_vulkan.specs.Rename.{IsNamed}
 use Rattle.gpu_vulkan_setup.specs.Setup.{Setup}
+use Rattle.gpu_vulkan.specs.Reply as answers
 use Rattle.gpu_vulkan.specs.Step as model
 use Rattle.gpu_vulkan.specs.Step.{ModelState, CallEnvironment, MeetsNothing, IsRead, Step}
 use Rattle.gpu_vulkan.specs.declared.allocation.Allocation.{Allocation}
@@ -65,15 +66,15 @@ abbrev pub Stays : CommandEnvironment → SessionState → SessionState → Type
 Stays o old new = MeetsNothing o.call × (new ≡ old)
 
 -- what the allocator's reply to a request binds and is answered
-abbrev pub Binds : Setup → (key : ℕ) → Wanted → AllocationCreateDesc → model.Reply → SessionReply → (old new : Bindings) → Type 0
-Binds setup key w d (model.Given t p) reply old new = (a : Allocation) × IsGiven setup t d p a × (reply ≡ Given (shown setup w t p)) × (new ≡ bind old key (Some a))
-Binds setup key w d (model.Fails r) reply old new = (reply ≡ Error r) × (new ≡ old)
+abbrev pub Binds : Setup → (key : ℕ) → Wanted → AllocationCreateDesc → answers.Reply → SessionReply → (old new : Bindings) → Type 0
+Binds setup key w d (answers.Given t p) reply old new = (a : Allocation) × IsGiven setup t d p a × (reply ≡ Given (shown setup w t p)) × (new ≡ bind old key (Some a))
+Binds setup key w d (answers.Error r) reply old new = (reply ≡ Error r) × (new ≡ old)
 Binds setup key w d _ reply old new = ⊥
 
 pub record AllocatesFor (setup : Setup) (key : ℕ) (w : Wanted) (o : CallEnvironment) (reply : SessionReply) (old new : SessionState) : Type 0 where
   pub description : AllocationCreateDesc
   pub describes : Describes description w
-  pub model_reply : model.Reply
+  pub model_reply : answers.Reply
   pub step : Step setup (model.Allocate description) o model_reply old.model new.model
   pub binds : Binds setup key w description model_reply reply old.bound new.bound
 
@@ -89,17 +90,17 @@ ServesNull key true reply old new = (reply ≡ Done) × (new ≡ record old { bo
 
 pub record Frees (setup : Setup) (key : ℕ) (a : Allocation) (o : CallEnvironment) (reply : SessionReply) (old new : SessionState) : Type 0 where
   pub done : reply ≡ Done
-  pub step : Step setup (model.Free a) o model.Done old.model new.model
+  pub step : Step setup (model.Free a) o answers.Done old.model new.model
   pub bound : new.bound ≡ bind old.bound key None
 
 -- what the allocator's reply to a new name binds and is answered
-abbrev pub BindsNamed : (key : ℕ) → Allocation → (name : List ℕ) → model.Reply → SessionReply → (old new : Bindings) → Type 0
-BindsNamed key a name model.Done reply old new = (reply ≡ Done) × ((b : Allocation) × IsNamed a name b × (new ≡ bind old key (Some b)))
-BindsNamed key a name (model.Fails r) reply old new = (reply ≡ Error r) × (new ≡ old)
+abbrev pub BindsNamed : (key : ℕ) → Allocation → (name : List ℕ) → answers.Reply → SessionReply → (old new : Bindings) → Type 0
+BindsNamed key a name answers.Done reply old new = (reply ≡ Done) × ((b : Allocation) × IsNamed a name b × (new ≡ bind old key (Some b)))
+BindsNamed key a name (answers.Error r) reply old new = (reply ≡ Error r) × (new ≡ old)
 BindsNamed key a name _ reply old new = ⊥
 
 pub record Renames (setup : Setup) (key : ℕ) (a : Allocation) (name : List ℕ) (o : CallEnvironment) (reply : SessionReply) (old new : SessionState) : Type 0 where
-  pub model_reply : model.Reply
+  pub model_reply : answers.Reply
   pub step : Step setup (model.Rename a name) o model_reply old.model new.model
   pub binds : BindsNamed key a name model_reply reply old.bound new.bound
 
@@ -111,7 +112,7 @@ overwritten bytes at others = take at bytes ++ (others ++ drop (at + length othe
 abbrev pub WritesIn : Setup → Allocation → (at : ℕ) → List ℕ → List ℕ → (fits : Bool) → CommandEnvironment → SessionReply → SessionState → SessionState → Type 0
 WritesIn setup a at others bytes false o reply old new = (reply ≡ OutOfRange) × Stays o old new
 WritesIn setup a at others bytes true o reply old new =
-    (reply ≡ Done) × Step setup (model.Write a (overwritten bytes at others)) o.call model.Done old.model new.model × (new.bound ≡ old.bound)
+    (reply ≡ Done) × Step setup (model.Write a (overwritten bytes at others)) o.call answers.Done old.model new.model × (new.bound ≡ old.bound)
 
 abbrev pub WritesOver : Setup → Allocation → (at : ℕ) → List ℕ → Option (List ℕ) → CommandEnvironment → SessionReply → SessionState → SessionState → Type 0
 WritesOver setup a at others None o reply old new = (reply ≡ Unmapped) × Stays o old new
@@ -155,18 +156,18 @@ ServesAt setup key None command o reply old new = ServesUnbound setup key comman
 ServesAt setup key (Some a) command o reply old new = ServesBound setup key a command o reply old new
 
 -- what is answered of the allocator's reply to a call that is no one number's
-abbrev pub reply_by : model.Reply → Option SessionReply
-reply_by (model.Given t p) = None
-reply_by (model.Fails r) = Some (Error r)
-reply_by model.Done = Some Done
-reply_by (model.Bytes bytes) = None
-reply_by (model.Sum n) = Some (replies.Capacity n)
-reply_by (model.Shows report) = Some (replies.Report report)
-reply_by (model.Tells texts) = Some (replies.Leaks texts)
-reply_by (model.Budgeted budget) = None
+abbrev pub reply_by : answers.Reply → Option SessionReply
+reply_by (answers.Given t p) = None
+reply_by (answers.Error r) = Some (Error r)
+reply_by answers.Done = Some Done
+reply_by (answers.Bytes bytes) = None
+reply_by (answers.Capacity n) = Some (replies.Capacity n)
+reply_by (answers.Report report) = Some (replies.Report report)
+reply_by (answers.Leaks texts) = Some (replies.Leaks texts)
+reply_by (answers.Budget budget) = None
 
 pub record Asks (setup : Setup) (call : model.Call) (o : CallEnvironment) (reply : SessionReply) (old new : SessionState) : Type 0 where
-  pub model_reply : model.Reply
+  pub model_reply : answers.Reply
   pub step : Step setup call o model_reply old.model new.model
   pub reply_is : reply_by model_reply ≡ Some reply
   pub bound : new.bound ≡ old.bound

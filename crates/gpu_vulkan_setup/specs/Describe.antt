@@ -1,6 +1,6 @@
 -- What a description of an allocation asks of a memory type.
 use Rattle.std.specs.Prelude.{Bool, true, false, if◌then◌else◌}
-use Rattle.gpu_core.specs.Request.{Request}
+use Rattle.gpu_block_pieces.specs.Request.{Request}
 use Rattle.gpu_values.specs.declared.allocation_type.AllocationType.{AllocationType}
 use Rattle.gpu_values.specs.declared.allocation_type.AllocationType.TheVariants.{Linear, NonLinear}
 use Rattle.gpu_device.specs.declared.vulkan.types.AllocationScheme.{AllocationScheme}

@@ -2,8 +2,8 @@
 use Rattle.std.specs.Prelude.{◌≡◌, ℕ, ◌≤◌, ◌==◌, Bool, false, List, length, Option, Some, None, codes, IsTrue, if◌then◌else◌, nat_le, nat_lt, not}
 use Rattle.std.specs.List.{list_any}
 use Rattle.std.specs.Int.{is_power_of_two}
-use Rattle.gpu_core.specs.Refusal.{Refusal, invalid_allocator_create_desc}
-use Rattle.gpu_core.specs.Sizes.{Sizes}
+use Rattle.gpu_values.specs.Refusal.{Refusal, invalid_allocator_create_desc}
+use Rattle.gpu_values.specs.Sizes.{Sizes}
 use Rattle.gpu_values.specs.declared.allocator_debug_settings.AllocatorDebugSettings.{AllocatorDebugSettings}
 use Rattle.gpu_device.specs.Properties.{Properties}
 use Rattle.gpu_device.specs.declared.vulkan.types.MemoryTypeInfo.{MemoryTypeInfo}

@@ -4,7 +4,7 @@ ghost use Rattle.std.specs.Prelude.{◌≡◌, ◌<◌, length, not, Some, None,
 ghost use Rattle.std.specs.List.{list_any};
 ghost use Rattle.std.specs.Option.{option_map};
 ghost use Rattle.std.specs.Int.{is_power_of_two};
-ghost use Rattle.gpu_core.specs.Refusal.{refusal_of, invalid_allocator_create_desc};
+ghost use Rattle.gpu_values.specs.Refusal.{refusal_of, invalid_allocator_create_desc};
 ghost use Rattle.gpu_vulkan_setup.specs.Setup.{lacks_heap, setup_fault, IsValid};
 ghost use Rattle.gpu_vulkan_setup.specs.Types.{heap_size};
 ghost use Rattle.gpu_vulkan_setup.specs.Types.{is_host_visible};

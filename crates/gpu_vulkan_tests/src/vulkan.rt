@@ -149,7 +149,7 @@ fn take_at(
     want: (usize, u64, Option<u64>),
 ) -> std::result::Result<Allocation, Fail> {
     let allocation = take(a, desc)?;
-    assert_eq!(rt; place(&allocation), want);
+    assert!(rt; place(&allocation) == want);
     Ok(allocation)
 }
 

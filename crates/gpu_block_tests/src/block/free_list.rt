@@ -32,7 +32,7 @@ fn take(
             None
         }
     };
-    assert_eq!(rt; got, want, "{size} bytes at alignment {alignment}");
+    assert!(rt; got == want, "{size} bytes at alignment {alignment}");
 }
 
 fn linear(rt: &impl Abort, block: &mut FreeListAllocator, size: u64, want: Option<(u64, u64)>)

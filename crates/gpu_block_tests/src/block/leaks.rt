@@ -11,12 +11,12 @@ use std::test::Fail;
 fn two_pieces(rt: &impl Abort, alloc: Global) -> Result<SubAllocator> {
     let mut block = general(rt, alloc, 1)?;
     let b = &mut block;
-    assert_eq!(rt; allocate(rt, b, wanted(100, "a"))?, (0, 2));
+    assert!(rt; allocate(rt, b, wanted(100, "a"))? == (0, 2));
     let aligned = Request {
         alignment: 256,
         ..wanted(64, "b")
     };
-    assert_eq!(rt; allocate(rt, b, aligned)?, (256, 3));
+    assert!(rt; allocate(rt, b, aligned)? == (256, 3));
     Ok(block)
 }
 
@@ -24,15 +24,15 @@ fn two_pieces(rt: &impl Abort, alloc: Global) -> Result<SubAllocator> {
 fn pieces_are_reported_without_padding_and_counted_with_it(rt: HostRuntime) -> Result<(), Fail> {
     let block = two_pieces(&rt, rt.alloc())?;
     check_report(&rt, rt.alloc(), &block, "a 0 100;b 256 64;")?;
-    assert_eq!(rt; block.allocated(), 320);
+    assert!(rt; block.allocated() == 320);
     Ok(())
 }
 
 fn check_texts(rt: &impl Abort, texts: &Vec<String>, want: &[&str]) {
-    assert_eq!(rt; texts.len(), want.len());
+    assert!(rt; texts.len() == want.len());
     for (text, want) in texts.iter().zip(want) {
         let want: &str = *want;
-        assert_eq!(rt; text.as_str(), want);
+        assert!(rt; text.as_str() == want);
     }
 }
 
@@ -57,7 +57,7 @@ fn check_leaks(
     want: &[&str],
 ) -> Result<()> {
     check_texts(rt, &block.leak_texts(at.0, at.1)?, want);
-    assert_eq!(rt; block.leaks(at.0, at.1).count(), want.len());
+    assert!(rt; block.leaks(at.0, at.1).count() == want.len());
     for (leak, want) in block.leaks(at.0, at.1).zip(want) {
         check_text(rt, alloc, &leak, want)?;
     }
@@ -92,7 +92,7 @@ fn leaks_of_a_free_list_name_their_block(rt: HostRuntime) -> Result<(), Fail> {
         kind: AllocationType::NonLinear,
         ..wanted(16, "i")
     };
-    assert_eq!(rt; allocate(&rt, &mut block, asked)?, (0, 2));
+    assert!(rt; allocate(&rt, &mut block, asked)? == (0, 2));
     check_leaks(&rt, rt.alloc(), &block, (7, 2), &[LEAK_IMAGE])?;
     Ok(())
 }
@@ -101,7 +101,7 @@ fn leaks_of_a_free_list_name_their_block(rt: HostRuntime) -> Result<(), Fail> {
 fn leaks_of_a_dedicated_block_name_it(rt: HostRuntime) -> Result<(), Fail> {
     let mut block = dedicated(&rt, rt.alloc(), 1000);
     check_leaks(&rt, rt.alloc(), &block, (0, 1), &[])?;
-    assert_eq!(rt; allocate(&rt, &mut block, wanted(1000, "b"))?, (0, 1));
+    assert!(rt; allocate(&rt, &mut block, wanted(1000, "b"))? == (0, 1));
     check_leaks(&rt, rt.alloc(), &block, (0, 1), &[LEAK_DEDICATED])?;
     Ok(())
 }

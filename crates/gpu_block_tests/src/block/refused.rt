@@ -59,7 +59,7 @@ fn take(
     let before = (block.allocated(), block.is_empty());
     let answer = allocate(rt, block, asked);
     if refusals.is_one(&answer) {
-        assert_eq!(rt; (block.allocated(), block.is_empty()), before);
+        assert!(rt; (block.allocated(), block.is_empty()) == before);
         return allocate(rt, block, asked);
     }
     answer
@@ -75,7 +75,7 @@ fn shown(block: &SubAllocator, alloc: Global, refusals: &mut Refusals) -> Result
 }
 
 pub fn check_shown(rt: &impl Abort, text: &str, want: &str) {
-    assert_eq!(rt; text, want);
+    assert!(rt; text == want);
 }
 
 /// Gives another name; where the host refused memory the old one stands, and it is given once more.
@@ -118,15 +118,14 @@ fn calls(
     requires { HasPages (block_of b.old) 1 }
     ensures { (g : ℕ) → HasPages (block_of b.old) g → HasPages (block_of b.new) g }
 {
-    assert_eq!(rt; take(rt, b, refusals, wanted(100, "first"))?, (0, 2));
-    assert_eq!(rt;
+    assert!(rt; take(rt, b, refusals, wanted(100, "first"))? == (0, 2));
+    assert!(rt;
         take(
             rt,
             b,
             refusals,
             wanted(64, "a second piece with a longer name")
-        )?,
-        (100, 3)
+        )? == (100, 3)
     );
     rename(
         rt,
@@ -142,11 +141,11 @@ fn calls(
         text.as_str(),
         "first 0 100;a name of more than thirty bytes 100 64;",
     );
-    assert_eq!(rt; count_leaks(b, refusals)?, 2);
-    assert_eq!(rt; b.allocated(), 164);
-    assert_eq!(rt; b.size(), 4 * MB);
+    assert!(rt; count_leaks(b, refusals)? == 2);
+    assert!(rt; b.allocated() == 164);
+    assert!(rt; b.size() == 4 * MB);
     free(b, 2)?;
-    assert_eq!(rt; take(rt, b, refusals, wanted(50, "third"))?, (0, 4));
+    assert!(rt; take(rt, b, refusals, wanted(50, "third"))? == (0, 4));
     Ok(())
 }
 
@@ -156,10 +155,7 @@ fn many(rt: &impl Abort, b: &mut SubAllocator, refusals: &mut Refusals) -> Resul
 {
     for place in 0..40u64 {
         let (offset, number) = take(rt, b, refusals, wanted(16, "piece"))?;
-        assert_eq!(rt;
-            (offset, number),
-            (place.saturating_mul(16), place.saturating_add(2))
-        );
+        assert!(rt; (offset, number) == (place.saturating_mul(16), place.saturating_add(2)));
     }
     for number in 2..42u64 {
         free(b, number)?;
@@ -201,14 +197,13 @@ fn dedicated_calls(
 ) -> Result<()>
     requires { HasPages (block_of b.old) 1 }
 {
-    assert_eq!(rt;
+    assert!(rt;
         take(
             rt,
             b,
             refusals,
             wanted(1000, "a piece that has a block of its own")
-        )?,
-        (0, 1)
+        )? == (0, 1)
     );
     rename(
         rt,
@@ -224,7 +219,7 @@ fn dedicated_calls(
         text.as_str(),
         "the same piece under another name 0 1000;",
     );
-    assert_eq!(rt; count_leaks(b, refusals)?, 1);
+    assert!(rt; count_leaks(b, refusals)? == 1);
     free(b, 1)?;
     assert!(rt; b.is_empty());
     Ok(())
@@ -263,7 +258,7 @@ fn rows_and_amounts_lose_nothing_where_memory_is_refused(
         size: 64,
     };
     let copy = copied_row(&row, &mut refusals)?;
-    assert_eq!(&rt; (copy.offset, copy.size), (256, 64));
+    assert!(&rt; (copy.offset, copy.size) == (256, 64));
     check_shown(&rt, copy.name.as_str(), "a");
     let mut amount = fmt_bytes(rt.alloc(), 1536);
     if refusals.is_one(&amount) {

@@ -114,14 +114,14 @@ fn check_refused<V: Drop>(
 /// Makes a call that only looks, and compares its answer.
 fn look(rt: &impl Abort, alloc: Global, block: &SubAllocator, call: Call) -> Result<()> {
     match call {
-        Finds(number, want) => assert_eq!(rt; place(block, number), want, "number {number}"),
+        Finds(number, want) => assert!(rt; place(block, number) == want, "number {number}"),
         Reports(want) => check_report(rt, alloc, block, want)?,
         Allocated(want) => {
-            assert_eq!(rt; block.allocated(), want);
-            assert_eq!(rt; block.is_empty(), want == 0);
+            assert!(rt; block.allocated() == want);
+            assert!(rt; block.is_empty() == (want == 0));
         }
-        Size(want) => assert_eq!(rt; block.size(), want),
-        IsGeneral(want) => assert_eq!(rt; block.supports_general_allocations(), want),
+        Size(want) => assert!(rt; block.size() == want),
+        IsGeneral(want) => assert!(rt; block.supports_general_allocations() == want),
         _ => {}
     }
     Ok(())
@@ -139,7 +139,7 @@ fn make_call(
     ensures { (g : ℕ) → HasPages (block_of block.old) g → HasPages (block_of block.new) g }
 {
     match call {
-        Takes(asked, want) => assert_eq!(rt; take(rt, block, granularity, asked)?, want),
+        Takes(asked, want) => assert!(rt; take(rt, block, granularity, asked)? == want),
         TakesNothing(asked, want) => {
             check_refused(rt, alloc, take(rt, block, granularity, asked), want)?
         }

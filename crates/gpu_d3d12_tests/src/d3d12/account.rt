@@ -204,13 +204,10 @@ impl Account {
     /// Looks that the allocator tells what the account says, by calls that take no memory.
     pub fn check(&self, rt: &impl Abort, a: &Allocator<SimD3D12>) {
         let resources = self.placed.len().saturating_add(self.committed.len());
-        assert_eq!(rt; a.capacity(), self.capacity());
-        assert_eq!(rt; a.budget(0), self.budget);
-        assert_eq!(rt; counts(a, 0), Some((self.committed.len(), self.sum)));
-        assert_eq!(rt;
-            a.device().device().held(),
-            self.blocks.len().saturating_add(resources)
-        );
+        assert!(rt; a.capacity() == self.capacity());
+        assert!(rt; a.budget(0) == self.budget);
+        assert!(rt; counts(a, 0) == Some((self.committed.len(), self.sum)));
+        assert!(rt; a.device().device().held() == self.blocks.len().saturating_add(resources));
         for (piece, _) in &self.pieces {
             assert!(rt; a.is_live(piece));
         }
@@ -229,10 +226,10 @@ impl Account {
         for row in &report.allocations {
             bytes = bytes.saturating_add(row.size);
         }
-        assert_eq!(rt; report.allocations.len(), live);
-        assert_eq!(rt; bytes, self.piece_bytes());
-        assert_eq!(rt; report.total_allocated_bytes, self.piece_bytes());
-        assert_eq!(rt; report.blocks.len(), self.blocks.len());
-        assert_eq!(rt; report.total_capacity_bytes, self.capacity());
+        assert!(rt; report.allocations.len() == live);
+        assert!(rt; bytes == self.piece_bytes());
+        assert!(rt; report.total_allocated_bytes == self.piece_bytes());
+        assert!(rt; report.blocks.len() == self.blocks.len());
+        assert!(rt; report.total_capacity_bytes == self.capacity());
     }
 }

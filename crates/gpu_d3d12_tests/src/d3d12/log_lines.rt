@@ -10,9 +10,9 @@ use std::process::Abort;
 
 /// Looks that a log has these lines and no others.
 fn check_lines(rt: &impl Abort, lines: &Lines, want: &[&str]) {
-    assert_eq!(rt; lines.len(), want.len());
+    assert!(rt; lines.len() == want.len());
     for (line, want) in lines.as_slice().iter().zip(want) {
-        assert_eq!(rt; line.as_str(), *want);
+        assert!(rt; line.as_str() == *want);
     }
 }
 

@@ -15,7 +15,7 @@ fn first_buffer(
 ) -> std::result::Result<Allocation, Fail> {
     let desc = buffer_piece(a, 512, "first");
     let first = take_at(rt, a, &desc, (0, 65536, Some(2)))?;
-    assert_eq!(rt; first.heap(), ID3D12Heap(1));
+    assert!(rt; first.heap() == ID3D12Heap(1));
     assert!(rt; !first.is_null());
     assert!(rt; a.is_live(&first));
     Ok(first)
@@ -28,9 +28,9 @@ fn second_buffer(
 ) -> std::result::Result<Allocation, Fail> {
     let desc = buffer_piece(a, 70000, "second");
     let second = take_at(rt, a, &desc, (65536, 131072, Some(3)))?;
-    assert_eq!(rt; a.capacity(), 256 * MB);
+    assert!(rt; a.capacity() == 256 * MB);
     match a.generate_report() {
-        Ok(report) => assert_eq!(rt; report.total_allocated_bytes, 196608),
+        Ok(report) => assert!(rt; report.total_allocated_bytes == 196608),
         Err(_) => return Err(Fail::from("a report was refused")),
     }
     Ok(second)
@@ -41,8 +41,8 @@ fn first_buffers(rt: &impl Abort, a: &mut Allocator<SimD3D12>) -> Outcome {
     let second = second_buffer(rt, a)?;
     give(a, first)?;
     give(a, second)?;
-    assert_eq!(rt; a.capacity(), 268435456);
-    assert_eq!(rt; a.device().device().held(), 1);
+    assert!(rt; a.capacity() == 268435456);
+    assert!(rt; a.device().device().held() == 1);
     Ok(())
 }
 
@@ -51,8 +51,8 @@ fn buffers_share_a_block(rt: HostRuntime) -> Outcome {
     let mut a = made(rt.alloc(), ResourceHeapTier::Tier2, &[])?;
     let done = first_buffers(&rt, &mut a);
     let device = destroyed(a);
-    assert_eq!(&rt; device.questions(), 1);
-    assert_eq!(&rt; device.held(), 0);
+    assert!(&rt; device.questions() == 1);
+    assert!(&rt; device.held() == 0);
     done
 }
 
@@ -111,7 +111,7 @@ fn check_heap(
 ) -> Outcome {
     let (heap, held) = heap_for(alloc, tier, desc)?;
     assert!(rt; heap == want);
-    assert_eq!(rt; held, 0);
+    assert!(rt; held == 0);
     Ok(())
 }
 
@@ -156,7 +156,7 @@ fn check_each_category(rt: &impl Abort, alloc: Global, number: usize, place: &Pl
     let tier = ResourceHeapTier::Tier1;
     for (index, (category, content)) in CATEGORIES.iter().enumerate() {
         let memory_type = number.saturating_mul(3).saturating_add(index);
-        assert_eq!(rt; type_for(tier, place.location, *category), memory_type);
+        assert!(rt; type_for(tier, place.location, *category) == memory_type);
         let want = block(place.size, place.properties, *content);
         check_heap(rt, alloc, tier, &piece_for(place.location, *category), want)?;
     }
@@ -167,7 +167,7 @@ fn check_each_category(rt: &impl Abort, alloc: Global, number: usize, place: &Pl
 fn check_all_categories(rt: &impl Abort, alloc: Global, number: usize, place: &Place) -> Outcome {
     let tier = ResourceHeapTier::Tier2;
     for (category, _) in CATEGORIES {
-        assert_eq!(rt; type_for(tier, place.location, *category), number);
+        assert!(rt; type_for(tier, place.location, *category) == number);
         let want = block(place.size, place.properties, HeapContent::All);
         check_heap(rt, alloc, tier, &piece_for(place.location, *category), want)?;
     }
@@ -188,7 +188,7 @@ fn the_first_memory_type_serves_where_no_location_is_asked_for(rt: HostRuntime) 
     let target = ResourceCategory::RtvDsvTexture;
     let textures = piece_for(MemoryLocation::Unknown, target);
     let tier = ResourceHeapTier::Tier1;
-    assert_eq!(&rt; type_for(tier, MemoryLocation::Unknown, target), 1);
+    assert!(&rt; type_for(tier, MemoryLocation::Unknown, target) == 1);
     let want = block(256 * MB, default_properties(), HeapContent::RtDsTextures);
     check_heap(&rt, rt.alloc(), tier, &textures, want)
 }
@@ -208,7 +208,7 @@ fn flags_of_textures_decide_their_category(rt: HostRuntime) -> Outcome {
     let other = ResourceCategory::OtherTexture;
     // no flag, a render target, a depth stencil, and unordered access
     for (flags, want) in [(0, other), (1, target), (2, target), (4, other)] {
-        assert_eq!(&rt; ResourceCategory::from(&texture(flags)), want);
+        assert!(&rt; ResourceCategory::from(&texture(flags)) == want);
     }
     Ok(())
 }
@@ -221,11 +221,8 @@ fn offer(rt: &impl Abort, b: &mut Allocator<SimD3D12>, mut y: Allocation) -> Out
     }
     match b.free(&Discard, y) {
         Err((AllocationError::Internal(fault), back)) => {
-            assert_eq!(rt;
-                fault.text,
-                "Attempting to free chunk that is not in chunk list."
-            );
-            assert_eq!(rt; place(&back), (512, 512, Some(3)));
+            assert!(rt; fault.text == "Attempting to free chunk that is not in chunk list.");
+            assert!(rt; place(&back) == (512, 512, Some(3)));
             Ok(())
         }
         _ => Err(Fail::from("an allocation that isn't live was freed")),
@@ -250,13 +247,13 @@ fn what_is_not_live_comes_back(rt: HostRuntime) -> Outcome {
         Ok(mut b) => {
             let done = foreign(&rt, &mut a, &mut b);
             let device = destroyed(b);
-            assert_eq!(&rt; device.held(), 0);
+            assert!(&rt; device.held() == 0);
             done
         }
         Err(fail) => Err(fail),
     };
     let device = destroyed(a);
-    assert_eq!(&rt; device.held(), 0);
+    assert!(&rt; device.held() == 0);
     done
 }
 
@@ -268,12 +265,12 @@ fn named(rt: &impl Abort, a: &mut Allocator<SimD3D12>) -> Outcome {
         Err(_) => return Err(Fail::from("a new name was refused")),
     }
     match a.leak_texts() {
-        Ok(texts) => assert_eq!(rt; texts.len(), 1),
+        Ok(texts) => assert!(rt; texts.len() == 1),
         Err(_) => return Err(Fail::from("texts were refused")),
     }
     match a.generate_report() {
         Ok(report) => match report.allocations.get(0) {
-            Some(row) => assert_eq!(rt; row.name.as_str(), "other"),
+            Some(row) => assert!(rt; row.name.as_str() == "other"),
             None => return Err(Fail::from("a report without rows")),
         },
         Err(_) => return Err(Fail::from("a report was refused")),
@@ -286,6 +283,6 @@ fn a_new_name_is_reported(rt: HostRuntime) -> Outcome {
     let mut a = made(rt.alloc(), ResourceHeapTier::Tier2, &[])?;
     let done = named(&rt, &mut a);
     let device = destroyed(a);
-    assert_eq!(&rt; device.held(), 0);
+    assert!(&rt; device.held() == 0);
     done
 }

@@ -68,14 +68,11 @@ fn questions_by_interface(rt: HostRuntime) -> Outcome {
     let first = ID3D12DeviceVersion::Device(());
     let tenth = ID3D12DeviceVersion::Device10(());
     let twelfth = ID3D12DeviceVersion::Device12(());
-    assert_eq!(&rt; number_of(question_for(&twelfth, &state)), 8);
-    assert_eq!(&rt; number_of(question_for(&first, &layout)), 9);
-    assert_eq!(&rt; number_of(question_for(&tenth, &layout)), 9);
-    assert_eq!(&rt; number_of(question_for(&first, &plain)), 7);
-    assert_eq!(&rt;
-        number_of(question_for(&first, &asked(&desc, &[], IN_STATE))),
-        0
-    );
+    assert!(&rt; number_of(question_for(&twelfth, &state)) == 8);
+    assert!(&rt; number_of(question_for(&first, &layout)) == 9);
+    assert!(&rt; number_of(question_for(&tenth, &layout)) == 9);
+    assert!(&rt; number_of(question_for(&first, &plain)) == 7);
+    assert!(&rt; number_of(question_for(&first, &asked(&desc, &[], IN_STATE))) == 0);
     match (question_for(&twelfth, &plain), question_for(&tenth, &plain)) {
         (Ok(ResourceQuestion::InLayoutWithFormats(1)), Ok(ResourceQuestion::InLayout(1))) => Ok(()),
         (_, _) => Err(Fail::from("another question")),
@@ -97,10 +94,10 @@ fn text_of(alloc: Global, made: Result<ID3D12Resource>) -> std::result::Result<S
 fn placed_as_asked(rt: &impl Abort, device: &mut SimD3D12, plain: &ResourceCreateDesc) -> Outcome {
     let with = ResourceQuestion::InLayoutWithFormats(1);
     match create_placed(device, with, plain, ID3D12Heap(9), 65536) {
-        Ok(resource) => assert_eq!(rt; resource, ID3D12Resource(1)),
+        Ok(resource) => assert!(rt; resource == ID3D12Resource(1)),
         Err(_) => return Err(Fail::from("a resource was refused")),
     }
-    assert_eq!(rt; device.last_formats(), Some(0));
+    assert!(rt; device.last_formats() == Some(0));
     assert!(rt; device.last_clear() == Some(CLEAR));
     Ok(())
 }
@@ -114,10 +111,10 @@ fn committed_as_asked(
     let without = ResourceQuestion::InLayout(1);
     let buffers = HeapFlags(0xc0);
     match create_committed(device, without, plain, &PROPERTIES, buffers) {
-        Ok(resource) => assert_eq!(rt; resource, ID3D12Resource(2)),
+        Ok(resource) => assert!(rt; resource == ID3D12Resource(2)),
         Err(_) => return Err(Fail::from("a resource was refused")),
     }
-    assert_eq!(rt; device.last_formats(), None);
+    assert!(rt; device.last_formats() == None);
     assert!(rt; device.last_clear() == Some(CLEAR));
     assert!(rt; device.last_memory() == Some((PROPERTIES, buffers)));
     Ok(())
@@ -130,9 +127,9 @@ fn made_as_asked_for(rt: HostRuntime) -> Outcome {
     let plain = asked(&desc, &[], IN_LAYOUT);
     placed_as_asked(&rt, &mut device, &plain)?;
     committed_as_asked(&rt, &mut device, &plain)?;
-    assert_eq!(&rt; device.held(), 2);
+    assert!(&rt; device.held() == 2);
     let info = allocation_info_of(&ID3D12DeviceVersion::Device12(device), &plain);
-    assert_eq!(&rt; (info.size_in_bytes, info.alignment), (65536, 65536));
+    assert!(&rt; (info.size_in_bytes, info.alignment) == (65536, 65536));
     Ok(())
 }
 
@@ -152,7 +149,7 @@ fn check_placed(
         0,
     );
     let text = text_of(alloc, placed)?;
-    assert_eq!(rt; text.as_str(), told);
+    assert!(rt; text.as_str() == told);
     Ok(())
 }
 
@@ -167,7 +164,7 @@ fn check_committed(
     let state = ResourceQuestion::InState(1);
     let committed = create_committed(device, state, plain, &PROPERTIES, HeapFlags(0));
     let text = text_of(alloc, committed)?;
-    assert_eq!(rt; text.as_str(), told);
+    assert!(rt; text.as_str() == told);
     Ok(())
 }
 
@@ -194,7 +191,7 @@ fn refused_resources(rt: HostRuntime) -> Outcome {
     check_placed(&rt, alloc, &mut device, &plain, told)?;
     let told = "Internal error: ID3D12Device::CreatePlacedResource failed (code -5)";
     check_placed(&rt, alloc, &mut device, &plain, told)?;
-    assert_eq!(&rt; device.refusals(), 4);
-    assert_eq!(&rt; device.held(), 0);
+    assert!(&rt; device.refusals() == 4);
+    assert!(&rt; device.held() == 0);
     Ok(())
 }

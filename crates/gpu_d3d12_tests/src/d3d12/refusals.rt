@@ -17,11 +17,11 @@ fn first_refused(rt: &impl Abort, alloc: Global, refusal: Refusal, message: &str
     };
     let capacity = a.capacity();
     let device = destroyed(a);
-    assert_eq!(rt; capacity, 0);
-    assert_eq!(rt; device.held(), 0);
+    assert!(rt; capacity == 0);
+    assert!(rt; device.held() == 0);
     match told {
         Ok(text) => {
-            assert_eq!(rt; text.as_str(), message);
+            assert!(rt; text.as_str() == message);
             Ok(())
         }
         Err(fail) => Err(fail),
@@ -45,13 +45,13 @@ fn a_tier_that_is_not_told(rt: HostRuntime) -> Outcome {
     match Allocator::new(alloc, described(device)) {
         Ok(a) => {
             let device = destroyed(a);
-            assert_eq!(&rt; device.held(), 0);
+            assert!(&rt; device.held() == 0);
             Err(Fail::from("an allocator without a heap tier"))
         }
         Err((AllocationError::Internal(fault), ID3D12DeviceVersion::Device12(device))) => {
-            assert_eq!(&rt; fault.text, "ID3D12Device::CheckFeatureSupport failed");
-            assert_eq!(&rt; fault.code, Some(-7));
-            assert_eq!(&rt; device.questions(), 0);
+            assert!(&rt; fault.text == "ID3D12Device::CheckFeatureSupport failed");
+            assert!(&rt; fault.code == Some(-7));
+            assert!(&rt; device.questions() == 0);
             Ok(())
         }
         Err((_, _)) => Err(Fail::from("another error, or another device")),
@@ -78,6 +78,6 @@ fn invalid_descriptions(rt: HostRuntime) -> Outcome {
     let mut a = made(rt.alloc(), ResourceHeapTier::Tier2, &[])?;
     let done = invalid(&mut a);
     let device = destroyed(a);
-    assert_eq!(&rt; device.questions(), 0);
+    assert!(&rt; device.questions() == 0);
     done
 }

@@ -27,7 +27,7 @@ fn begin(rt: &impl Abort, alloc: Global) -> Option<Allocator<SimD3D12>> {
         Ok(a) => Some(a),
         Err((error, back)) => {
             assert!(rt; matches!(error, AllocationError::HostOutOfMemory));
-            assert_eq!(rt; back.device().held(), 0);
+            assert!(rt; back.device().held() == 0);
             None
         }
     }

@@ -88,12 +88,12 @@ fn make_placed(a: &mut Allocator<SimD3D12>, width: u64) -> std::result::Result<R
 fn check_two_placed(rt: &impl Abort, first: &Resource, second: &Resource) -> Outcome {
     match (first.allocation(), second.allocation()) {
         (Some(one), Some(other)) => {
-            assert_eq!(rt; place(one), (0, 65536, Some(2)));
-            assert_eq!(rt; place(other), (65536, 131072, Some(3)));
+            assert!(rt; place(one) == (0, 65536, Some(2)));
+            assert!(rt; place(other) == (65536, 131072, Some(3)));
         }
         (_, _) => return Err(Fail::from("a placed resource without a piece")),
     }
-    assert_eq!(rt; (first.size(), second.size()), (65536, 131072));
+    assert!(rt; (first.size(), second.size()) == (65536, 131072));
     assert!(rt; first.memory_location() == MemoryLocation::GpuOnly);
     assert!(rt; first.resource() != second.resource());
     Ok(())
@@ -102,11 +102,11 @@ fn check_two_placed(rt: &impl Abort, first: &Resource, second: &Resource) -> Out
 /// Looks at the report of two placed buffers, and at their device.
 fn check_told(rt: &impl Abort, a: &Allocator<SimD3D12>) -> Outcome {
     match a.generate_report() {
-        Ok(report) => assert_eq!(rt; report.total_allocated_bytes, 196608),
+        Ok(report) => assert!(rt; report.total_allocated_bytes == 196608),
         Err(_) => return Err(Fail::from("a report was refused")),
     }
     assert!(rt; a.device().device().last_clear() == Some(CLEAR));
-    assert_eq!(rt; a.device().device().held(), 3);
+    assert!(rt; a.device().device().held() == 3);
     Ok(())
 }
 
@@ -117,8 +117,8 @@ fn placed_buffers(rt: &impl Abort, a: &mut Allocator<SimD3D12>) -> Outcome {
     check_told(rt, a)?;
     unmake(a, first)?;
     unmake(a, second)?;
-    assert_eq!(rt; a.capacity(), 268435456);
-    assert_eq!(rt; a.device().device().held(), 1);
+    assert!(rt; a.capacity() == 268435456);
+    assert!(rt; a.device().device().held() == 1);
     Ok(())
 }
 
@@ -127,7 +127,7 @@ fn placed_buffers_share_a_block(rt: HostRuntime) -> Outcome {
     let mut a = made(rt.alloc(), ResourceHeapTier::Tier2, &[])?;
     let done = placed_buffers(&rt, &mut a);
     let device = destroyed(a);
-    assert_eq!(&rt; device.held(), 0);
+    assert!(&rt; device.held() == 0);
     done
 }
 
@@ -137,10 +137,10 @@ fn small_buffer(rt: &impl Abort, a: &mut Allocator<SimD3D12>) -> Outcome {
     let small = buffer(512);
     let first = make(a, &asked(&small, &[], IN_STATE, &own))?;
     assert!(rt; first.allocation().is_none());
-    assert_eq!(rt; counts(a, 0), Some((1, 65536)));
-    assert_eq!(rt; a.capacity(), 0);
+    assert!(rt; counts(a, 0) == Some((1, 65536)));
+    assert!(rt; a.capacity() == 0);
     unmake(a, first)?;
-    assert_eq!(rt; counts(a, 0), Some((0, 0)));
+    assert!(rt; counts(a, 0) == Some((0, 0)));
     Ok(())
 }
 
@@ -149,15 +149,15 @@ fn greatest_buffer(rt: &impl Abort, a: &mut Allocator<SimD3D12>) -> Outcome {
     let own = own_memory();
     let greatest = buffer(u64::MAX);
     let first = make(a, &asked(&greatest, &[], IN_STATE, &own))?;
-    assert_eq!(rt; counts(a, 0), Some((1, 18446744073709486080)));
+    assert!(rt; counts(a, 0) == Some((1, 18446744073709486080)));
     let questions = a.device().device().questions();
     match a.create_resource(&Discard, &asked(&greatest, &[], IN_STATE, &own)) {
         Err(AllocationError::OutOfMemory) => {}
         _ => return Err(Fail::from("a sum that has no 64 bits")),
     }
-    assert_eq!(rt; a.device().device().questions(), questions);
-    assert_eq!(rt; counts(a, 0), Some((1, 18446744073709486080)));
-    assert_eq!(rt; counts(a, 3), None);
+    assert!(rt; a.device().device().questions() == questions);
+    assert!(rt; counts(a, 0) == Some((1, 18446744073709486080)));
+    assert!(rt; counts(a, 3) == None);
     unmake(a, first)
 }
 
@@ -171,7 +171,7 @@ fn committed_buffers_are_counted(rt: HostRuntime) -> Outcome {
     let mut a = made(rt.alloc(), ResourceHeapTier::Tier2, &[])?;
     let done = committed_buffers(&rt, &mut a);
     let device = destroyed(a);
-    assert_eq!(&rt; device.held(), 0);
+    assert!(&rt; device.held() == 0);
     done
 }
 
@@ -289,7 +289,7 @@ fn check_rows(
 ) -> Outcome {
     for (number, row) in rows.iter().enumerate() {
         let got = by_interface(alloc, row, resource_type)?;
-        assert_eq!(rt; got, (row.want, held), "row {number}");
+        assert!(rt; got == (row.want, held), "row {number}");
     }
     Ok(())
 }
@@ -337,8 +337,8 @@ fn check_second_refused(
 ) -> Outcome {
     let (width, refusal) = buffer;
     let (text, capacity, held) = second_refused(alloc, width, refusal)?;
-    assert_eq!(rt; text.as_str(), told);
-    assert_eq!(rt; (capacity, held), left);
+    assert!(rt; text.as_str() == told);
+    assert!(rt; (capacity, held) == left);
     Ok(())
 }
 
@@ -357,7 +357,7 @@ fn refused_resources_leave_no_piece(rt: HostRuntime) -> Outcome {
 fn no_such_type(rt: &impl Abort, a: &mut Allocator<SimD3D12>) -> Outcome {
     match a.set_budget(3, None) {
         Err(AllocationError::Internal(fault)) => {
-            assert_eq!(rt; fault.text, "No such memory type.");
+            assert!(rt; fault.text == "No such memory type.");
             Ok(())
         }
         _ => Err(Fail::from("a budget of no memory type")),
@@ -370,13 +370,13 @@ fn over_budget(rt: &impl Abort, a: &mut Allocator<SimD3D12>) -> Outcome {
     let Ok(()) = a.set_budget(0, Some(268435455)) else {
         return Err(Fail::from("a budget was refused"));
     };
-    assert_eq!(rt; a.budget(0), Some(268435455));
+    assert!(rt; a.budget(0) == Some(268435455));
     let answer = a.create_resource(
         &Discard,
         &asked(&small, &[], IN_STATE, &ResourceType::Placed),
     );
-    assert_eq!(rt; number_of(&answer), 11);
-    assert_eq!(rt; a.device().device().questions(), 0);
+    assert!(rt; number_of(&answer) == 11);
+    assert!(rt; a.device().device().questions() == 0);
     let first = make(a, &asked(&small, &[], IN_STATE, &own))?;
     unmake(a, first)?;
     no_such_type(rt, a)
@@ -387,7 +387,7 @@ fn budgets_bound_pieces_alone(rt: HostRuntime) -> Outcome {
     let mut a = made(rt.alloc(), ResourceHeapTier::Tier2, &[])?;
     let done = over_budget(&rt, &mut a);
     let device = destroyed(a);
-    assert_eq!(&rt; device.held(), 0);
+    assert!(&rt; device.held() == 0);
     done
 }
 
@@ -402,14 +402,14 @@ fn foreign_resources(
     let committed = make(a, &asked(&small, &[], IN_STATE, &own))?;
     match b.free_resource(&Discard, committed) {
         Err((AllocationError::Internal(fault), back)) => {
-            assert_eq!(rt; fault.text, "Resource was already freed.");
+            assert!(rt; fault.text == "Resource was already freed.");
             unmake(a, back)?;
         }
         _ => return Err(Fail::from("a resource of another allocator was given back")),
     }
     match b.free_resource(&Discard, placed) {
         Err((AllocationError::Internal(fault), back)) => {
-            assert_eq!(rt; fault.text, "Memory block must be Some.");
+            assert!(rt; fault.text == "Memory block must be Some.");
             unmake(a, back)
         }
         _ => Err(Fail::from("a resource of another allocator was given back")),
@@ -424,12 +424,12 @@ fn resources_that_are_not_live_come_back(rt: HostRuntime) -> Outcome {
         Ok(mut b) => {
             let done = foreign_resources(&rt, &mut a, &mut b);
             let device = destroyed(b);
-            assert_eq!(&rt; device.held(), 0);
+            assert!(&rt; device.held() == 0);
             done
         }
         Err(fail) => Err(fail),
     };
     let device = destroyed(a);
-    assert_eq!(&rt; device.held(), 0);
+    assert!(&rt; device.held() == 0);
     done
 }

@@ -75,14 +75,14 @@ fn leaks_again(rt: &impl Abort, a: &Allocator<SimD3D12>, account: &mut Account) 
     a.report_memory_leaks(&Discard, Level::Warn);
     match a.leak_texts() {
         Ok(texts) => {
-            assert_eq!(rt; texts.len(), live);
+            assert!(rt; texts.len() == live);
             return Ok(());
         }
         Err(error) => account.count(&error),
     }
     match a.leak_texts() {
         Ok(texts) => {
-            assert_eq!(rt; texts.len(), live);
+            assert!(rt; texts.len() == live);
             Ok(())
         }
         Err(_) => Err(Fail::from("the leaks were refused twice")),
@@ -402,7 +402,7 @@ pub fn run_over(
     let done = calls(rt, &mut a, account, foreign, reports);
     let left = account.placed.len().saturating_add(account.committed.len());
     let device = destroyed(a);
-    assert_eq!(rt; device.held(), left);
+    assert!(rt; device.held() == left);
     match done {
         Ok(()) => Ok(device.refusals()),
         Err(fail) => Err(fail),
@@ -421,14 +421,14 @@ fn run(
     let mut account = Account::new(alloc, CALLS)?;
     let a = made(alloc, ResourceHeapTier::Tier2, script)?;
     let refused = run_over(rt, a, &mut account, &mut foreign, Reports::EachCall)?;
-    assert_eq!(rt; account.refused, 0);
+    assert!(rt; account.refused == 0);
     Ok(refused)
 }
 
 #[test]
 fn a_script_agrees_with_its_account(rt: HostRuntime) -> Outcome {
     let refused = run(&rt, rt.alloc(), &[])?;
-    assert_eq!(&rt; refused, 0);
+    assert!(&rt; refused == 0);
     Ok(())
 }
 

@@ -58,7 +58,7 @@ fn buffer1(width: u64) -> ResourceDesc1 {
 
 /// Looks that a device was asked for nothing.
 fn check_new(rt: &impl Abort, sim: &SimD3D12) {
-    assert_eq!(rt; (sim.held(), sim.questions(), sim.refusals()), (0, 0, 0));
+    assert!(rt; (sim.held(), sim.questions(), sim.refusals()) == (0, 0, 0));
     assert!(rt; sim.last_heap().is_none());
     assert!(rt; sim.last_formats().is_none());
     assert!(rt; sim.last_clear().is_none());
@@ -73,7 +73,7 @@ fn tells_what_it_was_given(rt: HostRuntime) {
         Vec::new(rt.alloc()),
     );
     assert!(rt; sim.resource_heap_tier() == Ok(ResourceHeapTier::Tier1));
-    assert_eq!(rt; sim.device_removed_reason(), -2005270523);
+    assert!(rt; sim.device_removed_reason() == -2005270523);
     check_new(&rt, &sim);
     let none = SimD3D12::new(rt.alloc(), Err(-5), Vec::new(rt.alloc()));
     assert!(rt; none.resource_heap_tier() == Err(-5));
@@ -96,8 +96,8 @@ fn sizes(rt: HostRuntime) {
         (u64::MAX, u64::MAX - 65535),
     ] {
         let info = sim.resource_allocation_info(&buffer(width));
-        assert_eq!(rt; info.size_in_bytes, size);
-        assert_eq!(rt; info.alignment, 65536);
+        assert!(rt; info.size_in_bytes == size);
+        assert!(rt; info.alignment == 65536);
         assert!(rt; sim.resource_allocation_info3(&buffer1(width), &[Format(28)]) == info);
     }
 }
@@ -115,7 +115,7 @@ fn two_refused(rt: &impl Abort, sim: &mut SimD3D12) {
     assert!(rt; placed == Ok(Some(ID3D12Resource(2))));
     assert!(rt; sim.last_clear() == Some(CLEAR));
     assert!(rt; sim.create_heap(&HEAP) == Ok(None));
-    assert_eq!(rt; (sim.held(), sim.questions(), sim.refusals()), (2, 4, 2));
+    assert!(rt; (sim.held(), sim.questions(), sim.refusals()) == (2, 4, 2));
 }
 
 /// Gives back what isn't there, and then the heap, twice, and the resource.
@@ -123,11 +123,11 @@ fn release_all(rt: &impl Abort, sim: &mut SimD3D12) {
     sim.release_heap(ID3D12Heap(2));
     sim.release_resource(ID3D12Resource(1));
     sim.release_resource(ID3D12Resource(9));
-    assert_eq!(rt; sim.held(), 2);
+    assert!(rt; sim.held() == 2);
     sim.release_resource(ID3D12Resource(2));
     sim.release_heap(ID3D12Heap(1));
     sim.release_heap(ID3D12Heap(1));
-    assert_eq!(rt; sim.held(), 0);
+    assert!(rt; sim.held() == 0);
 }
 
 #[test]
@@ -151,7 +151,7 @@ fn a_null_heap(rt: HostRuntime) -> Result<(), Fail> {
     assert!(rt; sim.create_heap(&HEAP) == Ok(Some(ID3D12Heap(1))));
     assert!(rt; sim.create_heap(&HEAP) == Ok(None));
     assert!(rt; sim.create_heap(&HEAP) == Ok(Some(ID3D12Heap(2))));
-    assert_eq!(rt; (sim.held(), sim.questions(), sim.refusals()), (2, 3, 1));
+    assert!(rt; (sim.held(), sim.questions(), sim.refusals()) == (2, 3, 1));
     Ok(())
 }
 
@@ -213,7 +213,7 @@ fn formats_clear_values_and_memory(rt: HostRuntime) {
     assert!(rt; early == Ok(Some(ID3D12Resource(4))));
     assert!(rt; sim.last_formats().is_none());
     assert!(rt; sim.last_heap().is_none());
-    assert_eq!(rt; (sim.held(), sim.questions(), sim.refusals()), (4, 4, 0));
+    assert!(rt; (sim.held(), sim.questions(), sim.refusals()) == (4, 4, 0));
 }
 
 #[test]
@@ -226,9 +226,9 @@ fn made_and_released(rt: HostRuntime) -> Result<(), Fail> {
         (false, 5, 2),
         (true, 7, 2),
     ] {
-        assert_eq!(rt; make_and_release(&mut sim, &HEAP, &buffer(512)), granted);
-        assert_eq!(rt; (sim.questions(), sim.refusals()), (questions, refused));
-        assert_eq!(rt; sim.held(), 0);
+        assert!(rt; make_and_release(&mut sim, &HEAP, &buffer(512)) == granted);
+        assert!(rt; (sim.questions(), sim.refusals()) == (questions, refused));
+        assert!(rt; sim.held() == 0);
     }
     Ok(())
 }

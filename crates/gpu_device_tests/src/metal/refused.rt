@@ -20,12 +20,12 @@ fn a_set_and_a_heap(rt: HostRuntime) -> Result<(), Fail> {
     match set_and_heap(&mut sim) {
         Some(both) => {
             assert!(rt; both == (MTLResidencySet(1), MTLHeap(2)));
-            assert_eq!(rt; (sim.held(), sim.questions(), sim.refusals()), (2, 2, 0));
+            assert!(rt; (sim.held(), sim.questions(), sim.refusals()) == (2, 2, 0));
             Ok(())
         }
         None => {
             let next = (sim.held() as u64).saturating_add(1);
-            assert_eq!(rt; (sim.questions(), sim.refusals()), (next, 1));
+            assert!(rt; (sim.questions(), sim.refusals()) == (next, 1));
             assert!(rt; sim.new_heap(&PRIVATE, 512, "heap") == Some(MTLHeap(next)));
             Err(Fail::new(TOLD))
         }
@@ -98,11 +98,11 @@ fn a_set_has_room_for_ten_thousand_heaps(rt: HostRuntime) -> Result<(), Fail> {
         return Err(Fail::new(TOLD));
     };
     let Ok(set) = sim.new_residency_set("set") else {
-        assert_eq!(rt; (sim.held(), sim.questions(), sim.refusals()), (0, 1, 1));
+        assert!(rt; (sim.held(), sim.questions(), sim.refusals()) == (0, 1, 1));
         return Err(Fail::new(TOLD));
     };
     add_new(&mut sim, set, &mut heaps);
-    assert_eq!(rt; sim.held(), heaps.len() + 1);
+    assert!(rt; sim.held() == heaps.len() + 1);
     check_set(&rt, &sim, set, &heaps, &[]);
     remove_each(&mut sim, set, &heaps);
     check_set(&rt, &sim, set, &[], &[]);
@@ -113,6 +113,6 @@ fn a_set_has_room_for_ten_thousand_heaps(rt: HostRuntime) -> Result<(), Fail> {
     if sim.refusals() == 1 {
         return Err(Fail::new(TOLD));
     }
-    assert_eq!(rt; (heaps.len(), sim.refusals()), (HEAPS, 0));
+    assert!(rt; (heaps.len(), sim.refusals()) == (HEAPS, 0));
     Ok(())
 }

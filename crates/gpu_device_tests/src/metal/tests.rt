@@ -74,7 +74,7 @@ fn release_all(rt: &impl Abort, sim: &mut SimMetal, heap: MTLHeap) {
     sim.release_heap(MTLHeap(1));
     sim.release_heap(heap);
     sim.release_heap(heap);
-    assert_eq!(rt; sim.held(), 1);
+    assert!(rt; sim.held() == 1);
 }
 
 #[test]
@@ -86,7 +86,7 @@ fn heaps_and_sets(rt: HostRuntime) -> Result<(), Fail> {
     ]?;
     let mut sim = SimMetal::new(rt.alloc(), true, refusals);
     let heap = three_refused(&rt, &mut sim)?;
-    assert_eq!(rt; (sim.held(), sim.questions(), sim.refusals()), (2, 5, 3));
+    assert!(rt; (sim.held(), sim.questions(), sim.refusals()) == (2, 5, 3));
     assert!(rt; sim.members(MTLResidencySet(2)).is_none());
     assert!(rt; sim.committed_members(MTLResidencySet(9)).is_none());
     release_all(&rt, &mut sim, heap);
@@ -98,7 +98,7 @@ fn heaps_and_sets(rt: HostRuntime) -> Result<(), Fail> {
 fn without_sets(rt: HostRuntime) {
     let mut sim = SimMetal::new(rt.alloc(), false, Vec::new(rt.alloc()));
     assert!(rt; sim.new_residency_set("set") == Err(-1));
-    assert_eq!(rt; (sim.held(), sim.questions(), sim.refusals()), (0, 1, 1));
+    assert!(rt; (sim.held(), sim.questions(), sim.refusals()) == (0, 1, 1));
 }
 
 /// A set, and a heap that was its member when it was committed; none where the device refuses either.
@@ -114,7 +114,7 @@ fn one_heap_committed(rt: HostRuntime) -> Result<(), Fail> {
     let mut sim = SimMetal::new(rt.alloc(), true, Vec::new(rt.alloc()));
     let (set, heap) = set_and_heap(&mut sim).ok_or("refused")?;
     assert!(rt; (set, heap) == (MTLResidencySet(1), MTLHeap(2)));
-    assert_eq!(rt; sim.members(set).ok_or("members")?.len(), 0);
+    assert!(rt; sim.members(set).ok_or("members")?.len() == 0);
     assert!(rt; sim.committed_members(set).ok_or("committed")? == [heap].as_slice());
     Ok(())
 }

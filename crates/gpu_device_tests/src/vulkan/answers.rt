@@ -24,21 +24,21 @@ fn ask_both(
 
 /// Looks that a device was asked for nothing.
 fn check_new(rt: &impl Abort, sim: &SimVulkan) {
-    assert_eq!(rt; sim.held(), 0);
-    assert_eq!(rt; sim.questions(), 0);
-    assert_eq!(rt; sim.refusals(), 0);
+    assert!(rt; sim.held() == 0);
+    assert!(rt; sim.questions() == 0);
+    assert!(rt; sim.refusals() == 0);
     assert!(rt; sim.last_info().is_none());
 }
 
 #[test]
 fn tells_what_it_was_given(rt: HostRuntime) -> Result<(), Fail> {
     let sim = device(rt.alloc(), u64::MAX, Vec::new(rt.alloc()))?;
-    assert_eq!(rt; sim.heap_count(), 1);
-    assert_eq!(rt; sim.heap(0).size, 1024);
-    assert_eq!(rt; sim.memory_type_count(), 2);
+    assert!(rt; sim.heap_count() == 1);
+    assert!(rt; sim.heap(0).size == 1024);
+    assert!(rt; sim.memory_type_count() == 2);
     assert!(rt; sim.memory_type(0).property_flags == MemoryPropertyFlags::DEVICE_LOCAL);
-    assert_eq!(rt; sim.memory_type(1).property_flags.0, 6);
-    assert_eq!(rt; sim.buffer_image_granularity(), 64);
+    assert!(rt; sim.memory_type(1).property_flags.0 == 6);
+    assert!(rt; sim.buffer_image_granularity() == 64);
     check_new(&rt, &sim);
     Ok(())
 }
@@ -47,8 +47,8 @@ fn tells_what_it_was_given(rt: HostRuntime) -> Result<(), Fail> {
 fn ask_for_two(rt: &impl Abort, sim: &mut SimVulkan) {
     assert!(rt; sim.allocate_memory(&info(4)) == Ok(DeviceMemory(1)));
     assert!(rt; ask_both(sim, 4) == (Ok(DeviceMemory(2)), Some(Ok(true))));
-    assert_eq!(rt; sim.held(), 2);
-    assert_eq!(rt; sim.questions(), 3);
+    assert!(rt; sim.held() == 2);
+    assert!(rt; sim.questions() == 3);
 }
 
 /// Looks which bytes are there and which aren't, and writes some.
@@ -57,12 +57,9 @@ fn look_and_write(rt: &impl Abort, sim: &mut SimVulkan) -> Result<(), Fail> {
     assert!(rt; sim.bytes(DeviceMemory(2), 0, 5).is_none());
     assert!(rt; sim.bytes(DeviceMemory(2), u64::MAX, 2).is_none());
     assert!(rt; sim.bytes(DeviceMemory(0), 0, 0).is_none());
-    assert_eq!(rt; sim.bytes(DeviceMemory(2), 4, 0).ok_or("end")?.len(), 0);
+    assert!(rt; sim.bytes(DeviceMemory(2), 4, 0).ok_or("end")?.len() == 0);
     sim.bytes_mut(DeviceMemory(2), 1, 2).ok_or("range")?.fill(7);
-    assert_eq!(rt;
-        sim.bytes(DeviceMemory(2), 0, 4).ok_or("all")?,
-        [0u8, 7, 7, 0].as_slice()
-    );
+    assert!(rt; sim.bytes(DeviceMemory(2), 0, 4).ok_or("all")? == [0u8, 7, 7, 0].as_slice());
     Ok(())
 }
 
@@ -71,13 +68,10 @@ fn lend_and_let_go(rt: &impl Abort, sim: &mut SimVulkan) -> Result<(), Fail> {
     assert!(rt; sim.bytes_mut(DeviceMemory(1), 0, 0).is_none());
     assert!(rt; sim.bytes_mut(DeviceMemory(2), 0, 5).is_none());
     assert!(rt; sim.bytes_mut(DeviceMemory(2), 0, 4).is_some());
-    assert_eq!(rt; sim.held(), 2);
-    assert_eq!(rt; sim.questions(), 3);
-    assert_eq!(rt; sim.refusals(), 0);
-    assert_eq!(rt;
-        sim.bytes(DeviceMemory(2), 0, 4).ok_or("all")?,
-        [0u8, 7, 7, 0].as_slice()
-    );
+    assert!(rt; sim.held() == 2);
+    assert!(rt; sim.questions() == 3);
+    assert!(rt; sim.refusals() == 0);
+    assert!(rt; sim.bytes(DeviceMemory(2), 0, 4).ok_or("all")? == [0u8, 7, 7, 0].as_slice());
     Ok(())
 }
 
@@ -89,7 +83,7 @@ fn give_back(rt: &impl Abort, sim: &mut SimVulkan) {
     sim.free_memory(DeviceMemory(2));
     sim.free_memory(DeviceMemory(2));
     sim.unmap_memory(DeviceMemory(9));
-    assert_eq!(rt; sim.held(), 1);
+    assert!(rt; sim.held() == 1);
 }
 
 #[test]
@@ -100,8 +94,8 @@ fn numbers_and_bytes(rt: HostRuntime) -> Result<(), Fail> {
     lend_and_let_go(&rt, &mut sim)?;
     give_back(&rt, &mut sim);
     assert!(rt; sim.allocate_memory(&info(0)) == Ok(DeviceMemory(3)));
-    assert_eq!(rt; sim.refusals(), 0);
-    assert_eq!(rt; sim.questions(), 4);
+    assert!(rt; sim.refusals() == 0);
+    assert!(rt; sim.questions() == 4);
     Ok(())
 }
 
@@ -109,7 +103,7 @@ fn numbers_and_bytes(rt: HostRuntime) -> Result<(), Fail> {
 fn refused_by_numbers(rt: &impl Abort, sim: &mut SimVulkan) {
     assert!(rt; ask_both(sim, 1) == (Err(-9), None));
     assert!(rt; ask_both(sim, 2) == (Err(-2), None));
-    assert_eq!(rt; sim.held(), 0);
+    assert!(rt; sim.held() == 0);
     assert!(rt; ask_both(sim, 3) == (Ok(DeviceMemory(1)), Some(Ok(false))));
     assert!(rt; sim.bytes(DeviceMemory(1), 0, 0).is_none());
     assert!(rt; ask_both(sim, 4) == (Ok(DeviceMemory(2)), Some(Err(-3))));
@@ -140,9 +134,9 @@ fn scripted_refusals(rt: HostRuntime) -> Result<(), Fail> {
     let mut sim = device(rt.alloc(), u64::MAX, script)?;
     refused_by_numbers(&rt, &mut sim);
     refused_dedicated(&rt, &mut sim);
-    assert_eq!(rt; sim.refusals(), 5);
-    assert_eq!(rt; sim.questions(), 7);
-    assert_eq!(rt; sim.held(), 2);
+    assert!(rt; sim.refusals() == 5);
+    assert!(rt; sim.questions() == 7);
+    assert!(rt; sim.held() == 2);
     Ok(())
 }
 
@@ -155,8 +149,8 @@ fn sizes_above_the_limits(rt: HostRuntime) -> Result<(), Fail> {
     assert!(rt; ask_both(&mut large, 1 << 63) == (Ok(DeviceMemory(1)), Some(Err(-5))));
     assert!(rt; ask_both(&mut large, u64::MAX) == (Ok(DeviceMemory(2)), Some(Err(-5))));
     assert!(rt; ask_both(&mut large, (1 << 63) - 1) == (Ok(DeviceMemory(3)), Some(Err(-1))));
-    assert_eq!(rt; large.refusals(), 3);
-    assert_eq!(rt; large.held(), 3);
+    assert!(rt; large.refusals() == 3);
+    assert!(rt; large.held() == 3);
     Ok(())
 }
 
@@ -169,22 +163,19 @@ fn check_both(
     match answers {
         (Ok(memory), Some(Ok(mapped))) => {
             assert!(rt; mapped);
-            assert_eq!(rt; memory.0, 1);
-            assert_eq!(rt;
-                sim.bytes(memory, 0, 4).ok_or("bytes")?,
-                [0u8; 4].as_slice()
-            );
-            assert_eq!(rt; sim.refusals(), 0);
+            assert!(rt; memory.0 == 1);
+            assert!(rt; sim.bytes(memory, 0, 4).ok_or("bytes")? == [0u8; 4].as_slice());
+            assert!(rt; sim.refusals() == 0);
         }
         (Ok(memory), Some(Err(code))) => {
-            assert_eq!(rt; code, -1);
+            assert!(rt; code == -1);
             assert!(rt; sim.bytes(memory, 0, 0).is_none());
-            assert_eq!(rt; (sim.held(), sim.questions(), sim.refusals()), (1, 2, 1));
+            assert!(rt; (sim.held(), sim.questions(), sim.refusals()) == (1, 2, 1));
         }
         (Err(code), _) => {
-            assert_eq!(rt; code, -1);
+            assert!(rt; code == -1);
             assert!(rt; sim.last_info() == Some(info(4)));
-            assert_eq!(rt; (sim.held(), sim.questions(), sim.refusals()), (0, 1, 1));
+            assert!(rt; (sim.held(), sim.questions(), sim.refusals()) == (0, 1, 1));
         }
         _ => return Err(Fail::from("no mapping was asked for")),
     }

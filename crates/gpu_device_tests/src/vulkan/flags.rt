@@ -11,28 +11,28 @@ fn values(rt: HostRuntime) {
         (MemoryPropertyFlags::HOST_COHERENT, 0x4),
         (MemoryPropertyFlags::HOST_CACHED, 0x8),
     ] {
-        assert_eq!(rt; flag.bits(), bits);
+        assert!(rt; flag.bits() == bits);
     }
 }
 
 #[test]
 fn sets(rt: HostRuntime) {
     let host = MemoryPropertyFlags::HOST_VISIBLE | MemoryPropertyFlags::HOST_COHERENT;
-    assert_eq!(rt; host.bits(), 6);
+    assert!(rt; host.bits() == 6);
     assert!(rt; host.contains(MemoryPropertyFlags::HOST_COHERENT));
     assert!(rt; !MemoryPropertyFlags::HOST_VISIBLE.contains(host));
     assert!(rt; host.contains(MemoryPropertyFlags::empty()));
-    assert_eq!(rt; (host & MemoryPropertyFlags::HOST_VISIBLE).bits(), 2);
+    assert!(rt; (host & MemoryPropertyFlags::HOST_VISIBLE).bits() == 2);
 }
 
 #[test]
 fn unnamed_bits_stay(rt: HostRuntime) {
     let flags = MemoryPropertyFlags::from_bits_retain(0x11);
-    assert_eq!(rt; flags.bits(), 0x11);
+    assert!(rt; flags.bits() == 0x11);
     assert!(rt; flags.contains(MemoryPropertyFlags::DEVICE_LOCAL));
-    assert_eq!(rt; (flags | MemoryPropertyFlags::HOST_VISIBLE).bits(), 0x13);
+    assert!(rt; (flags | MemoryPropertyFlags::HOST_VISIBLE).bits() == 0x13);
     assert!(rt; MemoryPropertyFlags::from_bits(0x11).is_none());
-    assert_eq!(rt; MemoryPropertyFlags::all().bits(), 0xf);
+    assert!(rt; MemoryPropertyFlags::all().bits() == 0xf);
     assert!(rt;
         MemoryPropertyFlags::from_name("HOST_CACHED") == Some(MemoryPropertyFlags::HOST_CACHED)
     );

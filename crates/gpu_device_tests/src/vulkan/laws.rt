@@ -139,15 +139,15 @@ fn two_memories(rt: HostRuntime) -> Result<(), Fail> {
     assert!(rt; first != second);
     assert!(rt; sim.bytes(first, 2, 3).is_some());
     let read = write_then_read(&mut sim, first, 2, &[1, 2, 3]).ok_or("read")?;
-    assert_eq!(rt; read, [1u8, 2, 3].as_slice());
+    assert!(rt; read == [1u8, 2, 3].as_slice());
     assert!(rt; sim.bytes(second, 0, 8).is_some());
     write_leaves_another(&mut sim, second, first, 0, &[9, 9, 9, 9, 9, 9, 9, 9]);
     assert!(rt; sim.bytes(first, 5, 1).is_some());
     write_leaves_the_rest(&mut sim, first, 5, &[4], 0, 5);
     let all = sim.bytes(first, 0, 8).ok_or("all")?;
-    assert_eq!(rt; all, [0u8, 0, 1, 2, 3, 4, 0, 0].as_slice());
+    assert!(rt; all == [0u8, 0, 1, 2, 3, 4, 0, 0].as_slice());
     let new = new_bytes(&mut sim, &info(3)).ok_or("new")?;
-    assert_eq!(rt; new, [0u8, 0, 0].as_slice());
+    assert!(rt; new == [0u8, 0, 0].as_slice());
     assert!(rt; null_bytes(&sim).is_none());
     Ok(())
 }
@@ -158,12 +158,9 @@ fn refused_mapping(rt: HostRuntime) -> Result<(), Fail> {
     let mut sim = device(rt.alloc(), u64::MAX, script)?;
     assert!(rt; allocate_mapped(&mut sim, &info(8)).is_none());
     assert!(rt; allocate_mapped(&mut sim, &info(9)).is_none());
-    assert_eq!(rt; sim.held(), 0);
-    assert_eq!(rt; sim.refusals(), 2);
-    assert_eq!(rt; sim.memory_type_count(), 2);
-    assert_eq!(rt;
-        type_after_question(&mut sim, &info(1), 1).property_flags.0,
-        6
-    );
+    assert!(rt; sim.held() == 0);
+    assert!(rt; sim.refusals() == 2);
+    assert!(rt; sim.memory_type_count() == 2);
+    assert!(rt; type_after_question(&mut sim, &info(1), 1).property_flags.0 == 6);
     Ok(())
 }

@@ -72,7 +72,7 @@ fn changed(piece: Piece<Handle>, change: Change) -> Piece<Handle> {
 }
 
 fn check_texts(rt: &impl Abort, texts: &[String], want: &[&str]) {
-    assert_eq!(rt; texts.len(), want.len());
+    assert!(rt; texts.len() == want.len());
     for (text, want) in texts.iter().zip(want) {
         check_words(rt, text.as_str(), want);
     }
@@ -91,7 +91,7 @@ impl Script {
 
     /// Looks for what a call leaves that changes nothing.
     fn check_unchanged(&mut self, rt: &impl Abort, before: &AllocatorReport) -> Result<()> {
-        assert_eq!(rt; self.types.capacity(), self.capacity);
+        assert!(rt; self.types.capacity() == self.capacity);
         check_same(rt, before, &self.report()?);
         Ok(())
     }
@@ -138,7 +138,7 @@ impl Script {
             answer = take(rt, &mut self.types, index, request, block);
         }
         let (piece, answer) = answer?;
-        assert_eq!(rt; answer, want);
+        assert!(rt; answer == want);
         check_place(rt, &piece, slot, offset, number);
         assert!(rt; piece.size == request.size && piece.block == block);
         assert!(rt; self.types.is_live(index, &piece));
@@ -163,7 +163,7 @@ impl Script {
         if self.is_refused(rt, &before, &answer)? {
             answer = ask(rt, &mut self.types, index, request);
         }
-        assert_eq!(rt; answer?, want);
+        assert!(rt; answer? == want);
         self.check_unchanged(rt, &before)
     }
 
@@ -230,7 +230,7 @@ impl Script {
             Some(fault) => check_fault(rt, &answer, fault),
             None => {
                 answer?;
-                assert_eq!(rt; self.types.budget(index), budget);
+                assert!(rt; self.types.budget(index) == budget);
             }
         }
         self.check_unchanged(rt, &before)
@@ -244,8 +244,8 @@ impl Script {
         budget: Option<u64>,
         blocks: &[Option<Handle>],
     ) {
-        assert_eq!(rt; self.types.budget(index), budget);
-        assert_eq!(rt; self.types.slots(index), blocks.len());
+        assert!(rt; self.types.budget(index) == budget);
+        assert!(rt; self.types.slots(index) == blocks.len());
         for (slot, block) in blocks.iter().enumerate() {
             assert!(rt; self.types.block(index, slot) == *block);
         }
@@ -262,7 +262,7 @@ impl Script {
 
     /// Looks at the live pieces, and at their texts, which are asked for once more where the host refused memory.
     fn check_leaks(&mut self, rt: &impl Abort, want: &[&str]) -> Result<()> {
-        assert_eq!(rt; self.count_leaks(), want.len());
+        assert!(rt; self.count_leaks() == want.len());
         let mut texts = self.types.leak_texts(self.alloc);
         if is_want_of_memory(&texts) {
             self.refused = self.refused.saturating_add(1);
@@ -278,7 +278,7 @@ impl Script {
             Call::CheckType(index, budget, blocks) => self.check_type(rt, index, budget, blocks),
             Call::Leaks(want) => self.check_leaks(rt, want)?,
             Call::Report(want) => check_report(rt, &self.report()?, want),
-            Call::Count(want) => assert_eq!(rt; self.types.count(), want),
+            Call::Count(want) => assert!(rt; self.types.count() == want),
             Call::Apart => self.types.pieces_are_apart(),
             _ => {}
         }
@@ -301,7 +301,7 @@ impl Script {
             Call::SetBudget(index, budget, fault) => self.set_budget(rt, index, budget, fault)?,
             _ => self.look(rt, call)?,
         }
-        assert_eq!(rt; self.types.capacity(), self.capacity);
+        assert!(rt; self.types.capacity() == self.capacity);
         Ok(())
     }
 }

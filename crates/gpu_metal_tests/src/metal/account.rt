@@ -147,10 +147,10 @@ impl Account {
         for allocation in &self.live {
             live = live.saturating_add(allocation.size());
         }
-        assert_eq!(rt; report.allocations.len(), self.live.len());
-        assert_eq!(rt; report.blocks.len(), self.blocks.len());
-        assert_eq!(rt; report.total_allocated_bytes, live);
-        assert_eq!(rt; report.total_capacity_bytes, self.capacity());
+        assert!(rt; report.allocations.len() == self.live.len());
+        assert!(rt; report.blocks.len() == self.blocks.len());
+        assert!(rt; report.total_allocated_bytes == live);
+        assert!(rt; report.total_capacity_bytes == self.capacity());
     }
 
     /// Looks that the members of the set are the heaps of the blocks, in the order in which they were made.
@@ -158,7 +158,7 @@ impl Account {
         match a.device().members(set) {
             None => assert!(rt; false),
             Some(members) => {
-                assert_eq!(rt; members.len(), self.blocks.len());
+                assert!(rt; members.len() == self.blocks.len());
                 for (member, block) in members.iter().zip(&self.blocks) {
                     assert!(rt; *member == block.heap);
                 }
@@ -173,17 +173,17 @@ impl Account {
 
     /// Looks that the allocator is as the account says.
     pub fn check(&self, rt: &impl Abort, a: &Allocator<SimMetal>) {
-        assert_eq!(rt; a.capacity(), self.capacity());
-        assert_eq!(rt; a.budget(1), self.budget);
+        assert!(rt; a.capacity() == self.capacity());
+        assert!(rt; a.budget(1) == self.budget);
         for allocation in &self.live {
             assert!(rt; a.is_live(allocation));
         }
-        assert_eq!(rt; count_heaps(a), self.blocks.len());
+        assert!(rt; count_heaps(a) == self.blocks.len());
         let mut held = self.blocks.len();
         if let Some(set) = set_of(a) {
             self.check_set(rt, a, set);
             held = held.saturating_add(1);
         }
-        assert_eq!(rt; a.device().held(), held);
+        assert!(rt; a.device().held() == held);
     }
 }

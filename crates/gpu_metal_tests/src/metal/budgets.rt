@@ -5,10 +5,10 @@ use gpu_values::AllocationError;
 
 /// Bounds a memory type, and none that isn't there.
 fn set_one_block(rt: &impl Abort, a: &mut Allocator<SimMetal>) {
-    assert_eq!(rt; a.budget(1), None);
+    assert!(rt; a.budget(1) == None);
     assert!(rt; a.set_budget(1, Some(4 * MB)).is_ok());
     assert!(rt; a.set_budget(3, Some(4 * MB)).is_err());
-    assert_eq!(rt; (a.budget(1), a.budget(3)), (Some(4 * MB), None));
+    assert!(rt; (a.budget(1), a.budget(3)) == (Some(4 * MB), None));
 }
 
 /// Looks that a second block of uploads is refused, and the device not asked for it.
@@ -17,7 +17,7 @@ fn second_block(rt: &impl Abort, a: &mut Allocator<SimMetal>) -> Outcome {
         Err(AllocationError::BudgetExceeded) => {}
         _ => return Err(Fail::from("a block past its budget was given")),
     }
-    assert_eq!(rt; a.device().questions(), 2);
+    assert!(rt; a.device().questions() == 2);
     Ok(())
 }
 
@@ -39,6 +39,6 @@ fn a_budget_of_one_block(rt: HostRuntime) -> Outcome {
     let mut a = made_with(rt.alloc(), AllocationSizes::new(4 * MB, 4 * MB), true, &[])?;
     let done = one_block(&rt, &mut a);
     let device = a.destroy();
-    assert_eq!(&rt; device.held(), 1);
+    assert!(&rt; device.held() == 1);
     done
 }

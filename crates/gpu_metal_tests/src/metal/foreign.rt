@@ -119,7 +119,7 @@ fn offer(
     let was = (allocation.heap(), allocation.offset(), allocation.size());
     match a.free(&Discard, allocation) {
         Err((AllocationError::Internal(fault), back)) => {
-            assert_eq!(rt; fault.text, row.freed);
+            assert!(rt; fault.text == row.freed);
             assert!(rt; (back.heap(), back.offset(), back.size()) == was);
             assert!(rt; is_named(&back, "piece"));
             Ok(())
@@ -165,7 +165,7 @@ fn beside_two(
 ) -> Outcome {
     let x = take(a, &piece(512, GPU))?;
     let y = take(a, &piece(256, GPU))?;
-    assert_eq!(rt; (x.offset(), y.offset()), (0, 512));
+    assert!(rt; (x.offset(), y.offset()) == (0, 512));
     offer_and_look(rt, a, allocation, row)?;
     assert!(rt; a.is_live(&x) && a.is_live(&y));
     give(a, x)?;
@@ -180,7 +180,7 @@ fn what_differs_in_one_thing_comes_back(rt: HostRuntime) -> Outcome {
         let done = beside_two(&rt, &mut a, allocation, row);
         let device = a.destroy();
         done?;
-        assert_eq!(&rt; device.held(), 0);
+        assert!(&rt; device.held() == 0);
     }
     Ok(())
 }

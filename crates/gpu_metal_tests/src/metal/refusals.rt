@@ -8,15 +8,15 @@ fn refused_set(rt: &impl Abort, alloc: Global, device: SimMetal) -> Outcome {
     match Allocator::new(alloc, described(device, AllocationSizes::default(), true)) {
         Ok(a) => {
             let device = a.destroy();
-            assert_eq!(rt; device.held(), 0);
+            assert!(rt; device.held() == 0);
             Err(Fail::from("an allocator without its residency set"))
         }
         Err((error, device)) => {
             let message = error.to_string(alloc)?;
             let want =
                 "Internal error: Failed to create MTLResidencySet.  Unsupported MacOS/iOS version?";
-            assert_eq!(rt; message.as_str(), want);
-            assert_eq!(rt; (device.held(), device.questions()), (0, 1));
+            assert!(rt; message.as_str() == want);
+            assert!(rt; (device.held(), device.questions()) == (0, 1));
             Ok(())
         }
     }
@@ -41,10 +41,10 @@ fn refused_heap(rt: &impl Abort, alloc: Global, a: &mut Allocator<SimMetal>) -> 
         Ok(_) => return Err(Fail::from("a refused heap was given")),
         Err(error) => {
             let message = error.to_string(alloc)?;
-            assert_eq!(rt; message.as_str(), "Internal error: No MTLHeap was returned");
+            assert!(rt; message.as_str() == "Internal error: No MTLHeap was returned");
         }
     }
-    assert_eq!(rt; a.capacity(), 0);
+    assert!(rt; a.capacity() == 0);
     check_live(rt, a, &[]);
     if let Some(set) = set_of(a) {
         check_heaps(rt, a.device().members(set), &[]);
@@ -60,7 +60,7 @@ fn refused_heaps(rt: HostRuntime) -> Outcome {
         let mut a = made(rt.alloc(), residency, &[(number, Refusal::Null)])?;
         let done = refused_heap(&rt, rt.alloc(), &mut a);
         let device = a.destroy();
-        assert_eq!(&rt; device.held(), if residency { 1 } else { 0 });
+        assert!(&rt; device.held() == (if residency { 1 } else { 0 }));
         done?;
     }
     Ok(())
@@ -86,7 +86,7 @@ fn invalid_descriptions(rt: HostRuntime) -> Outcome {
     let mut a = made(rt.alloc(), false, &[])?;
     let done = invalid(&mut a);
     let device = a.destroy();
-    assert_eq!(&rt; device.questions(), 0);
+    assert!(&rt; device.questions() == 0);
     done
 }
 
@@ -106,12 +106,12 @@ fn another_allocators_piece(rt: HostRuntime) -> Outcome {
         Ok(mut b) => {
             let done = foreign(&mut a, &mut b);
             let device = b.destroy();
-            assert_eq!(&rt; device.held(), 0);
+            assert!(&rt; device.held() == 0);
             done
         }
         Err(fail) => Err(fail),
     };
     let device = a.destroy();
-    assert_eq!(&rt; device.held(), 0);
+    assert!(&rt; device.held() == 0);
     done
 }

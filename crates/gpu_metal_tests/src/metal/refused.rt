@@ -29,7 +29,7 @@ fn take_again(
         Ok(allocation) => Ok(allocation),
         Err(error) => {
             assert!(rt; is_want_of_memory(&error));
-            assert_eq!(rt; (a.capacity(), a.device().held(), count_heaps(a)), before);
+            assert!(rt; (a.capacity(), a.device().held(), count_heaps(a)) == before);
             *refused = refused.saturating_add(1);
             take(a, desc)
         }
@@ -49,7 +49,7 @@ fn report_again(rt: &impl Abort, a: &Allocator<SimMetal>, refused: &mut u64) -> 
             }
         }
     };
-    assert_eq!(rt; report.total_capacity_bytes, a.capacity());
+    assert!(rt; report.total_capacity_bytes == a.capacity());
     Ok(())
 }
 
@@ -62,7 +62,7 @@ fn three_pieces(
     let x = take_again(rt, a, &piece(512, MemoryLocation::GpuToCpu), refused)?;
     let y = take_again(rt, a, &piece(5 * MB, MemoryLocation::Unknown), refused)?;
     let z = take_again(rt, a, &piece(100, MemoryLocation::GpuToCpu), refused)?;
-    assert_eq!(rt; (x.offset(), y.offset(), z.offset()), (0, 0, 512));
+    assert!(rt; (x.offset(), y.offset(), z.offset()) == (0, 0, 512));
     Ok([x, y, z])
 }
 
@@ -73,7 +73,7 @@ fn calls(rt: &impl Abort, a: &mut Allocator<SimMetal>, refused: &mut u64) -> Out
     assert!(rt; a.set_budget(0, Some(6 * MB)).is_ok());
     give(a, x)?;
     give(a, y)?;
-    assert_eq!(rt; a.capacity(), 4 * MB);
+    assert!(rt; a.capacity() == 4 * MB);
     report_again(rt, a, refused)?;
     give(a, z)
 }
@@ -94,7 +94,7 @@ fn run(rt: &impl Abort, alloc: Global, residency: bool) -> Outcome {
         Ok(a) => a,
         Err((error, device)) => {
             assert!(rt; is_want_of_memory(&error));
-            assert_eq!(rt; device.held(), 0);
+            assert!(rt; device.held() == 0);
             return Err(Fail::new(TOLD));
         }
     };
@@ -103,7 +103,7 @@ fn run(rt: &impl Abort, alloc: Global, residency: bool) -> Outcome {
     let set = set_of(&a);
     let device = a.destroy();
     done?;
-    assert_eq!(rt; device.held(), if residency { 1 } else { 0 });
+    assert!(rt; device.held() == (if residency { 1 } else { 0 }));
     if let Some(set) = set {
         check_heaps(rt, device.members(set), &[]);
     }
@@ -131,14 +131,14 @@ fn random_calls(rt: &impl Abort, alloc: Global, residency: bool, seed: u64) -> O
         Ok(a) => a,
         Err((error, device)) => {
             assert!(rt; is_want_of_memory(&error));
-            assert_eq!(rt; device.held(), 0);
+            assert!(rt; device.held() == 0);
             return Err(Fail::new(TOLD));
         }
     };
     let done = scripts::calls(rt, &mut a, &mut account, seed);
     let device = a.destroy();
     done?;
-    assert_eq!(rt; device.held(), if residency { 1 } else { 0 });
+    assert!(rt; device.held() == (if residency { 1 } else { 0 }));
     ends(account.refused)
 }
 

@@ -12,7 +12,7 @@ fn large_buffer(
     let desc = buffer(a, "large", 314_572_800, MemoryLocation::GpuOnly);
     let one = take(a, &desc)?;
     assert!(rt; one.heap() == large);
-    assert_eq!(rt; (one.offset(), one.size()), (0, 314_572_800));
+    assert!(rt; (one.offset(), one.size()) == (0, 314_572_800));
     assert!(rt; one.name() == Some("large"));
     assert!(rt; a.device().last_heap() == Some((PRIVATE, 314_572_800)));
     Ok(one)
@@ -27,7 +27,7 @@ fn small_buffer(
     let desc = buffer(a, "small", 512, MemoryLocation::CpuToGpu);
     let other = take(a, &desc)?;
     assert!(rt; other.heap() == small);
-    assert_eq!(rt; (other.offset(), other.size()), (0, 512));
+    assert!(rt; (other.offset(), other.size()) == (0, 512));
     assert!(rt; a.device().last_heap() == Some((UPLOADS, 67_108_864)));
     Ok(other)
 }
@@ -62,7 +62,7 @@ fn check_small(rt: &impl Abort, a: &Allocator<SimMetal>, large: MTLHeap, small: 
         check_heaps(rt, a.device().members(set), &[small]);
         check_heaps(rt, a.device().committed_members(set), &[large, small]);
     }
-    assert_eq!(rt; a.capacity(), 67_108_864);
+    assert!(rt; a.capacity() == 67_108_864);
 }
 
 /// A large buffer for the GPU and a small one for uploads: each has a block, and both heaps are listed in order.
@@ -88,7 +88,7 @@ fn two_buffers_with_a_residency_set(rt: HostRuntime) -> Outcome {
     let set = set_of(&a);
     let device = a.destroy();
     assert!(rt; set == Some(MTLResidencySet(1)));
-    assert_eq!(&rt; (device.held(), device.questions()), (1, 3));
+    assert!(&rt; (device.held(), device.questions()) == (1, 3));
     check_heaps(&rt, device.members(MTLResidencySet(1)), &[]);
     check_heaps(
         &rt,
@@ -106,7 +106,7 @@ fn two_buffers_without_a_set(rt: &impl Abort, alloc: Global, device: SimMetal) -
     a.commit_residency_set();
     let device = a.destroy();
     assert!(rt; set.is_none());
-    assert_eq!(rt; (device.held(), device.questions()), (0, 2));
+    assert!(rt; (device.held(), device.questions()) == (0, 2));
     done
 }
 
@@ -127,11 +127,8 @@ fn check_report(rt: &impl Abort, a: &Allocator<SimMetal>, size: u64) -> Outcome 
     let Ok(report) = a.generate_report() else {
         return Err(Fail::from("a report was refused"));
     };
-    assert_eq!(rt;
-        (report.total_allocated_bytes, report.total_capacity_bytes),
-        (512, size)
-    );
-    assert_eq!(rt; (report.allocations.len(), report.blocks.len()), (1, 1));
+    assert!(rt; (report.total_allocated_bytes, report.total_capacity_bytes) == (512, size));
+    assert!(rt; (report.allocations.len(), report.blocks.len()) == (1, 1));
     Ok(())
 }
 
@@ -146,7 +143,7 @@ fn buffer_at(
 ) -> Outcome {
     let desc = buffer(a, "buffer", 512, location);
     let allocation = take(a, &desc)?;
-    assert_eq!(rt; (allocation.offset(), allocation.size()), (0, 512));
+    assert!(rt; (allocation.offset(), allocation.size()) == (0, 512));
     assert!(rt; allocation.heap() == MTLHeap(2));
     assert!(rt; a.device().last_heap() == Some(want));
     assert!(rt; first_number(a, index) == Some(2));
@@ -206,7 +203,7 @@ fn check_texture(
     match AllocationCreateDesc::texture(device, "texture", &texture(storage_mode)) {
         Ok(desc) => {
             assert!(rt; desc.name == "texture");
-            assert_eq!(rt; (desc.size, desc.alignment), (512, 256));
+            assert!(rt; (desc.size, desc.alignment) == (512, 256));
             assert!(rt; desc.location == location);
             Ok(())
         }
@@ -230,10 +227,7 @@ fn textures(rt: HostRuntime) -> Outcome {
         Ok(_) => Err(Fail::from("a storage mode without a name was taken")),
         Err(error) => {
             let message = error.to_string(rt.alloc())?;
-            assert_eq!(&rt;
-                message.as_str(),
-                "Internal error: Unknown storage mode (code 7)"
-            );
+            assert!(&rt; message.as_str() == "Internal error: Unknown storage mode (code 7)");
             Ok(())
         }
     }
@@ -251,7 +245,7 @@ fn check_structure(
         device, "rays", bytes, location,
     );
     assert!(rt; desc.name == "rays");
-    assert_eq!(rt; (desc.size, desc.alignment), (size, 256));
+    assert!(rt; (desc.size, desc.alignment) == (size, 256));
     assert!(rt; desc.location == location);
 }
 

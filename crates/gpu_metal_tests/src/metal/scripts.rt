@@ -67,7 +67,7 @@ fn ask(
         Err(AllocationError::BudgetExceeded) => {
             assert!(rt; desc.location == MemoryLocation::CpuToGpu);
             assert!(rt; account.exceeds(desc.size.max(SHARED)));
-            assert_eq!(rt; a.device().questions(), asked);
+            assert!(rt; a.device().questions() == asked);
         }
         Err(_) => return Err(Fail::from("a piece was refused for another cause")),
     }
@@ -164,9 +164,9 @@ pub fn calls(
 /// Looks that a device has nothing left but a residency set, where there was one, without members.
 fn check_left(rt: &impl Abort, device: &SimMetal, set: Option<MTLResidencySet>) {
     match set {
-        None => assert_eq!(rt; device.held(), 0),
+        None => assert!(rt; device.held() == 0),
         Some(set) => {
-            assert_eq!(rt; device.held(), 1);
+            assert!(rt; device.held() == 1);
             check_heaps(rt, device.members(set), &[]);
         }
     }
@@ -187,7 +187,7 @@ fn script(
         Ok(a) => a,
         Err((error, device)) => {
             assert!(rt; matches!(error, AllocationError::Internal(_)));
-            assert_eq!(rt; device.held(), 0);
+            assert!(rt; device.held() == 0);
             return Ok(true);
         }
     };
@@ -196,7 +196,7 @@ fn script(
     let device = a.destroy();
     done?;
     check_left(rt, &device, set);
-    assert_eq!(rt; account.refused, device.refusals());
+    assert!(rt; account.refused == device.refusals());
     Ok(device.refusals() > 0)
 }
 

@@ -39,8 +39,8 @@ fn check_row(
 ) {
     match report.allocations.get(i) {
         Some(row) => {
-            assert_eq!(rt; row.name.as_str(), name);
-            assert_eq!(rt; (row.offset, row.size), (offset, size));
+            assert!(rt; row.name.as_str() == name);
+            assert!(rt; (row.offset, row.size) == (offset, size));
         }
         None => panic!(rt; "row {i} of the report isn't there"),
     }
@@ -98,7 +98,7 @@ fn is_given(rt: &impl Abort, reply: &Reply, want: (u64, u64, u64), refused: &mut
             false
         }
         _ => {
-            assert_eq!(rt; given_at(reply), Some(want));
+            assert!(rt; given_at(reply) == Some(want));
             true
         }
     }
@@ -177,24 +177,24 @@ fn check_report(rt: &impl Abort, report: &AllocatorReport, standing: &Standing) 
     let name = if standing.named { "b" } else { "second" };
     match (standing.first, standing.second) {
         (true, true) => {
-            assert_eq!(rt; report.allocations.len(), 2);
+            assert!(rt; report.allocations.len() == 2);
             check_row(rt, report, 0, "first", 0, 100);
             check_row(rt, report, 1, name, 256, 64);
-            assert_eq!(rt; report.total_allocated_bytes, 320);
+            assert!(rt; report.total_allocated_bytes == 320);
         }
         (true, false) => {
-            assert_eq!(rt; report.allocations.len(), 1);
+            assert!(rt; report.allocations.len() == 1);
             check_row(rt, report, 0, "first", 0, 100);
-            assert_eq!(rt; report.total_allocated_bytes, 100);
+            assert!(rt; report.total_allocated_bytes == 100);
         }
         (false, true) => {
-            assert_eq!(rt; report.allocations.len(), 1);
+            assert!(rt; report.allocations.len() == 1);
             check_row(rt, report, 0, name, 0, 64);
-            assert_eq!(rt; report.total_allocated_bytes, 64);
+            assert!(rt; report.total_allocated_bytes == 64);
         }
         (false, false) => panic!(rt; "two requests were refused"),
     }
-    assert_eq!(rt; report.total_capacity_bytes, 4 * MB);
+    assert!(rt; report.total_capacity_bytes == 4 * MB);
 }
 
 fn check_leaks(rt: &impl Abort, texts: &[String], standing: &Standing) {
@@ -203,7 +203,7 @@ fn check_leaks(rt: &impl Abort, texts: &[String], standing: &Standing) {
     } else {
         1
     };
-    assert_eq!(rt; texts.len(), live);
+    assert!(rt; texts.len() == live);
 }
 
 /// What is told of all pieces; then one piece and the null allocation go, and a large piece comes.
@@ -263,7 +263,7 @@ fn served(
     refused: &mut u64,
 ) -> Outcome {
     let replies = run_again(s, commands, refused)?;
-    assert_eq!(rt; replies.len(), 16);
+    assert!(rt; replies.len() == 16);
     let standing = check_pieces(rt, &replies[..9], refused)?;
     check_all(rt, &replies[9..], &standing, refused)
 }
@@ -277,7 +277,7 @@ fn begin(rt: &impl Abort, alloc: Global) -> Option<Session<SimVulkan>> {
         Ok(a) => Some(Session::new(alloc, a)),
         Err((error, device)) => {
             assert!(rt; is_want_of_memory(&error));
-            assert_eq!(rt; device.held(), 0);
+            assert!(rt; device.held() == 0);
             None
         }
     }
@@ -295,6 +295,6 @@ fn a_session_loses_nothing_where_memory_is_refused(rt: HostRuntime) -> Outcome {
     let done = served(&rt, &mut s, &commands, &mut refused);
     let device = s.destroy(&Discard);
     done?;
-    assert_eq!(&rt; device.held(), 0);
+    assert!(&rt; device.held() == 0);
     ends(refused)
 }

@@ -3,11 +3,11 @@
 ghost use Rattle.std.specs.Prelude.{Some, map};
 ghost use Rattle.std.specs.List.{flat_map};
 ghost use Rattle.std.specs.Fmt.{DisplaysOnOk};
-ghost use Rattle.gpu_core.specs.Report.{row_of};
+ghost use Rattle.gpu_values.specs.Report.{row_of};
 ghost use Rattle.gpu_trace_lines.specs.BlockReply.{piece_line, report_text, reply_text};
 
 use gpu_commands::block::{Reply, Report};
-use gpu_core::AllocationReport;
+use gpu_values::AllocationReport;
 use std::fmt;
 
 fn write_piece<W: fmt::Write>(piece: &AllocationReport, f: &mut fmt::Formatter<W>) -> fmt::Result

@@ -3,7 +3,7 @@
 ghost use Rattle.std.specs.Prelude.{◌≡◌, ◌<◌, Some, [], ◌∷◌, map, string_bytes};
 ghost use Rattle.std.specs.List.{flat_map};
 ghost use Rattle.std.specs.Fmt.{DisplaysOnOk};
-ghost use Rattle.gpu_core.specs.Report.{row_of};
+ghost use Rattle.gpu_values.specs.Report.{row_of};
 ghost use Rattle.gpu_trace_lines.specs.BlockReply.{piece_line};
 ghost use Rattle.gpu_trace_lines.specs.Hex.{hex, hex_byte, hex_digit};
 ghost use Rattle.gpu_trace_lines.specs.DeviceReply.{bool_text, given_text, block_line, leak_line, leaks_text, report_text, served_text};
@@ -11,7 +11,7 @@ ghost use Rattle.gpu_trace_lines.specs.DeviceReply.{bool_text, given_text, block
 use crate::block::reply::write_pieces;
 use gpu_commands::vulkan::{Given, Reply as Told};
 use gpu_commands::{ErrorNumber, number_of};
-use gpu_core::{AllocatorReport, MemoryBlockReport};
+use gpu_values::{AllocatorReport, MemoryBlockReport};
 use std::fmt;
 
 /// The answer to a line of a device trace.

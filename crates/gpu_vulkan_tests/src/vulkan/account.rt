@@ -205,26 +205,26 @@ impl Account {
 
     /// Looks that the allocator is as the account says, by calls that take no memory.
     pub fn check(&self, rt: &impl Abort, a: &Allocator<SimVulkan>, log: &Counting) {
-        assert_eq!(rt; a.capacity(), self.capacity(None));
-        assert_eq!(rt; a.device().held(), self.blocks.len());
-        assert_eq!(rt; log.counts().0, self.lines);
+        assert!(rt; a.capacity() == self.capacity(None));
+        assert!(rt; a.device().held() == self.blocks.len());
+        assert!(rt; log.counts().0 == self.lines);
         if a.device().refusals() == 0 {
-            assert_eq!(rt; a.device().questions(), self.questions);
+            assert!(rt; a.device().questions() == self.questions);
         }
         for live in &self.live {
             check_live(rt, a, live);
         }
         for (memory_type, budget) in self.budgets.iter().enumerate() {
-            assert_eq!(rt; a.budget(memory_type), *budget);
+            assert!(rt; a.budget(memory_type) == *budget);
         }
     }
 
     /// Looks that a report tells what the account says.
     pub fn check_report(&self, rt: &impl Abort, report: &AllocatorReport) {
-        assert_eq!(rt; report.allocations.len(), self.live.len());
-        assert_eq!(rt; report.blocks.len(), self.blocks.len());
-        assert_eq!(rt; report.total_allocated_bytes, self.bytes());
-        assert_eq!(rt; report.total_capacity_bytes, self.capacity(None));
+        assert!(rt; report.allocations.len() == self.live.len());
+        assert!(rt; report.blocks.len() == self.blocks.len());
+        assert!(rt; report.total_allocated_bytes == self.bytes());
+        assert!(rt; report.total_capacity_bytes == self.capacity(None));
     }
 }
 
@@ -255,8 +255,8 @@ fn check_live(rt: &impl Abort, a: &Allocator<SimVulkan>, live: &Live) {
     match a.mapped_slice(&live.allocation) {
         None => assert!(rt; !live.allocation.is_mapped()),
         Some(bytes) => {
-            assert_eq!(rt; bytes.first(), Some(&live.tag));
-            assert_eq!(rt; bytes.last(), Some(&live.tag));
+            assert!(rt; bytes.first() == Some(&live.tag));
+            assert!(rt; bytes.last() == Some(&live.tag));
         }
     }
 }

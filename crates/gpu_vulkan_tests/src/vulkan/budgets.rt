@@ -38,9 +38,9 @@ fn two_blocks(
     rt: &impl Abort,
     a: &mut Allocator<SimVulkan>,
 ) -> std::result::Result<(Allocation, Allocation), Fail> {
-    assert_eq!(rt; a.budget(0), None);
+    assert!(rt; a.budget(0) == None);
     set(a, 0, Some(2 * BLOCK))?;
-    assert_eq!(rt; a.budget(0), Some(2 * BLOCK));
+    assert!(rt; a.budget(0) == Some(2 * BLOCK));
     let whole = take_at(rt, a, &download(BLOCK), (0, 0, Some(1)))?;
     let part = take_at(rt, a, &download(3 * MB), (1, 0, Some(2)))?;
     Ok((whole, part))
@@ -52,9 +52,9 @@ fn rest_of_two(
     a: &mut Allocator<SimVulkan>,
 ) -> std::result::Result<Allocation, Fail> {
     let asked = a.device().questions();
-    assert_eq!(rt; error_of(a.allocate(&Discard, &download(3 * MB))), 11);
-    assert_eq!(rt; a.device().questions(), asked);
-    assert_eq!(rt; a.capacity(), 2 * BLOCK);
+    assert!(rt; error_of(a.allocate(&Discard, &download(3 * MB))) == 11);
+    assert!(rt; a.device().questions() == asked);
+    assert!(rt; a.capacity() == 2 * BLOCK);
     take_at(rt, a, &download(MB), (1, 3 * MB, Some(1)))
 }
 
@@ -65,7 +65,7 @@ fn take_third(
 ) -> std::result::Result<Allocation, Fail> {
     set(a, 0, None)?;
     let third = take_at(rt, a, &download(3 * MB), (2, 0, Some(2)))?;
-    assert_eq!(rt; a.capacity(), 3 * BLOCK);
+    assert!(rt; a.capacity() == 3 * BLOCK);
     Ok(third)
 }
 
@@ -73,9 +73,9 @@ fn take_third(
 fn third_block(rt: &impl Abort, a: &mut Allocator<SimVulkan>) -> Outcome {
     let third = take_third(rt, a)?;
     set(a, 0, Some(0))?;
-    assert_eq!(rt; a.capacity(), 3 * BLOCK);
+    assert!(rt; a.capacity() == 3 * BLOCK);
     give(a, third)?;
-    assert_eq!(rt; a.capacity(), 2 * BLOCK);
+    assert!(rt; a.capacity() == 2 * BLOCK);
     Ok(())
 }
 
@@ -94,7 +94,7 @@ fn a_budget_bounds_blocks_and_not_pieces(rt: HostRuntime) -> Outcome {
     let mut a = made(rt.alloc(), &properties, AllocationSizes::new(BLOCK, BLOCK))?;
     let done = blocks_within(&rt, &mut a);
     let device = a.destroy(&Discard);
-    assert_eq!(&rt; device.held(), 0);
+    assert!(&rt; device.held() == 0);
     done
 }
 
@@ -102,8 +102,8 @@ fn a_budget_bounds_blocks_and_not_pieces(rt: HostRuntime) -> Outcome {
 fn check_not_bounded(rt: &impl Abort, a: &mut Allocator<SimVulkan>) -> Outcome {
     match a.set_budget(1, Some(0)) {
         Err(AllocationError::Internal(fault)) => {
-            assert_eq!(rt; fault.text, "No such memory type.");
-            assert_eq!(rt; fault.code, None);
+            assert!(rt; fault.text == "No such memory type.");
+            assert!(rt; fault.code == None);
             Ok(())
         }
         _ => Err(Fail::from("there is one memory type")),
@@ -113,8 +113,8 @@ fn check_not_bounded(rt: &impl Abort, a: &mut Allocator<SimVulkan>) -> Outcome {
 fn no_such_type(rt: &impl Abort, a: &mut Allocator<SimVulkan>) -> Outcome {
     set(a, 0, Some(7))?;
     check_not_bounded(rt, a)?;
-    assert_eq!(rt; a.budget(0), Some(7));
-    assert_eq!(rt; a.budget(1), None);
+    assert!(rt; a.budget(0) == Some(7));
+    assert!(rt; a.budget(1) == None);
     Ok(())
 }
 
@@ -147,8 +147,8 @@ fn upload_beside(
 
 #[test]
 fn an_upload_past_a_budget_asks_the_plainer_type(rt: HostRuntime) -> Outcome {
-    assert_eq!(&rt; upload_beside(rt.alloc(), &[(6, 0), (7, 0)], 1)?, (0, 0));
-    assert_eq!(&rt; upload_beside(rt.alloc(), &[(7, 0), (6, 0)], 0)?, (11, 0));
+    assert!(&rt; upload_beside(rt.alloc(), &[(6, 0), (7, 0)], 1)? == (0, 0));
+    assert!(&rt; upload_beside(rt.alloc(), &[(7, 0), (6, 0)], 0)? == (11, 0));
     Ok(())
 }
 
@@ -160,7 +160,7 @@ fn check_under_none(
     want: u64,
 ) -> Outcome {
     set(a, 0, Some(0))?;
-    assert_eq!(rt; error_of(a.allocate(&Discard, desc)), want);
+    assert!(rt; error_of(a.allocate(&Discard, desc)) == want);
     Ok(())
 }
 
@@ -170,7 +170,7 @@ fn earlier_causes(rt: &impl Abort, a: &mut Allocator<SimVulkan>) -> Outcome {
     set(a, 0, None)?;
     let taken = take(a, &half)?;
     check_under_none(rt, a, &half, 1)?;
-    assert_eq!(rt; a.device().questions(), 1);
+    assert!(rt; a.device().questions() == 1);
     give(a, taken)
 }
 
@@ -247,7 +247,7 @@ fn check_refused(
 ) {
     if matches!(error, AllocationError::BudgetExceeded) {
         assert!(rt; !account.has_budget());
-        assert_eq!(rt; (a.device().questions(), a.device().refusals()), before);
+        assert!(rt; (a.device().questions(), a.device().refusals()) == before);
     } else {
         assert!(rt; account.has_budget() && a.device().refusals() > before.1);
         account.refused = account.refused.saturating_add(1);
@@ -329,8 +329,8 @@ fn refused_at(
     let done = script(rt, &mut a, &mut account);
     let device = a.destroy(&Discard);
     done?;
-    assert_eq!(rt; device.held(), 0);
-    assert_eq!(rt; device.refusals(), account.refused);
+    assert!(rt; device.held() == 0);
+    assert!(rt; device.refusals() == account.refused);
     Ok(account.refused)
 }
 
@@ -339,7 +339,7 @@ fn budgets_hold_where_a_question_is_refused(rt: HostRuntime) -> Outcome {
     for question in 1..100u64 {
         let by_code = refused_at(&rt, rt.alloc(), &[(question, Refusal::Code(-4))])?;
         let by_null = refused_at(&rt, rt.alloc(), &[(question, Refusal::Null)])?;
-        assert_eq!(&rt; by_code, by_null);
+        assert!(&rt; by_code == by_null);
         if by_code == 0 {
             assert!(&rt; question > 20);
             return Ok(());

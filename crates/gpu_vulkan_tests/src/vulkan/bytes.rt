@@ -62,7 +62,7 @@ fn a_reused_place_begins_with_its_old_bytes(rt: HostRuntime) -> Outcome {
     let mut a = made(rt.alloc(), &properties, AllocationSizes::default())?;
     let done = reuse(&rt, &mut a);
     let device = a.destroy(&Discard);
-    assert_eq!(&rt; device.held(), 0);
+    assert!(&rt; device.held() == 0);
     done
 }
 
@@ -70,8 +70,8 @@ fn slab_of_four(rt: &impl Abort, a: &mut Allocator<SimVulkan>) -> Outcome {
     let x = take(a, &managed(4, 4, MemoryLocation::CpuToGpu))?;
     match a.try_as_mapped_slab(&x) {
         Some(mut slab) => {
-            assert_eq!(rt; slab.size(), 4);
-            assert_eq!(rt; slab.as_slice(), [0u8, 0, 0, 0].as_slice());
+            assert!(rt; slab.size() == 4);
+            assert!(rt; slab.as_slice() == [0u8, 0, 0, 0].as_slice());
             slab.as_mut_slice().fill(7);
         }
         None => return Err(Fail::from("nothing is lent")),
@@ -128,7 +128,7 @@ fn ask_for_bytes(
     }
     assert!(rt; a.mapped_slice_mut(live).is_some());
     match a.try_as_mapped_slab(live) {
-        Some(mut slab) => assert_eq!(rt; &*slab.as_mut_slice(), [1u8, 2, 3, 4].as_slice()),
+        Some(mut slab) => assert!(rt; &*slab.as_mut_slice() == [1u8, 2, 3, 4].as_slice()),
         None => return Err(Fail::from("nothing is lent")),
     }
     Ok(())
@@ -144,10 +144,7 @@ fn lend(
     let report = reported(a)?;
     let before = (a.capacity(), a.device().held(), a.device().questions());
     ask_for_bytes(rt, a, live, others)?;
-    assert_eq!(rt;
-        (a.capacity(), a.device().held(), a.device().questions()),
-        before
-    );
+    assert!(rt; (a.capacity(), a.device().held(), a.device().questions()) == before);
     check_same(rt, &report, &reported(a)?);
     Ok(())
 }
@@ -181,6 +178,6 @@ fn lending_changes_nothing_by_itself(rt: HostRuntime) -> Outcome {
     let mut a = made(rt.alloc(), &properties, sizes)?;
     let done = lend_and_look(&rt, &mut a, &strange);
     let device = a.destroy(&Discard);
-    assert_eq!(&rt; device.held(), 0);
+    assert!(&rt; device.held() == 0);
     done
 }

@@ -177,7 +177,7 @@ fn check_not_named(
 ) -> Outcome {
     match a.rename_allocation(allocation, "ours") {
         Err(AllocationError::Internal(fault)) => {
-            assert_eq!(rt; fault.text, text);
+            assert!(rt; fault.text == text);
             Ok(())
         }
         _ => Err(Fail::from("a foreign allocation was named")),
@@ -196,7 +196,7 @@ fn offer(
     check_not_named(rt, a, &mut allocation, row.named)?;
     match a.free(&Discard, allocation) {
         Err((AllocationError::Internal(fault), back)) => {
-            assert_eq!(rt; fault.text, row.freed);
+            assert!(rt; fault.text == row.freed);
             assert!(rt; identity(&back) == was);
             Ok(())
         }
@@ -227,10 +227,7 @@ fn offer_and_look(
     let report = reported(a)?;
     let before = (a.capacity(), a.device().held(), a.device().questions());
     offer(rt, a, allocation, row)?;
-    assert_eq!(rt;
-        (a.capacity(), a.device().held(), a.device().questions()),
-        before
-    );
+    assert!(rt; (a.capacity(), a.device().held(), a.device().questions()) == before);
     check_same(rt, &report, &reported(a)?);
     Ok(())
 }
@@ -265,7 +262,7 @@ fn what_differs_in_one_thing_comes_back(rt: HostRuntime) -> Outcome {
         let done = beside_two(&rt, &mut a, allocation, row);
         let device = a.destroy(&Discard);
         done?;
-        assert_eq!(&rt; device.held(), 0);
+        assert!(&rt; device.held() == 0);
     }
     Ok(())
 }

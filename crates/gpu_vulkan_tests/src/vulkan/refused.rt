@@ -35,7 +35,7 @@ fn take_again(
         Ok(allocation) => Ok(allocation),
         Err(error) => {
             assert!(rt; is_want_of_memory(&error));
-            assert_eq!(rt; (a.capacity(), a.device().held()), before);
+            assert!(rt; (a.capacity(), a.device().held()) == before);
             *refused = refused.saturating_add(1);
             take(a, desc)
         }
@@ -59,17 +59,17 @@ fn report_again(
 }
 
 pub(super) fn check_same(rt: &impl Abort, before: &AllocatorReport, after: &AllocatorReport) {
-    assert_eq!(rt; before.allocations.len(), after.allocations.len());
+    assert!(rt; before.allocations.len() == after.allocations.len());
     for (i, row) in before.allocations.iter().enumerate() {
         check_row(rt, after, i, row.name.as_str(), row.offset, row.size);
     }
-    assert_eq!(rt; before.blocks.len(), after.blocks.len());
+    assert!(rt; before.blocks.len() == after.blocks.len());
     for (i, block) in before.blocks.iter().enumerate() {
         let rows = &block.allocations;
         check_block(rt, after, i, block.size, rows.start, rows.end);
     }
-    assert_eq!(rt; before.total_allocated_bytes, after.total_allocated_bytes);
-    assert_eq!(rt; before.total_capacity_bytes, after.total_capacity_bytes);
+    assert!(rt; before.total_allocated_bytes == after.total_allocated_bytes);
+    assert!(rt; before.total_capacity_bytes == after.total_capacity_bytes);
 }
 
 /// How many pieces are live by the texts of all leaks, which are asked for once more where the host refused memory.
@@ -121,7 +121,7 @@ fn rename_again(
     }
     check_same(rt, &report, &report_again(a, refused)?);
     let same = shown_again(alloc, allocation, refused)?;
-    assert_eq!(rt; same.as_str(), own.as_str());
+    assert!(rt; same.as_str() == own.as_str());
     match a.rename_allocation(allocation, name) {
         Ok(()) => Ok(()),
         Err(_) => Err(Fail::from("a new name was refused again")),
@@ -134,15 +134,15 @@ fn look(rt: &impl Abort, a: &mut Allocator<SimVulkan>, x: &Allocation) {
     assert!(rt; a.mapped_slice(x).is_some());
     assert!(rt; a.mapped_slice_mut(x).is_some());
     assert!(rt; a.try_as_mapped_slab(x).is_some());
-    assert_eq!(rt; a.device().refusals() <= 1, true);
+    assert!(rt; a.device().refusals() <= 1);
 }
 
 /// A piece of a shared block, and one that is too large for it.
 fn two_blocks(rt: &impl Abort, a: &mut Allocator<SimVulkan>, refused: &mut u64) -> Outcome {
     let x = take_again(rt, a, &managed(512, 256, MemoryLocation::GpuToCpu), refused)?;
-    assert_eq!(rt; place(&x), (0, 0, Some(2)));
+    assert!(rt; place(&x) == (0, 0, Some(2)));
     let y = take_again(rt, a, &managed(5 * MB, 1, MemoryLocation::Unknown), refused)?;
-    assert_eq!(rt; place(&y), (1, 0, Some(1)));
+    assert!(rt; place(&y) == (1, 0, Some(1)));
     look(rt, a, &x);
     give(a, x)?;
     give(a, y)
@@ -151,8 +151,8 @@ fn two_blocks(rt: &impl Abort, a: &mut Allocator<SimVulkan>, refused: &mut u64) 
 /// A piece of the shared block that stayed.
 fn block_that_stayed(rt: &impl Abort, a: &mut Allocator<SimVulkan>, refused: &mut u64) -> Outcome {
     let z = take_again(rt, a, &managed(100, 1, MemoryLocation::GpuToCpu), refused)?;
-    assert_eq!(rt; place(&z), (0, 0, Some(3)));
-    assert_eq!(rt; a.capacity(), 4 * MB);
+    assert!(rt; place(&z) == (0, 0, Some(3)));
+    assert!(rt; a.capacity() == 4 * MB);
     give(a, z)
 }
 
@@ -168,7 +168,7 @@ fn run(rt: &impl Abort, mut a: Allocator<SimVulkan>) -> std::result::Result<u64,
     let done = calls(rt, &mut a, &mut refused);
     let device = a.destroy(&Discard);
     done?;
-    assert_eq!(rt; device.held(), 0);
+    assert!(rt; device.held() == 0);
     Ok(refused)
 }
 
@@ -192,7 +192,7 @@ pub(super) fn begin(
         Ok(a) => Some(a),
         Err((error, device)) => {
             assert!(rt; is_want_of_memory(&error));
-            assert_eq!(rt; device.held(), 0);
+            assert!(rt; device.held() == 0);
             None
         }
     }
@@ -237,11 +237,11 @@ fn two_renamed(
 /// Looks that a report and the leaks tell of two pieces by their new names.
 fn check_two(rt: &impl Abort, a: &Allocator<SimVulkan>, refused: &mut u64) -> Outcome {
     let report = report_again(a, refused)?;
-    assert_eq!(rt; report.allocations.len(), 2);
+    assert!(rt; report.allocations.len() == 2);
     check_row(rt, &report, 0, "a", 0, 100);
     check_row(rt, &report, 1, "b", 256, 64);
     check_block(rt, &report, 0, 4 * MB, 0, 2);
-    assert_eq!(rt; count_leaks(a, refused)?, 2);
+    assert!(rt; count_leaks(a, refused)? == 2);
     Ok(())
 }
 
@@ -256,10 +256,7 @@ fn names(
     check_two(rt, a, refused)?;
     let counting = Counting::new();
     a.report_memory_leaks(&counting, Level::Warn);
-    assert_eq!(rt;
-        counting.counts(),
-        (2, FIRST.len().saturating_add(SECOND.len()))
-    );
+    assert!(rt; counting.counts() == (2, FIRST.len().saturating_add(SECOND.len())));
     give(a, x)
 }
 
@@ -273,12 +270,12 @@ fn begin_telling(
     let mut desc = described(device, AllocationSizes::new(4 * MB, 4 * MB));
     desc.debug_settings.log_memory_information = true;
     let made = Allocator::new(&counting, alloc, desc);
-    assert_eq!(rt; counting.counts().0, 4);
+    assert!(rt; counting.counts().0 == 4);
     match made {
         Ok(a) => Some(a),
         Err((error, device)) => {
             assert!(rt; is_want_of_memory(&error));
-            assert_eq!(rt; device.held(), 0);
+            assert!(rt; device.held() == 0);
             None
         }
     }
@@ -298,7 +295,7 @@ fn names_and_reports_lose_nothing_where_memory_is_refused(rt: HostRuntime) -> Ou
     let counting = Counting::new();
     let device = a.destroy(&counting);
     done?;
-    assert_eq!(&rt; counting.counts(), (1, SECOND.len()));
-    assert_eq!(&rt; device.held(), 0);
+    assert!(&rt; counting.counts() == (1, SECOND.len()));
+    assert!(&rt; device.held() == 0);
     ends(refused)
 }

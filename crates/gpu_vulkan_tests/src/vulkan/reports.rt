@@ -56,8 +56,8 @@ pub fn check_row(
 ) {
     match report.allocations.get(i) {
         Some(row) => {
-            assert_eq!(rt; row.name.as_str(), name);
-            assert_eq!(rt; (row.offset, row.size), (offset, size));
+            assert!(rt; row.name.as_str() == name);
+            assert!(rt; (row.offset, row.size) == (offset, size));
         }
         None => panic!(rt; "row {i} of the report isn't there"),
     }
@@ -74,11 +74,8 @@ pub fn check_block(
 ) {
     match report.blocks.get(i) {
         Some(block) => {
-            assert_eq!(rt; block.size, size);
-            assert_eq!(rt;
-                (block.allocations.start, block.allocations.end),
-                (start, end)
-            );
+            assert!(rt; block.size == size);
+            assert!(rt; (block.allocations.start, block.allocations.end) == (start, end));
         }
         None => panic!(rt; "block {i} of the report isn't there"),
     }
@@ -92,7 +89,7 @@ fn check_text(
 ) -> Outcome {
     match report.text(limit) {
         Ok(text) => {
-            assert_eq!(rt; text.as_str(), want);
+            assert!(rt; text.as_str() == want);
             Ok(())
         }
         Err(_) => Err(Fail::from("the text of a report was refused")),
@@ -101,13 +98,13 @@ fn check_text(
 
 /// Looks at the rows, the block and the sums of `two_pieces`.
 fn check_rows(rt: &impl Abort, report: &AllocatorReport) {
-    assert_eq!(rt; report.allocations.len(), 2);
+    assert!(rt; report.allocations.len() == 2);
     check_row(rt, report, 0, "a", 0, 100);
     check_row(rt, report, 1, "b", 256, 64);
-    assert_eq!(rt; report.blocks.len(), 1);
+    assert!(rt; report.blocks.len() == 1);
     check_block(rt, report, 0, 4_194_304, 0, 2);
-    assert_eq!(rt; report.total_allocated_bytes, 320);
-    assert_eq!(rt; report.total_capacity_bytes, 4_194_304);
+    assert!(rt; report.total_allocated_bytes == 320);
+    assert!(rt; report.total_capacity_bytes == 4_194_304);
 }
 
 /// Looks at the texts of `two_pieces`, of all pieces, of the largest and of none.
@@ -133,7 +130,7 @@ fn check_renamed(rt: &impl Abort, a: &Allocator<SimVulkan>) -> Outcome {
     let again = report_of(a)?;
     check_row(rt, &again, 0, "a", 0, 100);
     check_row(rt, &again, 1, "c", 256, 64);
-    assert_eq!(rt; again.total_allocated_bytes, 320);
+    assert!(rt; again.total_allocated_bytes == 320);
     Ok(())
 }
 
@@ -141,7 +138,7 @@ fn check_renamed(rt: &impl Abort, a: &Allocator<SimVulkan>) -> Outcome {
 fn check_told(rt: &impl Abort, a: &Allocator<SimVulkan>) -> Outcome {
     let report = report_of(a)?;
     check_report(rt, &report)?;
-    assert_eq!(rt; report.total_capacity_bytes, a.capacity());
+    assert!(rt; report.total_capacity_bytes == a.capacity());
     Ok(())
 }
 
@@ -174,9 +171,9 @@ pub const FIRST: &str =
 pub fn check_leaks(rt: &impl Abort, a: &Allocator<SimVulkan>, want: &[&str]) -> Outcome {
     match a.leak_texts() {
         Ok(texts) => {
-            assert_eq!(rt; texts.len(), want.len());
+            assert!(rt; texts.len() == want.len());
             for (text, want) in texts.iter().zip(want) {
-                assert_eq!(rt; text.as_str(), *want);
+                assert!(rt; text.as_str() == *want);
             }
             Ok(())
         }
@@ -246,27 +243,27 @@ fn three_blocks(rt: &impl Abort, a: &mut Allocator<SimVulkan>) -> Outcome {
 }
 
 fn check_three(rt: &impl Abort, report: &AllocatorReport) {
-    assert_eq!(rt; report.allocations.len(), 3);
+    assert!(rt; report.allocations.len() == 3);
     check_row(rt, report, 0, "own", 0, 1000);
     check_row(rt, report, 1, "shared", 0, 10);
     check_row(rt, report, 2, "upload", 0, 5);
-    assert_eq!(rt; report.blocks.len(), 3);
+    assert!(rt; report.blocks.len() == 3);
     check_block(rt, report, 0, 1000, 0, 1);
     check_block(rt, report, 1, 4 * MB, 1, 2);
     check_block(rt, report, 2, 4 * MB, 2, 3);
-    assert_eq!(rt; report.total_allocated_bytes, 1015);
-    assert_eq!(rt; report.total_capacity_bytes, 8 * MB + 1000);
+    assert!(rt; report.total_allocated_bytes == 1015);
+    assert!(rt; report.total_capacity_bytes == 8 * MB + 1000);
 }
 
 fn check_two(rt: &impl Abort, report: &AllocatorReport) {
-    assert_eq!(rt; report.allocations.len(), 2);
+    assert!(rt; report.allocations.len() == 2);
     check_row(rt, report, 0, "shared", 0, 10);
     check_row(rt, report, 1, "upload", 0, 5);
-    assert_eq!(rt; report.blocks.len(), 2);
+    assert!(rt; report.blocks.len() == 2);
     check_block(rt, report, 0, 4 * MB, 0, 1);
     check_block(rt, report, 1, 4 * MB, 1, 2);
-    assert_eq!(rt; report.total_allocated_bytes, 15);
-    assert_eq!(rt; report.total_capacity_bytes, 8 * MB);
+    assert!(rt; report.total_allocated_bytes == 15);
+    assert!(rt; report.total_capacity_bytes == 8 * MB);
 }
 
 #[test]
@@ -309,7 +306,7 @@ fn check_not_named(
 ) -> Outcome {
     match a.rename_allocation(allocation, "other") {
         Err(AllocationError::Internal(fault)) => {
-            assert_eq!(rt; fault.text, text);
+            assert!(rt; fault.text == text);
             assert!(rt; fault.code.is_none());
             Ok(())
         }

@@ -12,21 +12,21 @@ const GIGABYTE: &[u64] = &[1024 * MB];
 
 /// Looks at all that the first piece tells of itself.
 fn check_first_piece(rt: &impl Abort, x: &Allocation) {
-    assert_eq!(rt; place(x), (0, 0, Some(2)));
-    assert_eq!(rt; x.size(), 512);
+    assert!(rt; place(x) == (0, 0, Some(2)));
+    assert!(rt; x.size() == 512);
     assert!(rt; !x.is_dedicated());
     assert!(rt; x.is_mapped());
     assert!(rt; !x.is_null());
-    assert_eq!(rt; x.memory_type_index(), 0);
-    assert_eq!(rt; x.memory(), DeviceMemory(1));
-    assert_eq!(rt; x.memory_properties(), MemoryPropertyFlags(6));
+    assert!(rt; x.memory_type_index() == 0);
+    assert!(rt; x.memory() == DeviceMemory(1));
+    assert!(rt; x.memory_properties() == MemoryPropertyFlags(6));
 }
 
 fn first_piece(rt: &impl Abort, a: &mut Allocator<SimVulkan>) -> Outcome {
     let x = take(a, &managed(512, 256, MemoryLocation::CpuToGpu))?;
     check_first_piece(rt, &x);
     assert!(rt; a.is_live(&x));
-    assert_eq!(rt; a.capacity(), 64 * MB);
+    assert!(rt; a.capacity() == 64 * MB);
     give(a, x)
 }
 
@@ -38,10 +38,10 @@ fn a_piece_of_a_shared_block(rt: HostRuntime) -> Outcome {
     let done = first_piece(&rt, &mut a);
     let capacity = a.capacity();
     let device = a.destroy(&Discard);
-    assert_eq!(&rt; capacity, 64 * MB);
-    assert_eq!(&rt; device.questions(), 2);
-    assert_eq!(&rt; device.refusals(), 0);
-    assert_eq!(&rt; device.held(), 0);
+    assert!(&rt; capacity == 64 * MB);
+    assert!(&rt; device.questions() == 2);
+    assert!(&rt; device.refusals() == 0);
+    assert!(&rt; device.held() == 0);
     done
 }
 
@@ -55,8 +55,8 @@ fn second_half(
         Err(AllocationError::OutOfMemory) => {}
         _ => return Err(Fail::from("the sum of block sizes is past u64::MAX")),
     }
-    assert_eq!(rt; a.device().questions(), 1);
-    assert_eq!(rt; a.capacity(), 9_223_372_036_854_775_808);
+    assert!(rt; a.device().questions() == 1);
+    assert!(rt; a.capacity() == 9_223_372_036_854_775_808);
     Ok(())
 }
 
@@ -74,7 +74,7 @@ fn blocks_past_all_sums_are_out_of_memory(rt: HostRuntime) -> Outcome {
     let mut a = made(rt.alloc(), &properties, AllocationSizes::default())?;
     let done = past_all_sums(&rt, &mut a);
     let device = a.destroy(&Discard);
-    assert_eq!(&rt; device.held(), 0);
+    assert!(&rt; device.held() == 0);
     done
 }
 
@@ -96,23 +96,23 @@ fn upload_type(
 fn uploads_are_taken_where_the_heap_is_large_enough(rt: HostRuntime) -> Outcome {
     let mut properties = one_type(&[(6, 0), (7, 1)], &[1024 * MB, 4 * MB]);
     let second = upload_type(&properties, rt.alloc())?;
-    assert_eq!(&rt; second, (Some(0), 2));
+    assert!(&rt; second == (Some(0), 2));
     properties.types = &[(7, 1), (6, 0)];
     let none = upload_type(&properties, rt.alloc())?;
-    assert_eq!(&rt; none, (None, 0));
+    assert!(&rt; none == (None, 0));
     Ok(())
 }
 
 fn refused_mapping(rt: &impl Abort, a: &mut Allocator<SimVulkan>) -> Outcome {
     match a.allocate(&Discard, &managed(512, 256, MemoryLocation::GpuToCpu)) {
         Err(AllocationError::FailedToMap(fault)) => {
-            assert_eq!(rt; fault.text, "Returned mapped pointer is null");
+            assert!(rt; fault.text == "Returned mapped pointer is null");
             assert!(rt; fault.code.is_none());
         }
         _ => return Err(Fail::from("the mapping was null")),
     }
-    assert_eq!(rt; a.capacity(), 0);
-    assert_eq!(rt; a.device().held(), 0);
+    assert!(rt; a.capacity() == 0);
+    assert!(rt; a.device().held() == 0);
     let again = managed(512, 256, MemoryLocation::GpuToCpu);
     let _x = take_at(rt, a, &again, (0, 0, Some(2)))?;
     Ok(())
@@ -125,8 +125,8 @@ fn memory_that_is_not_mapped_goes_back(rt: HostRuntime) -> Outcome {
     let mut a = made(rt.alloc(), &properties, AllocationSizes::default())?;
     let done = refused_mapping(&rt, &mut a);
     let device = a.destroy(&Discard);
-    assert_eq!(&rt; device.held(), 0);
-    assert_eq!(&rt; device.refusals(), 1);
+    assert!(&rt; device.held() == 0);
+    assert!(&rt; device.refusals() == 1);
     done
 }
 
@@ -148,9 +148,9 @@ fn upload_answer(
 #[test]
 fn uploads_are_asked_for_again_after_a_refusal(rt: HostRuntime) -> Outcome {
     let unmapped = upload_answer(&[(2, Refusal::Null)], rt.alloc())?;
-    assert_eq!(&rt; unmapped, (0, 4));
+    assert!(&rt; unmapped == (0, 4));
     let declined = upload_answer(&[(1, Refusal::Code(-2))], rt.alloc())?;
-    assert_eq!(&rt; declined, (0, 3));
+    assert!(&rt; declined == (0, 3));
     Ok(())
 }
 
@@ -159,9 +159,9 @@ fn large_piece(rt: &impl Abort, a: &mut Allocator<SimVulkan>) -> Outcome {
     let large = managed(300 * MB, 1, MemoryLocation::GpuOnly);
     let x = take_at(rt, a, &large, (0, 0, Some(1)))?;
     assert!(rt; !x.is_dedicated());
-    assert_eq!(rt; a.capacity(), 300 * MB);
+    assert!(rt; a.capacity() == 300 * MB);
     give(a, x)?;
-    assert_eq!(rt; a.capacity(), 0);
+    assert!(rt; a.capacity() == 0);
     Ok(())
 }
 
@@ -171,15 +171,15 @@ fn dedicated_piece(rt: &impl Abort, a: &mut Allocator<SimVulkan>) -> Outcome {
     desc.allocation_scheme = AllocationScheme::DedicatedBuffer(Buffer(7));
     let y = take(a, &desc)?;
     assert!(rt; y.is_dedicated());
-    assert_eq!(rt; y.chunk_id().is_some(), true);
-    assert_eq!(rt;
-        a.device().last_info(),
-        Some(MemoryAllocateInfo {
-            size: 1000,
-            memory_type_index: 0,
-            device_address: true,
-            scheme: AllocationScheme::DedicatedBuffer(Buffer(7)),
-        })
+    assert!(rt; y.chunk_id().is_some());
+    assert!(rt;
+        a.device().last_info()
+            == Some(MemoryAllocateInfo {
+                size: 1000,
+                memory_type_index: 0,
+                device_address: true,
+                scheme: AllocationScheme::DedicatedBuffer(Buffer(7)),
+            })
     );
     Ok(())
 }
@@ -195,7 +195,7 @@ fn large_and_dedicated_pieces_have_blocks_of_their_own(rt: HostRuntime) -> Outco
     let mut a = made(rt.alloc(), &properties, AllocationSizes::default())?;
     let done = own_memory(&rt, &mut a);
     let device = a.destroy(&Discard);
-    assert_eq!(&rt; device.held(), 0);
+    assert!(&rt; device.held() == 0);
     done
 }
 
@@ -204,7 +204,7 @@ fn check_beside(rt: &impl Abort, b: &mut Allocator<SimVulkan>, back: &Allocation
     let y = take(b, &managed(512, 1, MemoryLocation::CpuToGpu))?;
     assert!(rt; !b.is_live(back));
     assert!(rt; b.mapped_slice(back).is_none());
-    assert_eq!(rt; y.size(), 512);
+    assert!(rt; y.size() == 512);
     Ok(())
 }
 
@@ -212,7 +212,7 @@ fn foreign(rt: &impl Abort, a: &mut Allocator<SimVulkan>, b: &mut Allocator<SimV
     let x = take(a, &managed(256, 1, MemoryLocation::CpuToGpu))?;
     match b.free(&Discard, x) {
         Err((AllocationError::Internal(fault), back)) => {
-            assert_eq!(rt; fault.text, "Memory block must be Some.");
+            assert!(rt; fault.text == "Memory block must be Some.");
             assert!(rt; a.is_live(&back));
             check_beside(rt, b, &back)?;
             give(a, back)
@@ -275,6 +275,6 @@ fn bad_requests_are_refused(rt: HostRuntime) -> Outcome {
     let mut a = made(rt.alloc(), &properties, AllocationSizes::default())?;
     bad_requests(&rt, &mut a);
     let device = a.destroy(&Discard);
-    assert_eq!(&rt; device.questions(), 0);
+    assert!(&rt; device.questions() == 0);
     Ok(())
 }

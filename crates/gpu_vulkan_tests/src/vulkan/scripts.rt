@@ -140,7 +140,7 @@ fn check_cause(
         };
         assert!(rt; matches!(error, AllocationError::BudgetExceeded));
         assert!(rt; account.exceeds(last, SHARED));
-        assert_eq!(rt; a.device().questions(), before.0);
+        assert!(rt; a.device().questions() == before.0);
     }
 }
 
@@ -192,7 +192,7 @@ fn ask_badly(
                 assert!(rt; desc.requirements.memory_type_bits != 0)
             }
             Err(AllocationError::NoCompatibleMemoryTypeFound) => {
-                assert_eq!(rt; desc.requirements.memory_type_bits, 0)
+                assert!(rt; desc.requirements.memory_type_bits == 0)
             }
             _ => return Err(Fail::from("a bad request was served, or refused for another cause")),
         }
@@ -262,7 +262,7 @@ fn set_budget(
             account.set_budget(memory_type, budget);
         }
         Err(AllocationError::Internal(fault)) => {
-            assert_eq!(rt; fault.text, "No such memory type.");
+            assert!(rt; fault.text == "No such memory type.");
             assert!(rt; memory_type >= 3);
         }
         Err(_) => assert!(rt; false),
@@ -288,7 +288,7 @@ fn leaks(rt: &impl Abort, a: &Allocator<SimVulkan>, account: &mut Account) -> Ou
     }
     let told = Counting::new();
     a.report_memory_leaks(&told, Level::Info);
-    assert_eq!(rt; told.counts(), (account.live.len(), bytes));
+    assert!(rt; told.counts() == (account.live.len(), bytes));
     Ok(())
 }
 
@@ -377,7 +377,7 @@ fn run(
         Ok(a) => a,
         Err((error, device)) => {
             assert!(rt; is_want_of_memory(&error));
-            assert_eq!(rt; (device.held(), device.questions()), (0, 0));
+            assert!(rt; (device.held(), device.questions()) == (0, 0));
             account.count();
             return Ok(None);
         }
@@ -387,11 +387,8 @@ fn run(
     let done = calls(rt, &mut a, &log, account, reports);
     let device = a.destroy(&log);
     done?;
-    assert_eq!(rt; device.held(), 0);
-    assert_eq!(rt;
-        log.counts().0,
-        account.lines.saturating_add(account.live.len())
-    );
+    assert!(rt; device.held() == 0);
+    assert!(rt; log.counts().0 == account.lines.saturating_add(account.live.len()));
     Ok(Some(device.refusals()))
 }
 
@@ -404,7 +401,7 @@ fn refused_at(
     let device = simulated(alloc, &device_that_refuses(&[refusal]))?;
     let mut account = Account::new(alloc, CALLS.len())?;
     let refusals = run(rt, alloc, device, &mut account, 1)?;
-    assert_eq!(rt; account.refused, 0);
+    assert!(rt; account.refused == 0);
     match refusals {
         Some(count) => Ok(count),
         None => Err(Fail::from("the allocator can't be made")),

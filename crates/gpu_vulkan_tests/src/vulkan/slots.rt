@@ -15,8 +15,8 @@ fn far_alignment(rt: &impl Abort, a: &mut Allocator<SimVulkan>) -> Outcome {
         a,
         &managed(1, 9_223_372_036_854_775_808, MemoryLocation::CpuToGpu),
     )?;
-    assert_eq!(rt; place(&y), (1, 0, Some(2)));
-    assert_eq!(rt; a.capacity(), 8 * MB);
+    assert!(rt; place(&y) == (1, 0, Some(2)));
+    assert!(rt; a.capacity() == 8 * MB);
     Ok(())
 }
 
@@ -41,7 +41,7 @@ fn third_slot(
     let x = take_of(a, 5 * MB)?;
     let y = take_of(a, 6 * MB)?;
     let z = take_of(a, 7 * MB)?;
-    assert_eq!(rt; z.memory_block_index(), 2);
+    assert!(rt; z.memory_block_index() == 2);
     give(a, x)?;
     give(a, y)?;
     Ok(z)
@@ -50,9 +50,9 @@ fn third_slot(
 fn filled_slots(rt: &impl Abort, a: &mut Allocator<SimVulkan>) -> Outcome {
     let _z = third_slot(rt, a)?;
     let shared = take_of(a, 10)?;
-    assert_eq!(rt; shared.memory_block_index(), 1);
+    assert!(rt; shared.memory_block_index() == 1);
     let own = take_of(a, 5 * MB)?;
-    assert_eq!(rt; own.memory_block_index(), 0);
+    assert!(rt; own.memory_block_index() == 0);
     Ok(())
 }
 
@@ -69,9 +69,9 @@ fn two_emptied(rt: &impl Abort, a: &mut Allocator<SimVulkan>) -> Outcome {
     let x = take_of(a, 3 * MB)?;
     let y = take_of(a, 3 * MB)?;
     give(a, x)?;
-    assert_eq!(rt; a.capacity(), 4 * MB);
+    assert!(rt; a.capacity() == 4 * MB);
     give(a, y)?;
-    assert_eq!(rt; a.capacity(), 4 * MB);
+    assert!(rt; a.capacity() == 4 * MB);
     Ok(())
 }
 
@@ -87,7 +87,7 @@ fn the_last_shared_block_stays(rt: HostRuntime) -> Outcome {
     let mut a = made(rt.alloc(), &one_type(&[(1, 0)], &[1024 * MB]), small())?;
     let done = emptied(&rt, &mut a);
     let device = a.destroy(&Discard);
-    assert_eq!(&rt; device.held(), 0);
+    assert!(&rt; device.held() == 0);
     done
 }
 
@@ -98,7 +98,7 @@ fn last_type(rt: &impl Abort, a: &mut Allocator<SimVulkan>) -> Outcome {
     let mut desc = managed(1, 1, MemoryLocation::CpuToGpu);
     desc.requirements.memory_type_bits = 2_147_483_648;
     let x = take(a, &desc)?;
-    assert_eq!(rt; x.memory_type_index(), 31);
+    assert!(rt; x.memory_type_index() == 31);
     Ok(())
 }
 
@@ -113,8 +113,8 @@ fn the_last_bit_is_the_last_type(rt: HostRuntime) -> Outcome {
 fn other_code(rt: &impl Abort, a: &mut Allocator<SimVulkan>) -> Outcome {
     match a.allocate(&Discard, &managed(512, 256, MemoryLocation::GpuToCpu)) {
         Err(AllocationError::Internal(fault)) => {
-            assert_eq!(rt; fault.text, "Unexpected error in vkAllocateMemory");
-            assert_eq!(rt; fault.code, Some(-4));
+            assert!(rt; fault.text == "Unexpected error in vkAllocateMemory");
+            assert!(rt; fault.code == Some(-4));
             Ok(())
         }
         _ => Err(Fail::from("the device refused by another code")),
@@ -128,7 +128,7 @@ fn another_code_is_a_fault_of_the_device(rt: HostRuntime) -> Outcome {
     let mut a = made(rt.alloc(), &properties, small())?;
     let done = other_code(&rt, &mut a);
     let device = a.destroy(&Discard);
-    assert_eq!(&rt; device.held(), 0);
-    assert_eq!(&rt; device.refusals(), 1);
+    assert!(&rt; device.held() == 0);
+    assert!(&rt; device.refusals() == 1);
     done
 }

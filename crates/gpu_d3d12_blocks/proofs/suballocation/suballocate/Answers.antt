@@ -1,4 +1,4 @@
-use Rattle.gpu_core.specs.TypeState.{capacity_of}
+use Rattle.gpu_slots.specs.TypeState.{capacity_of}
 use Rattle.gpu_memory_types.specs.Types.{slots_of, type_of}
 use Rattle.gpu_memory_types.proofs.Budgets.{sum_fits}
 use Rattle.std.proofs.Common.{◌<◌, length, ap, arith}

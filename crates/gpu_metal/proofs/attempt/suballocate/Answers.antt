@@ -3,7 +3,7 @@ use Rattle.gpu_core.specs.declared.memory_type.Prepared.TheVariants as prepared
 use Rattle.gpu_core.specs.declared.need.NeedBlock.{NeedBlock}
 use Rattle.gpu_memory_types.specs.Blocks.{total_capacity}
 use Rattle.gpu_memory_types.specs.Requests.{PreparesAt}
-use Rattle.gpu_core.specs.TypeState.{capacity_of}
+use Rattle.gpu_slots.specs.TypeState.{capacity_of}
 use Rattle.gpu_memory_types.specs.Types.{slots_of, type_of}
 use Rattle.gpu_memory_types.proofs.Budgets.{sum_fits}
 use Rattle.gpu_memory_types.proofs.Prepared.{waiting}

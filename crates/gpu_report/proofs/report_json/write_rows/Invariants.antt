@@ -1,7 +1,7 @@
 use Rattle.std.proofs.Common.{◌++◌, ◌∷◌, take, map}
 use Rattle.std.specs.List.{flat_map}
 use Rattle.std.specs.Fmt.{HasWritten, IsPlainFormatter}
-use Rattle.gpu_core.specs.Report.{row_of}
+use Rattle.gpu_values.specs.Report.{row_of}
 use Rattle.gpu_report.specs.ReportJson.{row_json}
 use Rattle.gpu_report.proofs.report_json.write_rows.Given as goal
 

@@ -1,7 +1,7 @@
 use Rattle.std.proofs.Common.{rules, subst}
 use Rattle.std.specs.List.{All}
 use Rattle.std.proofs.lemmas.List.Elements.{All-map}
-use Rattle.gpu_core.specs.Report.{row_of}
+use Rattle.gpu_values.specs.Report.{row_of}
 use Rattle.gpu_report_reading.specs.Fits.{RowFits, BlockRowFits}
 use Rattle.gpu_report_reading.proofs.fits.report_fits.Goals as goal
 

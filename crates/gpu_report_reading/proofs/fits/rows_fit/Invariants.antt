@@ -1,5 +1,5 @@
 use Rattle.std.specs.List.{AllWithin}
-use Rattle.gpu_core.specs.Report.{row_of}
+use Rattle.gpu_values.specs.Report.{row_of}
 use Rattle.gpu_report_reading.specs.Fits.{RowFits}
 use Rattle.gpu_report_reading.proofs.fits.rows_fit.Given as goal
 

@@ -2,7 +2,7 @@ use Rattle.std.proofs.Common.{◌≡◌, ◌∙◌, sym, ap, cond, ℤ, negsuc, 
 use Rattle.std.specs.Ordering.{int_eq}
 use Rattle.std.proofs.Math.Facts.{to_z-of_z, sfits_widen}
 use Rattle.std.proofs.lemmas.Bool.Decides.{Decides-int_eq}
-use Rattle.gpu_core.specs.Refusal.{internal, out_of_memory}
+use Rattle.gpu_values.specs.Refusal.{internal, out_of_memory}
 use Rattle.gpu_vulkan_blocks.specs.BlockAnswer.{memory_refusal}
 use Rattle.gpu_vulkan_blocks.proofs.block.refusal_of_memory.Goals as goal
 

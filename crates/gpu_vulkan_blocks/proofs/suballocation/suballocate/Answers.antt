@@ -9,7 +9,7 @@ use Rattle.gpu_memory_types.specs.Blocks.{total_capacity}
 use Rattle.gpu_vulkan_setup.specs.Types.{is_mapped}
 use Rattle.gpu_vulkan_blocks.specs.Blocks.{Slots}
 use Rattle.gpu_vulkan_blocks.specs.BlockAnswer.{Asks}
-use Rattle.gpu_core.specs.TypeState.{capacity_of}
+use Rattle.gpu_slots.specs.TypeState.{capacity_of}
 use Rattle.gpu_memory_types.proofs.Budgets.{sum_fits}
 use Rattle.gpu_memory_types.proofs.Prepared.{waiting}
 use Rattle.gpu_vulkan_blocks.proofs.Suballocated.{host_refused, shared_block_serves, device_refused, block_installed}

@@ -1,5 +1,5 @@
 use Rattle.std.proofs.Common.{◌∙◌}
-use Rattle.gpu_core.specs.SubAllocator.{block_of}
+use Rattle.gpu_block.specs.SubAllocator.{block_of}
 use Rattle.gpu_block_session.specs.BlockSession.{State}
 use Rattle.gpu_block_session.proofs.Owning.{owns_after_taking, size_after_taking}
 use Rattle.gpu_block_session.proofs.session.BlockSession.take.Goals as goal

@@ -2,7 +2,8 @@ use Rattle.std.proofs.Common.{refl, subst}
 use Rattle.gpu_memory_types.specs.Budgets.{budgets}
 use Rattle.gpu_memory_types.specs.Types.{slots_of}
 use Rattle.gpu_metal.specs.State.{State}
-use Rattle.gpu_metal.specs.Step.{IsStep, Commit, Done}
+use Rattle.gpu_metal.specs.Reply.{Done}
+use Rattle.gpu_metal.specs.Step.{IsStep, Commit}
 use Rattle.gpu_metal.proofs.Calls.{after, commits, committed_step}
 use Rattle.gpu_metal.proofs.Keeping.{kept_after}
 use Rattle.gpu_metal.proofs.allocator.Allocator.commit_residency_set.Goals as goal

@@ -1,7 +1,7 @@
 use Rattle.std.proofs.Common.{take, map}
 use Rattle.std.specs.List.{flat_map}
 use Rattle.std.specs.Fmt.{HasWritten, IsPlainFormatter}
-use Rattle.gpu_core.specs.Report.{row_of}
+use Rattle.gpu_values.specs.Report.{row_of}
 use Rattle.gpu_trace_lines.specs.BlockReply.{piece_line}
 use Rattle.gpu_trace_lines.proofs.block.reply.write_pieces.Given as goal
 

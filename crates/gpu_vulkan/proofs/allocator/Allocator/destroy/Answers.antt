@@ -1,7 +1,7 @@
 use Rattle.std.proofs.Common.{◌≡◌, ◌∙◌, sym, ap, length, take, arith}
 use Rattle.std.proofs.lemmas.List.{length-map}
 use Rattle.std.proofs.Math.Seq.{take-length}
-use Rattle.gpu_core.specs.TypeState.{TypeState}
+use Rattle.gpu_slots.specs.TypeState.{TypeState}
 use Rattle.gpu_device.specs.Held.{Held}
 use Rattle.gpu_device.specs.declared.vulkan.types.DeviceMemory.{DeviceMemory}
 use Rattle.gpu_memory_types.specs.Blocks.{slots_at}

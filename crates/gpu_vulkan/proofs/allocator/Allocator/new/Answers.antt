@@ -1,6 +1,6 @@
 use Rattle.std.proofs.Common.{◌≡◌, ◌∙◌, sym, ap, subst}
 use Rattle.std.proofs.lemmas.List.{length-map}
-use Rattle.gpu_core.specs.TypeState.{TypeState}
+use Rattle.gpu_slots.specs.TypeState.{TypeState}
 use Rattle.gpu_device.specs.declared.vulkan.types.DeviceMemory.{DeviceMemory}
 use Rattle.gpu_vulkan_setup.specs.Setup.{Setup, IsValid}
 use Rattle.gpu_vulkan.specs.State.{AllocatorInvariant}

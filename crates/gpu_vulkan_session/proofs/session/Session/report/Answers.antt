@@ -1,6 +1,7 @@
 use Rattle.std.proofs.Common.{true, refl, subst}
-use Rattle.gpu_core.specs.Refusal.{refusal_of}
-use Rattle.gpu_core.specs.Report.{report_of}
+use Rattle.gpu_values.specs.Refusal.{refusal_of}
+use Rattle.gpu_values.specs.Report.{report_of}
+use Rattle.gpu_vulkan.specs.Reply as answers
 use Rattle.gpu_vulkan.specs.Step as model
 use Rattle.gpu_vulkan.proofs.Untouched.{same_leaves}
 use Rattle.gpu_vulkan_session.specs.Command as commands
@@ -17,7 +18,7 @@ returns-in-Ok g c =
     let step = c.in-Ok.ensures.step in
     subst (λ x. IsServed V commands.Report reply x x) c.self.view_is (record {
       environment = record { room = true; call = step.environment };
-      serves = asked V model.Report (model.Shows (report_of c.in-Ok.report)) reply s refl step;
+      serves = asked V model.Report (answers.Report (report_of c.in-Ok.report)) reply s refl step;
       count = step.count;
       latest = step.latest;
       untouched = λ e. same_leaves (V.held s.allocator.device) (V.held s.allocator.device) refl;
@@ -32,7 +33,7 @@ returns-in-Err g c =
     let step = c.in-Err.ensures.step in
     subst (λ x. IsServed V commands.Report reply x x) c.self.view_is (record {
       environment = record { room = true; call = step.environment };
-      serves = asked V model.Report (model.Fails (refusal_of c.in-Err.error)) reply s refl step;
+      serves = asked V model.Report (answers.Error (refusal_of c.in-Err.error)) reply s refl step;
       count = step.count;
       latest = step.latest;
       untouched = λ e. same_leaves (V.held s.allocator.device) (V.held s.allocator.device) refl;

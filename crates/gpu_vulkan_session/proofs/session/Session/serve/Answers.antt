@@ -1,4 +1,5 @@
 use Rattle.std.proofs.Common.{true, refl, sym, subst}
+use Rattle.gpu_vulkan.specs.Reply as answers
 use Rattle.gpu_vulkan.specs.Step as model
 use Rattle.gpu_vulkan.proofs.Untouched.{same_leaves}
 use Rattle.gpu_vulkan_session.specs.Command as commands
@@ -16,7 +17,7 @@ returns-in-Capacity g c =
     subst (λ o. IsServed V (command_of o) reply c.args.self.now c.args.self.now) (sym c.in-Capacity.is)
     (subst (λ x. IsServed V commands.Capacity reply x x) c.self.view_is (record {
       environment = record { room = true; call = step.environment };
-      serves = asked V model.Capacity (model.Sum c.capacity.result) reply s refl step;
+      serves = asked V model.Capacity (answers.Capacity c.capacity.result) reply s refl step;
       count = step.count;
       latest = step.latest;
       untouched = λ e. same_leaves (V.held s.allocator.device) (V.held s.allocator.device) refl;

@@ -1,6 +1,6 @@
 use Rattle.std.proofs.Common.{Some, refl, ap, sym, subst}
-use Rattle.gpu_core.specs.Refusal.{refusal_of}
-use Rattle.gpu_vulkan.specs.Step as model
+use Rattle.gpu_values.specs.Refusal.{refusal_of}
+use Rattle.gpu_vulkan.specs.Reply as answers
 use Rattle.gpu_vulkan_session.specs.Command as commands
 use Rattle.gpu_vulkan_session.specs.Served.{SessionValue, reply_of, IsServed}
 use Rattle.gpu_vulkan_session.proofs.Budgeting.{budget_set}
@@ -16,8 +16,8 @@ returns g c =
     subst (λ x. IsServed V (commands.SetBudget c.args.memory_type c.args.budget) reply x new) c.self.view_is
     (elim c.match-set_budget.branch [
       | in-Ok w ↦
-          budget_set V s new c.args.memory_type c.args.budget model.Done reply (ap (λ r. Some (reply_of r)) (sym w.result-is)) refl c.set_budget.ensures.others w.in-Ok.ensures.step
+          budget_set V s new c.args.memory_type c.args.budget answers.Done reply (ap (λ r. Some (reply_of r)) (sym w.result-is)) refl c.set_budget.ensures.others w.in-Ok.ensures.step
       | in-Err w ↦
-          budget_set V s new c.args.memory_type c.args.budget (model.Fails (refusal_of w.in-Err.error)) reply (ap (λ r. Some (reply_of r)) (sym w.result-is)) refl
+          budget_set V s new c.args.memory_type c.args.budget (answers.Error (refusal_of w.in-Err.error)) reply (ap (λ r. Some (reply_of r)) (sym w.result-is)) refl
           c.set_budget.ensures.others w.in-Err.ensures.step
     ])

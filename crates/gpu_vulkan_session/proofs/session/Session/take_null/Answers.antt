@@ -3,7 +3,7 @@ use Rattle.std.specs.Prelude.{nat_eq, cond}
 use Rattle.std.specs.Map.{lookup}
 use Rattle.gpu_vulkan.specs.Live.{null_allocation}
 use Rattle.gpu_vulkan.specs.Step.{model_of}
-use Rattle.gpu_core.specs.Refusal.{host_out_of_memory}
+use Rattle.gpu_values.specs.Refusal.{host_out_of_memory}
 use Rattle.gpu_vulkan.proofs.Untouched.{same_leaves}
 use Rattle.gpu_vulkan_session.specs.Reply as replies
 use Rattle.gpu_vulkan_session.specs.Command.{Null, Under}

@@ -1,0 +1,19 @@
+-- What a call answers: each reply has the name of the call that it answers, or says what came of it.
+use Rattle.std.specs.Prelude.{ℕ, List, Option}
+use Rattle.gpu_values.specs.Refusal.{Refusal}
+use Rattle.gpu_values.specs.Report as reports
+use Rattle.gpu_slots.specs.declared.piece.Piece.{Piece}
+use Rattle.gpu_device.specs.declared.vulkan.types.DeviceMemory.{DeviceMemory}
+
+pub data Reply : Type 0 where
+  -- a piece of the t-th memory type
+  Given : (t : ℕ) (piece : Piece DeviceMemory) → Reply
+  Error : (refusal : Refusal) → Reply
+  Done : Reply
+  -- an allocation's bytes, None where it has none
+  Bytes : (bytes : Option (List ℕ)) → Reply
+  Capacity : (bytes : ℕ) → Reply
+  Report : (report : reports.Report) → Reply
+  Leaks : (texts : List (List ℕ)) → Reply
+  -- a memory type's budget, None where it has none
+  Budget : (budget : Option ℕ) → Reply
