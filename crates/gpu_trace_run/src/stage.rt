@@ -17,8 +17,9 @@ use gpu_trace_lines::device::reply as device;
 use gpu_trace_lines::device::setting::Setting;
 use gpu_trace_lines::{Line, Reply};
 use gpu_values::AllocatorDebugSettings;
-use gpu_vulkan::{Allocator, AllocatorCreateDesc};
+use gpu_vulkan::Allocator;
 use gpu_vulkan_session::Session;
+use gpu_vulkan_setup::AllocatorCreateDesc;
 use log::Log;
 use std::alloc::{AllocError, Global};
 

@@ -14,7 +14,8 @@ ghost use Rattle.gpu_vulkan_session.specs.Served.{session_of, command_of, reply_
 use gpu_commands::vulkan::{Command, Given, Reply};
 use gpu_device::vulkan::VulkanDevice;
 use gpu_values::{AllocationError, Result};
-use gpu_vulkan::{Allocation, AllocationCreateDesc, Allocator};
+use gpu_vulkan::{Allocation, Allocator};
+use gpu_vulkan_setup::AllocationCreateDesc;
 use log::Log;
 use std::alloc::Global;
 use std::collections::HashMap;
