@@ -15,11 +15,21 @@ use std::num::NonZeroU64;
 /// A block of memory that is cut into pieces. It holds no memory of a device: it says which piece lies where. A piece
 /// lies in the shortest gap that it fits in, of equal ones in the lowest, and linear and other pieces share no page of
 /// the block's granularity.
-#[derive(Drop)]
 pub struct FreeListAllocator {
     pub(crate) alloc: Global,
     pub(crate) pieces: CutBlock,
     pub(crate) cost: Cost,
+}
+
+// Written out, so that where one is dropped a proof sees one call, and not each of its parts.
+impl Drop for FreeListAllocator {
+    fn drop(self) {
+        let FreeListAllocator {
+            alloc: _,
+            pieces: _,
+            cost: _,
+        } = self;
+    }
 }
 
 impl Model for FreeListAllocator {

@@ -27,7 +27,6 @@ pub enum Prepared<H> {
 
 /// The blocks of one memory type, each in a slot, and the pieces in them. It holds no memory of a device: `H` is the
 /// device's number of a block. Sizes are bytes.
-#[derive(Drop)]
 pub struct MemoryType<H: Copy + Eq> {
     is_host: bool,
     granularity: u64,
@@ -36,6 +35,21 @@ pub struct MemoryType<H: Copy + Eq> {
     general: usize,
     budget: Option<u64>,
     alloc: Global,
+}
+
+// Written out, so that where one is dropped a proof sees one call, and not each of its parts.
+impl<H: Copy + Eq> Drop for MemoryType<H> {
+    fn drop(self) {
+        let MemoryType {
+            is_host: _,
+            granularity: _,
+            slots: _,
+            capacity: _,
+            general: _,
+            budget: _,
+            alloc: _,
+        } = self;
+    }
 }
 
 impl<H: Copy + Eq> Model for MemoryType<H> {
