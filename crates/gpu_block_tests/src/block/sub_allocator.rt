@@ -1,12 +1,12 @@
 //! Tests of a block of either form: lists of calls, each with what it answers.
 
-ghost use Rattle.std.specs.Prelude.{◌≢◌, ℕ};
+ghost use Rattle.std.specs.Prelude.{◌≡◌, ◌≢◌, ℕ};
 ghost use Rattle.gpu_block.specs.Block.{HasPages};
 ghost use Rattle.gpu_block.specs.SubAllocator.{block_of};
 
 use self::Call::{
     Allocated, Finds, Frees, FreesNothing, IsGeneral, Renames, RenamesNothing, Reports, Size,
-    Takes, TakesNothing,
+    Takes, TakesAligned, TakesImage, TakesNothing,
 };
 use super::{
     MB, Request, allocate, check_report, check_text, dedicated, free, general, granularity_one,
@@ -18,22 +18,17 @@ use std::num::NonZeroU64;
 use std::process::Abort;
 use std::test::Fail;
 
-/// A piece that is asked for.
-#[derive(Clone, Copy)]
-struct Asked {
-    size: u64,
-    alignment: u64,
-    linear: bool,
-    name: &'static str,
-}
-
 /// A call, and what it answers. The number 0 stands for none.
 #[derive(Clone, Copy)]
 enum Call {
-    /// A piece is taken: its offset and number.
-    Takes(Asked, (u64, u64)),
+    /// A piece of so many bytes with this name is taken, linear and at any offset: its offset and number.
+    Takes(u64, &'static str, (u64, u64)),
+    /// A linear piece with this alignment is taken.
+    TakesAligned(u64, u64, &'static str, (u64, u64)),
+    /// A piece that isn't linear is taken.
+    TakesImage(u64, &'static str, (u64, u64)),
     /// No piece is taken, for the cause of this text.
-    TakesNothing(Asked, &'static str),
+    TakesNothing(u64, &'static str, &'static str),
     Frees(u64),
     FreesNothing(u64, &'static str),
     Renames(u64, &'static str),
@@ -47,43 +42,30 @@ enum Call {
     IsGeneral(bool),
 }
 
-/// A linear piece that may begin anywhere.
-fn plain(size: u64, name: &'static str) -> Asked {
-    Asked {
+fn image(size: u64, granularity: u64, name: &str) -> Request<'_>
+    ensures piece { result.kind ≢ AllocationType.Free }
+    ensures paged { result.granularity ≡ granularity }
+{
+    Request {
         size,
         alignment: 1,
-        linear: true,
+        kind: AllocationType::NonLinear,
+        granularity,
         name,
     }
 }
 
-fn kind_of(linear: bool) -> AllocationType
-    ensures { result ≢ AllocationType.Free }
+fn linear(size: u64, alignment: u64, granularity: u64, name: &str) -> Request<'_>
+    ensures piece { result.kind ≢ AllocationType.Free }
+    ensures paged { result.granularity ≡ granularity }
 {
-    if linear {
-        AllocationType::Linear
-    } else {
-        AllocationType::NonLinear
-    }
-}
-
-fn take(
-    rt: &impl Abort,
-    block: &mut SubAllocator,
-    granularity: u64,
-    asked: Asked,
-) -> Result<(u64, u64)>
-    requires { HasPages (block_of block.old) granularity }
-    ensures { (g : ℕ) → HasPages (block_of block.old) g → HasPages (block_of block.new) g }
-{
-    let request = Request {
-        size: asked.size,
-        alignment: asked.alignment,
-        kind: kind_of(asked.linear),
+    Request {
+        size,
+        alignment,
+        kind: AllocationType::Linear,
         granularity,
-        name: asked.name,
-    };
-    allocate(rt, block, request)
+        name,
+    }
 }
 
 /// 0 stands for no number.
@@ -127,6 +109,16 @@ fn look(rt: &impl Abort, alloc: Global, block: &SubAllocator, call: Call) -> Res
     Ok(())
 }
 
+/// Makes a call that takes a piece, and compares its answer.
+fn take(rt: &impl Abort, block: &mut SubAllocator, request: Request, want: (u64, u64)) -> Result<()>
+    requires paged { HasPages (block_of block.old) request.granularity }
+    requires piece { request.kind ≢ AllocationType.Free }
+    ensures { (g : ℕ) → HasPages (block_of block.old) g → HasPages (block_of block.new) g }
+{
+    assert!(rt; allocate(rt, block, request)? == want);
+    Ok(())
+}
+
 /// Makes a call, and compares its answer.
 fn make_call(
     rt: &impl Abort,
@@ -139,19 +131,23 @@ fn make_call(
     ensures { (g : ℕ) → HasPages (block_of block.old) g → HasPages (block_of block.new) g }
 {
     match call {
-        Takes(asked, want) => assert!(rt; take(rt, block, granularity, asked)? == want),
-        TakesNothing(asked, want) => {
-            check_refused(rt, alloc, take(rt, block, granularity, asked), want)?
+        Takes(size, name, want) => take(rt, block, linear(size, 1, granularity, name), want),
+        TakesAligned(size, alignment, name, want) => {
+            take(rt, block, linear(size, alignment, granularity, name), want)
         }
-        Frees(number) => free(block, number)?,
-        FreesNothing(number, want) => check_refused(rt, alloc, free(block, number), want)?,
-        Renames(number, name) => rename(block, number, name)?,
+        TakesImage(size, name, want) => take(rt, block, image(size, granularity, name), want),
+        TakesNothing(size, name, want) => {
+            let got = allocate(rt, block, linear(size, 1, granularity, name));
+            check_refused(rt, alloc, got, want)
+        }
+        Frees(number) => free(block, number),
+        FreesNothing(number, want) => check_refused(rt, alloc, free(block, number), want),
+        Renames(number, name) => rename(block, number, name),
         RenamesNothing(number, want) => {
-            check_refused(rt, alloc, rename(block, number, "x"), want)?
+            check_refused(rt, alloc, rename(block, number, "x"), want)
         }
-        _ => look(rt, alloc, block, call)?,
+        _ => look(rt, alloc, block, call),
     }
-    Ok(())
 }
 
 fn make_calls(
@@ -188,14 +184,13 @@ const RENAMED_UNKNOWN: &str =
 
 #[test]
 fn a_dedicated_block_holds_one_piece_of_its_size(rt: HostRuntime) -> Result<(), Fail> {
-    let mut block = dedicated(&rt, rt.alloc(), 1000);
-    let calls = [
+    const CALLS: &[Call] = &[
         IsGeneral(false),
-        TakesNothing(plain(999, "a"), OTHER_SIZE),
+        TakesNothing(999, "a", OTHER_SIZE),
         Allocated(0),
-        Takes(plain(1000, "a"), (0, 1)),
-        TakesNothing(plain(999, "b"), OUT_OF_MEMORY),
-        TakesNothing(plain(1000, "b"), OUT_OF_MEMORY),
+        Takes(1000, "a", (0, 1)),
+        TakesNothing(999, "b", OUT_OF_MEMORY),
+        TakesNothing(1000, "b", OUT_OF_MEMORY),
         Allocated(1000),
         FreesNothing(2, NOT_ONE),
         FreesNothing(0, NOT_ONE),
@@ -204,26 +199,27 @@ fn a_dedicated_block_holds_one_piece_of_its_size(rt: HostRuntime) -> Result<(), 
         FreesNothing(2, NOT_ONE),
         Allocated(0),
     ];
-    make_calls(&rt, rt.alloc(), &mut block, 1, &calls)?;
+    let mut block = dedicated(&rt, rt.alloc(), 1000);
+    make_calls(&rt, rt.alloc(), &mut block, 1, CALLS)?;
     Ok(())
 }
 
 #[test]
 fn a_free_list_in_a_block_gives_and_takes(rt: HostRuntime) -> Result<(), Fail> {
-    let mut block = general(&rt, rt.alloc(), 1)?;
-    let calls = [
+    const CALLS: &[Call] = &[
         IsGeneral(true),
         Allocated(0),
-        Takes(plain(10, "a"), (0, 2)),
-        TakesNothing(plain(4 * MB, "b"), OUT_OF_MEMORY),
+        Takes(10, "a", (0, 2)),
+        TakesNothing(4 * MB, "b", OUT_OF_MEMORY),
         FreesNothing(0, MISSING),
         FreesNothing(1, NOT_LISTED),
         FreesNothing(7, NOT_LISTED),
         Frees(2),
         Allocated(0),
-        Takes(plain(4 * MB, "b"), (0, 2)),
+        Takes(4 * MB, "b", (0, 2)),
     ];
-    make_calls(&rt, rt.alloc(), &mut block, 1, &calls)?;
+    let mut block = general(&rt, rt.alloc(), 1)?;
+    make_calls(&rt, rt.alloc(), &mut block, 1, CALLS)?;
     Ok(())
 }
 
@@ -232,52 +228,41 @@ const LAST: u64 = 18_446_744_073_709_551_614;
 
 #[test]
 fn the_last_number_in_a_block(rt: HostRuntime) -> Result<(), Fail> {
+    const CALLS: &[Call] = &[
+        Takes(10, "a", (0, LAST)),
+        TakesNothing(10, "b", OUT_OF_MEMORY),
+        Takes(4_194_294, "c", (10, 1)),
+        Frees(LAST),
+        Takes(10, "d", (0, LAST)),
+    ];
     let granularity = granularity_one(&rt);
     let list = FreeListAllocator::with_counter(rt.alloc(), 4_194_304, granularity, LAST)?;
     let mut block = SubAllocator::FreeList(list);
-    let calls = [
-        Takes(plain(10, "a"), (0, LAST)),
-        TakesNothing(plain(10, "b"), OUT_OF_MEMORY),
-        Takes(plain(4_194_294, "c"), (10, 1)),
-        Frees(LAST),
-        Takes(plain(10, "d"), (0, LAST)),
-    ];
-    make_calls(&rt, rt.alloc(), &mut block, granularity, &calls)?;
+    make_calls(&rt, rt.alloc(), &mut block, granularity, CALLS)?;
     Ok(())
 }
 
 #[test]
 fn a_gap_is_refused_for_its_last_page(rt: HostRuntime) -> Result<(), Fail> {
-    let mut block = general(&rt, rt.alloc(), 1024)?;
-    let image = Asked {
-        linear: false,
-        ..plain(100, "b")
-    };
-    let calls = [
-        Takes(plain(2000, "a"), (0, 2)),
-        Takes(image, (2048, 3)),
+    const CALLS: &[Call] = &[
+        Takes(2000, "a", (0, 2)),
+        TakesImage(100, "b", (2048, 3)),
         Frees(2),
-        Takes(plain(1000, "a"), (0, 4)),
-        Takes(plain(1000, "a"), (3072, 5)),
-        Takes(
-            Asked {
-                size: 1000,
-                ..image
-            },
-            (4096, 6),
-        ),
+        Takes(1000, "a", (0, 4)),
+        Takes(1000, "a", (3072, 5)),
+        TakesImage(1000, "b", (4096, 6)),
     ];
-    make_calls(&rt, rt.alloc(), &mut block, 1024, &calls)?;
+    let mut block = general(&rt, rt.alloc(), 1024)?;
+    make_calls(&rt, rt.alloc(), &mut block, 1024, CALLS)?;
     Ok(())
 }
 
 #[test]
 fn a_live_piece_gets_another_name_and_no_other(rt: HostRuntime) -> Result<(), Fail> {
-    let mut block = general(&rt, rt.alloc(), 1)?;
-    let calls = [
-        Takes(plain(10, "a"), (0, 2)),
-        Takes(plain(20, "b"), (10, 3)),
-        Takes(plain(30, "c"), (30, 4)),
+    const CALLS: &[Call] = &[
+        Takes(10, "a", (0, 2)),
+        Takes(20, "b", (10, 3)),
+        Takes(30, "c", (30, 4)),
         Frees(2),
         Renames(3, "new"),
         Reports("new 10 20;c 30 30;"),
@@ -287,58 +272,55 @@ fn a_live_piece_gets_another_name_and_no_other(rt: HostRuntime) -> Result<(), Fa
         RenamesNothing(5, RENAMED_UNKNOWN),
         Reports("new 10 20;c 30 30;"),
     ];
-    make_calls(&rt, rt.alloc(), &mut block, 1, &calls)?;
+    let mut block = general(&rt, rt.alloc(), 1)?;
+    make_calls(&rt, rt.alloc(), &mut block, 1, CALLS)?;
     Ok(())
 }
 
 #[test]
 fn a_dedicated_piece_gets_another_name(rt: HostRuntime) -> Result<(), Fail> {
-    let mut block = dedicated(&rt, rt.alloc(), 1000);
-    let calls = [
+    const CALLS: &[Call] = &[
         RenamesNothing(1, RENAMED_AFTER_FREE),
         RenamesNothing(2, NOT_ONE),
         RenamesNothing(0, NOT_ONE),
         Reports(""),
-        Takes(plain(1000, "a"), (0, 1)),
+        Takes(1000, "a", (0, 1)),
         RenamesNothing(2, NOT_ONE),
         Reports("a 0 1000;"),
         Renames(1, "new"),
         Reports("new 0 1000;"),
     ];
-    make_calls(&rt, rt.alloc(), &mut block, 1, &calls)?;
+    let mut block = dedicated(&rt, rt.alloc(), 1000);
+    make_calls(&rt, rt.alloc(), &mut block, 1, CALLS)?;
     Ok(())
 }
 
 #[test]
 fn a_live_piece_is_found_by_its_number(rt: HostRuntime) -> Result<(), Fail> {
-    let mut block = general(&rt, rt.alloc(), 1)?;
-    let aligned = Asked {
-        alignment: 256,
-        ..plain(64, "b")
-    };
-    let calls = [
+    const CALLS: &[Call] = &[
         Size(4 * MB),
-        Takes(plain(100, "a"), (0, 2)),
-        Takes(aligned, (256, 3)),
+        Takes(100, "a", (0, 2)),
+        TakesAligned(64, 256, "b", (256, 3)),
         Finds(2, Some((0, 100))),
         Finds(3, Some((256, 64))),
         Finds(1, None),
         Finds(4, None),
     ];
-    make_calls(&rt, rt.alloc(), &mut block, 1, &calls)?;
+    let mut block = general(&rt, rt.alloc(), 1)?;
+    make_calls(&rt, rt.alloc(), &mut block, 1, CALLS)?;
     Ok(())
 }
 
 #[test]
 fn a_dedicated_piece_is_found_by_the_number_one(rt: HostRuntime) -> Result<(), Fail> {
-    let mut block = dedicated(&rt, rt.alloc(), 1000);
-    let calls = [
+    const CALLS: &[Call] = &[
         Size(1000),
         Finds(1, None),
-        Takes(plain(1000, "a"), (0, 1)),
+        Takes(1000, "a", (0, 1)),
         Finds(1, Some((0, 1000))),
         Finds(2, None),
     ];
-    make_calls(&rt, rt.alloc(), &mut block, 1, &calls)?;
+    let mut block = dedicated(&rt, rt.alloc(), 1000);
+    make_calls(&rt, rt.alloc(), &mut block, 1, CALLS)?;
     Ok(())
 }

@@ -10,7 +10,7 @@ mod calls;
 use super::{Answer, ask, check_fault, check_report, check_words, own, take, three_types};
 use crate::TOLD;
 use crate::memory_type::{Handle, check_place, check_same, named};
-use calls::{At, CALLS, Call, Change, Form, Freed};
+use calls::{At, Call, Change, Form, Freed};
 use gpu_core::{AllocationError, AllocationType, AllocatorReport, Piece, Request, Result};
 use gpu_memory_types::MemoryTypes;
 use std::alloc::Global;
@@ -121,6 +121,24 @@ impl Script {
         panic!(rt; "no piece was taken under the name {name}")
     }
 
+    /// Takes a piece, once more where the host refused memory.
+    fn taken(
+        &mut self,
+        rt: &impl Abort,
+        index: usize,
+        request: &Request,
+        block: Handle,
+    ) -> Result<(Piece<Handle>, Answer)>
+        requires { request.now.kind ≢ AllocationType.Free }
+    {
+        let before = self.report()?;
+        let answer = take(rt, &mut self.types, index, request, block);
+        if self.is_refused(rt, &before, &answer)? {
+            return take(rt, &mut self.types, index, request, block);
+        }
+        answer
+    }
+
     fn take(
         &mut self,
         rt: &impl Abort,
@@ -132,12 +150,7 @@ impl Script {
         requires { request.now.kind ≢ AllocationType.Free }
     {
         let At(slot, offset, number, block) = at;
-        let before = self.report()?;
-        let mut answer = take(rt, &mut self.types, index, request, block);
-        if self.is_refused(rt, &before, &answer)? {
-            answer = take(rt, &mut self.types, index, request, block);
-        }
-        let (piece, answer) = answer?;
+        let (piece, answer) = self.taken(rt, index, request, block)?;
         assert!(rt; answer == want);
         check_place(rt, &piece, slot, offset, number);
         assert!(rt; piece.size == request.size && piece.block == block);
@@ -167,26 +180,45 @@ impl Script {
         self.check_unchanged(rt, &before)
     }
 
-    /// Gives a piece back, which takes no memory.
+    /// Gives a live piece back, which takes no memory, and its block with it where that goes.
+    fn give(
+        &mut self,
+        rt: &impl Abort,
+        index: usize,
+        piece: &Piece<Handle>,
+        gone: Option<Handle>,
+    ) -> Result<()> {
+        assert!(rt; self.types.is_live(index, piece));
+        assert!(rt; self.types.free(index, piece)? == gone);
+        assert!(rt; !self.types.is_live(index, piece));
+        Ok(())
+    }
+
+    /// Gives a piece back that isn't live.
+    fn give_dead(
+        &mut self,
+        rt: &impl Abort,
+        index: usize,
+        piece: &Piece<Handle>,
+        fault: &str,
+    ) -> Result<()> {
+        let before = self.report()?;
+        assert!(rt; !self.types.is_live(index, piece));
+        check_fault(rt, &self.types.free(index, piece), fault);
+        assert!(rt; !self.types.is_live(index, piece));
+        self.check_unchanged(rt, &before)
+    }
+
     fn free(&mut self, rt: &impl Abort, index: usize, name: &str, want: Freed) -> Result<()> {
         let piece = self.piece(rt, name);
-        let before = self.report()?;
-        let is_refused = matches!(want, Freed::Refused(_));
-        assert!(rt; self.types.is_live(index, &piece) != is_refused);
-        let answer = self.types.free(index, &piece);
-        assert!(rt; !self.types.is_live(index, &piece));
         match want {
-            Freed::Piece => assert!(rt; answer?.is_none()),
+            Freed::Piece => self.give(rt, index, &piece, None),
             Freed::Block(number, size) => {
-                assert!(rt; answer? == Some(number));
                 self.capacity = self.capacity.saturating_sub(size);
+                self.give(rt, index, &piece, Some(number))
             }
-            Freed::Refused(text) => {
-                check_fault(rt, &answer, text);
-                self.check_unchanged(rt, &before)?;
-            }
+            Freed::Refused(fault) => self.give_dead(rt, index, &piece, fault),
         }
-        Ok(())
     }
 
     /// Gives a live piece another name.
@@ -287,20 +319,21 @@ impl Script {
 
     /// Makes one call, and looks at the sum of all blocks' sizes.
     fn call(&mut self, rt: &impl Abort, call: Call) -> Result<()> {
-        match call {
+        let answer = match call {
             Call::Take(index, name, form, want, at) => {
-                self.take(rt, index, &request_of(name, form), want, at)?
+                self.take(rt, index, &request_of(name, form), want, at)
             }
-            Call::Ask(index, form, want) => self.ask(rt, index, &request_of("none", form), want)?,
-            Call::Free(index, name, want) => self.free(rt, index, name, want)?,
-            Call::Rename(index, name, new) => self.rename(rt, index, name, new)?,
+            Call::Ask(index, form, want) => self.ask(rt, index, &request_of("none", form), want),
+            Call::Free(index, name, want) => self.free(rt, index, name, want),
+            Call::Rename(index, name, new) => self.rename(rt, index, name, new),
             Call::Foreign(index, name, change, freed, renamed) => {
                 let piece = changed(self.piece(rt, name), change);
-                self.foreign(rt, index, &piece, freed, renamed)?
+                self.foreign(rt, index, &piece, freed, renamed)
             }
-            Call::SetBudget(index, budget, fault) => self.set_budget(rt, index, budget, fault)?,
-            _ => self.look(rt, call)?,
-        }
+            Call::SetBudget(index, budget, fault) => self.set_budget(rt, index, budget, fault),
+            _ => self.look(rt, call),
+        };
+        answer?;
         assert!(rt; self.types.capacity() == self.capacity);
         Ok(())
     }
@@ -315,25 +348,32 @@ fn ends(refused: usize) -> std::result::Result<(), Fail> {
     }
 }
 
+/// Makes all calls of the script.
+fn run(rt: &impl Abort, script: &mut Script) -> Result<()> {
+    for call in calls::all() {
+        script.call(rt, *call)?;
+    }
+    Ok(())
+}
+
+/// The script before its first call.
+fn begin(rt: &impl Abort, alloc: Global) -> Result<Script> {
+    Ok(Script {
+        alloc,
+        types: three_types(rt, alloc)?,
+        kept: Vec::with_capacity(alloc, calls::all().len())?,
+        capacity: 0,
+        refused: 0,
+    })
+}
+
 #[test]
 fn all_memory_types_lose_nothing_where_memory_is_refused(
     rt: HostRuntime,
 ) -> std::result::Result<(), Fail> {
-    let Ok(kept) = Vec::with_capacity(rt.alloc(), CALLS.len()) else {
+    let Ok(mut script) = begin(&rt, rt.alloc()) else {
         return Err(Fail::new(TOLD));
     };
-    let Ok(types) = three_types(&rt, rt.alloc()) else {
-        return Err(Fail::new(TOLD));
-    };
-    let mut script = Script {
-        alloc: rt.alloc(),
-        types,
-        kept,
-        capacity: 0,
-        refused: 0,
-    };
-    for call in CALLS {
-        script.call(&rt, *call)?;
-    }
+    run(&rt, &mut script)?;
     ends(script.refused)
 }

@@ -80,7 +80,7 @@ pub enum Call {
 }
 
 /// The script: blocks of each kind, budgets, pieces that aren't live, names, and all back.
-pub const CALLS: &[Call] = &[
+const CALLS: &[Call] = &[
     Call::Count(3),
     Call::CheckType(0, None, &[]),
     Call::CheckType(3, None, &[]),
@@ -364,3 +364,8 @@ const LEAKS: &[&str] = &[
     "leak detected: {\n    memory type: 1\n    memory block: 0\n    chunk: {\n        chunk_id: 3,\n        size: 0xe4,\n        offset: 0x64,\n        allocation_type: NonLinear,\n        name: j\n    }\n}",
     "leak detected: {\n    memory type: 2\n    memory block: 0\n    chunk: {\n        chunk_id: 2,\n        size: 0x400000,\n        offset: 0x0,\n        allocation_type: Linear,\n        name: o\n    }\n}",
 ];
+
+/// All calls in order.
+pub fn all() -> &'static [Call] {
+    CALLS
+}
