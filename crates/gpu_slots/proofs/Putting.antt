@@ -14,5 +14,3 @@ put_slots xs i b at =
 
 pub push_slots : {H : Type 0} (xs : List (Option (LiveBlock H))) (b : LiveBlock H) → slots_of (xs ++ Some b ∷ []) ≡ with_block (slots_of xs) (length xs) (slot_of b)
 push_slots xs b = rw (map-append (option_map slot_of) xs (Some b ∷ []), ← length-map xs (option_map slot_of)) (grind (arith, common_steps))
-
-pub ruleset put_lemmas = (put_slots, push_slots)

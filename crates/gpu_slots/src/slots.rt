@@ -244,7 +244,6 @@ fn empty_for<H>(slots: &[Option<LiveBlock<H>>], is_dedicated: bool) -> Option<us
 }
 
 /// Puts a block where it goes, and answers that slot. It takes no memory.
-#[tactic(auto, using(crate::proofs::Putting::put_lemmas))]
 fn put_block<H: Drop>(
     slots: &mut Vec<Option<LiveBlock<H>>>,
     block: LiveBlock<H>,
