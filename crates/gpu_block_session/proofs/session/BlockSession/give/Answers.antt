@@ -1,4 +1,4 @@
-use Rattle.std.proofs.Common.{◌≡◌, ◌∙◌, sym, subst, Some}
+use Rattle.std.proofs.Common.{rules, ◌≡◌, ◌∙◌, sym, subst, Some}
 use Rattle.std.specs.Int.NonZero.{non_zero_u64_get}
 use Rattle.gpu_block.specs.Block.{ReleasesIn, IsSoundBlock}
 use Rattle.gpu_block.specs.SubAllocator.{block_of}
@@ -33,3 +33,6 @@ pub returns-in-Some : goal.returns-in-Some
 returns-in-Some c =
     subst (λ s. Giving s c.args.key Given (record { block = block_of c.free.new.self; bound = c.remove.new.self.entries })) c.self.view_is
     (c.in-Some.chunk, bound_before c, the_release c, c.remove.ensures.entries)
+
+pub returns-in-None : goal.returns-in-None
+returns-in-None c = search rules

@@ -1,4 +1,4 @@
-use Rattle.std.proofs.Common.{◌∙◌}
+use Rattle.std.proofs.Common.{rules, ◌∙◌}
 use Rattle.gpu_block.specs.SubAllocator.{block_of}
 use Rattle.gpu_block_session.specs.BlockSession.{State}
 use Rattle.gpu_block_session.proofs.Owning.{owns_after_taking, size_after_taking}
@@ -12,3 +12,12 @@ invariant_of-self c =
       c.take_unbound.ensures.pages c.self.inside.granularity c.self.invariant.1,
       owns_after_taking old c.args.key _ c.take_unbound.result new c.take_unbound.ensures.taking (c.take_unbound.ensures.sound c.self.invariant.2.sound) c.self.invariant.2,
     )
+
+pub returns-then-size-eq0 : goal.returns-then-size-eq0
+returns-then-size-eq0 c = search rules
+
+pub take_unbound-requires-clause-aligned : goal.take_unbound-requires-clause-aligned
+take_unbound-requires-clause-aligned c = search rules
+
+pub returns-then-contains_key : goal.returns-then-contains_key
+returns-then-contains_key c = search rules

@@ -39,3 +39,9 @@ loop-command-preserved g c =
       count = grind (arith, common_steps, c.loop-command.invariant.count);
       room = grind (arith, common_steps, c.loop-command.invariant.room);
     }
+
+pub returns-clause-run : goal.returns-clause-run
+returns-clause-run g c = grind (arith, common_steps)
+
+pub returns-clause-each : goal.returns-clause-each
+returns-clause-each g c = grind (arith, common_steps)

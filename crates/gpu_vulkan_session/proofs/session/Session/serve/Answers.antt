@@ -1,4 +1,4 @@
-use Rattle.std.proofs.Common.{true, refl, sym, subst}
+use Rattle.std.proofs.Common.{rules, true, refl, sym, subst}
 use Rattle.gpu_vulkan.specs.Reply as answers
 use Rattle.gpu_vulkan.specs.Step as model
 use Rattle.gpu_vulkan.proofs.Untouched.{same_leaves}
@@ -23,3 +23,6 @@ returns-in-Capacity g c =
       untouched = λ e. same_leaves (V.held s.allocator.device) (V.held s.allocator.device) refl;
       constant = (refl, refl);
     }))
+
+pub returns-in-Read : goal.returns-in-Read
+returns-in-Read g c = search rules
