@@ -10,6 +10,7 @@ use self::Call::{
 };
 use super::{
     MB, Request, allocate, check_report, check_text, dedicated, free, general, granularity_one,
+    wanted,
 };
 use gpu_block::{FreeListAllocator, SubAllocator};
 use gpu_values::{AllocationType, Result};
@@ -42,29 +43,24 @@ enum Call {
     IsGeneral(bool),
 }
 
-fn image(size: u64, granularity: u64, name: &str) -> Request<'_>
-    ensures piece { result.kind ≢ AllocationType.Free }
-    ensures paged { result.granularity ≡ granularity }
-{
-    Request {
-        size,
-        alignment: 1,
-        kind: AllocationType::NonLinear,
-        granularity,
-        name,
-    }
-}
-
 fn linear(size: u64, alignment: u64, granularity: u64, name: &str) -> Request<'_>
     ensures piece { result.kind ≢ AllocationType.Free }
     ensures paged { result.granularity ≡ granularity }
 {
     Request {
-        size,
         alignment,
-        kind: AllocationType::Linear,
         granularity,
-        name,
+        ..wanted(size, name)
+    }
+}
+
+fn image(size: u64, granularity: u64, name: &str) -> Request<'_>
+    ensures piece { result.kind ≢ AllocationType.Free }
+    ensures paged { result.granularity ≡ granularity }
+{
+    Request {
+        kind: AllocationType::NonLinear,
+        ..linear(size, 1, granularity, name)
     }
 }
 

@@ -139,6 +139,7 @@ impl Script {
         answer
     }
 
+    /// Takes a piece, looks at it, and keeps it.
     fn take(
         &mut self,
         rt: &impl Abort,
@@ -209,6 +210,7 @@ impl Script {
         self.check_unchanged(rt, &before)
     }
 
+    /// Gives back the piece that was taken under that name, and looks at what goes.
     fn free(&mut self, rt: &impl Abort, index: usize, name: &str, want: Freed) -> Result<()> {
         let piece = self.piece(rt, name);
         match want {

@@ -365,7 +365,7 @@ const LEAKS: &[&str] = &[
     "leak detected: {\n    memory type: 2\n    memory block: 0\n    chunk: {\n        chunk_id: 2,\n        size: 0x400000,\n        offset: 0x0,\n        allocation_type: Linear,\n        name: o\n    }\n}",
 ];
 
-/// All calls in order.
+/// All calls in order. (By one function: each function that names the list itself is proved over every entry.)
 pub fn all() -> &'static [Call] {
     CALLS
 }
