@@ -1,4 +1,4 @@
-use Rattle.std.proofs.Common.{subst, refl}
+use Rattle.std.proofs.Common.{subst, refl, rules}
 use Rattle.gpu_slots.specs.declared.piece.Piece.{Piece}
 use Rattle.gpu_device.specs.declared.d3d12.types.ID3D12Heap.{ID3D12Heap}
 use Rattle.gpu_memory_types.specs.Blocks.{slots_at}
@@ -15,3 +15,6 @@ returns-in-Err-clause-renames c = (
   refl,
   c.in-Err.ensures.refused,
 )
+
+pub returns-in-Ok-Some-clause-renames : goal.returns-in-Ok-Some-clause-renames
+returns-in-Ok-Some-clause-renames c = search rules

@@ -1,4 +1,4 @@
-use Rattle.std.proofs.Common.{sym, ap, Some, to_z, of_z, w32}
+use Rattle.std.proofs.Common.{sym, ap, Some, to_z, of_z, w32, rules}
 use Rattle.gpu_d3d12_setup.specs.HeapAnswer.{Declined}
 use Rattle.gpu_d3d12_setup.proofs.heap.create_block_heap.Goals as goal
 
@@ -17,3 +17,6 @@ returns-in-Err g c = (
   },
   ap Some (sym c.refusal_of_heap.ensures),
 )
+
+pub returns-in-Ok-None : goal.returns-in-Ok-None
+returns-in-Ok-None g c = search rules

@@ -1,4 +1,4 @@
-use Rattle.std.proofs.Common.{◌≡◌, ◌∙◌, ◌++◌, [], ◌∷◌, ℕ, Bool, ap, sym, subst, map, take, arith, refl, ◌+◌, All, None}
+use Rattle.std.proofs.Common.{◌≡◌, ◌∙◌, ◌++◌, [], ◌∷◌, ℕ, Bool, ap, sym, subst, map, take, arith, refl, ◌+◌, All, None, rules}
 use Rattle.std.proofs.lemmas.List.{map-append}
 use Rattle.std.proofs.lemmas.List.Elements.{All-append, All-cons, All-nil}
 use Rattle.gpu_slots.specs.TypeState.{TypeState}
@@ -48,3 +48,6 @@ loop-index-preserved c =
       len = omega (arith, c.loop-index.invariant.len, c.push_reserved.ensures.len);
       room = omega (arith, c.loop-index.invariant.room, c.push_reserved.ensures.capacity);
     }
+
+pub loop-index-init : goal.loop-index-init
+loop-index-init c = search rules

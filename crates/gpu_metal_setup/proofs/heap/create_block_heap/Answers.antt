@@ -1,4 +1,4 @@
-use Rattle.std.proofs.Common.{sym, subst}
+use Rattle.std.proofs.Common.{sym, subst, rules}
 use Rattle.gpu_device.specs.Metal.{Held, Heap, IsHeap}
 use Rattle.gpu_device.proofs.HeapsAndSets.{insert-is_heap}
 use Rattle.gpu_metal_setup.specs.Residency.{HoldsSet}
@@ -17,3 +17,9 @@ join_set-requires-clause-heap g c =
     let V = g.D.MetalDevice in
     let heap = c.in-Some.heap in
     subst (λ (h : Held). IsHeap h heap.0) (sym c.in-Some.ensures.holds) (insert-is_heap (V.held c.args.device.now) heap.0 c.heap_descriptor.result c.args.size)
+
+pub returns-in-Some : goal.returns-in-Some
+returns-in-Some g c = search rules
+
+pub returns-in-None : goal.returns-in-None
+returns-in-None g c = search rules

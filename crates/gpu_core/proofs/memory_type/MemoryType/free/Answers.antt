@@ -1,5 +1,5 @@
 use native.Mathlib.Numerals.{unary_clauses}
-use Rattle.std.proofs.Common.{◌-◌, subst, sym}
+use Rattle.std.proofs.Common.{◌-◌, subst, sym, rules}
 use Rattle.gpu_slots.specs.TypeState.{slot_at, KeepsOneEmptyAtMost}
 use Rattle.gpu_slots.specs.TypeRelease.{SlotHolds}
 use Rattle.gpu_core.specs.TypeInvariant.{AreKept}
@@ -7,8 +7,8 @@ use Rattle.gpu_slots.specs.Slots.{AreSound, gone_number, gone_size, gone_shared}
 use Rattle.gpu_slots.proofs.Slotted.{on_err}
 use Rattle.gpu_core.proofs.Dead.{free_dead}
 use Rattle.gpu_core.proofs.Kept.{freed_kept}
-use Rattle.gpu_core.proofs.memory_type.MemoryType.free.Goals as goal
 use Rattle.gpu_core.proofs.memory_type.MemoryType.free.Goals.{In_ok-free, then-gone, else-gone}
+use Rattle.gpu_core.proofs.memory_type.MemoryType.free.Goals as goal
 
 kept : (g : _) (c : In_ok-free g) → AreKept c.self.inside.granularity c.free.new.self.slots (c.self.inside.capacity - gone_size c.in_ok-free.field-0)
     (c.self.inside.general - gone_shared c.in_ok-free.field-0)
@@ -62,3 +62,6 @@ returns-after-gone-clause-sound g c =
       | then-gone w ↦ subst (λ t. AreSound t.granularity t.slots) (sym w.self-is) after.sound
       | else-gone w ↦ subst (λ t. AreSound t.granularity t.slots) (sym w.self-is) after.sound
     ]
+
+pub returns-after-gone-clause-released : goal.returns-after-gone-clause-released
+returns-after-gone-clause-released g c = search rules

@@ -1,4 +1,4 @@
-use Rattle.std.proofs.Common.{◌∙◌, sym, ap}
+use Rattle.std.proofs.Common.{◌∙◌, sym, ap, rules}
 use Rattle.std.proofs.lemmas.List.{length-map}
 use Rattle.gpu_memory_types.specs.Types.{slots_of}
 use Rattle.gpu_d3d12_setup.specs.DeviceVersion.{device_of, with_device}
@@ -33,3 +33,6 @@ invariant_of-result g c =
 
 pub returns-in-Ok-new-clause-beside : goal.returns-in-Ok-new-clause-beside
 returns-in-Ok-new-clause-beside g c = (begins c.in-Ok.parts.0.tier (g.D.D3D12Device.held (device_of c.args.desc.device)) (slots_of c.in-Ok.parts.1) c.in-Ok.ensures.empty).1
+
+pub returns-in-Ok-new-clause-chosen : goal.returns-in-Ok-new-clause-chosen
+returns-in-Ok-new-clause-chosen g c = search rules

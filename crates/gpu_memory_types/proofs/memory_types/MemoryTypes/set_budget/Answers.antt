@@ -1,12 +1,13 @@
-use Rattle.std.proofs.Common.{◌≡◌, ◌∙◌, Some, sym, subst, ap, arith, length, slice_get, slice_set, ◌<◌}
+use Rattle.std.proofs.Common.{◌≡◌, ◌∙◌, Some, sym, subst, ap, arith, length, slice_get, slice_set, ◌<◌, rules}
 use Rattle.std.proofs.lemmas.List.{length-map, map-set}
+use Rattle.std.proofs.lemmas.Grind.{common_steps}
 use Rattle.gpu_slots.specs.TypeState.{TypeState, capacity_of}
 use Rattle.gpu_memory_types.specs.Budgets.{budgets}
 use Rattle.gpu_memory_types.specs.Types.{slots_of, kinds, MemoryTypesInvariant}
 use Rattle.gpu_memory_types.proofs.Changed.{element_at, same_slots}
 use Rattle.gpu_memory_types.proofs.Types.{invariant_set, kinds_set, each_at, WellFormed}
-use Rattle.gpu_memory_types.proofs.memory_types.MemoryTypes.set_budget.Goals as goal
 use Rattle.gpu_memory_types.proofs.memory_types.MemoryTypes.set_budget.Goals.{After-set_budget}
+use Rattle.gpu_memory_types.proofs.memory_types.MemoryTypes.set_budget.Goals as goal
 
 below : (g : _) (c : After-set_budget g) → c.args.index < length c.self.inside.types.items
 below g c = omega (arith, c.if-index-len.false, c.len.ensures)
@@ -55,3 +56,18 @@ returns-clause-budgets g c =
       map-set (λ (t : TypeState _). t.budget) types c.args.index c.set_budget.new.self
           ∙ ap (λ (t : TypeState _). slice_set (budgets types) c.args.index t.budget) c.set_budget.ensures,
     )
+
+pub returns-then-index-len-clause-budgets : goal.returns-then-index-len-clause-budgets
+returns-then-index-len-clause-budgets g c = grind (arith, common_steps)
+
+pub returns-then-index-len-clause-slots : goal.returns-then-index-len-clause-slots
+returns-then-index-len-clause-slots g c = search rules
+
+pub returns-then-index-len-clause-kinds : goal.returns-then-index-len-clause-kinds
+returns-then-index-len-clause-kinds g c = search rules
+
+pub returns-then-index-len-clause-refused : goal.returns-then-index-len-clause-refused
+returns-then-index-len-clause-refused g c = search rules
+
+pub returns-then-index-len-clause-kept : goal.returns-then-index-len-clause-kept
+returns-then-index-len-clause-kept g c = search rules

@@ -1,4 +1,4 @@
-use Rattle.std.proofs.Common.{ap, ◌∙◌, arith}
+use Rattle.std.proofs.Common.{ap, ◌∙◌, arith, rules}
 use Rattle.gpu_sim_base.specs.Numbers.{held_in}
 use Rattle.gpu_sim_base.proofs.Holding.{not_held, added}
 use Rattle.gpu_sim_d3d12.specs.Objects.{entry_of}
@@ -14,3 +14,6 @@ pub returns-in-Ok-clause-holds : goal.returns-in-Ok-clause-holds
 returns-in-Ok-clause-holds c =
     ap (held_in entry_of) c.in-Ok.ensures.held
     ∙ added entry_of c.args.self.now.numbers.slots.items c.args.object c.in-Ok.number c.in-Ok.ensures.number
+
+pub returns-in-Err-clause-answer : goal.returns-in-Err-clause-answer
+returns-in-Err-clause-answer c = search rules

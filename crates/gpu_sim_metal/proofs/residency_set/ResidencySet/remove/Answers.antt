@@ -15,3 +15,6 @@ invariant_of-self-clause-once c =
     let after : length c.retain.new.self.items ≤ among c.retain.new.self.items c.args.self.now.room =
     subst (λ l. length l ≤ among l c.args.self.now.room) (sym kept) (once_removed c.args.self.now.members.items c.args.heap c.args.self.now.room before) in
     omega (arith, after, c.retain.new.self.ok.0)
+
+pub returns-clause-committed : goal.returns-clause-committed
+returns-clause-committed c = search rules

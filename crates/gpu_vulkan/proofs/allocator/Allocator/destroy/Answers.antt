@@ -1,4 +1,4 @@
-use Rattle.std.proofs.Common.{◌≡◌, ◌∙◌, sym, ap, length, take, arith}
+use Rattle.std.proofs.Common.{◌≡◌, ◌∙◌, sym, ap, length, take, arith, rules}
 use Rattle.std.proofs.lemmas.List.{length-map}
 use Rattle.std.proofs.Math.Seq.{take-length}
 use Rattle.gpu_slots.specs.TypeState.{TypeState}
@@ -45,3 +45,6 @@ returns-clause-held g c =
     ∙ ap (λ (ts : Types DeviceMemory). without_all memory_number (V.held c.self.inside.device) (slots_of ts)) c.types.view_is
     ∙ all_returned memory_number (IsBlockEntry c.self.inside.setup.properties) (V.held c.self.inside.first.value) (V.held c.self.inside.device) (slots_of c.self.inside.types) kept.holds
     ∙ ap (λ s. V.held s.first) c.self.view_is
+
+pub loop-index-init : goal.loop-index-init
+loop-index-init g c = search rules

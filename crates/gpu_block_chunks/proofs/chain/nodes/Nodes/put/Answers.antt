@@ -1,4 +1,4 @@
-use Rattle.std.proofs.Common.{◌∙◌}
+use Rattle.std.proofs.Common.{◌∙◌, rules}
 use Rattle.gpu_block_chunks.proofs.Slots.{put_sound, put_sets, slotless}
 use Rattle.gpu_block_chunks.proofs.chain.nodes.Nodes.put.Goals as goal
 
@@ -15,3 +15,6 @@ returns-clause-sets c =
     rw (← c.self.view_is) (put_sets c.self.inside.slots.entries c.insert.new.self.entries c.self.inside.chunks.slots c.insert_reserved-slot.new.self.slots c.self.invariant
     c.args.number c.insert_reserved-slot.result c.args.chunk
     c.in-Ok.ensures.updates.0 c.insert_reserved-slot.ensures.was_free c.insert_reserved-slot.ensures.changes.changed c.insert_reserved-slot.ensures.changes.others)
+
+pub returns-clause-link : goal.returns-clause-link
+returns-clause-link c = search rules

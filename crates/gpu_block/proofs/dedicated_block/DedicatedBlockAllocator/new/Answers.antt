@@ -1,0 +1,5 @@
+use Rattle.std.proofs.Common.{rules}
+use Rattle.gpu_block.proofs.dedicated_block.DedicatedBlockAllocator.new.Goals as goal
+
+pub returns : goal.returns
+returns c = search rules

@@ -1,0 +1,8 @@
+use Rattle.std.proofs.Common.{rules}
+use Rattle.gpu_c.proofs.virtual_block_calls.pilhangko_raw_virtual_block_free.Goals as goal
+
+pub returns-in-Some-clause-freed : goal.returns-in-Some-clause-freed
+returns-in-Some-clause-freed c = search rules
+
+pub returns-in-Some-clause-not_live : goal.returns-in-Some-clause-not_live
+returns-in-Some-clause-not_live c = search rules

@@ -1,0 +1,5 @@
+use Rattle.std.proofs.Common.{rules}
+use Rattle.gpu_device.proofs.vulkan.flags.MemoryPropertyFlagsBitAnd.bitand.Goals as goal
+
+pub returns : goal.returns
+returns c = search rules

@@ -1,0 +1,8 @@
+use Rattle.std.proofs.Common.{arith}
+use Rattle.std.proofs.lemmas.Grind.{common_steps}
+use Rattle.gpu_report.specs.BlocksSvg.{block_note}
+use Rattle.gpu_report.proofs.blocks_svg.write_block_note.Goals as goal
+
+pub returns : goal.returns
+unfolding block_note
+returns g c = grind (arith, common_steps)

@@ -1,0 +1,8 @@
+use Rattle.std.proofs.Common.{arith}
+use Rattle.std.proofs.lemmas.Grind.{common_steps}
+use Rattle.gpu_report.specs.Svg.{label_svg}
+use Rattle.gpu_report.proofs.svg.write_label.Goals as goal
+
+pub returns : goal.returns
+unfolding label_svg
+returns g c = grind (arith, common_steps)

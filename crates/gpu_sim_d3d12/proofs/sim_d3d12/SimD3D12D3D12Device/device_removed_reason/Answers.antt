@@ -1,0 +1,5 @@
+use Rattle.std.proofs.Common.{rules}
+use Rattle.gpu_sim_d3d12.proofs.sim_d3d12.SimD3D12D3D12Device.device_removed_reason.Goals as goal
+
+pub returns : goal.returns
+returns c = search rules

@@ -1,0 +1,5 @@
+use Rattle.std.proofs.Common.{rules}
+use Rattle.gpu_sim_metal.proofs.sim_metal.SimMetal.questions.Goals as goal
+
+pub returns : goal.returns
+returns c = search rules

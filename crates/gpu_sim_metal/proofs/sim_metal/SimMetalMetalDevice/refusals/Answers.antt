@@ -1,0 +1,5 @@
+use Rattle.std.proofs.Common.{rules}
+use Rattle.gpu_sim_metal.proofs.sim_metal.SimMetalMetalDevice.refusals.Goals as goal
+
+pub returns : goal.returns
+returns c = search rules

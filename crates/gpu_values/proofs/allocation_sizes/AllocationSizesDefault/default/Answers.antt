@@ -1,0 +1,5 @@
+use Rattle.std.proofs.Common.{rules}
+use Rattle.gpu_values.proofs.allocation_sizes.AllocationSizesDefault.default.Goals as goal
+
+pub returns : goal.returns
+returns c = search rules

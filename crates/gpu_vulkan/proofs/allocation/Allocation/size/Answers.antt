@@ -1,0 +1,5 @@
+use Rattle.std.proofs.Common.{rules}
+use Rattle.gpu_vulkan.proofs.allocation.Allocation.size.Goals as goal
+
+pub returns : goal.returns
+returns c = search rules
