@@ -1,6 +1,5 @@
 //! Worked rows of the Vulkan allocator.
 
-mod account;
 mod budgets;
 mod bytes;
 mod counting;
@@ -9,9 +8,7 @@ mod log_lines;
 mod refused;
 mod reports;
 mod rows;
-mod scripts;
 mod setups;
-mod slots;
 
 use gpu_allocator::vulkan::*;
 use gpu_sim::SimVulkan;

@@ -65,53 +65,6 @@ fn refuse(
 }
 
 #[test]
-fn the_shortest_gap_that_fits_is_taken(rt: HostRuntime) -> Result<(), Fail> {
-    for (size, want) in [(40, (110, 6)), (50, (110, 4))] {
-        let mut block = block_of(&rt, rt.alloc(), 1)?;
-        let b = &mut block;
-        linear(&rt, b, 100, Some((0, 2)));
-        linear(&rt, b, 10, Some((100, 3)));
-        linear(&rt, b, 50, Some((110, 4)));
-        linear(&rt, b, 10, Some((160, 5)));
-        give(&rt, b, 2);
-        give(&rt, b, 4);
-        linear(&rt, b, size, Some(want));
-    }
-    Ok(())
-}
-
-#[test]
-fn of_equal_gaps_the_lowest_is_taken(rt: HostRuntime) -> Result<(), Fail> {
-    let mut block = block_of(&rt, rt.alloc(), 1)?;
-    let b = &mut block;
-    linear(&rt, b, 10, Some((0, 2)));
-    linear(&rt, b, 5, Some((10, 3)));
-    linear(&rt, b, 10, Some((15, 4)));
-    linear(&rt, b, 5, Some((25, 5)));
-    give(&rt, b, 2);
-    give(&rt, b, 4);
-    linear(&rt, b, 10, Some((0, 2)));
-    Ok(())
-}
-
-#[test]
-fn gaps_that_touch_are_one(rt: HostRuntime) -> Result<(), Fail> {
-    let mut block = block_of(&rt, rt.alloc(), 1)?;
-    let b = &mut block;
-    linear(&rt, b, 10, Some((0, 2)));
-    linear(&rt, b, 10, Some((10, 3)));
-    linear(&rt, b, 10, Some((20, 4)));
-    give(&rt, b, 3);
-    give(&rt, b, 2);
-    give(&rt, b, 4);
-    linear(&rt, b, 10, Some((0, 5)));
-    linear(&rt, b, 4 * MB, None);
-    give(&rt, b, 5);
-    linear(&rt, b, 4 * MB, Some((0, 5)));
-    Ok(())
-}
-
-#[test]
 fn sizes_and_alignments_may_be_as_large_as_they_like(rt: HostRuntime) -> Result<(), Fail> {
     let mut block = block_of(&rt, rt.alloc(), 1)?;
     let b = &mut block;
@@ -131,66 +84,6 @@ fn sizes_and_alignments_may_be_as_large_as_they_like(rt: HostRuntime) -> Result<
     linear(&rt, &mut whole, u64::MAX - 1, Some((0, 2)));
     linear(&rt, &mut whole, 1, Some((u64::MAX - 1, 1)));
     linear(&rt, &mut whole, 1, None);
-    Ok(())
-}
-
-#[test]
-fn pages_are_of_one_kind(rt: HostRuntime) -> Result<(), Fail> {
-    let mut block = block_of(&rt, rt.alloc(), 1024)?;
-    let b = &mut block;
-    take(&rt, b, (16, 16), AllocationType::Linear, 1024, Some((0, 2)));
-    take(
-        &rt,
-        b,
-        (64, 16),
-        AllocationType::NonLinear,
-        1024,
-        Some((1024, 3)),
-    );
-    take(
-        &rt,
-        b,
-        (16, 16),
-        AllocationType::Linear,
-        1024,
-        Some((2048, 4)),
-    );
-    give(&rt, b, 2);
-    take(
-        &rt,
-        b,
-        (16, 16),
-        AllocationType::Linear,
-        1024,
-        Some((2064, 5)),
-    );
-    Ok(())
-}
-
-fn on_pages(
-    rt: &impl Abort,
-    block: &mut FreeListAllocator,
-    size: u64,
-    kind: AllocationType,
-    want: Option<(u64, u64)>,
-)
-    requires paged { block.old.block.granularity ≡ 1024 }
-    requires piece { kind ≢ AllocationType.Free }
-    ensures { block.new.block.granularity ≡ block.old.block.granularity }
-{
-    take(rt, block, (size, 1), kind, 1024, want)
-}
-
-#[test]
-fn a_gap_that_ends_on_a_page_of_the_other_kind_is_passed_over(rt: HostRuntime) -> Result<(), Fail> {
-    let mut block = block_of(&rt, rt.alloc(), 1024)?;
-    let b = &mut block;
-    on_pages(&rt, b, 2000, AllocationType::Linear, Some((0, 2)));
-    on_pages(&rt, b, 100, AllocationType::NonLinear, Some((2048, 3)));
-    give(&rt, b, 2);
-    on_pages(&rt, b, 1024, AllocationType::Linear, Some((0, 4)));
-    on_pages(&rt, b, 976, AllocationType::Linear, Some((3072, 5)));
-    on_pages(&rt, b, 976, AllocationType::NonLinear, Some((1024, 2)));
     Ok(())
 }
 

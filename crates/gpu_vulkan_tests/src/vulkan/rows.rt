@@ -278,3 +278,26 @@ fn bad_requests_are_refused(rt: HostRuntime) -> Outcome {
     assert!(&rt; device.questions() == 0);
     Ok(())
 }
+
+fn other_code(rt: &impl Abort, a: &mut Allocator<SimVulkan>) -> Outcome {
+    match a.allocate(&Discard, &managed(512, 256, MemoryLocation::GpuToCpu)) {
+        Err(AllocationError::Internal(fault)) => {
+            assert!(rt; fault.text == "Unexpected error in vkAllocateMemory");
+            assert!(rt; fault.code == Some(-4));
+            Ok(())
+        }
+        _ => Err(Fail::from("the device refused by another code")),
+    }
+}
+
+#[test]
+fn another_code_is_a_fault_of_the_device(rt: HostRuntime) -> Outcome {
+    let mut properties = one_type(HOST, GIGABYTE);
+    properties.refusals = &[(1, Refusal::Code(-4))];
+    let mut a = made(rt.alloc(), &properties, AllocationSizes::default())?;
+    let done = other_code(&rt, &mut a);
+    let device = a.destroy(&Discard);
+    assert!(&rt; device.held() == 0);
+    assert!(&rt; device.refusals() == 1);
+    done
+}

@@ -1,0 +1,376 @@
+"""What a trace is answered, by the rules of docs/TRACE.md alone: a plain account beside the proved program.
+
+`replies(trace)` gives the bytes that `gpu_trace` has to write for a trace without a bad line, and how many questions the device was asked.
+A block is a list of extents; gaps are what lies between them, and each search looks at all of them. Nothing here is meant to be fast.
+"""
+MB = 1 << 20
+MAX = (1 << 64) - 1
+# Vulkan's flags of a memory type, by location: all that it prefers, and what it must have
+PREFERRED = {"Unknown": 0, "GpuOnly": 1, "CpuToGpu": 7, "GpuToCpu": 14}
+REQUIRED = {"Unknown": 0, "GpuOnly": 1, "CpuToGpu": 6, "GpuToCpu": 6}
+HOST_VISIBLE = 2
+KINDS = {"linear": "Linear", "nonlinear": "NonLinear"}
+
+
+class Refused(Exception):
+    """Why a request is refused: the word of the reply."""
+
+
+def is_power_of_two(number):
+    return number > 0 and number & (number - 1) == 0
+
+
+def up_to(number, step):
+    return -(-number // step) * step
+
+
+def block_size_near(size):
+    return up_to(min(max(size, 4 * MB), 256 * MB), 4 * MB)
+
+
+class Sizes:
+    """Of one side, device or host: where block sizes begin and up to where they double."""
+
+    def __init__(self, smallest, largest):
+        self.smallest = block_size_near(smallest)
+        self.largest = max(block_size_near(largest), self.smallest)
+
+    def next(self, count):
+        return min(self.smallest << min(count, 7), self.largest)
+
+
+class Extent:
+    """A live piece with its padding: [start, end), the piece begins at offset."""
+
+    def __init__(self, start, offset, end, kind, number, name):
+        self.start, self.offset, self.end, self.kind, self.number, self.name = start, offset, end, kind, number, name
+
+
+class Block:
+    """A block that pieces share: its extents by start, and the numbers of its gaps by their starts."""
+
+    def __init__(self, size, page):
+        self.size, self.page, self.counter, self.extents, self.gap_numbers = size, page, 2, [], {0: 1}
+        self.bytes = {}
+
+    def gaps(self):
+        """Of each gap its start and end, and the extents beside it."""
+        beside = [None, *self.extents, None]
+        for left, right in zip(beside, beside[1:]):
+            start, end = left.end if left else 0, right.start if right else self.size
+            if start < end:
+                yield start, end, left, right
+
+    def place_in(self, gap, size, alignment, kind):
+        """The least offset at which a piece fits in the gap, or None. Pieces of different kinds share no page."""
+        start, end, left, right = gap
+        offset = up_to(start, alignment)
+        if left and left.kind != kind and offset // self.page == (start - 1) // self.page:
+            offset = up_to(((start - 1) // self.page + 1) * self.page, alignment)
+        last = offset + size - 1
+        shares = right and right.kind != kind and last // self.page == end // self.page
+        return None if last >= end or shares else offset
+
+    def take(self, size, alignment, kind, name):
+        """A piece in the shortest gap in which it fits, of equal ones the lowest; None where there is none."""
+        for gap in sorted(self.gaps(), key=lambda it: (it[1] - it[0], it[0])):
+            offset = self.place_in(gap, size, alignment, kind)
+            if offset is not None:
+                return self.taken(gap, offset, offset + size, kind, name)
+        return None
+
+    def taken(self, gap, offset, end, kind, name):
+        number = self.gap_numbers.pop(gap[0])
+        if end < gap[1]:
+            self.gap_numbers[end], number, self.counter = number, self.counter, self.counter + 1
+        extent = Extent(gap[0], offset, end, kind, number, name)
+        self.extents = sorted([*self.extents, extent], key=lambda it: it.start)
+        return extent
+
+    def free(self, extent):
+        """Its place joins the gaps on both sides; the number stays that of the gap on the left, and else is the extent's."""
+        left = next((start for start, end, _, _ in self.gaps() if end == extent.start), None)
+        self.extents.remove(extent)
+        self.gap_numbers.pop(extent.end, None)
+        if left is None:
+            self.gap_numbers[extent.start] = extent.number
+
+    def rows(self):
+        return [b"piece %s %d %d\n" % (it.name, it.offset, it.end - it.offset) for it in self.extents]
+
+    def allocated(self):
+        return sum(it.end - it.start for it in self.extents)
+
+
+class Dedicated(Block):
+    """A block that is one piece's own: the piece has the number 1, and nothing else has a place."""
+
+    def take(self, size, alignment, kind, name):
+        self.extents = [Extent(0, 0, size, kind, 1, name)]
+        return self.extents[0]
+
+    def free(self, extent):
+        self.extents = []
+
+
+class MemoryType:
+    """A memory type: its flags, heap, budget and slots, each None or a block."""
+
+    def __init__(self, index, flags, heap):
+        self.index, self.flags, self.heap, self.budget, self.slots = index, flags, heap, None, []
+
+    def blocks(self):
+        return [it for it in self.slots if it]
+
+    def shared(self):
+        return [it for it in self.blocks() if not isinstance(it, Dedicated)]
+
+    def capacity(self):
+        return sum(it.size for it in self.blocks())
+
+    def put(self, block):
+        """A dedicated block goes into the lowest empty slot, a shared one into the highest."""
+        empty = [at for at, it in enumerate(self.slots) if not it]
+        if not empty:
+            self.slots.append(block)
+            return len(self.slots) - 1
+        at = empty[0] if isinstance(block, Dedicated) else empty[-1]
+        self.slots[at] = block
+        return at
+
+
+class Allocation:
+    """What a caller's number stands for: a piece and where it lies; a null one has no block."""
+
+    def __init__(self, of_type=None, slot=None, extent=None):
+        self.of_type, self.slot, self.extent = of_type, slot, extent
+
+    def block(self):
+        return self.of_type.slots[self.slot] if self.of_type else None
+
+
+class Device:
+    """The Vulkan allocator over a device that refuses the questions of its script."""
+
+    def __init__(self):
+        self.heaps, self.types, self.page, self.refuses, self.questions = [], [], 1, {}, 0
+        self.device, self.host = Sizes(256 * MB, 256 * MB), Sizes(64 * MB, 64 * MB)
+        self.bound = {}
+
+    def configure(self, words):
+        numbers = [int(it) for it in words[1:] if it != "null"]
+        if words[0] == "heap":
+            self.heaps.append(numbers[0])
+        elif words[0] == "type":
+            self.types.append(MemoryType(len(self.types), *numbers))
+        elif words[0] == "granularity":
+            self.page = numbers[0]
+        elif words[0] == "sizes":
+            self.device, self.host = Sizes(numbers[0], numbers[2]), Sizes(numbers[1], numbers[3])
+        elif words[0] == "refuse":
+            self.refuses.setdefault(numbers[0], None if words[2] == "null" else numbers[1])
+        else:
+            return False
+        return True
+
+    def new(self):
+        wrong = not is_power_of_two(self.page) or len(self.types) > 32 or any(it.heap >= len(self.heaps) for it in self.types)
+        return "error E5" if wrong else "ok"
+
+    def refusal(self):
+        """The next question, and whether it is refused."""
+        self.questions += 1
+        return self.questions in self.refuses, self.refuses.get(self.questions)
+
+    def ask(self, of_type):
+        """Memory for a block, mapped where the host can see it."""
+        is_refused, code = self.refusal()
+        if is_refused:
+            raise Refused("E1" if code in (None, -2) else "E6")
+        if of_type.flags & HOST_VISIBLE and self.refusal()[0]:
+            raise Refused("E2")
+
+    def first_type(self, bits, flags):
+        return next((it for it in self.types if bits >> it.index & 1 and it.flags & flags == flags), None)
+
+    def allocate(self, size, alignment, bits, location, kind, scheme, name):
+        if size == 0 or not is_power_of_two(alignment):
+            raise Refused("E4")
+        second = self.first_type(bits, REQUIRED[location])
+        of_type = self.first_type(bits, PREFERRED[location]) or second
+        if not of_type:
+            raise Refused("E3")
+        try:
+            return self.attempt(of_type, size, alignment, kind, scheme, name)
+        except Refused:
+            if location != "CpuToGpu" or not second:
+                raise
+            return self.attempt(second, size, alignment, kind, scheme, name)
+
+    def attempt(self, of_type, size, alignment, kind, scheme, name):
+        if size > self.heaps[of_type.heap]:
+            raise Refused("E1")
+        shared_size = (self.host if of_type.flags & HOST_VISIBLE else self.device).next(len(of_type.shared()))
+        if scheme != "managed" or size > shared_size:
+            return self.in_new_block(of_type, Dedicated(size, self.page), size, alignment, kind, name)
+        for slot in range(len(of_type.slots) - 1, -1, -1):
+            block = of_type.slots[slot]
+            extent = block.take(size, alignment, kind, name) if block and not isinstance(block, Dedicated) else None
+            if extent:
+                return Allocation(of_type, slot, extent)
+        return self.in_new_block(of_type, Block(shared_size, self.page), size, alignment, kind, name)
+
+    def in_new_block(self, of_type, block, size, alignment, kind, name):
+        if sum(it.capacity() for it in self.types) + block.size > MAX:
+            raise Refused("E1")
+        if of_type.budget is not None and of_type.capacity() + block.size > of_type.budget:
+            raise Refused("E11")
+        self.ask(of_type)
+        extent = block.take(size, alignment, kind, name)
+        return Allocation(of_type, of_type.put(block), extent)
+
+    # ---- the commands
+
+    def alloc(self, key, size, alignment, bits, location, kind, scheme, name):
+        if key in self.bound:
+            return "busy"
+        try:
+            got = self.allocate(int(size), int(alignment), int(bits), location, KINDS[kind], scheme, name.encode())
+        except Refused as why:
+            return f"error {why}"
+        self.bound[key] = got
+        flags = str(scheme != "managed").lower(), str(bool(got.of_type.flags & HOST_VISIBLE)).lower()
+        place = f"type {got.of_type.index} slot {got.slot} offset {got.extent.offset} size {size} chunk {got.extent.number}"
+        return f"ok {place} dedicated {flags[0]} mapped {flags[1]}"
+
+    def null(self, key):
+        if key in self.bound:
+            return "busy"
+        self.bound[key] = Allocation()
+        return "ok"
+
+    def free(self, key):
+        got = self.bound.pop(key, None)
+        if not got:
+            return "unbound"
+        block = got.block()
+        if block:
+            several = len(got.of_type.shared()) > 1
+            block.free(got.extent)
+            if not block.extents and (isinstance(block, Dedicated) or several):
+                got.of_type.slots[got.slot] = None
+        return "ok"
+
+    def rename(self, key, name):
+        got = self.bound.get(key)
+        if not got:
+            return "unbound"
+        if got.extent:
+            got.extent.name = name.encode()
+        return "ok"
+
+    def place(self, key, at, length):
+        """The block's bytes and the first of them that are meant, or the reply where there are none."""
+        got = self.bound.get(key)
+        if not got:
+            return "unbound", 0
+        if not got.block() or not got.of_type.flags & HOST_VISIBLE:
+            return "none", 0
+        if at + length > got.extent.end - got.extent.offset:
+            return "range", 0
+        return got.block().bytes, got.extent.offset + at
+
+    def write(self, key, at, digits):
+        data = bytes.fromhex(digits)
+        held, first = self.place(key, int(at), len(data))
+        if isinstance(held, str):
+            return held
+        held.update({first + i: it for i, it in enumerate(data)})
+        return "ok"
+
+    def read(self, key, at, length):
+        held, first = self.place(key, int(at), int(length))
+        return held if isinstance(held, str) else bytes(held.get(first + i, 0) for i in range(int(length))).hex()
+
+    def every_block(self):
+        return [(of_type, slot, it) for of_type in self.types for slot, it in enumerate(of_type.slots) if it]
+
+    def report(self):
+        rows, blocks = [], []
+        for _, _, block in self.every_block():
+            first = len(rows)
+            rows += block.rows()
+            blocks.append(b"block %d %d %d\n" % (block.size, first, len(rows)))
+        total = sum(it.allocated() for _, _, it in self.every_block())
+        return (b"".join(rows + blocks) + b"total %d capacity %d" % (total, int(self.capacity()))).decode()
+
+    def leaks(self):
+        told = [leak_text(of_type.index, slot, block, it) for of_type, slot, block in self.every_block() for it in block.extents]
+        return "".join(f"{it}\n" for it in told) + f"leaks {len(told)}"
+
+    def capacity(self):
+        return str(sum(it.capacity() for it in self.types))
+
+    def budget(self, index, size):
+        if int(index) >= len(self.types):
+            return "error E6"
+        self.types[int(index)].budget = None if size == "none" else int(size)
+        return "ok"
+
+    def destroy(self):
+        return "held 0"
+
+
+def leak_text(memory_type, slot, block, extent):
+    size, name = f"0x{extent.end - extent.start:x}", extent.name.decode()
+    if isinstance(block, Dedicated):
+        piece = f"    dedicated allocation: {{\n        size: {size},\n        name: {name}\n    }}\n"
+    else:
+        piece = (f"    chunk: {{\n        chunk_id: {extent.number},\n        size: {size},\n        offset: 0x{extent.start:x},\n"
+                 f"        allocation_type: {extent.kind},\n        name: {name}\n    }}\n")
+    return f"leak detected: {{\n    memory type: {memory_type}\n    memory block: {slot}\n{piece}}}"
+
+
+class BlockTrace:
+    """One block, with no device."""
+
+    def __init__(self, words):
+        _, _, smallest, largest, count, page = words
+        self.block = Block(Sizes(int(smallest), int(largest)).next(int(count)), int(page))
+        self.bound = {}
+
+    def take(self, key, size, alignment, kind, name):
+        if key in self.bound:
+            return "busy"
+        if int(size) == 0 or not is_power_of_two(int(alignment)):
+            return "error E4"
+        extent = self.block.take(int(size), int(alignment), KINDS[kind], name.encode())
+        if not extent:
+            return "error E1"
+        self.bound[key] = extent
+        return f"ok offset {extent.offset} chunk {extent.number}"
+
+    def give(self, key):
+        extent = self.bound.pop(key, None)
+        if not extent:
+            return "unbound"
+        self.block.free(extent)
+        return "ok"
+
+    def report(self):
+        return (b"".join(self.block.rows()) + b"total %d capacity %d" % (self.block.allocated(), self.block.size)).decode()
+
+
+def replies(trace):
+    """The replies to a trace without a bad line, as bytes, and how many questions the device was asked."""
+    lines = [it.split(" ") for it in trace.decode().split("\n") if it and not it.startswith("#")]
+    if lines and lines[0][0] == "block":
+        machine, written, lines = BlockTrace(lines[0]), [], lines[1:]
+        written.append(f"block {machine.block.size}")
+    else:
+        machine, written = Device(), []
+        while lines and machine.configure(lines[0]):
+            lines = lines[1:]
+    for verb, *words in lines:
+        written.append(getattr(machine, verb)(*words))
+    return "".join(f"{it}\n" for it in written).encode(), getattr(machine, "questions", 0)

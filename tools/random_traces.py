@@ -1,0 +1,80 @@
+"""Random traces of both sorts, each from a seed: the same seed gives the same trace."""
+import random
+
+MB = 1 << 20
+TYPES = [["6 0"], ["1 0", "6 1"], ["1 0", "6 1", "14 1"], ["1 0", "7 0", "6 1", "14 1"], ["0 0", "1 1", "2 0", "6 0", "7 1", "15 1"]]
+LOCATIONS = ["Unknown", "GpuOnly", "CpuToGpu", "GpuToCpu"]
+
+
+def size(rng, block):
+    """Mostly a small part of a block; sometimes a block, its neighbours, or more than any."""
+    some = [rng.randint(1, 300), rng.randint(1, block // 64), rng.randint(1, block // 4), rng.choice([block - 1, block, block + 1])]
+    return rng.choice(some + some[:2]) if rng.random() < 0.97 else rng.choice([0, 600 * MB, (1 << 64) - 1])
+
+
+def alignment(rng, granularity):
+    return rng.choice([1, 1, 4, 16, 256, granularity, 65536]) if rng.random() < 0.97 else rng.choice([0, 3, 12])
+
+
+def block_trace(seed, commands):
+    rng = random.Random(seed)
+    page = rng.choice([1, 1, 64, 1024, 4096])
+    lines, live = [f"block {rng.choice(['device', 'host'])} {4 * MB} {rng.choice([4, 8, 64]) * MB} {rng.randint(0, 3)} {page}"], []
+    for key in range(commands):
+        kind = rng.choice(["linear", "nonlinear"])
+        if rng.random() < 0.45 and live:
+            lines.append(f"give {live.pop(rng.randrange(len(live)))}")
+        elif rng.random() < 0.04:
+            lines.append(rng.choice(["report", f"give {key}"]))
+        else:
+            lines.append(f"take {key} {size(rng, 4 * MB)} {alignment(rng, page)} {kind} piece-{key}")
+            live.append(key)
+    return "\n".join([*lines, "report", ""]).encode()
+
+
+class DeviceTrace:
+    """A device with its memory types and refusals, and a list of commands."""
+
+    def __init__(self, seed, commands):
+        self.rng = rng = random.Random(seed)
+        self.page, self.types, self.live, self.sizes = rng.choice([1, 1, 64, 1024]), rng.choice(TYPES), [], {}
+        self.lines = [f"heap {it * MB}" for it in (rng.choice([64, 512]), rng.choice([128, 1024]))]
+        self.lines += [f"type {it}" for it in self.types] + [f"granularity {self.page}"]
+        if rng.random() < 0.8:
+            self.lines.append("sizes " + " ".join(str(rng.choice([4, 8, 16]) * MB) for _ in range(4)))
+        if rng.random() < 0.7:
+            self.lines += [f"refuse {rng.randint(1, 40)} {rng.choice(['-1', '-2', '-5', '7', 'null'])}" for _ in range(rng.randint(1, 6))]
+        self.lines.append("new")
+        for key in range(commands):
+            self.lines.append(self.command(key))
+        self.lines += ["report", "leaks", "capacity", "destroy", ""]
+
+    def command(self, key):
+        chance = self.rng.random()
+        if chance < 0.30 and self.live:
+            return f"free {self.live.pop(self.rng.randrange(len(self.live)))}"
+        if chance < 0.75 or not self.live:
+            return self.alloc(key)
+        return self.other(key, self.rng.choice(self.live))
+
+    def alloc(self, key):
+        rng, asked = self.rng, size(self.rng, 4 * MB)
+        bits = rng.choice([(1 << len(self.types)) - 1] * 3 + [rng.randrange(1 << len(self.types))])
+        scheme = "managed" if rng.random() < 0.85 else rng.choice(["buffer:7", "image:9"])
+        self.live.append(key)
+        self.sizes[key] = asked
+        return (f"alloc {key} {asked} {alignment(rng, self.page)} {bits} {rng.choice(LOCATIONS)} {rng.choice(['linear', 'nonlinear'])} "
+                f"{scheme} piece-{key}")
+
+    def other(self, key, old):
+        rng = self.rng
+        at, length = rng.choice([0, 0, rng.randint(0, self.sizes.get(old, 1) + 4)]), rng.choice([1, 4, 16, 64, 4096])
+        index, kept = rng.randrange(len(self.types) + 1), rng.choice(["none", "0", str(rng.randint(1, 20) * 4 * MB)])
+        return rng.choice([
+            f"write {old} {at} {bytes(rng.randrange(256) for _ in range(length)).hex()}", f"read {old} {at} {length}",
+            f"read {old} {at} {length}", f"rename {old} other-{key}", f"null {key + 1000000}", f"free {key + 1000000}",
+            "report", "leaks", "capacity", f"budget {index} {kept}", f"alloc {old} 1 1 1 Unknown linear managed twice"])
+
+
+def device_trace(seed, commands):
+    return "\n".join(DeviceTrace(seed, commands).lines).encode()
