@@ -35,7 +35,7 @@ serve_once setup d o x y old new next sound a b =
     let types : a.memory_type ≡ b.memory_type = one_first d.location a.memory_type b.memory_type a.first b.first in
     let other : AllocatesInType (request_at setup old.budgets a.memory_type d) old.slots o.host (asked_block o.asked) b.answer next.slots =
     subst (λ t. AllocatesInType (request_at setup old.budgets t d) old.slots o.host (asked_block o.asked) b.answer next.slots) (sym types) b.allocates in
-    let once = allocates_once (request_at setup old.budgets a.memory_type d) old.slots o.host (asked_block o.asked) a.answer b.answer new.slots next.slots sound a.allocates other in
+    let once = allocates_once (request_at setup old.budgets a.memory_type d) old.slots o.host (asked_block o.asked) a.answer b.answer new.slots next.slots (sound a.memory_type) a.allocates other in
     let answers = once.0 in
     (a.reply_is ∙ (λ i. reply_of (types i) (answers i)) ∙ sym b.reply_is, alike new next once.1 (a.budgets ∙ sym b.budgets) (a.residency ∙ sym b.residency))
 
