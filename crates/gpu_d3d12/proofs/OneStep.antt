@@ -35,7 +35,7 @@ serve_once setup budgets d o x y old new next sound a b =
     let types : a.memory_type ≡ b.memory_type = one_first d.location d.resource_category (memory_kinds setup.tier) a.memory_type b.memory_type a.first b.first in
     let other : AllocatesInType (request_at setup budgets a.memory_type d) old o.host (asked_block o.asked) b.answer next =
     subst (λ t. AllocatesInType (request_at setup budgets t d) old o.host (asked_block o.asked) b.answer next) (sym types) b.allocates in
-    let once = allocates_once (request_at setup budgets a.memory_type d) old o.host (asked_block o.asked) a.answer b.answer new next sound a.allocates other in
+    let once = allocates_once (request_at setup budgets a.memory_type d) old o.host (asked_block o.asked) a.answer b.answer new next (sound a.memory_type) a.allocates other in
     let answers = once.0 in
     (a.reply_is ∙ (λ i. reply_of (types i) (answers i)) ∙ sym b.reply_is, once.1)
 

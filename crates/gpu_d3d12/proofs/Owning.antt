@@ -59,7 +59,7 @@ module _ (setup : Setup) (budgets : Budgets) (d : AllocationCreateDesc) (t : ℕ
       → IsAttempt g setup budgets t d old device result new after → Owns old new d.alignment result
   attempt_owns g device result after below sound sound_after a =
       answer_owns a.answer result
-      (allocates_keeps is_same_heap same_heap (request_at setup budgets t d) old below sound a.environment.host (asked_block a.environment.asked) a.answer new a.allocates sound_after)
+      (allocates_keeps is_same_heap same_heap (request_at setup budgets t d) old below (sound t) a.environment.host (asked_block a.environment.asked) a.answer new a.allocates (sound_after t))
       (λ p is. allocates_aligned (request_at setup budgets t d) old a.environment.host (asked_block a.environment.asked) p new (rw is at a.allocates))
       a.answers
 
@@ -86,7 +86,7 @@ frees_by : {D : Type 0} (g : Ghosts D) (old : Slots) (device : D) (a : Allocatio
 frees_by g old device a (Err e) new after sound f b live other = subst (λ (ss : Slots). IsLive ss b) (sym f.3) live
 frees_by g old device a (Ok u) new after sound f b live other =
     subst (λ (ss : Slots). IsLive ss b) (sym f.1.slots)
-    (released_keeps_others is_same_heap 1 a.memory_type_index old (type_below old a.memory_type_index (piece_of a) f.0) sound (piece_of a) _ f.1.went f.1.left f.1.releases
+    (released_keeps_others is_same_heap 1 a.memory_type_index old (type_below old a.memory_type_index (piece_of a) f.0) (sound a.memory_type_index) (piece_of a) _ f.1.went f.1.left f.1.releases
     b.memory_type_index (piece_of b) (λ type slot number. other type slot number) live)
 
 -- a free leaves every other live allocation live

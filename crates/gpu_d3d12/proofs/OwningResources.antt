@@ -40,7 +40,7 @@ released_others : {D : Type 0} (g : Ghosts D) (a : Allocation) (old : Slots) (de
     → IsReleased g a.memory_type_index (piece_of a) old device new after → (b : Allocation) → IsLive old b → AreDistinct b a → IsLive new b
 released_others g a old device new after sound owned rel b live other =
     subst (λ (ss : Slots). IsLive ss b) (sym rel.slots)
-    (released_keeps_others is_same_heap 1 a.memory_type_index old (type_below old a.memory_type_index (piece_of a) owned) sound (piece_of a) _ rel.went rel.left rel.releases
+    (released_keeps_others is_same_heap 1 a.memory_type_index old (type_below old a.memory_type_index (piece_of a) owned) (sound a.memory_type_index) (piece_of a) _ rel.went rel.left rel.releases
     b.memory_type_index (piece_of b) (λ type slot number. other type slot number) live)
 
 -- ---- a placed resource

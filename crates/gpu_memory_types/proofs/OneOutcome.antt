@@ -8,7 +8,7 @@ use Rattle.gpu_slots.specs.declared.piece.Piece.{Piece}
 use Rattle.gpu_core.proofs.OneOutcome.{prepared_once, needed_once, serves_or_needs, installed_once}
 use Rattle.gpu_memory_types.specs.Attempt.{RequestAt, type_asked, BlockResult, Allocated, NotAllocated, AskedBlock, Plan, NoHostMemory, SharedBlock, NewBlock, IsPlan, Answer, Gave, Refused}
 use Rattle.gpu_memory_types.specs.Attempt.{IsAfterResult, IsCarriedOut, AllocatesInType}
-use Rattle.gpu_memory_types.specs.Blocks.{Slots, slots_at, total_capacity, BlocksWellFormed}
+use Rattle.gpu_memory_types.specs.Blocks.{Slots, slots_at, total_capacity}
 use Rattle.gpu_memory_types.specs.Budgets.{block_refusal}
 use Rattle.gpu_memory_types.proofs.Options.{some_same}
 use Rattle.gpu_memory_types.proofs.Types.{slots_same}
@@ -61,11 +61,11 @@ module _ {H : Type 0} (used : ℕ) (budget : Option ℕ) (old : List (Option (Sl
   carried_once (NewBlock size own ready) (Some a) x y new next c d = granted_once own ready a.result x y new next c.2 d.2
 
 -- one answer and one list of slots
-pub allocates_once : {H : Type 0} (q : RequestAt) (old : Slots H) (host : Bool) (asked : Option (AskedBlock H)) (x y : Answer H) (new next : Slots H) → BlocksWellFormed q.granularity old
+pub allocates_once : {H : Type 0} (q : RequestAt) (old : Slots H) (host : Bool) (asked : Option (AskedBlock H)) (x y : Answer H) (new next : Slots H) → AreSound q.granularity (slots_at old q.memory_type)
     → AllocatesInType q old host asked x new → AllocatesInType q old host asked y next → (x ≡ y) × (new ≡ next)
 allocates_once {H} q old host asked x y new next sound a b =
     let t = q.memory_type in
-    let same = plan_once q (type_asked q old) (sound t) host a.plan b.plan a.is_plan b.is_plan in
+    let same = plan_once q (type_asked q old) sound host a.plan b.plan a.is_plan b.is_plan in
     let C : Plan H → Type 0 = λ p. IsCarriedOut (total_capacity old) q.budget (slots_at old t) p asked y b.left in
     let other : C a.plan = subst C (sym same) b.is_carried_out in
     let once = carried_once (total_capacity old) q.budget (slots_at old t) a.plan asked x y a.left b.left a.is_carried_out other in

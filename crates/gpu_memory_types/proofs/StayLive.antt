@@ -6,7 +6,7 @@ use Rattle.gpu_block.specs.Block.{Block, free_list, dedicated, is_general, Takes
 use Rattle.gpu_block_pieces.specs.FreeList.{Extent}
 use Rattle.gpu_values.specs.Refusal.{Refusal}
 use Rattle.gpu_block_pieces.specs.Request.{Request}
-use Rattle.gpu_slots.specs.Slots.{SlotIsSound}
+use Rattle.gpu_slots.specs.Slots.{SlotIsSound, AreSound}
 use Rattle.gpu_slots.specs.TypeRelease.{SlotHolds, SlotReleases, ReleasesPiece}
 use Rattle.gpu_slots.specs.TypeState.{Slot, slot_at}
 use Rattle.gpu_slots.specs.TypeTake.{Ready, fresh_block, PreparesPiece, Installs}
@@ -17,7 +17,7 @@ use Rattle.gpu_slots.proofs.Slotted.{set_only}
 use Rattle.gpu_block_pieces.proofs.Live.{takes_keeps, takes_new_number, releases_keeps}
 use Rattle.gpu_memory_types.specs.Attempt.{RequestAt, type_asked, BlockResult, Allocated, NotAllocated, AskedBlock, Plan, NoHostMemory, SharedBlock, NewBlock, IsPlan, Answer, Gave, Refused}
 use Rattle.gpu_memory_types.specs.Attempt.{IsAfterResult, IsCarriedOut, AllocatesInType}
-use Rattle.gpu_memory_types.specs.Blocks.{Slots, slots_at, block_at, total_capacity, BlocksWellFormed}
+use Rattle.gpu_memory_types.specs.Blocks.{Slots, slots_at, block_at, total_capacity}
 use Rattle.gpu_memory_types.specs.Live.{IsLiveIn}
 use Rattle.gpu_memory_types.proofs.OneOutcome.{gave_refused}
 use Rattle.gpu_memory_types.proofs.Placed.{OnlyBlock, only_block, installs_only, prepares_only, some_below, same_place}
@@ -47,8 +47,8 @@ released_keeps (free_list old) n (dedicated new) sound t k off size ne h = absur
 released_keeps (dedicated old) n (free_list new) sound t k off size ne h = absurd t
 released_keeps (dedicated old) n (dedicated new) sound t k off size ne h = absurd (ne (sym h.2 ∙ held_one old.piece old.size sound h.0 h.1 ∙ sym t.1))
 
-pub sound_slot : {H : Type 0} (granularity : ℕ) (ss : Slots H) (t i : ℕ) (s : Slot H) → BlocksWellFormed granularity ss → block_at ss t i ≡ Some s → IsSoundBlock s.block
-sound_slot granularity ss t i s sound at = (subst (SlotIsSound granularity) at (sound t i)).1
+pub sound_slot : {H : Type 0} (granularity : ℕ) (ss : Slots H) (t i : ℕ) (s : Slot H) → AreSound granularity (slots_at ss t) → block_at ss t i ≡ Some s → IsSoundBlock s.block
+sound_slot granularity ss t i s sound at = (subst (SlotIsSound granularity) at (sound i)).1
 
 -- ---- one block among all
 
@@ -88,11 +88,11 @@ keeps_all {H} eq t old new r answer refused same = record {
   other = λ p e u q live type slot number. gave_refused p r (sym e ∙ refused);
 }
 
-module _ {H : Type 0} (eq : H → H → Bool) (same : (h : H) → eq h h ≡ true) (q : RequestAt) (old : Slots H) (below : q.memory_type < length old) (sound : BlocksWellFormed q.granularity old) where
+module _ {H : Type 0} (eq : H → H → Bool) (same : (h : H) → eq h h ≡ true) (q : RequestAt) (old : Slots H) (below : q.memory_type < length old) (sound : AreSound q.granularity (slots_at old q.memory_type)) where
   abbrev t : ℕ
   t = q.memory_type
 
-  served_keeps : (p : Piece H) (taken : List (Option (Slot H))) → PreparesPiece (slots_at old t) q.request p taken → BlocksWellFormed q.granularity (slice_set old t taken)
+  served_keeps : (p : Piece H) (taken : List (Option (Slot H))) → PreparesPiece (slots_at old t) q.request p taken → AreSound q.granularity (slots_at (slice_set old t taken) t)
       → KeepsPieces eq t old (slice_set old t taken) (Gave p)
   served_keeps p taken s after =
       let r = q.request in
@@ -151,27 +151,27 @@ module _ {H : Type 0} (eq : H → H → Bool) (same : (h : H) → eq h h ≡ tru
   granted_keeps own size ready (Allocated n) answer x takes sized s = subst (KeepsPieces eq t old (slice_set old t x)) (sym s.1) (installed_keeps own size ready n s.0 x takes sized s.2)
 
   planned_keeps : (plan : Plan H) (host : Bool) (o : Option (AskedBlock H)) (answer : Answer H) (x : List (Option (Slot H))) → IsPlan q (type_asked q old) host plan
-      → IsCarriedOut (total_capacity old) q.budget (slots_at old t) plan o answer x → BlocksWellFormed q.granularity (slice_set old t x) → KeepsPieces eq t old (slice_set old t x) answer
+      → IsCarriedOut (total_capacity old) q.budget (slots_at old t) plan o answer x → AreSound q.granularity (slots_at (slice_set old t x) t) → KeepsPieces eq t old (slice_set old t x) answer
   planned_keeps NoHostMemory host None answer x plan comes after = keeps_all eq t old (slice_set old t x) _ answer comes.0 (slots_kept x comes.1)
   planned_keeps NoHostMemory host (Some a) answer x plan comes after = absurd comes
   planned_keeps (SharedBlock p taken) host (Some a) answer x plan comes after = absurd comes
   planned_keeps (SharedBlock p taken) host None answer x plan comes after =
       subst (λ w. KeepsPieces eq t old (slice_set old t x) w) (sym comes.0)
       (subst (λ (ss : List (Option (Slot H))). KeepsPieces eq t old (slice_set old t ss) (Gave p)) (sym comes.1)
-      (served_keeps p taken plan.2 (subst (λ (ss : List (Option (Slot H))). BlocksWellFormed q.granularity (slice_set old t ss)) comes.1 after)))
+      (served_keeps p taken plan.2 (subst (λ (ss : List (Option (Slot H))). AreSound q.granularity (slots_at (slice_set old t ss) t)) comes.1 after)))
   planned_keeps (NewBlock size own ready) host None answer x plan comes after = keeps_all eq t old (slice_set old t x) _ answer comes.2 (slots_kept x comes.3)
   planned_keeps (NewBlock size own ready) host (Some a) answer x plan comes after = granted_keeps own size ready a.result answer x plan.1.takes plan.1.piece comes.2
 
   -- a request leaves every live piece live, and what it gives is live and none of them
-  pub allocates_keeps : (host : Bool) (asked : Option (AskedBlock H)) (answer : Answer H) (new : Slots H) → AllocatesInType q old host asked answer new → BlocksWellFormed q.granularity new
+  pub allocates_keeps : (host : Bool) (asked : Option (AskedBlock H)) (answer : Answer H) (new : Slots H) → AllocatesInType q old host asked answer new → AreSound q.granularity (slots_at new t)
       → KeepsPieces eq t old new answer
   allocates_keeps host asked answer new a after =
       subst (λ (ss : Slots H). KeepsPieces eq t old ss answer) (sym a.slots)
-      (planned_keeps a.plan host asked answer a.left a.is_plan a.is_carried_out (subst (BlocksWellFormed q.granularity) a.slots after))
+      (planned_keeps a.plan host asked answer a.left a.is_plan a.is_carried_out (subst (λ (ss : Slots H). AreSound q.granularity (slots_at ss t)) a.slots after))
 
 -- ---- a release
 
-module _ {H : Type 0} (eq : H → H → Bool) (granularity t : ℕ) (old : Slots H) (below : t < length old) (sound : BlocksWellFormed granularity old) (p : Piece H) where
+module _ {H : Type 0} (eq : H → H → Bool) (granularity t : ℕ) (old : Slots H) (below : t < length old) (sound : AreSound granularity (slots_at old t)) (p : Piece H) where
   abbrev n : ℕ
   n = non_zero_u64_get p.number
 

@@ -1,142 +1,93 @@
--- The model isn't loose: a state, a call and what it meets with decide the reply and the next state.
-use Rattle.std.proofs.Common.{◌⊎◌, ◌≡◌, ◌∙◌, ℕ, inl, inr, refl, sym, ap, subst, Bool, true, false, slice_set, Option, Some, None, ⊎_elim, IsTrue, arith}
-use Rattle.gpu_slots.specs.TypeRelease.{has_several}
-use Rattle.gpu_slots.specs.TypeState.{slot_at}
-use Rattle.gpu_slots.specs.declared.piece.Piece.{Piece}
-use Rattle.gpu_core.proofs.OneOutcome.{released_once, refusal_once}
+-- The model isn't loose, and budgets that aren't asked decide nothing.
+use Rattle.std.proofs.Common.{◌≡◌, ◌∙◌, refl, sym, ap, subst, ℕ, zero, suc, Bool, true, false, None}
+use Rattle.gpu_slots.specs.Slots.{AreSound}
 use Rattle.gpu_device.specs.declared.metal.types.MTLHeap.{MTLHeap}
-use Rattle.gpu_memory_types.specs.Attempt.{AllocatesInType}
 use Rattle.gpu_memory_types.specs.Blocks.{slots_at, BlocksWellFormed}
-use Rattle.gpu_memory_types.specs.Budgets.{Budgets, SetsBudget}
-use Rattle.gpu_memory_types.specs.Reports.{whole_report}
-use Rattle.gpu_memory_types.proofs.OneOutcome.{false_true, allocates_once}
-use Rattle.gpu_values.specs.Refusal.{Refusal, host_out_of_memory}
+use Rattle.gpu_memory_types.specs.Budgets.{budget_at}
+use Rattle.gpu_memory_types.proofs.Options.{some_same}
+use Rattle.gpu_metal_setup.specs.MemoryKinds.{heap_descriptor, IsFirstServing}
+use Rattle.gpu_metal_setup.specs.Setup.{kinds_of_device}
 use Rattle.gpu_metal_setup.specs.declared.describe.AllocationCreateDesc.{AllocationCreateDesc}
-use Rattle.gpu_metal_setup.specs.declared.setup.Setup.{Setup}
 use Rattle.gpu_metal_setup.proofs.FirstServing.{one_first}
-use Rattle.gpu_metal.specs.Allocate.{is_valid}
-use Rattle.gpu_metal.specs.Attempt.{AttemptEnvironment, asked_block, request_at}
-use Rattle.gpu_metal.specs.Blocks.{is_same_heap}
+use Rattle.gpu_pool.specs.Allocate.{Environment}
+use Rattle.gpu_pool.specs.Reply.{Reply}
+use Rattle.gpu_pool.specs.State.{kind_at, IsSoundAt, without_budgets}
+use Rattle.gpu_pool.specs.Step as pools
+use Rattle.gpu_pool.specs.Step.{AskDecides, GiveBackDecides}
+use Rattle.gpu_pool.proofs.OneStep as pool
+use Rattle.gpu_pool.proofs.WithoutBudgets as plain
+use Rattle.gpu_metal.specs.Allocate.{is_valid, request_in}
+use Rattle.gpu_metal.specs.Blocks.{Slots, is_same_heap}
 use Rattle.gpu_metal.specs.Live.{piece_of}
+use Rattle.gpu_metal.specs.Source.{heap_in}
 use Rattle.gpu_metal.specs.State.{Model}
-use Rattle.gpu_metal.specs.Reply as replies
-use Rattle.gpu_metal.specs.Reply.{Reply, Given, Error, Done}
-use Rattle.gpu_metal.specs.Step.{Call, Allocate, Free, Commit, SetBudget, Budget, Capacity, LiveHeaps, Report, left, reply_of, ServeStep}
-use Rattle.gpu_metal.specs.Step.{AllocateStep, ReleaseStep, FreeStep, SetBudgetStep, ReportStep, Step}
+use Rattle.gpu_metal.specs.Step.{Call, Allocate, Free, Commit, SetBudget, Budget, Capacity, LiveHeaps, Report, with_question, SeesQuestion, SeesGiven, PoolStep, AllocateStep, Step, MeetsNoBudget}
 
-alike : (a b : Model) → a.slots ≡ b.slots → a.budgets ≡ b.budgets → a.residency ≡ b.residency → a ≡ b
-alike a b slots budgets residency = λ i. record { slots = slots i; budgets = budgets i; residency = residency i }
+question_decides : AskDecides SeesQuestion
+question_decides old a b t size extra answer x y =
+    let here = some_same x.location y.location (sym x.at ∙ y.at) in
+    x.state ∙ (λ i. with_question old (heap_descriptor (here i)) size (heap_in answer)) ∙ sym y.state
 
--- ---- an allocation
+given_decides : GiveBackDecides SeesGiven
+given_decides old a b heap x y = x ∙ sym y
 
-serve_once : (setup : Setup) (d : AllocationCreateDesc) (o : AttemptEnvironment) (x y : Reply) (old new next : Model) → BlocksWellFormed 1 old.slots
-    → ServeStep setup d o x old new → ServeStep setup d o y old next → (x ≡ y) × (new ≡ next)
-serve_once setup d o x y old new next sound a b =
-    let types : a.memory_type ≡ b.memory_type = one_first d.location a.memory_type b.memory_type a.first b.first in
-    let other : AllocatesInType (request_at setup old.budgets a.memory_type d) old.slots o.host (asked_block o.asked) b.answer next.slots =
-    subst (λ t. AllocatesInType (request_at setup old.budgets t d) old.slots o.host (asked_block o.asked) b.answer next.slots) (sym types) b.allocates in
-    let once = allocates_once (request_at setup old.budgets a.memory_type d) old.slots o.host (asked_block o.asked) a.answer b.answer new.slots next.slots sound a.allocates other in
-    let answers = once.0 in
-    (a.reply_is ∙ (λ i. reply_of (types i) (answers i)) ∙ sym b.reply_is, alike new next once.1 (a.budgets ∙ sym b.budgets) (a.residency ∙ sym b.residency))
+-- all memory types have pages of 1
+page_at : (t : ℕ) → 1 ≡ (kind_at kinds_of_device t).1
+page_at zero = refl
+page_at (suc zero) = refl
+page_at (suc (suc zero)) = refl
+page_at (suc (suc (suc t))) = refl
 
-allocate_once : (setup : Setup) (d : AllocationCreateDesc) (valid : Bool) (o : AttemptEnvironment) (x y : Reply) (old new next : Model) → BlocksWellFormed 1 old.slots
-    → AllocateStep setup d valid o x old new → AllocateStep setup d valid o y old next → (x ≡ y) × (new ≡ next)
-allocate_once setup d false o x y old new next sound a b = (a.1 ∙ sym b.1, a.2 ∙ sym b.2)
-allocate_once setup d true o x y old new next sound a b = serve_once setup d o x y old new next sound a b
+pub sound_at : (slots : Slots) → BlocksWellFormed 1 slots → (t : ℕ) → IsSoundAt kinds_of_device slots t
+sound_at slots sound t = subst (λ n. AreSound n (slots_at slots t)) (page_at t) (sound t)
 
--- ---- a free
+pub well_formed : (slots : Slots) → ((t : ℕ) → IsSoundAt kinds_of_device slots t) → BlocksWellFormed 1 slots
+well_formed slots sound t = subst (λ n. AreSound n (slots_at slots t)) (sym (page_at t)) (sound t)
 
-release_once : (t : ℕ) (p : Piece MTLHeap) (old new next : Model) → BlocksWellFormed 1 old.slots → ReleaseStep t p old new → ReleaseStep t p old next → new ≡ next
-release_once t p old new next sound a b =
-    let once = released_once 1 (IsTrue (has_several (slots_at old.slots t))) (slots_at old.slots t) p a.went b.went a.after b.after (sound t) a.releases b.releases in
-    alike new next (a.slots ∙ (ap (slice_set old.slots t) once.1 ∙ sym b.slots)) (a.budgets ∙ sym b.budgets) (a.residency ∙ (ap (left old.residency) once.0 ∙ sym b.residency))
+-- ---- one step
 
--- a free is done, or refused
-free_reply : (t : ℕ) (p : Piece MTLHeap) (x : Reply) (old new : Model) → FreeStep t p x old new
-    → ((x ≡ Done) × FreeStep t p Done old new) ⊎ ((r : Refusal) × (x ≡ Error r) × FreeStep t p (Error r) old new)
-free_reply t p (Given u q) old new s = absurd s
-free_reply t p (Error r) old new s = inr (r, refl, s)
-free_reply t p Done old new s = inl (refl, s)
-free_reply t p (replies.Capacity n) old new s = absurd s
-free_reply t p (replies.LiveHeaps hs) old new s = absurd s
-free_reply t p (replies.Report w) old new s = absurd s
-free_reply t p (replies.Budget b) old new s = absurd s
+pool_once : (call : pools.Call MTLHeap (Unit {0})) (met : Environment MTLHeap) (x y : Reply MTLHeap) (old new next : Model) → BlocksWellFormed 1 old.slots → PoolStep old call met x new
+    → PoolStep old call met y next → (x ≡ y) × (new ≡ next)
+pool_once call met x y old new next sound a b =
+    pool.step_once SeesQuestion SeesGiven is_same_heap question_decides given_decides kinds_of_device call met x y old new next (sound_at old.slots sound) a b
 
-free_once : (t : ℕ) (p : Piece MTLHeap) (x y : Reply) (old new next : Model) → BlocksWellFormed 1 old.slots → FreeStep t p x old new → FreeStep t p y old next → (x ≡ y) × (new ≡ next)
-free_once t p x y old new next sound a b =
-    ⊎_elim
-    (λ ok. ⊎_elim
-    (λ also. (ok.0 ∙ sym also.0, release_once t p old new next sound ok.1.1 also.1.1))
-    (λ err. absurd (err.2.0 ok.1.0))
-    (free_reply t p y old next b))
-    (λ err. ⊎_elim
-    (λ ok. absurd (err.2.0 ok.1.0))
-    (λ also. (
-      err.1 ∙ ap Error (refusal_once is_same_heap 1 p (slot_at (slots_at old.slots t) p.slot) err.0 also.0 (sound t p.slot) err.2.1 also.2.1) ∙ sym also.1,
-      err.2.2 ∙ sym also.2.2,
-    ))
-    (free_reply t p y old next b))
-    (free_reply t p x old new a)
+allocate_once : (d : AllocationCreateDesc) (valid : Bool) (met : Environment MTLHeap) (x y : Reply MTLHeap) (old new next : Model) → BlocksWellFormed 1 old.slots
+    → AllocateStep d valid met x old new → AllocateStep d valid met y old next → (x ≡ y) × (new ≡ next)
+allocate_once d false met x y old new next sound a b = (a.1 ∙ sym b.1, a.2 ∙ sym b.2)
+allocate_once d true met x y old new next sound a b =
+    let types : a.0 ≡ b.0 = one_first d.location a.0 b.0 a.1 b.1 in
+    let other = subst (λ t. PoolStep old (pools.Allocate (request_in t d)) met y next) (sym types) b.2 in
+    pool_once (pools.Allocate (request_in a.0 d)) met x y old new next sound a.2 other
 
--- ---- budgets
+pub step_once : (call : Call) (met : Environment MTLHeap) (x y : Reply MTLHeap) (old new next : Model) → BlocksWellFormed 1 old.slots → Step call met x old new → Step call met y old next
+    → (x ≡ y) × (new ≡ next)
+step_once (Allocate d) met x y old new next sound a b = allocate_once d (is_valid d) met x y old new next sound a b
+step_once (Free w) met x y old new next sound a b = pool_once (pools.Free w.memory_type_index (piece_of w)) met x y old new next sound a b
+step_once Commit met x y old new next sound a b = (a.1.0 ∙ sym b.1.0, a.1.1 ∙ sym b.1.1)
+step_once (SetBudget t budget) met x y old new next sound a b = pool_once (pools.SetBudget t budget) met x y old new next sound a b
+step_once (Budget t) met x y old new next sound a b = pool_once (pools.Budget t) met x y old new next sound a b
+step_once Capacity met x y old new next sound a b = pool_once pools.Capacity met x y old new next sound a b
+step_once LiveHeaps met x y old new next sound a b = pool_once pools.Handles met x y old new next sound a b
+step_once Report met x y old new next sound a b = pool_once pools.Report met x y old new next sound a b
 
--- a reply to a call that is done or fails, and the refusal that it tells
-abbrev done_by : Option Refusal → Reply
-done_by None = Done
-done_by (Some r) = Error r
+-- ---- without budgets
 
-set_reply : (t : ℕ) (budget : Option ℕ) (x : Reply) (old new : Model) → SetBudgetStep t budget x old new
-    → (r : Option Refusal) × (x ≡ done_by r) × SetsBudget t budget old.budgets r new.budgets × (new.slots ≡ old.slots) × (new.residency ≡ old.residency)
-set_reply t budget (Given u q) old new s = absurd s
-set_reply t budget (Error r) old new s = (Some r, refl, s.0, s.1, s.2)
-set_reply t budget Done old new s = (None, refl, s.0, s.1, s.2)
-set_reply t budget (replies.Capacity n) old new s = absurd s
-set_reply t budget (replies.LiveHeaps hs) old new s = absurd s
-set_reply t budget (replies.Report w) old new s = absurd s
-set_reply t budget (replies.Budget b) old new s = absurd s
+pool_plain : (call : pools.Call MTLHeap (Unit {0})) (met : Environment MTLHeap) (x : Reply MTLHeap) (old new : Model) → pools.MeetsNoBudget call old.budgets → PoolStep old call met x new
+    → PoolStep (without_budgets old) call met x (without_budgets new)
+pool_plain call met x old new none a = plain.step_plain SeesQuestion SeesGiven is_same_heap kinds_of_device call met x old new none a
 
--- a budget is set or refused, and not both
-sets_once : (t : ℕ) (budget : Option ℕ) (old : Budgets) (r s : Option Refusal) (new next : Budgets) → SetsBudget t budget old r new → SetsBudget t budget old s next → (r ≡ s) × (new ≡ next)
-sets_once t budget old None None new next a b = (refl, a.1 ∙ sym b.1)
-sets_once t budget old None (Some s) new next a b = let below = a.0 in let past = b.0 in absurd (omega (arith, below, past))
-sets_once t budget old (Some r) None new next a b = let below = b.0 in let past = a.0 in absurd (omega (arith, below, past))
-sets_once t budget old (Some r) (Some s) new next a b = (ap Some (a.1 ∙ sym b.1), a.2 ∙ sym b.2)
+allocate_plain : (d : AllocationCreateDesc) (valid : Bool) (met : Environment MTLHeap) (x : Reply MTLHeap) (old new : Model) → ((t : ℕ) → IsFirstServing d.location t → budget_at old.budgets t ≡ None)
+    → AllocateStep d valid met x old new → AllocateStep d valid met x (without_budgets old) (without_budgets new)
+allocate_plain d false met x old new none a = (a.0, a.1, ap without_budgets a.2)
+allocate_plain d true met x old new none a = (a.0, a.1, pool_plain (pools.Allocate (request_in a.0 d)) met x old new (none a.0 a.1) a.2)
 
--- ---- a report
-
-shown_reply : (host : Bool) (x : Reply) (old new : Model) → ReportStep host x old new
-    → (new ≡ old) × (((host ≡ true) × (x ≡ replies.Report (whole_report old.slots))) ⊎ ((host ≡ false) × (x ≡ Error host_out_of_memory)))
-shown_reply host (Given u q) old new s = absurd s
-shown_reply host (Error r) old new s = (s.2, inr (s.0, ap Error s.1))
-shown_reply host Done old new s = absurd s
-shown_reply host (replies.Capacity n) old new s = absurd s
-shown_reply host (replies.LiveHeaps hs) old new s = absurd s
-shown_reply host (replies.Report w) old new s = (s.2, inl (s.0, ap replies.Report s.1))
-shown_reply host (replies.Budget b) old new s = absurd s
-
-by_host : (host : Bool) (x y a b : Reply) → ((host ≡ true) × (x ≡ a)) ⊎ ((host ≡ false) × (x ≡ b)) → ((host ≡ true) × (y ≡ a)) ⊎ ((host ≡ false) × (y ≡ b)) → x ≡ y
-by_host host x y a b h k =
-    ⊎_elim
-    (λ p. ⊎_elim (λ q. p.1 ∙ sym q.1) (λ q. absurd (false_true (sym q.0 ∙ p.0))) k)
-    (λ p. ⊎_elim (λ q. absurd (false_true (sym p.0 ∙ q.0))) (λ q. p.1 ∙ sym q.1) k)
-    h
-
--- ---- any call
-
-pub step_once : (setup : Setup) (call : Call) (o : AttemptEnvironment) (x y : Reply) (old new next : Model) → BlocksWellFormed 1 old.slots
-    → Step setup call o x old new → Step setup call o y old next → (x ≡ y) × (new ≡ next)
-step_once setup (Allocate d) o x y old new next sound a b = allocate_once setup d (is_valid d) o x y old new next sound a b
-step_once setup (Free w) o x y old new next sound a b = free_once w.memory_type_index (piece_of w) x y old new next sound a.1 b.1
-step_once setup Commit o x y old new next sound a b = (a.1 ∙ sym b.1, a.2 ∙ sym b.2)
-step_once setup (SetBudget t budget) o x y old new next sound a b =
-    let p = set_reply t budget x old new a.1 in
-    let q = set_reply t budget y old next b.1 in
-    let once = sets_once t budget old.budgets p.0 q.0 new.budgets next.budgets p.2 q.2 in
-    (p.1 ∙ ap done_by once.0 ∙ sym q.1, alike new next (p.3 ∙ sym q.3) once.1 (p.4 ∙ sym q.4))
-step_once setup (Budget t) o x y old new next sound a b = (a.1 ∙ sym b.1, a.2 ∙ sym b.2)
-step_once setup Capacity o x y old new next sound a b = (a.1 ∙ sym b.1, a.2 ∙ sym b.2)
-step_once setup LiveHeaps o x y old new next sound a b = (a.1 ∙ sym b.1, a.2 ∙ sym b.2)
-step_once setup Report o x y old new next sound a b =
-    let one = shown_reply o.host x old new a.1 in
-    let other = shown_reply o.host y old next b.1 in
-    (by_host o.host x y _ _ one.1 other.1, one.0 ∙ sym other.0)
+pub step_plain : (call : Call) (met : Environment MTLHeap) (x : Reply MTLHeap) (old new : Model) → MeetsNoBudget call old.budgets → Step call met x old new
+    → Step call met x (without_budgets old) (without_budgets new)
+step_plain (Allocate d) met x old new none a = allocate_plain d (is_valid d) met x old new none a
+step_plain (Free w) met x old new none a = pool_plain (pools.Free w.memory_type_index (piece_of w)) met x old new tt a
+step_plain Commit met x old new none a = (a.0, (a.1.0, ap without_budgets a.1.1))
+step_plain (SetBudget t budget) met x old new none a = absurd none
+step_plain (Budget t) met x old new none a = absurd none
+step_plain Capacity met x old new none a = pool_plain pools.Capacity met x old new tt a
+step_plain LiveHeaps met x old new none a = pool_plain pools.Handles met x old new tt a
+step_plain Report met x old new none a = pool_plain pools.Report met x old new tt a

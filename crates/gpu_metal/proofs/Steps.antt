@@ -1,150 +1,166 @@
 -- The calls of an allocator are steps of the model.
-use Rattle.std.proofs.Common.{◌≡◌, ℕ, refl, sym, ap, subst, true, false, List, Option, Some, None, Ok, Err, Result, IfOk, IfErr}
+use Rattle.std.proofs.Common.{◌≡◌, refl, sym, ap, subst, ℕ, true, false, Bool, List, Option, Some, Ok, Err, Result, IfOk, IfErr}
 use Rattle.gpu_values.specs.Refusal.{Refusal, refusal_of, refusal_in, invalid_allocation_create_desc}
 use Rattle.gpu_values.specs.Report.{report_of}
 use Rattle.gpu_values.specs.declared.error.AllocationError.{AllocationError}
 use Rattle.gpu_values.specs.declared.error.AllocationError.TheVariants.{HostOutOfMemory}
 use Rattle.gpu_values.specs.declared.report.AllocatorReport.{AllocatorReport}
+use Rattle.gpu_slots.specs.declared.piece.Piece.{Piece}
 use Rattle.gpu_device.specs.declared.metal.device.MetalDevice.{Ghosts}
 use Rattle.gpu_device.specs.declared.metal.types.MTLHeap.{MTLHeap}
-use Rattle.gpu_memory_types.specs.Attempt.{Gave, Refused}
 use Rattle.gpu_memory_types.specs.Blocks.{total_capacity}
 use Rattle.gpu_memory_types.specs.Budgets.{budget_at, SetsBudget}
 use Rattle.gpu_memory_types.specs.Reports.{whole_report}
 use Rattle.gpu_memory_types.proofs.Options.{none_some, some_same}
+use Rattle.gpu_metal_setup.specs.Setup.{kinds_of_device}
 use Rattle.gpu_metal_setup.specs.declared.describe.AllocationCreateDesc.{AllocationCreateDesc}
-use Rattle.gpu_metal_setup.specs.Residency.{ChangesHeld}
-use Rattle.gpu_metal.specs.Allocate.{Answers, IsServed, is_valid}
-use Rattle.gpu_metal.specs.Attempt.{Asked, Answer, IsAfter}
-use Rattle.gpu_metal.specs.Blocks.{residency_of}
-use Rattle.gpu_metal.specs.Free.{Frees, GivesBack}
-use Rattle.gpu_metal.specs.HeapList.{all_heaps}
-use Rattle.gpu_metal.specs.State.{State, model_of}
-use Rattle.gpu_metal.specs.Reply as replies
-use Rattle.gpu_metal.specs.Reply.{Error, Done}
-use Rattle.gpu_metal.specs.Step.{Free, Commit, SetBudget, Budget, Capacity, LiveHeaps, Report, nothing_met, joined, left, committed, reply_of, granted, ServeStep}
-use Rattle.gpu_metal.specs.Step.{AllocateStep, SetBudgetStep, CountsAndNames, IsStep, Replies, IsAllocateStep, done_as, shown_as}
+use Rattle.gpu_pool.specs.Allocate.{NothingMet, NoHostMemory}
+use Rattle.gpu_pool.specs.Handles.{all_handles}
+use Rattle.gpu_pool.specs.Reply as replies
+use Rattle.gpu_pool.specs.Reply.{Reply, Error, Done, allocated_as}
+use Rattle.gpu_pool.specs.Source.{result_of}
+use Rattle.gpu_pool.specs.Step as pools
+use Rattle.gpu_pool.proofs.Freeing.{frees_over}
+use Rattle.gpu_pool.proofs.Serving.{serves_over}
+use Rattle.gpu_metal.specs.Allocate.{is_valid, request_in, Returns, IsAttempted, AllocatesBy}
+use Rattle.gpu_metal.specs.Blocks.{is_same_heap}
+use Rattle.gpu_metal.specs.Free.{freed_of, Frees}
+use Rattle.gpu_metal.specs.Live.{piece_of}
+use Rattle.gpu_metal.specs.Source.{SourceState, AsksBlock, GivesHeap, CommitsSet}
+use Rattle.gpu_metal.specs.State.{State, pool_of, seen_of, model_of}
+use Rattle.gpu_metal.specs.Step.{Free, Commit, SetBudget, Budget, Capacity, LiveHeaps, Report, SeesQuestion, SeesGiven, AllocateStep, IsStep, Replies, IsAllocateStep, freed_as, done_as, shown_as}
 use Rattle.gpu_metal.specs.declared.allocation.Allocation.{Allocation}
 
 module _ {D : Type 0} (g : Ghosts D) where
-  counts_same : (device after : D) → after ≡ device → CountsAndNames g device None after
-  counts_same device after is = record { count = ap g.refused is; latest_heap = ap g.latest_heap is }
+  sees_question : (old new : SourceState D) (t size : ℕ) (answer : Result MTLHeap Refusal) → AsksBlock g old t size tt answer new → SeesQuestion (seen_of g old) t size tt answer (seen_of g new)
+  sees_question old new t size answer a = record {
+    location = a.location;
+    at = a.at;
+    refusal = a.refusal;
+    state = λ i. record { residency = a.residency i; refused = a.asks.count i; latest_heap = a.asks.latest_heap i };
+  }
 
-  counts_after : (old new : State D) (o : Option Asked) → IsAfter g old.setup old.device o new.device → CountsAndNames g old.device o new.device
-  counts_after old new None is = counts_same old.device new.device is
-  counts_after old new (Some a) is = record { count = is.count; latest_heap = is.latest_heap }
+  sees_given : (old new : SourceState D) (heap : MTLHeap) → GivesHeap g old heap new → SeesGiven (seen_of g old) heap (seen_of g new)
+  sees_given old new heap a = λ i. record { residency = a.residency i; refused = a.gives.count i; latest_heap = a.gives.latest_heap i }
 
   -- ---- an allocation
 
-  replies_of : (t : ℕ) (d : AllocationCreateDesc) (result : Result Allocation AllocationError) (answer : Answer) → Answers t d result answer → Replies d result (reply_of t answer)
-  replies_of t d (Ok a) (Gave p) h = h
-  replies_of t d (Ok a) (Refused r) h = absurd h
-  replies_of t d (Err e) (Gave p) h = absurd h
-  replies_of t d (Err e) (Refused r) h = h
+  replies_of : (t : ℕ) (d : AllocationCreateDesc) (result : Result Allocation AllocationError) (answer : Result (Piece MTLHeap) Refusal) → Returns t d result answer → Replies d result (allocated_as t answer)
+  replies_of t d (Ok a) (Ok p) h = h
+  replies_of t d (Ok a) (Err r) h = absurd h
+  replies_of t d (Err e) (Ok p) h = absurd h
+  replies_of t d (Err e) (Err r) h = h
 
-  pub served_step : (d : AllocationCreateDesc) (old new : State D) (result : Result Allocation AllocationError) → is_valid d ≡ true
-      → (s : IsServed g old.setup old.budgets d old.slots old.device result new.slots new.device) → new.budgets ≡ old.budgets
-      → (model_of g new).residency ≡ joined (model_of g old).residency (granted s.attempt.environment.asked) → IsAllocateStep g d result old new
-  served_step d old new result valid s budgets residency =
-      let a = s.attempt in
-      let reply = reply_of s.memory_type a.answer in
-      let serves : ServeStep old.setup d a.environment reply (model_of g old) (model_of g new) =
-      record { memory_type = s.memory_type; first = s.first; answer = a.answer; allocates = a.allocates; asked_for = a.asked_for; reply_is = refl; budgets = budgets; residency = residency } in
+  attempted_step : (d : AllocationCreateDesc) (old new : State D) (result : Result Allocation AllocationError) → is_valid d ≡ true → IsAttempted g d (pool_of old) result (pool_of new)
+      → IsAllocateStep g d result old new
+  attempted_step d old new result valid a =
+      let t = a.memory_type in
+      let q = request_in t d in
+      let met = a.allocates.0 in
+      let reply : Reply MTLHeap = allocated_as t a.answer in
+      let serves = serves_over kinds_of_device (AsksBlock g) SeesQuestion (seen_of g) q (pool_of old) (pool_of new)
+      (λ size answer k. sees_question (pool_of old).source (pool_of new).source t size answer k) met a.answer a.allocates.1 in
+      let here : AllocateStep d true met reply (model_of g old) (model_of g new) = (t, a.first, (a.answer, refl, serves)) in
       record {
         reply = reply;
-        step = record {
-          environment = a.environment;
-          step = subst (λ v. AllocateStep old.setup d v a.environment reply (model_of g old) (model_of g new)) (sym valid) serves;
-          counts = counts_after old new a.environment.asked a.asked;
-        };
-        replies = replies_of s.memory_type d result a.answer a.answers;
+        step = (met, subst (λ v. AllocateStep d v met reply (model_of g old) (model_of g new)) (sym valid) here);
+        replies = replies_of t d result a.answer a.returns;
       }
 
   refused_replies : (d : AllocationCreateDesc) (result : Result Allocation AllocationError) (r : Refusal) → refusal_in result ≡ Some r → Replies d result (Error r)
   refused_replies d (Ok a) r is = absurd (none_some r is)
   refused_replies d (Err e) r is = some_same (refusal_of e) r is
 
-  pub invalid_step : (d : AllocationCreateDesc) (s : State D) (result : Result Allocation AllocationError) → refusal_in result ≡ Some invalid_allocation_create_desc
-      → is_valid d ≡ false → IsAllocateStep g d result s s
-  invalid_step d s result is invalid = record {
+  pub invalid_step : (d : AllocationCreateDesc) (old new : State D) (result : Result Allocation AllocationError) → is_valid d ≡ false → refusal_in result ≡ Some invalid_allocation_create_desc
+      → new ≡ old → IsAllocateStep g d result old new
+  invalid_step d old new result invalid is same = record {
     reply = Error invalid_allocation_create_desc;
-    step = record {
-      environment = nothing_met;
-      step = subst (λ v. AllocateStep s.setup d v nothing_met (Error invalid_allocation_create_desc) (model_of g s) (model_of g s)) (sym invalid) (refl, refl, refl);
-      counts = counts_same s.device s.device refl;
-    };
+    step = (
+      NothingMet,
+      subst (λ v. AllocateStep d v NothingMet (Error invalid_allocation_create_desc) (model_of g old) (model_of g new)) (sym invalid) (refl, refl, ap (model_of g) same),
+    );
     replies = refused_replies d result invalid_allocation_create_desc is;
   }
 
+  step_by : (d : AllocationCreateDesc) (valid : Bool) → is_valid d ≡ valid → (old new : State D) (result : Result Allocation AllocationError) → AllocatesBy g d valid old result new → IsAllocateStep g d result old new
+  step_by d false is old new result a = invalid_step d old new result is a.0 a.1
+  step_by d true is old new result a = attempted_step d old new result is a
+
+  pub allocate_step : (d : AllocationCreateDesc) (old new : State D) (result : Result Allocation AllocationError) → AllocatesBy g d (is_valid d) old result new → IsAllocateStep g d result old new
+  allocate_step d old new result a = step_by d (is_valid d) refl old new result a
+
   -- ---- a free
 
-  back_counts : (old new : State D) (went : Option MTLHeap) → GivesBack g old.setup.residency_set old.device went new.device → CountsAndNames g old.device None new.device
-  back_counts old new None back = counts_same old.device new.device back
-  back_counts old new (Some m) back = record { count = back.count; latest_heap = back.latest_heap }
+  freed_reply : (result : Result (Unit {0}) (AllocationError × Allocation)) → freed_as result ≡ replies.done_as (freed_of result)
+  freed_reply (Ok u) = refl
+  freed_reply (Err e) = refl
 
-  pub released_step : (old new : State D) (a : Allocation) → (f : Frees g old.setup.residency_set a old.slots old.device (Ok tt) new.slots new.device) → new.budgets ≡ old.budgets
-      → (model_of g new).residency ≡ left (model_of g old).residency f.1.went → IsStep g (Free a) Done old new
-  released_step old new a f budgets residency =
-      let r = f.1 in
-      record {
-        environment = nothing_met;
-        step = (refl, (f.0, record { went = r.went; after = r.left; releases = r.releases; slots = r.slots; budgets = budgets; residency = residency }));
-        counts = back_counts old new r.went r.gives_back;
-      }
-
-  pub dead_step : (old new : State D) (a : Allocation) (e : AllocationError × Allocation) → Frees g old.setup.residency_set a old.slots old.device (Err e) new.slots new.device
-      → model_of g new ≡ model_of g old → IsStep g (Free a) (Error (refusal_of e.0)) old new
-  dead_step old new a e f same = record {
-    environment = nothing_met;
-    step = (refl, (f.0, f.1, same));
-    counts = counts_same old.device new.device f.4;
-  }
+  pub free_step : (a : Allocation) (old new : State D) (result : Result (Unit {0}) (AllocationError × Allocation)) → Frees g a old result new → IsStep g (Free a) (freed_as result) old new
+  free_step a old new result f = (
+    NothingMet,
+    (
+      refl,
+      freed_of result,
+      freed_reply result,
+      frees_over (GivesHeap g) SeesGiven (seen_of g) is_same_heap a.memory_type_index (piece_of a) (pool_of old) (pool_of new)
+          (λ heap k. sees_given (pool_of old).source (pool_of new).source heap k) (freed_of result) f.frees,
+    ),
+  )
 
   -- ---- the set
 
-  pub commit_step : (old new : State D) (held : _) → ChangesHeld g old.device held new.device → model_of g new ≡ record (model_of g old) { residency = committed (model_of g old).residency }
+  pub commit_step : (old new : State D) → CommitsSet g (pool_of old).source (pool_of new).source → new.setup.sizes ≡ old.setup.sizes → new.slots ≡ old.slots → new.budgets ≡ old.budgets
       → IsStep g Commit Done old new
-  commit_step old new held changes is = record {
-    environment = nothing_met;
-    step = (refl, refl, is);
-    counts = record { count = changes.count; latest_heap = changes.latest_heap };
-  }
+  commit_step old new c sizes slots budgets = (
+    NothingMet,
+    (
+      refl,
+      (
+        refl,
+        λ i. record {
+          source = record { residency = c.residency i; refused = c.commits.count i; latest_heap = c.commits.latest_heap i };
+          sizes = sizes i;
+          slots = slots i;
+          budgets = budgets i;
+        },
+      ),
+    ),
+  )
 
   -- ---- budgets
 
-  set_by : (t : ℕ) (budget : Option ℕ) (old new : State D) (result : Result (Unit {0}) AllocationError) → new.slots ≡ old.slots → (model_of g new).residency ≡ (model_of g old).residency
-      → SetsBudget t budget old.budgets (refusal_in result) new.budgets → SetBudgetStep t budget (done_as result) (model_of g old) (model_of g new)
-  set_by t budget old new (Ok u) slots residency sets = (sets, slots, residency)
-  set_by t budget old new (Err e) slots residency sets = (sets, slots, residency)
+  done_reply : (result : Result (Unit {0}) AllocationError) → done_as result ≡ replies.done_as (result_of result)
+  done_reply (Ok u) = refl
+  done_reply (Err e) = refl
 
-  pub set_step : (t : ℕ) (budget : Option ℕ) (old new : State D) (result : Result (Unit {0}) AllocationError) → new.device ≡ old.device → new.setup ≡ old.setup → new.slots ≡ old.slots
-      → SetsBudget t budget old.budgets (refusal_in result) new.budgets → IsStep g (SetBudget t budget) (done_as result) old new
-  set_step t budget old new result device setup slots sets = record {
-    environment = nothing_met;
-    step = (refl, set_by t budget old new result slots (λ i. residency_of (g.held (device i)) (setup i).residency_set) sets);
-    counts = counts_same old.device new.device device;
-  }
+  same_refusal : (result : Result (Unit {0}) AllocationError) → refusal_in result ≡ pools.refusal_in (result_of result)
+  same_refusal (Ok u) = refl
+  same_refusal (Err e) = refl
 
-  -- ---- what is told
+  pub set_step : (t : ℕ) (budget : Option ℕ) (old new : State D) (result : Result (Unit {0}) AllocationError) → SetsBudget t budget old.budgets (refusal_in result) new.budgets
+      → new ≡ record old { budgets = new.budgets } → IsStep g (SetBudget t budget) (done_as result) old new
+  set_step t budget old new result sets same = (
+    NothingMet,
+    (
+      refl,
+      result_of result,
+      done_reply result,
+      record { budgets = subst (λ r. SetsBudget t budget old.budgets r new.budgets) (same_refusal result) sets; state = ap (model_of g) same },
+    ),
+  )
+
+  -- ---- what is shown
 
   pub budget_step : (s : State D) (t : ℕ) (budget : Option ℕ) → budget ≡ budget_at s.budgets t → IsStep g (Budget t) (replies.Budget budget) s s
-  budget_step s t budget is = record { environment = nothing_met; step = (refl, ap replies.Budget is, refl); counts = counts_same s.device s.device refl }
+  budget_step s t budget is = (NothingMet, (refl, ap replies.Budget is, refl))
 
   pub capacity_step : (s : State D) (n : ℕ) → n ≡ total_capacity s.slots → IsStep g Capacity (replies.Capacity n) s s
-  capacity_step s n is = record { environment = nothing_met; step = (refl, ap replies.Capacity is, refl); counts = counts_same s.device s.device refl }
+  capacity_step s n is = (NothingMet, (refl, ap replies.Capacity is, refl))
 
-  pub heaps_step : (s : State D) (heaps : List MTLHeap) → heaps ≡ all_heaps s.slots → IsStep g LiveHeaps (replies.LiveHeaps heaps) s s
-  heaps_step s heaps is = record { environment = nothing_met; step = (refl, ap replies.LiveHeaps is, refl); counts = counts_same s.device s.device refl }
+  pub heaps_step : (s : State D) (heaps : List MTLHeap) → heaps ≡ all_handles s.slots → IsStep g LiveHeaps (replies.Handles heaps) s s
+  heaps_step s heaps is = (NothingMet, (refl, ap replies.Handles is, refl))
 
   pub report_step : (s : State D) (result : Result AllocatorReport AllocationError) → IfOk result (λ r. report_of r ≡ whole_report s.slots) → IfErr result (λ e. e ≡ HostOutOfMemory)
       → IsStep g Report (shown_as result) s s
-  report_step s (Ok r) told refused = record {
-    environment = record { host = true; asked = None };
-    step = (refl, (refl, told, refl));
-    counts = counts_same s.device s.device refl;
-  }
-  report_step s (Err e) told refused = record {
-    environment = record { host = false; asked = None };
-    step = (refl, (refl, ap refusal_of refused, refl));
-    counts = counts_same s.device s.device refl;
-  }
+  report_step s (Ok r) shown refused = (NothingMet, (Ok (report_of r), refl, shown, refl))
+  report_step s (Err e) shown refused = (NoHostMemory, (Err (refusal_of e), refl, ap refusal_of refused, refl))

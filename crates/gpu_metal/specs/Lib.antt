@@ -1,11 +1,8 @@
 pub mod Blocks
-pub mod HeapList
+pub mod Source
+pub mod State
 pub mod Live
-pub mod Attempt
 pub mod Allocate
 pub mod Free
-pub mod State
-pub mod Reply
 pub mod Step
-pub mod Budgets
 pub mod Apart

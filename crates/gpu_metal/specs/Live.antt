@@ -1,9 +1,9 @@
 -- An allocation, as its owner holds it, and the piece that it stands for.
-use Rattle.std.specs.Prelude.{◌≡◌, ℕ, List, Option, Some, string_bytes}
+use Rattle.std.specs.Prelude.{◌≡◌, ℕ, List, string_bytes}
 use Rattle.gpu_slots.specs.declared.piece.Piece.{Piece}
 use Rattle.gpu_device.specs.declared.metal.types.MTLHeap.{MTLHeap}
-use Rattle.gpu_memory_types.specs.Apart as all_apart
-use Rattle.gpu_memory_types.specs.Live as all
+use Rattle.gpu_memory_types.specs.Apart as pieces
+use Rattle.gpu_pool.specs.Live as pool
 use Rattle.gpu_metal.specs.Blocks.{Slots, is_same_heap}
 use Rattle.gpu_metal.specs.declared.allocation.Allocation.{Allocation}
 
@@ -11,12 +11,9 @@ use Rattle.gpu_metal.specs.declared.allocation.Allocation.{Allocation}
 abbrev pub piece_of : Allocation → Piece MTLHeap
 piece_of a = record { slot = a.memory_block_index; number = a.number; offset = a.offset; size = a.size; block = a.heap }
 
-abbrev pub IsLiveIn : Slots → (t : ℕ) → Option (Piece MTLHeap) → Type 0
-IsLiveIn slots t p = all.IsLiveIn is_same_heap slots t p
-
 -- the allocator has a record with the allocation's type, slot, number, offset, size and heap
 abbrev pub IsLive : Slots → Allocation → Type 0
-IsLive slots a = IsLiveIn slots a.memory_type_index (Some (piece_of a))
+IsLive slots a = pool.IsLive is_same_heap slots a.memory_type_index (piece_of a)
 
 -- the allocation that is given for a piece of the t-th memory type
 pub record IsGiven (t : ℕ) (name : List ℕ) (p : Piece MTLHeap) (a : Allocation) : Type 0 where
@@ -26,7 +23,7 @@ pub record IsGiven (t : ℕ) (name : List ℕ) (p : Piece MTLHeap) (a : Allocati
 
 -- two allocations are different pieces: of another memory type, in another slot, or under another number
 abbrev pub AreDistinct : Allocation → Allocation → Type 0
-AreDistinct a b = all_apart.AreDistinct a.memory_type_index (piece_of a) b.memory_type_index (piece_of b)
+AreDistinct a b = pieces.AreDistinct a.memory_type_index (piece_of a) b.memory_type_index (piece_of b)
 
 -- what was live is live
 abbrev pub StayLive : (old new : Slots) → Type 0

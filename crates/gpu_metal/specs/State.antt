@@ -1,12 +1,22 @@
 -- What callers see of an allocator.
-use Rattle.std.specs.Prelude.{◌≡◌, ◌^◌, ◌<◌, length, Option}
-use Rattle.gpu_device.specs.Metal.{Held, Properties}
+use Rattle.std.specs.Prelude.{ℕ, Option}
 use Rattle.gpu_device.specs.declared.metal.device.MetalDevice.{Ghosts}
-use Rattle.gpu_memory_types.specs.Blocks.{total_capacity, BlocksWellFormed}
+use Rattle.gpu_device.specs.declared.metal.types.HeapDescriptor.{HeapDescriptor}
+use Rattle.gpu_device.specs.declared.metal.types.MTLHeap.{MTLHeap}
+use Rattle.gpu_device.specs.declared.metal.types.MTLResidencySet.{MTLResidencySet}
 use Rattle.gpu_memory_types.specs.Budgets.{Budgets}
-use Rattle.gpu_metal_setup.specs.MemoryKinds.{locations}
-use Rattle.gpu_metal_setup.specs.declared.setup.Setup.{Setup}
-use Rattle.gpu_metal.specs.Blocks.{Slots, Residency, residency_of, HoldsJustLiveBlocks}
+use Rattle.gpu_pool.specs.State as pools
+use Rattle.gpu_pool.specs.State.{over}
+use Rattle.gpu_values.specs.Sizes.{Sizes}
+use Rattle.gpu_values.specs.declared.allocator_debug_settings.AllocatorDebugSettings.{AllocatorDebugSettings}
+use Rattle.gpu_metal.specs.Blocks.{Slots, Residency}
+use Rattle.gpu_metal.specs.Source.{SourceState, set_of}
+
+-- what an allocator is made with, and never changes: how large its blocks are, what is logged, and the residency set, where one was wanted
+pub record Setup : Type 0 where
+  pub sizes : Sizes
+  pub debug : AllocatorDebugSettings
+  pub residency_set : Option MTLResidencySet
 
 -- the device, what it was when it was handed in, what the allocator is made with, the blocks, and the budgets of memory types
 pub record State (D : Type 0) : Type 0 where
@@ -16,21 +26,44 @@ pub record State (D : Type 0) : Type 0 where
   pub slots : Slots
   pub budgets : Budgets
 
--- what stays so by every call: `told` and `first` are the device's properties and what it held when it was handed in, `held` is what it holds now
-pub record AllocatorInvariant (told now : Properties) (first held : Held) (setup : Setup) (slots : Slots) : Type 0 where
-  pub constant : now ≡ told
-  pub types : length slots ≡ length locations
-  pub sound : BlocksWellFormed 1 slots
-  pub sum : total_capacity slots < 2 ^ 64
-  pub holds : HoldsJustLiveBlocks setup.residency_set first held slots
+-- a pool over a device and its residency set
+abbrev pub Pool : (D : Type 0) → Type 0
+Pool D = pools.State (SourceState D) MTLHeap
+
+-- the pool of an allocator
+abbrev pub pool_of : {D : Type 0} → State D → Pool D
+pool_of s = record {
+  source = record { device = s.device; first = s.first; set = s.setup.residency_set };
+  sizes = s.setup.sizes;
+  slots = s.slots;
+  budgets = s.budgets;
+}
+
+-- the allocator over a pool
+abbrev pub state_of : {D : Type 0} → Pool D → AllocatorDebugSettings → State D
+state_of p debug = record {
+  device = p.source.device;
+  first = p.source.first;
+  setup = record { sizes = p.sizes; debug = debug; residency_set = p.source.set };
+  slots = p.slots;
+  budgets = p.budgets;
+}
 
 -- ---- as a model
 
--- the live blocks, the budgets of memory types, and the residency set, where there is one
-pub record Model : Type 0 where
-  pub slots : Slots
-  pub budgets : Budgets
+-- what a model sees of a device: the residency set, where there is one, how often the device refused, and the heap that it was asked for last
+pub record Seen : Type 0 where
   pub residency : Option Residency
+  pub refused : ℕ
+  pub latest_heap : Option (HeapDescriptor × ℕ)
 
+-- the pool, over what is seen of its device
+abbrev pub Model : Type 0
+Model = pools.State Seen MTLHeap
+
+abbrev pub seen_of : {D : Type 0} → Ghosts D → SourceState D → Seen
+seen_of g s = record { residency = set_of g s; refused = g.refused s.device; latest_heap = g.latest_heap s.device }
+
+-- an allocator as a model
 abbrev pub model_of : {D : Type 0} → Ghosts D → State D → Model
-model_of g s = record { slots = s.slots; budgets = s.budgets; residency = residency_of (g.held s.device) s.setup.residency_set }
+model_of g s = over (seen_of g) (pool_of s)

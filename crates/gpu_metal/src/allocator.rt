@@ -1,67 +1,99 @@
 //! The allocator: blocks of heaps by memory type, and the calls that share them out.
 
-ghost use Rattle.std.specs.Prelude.{◌≡◌, ◌↔◌, ◌%◌, [], All, None, IfOk, IfErr, IsTrue, length, option_copied};
+ghost use Rattle.std.specs.Prelude.{◌≡◌, ◌↔◌, ◌%◌, ◌<◌, [], All, None, true, IfOk, IfErr, IsTrue, length, option_copied, string_bytes};
 ghost use Rattle.gpu_values.specs.Refusal.{refusal_of, refusal_in};
 ghost use Rattle.gpu_values.specs.Report.{report_of};
 ghost use Rattle.gpu_values.specs.declared.error.AllocationError.TheVariants.{HostOutOfMemory};
 ghost use Rattle.gpu_memory_types.specs.Blocks.{total_capacity, BlocksWellFormed};
 ghost use Rattle.gpu_memory_types.specs.Budgets.{budget_at, budgets, SetsBudget};
-ghost use Rattle.gpu_memory_types.specs.Types.{slots_of, kinds};
-ghost use Rattle.gpu_metal_setup.specs.Setup.{kinds_told};
 ghost use Rattle.gpu_memory_types.specs.Reports.{whole_report};
-ghost use Rattle.gpu_metal_setup.specs.MemoryKinds.{locations};
+ghost use Rattle.gpu_memory_types.specs.Types.{slots_of, kinds};
+ghost use Rattle.gpu_metal_setup.specs.MemoryKinds.{locations, IsFirstServing};
 ghost use Rattle.gpu_metal_setup.specs.Residency.{MakesSet, ChangesHeld, with_committed};
-ghost use Rattle.gpu_metal_setup.specs.Setup.{IsNotMade};
-ghost use Rattle.gpu_metal.specs.Allocate.{Allocates};
+ghost use Rattle.gpu_metal_setup.specs.Setup.{kinds_of_device, IsNotMade};
+ghost use Rattle.gpu_pool.specs.Handles.{all_handles};
+ghost use Rattle.gpu_pool.specs.Reply as replies;
+ghost use Rattle.gpu_pool.specs.Reply.{Done};
+ghost use Rattle.gpu_metal.specs.Allocate.{is_valid, IsAttempted, Allocates};
 ghost use Rattle.gpu_metal.specs.Apart.{IsInside, SharesNoByte};
-ghost use Rattle.gpu_metal.specs.Blocks.{residency_of, HoldsJustLiveBlocks};
-ghost use Rattle.gpu_metal.specs.Free.{Frees, left_behind};
-ghost use Rattle.gpu_metal.specs.HeapList.{all_heaps};
-ghost use Rattle.gpu_metal.specs.Live.{IsLive, AreDistinct, StayLive};
-ghost use Rattle.gpu_metal.specs.Reply as replies;
-ghost use Rattle.gpu_metal.specs.Reply.{Done};
+ghost use Rattle.gpu_metal.specs.Blocks.{residency_of, left_behind, HoldsJustLiveBlocks};
+ghost use Rattle.gpu_metal.specs.Free.{Frees};
+ghost use Rattle.gpu_metal.specs.Live.{IsLive, IsGiven, AreDistinct, StayLive};
 ghost use Rattle.gpu_metal.specs.Step.{IsStep, IsAllocateStep, Free, Commit, SetBudget, Budget, Capacity, LiveHeaps, Report, freed_as, done_as, shown_as};
 ghost use Rattle.gpu_metal.specs.declared.allocation.Allocation.{Allocation};
 
 use crate::Allocation;
-use crate::attempt::allocate_in_type;
-use crate::heaps::{Heaps, all_heaps};
 use crate::logging::{log_allocate, log_free};
-use crate::release::{free_all, release};
+use crate::source::MetalBlocks;
 use gpu_device::metal::{MTLHeap, MTLResidencySet, MetalDevice};
 use gpu_memory_types::MemoryTypes;
 use gpu_metal_setup::{
-    AllocationCreateDesc, AllocatorCreateDesc, Setup, commit_set, parts_of, type_for,
+    AllocationCreateDesc, AllocatorCreateDesc, empty_types, request_of, type_for,
 };
-use gpu_values::{AllocationError, AllocatorReport, Result};
+use gpu_pool::{Handles, Pool};
+use gpu_slots::Piece;
+use gpu_values::{AllocationError, AllocatorDebugSettings, AllocatorReport, Result};
 use log::Log;
-use std::alloc::Global;
+use std::alloc::{AllocError, Global};
 use std::marker::Model;
-use std::snapshot::Snapshot;
+
+/// The heaps of the live blocks by memory type, then by slot. It takes no memory.
+pub type Heaps<'a> = Handles<'a, MTLHeap>;
 
 /// Allocates pieces of heaps from a few large blocks. It must be spent by `destroy`.
 pub struct Allocator<D: MetalDevice> {
-    device: D,
-    first: Snapshot<D>,
-    setup: Setup,
-    types: MemoryTypes<MTLHeap>,
+    pool: Pool<MetalBlocks<D>>,
+    debug: AllocatorDebugSettings,
     alloc: Global,
 }
 
 impl<D: MetalDevice> Model for Allocator<D> {
-    ghost use Rattle.std.specs.Prelude.{◌≡◌};
-    ghost use Rattle.gpu_memory_types.specs.Budgets.{budgets};
-    ghost use Rattle.gpu_memory_types.specs.Types.{slots_of, kinds, MemoryTypesInvariant};
-    ghost use Rattle.gpu_metal_setup.specs.Setup.{kinds_told};
-    ghost use Rattle.gpu_metal.specs.State.{State, AllocatorInvariant};
+    ghost use Rattle.gpu_metal.specs.State.{State, state_of};
 
     ghost Value = { State D };
 
-    ghost view = { λ a. record { device = a.device; first = a.first.value; setup = a.setup; slots = slots_of a.types; budgets = budgets a.types } };
+    ghost view = { λ a. state_of a.pool a.debug };
+}
 
-    ghost invariant = { λ a. (kinds a.types ≡ kinds_told)
-        × AllocatorInvariant (D.properties a.first.value) (D.properties a.device) (D.held a.first.value) (D.held a.device) a.setup (slots_of a.types)
-        × MemoryTypesInvariant a.types };
+/// The allocation of a piece of the memory type at `index`.
+fn allocation_of(index: usize, piece: Piece<MTLHeap>, name: String) -> Allocation
+    ensures { IsGiven index (string_bytes name) piece result }
+{
+    Allocation {
+        number: piece.number,
+        offset: piece.offset,
+        size: piece.size,
+        memory_block_index: piece.slot,
+        memory_type_index: index,
+        heap: piece.block,
+        name,
+    }
+}
+
+/// An allocation in the memory type at `index`, the first that serves its location. All host memory for it is at hand before
+/// the device is asked.
+fn attempt<D: MetalDevice>(
+    alloc: Global,
+    pool: &mut Pool<MetalBlocks<D>>,
+    desc: &AllocationCreateDesc,
+    index: usize,
+) -> Result<Allocation>
+    requires valid { is_valid desc.now ≡ true }
+    requires there { index < length locations }
+    requires first { IsFirstServing desc.now.location index }
+    ensures attempts { IsAttempted D.MetalDevice desc.now pool.old result pool.new }
+    ensures aligned { IfOk result (λ a. a.offset % desc.now.alignment ≡ 0) }
+    ensures keeps { StayLive pool.old.slots pool.new.slots }
+    ensures live { IfOk result (λ a. IsLive pool.new.slots a × ((b : Allocation) → IsLive pool.old.slots b → AreDistinct b a)) }
+{
+    let name = match String::from_str(alloc, desc.name) {
+        Ok(name) => name,
+        Err(AllocError) => return Err(AllocationError::HostOutOfMemory),
+    };
+    match pool.allocate(index, &request_of(desc), ()) {
+        Ok(piece) => Ok(allocation_of(index, piece, name)),
+        Err(error) => Err(error),
+    }
 }
 
 impl<D: MetalDevice> Allocator<D> {
@@ -80,31 +112,26 @@ impl<D: MetalDevice> Allocator<D> {
         ensures held { IfErr result (λ e. D.held e.1 ≡ D.held desc.device) }
     {
         let AllocatorCreateDesc {
-            mut device,
-            debug_settings,
+            device,
+            debug_settings: debug,
             allocation_sizes,
             create_residency_set,
         } = desc;
-        let first = Snapshot::of(&device);
-        match parts_of(
-            alloc,
-            &mut device,
-            allocation_sizes,
-            debug_settings,
-            create_residency_set,
-        ) {
-            Err(error) => Err((error, device)),
-            Ok((setup, types)) => Ok(Allocator {
-                device,
-                first,
-                setup,
-                types,
+        let types = match empty_types(alloc) {
+            Ok(types) => MemoryTypes::new(types),
+            Err(AllocError) => return Err((AllocationError::HostOutOfMemory, device)),
+        };
+        match MetalBlocks::new(device, create_residency_set) {
+            Err(refused) => Err(refused),
+            Ok(source) => Ok(Allocator {
+                pool: Pool::new(source, allocation_sizes, types),
+                debug,
                 alloc,
             }),
         }
     }
 
-    /// Takes a piece of a heap that is there or of a new one. A new heap is a member of the residency set, which has to be
+    /// Allocates a piece of a heap that is there or of a new one. A new heap is a member of the residency set, which has to be
     /// committed for it (`commit_residency_set`). The errors, in the order in which they are looked at:
     /// - `InvalidAllocationCreateDesc`: the size is 0, or the alignment isn't a power of two;
     /// - `HostOutOfMemory`: the host refused memory for the name, the record or the block's own lists;
@@ -114,30 +141,23 @@ impl<D: MetalDevice> Allocator<D> {
     ///
     /// A refusal leaves every block as it was, and the device holds what it held.
     pub fn allocate<L: Log>(&mut self, log: &L, desc: &AllocationCreateDesc) -> Result<Allocation>
-        // which memory type is asked, what that comes to, and what the device then holds, a new heap in the residency set
-        ensures allocates { Allocates D.MetalDevice self.old.setup self.old.budgets desc.now self.old.slots self.old.device result self.new.slots self.new.device }
+        // which memory type is asked, what it met with, what is returned, and what that leaves of blocks, device and set
+        ensures allocates { Allocates D.MetalDevice desc.now self.old result self.new }
         ensures constant { (self.new.first ≡ self.old.first) × (self.new.setup ≡ self.old.setup) × (self.new.budgets ≡ self.old.budgets) }
         ensures step { IsAllocateStep D.MetalDevice desc.now result self.old self.new }
         ensures aligned { IfOk result (λ a. a.offset % desc.now.alignment ≡ 0) }
         ensures keeps { StayLive self.old.slots self.new.slots }
         ensures gives { IfOk result (λ a. IsLive self.new.slots a × ((b : Allocation) → IsLive self.old.slots b → AreDistinct b a)) }
     {
-        log_allocate(log, self.setup.debug, desc);
+        log_allocate(log, self.debug, desc);
         if desc.size == 0 || !desc.alignment.is_power_of_two() {
             return Err(AllocationError::InvalidAllocationCreateDesc);
         }
         let index = type_for(desc.location);
-        allocate_in_type(
-            self.alloc,
-            &self.setup,
-            &mut self.device,
-            &mut self.types,
-            desc,
-            index,
-        )
+        attempt(self.alloc, &mut self.pool, desc, index)
     }
 
-    /// Gives an allocation back, and its block with it where the block is left empty and isn't the only shared one of its
+    /// Frees an allocation, and gives its block back where the block is left empty and isn't the only shared one of its
     /// memory type; its heap then leaves the residency set. A live one is never refused; any other comes back as it was, beside
     /// `Internal`, and then nothing changes. Release the resources in it before. It takes no memory.
     pub fn free<L: Log>(
@@ -145,16 +165,15 @@ impl<D: MetalDevice> Allocator<D> {
         log: &L,
         allocation: Allocation,
     ) -> Result<(), (AllocationError, Allocation)>
-        ensures frees { Frees D.MetalDevice self.old.setup.residency_set allocation self.old.slots self.old.device result self.new.slots self.new.device }
+        ensures frees { Frees D.MetalDevice allocation self.old result self.new }
         ensures constant { (self.new.first ≡ self.old.first) × (self.new.setup ≡ self.old.setup) × (self.new.budgets ≡ self.old.budgets) }
         ensures step { IsStep D.MetalDevice (Free allocation) (freed_as result) self.old self.new }
         ensures keeps { (b : Allocation) → IsLive self.old.slots b → AreDistinct b allocation → IsLive self.new.slots b }
     {
-        log_free(log, self.setup.debug, &allocation);
+        log_free(log, self.debug, &allocation);
         let piece = allocation.piece();
         let index = allocation.memory_type_index;
-        let set = self.setup.residency_set;
-        match release(&mut self.device, set, &mut self.types, index, &piece) {
+        match self.pool.free(index, &piece) {
             Ok(()) => Ok(()),
             Err(error) => Err((error, allocation)),
         }
@@ -162,10 +181,10 @@ impl<D: MetalDevice> Allocator<D> {
 
     /// The heaps of the live blocks by memory type, then by slot. It takes no memory.
     pub fn heaps(&self) -> Heaps<'_>
-        ensures heaps { result ≡ all_heaps self.now.slots }
-        ensures step { IsStep D.MetalDevice LiveHeaps (replies.LiveHeaps result) self.now self.now }
+        ensures heaps { result ≡ all_handles self.now.slots }
+        ensures step { IsStep D.MetalDevice LiveHeaps (replies.Handles result) self.now self.now }
     {
-        all_heaps(&self.types)
+        self.pool.handles()
     }
 
     /// The residency set; `None` where none was wanted. Its members are the heaps of the live blocks. Don't change it, and commit
@@ -173,7 +192,7 @@ impl<D: MetalDevice> Allocator<D> {
     pub fn residency_set(&self) -> Option<&MTLResidencySet>
         ensures { option_copied result ≡ self.now.setup.residency_set }
     {
-        self.setup.residency_set.as_ref()
+        self.pool.source().residency_set()
     }
 
     /// Makes the members of the residency set its committed members; without a set it does nothing. It takes no memory and is
@@ -183,7 +202,8 @@ impl<D: MetalDevice> Allocator<D> {
         ensures constant { (self.new.first ≡ self.old.first) × (self.new.setup ≡ self.old.setup) × (self.new.slots ≡ self.old.slots) × (self.new.budgets ≡ self.old.budgets) }
         ensures step { IsStep D.MetalDevice Commit Done self.old self.new }
     {
-        commit_set(&mut self.device, self.setup.residency_set);
+        let pool = &mut self.pool;
+        pool.source.commit();
     }
 
     /// Bounds the sum of the sizes of the blocks of a memory type, in bytes: a request that needs a new block beyond it is
@@ -194,7 +214,7 @@ impl<D: MetalDevice> Allocator<D> {
         ensures others { self.new ≡ record self.old { budgets = self.new.budgets } }
         ensures step { IsStep D.MetalDevice (SetBudget memory_type budget) (done_as result) self.old self.new }
     {
-        self.types.set_budget(memory_type, budget)
+        self.pool.set_budget(memory_type, budget)
     }
 
     /// The budget of a memory type, in bytes; `None` where it has none, or there is no such type.
@@ -202,7 +222,7 @@ impl<D: MetalDevice> Allocator<D> {
         ensures budget { result ≡ budget_at self.now.budgets memory_type }
         ensures step { IsStep D.MetalDevice (Budget memory_type) (replies.Budget result) self.now self.now }
     {
-        self.types.budget(memory_type)
+        self.pool.budget(memory_type)
     }
 
     /// The sum of the sizes of the live blocks, in bytes.
@@ -210,7 +230,7 @@ impl<D: MetalDevice> Allocator<D> {
         ensures sum { result ≡ total_capacity self.now.slots }
         ensures step { IsStep D.MetalDevice Capacity (replies.Capacity result) self.now self.now }
     {
-        self.types.capacity()
+        self.pool.capacity()
     }
 
     /// What is allocated: the live blocks and pieces by memory type, then by slot, pieces by offset, and the sums of both.
@@ -221,16 +241,16 @@ impl<D: MetalDevice> Allocator<D> {
         ensures capacity { IfOk result (λ r. r.total_capacity_bytes ≡ total_capacity self.now.slots) }
         ensures cause { IfErr result (λ e. e ≡ HostOutOfMemory) }
     {
-        self.types.report(self.alloc)
+        self.pool.report(self.alloc)
     }
 
     /// The memory types, lent to be looked at: their blocks with pieces and gaps, and what is counted of them.
     pub fn memory_types(&self) -> &MemoryTypes<MTLHeap>
         ensures slots { slots_of result.now ≡ self.now.slots }
         ensures budgets { budgets result.now ≡ self.now.budgets }
-        ensures kinds { kinds result.now ≡ kinds_told }
+        ensures kinds { kinds result.now ≡ kinds_of_device }
     {
-        &self.types
+        self.pool.memory_types()
     }
 
     /// The device, lent. It holds what it held when it was handed in, the residency set, where there is one, and just the live
@@ -240,7 +260,7 @@ impl<D: MetalDevice> Allocator<D> {
         ensures holds { HoldsJustLiveBlocks self.now.setup.residency_set (D.held self.now.first) (D.held self.now.device) self.now.slots }
         ensures constant { D.properties self.now.device ≡ D.properties self.now.first }
     {
-        &self.device
+        self.pool.source().device()
     }
 
     /// What holds of live allocations at any time, for callers' proofs: each lies inside its block, and no two share a
@@ -250,14 +270,14 @@ impl<D: MetalDevice> Allocator<D> {
         ensures inside { (a : Allocation) → IsLive self.now.slots a → IsInside self.now.slots a }
         ensures apart { (a b : Allocation) → IsLive self.now.slots a → IsLive self.now.slots b → AreDistinct a b → SharesNoByte a b }
     {
-        let _ = &self.device;
+        self.pool.pieces_are_apart();
     }
 
     /// Whether an allocation is live: the allocator has a record with its type, slot, number, offset, size and heap.
     pub fn is_live(&self, allocation: &Allocation) -> bool
         ensures { IsTrue result ↔ IsLive self.now.slots allocation.now }
     {
-        self.types
+        self.pool
             .is_live(allocation.memory_type_index, &allocation.piece())
     }
 
@@ -270,13 +290,10 @@ impl<D: MetalDevice> Allocator<D> {
         ensures asks_nothing { ChangesHeld D.MetalDevice self.device (D.held result) result }
     {
         let Allocator {
-            mut device,
-            first: _,
-            setup,
-            types,
+            pool,
+            debug: _,
             alloc: _,
         } = self;
-        free_all(&mut device, setup.residency_set, &types);
-        device
+        pool.destroy().into_device()
     }
 }

@@ -3,15 +3,12 @@
 
 mod allocation;
 mod allocator;
-mod attempt;
-mod heaps;
 pub mod laws;
 mod logging;
-mod release;
+mod source;
 
 pub use allocation::Allocation;
-pub use allocator::Allocator;
+pub use allocator::{Allocator, Heaps};
 pub use gpu_metal_setup::{
     AllocationCreateDesc, AllocatorCreateDesc, CommittedAllocationStatistics,
 };
-pub use heaps::Heaps;

@@ -6,8 +6,8 @@ use Rattle.gpu_metal_setup.specs.MemoryKinds.{locations, is_host}
 use Rattle.gpu_metal_setup.specs.Residency.{AnswersSet, set_refusal}
 
 -- of each memory type, whether its blocks are of the host's sizes, and its page size, which is 1
-abbrev pub kinds_told : List (Bool × ℕ)
-kinds_told = map (λ location. (is_host location, 1)) locations
+abbrev pub kinds_of_device : List (Bool × ℕ)
+kinds_of_device = map (λ location. (is_host location, 1)) locations
 
 -- the host refused memory before the device was asked anything, or the device refused a set that is wanted
 abbrev pub IsNotMade : {D : Type 0} → Ghosts D → (wanted : Bool) → Refusal → (old new : D) → Type 0

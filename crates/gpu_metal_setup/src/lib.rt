@@ -14,5 +14,5 @@ pub use describe::{
 };
 pub use heap::{create_block_heap, release_block_heap};
 pub use memory_kind::{TYPE_COUNT, heap_descriptor, heap_label, is_host, location_at, type_for};
-pub use residency::{commit_set, create_residency_set, leave_set};
-pub use setup::{Setup, empty_types, parts_of};
+pub use residency::{commit_set, create_residency_set};
+pub use setup::empty_types;

@@ -94,7 +94,7 @@ module _ (setup : Setup) (d e : AllocationCreateDesc) (same : EqualButBytesDescr
       subst (λ (q : RequestAt). AllocatesInType q old o.host (asked_block o.asked) y next) (sym (same_request_at budgets t))
       (subst (λ k. AllocatesInType (request_at setup budgets t e) old k (asked_block o.asked) y next) (sym met.host)
       (subst (λ k. AllocatesInType (request_at setup budgets t e) old p.host k y next) (sym (asked_alike o.asked p.asked met.asked)) b.allocates)) in
-      allocates_once (request_at setup budgets t d) old o.host (asked_block o.asked) x y new next sound a.allocates other
+      allocates_once (request_at setup budgets t d) old o.host (asked_block o.asked) x y new next (sound t) a.allocates other
 
   attempts_alike : (budgets : Budgets) (old : Slots) (t : ℕ) (o p : AttemptEnvironment) (x y : Answer) (new next : Slots) → BlocksWellFormed setup.properties.granularity old →
       EqualButBytesAttemptEnvironment o p

@@ -48,7 +48,7 @@ attempts_once setup budgets old t d o x y new next sound a b =
     (λ (wa : IsWithinHeap setup budgets old t d o x new).
     ⊎_elim
     (λ (lb : IsTooLarge setup old t d o y next). let above = lb.above in let below = wa.below in absurd (omega (arith, above, below)))
-    (λ (wb : IsWithinHeap setup budgets old t d o y next). allocates_once (request_at setup budgets t d) old o.host (asked_block o.asked) x y new next sound wa.allocates wb.allocates)
+    (λ (wb : IsWithinHeap setup budgets old t d o y next). allocates_once (request_at setup budgets t d) old o.host (asked_block o.asked) x y new next (sound t) wa.allocates wb.allocates)
     b)
     a
 

@@ -41,7 +41,7 @@ attempt_keeps setup budgets d t old below sound o answer new at after =
     ⊎_elim
     (λ (large : IsTooLarge setup old t d o answer new). keeps_all is_same_memory t old new _ answer large.answer_is large.same)
     (λ (within : IsWithinHeap setup budgets old t d o answer new).
-    allocates_keeps is_same_memory same_memory (request_at setup budgets t d) old below sound o.host (asked_block o.asked) answer new within.allocates after)
+    allocates_keeps is_same_memory same_memory (request_at setup budgets t d) old below (sound t) o.host (asked_block o.asked) answer new within.allocates (after t))
     at
 
 -- ---- allocations
@@ -136,7 +136,7 @@ released_lives : {D : Type 0} (g : Ghosts D) (setup : Setup) (t : ℕ) (old : Sl
     → (u : ℕ) (q : Piece DeviceMemory) → (u ≡ t → q.slot ≡ p.slot → non_zero_u64_get q.number ≡ non_zero_u64_get p.number → ⊥) → IsLiveIn old u (Some q) → IsLiveIn new u (Some q)
 released_lives g setup t old below sound p device new after r u q other live =
     subst (λ (ss : Slots). IsLiveIn ss u (Some q)) (sym r.slots)
-    (released_keeps_others is_same_memory setup.properties.granularity t old below sound p _ r.went r.left r.releases u q other live)
+    (released_keeps_others is_same_memory setup.properties.granularity t old below (sound t) p _ r.went r.left r.releases u q other live)
 
 other_lives : (old new : Slots) (u : ℕ) (b : Allocation) (o : Option (Piece DeviceMemory)) → piece_of b ≡ o
     → ((q : Piece DeviceMemory) → Has b q → IsLiveIn old u (Some q) → IsLiveIn new u (Some q)) → IsLiveIn old u o → IsLiveIn new u o

@@ -1,28 +1,25 @@
-use Rattle.std.proofs.Common.{◌∙◌, ap}
-use Rattle.gpu_memory_types.specs.Types.{slots_of}
-use Rattle.gpu_metal.specs.Blocks.{residency_of}
-use Rattle.gpu_metal.specs.Free.{left_behind}
+use Rattle.std.proofs.Common.{◌∙◌, sym, ap, subst}
+use Rattle.gpu_metal_setup.specs.Residency.{ChangesHeld}
+use Rattle.gpu_metal.specs.Blocks.{left_behind, residency_of}
 use Rattle.gpu_metal.specs.State.{State}
-use Rattle.gpu_metal.proofs.HeldSet.{holds_set, holds_heaps}
-use Rattle.gpu_metal.proofs.Returned.{all_left}
+use Rattle.gpu_metal.proofs.Leaving.{committed_in, empties, left_same}
 use Rattle.gpu_metal.proofs.allocator.Allocator.destroy.Goals as goal
 
-pub free_all-requires-clause-set : goal.free_all-requires-clause-set
-free_all-requires-clause-set g c =
+pub returns : goal.returns
+returns g c =
     let V = g.D.MetalDevice in
     let i = c.self.inside in
-    holds_set i.setup.residency_set (V.held i.first.value) (V.held i.device) (slots_of i.types) c.self.invariant.1.holds
-
-pub free_all-requires-clause-heaps : goal.free_all-requires-clause-heaps
-free_all-requires-clause-heaps g c =
-    let V = g.D.MetalDevice in
-    let i = c.self.inside in
-    holds_heaps i.setup.residency_set (V.held i.first.value) (V.held i.device) (slots_of i.types) c.self.invariant.1.holds
-
-pub returns-clause-held : goal.returns-clause-held
-returns-clause-held g c =
-    let V = g.D.MetalDevice in
-    let i = c.self.inside in
-    c.free_all.ensures.held_is
-    ∙ all_left i.setup.residency_set (V.held i.first.value) (V.held i.device) (slots_of i.types) c.self.invariant.1.holds
-    ∙ ap (λ (s : State g.row.D.Denot). left_behind (V.held s.first) s.setup.residency_set (residency_of (V.held s.device) s.setup.residency_set)) c.self.view_is
+    let k = empties V i.pool.source _ c.destroy.result c.destroy.ensures.gives_back in
+    let same = c.into_device.ensures.same in
+    let firsts = k.first in
+    let sets = k.set in
+    let set = i.pool.source.set in
+    record {
+      held = c.into_device.ensures.held
+          ∙ (λ j. left_behind (V.held (firsts j)) (sets j) (residency_of (V.held c.destroy.result.device) (sets j)))
+          ∙ left_same (V.held i.pool.source.first) set (residency_of (V.held c.destroy.result.device) set) (residency_of (V.held i.pool.source.device) set)
+          ((λ j. committed_in (residency_of (V.held c.destroy.result.device) (sym sets j))) ∙ k.committed)
+          ∙ ap (λ (s : State g.row.D.Denot). left_behind (V.held s.first) s.setup.residency_set (residency_of (V.held s.device) s.setup.residency_set)) c.self.view_is;
+      asks_nothing = subst (λ (s : State g.row.D.Denot). ChangesHeld V s.device (V.held c.into_device.result) c.into_device.result) c.self.view_is
+          (subst (λ (d : g.row.D.Denot). ChangesHeld V i.pool.source.device (V.held d) d) (sym same) k.changes);
+    }

@@ -6,5 +6,5 @@ use Rattle.gpu_metal.proofs.allocator.Allocator.generate_report.Goals as goal
 
 pub returns-clause-step : goal.returns-clause-step
 returns-clause-step g c =
-    let told : IfOk c.report.result (λ r. report_of r ≡ whole_report c.args.self.now.slots) = search rules in
-    report_step g.D.MetalDevice c.args.self.now c.report.result told c.report.ensures.cause
+    let shown : IfOk c.report.result (λ r. report_of r ≡ whole_report c.args.self.now.slots) = search rules in
+    report_step g.D.MetalDevice c.args.self.now c.report.result shown c.report.ensures.cause

@@ -1,0 +1,11 @@
+pub mod Listing
+pub mod Emptying
+pub mod Allocating
+pub mod Holding
+pub mod Serving
+pub mod Owning
+pub mod Freeing
+pub mod Renaming
+pub mod Apart
+pub mod OneStep
+pub mod WithoutBudgets

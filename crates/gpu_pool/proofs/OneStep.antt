@@ -1,0 +1,148 @@
+-- The model isn't loose: a state, a call and what it met with decide the reply and the next state.
+use Rattle.std.proofs.Common.{◌≡◌, ◌∙◌, refl, sym, ap, subst, ℕ, Bool, List, slice_set, Option, Some, None, Ok, Err, Result, IsTrue, arith}
+use Rattle.gpu_values.specs.Refusal.{Refusal}
+use Rattle.gpu_slots.specs.TypeRelease.{has_several}
+use Rattle.gpu_slots.specs.TypeState.{slot_at}
+use Rattle.gpu_slots.specs.declared.piece.Piece.{Piece}
+use Rattle.gpu_core.proofs.OneOutcome.{released_once, refusal_once, renamed_once, name_refusal_once}
+use Rattle.gpu_memory_types.specs.Attempt.{Answer, Refused}
+use Rattle.gpu_memory_types.specs.Blocks.{slots_at}
+use Rattle.gpu_memory_types.specs.Budgets.{SetsBudget}
+use Rattle.gpu_memory_types.proofs.OneOutcome.{allocates_once, gave_refused}
+use Rattle.gpu_memory_types.proofs.StayLive.{gave_same}
+use Rattle.gpu_pool.specs.Allocate.{RequestAt, Environment, NothingMet, NoHostMemory, Answered, Serves}
+use Rattle.gpu_pool.specs.Free.{GivesBackAny, Frees}
+use Rattle.gpu_pool.specs.Rename.{RenamesBy}
+use Rattle.gpu_pool.specs.Reply.{Reply, allocated_as, done_as, reported_as, leaked_as}
+use Rattle.gpu_pool.specs.State.{State, kind_at, IsSoundAt}
+use Rattle.gpu_pool.specs.Step.{Call, Allocate, Free, Rename, SetBudget, Budget, Capacity, Handles, Report, LeakTexts, refusal_in, Makes, SetsBudgetOf, Step, AskDecides, GiveBackDecides}
+use Rattle.gpu_pool.proofs.Serving.{host_of, asked_of, answer_of, attempt_at, in_type, serves_constant, SourceAfter, serves_source}
+
+abbrev refused : (H : Type 0) → Refusal → Answer H
+refused H r = Refused r
+
+refused_same : (H : Type 0) (r s : Refusal) → refused H r ≡ refused H s → r ≡ s
+refused_same H r s e = cc
+
+answer_same : {H : Type 0} (x y : Result (Piece H) Refusal) → answer_of x ≡ answer_of y → x ≡ y
+answer_same (Ok p) (Ok q) e = ap Ok (gave_same p q e)
+answer_same (Ok p) (Err e) is = absurd (gave_refused p e is)
+answer_same (Err e) (Ok p) is = absurd (gave_refused p e (sym is))
+answer_same {H} (Err e) (Err r) is = ap Err (refused_same H e r is)
+
+alike : {S H : Type 0} (a b : State S H) → a.source ≡ b.source → a.sizes ≡ b.sizes → a.slots ≡ b.slots → a.budgets ≡ b.budgets → a ≡ b
+alike a b source sizes slots budgets = λ i. record { source = source i; sizes = sizes i; slots = slots i; budgets = budgets i }
+
+-- ---- an allocation
+
+module _ {S H X : Type 0} (kinds : List (Bool × ℕ)) (asks : S → ℕ → ℕ → X → Result H Refusal → S → Type 0) (decides : AskDecides asks) (q : RequestAt X) (old : State S H) where
+  source_once : (met : Environment H) (a b : S) → SourceAfter kinds asks q old met a → SourceAfter kinds asks q old met b → a ≡ b
+  source_once NothingMet a b x y = x ∙ sym y
+  source_once NoHostMemory a b x y = x ∙ sym y
+  source_once (Answered size answer) a b x y = decides old.source a b q.memory_type size q.extra answer x y
+
+  -- one answer and one next state
+  pub serves_once : IsSoundAt kinds old.slots q.memory_type → (met : Environment H) (x y : Result (Piece H) Refusal) (new next : State S H) → Serves kinds asks q old met x new
+      → Serves kinds asks q old met y next → (x ≡ y) × (new ≡ next)
+  serves_once sound met x y new next a b =
+      let once = allocates_once (attempt_at kinds asks q old) old.slots (host_of met) (asked_of met) (answer_of x) (answer_of y) new.slots next.slots sound
+      (in_type kinds asks q old met x new a) (in_type kinds asks q old met y next b) in
+      let same = serves_constant kinds asks q old met x new a in
+      let also = serves_constant kinds asks q old met y next b in (
+        answer_same x y once.0,
+        alike new next (source_once met new.source next.source (serves_source kinds asks q old met x new a) (serves_source kinds asks q old met y next b))
+            (same.0 ∙ sym also.0) once.1 (same.1 ∙ sym also.1),
+      )
+
+-- ---- a free
+
+module _ {S H : Type 0} (kinds : List (Bool × ℕ)) (gives_back : S → H → S → Type 0) (decides : GiveBackDecides gives_back) (eq : H → H → Bool) (t : ℕ) (p : Piece H) (old : State S H)
+    (sound : IsSoundAt kinds old.slots t) where
+  back_once : (went : Option H) (a b : S) → GivesBackAny gives_back old.source went a → GivesBackAny gives_back old.source went b → a ≡ b
+  back_once None a b x y = x ∙ sym y
+  back_once (Some handle) a b x y = decides old.source a b handle x y
+
+  pub frees_once : (x y : Result (Unit {0}) Refusal) (new next : State S H) → Frees gives_back eq t p old x new → Frees gives_back eq t p old y next → (x ≡ y) × (new ≡ next)
+  frees_once (Ok u) (Ok v) new next a b =
+      let r = a.1.slots in
+      let s = b.1.slots in
+      let once = released_once (kind_at kinds t).1 (IsTrue (has_several (slots_at old.slots t))) (slots_at old.slots t) p a.1.went b.1.went r.left s.left sound r.releases s.releases in
+      let here : GivesBackAny gives_back old.source b.1.went new.source = subst (λ w. GivesBackAny gives_back old.source w new.source) once.0 a.1.source in (
+        refl,
+        alike new next (back_once b.1.went new.source next.source here b.1.source)
+            (ap (λ (k : State S H). k.sizes) a.1.state ∙ sym (ap (λ (k : State S H). k.sizes) b.1.state))
+            (r.slots ∙ (ap (slice_set old.slots t) once.1 ∙ sym s.slots))
+            (ap (λ (k : State S H). k.budgets) a.1.state ∙ sym (ap (λ (k : State S H). k.budgets) b.1.state)),
+      )
+  frees_once (Ok u) (Err e) new next a b = absurd (b.0 a.0)
+  frees_once (Err e) (Ok u) new next a b = absurd (a.0 b.0)
+  frees_once (Err e) (Err r) new next a b = (ap Err (refusal_once eq (kind_at kinds t).1 p (slot_at (slots_at old.slots t) p.slot) e r (sound p.slot) a.1 b.1), a.2 ∙ sym b.2)
+
+-- ---- a rename
+
+module _ {S H : Type 0} (kinds : List (Bool × ℕ)) (eq : H → H → Bool) (t : ℕ) (p : Piece H) (name : List ℕ) (old : State S H) (sound : IsSoundAt kinds old.slots t) where
+  pub renames_once : (met : Environment H) (x y : Result (Unit {0}) Refusal) (new next : State S H) → RenamesBy eq t p name old met x new → RenamesBy eq t p name old met y next → (x ≡ y) × (new ≡ next)
+  renames_once NothingMet (Ok u) (Ok v) new next a b =
+      let r = a.0 in
+      let s = b.0 in
+      let lists = renamed_once (slots_at old.slots t) p name r.left s.left r.renames s.renames in
+      let slots : new.slots ≡ next.slots = r.slots ∙ (ap (slice_set old.slots t) lists ∙ sym s.slots) in
+      (refl, a.1 ∙ (λ i. record old { slots = slots i }) ∙ sym b.1)
+  renames_once NothingMet (Ok u) (Err e) new next a b = absurd (b.0.dead a.0.live)
+  renames_once NothingMet (Err e) (Ok u) new next a b = absurd (a.0.dead b.0.live)
+  renames_once NothingMet (Err e) (Err r) new next a b =
+      (ap Err (name_refusal_once eq (kind_at kinds t).1 p (slot_at (slots_at old.slots t) p.slot) e r (sound p.slot) a.0.other b.0.other a.0.cause b.0.cause), a.1 ∙ sym b.1)
+  renames_once NoHostMemory (Ok u) y new next a b = absurd a
+  renames_once NoHostMemory (Err e) (Ok u) new next a b = absurd b
+  renames_once NoHostMemory (Err e) (Err r) new next a b = (ap Err (a.1 ∙ sym b.1), a.2 ∙ sym b.2)
+  renames_once (Answered size answer) x y new next a b = absurd a
+
+-- ---- budgets
+
+sets_by : {S H : Type 0} (t : ℕ) (budget : Option ℕ) (old : State S H) (x y : Result (Unit {0}) Refusal) (new next : State S H) → SetsBudget t budget old.budgets (refusal_in x) new.budgets
+    → SetsBudget t budget old.budgets (refusal_in y) next.budgets → (x ≡ y) × (new.budgets ≡ next.budgets)
+sets_by t budget old (Ok u) (Ok v) new next a b = (refl, a.1 ∙ sym b.1)
+sets_by t budget old (Ok u) (Err e) new next a b = let below = a.0 in let past = b.0 in absurd (omega (arith, below, past))
+sets_by t budget old (Err e) (Ok u) new next a b = let below = b.0 in let past = a.0 in absurd (omega (arith, below, past))
+sets_by t budget old (Err e) (Err r) new next a b = (ap Err (a.1 ∙ sym b.1), a.2 ∙ sym b.2)
+
+sets_once : {S H : Type 0} (t : ℕ) (budget : Option ℕ) (old : State S H) (x y : Result (Unit {0}) Refusal) (new next : State S H) → SetsBudgetOf t budget old x new → SetsBudgetOf t budget old y next
+    → (x ≡ y) × (new ≡ next)
+sets_once t budget old x y new next a b =
+    let once = sets_by t budget old x y new next a.budgets b.budgets in
+    let both = once.1 in
+    (once.0, a.state ∙ (λ i. record old { budgets = both i }) ∙ sym b.state)
+
+-- ---- what is made for the caller
+
+makes_once : {H A : Type 0} (made : A) (met : Environment H) (x y : Result A Refusal) → Makes made met x → Makes made met y → x ≡ y
+makes_once made NothingMet (Ok a) (Ok b) x y = ap Ok (x ∙ sym y)
+makes_once made NothingMet (Ok a) (Err e) x y = absurd y
+makes_once made NothingMet (Err e) y a b = absurd a
+makes_once made NoHostMemory (Ok a) y x b = absurd x
+makes_once made NoHostMemory (Err e) (Ok a) x y = absurd y
+makes_once made NoHostMemory (Err e) (Err r) x y = ap Err (x ∙ sym y)
+makes_once made (Answered size answer) x y a b = absurd a
+
+-- ---- any call
+
+pub step_once : {S H X : Type 0} (asks : S → ℕ → ℕ → X → Result H Refusal → S → Type 0) (gives_back : S → H → S → Type 0) (eq : H → H → Bool) → AskDecides asks → GiveBackDecides gives_back
+    → (kinds : List (Bool × ℕ)) (call : Call H X) (met : Environment H) (x y : Reply H) (old new next : State S H) → ((t : ℕ) → IsSoundAt kinds old.slots t)
+    → Step kinds asks gives_back eq old call met x new → Step kinds asks gives_back eq old call met y next → (x ≡ y) × (new ≡ next)
+step_once asks gives_back eq ask back kinds (Allocate q) met x y old new next sound a b =
+    let once = serves_once kinds asks ask q old (sound q.memory_type) met a.0 b.0 new next a.2 b.2 in
+    (a.1 ∙ ap (allocated_as q.memory_type) once.0 ∙ sym b.1, once.1)
+step_once asks gives_back eq ask back kinds (Free t p) met x y old new next sound a b =
+    let once = frees_once kinds gives_back back eq t p old (sound t) a.1 b.1 new next a.3 b.3 in
+    (a.2 ∙ ap done_as once.0 ∙ sym b.2, once.1)
+step_once asks gives_back eq ask back kinds (Rename t p name) met x y old new next sound a b =
+    let once = renames_once kinds eq t p name old (sound t) met a.0 b.0 new next a.2 b.2 in
+    (a.1 ∙ ap done_as once.0 ∙ sym b.1, once.1)
+step_once asks gives_back eq ask back kinds (SetBudget t budget) met x y old new next sound a b =
+    let once = sets_once t budget old a.1 b.1 new next a.3 b.3 in
+    (a.2 ∙ ap done_as once.0 ∙ sym b.2, once.1)
+step_once asks gives_back eq ask back kinds (Budget t) met x y old new next sound a b = (a.1 ∙ sym b.1, a.2 ∙ sym b.2)
+step_once asks gives_back eq ask back kinds Capacity met x y old new next sound a b = (a.1 ∙ sym b.1, a.2 ∙ sym b.2)
+step_once asks gives_back eq ask back kinds Handles met x y old new next sound a b = (a.1 ∙ sym b.1, a.2 ∙ sym b.2)
+step_once asks gives_back eq ask back kinds Report met x y old new next sound a b = (a.1 ∙ ap reported_as (makes_once _ met a.0 b.0 a.2 b.2) ∙ sym b.1, a.3 ∙ sym b.3)
+step_once asks gives_back eq ask back kinds LeakTexts met x y old new next sound a b = (a.1 ∙ ap leaked_as (makes_once _ met a.0 b.0 a.2 b.2) ∙ sym b.1, a.3 ∙ sym b.3)

@@ -1,0 +1,10 @@
+pub mod Source
+pub mod State
+pub mod Held
+pub mod Handles
+pub mod Live
+pub mod Allocate
+pub mod Free
+pub mod Rename
+pub mod Reply
+pub mod Step

@@ -1,0 +1,14 @@
+//! The blocks of an allocator and the pieces in them, over anything that blocks come from: what is the same for every
+//! graphics API.
+#![tactic(auto)]
+
+mod allocate;
+mod free;
+mod handles;
+pub mod laws;
+mod pool;
+mod source;
+
+pub use handles::Handles;
+pub use pool::Pool;
+pub use source::BlockSource;

@@ -1,0 +1,231 @@
+//! A pool: a source of blocks, and the pieces of its blocks.
+
+ghost use Rattle.std.specs.Prelude.{◌≡◌, ◌≢◌, ◌↔◌, ◌⊎◌, ◌<◌, ◌%◌, ℕ, [], All, None, length, map, string_bytes, IsTrue, IfOk, IfErr};
+ghost use Rattle.std.specs.Int.{is_power_of_two};
+ghost use Rattle.gpu_values.specs.Refusal.{refusal_in};
+ghost use Rattle.gpu_values.specs.Report.{report_of};
+ghost use Rattle.gpu_values.specs.declared.error.AllocationError.TheVariants.{HostOutOfMemory};
+ghost use Rattle.gpu_block_views.specs.Leak.{leak_text};
+ghost use Rattle.gpu_slots.specs.declared.piece.Piece.{Piece};
+ghost use Rattle.gpu_memory_types.specs.Apart.{IsInside, AreDistinct, KeepsPages};
+ghost use Rattle.gpu_memory_types.specs.Blocks.{total_capacity};
+ghost use Rattle.gpu_memory_types.specs.Budgets.{budget_at, budgets, SetsBudget};
+ghost use Rattle.gpu_memory_types.specs.Leaks.{all_leaks};
+ghost use Rattle.gpu_memory_types.specs.Reports.{whole_report};
+ghost use Rattle.gpu_memory_types.specs.Types.{slots_of, kinds};
+ghost use Rattle.gpu_pool.specs.Allocate.{request_at, Allocates};
+ghost use Rattle.gpu_pool.specs.Free.{Frees, GivesBackAll};
+ghost use Rattle.gpu_pool.specs.Handles.{all_handles};
+ghost use Rattle.gpu_pool.specs.Held.{HoldsJustBlocks};
+ghost use Rattle.gpu_pool.specs.Live.{IsLive, StayLive, IsNewlyLive, AreBytesApart};
+ghost use Rattle.gpu_pool.specs.Rename.{Renames};
+ghost use Rattle.gpu_pool.specs.Source.{result_of};
+ghost use Rattle.gpu_pool.specs.State.{State, kind_at, IsSoundAt};
+
+use crate::BlockSource;
+use crate::allocate::attempt;
+use crate::free::{free_piece, give_back_all};
+use crate::handles::{Handles, all_handles};
+use gpu_memory_types::{AllLeaks, MemoryTypes};
+use gpu_slots::{Piece, Request};
+use gpu_values::{AllocationSizes, AllocationType, AllocatorReport, Result};
+use std::alloc::Global;
+use std::marker::Model;
+
+/// A source of blocks, and the pieces of its blocks. The source holds just the live blocks. It must be spent by `destroy`.
+pub struct Pool<S: BlockSource> {
+    /// The source. Whoever changes it proves that it holds the same blocks, before the pool is used again.
+    pub source: S,
+    sizes: AllocationSizes,
+    types: MemoryTypes<S::Handle>,
+}
+
+impl<S: BlockSource> Model for Pool<S> {
+    ghost use Rattle.std.specs.Prelude.{◌≡◌};
+    ghost use Rattle.gpu_memory_types.specs.Budgets.{budgets};
+    ghost use Rattle.gpu_memory_types.specs.Types.{slots_of, kinds, MemoryTypesInvariant};
+    ghost use Rattle.gpu_pool.specs.Held.{HoldsJustBlocks};
+    ghost use Rattle.gpu_pool.specs.State.{State};
+
+    ghost Value = { State S S.Handle };
+
+    ghost view = { λ p. record { source = p.source; sizes = p.sizes; slots = slots_of p.types; budgets = budgets p.types } };
+
+    ghost invariant = { λ p. (kinds p.types ≡ S.kinds p.source)
+        × HoldsJustBlocks S.number (S.held p.source) (slots_of p.types)
+        × MemoryTypesInvariant p.types };
+}
+
+impl<S: BlockSource> Pool<S> {
+    /// A pool without blocks, over a source that holds none and whose memory types these are.
+    pub fn new(source: S, sizes: AllocationSizes, types: MemoryTypes<S::Handle>) -> Self
+        requires kinds { kinds types ≡ S.kinds source }
+        requires empty { All (λ slots. slots ≡ []) (slots_of types) }
+        requires none { (n : ℕ) → S.held source n ≡ None }
+        ensures { result ≡ record { source = source; sizes = sizes; slots = slots_of types; budgets = budgets types } }
+    {
+        let _ = types.capacity();
+        Pool {
+            source,
+            sizes,
+            types,
+        }
+    }
+
+    /// Allocates a piece of the memory type at `index`: of a shared block, or of a new one of the source.
+    pub fn allocate(
+        &mut self,
+        index: usize,
+        request: &Request,
+        extra: S::Extra,
+    ) -> Result<Piece<S::Handle>>
+        requires there { index < length (S.kinds self.old.source) }
+        requires sized { 0 < request.now.size }
+        requires aligned { IsTrue (is_power_of_two request.now.alignment) }
+        requires piece { request.now.kind ≢ AllocationType.Free }
+        // what the request met with, what it is answered, and what that leaves
+        ensures allocates { Allocates (S.kinds self.old.source) S.asks (request_at index request.now extra)
+            self.old (result_of result) self.new }
+        ensures constant { S.kinds self.new.source ≡ S.kinds self.old.source }
+        ensures aligned { IfOk result (λ p. p.offset % request.now.alignment ≡ 0) }
+        ensures keeps { StayLive S.Handle.eq self.old.slots self.new.slots }
+        ensures live { IfOk result (λ p. IsNewlyLive S.Handle.eq self.old.slots self.new.slots index p) }
+    {
+        attempt(
+            &mut self.source,
+            &mut self.types,
+            &self.sizes,
+            index,
+            request,
+            extra,
+        )
+    }
+
+    /// Frees a piece of the memory type at `index`, and gives its block back where the block is left empty and isn't the only
+    /// shared one of its memory type. A live piece is never refused; of any other nothing changes. It takes no memory.
+    pub fn free(&mut self, index: usize, piece: &Piece<S::Handle>) -> Result<()>
+        ensures frees { Frees S.gives_back S.Handle.eq index piece.now self.old (result_of result) self.new }
+        ensures constant { S.kinds self.new.source ≡ S.kinds self.old.source }
+        ensures keeps { (t : ℕ) (p : Piece S.Handle) → IsLive S.Handle.eq self.old.slots t p
+            → AreDistinct t p index piece.now → IsLive S.Handle.eq self.new.slots t p }
+    {
+        free_piece(&mut self.source, &mut self.types, index, piece)
+    }
+
+    /// Gives a piece of the memory type at `index` another name. `Internal` where the piece isn't live, else
+    /// `HostOutOfMemory`; then nothing changes.
+    pub fn rename(&mut self, index: usize, piece: &Piece<S::Handle>, name: &str) -> Result<()>
+        ensures renames { Renames S.Handle.eq index piece.now name.now self.old (result_of result) self.new }
+    {
+        self.types.rename(index, piece, name)
+    }
+
+    /// Bounds the sum of the sizes of the live blocks of a memory type, in bytes; `None` takes the bound away. A budget below
+    /// the present sum gives no block back. `Internal` where there is no such memory type, and then nothing changes. It takes
+    /// no memory.
+    pub fn set_budget(&mut self, index: usize, budget: Option<u64>) -> Result<()>
+        ensures budgets { SetsBudget index budget self.old.budgets (refusal_in result) self.new.budgets }
+        ensures others { self.new ≡ record self.old { budgets = self.new.budgets } }
+    {
+        self.types.set_budget(index, budget)
+    }
+
+    /// The budget of a memory type, in bytes; `None` where it has none, or isn't there.
+    pub fn budget(&self, index: usize) -> Option<u64>
+        ensures { result ≡ budget_at self.now.budgets index }
+    {
+        self.types.budget(index)
+    }
+
+    /// The sum of the sizes of the live blocks, in bytes.
+    pub fn capacity(&self) -> u64
+        ensures { result ≡ total_capacity self.now.slots }
+    {
+        self.types.capacity()
+    }
+
+    /// What is allocated: the live blocks and pieces by memory type, then by slot, pieces by offset, and the sums of both.
+    /// The only refusal is `HostOutOfMemory`.
+    pub fn report(&self, alloc: Global) -> Result<AllocatorReport>
+        ensures report { IfOk result (λ r. report_of r ≡ whole_report self.now.slots) }
+        ensures cause { IfErr result (λ e. e ≡ HostOutOfMemory) }
+    {
+        self.types.report(alloc)
+    }
+
+    /// The live pieces by memory type, then by slot, then in order of offset. It takes no memory.
+    pub fn leaks(&self) -> AllLeaks<'_, S::Handle>
+        ensures { result ≡ all_leaks self.now.slots }
+    {
+        self.types.leaks()
+    }
+
+    /// The texts of all live pieces in the same order. The only refusal is `HostOutOfMemory`.
+    pub fn leak_texts(&self, alloc: Global) -> Result<Vec<String>>
+        ensures texts { IfOk result (λ v. map string_bytes v.items ≡ map leak_text (all_leaks self.now.slots)) }
+        ensures cause { IfErr result (λ e. e ≡ HostOutOfMemory) }
+    {
+        self.types.leak_texts(alloc)
+    }
+
+    /// The handles of the live blocks by memory type, then by slot. It takes no memory.
+    pub fn handles(&self) -> Handles<'_, S::Handle>
+        ensures { result ≡ all_handles self.now.slots }
+    {
+        all_handles(&self.types)
+    }
+
+    /// Whether a piece of the memory type at `index` is live.
+    pub fn is_live(&self, index: usize, piece: &Piece<S::Handle>) -> bool
+        ensures { IsTrue result ↔ IsLive S.Handle.eq self.now.slots index piece.now }
+    {
+        self.types.is_live(index, piece)
+    }
+
+    /// The memory types, lent to be looked at: their blocks with pieces and gaps, and what is counted of them.
+    pub fn memory_types(&self) -> &MemoryTypes<S::Handle>
+        ensures slots { slots_of result.now ≡ self.now.slots }
+        ensures budgets { budgets result.now ≡ self.now.budgets }
+        ensures kinds { kinds result.now ≡ S.kinds self.now.source }
+    {
+        &self.types
+    }
+
+    /// The source, lent. It holds just the live blocks.
+    pub fn source(&self) -> &S
+        ensures lent { result.now ≡ self.now.source }
+        ensures holds { HoldsJustBlocks S.number (S.held self.now.source) self.now.slots }
+    {
+        &self.source
+    }
+
+    /// What holds of live pieces at any time, for callers' proofs: blocks are sound, each piece lies inside its block, no two
+    /// share a byte, and those of different kinds share no page of their memory type. It does nothing.
+    pub fn pieces_are_apart(&self)
+        ensures sound { (t : ℕ) → IsSoundAt (S.kinds self.now.source) self.now.slots t }
+        ensures inside { (t : ℕ) (p : Piece S.Handle) → IsLive S.Handle.eq self.now.slots t p → IsInside self.now.slots t p }
+        ensures apart { (t : ℕ) (p : Piece S.Handle) (u : ℕ) (q : Piece S.Handle)
+            → IsLive S.Handle.eq self.now.slots t p → IsLive S.Handle.eq self.now.slots u q → AreDistinct t p u q
+            → (S.number p.block ≢ S.number q.block) ⊎ AreBytesApart p q }
+        ensures pages { (t : ℕ) (p q : Piece S.Handle) → IsLive S.Handle.eq self.now.slots t p
+            → IsLive S.Handle.eq self.now.slots t q → KeepsPages (kind_at (S.kinds self.now.source) t).1 self.now.slots t p q }
+    {
+        let _ = &self.types;
+    }
+
+    /// Gives every block back, each once, by memory type, then by slot, and returns the source, which then holds none. It is
+    /// never refused, and takes no memory.
+    pub fn destroy(self) -> S
+        ensures none { (n : ℕ) → S.held result n ≡ None }
+        ensures gives_back { GivesBackAll S.gives_back self.source (all_handles self.slots) result }
+        ensures constant { S.kinds result ≡ S.kinds self.source }
+    {
+        let Pool {
+            mut source,
+            sizes: _,
+            types,
+        } = self;
+        give_back_all(&mut source, &types);
+        source
+    }
+}
