@@ -6,8 +6,8 @@
 int main(void) {
     pilhangko_virtual_block staging = {0};
     pilhangko_virtual_piece vertices, texture;
-    const pilhangko_virtual_request vertex_request = {.size = 3000, .alignment = 16, .kind = PILHANGKO_LINEAR};
-    const pilhangko_virtual_request texture_request = {.size = 1 << 20, .alignment = 256, .kind = PILHANGKO_LINEAR};
+    const pilhangko_virtual_request vertex_request = {.size = 3000, .alignment = 16, .kind = PILHANGKO_KIND_LINEAR};
+    const pilhangko_virtual_request texture_request = {.size = 1 << 20, .alignment = 256, .kind = PILHANGKO_KIND_LINEAR};
 
     pilhangko_status status = pilhangko_virtual_block_create(&staging, UINT64_C(64) << 20, 1);
     if (status == PILHANGKO_OK) status = pilhangko_virtual_block_allocate(&staging, &vertex_request, "vertices", &vertices);

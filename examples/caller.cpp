@@ -11,7 +11,7 @@ public:
     VirtualBlock &operator=(const VirtualBlock &) = delete;
 
     pilhangko_virtual_piece allocate(uint64_t size, uint64_t alignment, const char *name) {
-        const pilhangko_virtual_request request = {size, alignment, PILHANGKO_LINEAR};
+        const pilhangko_virtual_request request = {size, alignment, PILHANGKO_KIND_LINEAR};
         pilhangko_virtual_piece piece;
         check(pilhangko_virtual_block_allocate(&block, &request, name, &piece));
         return piece;

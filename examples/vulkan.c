@@ -221,7 +221,7 @@ static void make(unsigned i) {
     snprintf(name, sizeof name, "%s %u", r->buffer ? "buffer" : "image", i);
     pilhangko_memory_request request = {.size = needs.size,
         .alignment = needs.alignment,
-        .kind = own_layout ? PILHANGKO_NON_LINEAR : PILHANGKO_LINEAR,
+        .kind = own_layout ? PILHANGKO_KIND_NON_LINEAR : PILHANGKO_KIND_LINEAR,
         .dedicated = random_below(50) == 0};
     r->type = type_for(needs.memoryTypeBits);
     r->piece = place(r->type, &request, name);

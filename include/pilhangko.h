@@ -33,10 +33,21 @@
 #define PILHANGKO_VERSION_MINOR 1
 #define PILHANGKO_VERSION_PATCH 0
 
+/* What stands before the archive's symbols, and their calling convention: nothing, which is right for a static library. Define them before
+ * this header where a shared library passes the symbols on (__declspec(dllexport), visibility, __cdecl ..). */
+#ifndef PILHANGKO_API
+#define PILHANGKO_API
+#endif
+#ifndef PILHANGKO_CALL
+#define PILHANGKO_CALL
+#endif
+
 #ifdef __cplusplus
 extern "C" {
 #endif
 
+/* 1 to 11 are the library's errors by their numbers in traces (docs/TRACE.md); those that are missing can't come from these calls. From 100 on
+ * stand what a handle is, from 200 on what the caller passed. */
 typedef uint32_t pilhangko_status;
 enum {
     PILHANGKO_OK = 0,
@@ -65,18 +76,18 @@ enum {
 /* The kind of a piece. Pieces of different kinds share no page of their block. */
 enum {
     /* Buffers and linear images. */
-    PILHANGKO_LINEAR = 1,
+    PILHANGKO_KIND_LINEAR = 1,
     /* Images in the device's own layout. */
-    PILHANGKO_NON_LINEAR = 2
+    PILHANGKO_KIND_NON_LINEAR = 2
 };
 
 /* ---- Virtual blocks: one block of a size, cut into pieces. Numbers alone: no memory is behind it. ---- */
 
 typedef struct pilhangko_virtual_block {
-    void *at;
+    void *opaque; /* the library's own */
 } pilhangko_virtual_block;
 
-/* size: not 0. alignment: a power of two. kind: PILHANGKO_LINEAR or PILHANGKO_NON_LINEAR. */
+/* size: not 0. alignment: a power of two. kind: PILHANGKO_KIND_LINEAR or PILHANGKO_KIND_NON_LINEAR. */
 typedef struct pilhangko_virtual_request {
     uint64_t size;
     uint64_t alignment;
@@ -112,7 +123,7 @@ typedef struct pilhangko_piece_view {
 /* ---- Memory types: blocks that come and go, each asked of the driver by the caller. ---- */
 
 typedef struct pilhangko_memory_type {
-    void *at;
+    void *opaque; /* the library's own */
 } pilhangko_memory_type;
 
 /* Sizes of blocks are brought into 4 MB (2^22 bytes) to 256 MB and rounded up to a multiple of 4 MB. The first shared block has the block
@@ -182,39 +193,39 @@ typedef struct pilhangko_memory_block_statistics {
 
 /* ---- The archive's symbols, for callers in other languages. No pointer may be NULL, also not of a name with length 0. ---- */
 
-pilhangko_status pilhangko_raw_virtual_block_create(pilhangko_virtual_block *block, uint64_t size, uint64_t page_size);
-pilhangko_status pilhangko_raw_virtual_block_allocate(pilhangko_virtual_block *block, const pilhangko_virtual_request *request,
+PILHANGKO_API pilhangko_status PILHANGKO_CALL pilhangko_raw_virtual_block_create(pilhangko_virtual_block *block, uint64_t size, uint64_t page_size);
+PILHANGKO_API pilhangko_status PILHANGKO_CALL pilhangko_raw_virtual_block_allocate(pilhangko_virtual_block *block, const pilhangko_virtual_request *request,
     const char *name, size_t name_length, pilhangko_virtual_piece *piece);
-pilhangko_status pilhangko_raw_virtual_block_free(pilhangko_virtual_block *block, const pilhangko_virtual_piece *piece);
-pilhangko_status pilhangko_raw_virtual_block_rename(
+PILHANGKO_API pilhangko_status PILHANGKO_CALL pilhangko_raw_virtual_block_free(pilhangko_virtual_block *block, const pilhangko_virtual_piece *piece);
+PILHANGKO_API pilhangko_status PILHANGKO_CALL pilhangko_raw_virtual_block_rename(
     pilhangko_virtual_block *block, const pilhangko_virtual_piece *piece, const char *name, size_t name_length);
-pilhangko_status pilhangko_raw_virtual_block_clear(pilhangko_virtual_block *block);
-pilhangko_status pilhangko_raw_virtual_block_statistics(pilhangko_virtual_block *block, pilhangko_virtual_statistics *statistics);
-pilhangko_status pilhangko_raw_virtual_block_next_piece(pilhangko_virtual_block *block, uint64_t from, pilhangko_piece_view *piece);
-pilhangko_status pilhangko_raw_virtual_block_piece_name(
+PILHANGKO_API pilhangko_status PILHANGKO_CALL pilhangko_raw_virtual_block_clear(pilhangko_virtual_block *block);
+PILHANGKO_API pilhangko_status PILHANGKO_CALL pilhangko_raw_virtual_block_statistics(pilhangko_virtual_block *block, pilhangko_virtual_statistics *statistics);
+PILHANGKO_API pilhangko_status PILHANGKO_CALL pilhangko_raw_virtual_block_next_piece(pilhangko_virtual_block *block, uint64_t from, pilhangko_piece_view *piece);
+PILHANGKO_API pilhangko_status PILHANGKO_CALL pilhangko_raw_virtual_block_piece_name(
     pilhangko_virtual_block *block, uint64_t from, char *name, size_t name_room, size_t *name_length);
-pilhangko_status pilhangko_raw_virtual_block_destroy(pilhangko_virtual_block *block);
+PILHANGKO_API pilhangko_status PILHANGKO_CALL pilhangko_raw_virtual_block_destroy(pilhangko_virtual_block *block);
 
-pilhangko_status pilhangko_raw_memory_type_create(pilhangko_memory_type *types, const pilhangko_memory_type_settings *settings);
-pilhangko_status pilhangko_raw_memory_type_prepare(pilhangko_memory_type *types, const pilhangko_memory_request *request, const char *name,
+PILHANGKO_API pilhangko_status PILHANGKO_CALL pilhangko_raw_memory_type_create(pilhangko_memory_type *type, const pilhangko_memory_type_settings *settings);
+PILHANGKO_API pilhangko_status PILHANGKO_CALL pilhangko_raw_memory_type_prepare(pilhangko_memory_type *type, const pilhangko_memory_request *request, const char *name,
     size_t name_length, pilhangko_memory_prepared *prepared);
-pilhangko_status pilhangko_raw_memory_type_install(pilhangko_memory_type *types, uint64_t block, pilhangko_memory_piece *piece);
-pilhangko_status pilhangko_raw_memory_type_abandon(pilhangko_memory_type *types);
-pilhangko_status pilhangko_raw_memory_type_free(
-    pilhangko_memory_type *types, const pilhangko_memory_piece *piece, pilhangko_memory_block *gone);
-pilhangko_status pilhangko_raw_memory_type_rename(
-    pilhangko_memory_type *types, const pilhangko_memory_piece *piece, const char *name, size_t name_length);
-pilhangko_status pilhangko_raw_memory_type_is_live(pilhangko_memory_type *types, const pilhangko_memory_piece *piece, bool *is_live);
-pilhangko_status pilhangko_raw_memory_type_set_budget(pilhangko_memory_type *types, bool has_budget, uint64_t bytes);
-pilhangko_status pilhangko_raw_memory_type_block(pilhangko_memory_type *types, size_t slot, pilhangko_memory_block *block);
-pilhangko_status pilhangko_raw_memory_type_block_statistics(
-    pilhangko_memory_type *types, size_t slot, pilhangko_memory_block_statistics *statistics);
-pilhangko_status pilhangko_raw_memory_type_next_piece(
-    pilhangko_memory_type *types, size_t slot, uint64_t from, pilhangko_piece_view *piece);
-pilhangko_status pilhangko_raw_memory_type_piece_name(
-    pilhangko_memory_type *types, size_t slot, uint64_t from, char *name, size_t name_room, size_t *name_length);
-pilhangko_status pilhangko_raw_memory_type_statistics(pilhangko_memory_type *types, pilhangko_memory_statistics *statistics);
-pilhangko_status pilhangko_raw_memory_type_destroy(pilhangko_memory_type *types);
+PILHANGKO_API pilhangko_status PILHANGKO_CALL pilhangko_raw_memory_type_install(pilhangko_memory_type *type, uint64_t block, pilhangko_memory_piece *piece);
+PILHANGKO_API pilhangko_status PILHANGKO_CALL pilhangko_raw_memory_type_abandon(pilhangko_memory_type *type);
+PILHANGKO_API pilhangko_status PILHANGKO_CALL pilhangko_raw_memory_type_free(
+    pilhangko_memory_type *type, const pilhangko_memory_piece *piece, pilhangko_memory_block *gone);
+PILHANGKO_API pilhangko_status PILHANGKO_CALL pilhangko_raw_memory_type_rename(
+    pilhangko_memory_type *type, const pilhangko_memory_piece *piece, const char *name, size_t name_length);
+PILHANGKO_API pilhangko_status PILHANGKO_CALL pilhangko_raw_memory_type_is_live(pilhangko_memory_type *type, const pilhangko_memory_piece *piece, bool *is_live);
+PILHANGKO_API pilhangko_status PILHANGKO_CALL pilhangko_raw_memory_type_set_budget(pilhangko_memory_type *type, bool has_budget, uint64_t bytes);
+PILHANGKO_API pilhangko_status PILHANGKO_CALL pilhangko_raw_memory_type_block(pilhangko_memory_type *type, size_t slot, pilhangko_memory_block *block);
+PILHANGKO_API pilhangko_status PILHANGKO_CALL pilhangko_raw_memory_type_block_statistics(
+    pilhangko_memory_type *type, size_t slot, pilhangko_memory_block_statistics *statistics);
+PILHANGKO_API pilhangko_status PILHANGKO_CALL pilhangko_raw_memory_type_next_piece(
+    pilhangko_memory_type *type, size_t slot, uint64_t from, pilhangko_piece_view *piece);
+PILHANGKO_API pilhangko_status PILHANGKO_CALL pilhangko_raw_memory_type_piece_name(
+    pilhangko_memory_type *type, size_t slot, uint64_t from, char *name, size_t name_room, size_t *name_length);
+PILHANGKO_API pilhangko_status PILHANGKO_CALL pilhangko_raw_memory_type_statistics(pilhangko_memory_type *type, pilhangko_memory_statistics *statistics);
+PILHANGKO_API pilhangko_status PILHANGKO_CALL pilhangko_raw_memory_type_destroy(pilhangko_memory_type *type);
 
 /* ---- The calls ---- */
 
@@ -329,9 +340,9 @@ static inline pilhangko_status pilhangko_virtual_block_destroy(pilhangko_virtual
 
 /* Makes a memory type without blocks in an empty handle.
  * IN_USE: the handle isn't empty. INVALID: page_size. HOST_OUT_OF_MEMORY. */
-static inline pilhangko_status pilhangko_memory_type_create(pilhangko_memory_type *types, const pilhangko_memory_type_settings *settings) {
-    if (!types || !settings) return PILHANGKO_NULL_POINTER;
-    return pilhangko_raw_memory_type_create(types, settings);
+static inline pilhangko_status pilhangko_memory_type_create(pilhangko_memory_type *type, const pilhangko_memory_type_settings *settings) {
+    if (!type || !settings) return PILHANGKO_NULL_POINTER;
+    return pilhangko_raw_memory_type_create(type, settings);
 }
 
 /* Takes a piece of a shared block that is there, or says which block is needed and awaits it. A shared block serves where one has a place,
@@ -340,104 +351,104 @@ static inline pilhangko_status pilhangko_memory_type_create(pilhangko_memory_typ
  * NO_HANDLE. AWAITS_BLOCK. INVALID: the request or the name. HOST_OUT_OF_MEMORY. And where a block is needed: OUT_OF_MEMORY: the sum of the
  * blocks' sizes would pass 2^64 - 1. BUDGET_EXCEEDED: it would pass the budget. */
 static inline pilhangko_status pilhangko_memory_type_prepare(
-    pilhangko_memory_type *types, const pilhangko_memory_request *request, const char *name, pilhangko_memory_prepared *prepared) {
-    if (!types || !request || !prepared) return PILHANGKO_NULL_POINTER;
-    return pilhangko_raw_memory_type_prepare(types, request, pilhangko_name_bytes(name), pilhangko_name_length(name), prepared);
+    pilhangko_memory_type *type, const pilhangko_memory_request *request, const char *name, pilhangko_memory_prepared *prepared) {
+    if (!type || !request || !prepared) return PILHANGKO_NULL_POINTER;
+    return pilhangko_raw_memory_type_prepare(type, request, pilhangko_name_bytes(name), pilhangko_name_length(name), prepared);
 }
 
 /* Puts in the block that is awaited, under the driver's handle of it, and says where the piece is; it begins at the block's start. It needs
  * no host memory, so that a block which the driver gave is never lost. Handles of live blocks should differ.
  * NO_HANDLE. AWAITS_NO_BLOCK. */
-static inline pilhangko_status pilhangko_memory_type_install(pilhangko_memory_type *types, uint64_t block, pilhangko_memory_piece *piece) {
-    if (!types || !piece) return PILHANGKO_NULL_POINTER;
-    return pilhangko_raw_memory_type_install(types, block, piece);
+static inline pilhangko_status pilhangko_memory_type_install(pilhangko_memory_type *type, uint64_t block, pilhangko_memory_piece *piece) {
+    if (!type || !piece) return PILHANGKO_NULL_POINTER;
+    return pilhangko_raw_memory_type_install(type, block, piece);
 }
 
 /* Forgets the block that is awaited, where the driver refused it: nothing has changed since before prepare.
  * NO_HANDLE. AWAITS_NO_BLOCK. */
-static inline pilhangko_status pilhangko_memory_type_abandon(pilhangko_memory_type *types) {
-    if (!types) return PILHANGKO_NULL_POINTER;
-    return pilhangko_raw_memory_type_abandon(types);
+static inline pilhangko_status pilhangko_memory_type_abandon(pilhangko_memory_type *type) {
+    if (!type) return PILHANGKO_NULL_POINTER;
+    return pilhangko_raw_memory_type_abandon(type);
 }
 
 /* Gives a piece back. Where gone->exists, the block gone->block went with it: give its memory back to the driver. A piece's own block goes,
  * and so does a shared block without pieces where another shared one is live. It needs no host memory.
  * NO_HANDLE. AWAITS_BLOCK. NOT_LIVE. */
 static inline pilhangko_status pilhangko_memory_type_free(
-    pilhangko_memory_type *types, const pilhangko_memory_piece *piece, pilhangko_memory_block *gone) {
-    if (!types || !piece || !gone) return PILHANGKO_NULL_POINTER;
-    return pilhangko_raw_memory_type_free(types, piece, gone);
+    pilhangko_memory_type *type, const pilhangko_memory_piece *piece, pilhangko_memory_block *gone) {
+    if (!type || !piece || !gone) return PILHANGKO_NULL_POINTER;
+    return pilhangko_raw_memory_type_free(type, piece, gone);
 }
 
 /* Gives a live piece another name.
  * NO_HANDLE. AWAITS_BLOCK. INVALID: the name. NOT_LIVE. HOST_OUT_OF_MEMORY. */
 static inline pilhangko_status pilhangko_memory_type_rename(
-    pilhangko_memory_type *types, const pilhangko_memory_piece *piece, const char *name) {
-    if (!types || !piece) return PILHANGKO_NULL_POINTER;
-    return pilhangko_raw_memory_type_rename(types, piece, pilhangko_name_bytes(name), pilhangko_name_length(name));
+    pilhangko_memory_type *type, const pilhangko_memory_piece *piece, const char *name) {
+    if (!type || !piece) return PILHANGKO_NULL_POINTER;
+    return pilhangko_raw_memory_type_rename(type, piece, pilhangko_name_bytes(name), pilhangko_name_length(name));
 }
 
 /* Whether a piece is live.
  * NO_HANDLE. */
 static inline pilhangko_status pilhangko_memory_type_is_live(
-    pilhangko_memory_type *types, const pilhangko_memory_piece *piece, bool *is_live) {
-    if (!types || !piece || !is_live) return PILHANGKO_NULL_POINTER;
-    return pilhangko_raw_memory_type_is_live(types, piece, is_live);
+    pilhangko_memory_type *type, const pilhangko_memory_piece *piece, bool *is_live) {
+    if (!type || !piece || !is_live) return PILHANGKO_NULL_POINTER;
+    return pilhangko_raw_memory_type_is_live(type, piece, is_live);
 }
 
 /* Bounds the sum of the blocks' sizes, or takes the bound away. A bound below the present sum gives no block back.
  * NO_HANDLE. AWAITS_BLOCK. */
-static inline pilhangko_status pilhangko_memory_type_set_budget(pilhangko_memory_type *types, bool has_budget, uint64_t bytes) {
-    if (!types) return PILHANGKO_NULL_POINTER;
-    return pilhangko_raw_memory_type_set_budget(types, has_budget, bytes);
+static inline pilhangko_status pilhangko_memory_type_set_budget(pilhangko_memory_type *type, bool has_budget, uint64_t bytes) {
+    if (!type) return PILHANGKO_NULL_POINTER;
+    return pilhangko_raw_memory_type_set_budget(type, has_budget, bytes);
 }
 
 /* The block in a slot, if one is there. Slots are numbered from 0 to one less than statistics' slots; behind them there is none.
  * NO_HANDLE. */
-static inline pilhangko_status pilhangko_memory_type_block(pilhangko_memory_type *types, size_t slot, pilhangko_memory_block *block) {
-    if (!types || !block) return PILHANGKO_NULL_POINTER;
-    return pilhangko_raw_memory_type_block(types, slot, block);
+static inline pilhangko_status pilhangko_memory_type_block(pilhangko_memory_type *type, size_t slot, pilhangko_memory_block *block) {
+    if (!type || !block) return PILHANGKO_NULL_POINTER;
+    return pilhangko_raw_memory_type_block(type, slot, block);
 }
 
 /* What is counted of the block in a slot.
  * NO_HANDLE. */
 static inline pilhangko_status pilhangko_memory_type_block_statistics(
-    pilhangko_memory_type *types, size_t slot, pilhangko_memory_block_statistics *statistics) {
-    if (!types || !statistics) return PILHANGKO_NULL_POINTER;
-    return pilhangko_raw_memory_type_block_statistics(types, slot, statistics);
+    pilhangko_memory_type *type, size_t slot, pilhangko_memory_block_statistics *statistics) {
+    if (!type || !statistics) return PILHANGKO_NULL_POINTER;
+    return pilhangko_raw_memory_type_block_statistics(type, slot, statistics);
 }
 
 /* The first live piece of the block in a slot whose own bytes begin at `from` or behind it; none where the slot has no block. A visit goes
  * as with a virtual block, slot by slot.
  * NO_HANDLE. */
 static inline pilhangko_status pilhangko_memory_type_next_piece(
-    pilhangko_memory_type *types, size_t slot, uint64_t from, pilhangko_piece_view *piece) {
-    if (!types || !piece) return PILHANGKO_NULL_POINTER;
-    return pilhangko_raw_memory_type_next_piece(types, slot, from, piece);
+    pilhangko_memory_type *type, size_t slot, uint64_t from, pilhangko_piece_view *piece) {
+    if (!type || !piece) return PILHANGKO_NULL_POINTER;
+    return pilhangko_raw_memory_type_next_piece(type, slot, from, piece);
 }
 
 /* The name of the piece that next_piece shows from there, as with a virtual block.
  * NO_HANDLE. */
 static inline pilhangko_status pilhangko_memory_type_piece_name(
-    pilhangko_memory_type *types, size_t slot, uint64_t from, char *name, size_t name_room, size_t *name_length) {
+    pilhangko_memory_type *type, size_t slot, uint64_t from, char *name, size_t name_room, size_t *name_length) {
     char none;
-    if (!types || (!name && name_room) || !name_length) return PILHANGKO_NULL_POINTER;
-    return pilhangko_raw_memory_type_piece_name(types, slot, from, name ? name : &none, name_room, name_length);
+    if (!type || (!name && name_room) || !name_length) return PILHANGKO_NULL_POINTER;
+    return pilhangko_raw_memory_type_piece_name(type, slot, from, name ? name : &none, name_room, name_length);
 }
 
 /* What is counted of a memory type.
  * NO_HANDLE. */
-static inline pilhangko_status pilhangko_memory_type_statistics(pilhangko_memory_type *types, pilhangko_memory_statistics *statistics) {
-    if (!types || !statistics) return PILHANGKO_NULL_POINTER;
-    return pilhangko_raw_memory_type_statistics(types, statistics);
+static inline pilhangko_status pilhangko_memory_type_statistics(pilhangko_memory_type *type, pilhangko_memory_statistics *statistics) {
+    if (!type || !statistics) return PILHANGKO_NULL_POINTER;
+    return pilhangko_raw_memory_type_statistics(type, statistics);
 }
 
 /* Ends a memory type, with all its pieces, and leaves the handle empty. The blocks' memory is the caller's to give back: go over the slots
  * by pilhangko_memory_type_block first.
  * NO_HANDLE. */
-static inline pilhangko_status pilhangko_memory_type_destroy(pilhangko_memory_type *types) {
-    if (!types) return PILHANGKO_NULL_POINTER;
-    return pilhangko_raw_memory_type_destroy(types);
+static inline pilhangko_status pilhangko_memory_type_destroy(pilhangko_memory_type *type) {
+    if (!type) return PILHANGKO_NULL_POINTER;
+    return pilhangko_raw_memory_type_destroy(type);
 }
 
 #ifdef __cplusplus

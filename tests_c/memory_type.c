@@ -9,209 +9,209 @@ static pilhangko_memory_type_settings settings(bool is_host) {
     return s;
 }
 
-static void needs(pilhangko_memory_type *types, uint64_t size, bool dedicated, uint64_t block_size, bool own) {
-    pilhangko_memory_request request = {size, 1, PILHANGKO_LINEAR, dedicated};
+static void needs(pilhangko_memory_type *type, uint64_t size, bool dedicated, uint64_t block_size, bool own) {
+    pilhangko_memory_request request = {size, 1, PILHANGKO_KIND_LINEAR, dedicated};
     pilhangko_memory_prepared prepared = {false, false, 1, {1, 1, 1, 1, 1}};
-    IS(pilhangko_memory_type_prepare(types, &request, "block", &prepared), PILHANGKO_OK);
+    IS(pilhangko_memory_type_prepare(type, &request, "block", &prepared), PILHANGKO_OK);
     CHECK(prepared.needs_block && prepared.block_size == block_size && prepared.dedicated == own);
     CHECK(prepared.piece.number == 0 && prepared.piece.slot == 0 && prepared.piece.size == 0 && prepared.piece.offset == 0 &&
           prepared.piece.block == 0);
 }
 
 static void installs(
-    pilhangko_memory_type *types, uint64_t block, size_t slot, uint64_t number, uint64_t size, pilhangko_memory_piece *piece) {
-    IS(pilhangko_memory_type_install(types, block, piece), PILHANGKO_OK);
+    pilhangko_memory_type *type, uint64_t block, size_t slot, uint64_t number, uint64_t size, pilhangko_memory_piece *piece) {
+    IS(pilhangko_memory_type_install(type, block, piece), PILHANGKO_OK);
     CHECK(piece->slot == slot && piece->number == number && piece->offset == 0 && piece->size == size && piece->block == block);
 }
 
-static void takes(pilhangko_memory_type *types, uint64_t size, size_t slot, uint64_t number, uint64_t offset, uint64_t block,
+static void takes(pilhangko_memory_type *type, uint64_t size, size_t slot, uint64_t number, uint64_t offset, uint64_t block,
     pilhangko_memory_piece *piece) {
-    pilhangko_memory_request request = {size, 1, PILHANGKO_LINEAR, false};
+    pilhangko_memory_request request = {size, 1, PILHANGKO_KIND_LINEAR, false};
     pilhangko_memory_prepared prepared;
-    IS(pilhangko_memory_type_prepare(types, &request, NULL, &prepared), PILHANGKO_OK);
+    IS(pilhangko_memory_type_prepare(type, &request, NULL, &prepared), PILHANGKO_OK);
     CHECK(!prepared.needs_block && !prepared.dedicated && prepared.block_size == 0);
     *piece = prepared.piece;
     CHECK(piece->slot == slot && piece->number == number && piece->offset == offset && piece->size == size && piece->block == block);
 }
 
-static void frees(pilhangko_memory_type *types, const pilhangko_memory_piece *piece, bool exists, uint64_t block) {
+static void frees(pilhangko_memory_type *type, const pilhangko_memory_piece *piece, bool exists, uint64_t block) {
     pilhangko_memory_block gone = {!exists, block + 1};
     bool is_live = false;
-    IS(pilhangko_memory_type_is_live(types, piece, &is_live), PILHANGKO_OK);
+    IS(pilhangko_memory_type_is_live(type, piece, &is_live), PILHANGKO_OK);
     CHECK(is_live);
-    IS(pilhangko_memory_type_free(types, piece, &gone), PILHANGKO_OK);
+    IS(pilhangko_memory_type_free(type, piece, &gone), PILHANGKO_OK);
     CHECK(gone.exists == exists && gone.block == (exists ? block : 0));
-    IS(pilhangko_memory_type_is_live(types, piece, &is_live), PILHANGKO_OK);
+    IS(pilhangko_memory_type_is_live(type, piece, &is_live), PILHANGKO_OK);
     CHECK(!is_live);
 }
 
-static void counts(pilhangko_memory_type *types, uint64_t capacity, size_t slots, size_t shared_blocks, bool awaits_block) {
+static void counts(pilhangko_memory_type *type, uint64_t capacity, size_t slots, size_t shared_blocks, bool awaits_block) {
     pilhangko_memory_statistics s;
-    IS(pilhangko_memory_type_statistics(types, &s), PILHANGKO_OK);
+    IS(pilhangko_memory_type_statistics(type, &s), PILHANGKO_OK);
     CHECK(s.capacity == capacity && s.slots == slots && s.shared_blocks == shared_blocks && s.awaits_block == awaits_block);
 }
 
-static void has_block(pilhangko_memory_type *types, size_t slot, bool exists, uint64_t block) {
+static void has_block(pilhangko_memory_type *type, size_t slot, bool exists, uint64_t block) {
     pilhangko_memory_block b;
-    IS(pilhangko_memory_type_block(types, slot, &b), PILHANGKO_OK);
+    IS(pilhangko_memory_type_block(type, slot, &b), PILHANGKO_OK);
     CHECK(b.exists == exists && b.block == (exists ? block : 0));
 }
 
 static void blocks_come_and_go(void) {
-    pilhangko_memory_type types = {0};
+    pilhangko_memory_type type = {0};
     pilhangko_memory_type_settings s = settings(true);
     pilhangko_memory_piece a, b, c, d, e;
-    IS(pilhangko_memory_type_create(&types, &s), PILHANGKO_OK);
-    counts(&types, 0, 0, 0, false);
-    needs(&types, 100, false, 4 * MB, false);
-    counts(&types, 0, 0, 0, true);
-    installs(&types, 1001, 0, 2, 100, &a);
-    takes(&types, 50, 0, 3, 100, 1001, &b);
-    needs(&types, 4 * MB, false, 8 * MB, false); /* the second shared block has twice the size */
-    installs(&types, 1002, 1, 2, 4 * MB, &c);
-    needs(&types, 8 * MB + 1, false, 8 * MB + 1, true); /* larger than the next shared block */
-    installs(&types, 1003, 2, 1, 8 * MB + 1, &d);
-    needs(&types, 10, true, 10, true); /* asks for its own */
-    installs(&types, 1004, 3, 1, 10, &e);
-    counts(&types, 4 * MB + 8 * MB + 8 * MB + 1 + 10, 4, 2, false);
-    has_block(&types, 0, true, 1001);
-    has_block(&types, 3, true, 1004);
-    has_block(&types, 4, false, 0);
-    has_block(&types, SIZE_MAX, false, 0);
+    IS(pilhangko_memory_type_create(&type, &s), PILHANGKO_OK);
+    counts(&type, 0, 0, 0, false);
+    needs(&type, 100, false, 4 * MB, false);
+    counts(&type, 0, 0, 0, true);
+    installs(&type, 1001, 0, 2, 100, &a);
+    takes(&type, 50, 0, 3, 100, 1001, &b);
+    needs(&type, 4 * MB, false, 8 * MB, false); /* the second shared block has twice the size */
+    installs(&type, 1002, 1, 2, 4 * MB, &c);
+    needs(&type, 8 * MB + 1, false, 8 * MB + 1, true); /* larger than the next shared block */
+    installs(&type, 1003, 2, 1, 8 * MB + 1, &d);
+    needs(&type, 10, true, 10, true); /* asks for its own */
+    installs(&type, 1004, 3, 1, 10, &e);
+    counts(&type, 4 * MB + 8 * MB + 8 * MB + 1 + 10, 4, 2, false);
+    has_block(&type, 0, true, 1001);
+    has_block(&type, 3, true, 1004);
+    has_block(&type, 4, false, 0);
+    has_block(&type, SIZE_MAX, false, 0);
     pilhangko_memory_block_statistics counted;
-    IS(pilhangko_memory_type_block_statistics(&types, 0, &counted), PILHANGKO_OK);
+    IS(pilhangko_memory_type_block_statistics(&type, 0, &counted), PILHANGKO_OK);
     CHECK(counted.exists && counted.pieces == 2 && counted.piece_bytes == 150 && counted.gaps == 1 && counted.longest_gap == 4 * MB - 150);
-    IS(pilhangko_memory_type_block_statistics(&types, 3, &counted), PILHANGKO_OK);
+    IS(pilhangko_memory_type_block_statistics(&type, 3, &counted), PILHANGKO_OK);
     CHECK(counted.exists && counted.pieces == 1 && counted.piece_bytes == 10 && counted.gaps == 0 && counted.longest_gap == 0);
-    IS(pilhangko_memory_type_block_statistics(&types, 4, &counted), PILHANGKO_OK);
+    IS(pilhangko_memory_type_block_statistics(&type, 4, &counted), PILHANGKO_OK);
     CHECK(!counted.exists && counted.pieces == 0);
     pilhangko_piece_view view;
-    IS(pilhangko_memory_type_next_piece(&types, 0, 1, &view), PILHANGKO_OK);
+    IS(pilhangko_memory_type_next_piece(&type, 0, 1, &view), PILHANGKO_OK);
     CHECK(view.exists && view.number == b.number && view.start == 100 && view.offset == 100 && view.end == 150 &&
-          view.kind == PILHANGKO_LINEAR);
-    IS(pilhangko_memory_type_next_piece(&types, 0, 101, &view), PILHANGKO_OK);
+          view.kind == PILHANGKO_KIND_LINEAR);
+    IS(pilhangko_memory_type_next_piece(&type, 0, 101, &view), PILHANGKO_OK);
     CHECK(!view.exists);
-    IS(pilhangko_memory_type_next_piece(&types, 9, 0, &view), PILHANGKO_OK);
+    IS(pilhangko_memory_type_next_piece(&type, 9, 0, &view), PILHANGKO_OK);
     CHECK(!view.exists);
     char bytes[8] = "???????";
     size_t length;
-    IS(pilhangko_memory_type_piece_name(&types, 0, 0, bytes, 7, &length), PILHANGKO_OK);
+    IS(pilhangko_memory_type_piece_name(&type, 0, 0, bytes, 7, &length), PILHANGKO_OK);
     CHECK(length == 5 && !strcmp(bytes, "block??"));
-    IS(pilhangko_memory_type_piece_name(&types, 9, 0, bytes, 7, &length), PILHANGKO_OK);
+    IS(pilhangko_memory_type_piece_name(&type, 9, 0, bytes, 7, &length), PILHANGKO_OK);
     CHECK(length == 0 && !strcmp(bytes, "block??"));
-    frees(&types, &d, true, 1003); /* a piece's own block goes */
-    has_block(&types, 2, false, 0);
-    frees(&types, &a, false, 0);
-    frees(&types, &b, true, 1001); /* the first shared block is without pieces, and another one is live */
-    frees(&types, &c, false, 0);   /* the last shared block stays */
-    counts(&types, 8 * MB + 10, 4, 1, false);
-    takes(&types, 7, 1, 3, 0, 1002, &a);
-    needs(&types, 8 * MB, false, 8 * MB, false);
-    installs(&types, 1005, 2, 1, 8 * MB, &b); /* the highest empty slot; the piece fills its block */
-    needs(&types, 1, true, 1, true);
-    installs(&types, 1006, 0, 1, 1, &c); /* the lowest empty slot */
-    IS(pilhangko_memory_type_destroy(&types), PILHANGKO_OK);
-    IS(pilhangko_memory_type_destroy(&types), PILHANGKO_NO_HANDLE);
+    frees(&type, &d, true, 1003); /* a piece's own block goes */
+    has_block(&type, 2, false, 0);
+    frees(&type, &a, false, 0);
+    frees(&type, &b, true, 1001); /* the first shared block is without pieces, and another one is live */
+    frees(&type, &c, false, 0);   /* the last shared block stays */
+    counts(&type, 8 * MB + 10, 4, 1, false);
+    takes(&type, 7, 1, 3, 0, 1002, &a);
+    needs(&type, 8 * MB, false, 8 * MB, false);
+    installs(&type, 1005, 2, 1, 8 * MB, &b); /* the highest empty slot; the piece fills its block */
+    needs(&type, 1, true, 1, true);
+    installs(&type, 1006, 0, 1, 1, &c); /* the lowest empty slot */
+    IS(pilhangko_memory_type_destroy(&type), PILHANGKO_OK);
+    IS(pilhangko_memory_type_destroy(&type), PILHANGKO_NO_HANDLE);
 }
 
 static void sides(void) {
-    pilhangko_memory_type types = {0};
+    pilhangko_memory_type type = {0};
     pilhangko_memory_type_settings s = settings(false);
-    IS(pilhangko_memory_type_create(&types, &s), PILHANGKO_OK);
-    needs(&types, 100, false, 8 * MB, false);
-    IS(pilhangko_memory_type_abandon(&types), PILHANGKO_OK);
-    IS(pilhangko_memory_type_destroy(&types), PILHANGKO_OK);
+    IS(pilhangko_memory_type_create(&type, &s), PILHANGKO_OK);
+    needs(&type, 100, false, 8 * MB, false);
+    IS(pilhangko_memory_type_abandon(&type), PILHANGKO_OK);
+    IS(pilhangko_memory_type_destroy(&type), PILHANGKO_OK);
     s.device_block_size = 5 * MB; /* rounded up to 8 MB */
-    IS(pilhangko_memory_type_create(&types, &s), PILHANGKO_OK);
-    needs(&types, 100, false, 8 * MB, false);
-    IS(pilhangko_memory_type_destroy(&types), PILHANGKO_OK);
+    IS(pilhangko_memory_type_create(&type, &s), PILHANGKO_OK);
+    needs(&type, 100, false, 8 * MB, false);
+    IS(pilhangko_memory_type_destroy(&type), PILHANGKO_OK);
     s.device_block_size = UINT64_MAX; /* 256 MB at most */
-    IS(pilhangko_memory_type_create(&types, &s), PILHANGKO_OK);
-    needs(&types, 100, false, 256 * MB, false);
-    IS(pilhangko_memory_type_destroy(&types), PILHANGKO_OK);
+    IS(pilhangko_memory_type_create(&type, &s), PILHANGKO_OK);
+    needs(&type, 100, false, 256 * MB, false);
+    IS(pilhangko_memory_type_destroy(&type), PILHANGKO_OK);
 }
 
 static void budgets(void) {
-    pilhangko_memory_type types = {0};
+    pilhangko_memory_type type = {0};
     pilhangko_memory_type_settings s = settings(true);
-    pilhangko_memory_request request = {100, 1, PILHANGKO_LINEAR, true}, huge = {UINT64_MAX, 1, PILHANGKO_LINEAR, false};
+    pilhangko_memory_request request = {100, 1, PILHANGKO_KIND_LINEAR, true}, huge = {UINT64_MAX, 1, PILHANGKO_KIND_LINEAR, false};
     pilhangko_memory_prepared prepared = {false, false, 9, {9, 9, 9, 9, 9}};
     pilhangko_memory_statistics told;
     pilhangko_memory_piece piece;
     s.has_budget = true;
     s.budget = 4 * MB;
-    IS(pilhangko_memory_type_create(&types, &s), PILHANGKO_OK);
-    IS(pilhangko_memory_type_statistics(&types, &told), PILHANGKO_OK);
+    IS(pilhangko_memory_type_create(&type, &s), PILHANGKO_OK);
+    IS(pilhangko_memory_type_statistics(&type, &told), PILHANGKO_OK);
     CHECK(told.has_budget && told.budget == 4 * MB);
-    needs(&types, 100, false, 4 * MB, false); /* just within */
-    installs(&types, 1, 0, 2, 100, &piece);
-    IS(pilhangko_memory_type_prepare(&types, &request, NULL, &prepared), PILHANGKO_BUDGET_EXCEEDED);
-    IS(pilhangko_memory_type_prepare(&types, &huge, NULL, &prepared), PILHANGKO_OUT_OF_MEMORY); /* 2^64 + 4 MB - 1 */
+    needs(&type, 100, false, 4 * MB, false); /* just within */
+    installs(&type, 1, 0, 2, 100, &piece);
+    IS(pilhangko_memory_type_prepare(&type, &request, NULL, &prepared), PILHANGKO_BUDGET_EXCEEDED);
+    IS(pilhangko_memory_type_prepare(&type, &huge, NULL, &prepared), PILHANGKO_OUT_OF_MEMORY); /* 2^64 + 4 MB - 1 */
     CHECK(prepared.block_size == 9 && prepared.piece.number == 9);
-    counts(&types, 4 * MB, 1, 1, false);
-    IS(pilhangko_memory_type_set_budget(&types, true, 0), PILHANGKO_OK); /* gives no block back */
-    takes(&types, 100, 0, 3, 100, 1, &piece);
-    IS(pilhangko_memory_type_set_budget(&types, false, 5), PILHANGKO_OK);
-    IS(pilhangko_memory_type_statistics(&types, &told), PILHANGKO_OK);
+    counts(&type, 4 * MB, 1, 1, false);
+    IS(pilhangko_memory_type_set_budget(&type, true, 0), PILHANGKO_OK); /* gives no block back */
+    takes(&type, 100, 0, 3, 100, 1, &piece);
+    IS(pilhangko_memory_type_set_budget(&type, false, 5), PILHANGKO_OK);
+    IS(pilhangko_memory_type_statistics(&type, &told), PILHANGKO_OK);
     CHECK(!told.has_budget && told.budget == 0);
-    IS(pilhangko_memory_type_prepare(&types, &huge, NULL, &prepared), PILHANGKO_OUT_OF_MEMORY);
-    needs(&types, UINT64_MAX - 4 * MB, false, UINT64_MAX - 4 * MB, true);
-    installs(&types, 2, 1, 1, UINT64_MAX - 4 * MB, &piece);
-    counts(&types, UINT64_MAX, 2, 1, false);
-    IS(pilhangko_memory_type_prepare(&types, &request, NULL, &prepared), PILHANGKO_OUT_OF_MEMORY);
-    IS(pilhangko_memory_type_destroy(&types), PILHANGKO_OK);
+    IS(pilhangko_memory_type_prepare(&type, &huge, NULL, &prepared), PILHANGKO_OUT_OF_MEMORY);
+    needs(&type, UINT64_MAX - 4 * MB, false, UINT64_MAX - 4 * MB, true);
+    installs(&type, 2, 1, 1, UINT64_MAX - 4 * MB, &piece);
+    counts(&type, UINT64_MAX, 2, 1, false);
+    IS(pilhangko_memory_type_prepare(&type, &request, NULL, &prepared), PILHANGKO_OUT_OF_MEMORY);
+    IS(pilhangko_memory_type_destroy(&type), PILHANGKO_OK);
 }
 
 static void awaited(void) {
-    pilhangko_memory_type types = {0};
+    pilhangko_memory_type type = {0};
     pilhangko_memory_type_settings s = settings(true);
-    pilhangko_memory_request request = {100, 1, PILHANGKO_LINEAR, false}, bad = {0, 0, 0, false};
+    pilhangko_memory_request request = {100, 1, PILHANGKO_KIND_LINEAR, false}, bad = {0, 0, 0, false};
     pilhangko_memory_prepared prepared = {false, false, 9, {9, 9, 9, 9, 9}};
     pilhangko_memory_block gone = {true, 3};
     pilhangko_memory_piece piece, kept = {4, 4, 4, 4, 4};
     bool is_live;
-    IS(pilhangko_memory_type_create(&types, &s), PILHANGKO_OK);
-    IS(pilhangko_memory_type_install(&types, 1, &kept), PILHANGKO_AWAITS_NO_BLOCK);
+    IS(pilhangko_memory_type_create(&type, &s), PILHANGKO_OK);
+    IS(pilhangko_memory_type_install(&type, 1, &kept), PILHANGKO_AWAITS_NO_BLOCK);
     CHECK(kept.slot == 4 && kept.number == 4);
-    IS(pilhangko_memory_type_abandon(&types), PILHANGKO_AWAITS_NO_BLOCK);
-    needs(&types, 100, false, 4 * MB, false);
-    installs(&types, 1, 0, 2, 100, &piece);
-    needs(&types, 4 * MB, false, 8 * MB, false);
-    IS(pilhangko_memory_type_prepare(&types, &request, NULL, &prepared), PILHANGKO_AWAITS_BLOCK);
-    IS(pilhangko_memory_type_prepare(&types, &bad, NULL, &prepared), PILHANGKO_AWAITS_BLOCK);
+    IS(pilhangko_memory_type_abandon(&type), PILHANGKO_AWAITS_NO_BLOCK);
+    needs(&type, 100, false, 4 * MB, false);
+    installs(&type, 1, 0, 2, 100, &piece);
+    needs(&type, 4 * MB, false, 8 * MB, false);
+    IS(pilhangko_memory_type_prepare(&type, &request, NULL, &prepared), PILHANGKO_AWAITS_BLOCK);
+    IS(pilhangko_memory_type_prepare(&type, &bad, NULL, &prepared), PILHANGKO_AWAITS_BLOCK);
     CHECK(prepared.block_size == 9);
-    IS(pilhangko_memory_type_free(&types, &piece, &gone), PILHANGKO_AWAITS_BLOCK);
-    IS(pilhangko_memory_type_free(&types, &kept, &gone), PILHANGKO_AWAITS_BLOCK);
+    IS(pilhangko_memory_type_free(&type, &piece, &gone), PILHANGKO_AWAITS_BLOCK);
+    IS(pilhangko_memory_type_free(&type, &kept, &gone), PILHANGKO_AWAITS_BLOCK);
     CHECK(gone.exists && gone.block == 3);
-    IS(pilhangko_memory_type_rename(&types, &piece, "name"), PILHANGKO_AWAITS_BLOCK);
-    IS(pilhangko_memory_type_set_budget(&types, true, 1), PILHANGKO_AWAITS_BLOCK);
-    IS(pilhangko_memory_type_is_live(&types, &piece, &is_live), PILHANGKO_OK);
+    IS(pilhangko_memory_type_rename(&type, &piece, "name"), PILHANGKO_AWAITS_BLOCK);
+    IS(pilhangko_memory_type_set_budget(&type, true, 1), PILHANGKO_AWAITS_BLOCK);
+    IS(pilhangko_memory_type_is_live(&type, &piece, &is_live), PILHANGKO_OK);
     CHECK(is_live);
-    counts(&types, 4 * MB, 1, 1, true);
-    IS(pilhangko_memory_type_abandon(&types), PILHANGKO_OK);
-    IS(pilhangko_memory_type_abandon(&types), PILHANGKO_AWAITS_NO_BLOCK);
-    counts(&types, 4 * MB, 1, 1, false);
-    takes(&types, 100, 0, 3, 100, 1, &piece);
-    needs(&types, 4 * MB, false, 8 * MB, false);
-    IS(pilhangko_memory_type_destroy(&types), PILHANGKO_OK); /* with a block awaited */
+    counts(&type, 4 * MB, 1, 1, true);
+    IS(pilhangko_memory_type_abandon(&type), PILHANGKO_OK);
+    IS(pilhangko_memory_type_abandon(&type), PILHANGKO_AWAITS_NO_BLOCK);
+    counts(&type, 4 * MB, 1, 1, false);
+    takes(&type, 100, 0, 3, 100, 1, &piece);
+    needs(&type, 4 * MB, false, 8 * MB, false);
+    IS(pilhangko_memory_type_destroy(&type), PILHANGKO_OK); /* with a block awaited */
 }
 
 static void request_and_piece_statuses(void) {
-    pilhangko_memory_type types = {0};
+    pilhangko_memory_type type = {0};
     pilhangko_memory_type_settings s = settings(true);
     const pilhangko_memory_request bad[] = {{0, 1, 1, false}, {1, 0, 1, false}, {1, 6, 1, true}, {1, 1, 0, false}, {1, 1, 3, false}};
-    pilhangko_memory_request good = {1, 1, PILHANGKO_LINEAR, false};
+    pilhangko_memory_request good = {1, 1, PILHANGKO_KIND_LINEAR, false};
     pilhangko_memory_prepared prepared = {false, false, 9, {9, 9, 9, 9, 9}};
     pilhangko_memory_piece piece;
     pilhangko_memory_block gone = {true, 3};
     bool is_live = true;
-    IS(pilhangko_memory_type_create(&types, &s), PILHANGKO_OK);
+    IS(pilhangko_memory_type_create(&type, &s), PILHANGKO_OK);
     for (size_t i = 0; i < sizeof bad / sizeof bad[0]; i++)
-        IS(pilhangko_memory_type_prepare(&types, &bad[i], NULL, &prepared), PILHANGKO_INVALID);
-    IS(pilhangko_memory_type_prepare(&types, &good, "\xfe", &prepared), PILHANGKO_INVALID);
+        IS(pilhangko_memory_type_prepare(&type, &bad[i], NULL, &prepared), PILHANGKO_INVALID);
+    IS(pilhangko_memory_type_prepare(&type, &good, "\xfe", &prepared), PILHANGKO_INVALID);
     CHECK(prepared.block_size == 9);
-    needs(&types, 100, false, 4 * MB, false);
-    installs(&types, 7, 0, 2, 100, &piece);
+    needs(&type, 100, false, 4 * MB, false);
+    installs(&type, 7, 0, 2, 100, &piece);
     for (unsigned field = 0; field < 6; field++) {
         pilhangko_memory_piece wrong = piece;
         if (field == 0) wrong.slot++;
@@ -221,18 +221,18 @@ static void request_and_piece_statuses(void) {
         if (field == 4) wrong.block++;
         if (field == 5) wrong.number = 0;
         is_live = true;
-        IS(pilhangko_memory_type_is_live(&types, &wrong, &is_live), PILHANGKO_OK);
+        IS(pilhangko_memory_type_is_live(&type, &wrong, &is_live), PILHANGKO_OK);
         CHECK(!is_live);
-        IS(pilhangko_memory_type_free(&types, &wrong, &gone), PILHANGKO_NOT_LIVE);
-        IS(pilhangko_memory_type_rename(&types, &wrong, "name"), PILHANGKO_NOT_LIVE);
-        IS(pilhangko_memory_type_rename(&types, &wrong, "\xff"), PILHANGKO_INVALID);
+        IS(pilhangko_memory_type_free(&type, &wrong, &gone), PILHANGKO_NOT_LIVE);
+        IS(pilhangko_memory_type_rename(&type, &wrong, "name"), PILHANGKO_NOT_LIVE);
+        IS(pilhangko_memory_type_rename(&type, &wrong, "\xff"), PILHANGKO_INVALID);
     }
     CHECK(gone.exists && gone.block == 3);
-    IS(pilhangko_memory_type_rename(&types, &piece, "\xf5"), PILHANGKO_INVALID);
-    IS(pilhangko_memory_type_rename(&types, &piece, "another name"), PILHANGKO_OK);
-    frees(&types, &piece, false, 0);
-    IS(pilhangko_memory_type_free(&types, &piece, &gone), PILHANGKO_NOT_LIVE);
-    IS(pilhangko_memory_type_destroy(&types), PILHANGKO_OK);
+    IS(pilhangko_memory_type_rename(&type, &piece, "\xf5"), PILHANGKO_INVALID);
+    IS(pilhangko_memory_type_rename(&type, &piece, "another name"), PILHANGKO_OK);
+    frees(&type, &piece, false, 0);
+    IS(pilhangko_memory_type_free(&type, &piece, &gone), PILHANGKO_NOT_LIVE);
+    IS(pilhangko_memory_type_destroy(&type), PILHANGKO_OK);
 }
 
 /* A place for each thing that a call tells. */
@@ -247,78 +247,78 @@ struct answers {
 };
 
 static void unmade_memory_type(void) {
-    pilhangko_memory_type types = {0};
-    pilhangko_memory_request request = {100, 1, PILHANGKO_LINEAR, false};
+    pilhangko_memory_type type = {0};
+    pilhangko_memory_request request = {100, 1, PILHANGKO_KIND_LINEAR, false};
     pilhangko_memory_piece piece = {0, 1, 0, 1, 1};
     struct answers to;
-    IS(pilhangko_memory_type_prepare(&types, &request, NULL, &to.prepared), PILHANGKO_NO_HANDLE);
-    IS(pilhangko_memory_type_install(&types, 1, &piece), PILHANGKO_NO_HANDLE);
-    IS(pilhangko_memory_type_abandon(&types), PILHANGKO_NO_HANDLE);
-    IS(pilhangko_memory_type_free(&types, &piece, &to.gone), PILHANGKO_NO_HANDLE);
-    IS(pilhangko_memory_type_rename(&types, &piece, NULL), PILHANGKO_NO_HANDLE);
-    IS(pilhangko_memory_type_is_live(&types, &piece, &to.is_live), PILHANGKO_NO_HANDLE);
-    IS(pilhangko_memory_type_set_budget(&types, true, 1), PILHANGKO_NO_HANDLE);
-    IS(pilhangko_memory_type_block(&types, 0, &to.gone), PILHANGKO_NO_HANDLE);
-    IS(pilhangko_memory_type_statistics(&types, &to.told), PILHANGKO_NO_HANDLE);
-    IS(pilhangko_memory_type_block_statistics(&types, 0, &to.counted), PILHANGKO_NO_HANDLE);
-    IS(pilhangko_memory_type_next_piece(&types, 0, 0, &to.view), PILHANGKO_NO_HANDLE);
-    IS(pilhangko_memory_type_piece_name(&types, 0, 0, NULL, 0, &to.length), PILHANGKO_NO_HANDLE);
-    IS(pilhangko_memory_type_destroy(&types), PILHANGKO_NO_HANDLE);
+    IS(pilhangko_memory_type_prepare(&type, &request, NULL, &to.prepared), PILHANGKO_NO_HANDLE);
+    IS(pilhangko_memory_type_install(&type, 1, &piece), PILHANGKO_NO_HANDLE);
+    IS(pilhangko_memory_type_abandon(&type), PILHANGKO_NO_HANDLE);
+    IS(pilhangko_memory_type_free(&type, &piece, &to.gone), PILHANGKO_NO_HANDLE);
+    IS(pilhangko_memory_type_rename(&type, &piece, NULL), PILHANGKO_NO_HANDLE);
+    IS(pilhangko_memory_type_is_live(&type, &piece, &to.is_live), PILHANGKO_NO_HANDLE);
+    IS(pilhangko_memory_type_set_budget(&type, true, 1), PILHANGKO_NO_HANDLE);
+    IS(pilhangko_memory_type_block(&type, 0, &to.gone), PILHANGKO_NO_HANDLE);
+    IS(pilhangko_memory_type_statistics(&type, &to.told), PILHANGKO_NO_HANDLE);
+    IS(pilhangko_memory_type_block_statistics(&type, 0, &to.counted), PILHANGKO_NO_HANDLE);
+    IS(pilhangko_memory_type_next_piece(&type, 0, 0, &to.view), PILHANGKO_NO_HANDLE);
+    IS(pilhangko_memory_type_piece_name(&type, 0, 0, NULL, 0, &to.length), PILHANGKO_NO_HANDLE);
+    IS(pilhangko_memory_type_destroy(&type), PILHANGKO_NO_HANDLE);
 }
 
 static void created_once(void) {
-    pilhangko_memory_type types = {0};
+    pilhangko_memory_type type = {0};
     pilhangko_memory_type_settings s = settings(true);
     pilhangko_memory_piece piece;
     s.page_size = 0;
-    IS(pilhangko_memory_type_create(&types, &s), PILHANGKO_INVALID);
+    IS(pilhangko_memory_type_create(&type, &s), PILHANGKO_INVALID);
     s.page_size = 96;
-    IS(pilhangko_memory_type_create(&types, &s), PILHANGKO_INVALID);
+    IS(pilhangko_memory_type_create(&type, &s), PILHANGKO_INVALID);
     s.page_size = 1;
-    IS(pilhangko_memory_type_create(&types, &s), PILHANGKO_OK);
-    needs(&types, 100, false, 4 * MB, false);
-    installs(&types, 7, 0, 2, 100, &piece);
-    IS(pilhangko_memory_type_create(&types, &s), PILHANGKO_IN_USE);
+    IS(pilhangko_memory_type_create(&type, &s), PILHANGKO_OK);
+    needs(&type, 100, false, 4 * MB, false);
+    installs(&type, 7, 0, 2, 100, &piece);
+    IS(pilhangko_memory_type_create(&type, &s), PILHANGKO_IN_USE);
     s.page_size = 0;
-    IS(pilhangko_memory_type_create(&types, &s), PILHANGKO_IN_USE);
-    counts(&types, 4 * MB, 1, 1, false);
-    IS(pilhangko_memory_type_destroy(&types), PILHANGKO_OK);
+    IS(pilhangko_memory_type_create(&type, &s), PILHANGKO_IN_USE);
+    counts(&type, 4 * MB, 1, 1, false);
+    IS(pilhangko_memory_type_destroy(&type), PILHANGKO_OK);
 }
 
 static void null_pointers(void) {
-    pilhangko_memory_type types = {0};
+    pilhangko_memory_type type = {0};
     pilhangko_memory_type_settings s = settings(true);
-    pilhangko_memory_request request = {100, 1, PILHANGKO_LINEAR, false};
+    pilhangko_memory_request request = {100, 1, PILHANGKO_KIND_LINEAR, false};
     pilhangko_memory_piece piece = {0, 1, 0, 1, 1};
     struct answers to;
     IS(pilhangko_memory_type_create(NULL, &s), PILHANGKO_NULL_POINTER);
-    IS(pilhangko_memory_type_create(&types, NULL), PILHANGKO_NULL_POINTER);
+    IS(pilhangko_memory_type_create(&type, NULL), PILHANGKO_NULL_POINTER);
     IS(pilhangko_memory_type_prepare(NULL, &request, NULL, &to.prepared), PILHANGKO_NULL_POINTER);
-    IS(pilhangko_memory_type_prepare(&types, NULL, NULL, &to.prepared), PILHANGKO_NULL_POINTER);
-    IS(pilhangko_memory_type_prepare(&types, &request, NULL, NULL), PILHANGKO_NULL_POINTER);
+    IS(pilhangko_memory_type_prepare(&type, NULL, NULL, &to.prepared), PILHANGKO_NULL_POINTER);
+    IS(pilhangko_memory_type_prepare(&type, &request, NULL, NULL), PILHANGKO_NULL_POINTER);
     IS(pilhangko_memory_type_install(NULL, 1, &piece), PILHANGKO_NULL_POINTER);
-    IS(pilhangko_memory_type_install(&types, 1, NULL), PILHANGKO_NULL_POINTER);
+    IS(pilhangko_memory_type_install(&type, 1, NULL), PILHANGKO_NULL_POINTER);
     IS(pilhangko_memory_type_abandon(NULL), PILHANGKO_NULL_POINTER);
     IS(pilhangko_memory_type_free(NULL, &piece, &to.gone), PILHANGKO_NULL_POINTER);
-    IS(pilhangko_memory_type_free(&types, NULL, &to.gone), PILHANGKO_NULL_POINTER);
-    IS(pilhangko_memory_type_free(&types, &piece, NULL), PILHANGKO_NULL_POINTER);
+    IS(pilhangko_memory_type_free(&type, NULL, &to.gone), PILHANGKO_NULL_POINTER);
+    IS(pilhangko_memory_type_free(&type, &piece, NULL), PILHANGKO_NULL_POINTER);
     IS(pilhangko_memory_type_rename(NULL, &piece, NULL), PILHANGKO_NULL_POINTER);
-    IS(pilhangko_memory_type_rename(&types, NULL, NULL), PILHANGKO_NULL_POINTER);
+    IS(pilhangko_memory_type_rename(&type, NULL, NULL), PILHANGKO_NULL_POINTER);
     IS(pilhangko_memory_type_is_live(NULL, &piece, &to.is_live), PILHANGKO_NULL_POINTER);
-    IS(pilhangko_memory_type_is_live(&types, NULL, &to.is_live), PILHANGKO_NULL_POINTER);
-    IS(pilhangko_memory_type_is_live(&types, &piece, NULL), PILHANGKO_NULL_POINTER);
+    IS(pilhangko_memory_type_is_live(&type, NULL, &to.is_live), PILHANGKO_NULL_POINTER);
+    IS(pilhangko_memory_type_is_live(&type, &piece, NULL), PILHANGKO_NULL_POINTER);
     IS(pilhangko_memory_type_set_budget(NULL, true, 1), PILHANGKO_NULL_POINTER);
     IS(pilhangko_memory_type_block(NULL, 0, &to.gone), PILHANGKO_NULL_POINTER);
-    IS(pilhangko_memory_type_block(&types, 0, NULL), PILHANGKO_NULL_POINTER);
+    IS(pilhangko_memory_type_block(&type, 0, NULL), PILHANGKO_NULL_POINTER);
     IS(pilhangko_memory_type_statistics(NULL, &to.told), PILHANGKO_NULL_POINTER);
     IS(pilhangko_memory_type_block_statistics(NULL, 0, &to.counted), PILHANGKO_NULL_POINTER);
-    IS(pilhangko_memory_type_block_statistics(&types, 0, NULL), PILHANGKO_NULL_POINTER);
+    IS(pilhangko_memory_type_block_statistics(&type, 0, NULL), PILHANGKO_NULL_POINTER);
     IS(pilhangko_memory_type_next_piece(NULL, 0, 0, &to.view), PILHANGKO_NULL_POINTER);
-    IS(pilhangko_memory_type_next_piece(&types, 0, 0, NULL), PILHANGKO_NULL_POINTER);
+    IS(pilhangko_memory_type_next_piece(&type, 0, 0, NULL), PILHANGKO_NULL_POINTER);
     IS(pilhangko_memory_type_piece_name(NULL, 0, 0, NULL, 0, &to.length), PILHANGKO_NULL_POINTER);
-    IS(pilhangko_memory_type_piece_name(&types, 0, 0, NULL, 1, &to.length), PILHANGKO_NULL_POINTER);
-    IS(pilhangko_memory_type_piece_name(&types, 0, 0, NULL, 0, NULL), PILHANGKO_NULL_POINTER);
-    IS(pilhangko_memory_type_statistics(&types, NULL), PILHANGKO_NULL_POINTER);
+    IS(pilhangko_memory_type_piece_name(&type, 0, 0, NULL, 1, &to.length), PILHANGKO_NULL_POINTER);
+    IS(pilhangko_memory_type_piece_name(&type, 0, 0, NULL, 0, NULL), PILHANGKO_NULL_POINTER);
+    IS(pilhangko_memory_type_statistics(&type, NULL), PILHANGKO_NULL_POINTER);
     IS(pilhangko_memory_type_destroy(NULL), PILHANGKO_NULL_POINTER);
 }
 

@@ -12,7 +12,7 @@ struct slot {
     struct account account;
 };
 
-static pilhangko_memory_type types;
+static pilhangko_memory_type type;
 static struct slot slots[SLOTS];
 static size_t slot_count;
 static uint64_t block_size, largest_block_size, page, next_block, budget;
@@ -61,7 +61,7 @@ static void puts_in(bool dedicated, uint64_t size, const pilhangko_memory_reques
     account_begin(&slot->account, size, dedicated ? 1 : page);
     CHECK(account_take(&slot->account, request->size, request->alignment, request->kind, "piece", &wanted.offset, &wanted.number));
     CHECK(wanted.offset == 0);
-    IS(pilhangko_memory_type_install(&types, next_block, &piece), PILHANGKO_OK);
+    IS(pilhangko_memory_type_install(&type, next_block, &piece), PILHANGKO_OK);
     CHECK(same_piece(&piece, &wanted));
 }
 
@@ -81,23 +81,23 @@ static void prepare(void) {
             continue;
         wanted.slot = i;
         wanted.block = slots[i].block;
-        IS(pilhangko_memory_type_prepare(&types, &request, "piece", &prepared), PILHANGKO_OK);
+        IS(pilhangko_memory_type_prepare(&type, &request, "piece", &prepared), PILHANGKO_OK);
         CHECK(!prepared.needs_block && same_piece(&prepared.piece, &wanted));
         taken++;
         return;
     }
     uint64_t size = dedicated ? request.size : shared;
     if (has_budget && capacity() + size > budget) {
-        IS(pilhangko_memory_type_prepare(&types, &request, "piece", &prepared), PILHANGKO_BUDGET_EXCEEDED);
+        IS(pilhangko_memory_type_prepare(&type, &request, "piece", &prepared), PILHANGKO_BUDGET_EXCEEDED);
         over_budget++;
         return;
     }
-    IS(pilhangko_memory_type_prepare(&types, &request, "piece", &prepared), PILHANGKO_OK);
+    IS(pilhangko_memory_type_prepare(&type, &request, "piece", &prepared), PILHANGKO_OK);
     CHECK(prepared.needs_block && prepared.dedicated == dedicated && prepared.block_size == size);
-    IS(pilhangko_memory_type_prepare(&types, &request, "piece", &prepared), PILHANGKO_AWAITS_BLOCK);
+    IS(pilhangko_memory_type_prepare(&type, &request, "piece", &prepared), PILHANGKO_AWAITS_BLOCK);
     needed++;
     if (random_below(4) == 0) {
-        IS(pilhangko_memory_type_abandon(&types), PILHANGKO_OK);
+        IS(pilhangko_memory_type_abandon(&type), PILHANGKO_OK);
         abandoned++;
     } else {
         puts_in(dedicated, size, &request);
@@ -133,7 +133,7 @@ static void give_back(void) {
     pilhangko_memory_block gone = {true, 99};
     long at = live_at(&piece);
     if (at < 0) {
-        IS(pilhangko_memory_type_free(&types, &piece, &gone), PILHANGKO_NOT_LIVE);
+        IS(pilhangko_memory_type_free(&type, &piece, &gone), PILHANGKO_NOT_LIVE);
         CHECK(gone.exists && gone.block == 99);
         dead++;
         return;
@@ -141,7 +141,7 @@ static void give_back(void) {
     struct slot *slot = &slots[piece.slot];
     account_free(&slot->account, (size_t)at);
     bool goes = account_pieces(&slot->account) == 0 && (slot->dedicated || shared_blocks() > 1);
-    IS(pilhangko_memory_type_free(&types, &piece, &gone), PILHANGKO_OK);
+    IS(pilhangko_memory_type_free(&type, &piece, &gone), PILHANGKO_OK);
     CHECK(gone.exists == goes && gone.block == (goes ? slot->block : 0));
     slot->exists = !goes;
     stale[random_below(STALE)] = piece;
@@ -151,19 +151,19 @@ static void give_back(void) {
 
 static void look(void) {
     pilhangko_memory_statistics s;
-    IS(pilhangko_memory_type_statistics(&types, &s), PILHANGKO_OK);
+    IS(pilhangko_memory_type_statistics(&type, &s), PILHANGKO_OK);
     CHECK(s.capacity == capacity() && s.slots == slot_count && s.shared_blocks == shared_blocks() && !s.awaits_block);
     CHECK(s.has_budget == has_budget && s.budget == (has_budget ? budget : 0));
     size_t i = random_below(slot_count + 2);
     pilhangko_memory_block block;
-    IS(pilhangko_memory_type_block(&types, i, &block), PILHANGKO_OK);
+    IS(pilhangko_memory_type_block(&type, i, &block), PILHANGKO_OK);
     CHECK(block.exists == (i < slot_count && slots[i].exists) && block.block == (block.exists ? slots[i].block : 0));
     pilhangko_memory_block_statistics counted;
-    IS(pilhangko_memory_type_block_statistics(&types, i, &counted), PILHANGKO_OK);
+    IS(pilhangko_memory_type_block_statistics(&type, i, &counted), PILHANGKO_OK);
     CHECK(counted.exists == block.exists);
     uint64_t from = random_below(9 * MB);
     pilhangko_piece_view view;
-    IS(pilhangko_memory_type_next_piece(&types, i, from, &view), PILHANGKO_OK);
+    IS(pilhangko_memory_type_next_piece(&type, i, from, &view), PILHANGKO_OK);
     if (block.exists) {
         pilhangko_virtual_statistics same = {slots[i].account.size, counted.pieces, counted.piece_bytes, counted.gaps, counted.longest_gap};
         account_same(&slots[i].account, &same);
@@ -171,7 +171,7 @@ static void look(void) {
         char bytes[16];
         size_t room = random_below(sizeof bytes + 1), length;
         memset(bytes, '?', sizeof bytes);
-        IS(pilhangko_memory_type_piece_name(&types, i, from, bytes, room, &length), PILHANGKO_OK);
+        IS(pilhangko_memory_type_piece_name(&type, i, from, bytes, room, &length), PILHANGKO_OK);
         account_names(&slots[i].account, from, bytes, room, length);
     } else {
         CHECK(!view.exists && view.number == 0 && counted.pieces == 0 && counted.piece_bytes == 0 && counted.gaps == 0 &&
@@ -179,9 +179,9 @@ static void look(void) {
     }
     pilhangko_memory_piece piece = some_piece();
     bool is_live;
-    IS(pilhangko_memory_type_is_live(&types, &piece, &is_live), PILHANGKO_OK);
+    IS(pilhangko_memory_type_is_live(&type, &piece, &is_live), PILHANGKO_OK);
     CHECK(is_live == (live_at(&piece) >= 0));
-    IS(pilhangko_memory_type_rename(&types, &piece, "another name"), is_live ? PILHANGKO_OK : PILHANGKO_NOT_LIVE);
+    IS(pilhangko_memory_type_rename(&type, &piece, "another name"), is_live ? PILHANGKO_OK : PILHANGKO_NOT_LIVE);
     if (is_live) slots[piece.slot].account.chunks[live_at(&piece)].name = "another name";
 }
 
@@ -193,7 +193,7 @@ static void step(void) {
     else {
         has_budget = random_below(2) == 0;
         budget = random_below(64 * MB);
-        IS(pilhangko_memory_type_set_budget(&types, has_budget, budget), PILHANGKO_OK);
+        IS(pilhangko_memory_type_set_budget(&type, has_budget, budget), PILHANGKO_OK);
     }
 }
 
@@ -208,10 +208,10 @@ int main(void) {
         has_budget = false;
         pilhangko_memory_type_settings settings = {
             run % 2 == 0, page, block_size, largest_block_size, block_size, largest_block_size, false, 0};
-        IS(pilhangko_memory_type_create(&types, &settings), PILHANGKO_OK);
+        IS(pilhangko_memory_type_create(&type, &settings), PILHANGKO_OK);
         for (unsigned i = 0; i < 25000; i++) step();
         look();
-        IS(pilhangko_memory_type_destroy(&types), PILHANGKO_OK);
+        IS(pilhangko_memory_type_destroy(&type), PILHANGKO_OK);
     }
     printf("100000 calls: %u pieces taken, %u blocks needed, %u abandoned, %u over budget, %u given back, %u blocks went, %u not live\n",
         taken, needed, abandoned, over_budget, freed, went, dead);

@@ -26,9 +26,9 @@ static bool block_has(pilhangko_virtual_block *block, size_t pieces) {
     return pilhangko_virtual_block_leak_count(block, &count) == PILHANGKO_OK && count == pieces;
 }
 
-static bool type_has(pilhangko_memory_type *types, uint64_t capacity, size_t slots) {
+static bool type_has(pilhangko_memory_type *type, uint64_t capacity, size_t slots) {
     pilhangko_memory_statistics s;
-    return pilhangko_memory_type_statistics(types, &s) == PILHANGKO_OK && s.capacity == capacity && s.slots == slots && !s.awaits_block;
+    return pilhangko_memory_type_statistics(type, &s) == PILHANGKO_OK && s.capacity == capacity && s.slots == slots && !s.awaits_block;
 }
 
 static void virtual_blocks(void) {
@@ -52,20 +52,20 @@ static void virtual_blocks(void) {
 }
 
 static void memory_types(void) {
-    pilhangko_memory_type types = {0};
+    pilhangko_memory_type type = {0};
     pilhangko_memory_type_settings settings = {true, 1, 4 * MB, 0, 4 * MB, 0, false, 0};
     pilhangko_memory_piece pieces[12];
-    TRIED(pilhangko_memory_type_create(&types, &settings), pilhangko_memory_type_destroy(&types) == PILHANGKO_NO_HANDLE);
+    TRIED(pilhangko_memory_type_create(&type, &settings), pilhangko_memory_type_destroy(&type) == PILHANGKO_NO_HANDLE);
     uint64_t capacity = 0;
     size_t slots = 0;
     for (unsigned i = 0; i < 12; i++) {
-        pilhangko_memory_request request = {i % 3 ? MB : 4 * MB, 1, PILHANGKO_LINEAR, i % 4 == 3};
+        pilhangko_memory_request request = {i % 3 ? MB : 4 * MB, 1, PILHANGKO_KIND_LINEAR, i % 4 == 3};
         pilhangko_memory_prepared prepared = {false, false, 3, {3, 3, 3, 3, 3}};
-        TRIED(pilhangko_memory_type_prepare(&types, &request, "a name that takes memory of its own", &prepared),
-            type_has(&types, capacity, slots) && prepared.block_size == 3);
+        TRIED(pilhangko_memory_type_prepare(&type, &request, "a name that takes memory of its own", &prepared),
+            type_has(&type, capacity, slots) && prepared.block_size == 3);
         if (prepared.needs_block) {
             long before = heap_requests;
-            IS(pilhangko_memory_type_install(&types, i, &prepared.piece), PILHANGKO_OK);
+            IS(pilhangko_memory_type_install(&type, i, &prepared.piece), PILHANGKO_OK);
             CHECK(heap_requests == before); /* nor does install */
             capacity += prepared.block_size;
             slots++;
@@ -73,13 +73,13 @@ static void memory_types(void) {
         pieces[i] = prepared.piece;
     }
     for (unsigned i = 0; i < 12; i++)
-        TRIED(pilhangko_memory_type_rename(&types, &pieces[i], "another name that takes memory of its own"),
-            type_has(&types, capacity, slots));
+        TRIED(pilhangko_memory_type_rename(&type, &pieces[i], "another name that takes memory of its own"),
+            type_has(&type, capacity, slots));
     long before = heap_requests;
     pilhangko_memory_block gone;
-    for (unsigned i = 0; i < 12; i++) IS(pilhangko_memory_type_free(&types, &pieces[i], &gone), PILHANGKO_OK);
+    for (unsigned i = 0; i < 12; i++) IS(pilhangko_memory_type_free(&type, &pieces[i], &gone), PILHANGKO_OK);
     CHECK(heap_requests == before);
-    IS(pilhangko_memory_type_destroy(&types), PILHANGKO_OK);
+    IS(pilhangko_memory_type_destroy(&type), PILHANGKO_OK);
 }
 
 int main(void) {

@@ -20,18 +20,18 @@ static void places(void) {
     pilhangko_virtual_block block = {0};
     pilhangko_virtual_piece a, b, c, d, e, f;
     IS(pilhangko_virtual_block_create(&block, 1000, 1), PILHANGKO_OK);
-    takes(&block, 100, 1, PILHANGKO_LINEAR, 0, 2, &a);
-    takes(&block, 50, 1, PILHANGKO_LINEAR, 100, 3, &b);
-    takes(&block, 100, 1, PILHANGKO_NON_LINEAR, 150, 4, &c);
-    takes(&block, 60, 64, PILHANGKO_LINEAR, 256, 5, &d); /* padding from 250 to 256 */
+    takes(&block, 100, 1, PILHANGKO_KIND_LINEAR, 0, 2, &a);
+    takes(&block, 50, 1, PILHANGKO_KIND_LINEAR, 100, 3, &b);
+    takes(&block, 100, 1, PILHANGKO_KIND_NON_LINEAR, 150, 4, &c);
+    takes(&block, 60, 64, PILHANGKO_KIND_LINEAR, 256, 5, &d); /* padding from 250 to 256 */
     has(&block, 4);
     IS(pilhangko_virtual_block_free(&block, &b), PILHANGKO_OK);
     IS(pilhangko_virtual_block_free(&block, &b), PILHANGKO_NOT_LIVE);
-    takes(&block, 40, 1, PILHANGKO_LINEAR, 100, 6, &e); /* the gap of 50, not the rest of the block */
-    takes(&block, 10, 1, PILHANGKO_LINEAR, 140, 3, &f); /* fills it: the gap's number */
+    takes(&block, 40, 1, PILHANGKO_KIND_LINEAR, 100, 6, &e); /* the gap of 50, not the rest of the block */
+    takes(&block, 10, 1, PILHANGKO_KIND_LINEAR, 140, 3, &f); /* fills it: the gap's number */
     IS(pilhangko_virtual_block_free(&block, &a), PILHANGKO_OK);
     IS(pilhangko_virtual_block_free(&block, &e), PILHANGKO_OK); /* joins the gap before it: [0, 140) */
-    takes(&block, 140, 1, PILHANGKO_LINEAR, 0, 2, &a);
+    takes(&block, 140, 1, PILHANGKO_KIND_LINEAR, 0, 2, &a);
     IS(pilhangko_virtual_block_free(&block, &e), PILHANGKO_NOT_LIVE);
     has(&block, 4);
     IS(pilhangko_virtual_block_destroy(&block), PILHANGKO_OK);
@@ -42,9 +42,9 @@ static void pages(void) {
     pilhangko_virtual_block block = {0};
     pilhangko_virtual_piece a, b, c;
     IS(pilhangko_virtual_block_create(&block, 256, 64), PILHANGKO_OK);
-    takes(&block, 10, 1, PILHANGKO_LINEAR, 0, 2, &a);
-    takes(&block, 10, 1, PILHANGKO_LINEAR, 10, 3, &b);
-    takes(&block, 10, 1, PILHANGKO_NON_LINEAR, 64, 4, &c);
+    takes(&block, 10, 1, PILHANGKO_KIND_LINEAR, 0, 2, &a);
+    takes(&block, 10, 1, PILHANGKO_KIND_LINEAR, 10, 3, &b);
+    takes(&block, 10, 1, PILHANGKO_KIND_NON_LINEAR, 64, 4, &c);
     IS(pilhangko_virtual_block_destroy(&block), PILHANGKO_OK);
 }
 
@@ -55,9 +55,9 @@ static void readings(void) {
     pilhangko_virtual_statistics s;
     pilhangko_piece_view view;
     IS(pilhangko_virtual_block_create(&block, 1000, 64), PILHANGKO_OK);
-    takes(&block, 10, 1, PILHANGKO_LINEAR, 0, 2, &pieces[0]);
-    takes(&block, 10, 1, PILHANGKO_NON_LINEAR, 64, 3, &pieces[1]);  /* [10, 74): 54 bytes of padding */
-    takes(&block, 10, 16, PILHANGKO_NON_LINEAR, 80, 4, &pieces[2]); /* [74, 90): 6 */
+    takes(&block, 10, 1, PILHANGKO_KIND_LINEAR, 0, 2, &pieces[0]);
+    takes(&block, 10, 1, PILHANGKO_KIND_NON_LINEAR, 64, 3, &pieces[1]);  /* [10, 74): 54 bytes of padding */
+    takes(&block, 10, 16, PILHANGKO_KIND_NON_LINEAR, 80, 4, &pieces[2]); /* [74, 90): 6 */
     IS(pilhangko_virtual_block_statistics(&block, &s), PILHANGKO_OK);
     CHECK(s.size == 1000 && s.pieces == 3 && s.piece_bytes == 90 && s.gaps == 1 && s.longest_gap == 910);
     IS(pilhangko_virtual_block_free(&block, &pieces[0]), PILHANGKO_OK);
@@ -68,7 +68,7 @@ static void readings(void) {
         IS(pilhangko_virtual_block_next_piece(&block, from, &view), PILHANGKO_OK);
         if (!view.exists) break;
         seen++;
-        CHECK(view.number == pieces[seen].number && view.offset == pieces[seen].offset && view.kind == PILHANGKO_NON_LINEAR);
+        CHECK(view.number == pieces[seen].number && view.offset == pieces[seen].offset && view.kind == PILHANGKO_KIND_NON_LINEAR);
         CHECK(view.start == (seen == 1 ? 10 : 74) && view.end == (seen == 1 ? 74 : 90));
     }
     CHECK(seen == 2 && view.number == 0 && view.start == 0 && view.offset == 0 && view.end == 0 && view.kind == 0);
@@ -98,7 +98,7 @@ static void readings(void) {
 static void allocate_statuses(void) {
     pilhangko_virtual_block block = {0};
     pilhangko_virtual_piece piece = {11, 22};
-    pilhangko_virtual_request good = {10, 1, PILHANGKO_LINEAR};
+    pilhangko_virtual_request good = {10, 1, PILHANGKO_KIND_LINEAR};
     const pilhangko_virtual_request bad[] = {{0, 1, 1}, {10, 0, 1}, {10, 3, 1}, {10, 1, 0}, {10, 1, 3}, {10, UINT64_MAX, 2}, {0, 0, 0}};
     IS(pilhangko_virtual_block_allocate(&block, &good, NULL, &piece), PILHANGKO_NO_HANDLE);
     IS(pilhangko_virtual_block_create(&block, 100, 16), PILHANGKO_OK);
@@ -106,8 +106,8 @@ static void allocate_statuses(void) {
         IS(pilhangko_virtual_block_allocate(&block, &bad[i], NULL, &piece), PILHANGKO_INVALID);
     IS(pilhangko_virtual_block_allocate(&block, &good, "\xff", &piece), PILHANGKO_INVALID);
     IS(pilhangko_virtual_block_allocate(&block, &good, "half \xc3", &piece), PILHANGKO_INVALID);
-    pilhangko_virtual_request large = {101, 1, PILHANGKO_LINEAR}, largest = {UINT64_MAX, 1, PILHANGKO_LINEAR},
-                              aligned = {10, UINT64_C(1) << 63, PILHANGKO_LINEAR};
+    pilhangko_virtual_request large = {101, 1, PILHANGKO_KIND_LINEAR}, largest = {UINT64_MAX, 1, PILHANGKO_KIND_LINEAR},
+                              aligned = {10, UINT64_C(1) << 63, PILHANGKO_KIND_LINEAR};
     IS(pilhangko_virtual_block_allocate(&block, &large, NULL, &piece), PILHANGKO_OUT_OF_MEMORY);
     IS(pilhangko_virtual_block_allocate(&block, &largest, NULL, &piece), PILHANGKO_OUT_OF_MEMORY);
     CHECK(piece.offset == 11 && piece.number == 22);
@@ -133,7 +133,7 @@ static void handle_statuses(void) {
     IS(pilhangko_virtual_block_create(&block, 100, 48), PILHANGKO_INVALID);
     IS(pilhangko_virtual_block_destroy(&block), PILHANGKO_NO_HANDLE);
     IS(pilhangko_virtual_block_create(&block, UINT64_MAX, UINT64_C(1) << 63), PILHANGKO_OK);
-    takes(&block, UINT64_MAX, 1, PILHANGKO_LINEAR, 0, 1, &taken);
+    takes(&block, UINT64_MAX, 1, PILHANGKO_KIND_LINEAR, 0, 1, &taken);
     IS(pilhangko_virtual_block_create(&block, 100, 1), PILHANGKO_IN_USE);
     IS(pilhangko_virtual_block_create(&block, 0, 0), PILHANGKO_IN_USE);
     has(&block, 1);
@@ -145,7 +145,7 @@ static void piece_statuses(void) {
     pilhangko_virtual_block block = {0};
     pilhangko_virtual_piece a, b;
     IS(pilhangko_virtual_block_create(&block, 100, 1), PILHANGKO_OK);
-    takes(&block, 10, 1, PILHANGKO_LINEAR, 0, 2, &a);
+    takes(&block, 10, 1, PILHANGKO_KIND_LINEAR, 0, 2, &a);
     pilhangko_virtual_piece wrong[] = {{0, 0}, {1, 2}, {0, 3}, {0, 1}, {10, 1}, {UINT64_MAX, UINT64_MAX}};
     for (size_t i = 0; i < sizeof wrong / sizeof wrong[0]; i++) {
         IS(pilhangko_virtual_block_free(&block, &wrong[i]), PILHANGKO_NOT_LIVE);
@@ -156,17 +156,17 @@ static void piece_statuses(void) {
     IS(pilhangko_virtual_block_rename(&block, &a, "another name"), PILHANGKO_OK);
     IS(pilhangko_virtual_block_rename(&block, &a, NULL), PILHANGKO_OK);
     has(&block, 1);
-    takes(&block, 10, 1, PILHANGKO_NON_LINEAR, 10, 3, &b);
+    takes(&block, 10, 1, PILHANGKO_KIND_NON_LINEAR, 10, 3, &b);
     IS(pilhangko_virtual_block_clear(&block), PILHANGKO_OK);
     has(&block, 0);
     IS(pilhangko_virtual_block_free(&block, &a), PILHANGKO_NOT_LIVE);
-    takes(&block, 100, 1, PILHANGKO_LINEAR, 0, 1, &b);
+    takes(&block, 100, 1, PILHANGKO_KIND_LINEAR, 0, 1, &b);
     IS(pilhangko_virtual_block_destroy(&block), PILHANGKO_OK);
 }
 
 static void null_pointers(void) {
     pilhangko_virtual_block block = {0};
-    pilhangko_virtual_request request = {10, 1, PILHANGKO_LINEAR};
+    pilhangko_virtual_request request = {10, 1, PILHANGKO_KIND_LINEAR};
     pilhangko_virtual_piece piece = {0, 0};
     pilhangko_virtual_statistics statistics;
     pilhangko_piece_view view;
