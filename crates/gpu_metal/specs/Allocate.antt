@@ -45,5 +45,6 @@ module _ {D : Type 0} (g : Ghosts D) (d : AllocationCreateDesc) where
   AllocatesBy false old result new = (refusal_in result ≡ Some invalid_allocation_create_desc) × (new ≡ old)
   AllocatesBy true old result new = IsAttempted (pool_of old) result (pool_of new)
 
+  -- an allocation, as its description is
   abbrev pub Allocates : State D → Result Allocation AllocationError → State D → Type 0
   Allocates old result new = AllocatesBy (is_valid d) old result new

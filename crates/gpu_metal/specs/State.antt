@@ -61,6 +61,7 @@ pub record Seen : Type 0 where
 abbrev pub Model : Type 0
 Model = pools.State Seen MTLHeap
 
+-- what is seen of a device and its set
 abbrev pub seen_of : {D : Type 0} → Ghosts D → SourceState D → Seen
 seen_of g s = record { residency = set_of g s; refused = g.refused s.device; latest_heap = g.latest_heap s.device }
 

@@ -25,6 +25,7 @@ use Rattle.gpu_metal.specs.Source.{joined, left, committed, heap_in, IsHeapAnswe
 use Rattle.gpu_metal.specs.State.{State, Seen, Model, model_of}
 use Rattle.gpu_metal.specs.declared.allocation.Allocation.{Allocation}
 
+-- a call of an allocator
 pub data Call : Type 0 where
   Allocate : (d : AllocationCreateDesc) → Call
   Free : (a : Allocation) → Call
@@ -90,20 +91,23 @@ Replies d (Ok a) (Allocated t p) = IsGiven t d.name.now p a
 Replies d (Err e) (Error r) = refusal_of e ≡ r
 Replies d _ _ = ⊥
 
+-- an allocation is a step of the model, and its caller gets what the model replies
 pub record IsAllocateStep {D : Type 0} (g : Ghosts D) (d : AllocationCreateDesc) (result : Result Allocation AllocationError) (old new : State D) : Type 0 where
   pub reply : Reply MTLHeap
   pub step : IsStep g (Allocate d) reply old new
   pub replies : Replies d result reply
 
--- the replies of calls that are done or refused
+-- the reply to a free
 abbrev pub freed_as : Result (Unit {0}) (AllocationError × Allocation) → Reply MTLHeap
 freed_as (Ok _) = Done
 freed_as (Err e) = Error (refusal_of e.0)
 
+-- the reply to a call that is done or refused
 abbrev pub done_as : Result (Unit {0}) AllocationError → Reply MTLHeap
 done_as (Ok _) = Done
 done_as (Err e) = Error (refusal_of e)
 
+-- the reply to a call for a report
 abbrev pub shown_as : Result AllocatorReport AllocationError → Reply MTLHeap
 shown_as (Ok r) = replies.Report (report_of r)
 shown_as (Err e) = Error (refusal_of e)

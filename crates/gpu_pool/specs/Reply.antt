@@ -4,6 +4,7 @@ use Rattle.gpu_values.specs.Refusal.{Refusal}
 use Rattle.gpu_values.specs.Report as reports
 use Rattle.gpu_slots.specs.declared.piece.Piece.{Piece}
 
+-- a reply has the name of its call, or says how the call ended
 pub data Reply (H : Type 0) : Type 0 where
   -- a piece of the t-th memory type
   Allocated : (t : ℕ) (piece : Piece H) → Reply H

@@ -16,6 +16,7 @@ use Rattle.gpu_pool.specs.Reply as replies
 use Rattle.gpu_pool.specs.Reply.{Reply, allocated_as, done_as, reported_as, leaked_as}
 use Rattle.gpu_pool.specs.State.{State}
 
+-- a call of a pool
 pub data Call (H X : Type 0) : Type 0 where
   Allocate : (request : RequestAt X) → Call H X
   Free : (t : ℕ) (piece : Piece H) → Call H X
@@ -59,10 +60,11 @@ module _ {S H X : Type 0} (kinds : List (Bool × ℕ)) (asks : S → ℕ → ℕ
   Step old Report met reply new = (answer : Result reports.Report Refusal) × (reply ≡ reported_as answer) × Makes (whole_report old.slots) met answer × (new ≡ old)
   Step old LeakTexts met reply new = (answer : Result (List (List ℕ)) Refusal) × (reply ≡ leaked_as answer) × Makes (map leak_text (all_leaks old.slots)) met answer × (new ≡ old)
 
--- a state and an answer decide what a question, or a block that goes back, leaves
+-- a state, a question and its answer decide what is left of the source
 abbrev pub AskDecides : {S H X : Type 0} → (S → ℕ → ℕ → X → Result H Refusal → S → Type 0) → Type 0
 AskDecides {S} {H} {X} asks = (old a b : S) (t size : ℕ) (extra : X) (answer : Result H Refusal) → asks old t size extra answer a → asks old t size extra answer b → a ≡ b
 
+-- a state and a block that goes back decide what is left of the source
 abbrev pub GiveBackDecides : {S H : Type 0} → (S → H → S → Type 0) → Type 0
 GiveBackDecides {S} {H} gives_back = (old a b : S) (handle : H) → gives_back old handle a → gives_back old handle b → a ≡ b
 
