@@ -1,5 +1,9 @@
+pub mod Chain
 pub mod D3D12
+pub mod D3D12History
 pub mod Granted
 pub mod Held
 pub mod Metal
+pub mod MetalHistory
 pub mod Properties
+pub mod VulkanHistory

@@ -1,9 +1,14 @@
 //! The device, as a trait with laws.
 
-ghost use Rattle.std.specs.Prelude.{◌≡◌, ℕ, ℤ, List, length, Option, Some, None, option_copied, option_map};
+ghost use Rattle.std.specs.Prelude.{◌≡◌, ℕ, ℤ, List, ◌∷◌, length, Option, Some, None, option_copied, option_map};
 ghost use Rattle.std.specs.FinMap.{get};
 ghost use Rattle.gpu_device.specs.D3D12.{Properties, Held, Heap, Committed, Placed, told_size, told_size1, granted_heap, granted_resource, without_heap, without_resource};
 ghost use Rattle.gpu_device.specs.Granted.{IsNew, with_granted, counted};
+ghost use Rattle.gpu_device.specs.D3D12History.{refused_in, latest_heap_in, latest_resource_in, request_formats, request_clear, request_memory};
+ghost use Rattle.gpu_device.specs.declared.d3d12.event.Event.{Event};
+ghost use Rattle.gpu_device.specs.declared.d3d12.event.Event.TheVariants.{AskedHeap, AskedResource, ReleasedHeap, ReleasedResource};
+ghost use Rattle.gpu_device.specs.declared.d3d12.event.ResourcePlace.TheVariants.{Own, InHeap};
+ghost use Rattle.gpu_device.specs.declared.d3d12.event.ResourceShape.TheVariants.{InState, InLayout};
 ghost use Rattle.gpu_device.specs.declared.d3d12.types.ClearValue.{ClearValue};
 ghost use Rattle.gpu_device.specs.declared.d3d12.types.HeapDesc.{HeapDesc};
 ghost use Rattle.gpu_device.specs.declared.d3d12.types.HeapFlags.{HeapFlags};
@@ -21,6 +26,7 @@ use crate::d3d12::types::{
 /// - it holds heaps and resources by number in one map, never under 0; to a call of the other kind a number isn't held;
 /// - a granted question adds one entry under a number that wasn't held; a refused one, by an error or by a null answer,
 ///   changes nothing that is held;
+/// - its history names each question, whole, with its answer, and each heap and resource that it was given back, once;
 /// - it counts refusals, and nothing else raises the count, which stays at `u64::MAX`;
 /// - giving back is never refused, and takes that entry alone; a resource stays when its heap goes;
 /// - it names its latest question of each kind, granted or refused: the heap asked for, and of a resource how many
@@ -31,6 +37,9 @@ pub trait D3D12Device {
 
     // The heaps and resources that it holds, by number.
     ghost held: { Self → Held };
+
+    // All that it was asked and how each question ended, and all that it was given back, newest first.
+    ghost history: { Self → List Event };
 
     // How many questions it refused.
     ghost refused: { Self → ℕ };
@@ -86,6 +95,7 @@ pub trait D3D12Device {
         ensures names_no_formats { latest_formats self.new ≡ latest_formats self.old }
         ensures names_no_clear_value { latest_clear self.new ≡ latest_clear self.old }
         ensures names_no_memory { latest_memory self.new ≡ latest_memory self.old }
+        ensures recorded { history self.new ≡ AskedHeap desc.now result ∷ history self.old }
         ensures constant { properties self.new ≡ properties self.old };
 
     /// Asks for a resource in memory of its own (`ID3D12Device::CreateCommittedResource`), in a state as
@@ -105,6 +115,11 @@ pub trait D3D12Device {
         ensures names_formats { latest_formats self.new ≡ None }
         ensures names_clear_value { latest_clear self.new ≡ option_copied clear_value.entry }
         ensures names_memory { latest_memory self.new ≡ Some (heap_properties.now, heap_flags) }
+        ensures recorded { history self.new ≡ AskedResource (record {
+          place = Own heap_properties.now heap_flags;
+          shape = InState desc.now initial_state;
+          clear_value = option_copied clear_value.entry;
+        }) result ∷ history self.old }
         ensures constant { properties self.new ≡ properties self.old };
 
     /// Asks for a resource in memory of its own (`ID3D12Device10::CreateCommittedResource3`), in a layout as
@@ -126,6 +141,11 @@ pub trait D3D12Device {
         ensures names_formats { latest_formats self.new ≡ option_map length (option_copied castable_formats.entry) }
         ensures names_clear_value { latest_clear self.new ≡ option_copied clear_value.entry }
         ensures names_memory { latest_memory self.new ≡ Some (heap_properties.now, heap_flags) }
+        ensures recorded { history self.new ≡ AskedResource (record {
+          place = Own heap_properties.now heap_flags;
+          shape = InLayout desc.now initial_layout (option_copied castable_formats.entry);
+          clear_value = option_copied clear_value.entry;
+        }) result ∷ history self.old }
         ensures constant { properties self.new ≡ properties self.old };
 
     /// Asks for a resource at an offset in bytes in a heap (`ID3D12Device::CreatePlacedResource`), in a state as
@@ -145,6 +165,11 @@ pub trait D3D12Device {
         ensures names_formats { latest_formats self.new ≡ None }
         ensures names_clear_value { latest_clear self.new ≡ option_copied clear_value.entry }
         ensures names_memory { latest_memory self.new ≡ None }
+        ensures recorded { history self.new ≡ AskedResource (record {
+          place = InHeap heap offset;
+          shape = InState desc.now initial_state;
+          clear_value = option_copied clear_value.entry;
+        }) result ∷ history self.old }
         ensures constant { properties self.new ≡ properties self.old };
 
     /// Asks for a resource at an offset in bytes in a heap (`ID3D12Device10::CreatePlacedResource2`), in a layout as
@@ -166,6 +191,11 @@ pub trait D3D12Device {
         ensures names_formats { latest_formats self.new ≡ option_map length (option_copied castable_formats.entry) }
         ensures names_clear_value { latest_clear self.new ≡ option_copied clear_value.entry }
         ensures names_memory { latest_memory self.new ≡ None }
+        ensures recorded { history self.new ≡ AskedResource (record {
+          place = InHeap heap offset;
+          shape = InLayout desc.now initial_layout (option_copied castable_formats.entry);
+          clear_value = option_copied clear_value.entry;
+        }) result ∷ history self.old }
         ensures constant { properties self.new ≡ properties self.old };
 
     /// Gives a heap back (`ID3D12Heap::Release`), also where the number is no heap's. Never refused.
@@ -176,6 +206,7 @@ pub trait D3D12Device {
         ensures names_no_formats { latest_formats self.new ≡ latest_formats self.old }
         ensures names_no_clear_value { latest_clear self.new ≡ latest_clear self.old }
         ensures names_no_memory { latest_memory self.new ≡ latest_memory self.old }
+        ensures recorded { history self.new ≡ ReleasedHeap heap ∷ history self.old }
         ensures constant { properties self.new ≡ properties self.old };
 
     /// Gives a resource back (`ID3D12Resource::Release`), also where the number is no resource's. Never refused.
@@ -186,8 +217,20 @@ pub trait D3D12Device {
         ensures names_no_formats { latest_formats self.new ≡ latest_formats self.old }
         ensures names_no_clear_value { latest_clear self.new ≡ latest_clear self.old }
         ensures names_no_memory { latest_memory self.new ≡ latest_memory self.old }
+        ensures recorded { history self.new ≡ ReleasedResource resource ∷ history self.old }
         ensures constant { properties self.new ≡ properties self.old };
 
     // Nothing is held under the number 0, which is null.
     ghost no_null: { (d : Self) → get (held d) 0 ≡ None };
+
+    // The count of refusals and the latest questions are those of the history.
+    ghost refused_is: { (d : Self) → refused d ≡ refused_in (history d) };
+
+    ghost latest_heap_is: { (d : Self) → latest_heap d ≡ latest_heap_in (history d) };
+
+    ghost latest_formats_is: { (d : Self) → latest_formats d ≡ request_formats (latest_resource_in (history d)) };
+
+    ghost latest_clear_is: { (d : Self) → latest_clear d ≡ request_clear (latest_resource_in (history d)) };
+
+    ghost latest_memory_is: { (d : Self) → latest_memory d ≡ request_memory (latest_resource_in (history d)) };
 }

@@ -1,9 +1,12 @@
 //! The device, as a trait with laws.
 
-ghost use Rattle.std.specs.Prelude.{◌≡◌, ℕ, [], Option, Some, None};
+ghost use Rattle.std.specs.Prelude.{◌≡◌, ℕ, List, [], ◌∷◌, Option, Some, None};
 ghost use Rattle.std.specs.FinMap.{get};
 ghost use Rattle.gpu_device.specs.Granted.{IsNew, with_granted, counted};
 ghost use Rattle.gpu_device.specs.Metal.{Properties, Held, Heap, Set, IsHeap, IsSet, granted_heap, granted_set, without_heap, with_member, without_member, with_commit};
+ghost use Rattle.gpu_device.specs.MetalHistory.{refused_in, latest_heap_in};
+ghost use Rattle.gpu_device.specs.declared.metal.event.Event.{Event};
+ghost use Rattle.gpu_device.specs.declared.metal.event.Event.TheVariants.{AskedHeap, AskedSet, ReleasedHeap, Added, Removed, Committed};
 ghost use Rattle.gpu_device.specs.declared.metal.types.HeapDescriptor.{HeapDescriptor};
 
 use crate::metal::types::{
@@ -17,6 +20,7 @@ use crate::metal::types::{
 /// - it holds heaps and residency sets by number in one map, never under 0; to a call of the other kind a number isn't
 ///   held;
 /// - a granted question adds one entry under a number that wasn't held; a refused one changes nothing that is held;
+/// - its history names each question with its answer, each heap that it was given back, and each call of a set, once;
 /// - it counts refusals, and nothing else raises the count, which stays at `u64::MAX`;
 /// - giving a heap back is never refused, and takes that heap alone; a set that has it keeps its number;
 /// - adding a heap to a set and removing it change the members of that set by that heap, and `commit` makes the committed
@@ -28,6 +32,9 @@ pub trait MetalDevice {
 
     // The heaps and sets that it holds, by number.
     ghost held: { Self → Held };
+
+    // All that it was asked, labels aside, and how each question ended, and all that it was given back, newest first.
+    ghost history: { Self → List Event };
 
     // How many questions it refused.
     ghost refused: { Self → ℕ };
@@ -59,6 +66,7 @@ pub trait MetalDevice {
         ensures holds { held self.new ≡ with_granted (held self.old) (granted_heap result) (Heap desc.now size) }
         ensures counts { refused self.new ≡ counted (refused self.old) (granted_heap result) }
         ensures names_heap { latest_heap self.new ≡ Some (desc.now, size) }
+        ensures recorded { history self.new ≡ AskedHeap desc.now size result ∷ history self.old }
         ensures constant { properties self.new ≡ properties self.old };
 
     /// Gives a heap back (`release`), also where the number is no heap's. Never refused.
@@ -66,6 +74,7 @@ pub trait MetalDevice {
         ensures gives_back { held self.new ≡ without_heap (held self.old) heap.0 }
         ensures counts_nothing { refused self.new ≡ refused self.old }
         ensures names_no_heap { latest_heap self.new ≡ latest_heap self.old }
+        ensures recorded { history self.new ≡ ReleasedHeap heap ∷ history self.old }
         ensures constant { properties self.new ≡ properties self.old };
 
     /// Asks for a residency set (`MTLDevice.makeResidencySet`), which is empty and has room for every heap. The error is
@@ -75,6 +84,7 @@ pub trait MetalDevice {
         ensures holds { held self.new ≡ with_granted (held self.old) (granted_set result) (Set [] []) }
         ensures counts { refused self.new ≡ counted (refused self.old) (granted_set result) }
         ensures names_no_heap { latest_heap self.new ≡ latest_heap self.old }
+        ensures recorded { history self.new ≡ AskedSet result ∷ history self.old }
         ensures constant { properties self.new ≡ properties self.old };
 
     /// Adds a heap to a set's members (`MTLResidencySet.addAllocation`), where it isn't one yet. Never refused.
@@ -84,6 +94,7 @@ pub trait MetalDevice {
         ensures adds { held self.new ≡ with_member (held self.old) set.0 heap }
         ensures counts_nothing { refused self.new ≡ refused self.old }
         ensures names_no_heap { latest_heap self.new ≡ latest_heap self.old }
+        ensures recorded { history self.new ≡ Added set heap ∷ history self.old }
         ensures constant { properties self.new ≡ properties self.old };
 
     /// Removes a heap from a set's members (`MTLResidencySet.removeAllocation`), where it is one. Never refused.
@@ -93,6 +104,7 @@ pub trait MetalDevice {
         ensures removes { held self.new ≡ without_member (held self.old) set.0 heap }
         ensures counts_nothing { refused self.new ≡ refused self.old }
         ensures names_no_heap { latest_heap self.new ≡ latest_heap self.old }
+        ensures recorded { history self.new ≡ Removed set heap ∷ history self.old }
         ensures constant { properties self.new ≡ properties self.old };
 
     /// Makes a set's members its committed members (`MTLResidencySet.commit`), also where the number is no set's. Never
@@ -101,8 +113,14 @@ pub trait MetalDevice {
         ensures commits { held self.new ≡ with_commit (held self.old) set.0 }
         ensures counts_nothing { refused self.new ≡ refused self.old }
         ensures names_no_heap { latest_heap self.new ≡ latest_heap self.old }
+        ensures recorded { history self.new ≡ Committed set ∷ history self.old }
         ensures constant { properties self.new ≡ properties self.old };
 
     // Nothing is held under the number 0, which is null.
     ghost no_null: { (d : Self) → get (held d) 0 ≡ None };
+
+    // The count of refusals and the latest question are those of the history.
+    ghost refused_is: { (d : Self) → refused d ≡ refused_in (history d) };
+
+    ghost latest_heap_is: { (d : Self) → latest_heap d ≡ latest_heap_in (history d) };
 }

@@ -1,10 +1,13 @@
 //! The device, as a trait with laws.
 
-ghost use Rattle.std.specs.Prelude.{◌≡◌, ◌≢◌, ℕ, ◌^◌, ◌<◌, ◌↔◌, List, length, slice_get, Option, Some, None, IsSome, IfSome, IfOk, OnErr, OnOk, true, false, option_copied};
+ghost use Rattle.std.specs.Prelude.{◌≡◌, ◌≢◌, ℕ, ◌^◌, ◌<◌, ◌↔◌, List, ◌∷◌, length, slice_get, Option, Some, None, IsSome, IfSome, IfOk, OnErr, OnOk, true, false, option_copied};
 ghost use Rattle.std.specs.Borrow.{sem, Lends, Array, u8 as byte};
 ghost use Rattle.std.specs.FinMap.{get, insert, remove};
 ghost use Rattle.gpu_device.specs.Properties.{Properties};
 ghost use Rattle.gpu_device.specs.Held.{Held, new_entry, size_of, range_of, IsUnmapped, IsWhole, mapped_with, unmapped, with_range, raised};
+ghost use Rattle.gpu_device.specs.VulkanHistory.{refused_in, latest_in};
+ghost use Rattle.gpu_device.specs.declared.vulkan.event.Event.{Event};
+ghost use Rattle.gpu_device.specs.declared.vulkan.event.Event.TheVariants.{AskedMemory, AskedMapping, Unmapped, Freed};
 ghost use Rattle.gpu_device.specs.declared.vulkan.types.MemoryAllocateInfo.{MemoryAllocateInfo};
 
 use crate::vulkan::types::{DeviceMemory, MemoryAllocateInfo, MemoryHeap, MemoryTypeInfo};
@@ -16,6 +19,7 @@ use crate::vulkan::types::{DeviceMemory, MemoryAllocateInfo, MemoryHeap, MemoryT
 /// - it holds memories by number, never under 0, and a mapped memory has as many bytes as its size says;
 /// - a granted question adds one memory under a number that wasn't held, a granted mapping gives bytes to its own
 ///   memory, and a refused question changes nothing that is held;
+/// - its history names each question with its answer, and each memory and mapping that it was given back, once;
 /// - it counts refusals, and nothing else raises the count, which stays at `u64::MAX`;
 /// - giving back is never refused, and takes that memory or its bytes alone;
 /// - bytes change through a lent slice alone, and there only in the range that was lent.
@@ -25,6 +29,9 @@ pub trait VulkanDevice {
 
     // The memories that it holds, by number.
     ghost held: { Self → Held };
+
+    // All that it was asked and how each question ended, and all that it was given back, newest first.
+    ghost history: { Self → List Event };
 
     // How many questions it refused.
     ghost refused: { Self → ℕ };
@@ -71,6 +78,7 @@ pub trait VulkanDevice {
         ensures counts_no_grant { OnOk result (refused self.new ≡ refused self.old) }
         ensures counts_refusal { OnErr result (refused self.new ≡ raised (refused self.old)) }
         ensures names_question { latest self.new ≡ Some info.now }
+        ensures recorded { history self.new ≡ AskedMemory info.now result ∷ history self.old }
         ensures constant { properties self.new ≡ properties self.old };
 
     /// Asks for a memory's bytes (`vkMapMemory` over the whole of it). `false` is a null pointer, which is a refusal too.
@@ -86,6 +94,7 @@ pub trait VulkanDevice {
         ensures counts_null { IfOk result (λ mapped. mapped ≡ false → refused self.new ≡ raised (refused self.old)) }
         ensures counts_refusal { OnErr result (refused self.new ≡ raised (refused self.old)) }
         ensures names_no_question { latest self.new ≡ latest self.old }
+        ensures recorded { history self.new ≡ AskedMapping memory result ∷ history self.old }
         ensures constant { properties self.new ≡ properties self.old };
 
     /// Takes a memory's bytes away (`vkUnmapMemory`), also where it isn't mapped or isn't held. Never refused.
@@ -93,6 +102,7 @@ pub trait VulkanDevice {
         ensures gives_back { held self.new ≡ unmapped (held self.old) memory.0 }
         ensures counts_nothing { refused self.new ≡ refused self.old }
         ensures names_no_question { latest self.new ≡ latest self.old }
+        ensures recorded { history self.new ≡ Unmapped memory ∷ history self.old }
         ensures constant { properties self.new ≡ properties self.old };
 
     /// Gives a memory back (`vkFreeMemory`), also where it isn't held. Never refused.
@@ -100,6 +110,7 @@ pub trait VulkanDevice {
         ensures gives_back { held self.new ≡ remove (held self.old) memory.0 }
         ensures counts_nothing { refused self.new ≡ refused self.old }
         ensures names_no_question { latest self.new ≡ latest self.old }
+        ensures recorded { history self.new ≡ Freed memory ∷ history self.old }
         ensures constant { properties self.new ≡ properties self.old };
 
     /// The bytes of a range, where the memory is held and mapped and the range lies inside.
@@ -126,7 +137,14 @@ pub trait VulkanDevice {
 
     ghost write_names_no_question: { (d : Self) (number start : ℕ) (ws : List ℕ) → latest (written d number start ws) ≡ latest d };
 
+    ghost write_records_nothing: { (d : Self) (number start : ℕ) (ws : List ℕ) → history (written d number start ws) ≡ history d };
+
     ghost write_constant: { (d : Self) (number start : ℕ) (ws : List ℕ) → properties (written d number start ws) ≡ properties d };
+
+    // The count of refusals and the latest question are those of the history.
+    ghost refused_is: { (d : Self) → refused d ≡ refused_in (history d) };
+
+    ghost latest_is: { (d : Self) → latest d ≡ latest_in (history d) };
 
     /// Lends the bytes of a range to be written, exactly where `bytes` gives it.
     final fn bytes_mut(&mut self, memory: DeviceMemory, start: u64, len: u64) -> Option<&mut [u8]>

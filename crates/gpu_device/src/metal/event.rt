@@ -1,0 +1,20 @@
+//! What a Metal device was asked and was given back.
+
+use crate::metal::types::{HeapDescriptor, MTLHeap, MTLResidencySet};
+
+/// A call that asks, gives back or changes a set, and how a question ended.
+#[derive(Clone, Copy, Debug, PartialEq, Eq)]
+pub enum Event {
+    /// `makeHeap`: its description, its size in bytes, and its answer.
+    AskedHeap(HeapDescriptor, u64, Option<MTLHeap>),
+    /// `makeResidencySet`, and its answer.
+    AskedSet(Result<MTLResidencySet, i32>),
+    /// A heap's `release`.
+    ReleasedHeap(MTLHeap),
+    /// `addAllocation`.
+    Added(MTLResidencySet, MTLHeap),
+    /// `removeAllocation`.
+    Removed(MTLResidencySet, MTLHeap),
+    /// `commit`.
+    Committed(MTLResidencySet),
+}

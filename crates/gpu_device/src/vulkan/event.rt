@@ -1,0 +1,16 @@
+//! What a Vulkan device was asked and was given back.
+
+use crate::vulkan::types::{DeviceMemory, MemoryAllocateInfo};
+
+/// A call that asks or gives back, and how a question ended.
+#[derive(Clone, Copy, Debug, PartialEq, Eq)]
+pub enum Event {
+    /// `vkAllocateMemory`, and its answer.
+    AskedMemory(MemoryAllocateInfo, Result<DeviceMemory, i32>),
+    /// `vkMapMemory`, and its answer; `Ok(false)` is a null pointer.
+    AskedMapping(DeviceMemory, Result<bool, i32>),
+    /// `vkUnmapMemory`.
+    Unmapped(DeviceMemory),
+    /// `vkFreeMemory`.
+    Freed(DeviceMemory),
+}
