@@ -1,16 +1,17 @@
 //! A simulated Vulkan device.
 
-ghost use Rattle.std.specs.Prelude.{◌≡◌, ◌≢◌, ℕ, ◌+◌, ◌^◌, ◌<◌, List, length, replicate, refl, Some, None, IfSome, IfOk, IfErr, OnErr, OnOk, true, false};
+ghost use Rattle.std.specs.Prelude.{◌≡◌, ◌≢◌, ℕ, ◌+◌, ◌^◌, ◌<◌, List, [], ◌∷◌, length, replicate, refl, Some, None, IfSome, IfOk, IfErr, OnErr, OnOk, true, false};
 ghost use Rattle.std.specs.FinMap.{empty, get, insert, remove, len as map_len};
 ghost use Rattle.gpu_device.specs.Held.{new_entry, size_of, IsUnmapped, mapped_with, unmapped, raised};
-ghost use Rattle.gpu_sim.specs.Plan.{asked, given, planned_code, planned_answer};
-ghost use Rattle.gpu_sim.specs.Simulation.{held_of, properties_of, plan_of, refused_of, latest_of, written_sim};
+ghost use Rattle.gpu_device.specs.declared.vulkan.event.Event.TheVariants.{AskedMemory, AskedMapping, Unmapped, Freed};
+ghost use Rattle.gpu_sim.specs.Plan.{asked, given, planned_code, planned_answer, out_of_host_memory};
+ghost use Rattle.gpu_sim.specs.Simulation.{held_of, properties_of, plan_of, history_of, refused_of, latest_of, written_sim};
 ghost use Rattle.gpu_sim.specs.SimulationLaws.{no_null as no_null_law, whole as whole_law, written_held as written_held_law};
 
 use crate::memories::Memories;
 use crate::refusal::{OUT_OF_HOST_MEMORY, answer_for_mapping, code_for_memory};
 use gpu_device::vulkan::{
-    DeviceMemory, MemoryAllocateInfo, MemoryHeap, MemoryTypeInfo, VulkanDevice,
+    DeviceMemory, Journal, MemoryAllocateInfo, MemoryHeap, MemoryTypeInfo, VulkanDevice,
 };
 use gpu_sim_base::{Refusal, Script};
 use std::alloc::Global;
@@ -28,7 +29,7 @@ pub struct SimVulkan {
     limit: u64,
     script: Script,
     memories: Memories,
-    last_info: Option<MemoryAllocateInfo>,
+    journal: Journal,
 }
 
 impl SimVulkan {
@@ -50,6 +51,7 @@ impl SimVulkan {
           questions = 0;
           issued = 0;
         } }
+        ensures history { history_of result ≡ [] }
         ensures refused { refused_of result ≡ 0 }
         ensures latest { latest_of result ≡ None }
     {
@@ -61,7 +63,7 @@ impl SimVulkan {
             limit,
             script: Script::new(refusals),
             memories: Memories::new(alloc),
-            last_info: None,
+            journal: Journal::new(),
         }
     }
 
@@ -83,7 +85,7 @@ impl SimVulkan {
     pub fn last_info(&self) -> Option<MemoryAllocateInfo>
         ensures { result ≡ latest_of self.now }
     {
-        self.last_info
+        self.journal.last_info()
     }
 }
 
@@ -91,6 +93,8 @@ impl VulkanDevice for SimVulkan {
     ghost properties = { properties_of };
 
     ghost held = { held_of };
+
+    ghost history = { history_of };
 
     ghost refused = { refused_of };
 
@@ -107,6 +111,12 @@ impl VulkanDevice for SimVulkan {
     ghost write_counts_nothing = { λ s number start ws. refl };
 
     ghost write_names_no_question = { λ s number start ws. refl };
+
+    ghost write_records_nothing = { λ s number start ws. refl };
+
+    ghost refused_is = { λ s. refl };
+
+    ghost latest_is = { λ s. refl };
 
     ghost write_constant = { λ s number start ws. refl };
 
@@ -131,7 +141,7 @@ impl VulkanDevice for SimVulkan {
     }
 
     fn refusals(&self) -> u64 {
-        self.script.refusals()
+        self.journal.refusals()
     }
 
     fn allocate_memory(&mut self, info: &MemoryAllocateInfo) -> Result<DeviceMemory, i32>
@@ -141,26 +151,24 @@ impl VulkanDevice for SimVulkan {
         ensures counts_no_grant { OnOk result (refused_of self.new ≡ refused_of self.old) }
         ensures counts_refusal { OnErr result (refused_of self.new ≡ raised (refused_of self.old)) }
         ensures names_question { latest_of self.new ≡ Some info.now }
+        ensures recorded { history_of self.new ≡ AskedMemory info.now result ∷ history_of self.old }
         ensures constant { properties_of self.new ≡ properties_of self.old }
         ensures next_number { IfOk result (λ memory. memory.0 ≡ (plan_of self.old).issued + 1) }
         ensures by_plan { IfSome (planned_code (plan_of self.old) info.now.size) (λ code. result ≡ Err code) }
-        ensures by_host { planned_code (plan_of self.old) info.now.size ≡ None → IfErr result (λ code. code ≡ OUT_OF_HOST_MEMORY) }
+        ensures by_host { planned_code (plan_of self.old) info.now.size ≡ None → IfErr result (λ code. code ≡ out_of_host_memory) }
         ensures plan_granted { OnOk result (plan_of self.new ≡ given (plan_of self.old)) }
         ensures plan_refused { OnErr result (plan_of self.new ≡ asked (plan_of self.old)) }
     {
         let refusal = self.script.ask();
-        self.last_info = Some(*info);
-        if let Some(code) = code_for_memory(refusal, info.size, self.limit) {
-            self.script.refuse();
-            return Err(code);
-        }
-        match self.memories.add(info) {
-            Ok(number) => Ok(DeviceMemory(number)),
-            Err(_) => {
-                self.script.refuse();
-                Err(OUT_OF_HOST_MEMORY)
-            }
-        }
+        let answer = match code_for_memory(refusal, info.size, self.limit) {
+            Some(code) => Err(code),
+            None => match self.memories.add(info) {
+                Ok(number) => Ok(DeviceMemory(number)),
+                Err(_) => Err(OUT_OF_HOST_MEMORY),
+            },
+        };
+        self.journal.asked_memory(info, answer);
+        answer
     }
 
     fn map_memory(&mut self, memory: DeviceMemory) -> Result<bool, i32>
@@ -174,50 +182,53 @@ impl VulkanDevice for SimVulkan {
         ensures counts_null { IfOk result (λ mapped. mapped ≡ false → refused_of self.new ≡ raised (refused_of self.old)) }
         ensures counts_refusal { OnErr result (refused_of self.new ≡ raised (refused_of self.old)) }
         ensures names_no_question { latest_of self.new ≡ latest_of self.old }
+        ensures recorded { history_of self.new ≡ AskedMapping memory result ∷ history_of self.old }
         ensures constant { properties_of self.new ≡ properties_of self.old }
         ensures zeros { IfOk result (λ mapped. mapped ≡ true
             → held_of self.new ≡ mapped_with (held_of self.old) memory.0 (replicate (size_of (held_of self.old) memory.0) 0)) }
         ensures by_plan { IfSome (planned_answer (plan_of self.old) (size_of (held_of self.old) memory.0)) (λ answer. result ≡ answer) }
-        ensures by_host { planned_answer (plan_of self.old) (size_of (held_of self.old) memory.0) ≡ None → IfErr result (λ code. code ≡ OUT_OF_HOST_MEMORY) }
+        ensures by_host { planned_answer (plan_of self.old) (size_of (held_of self.old) memory.0) ≡ None → IfErr result (λ code. code ≡ out_of_host_memory) }
         ensures null_by_plan { planned_answer (plan_of self.old) (size_of (held_of self.old) memory.0) ≡ None → result ≢ Ok false }
         ensures plan { plan_of self.new ≡ asked (plan_of self.old) }
     {
         let refusal = self.script.ask();
         let size = self.memories.size(memory.0);
-        if let Some(answer) = answer_for_mapping(refusal, size) {
-            self.script.refuse();
-            return answer;
-        }
-        match vec![in self.alloc; 0u8; size as usize] {
-            Ok(bytes) => {
-                self.memories.map(memory.0, bytes);
-                Ok(true)
-            }
-            Err(_) => {
-                self.script.refuse();
-                Err(OUT_OF_HOST_MEMORY)
-            }
-        }
+        let answer = match answer_for_mapping(refusal, size) {
+            Some(answer) => answer,
+            None => match vec![in self.alloc; 0u8; size as usize] {
+                Ok(bytes) => {
+                    self.memories.map(memory.0, bytes);
+                    Ok(true)
+                }
+                Err(_) => Err(OUT_OF_HOST_MEMORY),
+            },
+        };
+        self.journal.asked_mapping(memory, answer);
+        answer
     }
 
     fn unmap_memory(&mut self, memory: DeviceMemory)
         ensures gives_back { held_of self.new ≡ unmapped (held_of self.old) memory.0 }
         ensures counts_nothing { refused_of self.new ≡ refused_of self.old }
         ensures names_no_question { latest_of self.new ≡ latest_of self.old }
+        ensures recorded { history_of self.new ≡ Unmapped memory ∷ history_of self.old }
         ensures constant { properties_of self.new ≡ properties_of self.old }
         ensures plan { plan_of self.new ≡ plan_of self.old }
     {
         self.memories.unmap(memory.0);
+        self.journal.unmapped(memory);
     }
 
     fn free_memory(&mut self, memory: DeviceMemory)
         ensures gives_back { held_of self.new ≡ remove (held_of self.old) memory.0 }
         ensures counts_nothing { refused_of self.new ≡ refused_of self.old }
         ensures names_no_question { latest_of self.new ≡ latest_of self.old }
+        ensures recorded { history_of self.new ≡ Freed memory ∷ history_of self.old }
         ensures constant { properties_of self.new ≡ properties_of self.old }
         ensures plan { plan_of self.new ≡ plan_of self.old }
     {
         self.memories.free(memory.0);
+        self.journal.freed(memory);
     }
 
     fn bytes(&self, memory: DeviceMemory, start: u64, len: u64) -> Option<&[u8]> {

@@ -13,24 +13,22 @@ pub enum Refusal {
     Null,
 }
 
-/// How many questions came and how many of them were refused, and the refusals that the device is told to give.
+/// How many questions came, and the refusals that the device is told to give.
 #[derive(Drop)]
 pub struct Script {
     entries: Vec<(u64, Refusal)>,
     questions: u64,
-    refusals: u64,
 }
 
 impl Script {
     /// No question came yet. An entry names a question by its number, the first being 1; of two at one number the first
     /// counts.
     pub fn new(entries: Vec<(u64, Refusal)>) -> Self
-        ensures { result ≡ record { entries = entries; questions = 0; refusals = 0 } }
+        ensures { result ≡ record { entries = entries; questions = 0 } }
     {
         Script {
             entries,
             questions: 0,
-            refusals: 0,
         }
     }
 
@@ -41,13 +39,6 @@ impl Script {
         self.questions
     }
 
-    /// How many questions were refused. The count stays at `u64::MAX`.
-    pub fn refusals(&self) -> u64
-        ensures { result ≡ self.now.refusals }
-    {
-        self.refusals
-    }
-
     /// Counts a question, and gives the refusal that the script has for it.
     pub fn ask(&mut self) -> Option<Refusal>
         ensures refusal { result ≡ next_refusal self.old }
@@ -55,13 +46,6 @@ impl Script {
     {
         self.questions = self.questions.saturating_add(1);
         refusal_at(&self.entries, self.questions)
-    }
-
-    /// Counts a refusal.
-    pub fn refuse(&mut self)
-        ensures { self.new ≡ record self.old { refusals = raised self.old.refusals } }
-    {
-        self.refusals = self.refusals.saturating_add(1);
     }
 }
 

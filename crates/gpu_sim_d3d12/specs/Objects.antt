@@ -1,5 +1,5 @@
 -- What a simulated device holds, and the answers to questions for it.
-use Rattle.std.specs.Prelude.{ℕ, ◌+◌, ℤ, ◌≡◌, Bool, true, false, length, Option, Some, None, Result, Ok, Err}
+use Rattle.std.specs.Prelude.{ℕ, ◌+◌, ℤ, pos, neg_ℤ, ◌≡◌, Bool, true, false, length, Option, Some, None, Result, Ok, Err}
 use Rattle.gpu_device.specs.D3D12.{Entry, Held}
 use Rattle.gpu_device.specs.D3D12 as device
 use Rattle.gpu_sim_base.specs.Numbers.{held_in}
@@ -8,7 +8,6 @@ use Rattle.gpu_sim_base.specs.declared.script.Refusal.TheVariants.{Code, Null}
 use Rattle.gpu_sim_d3d12.specs.declared.objects.Object.{Object}
 use Rattle.gpu_sim_d3d12.specs.declared.objects.Object.TheVariants.{Heap, Committed, Placed}
 use Rattle.gpu_sim_d3d12.specs.declared.objects.Objects.{Objects}
-use Rattle.gpu_sim_d3d12.specs.declared.objects.TheConstants.{OUT_OF_MEMORY}
 
 -- an object, in the words of the trait's contracts
 abbrev pub entry_of : Object → Entry
@@ -40,10 +39,14 @@ abbrev pub granted : Result (Option ℕ) ℤ → Option ℕ
 granted (Ok answer) = answer
 granted (Err code) = None
 
+-- `E_OUTOFMEMORY` (0x8007000e)
+abbrev pub out_of_memory : ℤ
+out_of_memory = neg_ℤ (pos 2147024882)
+
 -- the answer to a question: the script's refusal where it has one; else the next number, or the host's refusal
 abbrev pub IsAnswer : {A : Type 0} → (A → ℕ) → Option Refusal → ℕ → Result (Option A) ℤ → Type 0
 IsAnswer number (Some (Code code)) next answer = answer ≡ Err code
 IsAnswer number (Some Null) next answer = answer ≡ Ok None
 IsAnswer number None next (Ok (Some a)) = number a ≡ next
 IsAnswer number None next (Ok None) = ⊥
-IsAnswer number None next (Err code) = code ≡ OUT_OF_MEMORY
+IsAnswer number None next (Err code) = code ≡ out_of_memory

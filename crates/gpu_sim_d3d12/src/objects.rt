@@ -2,7 +2,7 @@
 
 ghost use Rattle.std.specs.Prelude.{◌≡◌, ◌+◌, [], length, count_by, is_some};
 ghost use Rattle.gpu_device.specs.D3D12.{without_heap, without_resource};
-ghost use Rattle.gpu_device.specs.Granted.{IsNew, with_granted, counted};
+ghost use Rattle.gpu_device.specs.Granted.{IsNew, with_granted};
 ghost use Rattle.gpu_device.specs.Held.{raised};
 ghost use Rattle.gpu_sim_base.specs.Numbers.{item_at};
 ghost use Rattle.gpu_sim_base.specs.Script.{next_refusal};
@@ -39,7 +39,7 @@ pub(crate) struct Objects {
 impl Objects {
     /// Nothing is held.
     pub(crate) fn new(alloc: Global, refusals: Vec<(u64, Refusal)>) -> Self
-        ensures script { result.script ≡ record { entries = refusals; questions = 0; refusals = 0 } }
+        ensures script { result.script ≡ record { entries = refusals; questions = 0 } }
         ensures none { result.numbers.slots.items ≡ [] }
     {
         Objects {
@@ -60,25 +60,16 @@ impl Objects {
         ensures answer { IsAnswer (λ number. number) (next_refusal self.old.script) (issued self.old + 1) result }
         ensures number { IsNew (held_in_objects self.old) (granted result) }
         ensures holds { held_in_objects self.new ≡ with_granted (held_in_objects self.old) (granted result) (entry_of object) }
-        ensures counts { self.new.script.refusals ≡ counted self.old.script.refusals (granted result) }
         ensures asks { self.new.script.questions ≡ raised self.old.script.questions }
         ensures entries { self.new.script.entries ≡ self.old.script.entries }
         ensures issues { issued self.new ≡ asked (issued self.old) (granted result) }
     {
         match self.script.ask() {
-            Some(refusal) => {
-                self.script.refuse();
-                match refusal {
-                    Refusal::Code(code) => Err(code),
-                    Refusal::Null => Ok(None),
-                }
-            }
+            Some(Refusal::Code(code)) => Err(code),
+            Some(Refusal::Null) => Ok(None),
             None => match self.numbers.add(object) {
                 Ok(number) => Ok(Some(number)),
-                Err(_) => {
-                    self.script.refuse();
-                    Err(OUT_OF_MEMORY)
-                }
+                Err(_) => Err(OUT_OF_MEMORY),
             },
         }
     }

@@ -1,17 +1,22 @@
 //! A simulated DirectX 12 device.
 
-ghost use Rattle.std.specs.Prelude.{◌≡◌, ◌+◌, length, Some, None, option_copied, option_map};
+ghost use Rattle.std.specs.Prelude.{◌≡◌, ◌+◌, [], ◌∷◌, length, refl, Some, None, option_copied, option_map};
 ghost use Rattle.std.specs.FinMap.{empty, len as map_len};
 ghost use Rattle.gpu_device.specs.D3D12.{Heap, Committed, Placed, told_size, told_size1, granted_heap, granted_resource, without_heap, without_resource};
+ghost use Rattle.gpu_device.specs.D3D12History.{request_formats, request_clear, request_memory};
 ghost use Rattle.gpu_device.specs.Granted.{IsNew, with_granted, counted};
+ghost use Rattle.gpu_device.specs.declared.d3d12.event.Event.TheVariants.{AskedHeap, AskedResource, ReleasedHeap, ReleasedResource};
+ghost use Rattle.gpu_device.specs.declared.d3d12.event.ResourcePlace.TheVariants.{Own, InHeap};
+ghost use Rattle.gpu_device.specs.declared.d3d12.event.ResourceShape.TheVariants.{InState, InLayout};
 ghost use Rattle.gpu_sim_d3d12.specs.Objects.{IsAnswer, entry_of};
-ghost use Rattle.gpu_sim_d3d12.specs.Simulation.{held_of, info_for, properties_of, refused_of, removal_reason_of, plan_of, planned, answered};
+ghost use Rattle.gpu_sim_d3d12.specs.Simulation.{held_of, info_for, properties_of, history_of, refused_of, latest_heap_of, latest_resource_of, removal_reason_of, plan_of, planned, answered};
 ghost use Rattle.gpu_sim_d3d12.specs.SimulationLaws.{no_null as no_null_law};
 
 use crate::objects::{Object, Objects};
 use gpu_device::d3d12::{
-    ClearValue, D3D12Device, Format, HeapDesc, HeapFlags, HeapProperties, ID3D12Heap,
-    ID3D12Resource, ResourceAllocationInfo, ResourceDesc, ResourceDesc1, ResourceHeapTier,
+    ClearValue, D3D12Device, Format, Formats, HeapDesc, HeapFlags, HeapProperties, ID3D12Heap,
+    ID3D12Resource, Journal, ResourceAllocationInfo, ResourceDesc, ResourceDesc1, ResourceHeapTier,
+    ResourcePlace, ResourceRequest, ResourceShape,
 };
 use gpu_sim_base::{Refusal, rounded_up};
 use std::alloc::Global;
@@ -30,10 +35,7 @@ const REMOVAL_REASON: i32 = -2005270523;
 pub struct SimD3D12 {
     tier: Result<ResourceHeapTier, i32>,
     objects: Objects,
-    last_heap: Option<HeapDesc>,
-    last_formats: Option<usize>,
-    last_clear: Option<ClearValue>,
-    last_memory: Option<(HeapProperties, HeapFlags)>,
+    journal: Journal,
 }
 
 impl SimD3D12 {
@@ -48,18 +50,12 @@ impl SimD3D12 {
         ensures tier { (properties_of result).tier ≡ tier }
         ensures plan { plan_of result ≡ record { script = refusals.items; questions = 0; issued = 0 } }
         ensures refused { refused_of result ≡ 0 }
-        ensures no_heap { result.last_heap ≡ None }
-        ensures no_formats { result.last_formats ≡ None }
-        ensures no_clear_value { result.last_clear ≡ None }
-        ensures no_memory { result.last_memory ≡ None }
+        ensures history { history_of result ≡ [] }
     {
         SimD3D12 {
             tier,
             objects: Objects::new(alloc, refusals),
-            last_heap: None,
-            last_formats: None,
-            last_clear: None,
-            last_memory: None,
+            journal: Journal::new(),
         }
     }
 
@@ -79,59 +75,64 @@ impl SimD3D12 {
 
     /// The latest question for a heap, granted or refused.
     pub fn last_heap(&self) -> Option<HeapDesc>
-        ensures { result ≡ self.now.last_heap }
+        ensures { result ≡ latest_heap_of self.now }
     {
-        self.last_heap
+        self.journal.last_heap()
+    }
+
+    /// The latest question for a resource, granted or refused. Of castable formats it has how many there were.
+    pub fn last_resource(&self) -> Option<&ResourceRequest>
+        ensures { option_copied result ≡ latest_resource_of self.now }
+    {
+        self.journal.last_resource()
     }
 
     /// How many castable formats came with the latest question for a resource, where a list of them came.
     pub fn last_formats(&self) -> Option<usize>
-        ensures { result ≡ self.now.last_formats }
+        ensures { result ≡ request_formats (latest_resource_of self.now) }
     {
-        self.last_formats
+        match &self.last_resource()?.shape {
+            ResourceShape::InState(_, _) => None,
+            ResourceShape::InLayout(_, _, formats) => Some(formats.as_ref()?.len()),
+        }
     }
 
     /// The clear value of the latest question for a resource.
     pub fn last_clear(&self) -> Option<ClearValue>
-        ensures { result ≡ self.now.last_clear }
+        ensures { result ≡ request_clear (latest_resource_of self.now) }
     {
-        self.last_clear
+        self.last_resource()?.clear_value
     }
 
     /// The heap properties and flags of the latest question for a resource, where that was for a committed one.
     pub fn last_memory(&self) -> Option<(HeapProperties, HeapFlags)>
-        ensures { result ≡ self.now.last_memory }
+        ensures { result ≡ request_memory (latest_resource_of self.now) }
     {
-        self.last_memory
+        match self.last_resource()?.place {
+            ResourcePlace::Own(properties, flags) => Some((properties, flags)),
+            ResourcePlace::InHeap(_, _) => None,
+        }
     }
 
     /// Answers a question for a resource.
     fn create_resource(
         &mut self,
         object: Object,
-        castable_formats: Option<&[Format]>,
-        clear_value: Option<&ClearValue>,
+        request: ResourceRequest,
     ) -> Result<Option<ID3D12Resource>, i32>
         ensures number { IsNew (held_of self.old) (granted_resource result) }
         ensures holds { held_of self.new ≡ with_granted (held_of self.old) (granted_resource result) (entry_of object) }
-        ensures counts { refused_of self.new ≡ counted (refused_of self.old) (granted_resource result) }
-        ensures heap { self.new.last_heap ≡ self.old.last_heap }
-        ensures formats { self.new.last_formats ≡ option_map length (option_copied castable_formats.entry) }
-        ensures clear_value { self.new.last_clear ≡ option_copied clear_value.entry }
-        ensures memory { self.new.last_memory ≡ self.old.last_memory }
+        ensures recorded { history_of self.new ≡ AskedResource request result ∷ history_of self.old }
         ensures tier { self.new.tier ≡ self.old.tier }
         ensures answer { IsAnswer (λ resource. resource.0) (planned (plan_of self.old)) ((plan_of self.old).issued + 1) result }
         ensures plan { plan_of self.new ≡ answered (plan_of self.old) (granted_resource result) }
     {
-        self.last_formats = match castable_formats {
-            Some(formats) => Some(formats.len()),
-            None => None,
+        let answer = match self.objects.hold(object) {
+            Ok(number) => Ok(number.map(ID3D12Resource)),
+            Err(code) => Err(code),
         };
-        self.last_clear = clear_value.copied();
-        let Some(number) = self.objects.hold(object)? else {
-            return Ok(None);
-        };
-        Ok(Some(ID3D12Resource(number)))
+        self.journal.asked_resource(request, answer);
+        answer
     }
 }
 
@@ -140,19 +141,31 @@ impl D3D12Device for SimD3D12 {
 
     ghost held = { held_of };
 
+    ghost history = { history_of };
+
     ghost refused = { refused_of };
 
-    ghost latest_heap = { λ s. s.last_heap };
+    ghost latest_heap = { latest_heap_of };
 
-    ghost latest_formats = { λ s. s.last_formats };
+    ghost latest_formats = { λ s. request_formats (latest_resource_of s) };
 
-    ghost latest_clear = { λ s. s.last_clear };
+    ghost latest_clear = { λ s. request_clear (latest_resource_of s) };
 
-    ghost latest_memory = { λ s. s.last_memory };
+    ghost latest_memory = { λ s. request_memory (latest_resource_of s) };
 
     ghost removal_reason = { removal_reason_of };
 
     ghost no_null = { no_null_law };
+
+    ghost refused_is = { λ s. refl };
+
+    ghost latest_heap_is = { λ s. refl };
+
+    ghost latest_formats_is = { λ s. refl };
+
+    ghost latest_clear_is = { λ s. refl };
+
+    ghost latest_memory_is = { λ s. refl };
 
     fn resource_heap_tier(&self) -> Result<ResourceHeapTier, i32> {
         self.tier
@@ -180,26 +193,28 @@ impl D3D12Device for SimD3D12 {
     }
 
     fn refusals(&self) -> u64 {
-        self.objects.script.refusals()
+        self.journal.refusals()
     }
 
     fn create_heap(&mut self, desc: &HeapDesc) -> Result<Option<ID3D12Heap>, i32>
         ensures number { IsNew (held_of self.old) (granted_heap result) }
         ensures holds { held_of self.new ≡ with_granted (held_of self.old) (granted_heap result) (Heap desc.now) }
         ensures counts { refused_of self.new ≡ counted (refused_of self.old) (granted_heap result) }
-        ensures names_heap { self.new.last_heap ≡ Some desc.now }
-        ensures names_no_formats { self.new.last_formats ≡ self.old.last_formats }
-        ensures names_no_clear_value { self.new.last_clear ≡ self.old.last_clear }
-        ensures names_no_memory { self.new.last_memory ≡ self.old.last_memory }
+        ensures names_heap { latest_heap_of self.new ≡ Some desc.now }
+        ensures names_no_formats { request_formats (latest_resource_of self.new) ≡ request_formats (latest_resource_of self.old) }
+        ensures names_no_clear_value { request_clear (latest_resource_of self.new) ≡ request_clear (latest_resource_of self.old) }
+        ensures names_no_memory { request_memory (latest_resource_of self.new) ≡ request_memory (latest_resource_of self.old) }
+        ensures recorded { history_of self.new ≡ AskedHeap desc.now result ∷ history_of self.old }
         ensures constant { properties_of self.new ≡ properties_of self.old }
         ensures answer { IsAnswer (λ heap. heap.0) (planned (plan_of self.old)) ((plan_of self.old).issued + 1) result }
         ensures plan { plan_of self.new ≡ answered (plan_of self.old) (granted_heap result) }
     {
-        self.last_heap = Some(*desc);
-        let Some(number) = self.objects.hold(Object::Heap(*desc))? else {
-            return Ok(None);
+        let answer = match self.objects.hold(Object::Heap(*desc)) {
+            Ok(number) => Ok(number.map(ID3D12Heap)),
+            Err(code) => Err(code),
         };
-        Ok(Some(ID3D12Heap(number)))
+        self.journal.asked_heap(desc, answer);
+        answer
     }
 
     fn create_committed_resource(
@@ -213,17 +228,26 @@ impl D3D12Device for SimD3D12 {
         ensures number { IsNew (held_of self.old) (granted_resource result) }
         ensures holds { held_of self.new ≡ with_granted (held_of self.old) (granted_resource result) (Committed (told_size (properties_of self.old) desc.now)) }
         ensures counts { refused_of self.new ≡ counted (refused_of self.old) (granted_resource result) }
-        ensures names_no_heap { self.new.last_heap ≡ self.old.last_heap }
-        ensures names_formats { self.new.last_formats ≡ None }
-        ensures names_clear_value { self.new.last_clear ≡ option_copied clear_value.entry }
-        ensures names_memory { self.new.last_memory ≡ Some (heap_properties.now, heap_flags) }
+        ensures names_no_heap { latest_heap_of self.new ≡ latest_heap_of self.old }
+        ensures names_formats { request_formats (latest_resource_of self.new) ≡ None }
+        ensures names_clear_value { request_clear (latest_resource_of self.new) ≡ option_copied clear_value.entry }
+        ensures names_memory { request_memory (latest_resource_of self.new) ≡ Some (heap_properties.now, heap_flags) }
+        ensures recorded { history_of self.new ≡ AskedResource (record {
+          place = Own heap_properties.now heap_flags;
+          shape = InState desc.now initial_state;
+          clear_value = option_copied clear_value.entry;
+        }) result ∷ history_of self.old }
         ensures constant { properties_of self.new ≡ properties_of self.old }
         ensures answer { IsAnswer (λ resource. resource.0) (planned (plan_of self.old)) ((plan_of self.old).issued + 1) result }
         ensures plan { plan_of self.new ≡ answered (plan_of self.old) (granted_resource result) }
     {
         let size = self.resource_allocation_info(desc).size_in_bytes;
-        self.last_memory = Some((*heap_properties, heap_flags));
-        self.create_resource(Object::Committed { size }, None, clear_value)
+        let request = ResourceRequest {
+            place: ResourcePlace::Own(*heap_properties, heap_flags),
+            shape: ResourceShape::InState(*desc, initial_state),
+            clear_value: clear_value.copied(),
+        };
+        self.create_resource(Object::Committed { size }, request)
     }
 
     fn create_committed_resource3(
@@ -239,17 +263,30 @@ impl D3D12Device for SimD3D12 {
         ensures holds { held_of self.new ≡ with_granted (held_of self.old) (granted_resource result)
             (Committed (told_size1 (properties_of self.old) desc.now (option_copied castable_formats.entry))) }
         ensures counts { refused_of self.new ≡ counted (refused_of self.old) (granted_resource result) }
-        ensures names_no_heap { self.new.last_heap ≡ self.old.last_heap }
-        ensures names_formats { self.new.last_formats ≡ option_map length (option_copied castable_formats.entry) }
-        ensures names_clear_value { self.new.last_clear ≡ option_copied clear_value.entry }
-        ensures names_memory { self.new.last_memory ≡ Some (heap_properties.now, heap_flags) }
+        ensures names_no_heap { latest_heap_of self.new ≡ latest_heap_of self.old }
+        ensures names_formats { request_formats (latest_resource_of self.new) ≡ option_map length (option_copied castable_formats.entry) }
+        ensures names_clear_value { request_clear (latest_resource_of self.new) ≡ option_copied clear_value.entry }
+        ensures names_memory { request_memory (latest_resource_of self.new) ≡ Some (heap_properties.now, heap_flags) }
+        ensures recorded { history_of self.new ≡ AskedResource (record {
+          place = Own heap_properties.now heap_flags;
+          shape = InLayout desc.now initial_layout (option_copied castable_formats.entry);
+          clear_value = option_copied clear_value.entry;
+        }) result ∷ history_of self.old }
         ensures constant { properties_of self.new ≡ properties_of self.old }
         ensures answer { IsAnswer (λ resource. resource.0) (planned (plan_of self.old)) ((plan_of self.old).issued + 1) result }
         ensures plan { plan_of self.new ≡ answered (plan_of self.old) (granted_resource result) }
     {
         let size = self.resource_allocation_info(&desc.desc).size_in_bytes;
-        self.last_memory = Some((*heap_properties, heap_flags));
-        self.create_resource(Object::Committed { size }, castable_formats, clear_value)
+        let request = ResourceRequest {
+            place: ResourcePlace::Own(*heap_properties, heap_flags),
+            shape: ResourceShape::InLayout(
+                *desc,
+                initial_layout,
+                Formats::of_list(castable_formats),
+            ),
+            clear_value: clear_value.copied(),
+        };
+        self.create_resource(Object::Committed { size }, request)
     }
 
     fn create_placed_resource(
@@ -263,17 +300,26 @@ impl D3D12Device for SimD3D12 {
         ensures number { IsNew (held_of self.old) (granted_resource result) }
         ensures holds { held_of self.new ≡ with_granted (held_of self.old) (granted_resource result) (Placed heap.0 offset (told_size (properties_of self.old) desc.now)) }
         ensures counts { refused_of self.new ≡ counted (refused_of self.old) (granted_resource result) }
-        ensures names_no_heap { self.new.last_heap ≡ self.old.last_heap }
-        ensures names_formats { self.new.last_formats ≡ None }
-        ensures names_clear_value { self.new.last_clear ≡ option_copied clear_value.entry }
-        ensures names_memory { self.new.last_memory ≡ None }
+        ensures names_no_heap { latest_heap_of self.new ≡ latest_heap_of self.old }
+        ensures names_formats { request_formats (latest_resource_of self.new) ≡ None }
+        ensures names_clear_value { request_clear (latest_resource_of self.new) ≡ option_copied clear_value.entry }
+        ensures names_memory { request_memory (latest_resource_of self.new) ≡ None }
+        ensures recorded { history_of self.new ≡ AskedResource (record {
+          place = InHeap heap offset;
+          shape = InState desc.now initial_state;
+          clear_value = option_copied clear_value.entry;
+        }) result ∷ history_of self.old }
         ensures constant { properties_of self.new ≡ properties_of self.old }
         ensures answer { IsAnswer (λ resource. resource.0) (planned (plan_of self.old)) ((plan_of self.old).issued + 1) result }
         ensures plan { plan_of self.new ≡ answered (plan_of self.old) (granted_resource result) }
     {
         let size = self.resource_allocation_info(desc).size_in_bytes;
-        self.last_memory = None;
-        self.create_resource(Object::Placed { heap, offset, size }, None, clear_value)
+        let request = ResourceRequest {
+            place: ResourcePlace::InHeap(heap, offset),
+            shape: ResourceShape::InState(*desc, initial_state),
+            clear_value: clear_value.copied(),
+        };
+        self.create_resource(Object::Placed { heap, offset, size }, request)
     }
 
     fn create_placed_resource2(
@@ -289,46 +335,59 @@ impl D3D12Device for SimD3D12 {
         ensures holds { held_of self.new ≡ with_granted (held_of self.old) (granted_resource result)
             (Placed heap.0 offset (told_size1 (properties_of self.old) desc.now (option_copied castable_formats.entry))) }
         ensures counts { refused_of self.new ≡ counted (refused_of self.old) (granted_resource result) }
-        ensures names_no_heap { self.new.last_heap ≡ self.old.last_heap }
-        ensures names_formats { self.new.last_formats ≡ option_map length (option_copied castable_formats.entry) }
-        ensures names_clear_value { self.new.last_clear ≡ option_copied clear_value.entry }
-        ensures names_memory { self.new.last_memory ≡ None }
+        ensures names_no_heap { latest_heap_of self.new ≡ latest_heap_of self.old }
+        ensures names_formats { request_formats (latest_resource_of self.new) ≡ option_map length (option_copied castable_formats.entry) }
+        ensures names_clear_value { request_clear (latest_resource_of self.new) ≡ option_copied clear_value.entry }
+        ensures names_memory { request_memory (latest_resource_of self.new) ≡ None }
+        ensures recorded { history_of self.new ≡ AskedResource (record {
+          place = InHeap heap offset;
+          shape = InLayout desc.now initial_layout (option_copied castable_formats.entry);
+          clear_value = option_copied clear_value.entry;
+        }) result ∷ history_of self.old }
         ensures constant { properties_of self.new ≡ properties_of self.old }
         ensures answer { IsAnswer (λ resource. resource.0) (planned (plan_of self.old)) ((plan_of self.old).issued + 1) result }
         ensures plan { plan_of self.new ≡ answered (plan_of self.old) (granted_resource result) }
     {
         let size = self.resource_allocation_info(&desc.desc).size_in_bytes;
-        self.last_memory = None;
-        self.create_resource(
-            Object::Placed { heap, offset, size },
-            castable_formats,
-            clear_value,
-        )
+        let request = ResourceRequest {
+            place: ResourcePlace::InHeap(heap, offset),
+            shape: ResourceShape::InLayout(
+                *desc,
+                initial_layout,
+                Formats::of_list(castable_formats),
+            ),
+            clear_value: clear_value.copied(),
+        };
+        self.create_resource(Object::Placed { heap, offset, size }, request)
     }
 
     fn release_heap(&mut self, heap: ID3D12Heap)
         ensures gives_back { held_of self.new ≡ without_heap (held_of self.old) heap.0 }
         ensures counts_nothing { refused_of self.new ≡ refused_of self.old }
-        ensures names_no_heap { self.new.last_heap ≡ self.old.last_heap }
-        ensures names_no_formats { self.new.last_formats ≡ self.old.last_formats }
-        ensures names_no_clear_value { self.new.last_clear ≡ self.old.last_clear }
-        ensures names_no_memory { self.new.last_memory ≡ self.old.last_memory }
+        ensures names_no_heap { latest_heap_of self.new ≡ latest_heap_of self.old }
+        ensures names_no_formats { request_formats (latest_resource_of self.new) ≡ request_formats (latest_resource_of self.old) }
+        ensures names_no_clear_value { request_clear (latest_resource_of self.new) ≡ request_clear (latest_resource_of self.old) }
+        ensures names_no_memory { request_memory (latest_resource_of self.new) ≡ request_memory (latest_resource_of self.old) }
+        ensures recorded { history_of self.new ≡ ReleasedHeap heap ∷ history_of self.old }
         ensures constant { properties_of self.new ≡ properties_of self.old }
         ensures plan { plan_of self.new ≡ plan_of self.old }
     {
         self.objects.release_heap(heap.0);
+        self.journal.released_heap(heap);
     }
 
     fn release_resource(&mut self, resource: ID3D12Resource)
         ensures gives_back { held_of self.new ≡ without_resource (held_of self.old) resource.0 }
         ensures counts_nothing { refused_of self.new ≡ refused_of self.old }
-        ensures names_no_heap { self.new.last_heap ≡ self.old.last_heap }
-        ensures names_no_formats { self.new.last_formats ≡ self.old.last_formats }
-        ensures names_no_clear_value { self.new.last_clear ≡ self.old.last_clear }
-        ensures names_no_memory { self.new.last_memory ≡ self.old.last_memory }
+        ensures names_no_heap { latest_heap_of self.new ≡ latest_heap_of self.old }
+        ensures names_no_formats { request_formats (latest_resource_of self.new) ≡ request_formats (latest_resource_of self.old) }
+        ensures names_no_clear_value { request_clear (latest_resource_of self.new) ≡ request_clear (latest_resource_of self.old) }
+        ensures names_no_memory { request_memory (latest_resource_of self.new) ≡ request_memory (latest_resource_of self.old) }
+        ensures recorded { history_of self.new ≡ ReleasedResource resource ∷ history_of self.old }
         ensures constant { properties_of self.new ≡ properties_of self.old }
         ensures plan { plan_of self.new ≡ plan_of self.old }
     {
         self.objects.release_resource(resource.0);
+        self.journal.released_resource(resource);
     }
 }

@@ -1,7 +1,10 @@
 -- What callers see of a simulated device.
-use Rattle.std.specs.Prelude.{ℕ, ◌+◌, ◌*◌, ◌-◌, ◌^◌, ◌≡◌, min, ℤ, Bool, true, false, List, length, Option, Some, None, Result, Ok, Err}
+use Rattle.std.specs.Prelude.{ℕ, ◌+◌, ◌*◌, ◌-◌, ◌^◌, ◌≡◌, min, ℤ, pos, neg_ℤ, Bool, true, false, List, length, Option, Some, None, Result, Ok, Err}
 use Rattle.gpu_device.specs.Held.{raised}
 use Rattle.gpu_device.specs.Metal.{Properties, Held}
+use Rattle.gpu_device.specs.MetalHistory.{refused_in, latest_heap_in}
+use Rattle.gpu_device.specs.declared.metal.event.Event.{Event}
+use Rattle.gpu_device.specs.declared.metal.types.HeapDescriptor.{HeapDescriptor}
 use Rattle.gpu_device.specs.declared.metal.types.MTLHeap.{MTLHeap}
 use Rattle.gpu_device.specs.declared.metal.types.MTLResidencySet.{MTLResidencySet}
 use Rattle.gpu_device.specs.declared.metal.types.SizeAndAlign.{SizeAndAlign}
@@ -12,14 +15,13 @@ use Rattle.gpu_sim_base.specs.declared.script.Refusal.{Refusal}
 use Rattle.gpu_sim_base.specs.declared.script.Refusal.TheVariants.{Code, Null}
 use Rattle.gpu_sim_metal.specs.Objects.{held_by}
 use Rattle.gpu_sim_metal.specs.declared.sim_metal.SimMetal.{SimMetal}
-use Rattle.gpu_sim_metal.specs.declared.sim_metal.TheConstants.{ALIGNMENT, NO_SET}
 
 abbrev pub held_of : SimMetal → Held
 held_of s = held_by s.objects.numbers.slots.items
 
 -- what a resource of so many bytes takes of a heap
 abbrev pub told_size : ℕ → SizeAndAlign
-told_size bytes = record { size = rounded_up bytes ALIGNMENT; align = ALIGNMENT }
+told_size bytes = record { size = rounded_up bytes 256; align = 256 }
 
 -- a texture's bytes: all its texels', at most as many as 64 bits hold
 abbrev pub texture_bytes : TextureDescriptor → ℕ
@@ -32,9 +34,17 @@ properties_of s = record {
   acceleration_structure_size = λ bytes. told_size bytes;
 }
 
+-- all that it was asked and was given back, newest first
+abbrev pub history_of : SimMetal → List Event
+history_of s = s.journal.history
+
 -- how many questions it refused
 abbrev pub refused_of : SimMetal → ℕ
-refused_of s = s.script.refusals
+refused_of s = refused_in (history_of s)
+
+-- its latest question for a heap, its description and its size in bytes
+abbrev pub latest_heap_of : SimMetal → Option (HeapDescriptor × ℕ)
+latest_heap_of s = latest_heap_in (history_of s)
 
 -- what decides its answers, beside what it holds
 pub record Plan : Type 0 where
@@ -73,10 +83,14 @@ IsHeapAnswer (Some refusal) next answer = answer ≡ None
 IsHeapAnswer None next None = Unit {0}
 IsHeapAnswer None next (Some heap) = heap.0 ≡ next
 
+-- there are no residency sets, the host refused memory, or the answer is null
+abbrev pub no_set : ℤ
+no_set = neg_ℤ (pos 1)
+
 -- the code with which a set is refused
 abbrev pub code_for_set : Option Refusal → ℤ
-code_for_set None = NO_SET
-code_for_set (Some Null) = NO_SET
+code_for_set None = no_set
+code_for_set (Some Null) = no_set
 code_for_set (Some (Code code)) = code
 
 -- the answer to a question for a set: the script's refusal where it has one, and always a refusal without residency sets;

@@ -1,15 +1,16 @@
 //! A simulated Metal device.
 
-ghost use Rattle.std.specs.Prelude.{◌≡◌, ◌+◌, [], Some, None, option_copied};
+ghost use Rattle.std.specs.Prelude.{◌≡◌, refl, ◌+◌, [], ◌∷◌, Some, None, option_copied};
 ghost use Rattle.std.specs.FinMap.{empty, len as map_len};
 ghost use Rattle.gpu_device.specs.Granted.{IsNew, with_granted, counted};
 ghost use Rattle.gpu_device.specs.Metal.{Heap, Set, IsHeap, IsSet, granted_heap, granted_set, without_heap, with_member, without_member, with_commit, members_of, committed_of};
-ghost use Rattle.gpu_sim_metal.specs.Simulation.{held_of, properties_of, refused_of, plan_of, planned, answered, told_size, texture_bytes, code_for_set, IsHeapAnswer, IsSetAnswer};
+ghost use Rattle.gpu_device.specs.declared.metal.event.Event.TheVariants.{AskedHeap, AskedSet, ReleasedHeap, Added, Removed, Committed};
+ghost use Rattle.gpu_sim_metal.specs.Simulation.{held_of, properties_of, history_of, refused_of, latest_heap_of, plan_of, planned, answered, told_size, texture_bytes, code_for_set, IsHeapAnswer, IsSetAnswer};
 ghost use Rattle.gpu_sim_metal.specs.SimulationLaws.{no_null as no_null_law};
 
 use crate::objects::Objects;
 use gpu_device::metal::{
-    HeapDescriptor, MTLHeap, MTLResidencySet, MetalDevice, SizeAndAlign, StorageMode,
+    HeapDescriptor, Journal, MTLHeap, MTLResidencySet, MetalDevice, SizeAndAlign, StorageMode,
     TextureDescriptor,
 };
 use gpu_sim_base::{Refusal, Script, rounded_up};
@@ -29,7 +30,7 @@ pub struct SimMetal {
     residency: bool,
     script: Script,
     objects: Objects,
-    last_heap: Option<(HeapDescriptor, u64)>,
+    journal: Journal,
 }
 
 impl SimMetal {
@@ -39,13 +40,13 @@ impl SimMetal {
         ensures held { held_of result ≡ empty }
         ensures plan { plan_of result ≡ record { residency = residency; script = refusals.items; questions = 0; issued = 0 } }
         ensures refused { refused_of result ≡ 0 }
-        ensures latest { result.last_heap ≡ None }
+        ensures history { history_of result ≡ [] }
     {
         SimMetal {
             residency,
             script: Script::new(refusals),
             objects: Objects::new(alloc),
-            last_heap: None,
+            journal: Journal::new(),
         }
     }
 
@@ -65,9 +66,9 @@ impl SimMetal {
 
     /// The latest question for a heap, its description and its size in bytes, granted or refused.
     pub fn last_heap(&self) -> Option<(HeapDescriptor, u64)>
-        ensures { result ≡ self.now.last_heap }
+        ensures { result ≡ latest_heap_of self.now }
     {
-        self.last_heap
+        self.journal.last_heap()
     }
 
     /// The heaps of a set in the order in which they were added, where it is held.
@@ -88,6 +89,38 @@ impl SimMetal {
             Some(set) => Some(set.committed()),
             None => None,
         }
+    }
+
+    /// The answer to a question for a heap: a number, or none where the script or the host refuses it.
+    fn answer_heap(&mut self, desc: &HeapDescriptor, size: u64) -> Option<MTLHeap>
+        ensures number { IsNew (held_of self.old) (granted_heap result) }
+        ensures holds { held_of self.new ≡ with_granted (held_of self.old) (granted_heap result) (Heap desc.now size) }
+        ensures history { history_of self.new ≡ history_of self.old }
+        ensures answer { IsHeapAnswer (planned (plan_of self.old)) ((plan_of self.old).issued + 1) result }
+        ensures plan { plan_of self.new ≡ answered (plan_of self.old) (granted_heap result) }
+    {
+        if self.script.ask().is_some() {
+            return None;
+        }
+        let number = self.objects.hold_heap(*desc, size).ok()?;
+        Some(MTLHeap(number))
+    }
+
+    /// The answer to a question for a set: a number, or a code where there are no sets or the script or the host refuses it.
+    fn answer_set(&mut self) -> Result<MTLResidencySet, i32>
+        ensures number { IsNew (held_of self.old) (granted_set result) }
+        ensures holds { held_of self.new ≡ with_granted (held_of self.old) (granted_set result) (Set [] []) }
+        ensures history { history_of self.new ≡ history_of self.old }
+        ensures answer { IsSetAnswer (plan_of self.old).residency (planned (plan_of self.old)) ((plan_of self.old).issued + 1) result }
+        ensures plan { plan_of self.new ≡ answered (plan_of self.old) (granted_set result) }
+    {
+        let refusal = self.script.ask();
+        if self.residency && refusal.is_none() {
+            if let Ok(number) = self.objects.hold_set() {
+                return Ok(MTLResidencySet(number));
+            }
+        }
+        Err(code_for_set(refusal))
     }
 }
 
@@ -125,11 +158,17 @@ impl MetalDevice for SimMetal {
 
     ghost held = { held_of };
 
+    ghost history = { history_of };
+
     ghost refused = { refused_of };
 
-    ghost latest_heap = { λ s. s.last_heap };
+    ghost latest_heap = { latest_heap_of };
 
     ghost no_null = { no_null_law };
+
+    ghost refused_is = { λ s. refl };
+
+    ghost latest_heap_is = { λ s. refl };
 
     fn heap_buffer_size_and_align(&self, length: u64, storage_mode: StorageMode) -> SizeAndAlign {
         told_size(length)
@@ -144,55 +183,49 @@ impl MetalDevice for SimMetal {
     }
 
     fn refusals(&self) -> u64 {
-        self.script.refusals()
+        self.journal.refusals()
     }
 
     fn new_heap(&mut self, desc: &HeapDescriptor, size: u64, label: &str) -> Option<MTLHeap>
         ensures number { IsNew (held_of self.old) (granted_heap result) }
         ensures holds { held_of self.new ≡ with_granted (held_of self.old) (granted_heap result) (Heap desc.now size) }
         ensures counts { refused_of self.new ≡ counted (refused_of self.old) (granted_heap result) }
-        ensures names_heap { self.new.last_heap ≡ Some (desc.now, size) }
+        ensures names_heap { latest_heap_of self.new ≡ Some (desc.now, size) }
+        ensures recorded { history_of self.new ≡ AskedHeap desc.now size result ∷ history_of self.old }
         ensures constant { properties_of self.new ≡ properties_of self.old }
         ensures answer { IsHeapAnswer (planned (plan_of self.old)) ((plan_of self.old).issued + 1) result }
         ensures plan { plan_of self.new ≡ answered (plan_of self.old) (granted_heap result) }
     {
-        self.last_heap = Some((*desc, size));
-        if self.script.ask().is_none() {
-            if let Ok(number) = self.objects.hold_heap(*desc, size) {
-                return Some(MTLHeap(number));
-            }
-        }
-        self.script.refuse();
-        None
+        let answer = self.answer_heap(desc, size);
+        self.journal.asked_heap(desc, size, answer);
+        answer
     }
 
     fn release_heap(&mut self, heap: MTLHeap)
         ensures gives_back { held_of self.new ≡ without_heap (held_of self.old) heap.0 }
         ensures counts_nothing { refused_of self.new ≡ refused_of self.old }
-        ensures names_no_heap { self.new.last_heap ≡ self.old.last_heap }
+        ensures names_no_heap { latest_heap_of self.new ≡ latest_heap_of self.old }
+        ensures recorded { history_of self.new ≡ ReleasedHeap heap ∷ history_of self.old }
         ensures constant { properties_of self.new ≡ properties_of self.old }
         ensures plan { plan_of self.new ≡ plan_of self.old }
     {
         self.objects.release_heap(heap.0);
+        self.journal.released_heap(heap);
     }
 
     fn new_residency_set(&mut self, label: &str) -> Result<MTLResidencySet, i32>
         ensures number { IsNew (held_of self.old) (granted_set result) }
         ensures holds { held_of self.new ≡ with_granted (held_of self.old) (granted_set result) (Set [] []) }
         ensures counts { refused_of self.new ≡ counted (refused_of self.old) (granted_set result) }
-        ensures names_no_heap { self.new.last_heap ≡ self.old.last_heap }
+        ensures names_no_heap { latest_heap_of self.new ≡ latest_heap_of self.old }
+        ensures recorded { history_of self.new ≡ AskedSet result ∷ history_of self.old }
         ensures constant { properties_of self.new ≡ properties_of self.old }
         ensures answer { IsSetAnswer (plan_of self.old).residency (planned (plan_of self.old)) ((plan_of self.old).issued + 1) result }
         ensures plan { plan_of self.new ≡ answered (plan_of self.old) (granted_set result) }
     {
-        let refusal = self.script.ask();
-        if self.residency && refusal.is_none() {
-            if let Ok(number) = self.objects.hold_set() {
-                return Ok(MTLResidencySet(number));
-            }
-        }
-        self.script.refuse();
-        Err(code_for_set(refusal))
+        let answer = self.answer_set();
+        self.journal.asked_set(answer);
+        answer
     }
 
     fn add_allocation(&mut self, set: MTLResidencySet, heap: MTLHeap)
@@ -200,11 +233,13 @@ impl MetalDevice for SimMetal {
         requires heap { IsHeap (held_of self.old) heap.0 }
         ensures adds { held_of self.new ≡ with_member (held_of self.old) set.0 heap }
         ensures counts_nothing { refused_of self.new ≡ refused_of self.old }
-        ensures names_no_heap { self.new.last_heap ≡ self.old.last_heap }
+        ensures names_no_heap { latest_heap_of self.new ≡ latest_heap_of self.old }
+        ensures recorded { history_of self.new ≡ Added set heap ∷ history_of self.old }
         ensures constant { properties_of self.new ≡ properties_of self.old }
         ensures plan { plan_of self.new ≡ plan_of self.old }
     {
         self.objects.add_member(set.0, heap);
+        self.journal.added(set, heap);
     }
 
     fn remove_allocation(&mut self, set: MTLResidencySet, heap: MTLHeap)
@@ -212,20 +247,24 @@ impl MetalDevice for SimMetal {
         requires heap { IsHeap (held_of self.old) heap.0 }
         ensures removes { held_of self.new ≡ without_member (held_of self.old) set.0 heap }
         ensures counts_nothing { refused_of self.new ≡ refused_of self.old }
-        ensures names_no_heap { self.new.last_heap ≡ self.old.last_heap }
+        ensures names_no_heap { latest_heap_of self.new ≡ latest_heap_of self.old }
+        ensures recorded { history_of self.new ≡ Removed set heap ∷ history_of self.old }
         ensures constant { properties_of self.new ≡ properties_of self.old }
         ensures plan { plan_of self.new ≡ plan_of self.old }
     {
         self.objects.remove_member(set.0, heap);
+        self.journal.removed(set, heap);
     }
 
     fn commit(&mut self, set: MTLResidencySet)
         ensures commits { held_of self.new ≡ with_commit (held_of self.old) set.0 }
         ensures counts_nothing { refused_of self.new ≡ refused_of self.old }
-        ensures names_no_heap { self.new.last_heap ≡ self.old.last_heap }
+        ensures names_no_heap { latest_heap_of self.new ≡ latest_heap_of self.old }
+        ensures recorded { history_of self.new ≡ Committed set ∷ history_of self.old }
         ensures constant { properties_of self.new ≡ properties_of self.old }
         ensures plan { plan_of self.new ≡ plan_of self.old }
     {
         self.objects.commit(set.0);
+        self.journal.committed(set);
     }
 }

@@ -4,11 +4,5 @@ use Rattle.gpu_sim_d3d12.proofs.sim_d3d12.SimD3D12D3D12Device.create_heap.Goals 
 pub returns-clause-holds : goal.returns-clause-holds
 returns-clause-holds c = search rules
 
-pub returns-in_err-number-clause-names_heap : goal.returns-in_err-number-clause-names_heap
-returns-in_err-number-clause-names_heap c = search rules
-
-pub returns-in_default-clause-names_heap : goal.returns-in_default-clause-names_heap
-returns-in_default-clause-names_heap c = search rules
-
 pub returns-clause-names_heap : goal.returns-clause-names_heap
 returns-clause-names_heap c = search rules

@@ -1,5 +1,0 @@
-use Rattle.std.proofs.Common.{rules}
-use Rattle.gpu_sim_base.proofs.script.Script.refuse.Goals as goal
-
-pub returns : goal.returns
-returns c = search rules
