@@ -1,7 +1,10 @@
 -- The sizes of the blocks that pieces share, in bytes.
 use Rattle.std.specs.Prelude.{ℕ, ◌*◌, ◌^◌, ◌≤◌, min, max, Bool, if◌then◌else◌}
 use Rattle.std.specs.Int.{next_multiple_of}
-use Rattle.gpu_values.specs.declared.allocation_sizes.TheConstants.{STEP, LARGEST, DOUBLINGS}
+
+-- bytes in a megabyte
+abbrev pub mb : ℕ
+mb = 1048576
 
 -- a block's size begins at `smallest` and doubles with each live block of the type, up to `largest`
 pub record SizeRange : Type 0 where
@@ -15,7 +18,7 @@ pub record Sizes : Type 0 where
 
 -- a block size near the one asked for: from 4 MB to 256 MB, rounded up to a multiple of 4 MB
 abbrev pub block_size_near : ℕ → ℕ
-block_size_near size = next_multiple_of (min (max size STEP) LARGEST) STEP
+block_size_near size = next_multiple_of (min (max size (4 * mb)) (256 * mb)) (4 * mb)
 
 -- one size for all blocks
 abbrev pub only_size : ℕ → SizeRange
@@ -27,13 +30,17 @@ with_largest range size = record { smallest = range.smallest; largest = max (blo
 abbrev pub range_of : Sizes → Bool → SizeRange
 range_of sizes is_host = if is_host then sizes.host else sizes.device
 
--- the size of the next block of a type with `count` live ones
+-- the size of the next block of a type with `count` live ones: it doubles seven times at most
 abbrev pub shared_block_size : Sizes → Bool → ℕ → ℕ
 shared_block_size sizes is_host count =
-    min ((range_of sizes is_host).smallest * 2 ^ min count DOUBLINGS) (range_of sizes is_host).largest
+    min ((range_of sizes is_host).smallest * 2 ^ min count 7) (range_of sizes is_host).largest
+
+-- the sizes without a choice: 256 MB for memory of the device alone, 64 MB for memory that the host can see
+abbrev pub default_sizes : Sizes
+default_sizes = record { device = only_size (256 * mb); host = only_size (64 * mb) }
 
 -- sizes that lie between the limits
 pub record AreInLimits (range : SizeRange) : Type 0 where
-  pub low : STEP ≤ range.smallest
+  pub low : 4 * mb ≤ range.smallest
   pub ordered : range.smallest ≤ range.largest
-  pub high : range.largest ≤ LARGEST
+  pub high : range.largest ≤ 256 * mb

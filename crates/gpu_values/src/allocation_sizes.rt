@@ -55,8 +55,8 @@ impl Model for AllocationSizes {
 }
 
 impl AllocationSizes {
-    ghost use Rattle.std.specs.Prelude.{◌≡◌, ◌≤◌};
-    ghost use Rattle.gpu_values.specs.Sizes.{Sizes, only_size, with_largest, shared_block_size};
+    ghost use Rattle.std.specs.Prelude.{◌≡◌, ◌≤◌, ◌*◌};
+    ghost use Rattle.gpu_values.specs.Sizes.{Sizes, mb, only_size, with_largest, shared_block_size};
 
     /// One size in bytes for all blocks of the device's memory, and one for all blocks that the host can see; they don't
     /// double. Each is brought into 4 MB to 256 MB and rounded up to a multiple of 4 MB.
@@ -99,8 +99,8 @@ impl AllocationSizes {
     /// can see its memory.
     pub fn memblock_size(&self, is_host: bool, count: usize) -> u64
         ensures size { result ≡ shared_block_size self.now is_host count }
-        ensures low { STEP ≤ result }
-        ensures high { result ≤ LARGEST }
+        ensures low { 4 * mb ≤ result }
+        ensures high { result ≤ 256 * mb }
     {
         let (min, max) = if is_host {
             (self.min_host_memblock_size, self.max_host_memblock_size)
@@ -113,11 +113,10 @@ impl AllocationSizes {
 
 /// Blocks of 256 MB on the device, and of 64 MB where the host can see them.
 impl Default for AllocationSizes {
-    ghost use Rattle.std.specs.Prelude.{◌≡◌, ◌*◌};
-    ghost use Rattle.gpu_values.specs.Sizes.{only_size};
-    ghost use Rattle.gpu_values.specs.declared.allocation_sizes.TheConstants.{MB};
+    ghost use Rattle.std.specs.Prelude.{◌≡◌};
+    ghost use Rattle.gpu_values.specs.Sizes.{default_sizes};
 
-    ghost is_default = { λ s. s ≡ record { device = only_size (256 * MB); host = only_size (64 * MB) } };
+    ghost is_default = { λ s. s ≡ default_sizes };
 
     fn default() -> Self {
         AllocationSizes::new(256 * MB, 64 * MB)
@@ -125,21 +124,21 @@ impl Default for AllocationSizes {
 }
 
 ghost use Rattle.std.specs.Prelude.{◌≡◌, ◌≤◌, ◌*◌, ◌^◌, min};
-ghost use Rattle.gpu_values.specs.Sizes.{block_size_near};
+ghost use Rattle.gpu_values.specs.Sizes.{mb, block_size_near};
 
 /// A size between the limits, and a whole number of steps.
 fn block_size_near(size: u64) -> u64
     ensures value { result ≡ block_size_near size }
-    ensures low { STEP ≤ result }
-    ensures high { result ≤ LARGEST }
+    ensures low { 4 * mb ≤ result }
+    ensures high { result ≤ 256 * mb }
 {
     size.max(STEP).min(LARGEST).next_multiple_of(STEP)
 }
 
 /// A block size doubled `count` times, at most seven times.
 fn doubled(size: u64, count: usize) -> u64
-    requires { size ≤ LARGEST }
-    ensures { result ≡ size * 2 ^ min count DOUBLINGS }
+    requires { size ≤ 256 * mb }
+    ensures { result ≡ size * 2 ^ min count 7 }
 {
     size << count.min(DOUBLINGS)
 }
