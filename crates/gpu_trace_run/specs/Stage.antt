@@ -6,7 +6,7 @@ use Rattle.gpu_values.specs.Refusal.{refusal_of, host_out_of_memory}
 use Rattle.gpu_values.specs.declared.error.AllocationError.{AllocationError}
 use Rattle.gpu_values.specs.declared.allocator_debug_settings.AllocatorDebugSettings.{AllocatorDebugSettings}
 use Rattle.gpu_device.specs.declared.vulkan.device.VulkanDevice.{Ghosts}
-use Rattle.gpu_sim.specs.Simulation.{held_of, properties_of, plan_of, refused_of, latest_of, written_sim}
+use Rattle.gpu_sim.specs.Simulation.{held_of, properties_of, plan_of, history_of, refused_of, latest_of, written_sim}
 use Rattle.gpu_sim.specs.declared.sim_vulkan.SimVulkan.{SimVulkan}
 use Rattle.gpu_vulkan_blocks.specs.Blocks.{HoldsJustLiveBlocks}
 use Rattle.gpu_vulkan_setup.specs.Setup.{setup_fault}
@@ -35,7 +35,7 @@ use Rattle.gpu_commands.specs.ErrorNumber.{number_of}
 
 -- what contracts see of the simulated device
 abbrev pub simulated : Ghosts SimVulkan
-simulated = record { properties = properties_of; held = held_of; refused = refused_of; latest = latest_of; written = written_sim }
+simulated = record { properties = properties_of; held = held_of; history = history_of; refused = refused_of; latest = latest_of; written = written_sim }
 
 -- nothing is logged
 abbrev pub silent : AllocatorDebugSettings

@@ -4,7 +4,7 @@ use super::laws::make_and_release;
 use gpu_device::d3d12::{
     ClearValue, CpuPageProperty, D3D12Device, Format, HeapContent, HeapDesc, HeapFlags,
     HeapProperties, HeapType, ID3D12Heap, ID3D12Resource, MemoryPool, ResourceDesc, ResourceDesc1,
-    ResourceDimension, ResourceHeapTier,
+    ResourceDimension, ResourceHeapTier, ResourcePlace, ResourceRequest, ResourceShape,
 };
 use gpu_sim::SimD3D12;
 use gpu_sim_base::Refusal;
@@ -60,6 +60,7 @@ fn buffer1(width: u64) -> ResourceDesc1 {
 fn check_new(rt: &impl Abort, sim: &SimD3D12) {
     assert!(rt; (sim.held(), sim.questions(), sim.refusals()) == (0, 0, 0));
     assert!(rt; sim.last_heap().is_none());
+    assert!(rt; sim.last_resource().is_none());
     assert!(rt; sim.last_formats().is_none());
     assert!(rt; sim.last_clear().is_none());
     assert!(rt; sim.last_memory().is_none());
@@ -231,4 +232,37 @@ fn made_and_released(rt: HostRuntime) -> Result<(), Fail> {
         assert!(rt; sim.held() == 0);
     }
     Ok(())
+}
+
+/// Whether the latest question for a resource was the one of `latest_resource_is_told_whole`.
+fn is_asked_in_layout(request: &ResourceRequest) -> bool {
+    let is_described = match &request.shape {
+        ResourceShape::InLayout(desc, layout, Some(formats)) => {
+            *desc == buffer1(70000) && *layout == 3 && formats.len() == 2
+        }
+        _ => false,
+    };
+    is_described
+        && request.place == ResourcePlace::InHeap(ID3D12Heap(7), 65536)
+        && request.clear_value == Some(CLEAR)
+}
+
+#[test]
+fn latest_resource_is_told_whole(rt: HostRuntime) {
+    let mut sim = SimD3D12::new(
+        rt.alloc(),
+        Ok(ResourceHeapTier::Tier2),
+        Vec::new(rt.alloc()),
+    );
+    let formats = [Format(28), Format(29)];
+    let placed = sim.create_placed_resource2(
+        ID3D12Heap(7),
+        65536,
+        &buffer1(70000),
+        3,
+        Some(&CLEAR),
+        Some(&formats),
+    );
+    assert!(rt; placed == Ok(Some(ID3D12Resource(1))));
+    assert!(rt; sim.last_resource().is_some_and(is_asked_in_layout));
 }

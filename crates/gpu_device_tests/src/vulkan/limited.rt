@@ -1,10 +1,11 @@
 //! A device of a user's own: it keeps a budget for each memory over another device. It needs no proof by hand.
 
 ghost use Rattle.std.specs.Prelude.{refl};
+ghost use Rattle.gpu_device.specs.VulkanHistory.{refused_in, latest_in};
 
 use super::{device, info};
 use gpu_device::vulkan::{
-    DeviceMemory, MemoryAllocateInfo, MemoryHeap, MemoryTypeInfo, VulkanDevice,
+    DeviceMemory, Journal, MemoryAllocateInfo, MemoryHeap, MemoryTypeInfo, VulkanDevice,
 };
 use std::test::Fail;
 
@@ -13,8 +14,7 @@ use std::test::Fail;
 pub struct Limited<D> {
     inner: D,
     limit: u64,
-    refusals: u64,
-    latest: Option<MemoryAllocateInfo>,
+    journal: Journal,
 }
 
 impl<D: VulkanDevice> VulkanDevice for Limited<D> {
@@ -22,9 +22,11 @@ impl<D: VulkanDevice> VulkanDevice for Limited<D> {
 
     ghost held = { λ d. D.held d.inner };
 
-    ghost refused = { λ d. d.refusals };
+    ghost history = { λ d. d.journal.history };
 
-    ghost latest = { λ d. d.latest };
+    ghost refused = { λ d. refused_in d.journal.history };
+
+    ghost latest = { λ d. latest_in d.journal.history };
 
     ghost written = { λ d number start ws. record d { inner = D.written d.inner number start ws } };
 
@@ -37,6 +39,12 @@ impl<D: VulkanDevice> VulkanDevice for Limited<D> {
     ghost write_counts_nothing = { λ d number start ws. refl };
 
     ghost write_names_no_question = { λ d number start ws. refl };
+
+    ghost write_records_nothing = { λ d number start ws. refl };
+
+    ghost refused_is = { λ d. refl };
+
+    ghost latest_is = { λ d. refl };
 
     ghost write_constant = { λ d. D.write_constant d.inner };
 
@@ -61,36 +69,33 @@ impl<D: VulkanDevice> VulkanDevice for Limited<D> {
     }
 
     fn refusals(&self) -> u64 {
-        self.refusals
+        self.journal.refusals()
     }
 
     fn allocate_memory(&mut self, info: &MemoryAllocateInfo) -> Result<DeviceMemory, i32> {
-        self.latest = Some(*info);
         let answer = if info.size > self.limit {
             Err(-2)
         } else {
             self.inner.allocate_memory(info)
         };
-        if answer.is_err() {
-            self.refusals = self.refusals.saturating_add(1);
-        }
+        self.journal.asked_memory(info, answer);
         answer
     }
 
     fn map_memory(&mut self, memory: DeviceMemory) -> Result<bool, i32> {
         let answer = self.inner.map_memory(memory);
-        if answer != Ok(true) {
-            self.refusals = self.refusals.saturating_add(1);
-        }
+        self.journal.asked_mapping(memory, answer);
         answer
     }
 
     fn unmap_memory(&mut self, memory: DeviceMemory) {
         self.inner.unmap_memory(memory);
+        self.journal.unmapped(memory);
     }
 
     fn free_memory(&mut self, memory: DeviceMemory) {
         self.inner.free_memory(memory);
+        self.journal.freed(memory);
     }
 
     fn bytes(&self, memory: DeviceMemory, start: u64, len: u64) -> Option<&[u8]> {
@@ -107,8 +112,7 @@ fn keeps_the_budget(rt: HostRuntime) -> Result<(), Fail> {
     let mut limited = Limited {
         inner: device(rt.alloc(), u64::MAX, Vec::new(rt.alloc()))?,
         limit: 64,
-        refusals: 0,
-        latest: None,
+        journal: Journal::new(),
     };
     assert!(rt; limited.allocate_memory(&info(65)) == Err(-2));
     assert!(rt; limited.allocate_memory(&info(64)) == Ok(DeviceMemory(1)));
