@@ -23,7 +23,7 @@ use Rattle.gpu_pool.specs.Free.{GivesBackAll}
 use Rattle.gpu_pool.specs.Held.{HoldsJustBlocks}
 use Rattle.gpu_pool.specs.Source.{HeldBlock}
 use Rattle.gpu_device.specs.declared.metal.device.MetalDevice.{Ghosts}
-use Rattle.gpu_metal_setup.specs.Residency.{ChangesHeld}
+use Rattle.gpu_metal_setup.specs.Residency.{releases_recorded, ChangesHeld}
 use Rattle.gpu_metal.specs.Source.{type_of, heap_type, new_block, blocks_of, HasBlocks, HoldsFirst}
 use Rattle.gpu_metal.specs.Source.{SourceState, GivesHeap, set_of, left}
 use Rattle.gpu_metal.proofs.Changing.{beside_blocks, is_some_none}
@@ -40,20 +40,20 @@ left_committed : (r : Option Residency) (heap : MTLHeap) → committed_in (left 
 left_committed None heap = refl
 left_committed (Some r) heap = refl
 
--- the device was asked nothing, the set is the same, and so are its committed members
-pub record Empties {D : Type 0} (g : Ghosts D) (old new : SourceState D) : Type 0 where
+-- the device was asked nothing, each heap went back once, the set is the same, and so are its committed members
+pub record Empties {D : Type 0} (g : Ghosts D) (old : SourceState D) (heaps : List MTLHeap) (new : SourceState D) : Type 0 where
   pub first : new.first ≡ old.first
   pub set : new.set ≡ old.set
-  pub changes : ChangesHeld g old.device (g.held new.device) new.device
+  pub changes : ChangesHeld g old.device (g.held new.device) (releases_recorded old.set heaps (g.history old.device)) new.device
   pub committed : committed_in (set_of g new) ≡ committed_in (set_of g old)
 
-pub empties : {D : Type 0} (g : Ghosts D) (old : SourceState D) (heaps : List MTLHeap) (new : SourceState D) → GivesBackAll (GivesHeap g) old heaps new → Empties g old new
+pub empties : {D : Type 0} (g : Ghosts D) (old : SourceState D) (heaps : List MTLHeap) (new : SourceState D) → GivesBackAll (GivesHeap g) old heaps new → Empties g old heaps new
 empties {D} g old [] new is =
     let device = ap (λ (s : SourceState D). s.device) is in
     record {
       first = ap (λ (s : SourceState D). s.first) is;
       set = ap (λ (s : SourceState D). s.set) is;
-      changes = record { held_is = refl; count = ap g.refused device; latest_heap = ap g.latest_heap device; constant = ap g.properties device };
+      changes = record { held_is = refl; history_is = ap g.history device; count = ap g.refused device; latest_heap = ap g.latest_heap device; constant = ap g.properties device };
       committed = ap (λ (s : SourceState D). committed_in (set_of g s)) is;
     }
 empties {D} g old (heap ∷ heaps) new is =
@@ -63,7 +63,13 @@ empties {D} g old (heap ∷ heaps) new is =
     record {
       first = rest.first ∙ ap (λ (s : SourceState D). s.first) one.state;
       set = rest.set ∙ ap (λ (s : SourceState D). s.set) one.state;
-      changes = record { held_is = refl; count = c.count ∙ one.gives.count; latest_heap = c.latest_heap ∙ one.gives.latest_heap; constant = c.constant ∙ one.gives.constant };
+      changes = record {
+        held_is = refl;
+        history_is = c.history_is ∙ (λ i. releases_recorded (ap (λ (s : SourceState D). s.set) one.state i) heaps (one.gives.history_is i));
+        count = c.count ∙ one.gives.count;
+        latest_heap = c.latest_heap ∙ one.gives.latest_heap;
+        constant = c.constant ∙ one.gives.constant;
+      };
       committed = rest.committed ∙ ap committed_in one.residency ∙ left_committed (set_of g old) heap;
     }
 

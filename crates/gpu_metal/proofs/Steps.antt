@@ -37,11 +37,11 @@ module _ {D : Type 0} (g : Ghosts D) where
     location = a.location;
     at = a.at;
     refusal = a.refusal;
-    state = λ i. record { residency = a.residency i; refused = a.asks.count i; latest_heap = a.asks.latest_heap i };
+    state = λ i. record { set = ap (λ (s : SourceState D). s.set) a.state i; residency = a.residency i; history = a.asks.history i };
   }
 
   sees_given : (old new : SourceState D) (heap : MTLHeap) → GivesHeap g old heap new → SeesGiven (seen_of g old) heap (seen_of g new)
-  sees_given old new heap a = λ i. record { residency = a.residency i; refused = a.gives.count i; latest_heap = a.gives.latest_heap i }
+  sees_given old new heap a = λ i. record { set = ap (λ (s : SourceState D). s.set) a.state i; residency = a.residency i; history = a.gives.history_is i }
 
   -- ---- an allocation
 
@@ -118,7 +118,7 @@ module _ {D : Type 0} (g : Ghosts D) where
       (
         refl,
         λ i. record {
-          source = record { residency = c.residency i; refused = c.commits.count i; latest_heap = c.commits.latest_heap i };
+          source = record { set = ap (λ (s : SourceState D). s.set) c.state i; residency = c.residency i; history = c.commits.history_is i };
           sizes = sizes i;
           slots = slots i;
           budgets = budgets i;

@@ -17,7 +17,7 @@ use Rattle.gpu_device.specs.declared.metal.types.StorageMode.{StorageMode}
 use Rattle.gpu_device.specs.declared.metal.types.StorageMode.TheVariants.{Shared, Managed, Private, Memoryless, Other}
 use Rattle.gpu_metal_setup.specs.HeapAnswer.{AsksHeap, heap_refusal}
 use Rattle.gpu_metal_setup.specs.MemoryKinds.{locations, heap_descriptor}
-use Rattle.gpu_metal_setup.specs.Residency.{with_left, with_committed, ChangesHeld}
+use Rattle.gpu_metal_setup.specs.Residency.{with_left, with_committed, release_recorded, commit_recorded, ChangesHeld}
 use Rattle.gpu_pool.specs.Source.{HeldBlock, HeldBlocks}
 use Rattle.gpu_metal.specs.Blocks.{Residency, residency_of, is_same_heap}
 
@@ -123,7 +123,7 @@ module _ {D : Type 0} (g : Ghosts D) where
   abbrev pub set_of : SourceState D → Option Residency
   set_of s = residency_of (g.held s.device) s.set
 
-  -- the device was asked for a heap of the memory type's location and this size; one that is granted is a member of the set
+  -- the device was asked once for a heap of the memory type's location and this size; one that is granted is a member of the set
   pub record AsksBlock (old : SourceState D) (t size : ℕ) (extra : Unit {0}) (answer : Result MTLHeap Refusal) (new : SourceState D) : Type 0 where
     pub location : MemoryLocation
     pub at : slice_get locations t ≡ Some location
@@ -132,14 +132,15 @@ module _ {D : Type 0} (g : Ghosts D) where
     pub residency : set_of new ≡ joined (set_of old) (heap_in answer)
     pub state : new ≡ record old { device = new.device }
 
-  -- the heap left the set and went back
+  -- the heap left the set and went back, once
   pub record GivesHeap (old : SourceState D) (heap : MTLHeap) (new : SourceState D) : Type 0 where
-    pub gives : ChangesHeld g old.device (without_heap (with_left (g.held old.device) old.set heap) heap.0) new.device
+    pub gives : ChangesHeld g old.device (without_heap (with_left (g.held old.device) old.set heap) heap.0)
+        (release_recorded old.set heap (g.history old.device)) new.device
     pub residency : set_of new ≡ left (set_of old) heap
     pub state : new ≡ record old { device = new.device }
 
   -- the members of the set are its committed members
   pub record CommitsSet (old new : SourceState D) : Type 0 where
-    pub commits : ChangesHeld g old.device (with_committed (g.held old.device) old.set) new.device
+    pub commits : ChangesHeld g old.device (with_committed (g.held old.device) old.set) (commit_recorded old.set (g.history old.device)) new.device
     pub residency : set_of new ≡ committed (set_of old)
     pub state : new ≡ record old { device = new.device }

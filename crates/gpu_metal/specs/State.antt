@@ -1,7 +1,7 @@
 -- What callers see of an allocator.
-use Rattle.std.specs.Prelude.{ℕ, Option}
+use Rattle.std.specs.Prelude.{List, Option}
 use Rattle.gpu_device.specs.declared.metal.device.MetalDevice.{Ghosts}
-use Rattle.gpu_device.specs.declared.metal.types.HeapDescriptor.{HeapDescriptor}
+use Rattle.gpu_device.specs.declared.metal.event.Event.{Event}
 use Rattle.gpu_device.specs.declared.metal.types.MTLHeap.{MTLHeap}
 use Rattle.gpu_device.specs.declared.metal.types.MTLResidencySet.{MTLResidencySet}
 use Rattle.gpu_memory_types.specs.Budgets.{Budgets}
@@ -51,11 +51,11 @@ state_of p debug = record {
 
 -- ---- as a model
 
--- what a model sees of a device: the residency set, where there is one, how often the device refused, and the heap that it was asked for last
+-- what a model sees of a device: the residency set, where there is one, its members, and all that the device was asked and was given back
 pub record Seen : Type 0 where
+  pub set : Option MTLResidencySet
   pub residency : Option Residency
-  pub refused : ℕ
-  pub latest_heap : Option (HeapDescriptor × ℕ)
+  pub history : List Event
 
 -- the pool, over what is seen of its device
 abbrev pub Model : Type 0
@@ -63,7 +63,7 @@ Model = pools.State Seen MTLHeap
 
 -- what is seen of a device and its set
 abbrev pub seen_of : {D : Type 0} → Ghosts D → SourceState D → Seen
-seen_of g s = record { residency = set_of g s; refused = g.refused s.device; latest_heap = g.latest_heap s.device }
+seen_of g s = record { set = s.set; residency = set_of g s; history = g.history s.device }
 
 -- an allocator as a model
 abbrev pub model_of : {D : Type 0} → Ghosts D → State D → Model

@@ -5,12 +5,12 @@ use Rattle.gpu_values.specs.Report.{report_of}
 use Rattle.gpu_values.specs.declared.report.AllocatorReport.{AllocatorReport}
 use Rattle.gpu_values.specs.declared.error.AllocationError.{AllocationError}
 use Rattle.gpu_values.specs.declared.memory_location.MemoryLocation.{MemoryLocation}
-use Rattle.gpu_device.specs.Granted.{counted}
-use Rattle.gpu_device.specs.Metal.{granted_heap}
 use Rattle.gpu_device.specs.declared.metal.device.MetalDevice.{Ghosts}
 use Rattle.gpu_device.specs.declared.metal.types.HeapDescriptor.{HeapDescriptor}
 use Rattle.gpu_device.specs.declared.metal.types.MTLHeap.{MTLHeap}
 use Rattle.gpu_memory_types.specs.Budgets.{Budgets, budget_at}
+use Rattle.gpu_metal_setup.specs.HeapAnswer.{question_recorded}
+use Rattle.gpu_metal_setup.specs.Residency.{release_recorded, commit_recorded}
 use Rattle.gpu_metal_setup.specs.MemoryKinds.{locations, heap_descriptor, IsFirstServing}
 use Rattle.gpu_metal_setup.specs.Setup.{kinds_of_device}
 use Rattle.gpu_metal_setup.specs.declared.describe.AllocationCreateDesc.{AllocationCreateDesc}
@@ -38,9 +38,9 @@ pub data Call : Type 0 where
 
 -- ---- what is seen of a device
 
--- a device that was asked for a heap: one that is granted joins the set, a refusal is counted
+-- a device that was asked once for a heap: one that is granted joins the set
 abbrev pub with_question : Seen → HeapDescriptor → (size : ℕ) → Option MTLHeap → Seen
-with_question old desc size heap = record { residency = joined old.residency heap; refused = counted old.refused (granted_heap heap); latest_heap = Some (desc, size) }
+with_question old desc size heap = record old { residency = joined old.residency heap; history = question_recorded old.set desc size heap old.history }
 
 -- the device was asked for a heap of the memory type's location and this size
 pub record SeesQuestion (old : Seen) (t size : ℕ) (extra : Unit {0}) (answer : Result MTLHeap Refusal) (new : Seen) : Type 0 where
@@ -49,9 +49,9 @@ pub record SeesQuestion (old : Seen) (t size : ℕ) (extra : Unit {0}) (answer :
   pub refusal : IsHeapAnswer answer
   pub state : new ≡ with_question old (heap_descriptor location) size (heap_in answer)
 
--- a heap that goes back is no member of the set
+-- a heap that goes back, once, is no member of the set
 abbrev pub SeesGiven : Seen → MTLHeap → Seen → Type 0
-SeesGiven old heap new = new ≡ record old { residency = left old.residency heap }
+SeesGiven old heap new = new ≡ record old { residency = left old.residency heap; history = release_recorded old.set heap old.history }
 
 -- ---- the steps
 
@@ -64,9 +64,13 @@ abbrev pub AllocateStep : AllocationCreateDesc → (valid : Bool) → Environmen
 AllocateStep d false met reply old new = (met ≡ NothingMet) × (reply ≡ Error invalid_allocation_create_desc) × (new ≡ old)
 AllocateStep d true met reply old new = (t : ℕ) × IsFirstServing d.location t × PoolStep old (pools.Allocate (request_in t d)) met reply new
 
--- the members of the set are its committed members
+-- a device whose set was committed: its members are the committed ones
+abbrev pub with_commit : Seen → Seen
+with_commit old = record old { residency = committed old.residency; history = commit_recorded old.set old.history }
+
+-- the set is committed, where there is one
 abbrev pub CommitStep : Reply MTLHeap → Model → Model → Type 0
-CommitStep reply old new = (reply ≡ Done) × (new ≡ record old { source = record old.source { residency = committed old.source.residency } })
+CommitStep reply old new = (reply ≡ Done) × (new ≡ record old { source = with_commit old.source })
 
 -- from old, the call may return this reply and leave new, where it met with this
 abbrev pub Step : Call → Environment MTLHeap → Reply MTLHeap → Model → Model → Type 0

@@ -9,7 +9,7 @@ ghost use Rattle.gpu_memory_types.specs.Budgets.{budget_at, budgets, SetsBudget}
 ghost use Rattle.gpu_memory_types.specs.Reports.{whole_report};
 ghost use Rattle.gpu_memory_types.specs.Types.{slots_of, kinds};
 ghost use Rattle.gpu_metal_setup.specs.MemoryKinds.{locations, IsFirstServing};
-ghost use Rattle.gpu_metal_setup.specs.Residency.{MakesSet, ChangesHeld, with_committed};
+ghost use Rattle.gpu_metal_setup.specs.Residency.{MakesSet, ChangesHeld, with_committed, commit_recorded, releases_recorded};
 ghost use Rattle.gpu_metal_setup.specs.Setup.{kinds_of_device, IsNotMade};
 ghost use Rattle.gpu_pool.specs.Handles.{all_handles};
 ghost use Rattle.gpu_pool.specs.Reply as replies;
@@ -198,7 +198,8 @@ impl<D: MetalDevice> Allocator<D> {
     /// Makes the members of the residency set its committed members; without a set it does nothing. It takes no memory and is
     /// never refused.
     pub fn commit_residency_set(&mut self)
-        ensures commits { ChangesHeld D.MetalDevice self.old.device (with_committed (D.held self.old.device) self.old.setup.residency_set) self.new.device }
+        ensures commits { ChangesHeld D.MetalDevice self.old.device (with_committed (D.held self.old.device) self.old.setup.residency_set)
+            (commit_recorded self.old.setup.residency_set (D.history self.old.device)) self.new.device }
         ensures constant { (self.new.first ≡ self.old.first) × (self.new.setup ≡ self.old.setup) × (self.new.slots ≡ self.old.slots) × (self.new.budgets ≡ self.old.budgets) }
         ensures step { IsStep D.MetalDevice Commit Done self.old self.new }
     {
@@ -287,7 +288,9 @@ impl<D: MetalDevice> Allocator<D> {
     pub fn destroy(self) -> D
         // what was held at first, and the set without members
         ensures held { D.held result ≡ left_behind (D.held self.first) self.setup.residency_set (residency_of (D.held self.device) self.setup.residency_set) }
-        ensures asks_nothing { ChangesHeld D.MetalDevice self.device (D.held result) result }
+        // each heap left the set and went back, once, by memory type, then by slot
+        ensures asks_nothing { ChangesHeld D.MetalDevice self.device (D.held result)
+            (releases_recorded self.setup.residency_set (all_handles self.slots) (D.history self.device)) result }
     {
         let Allocator {
             pool,

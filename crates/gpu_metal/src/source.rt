@@ -1,8 +1,8 @@
 //! A Metal device as a source of blocks: heaps, each a member of the residency set, where there is one.
 
-ghost use Rattle.std.specs.Prelude.{◌≡◌, ℕ, true, None, IfOk, IfErr, option_copied};
+ghost use Rattle.std.specs.Prelude.{◌≡◌, ℕ, ℤ, true, None, Err, IfOk, IfErr, option_copied};
 ghost use Rattle.gpu_values.specs.Refusal.{refusal_of};
-ghost use Rattle.gpu_metal_setup.specs.Residency.{MakesSet, AnswersSet, set_refusal, ChangesHeld, with_committed};
+ghost use Rattle.gpu_metal_setup.specs.Residency.{MakesSet, AnswersSet, set_refusal};
 ghost use Rattle.gpu_metal_setup.specs.Setup.{kinds_of_device};
 ghost use Rattle.gpu_metal.specs.Blocks.{residency_of, left_behind};
 ghost use Rattle.gpu_metal.specs.Source.{AsksBlock, GivesHeap, CommitsSet, blocks_of, HoldsFirst, one_number};
@@ -67,7 +67,7 @@ impl<D: MetalDevice> MetalBlocks<D> {
         ensures made { IfOk result (λ s. (s.first ≡ device) × MakesSet D.MetalDevice wants_set device s.set s.device) }
         ensures none { IfOk result (λ s. (n : ℕ) → blocks_of (D.held s.first) (D.held s.device) n ≡ None) }
         ensures refused { IfErr result (λ e. (refusal_of e.0 ≡ set_refusal) × (wants_set ≡ true)
-            × AnswersSet D.MetalDevice device None e.1) }
+            × ((code : ℤ) × AnswersSet D.MetalDevice device (Err code) e.1)) }
     {
         let first = Snapshot::of(&device);
         let mut device = device;

@@ -1,5 +1,5 @@
 -- Why no allocator is made, and the memory types of one that is.
-use Rattle.std.specs.Prelude.{◌≡◌, ◌⊎◌, ℕ, Bool, true, None, List, map}
+use Rattle.std.specs.Prelude.{◌≡◌, ◌⊎◌, ℕ, ℤ, Bool, true, List, map, Err}
 use Rattle.gpu_device.specs.declared.metal.device.MetalDevice.{Ghosts}
 use Rattle.gpu_values.specs.Refusal.{Refusal, host_out_of_memory}
 use Rattle.gpu_metal_setup.specs.MemoryKinds.{locations, is_host}
@@ -12,4 +12,4 @@ kinds_of_device = map (λ location. (is_host location, 1)) locations
 -- the host refused memory before the device was asked anything, or the device refused a set that is wanted
 abbrev pub IsNotMade : {D : Type 0} → Ghosts D → (wanted : Bool) → Refusal → (old new : D) → Type 0
 IsNotMade g wanted refusal old new =
-    ((refusal ≡ host_out_of_memory) × (new ≡ old)) ⊎ ((refusal ≡ set_refusal) × (wanted ≡ true) × AnswersSet g old None new)
+    ((refusal ≡ host_out_of_memory) × (new ≡ old)) ⊎ ((refusal ≡ set_refusal) × (wanted ≡ true) × (code : ℤ) × AnswersSet g old (Err code) new)

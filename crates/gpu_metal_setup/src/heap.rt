@@ -5,7 +5,7 @@ ghost use Rattle.gpu_values.specs.Refusal.{refusal_of};
 ghost use Rattle.gpu_device.specs.Metal.{IsHeap, without_heap};
 ghost use Rattle.gpu_metal_setup.specs.HeapAnswer.{AsksHeap, heap_refusal};
 ghost use Rattle.gpu_metal_setup.specs.MemoryKinds.{heap_descriptor};
-ghost use Rattle.gpu_metal_setup.specs.Residency.{HoldsSet, with_left, ChangesHeld};
+ghost use Rattle.gpu_metal_setup.specs.Residency.{HoldsSet, with_left, release_recorded, ChangesHeld};
 
 use crate::memory_kind::{heap_descriptor, heap_label};
 use crate::residency::{join_set, leave_set};
@@ -42,7 +42,8 @@ pub fn release_block_heap<D: MetalDevice>(
 )
     requires set { HoldsSet (D.held device.old) set }
     requires heap { IsHeap (D.held device.old) heap.0 }
-    ensures { ChangesHeld D.MetalDevice device.old (without_heap (with_left (D.held device.old) set heap) heap.0) device.new }
+    ensures { ChangesHeld D.MetalDevice device.old (without_heap (with_left (D.held device.old) set heap) heap.0)
+        (release_recorded set heap (D.history device.old)) device.new }
 {
     leave_set(device, set, heap);
     device.release_heap(heap);
