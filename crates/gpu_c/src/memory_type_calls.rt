@@ -7,6 +7,7 @@ ghost use Rattle.std.specs.Int.{is_power_of_two};
 ghost use Rattle.gpu_slots.specs.TypeState.{slot_at, block_number};
 ghost use Rattle.gpu_slots.specs.TypeReport.{pieces_in, statistics_in};
 ghost use Rattle.gpu_c.specs.Handle.{Changes};
+ghost use Rattle.gpu_c_blocks.specs.Status as status;
 ghost use Rattle.gpu_c_blocks.specs.Request.{IsServed};
 ghost use Rattle.gpu_c_blocks.specs.Status.{IsOneOf};
 ghost use Rattle.gpu_c_blocks.specs.MemoryType.{fresh_memory_type, told_block, number_if, IsLiveIn, Prepares, IsIdleAndServed, IsTooLarge, IsPastBudget, InstallsAwaited, Abandons, FreesPiece, NamesMemory, statistics_of, told_counts};
@@ -29,13 +30,13 @@ pub extern "C" fn pilhangko_raw_memory_type_create(
     alloc: Global,
     settings: &MemoryTypeSettings,
 ) -> u32
-    ensures created { result ≡ OK → (types.old.value ≡ None) × IsTrue (is_power_of_two settings.now.granularity)
+    ensures created { result ≡ status.ok → (types.old.value ≡ None) × IsTrue (is_power_of_two settings.now.granularity)
         × (types.new.value ≡ Some (fresh_memory_type settings.now)) }
-    ensures in_use { (result ≡ IN_USE) ↔ (types.old.value ≢ None) }
-    ensures invalid { (result ≡ INVALID) ↔ (types.old.value ≡ None) × (IsTrue (is_power_of_two settings.now.granularity) → ⊥) }
-    ensures host_out_of_memory { result ≡ HOST_OUT_OF_MEMORY → (types.old.value ≡ None) × IsTrue (is_power_of_two settings.now.granularity) }
-    ensures statuses { IsOneOf result (OK ∷ IN_USE ∷ INVALID ∷ HOST_OUT_OF_MEMORY ∷ []) }
-    ensures refused { result ≢ OK → types.new.value ≡ types.old.value }
+    ensures in_use { (result ≡ status.in_use) ↔ (types.old.value ≢ None) }
+    ensures invalid { (result ≡ status.invalid) ↔ (types.old.value ≡ None) × (IsTrue (is_power_of_two settings.now.granularity) → ⊥) }
+    ensures host_out_of_memory { result ≡ status.host_out_of_memory → (types.old.value ≡ None) × IsTrue (is_power_of_two settings.now.granularity) }
+    ensures statuses { IsOneOf result (status.ok ∷ status.in_use ∷ status.invalid ∷ status.host_out_of_memory ∷ []) }
+    ensures refused { result ≢ status.ok → types.new.value ≡ types.old.value }
 {
     if let Some(kept) = types.take(alloc) {
         types.put(kept);
@@ -65,18 +66,18 @@ pub extern "C" fn pilhangko_raw_memory_type_prepare(
     name: &[u8],
     prepared: &mut MemoryPrepared,
 ) -> u32
-    ensures done { result ≡ OK → Changes types.old.value types.new.value
+    ensures done { result ≡ status.ok → Changes types.old.value types.new.value
         (λ old new. Prepares old request.now name.now prepared.new new) }
-    ensures no_handle { (result ≡ NO_HANDLE) ↔ (types.old.value ≡ None) }
-    ensures awaits_block { (result ≡ AWAITS_BLOCK) ↔ IsSomeAnd types.old.value (λ t. IsSome t.awaited) }
-    ensures invalid { (result ≡ INVALID) ↔ IsSomeAnd types.old.value
+    ensures no_handle { (result ≡ status.no_handle) ↔ (types.old.value ≡ None) }
+    ensures awaits_block { (result ≡ status.awaits_block) ↔ IsSomeAnd types.old.value (λ t. IsSome t.awaited) }
+    ensures invalid { (result ≡ status.invalid) ↔ IsSomeAnd types.old.value
         (λ t. (t.awaited ≡ None) × (IsServed request.now.size request.now.alignment request.now.kind name.now → ⊥)) }
-    ensures host_out_of_memory { result ≡ HOST_OUT_OF_MEMORY → IsSomeAnd types.old.value (λ t. IsIdleAndServed t request.now name.now) }
-    ensures out_of_memory { result ≡ OUT_OF_MEMORY → IsSomeAnd types.old.value (λ t. IsTooLarge t request.now name.now) }
-    ensures budget_exceeded { result ≡ BUDGET_EXCEEDED → IsSomeAnd types.old.value (λ t. IsPastBudget t request.now name.now) }
+    ensures host_out_of_memory { result ≡ status.host_out_of_memory → IsSomeAnd types.old.value (λ t. IsIdleAndServed t request.now name.now) }
+    ensures out_of_memory { result ≡ status.out_of_memory → IsSomeAnd types.old.value (λ t. IsTooLarge t request.now name.now) }
+    ensures budget_exceeded { result ≡ status.budget_exceeded → IsSomeAnd types.old.value (λ t. IsPastBudget t request.now name.now) }
     ensures statuses { IsOneOf result
-        (OK ∷ NO_HANDLE ∷ AWAITS_BLOCK ∷ INVALID ∷ HOST_OUT_OF_MEMORY ∷ OUT_OF_MEMORY ∷ BUDGET_EXCEEDED ∷ []) }
-    ensures refused { result ≢ OK → (types.new.value ≡ types.old.value) × (prepared.new ≡ prepared.old) }
+        (status.ok ∷ status.no_handle ∷ status.awaits_block ∷ status.invalid ∷ status.host_out_of_memory ∷ status.out_of_memory ∷ status.budget_exceeded ∷ []) }
+    ensures refused { result ≢ status.ok → (types.new.value ≡ types.old.value) × (prepared.new ≡ prepared.old) }
 {
     match types.take(alloc) {
         None => NO_HANDLE,
@@ -97,11 +98,11 @@ pub extern "C" fn pilhangko_raw_memory_type_install(
     block: u64,
     piece: &mut MemoryPiece,
 ) -> u32
-    ensures installed { result ≡ OK → Changes types.old.value types.new.value (λ old new. InstallsAwaited old block piece.new new) }
-    ensures no_handle { (result ≡ NO_HANDLE) ↔ (types.old.value ≡ None) }
-    ensures awaits_no_block { (result ≡ AWAITS_NO_BLOCK) ↔ IsSomeAnd types.old.value (λ t. t.awaited ≡ None) }
-    ensures statuses { IsOneOf result (OK ∷ NO_HANDLE ∷ AWAITS_NO_BLOCK ∷ []) }
-    ensures refused { result ≢ OK → (types.new.value ≡ types.old.value) × (piece.new ≡ piece.old) }
+    ensures installed { result ≡ status.ok → Changes types.old.value types.new.value (λ old new. InstallsAwaited old block piece.new new) }
+    ensures no_handle { (result ≡ status.no_handle) ↔ (types.old.value ≡ None) }
+    ensures awaits_no_block { (result ≡ status.awaits_no_block) ↔ IsSomeAnd types.old.value (λ t. t.awaited ≡ None) }
+    ensures statuses { IsOneOf result (status.ok ∷ status.no_handle ∷ status.awaits_no_block ∷ []) }
+    ensures refused { result ≢ status.ok → (types.new.value ≡ types.old.value) × (piece.new ≡ piece.old) }
 {
     match types.take(alloc) {
         None => NO_HANDLE,
@@ -119,11 +120,11 @@ pub extern "C" fn pilhangko_raw_memory_type_abandon(
     types: &mut MemoryTypeHandle,
     alloc: Global,
 ) -> u32
-    ensures abandoned { result ≡ OK → Changes types.old.value types.new.value Abandons }
-    ensures no_handle { (result ≡ NO_HANDLE) ↔ (types.old.value ≡ None) }
-    ensures awaits_no_block { (result ≡ AWAITS_NO_BLOCK) ↔ IsSomeAnd types.old.value (λ t. t.awaited ≡ None) }
-    ensures statuses { IsOneOf result (OK ∷ NO_HANDLE ∷ AWAITS_NO_BLOCK ∷ []) }
-    ensures refused { result ≢ OK → types.new.value ≡ types.old.value }
+    ensures abandoned { result ≡ status.ok → Changes types.old.value types.new.value Abandons }
+    ensures no_handle { (result ≡ status.no_handle) ↔ (types.old.value ≡ None) }
+    ensures awaits_no_block { (result ≡ status.awaits_no_block) ↔ IsSomeAnd types.old.value (λ t. t.awaited ≡ None) }
+    ensures statuses { IsOneOf result (status.ok ∷ status.no_handle ∷ status.awaits_no_block ∷ []) }
+    ensures refused { result ≢ status.ok → types.new.value ≡ types.old.value }
 {
     match types.take(alloc) {
         None => NO_HANDLE,
@@ -144,12 +145,12 @@ pub extern "C" fn pilhangko_raw_memory_type_free(
     piece: &MemoryPiece,
     gone: &mut MemoryBlock,
 ) -> u32
-    ensures freed { result ≡ OK → Changes types.old.value types.new.value (λ old new. FreesPiece old piece.now gone.new new) }
-    ensures no_handle { (result ≡ NO_HANDLE) ↔ (types.old.value ≡ None) }
-    ensures awaits_block { (result ≡ AWAITS_BLOCK) ↔ IsSomeAnd types.old.value (λ t. IsSome t.awaited) }
-    ensures not_live { (result ≡ NOT_LIVE) ↔ IsSomeAnd types.old.value (λ t. (t.awaited ≡ None) × (IsLiveIn t piece.now → ⊥)) }
-    ensures statuses { IsOneOf result (OK ∷ NO_HANDLE ∷ AWAITS_BLOCK ∷ NOT_LIVE ∷ []) }
-    ensures refused { result ≢ OK → (types.new.value ≡ types.old.value) × (gone.new ≡ gone.old) }
+    ensures freed { result ≡ status.ok → Changes types.old.value types.new.value (λ old new. FreesPiece old piece.now gone.new new) }
+    ensures no_handle { (result ≡ status.no_handle) ↔ (types.old.value ≡ None) }
+    ensures awaits_block { (result ≡ status.awaits_block) ↔ IsSomeAnd types.old.value (λ t. IsSome t.awaited) }
+    ensures not_live { (result ≡ status.not_live) ↔ IsSomeAnd types.old.value (λ t. (t.awaited ≡ None) × (IsLiveIn t piece.now → ⊥)) }
+    ensures statuses { IsOneOf result (status.ok ∷ status.no_handle ∷ status.awaits_block ∷ status.not_live ∷ []) }
+    ensures refused { result ≢ status.ok → (types.new.value ≡ types.old.value) × (gone.new ≡ gone.old) }
 {
     match types.take(alloc) {
         None => NO_HANDLE,
@@ -170,17 +171,17 @@ pub extern "C" fn pilhangko_raw_memory_type_rename(
     piece: &MemoryPiece,
     name: &[u8],
 ) -> u32
-    ensures renamed { result ≡ OK → IsUtf8 name.now
+    ensures renamed { result ≡ status.ok → IsUtf8 name.now
         × Changes types.old.value types.new.value (λ old new. NamesMemory old piece.now name.now new) }
-    ensures no_handle { (result ≡ NO_HANDLE) ↔ (types.old.value ≡ None) }
-    ensures awaits_block { (result ≡ AWAITS_BLOCK) ↔ IsSomeAnd types.old.value (λ t. IsSome t.awaited) }
-    ensures invalid { (result ≡ INVALID) ↔ IsSomeAnd types.old.value (λ t. (t.awaited ≡ None) × (IsUtf8 name.now → ⊥)) }
-    ensures not_live { (result ≡ NOT_LIVE) ↔ IsSomeAnd types.old.value
+    ensures no_handle { (result ≡ status.no_handle) ↔ (types.old.value ≡ None) }
+    ensures awaits_block { (result ≡ status.awaits_block) ↔ IsSomeAnd types.old.value (λ t. IsSome t.awaited) }
+    ensures invalid { (result ≡ status.invalid) ↔ IsSomeAnd types.old.value (λ t. (t.awaited ≡ None) × (IsUtf8 name.now → ⊥)) }
+    ensures not_live { (result ≡ status.not_live) ↔ IsSomeAnd types.old.value
         (λ t. (t.awaited ≡ None) × IsUtf8 name.now × (IsLiveIn t piece.now → ⊥)) }
-    ensures host_out_of_memory { result ≡ HOST_OUT_OF_MEMORY → IsSomeAnd types.old.value
+    ensures host_out_of_memory { result ≡ status.host_out_of_memory → IsSomeAnd types.old.value
         (λ t. (t.awaited ≡ None) × IsUtf8 name.now × IsLiveIn t piece.now) }
-    ensures statuses { IsOneOf result (OK ∷ NO_HANDLE ∷ AWAITS_BLOCK ∷ INVALID ∷ NOT_LIVE ∷ HOST_OUT_OF_MEMORY ∷ []) }
-    ensures refused { result ≢ OK → types.new.value ≡ types.old.value }
+    ensures statuses { IsOneOf result (status.ok ∷ status.no_handle ∷ status.awaits_block ∷ status.invalid ∷ status.not_live ∷ status.host_out_of_memory ∷ []) }
+    ensures refused { result ≢ status.ok → types.new.value ≡ types.old.value }
 {
     match types.take(alloc) {
         None => NO_HANDLE,
@@ -200,11 +201,11 @@ pub extern "C" fn pilhangko_raw_memory_type_is_live(
     piece: &MemoryPiece,
     is_live: &mut bool,
 ) -> u32
-    ensures told { result ≡ OK → IsSomeAnd types.old.value (λ t. IsTrue is_live.new ↔ IsLiveIn t piece.now) }
-    ensures no_handle { (result ≡ NO_HANDLE) ↔ (types.old.value ≡ None) }
-    ensures statuses { IsOneOf result (OK ∷ NO_HANDLE ∷ []) }
+    ensures told { result ≡ status.ok → IsSomeAnd types.old.value (λ t. IsTrue is_live.new ↔ IsLiveIn t piece.now) }
+    ensures no_handle { (result ≡ status.no_handle) ↔ (types.old.value ≡ None) }
+    ensures statuses { IsOneOf result (status.ok ∷ status.no_handle ∷ []) }
     ensures same { types.new.value ≡ types.old.value }
-    ensures refused { result ≢ OK → is_live.new ≡ is_live.old }
+    ensures refused { result ≢ status.ok → is_live.new ≡ is_live.old }
 {
     match types.take(alloc) {
         None => NO_HANDLE,
@@ -225,12 +226,12 @@ pub extern "C" fn pilhangko_raw_memory_type_set_budget(
     has_budget: bool,
     bytes: u64,
 ) -> u32
-    ensures bounded { result ≡ OK → Changes types.old.value types.new.value
+    ensures bounded { result ≡ status.ok → Changes types.old.value types.new.value
         (λ old new. (old.awaited ≡ None) × (new ≡ record old { budget = number_if has_budget bytes })) }
-    ensures no_handle { (result ≡ NO_HANDLE) ↔ (types.old.value ≡ None) }
-    ensures awaits_block { (result ≡ AWAITS_BLOCK) ↔ IsSomeAnd types.old.value (λ t. IsSome t.awaited) }
-    ensures statuses { IsOneOf result (OK ∷ NO_HANDLE ∷ AWAITS_BLOCK ∷ []) }
-    ensures refused { result ≢ OK → types.new.value ≡ types.old.value }
+    ensures no_handle { (result ≡ status.no_handle) ↔ (types.old.value ≡ None) }
+    ensures awaits_block { (result ≡ status.awaits_block) ↔ IsSomeAnd types.old.value (λ t. IsSome t.awaited) }
+    ensures statuses { IsOneOf result (status.ok ∷ status.no_handle ∷ status.awaits_block ∷ []) }
+    ensures refused { result ≢ status.ok → types.new.value ≡ types.old.value }
 {
     match types.take(alloc) {
         None => NO_HANDLE,
@@ -250,11 +251,11 @@ pub extern "C" fn pilhangko_raw_memory_type_block(
     slot: usize,
     block: &mut MemoryBlock,
 ) -> u32
-    ensures told { result ≡ OK → IsSomeAnd types.old.value (λ t. block.new ≡ told_block (block_number (slot_at t.slots slot))) }
-    ensures no_handle { (result ≡ NO_HANDLE) ↔ (types.old.value ≡ None) }
-    ensures statuses { IsOneOf result (OK ∷ NO_HANDLE ∷ []) }
+    ensures told { result ≡ status.ok → IsSomeAnd types.old.value (λ t. block.new ≡ told_block (block_number (slot_at t.slots slot))) }
+    ensures no_handle { (result ≡ status.no_handle) ↔ (types.old.value ≡ None) }
+    ensures statuses { IsOneOf result (status.ok ∷ status.no_handle ∷ []) }
     ensures same { types.new.value ≡ types.old.value }
-    ensures refused { result ≢ OK → block.new ≡ block.old }
+    ensures refused { result ≢ status.ok → block.new ≡ block.old }
 {
     match types.take(alloc) {
         None => NO_HANDLE,
@@ -274,11 +275,11 @@ pub extern "C" fn pilhangko_raw_memory_type_block_statistics(
     slot: usize,
     statistics: &mut MemoryBlockStatistics,
 ) -> u32
-    ensures told { result ≡ OK → IsSomeAnd types.old.value (λ t. statistics.new ≡ told_counts (statistics_in (slot_at t.slots slot))) }
-    ensures no_handle { (result ≡ NO_HANDLE) ↔ (types.old.value ≡ None) }
-    ensures statuses { IsOneOf result (OK ∷ NO_HANDLE ∷ []) }
+    ensures told { result ≡ status.ok → IsSomeAnd types.old.value (λ t. statistics.new ≡ told_counts (statistics_in (slot_at t.slots slot))) }
+    ensures no_handle { (result ≡ status.no_handle) ↔ (types.old.value ≡ None) }
+    ensures statuses { IsOneOf result (status.ok ∷ status.no_handle ∷ []) }
     ensures same { types.new.value ≡ types.old.value }
-    ensures refused { result ≢ OK → statistics.new ≡ statistics.old }
+    ensures refused { result ≢ status.ok → statistics.new ≡ statistics.old }
 {
     match types.take(alloc) {
         None => NO_HANDLE,
@@ -300,12 +301,12 @@ pub extern "C" fn pilhangko_raw_memory_type_next_piece(
     from: u64,
     piece: &mut PieceView,
 ) -> u32
-    ensures told { result ≡ OK → IsSomeAnd types.old.value
+    ensures told { result ≡ status.ok → IsSomeAnd types.old.value
         (λ t. piece.new ≡ told_view (piece_in_from from (pieces_in (slot_at t.slots slot)))) }
-    ensures no_handle { (result ≡ NO_HANDLE) ↔ (types.old.value ≡ None) }
-    ensures statuses { IsOneOf result (OK ∷ NO_HANDLE ∷ []) }
+    ensures no_handle { (result ≡ status.no_handle) ↔ (types.old.value ≡ None) }
+    ensures statuses { IsOneOf result (status.ok ∷ status.no_handle ∷ []) }
     ensures same { types.new.value ≡ types.old.value }
-    ensures refused { result ≢ OK → piece.new ≡ piece.old }
+    ensures refused { result ≢ status.ok → piece.new ≡ piece.old }
 {
     match types.take(alloc) {
         None => NO_HANDLE,
@@ -328,12 +329,12 @@ pub extern "C" fn pilhangko_raw_memory_type_piece_name(
     name: &mut [u8],
     whole: &mut usize,
 ) -> u32
-    ensures told { result ≡ OK → IsSomeAnd types.old.value
+    ensures told { result ≡ status.ok → IsSomeAnd types.old.value
         (λ t. ShowsName (piece_in_from from (pieces_in (slot_at t.slots slot))) name.old name.new whole.new) }
-    ensures no_handle { (result ≡ NO_HANDLE) ↔ (types.old.value ≡ None) }
-    ensures statuses { IsOneOf result (OK ∷ NO_HANDLE ∷ []) }
+    ensures no_handle { (result ≡ status.no_handle) ↔ (types.old.value ≡ None) }
+    ensures statuses { IsOneOf result (status.ok ∷ status.no_handle ∷ []) }
     ensures same { types.new.value ≡ types.old.value }
-    ensures refused { result ≢ OK → (name.new ≡ name.old) × (whole.new ≡ whole.old) }
+    ensures refused { result ≢ status.ok → (name.new ≡ name.old) × (whole.new ≡ whole.old) }
 {
     match types.take(alloc) {
         None => NO_HANDLE,
@@ -352,11 +353,11 @@ pub extern "C" fn pilhangko_raw_memory_type_statistics(
     alloc: Global,
     statistics: &mut MemoryStatistics,
 ) -> u32
-    ensures told { result ≡ OK → IsSomeAnd types.old.value (λ t. statistics.new ≡ statistics_of t) }
-    ensures no_handle { (result ≡ NO_HANDLE) ↔ (types.old.value ≡ None) }
-    ensures statuses { IsOneOf result (OK ∷ NO_HANDLE ∷ []) }
+    ensures told { result ≡ status.ok → IsSomeAnd types.old.value (λ t. statistics.new ≡ statistics_of t) }
+    ensures no_handle { (result ≡ status.no_handle) ↔ (types.old.value ≡ None) }
+    ensures statuses { IsOneOf result (status.ok ∷ status.no_handle ∷ []) }
     ensures same { types.new.value ≡ types.old.value }
-    ensures refused { result ≢ OK → statistics.new ≡ statistics.old }
+    ensures refused { result ≢ status.ok → statistics.new ≡ statistics.old }
 {
     match types.take(alloc) {
         None => NO_HANDLE,
@@ -376,8 +377,8 @@ pub extern "C" fn pilhangko_raw_memory_type_destroy(
     alloc: Global,
 ) -> u32
     ensures gone { types.new.value ≡ None }
-    ensures no_handle { (result ≡ NO_HANDLE) ↔ (types.old.value ≡ None) }
-    ensures statuses { IsOneOf result (OK ∷ NO_HANDLE ∷ []) }
+    ensures no_handle { (result ≡ status.no_handle) ↔ (types.old.value ≡ None) }
+    ensures statuses { IsOneOf result (status.ok ∷ status.no_handle ∷ []) }
 {
     match types.take(alloc) {
         None => NO_HANDLE,

@@ -5,6 +5,7 @@ ghost use Rattle.std.specs.Prelude.{◌≡◌, ◌≢◌, ◌↔◌, [], ◌∷�
 ghost use Rattle.gpu_values.specs.declared.error.AllocationError.TheVariants.{OutOfMemory, HostOutOfMemory};
 ghost use Rattle.gpu_block.specs.Block.{extents_of};
 ghost use Rattle.gpu_c.specs.Handle.{Changes};
+ghost use Rattle.gpu_c_blocks.specs.Status as status;
 ghost use Rattle.gpu_c_blocks.specs.Request.{IsServed};
 ghost use Rattle.gpu_c_blocks.specs.Status.{IsOneOf};
 ghost use Rattle.gpu_c_blocks.specs.VirtualBlock.{CanCreate, fresh_virtual_block, IsLivePiece, IsRefusedFor, Allocates, Frees, NamesPiece, cleared, counts_of};
@@ -20,9 +21,9 @@ use std::alloc::Global;
 fn create(block: &mut VirtualBlockHandle, alloc: Global, size: u64, granularity: u64) -> u32
     requires empty { block.old.value ≡ None }
     requires valid { CanCreate size granularity }
-    ensures created { result ≡ OK → block.new.value ≡ Some (fresh_virtual_block size granularity) }
-    ensures statuses { IsOneOf result (OK ∷ HOST_OUT_OF_MEMORY ∷ []) }
-    ensures refused { result ≢ OK → block.new.value ≡ None }
+    ensures created { result ≡ status.ok → block.new.value ≡ Some (fresh_virtual_block size granularity) }
+    ensures statuses { IsOneOf result (status.ok ∷ status.host_out_of_memory ∷ []) }
+    ensures refused { result ≢ status.ok → block.new.value ≡ None }
 {
     match VirtualBlock::new(alloc, size, granularity) {
         Err(_) => HOST_OUT_OF_MEMORY,
@@ -45,13 +46,13 @@ pub extern "C" fn pilhangko_raw_virtual_block_create(
     size: u64,
     granularity: u64,
 ) -> u32
-    ensures created { result ≡ OK → (block.old.value ≡ None) × CanCreate size granularity
+    ensures created { result ≡ status.ok → (block.old.value ≡ None) × CanCreate size granularity
         × (block.new.value ≡ Some (fresh_virtual_block size granularity)) }
-    ensures in_use { (result ≡ IN_USE) ↔ (block.old.value ≢ None) }
-    ensures invalid { (result ≡ INVALID) ↔ (block.old.value ≡ None) × (CanCreate size granularity → ⊥) }
-    ensures host_out_of_memory { result ≡ HOST_OUT_OF_MEMORY → (block.old.value ≡ None) × CanCreate size granularity }
-    ensures statuses { IsOneOf result (OK ∷ IN_USE ∷ INVALID ∷ HOST_OUT_OF_MEMORY ∷ []) }
-    ensures refused { result ≢ OK → block.new.value ≡ block.old.value }
+    ensures in_use { (result ≡ status.in_use) ↔ (block.old.value ≢ None) }
+    ensures invalid { (result ≡ status.invalid) ↔ (block.old.value ≡ None) × (CanCreate size granularity → ⊥) }
+    ensures host_out_of_memory { result ≡ status.host_out_of_memory → (block.old.value ≡ None) × CanCreate size granularity }
+    ensures statuses { IsOneOf result (status.ok ∷ status.in_use ∷ status.invalid ∷ status.host_out_of_memory ∷ []) }
+    ensures refused { result ≢ status.ok → block.new.value ≡ block.old.value }
 {
     if let Some(kept) = block.take(alloc) {
         block.put(kept);
@@ -76,17 +77,17 @@ pub extern "C" fn pilhangko_raw_virtual_block_allocate(
     name: &[u8],
     piece: &mut VirtualPiece,
 ) -> u32
-    ensures took { result ≡ OK → Changes block.old.value block.new.value
+    ensures took { result ≡ status.ok → Changes block.old.value block.new.value
         (λ old new. Allocates old request.now name.now piece.new new) }
-    ensures no_handle { (result ≡ NO_HANDLE) ↔ (block.old.value ≡ None) }
-    ensures invalid { (result ≡ INVALID) ↔ IsSomeAnd block.old.value
+    ensures no_handle { (result ≡ status.no_handle) ↔ (block.old.value ≡ None) }
+    ensures invalid { (result ≡ status.invalid) ↔ IsSomeAnd block.old.value
         (λ _. IsServed request.now.size request.now.alignment request.now.kind name.now → ⊥) }
-    ensures out_of_memory { result ≡ OUT_OF_MEMORY → IsSomeAnd block.old.value
+    ensures out_of_memory { result ≡ status.out_of_memory → IsSomeAnd block.old.value
         (λ b. IsRefusedFor b request.now name.now OutOfMemory) }
-    ensures host_out_of_memory { result ≡ HOST_OUT_OF_MEMORY → IsSomeAnd block.old.value
+    ensures host_out_of_memory { result ≡ status.host_out_of_memory → IsSomeAnd block.old.value
         (λ b. IsRefusedFor b request.now name.now HostOutOfMemory) }
-    ensures statuses { IsOneOf result (OK ∷ NO_HANDLE ∷ INVALID ∷ OUT_OF_MEMORY ∷ HOST_OUT_OF_MEMORY ∷ []) }
-    ensures refused { result ≢ OK → (block.new.value ≡ block.old.value) × (piece.new ≡ piece.old) }
+    ensures statuses { IsOneOf result (status.ok ∷ status.no_handle ∷ status.invalid ∷ status.out_of_memory ∷ status.host_out_of_memory ∷ []) }
+    ensures refused { result ≢ status.ok → (block.new.value ≡ block.old.value) × (piece.new ≡ piece.old) }
 {
     match block.take(alloc) {
         None => NO_HANDLE,
@@ -106,11 +107,11 @@ pub extern "C" fn pilhangko_raw_virtual_block_free(
     alloc: Global,
     piece: &VirtualPiece,
 ) -> u32
-    ensures freed { result ≡ OK → Changes block.old.value block.new.value (λ old new. Frees old piece.now new) }
-    ensures no_handle { (result ≡ NO_HANDLE) ↔ (block.old.value ≡ None) }
-    ensures not_live { (result ≡ NOT_LIVE) ↔ IsSomeAnd block.old.value (λ b. IsLivePiece b piece.now → ⊥) }
-    ensures statuses { IsOneOf result (OK ∷ NO_HANDLE ∷ NOT_LIVE ∷ []) }
-    ensures refused { result ≢ OK → block.new.value ≡ block.old.value }
+    ensures freed { result ≡ status.ok → Changes block.old.value block.new.value (λ old new. Frees old piece.now new) }
+    ensures no_handle { (result ≡ status.no_handle) ↔ (block.old.value ≡ None) }
+    ensures not_live { (result ≡ status.not_live) ↔ IsSomeAnd block.old.value (λ b. IsLivePiece b piece.now → ⊥) }
+    ensures statuses { IsOneOf result (status.ok ∷ status.no_handle ∷ status.not_live ∷ []) }
+    ensures refused { result ≢ status.ok → block.new.value ≡ block.old.value }
 {
     match block.take(alloc) {
         None => NO_HANDLE,
@@ -130,14 +131,14 @@ pub extern "C" fn pilhangko_raw_virtual_block_rename(
     piece: &VirtualPiece,
     name: &[u8],
 ) -> u32
-    ensures renamed { result ≡ OK → IsUtf8 name.now
+    ensures renamed { result ≡ status.ok → IsUtf8 name.now
         × Changes block.old.value block.new.value (λ old new. NamesPiece old piece.now name.now new) }
-    ensures no_handle { (result ≡ NO_HANDLE) ↔ (block.old.value ≡ None) }
-    ensures invalid { (result ≡ INVALID) ↔ IsSomeAnd block.old.value (λ _. IsUtf8 name.now → ⊥) }
-    ensures not_live { (result ≡ NOT_LIVE) ↔ IsSomeAnd block.old.value (λ b. IsUtf8 name.now × (IsLivePiece b piece.now → ⊥)) }
-    ensures host_out_of_memory { result ≡ HOST_OUT_OF_MEMORY → IsSomeAnd block.old.value (λ b. IsUtf8 name.now × IsLivePiece b piece.now) }
-    ensures statuses { IsOneOf result (OK ∷ NO_HANDLE ∷ INVALID ∷ NOT_LIVE ∷ HOST_OUT_OF_MEMORY ∷ []) }
-    ensures refused { result ≢ OK → block.new.value ≡ block.old.value }
+    ensures no_handle { (result ≡ status.no_handle) ↔ (block.old.value ≡ None) }
+    ensures invalid { (result ≡ status.invalid) ↔ IsSomeAnd block.old.value (λ _. IsUtf8 name.now → ⊥) }
+    ensures not_live { (result ≡ status.not_live) ↔ IsSomeAnd block.old.value (λ b. IsUtf8 name.now × (IsLivePiece b piece.now → ⊥)) }
+    ensures host_out_of_memory { result ≡ status.host_out_of_memory → IsSomeAnd block.old.value (λ b. IsUtf8 name.now × IsLivePiece b piece.now) }
+    ensures statuses { IsOneOf result (status.ok ∷ status.no_handle ∷ status.invalid ∷ status.not_live ∷ status.host_out_of_memory ∷ []) }
+    ensures refused { result ≢ status.ok → block.new.value ≡ block.old.value }
 {
     match block.take(alloc) {
         None => NO_HANDLE,
@@ -155,10 +156,10 @@ pub extern "C" fn pilhangko_raw_virtual_block_clear(
     block: &mut VirtualBlockHandle,
     alloc: Global,
 ) -> u32
-    ensures emptied { result ≡ OK → Changes block.old.value block.new.value (λ old new. new ≡ cleared old) }
-    ensures no_handle { (result ≡ NO_HANDLE) ↔ (block.old.value ≡ None) }
-    ensures statuses { IsOneOf result (OK ∷ NO_HANDLE ∷ HOST_OUT_OF_MEMORY ∷ []) }
-    ensures refused { result ≢ OK → block.new.value ≡ block.old.value }
+    ensures emptied { result ≡ status.ok → Changes block.old.value block.new.value (λ old new. new ≡ cleared old) }
+    ensures no_handle { (result ≡ status.no_handle) ↔ (block.old.value ≡ None) }
+    ensures statuses { IsOneOf result (status.ok ∷ status.no_handle ∷ status.host_out_of_memory ∷ []) }
+    ensures refused { result ≢ status.ok → block.new.value ≡ block.old.value }
 {
     match block.take(alloc) {
         None => NO_HANDLE,
@@ -177,11 +178,11 @@ pub extern "C" fn pilhangko_raw_virtual_block_statistics(
     alloc: Global,
     statistics: &mut VirtualStatistics,
 ) -> u32
-    ensures told { result ≡ OK → IsSomeAnd block.old.value (λ b. statistics.new ≡ counts_of b) }
-    ensures no_handle { (result ≡ NO_HANDLE) ↔ (block.old.value ≡ None) }
-    ensures statuses { IsOneOf result (OK ∷ NO_HANDLE ∷ []) }
+    ensures told { result ≡ status.ok → IsSomeAnd block.old.value (λ b. statistics.new ≡ counts_of b) }
+    ensures no_handle { (result ≡ status.no_handle) ↔ (block.old.value ≡ None) }
+    ensures statuses { IsOneOf result (status.ok ∷ status.no_handle ∷ []) }
     ensures same { block.new.value ≡ block.old.value }
-    ensures refused { result ≢ OK → statistics.new ≡ statistics.old }
+    ensures refused { result ≢ status.ok → statistics.new ≡ statistics.old }
 {
     match block.take(alloc) {
         None => NO_HANDLE,
@@ -201,11 +202,11 @@ pub extern "C" fn pilhangko_raw_virtual_block_next_piece(
     from: u64,
     piece: &mut PieceView,
 ) -> u32
-    ensures told { result ≡ OK → IsSomeAnd block.old.value (λ b. piece.new ≡ told_view (piece_from from (extents_of b))) }
-    ensures no_handle { (result ≡ NO_HANDLE) ↔ (block.old.value ≡ None) }
-    ensures statuses { IsOneOf result (OK ∷ NO_HANDLE ∷ []) }
+    ensures told { result ≡ status.ok → IsSomeAnd block.old.value (λ b. piece.new ≡ told_view (piece_from from (extents_of b))) }
+    ensures no_handle { (result ≡ status.no_handle) ↔ (block.old.value ≡ None) }
+    ensures statuses { IsOneOf result (status.ok ∷ status.no_handle ∷ []) }
     ensures same { block.new.value ≡ block.old.value }
-    ensures refused { result ≢ OK → piece.new ≡ piece.old }
+    ensures refused { result ≢ status.ok → piece.new ≡ piece.old }
 {
     match block.take(alloc) {
         None => NO_HANDLE,
@@ -227,11 +228,11 @@ pub extern "C" fn pilhangko_raw_virtual_block_piece_name(
     name: &mut [u8],
     whole: &mut usize,
 ) -> u32
-    ensures told { result ≡ OK → IsSomeAnd block.old.value (λ b. ShowsName (piece_from from (extents_of b)) name.old name.new whole.new) }
-    ensures no_handle { (result ≡ NO_HANDLE) ↔ (block.old.value ≡ None) }
-    ensures statuses { IsOneOf result (OK ∷ NO_HANDLE ∷ []) }
+    ensures told { result ≡ status.ok → IsSomeAnd block.old.value (λ b. ShowsName (piece_from from (extents_of b)) name.old name.new whole.new) }
+    ensures no_handle { (result ≡ status.no_handle) ↔ (block.old.value ≡ None) }
+    ensures statuses { IsOneOf result (status.ok ∷ status.no_handle ∷ []) }
     ensures same { block.new.value ≡ block.old.value }
-    ensures refused { result ≢ OK → (name.new ≡ name.old) × (whole.new ≡ whole.old) }
+    ensures refused { result ≢ status.ok → (name.new ≡ name.old) × (whole.new ≡ whole.old) }
 {
     match block.take(alloc) {
         None => NO_HANDLE,
@@ -250,8 +251,8 @@ pub extern "C" fn pilhangko_raw_virtual_block_destroy(
     alloc: Global,
 ) -> u32
     ensures gone { block.new.value ≡ None }
-    ensures no_handle { (result ≡ NO_HANDLE) ↔ (block.old.value ≡ None) }
-    ensures statuses { IsOneOf result (OK ∷ NO_HANDLE ∷ []) }
+    ensures no_handle { (result ≡ status.no_handle) ↔ (block.old.value ≡ None) }
+    ensures statuses { IsOneOf result (status.ok ∷ status.no_handle ∷ []) }
 {
     match block.take(alloc) {
         None => NO_HANDLE,

@@ -3,15 +3,21 @@ use Rattle.std.specs.Prelude.{◌≡◌, ℕ, ◌<◌, ◌⊎◌, ◌==◌, if�
 use Rattle.std.specs.Int.{is_power_of_two}
 use Rattle.gpu_values.specs.declared.allocation_type.AllocationType.{AllocationType}
 use Rattle.gpu_values.specs.declared.allocation_type.AllocationType.TheVariants as kinds
-use Rattle.gpu_c_blocks.specs.declared.request.TheConstants.{LINEAR, NON_LINEAR}
+
+-- the numbers of the kinds: of buffers and linear images, and of images in the device's own layout
+abbrev pub linear : ℕ
+linear = 1
+
+abbrev pub non_linear : ℕ
+non_linear = 2
 
 -- a request that an allocator serves, by its size and alignment in bytes, its kind and its name
 pub record IsServed (size alignment kind : ℕ) (name : List ℕ) : Type 0 where
   pub sized : 0 < size
   pub aligned : IsTrue (is_power_of_two alignment)
-  pub named : (kind ≡ LINEAR) ⊎ (kind ≡ NON_LINEAR)
+  pub named : (kind ≡ linear) ⊎ (kind ≡ non_linear)
   pub text : IsUtf8 name
 
 -- the kind of that number
 abbrev pub kind_named : ℕ → AllocationType
-kind_named kind = if kind == LINEAR then kinds.Linear else kinds.NonLinear
+kind_named kind = if kind == linear then kinds.Linear else kinds.NonLinear

@@ -4,14 +4,14 @@ use Rattle.std.specs.List.{find}
 use Rattle.gpu_values.specs.declared.allocation_type.AllocationType.{AllocationType}
 use Rattle.gpu_values.specs.declared.allocation_type.AllocationType.TheVariants.{Free, Linear, NonLinear}
 use Rattle.gpu_block_pieces.specs.FreeList.{Extent}
-use Rattle.gpu_c_blocks.specs.declared.request.TheConstants.{LINEAR, NON_LINEAR}
+use Rattle.gpu_c_blocks.specs.Request.{linear, non_linear}
 use Rattle.gpu_c_blocks.specs.declared.virtual_block_values.PieceView.{PieceView}
 
 -- the number of a kind
 abbrev pub kind_number : AllocationType → ℕ
 kind_number Free = 0
-kind_number Linear = LINEAR
-kind_number NonLinear = NON_LINEAR
+kind_number Linear = linear
+kind_number NonLinear = non_linear
 
 abbrev pub told_view : Option Extent → PieceView
 told_view None = record { exists = false; number = 0; start = 0; offset = 0; end = 0; kind = 0 }

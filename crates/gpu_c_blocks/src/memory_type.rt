@@ -4,6 +4,7 @@ ghost use Rattle.std.specs.Prelude.{◌≡◌, ◌≢◌, ◌<◌, ◌≤◌, �
 ghost use Rattle.std.specs.Int.{is_power_of_two};
 ghost use Rattle.gpu_slots.specs.TypeState.{slot_at, capacity_of, block_number, fits_budget};
 ghost use Rattle.gpu_slots.specs.TypeReport.{pieces_in, statistics_in};
+ghost use Rattle.gpu_c_blocks.specs.Status as status;
 ghost use Rattle.gpu_c_blocks.specs.Request.{IsServed};
 ghost use Rattle.gpu_c_blocks.specs.Status.{IsOneOf};
 ghost use Rattle.gpu_c_blocks.specs.MemoryType.{AwaitingState, fresh_memory_type, told_piece, no_memory_piece, told_block, number_if, IsLiveIn, Prepares, IsIdleAndServed, IsTooLarge, IsPastBudget, InstallsAwaited, Abandons, FreesPiece, NamesMemory, statistics_of, sizes_told, told_counts};
@@ -107,10 +108,10 @@ fn told_block(block: Option<u64>) -> MemoryBlock
 /// Whether a new block of `size` bytes may be asked for: the sum of the blocks' sizes stays in 64 bits, else `OUT_OF_MEMORY`, and
 /// within the budget, else `BUDGET_EXCEEDED`.
 fn growth_status(types: &MemoryType<u64>, size: u64) -> u32
-    ensures within { result ≡ OK → (capacity_of types.now.slots + size < 2 ^ 64) × (fits_budget types.now.budget (capacity_of types.now.slots + size) ≡ true) }
-    ensures out_of_memory { result ≡ OUT_OF_MEMORY → 2 ^ 64 ≤ capacity_of types.now.slots + size }
-    ensures past_budget { result ≡ BUDGET_EXCEEDED → (capacity_of types.now.slots + size < 2 ^ 64) × (fits_budget types.now.budget (capacity_of types.now.slots + size) ≡ false) }
-    ensures statuses { IsOneOf result (OK ∷ OUT_OF_MEMORY ∷ BUDGET_EXCEEDED ∷ []) }
+    ensures within { result ≡ status.ok → (capacity_of types.now.slots + size < 2 ^ 64) × (fits_budget types.now.budget (capacity_of types.now.slots + size) ≡ true) }
+    ensures out_of_memory { result ≡ status.out_of_memory → 2 ^ 64 ≤ capacity_of types.now.slots + size }
+    ensures past_budget { result ≡ status.budget_exceeded → (capacity_of types.now.slots + size < 2 ^ 64) × (fits_budget types.now.budget (capacity_of types.now.slots + size) ≡ false) }
+    ensures statuses { IsOneOf result (status.ok ∷ status.out_of_memory ∷ status.budget_exceeded ∷ []) }
 {
     if types.capacity().checked_add(size).is_none() {
         return OUT_OF_MEMORY;
@@ -144,14 +145,14 @@ impl AwaitingType {
         name: &[u8],
         prepared: &mut MemoryPrepared,
     ) -> u32
-        ensures done { result ≡ OK → Prepares self.old request.now name.now prepared.new self.new }
-        ensures awaits_block { (result ≡ AWAITS_BLOCK) ↔ IsSome self.old.awaited }
-        ensures invalid { (result ≡ INVALID) ↔ (self.old.awaited ≡ None) × (IsServed request.now.size request.now.alignment request.now.kind name.now → ⊥) }
-        ensures host_out_of_memory { result ≡ HOST_OUT_OF_MEMORY → IsIdleAndServed self.old request.now name.now }
-        ensures out_of_memory { result ≡ OUT_OF_MEMORY → IsTooLarge self.old request.now name.now }
-        ensures budget_exceeded { result ≡ BUDGET_EXCEEDED → IsPastBudget self.old request.now name.now }
-        ensures statuses { IsOneOf result (OK ∷ AWAITS_BLOCK ∷ INVALID ∷ HOST_OUT_OF_MEMORY ∷ OUT_OF_MEMORY ∷ BUDGET_EXCEEDED ∷ []) }
-        ensures refused { result ≢ OK → (self.new ≡ self.old) × (prepared.new ≡ prepared.old) }
+        ensures done { result ≡ status.ok → Prepares self.old request.now name.now prepared.new self.new }
+        ensures awaits_block { (result ≡ status.awaits_block) ↔ IsSome self.old.awaited }
+        ensures invalid { (result ≡ status.invalid) ↔ (self.old.awaited ≡ None) × (IsServed request.now.size request.now.alignment request.now.kind name.now → ⊥) }
+        ensures host_out_of_memory { result ≡ status.host_out_of_memory → IsIdleAndServed self.old request.now name.now }
+        ensures out_of_memory { result ≡ status.out_of_memory → IsTooLarge self.old request.now name.now }
+        ensures budget_exceeded { result ≡ status.budget_exceeded → IsPastBudget self.old request.now name.now }
+        ensures statuses { IsOneOf result (status.ok ∷ status.awaits_block ∷ status.invalid ∷ status.host_out_of_memory ∷ status.out_of_memory ∷ status.budget_exceeded ∷ []) }
+        ensures refused { result ≢ status.ok → (self.new ≡ self.old) × (prepared.new ≡ prepared.old) }
     {
         match &self.awaited {
             Some(_) => return AWAITS_BLOCK,
@@ -191,10 +192,10 @@ impl AwaitingType {
 
     /// Puts in the block that is awaited, under the driver's handle of it, and tells the piece in it.
     pub fn install(&mut self, block: u64, piece: &mut MemoryPiece) -> u32
-        ensures installed { result ≡ OK → InstallsAwaited self.old block piece.new self.new }
-        ensures awaits_no_block { (result ≡ AWAITS_NO_BLOCK) ↔ (self.old.awaited ≡ None) }
-        ensures statuses { IsOneOf result (OK ∷ AWAITS_NO_BLOCK ∷ []) }
-        ensures refused { result ≢ OK → (self.new ≡ self.old) × (piece.new ≡ piece.old) }
+        ensures installed { result ≡ status.ok → InstallsAwaited self.old block piece.new self.new }
+        ensures awaits_no_block { (result ≡ status.awaits_no_block) ↔ (self.old.awaited ≡ None) }
+        ensures statuses { IsOneOf result (status.ok ∷ status.awaits_no_block ∷ []) }
+        ensures refused { result ≢ status.ok → (self.new ≡ self.old) × (piece.new ≡ piece.old) }
     {
         match self.awaited.take() {
             None => AWAITS_NO_BLOCK,
@@ -207,10 +208,10 @@ impl AwaitingType {
 
     /// Forgets the block that is awaited.
     pub fn abandon(&mut self) -> u32
-        ensures abandoned { result ≡ OK → Abandons self.old self.new }
-        ensures awaits_no_block { (result ≡ AWAITS_NO_BLOCK) ↔ (self.old.awaited ≡ None) }
-        ensures statuses { IsOneOf result (OK ∷ AWAITS_NO_BLOCK ∷ []) }
-        ensures refused { result ≢ OK → self.new ≡ self.old }
+        ensures abandoned { result ≡ status.ok → Abandons self.old self.new }
+        ensures awaits_no_block { (result ≡ status.awaits_no_block) ↔ (self.old.awaited ≡ None) }
+        ensures statuses { IsOneOf result (status.ok ∷ status.awaits_no_block ∷ []) }
+        ensures refused { result ≢ status.ok → self.new ≡ self.old }
     {
         match self.awaited.take() {
             None => AWAITS_NO_BLOCK,
@@ -220,11 +221,11 @@ impl AwaitingType {
 
     /// Gives a piece back, and tells the block that goes with it, if one does.
     pub fn free(&mut self, piece: &MemoryPiece, gone: &mut MemoryBlock) -> u32
-        ensures freed { result ≡ OK → FreesPiece self.old piece.now gone.new self.new }
-        ensures awaits_block { (result ≡ AWAITS_BLOCK) ↔ IsSome self.old.awaited }
-        ensures not_live { (result ≡ NOT_LIVE) ↔ (self.old.awaited ≡ None) × (IsLiveIn self.old piece.now → ⊥) }
-        ensures statuses { IsOneOf result (OK ∷ AWAITS_BLOCK ∷ NOT_LIVE ∷ []) }
-        ensures refused { result ≢ OK → (self.new ≡ self.old) × (gone.new ≡ gone.old) }
+        ensures freed { result ≡ status.ok → FreesPiece self.old piece.now gone.new self.new }
+        ensures awaits_block { (result ≡ status.awaits_block) ↔ IsSome self.old.awaited }
+        ensures not_live { (result ≡ status.not_live) ↔ (self.old.awaited ≡ None) × (IsLiveIn self.old piece.now → ⊥) }
+        ensures statuses { IsOneOf result (status.ok ∷ status.awaits_block ∷ status.not_live ∷ []) }
+        ensures refused { result ≢ status.ok → (self.new ≡ self.old) × (gone.new ≡ gone.old) }
     {
         match &self.awaited {
             Some(_) => return AWAITS_BLOCK,
@@ -244,13 +245,13 @@ impl AwaitingType {
 
     /// Gives a piece another name.
     pub fn rename(&mut self, piece: &MemoryPiece, name: &[u8]) -> u32
-        ensures renamed { result ≡ OK → IsUtf8 name.now × NamesMemory self.old piece.now name.now self.new }
-        ensures awaits_block { (result ≡ AWAITS_BLOCK) ↔ IsSome self.old.awaited }
-        ensures invalid { (result ≡ INVALID) ↔ (self.old.awaited ≡ None) × (IsUtf8 name.now → ⊥) }
-        ensures not_live { (result ≡ NOT_LIVE) ↔ (self.old.awaited ≡ None) × IsUtf8 name.now × (IsLiveIn self.old piece.now → ⊥) }
-        ensures host_out_of_memory { result ≡ HOST_OUT_OF_MEMORY → (self.old.awaited ≡ None) × IsUtf8 name.now × IsLiveIn self.old piece.now }
-        ensures statuses { IsOneOf result (OK ∷ AWAITS_BLOCK ∷ INVALID ∷ NOT_LIVE ∷ HOST_OUT_OF_MEMORY ∷ []) }
-        ensures refused { result ≢ OK → self.new ≡ self.old }
+        ensures renamed { result ≡ status.ok → IsUtf8 name.now × NamesMemory self.old piece.now name.now self.new }
+        ensures awaits_block { (result ≡ status.awaits_block) ↔ IsSome self.old.awaited }
+        ensures invalid { (result ≡ status.invalid) ↔ (self.old.awaited ≡ None) × (IsUtf8 name.now → ⊥) }
+        ensures not_live { (result ≡ status.not_live) ↔ (self.old.awaited ≡ None) × IsUtf8 name.now × (IsLiveIn self.old piece.now → ⊥) }
+        ensures host_out_of_memory { result ≡ status.host_out_of_memory → (self.old.awaited ≡ None) × IsUtf8 name.now × IsLiveIn self.old piece.now }
+        ensures statuses { IsOneOf result (status.ok ∷ status.awaits_block ∷ status.invalid ∷ status.not_live ∷ status.host_out_of_memory ∷ []) }
+        ensures refused { result ≢ status.ok → self.new ≡ self.old }
     {
         match &self.awaited {
             Some(_) => return AWAITS_BLOCK,
@@ -285,10 +286,10 @@ impl AwaitingType {
 
     /// Bounds the sum of the blocks' sizes, or takes the bound away.
     pub fn set_budget(&mut self, has_budget: bool, bytes: u64) -> u32
-        ensures bounded { result ≡ OK → (self.old.awaited ≡ None) × (self.new ≡ record self.old { budget = number_if has_budget bytes }) }
-        ensures awaits_block { (result ≡ AWAITS_BLOCK) ↔ IsSome self.old.awaited }
-        ensures statuses { IsOneOf result (OK ∷ AWAITS_BLOCK ∷ []) }
-        ensures refused { result ≢ OK → self.new ≡ self.old }
+        ensures bounded { result ≡ status.ok → (self.old.awaited ≡ None) × (self.new ≡ record self.old { budget = number_if has_budget bytes }) }
+        ensures awaits_block { (result ≡ status.awaits_block) ↔ IsSome self.old.awaited }
+        ensures statuses { IsOneOf result (status.ok ∷ status.awaits_block ∷ []) }
+        ensures refused { result ≢ status.ok → self.new ≡ self.old }
     {
         match &self.awaited {
             Some(_) => AWAITS_BLOCK,

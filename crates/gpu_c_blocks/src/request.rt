@@ -2,7 +2,7 @@
 
 ghost use Rattle.std.specs.Prelude.{◌≡◌, ◌≢◌, ◌<◌, ◌⊎◌, Some, IfSome, IfNone, MatchOption, IsTrue, IsUtf8};
 ghost use Rattle.std.specs.Int.{is_power_of_two};
-ghost use Rattle.gpu_c_blocks.specs.Request.{IsServed, kind_named};
+ghost use Rattle.gpu_c_blocks.specs.Request.{linear, non_linear, IsServed, kind_named};
 
 use gpu_values::AllocationType;
 
@@ -14,8 +14,8 @@ pub const NON_LINEAR: u32 = 2;
 
 /// The kind of that number; `None` where no kind has it.
 fn kind_of(kind: u32) -> Option<AllocationType>
-    ensures known { IfSome result (λ k. (k ≡ kind_named kind) × (k ≢ AllocationType.Free) × ((kind ≡ LINEAR) ⊎ (kind ≡ NON_LINEAR))) }
-    ensures unknown { IfNone result ((kind ≢ LINEAR) × (kind ≢ NON_LINEAR)) }
+    ensures known { IfSome result (λ k. (k ≡ kind_named kind) × (k ≢ AllocationType.Free) × ((kind ≡ linear) ⊎ (kind ≡ non_linear))) }
+    ensures unknown { IfNone result ((kind ≢ linear) × (kind ≢ non_linear)) }
 {
     if kind == LINEAR {
         return Some(AllocationType::Linear);

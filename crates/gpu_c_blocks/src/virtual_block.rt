@@ -4,6 +4,7 @@ ghost use Rattle.std.specs.Prelude.{◌≡◌, ◌≢◌, ◌<◌, ◌↔◌, Ma
 ghost use Rattle.std.specs.Int.NonZero.{non_zero_u64_get};
 ghost use Rattle.gpu_values.specs.declared.error.AllocationError.TheVariants.{OutOfMemory, HostOutOfMemory};
 ghost use Rattle.gpu_block.specs.Block.{extents_of};
+ghost use Rattle.gpu_c_blocks.specs.Status as status;
 ghost use Rattle.gpu_c_blocks.specs.Request.{IsServed};
 ghost use Rattle.gpu_c_blocks.specs.Status.{IsOneOf};
 ghost use Rattle.gpu_c_blocks.specs.VirtualBlock.{CanCreate, fresh_virtual_block, IsLivePiece, IsRefusedFor, Allocates, Frees, NamesPiece, cleared, counts_of};
@@ -62,12 +63,12 @@ impl VirtualBlock {
         name: &[u8],
         piece: &mut VirtualPiece,
     ) -> u32
-        ensures took { result ≡ OK → Allocates self.old wanted.now name.now piece.new self.new }
-        ensures invalid { (result ≡ INVALID) ↔ (IsServed wanted.now.size wanted.now.alignment wanted.now.kind name.now → ⊥) }
-        ensures out_of_memory { result ≡ OUT_OF_MEMORY → IsRefusedFor self.old wanted.now name.now OutOfMemory }
-        ensures host_out_of_memory { result ≡ HOST_OUT_OF_MEMORY → IsRefusedFor self.old wanted.now name.now HostOutOfMemory }
-        ensures statuses { IsOneOf result (OK ∷ INVALID ∷ OUT_OF_MEMORY ∷ HOST_OUT_OF_MEMORY ∷ []) }
-        ensures refused { result ≢ OK → (self.new ≡ self.old) × (piece.new ≡ piece.old) }
+        ensures took { result ≡ status.ok → Allocates self.old wanted.now name.now piece.new self.new }
+        ensures invalid { (result ≡ status.invalid) ↔ (IsServed wanted.now.size wanted.now.alignment wanted.now.kind name.now → ⊥) }
+        ensures out_of_memory { result ≡ status.out_of_memory → IsRefusedFor self.old wanted.now name.now OutOfMemory }
+        ensures host_out_of_memory { result ≡ status.host_out_of_memory → IsRefusedFor self.old wanted.now name.now HostOutOfMemory }
+        ensures statuses { IsOneOf result (status.ok ∷ status.invalid ∷ status.out_of_memory ∷ status.host_out_of_memory ∷ []) }
+        ensures refused { result ≢ status.ok → (self.new ≡ self.old) × (piece.new ≡ piece.old) }
     {
         let Some((kind, name)) = served(wanted.size, wanted.alignment, wanted.kind, name) else {
             return INVALID;
@@ -105,10 +106,10 @@ impl VirtualBlock {
 
     /// Gives a piece back.
     pub fn free(&mut self, piece: &VirtualPiece) -> u32
-        ensures freed { result ≡ OK → Frees self.old piece.now self.new }
-        ensures not_live { (result ≡ NOT_LIVE) ↔ (IsLivePiece self.old piece.now → ⊥) }
-        ensures statuses { IsOneOf result (OK ∷ NOT_LIVE ∷ []) }
-        ensures refused { result ≢ OK → self.new ≡ self.old }
+        ensures freed { result ≡ status.ok → Frees self.old piece.now self.new }
+        ensures not_live { (result ≡ status.not_live) ↔ (IsLivePiece self.old piece.now → ⊥) }
+        ensures statuses { IsOneOf result (status.ok ∷ status.not_live ∷ []) }
+        ensures refused { result ≢ status.ok → self.new ≡ self.old }
     {
         match self.number_of(piece) {
             None => NOT_LIVE,
@@ -121,12 +122,12 @@ impl VirtualBlock {
 
     /// Gives a piece another name.
     pub fn rename(&mut self, piece: &VirtualPiece, name: &[u8]) -> u32
-        ensures renamed { result ≡ OK → IsUtf8 name.now × NamesPiece self.old piece.now name.now self.new }
-        ensures invalid { (result ≡ INVALID) ↔ (IsUtf8 name.now → ⊥) }
-        ensures not_live { (result ≡ NOT_LIVE) ↔ IsUtf8 name.now × (IsLivePiece self.old piece.now → ⊥) }
-        ensures host_out_of_memory { result ≡ HOST_OUT_OF_MEMORY → IsUtf8 name.now × IsLivePiece self.old piece.now }
-        ensures statuses { IsOneOf result (OK ∷ INVALID ∷ NOT_LIVE ∷ HOST_OUT_OF_MEMORY ∷ []) }
-        ensures refused { result ≢ OK → self.new ≡ self.old }
+        ensures renamed { result ≡ status.ok → IsUtf8 name.now × NamesPiece self.old piece.now name.now self.new }
+        ensures invalid { (result ≡ status.invalid) ↔ (IsUtf8 name.now → ⊥) }
+        ensures not_live { (result ≡ status.not_live) ↔ IsUtf8 name.now × (IsLivePiece self.old piece.now → ⊥) }
+        ensures host_out_of_memory { result ≡ status.host_out_of_memory → IsUtf8 name.now × IsLivePiece self.old piece.now }
+        ensures statuses { IsOneOf result (status.ok ∷ status.invalid ∷ status.not_live ∷ status.host_out_of_memory ∷ []) }
+        ensures refused { result ≢ status.ok → self.new ≡ self.old }
     {
         let Ok(name) = str::from_utf8(name) else {
             return INVALID;
@@ -142,9 +143,9 @@ impl VirtualBlock {
 
     /// Gives all pieces back.
     pub fn clear(&mut self, alloc: Global) -> u32
-        ensures emptied { result ≡ OK → self.new ≡ cleared self.old }
-        ensures statuses { IsOneOf result (OK ∷ HOST_OUT_OF_MEMORY ∷ []) }
-        ensures refused { result ≢ OK → self.new ≡ self.old }
+        ensures emptied { result ≡ status.ok → self.new ≡ cleared self.old }
+        ensures statuses { IsOneOf result (status.ok ∷ status.host_out_of_memory ∷ []) }
+        ensures refused { result ≢ status.ok → self.new ≡ self.old }
     {
         match VirtualBlock::new(alloc, self.sub.size(), self.granularity) {
             Err(_) => HOST_OUT_OF_MEMORY,
