@@ -4,14 +4,13 @@ use Rattle.std.specs.Prelude.{IfSome}
 use Rattle.std.specs.Borrow.{Bor}
 use Rattle.std.proofs.lemmas.List.{length-map, get_or-map, take_all}
 use Rattle.gpu_trace_lines.specs.Words.{texts}
-use Rattle.gpu_trace_run.specs.declared.run.TheConstants.{LIMIT}
 use Rattle.gpu_trace_run.specs.declared.replay.Replayed.{Replayed}
 use Rattle.gpu_trace_run.specs.declared.replay.Replayed.TheVariants as replayed
 use Rattle.gpu_trace_run.specs.declared.stage.Outcome.{Outcome}
 use Rattle.gpu_trace_run.specs.declared.stage.Outcome.TheVariants.{Nothing, Replied, Bad}
 use Rattle.gpu_trace_run.specs.declared.stage.Stage.{Stage}
 use Rattle.gpu_trace_run.specs.Stage.{is_bad}
-use Rattle.gpu_trace_run.specs.Run.{Serves, lines_of}
+use Rattle.gpu_trace_run.specs.Run.{Serves, lines_of, longest_trace}
 use Rattle.gpu_trace_run.specs.Replay.{LeadTo, serve, StopAt, Replays, ReplaysTrace}
 
 text_at : (lines : List (Bor (List ℕ))) (n : ℕ) (d : Bor (List ℕ)) → n < length lines → (get_or lines n d).now ≡ get_or (texts lines) n []
@@ -42,18 +41,18 @@ line_bad lines d stage next n Bad led lt did stop =
     record { within = texts_below lines n lt; stage = stage; before = led; bad = rw (← text_at lines n d lt) did }
 
 -- more than the limit was there
-pub too_long : (known : Option (List ℕ)) (text : List ℕ) → IfSome known (λ input. text ≡ take (LIMIT + 1) input) → LIMIT < length text
+pub too_long : (known : Option (List ℕ)) (text : List ℕ) → IfSome known (λ input. text ≡ take (longest_trace + 1) input) → longest_trace < length text
     → IfSome known (λ input. ReplaysTrace input (replayed.Bad 1))
 too_long None text read long = tt
-too_long (Some input) text read long = inl (omega (arith, ap length read, length-take (LIMIT + 1) input), refl)
+too_long (Some input) text read long = inl (omega (arith, ap length read, length-take (longest_trace + 1) input), refl)
 
 -- all was read
-pub all_read : (known : Option (List ℕ)) (text : List ℕ) (lines : List (List ℕ)) (r : Replayed) → IfSome known (λ input. text ≡ take (LIMIT + 1) input) → length text ≤ LIMIT
+pub all_read : (known : Option (List ℕ)) (text : List ℕ) (lines : List (List ℕ)) (r : Replayed) → IfSome known (λ input. text ≡ take (longest_trace + 1) input) → length text ≤ longest_trace
     → lines ≡ lines_of text → Replays lines r → IfSome known (λ input. ReplaysTrace input r)
 all_read None text lines r read short is ran = tt
 all_read (Some input) text lines r read short is ran =
-    let len : length input ≤ LIMIT = omega (arith, ap length read, length-take (LIMIT + 1) input) in
-    let more : length input ≤ LIMIT + 1 = omega arith in
-    let same : text ≡ input = read ∙ take_all (LIMIT + 1) input more in
+    let len : length input ≤ longest_trace = omega (arith, ap length read, length-take (longest_trace + 1) input) in
+    let more : length input ≤ longest_trace + 1 = omega arith in
+    let same : text ≡ input = read ∙ take_all (longest_trace + 1) input more in
     let split : lines ≡ lines_of input = is ∙ ap lines_of same in
     inr (len, rw split at ran)

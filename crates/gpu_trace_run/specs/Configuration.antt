@@ -1,7 +1,7 @@
 -- The configuration of a device trace: the simulated device and the block sizes that its lines describe.
 use Rattle.std.specs.Prelude.{ℕ, ◌-◌, ◌*◌, ◌^◌, List, [], ◌∷◌, ◌++◌, Option, Some, None}
 use Rattle.std.specs.Option.{unwrap_or}
-use Rattle.gpu_values.specs.Sizes.{Sizes, only_size, with_largest}
+use Rattle.gpu_values.specs.Sizes.{Sizes, default_sizes, only_size, with_largest}
 use Rattle.gpu_device.specs.Properties.{Properties}
 use Rattle.gpu_device.specs.declared.vulkan.types.MemoryHeap.{MemoryHeap}
 use Rattle.gpu_device.specs.declared.vulkan.types.MemoryTypeInfo.{MemoryTypeInfo}
@@ -47,10 +47,6 @@ properties_by c = record { types = c.types; heaps = c.heaps; granularity = unwra
 -- the device refuses the questions that the lines name, and no memory for its size
 abbrev pub plan_by : Configured → Plan
 plan_by c = record { properties = properties_by c; limit = 2 ^ 64 - 1; script = c.refusals; questions = 0; issued = 0 }
-
--- 256 MB of the device's memory, 64 MB of memory that the host can see
-abbrev pub default_sizes : Sizes
-default_sizes = record { device = only_size (256 * 1048576); host = only_size (64 * 1048576) }
 
 abbrev pub sizes_by : Configured → Sizes
 sizes_by c = unwrap_or c.sizes default_sizes

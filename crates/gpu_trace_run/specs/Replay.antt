@@ -1,13 +1,12 @@
 -- The stage that a trace leaves.
 use Rattle.std.specs.Prelude.{◌≡◌, ℕ, ◌+◌, ◌<◌, ◌≤◌, ◌⊎◌, false, List, [], ◌∷◌, ◌++◌, length, take, slice_index_or}
-use Rattle.gpu_trace_run.specs.declared.run.TheConstants.{LIMIT}
 use Rattle.gpu_trace_run.specs.declared.replay.Replayed.{Replayed}
 use Rattle.gpu_trace_run.specs.declared.replay.Replayed.TheVariants.{Whole, Bad}
 use Rattle.gpu_trace_run.specs.declared.stage.Outcome.{Outcome}
 use Rattle.gpu_trace_run.specs.declared.stage.Stage.{Stage}
 use Rattle.gpu_trace_run.specs.declared.stage.Stage.TheVariants.{Before}
 use Rattle.gpu_trace_run.specs.Stage.{is_bad}
-use Rattle.gpu_trace_run.specs.Run.{Serves, IsBad, lines_of}
+use Rattle.gpu_trace_run.specs.Run.{Serves, IsBad, lines_of, longest_trace}
 
 -- these lines, served from the first to the last, lead to this stage
 pub data LeadTo : List (List ℕ) → Stage → Type 0 where
@@ -28,4 +27,4 @@ Replays lines (Bad number) = (i : ℕ) × (number ≡ i + 1) × StopAt lines i
 
 -- a trace that is too long is bad from its first line on
 abbrev pub ReplaysTrace : List ℕ → Replayed → Type 0
-ReplaysTrace text r = ((LIMIT < length text) × (r ≡ Bad 1)) ⊎ ((length text ≤ LIMIT) × Replays (lines_of text) r)
+ReplaysTrace text r = ((longest_trace < length text) × (r ≡ Bad 1)) ⊎ ((length text ≤ longest_trace) × Replays (lines_of text) r)

@@ -5,7 +5,6 @@ use Rattle.std.specs.Fmt.{decimal}
 use Rattle.std.specs.Io.KnownBytes.{Appends}
 use Rattle.gpu_trace_lines.specs.declared.line.Line.{Line}
 use Rattle.gpu_trace_lines.specs.declared.reply.Reply.{Reply}
-use Rattle.gpu_trace_run.specs.declared.run.TheConstants.{LIMIT}
 use Rattle.gpu_trace_run.specs.declared.stage.Outcome.{Outcome}
 use Rattle.gpu_trace_run.specs.declared.stage.Outcome.TheVariants.{Nothing, Replied, Bad}
 use Rattle.gpu_trace_run.specs.declared.stage.Stage.{Stage}
@@ -38,9 +37,13 @@ pub data Runs : Stage → ℕ → List (List ℕ) → List Reply → Option ℕ 
 abbrev pub lines_of : List ℕ → List (List ℕ)
 lines_of text = slice_split (λ b. b == 10) text
 
+-- the most bytes that a trace has
+abbrev pub longest_trace : ℕ
+longest_trace = 1048576
+
 -- a trace that is too long is bad from its first line on
 abbrev pub RunsTrace : List ℕ → List Reply → Option ℕ → Type 0
-RunsTrace text rs bad = ((LIMIT < length text) × (rs ≡ []) × (bad ≡ Some 1)) ⊎ ((length text ≤ LIMIT) × Runs Before 1 (lines_of text) rs bad)
+RunsTrace text rs bad = ((longest_trace < length text) × (rs ≡ []) × (bad ≡ Some 1)) ⊎ ((length text ≤ longest_trace) × Runs Before 1 (lines_of text) rs bad)
 
 abbrev pub bad_text : Option ℕ → List ℕ
 bad_text None = []

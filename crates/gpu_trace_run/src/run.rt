@@ -4,7 +4,7 @@ ghost use Rattle.std.specs.Prelude.{◌≡◌, ◌≤◌, ℕ, ◌+◌, Some, If
 ghost use Rattle.std.specs.Io.KnownBytes.{Appends};
 ghost use Rattle.gpu_trace_lines.specs.Words.{texts};
 ghost use Rattle.gpu_trace_lines.specs.Reply.{reply_line};
-ghost use Rattle.gpu_trace_run.specs.Run.{Serves, HasRun, Answers, bad_text, outcome_text, lines_of};
+ghost use Rattle.gpu_trace_run.specs.Run.{Serves, HasRun, Answers, bad_text, outcome_text, lines_of, longest_trace};
 
 use crate::stage::{Outcome, Stage};
 use gpu_trace_lines::{Reply, read};
@@ -33,7 +33,7 @@ pub enum TraceError {
 
 /// Reads a trace, and one byte more where it is too long.
 pub(crate) fn read_trace<R: Read>(alloc: Global, reader: &mut R) -> Result<Vec<u8>, TraceError>
-    ensures { IfOk result (λ v. IfSome (R.remaining reader.old) (λ input. v.items ≡ take (LIMIT + 1) input)) }
+    ensures { IfOk result (λ v. IfSome (R.remaining reader.old) (λ input. v.items ≡ take (longest_trace + 1) input)) }
 {
     let mut bytes = Vec::new(alloc);
     let mut limited = Read::take(&mut *reader, LIMIT + 1);

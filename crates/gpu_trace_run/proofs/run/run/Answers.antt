@@ -1,17 +1,16 @@
 use Rattle.std.proofs.Common.{rules, ◌≡◌, ◌∙◌, ap, ◌<◌, ◌≤◌, length}
 use Rattle.gpu_trace_lines.specs.Words.{texts}
-use Rattle.gpu_trace_run.specs.Run.{lines_of}
-use Rattle.gpu_trace_run.specs.declared.run.TheConstants.{LIMIT}
+use Rattle.gpu_trace_run.specs.Run.{lines_of, longest_trace}
 use Rattle.gpu_trace_run.proofs.Input.{too_long, all_read}
 use Rattle.gpu_trace_run.proofs.run.run.Goals as goal
 
 pub returns-then-len-gt-LIMIT : goal.returns-then-len-gt-LIMIT
 returns-then-len-gt-LIMIT g c =
-    let long : LIMIT < length c.in_ok-text.text.items = search rules in
+    let long : longest_trace < length c.in_ok-text.text.items = search rules in
     too_long _ c.in_ok-text.text.items _ _ _ c.in_ok-text.ensures long c.in_ok-write_bad.ensures c.in_ok-flush.ensures.bytes
 
 pub returns : goal.returns
 returns g c =
-    let short : length c.in_ok-text.text.items ≤ LIMIT = search rules in
+    let short : length c.in_ok-text.text.items ≤ longest_trace = search rules in
     let is : texts c.deref-2.result.now ≡ lines_of c.in_ok-text.text.items = ap texts c.deref-2.ensures.value ∙ c.in_ok-lines.ensures ∙ ap lines_of c.deref.ensures.value in
     all_read _ c.in_ok-text.text.items (texts c.deref-2.result.now) _ _ _ _ c.in_ok-text.ensures short is c.in_ok-bad.ensures c.in_ok-flush-2.ensures.bytes
