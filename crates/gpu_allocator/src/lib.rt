@@ -7,7 +7,7 @@ pub mod vulkan;
 
 pub use gpu_core::{
     AllocationError, AllocationReport, AllocationSizes, AllocationType, AllocatorDebugSettings,
-    AllocatorReport, DedicatedBlockAllocator, Fault, FreeListAllocator, Leak, Leaks,
-    MemoryBlockReport, MemoryLocation, MemoryType, NeedBlock, Piece, Prepared, Request, Result,
-    Room, SubAllocator, TypeLeaks, fmt_bytes, laws, type_laws,
+    AllocatorReport, BlockStatistics, DedicatedBlockAllocator, Fault, FreeListAllocator, Gaps,
+    Leak, Leaks, LivePiece, MemoryBlockReport, MemoryLocation, MemoryType, NeedBlock, Piece,
+    Pieces, Prepared, Request, Result, Room, SubAllocator, TypeLeaks, fmt_bytes, laws, type_laws,
 };

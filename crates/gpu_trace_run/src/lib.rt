@@ -10,5 +10,5 @@ mod stage;
 pub use block_stage::BlockStage;
 pub use configuration::Configuration;
 pub use replay::{Replayed, replay_trace};
-pub use run::{TraceError, run_trace};
+pub use run::run_trace;
 pub use stage::{Outcome, Stage};

@@ -1,5 +1,5 @@
 use Rattle.gpu_vulkan_session.proofs.NonInterference.{non_interference}
-use Rattle.gpu_vulkan_session.proofs.laws.non_interference.Goals as goal
+use Rattle.gpu_vulkan_session.proofs.laws.two_runs.Goals as goal
 
 pub returns : goal.returns
 returns c = non_interference
