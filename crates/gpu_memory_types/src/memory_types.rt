@@ -1,6 +1,6 @@
 //! The memory types of one allocator: one of them prepares a request, takes a new block in, or gives a piece back.
 
-ghost use Rattle.std.specs.Prelude.{◌≡◌, ◌≢◌, ℕ, ◌+◌, ◌^◌, ◌<◌, ◌≤◌, ◌↔◌, [], All, length, Some, None, IfOk, IfErr, OnOk, OnErr, IsTrue, map, string_bytes, codes};
+ghost use Rattle.std.specs.Prelude.{◌≡◌, ◌≢◌, ℕ, ◌+◌, ◌^◌, ◌<◌, ◌≤◌, ◌↔◌, [], All, length, Some, None, IfOk, IfErr, IsOk, OnOk, OnErr, IsTrue, map, string_bytes, codes};
 ghost use Rattle.std.specs.Int.{is_power_of_two};
 ghost use Rattle.std.specs.List.{slice_set, slice_get};
 ghost use Rattle.std.specs.Option.{option_map};
@@ -134,6 +134,7 @@ impl<H: Copy + Eq> MemoryTypes<H> {
     /// and then nothing changes.
     pub fn set_budget(&mut self, index: usize, budget: Option<u64>) -> Result<()>
         ensures budgets { SetsBudget index budget (budgets self.old) (refusal_in result) (budgets self.new) }
+        ensures found { index < length (slots_of self.old) → IsOk result }
         ensures slots { slots_of self.new ≡ slots_of self.old }
         ensures kinds { kinds self.new ≡ kinds self.old }
         ensures refused { OnErr result (self.new ≡ self.old) }

@@ -1,6 +1,6 @@
 //! The allocator: blocks of heaps by memory type, and the calls that share them out.
 
-ghost use Rattle.std.specs.Prelude.{◌≡◌, ◌↔◌, ◌%◌, ◌<◌, [], All, None, true, IfOk, IfErr, IsTrue, length, option_copied, string_bytes};
+ghost use Rattle.std.specs.Prelude.{◌≡◌, ◌↔◌, ◌%◌, ◌<◌, [], All, None, true, IfOk, IfErr, IsOk, IsTrue, length, option_copied, string_bytes};
 ghost use Rattle.gpu_values.specs.Refusal.{refusal_of, refusal_in};
 ghost use Rattle.gpu_values.specs.Report.{report_of};
 ghost use Rattle.gpu_values.specs.declared.error.AllocationError.TheVariants.{HostOutOfMemory};
@@ -212,6 +212,7 @@ impl<D: MetalDevice> Allocator<D> {
     /// `Internal` where there is no such memory type, and then nothing changes. It takes no memory.
     pub fn set_budget(&mut self, memory_type: usize, budget: Option<u64>) -> Result<()>
         ensures budgets { SetsBudget memory_type budget self.old.budgets (refusal_in result) self.new.budgets }
+        ensures found { memory_type < length self.old.slots → IsOk result }
         ensures others { self.new ≡ record self.old { budgets = self.new.budgets } }
         ensures step { IsStep D.MetalDevice (SetBudget memory_type budget) (done_as result) self.old self.new }
     {

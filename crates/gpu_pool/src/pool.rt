@@ -1,6 +1,6 @@
 //! A pool: a source of blocks, and the pieces of its blocks.
 
-ghost use Rattle.std.specs.Prelude.{◌≡◌, ◌≢◌, ◌↔◌, ◌⊎◌, ◌<◌, ◌%◌, ℕ, [], All, None, length, map, string_bytes, IsTrue, IfOk, IfErr};
+ghost use Rattle.std.specs.Prelude.{◌≡◌, ◌≢◌, ◌↔◌, ◌⊎◌, ◌<◌, ◌%◌, ℕ, [], All, None, length, map, string_bytes, IsTrue, IsOk, IfOk, IfErr};
 ghost use Rattle.std.specs.Int.{is_power_of_two};
 ghost use Rattle.gpu_values.specs.Refusal.{refusal_in};
 ghost use Rattle.gpu_values.specs.Report.{report_of};
@@ -125,6 +125,7 @@ impl<S: BlockSource> Pool<S> {
     /// no memory.
     pub fn set_budget(&mut self, index: usize, budget: Option<u64>) -> Result<()>
         ensures budgets { SetsBudget index budget self.old.budgets (refusal_in result) self.new.budgets }
+        ensures found { index < length self.old.slots → IsOk result }
         ensures others { self.new ≡ record self.old { budgets = self.new.budgets } }
     {
         self.types.set_budget(index, budget)
