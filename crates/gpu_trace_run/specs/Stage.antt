@@ -8,7 +8,7 @@ use Rattle.gpu_values.specs.declared.allocator_debug_settings.AllocatorDebugSett
 use Rattle.gpu_device.specs.declared.vulkan.device.VulkanDevice.{Ghosts}
 use Rattle.gpu_sim.specs.Simulation.{held_of, properties_of, plan_of, history_of, refused_of, latest_of, written_sim}
 use Rattle.gpu_sim.specs.declared.sim_vulkan.SimVulkan.{SimVulkan}
-use Rattle.gpu_vulkan_blocks.specs.Blocks.{HoldsJustLiveBlocks}
+use Rattle.gpu_vulkan.specs.Blocks.{HoldsJustLiveBlocks}
 use Rattle.gpu_vulkan_setup.specs.Setup.{setup_fault}
 use Rattle.gpu_vulkan_session.specs.Command as session_commands
 use Rattle.gpu_vulkan_session.specs.Command.{SessionCommand}

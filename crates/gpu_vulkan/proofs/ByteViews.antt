@@ -7,7 +7,7 @@ use Rattle.gpu_block.specs.Block.{extents_of}
 use Rattle.gpu_slots.specs.TypeState.{Slot}
 use Rattle.gpu_device.specs.Held.{Held, bytes_of}
 use Rattle.gpu_device.specs.declared.vulkan.types.DeviceMemory.{DeviceMemory}
-use Rattle.gpu_vulkan_blocks.specs.Blocks.{Slots}
+use Rattle.gpu_vulkan.specs.Blocks.{Slots}
 use Rattle.gpu_memory_types.specs.Blocks.{block_at}
 use Rattle.gpu_vulkan.specs.ByteView.{AllocationId, is_same_id, ByteView, byte_view_of, list_in, rest_in, piece_bytes, piece_of_number, byte_at, lies_in, IsOutOf, TakesOut, PutsBack, AddsBlock}
 use Rattle.gpu_vulkan.specs.ByteView.{DropsBlock}

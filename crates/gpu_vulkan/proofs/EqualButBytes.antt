@@ -1,5 +1,5 @@
 -- Calls that differ at most in bytes get the same reply but for bytes, and leave the same blocks.
-use Rattle.std.proofs.Common.{inl, inr, map, ◌⊎◌, ◌≡◌, ◌∙◌, ℕ, refl, sym, ap, subst, Bool, true, false, List, slice_set, Option, Some, None, arith, ⊎_elim, IsTrue}
+use Rattle.std.proofs.Common.{inl, inr, map, ◌⊎◌, ◌≡◌, ◌∙◌, ℕ, ◌<◌, length, Ok, Err, Result, refl, sym, ap, subst, Bool, true, false, List, slice_set, Option, Some, None, arith, ⊎_elim, IsTrue}
 use Rattle.std.specs.Prelude.{◌&&◌, not, if◌then◌else◌}
 use Rattle.gpu_values.specs.Refusal.{Refusal, host_out_of_memory}
 use Rattle.gpu_block_views.specs.Leak.{leak_text}
@@ -14,16 +14,19 @@ use Rattle.gpu_vulkan.proofs.KeptBudgets.{keeps_budgets}
 use Rattle.gpu_vulkan.specs.Allocate.{Attempts, IsTooLarge, IsWithinHeap, is_valid, is_for_upload, is_short}
 use Rattle.gpu_vulkan.specs.EqualButBytes.{EqualButBytesAnswer, EqualButBytesAsked, EqualButBytesAttemptEnvironment, EqualButBytesCallEnvironment, EqualButBytesDescription, EqualButBytesCall}
 use Rattle.gpu_vulkan.specs.EqualButBytes.{EqualButBytesReply}
-use Rattle.gpu_memory_types.specs.Attempt.{RequestAt, Allocated, AllocatesInType, Gave, Refused}
-use Rattle.gpu_memory_types.proofs.OneOutcome.{allocates_once}
-use Rattle.gpu_vulkan_blocks.specs.Suballocation.{AttemptEnvironment, Asked, Answer, asked_block, block_result, request_at}
-use Rattle.gpu_vulkan_blocks.specs.BlockAnswer.{BlockAnswer, Declined, Granted, Mapped, NotMapped}
-use Rattle.gpu_vulkan_setup.specs.Types.{is_mapped}
-use Rattle.gpu_vulkan_blocks.specs.Blocks.{Slots}
+use Rattle.gpu_memory_types.proofs.Options.{none_some, some_same}
+use Rattle.gpu_device.specs.declared.vulkan.types.AllocationScheme.{AllocationScheme}
+use Rattle.gpu_pool.specs.Allocate.{RequestAt, Environment, NothingMet, NoHostMemory, Answered, Serves}
+use Rattle.gpu_vulkan.specs.Source.{IsResult}
+use Rattle.gpu_vulkan.proofs.Following.{next_below, best_below}
+use Rattle.gpu_vulkan.specs.Attempt.{AttemptEnvironment, Asked, Answer, IsMet, request_in, unseen, AnyQuestion, Allocates}
+use Rattle.gpu_vulkan.specs.BlockAnswer.{BlockAnswer, Declined, Granted, Mapped, NotMapped, answer_number, answer_refusal}
+use Rattle.gpu_vulkan_setup.specs.Types.{kinds_told}
+use Rattle.gpu_vulkan.specs.Blocks.{Slots}
 use Rattle.gpu_memory_types.specs.Blocks.{slots_at, total_capacity, BlocksWellFormed}
 use Rattle.gpu_vulkan_setup.specs.Choice.{first_type, required, best_type}
 use Rattle.gpu_vulkan_setup.specs.Describe.{is_own, kind_of, request_of}
-use Rattle.gpu_vulkan_blocks.specs.Release.{is_same_memory, IsLiveIn}
+use Rattle.gpu_vulkan.specs.Live.{is_same_memory, IsLiveIn}
 use Rattle.gpu_vulkan.specs.Live.{piece_of, IsMapped}
 use Rattle.gpu_memory_types.specs.Leaks.{all_leaks}
 use Rattle.gpu_memory_types.specs.Reports.{whole_report}
@@ -34,7 +37,7 @@ use Rattle.gpu_vulkan.specs.Step.{ModelState, Call, Allocate, Free, Write, Renam
 use Rattle.gpu_vulkan.specs.Step.{RenameStep, CallEnvironment, AttemptStep, reply_of, next_by, Follows, ServeStep, RefuseStep, FoundStep, AllocateStep, FreeStep, IsRead, Step}
 use Rattle.gpu_vulkan.specs.declared.allocation.Allocation.{Allocation}
 use Rattle.gpu_vulkan_setup.specs.declared.describe.AllocationCreateDesc.{AllocationCreateDesc}
-use Rattle.gpu_vulkan.proofs.OneStep.{mid_sound, free_reply, done_or_fails, rename_reply, named_or_fails, rename_fails_once, shown_reply, told_reply, by_host, write_reply, read_reply, sum_reply}
+use Rattle.gpu_vulkan.proofs.OneStep.{allocates_once, mid_sound, free_reply, done_or_fails, rename_reply, named_or_fails, rename_fails_once, shown_reply, told_reply, by_host, write_reply, read_reply, sum_reply}
 use Rattle.gpu_vulkan.proofs.OneStep.{budget_reply, set_reply, sets_once, done_by}
 
 -- ---- descriptions that ask for the same
@@ -43,29 +46,66 @@ same_request : (d e : AllocationCreateDesc) → EqualButBytesDescription d e →
 same_request d e a = λ i. record { size = (a.requirements i).size; alignment = (a.requirements i).alignment; kind = kind_of (a.linear i); name = a.name i }
 
 next_alike : (setup : Setup) (d e : AllocationCreateDesc) (answer : Answer) → EqualButBytesDescription d e → next_by setup d answer ≡ next_by setup e answer
-next_alike setup d e (Gave p) a = refl
-next_alike setup d e (Refused r) a =
+next_alike setup d e (Ok p) a = refl
+next_alike setup d e (Err r) a =
     λ i. if is_for_upload (a.location i) && not (is_short r) then first_type setup.properties.types (a.requirements i).memory_type_bits (required (a.location i)) else None
 
 -- ---- answers that differ in bytes alone
 
-result_alike : (a b : BlockAnswer) → EqualButBytesAnswer a b → block_result a ≡ block_result b
-result_alike (Mapped n xs) (Mapped m ys) same = ap (λ k. Allocated (record { 0 = k })) same
-result_alike (Mapped n xs) (Declined code) same = ap block_result same
-result_alike (Mapped n xs) (Granted m) same = ap block_result same
-result_alike (Mapped n xs) (NotMapped code) same = ap block_result same
-result_alike (Declined code) b same = ap block_result same
-result_alike (Granted n) b same = ap block_result same
-result_alike (NotMapped code) b same = ap block_result same
+number_alike : (a b : BlockAnswer) → EqualButBytesAnswer a b → answer_number a ≡ answer_number b
+number_alike (Mapped n xs) (Mapped m ys) same = ap Some same
+number_alike (Mapped n xs) (Declined code) same = ap answer_number same
+number_alike (Mapped n xs) (Granted m) same = ap answer_number same
+number_alike (Mapped n xs) (NotMapped code) same = ap answer_number same
+number_alike (Declined code) b same = ap answer_number same
+number_alike (Granted n) b same = ap answer_number same
+number_alike (NotMapped code) b same = ap answer_number same
 
-asked_alike : (o p : Option Asked) → EqualButBytesAsked o p → asked_block o ≡ asked_block p
-asked_alike None None same = refl
-asked_alike None (Some b) same = absurd same
-asked_alike (Some a) None same = absurd same
-asked_alike (Some a) (Some b) same =
-    let sizes : a.info.size ≡ b.info.size = ap (λ (i : MemoryAllocateInfo). i.size) same.0 in
-    let results = result_alike a.answer b.answer same.1 in
-    λ j. Some (record { size = sizes j; result = results j })
+refusal_alike : (a b : BlockAnswer) → EqualButBytesAnswer a b → answer_refusal a ≡ answer_refusal b
+refusal_alike (Mapped n xs) (Mapped m ys) same = refl
+refusal_alike (Mapped n xs) (Declined code) same = ap answer_refusal same
+refusal_alike (Mapped n xs) (Granted m) same = ap answer_refusal same
+refusal_alike (Mapped n xs) (NotMapped code) same = ap answer_refusal same
+refusal_alike (Declined code) b same = ap answer_refusal same
+refusal_alike (Granted n) b same = ap answer_refusal same
+refusal_alike (NotMapped code) b same = ap answer_refusal same
+
+result_alike : (r : Result DeviceMemory Refusal) (a b : BlockAnswer) → EqualButBytesAnswer a b → IsResult r b → IsResult r a
+result_alike (Ok memory) a b same is = number_alike a b same ∙ is
+result_alike (Err e) a b same is = refusal_alike a b same ∙ is
+
+none_alike : (o p : Option Asked) → EqualButBytesAsked o p → p ≡ None → o ≡ None
+none_alike None p same is = refl
+none_alike (Some a) None same is = absurd same
+none_alike (Some a) (Some b) same is = absurd (none_some b (sym is))
+
+-- what was asked otherwise, and how it was answered
+record AskedAs (o : Option Asked) (size : ℕ) (r : Result DeviceMemory Refusal) : Type 0 where
+  pub asked : Asked
+  pub is : o ≡ Some asked
+  pub sized : asked.info.size ≡ size
+  pub result : IsResult r asked.answer
+
+some_alike : (o p : Option Asked) (b : Asked) (size : ℕ) (r : Result DeviceMemory Refusal) → EqualButBytesAsked o p → p ≡ Some b → b.info.size ≡ size → IsResult r b.answer → AskedAs o size r
+some_alike None None b size r same is sized result = absurd (none_some b is)
+some_alike None (Some c) b size r same is sized result = absurd same
+some_alike (Some a) None b size r same is sized result = absurd same
+some_alike (Some a) (Some c) b size r same is sized result =
+    let one : c ≡ b = some_same c b is in
+    record {
+      asked = a;
+      is = refl;
+      sized = ap (λ (i : MemoryAllocateInfo). i.size) same.0 ∙ ap (λ (k : Asked). k.info.size) one ∙ sized;
+      result = result_alike r a.answer c.answer same.1 (subst (λ (k : Asked). IsResult r k.answer) (sym one) result);
+    }
+
+met_alike : (o p : AttemptEnvironment) (met : Environment DeviceMemory) → EqualButBytesAttemptEnvironment o p → IsMet p met → IsMet o met
+met_alike o p NothingMet same is = (same.host ∙ is.0, none_alike o.asked p.asked same.asked is.1)
+met_alike o p NoHostMemory same is = (same.host ∙ is.0, none_alike o.asked p.asked same.asked is.1)
+met_alike o p (Answered size r) same is =
+    let b = is.1 in
+    let a = some_alike o.asked p.asked b.0 size r same.asked b.1 b.2 b.3 in
+    (same.host ∙ is.0, (a.asked, a.is, a.sized, a.result))
 
 -- ---- an attempt
 
@@ -73,33 +113,28 @@ module _ (setup : Setup) (d e : AllocationCreateDesc) (same : EqualButBytesDescr
   same_size : d.requirements.size ≡ e.requirements.size
   same_size = ap (λ r. r.size) same.requirements
 
-  same_request_at : (budgets : Budgets) (t : ℕ) → request_at setup budgets t d ≡ request_at setup budgets t e
-  same_request_at budgets t =
+  same_request_in : (t : ℕ) → request_in t d ≡ request_in t e
+  same_request_in t =
       let requests = same_request d e same in
-      λ j. record {
-        memory_type = t;
-        is_host = is_mapped setup.properties t;
-        granularity = setup.properties.granularity;
-        budget = budget_at budgets t;
-        sizes = setup.sizes;
-        wants_own = is_own (same.scheme j);
-        request = requests j;
-      }
+      λ j. record { memory_type = t; requested_dedicated = is_own (same.scheme j); request = requests j; extra = same.scheme j }
 
-  within_alike : (budgets : Budgets) (old : Slots) (t : ℕ) (o p : AttemptEnvironment) (x y : Answer) (new next : Slots) → BlocksWellFormed setup.properties.granularity old →
-      EqualButBytesAttemptEnvironment o p
+  within_alike : (budgets : Budgets) (old : Slots) (t : ℕ) (o p : AttemptEnvironment) (x y : Answer) (new next : Slots) → t < length setup.properties.types
+      → BlocksWellFormed setup.properties.granularity old → EqualButBytesAttemptEnvironment o p
       → IsWithinHeap setup budgets old t d o x new → IsWithinHeap setup budgets old t e p y next → (x ≡ y) × (new ≡ next)
-  within_alike budgets old t o p x y new next sound met a b =
-      let other : AllocatesInType (request_at setup budgets t d) old o.host (asked_block o.asked) y next =
-      subst (λ (q : RequestAt). AllocatesInType q old o.host (asked_block o.asked) y next) (sym (same_request_at budgets t))
-      (subst (λ k. AllocatesInType (request_at setup budgets t e) old k (asked_block o.asked) y next) (sym met.host)
-      (subst (λ k. AllocatesInType (request_at setup budgets t e) old p.host k y next) (sym (asked_alike o.asked p.asked met.asked)) b.allocates)) in
-      allocates_once (request_at setup budgets t d) old o.host (asked_block o.asked) x y new next (sound t) a.allocates other
+  within_alike budgets old t o p x y new next there sound met a b =
+      let k = b.allocates in
+      let kinds = kinds_told setup.properties in
+      let other : Allocates setup budgets old t d o y next = record {
+        met = k.met;
+        is_met = met_alike o p k.met met k.is_met;
+        serves = subst (λ (q : RequestAt AllocationScheme). Serves kinds AnyQuestion q (unseen setup budgets old) k.met y (unseen setup budgets next)) (sym (same_request_in t)) k.serves;
+      } in
+      allocates_once setup budgets old t d there sound o x y new next a.allocates other
 
-  attempts_alike : (budgets : Budgets) (old : Slots) (t : ℕ) (o p : AttemptEnvironment) (x y : Answer) (new next : Slots) → BlocksWellFormed setup.properties.granularity old →
-      EqualButBytesAttemptEnvironment o p
+  attempts_alike : (budgets : Budgets) (old : Slots) (t : ℕ) (o p : AttemptEnvironment) (x y : Answer) (new next : Slots) → t < length setup.properties.types
+      → BlocksWellFormed setup.properties.granularity old → EqualButBytesAttemptEnvironment o p
       → Attempts setup budgets old t d o x new → Attempts setup budgets old t e p y next → (x ≡ y) × (new ≡ next)
-  attempts_alike budgets old t o p x y new next sound met a b =
+  attempts_alike budgets old t o p x y new next there sound met a b =
       ⊎_elim
       (λ (la : IsTooLarge setup old t d o x new).
       ⊎_elim
@@ -109,49 +144,49 @@ module _ (setup : Setup) (d e : AllocationCreateDesc) (same : EqualButBytesDescr
       (λ (pa : IsWithinHeap setup budgets old t d o x new).
       ⊎_elim
       (λ (lb : IsTooLarge setup old t e p y next). let above = lb.above in let below = pa.below in absurd (omega (arith, above, below, same_size)))
-      (λ (pb : IsWithinHeap setup budgets old t e p y next). within_alike budgets old t o p x y new next sound met pa pb)
+      (λ (pb : IsWithinHeap setup budgets old t e p y next). within_alike budgets old t o p x y new next there sound met pa pb)
       b)
       a
 
   -- the same from two states with the same blocks and budgets
-  attempt_alike : (t : ℕ) (o p : AttemptEnvironment) (x y : Answer) (old new twin next : ModelState) → BlocksWellFormed setup.properties.granularity old.slots → old.slots ≡ twin.slots → old.budgets ≡
+  attempt_alike : (t : ℕ) (o p : AttemptEnvironment) (x y : Answer) (old new twin next : ModelState) → t < length setup.properties.types → BlocksWellFormed setup.properties.granularity old.slots → old.slots ≡ twin.slots → old.budgets ≡
       twin.budgets → EqualButBytesAttemptEnvironment o p
       → AttemptStep setup t d o x old new → AttemptStep setup t e p y twin next → (x ≡ y) × (new.slots ≡ next.slots)
-  attempt_alike t o p x y old new twin next sound slots budgets met a b =
-      attempts_alike old.budgets old.slots t o p x y new.slots next.slots sound met a.slots
+  attempt_alike t o p x y old new twin next there sound slots budgets met a b =
+      attempts_alike old.budgets old.slots t o p x y new.slots next.slots there sound met a.slots
       (subst (λ z. Attempts setup z old.slots t e p y next.slots) (sym budgets) (subst (λ z. Attempts setup twin.budgets z t e p y next.slots) (sym slots) b.slots))
 
   follows_alike : (u : Option ℕ) (o p : AttemptEnvironment) (t : ℕ) (first : Answer) (mid twin : ModelState) (x y : Reply) (new next : ModelState) →
-      ((v : ℕ) → u ≡ Some v → BlocksWellFormed setup.properties.granularity mid.slots)
+      ((v : ℕ) → u ≡ Some v → (v < length setup.properties.types) × BlocksWellFormed setup.properties.granularity mid.slots)
       → mid.slots ≡ twin.slots → mid.budgets ≡ twin.budgets → EqualButBytesAttemptEnvironment o p → Follows setup d u o t first mid x new → Follows setup e u p t first twin y next → (x ≡ y) ×
       (new.slots ≡ next.slots)
   follows_alike None o p t first mid twin x y new next sound slots budgets met a b = (a.1 ∙ sym b.1, ap (λ s. s.slots) a.2 ∙ slots ∙ sym (ap (λ s. s.slots) b.2))
   follows_alike (Some u) o p t first mid twin x y new next sound slots budgets met a b =
-      let once = attempt_alike u o p a.0 b.0 mid new twin next (sound u refl) slots budgets met a.1 b.1 in
+      let once = attempt_alike u o p a.0 b.0 mid new twin next (sound u refl).0 (sound u refl).1 slots budgets met a.1 b.1 in
       (a.2 ∙ ap (reply_of u) once.0 ∙ sym b.2, once.1)
 
-  serve_alike : (t : ℕ) (o p : CallEnvironment) (x y : Reply) (old new twin next : ModelState) → BlocksWellFormed setup.properties.granularity old.slots → old.slots ≡ twin.slots → old.budgets ≡
+  serve_alike : (t : ℕ) (o p : CallEnvironment) (x y : Reply) (old new twin next : ModelState) → t < length setup.properties.types → BlocksWellFormed setup.properties.granularity old.slots → old.slots ≡ twin.slots → old.budgets ≡
       twin.budgets → EqualButBytesCallEnvironment o p
       → ServeStep setup t d o x old new → ServeStep setup t e p y twin next → (x ≡ y) × (new.slots ≡ next.slots)
-  serve_alike t o p x y old new twin next sound slots budgets met a b =
-      let first = attempt_alike t o.first p.first a.answer b.answer old a.mid twin b.mid sound slots budgets met.first a.attempt b.attempt in
+  serve_alike t o p x y old new twin next there sound slots budgets met a b =
+      let first = attempt_alike t o.first p.first a.answer b.answer old a.mid twin b.mid there sound slots budgets met.first a.attempt b.attempt in
       let answers = first.0 in
       let named : Follows setup e (next_by setup e a.answer) p.second t a.answer b.mid y next =
       subst (λ w. Follows setup e (next_by setup e w) p.second t w b.mid y next) (sym answers) b.follows in
       let other : Follows setup e (next_by setup d a.answer) p.second t a.answer b.mid y next =
       subst (λ u. Follows setup e u p.second t a.answer b.mid y next) (sym (next_alike setup d e a.answer same)) named in
-      follows_alike (next_by setup d a.answer) o.second p.second t a.answer a.mid b.mid x y new next (λ v is. mid_sound setup t v d o.first a.answer old a.mid sound a.attempt is) first.1
+      follows_alike (next_by setup d a.answer) o.second p.second t a.answer a.mid b.mid x y new next (λ v is. (next_below setup d a.answer v is, mid_sound setup t v d o.first a.answer old a.mid sound a.attempt is)) first.1
       (a.attempt.budgets ∙ budgets ∙ sym b.attempt.budgets) met.second a.follows other
 
   refuse_alike : (r : Refusal) (o p : CallEnvironment) (x y : Reply) (old new twin next : ModelState) → old.slots ≡ twin.slots → RefuseStep r o x old new → RefuseStep r p y twin next → (x ≡ y) ×
       (new.slots ≡ next.slots)
   refuse_alike r o p x y old new twin next slots a b = (a.reply_is ∙ sym b.reply_is, ap (λ s. s.slots) a.same ∙ slots ∙ sym (ap (λ s. s.slots) b.same))
 
-  found_alike : (t : Option ℕ) (o p : CallEnvironment) (x y : Reply) (old new twin next : ModelState) → BlocksWellFormed setup.properties.granularity old.slots → old.slots ≡ twin.slots → old.budgets
+  found_alike : (t : Option ℕ) (o p : CallEnvironment) (x y : Reply) (old new twin next : ModelState) → ((v : ℕ) → t ≡ Some v → v < length setup.properties.types) → BlocksWellFormed setup.properties.granularity old.slots → old.slots ≡ twin.slots → old.budgets
       ≡ twin.budgets → EqualButBytesCallEnvironment o p
       → FoundStep setup d t o x old new → FoundStep setup e t p y twin next → (x ≡ y) × (new.slots ≡ next.slots)
-  found_alike None o p x y old new twin next sound slots budgets met a b = refuse_alike _ o p x y old new twin next slots a b
-  found_alike (Some t) o p x y old new twin next sound slots budgets met a b = serve_alike t o p x y old new twin next sound slots budgets met a b
+  found_alike None o p x y old new twin next there sound slots budgets met a b = refuse_alike _ o p x y old new twin next slots a b
+  found_alike (Some t) o p x y old new twin next there sound slots budgets met a b = serve_alike t o p x y old new twin next (there t refl) sound slots budgets met a b
 
   allocate_alike : (valid : Bool) (o p : CallEnvironment) (x y : Reply) (old new twin next : ModelState) → BlocksWellFormed setup.properties.granularity old.slots → old.slots ≡ twin.slots →
       old.budgets ≡ twin.budgets → EqualButBytesCallEnvironment o p
@@ -160,7 +195,7 @@ module _ (setup : Setup) (d e : AllocationCreateDesc) (same : EqualButBytesDescr
   allocate_alike true o p x y old new twin next sound slots budgets met a b =
       let types : best_type setup.properties.types d.requirements.memory_type_bits d.location ≡ best_type setup.properties.types e.requirements.memory_type_bits e.location =
       λ i. best_type setup.properties.types (same.requirements i).memory_type_bits (same.location i) in
-      found_alike _ o p x y old new twin next sound slots budgets met a (subst (λ t. FoundStep setup e t p y twin next) (sym types) b)
+      found_alike _ o p x y old new twin next (λ v is. best_below setup d v is) sound slots budgets met a (subst (λ t. FoundStep setup e t p y twin next) (sym types) b)
 
   valid_alike : is_valid d ≡ is_valid e
   valid_alike = ap (λ r. is_valid (record d { requirements = r })) same.requirements

@@ -19,15 +19,19 @@ use Rattle.gpu_device.specs.declared.vulkan.types.DeviceMemory.{DeviceMemory}
 use Rattle.gpu_device.proofs.Maps.{get-remove_other}
 use Rattle.gpu_memory_types.specs.Budgets.{Budgets}
 use Rattle.gpu_vulkan_setup.specs.Types.{is_mapped}
-use Rattle.gpu_vulkan_blocks.specs.Blocks.{Slots, HoldsJustLiveBlocks}
+use Rattle.gpu_vulkan.specs.Blocks.{Slots, HoldsJustLiveBlocks}
 use Rattle.gpu_memory_types.specs.Blocks.{slots_at, block_at, BlocksWellFormed}
 use Rattle.gpu_vulkan.specs.ByteView.{ByteView, byte_view_of, PutsBack}
-use Rattle.gpu_vulkan_blocks.specs.Release.{GivesBack, IsReleased}
+use Rattle.gpu_vulkan.specs.Free.{GivesBack, IsReleased}
 use Rattle.gpu_vulkan.specs.Free.{FreesPiece, Frees}
-use Rattle.gpu_vulkan_blocks.specs.Release.{is_same_memory, IsLiveIn}
+use Rattle.gpu_vulkan.specs.Live.{is_same_memory, IsLiveIn}
 use Rattle.gpu_vulkan.specs.Live.{piece_of}
 use Rattle.gpu_vulkan_setup.specs.Setup.{Setup}
-use Rattle.gpu_vulkan.specs.State.{State}
+use Rattle.gpu_pool.specs.Free as pools
+use Rattle.gpu_pool.specs.Free.{GivesBackAny}
+use Rattle.gpu_values.specs.Refusal.{Refusal, refusal_of}
+use Rattle.gpu_vulkan.specs.Source.{SourceState, GivesMemory}
+use Rattle.gpu_vulkan.specs.State.{State, Pool, setup_of, IsConstant}
 use Rattle.gpu_vulkan.specs.Reply.{Done}
 use Rattle.gpu_vulkan.specs.Step.{ModelState, model_of, Free, id_in, MayDrop, ReleaseStep, FreeStep, IsStep, nothing_met, freed_as}
 use Rattle.gpu_vulkan.specs.declared.allocation.Allocation.{Allocation}
@@ -35,7 +39,7 @@ use Rattle.gpu_vulkan.proofs.ByteViews.{released_byte_view, dropped_byte_view, w
 use Rattle.gpu_vulkan.proofs.Joins.{OneMore, one_more_released, found_number}
 use Rattle.gpu_vulkan.proofs.Parts.{HasRoom}
 use Rattle.gpu_memory_types.proofs.Placed.{only_block, some_below}
-use Rattle.gpu_vulkan.proofs.Releasing.{type_below}
+use Rattle.gpu_pool.proofs.Freeing.{type_below}
 use Rattle.gpu_vulkan.proofs.Stepping.{live_room}
 use Rattle.gpu_memory_types.proofs.Options.{none_some, some_same}
 
@@ -133,6 +137,37 @@ module _ {D : Type 0} (g : Ghosts D) (setup : Setup) (first : Held) (t : ℕ) (o
           budgets = same;
         }
 
+-- ---- from the pool's words
+
+module _ {D : Type 0} (g : Ghosts D) (old new : Pool D) where
+  back_of : (went : Option DeviceMemory) → GivesBackAny (GivesMemory g) old.source went new.source → GivesBack g old.source.device went new.source.device
+  back_of None is = ap (λ (s : SourceState D). s.device) is
+  back_of (Some memory) k = record { held = k.held; count = k.count; latest = k.latest; constant = k.constant }
+
+  module _ (a : Allocation) (p : Piece DeviceMemory) where
+    abbrev FreesIt : Result (Unit {0}) Refusal → Type 0
+    FreesIt result = pools.Frees (GivesMemory g) is_same_memory a.memory_type_index p old result new
+
+    pub piece_freed : FreesIt (Ok tt) → FreesPiece g a (Some p) old.slots old.source.device (Ok tt) new.slots new.source.device
+    piece_freed f =
+        let r = f.1.slots in
+        (f.0, record { went = f.1.went; left = r.left; releases = r.releases; slots = r.slots; gives_back = back_of f.1.went f.1.source })
+
+    pub piece_kept : (e : AllocationError) → FreesIt (Err (refusal_of e)) → FreesPiece g a (Some p) old.slots old.source.device (Err (e, a)) new.slots new.source.device
+    piece_kept e f = (f.0, f.1, refl, ap (λ (s : Pool D). s.slots) f.2, ap (λ (s : Pool D). s.source.device) f.2)
+
+    source_constant : (went : Option DeviceMemory) → GivesBackAny (GivesMemory g) old.source went new.source → (new.source.first ≡ old.source.first) × (new.source.setup ≡ old.source.setup)
+    source_constant None is = (ap (λ (s : SourceState D). s.first) is, ap (λ (s : SourceState D). s.setup) is)
+    source_constant (Some memory) k = (ap (λ (s : SourceState D). s.first) k.state, ap (λ (s : SourceState D). s.setup) k.state)
+
+    pub constant : (result : Result (Unit {0}) Refusal) → FreesIt result → IsConstant old new
+    constant (Ok u) f =
+        let source = source_constant f.1.went f.1.source in
+        let setups = source.1 in
+        let sizes = ap (λ (s : Pool D). s.sizes) f.1.state in
+        record { first = source.0; setup = λ i. record (setups i) { sizes = sizes i }; budgets = ap (λ (s : Pool D). s.budgets) f.1.state }
+    constant (Err e) f = record { first = ap (λ (s : Pool D). s.source.first) f.2; setup = ap setup_of f.2; budgets = ap (λ (s : Pool D). s.budgets) f.2 }
+
 -- ---- the call
 
 back_counts : {D : Type 0} (g : Ghosts D) (went : Option DeviceMemory) (device after : D) → GivesBack g device went after → (g.refused after ≡ g.refused device) × (g.latest after ≡ g.latest device)
@@ -153,7 +188,7 @@ module _ {D : Type 0} (g : Ghosts D) (first : Held) (old new : State D) (sound :
   frees_as a (Some p) is (Ok u) f =
       let t = a.memory_type_index in
       let counts = back_counts g f.1.went old.device new.device f.1.gives_back in
-      ((f.0, released_step g old.setup first t old.slots (type_below old.slots t p f.0) sound p old.device new.slots new.device f.1 f.0 h whole old.budgets new.budgets budgets), counts.0, counts.1)
+      ((f.0, released_step g old.setup first t old.slots (type_below is_same_memory old.slots t p f.0) sound p old.device new.slots new.device f.1 f.0 h whole old.budgets new.budgets budgets), counts.0, counts.1)
   frees_as a (Some p) is (Err e) f = ((f.0, f.1, same_model f.3 f.4), ap g.refused f.4, ap g.latest f.4)
 
   pub free_step : (a : Allocation) (result : Result (Unit {0}) (AllocationError × Allocation)) → Frees g a old.slots old.device result new.slots new.device → IsStep g (Free a) (freed_as result) old

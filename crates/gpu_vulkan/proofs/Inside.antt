@@ -12,9 +12,9 @@ use Rattle.gpu_device.specs.Properties.{Properties}
 use Rattle.gpu_device.specs.declared.vulkan.types.DeviceMemory.{DeviceMemory}
 use Rattle.gpu_memory_types.specs.Held.{HasEntry}
 use Rattle.gpu_vulkan_setup.specs.Types.{is_mapped}
-use Rattle.gpu_vulkan_blocks.specs.Blocks.{Slots, IsBlockEntry, HoldsJustLiveBlocks}
+use Rattle.gpu_vulkan.specs.Blocks.{Slots, IsBlockEntry, HoldsJustLiveBlocks}
 use Rattle.gpu_memory_types.specs.Blocks.{slots_at, BlocksWellFormed}
-use Rattle.gpu_vulkan_blocks.specs.Release.{is_same_memory, IsLiveIn}
+use Rattle.gpu_vulkan.specs.Live.{is_same_memory, IsLiveIn}
 use Rattle.gpu_vulkan.specs.Live.{IsLive, IsMapped}
 use Rattle.gpu_vulkan.specs.declared.allocation.Allocation.{Allocation}
 use Rattle.std.specs.declared.num.NonZeroU64.{NonZeroU64}

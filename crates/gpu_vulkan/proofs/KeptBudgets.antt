@@ -9,7 +9,7 @@ use Rattle.gpu_vulkan.specs.Live.{piece_of}
 use Rattle.gpu_vulkan.specs.Reply.{Reply, Error, Done}
 use Rattle.gpu_vulkan.specs.Step.{ModelState, Call, Allocate, Free, Write, Rename, Report, Leaks, Read, Capacity, SetBudget, Budget, CallEnvironment, Step, AllocateStep}
 use Rattle.gpu_vulkan.specs.Step.{FoundStep, Follows, FreeStep, RenameStep, next_by}
-use Rattle.gpu_vulkan_blocks.specs.Suballocation.{AttemptEnvironment, Answer}
+use Rattle.gpu_vulkan.specs.Attempt.{AttemptEnvironment, Answer}
 use Rattle.gpu_vulkan_setup.specs.Setup.{Setup}
 use Rattle.gpu_vulkan_setup.specs.declared.describe.AllocationCreateDesc.{AllocationCreateDesc}
 use Rattle.gpu_vulkan.proofs.OneStep.{free_reply, rename_reply, write_reply, read_reply, sum_reply, budget_reply, shown_reply, told_reply}

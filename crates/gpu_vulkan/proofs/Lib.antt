@@ -1,8 +1,6 @@
+pub mod Changing
 pub mod Attempts
-pub mod Serving
 pub mod Following
-pub mod Beginning
-pub mod Releasing
 pub mod Inside
 pub mod Writing
 pub mod Joins
@@ -15,10 +13,9 @@ pub mod Listed
 pub mod OneStep
 pub mod KeptBudgets
 mod WithoutBudgets
-pub mod Apart
-pub mod Renaming
+pub mod Live
+pub mod Leaving
 pub mod Naming
 pub mod Named
-pub mod Owning
 pub mod EqualButBytes
 pub mod Untouched

@@ -19,7 +19,7 @@ use Rattle.gpu_device.proofs.Writes.{bytes_there, bytes_elsewhere, range_elsewhe
 use Rattle.gpu_memory_types.specs.Budgets.{budget_at, SetsBudget}
 use Rattle.gpu_values.specs.Refusal.{refusal_in}
 use Rattle.gpu_values.specs.declared.error.AllocationError.{AllocationError}
-use Rattle.gpu_vulkan_blocks.specs.Blocks.{Slots, HoldsJustLiveBlocks}
+use Rattle.gpu_vulkan.specs.Blocks.{Slots, HoldsJustLiveBlocks}
 use Rattle.gpu_memory_types.specs.Blocks.{block_at, total_capacity, BlocksWellFormed}
 use Rattle.gpu_vulkan.specs.ByteView.{is_same_id, byte_view_of, list_in, rest_in, piece_bytes, piece_of_number, covers, is_covered, byte_at, Writes}
 use Rattle.gpu_vulkan.specs.Lends.{number_in, written_at}

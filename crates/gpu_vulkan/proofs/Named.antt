@@ -22,11 +22,11 @@ use Rattle.gpu_values.specs.declared.report.AllocatorReport.{AllocatorReport}
 use Rattle.gpu_device.specs.Held.{Held, bytes_of, range_in}
 use Rattle.gpu_device.specs.declared.vulkan.device.VulkanDevice.{Ghosts}
 use Rattle.gpu_device.specs.declared.vulkan.types.DeviceMemory.{DeviceMemory}
-use Rattle.gpu_vulkan_blocks.specs.Blocks.{Slots}
+use Rattle.gpu_vulkan.specs.Blocks.{Slots}
 use Rattle.gpu_memory_types.specs.Blocks.{slots_at, block_at}
 use Rattle.gpu_vulkan.specs.ByteView.{byte_view_of, list_in, rest_in, piece_bytes, piece_of_number, is_covered, byte_at}
 use Rattle.gpu_memory_types.specs.Leaks.{all_leaks}
-use Rattle.gpu_vulkan_blocks.specs.Release.{is_same_memory}
+use Rattle.gpu_vulkan.specs.Live.{is_same_memory}
 use Rattle.gpu_vulkan.specs.Live.{piece_of}
 use Rattle.gpu_memory_types.specs.Rename.{IsRenamed}
 use Rattle.gpu_vulkan.specs.Rename.{RenamesBy, Renames}
@@ -36,7 +36,7 @@ use Rattle.gpu_vulkan.specs.Step.{model_of, Rename, Report, Leaks, RenameStep, I
 use Rattle.gpu_vulkan.specs.declared.allocation.Allocation.{Allocation}
 use Rattle.gpu_vulkan.proofs.OneStep.{byte_views_alike}
 use Rattle.gpu_memory_types.proofs.Placed.{OnlyBlock, only_block, some_below, same_place}
-use Rattle.gpu_vulkan.proofs.Releasing.{type_below}
+use Rattle.gpu_pool.proofs.Freeing.{type_below}
 
 -- ---- a name is no part of a piece's bytes
 
@@ -138,7 +138,7 @@ renamed_byte_view held t p name old new r =
     let inside = slot_there n name slots p.slot (slot_at slots p.slot) b refl r.renames.renames in
     let new_is : new ≡ slice_set old t (slice_set slots p.slot b) = r.slots ∙ ap (slice_set old t) r.renames.slots in
     let only : OnlyBlock old t p.slot b new =
-    subst (λ (ss : Slots). OnlyBlock old t p.slot b ss) (sym new_is) (only_block old t p.slot b (slice_set slots p.slot b) (type_below old t p r.live) (set_only slots p.slot b inside)) in
+    subst (λ (ss : Slots). OnlyBlock old t p.slot b ss) (sym new_is) (only_block old t p.slot b (slice_set slots p.slot b) (type_below is_same_memory old t p r.live) (set_only slots p.slot b inside)) in
     byte_views_alike (byte_view_of held new) (byte_view_of held old)
     (λ q.
     ⊎_elim

@@ -1,5 +1,5 @@
 -- A new name leaves every live allocation live.
-use Rattle.std.proofs.Common.{◌≡◌, ◌∙◌, refl, sym, ap, subst, ℕ, ◌<◌, Bool, true, false, if◌then◌else◌, List, [], ◌∷◌, map, length, slice_set, Option, Some, None, Ok, Err, Result, arith, ⊎_elim}
+use Rattle.std.proofs.Common.{◌≡◌, ◌∙◌, refl, sym, ap, subst, ℕ, ◌<◌, Bool, true, false, if◌then◌else◌, List, [], ◌∷◌, map, length, slice_set, Option, Some, None, Ok, Err, Result, arith, inl, inr, ⊎_elim}
 use Rattle.std.specs.Prelude.{All, Contains, ◌==◌}
 use Rattle.std.specs.Option.{option_map, option_to_list}
 use Rattle.std.specs.Int.NonZero.{non_zero_u64_get}
@@ -16,16 +16,41 @@ use Rattle.gpu_slots.specs.declared.piece.Piece.{Piece}
 use Rattle.gpu_slots.proofs.Slotted.{set_only}
 use Rattle.gpu_device.specs.declared.vulkan.types.DeviceMemory.{DeviceMemory}
 use Rattle.gpu_values.specs.declared.error.AllocationError.{AllocationError}
-use Rattle.gpu_vulkan_blocks.specs.Blocks.{Slots}
+use Rattle.gpu_vulkan.specs.Blocks.{Slots}
 use Rattle.gpu_memory_types.specs.Blocks.{slots_at}
-use Rattle.gpu_vulkan_blocks.specs.Release.{is_same_memory, IsLiveIn}
+use Rattle.gpu_vulkan.specs.Live.{is_same_memory, IsLiveIn}
 use Rattle.gpu_vulkan.specs.Live.{piece_of, IsLive}
-use Rattle.gpu_memory_types.specs.Rename.{IsRenamed}
+use Rattle.gpu_memory_types.specs.Rename.{IsNotNamed, IsRenamed}
+use Rattle.gpu_pool.specs.Allocate.{Environment, NothingMet, NoHostMemory, Answered}
+use Rattle.gpu_pool.specs.Rename as pools
+use Rattle.gpu_values.specs.Refusal.{Refusal}
+use Rattle.gpu_vulkan.specs.State.{Pool}
 use Rattle.gpu_vulkan.specs.Rename.{RenamesBy, Renames}
 use Rattle.gpu_vulkan.specs.declared.allocation.Allocation.{Allocation}
 use Rattle.gpu_memory_types.proofs.Placed.{some_below}
-use Rattle.gpu_vulkan.proofs.Releasing.{type_below}
+use Rattle.gpu_pool.proofs.Freeing.{type_below}
 use Rattle.gpu_memory_types.proofs.Types.{slots_after}
+
+-- ---- from the pool's words
+
+module _ (t : ℕ) (p : Piece DeviceMemory) (name : List ℕ) {D : Type 0} (old new : Pool D) where
+  named_by : (met : Environment DeviceMemory) → pools.RenamesBy is_same_memory t p name old met (Ok tt) new → IsRenamed is_same_memory t p name old.slots new.slots × (new ≡ record old { slots = new.slots })
+  named_by NothingMet r = r
+  named_by NoHostMemory r = absurd r
+  named_by (Answered size answer) r = absurd r
+
+  pub named : pools.Renames is_same_memory t p name old (Ok tt) new → IsRenamed is_same_memory t p name old.slots new.slots × (new ≡ record old { slots = new.slots })
+  named r = named_by r.0 r.1
+
+  refused_by : (e : Refusal) (met : Environment DeviceMemory) → pools.RenamesBy is_same_memory t p name old met (Err e) new → IsNotNamed is_same_memory (slots_at old.slots t) p e × (new ≡ old)
+  refused_by e NothingMet r = (inr (r.0.dead, r.0.other, r.0.cause), r.1)
+  refused_by e NoHostMemory r = (inl (r.0, r.1), r.2)
+  refused_by e (Answered size answer) r = absurd r
+
+  pub refused : (e : Refusal) → pools.Renames is_same_memory t p name old (Err e) new → IsNotNamed is_same_memory (slots_at old.slots t) p e × (new ≡ old)
+  refused e r = refused_by e r.0 r.1
+
+-- ---- which pieces live
 
 map_keeps : {A B : Type 0} (f : A → B) (xs : List A) → All (λ z. Contains (map f xs) (f z)) xs
 map_keeps f [] = All-nil (λ z. Contains (map f []) (f z))
@@ -103,7 +128,7 @@ piece_lives t p name old new r u q live =
     subst (λ (ss : List (Option (Slot DeviceMemory))). IsLivePiece is_same_memory ss q) (sym (h.1 ∙ r.renames.slots))
     (slots_hold slots p.slot _ name r.renames.slot q below r.renames.renames at))
     (λ h. subst (λ (ss : List (Option (Slot DeviceMemory))). IsLivePiece is_same_memory ss q) (sym h.1) live)
-    (slots_after old t r.left u (type_below old t p r.live)))
+    (slots_after old t r.left u (type_below is_same_memory old t p r.live)))
 
 lives_in : (t : ℕ) (p : Piece DeviceMemory) (name : List ℕ) (old new : Slots) → IsRenamed is_same_memory t p name old new → (u : ℕ) (o : Option (Piece DeviceMemory))
     → IsLiveIn old u o → IsLiveIn new u o

@@ -1,5 +1,5 @@
 -- The model isn't loose: a state, a call and what it meets with decide the reply and the next state.
-use Rattle.std.proofs.Common.{inr, inl, map, ◌⊎◌, ◌≡◌, ◌∙◌, ℕ, suc, refl, sym, ap, subst, Bool, true, false, List, [], ◌∷◌, slice_get, slice_set, Option, Some, None, arith, ⊎_elim, IsTrue}
+use Rattle.std.proofs.Common.{inr, inl, map, ◌⊎◌, ◌≡◌, ◌∙◌, ℕ, suc, ◌<◌, length, Ok, Err, Result, refl, sym, ap, subst, Bool, true, false, List, [], ◌∷◌, slice_get, slice_set, Option, Some, None, arith, ⊎_elim, IsTrue}
 use Rattle.std.proofs.lemmas.Bool.{cases_Bool, cases_lt, eqb-true}
 use Rattle.std.proofs.lemmas.Option.{slice_get_past}
 use Rattle.std.specs.Prelude.{◌&&◌, ◌==◌}
@@ -9,17 +9,24 @@ use Rattle.gpu_slots.specs.TypeRelease.{has_several}
 use Rattle.gpu_slots.specs.TypeState.{slot_at}
 use Rattle.gpu_slots.specs.declared.piece.Piece.{Piece}
 use Rattle.gpu_core.proofs.OneOutcome.{released_once, refusal_once, renamed_once, name_refusal_once}
-use Rattle.gpu_memory_types.proofs.OneOutcome.{false_true, allocates_once}
-use Rattle.gpu_memory_types.specs.Attempt.{Gave, Refused}
+use Rattle.gpu_memory_types.proofs.OneOutcome.{false_true}
 use Rattle.gpu_device.specs.declared.vulkan.types.DeviceMemory.{DeviceMemory}
 use Rattle.gpu_memory_types.specs.Budgets.{Budgets, budget_at, SetsBudget}
 use Rattle.gpu_vulkan.specs.Allocate.{Attempts, IsTooLarge, IsWithinHeap, is_valid}
-use Rattle.gpu_vulkan_blocks.specs.Suballocation.{AttemptEnvironment, Asked, Answer, asked_block, request_at}
-use Rattle.gpu_vulkan_setup.specs.Types.{is_mapped}
-use Rattle.gpu_vulkan_blocks.specs.Blocks.{Slots}
+use Rattle.gpu_vulkan.specs.Attempt.{AttemptEnvironment, Asked, Answer, IsMet, request_in, unseen, AnyQuestion}
+use Rattle.gpu_vulkan_setup.specs.Types.{is_mapped, kinds_told}
+use Rattle.gpu_memory_types.proofs.Options.{none_some, some_same}
+use Rattle.gpu_pool.specs.Allocate.{Environment, NothingMet, NoHostMemory, Answered, Serves}
+use Rattle.gpu_pool.specs.State as states
+use Rattle.gpu_pool.specs.Step.{AskDecides}
+use Rattle.gpu_pool.proofs.OneStep.{serves_once}
+use Rattle.gpu_vulkan.specs.Attempt.{Allocates}
+use Rattle.gpu_vulkan.specs.BlockAnswer.{BlockAnswer, Declined, Granted, Mapped, NotMapped}
+use Rattle.gpu_vulkan.specs.Source.{IsResult}
+use Rattle.gpu_vulkan.specs.Blocks.{Slots}
 use Rattle.gpu_memory_types.specs.Blocks.{slots_at, total_capacity, BlocksWellFormed}
 use Rattle.gpu_vulkan.specs.ByteView.{AllocationId, is_same_id, ByteView, IsOutOf, TakesOut, PutsBack, AddsBlock, Writes}
-use Rattle.gpu_vulkan_blocks.specs.Release.{is_same_memory}
+use Rattle.gpu_vulkan.specs.Live.{is_same_memory}
 use Rattle.gpu_vulkan.specs.Live.{piece_of}
 use Rattle.gpu_memory_types.specs.Leaks.{all_leaks}
 use Rattle.gpu_memory_types.specs.Reports.{whole_report}
@@ -31,26 +38,77 @@ use Rattle.gpu_vulkan.specs.Step.{RenameStep, SetBudgetStep, ReportStep, LeaksSt
 use Rattle.gpu_vulkan.specs.Step.{AllocateStep, MayDrop, ReleaseStep, FreeStep, WriteStep, IsRead, Step, id_in, id_of}
 use Rattle.gpu_vulkan.specs.declared.allocation.Allocation.{Allocation}
 use Rattle.gpu_vulkan_setup.specs.declared.describe.AllocationCreateDesc.{AllocationCreateDesc}
-use Rattle.gpu_vulkan.proofs.Steps.{refused_same, none_next}
+use Rattle.gpu_vulkan.proofs.Attempts.{refused_same}
+use Rattle.gpu_vulkan.proofs.Following.{next_below, best_below}
+use Rattle.gpu_vulkan.proofs.Leaving.{sound_told}
+use Rattle.gpu_vulkan.proofs.Steps.{none_next}
 
 -- ---- an attempt
 
-attempts_once : (setup : Setup) (budgets : Budgets) (old : Slots) (t : ℕ) (d : AllocationCreateDesc) (o : AttemptEnvironment) (x y : Answer) (new next : Slots) → BlocksWellFormed
-    setup.properties.granularity old
-    → Attempts setup budgets old t d o x new → Attempts setup budgets old t d o y next → (x ≡ y) × (new ≡ next)
-attempts_once setup budgets old t d o x y new next sound a b =
-    ⊎_elim
-    (λ (la : IsTooLarge setup old t d o x new).
-    ⊎_elim
-    (λ (lb : IsTooLarge setup old t d o y next). (la.answer_is ∙ sym lb.answer_is, la.same ∙ sym lb.same))
-    (λ (wb : IsWithinHeap setup budgets old t d o y next). let above = la.above in let below = wb.below in absurd (omega (arith, above, below)))
-    b)
-    (λ (wa : IsWithinHeap setup budgets old t d o x new).
-    ⊎_elim
-    (λ (lb : IsTooLarge setup old t d o y next). let above = lb.above in let below = wa.below in absurd (omega (arith, above, below)))
-    (λ (wb : IsWithinHeap setup budgets old t d o y next). allocates_once (request_at setup budgets t d) old o.host (asked_block o.asked) x y new next (sound t) wa.allocates wb.allocates)
-    b)
-    a
+block_once : (a : BlockAnswer) (x y : Result DeviceMemory Refusal) → IsResult x a → IsResult y a → x ≡ y
+block_once a (Ok m) (Ok k) is also = let same : m.0 ≡ k.0 = some_same m.0 k.0 (sym is ∙ also) in λ i. Ok (record { 0 = same i })
+block_once a (Err e) (Err r) is also = ap Err (some_same e r (sym is ∙ also))
+block_once (Declined code) (Ok m) (Err e) is also = absurd (none_some m.0 is)
+block_once (NotMapped code) (Ok m) (Err e) is also = absurd (none_some m.0 is)
+block_once (Granted n) (Ok m) (Err e) is also = absurd (none_some e also)
+block_once (Mapped n bytes) (Ok m) (Err e) is also = absurd (none_some e also)
+block_once (Declined code) (Err e) (Ok m) is also = absurd (none_some m.0 also)
+block_once (NotMapped code) (Err e) (Ok m) is also = absurd (none_some m.0 also)
+block_once (Granted n) (Err e) (Ok m) is also = absurd (none_some e is)
+block_once (Mapped n bytes) (Err e) (Ok m) is also = absurd (none_some e is)
+
+starved_or_not : {A : Type 0} (o : AttemptEnvironment) → o.host ≡ true → o.host ≡ false → A
+starved_or_not o is also = absurd (false_true (sym also ∙ is))
+
+asked_or_not : {A : Type 0} (o : AttemptEnvironment) (a : Asked) → o.asked ≡ None → o.asked ≡ Some a → A
+asked_or_not o a is also = absurd (none_some a (sym is ∙ also))
+
+-- an attempt met with one thing
+met_once : (o : AttemptEnvironment) (x y : Environment DeviceMemory) → IsMet o x → IsMet o y → x ≡ y
+met_once o NothingMet NothingMet is also = refl
+met_once o NothingMet NoHostMemory is also = starved_or_not o is.0 also.0
+met_once o NothingMet (Answered size r) is also = asked_or_not o also.1.0 is.1 also.1.1
+met_once o NoHostMemory NothingMet is also = starved_or_not o also.0 is.0
+met_once o NoHostMemory NoHostMemory is also = refl
+met_once o NoHostMemory (Answered size r) is also = starved_or_not o also.0 is.0
+met_once o (Answered size r) NothingMet is also = asked_or_not o is.1.0 also.1 is.1.1
+met_once o (Answered size r) NoHostMemory is also = starved_or_not o is.0 also.0
+met_once o (Answered size r) (Answered other s) is also =
+    let a = is.1 in
+    let b = also.1 in
+    let same : a.0 ≡ b.0 = some_same a.0 b.0 (sym a.1 ∙ b.1) in
+    let sizes : size ≡ other = sym a.2 ∙ ap (λ (k : Asked). k.info.size) same ∙ b.2 in
+    let results = block_once b.0.answer r s (subst (λ (k : Asked). IsResult r k.answer) same a.3) b.3 in
+    λ i. Answered (sizes i) (results i)
+
+unseen_decides : AskDecides AnyQuestion
+unseen_decides old a b t size extra answer x y = refl
+
+module _ (setup : Setup) (budgets : Budgets) (old : Slots) (t : ℕ) (d : AllocationCreateDesc) (below : t < length setup.properties.types) (sound : BlocksWellFormed setup.properties.granularity old) where
+  pub allocates_once : (o : AttemptEnvironment) (x y : Answer) (new next : Slots) → Allocates setup budgets old t d o x new → Allocates setup budgets old t d o y next → (x ≡ y) × (new ≡ next)
+  allocates_once o x y new next a b =
+      let kinds = kinds_told setup.properties in
+      let q = request_in t d in
+      let start = unseen setup budgets old in
+      let other : Serves kinds AnyQuestion q start a.met y (unseen setup budgets next) =
+      subst (λ (m : Environment DeviceMemory). Serves kinds AnyQuestion q start m y (unseen setup budgets next)) (met_once o b.met a.met b.is_met a.is_met) b.serves in
+      let once = serves_once kinds AnyQuestion unseen_decides q start (sound_told setup.properties t below old sound) a.met x y (unseen setup budgets new) (unseen setup budgets next) a.serves other in
+      (once.0, ap (λ (s : states.State (Unit {0}) DeviceMemory). s.slots) once.1)
+
+  attempts_once : (o : AttemptEnvironment) (x y : Answer) (new next : Slots) → Attempts setup budgets old t d o x new → Attempts setup budgets old t d o y next → (x ≡ y) × (new ≡ next)
+  attempts_once o x y new next a b =
+      ⊎_elim
+      (λ (la : IsTooLarge setup old t d o x new).
+      ⊎_elim
+      (λ (lb : IsTooLarge setup old t d o y next). (la.answer_is ∙ sym lb.answer_is, la.same ∙ sym lb.same))
+      (λ (wb : IsWithinHeap setup budgets old t d o y next). let above = la.above in let below = wb.below in absurd (omega (arith, above, below)))
+      b)
+      (λ (wa : IsWithinHeap setup budgets old t d o x new).
+      ⊎_elim
+      (λ (lb : IsTooLarge setup old t d o y next). let above = lb.above in let below = wa.below in absurd (omega (arith, above, below)))
+      (λ (wb : IsWithinHeap setup budgets old t d o y next). allocates_once o x y new next wa.allocates wb.allocates)
+      b)
+      a
 
 -- ---- bytes
 
@@ -115,20 +173,20 @@ drops_once t i None old new next a b = a ∙ sym b
 drops_once t i (Some m) old new next a b = byte_views_alike new next (λ q. a.allocation_bytes q ∙ sym (b.allocation_bytes q)) (λ u j at. a.unallocated_bytes u j at ∙ sym (b.unallocated_bytes u j at))
 
 bytes_once : (mapped : Bool) (t : ℕ) (o : Option Asked) (answer : Answer) (old new next : ByteView) → BytesAfter mapped t o answer old new → BytesAfter mapped t o answer old next → new ≡ next
-bytes_once mapped t None (Refused r) old new next a b = a ∙ sym b
-bytes_once mapped t (Some asked) (Refused r) old new next a b = a ∙ sym b
-bytes_once mapped t None (Gave p) old new next a b = takes_out_once mapped (id_in t p) p.offset p.size old new next a b
-bytes_once mapped t (Some asked) (Gave p) old new next a b =
+bytes_once mapped t None (Err r) old new next a b = a ∙ sym b
+bytes_once mapped t (Some asked) (Err r) old new next a b = a ∙ sym b
+bytes_once mapped t None (Ok p) old new next a b = takes_out_once mapped (id_in t p) p.offset p.size old new next a b
+bytes_once mapped t (Some asked) (Ok p) old new next a b =
     let mids = adds_once t p.slot _ old a.0 b.0 a.1 b.1 in
     takes_out_once mapped (id_in t p) p.offset p.size a.0 new next a.2 (subst (λ m. TakesOut mapped (id_in t p) p.offset p.size m next) (sym mids) b.2)
 
 states_alike : (a b : ModelState) → a.slots ≡ b.slots → a.budgets ≡ b.budgets → a.byte_view ≡ b.byte_view → a ≡ b
 states_alike a b slots budgets byte_view = λ i. record { slots = slots i; budgets = budgets i; byte_view = byte_view i }
 
-attempt_once : (setup : Setup) (t : ℕ) (d : AllocationCreateDesc) (o : AttemptEnvironment) (x y : Answer) (old new next : ModelState) → BlocksWellFormed setup.properties.granularity old.slots
-    → AttemptStep setup t d o x old new → AttemptStep setup t d o y old next → (x ≡ y) × (new ≡ next)
-attempt_once setup t d o x y old new next sound a b =
-    let once = attempts_once setup old.budgets old.slots t d o x y new.slots next.slots sound a.slots b.slots in
+attempt_once : (setup : Setup) (t : ℕ) (d : AllocationCreateDesc) (o : AttemptEnvironment) (x y : Answer) (old new next : ModelState) → t < length setup.properties.types
+    → BlocksWellFormed setup.properties.granularity old.slots → AttemptStep setup t d o x old new → AttemptStep setup t d o y old next → (x ≡ y) × (new ≡ next)
+attempt_once setup t d o x y old new next below sound a b =
+    let once = attempts_once setup old.budgets old.slots t d below sound o x y new.slots next.slots a.slots b.slots in
     let other : BytesAfter (is_mapped setup.properties t) t o.asked x old.byte_view next.byte_view = subst (λ w. BytesAfter (is_mapped setup.properties t) t o.asked w old.byte_view next.byte_view)
     (sym once.0) b.bytes in
     (once.0, states_alike new next once.1 (a.budgets ∙ sym b.budgets) (bytes_once (is_mapped setup.properties t) t o.asked x old.byte_view new.byte_view next.byte_view a.bytes other))
@@ -136,41 +194,41 @@ attempt_once setup t d o x y old new next sound a b =
 -- ---- an allocation
 
 follows_once : (setup : Setup) (d : AllocationCreateDesc) (u : Option ℕ) (o : AttemptEnvironment) (t : ℕ) (first : Answer) (mid : ModelState) (x y : Reply) (new next : ModelState)
-    → ((v : ℕ) → u ≡ Some v → BlocksWellFormed setup.properties.granularity mid.slots) → Follows setup d u o t first mid x new → Follows setup d u o t first mid y next → (x ≡ y) × (new ≡ next)
+    → ((v : ℕ) → u ≡ Some v → (v < length setup.properties.types) × BlocksWellFormed setup.properties.granularity mid.slots) → Follows setup d u o t first mid x new → Follows setup d u o t first mid y next → (x ≡ y) × (new ≡ next)
 follows_once setup d None o t first mid x y new next sound a b = (a.1 ∙ sym b.1, a.2 ∙ sym b.2)
 follows_once setup d (Some u) o t first mid x y new next sound a b =
-    let once = attempt_once setup u d o a.0 b.0 mid new next (sound u refl) a.1 b.1 in
+    let once = attempt_once setup u d o a.0 b.0 mid new next (sound u refl).0 (sound u refl).1 a.1 b.1 in
     (a.2 ∙ ap (reply_of u) once.0 ∙ sym b.2, once.1)
 
 pub mid_sound : (setup : Setup) (t u : ℕ) (d : AllocationCreateDesc) (o : AttemptEnvironment) (answer : Answer) (old mid : ModelState) → BlocksWellFormed setup.properties.granularity old.slots →
     AttemptStep setup t d o answer old mid
     → next_by setup d answer ≡ Some u → BlocksWellFormed setup.properties.granularity mid.slots
-mid_sound setup t u d o (Gave p) old mid sound a is = absurd (none_next setup d u p is)
-mid_sound setup t u d o (Refused r) old mid sound a is = subst (BlocksWellFormed setup.properties.granularity) (sym (refused_same setup old.budgets old.slots t d o r mid.slots a.slots)) sound
+mid_sound setup t u d o (Ok p) old mid sound a is = absurd (none_next setup d u p is)
+mid_sound setup t u d o (Err r) old mid sound a is = subst (BlocksWellFormed setup.properties.granularity) (sym (refused_same setup old.budgets old.slots t d o r mid.slots a.slots)) sound
 
-serve_once : (setup : Setup) (t : ℕ) (d : AllocationCreateDesc) (o : CallEnvironment) (x y : Reply) (old new next : ModelState) → BlocksWellFormed setup.properties.granularity old.slots
-    → ServeStep setup t d o x old new → ServeStep setup t d o y old next → (x ≡ y) × (new ≡ next)
-serve_once setup t d o x y old new next sound a b =
-    let first = attempt_once setup t d o.first a.answer b.answer old a.mid b.mid sound a.attempt b.attempt in
+serve_once : (setup : Setup) (t : ℕ) (d : AllocationCreateDesc) (o : CallEnvironment) (x y : Reply) (old new next : ModelState) → t < length setup.properties.types
+    → BlocksWellFormed setup.properties.granularity old.slots → ServeStep setup t d o x old new → ServeStep setup t d o y old next → (x ≡ y) × (new ≡ next)
+serve_once setup t d o x y old new next below sound a b =
+    let first = attempt_once setup t d o.first a.answer b.answer old a.mid b.mid below sound a.attempt b.attempt in
     let answers = first.0 in
     let mids = first.1 in
     let other : Follows setup d (next_by setup d a.answer) o.second t a.answer a.mid y next =
     subst (λ m. Follows setup d (next_by setup d a.answer) o.second t a.answer m y next) (sym mids)
     (subst (λ w. Follows setup d (next_by setup d w) o.second t w b.mid y next) (sym answers) b.follows) in
-    follows_once setup d (next_by setup d a.answer) o.second t a.answer a.mid x y new next (λ v is. mid_sound setup t v d o.first a.answer old a.mid sound a.attempt is) a.follows other
+    follows_once setup d (next_by setup d a.answer) o.second t a.answer a.mid x y new next (λ v is. (next_below setup d a.answer v is, mid_sound setup t v d o.first a.answer old a.mid sound a.attempt is)) a.follows other
 
 refuse_once : (r : Refusal) (o : CallEnvironment) (x y : Reply) (old new next : ModelState) → RefuseStep r o x old new → RefuseStep r o y old next → (x ≡ y) × (new ≡ next)
 refuse_once r o x y old new next a b = (a.reply_is ∙ sym b.reply_is, a.same ∙ sym b.same)
 
-found_once : (setup : Setup) (d : AllocationCreateDesc) (t : Option ℕ) (o : CallEnvironment) (x y : Reply) (old new next : ModelState) → BlocksWellFormed setup.properties.granularity old.slots
-    → FoundStep setup d t o x old new → FoundStep setup d t o y old next → (x ≡ y) × (new ≡ next)
-found_once setup d None o x y old new next sound a b = refuse_once _ o x y old new next a b
-found_once setup d (Some t) o x y old new next sound a b = serve_once setup t d o x y old new next sound a b
+found_once : (setup : Setup) (d : AllocationCreateDesc) (t : Option ℕ) (o : CallEnvironment) (x y : Reply) (old new next : ModelState) → ((v : ℕ) → t ≡ Some v → v < length setup.properties.types)
+    → BlocksWellFormed setup.properties.granularity old.slots → FoundStep setup d t o x old new → FoundStep setup d t o y old next → (x ≡ y) × (new ≡ next)
+found_once setup d None o x y old new next below sound a b = refuse_once _ o x y old new next a b
+found_once setup d (Some t) o x y old new next below sound a b = serve_once setup t d o x y old new next (below t refl) sound a b
 
 allocate_once : (setup : Setup) (d : AllocationCreateDesc) (valid : Bool) (o : CallEnvironment) (x y : Reply) (old new next : ModelState) → BlocksWellFormed setup.properties.granularity old.slots
     → AllocateStep setup d valid o x old new → AllocateStep setup d valid o y old next → (x ≡ y) × (new ≡ next)
 allocate_once setup d false o x y old new next sound a b = refuse_once _ o x y old new next a b
-allocate_once setup d true o x y old new next sound a b = found_once setup d _ o x y old new next sound a b
+allocate_once setup d true o x y old new next sound a b = found_once setup d _ o x y old new next (λ v is. best_below setup d v is) sound a b
 
 -- ---- a free
 

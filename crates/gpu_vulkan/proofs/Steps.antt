@@ -1,5 +1,5 @@
 -- The calls of an allocator are steps of the model.
-use Rattle.std.proofs.Common.{◌≡◌, ◌∙◌, ℕ, ◌<◌, refl, sym, ap, subst, Bool, true, false, length, Option, Some, None, Ok, Err, Result, arith, ⊎_elim}
+use Rattle.std.proofs.Common.{◌≡◌, ◌∙◌, ℕ, ◌<◌, refl, sym, ap, subst, Bool, true, false, length, Option, Some, None, Ok, Err, Result, arith}
 use Rattle.std.specs.FinMap.{get}
 use Rattle.gpu_values.specs.Refusal.{Refusal, refusal_of, refusal_in, invalid_allocation_create_desc, no_compatible_memory_type_found}
 use Rattle.gpu_slots.specs.declared.piece.Piece.{Piece}
@@ -8,12 +8,10 @@ use Rattle.gpu_device.specs.Held.{Held, IsWhole}
 use Rattle.gpu_device.specs.declared.vulkan.device.VulkanDevice.{Ghosts}
 use Rattle.gpu_device.specs.declared.vulkan.types.DeviceMemory.{DeviceMemory}
 use Rattle.gpu_memory_types.specs.Budgets.{Budgets}
-use Rattle.gpu_vulkan.specs.Allocate.{Attempts, IsTooLarge, IsWithinHeap, IsAttempt, Answers, IsServed, IsFollowed, is_valid, next_after, next_type}
-use Rattle.gpu_memory_types.specs.Attempt.{Gave, Refused}
-use Rattle.gpu_memory_types.proofs.OneOutcome.{refused_same as unchanged}
-use Rattle.gpu_vulkan_blocks.specs.Suballocation.{AttemptEnvironment, Asked, Answer, IsAfter, asked_block, request_at}
+use Rattle.gpu_vulkan.specs.Allocate.{Attempts, IsAttempt, Answers, IsServed, IsFollowed, is_valid, next_after, next_type}
+use Rattle.gpu_vulkan.specs.Attempt.{AttemptEnvironment, Asked, Answer, IsAfter}
 use Rattle.gpu_vulkan_setup.specs.Types.{is_mapped}
-use Rattle.gpu_vulkan_blocks.specs.Blocks.{Slots, HoldsJustLiveBlocks}
+use Rattle.gpu_vulkan.specs.Blocks.{Slots, HoldsJustLiveBlocks}
 use Rattle.gpu_memory_types.specs.Blocks.{BlocksWellFormed}
 use Rattle.gpu_vulkan.specs.ByteView.{byte_view_of}
 use Rattle.gpu_vulkan_setup.specs.Choice.{best_type}
@@ -24,8 +22,8 @@ use Rattle.gpu_vulkan.specs.Step.{ModelState, model_of, CallEnvironment, reply_o
 use Rattle.gpu_vulkan.specs.Step.{Replies, nothing_met, count_after, latest_after}
 use Rattle.gpu_vulkan.specs.declared.allocation.Allocation.{Allocation}
 use Rattle.gpu_vulkan_setup.specs.declared.describe.AllocationCreateDesc.{AllocationCreateDesc}
+use Rattle.gpu_vulkan.proofs.Attempts.{refused_same, attempt_held}
 use Rattle.gpu_vulkan.proofs.Following.{next_below}
-use Rattle.gpu_vulkan.proofs.Serving.{attempt_holds}
 use Rattle.gpu_vulkan.proofs.Stepping.{attempt_bytes}
 use Rattle.gpu_memory_types.proofs.Options.{none_some, some_same}
 
@@ -39,40 +37,38 @@ named : {D : Type 0} (g : Ghosts D) (mapped : Bool) (o : Option Asked) (device a
 named g mapped None device after is = ap g.latest is
 named g mapped (Some a) device after is = is.latest
 
--- ---- a refused attempt leaves the slots
-
-pub refused_same : (setup : Setup) (budgets : Budgets) (old : Slots) (t : ℕ) (d : AllocationCreateDesc) (o : AttemptEnvironment) (r : Refusal) (new : Slots) → Attempts setup budgets old t d o
-    (Refused r) new → new ≡ old
-refused_same setup budgets old t d o r new a =
-    ⊎_elim
-    (λ (large : IsTooLarge setup old t d o (Refused r) new). large.same)
-    (λ (within : IsWithinHeap setup budgets old t d o (Refused r) new). unchanged (request_at setup budgets t d) old o.host (asked_block o.asked) r new within.allocates)
-    a
-
 -- ---- what the caller gets
 
 replies_of : (setup : Setup) (t : ℕ) (d : AllocationCreateDesc) (result : Result Allocation AllocationError) (answer : Answer) → Answers setup t d result answer → Replies setup d result
     (reply_of t answer)
-replies_of setup t d (Ok a) (Gave p) h = h
-replies_of setup t d (Ok a) (Refused r) h = absurd h
-replies_of setup t d (Err e) (Gave p) h = absurd h
-replies_of setup t d (Err e) (Refused r) h = h
+replies_of setup t d (Ok a) (Ok p) h = h
+replies_of setup t d (Ok a) (Err r) h = absurd h
+replies_of setup t d (Err e) (Ok p) h = absurd h
+replies_of setup t d (Err e) (Err r) h = h
 
 pub next_same : (setup : Setup) (t : ℕ) (d : AllocationCreateDesc) (result : Result Allocation AllocationError) (answer : Answer) → Answers setup t d result answer → next_after setup d result ≡
     next_by setup d answer
-next_same setup t d (Ok a) (Gave p) h = refl
-next_same setup t d (Ok a) (Refused r) h = absurd h
-next_same setup t d (Err e) (Gave p) h = absurd h
-next_same setup t d (Err e) (Refused r) h = ap (next_type setup d) h
+next_same setup t d (Ok a) (Ok p) h = refl
+next_same setup t d (Ok a) (Err r) h = absurd h
+next_same setup t d (Err e) (Ok p) h = absurd h
+next_same setup t d (Err e) (Err r) h = ap (next_type setup d) h
 
-pub none_next : (setup : Setup) (d : AllocationCreateDesc) (u : ℕ) (p : Piece DeviceMemory) → next_by setup d (Gave p) ≡ Some u → ⊥
+pub none_next : (setup : Setup) (d : AllocationCreateDesc) (u : ℕ) (p : Piece DeviceMemory) → next_by setup d (Ok p) ≡ Some u → ⊥
 none_next setup d u p e = cc
 
 -- a second attempt begins where a refused one left everything
 pub mid_is_old : (setup : Setup) (budgets : Budgets) (d : AllocationCreateDesc) (t u : ℕ) (old : Slots) (o : AttemptEnvironment) (answer : Answer) (mid : Slots) → next_by setup d answer ≡ Some u →
     Attempts setup budgets old t d o answer mid → mid ≡ old
-mid_is_old setup budgets d t u old o (Gave p) mid is a = absurd (none_next setup d u p is)
-mid_is_old setup budgets d t u old o (Refused r) mid is a = refused_same setup budgets old t d o r mid a
+mid_is_old setup budgets d t u old o (Ok p) mid is a = absurd (none_next setup d u p is)
+mid_is_old setup budgets d t u old o (Err r) mid is a = refused_same setup budgets old t d o r mid a
+
+mid_is_held : {D : Type 0} (g : Ghosts D) (setup : Setup) (budgets : Budgets) (d : AllocationCreateDesc) (t u : ℕ) (old : Slots) (device : D) (result : Result Allocation AllocationError) (mid : Slots)
+    (between : D) (a : IsAttempt g setup budgets t d old device result mid between) → next_by setup d a.answer ≡ Some u → g.held between ≡ g.held device
+mid_is_held g setup budgets d t u old device result mid between a is = by a.answer is a.attempts
+  where
+    by : (answer : Answer) → next_by setup d answer ≡ Some u → Attempts setup budgets old t d a.environment answer mid → g.held between ≡ g.held device
+    by (Ok p) is at = absurd (none_next setup d u p is)
+    by (Err r) is at = attempt_held g (is_mapped setup.properties t) device between setup budgets old t d a.environment r mid at a.asked
 
 module _ {D : Type 0} (g : Ghosts D) (whole : (x : D) (n : ℕ) → IsWhole (get (g.held x) n)) (setup : Setup) (budgets : Budgets) (d : AllocationCreateDesc) (first : Held) where
   abbrev at : D → Slots → ModelState
@@ -80,9 +76,9 @@ module _ {D : Type 0} (g : Ghosts D) (whole : (x : D) (n : ℕ) → IsWhole (get
 
   attempt_step : (t : ℕ) (old : Slots) (device : D) (result : Result Allocation AllocationError) (new : Slots) (after : D) → t < length old
       → BlocksWellFormed setup.properties.granularity old → BlocksWellFormed setup.properties.granularity new → HoldsJustLiveBlocks setup.properties first (g.held device) old
-      → (a : IsAttempt g setup budgets t d old device result new after) → AttemptStep setup t d a.environment a.answer (at device old) (at after new)
-  attempt_step t old device result new after below sound sound_after before a =
-      record { slots = a.attempts; budgets = refl; bytes = attempt_bytes g setup budgets d first t old below sound device result new after a sound_after before (whole after) }
+      → HoldsJustLiveBlocks setup.properties first (g.held after) new → (a : IsAttempt g setup budgets t d old device result new after) → AttemptStep setup t d a.environment a.answer (at device old) (at after new)
+  attempt_step t old device result new after below sound sound_after before holds a =
+      record { slots = a.attempts; budgets = refl; bytes = attempt_bytes g setup budgets d first t old below sound new device after sound_after before holds (whole after) result a }
 
   pub record Served (t : ℕ) (old : Slots) (device : D) (result : Result Allocation AllocationError) (new : Slots) (after : D) : Type 0 where
     pub environment : CallEnvironment
@@ -94,14 +90,16 @@ module _ {D : Type 0} (g : Ghosts D) (whole : (x : D) (n : ℕ) → IsWhole (get
 
   module _ (t : ℕ) (old : Slots) (device : D) (result : Result Allocation AllocationError) (new : Slots) (after : D) (below : t < length old) (long : length old ≡ length setup.properties.types)
       (sound : BlocksWellFormed setup.properties.granularity old) (sound_after : BlocksWellFormed setup.properties.granularity new)
-      (before : HoldsJustLiveBlocks setup.properties first (g.held device) old) (s : IsServed g setup budgets t d old device result new after) where
+      (before : HoldsJustLiveBlocks setup.properties first (g.held device) old) (holds : HoldsJustLiveBlocks setup.properties first (g.held after) new) (s : IsServed g setup budgets t d old device result new after) where
     abbrev one : IsAttempt g setup budgets t d old device s.first s.mid s.between
     one = s.attempt
 
     served_by : (o : Option ℕ) → next_after setup d s.first ≡ o → IsFollowed g setup budgets d o s.mid s.between s.first result new after → Served t old device result new after
     served_by None is f =
         let sound_mid : BlocksWellFormed setup.properties.granularity s.mid = subst (BlocksWellFormed setup.properties.granularity) f.1 sound_after in
-        let here = attempt_step t old device s.first s.mid s.between below sound sound_mid before one in
+        let holds_mid : HoldsJustLiveBlocks setup.properties first (g.held s.between) s.mid =
+        subst (λ (ss : Slots). HoldsJustLiveBlocks setup.properties first (g.held s.between) ss) f.1 (subst (λ (x : D). HoldsJustLiveBlocks setup.properties first (g.held x) new) f.2 holds) in
+        let here = attempt_step t old device s.first s.mid s.between below sound sound_mid before holds_mid one in
         let next : next_by setup d one.answer ≡ None = sym (next_same setup t d s.first one.answer one.answers) ∙ is in
         record {
           environment = record { first = one.environment; second = nothing_met };
@@ -119,12 +117,15 @@ module _ {D : Type 0} (g : Ghosts D) (whole : (x : D) (n : ℕ) → IsWhole (get
         }
     served_by (Some u) is two =
         let next : next_by setup d one.answer ≡ Some u = sym (next_same setup t d s.first one.answer one.answers) ∙ is in
-        let sound_mid : BlocksWellFormed setup.properties.granularity s.mid = subst (BlocksWellFormed setup.properties.granularity)
-        (sym (mid_is_old setup budgets d t u old one.environment one.answer s.mid next one.attempts)) sound in
-        let here = attempt_step t old device s.first s.mid s.between below sound sound_mid before one in
-        let mid = attempt_holds g setup budgets d first t old below device s.first s.mid s.between one before in
-        let inside = next_below setup d s.first u is in
-        let there = attempt_step u s.mid s.between result new after (omega (arith, inside, mid.2, long)) sound_mid sound_after mid.0 two in
+        let same : s.mid ≡ old = mid_is_old setup budgets d t u old one.environment one.answer s.mid next one.attempts in
+        let sound_mid : BlocksWellFormed setup.properties.granularity s.mid = subst (BlocksWellFormed setup.properties.granularity) (sym same) sound in
+        let holds_mid : HoldsJustLiveBlocks setup.properties first (g.held s.between) s.mid =
+        subst (λ (k : Held). HoldsJustLiveBlocks setup.properties first k s.mid) (sym (mid_is_held g setup budgets d t u old device s.first s.mid s.between one next))
+        (subst (λ (ss : Slots). HoldsJustLiveBlocks setup.properties first (g.held device) ss) (sym same) before) in
+        let here = attempt_step t old device s.first s.mid s.between below sound sound_mid before holds_mid one in
+        let inside = next_below setup d one.answer u next in
+        let many = ap (λ (ss : Slots). length ss) same in
+        let there = attempt_step u s.mid s.between result new after (omega (arith, inside, many, long)) sound_mid sound_after holds_mid holds two in
         record {
           environment = record { first = one.environment; second = two.environment };
           reply = reply_of u two.answer;

@@ -12,11 +12,11 @@ use Rattle.gpu_device.specs.declared.vulkan.types.DeviceMemory.{DeviceMemory}
 use Rattle.gpu_device.specs.declared.vulkan.types.MemoryAllocateInfo.{MemoryAllocateInfo}
 use Rattle.gpu_memory_types.specs.Budgets.{Budgets}
 use Rattle.gpu_vulkan.specs.Allocate.{IsAttempt, IsFollowed, IsFound, AllocatesBy, Allocates, is_valid}
-use Rattle.gpu_vulkan_blocks.specs.Suballocation.{Asked, IsAfter}
-use Rattle.gpu_vulkan_blocks.specs.BlockAnswer.{BlockAnswer, Declined, Granted, Mapped, NotMapped, IsNew, answer_number, held_after}
+use Rattle.gpu_vulkan.specs.Attempt.{Asked, IsAfter}
+use Rattle.gpu_vulkan.specs.BlockAnswer.{BlockAnswer, Declined, Granted, Mapped, NotMapped, IsNew, answer_number, held_after}
 use Rattle.gpu_vulkan_setup.specs.Types.{is_mapped}
-use Rattle.gpu_vulkan_blocks.specs.Blocks.{Slots}
-use Rattle.gpu_vulkan_blocks.specs.Release.{GivesBack}
+use Rattle.gpu_vulkan.specs.Blocks.{Slots}
+use Rattle.gpu_vulkan.specs.Free.{GivesBack}
 use Rattle.gpu_vulkan.specs.Free.{FreesPiece, Frees}
 use Rattle.gpu_vulkan.specs.Live.{piece_of}
 use Rattle.gpu_vulkan_setup.specs.Setup.{Setup}

@@ -1,17 +1,16 @@
 -- A call that meets no budget is the same step where there are no budgets.
-use Rattle.std.proofs.Common.{◌≡◌, ◌∙◌, refl, sym, ap, subst, ⊎_elim, inl, inr, ℕ, List, [], Bool, true, false, Option, Some, None}
+use Rattle.std.proofs.Common.{◌≡◌, ◌∙◌, refl, sym, ap, subst, ⊎_elim, inl, inr, ℕ, List, [], Bool, true, false, Option, Some, None, Ok, Err}
 use Rattle.std.specs.Prelude.{if◌then◌else◌, ◌&&◌, not}
 use Rattle.gpu_values.specs.Refusal.{Refusal}
 use Rattle.gpu_slots.specs.declared.piece.Piece.{Piece}
 use Rattle.gpu_device.specs.declared.vulkan.types.DeviceMemory.{DeviceMemory}
-use Rattle.gpu_memory_types.specs.Attempt.{RequestAt, AllocatesInType, Gave, Refused}
+use Rattle.gpu_pool.proofs.WithoutBudgets.{serves_plain}
 use Rattle.gpu_memory_types.specs.Budgets.{Budgets, budget_at}
-use Rattle.gpu_vulkan_blocks.specs.Blocks.{Slots}
-use Rattle.gpu_vulkan_blocks.specs.Suballocation.{AttemptEnvironment, Answer, asked_block, request_at}
+use Rattle.gpu_vulkan.specs.Blocks.{Slots}
+use Rattle.gpu_vulkan.specs.Attempt.{AttemptEnvironment, Answer, request_in, unseen, AnyQuestion}
 use Rattle.gpu_vulkan_setup.specs.Choice.{required, first_type, best_type}
-use Rattle.gpu_vulkan_setup.specs.Describe.{is_own, request_of}
 use Rattle.gpu_vulkan_setup.specs.Setup.{Setup}
-use Rattle.gpu_vulkan_setup.specs.Types.{is_mapped}
+use Rattle.gpu_vulkan_setup.specs.Types.{kinds_told}
 use Rattle.gpu_vulkan_setup.specs.declared.describe.AllocationCreateDesc.{AllocationCreateDesc}
 use Rattle.gpu_vulkan.specs.declared.allocation.Allocation.{Allocation}
 use Rattle.gpu_vulkan.specs.Allocate.{Attempts, IsTooLarge, IsWithinHeap, is_valid, is_for_upload, is_short}
@@ -25,27 +24,20 @@ use Rattle.gpu_vulkan.proofs.OneStep.{free_reply, rename_reply}
 use Rattle.gpu_memory_types.proofs.Options.{none_some}
 
 module _ (setup : Setup) (d : AllocationCreateDesc) where
-  -- the request, at a memory type without a budget
-  plain_request : (budgets : Budgets) (t : ℕ) → budget_at budgets t ≡ None → request_at setup budgets t d ≡ request_at setup [] t d
-  plain_request budgets t none = λ i. record {
-    memory_type = t;
-    is_host = is_mapped setup.properties t;
-    granularity = setup.properties.granularity;
-    budget = none i;
-    sizes = setup.sizes;
-    wants_own = is_own d.allocation_scheme;
-    request = request_of d;
-  }
-
   attempts_plain : (budgets : Budgets) (old : Slots) (t : ℕ) (o : AttemptEnvironment) (answer : Answer) (new : Slots) → budget_at budgets t ≡ None
       → Attempts setup budgets old t d o answer new → Attempts setup [] old t d o answer new
   attempts_plain budgets old t o answer new none a =
       ⊎_elim
       (λ (large : IsTooLarge setup old t d o answer new). inl large)
       (λ (within : IsWithinHeap setup budgets old t d o answer new).
+      let k = within.allocates in
       inr (record {
         below = within.below;
-        allocates = subst (λ (q : RequestAt). AllocatesInType q old o.host (asked_block o.asked) answer new) (plain_request budgets t none) within.allocates;
+        allocates = record {
+          met = k.met;
+          is_met = k.is_met;
+          serves = serves_plain (kinds_told setup.properties) AnyQuestion (request_in t d) (unseen setup budgets old) none k.met answer (unseen setup budgets new) k.serves;
+        };
         asked_for = within.asked_for;
       }))
       a
@@ -64,8 +56,8 @@ module _ (setup : Setup) (d : AllocationCreateDesc) where
 
   -- the memory type that is asked second is one that an upload may ask
   next_asked : (answer : Answer) (u : ℕ) → next_by setup d answer ≡ Some u → MayAsk setup d u
-  next_asked (Gave p) u is = absurd (none_some u is)
-  next_asked (Refused r) u is =
+  next_asked (Ok p) u is = absurd (none_some u is)
+  next_asked (Err r) u is =
       let c = chosen (is_for_upload d.location && not (is_short r)) (first_type setup.properties.types d.requirements.memory_type_bits (required d.location)) u is in
       inr (both (is_for_upload d.location) (not (is_short r)) c.0, c.1)
 

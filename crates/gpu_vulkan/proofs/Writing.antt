@@ -1,26 +1,24 @@
 -- What a write at a live allocation's place leaves.
 use Rattle.std.proofs.Common.{◌≡◌, ◌≢◌, ◌∙◌, ◌⊎◌, refl, sym, ap, subst, ℕ, ◌+◌, ◌≤◌, true, List, length, Option, Some, None, Contains, arith, inl, inr, ⊎_elim}
-use Rattle.std.specs.Option.{is_some}
 use Rattle.std.specs.FinMap.{get}
 use Rattle.std.specs.Int.NonZero.{non_zero_u64_get}
 use Rattle.std.specs.declared.num.NonZeroU64.{NonZeroU64}
 use Rattle.std.proofs.lemmas.Bool.{cases_eq, eqb-true}
-use Rattle.gpu_block.specs.Block.{Block, extents_of}
+use Rattle.gpu_block.specs.Block.{extents_of}
 use Rattle.gpu_block_pieces.specs.FreeList.{Extent}
 use Rattle.gpu_slots.specs.Slots.{SlotIsSound}
 use Rattle.gpu_slots.specs.TypeRelease.{SlotHolds}
 use Rattle.gpu_slots.specs.TypeState.{Slot, slot_at}
 use Rattle.gpu_slots.specs.declared.piece.Piece.{Piece}
-use Rattle.gpu_device.specs.Held.{Held, Entry, HasRange, bytes_of, IsWhole, range_of, put_bytes, with_range}
+use Rattle.gpu_device.specs.Held.{Held, HasRange, bytes_of, IsWhole, range_of, with_range}
 use Rattle.gpu_device.specs.Properties.{Properties}
 use Rattle.gpu_device.specs.declared.vulkan.types.DeviceMemory.{DeviceMemory}
-use Rattle.gpu_device.proofs.Writes.{written_entry, get_there, get_elsewhere, range_there, range_elsewhere}
-use Rattle.gpu_memory_types.specs.Held.{HasEntry}
+use Rattle.gpu_device.proofs.Writes.{range_there, range_elsewhere}
 use Rattle.gpu_vulkan_setup.specs.Types.{is_mapped}
-use Rattle.gpu_vulkan_blocks.specs.Blocks.{Slots, IsBlockEntry, HoldsJustLiveBlocks}
+use Rattle.gpu_vulkan.specs.Blocks.{Slots, HoldsJustLiveBlocks}
 use Rattle.gpu_memory_types.specs.Blocks.{slots_at, block_at, BlocksWellFormed}
 use Rattle.gpu_vulkan.specs.Lends.{AreDistinct, number_in}
-use Rattle.gpu_vulkan_blocks.specs.Release.{is_same_memory, IsLiveIn}
+use Rattle.gpu_vulkan.specs.Live.{is_same_memory, IsLiveIn}
 use Rattle.gpu_vulkan.specs.Live.{IsLive, IsMapped, bytes_at}
 use Rattle.gpu_vulkan.specs.declared.allocation.Allocation.{Allocation}
 use Rattle.gpu_vulkan.proofs.Inside.{live_range, piece_with}
@@ -79,29 +77,6 @@ module _ (p : Properties) (first held : Held) (ss : Slots) (sound : BlocksWellFo
       (λ ne. inl ne)
       (cases_eq b.block.0 a.block.0)
 
-  written_entry_of : (p : Properties) (t : ℕ) (b : Block) (e : Option Entry) (start : ℕ) (ws : List ℕ) → HasEntry (IsBlockEntry p) t b e → HasEntry (IsBlockEntry p) t b (written_entry e start ws)
-  written_entry_of p t b None start ws entry = entry
-  written_entry_of p t b (Some e) start ws entry = (entry.0, entry.1, put_some e.bytes start ws ∙ entry.2)
-    where
-      put_some : (o : Option (List ℕ)) (start : ℕ) (ws : List ℕ) → is_some (put_bytes o start ws) ≡ is_some o
-      put_some None start ws = refl
-      put_some (Some xs) start ws = refl
-
-  -- a write into a live block's memory leaves the device with just the live blocks
-  pub written_holds : (t : ℕ) (a : Piece DeviceMemory) (start : ℕ) (ws : List ℕ) → Found ss t a → HoldsJustLiveBlocks p first (with_range held a.block.0 start ws) ss
-  written_holds t a start ws f = record {
-    blocks = λ u j s at.
-        ⊎_elim
-        (λ same. subst (λ k. HasEntry (IsBlockEntry p) u s.block (get (with_range held a.block.0 start ws) k)) (sym same)
-        (subst (HasEntry (IsBlockEntry p) u s.block) (sym (get_there held a.block.0 start ws))
-        (written_entry_of p u s.block (get held a.block.0) start ws (subst (λ k. HasEntry (IsBlockEntry p) u s.block (get held k)) same (h.blocks u j s at)))))
-        (λ ne. subst (HasEntry (IsBlockEntry p) u s.block) (sym (get_elsewhere held a.block.0 start ws s.number.0 ne)) (h.blocks u j s at))
-        (cases_eq s.number.0 a.block.0);
-    one_block = h.one_block;
-    new = h.new;
-    others = λ n out. get_elsewhere held a.block.0 start ws n (λ is. out t a.slot f.s f.at (f.number ∙ sym is)) ∙ h.others n out;
-  }
-
 -- ---- at an allocation
 
 -- the piece that a live allocation stands for, and what its slot holds
@@ -155,12 +130,6 @@ module _ (p : Properties) (first held : Held) (ss : Slots) (sound : BlocksWellFo
       apart))
       (pieces_apart p first held ss sound h a.memory_type_index b.memory_type_index x.piece y.piece x.found y.found
       (λ type slot number. other type (sym y.slot ∙ slot ∙ x.slot) (sym y.number ∙ number ∙ x.number)))
-
-  pub allocation_written : (a : Allocation) (ws : List ℕ) → IsLive ss a → HoldsJustLiveBlocks p first (with_range held a.device_memory.0 a.offset ws) ss
-  allocation_written a ws live =
-      let x = stands ss a live in
-      subst (λ (m : DeviceMemory). HoldsJustLiveBlocks p first (with_range held m.0 a.offset ws) ss) x.block
-      (written_holds p first held ss sound h a.memory_type_index x.piece a.offset ws x.found)
 
   -- what is read at either kind of place after a write
   pub own_written : ((n : ℕ) → IsWhole (get held n)) → (a : Allocation) (ws : List ℕ) → IsMapped p ss a → length ws ≡ a.size → bytes_at (with_range held a.device_memory.0 a.offset ws) a ≡ Some ws

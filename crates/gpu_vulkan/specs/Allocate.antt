@@ -8,11 +8,11 @@ use Rattle.gpu_values.specs.declared.memory_location.MemoryLocation.{MemoryLocat
 use Rattle.gpu_values.specs.declared.memory_location.MemoryLocation.TheVariants.{Unknown, GpuOnly, CpuToGpu, GpuToCpu}
 use Rattle.gpu_values.specs.declared.error.AllocationError.{AllocationError}
 use Rattle.gpu_device.specs.declared.vulkan.device.VulkanDevice.{Ghosts}
-use Rattle.gpu_memory_types.specs.Attempt.{AllocatesInType, Gave, Refused}
 use Rattle.gpu_memory_types.specs.Budgets.{Budgets}
-use Rattle.gpu_vulkan_blocks.specs.Suballocation.{AttemptEnvironment, Answer, asked_block, request_at, IsAskedFor, IsAfter}
+use Rattle.gpu_vulkan.specs.Attempt as attempts
+use Rattle.gpu_vulkan.specs.Attempt.{AttemptEnvironment, Answer, IsAskedFor, IsAfter}
 use Rattle.gpu_vulkan_setup.specs.Types.{is_mapped, heap_size}
-use Rattle.gpu_vulkan_blocks.specs.Blocks.{Slots}
+use Rattle.gpu_vulkan.specs.Blocks.{Slots}
 use Rattle.gpu_vulkan_setup.specs.Choice.{required, first_type, best_type}
 use Rattle.gpu_vulkan.specs.Live.{IsGiven}
 use Rattle.gpu_vulkan_setup.specs.Setup.{Setup}
@@ -23,13 +23,13 @@ use Rattle.gpu_vulkan_setup.specs.declared.describe.AllocationCreateDesc.{Alloca
 pub record IsTooLarge (setup : Setup) (old : Slots) (t : ℕ) (d : AllocationCreateDesc) (o : AttemptEnvironment) (answer : Answer) (new : Slots) : Type 0 where
   pub above : heap_size setup.properties t < d.requirements.size
   pub asked : o.asked ≡ None
-  pub answer_is : answer ≡ Refused out_of_memory
+  pub answer_is : answer ≡ Err out_of_memory
   pub same : new ≡ old
 
 -- the request is within its heap, and its memory type allocates it or refuses it
 pub record IsWithinHeap (setup : Setup) (budgets : Budgets) (old : Slots) (t : ℕ) (d : AllocationCreateDesc) (o : AttemptEnvironment) (answer : Answer) (new : Slots) : Type 0 where
   pub below : d.requirements.size ≤ heap_size setup.properties t
-  pub allocates : AllocatesInType (request_at setup budgets t d) old o.host (asked_block o.asked) answer new
+  pub allocates : attempts.Allocates setup budgets old t d o answer new
   pub asked_for : IsAskedFor setup t d o.asked
 
 -- an attempt at the t-th memory type
@@ -40,10 +40,10 @@ Attempts setup budgets old t d o answer new = IsTooLarge setup old t d o answer 
 
 -- what the caller of an attempt gets
 abbrev pub Answers : Setup → (t : ℕ) → AllocationCreateDesc → Result Allocation AllocationError → Answer → Type 0
-Answers setup t d (Ok a) (Gave p) = IsGiven setup t d p a
-Answers setup t d (Ok a) (Refused e) = ⊥
-Answers setup t d (Err e) (Gave p) = ⊥
-Answers setup t d (Err e) (Refused r) = refusal_of e ≡ r
+Answers setup t d (Ok a) (Ok p) = IsGiven setup t d p a
+Answers setup t d (Ok a) (Err e) = ⊥
+Answers setup t d (Err e) (Ok p) = ⊥
+Answers setup t d (Err e) (Err r) = refusal_of e ≡ r
 
 -- an attempt over a device
 pub record IsAttempt {D : Type 0} (g : Ghosts D) (setup : Setup) (budgets : Budgets) (t : ℕ) (d : AllocationCreateDesc) (old : Slots) (device : D) (result : Result Allocation AllocationError)

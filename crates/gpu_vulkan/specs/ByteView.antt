@@ -6,7 +6,7 @@ use Rattle.gpu_block_pieces.specs.FreeList.{Extent}
 use Rattle.gpu_slots.specs.TypeState.{Slot}
 use Rattle.gpu_device.specs.Held.{Held, bytes_of, range_in}
 use Rattle.gpu_device.specs.declared.vulkan.types.DeviceMemory.{DeviceMemory}
-use Rattle.gpu_vulkan_blocks.specs.Blocks.{Slots}
+use Rattle.gpu_vulkan.specs.Blocks.{Slots}
 use Rattle.gpu_memory_types.specs.Blocks.{block_at}
 
 -- where a live piece stands: its memory type, its slot there, and its number in that block

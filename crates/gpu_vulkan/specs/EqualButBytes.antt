@@ -1,7 +1,7 @@
 -- Calls, environment and replies that differ at most in bytes.
 use Rattle.std.specs.Prelude.{◌≡◌, Option, Some, None}
-use Rattle.gpu_vulkan_blocks.specs.Suballocation.{AttemptEnvironment, Asked}
-use Rattle.gpu_vulkan_blocks.specs.BlockAnswer.{BlockAnswer, Mapped}
+use Rattle.gpu_vulkan.specs.Attempt.{AttemptEnvironment, Asked}
+use Rattle.gpu_vulkan.specs.BlockAnswer.{BlockAnswer, Mapped}
 use Rattle.gpu_vulkan.specs.Reply.{Reply, Bytes}
 use Rattle.gpu_vulkan.specs.Step.{Call, Allocate, Write, CallEnvironment}
 use Rattle.gpu_vulkan_setup.specs.declared.describe.AllocationCreateDesc.{AllocationCreateDesc}

@@ -1,17 +1,37 @@
 -- What giving an allocation back comes to.
-use Rattle.std.specs.Prelude.{◌≡◌, Option, Some, None, Result, Ok, Err}
+use Rattle.std.specs.Prelude.{◌≡◌, ℕ, List, IsTrue, Option, Some, None, Result, Ok, Err}
+use Rattle.std.specs.FinMap.{remove}
+use Rattle.std.specs.List.{slice_set}
 use Rattle.gpu_values.specs.Refusal.{refusal_of}
-use Rattle.gpu_slots.specs.TypeRelease.{IsFreeRefusal}
-use Rattle.gpu_slots.specs.TypeState.{slot_at}
+use Rattle.gpu_slots.specs.TypeRelease.{has_several, ReleasesPiece, IsFreeRefusal}
+use Rattle.gpu_slots.specs.TypeState.{Slot, slot_at}
 use Rattle.gpu_values.specs.declared.error.AllocationError.{AllocationError}
 use Rattle.gpu_slots.specs.declared.piece.Piece.{Piece}
 use Rattle.gpu_device.specs.declared.vulkan.device.VulkanDevice.{Ghosts}
 use Rattle.gpu_device.specs.declared.vulkan.types.DeviceMemory.{DeviceMemory}
-use Rattle.gpu_vulkan_blocks.specs.Blocks.{Slots}
+use Rattle.gpu_vulkan.specs.Blocks.{Slots}
 use Rattle.gpu_memory_types.specs.Blocks.{slots_at}
-use Rattle.gpu_vulkan_blocks.specs.Release.{is_same_memory, IsLiveIn, IsReleased}
-use Rattle.gpu_vulkan.specs.Live.{piece_of}
+use Rattle.gpu_vulkan.specs.Live.{is_same_memory, IsLiveIn, piece_of}
 use Rattle.gpu_vulkan.specs.declared.allocation.Allocation.{Allocation}
+
+-- the device after the memory of a block went, if one did: it holds all else as before, and was asked nothing
+pub record IsWithout {D : Type 0} (g : Ghosts D) (old : D) (number : ℕ) (new : D) : Type 0 where
+  pub held : g.held new ≡ remove (g.held old) number
+  pub count : g.refused new ≡ g.refused old
+  pub latest : g.latest new ≡ g.latest old
+  pub constant : g.properties new ≡ g.properties old
+
+abbrev pub GivesBack : {D : Type 0} → Ghosts D → (old : D) → Option DeviceMemory → (new : D) → Type 0
+GivesBack g old None new = new ≡ old
+GivesBack g old (Some memory) new = IsWithout g old memory.0 new
+
+-- a piece of the t-th memory type went, and its block with it where that goes
+pub record IsReleased {D : Type 0} (g : Ghosts D) (t : ℕ) (p : Piece DeviceMemory) (old : Slots) (device : D) (new : Slots) (after : D) : Type 0 where
+  pub went : Option DeviceMemory
+  pub left : List (Option (Slot DeviceMemory))
+  pub releases : ReleasesPiece (IsTrue (has_several (slots_at old t))) (slots_at old t) p went left
+  pub slots : new ≡ slice_set old t left
+  pub gives_back : GivesBack g device went after
 
 -- a live piece goes; of one that isn't live nothing changes, and the allocation comes back as it was
 abbrev pub FreesPiece : {D : Type 0} → Ghosts D → Allocation → Option (Piece DeviceMemory) → Slots → D → Result (Unit {0}) (AllocationError × Allocation) → Slots → D → Type 0

@@ -1,4 +1,9 @@
+pub mod BlockAnswer
+pub mod Source
+pub mod RangeLends
+pub mod Blocks
 pub mod Live
+pub mod Attempt
 pub mod Allocate
 pub mod State
 pub mod Free

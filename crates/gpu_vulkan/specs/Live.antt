@@ -1,13 +1,13 @@
 -- An allocation, as its owner holds it, and the piece that it stands for.
-use Rattle.std.specs.Prelude.{◌≡◌, ℕ, ◌-◌, ◌^◌, true, false, List, slice_get, Option, Some, None, IsSomeAnd, string_bytes}
+use Rattle.std.specs.Prelude.{◌≡◌, ℕ, ◌-◌, ◌^◌, ◌==◌, Bool, true, false, List, slice_get, Option, Some, None, IsSomeAnd, string_bytes}
 use Rattle.std.specs.Option.{option_map}
 use Rattle.gpu_slots.specs.declared.piece.Piece.{Piece}
 use Rattle.gpu_device.specs.Held.{Held, range_of}
 use Rattle.gpu_device.specs.Properties.{Properties}
 use Rattle.gpu_device.specs.declared.vulkan.types.DeviceMemory.{DeviceMemory}
+use Rattle.gpu_memory_types.specs.Live as all
 use Rattle.gpu_vulkan_setup.specs.Types.{is_host_visible, is_mapped}
-use Rattle.gpu_vulkan_blocks.specs.Blocks.{Slots}
-use Rattle.gpu_vulkan_blocks.specs.Release.{IsLiveIn}
+use Rattle.gpu_vulkan.specs.Blocks.{Slots}
 use Rattle.gpu_vulkan_setup.specs.Describe.{is_own}
 use Rattle.gpu_vulkan_setup.specs.Setup.{Setup}
 use Rattle.gpu_vulkan.specs.declared.allocation.Allocation.{Allocation}
@@ -27,6 +27,14 @@ null_allocation = record {
   dedicated = false;
   name = None;
 }
+
+-- the memory's number, as the device compares it
+abbrev pub is_same_memory : DeviceMemory → DeviceMemory → Bool
+is_same_memory m n = m.0 == n.0
+
+-- the piece is live in the t-th memory type
+abbrev pub IsLiveIn : Slots → (t : ℕ) → Option (Piece DeviceMemory) → Type 0
+IsLiveIn slots t p = all.IsLiveIn is_same_memory slots t p
 
 -- the piece that an allocation stands for, None where it is null
 abbrev pub piece_of : Allocation → Option (Piece DeviceMemory)

@@ -4,10 +4,10 @@ use Rattle.gpu_values.specs.Refusal.{refusal_of, host_out_of_memory}
 use Rattle.gpu_values.specs.declared.error.AllocationError.{AllocationError}
 use Rattle.gpu_slots.specs.declared.piece.Piece.{Piece}
 use Rattle.gpu_device.specs.declared.vulkan.types.DeviceMemory.{DeviceMemory}
-use Rattle.gpu_vulkan_blocks.specs.Blocks.{Slots}
+use Rattle.gpu_vulkan.specs.Blocks.{Slots}
 use Rattle.gpu_memory_types.specs.Blocks.{slots_at}
 use Rattle.gpu_memory_types.specs.Rename.{IsNotNamed, IsRenamed}
-use Rattle.gpu_vulkan_blocks.specs.Release.{is_same_memory}
+use Rattle.gpu_vulkan.specs.Live.{is_same_memory}
 use Rattle.gpu_vulkan.specs.Live.{piece_of, IsLive}
 use Rattle.gpu_vulkan.specs.declared.allocation.Allocation.{Allocation}
 

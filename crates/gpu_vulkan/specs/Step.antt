@@ -15,16 +15,15 @@ use Rattle.gpu_device.specs.declared.vulkan.device.VulkanDevice.{Ghosts}
 use Rattle.gpu_device.specs.declared.vulkan.types.DeviceMemory.{DeviceMemory}
 use Rattle.gpu_device.specs.declared.vulkan.types.MemoryAllocateInfo.{MemoryAllocateInfo}
 use Rattle.gpu_vulkan.specs.Allocate.{Attempts, next_type, is_valid}
-use Rattle.gpu_memory_types.specs.Attempt.{Gave, Refused}
-use Rattle.gpu_vulkan_blocks.specs.Suballocation.{AttemptEnvironment, Asked, Answer}
-use Rattle.gpu_vulkan_blocks.specs.BlockAnswer.{BlockAnswer, Declined, Granted, Mapped, NotMapped, refused_after}
+use Rattle.gpu_vulkan.specs.Attempt.{AttemptEnvironment, Asked, Answer}
+use Rattle.gpu_vulkan.specs.BlockAnswer.{BlockAnswer, Declined, Granted, Mapped, NotMapped, refused_after}
 use Rattle.gpu_vulkan_setup.specs.Types.{is_mapped}
-use Rattle.gpu_vulkan_blocks.specs.Blocks.{Slots}
+use Rattle.gpu_vulkan.specs.Blocks.{Slots}
 use Rattle.gpu_memory_types.specs.Blocks.{slots_at, total_capacity}
 use Rattle.gpu_vulkan.specs.ByteView.{AllocationId, ByteView, byte_view_of, TakesOut, PutsBack, AddsBlock, DropsBlock, Writes}
 use Rattle.gpu_vulkan_setup.specs.Choice.{best_type}
 use Rattle.gpu_vulkan.specs.Lends.{number_in}
-use Rattle.gpu_vulkan_blocks.specs.Release.{is_same_memory, IsLiveIn}
+use Rattle.gpu_vulkan.specs.Live.{is_same_memory, IsLiveIn}
 use Rattle.gpu_vulkan.specs.Live.{piece_of, IsGiven, IsMapped}
 use Rattle.gpu_memory_types.specs.Budgets.{Budgets, budget_at, SetsBudget}
 use Rattle.gpu_memory_types.specs.Leaks.{all_leaks}
@@ -84,9 +83,9 @@ answer_bytes (NotMapped code) = None
 
 -- what an attempt at the t-th memory type leaves of the bytes: a refusal leaves them, and a piece's list comes out of the rest, to which a new block's bytes are added before
 abbrev pub BytesAfter : (mapped : Bool) → (t : ℕ) → Option Asked → Answer → ByteView → ByteView → Type 0
-BytesAfter mapped t asked (Refused r) old new = new ≡ old
-BytesAfter mapped t None (Gave p) old new = TakesOut mapped (id_in t p) p.offset p.size old new
-BytesAfter mapped t (Some a) (Gave p) old new =
+BytesAfter mapped t asked (Err r) old new = new ≡ old
+BytesAfter mapped t None (Ok p) old new = TakesOut mapped (id_in t p) p.offset p.size old new
+BytesAfter mapped t (Some a) (Ok p) old new =
     (mid : ByteView) × AddsBlock t p.slot (answer_bytes a.answer) old mid × TakesOut mapped (id_in t p) p.offset p.size mid new
 
 pub record AttemptStep (setup : Setup) (t : ℕ) (d : AllocationCreateDesc) (o : AttemptEnvironment) (answer : Answer) (old new : ModelState) : Type 0 where
@@ -95,13 +94,13 @@ pub record AttemptStep (setup : Setup) (t : ℕ) (d : AllocationCreateDesc) (o :
   pub bytes : BytesAfter (is_mapped setup.properties t) t o.asked answer old.byte_view new.byte_view
 
 abbrev pub reply_of : (t : ℕ) → Answer → Reply
-reply_of t (Gave p) = Given t p
-reply_of t (Refused r) = Error r
+reply_of t (Ok p) = Given t p
+reply_of t (Err r) = Error r
 
 -- the memory type of the second attempt, where there is one
 abbrev pub next_by : Setup → AllocationCreateDesc → Answer → Option ℕ
-next_by setup d (Gave p) = None
-next_by setup d (Refused r) = next_type setup d r
+next_by setup d (Ok p) = None
+next_by setup d (Err r) = next_type setup d r
 
 -- after the first answer, at the t-th memory type, the second one counts, where there is one
 abbrev pub Follows : Setup → AllocationCreateDesc → Option ℕ → AttemptEnvironment → (t : ℕ) → Answer → ModelState → Reply → ModelState → Type 0

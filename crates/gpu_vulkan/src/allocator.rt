@@ -5,7 +5,7 @@ ghost use Rattle.std.specs.Option.{unwrap_or};
 ghost use Rattle.gpu_values.specs.Refusal.{refusal_of, refusal_in, host_out_of_memory};
 ghost use Rattle.gpu_vulkan_setup.specs.Setup.{setup_fault};
 ghost use Rattle.gpu_memory_types.specs.Blocks.{total_capacity, BlocksWellFormed};
-ghost use Rattle.gpu_vulkan_blocks.specs.Blocks.{HoldsJustLiveBlocks};
+ghost use Rattle.gpu_vulkan.specs.Blocks.{HoldsJustLiveBlocks};
 ghost use Rattle.gpu_vulkan.specs.Allocate.{Allocates};
 ghost use Rattle.gpu_vulkan.specs.Free.{Frees};
 ghost use Rattle.gpu_vulkan.specs.Apart.{IsInside, SharesNoByte, KeepsPages};
@@ -26,45 +26,34 @@ ghost use Rattle.gpu_values.specs.declared.error.AllocationError.TheVariants.{Ho
 ghost use Rattle.std.specs.Borrow.{sem};
 ghost use Rattle.gpu_vulkan.specs.Live.{IsLive, IsMapped, bytes_at};
 
-use super::attempt::allocate_with_fallback;
 use super::logging::{log_allocate, log_device, log_free, log_last_leaks, log_leaks};
 use super::rename::rename;
 use super::{Allocation, MappedAllocationSlab};
+use crate::attempt::{allocate_with_fallback, blocks_are_held};
+use crate::source::VulkanBlocks;
 use gpu_device::vulkan::{DeviceMemory, VulkanDevice};
 use gpu_memory_types::MemoryTypes;
+use gpu_pool::Pool;
 use gpu_values::{AllocationError, AllocatorReport, Result};
-use gpu_vulkan_blocks::{free_blocks, free_piece};
 use gpu_vulkan_setup::{
     AllocationCreateDesc, AllocatorCreateDesc, Settings, Setup, best_type, fault_of, parts_of,
 };
 use log::{Level, Log};
 use std::alloc::{AllocError, Global};
 use std::marker::Model;
-use std::snapshot::Snapshot;
 
 /// Allocates pieces of device memory from a few large blocks. It must be spent by `destroy`.
 pub struct Allocator<D: VulkanDevice> {
-    device: D,
-    first: Snapshot<D>,
-    setup: Setup,
-    types: MemoryTypes<DeviceMemory>,
+    pool: Pool<VulkanBlocks<D>>,
     alloc: Global,
 }
 
 impl<D: VulkanDevice> Model for Allocator<D> {
-    ghost use Rattle.std.specs.Prelude.{◌≡◌};
-    ghost use Rattle.gpu_vulkan.specs.State.{State, AllocatorInvariant};
-    ghost use Rattle.gpu_memory_types.specs.Budgets.{budgets};
-    ghost use Rattle.gpu_memory_types.specs.Types.{slots_of, kinds, MemoryTypesInvariant};
-    ghost use Rattle.gpu_vulkan_setup.specs.Types.{kinds_told};
+    ghost use Rattle.gpu_vulkan.specs.State.{State, state_of};
 
     ghost Value = { State D };
 
-    ghost view = { λ a. record { device = a.device; first = a.first.value; setup = a.setup; slots = slots_of a.types; budgets = budgets a.types } };
-
-    ghost invariant = { λ a. (kinds a.types ≡ kinds_told a.setup.properties)
-        × AllocatorInvariant (D.properties a.first.value) (D.properties a.device) (D.held a.first.value) (D.held a.device) a.setup (slots_of a.types)
-        × MemoryTypesInvariant a.types };
+    ghost view = { λ a. state_of a.pool };
 }
 
 impl<D: VulkanDevice> Allocator<D> {
@@ -113,16 +102,20 @@ impl<D: VulkanDevice> Allocator<D> {
         match parts_of(alloc, &device, settings) {
             Err(AllocError) => Err((AllocationError::HostOutOfMemory, device)),
             Ok((setup, types)) => {
-                let first = Snapshot::of(&device);
+                let source = VulkanBlocks::new(device, setup);
                 Ok(Allocator {
-                    device,
-                    first,
-                    setup,
-                    types,
+                    pool: Pool::new(source, allocation_sizes, types),
                     alloc,
                 })
             }
         }
+    }
+
+    /// What it is made with, lent; the sizes of blocks are the pool's.
+    fn setup(&self) -> &Setup
+        ensures { result.now.properties ≡ self.now.setup.properties }
+    {
+        self.pool.source().setup()
     }
 
     /// Takes a piece of device memory, of a block that is there or of a new one. Its bytes are what the block has at its place:
@@ -148,21 +141,19 @@ impl<D: VulkanDevice> Allocator<D> {
         ensures keeps { StayLive self.old.slots self.new.slots }
         ensures gives { IfOk result (λ a. IsLive self.new.slots a × ((b : Allocation) → IsLive self.old.slots b → AreDistinct b a)) }
     {
-        log_allocate(log, self.setup.debug(), desc);
+        log_allocate(log, self.setup().debug(), desc);
         if desc.requirements.size == 0 || !desc.requirements.alignment.is_power_of_two() {
             return Err(AllocationError::InvalidAllocationCreateDesc);
         }
         let bits = desc.requirements.memory_type_bits;
-        match best_type(self.setup.memory_types(), bits, desc.location) {
+        match best_type(self.setup().memory_types(), bits, desc.location) {
             None => Err(AllocationError::NoCompatibleMemoryTypeFound),
-            Some(index) => allocate_with_fallback(
-                self.alloc,
-                &self.setup,
-                &mut self.device,
-                &mut self.types,
-                desc,
-                index,
-            ),
+            Some(index) => {
+                blocks_are_held(&self.pool);
+                let result = allocate_with_fallback(self.alloc, &mut self.pool, desc, index);
+                blocks_are_held(&self.pool);
+                result
+            }
         }
     }
 
@@ -171,7 +162,7 @@ impl<D: VulkanDevice> Allocator<D> {
         ensures sum { result ≡ total_capacity self.now.slots }
         ensures step { IsStep D.VulkanDevice Capacity (replies.Capacity result) self.now self.now }
     {
-        self.types.capacity()
+        self.pool.capacity()
     }
 
     /// Bounds the sum of the sizes of the blocks of a memory type, in bytes: a request that needs a new block beyond it is
@@ -183,7 +174,7 @@ impl<D: VulkanDevice> Allocator<D> {
         ensures others { self.new ≡ record self.old { budgets = self.new.budgets } }
         ensures step { IsStep D.VulkanDevice (SetBudget memory_type budget) (done_as result) self.old self.new }
     {
-        self.types.set_budget(memory_type, budget)
+        self.pool.set_budget(memory_type, budget)
     }
 
     /// The budget of a memory type, in bytes; `None` where it has none, or there is no such type.
@@ -191,7 +182,7 @@ impl<D: VulkanDevice> Allocator<D> {
         ensures budget { result ≡ budget_at self.now.budgets memory_type }
         ensures step { IsStep D.VulkanDevice (Budget memory_type) (replies.Budget result) self.now self.now }
     {
-        self.types.budget(memory_type)
+        self.pool.budget(memory_type)
     }
 
     /// The memory types, lent to be looked at: their blocks with pieces and gaps, and what is counted of them.
@@ -200,7 +191,7 @@ impl<D: VulkanDevice> Allocator<D> {
         ensures budgets { budgets result.now ≡ self.now.budgets }
         ensures kinds { kinds result.now ≡ kinds_told self.now.setup.properties }
     {
-        &self.types
+        self.pool.memory_types()
     }
 
     /// The device, lent. It holds what it held when it was handed in, and just the live blocks.
@@ -209,7 +200,8 @@ impl<D: VulkanDevice> Allocator<D> {
         ensures holds { HoldsJustLiveBlocks self.now.setup.properties (D.held self.now.first) (D.held self.now.device) self.now.slots }
         ensures constant { D.properties self.now.device ≡ self.now.setup.properties }
     {
-        &self.device
+        blocks_are_held(&self.pool);
+        self.pool.source().device()
     }
 
     /// What holds of live allocations at any time, for callers' proofs: each lies inside its block, no two share a byte, and
@@ -221,7 +213,8 @@ impl<D: VulkanDevice> Allocator<D> {
         ensures pages { (a b : Allocation) → IsLive self.now.slots a → IsLive self.now.slots b
             → KeepsPages self.now.setup.properties.granularity self.now.slots a b }
     {
-        let _ = &self.device;
+        blocks_are_held(&self.pool);
+        self.pool.pieces_are_apart();
     }
 
     /// Whether an allocation is live: the allocator has a record with its type, slot, number, offset, size and memory. A null
@@ -231,7 +224,7 @@ impl<D: VulkanDevice> Allocator<D> {
     {
         match allocation.piece() {
             None => false,
-            Some(piece) => self.types.is_live(allocation.memory_type_index, &piece),
+            Some(piece) => self.pool.is_live(allocation.memory_type_index, &piece),
         }
     }
 
@@ -245,7 +238,9 @@ impl<D: VulkanDevice> Allocator<D> {
         if !self.is_live(allocation) {
             return None;
         }
-        self.device.bytes(allocation.device_memory, allocation.offset, allocation.size)
+        blocks_are_held(&self.pool);
+        let device = self.device();
+        device.bytes(allocation.device_memory, allocation.offset, allocation.size)
     }
 
     /// Lends the bytes of a live allocation in mapped memory to be written; its caller knows that it is such a one, as
@@ -261,7 +256,9 @@ impl<D: VulkanDevice> Allocator<D> {
         ensures step { (ws : List ℕ) → length ws ≡ allocation.now.size
             → IsStep D.VulkanDevice (Write allocation.now ws) Done self.old (written_at D.VulkanDevice self.old allocation.now ws) }
     {
-        self.device.range_mut(allocation.device_memory, allocation.offset, allocation.size)
+        blocks_are_held(&self.pool);
+        let pool = &mut self.pool;
+        pool.source.range_mut(allocation.device_memory, allocation.offset, allocation.size)
     }
 
     /// Lends the same bytes to be written where the allocation is live and in mapped memory; else `None`. It takes no memory.
@@ -309,12 +306,13 @@ impl<D: VulkanDevice> Allocator<D> {
         ensures step { IsStep D.VulkanDevice (Free allocation) (freed_as result) self.old self.new }
         ensures keeps { (b : Allocation) → IsLive self.old.slots b → AreDistinct b allocation → IsLive self.new.slots b }
     {
-        log_free(log, self.setup.debug(), &allocation);
+        log_free(log, self.setup().debug(), &allocation);
         let Some(piece) = allocation.piece() else {
             return Ok(());
         };
         let index = allocation.memory_type_index;
-        match free_piece(&mut self.device, &mut self.types, index, &piece) {
+        blocks_are_held(&self.pool);
+        match self.pool.free(index, &piece) {
             Ok(()) => Ok(()),
             Err(error) => Err((error, allocation)),
         }
@@ -330,7 +328,7 @@ impl<D: VulkanDevice> Allocator<D> {
         ensures live { StayLive self.old.slots self.new.slots }
         ensures constant { (self.new.device ≡ self.old.device) × (self.new.first ≡ self.old.first) × (self.new.setup ≡ self.old.setup) × (self.new.budgets ≡ self.old.budgets) }
     {
-        rename(self.alloc, &mut self.types, allocation, name)
+        rename(self.alloc, &mut self.pool, allocation, name)
     }
 
     /// What is allocated: the live blocks and pieces by memory type, then by slot, pieces by offset, and the sums of both.
@@ -341,7 +339,7 @@ impl<D: VulkanDevice> Allocator<D> {
         ensures capacity { IfOk result (λ r. r.total_capacity_bytes ≡ total_capacity self.now.slots) }
         ensures cause { IfErr result (λ e. e ≡ HostOutOfMemory) }
     {
-        self.types.report(self.alloc)
+        self.pool.report(self.alloc)
     }
 
     /// The texts of all live pieces by memory type, then by slot, then in order of offset. The only refusal is
@@ -351,12 +349,12 @@ impl<D: VulkanDevice> Allocator<D> {
         ensures texts { IfOk result (λ v. map string_bytes v.items ≡ map leak_text (all_leaks self.now.slots)) }
         ensures cause { IfErr result (λ e. e ≡ HostOutOfMemory) }
     {
-        self.types.leak_texts(self.alloc)
+        self.pool.leak_texts(self.alloc)
     }
 
     /// Logs the same texts one by one, each as a message of its own. It takes no memory.
     pub fn report_memory_leaks<L: Log>(&self, log: &L, level: Level) {
-        log_leaks(log, level, &self.types);
+        log_leaks(log, level, self.pool.memory_types());
     }
 
     /// Gives every block back, and returns the device, which then holds what it held when it was handed in. What is still
@@ -367,17 +365,8 @@ impl<D: VulkanDevice> Allocator<D> {
         ensures names_no_question { D.latest result ≡ D.latest self.device }
         ensures constant { D.properties result ≡ D.properties self.first }
     {
-        let Allocator {
-            mut device,
-            first: _,
-            setup,
-            types,
-            alloc: _,
-        } = self;
-        log_last_leaks(log, setup.debug(), &types);
-        for index in 0..types.count() {
-            free_blocks(&mut device, &types, index);
-        }
-        device
+        let Allocator { pool, alloc: _ } = self;
+        log_last_leaks(log, pool.source().setup().debug(), pool.memory_types());
+        pool.destroy().into_device()
     }
 }

@@ -1,23 +1,25 @@
 //! Attempts to allocate in one memory type, and in the one that is asked after a refusal.
 
-ghost use Rattle.std.specs.Prelude.{◌≡◌, ◌<◌, length, Some, IfSome, IsTrue, string_bytes};
+ghost use Rattle.std.specs.Prelude.{◌≡◌, ◌<◌, ◌%◌, length, Some, IfOk, IfSome, IsTrue, string_bytes};
 ghost use Rattle.std.specs.Int.{is_power_of_two};
 ghost use Rattle.gpu_values.specs.Refusal.{refusal_of};
-ghost use Rattle.gpu_memory_types.specs.Budgets.{budgets};
-ghost use Rattle.gpu_memory_types.specs.Types.{slots_of, kinds, MemoryTypesInvariant};
-ghost use Rattle.gpu_vulkan_setup.specs.Types.{kinds_told};
-ghost use Rattle.gpu_vulkan_blocks.specs.Suballocation.{IsSuballocated};
+ghost use Rattle.gpu_memory_types.specs.Blocks.{BlocksWellFormed};
 ghost use Rattle.gpu_vulkan.specs.Allocate.{IsAttempt, IsServed, next_type};
-ghost use Rattle.gpu_vulkan.specs.Live.{IsGiven};
+ghost use Rattle.gpu_vulkan.specs.Blocks.{HoldsJustLiveBlocks};
+ghost use Rattle.gpu_vulkan.specs.Lends.{AreDistinct};
+ghost use Rattle.gpu_vulkan.specs.Live.{IsGiven, IsLive};
+ghost use Rattle.gpu_vulkan.specs.Rename.{StayLive};
+ghost use Rattle.gpu_vulkan.specs.State.{setup_of, IsConstant};
+ghost use Rattle.gpu_vulkan.specs.declared.allocation.Allocation.{Allocation};
 
-use super::Allocation;
+use crate::Allocation;
+use crate::source::VulkanBlocks;
 use gpu_device::vulkan::{DeviceMemory, VulkanDevice};
-use gpu_memory_types::MemoryTypes;
+use gpu_pool::Pool;
 use gpu_slots::Piece;
 use gpu_values::{AllocationError, MemoryLocation, Result};
-use gpu_vulkan_blocks::suballocate;
 use gpu_vulkan_setup::{
-    AllocationCreateDesc, Setup, first_type, is_mapped, is_own, required_flags,
+    AllocationCreateDesc, Setup, first_type, is_mapped, is_own, request_of, required_flags,
 };
 use std::alloc::{AllocError, Global};
 
@@ -47,33 +49,45 @@ fn given(
     }
 }
 
+/// What a pool over a device holds at any time, for callers' proofs: blocks are sound, and the device holds what it held
+/// at first, and just the live blocks. It does nothing.
+pub fn blocks_are_held<D: VulkanDevice>(pool: &Pool<VulkanBlocks<D>>)
+    ensures types { length pool.now.slots ≡ length pool.now.source.setup.properties.types }
+    ensures sound { BlocksWellFormed pool.now.source.setup.properties.granularity pool.now.slots }
+    ensures holds { HoldsJustLiveBlocks pool.now.source.setup.properties
+        (D.held pool.now.source.first) (D.held pool.now.source.device) pool.now.slots }
+{
+    let _ = pool.memory_types();
+    pool.pieces_are_apart();
+    let _ = pool.source().device();
+}
+
 /// An allocation in the memory type at `index`. All host memory for it is at hand before the device is asked.
 pub fn allocate_in_type<D: VulkanDevice>(
     alloc: Global,
-    setup: &Setup,
-    device: &mut D,
-    types: &mut MemoryTypes<DeviceMemory>,
+    pool: &mut Pool<VulkanBlocks<D>>,
     desc: &AllocationCreateDesc,
     index: usize,
 ) -> Result<Allocation>
     requires sized { 0 < desc.now.requirements.size }
     requires aligned { IsTrue (is_power_of_two desc.now.requirements.alignment) }
-    requires there { index < length setup.now.properties.types }
-    requires kinds { kinds types.old ≡ kinds_told setup.now.properties }
-    ensures attempts { IsAttempt D.VulkanDevice setup.now (budgets types.old) index desc.now (slots_of types.old) device.old result (slots_of types.new) device.new }
-    ensures kinds { kinds types.new ≡ kinds types.old }
-    ensures budgets { budgets types.new ≡ budgets types.old }
-    ensures kept { MemoryTypesInvariant types.old → MemoryTypesInvariant types.new }
+    requires there { index < length pool.old.source.setup.properties.types }
+    ensures attempts { IsAttempt D.VulkanDevice (setup_of pool.old) pool.old.budgets index desc.now
+        pool.old.slots pool.old.source.device result pool.new.slots pool.new.source.device }
+    ensures constant { IsConstant pool.old pool.new }
+    ensures aligned { IfOk result (λ a. a.offset % desc.now.requirements.alignment ≡ 0) }
+    ensures keeps { StayLive pool.old.slots pool.new.slots }
+    ensures live { IfOk result (λ a. IsLive pool.new.slots a × ((b : Allocation) → IsLive pool.old.slots b → AreDistinct b a)) }
 {
-    if desc.requirements.size > setup.heap_size(index) {
+    if desc.requirements.size > pool.source().setup().heap_size(index) {
         return Err(AllocationError::OutOfMemory);
     }
     let name = match String::from_str(alloc, desc.name) {
         Ok(name) => name,
         Err(AllocError) => return Err(AllocationError::HostOutOfMemory),
     };
-    match suballocate(setup, device, types, desc, index) {
-        Ok(piece) => Ok(given(setup, desc, index, piece, name)),
+    match pool.allocate(index, &request_of(desc), desc.allocation_scheme) {
+        Ok(piece) => Ok(given(pool.source().setup(), desc, index, piece, name)),
         Err(error) => Err(error),
     }
 }
@@ -96,26 +110,25 @@ fn next_type(setup: &Setup, desc: &AllocationCreateDesc, error: &AllocationError
 /// An allocation in the memory type at `index`, or in the one that is asked after a refusal.
 pub fn allocate_with_fallback<D: VulkanDevice>(
     alloc: Global,
-    setup: &Setup,
-    device: &mut D,
-    types: &mut MemoryTypes<DeviceMemory>,
+    pool: &mut Pool<VulkanBlocks<D>>,
     desc: &AllocationCreateDesc,
     index: usize,
 ) -> Result<Allocation>
     requires sized { 0 < desc.now.requirements.size }
     requires aligned { IsTrue (is_power_of_two desc.now.requirements.alignment) }
-    requires there { index < length setup.now.properties.types }
-    requires kinds { kinds types.old ≡ kinds_told setup.now.properties }
-    ensures served { IsServed D.VulkanDevice setup.now (budgets types.old) index desc.now (slots_of types.old) device.old result (slots_of types.new) device.new }
-    ensures kinds { kinds types.new ≡ kinds types.old }
-    ensures budgets { budgets types.new ≡ budgets types.old }
-    ensures kept { MemoryTypesInvariant types.old → MemoryTypesInvariant types.new }
+    requires there { index < length pool.old.source.setup.properties.types }
+    ensures served { IsServed D.VulkanDevice (setup_of pool.old) pool.old.budgets index desc.now
+        pool.old.slots pool.old.source.device result pool.new.slots pool.new.source.device }
+    ensures constant { IsConstant pool.old pool.new }
+    ensures aligned { IfOk result (λ a. a.offset % desc.now.requirements.alignment ≡ 0) }
+    ensures keeps { StayLive pool.old.slots pool.new.slots }
+    ensures live { IfOk result (λ a. IsLive pool.new.slots a × ((b : Allocation) → IsLive pool.old.slots b → AreDistinct b a)) }
 {
-    match allocate_in_type(alloc, setup, device, types, desc, index) {
+    match allocate_in_type(alloc, pool, desc, index) {
         Ok(allocation) => Ok(allocation),
-        Err(error) => match next_type(setup, desc, &error) {
+        Err(error) => match next_type(pool.source().setup(), desc, &error) {
             None => Err(error),
-            Some(next) => allocate_in_type(alloc, setup, device, types, desc, next),
+            Some(next) => allocate_in_type(alloc, pool, desc, next),
         },
     }
 }

@@ -2,7 +2,7 @@
 
 ghost use Rattle.std.specs.Prelude.{◌≡◌, Result};
 ghost use Rattle.gpu_vulkan.specs.Allocate.{Allocates};
-ghost use Rattle.gpu_vulkan_blocks.specs.Blocks.{Slots};
+ghost use Rattle.gpu_vulkan.specs.Blocks.{Slots};
 ghost use Rattle.gpu_memory_types.specs.Blocks.{BlocksWellFormed};
 ghost use Rattle.gpu_memory_types.specs.Budgets.{Budgets};
 ghost use Rattle.gpu_vulkan.specs.Budgets.{MeetsNoBudget, without_budgets};

@@ -4,10 +4,12 @@
 mod allocation;
 mod allocator;
 mod attempt;
+mod block;
 pub mod laws;
 mod logging;
 mod rename;
 mod slab;
+mod source;
 
 pub use allocation::Allocation;
 pub use allocator::Allocator;

@@ -1,5 +1,5 @@
 -- What the allocator's steps do to the lists of live pieces.
-use Rattle.std.proofs.Common.{◌≡◌, ◌∙◌, ℕ, List, length, Option, Some, None, Bool, true, false, refl, sym, ap, subst}
+use Rattle.std.proofs.Common.{◌≡◌, ◌∙◌, ℕ, List, length, Option, Some, None, Ok, Err, Bool, true, false, refl, sym, ap, subst}
 use Rattle.std.specs.Prelude.{if◌then◌else◌}
 use Rattle.std.specs.Option.{option_map}
 use Rattle.std.specs.declared.num.NonZeroU64.{NonZeroU64}
@@ -7,8 +7,7 @@ use Rattle.gpu_values.specs.Refusal.{Refusal}
 use Rattle.gpu_slots.specs.declared.piece.Piece.{Piece}
 use Rattle.gpu_device.specs.declared.vulkan.types.DeviceMemory.{DeviceMemory}
 use Rattle.gpu_vulkan.specs.Allocate.{is_valid}
-use Rattle.gpu_memory_types.specs.Attempt.{Gave, Refused}
-use Rattle.gpu_vulkan_blocks.specs.Suballocation.{AttemptEnvironment, Asked, Answer}
+use Rattle.gpu_vulkan.specs.Attempt.{AttemptEnvironment, Asked, Answer}
 use Rattle.gpu_vulkan_setup.specs.Types.{is_mapped}
 use Rattle.gpu_vulkan.specs.ByteView.{AllocationId, is_same_id, ByteView, IsOutOf, TakesOut}
 use Rattle.gpu_vulkan.specs.Live.{piece_of}
@@ -42,12 +41,12 @@ taken_out mapped q start size old mid new same t = record {
   others = λ r apart. t.others r apart ∙ same r;
 }
 
-attempt_gained : (mapped : Bool) (t : ℕ) (asked : Option Asked) (p : Piece DeviceMemory) (old new : ByteView) → BytesAfter mapped t asked (Gave p) old new → Gained mapped (id_in t p) p.size old new
+attempt_gained : (mapped : Bool) (t : ℕ) (asked : Option Asked) (p : Piece DeviceMemory) (old new : ByteView) → BytesAfter mapped t asked (Ok p) old new → Gained mapped (id_in t p) p.size old new
 attempt_gained mapped t None p old new h = taken_out mapped (id_in t p) p.offset p.size old old new (λ r. refl) h
 attempt_gained mapped t (Some a) p old new h = taken_out mapped (id_in t p) p.offset p.size old h.0 new h.1.allocation_bytes h.2
 
 -- a refused attempt leaves the bytes
-attempt_refused : (mapped : Bool) (t : ℕ) (asked : Option Asked) (r : Refusal) (old new : ByteView) → BytesAfter mapped t asked (Refused r) old new → new ≡ old
+attempt_refused : (mapped : Bool) (t : ℕ) (asked : Option Asked) (r : Refusal) (old new : ByteView) → BytesAfter mapped t asked (Err r) old new → new ≡ old
 attempt_refused mapped t None r old new h = h
 attempt_refused mapped t (Some a) r old new h = h
 
@@ -64,16 +63,16 @@ module _ (setup : Setup) (d : AllocationCreateDesc) where
   -- an attempt that gives what was told
   given_by : (u t : ℕ) (o : AttemptEnvironment) (answer : Answer) (p : Piece DeviceMemory) (old new : ModelState) → answers.Given t p ≡ reply_of u answer → AttemptStep setup u d o answer old new
       → Gained (is_mapped setup.properties t) (id_in t p) p.size old.byte_view new.byte_view
-  given_by u t o (Gave q) p old new e a =
+  given_by u t o (Ok q) p old new e a =
       let same = given_same t u p q e in
       let here = attempt_gained (is_mapped setup.properties u) u o.asked q old.byte_view new.byte_view a.bytes in
       let G : ℕ → Type 0 = λ x. Gained (is_mapped setup.properties x) (id_in x q) q.size old.byte_view new.byte_view in
       let H : Piece DeviceMemory → Type 0 = λ x. Gained (is_mapped setup.properties t) (id_in t x) x.size old.byte_view new.byte_view in
       subst H (sym same.1) (subst G (sym same.0) here)
-  given_by u t o (Refused r) p old new e a = given_fails t p r e
+  given_by u t o (Err r) p old new e a = given_fails t p r e
 
   given_after : (next : Option ℕ) (t u : ℕ) (o : AttemptEnvironment) (r : Refusal) (p : Piece DeviceMemory) (old mid new : ModelState) → mid.byte_view ≡ old.byte_view → Follows setup d next o u
-      (Refused r) mid (answers.Given t p) new
+      (Err r) mid (answers.Given t p) new
       → Gained (is_mapped setup.properties t) (id_in t p) p.size old.byte_view new.byte_view
   given_after None t u o r p old mid new same f = given_fails t p r f.1
   given_after (Some v) t u o r p old mid new same f =
@@ -82,11 +81,11 @@ module _ (setup : Setup) (d : AllocationCreateDesc) where
 
   served_given : (u t : ℕ) (o : CallEnvironment) (answer : Answer) (p : Piece DeviceMemory) (old mid new : ModelState) → AttemptStep setup u d o.first answer old mid
       → Follows setup d (next_by setup d answer) o.second u answer mid (answers.Given t p) new → Gained (is_mapped setup.properties t) (id_in t p) p.size old.byte_view new.byte_view
-  served_given u t o (Gave q) p old mid new a f =
+  served_given u t o (Ok q) p old mid new a f =
       let G : ModelState → Type 0 = λ s. Gained (is_mapped setup.properties t) (id_in t p) p.size old.byte_view s.byte_view in
-      subst G (sym f.2) (given_by u t o.first (Gave q) p old mid f.1 a)
-  served_given u t o (Refused r) p old mid new a f =
-      given_after (next_by setup d (Refused r)) t u o.second r p old mid new (attempt_refused (is_mapped setup.properties u) u o.first.asked r old.byte_view mid.byte_view a.bytes) f
+      subst G (sym f.2) (given_by u t o.first (Ok q) p old mid f.1 a)
+  served_given u t o (Err r) p old mid new a f =
+      given_after (next_by setup d (Err r)) t u o.second r p old mid new (attempt_refused (is_mapped setup.properties u) u o.first.asked r old.byte_view mid.byte_view a.bytes) f
 
   found_given : (found : Option ℕ) (t : ℕ) (o : CallEnvironment) (p : Piece DeviceMemory) (old new : ModelState) → FoundStep setup d found o (answers.Given t p) old new
       → Gained (is_mapped setup.properties t) (id_in t p) p.size old.byte_view new.byte_view
@@ -106,20 +105,20 @@ module _ (setup : Setup) (d : AllocationCreateDesc) where
 
   failed_by : (u : ℕ) (o : AttemptEnvironment) (answer : Answer) (r : Refusal) (old new : ModelState) → answers.Error r ≡ reply_of u answer → AttemptStep setup u d o answer old new → new.byte_view ≡
       old.byte_view
-  failed_by u o (Gave q) r old new e a = fails_given u q r e
-  failed_by u o (Refused s) r old new e a = attempt_refused (is_mapped setup.properties u) u o.asked s old.byte_view new.byte_view a.bytes
+  failed_by u o (Ok q) r old new e a = fails_given u q r e
+  failed_by u o (Err s) r old new e a = attempt_refused (is_mapped setup.properties u) u o.asked s old.byte_view new.byte_view a.bytes
 
   failed_after : (next : Option ℕ) (u : ℕ) (o : AttemptEnvironment) (s r : Refusal) (old mid new : ModelState) → mid.byte_view ≡ old.byte_view
-      → Follows setup d next o u (Refused s) mid (answers.Error r) new
+      → Follows setup d next o u (Err s) mid (answers.Error r) new
       → new.byte_view ≡ old.byte_view
   failed_after None u o s r old mid new same f = ap (λ x. x.byte_view) f.2 ∙ same
   failed_after (Some v) u o s r old mid new same f = failed_by v o f.0 r mid new f.2 f.1 ∙ same
 
   served_failed : (u : ℕ) (o : CallEnvironment) (answer : Answer) (r : Refusal) (old mid new : ModelState) → AttemptStep setup u d o.first answer old mid
       → Follows setup d (next_by setup d answer) o.second u answer mid (answers.Error r) new → new.byte_view ≡ old.byte_view
-  served_failed u o (Gave q) r old mid new a f = fails_given u q r f.1
-  served_failed u o (Refused s) r old mid new a f =
-      failed_after (next_by setup d (Refused s)) u o.second s r old mid new (attempt_refused (is_mapped setup.properties u) u o.first.asked s old.byte_view mid.byte_view a.bytes) f
+  served_failed u o (Ok q) r old mid new a f = fails_given u q r f.1
+  served_failed u o (Err s) r old mid new a f =
+      failed_after (next_by setup d (Err s)) u o.second s r old mid new (attempt_refused (is_mapped setup.properties u) u o.first.asked s old.byte_view mid.byte_view a.bytes) f
 
   found_failed : (found : Option ℕ) (o : CallEnvironment) (r : Refusal) (old new : ModelState) → FoundStep setup d found o (answers.Error r) old new → new.byte_view ≡ old.byte_view
   found_failed None o r old new h = ap (λ x. x.byte_view) h.same

@@ -6,10 +6,10 @@ use Rattle.std.proofs.lemmas.Bool.{cases_eq, cases_Bool, eqb-true}
 use Rattle.std.proofs.lemmas.Bool.Decides.{nat_tests}
 use Rattle.gpu_slots.specs.declared.piece.Piece.{Piece}
 use Rattle.gpu_device.specs.declared.vulkan.types.DeviceMemory.{DeviceMemory}
-use Rattle.gpu_vulkan_blocks.specs.Blocks.{Slots}
+use Rattle.gpu_vulkan.specs.Blocks.{Slots}
 use Rattle.gpu_vulkan.specs.ByteView.{AllocationId, is_same_id, ByteView, Writes}
 use Rattle.gpu_vulkan.specs.Lends.{AreDistinct}
-use Rattle.gpu_vulkan_blocks.specs.Release.{IsLiveIn}
+use Rattle.gpu_vulkan.specs.Live.{IsLiveIn}
 use Rattle.gpu_vulkan.specs.Live.{piece_of, IsLive}
 use Rattle.gpu_vulkan_setup.specs.Setup.{Setup}
 use Rattle.gpu_vulkan.specs.Step.{id_of}

@@ -9,9 +9,9 @@ use Rattle.gpu_slots.specs.declared.piece.Piece.{Piece}
 use Rattle.gpu_device.specs.declared.vulkan.types.DeviceMemory.{DeviceMemory}
 use Rattle.gpu_vulkan.specs.EqualButBytes.{EqualButBytesDescription, EqualButBytesCall, EqualButBytesReply}
 use Rattle.gpu_vulkan_setup.specs.Types.{is_mapped}
-use Rattle.gpu_vulkan_blocks.specs.Blocks.{Slots}
+use Rattle.gpu_vulkan.specs.Blocks.{Slots}
 use Rattle.gpu_vulkan.specs.ByteView.{AllocationId, Writes}
-use Rattle.gpu_vulkan_blocks.specs.Release.{IsLiveIn}
+use Rattle.gpu_vulkan.specs.Live.{IsLiveIn}
 use Rattle.gpu_vulkan.specs.Live.{piece_of, null_allocation, IsLive, IsMapped}
 use Rattle.gpu_vulkan.specs.Rename.{IsNamed}
 use Rattle.gpu_vulkan_setup.specs.Setup.{Setup}

@@ -1,9 +1,9 @@
 -- The numbers go on owning their pieces.
 use Rattle.std.proofs.Common.{◌≡◌, ◌⊎◌, ℕ, List, Option, Some, None, ap, sym, subst, ◌∙◌, inl, inr, ⊎_elim}
 use Rattle.std.proofs.lemmas.Bool.{cases_eq}
-use Rattle.gpu_vulkan_blocks.specs.Blocks.{Slots}
+use Rattle.gpu_vulkan.specs.Blocks.{Slots}
 use Rattle.gpu_vulkan.specs.Lends.{AreDistinct}
-use Rattle.gpu_vulkan_blocks.specs.Release.{IsLiveIn}
+use Rattle.gpu_vulkan.specs.Live.{IsLiveIn}
 use Rattle.gpu_vulkan.specs.Live.{piece_of, null_allocation, IsLive}
 use Rattle.gpu_vulkan.specs.Rename.{IsNamed, StayLive}
 use Rattle.gpu_vulkan_setup.specs.Setup.{Setup}

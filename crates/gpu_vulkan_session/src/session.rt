@@ -4,7 +4,7 @@ ghost use Rattle.std.specs.Prelude.{◌≡◌, ◌≢◌, ◌≤◌, ◌<◌, �
 ghost use Rattle.std.specs.Map.{lookup};
 ghost use Rattle.std.specs.HashMap.{spare};
 ghost use Rattle.gpu_values.specs.declared.error.AllocationError.TheVariants.{HostOutOfMemory};
-ghost use Rattle.gpu_vulkan_blocks.specs.Blocks.{HoldsJustLiveBlocks};
+ghost use Rattle.gpu_vulkan.specs.Blocks.{HoldsJustLiveBlocks};
 ghost use Rattle.gpu_vulkan_session.specs.Command as commands;
 ghost use Rattle.gpu_vulkan_session.specs.Reply as replies;
 ghost use Rattle.gpu_vulkan_session.specs.Command.{Wanted, Describes, Alloc, Null, Free, Rename, Write, Read, Under};

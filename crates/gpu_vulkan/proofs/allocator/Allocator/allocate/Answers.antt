@@ -1,41 +1,16 @@
-use Rattle.std.proofs.Common.{rules, ◌≡◌, ◌∙◌, ap, refl, length, arith, true, false, Some, None, subst}
-use Rattle.gpu_memory_types.specs.Budgets.{budgets}
-use Rattle.gpu_memory_types.specs.Types.{slots_of}
+use Rattle.std.proofs.Common.{rules, ◌≡◌, ◌∙◌, refl, sym, ap, subst, arith, true, false, Some, None}
+use Rattle.gpu_device.specs.Properties.{Properties}
+use Rattle.gpu_memory_types.specs.Blocks.{BlocksWellFormed}
 use Rattle.gpu_vulkan.specs.Allocate.{is_valid}
 use Rattle.gpu_vulkan_setup.specs.Choice.{best_type}
-use Rattle.gpu_vulkan.specs.State.{State}
+use Rattle.gpu_vulkan_setup.specs.Setup.{Setup}
+use Rattle.gpu_vulkan.specs.Blocks.{HoldsJustLiveBlocks}
+use Rattle.gpu_vulkan.specs.State.{State, state_of, setup_of}
 use Rattle.gpu_vulkan.specs.Step.{IsAllocateStep}
-use Rattle.gpu_vulkan.proofs.Apart.{served_aligned}
-use Rattle.gpu_vulkan.proofs.Following.{served_holds}
-use Rattle.gpu_vulkan.proofs.Owning.{Owns, served_owns}
-use Rattle.gpu_vulkan_blocks.proofs.Types.{well_formed_told}
+use Rattle.gpu_vulkan.proofs.Following.{best_below}
 use Rattle.gpu_vulkan.proofs.Steps.{served, served_step, invalid_step, unfit_step}
 use Rattle.gpu_vulkan.proofs.allocator.Allocator.allocate.Goals as goal
-use Rattle.gpu_vulkan.proofs.allocator.Allocator.allocate.Goals.{then-desc-eq0-via-then-desc-eq0, then-desc-eq0-via-else-desc-eq0+then-not-is_power_of_two}
-
-pub invariant_of-self : goal.invariant_of-self
-invariant_of-self g c =
-    let V = g.D.VulkanDevice in
-    let i = c.self.inside in
-    let old = c.self.invariant.1 in
-    let types = i.types in
-    let lent = ap length c.memory_types.ensures in
-    let kept = c.allocate_with_fallback.ensures.kept c.self.invariant.2 in
-    let served = served_holds V i.setup (budgets types) c.args.desc.now (V.held i.first.value) c.in-Some.index (slots_of types) i.device c.allocate_with_fallback.result
-    (slots_of c.allocate_with_fallback.new.types) c.allocate_with_fallback.new.device (omega (arith, c.in-Some.ensures.there, lent, old.types)) old.types c.allocate_with_fallback.ensures.served
-    old.holds in (
-      c.allocate_with_fallback.ensures.kinds ∙ c.self.invariant.0,
-      record {
-        told_is = old.told_is;
-        constant = served.1 ∙ old.constant;
-        valid = old.valid;
-        types = served.2 ∙ old.types;
-        sound = well_formed_told i.setup.properties c.allocate_with_fallback.new.types (c.allocate_with_fallback.ensures.kinds ∙ c.self.invariant.0) kept;
-        sum = kept.sum;
-        holds = served.0;
-      },
-      kept,
-    )
+use Rattle.gpu_vulkan.proofs.allocator.Allocator.allocate.Goals.{After-best_type, then-desc-eq0-via-then-desc-eq0, then-desc-eq0-via-else-desc-eq0+then-not-is_power_of_two}
 
 pub returns-then-desc-eq0-clause-step : goal.returns-then-desc-eq0-clause-step
 returns-then-desc-eq0-clause-step g c =
@@ -46,60 +21,41 @@ returns-then-desc-eq0-clause-step g c =
     ] in
     invalid_step g.D.VulkanDevice c.args.desc.now c.args.self.now c.args.self.now _ refl refl refl refl invalid
 
+is_there : (g : _) (c : After-best_type g) → is_valid c.args.desc.now ≡ true
+is_there g c = search rules
+
 pub returns-in-None-clause-step : goal.returns-in-None-clause-step
 returns-in-None-clause-step g c =
-    let valid : is_valid c.args.desc.now ≡ true = search rules in
-    let none : best_type c.args.self.now.setup.properties.types c.args.desc.now.requirements.memory_type_bits c.args.desc.now.location ≡ None = search rules in
-    unfit_step g.D.VulkanDevice c.args.desc.now c.args.self.now c.args.self.now _ refl refl refl refl valid none
+    let d = c.args.desc.now in
+    let valid = is_there g (goal.at.returns-in-None-clause-step g c).After-best_type in
+    let none : best_type c.args.self.now.setup.properties.types d.requirements.memory_type_bits d.location ≡ None =
+    ap (λ (p : Properties). best_type p.types d.requirements.memory_type_bits d.location) (sym c.setup-2.ensures)
+    ∙ ap (λ ts. best_type ts d.requirements.memory_type_bits d.location) (sym c.memory_types.ensures) ∙ sym c.best_type.ensures.best ∙ c.in-None.is in
+    unfit_step g.D.VulkanDevice d c.args.self.now c.args.self.now _ refl refl refl refl valid none
 
 pub returns-in-Some-clause-step : goal.returns-in-Some-clause-step
 returns-in-Some-clause-step g c =
     let V = g.D.VulkanDevice in
-    let i = c.self.inside in
     let d = c.args.desc.now in
-    let old = c.self.invariant.1 in
-    let types = i.types in
-    let lent = ap length c.memory_types.ensures in
-    let first = V.held i.first.value in
-    let valid : is_valid d ≡ true = search rules in
-    let found : best_type i.setup.properties.types d.requirements.memory_type_bits d.location ≡ Some c.in-Some.index = search rules in
-    let steps = served V g.met.D.VulkanDevice.whole i.setup (budgets types) d first c.in-Some.index (slots_of types) i.device c.allocate_with_fallback.result
-    (slots_of c.allocate_with_fallback.new.types) c.allocate_with_fallback.new.device (omega (arith, c.in-Some.ensures.there, lent, old.types)) old.types old.sound
-    (well_formed_told i.setup.properties c.allocate_with_fallback.new.types (c.allocate_with_fallback.ensures.kinds ∙ c.self.invariant.0)
-    (c.allocate_with_fallback.ensures.kept c.self.invariant.2)) old.holds c.allocate_with_fallback.ensures.served in
-    let before : State g.row.D.Denot = record { device = i.device; first = i.first.value; setup = i.setup; slots = slots_of types; budgets = budgets types } in
-    let after : State g.row.D.Denot = record {
-      device = c.allocate_with_fallback.new.device;
-      first = i.first.value;
-      setup = i.setup;
-      slots = slots_of c.allocate_with_fallback.new.types;
-      budgets =
-          budgets c.allocate_with_fallback.new.types;
-    } in
-    subst (λ (s : State g.row.D.Denot). IsAllocateStep V d c.allocate_with_fallback.result s after) c.self.view_is
-    (served_step V g.met.D.VulkanDevice.whole i.setup (budgets types) d first c.in-Some.index before after c.allocate_with_fallback.result refl refl c.allocate_with_fallback.ensures.budgets found
-    valid steps)
-
-pub returns-in-Some-clause-aligned : goal.returns-in-Some-clause-aligned
-returns-in-Some-clause-aligned g c =
-    let i = c.self.inside in
-    served_aligned i.setup (budgets i.types) c.args.desc.now g.D.VulkanDevice c.in-Some.index (slots_of i.types) i.device c.allocate_with_fallback.result (slots_of c.allocate_with_fallback.new.types)
-    c.allocate_with_fallback.new.device c.allocate_with_fallback.ensures.served
-
-owns : (g : _) (c : goal.After-allocate_with_fallback g) → Owns c.args.self.now.slots (slots_of c.allocate_with_fallback.new.types) c.allocate_with_fallback.result
-owns g c =
-    let i = c.self.inside in
-    let old = c.self.invariant.1 in
-    let types = i.types in
-    let lent = ap length c.memory_types.ensures in
-    let here = served_owns g.D.VulkanDevice i.setup (budgets types) c.args.desc.now c.in-Some.index (slots_of types) i.device c.allocate_with_fallback.result
-    (slots_of c.allocate_with_fallback.new.types) c.allocate_with_fallback.new.device (omega (arith, c.in-Some.ensures.there, lent, old.types)) old.types old.sound
-    (well_formed_told i.setup.properties c.allocate_with_fallback.new.types (c.allocate_with_fallback.ensures.kinds ∙ c.self.invariant.0)
-    (c.allocate_with_fallback.ensures.kept c.self.invariant.2)) c.allocate_with_fallback.ensures.served in
-    subst (λ (s : State g.row.D.Denot). Owns s.slots (slots_of c.allocate_with_fallback.new.types) c.allocate_with_fallback.result) c.self.view_is here
-
-pub returns-in-Some-clause-keeps : goal.returns-in-Some-clause-keeps
-returns-in-Some-clause-keeps g c = (owns g c).keeps
-
-pub returns-in-Some-clause-gives : goal.returns-in-Some-clause-gives
-returns-in-Some-clause-gives g c = (owns g c).gives
+    let old = c.self.inside.pool in
+    let new = c.allocate_with_fallback-result.new.pool in
+    let setup = setup_of old in
+    let first = V.held old.source.first in
+    let e = c.allocate_with_fallback-result.ensures in
+    let before = c.blocks_are_held.ensures in
+    let after = c.blocks_are_held-in-Some.ensures in
+    let valid = is_there g (goal.at.returns-in-Some-clause-step g c).After-best_type in
+    let found : best_type setup.properties.types d.requirements.memory_type_bits d.location ≡ Some c.in-Some.index =
+    ap (λ (s : State g.row.D.Denot). best_type s.setup.properties.types d.requirements.memory_type_bits d.location) c.self.view_is
+    ∙ ap (λ (p : Properties). best_type p.types d.requirements.memory_type_bits d.location) (sym c.setup-2.ensures)
+    ∙ ap (λ ts. best_type ts d.requirements.memory_type_bits d.location) (sym c.memory_types.ensures) ∙ sym c.best_type.ensures.best ∙ c.in-Some.is in
+    let below = best_below setup d c.in-Some.index found in
+    let sound : BlocksWellFormed setup.properties.granularity new.slots = subst (λ (s : Setup). BlocksWellFormed s.properties.granularity new.slots) e.constant.setup after.sound in
+    let holds : HoldsJustLiveBlocks setup.properties first (V.held new.source.device) new.slots =
+    subst (λ (s : Setup). HoldsJustLiveBlocks s.properties first (V.held new.source.device) new.slots) e.constant.setup
+    (subst (λ (k : g.row.D.Denot). HoldsJustLiveBlocks new.source.setup.properties (V.held k) (V.held new.source.device) new.slots) e.constant.first after.holds) in
+    let steps = served V g.met.D.VulkanDevice.whole setup old.budgets d first c.in-Some.index old.slots old.source.device c.allocate_with_fallback-result.result new.slots new.source.device
+    (omega (arith, below, before.types)) before.types before.sound sound before.holds holds e.served in
+    subst (λ (s : State g.row.D.Denot). IsAllocateStep V d c.allocate_with_fallback-result.result s (state_of new)) c.self.view_is
+    (served_step V g.met.D.VulkanDevice.whole setup old.budgets d first c.in-Some.index (state_of old) (state_of new) c.allocate_with_fallback-result.result refl refl e.constant.budgets found valid
+    steps)

@@ -1,4 +1,0 @@
-pub mod BlockAnswer
-pub mod Blocks
-pub mod Suballocation
-pub mod Release
