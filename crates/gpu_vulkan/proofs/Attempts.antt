@@ -156,7 +156,7 @@ module _ {D : Type 0} (g : Ghosts D) (mapped : Bool) (device after : D) where
     where
       by : (b : BlockAnswer) → answer_refusal b ≡ Some why → Asks g device a.info mapped b after → g.held after ≡ g.held device
       by (Declined code) is asks = asks.held
-      by (NotMapped code) is asks = asks.held
+      by (NotMapped number code) is asks = asks.held
       by (Granted number) is asks = absurd (none_some why is)
       by (Mapped number bytes) is asks = absurd (none_some why is)
 

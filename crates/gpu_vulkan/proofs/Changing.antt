@@ -110,8 +110,8 @@ module _ {D : Type 0} (g : Ghosts D) (p : Properties) (first : Held) (old new : 
   pub leaves : (result : Result DeviceMemory Refusal) (answer : BlockAnswer) → IsResult result answer → Asks g old info (is_mapped p t) answer new → Leaves p first held t info.size result (g.held new)
   leaves (Ok memory) (Declined code) told a = absurd (none_some memory.0 told)
   leaves (Err e) (Declined code) told a = same (Err e) e refl a.held
-  leaves (Ok memory) (NotMapped code) told a = absurd (none_some memory.0 told)
-  leaves (Err e) (NotMapped code) told a = same (Err e) e refl a.held
+  leaves (Ok memory) (NotMapped number code) told a = absurd (none_some memory.0 told)
+  leaves (Err e) (NotMapped number code) told a = same (Err e) e refl a.held
   leaves (Err e) (Granted number) told a = absurd (none_some e told)
   leaves (Err e) (Mapped number bytes) told a = absurd (none_some e told)
   leaves (Ok memory) (Granted number) told a =

@@ -56,19 +56,19 @@ number_alike : (a b : BlockAnswer) → EqualButBytesAnswer a b → answer_number
 number_alike (Mapped n xs) (Mapped m ys) same = ap Some same
 number_alike (Mapped n xs) (Declined code) same = ap answer_number same
 number_alike (Mapped n xs) (Granted m) same = ap answer_number same
-number_alike (Mapped n xs) (NotMapped code) same = ap answer_number same
+number_alike (Mapped n xs) (NotMapped number code) same = ap answer_number same
 number_alike (Declined code) b same = ap answer_number same
 number_alike (Granted n) b same = ap answer_number same
-number_alike (NotMapped code) b same = ap answer_number same
+number_alike (NotMapped number code) b same = ap answer_number same
 
 refusal_alike : (a b : BlockAnswer) → EqualButBytesAnswer a b → answer_refusal a ≡ answer_refusal b
 refusal_alike (Mapped n xs) (Mapped m ys) same = refl
 refusal_alike (Mapped n xs) (Declined code) same = ap answer_refusal same
 refusal_alike (Mapped n xs) (Granted m) same = ap answer_refusal same
-refusal_alike (Mapped n xs) (NotMapped code) same = ap answer_refusal same
+refusal_alike (Mapped n xs) (NotMapped number code) same = ap answer_refusal same
 refusal_alike (Declined code) b same = ap answer_refusal same
 refusal_alike (Granted n) b same = ap answer_refusal same
-refusal_alike (NotMapped code) b same = ap answer_refusal same
+refusal_alike (NotMapped number code) b same = ap answer_refusal same
 
 result_alike : (r : Result DeviceMemory Refusal) (a b : BlockAnswer) → EqualButBytesAnswer a b → IsResult r b → IsResult r a
 result_alike (Ok memory) a b same is = number_alike a b same ∙ is

@@ -142,7 +142,7 @@ module _ {D : Type 0} (g : Ghosts D) (setup : Setup) (first : Held) (t : ℕ) (o
 module _ {D : Type 0} (g : Ghosts D) (old new : Pool D) where
   back_of : (went : Option DeviceMemory) → GivesBackAny (GivesMemory g) old.source went new.source → GivesBack g old.source.device went new.source.device
   back_of None is = ap (λ (s : SourceState D). s.device) is
-  back_of (Some memory) k = record { held = k.held; count = k.count; latest = k.latest; constant = k.constant }
+  back_of (Some memory) k = record { held = k.held; history = k.history; count = k.count; latest = k.latest; constant = k.constant }
 
   module _ (a : Allocation) (p : Piece DeviceMemory) where
     abbrev FreesIt : Result (Unit {0}) Refusal → Type 0

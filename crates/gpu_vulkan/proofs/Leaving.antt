@@ -22,6 +22,7 @@ use Rattle.gpu_pool.specs.State.{kind_at, IsSoundAt}
 use Rattle.gpu_vulkan.specs.Blocks.{Slots, IsBlockEntry, HoldsJustLiveBlocks}
 use Rattle.gpu_device.specs.declared.vulkan.device.VulkanDevice.{Ghosts}
 use Rattle.gpu_pool.specs.Free.{GivesBackAll}
+use Rattle.gpu_vulkan.specs.BlockAnswer.{frees_recorded}
 use Rattle.gpu_vulkan.specs.Source.{SourceState, GivesMemory, new_block, blocks_of, HoldsFirst}
 use Rattle.gpu_vulkan.proofs.Changing.{beside_blocks}
 
@@ -94,17 +95,23 @@ is_block p first held slots h t i s at = subst (λ x. IsSome (new_block x (get h
 
 -- ---- what stays so as blocks go back
 
--- the device was asked nothing, and what was there at first is the same
-pub record Empties {D : Type 0} (g : Ghosts D) (old new : SourceState D) : Type 0 where
+-- the device was asked nothing, each memory went back once, and what was there at first is the same
+pub record Empties {D : Type 0} (g : Ghosts D) (old : SourceState D) (handles : List DeviceMemory) (new : SourceState D) : Type 0 where
   pub first : new.first ≡ old.first
+  pub history : g.history new.device ≡ frees_recorded (g.held old.device) handles (g.history old.device)
   pub count : g.refused new.device ≡ g.refused old.device
   pub latest : g.latest new.device ≡ g.latest old.device
 
-pub empties : {D : Type 0} (g : Ghosts D) (old : SourceState D) (handles : List DeviceMemory) (new : SourceState D) → GivesBackAll (GivesMemory g) old handles new → Empties g old new
+pub empties : {D : Type 0} (g : Ghosts D) (old : SourceState D) (handles : List DeviceMemory) (new : SourceState D) → GivesBackAll (GivesMemory g) old handles new → Empties g old handles new
 empties {D} g old [] new is =
     let device = ap (λ (s : SourceState D). s.device) is in
-    record { first = ap (λ (s : SourceState D). s.first) is; count = ap g.refused device; latest = ap g.latest device }
+    record { first = ap (λ (s : SourceState D). s.first) is; history = ap g.history device; count = ap g.refused device; latest = ap g.latest device }
 empties {D} g old (memory ∷ handles) new is =
     let one = is.1 in
     let rest = empties g is.0 handles new is.2 in
-    record { first = rest.first ∙ ap (λ (s : SourceState D). s.first) one.state; count = rest.count ∙ one.count; latest = rest.latest ∙ one.latest }
+    record {
+      first = rest.first ∙ ap (λ (s : SourceState D). s.first) one.state;
+      history = rest.history ∙ (λ i. frees_recorded (one.held i) handles (one.history i));
+      count = rest.count ∙ one.count;
+      latest = rest.latest ∙ one.latest;
+    }

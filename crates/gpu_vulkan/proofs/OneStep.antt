@@ -49,11 +49,11 @@ block_once : (a : BlockAnswer) (x y : Result DeviceMemory Refusal) → IsResult 
 block_once a (Ok m) (Ok k) is also = let same : m.0 ≡ k.0 = some_same m.0 k.0 (sym is ∙ also) in λ i. Ok (record { 0 = same i })
 block_once a (Err e) (Err r) is also = ap Err (some_same e r (sym is ∙ also))
 block_once (Declined code) (Ok m) (Err e) is also = absurd (none_some m.0 is)
-block_once (NotMapped code) (Ok m) (Err e) is also = absurd (none_some m.0 is)
+block_once (NotMapped number code) (Ok m) (Err e) is also = absurd (none_some m.0 is)
 block_once (Granted n) (Ok m) (Err e) is also = absurd (none_some e also)
 block_once (Mapped n bytes) (Ok m) (Err e) is also = absurd (none_some e also)
 block_once (Declined code) (Err e) (Ok m) is also = absurd (none_some m.0 also)
-block_once (NotMapped code) (Err e) (Ok m) is also = absurd (none_some m.0 also)
+block_once (NotMapped number code) (Err e) (Ok m) is also = absurd (none_some m.0 also)
 block_once (Granted n) (Err e) (Ok m) is also = absurd (none_some e is)
 block_once (Mapped n bytes) (Err e) (Ok m) is also = absurd (none_some e is)
 

@@ -143,7 +143,7 @@ module _ {D : Type 0} (g : Ghosts D) (setup : Setup) (budgets : Budgets) (d : Al
       (slice_set old t x) → ((k : ℕ) → IsWhole (get (g.held after) k))
       → BytesAfter mapped t (Some a) (Ok p) (byte_view_of (g.held device) old) (byte_view_of (g.held after) (slice_set old t x))
   granted_bytes own size pages ready r a m p x device after takes sized made (Declined code) is number asks sound_after before holds whole = absurd (none_some m.0 number)
-  granted_bytes own size pages ready r a m p x device after takes sized made (NotMapped code) is number asks sound_after before holds whole = absurd (none_some m.0 number)
+  granted_bytes own size pages ready r a m p x device after takes sized made (NotMapped n code) is number asks sound_after before holds whole = absurd (none_some m.0 number)
   granted_bytes own size pages ready r a m p x device after takes sized made (Granted n) is number asks sound_after before holds whole =
       let held = g.held device in
       let same : n ≡ m.0 = some_same n m.0 number in

@@ -45,7 +45,7 @@ same_leaves old new is = leaves old new (same_held old new is)
 
 added : (held : Held) (info : MemoryAllocateInfo) (answer : BlockAnswer) → IsNew held (answer_number answer) → StayHeld held (held_after held info answer)
 added held info (Declined code) new = λ number x e. e
-added held info (NotMapped code) new = λ number x e. e
+added held info (NotMapped number code) new = λ number x e. e
 added held info (Granted n) new = λ number x e. elim (cases_eq n number) [
   | inl same ↦ absurd (none_some x (sym new.1 ∙ ap (get held) same ∙ e))
   | inr apart ↦ get-insert_other held n number (new_entry info) (λ f. apart (sym f)) ∙ e

@@ -9,21 +9,24 @@ use Rattle.gpu_values.specs.declared.error.AllocationError.{AllocationError}
 use Rattle.gpu_slots.specs.declared.piece.Piece.{Piece}
 use Rattle.gpu_device.specs.declared.vulkan.device.VulkanDevice.{Ghosts}
 use Rattle.gpu_device.specs.declared.vulkan.types.DeviceMemory.{DeviceMemory}
+use Rattle.gpu_device.specs.Held.{bytes_of}
+use Rattle.gpu_vulkan.specs.BlockAnswer.{free_recorded}
 use Rattle.gpu_vulkan.specs.Blocks.{Slots}
 use Rattle.gpu_memory_types.specs.Blocks.{slots_at}
 use Rattle.gpu_vulkan.specs.Live.{is_same_memory, IsLiveIn, piece_of}
 use Rattle.gpu_vulkan.specs.declared.allocation.Allocation.{Allocation}
 
--- the device after the memory of a block went, if one did: it holds all else as before, and was asked nothing
-pub record IsWithout {D : Type 0} (g : Ghosts D) (old : D) (number : ℕ) (new : D) : Type 0 where
-  pub held : g.held new ≡ remove (g.held old) number
+-- the device after the memory of a block went back, once: it holds all else as before, and was asked nothing
+pub record IsWithout {D : Type 0} (g : Ghosts D) (old : D) (memory : DeviceMemory) (new : D) : Type 0 where
+  pub held : g.held new ≡ remove (g.held old) memory.0
+  pub history : g.history new ≡ free_recorded (bytes_of (g.held old) memory.0) memory (g.history old)
   pub count : g.refused new ≡ g.refused old
   pub latest : g.latest new ≡ g.latest old
   pub constant : g.properties new ≡ g.properties old
 
 abbrev pub GivesBack : {D : Type 0} → Ghosts D → (old : D) → Option DeviceMemory → (new : D) → Type 0
 GivesBack g old None new = new ≡ old
-GivesBack g old (Some memory) new = IsWithout g old memory.0 new
+GivesBack g old (Some memory) new = IsWithout g old memory new
 
 -- a piece of the t-th memory type went, and its block with it where that goes
 pub record IsReleased {D : Type 0} (g : Ghosts D) (t : ℕ) (p : Piece DeviceMemory) (old : Slots) (device : D) (new : Slots) (after : D) : Type 0 where

@@ -4,7 +4,7 @@ use Rattle.std.specs.FinMap.{get, remove}
 use Rattle.std.specs.Option.{is_some}
 use Rattle.std.proofs.lemmas.Bool.{eqb-true}
 use Rattle.gpu_values.specs.Refusal.{Refusal}
-use Rattle.gpu_device.specs.Held.{Held, Entry}
+use Rattle.gpu_device.specs.Held.{Held, Entry, bytes_of}
 use Rattle.gpu_device.specs.Properties.{Properties}
 use Rattle.gpu_device.specs.declared.vulkan.device.VulkanDevice.{Ghosts}
 use Rattle.gpu_device.specs.declared.vulkan.types.AllocationScheme.{AllocationScheme}
@@ -13,7 +13,7 @@ use Rattle.gpu_device.specs.declared.vulkan.types.MemoryAllocateInfo.{MemoryAllo
 use Rattle.gpu_vulkan_setup.specs.Setup.{Setup}
 use Rattle.gpu_vulkan_setup.specs.Types.{is_mapped}
 use Rattle.gpu_pool.specs.Source.{HeldBlock, HeldBlocks}
-use Rattle.gpu_vulkan.specs.BlockAnswer.{BlockAnswer, Asks, answer_number, answer_refusal}
+use Rattle.gpu_vulkan.specs.BlockAnswer.{BlockAnswer, Asks, answer_number, answer_refusal, free_recorded}
 
 -- the device, what it was when it was handed in, and what the allocator is made with
 pub record SourceState (D : Type 0) : Type 0 where
@@ -69,9 +69,10 @@ module _ {D : Type 0} (g : Ghosts D) where
     pub asks : Asks g old.device (question old.setup t size scheme) (is_mapped old.setup.properties t) answer new.device
     pub state : new ≡ record old { device = new.device }
 
-  -- the memory went back, and nothing was asked
+  -- the memory went back, once, and nothing was asked
   pub record GivesMemory (old : SourceState D) (memory : DeviceMemory) (new : SourceState D) : Type 0 where
     pub held : g.held new.device ≡ remove (g.held old.device) memory.0
+    pub history : g.history new.device ≡ free_recorded (bytes_of (g.held old.device) memory.0) memory (g.history old.device)
     pub count : g.refused new.device ≡ g.refused old.device
     pub latest : g.latest new.device ≡ g.latest old.device
     pub constant : g.properties new.device ≡ g.properties old.device

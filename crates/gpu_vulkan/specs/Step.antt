@@ -79,7 +79,7 @@ abbrev pub answer_bytes : BlockAnswer → Option (List ℕ)
 answer_bytes (Declined code) = None
 answer_bytes (Granted number) = None
 answer_bytes (Mapped number bytes) = Some bytes
-answer_bytes (NotMapped code) = None
+answer_bytes (NotMapped number code) = None
 
 -- what an attempt at the t-th memory type leaves of the bytes: a refusal leaves them, and a piece's list comes out of the rest, to which a new block's bytes are added before
 abbrev pub BytesAfter : (mapped : Bool) → (t : ℕ) → Option Asked → Answer → ByteView → ByteView → Type 0

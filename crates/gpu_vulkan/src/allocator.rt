@@ -5,6 +5,8 @@ ghost use Rattle.std.specs.Option.{unwrap_or};
 ghost use Rattle.gpu_values.specs.Refusal.{refusal_of, refusal_in, host_out_of_memory};
 ghost use Rattle.gpu_vulkan_setup.specs.Setup.{setup_fault};
 ghost use Rattle.gpu_memory_types.specs.Blocks.{total_capacity, BlocksWellFormed};
+ghost use Rattle.gpu_pool.specs.Handles.{all_handles};
+ghost use Rattle.gpu_vulkan.specs.BlockAnswer.{frees_recorded};
 ghost use Rattle.gpu_vulkan.specs.Blocks.{HoldsJustLiveBlocks};
 ghost use Rattle.gpu_vulkan.specs.Allocate.{Allocates};
 ghost use Rattle.gpu_vulkan.specs.Free.{Frees};
@@ -363,6 +365,8 @@ impl<D: VulkanDevice> Allocator<D> {
         ensures held { D.held result ≡ D.held self.first }
         ensures counts_nothing { D.refused result ≡ D.refused self.device }
         ensures names_no_question { D.latest result ≡ D.latest self.device }
+        // each memory goes back once, unmapped before where it is mapped: by memory type, then by slot
+        ensures recorded { D.history result ≡ frees_recorded (D.held self.device) (all_handles self.slots) (D.history self.device) }
         ensures constant { D.properties result ≡ D.properties self.first }
     {
         let Allocator { pool, alloc: _ } = self;

@@ -1,10 +1,11 @@
 //! Asking the device for the memory of a block, and giving it back.
 
-ghost use Rattle.std.specs.Prelude.{◌≡◌, ℕ, ℤ, List, length, Option, None, IfErr, OnErr, OnOk};
+ghost use Rattle.std.specs.Prelude.{◌≡◌, ℕ, ℤ, true, List, ◌∷◌, length, Option, None, Ok, IfErr, OnErr, OnOk};
 ghost use Rattle.std.specs.FinMap.{remove};
 ghost use Rattle.gpu_values.specs.Refusal.{refusal_of};
 ghost use Rattle.gpu_device.specs.Held.{IsUnmapped, size_of, bytes_of, mapped_with, raised};
-ghost use Rattle.gpu_vulkan.specs.BlockAnswer.{BlockAnswer, Asks, Gives, memory_refusal, map_refusal};
+ghost use Rattle.gpu_device.specs.declared.vulkan.event.Event.TheVariants.{AskedMapping, Freed};
+ghost use Rattle.gpu_vulkan.specs.BlockAnswer.{BlockAnswer, Asks, Gives, memory_refusal, map_refusal, mapping_answer, free_recorded};
 
 use gpu_device::vulkan::{DeviceMemory, MemoryAllocateInfo, VulkanDevice};
 use gpu_values::{AllocationError, Fault, Result};
@@ -31,6 +32,7 @@ fn free_unmapped<D: VulkanDevice>(device: &mut D, memory: DeviceMemory)
     ensures gives_back { D.held device.new ≡ remove (D.held device.old) memory.0 }
     ensures counts_nothing { D.refused device.new ≡ D.refused device.old }
     ensures names_no_question { D.latest device.new ≡ D.latest device.old }
+    ensures recorded { D.history device.new ≡ Freed memory ∷ D.history device.old }
     ensures constant { D.properties device.new ≡ D.properties device.old }
 {
     device.free_memory(memory);
@@ -42,7 +44,9 @@ fn map_new<D: VulkanDevice>(device: &mut D, memory: DeviceMemory) -> Result<()>
     requires { IsUnmapped (D.held device.old) memory.0 }
     ensures maps { OnOk result ((xs : List ℕ) × (length xs ≡ size_of (D.held device.old) memory.0) × (D.held device.new ≡ mapped_with (D.held device.old) memory.0 xs)) }
     ensures counts_no_grant { OnOk result (D.refused device.new ≡ D.refused device.old) }
-    ensures cause { IfErr result (λ e. (code : Option ℤ) × (refusal_of e ≡ map_refusal code)) }
+    ensures recorded { OnOk result (D.history device.new ≡ AskedMapping memory (Ok true) ∷ D.history device.old) }
+    ensures cause { IfErr result (λ e. (code : Option ℤ) × (refusal_of e ≡ map_refusal code)
+        × (D.history device.new ≡ Freed memory ∷ AskedMapping memory (mapping_answer code) ∷ D.history device.old)) }
     ensures gives_back { OnErr result (D.held device.new ≡ remove (D.held device.old) memory.0) }
     ensures counts_refusal { OnErr result (D.refused device.new ≡ raised (D.refused device.old)) }
     ensures names_no_question { D.latest device.new ≡ D.latest device.old }
@@ -96,6 +100,7 @@ pub fn free_block_memory<D: VulkanDevice>(device: &mut D, memory: DeviceMemory)
     ensures gives_back { D.held device.new ≡ remove (D.held device.old) memory.0 }
     ensures counts_nothing { D.refused device.new ≡ D.refused device.old }
     ensures names_no_question { D.latest device.new ≡ D.latest device.old }
+    ensures recorded { D.history device.new ≡ free_recorded (bytes_of (D.held device.old) memory.0) memory (D.history device.old) }
     ensures constant { D.properties device.new ≡ D.properties device.old }
 {
     if device.bytes(memory, 0, 0).is_some() {
