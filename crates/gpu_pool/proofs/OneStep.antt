@@ -106,7 +106,7 @@ sets_by t budget old (Ok u) (Err e) new next a b = let below = a.0 in let past =
 sets_by t budget old (Err e) (Ok u) new next a b = let below = b.0 in let past = a.0 in absurd (omega (arith, below, past))
 sets_by t budget old (Err e) (Err r) new next a b = (ap Err (a.1 ∙ sym b.1), a.2 ∙ sym b.2)
 
-sets_once : {S H : Type 0} (t : ℕ) (budget : Option ℕ) (old : State S H) (x y : Result (Unit {0}) Refusal) (new next : State S H) → SetsBudgetOf t budget old x new → SetsBudgetOf t budget old y next
+pub sets_once : {S H : Type 0} (t : ℕ) (budget : Option ℕ) (old : State S H) (x y : Result (Unit {0}) Refusal) (new next : State S H) → SetsBudgetOf t budget old x new → SetsBudgetOf t budget old y next
     → (x ≡ y) × (new ≡ next)
 sets_once t budget old x y new next a b =
     let once = sets_by t budget old x y new next a.budgets b.budgets in
@@ -115,7 +115,7 @@ sets_once t budget old x y new next a b =
 
 -- ---- what is made for the caller
 
-makes_once : {H A : Type 0} (made : A) (met : Environment H) (x y : Result A Refusal) → Makes made met x → Makes made met y → x ≡ y
+pub makes_once : {H A : Type 0} (made : A) (met : Environment H) (x y : Result A Refusal) → Makes made met x → Makes made met y → x ≡ y
 makes_once made NothingMet (Ok a) (Ok b) x y = ap Ok (x ∙ sym y)
 makes_once made NothingMet (Ok a) (Err e) x y = absurd y
 makes_once made NothingMet (Err e) y a b = absurd a

@@ -32,8 +32,9 @@ use Rattle.gpu_pool.specs.Free.{GivesBackAny}
 use Rattle.gpu_values.specs.Refusal.{Refusal, refusal_of}
 use Rattle.gpu_vulkan.specs.Source.{SourceState, GivesMemory}
 use Rattle.gpu_vulkan.specs.State.{State, Pool, setup_of, IsConstant}
-use Rattle.gpu_vulkan.specs.Reply.{Done}
-use Rattle.gpu_vulkan.specs.Step.{ModelState, model_of, Free, id_in, MayDrop, ReleaseStep, FreeStep, IsStep, nothing_met, freed_as}
+use Rattle.gpu_vulkan.specs.Reply.{Done, done_with}
+use Rattle.gpu_vulkan.specs.Attempt.{unseen, AnyBlockBack}
+use Rattle.gpu_vulkan.specs.Step.{ModelState, model_of, Free, id_in, MayDrop, FreedStep, FreeStep, IsStep, nothing_met, freed_as}
 use Rattle.gpu_vulkan.specs.declared.allocation.Allocation.{Allocation}
 use Rattle.gpu_vulkan.proofs.ByteViews.{released_byte_view, dropped_byte_view, with_back, with_back_puts}
 use Rattle.gpu_vulkan.proofs.Joins.{OneMore, one_more_released, found_number}
@@ -119,22 +120,28 @@ module _ {D : Type 0} (g : Ghosts D) (setup : Setup) (first : Held) (t : ℕ) (o
               one;
         }
 
+    any_back : (went : Option DeviceMemory) → GivesBackAny AnyBlockBack tt went tt
+    any_back None = refl
+    any_back (Some memory) = tt
+
     pub released_step : (device : D) (new : Slots) (after : D) → IsReleased g t p old device new after → IsLiveIn old t (Some p)
         → HoldsJustLiveBlocks setup.properties first (g.held device) old → ((m : ℕ) → IsWhole (get (g.held device) m))
         → (before now : Budgets) → now ≡ before
-        → ReleaseStep t p (record { slots = old; budgets = before; byte_view = byte_view_of (g.held device) old }) (record { slots = new; budgets = now; byte_view = byte_view_of (g.held after) new })
+        → FreedStep setup t p (record { slots = old; budgets = before; byte_view = byte_view_of (g.held device) old }) (record { slots = new; budgets = now; byte_view = byte_view_of (g.held after) new })
     released_step device new after r live h whole before now same =
         let left = settled_bytes _ (slot_at (slots_at old t) p.slot) r.releases.slot r.went device after refl r.releases.releases r.gives_back live h whole in
         let new_is : new ≡ slice_set old t (slice_set (slots_at old t) p.slot r.releases.slot) = r.slots ∙ ap (slice_set old t) r.releases.slots in
         record {
-          went = r.went;
-          left = r.left;
-          releases = r.releases;
-          slots = r.slots;
+          live = live;
+          frees = record {
+            went = r.went;
+            slots = record { left = r.left; releases = r.releases; slots = r.slots };
+            source = any_back r.went;
+            state = λ i. unseen setup (same i) new;
+          };
           mid = left.mid;
           back = left.back;
           drops = subst (λ (ss : Slots). MayDrop t p.slot r.went left.mid (byte_view_of (g.held after) ss)) (sym new_is) left.drops;
-          budgets = same;
         }
 
 -- ---- from the pool's words
@@ -180,16 +187,29 @@ module _ {D : Type 0} (g : Ghosts D) (first : Held) (old new : State D) (sound :
   same_model : new.slots ≡ old.slots → new.device ≡ old.device → model_of g new ≡ model_of g old
   same_model slots device = λ i. record { slots = slots i; budgets = budgets i; byte_view = byte_view_of (g.held (device i)) (slots i) }
 
+  -- how a free ends, as the model's, and what the device counts and names
+  record Freed (a : Allocation) (o : Option (Piece DeviceMemory)) (result : Result (Unit {0}) (AllocationError × Allocation)) : Type 0 where
+    pub answer : Result (Unit {0}) Refusal
+    pub reply : freed_as result ≡ done_with answer
+    pub step : FreeStep old.setup a.memory_type_index o answer (model_of g old) (model_of g new)
+    pub count : g.refused new.device ≡ g.refused old.device
+    pub latest : g.latest new.device ≡ g.latest old.device
+
   frees_as : (a : Allocation) (o : Option (Piece DeviceMemory)) → piece_of a ≡ o → (result : Result (Unit {0}) (AllocationError × Allocation)) → FreesPiece g a o old.slots old.device result new.slots
-      new.device
-      → FreeStep a.memory_type_index o (freed_as result) (model_of g old) (model_of g new) × (g.refused new.device ≡ g.refused old.device) × (g.latest new.device ≡ g.latest old.device)
-  frees_as a None is (Ok u) f = (same_model f.0 f.1, ap g.refused f.1, ap g.latest f.1)
+      new.device → Freed a o result
+  frees_as a None is (Ok u) f = record { answer = Ok tt; reply = refl; step = same_model f.0 f.1; count = ap g.refused f.1; latest = ap g.latest f.1 }
   frees_as a None is (Err e) f = absurd f
   frees_as a (Some p) is (Ok u) f =
       let t = a.memory_type_index in
       let counts = back_counts g f.1.went old.device new.device f.1.gives_back in
-      ((f.0, released_step g old.setup first t old.slots (type_below is_same_memory old.slots t p f.0) sound p old.device new.slots new.device f.1 f.0 h whole old.budgets new.budgets budgets), counts.0, counts.1)
-  frees_as a (Some p) is (Err e) f = ((f.0, f.1, same_model f.3 f.4), ap g.refused f.4, ap g.latest f.4)
+      record {
+        answer = Ok tt;
+        reply = refl;
+        step = released_step g old.setup first t old.slots (type_below is_same_memory old.slots t p f.0) sound p old.device new.slots new.device f.1 f.0 h whole old.budgets new.budgets budgets;
+        count = counts.0;
+        latest = counts.1;
+      }
+  frees_as a (Some p) is (Err e) f = record { answer = Err (refusal_of e.0); reply = refl; step = (f.0, f.1, same_model f.3 f.4); count = ap g.refused f.4; latest = ap g.latest f.4 }
 
   pub free_step : (a : Allocation) (result : Result (Unit {0}) (AllocationError × Allocation)) → Frees g a old.slots old.device result new.slots new.device → IsStep g (Free a) (freed_as result) old
       new
@@ -197,20 +217,20 @@ module _ {D : Type 0} (g : Ghosts D) (first : Held) (old new : State D) (sound :
       let s = frees_as a (piece_of a) refl result f in
       record {
         environment = record { first = nothing_met; second = nothing_met };
-        step = ((refl, refl), s.0);
-        count = s.1;
-        latest = s.2;
+        step = ((refl, refl), s.answer, s.reply, s.step);
+        count = s.count;
+        latest = s.latest;
       }
 
-null_frees : (o : Option (Piece DeviceMemory)) → o ≡ None → (t : ℕ) (s : ModelState) → FreeStep t o Done s s
-null_frees None is t s = refl
-null_frees (Some p) is t s = absurd (none_some p (sym is))
+null_frees : (setup : Setup) (o : Option (Piece DeviceMemory)) → o ≡ None → (t : ℕ) (s : ModelState) → FreeStep setup t o (Ok tt) s s
+null_frees setup None is t s = refl
+null_frees setup (Some p) is t s = absurd (none_some p (sym is))
 
 -- a null allocation is nothing to give back
 pub null_step : {D : Type 0} (g : Ghosts D) (s : State D) (a : Allocation) → piece_of a ≡ None → IsStep g (Free a) Done s s
 null_step g s a is = record {
   environment = record { first = nothing_met; second = nothing_met };
-  step = ((refl, refl), null_frees (piece_of a) is a.memory_type_index (model_of g s));
+  step = ((refl, refl), Ok tt, refl, null_frees s.setup (piece_of a) is a.memory_type_index (model_of g s));
   count = refl;
   latest = refl;
 }

@@ -24,11 +24,14 @@ use Rattle.gpu_memory_types.specs.Blocks.{block_at, total_capacity, BlocksWellFo
 use Rattle.gpu_vulkan.specs.ByteView.{is_same_id, byte_view_of, list_in, rest_in, piece_bytes, piece_of_number, covers, is_covered, byte_at, Writes}
 use Rattle.gpu_vulkan.specs.Lends.{number_in, written_at}
 use Rattle.gpu_vulkan.specs.Live.{IsLive, IsMapped, bytes_at}
+use Rattle.gpu_pool.specs.Source.{result_of}
+use Rattle.gpu_pool.specs.Step as pools
+use Rattle.gpu_vulkan.specs.Attempt.{unseen}
 use Rattle.gpu_vulkan.specs.State.{State}
 use Rattle.gpu_vulkan_setup.specs.Setup.{Setup}
 use Rattle.gpu_vulkan.specs.Reply as replies
-use Rattle.gpu_vulkan.specs.Reply.{Done, Bytes}
-use Rattle.gpu_vulkan.specs.Step.{SetBudget, Budget, SetBudgetStep, done_as, model_of, id_of, IsRead, IsStep, Write, Read, Capacity, nothing_met}
+use Rattle.gpu_vulkan.specs.Reply.{Done, Bytes, done_with}
+use Rattle.gpu_vulkan.specs.Step.{SetBudget, Budget, done_as, model_of, id_of, IsRead, IsStep, Write, Read, Capacity, nothing_met}
 use Rattle.gpu_vulkan.specs.declared.allocation.Allocation.{Allocation}
 use Rattle.gpu_vulkan.proofs.ByteViews.{place, other_number}
 use Rattle.gpu_vulkan.proofs.Joins.{number_found, found_number, any_of, all_of}
@@ -197,6 +200,7 @@ module _ {D : Type 0} (g : Ghosts D) (first : Held) (s : State D) (sound : Block
     environment = record { first = nothing_met; second = nothing_met };
     step = (
       (refl, refl),
+      refl,
       record {
         live = live;
         slots = refl;
@@ -224,7 +228,7 @@ module _ {D : Type 0} (g : Ghosts D) (first : Held) (s : State D) (sound : Block
       → ((xs : List ℕ) → o ≡ Some xs → bytes_at (g.held s.device) a ≡ Some xs) → IsStep g (Read a) (Bytes o) s s
   read_step o there mapped value = record {
     environment = record { first = nothing_met; second = nothing_met };
-    step = ((refl, refl), read_by o there mapped value, refl);
+    step = ((refl, refl), o, refl, read_by o there mapped value, refl);
     count = refl;
     latest = refl;
   }
@@ -235,7 +239,7 @@ module _ {D : Type 0} (g : Ghosts D) (first : Held) (s : State D) (sound : Block
 pub dead_read : {D : Type 0} (g : Ghosts D) (s : State D) (a : Allocation) → (IsLive s.slots a → ⊥) → IsStep g (Read a) (Bytes None) s s
 dead_read g s a dead = record {
   environment = record { first = nothing_met; second = nothing_met };
-  step = ((refl, refl), (λ live. dead live.0), refl);
+  step = ((refl, refl), None, refl, (λ live. dead live.0), refl);
   count = refl;
   latest = refl;
 }
@@ -243,7 +247,7 @@ dead_read g s a dead = record {
 pub sum_step : {D : Type 0} (g : Ghosts D) (s : State D) (n : ℕ) → n ≡ total_capacity s.slots → IsStep g Capacity (replies.Capacity n) s s
 sum_step g s n is = record {
   environment = record { first = nothing_met; second = nothing_met };
-  step = ((refl, refl), is, refl);
+  step = ((refl, refl), ap replies.Capacity is, refl);
   count = refl;
   latest = refl;
 }
@@ -256,23 +260,30 @@ lent_length held n o size (Some s) told = length_of_range (bytes_of held n) o si
 pub budget_step : {D : Type 0} (g : Ghosts D) (s : State D) (t : ℕ) (budget : Option ℕ) → budget ≡ budget_at s.budgets t → IsStep g (Budget t) (replies.Budget budget) s s
 budget_step g s t budget is = record {
   environment = record { first = nothing_met; second = nothing_met };
-  step = ((refl, refl), is, refl);
+  step = ((refl, refl), ap replies.Budget is, refl);
   count = refl;
   latest = refl;
 }
+
+pub done_reply : (result : Result (Unit {0}) AllocationError) → done_as result ≡ done_with (result_of result)
+done_reply (Ok u) = refl
+done_reply (Err e) = refl
+
+same_refusal : (result : Result (Unit {0}) AllocationError) → refusal_in result ≡ pools.refusal_in (result_of result)
+same_refusal (Ok u) = refl
+same_refusal (Err e) = refl
 
 pub set_step : {D : Type 0} (g : Ghosts D) (old new : State D) (t : ℕ) (budget : Option ℕ) (result : Result (Unit {0}) AllocationError) → new.device ≡ old.device → new.slots ≡ old.slots
     → SetsBudget t budget old.budgets (refusal_in result) new.budgets → IsStep g (SetBudget t budget) (done_as result) old new
 set_step g old new t budget result device slots sets = record {
   environment = record { first = nothing_met; second = nothing_met };
-  step = ((refl, refl), by result sets);
+  step = (
+    (refl, refl),
+    result_of result,
+    done_reply result,
+    record { budgets = subst (λ r. SetsBudget t budget old.budgets r new.budgets) (same_refusal result) sets; state = λ i. unseen old.setup new.budgets (slots i) },
+    λ i. byte_view_of (g.held (device i)) (slots i),
+  );
   count = ap g.refused device;
   latest = ap g.latest device;
 }
-  where
-    bytes : byte_view_of (g.held new.device) new.slots ≡ byte_view_of (g.held old.device) old.slots
-    bytes = λ i. byte_view_of (g.held (device i)) (slots i)
-
-    by : (r : Result (Unit {0}) AllocationError) → SetsBudget t budget old.budgets (refusal_in r) new.budgets → SetBudgetStep t budget (done_as r) (model_of g old) (model_of g new)
-    by (Ok _) sets = (sets, slots, bytes)
-    by (Err e) sets = (sets, slots, bytes)

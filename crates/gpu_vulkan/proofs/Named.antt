@@ -1,5 +1,5 @@
 -- A new name, a report and the leaks' texts are steps of the model.
-use Rattle.std.proofs.Common.{◌≡◌, ◌∙◌, ℕ, ◌-◌, ◌<◌, refl, sym, ap, subst, Bool, true, false, List, [], ◌∷◌, map, length, slice_set, Option, Some, None, Ok, Err, Result, inl, inr, ⊎_elim, IfOk}
+use Rattle.std.proofs.Common.{◌≡◌, ◌∙◌, ℕ, ◌-◌, ◌<◌, refl, sym, ap, subst, Bool, true, false, List, [], ◌∷◌, map, length, slice_set, Option, Some, None, Ok, Err, Result, ⊎_elim, IfOk}
 use Rattle.std.proofs.Common.{IfErr}
 use Rattle.std.specs.Prelude.{if◌then◌else◌, ◌||◌, ◌==◌, ◌&&◌, string_bytes, nat_lt, nat_le, Vec, String}
 use Rattle.std.specs.Global.{Global}
@@ -31,7 +31,10 @@ use Rattle.gpu_vulkan.specs.Live.{piece_of}
 use Rattle.gpu_memory_types.specs.Rename.{IsRenamed}
 use Rattle.gpu_vulkan.specs.Rename.{RenamesBy, Renames}
 use Rattle.gpu_memory_types.specs.Reports.{whole_report}
+use Rattle.gpu_pool.specs.Source.{result_of}
+use Rattle.gpu_vulkan.specs.Attempt.{unseen}
 use Rattle.gpu_vulkan.specs.State.{State}
+use Rattle.gpu_vulkan.proofs.Listed.{done_reply}
 use Rattle.gpu_vulkan.specs.Step.{model_of, Rename, Report, Leaks, RenameStep, IsStep, CallEnvironment, nothing_met, done_as, shown_as, told_as}
 use Rattle.gpu_vulkan.specs.declared.allocation.Allocation.{Allocation}
 use Rattle.gpu_vulkan.proofs.OneStep.{byte_views_alike}
@@ -169,22 +172,32 @@ module _ {D : Type 0} (g : Ghosts D) (old new : State D) (device : new.device �
   same_model : new.slots ≡ old.slots → model_of g new ≡ model_of g old
   same_model slots = λ i. record { slots = slots i; budgets = budgets i; byte_view = byte_view_of (g.held (device i)) (slots i) }
 
-  pub record Renaming (a : Allocation) (o : Option (Piece DeviceMemory)) (name : List ℕ) (result : Result (Unit {0}) AllocationError) : Type 0 where
+  -- how a rename ends, as the model's
+  record Renaming (a : Allocation) (o : Option (Piece DeviceMemory)) (name : List ℕ) (result : Result (Unit {0}) AllocationError) : Type 0 where
     pub host : Bool
-    pub step : RenameStep a.memory_type_index o name host (done_as result) (model_of g old) (model_of g new)
+    pub step : RenameStep old.setup a.memory_type_index o name host (result_of result) (model_of g old) (model_of g new)
+
+  same_pool : new.slots ≡ old.slots → unseen old.setup new.budgets new.slots ≡ unseen old.setup old.budgets old.slots
+  same_pool slots = λ i. unseen old.setup (budgets i) (slots i)
+
+  same_bytes : new.slots ≡ old.slots → byte_view_of (g.held new.device) new.slots ≡ byte_view_of (g.held old.device) old.slots
+  same_bytes slots = λ i. byte_view_of (g.held (device i)) (slots i)
 
   renaming : (a b : Allocation) (o : Option (Piece DeviceMemory)) (name : List ℕ) (result : Result (Unit {0}) AllocationError) → RenamesBy a o name old.slots result b new.slots → Renaming a o name
       result
   renaming a b None name (Ok u) r = record { host = true; step = (refl, same_model r.1) }
-  renaming a b None name (Err e) r = record { host = false; step = (refl, r.0, same_model r.2) }
+  renaming a b None name (Err e) r = record { host = false; step = (r.0, same_model r.2) }
   renaming a b (Some p) name (Ok u) r = record {
     host = true;
-    step = (refl, r.1, ap (λ d. byte_view_of (g.held d) new.slots) device ∙ renamed_byte_view (g.held old.device) a.memory_type_index p name old.slots new.slots r.1, budgets);
+    step = (
+      (r.1, λ i. unseen old.setup (budgets i) new.slots),
+      ap (λ d. byte_view_of (g.held d) new.slots) device ∙ renamed_byte_view (g.held old.device) a.memory_type_index p name old.slots new.slots r.1,
+    );
   }
   renaming a b (Some p) name (Err e) r =
       ⊎_elim
-      (λ starved. record { host = false; step = (inl (refl, starved.0, starved.1), same_model r.2) })
-      (λ dead. record { host = true; step = (inr dead, same_model r.2) })
+      (λ starved. record { host = false; step = ((starved.0, starved.1, same_pool r.2), same_bytes r.2) })
+      (λ dead. record { host = true; step = ((record { dead = dead.0; other = dead.1; cause = dead.2 }, same_pool r.2), same_bytes r.2) })
       r.0
 
   pub rename_step : (a b : Allocation) (name : List ℕ) (result : Result (Unit {0}) AllocationError) → Renames a name old.slots result b new.slots → IsStep g (Rename a name) (done_as result) old new
@@ -192,7 +205,7 @@ module _ {D : Type 0} (g : Ghosts D) (old new : State D) (device : new.device �
       let s = renaming a b (piece_of a) name result r in
       record {
         environment = no_question s.host;
-        step = ((refl, refl), s.step);
+        step = ((refl, refl), result_of result, done_reply result, s.step);
         count = ap g.refused device;
         latest = ap g.latest device;
       }
@@ -200,11 +213,11 @@ module _ {D : Type 0} (g : Ghosts D) (old new : State D) (device : new.device �
 module _ {D : Type 0} (g : Ghosts D) (s : State D) where
   pub report_step : (result : Result AllocatorReport AllocationError) → IfOk result (λ r. report_of r ≡ whole_report s.slots) → IfErr result (λ e. e ≡ HostOutOfMemory) → IsStep g Report
       (shown_as result) s s
-  report_step (Ok r) told refused = record { environment = no_question true; step = ((refl, refl), (refl, told, refl)); count = refl; latest = refl }
-  report_step (Err e) told refused = record { environment = no_question false; step = ((refl, refl), (refl, ap refusal_of refused, refl)); count = refl; latest = refl }
+  report_step (Ok r) told refused = record { environment = no_question true; step = ((refl, refl), Ok (report_of r), refl, told, refl); count = refl; latest = refl }
+  report_step (Err e) told refused = record { environment = no_question false; step = ((refl, refl), Err (refusal_of e), refl, ap refusal_of refused, refl); count = refl; latest = refl }
 
   pub leaks_step : (result : Result (Vec (String Global) Global) AllocationError) → IfOk result (λ v. map string_bytes v.items ≡ map leak_text (all_leaks s.slots)) → IfErr result
       (λ e. e ≡ HostOutOfMemory)
       → IsStep g Leaks (told_as result) s s
-  leaks_step (Ok v) told refused = record { environment = no_question true; step = ((refl, refl), (refl, told, refl)); count = refl; latest = refl }
-  leaks_step (Err e) told refused = record { environment = no_question false; step = ((refl, refl), (refl, ap refusal_of refused, refl)); count = refl; latest = refl }
+  leaks_step (Ok v) told refused = record { environment = no_question true; step = ((refl, refl), Ok (map string_bytes v.items), refl, told, refl); count = refl; latest = refl }
+  leaks_step (Err e) told refused = record { environment = no_question false; step = ((refl, refl), Err (refusal_of e), refl, ap refusal_of refused, refl); count = refl; latest = refl }

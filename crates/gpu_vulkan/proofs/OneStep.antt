@@ -1,41 +1,39 @@
 -- The model isn't loose: a state, a call and what it meets with decide the reply and the next state.
-use Rattle.std.proofs.Common.{inr, inl, map, ◌⊎◌, ◌≡◌, ◌∙◌, ℕ, suc, ◌<◌, length, Ok, Err, Result, refl, sym, ap, subst, Bool, true, false, List, [], ◌∷◌, slice_get, slice_set, Option, Some, None, arith, ⊎_elim, IsTrue}
+use Rattle.std.proofs.Common.{◌≡◌, ◌∙◌, ℕ, zero, suc, ◌<◌, length, Ok, Err, Result, refl, sym, ap, subst, Bool, true, false, List, [], ◌∷◌, slice_get, Option, Some, None, arith, ⊎_elim, IsTrue}
 use Rattle.std.proofs.lemmas.Bool.{cases_Bool, cases_lt, eqb-true}
 use Rattle.std.proofs.lemmas.Option.{slice_get_past}
 use Rattle.std.specs.Prelude.{◌&&◌, ◌==◌}
-use Rattle.gpu_values.specs.Refusal.{Refusal, host_out_of_memory}
-use Rattle.gpu_block_views.specs.Leak.{leak_text}
+use Rattle.gpu_values.specs.Refusal.{Refusal}
 use Rattle.gpu_slots.specs.TypeRelease.{has_several}
-use Rattle.gpu_slots.specs.TypeState.{slot_at}
 use Rattle.gpu_slots.specs.declared.piece.Piece.{Piece}
-use Rattle.gpu_core.proofs.OneOutcome.{released_once, refusal_once, renamed_once, name_refusal_once}
+use Rattle.gpu_core.proofs.OneOutcome.{released_once}
+use Rattle.gpu_slots.specs.Slots.{AreSound}
 use Rattle.gpu_memory_types.proofs.OneOutcome.{false_true}
 use Rattle.gpu_device.specs.declared.vulkan.types.DeviceMemory.{DeviceMemory}
-use Rattle.gpu_memory_types.specs.Budgets.{Budgets, budget_at, SetsBudget}
+use Rattle.gpu_memory_types.specs.Budgets.{Budgets}
 use Rattle.gpu_vulkan.specs.Allocate.{Attempts, IsTooLarge, IsWithinHeap, is_valid}
-use Rattle.gpu_vulkan.specs.Attempt.{AttemptEnvironment, Asked, Answer, IsMet, request_in, unseen, AnyQuestion}
+use Rattle.gpu_vulkan.specs.Attempt.{AttemptEnvironment, Asked, Answer, IsMet, request_in, unseen, AnyQuestion, AnyBlockBack}
 use Rattle.gpu_vulkan_setup.specs.Types.{is_mapped, kinds_told}
 use Rattle.gpu_memory_types.proofs.Options.{none_some, some_same}
 use Rattle.gpu_pool.specs.Allocate.{Environment, NothingMet, NoHostMemory, Answered, Serves}
 use Rattle.gpu_pool.specs.State as states
-use Rattle.gpu_pool.specs.Step.{AskDecides}
-use Rattle.gpu_pool.proofs.OneStep.{serves_once}
+use Rattle.gpu_pool.specs.State.{kind_at, IsSoundAt}
+use Rattle.gpu_pool.specs.Step.{AskDecides, GiveBackDecides, SetsBudgetOf}
+use Rattle.gpu_pool.specs.Free.{Frees}
+use Rattle.gpu_pool.specs.Rename.{RenamesBy}
+use Rattle.gpu_pool.proofs.OneStep.{serves_once, frees_once, renames_once, sets_once, makes_once}
 use Rattle.gpu_vulkan.specs.Attempt.{Allocates}
 use Rattle.gpu_vulkan.specs.BlockAnswer.{BlockAnswer, Declined, Granted, Mapped, NotMapped}
 use Rattle.gpu_vulkan.specs.Source.{IsResult}
 use Rattle.gpu_vulkan.specs.Blocks.{Slots}
-use Rattle.gpu_memory_types.specs.Blocks.{slots_at, total_capacity, BlocksWellFormed}
+use Rattle.gpu_memory_types.specs.Blocks.{slots_at, BlocksWellFormed}
 use Rattle.gpu_vulkan.specs.ByteView.{AllocationId, is_same_id, ByteView, IsOutOf, TakesOut, PutsBack, AddsBlock, Writes}
 use Rattle.gpu_vulkan.specs.Live.{is_same_memory}
 use Rattle.gpu_vulkan.specs.Live.{piece_of}
-use Rattle.gpu_memory_types.specs.Leaks.{all_leaks}
-use Rattle.gpu_memory_types.specs.Reports.{whole_report}
 use Rattle.gpu_vulkan_setup.specs.Setup.{Setup}
-use Rattle.gpu_vulkan.specs.Reply as replies
-use Rattle.gpu_vulkan.specs.Reply.{Reply, Given, Error, Done, Bytes}
+use Rattle.gpu_vulkan.specs.Reply.{Reply, Bytes, done_with, report_with, leaks_with}
 use Rattle.gpu_vulkan.specs.Step.{ModelState, Call, Allocate, Free, Write, Rename, Report, Leaks, Read, Capacity, SetBudget, Budget}
-use Rattle.gpu_vulkan.specs.Step.{RenameStep, SetBudgetStep, ReportStep, LeaksStep, CallEnvironment, BytesAfter, AttemptStep, reply_of, next_by, Follows, ServeStep, RefuseStep, FoundStep}
-use Rattle.gpu_vulkan.specs.Step.{AllocateStep, MayDrop, ReleaseStep, FreeStep, WriteStep, IsRead, Step, id_in, id_of}
+use Rattle.gpu_vulkan.specs.Step.{CallEnvironment, BytesAfter, AttemptStep, reply_of, next_by, Follows, ServeStep, RefuseStep, FoundStep, AllocateStep, pool_in, MayDrop, FreedStep, FreeStep, host_met, RenameStep, IsRead, Step, id_in, id_of}
 use Rattle.gpu_vulkan.specs.declared.allocation.Allocation.{Allocation}
 use Rattle.gpu_vulkan_setup.specs.declared.describe.AllocationCreateDesc.{AllocationCreateDesc}
 use Rattle.gpu_vulkan.proofs.Attempts.{refused_same}
@@ -230,172 +228,104 @@ allocate_once : (setup : Setup) (d : AllocationCreateDesc) (valid : Bool) (o : C
 allocate_once setup d false o x y old new next sound a b = refuse_once _ o x y old new next a b
 allocate_once setup d true o x y old new next sound a b = found_once setup d _ o x y old new next (λ v is. best_below setup d v is) sound a b
 
--- ---- a free
+-- ---- the same blocks and budgets
 
-release_once : (setup : Setup) (t : ℕ) (p : Piece DeviceMemory) (old new next : ModelState) → BlocksWellFormed setup.properties.granularity old.slots → ReleaseStep t p old new → ReleaseStep t p old
-    next → new ≡ next
-release_once setup t p old new next sound a b =
-    let once = released_once setup.properties.granularity (IsTrue (has_several (slots_at old.slots t))) (slots_at old.slots t) p a.went b.went a.left b.left (sound t) a.releases b.releases in
+abbrev pub SameBlocks : (a b : ModelState) → Type 0
+SameBlocks a b = (a.slots ≡ b.slots) × (a.budgets ≡ b.budgets)
+
+-- memory types of which the t-th has this page size
+paged : (n t : ℕ) → (kinds : List (Bool × ℕ)) × (kind_at kinds t ≡ (false, n))
+paged n zero = ((false, n) ∷ [], refl)
+paged n (suc t) = let rest = paged n t in ((false, 1) ∷ rest.0, rest.1)
+
+back_decides : GiveBackDecides AnyBlockBack
+back_decides old a b memory x y = refl
+
+-- from two states with the same blocks and budgets a pool does the same
+module _ (setup : Setup) (old new twin next : ModelState) (sound : BlocksWellFormed setup.properties.granularity old.slots) (same : SameBlocks old twin) where
+  abbrev Pool : Type 0
+  Pool = states.State (Unit {0}) DeviceMemory
+
+  abbrev pool : ModelState → Pool
+  pool s = pool_in setup s
+
+  start : pool twin ≡ pool old
+  start = let slots = sym same.0 in let budgets = sym same.1 in λ i. unseen setup (budgets i) (slots i)
+
+  ends : pool new ≡ pool next → SameBlocks new next
+  ends e = (ap (λ (s : Pool). s.slots) e, ap (λ (s : Pool). s.budgets) e)
+
+  pub unchanged : new ≡ old → next ≡ twin → SameBlocks new next
+  unchanged a b = (
+    ap (λ (s : ModelState). s.slots) a ∙ same.0 ∙ sym (ap (λ (s : ModelState). s.slots) b),
+    ap (λ (s : ModelState). s.budgets) a ∙ same.1 ∙ sym (ap (λ (s : ModelState). s.budgets) b),
+  )
+
+  abbrev kinds_for : (t : ℕ) → List (Bool × ℕ)
+  kinds_for t = (paged setup.properties.granularity t).0
+
+  sound_for : (t : ℕ) → IsSoundAt (kinds_for t) old.slots t
+  sound_for t = subst (λ (k : Bool × ℕ). AreSound k.1 (slots_at old.slots t)) (sym (paged setup.properties.granularity t).1) (sound t)
+
+  frees_in : (t : ℕ) (p : Piece DeviceMemory) (x : Result (Unit {0}) Refusal) (s e : ModelState) → FreeStep setup t (Some p) x s e → Frees AnyBlockBack is_same_memory t p (pool s) x (pool e)
+  frees_in t p (Ok u) s e f = (f.live, f.frees)
+  frees_in t p (Err r) s e f = (f.0, f.1, ap pool f.2)
+
+  pub free_alike : (t : ℕ) (p : Option (Piece DeviceMemory)) (x y : Result (Unit {0}) Refusal) → FreeStep setup t p x old new → FreeStep setup t p y twin next → (x ≡ y) × SameBlocks new next
+  free_alike t None (Ok u) (Ok v) a b = (refl, unchanged a b)
+  free_alike t None (Ok u) (Err r) a b = absurd b
+  free_alike t None (Err r) y a b = absurd a
+  free_alike t (Some p) x y a b =
+      let once = frees_once (kinds_for t) AnyBlockBack back_decides is_same_memory t p (pool old) (sound_for t) x y (pool new) (pool next) (frees_in t p x old new a)
+      (subst (λ (s : Pool). Frees AnyBlockBack is_same_memory t p s y (pool next)) start (frees_in t p y twin next b)) in
+      (once.0, ends once.1)
+
+  pub rename_alike : (t : ℕ) (p : Option (Piece DeviceMemory)) (name : List ℕ) (host : Bool) (x y : Result (Unit {0}) Refusal) → RenameStep setup t p name host x old new
+      → RenameStep setup t p name host y twin next → (x ≡ y) × SameBlocks new next
+  rename_alike t None name host x y a b = (makes_once tt (host_met host) x y a.0 b.0, unchanged a.1 b.1)
+  rename_alike t (Some p) name host x y a b =
+      let once = renames_once (kinds_for t) is_same_memory t p name (pool old) (sound_for t) (host_met host) x y (pool new) (pool next) a.0
+      (subst (λ (s : Pool). RenamesBy is_same_memory t p name s (host_met host) y (pool next)) start b.0) in
+      (once.0, ends once.1)
+
+  pub set_alike : (t : ℕ) (budget : Option ℕ) (x y : Result (Unit {0}) Refusal) → SetsBudgetOf t budget (pool old) x (pool new) → SetsBudgetOf t budget (pool twin) y (pool next)
+      → (x ≡ y) × SameBlocks new next
+  set_alike t budget x y a b =
+      let once = sets_once t budget (pool old) x y (pool new) (pool next) a (subst (λ (s : Pool). SetsBudgetOf t budget s y (pool next)) start b) in
+      (once.0, ends once.1)
+
+-- ---- bytes of a call
+
+abbrev bytes_in : ModelState → ByteView
+bytes_in s = s.byte_view
+
+freed_bytes : (setup : Setup) (t : ℕ) (p : Piece DeviceMemory) (old new next : ModelState) → BlocksWellFormed setup.properties.granularity old.slots → FreedStep setup t p old new
+    → FreedStep setup t p old next → new.byte_view ≡ next.byte_view
+freed_bytes setup t p old new next sound a b =
+    let r = a.frees.slots in
+    let s = b.frees.slots in
+    let once = released_once setup.properties.granularity (IsTrue (has_several (slots_at old.slots t))) (slots_at old.slots t) p a.frees.went b.frees.went r.left s.left (sound t) r.releases s.releases in
     let mids = puts_back_once (id_in t p) p.offset p.size old.byte_view a.mid b.mid a.back b.back in
     let went = once.0 in
-    let other : MayDrop t p.slot a.went a.mid next.byte_view = subst (λ m. MayDrop t p.slot a.went m next.byte_view) (sym mids)
+    let other : MayDrop t p.slot a.frees.went a.mid next.byte_view = subst (λ m. MayDrop t p.slot a.frees.went m next.byte_view) (sym mids)
     (subst (λ w. MayDrop t p.slot w b.mid next.byte_view) (sym went) b.drops) in
-    states_alike new next (a.slots ∙ (ap (slice_set old.slots t) once.1 ∙ sym b.slots)) (a.budgets ∙ sym b.budgets) (drops_once t p.slot a.went a.mid new.byte_view next.byte_view a.drops other)
+    drops_once t p.slot a.frees.went a.mid new.byte_view next.byte_view a.drops other
 
--- a free is done, or refused
-pub free_reply : (t : ℕ) (p : Option (Piece DeviceMemory)) (x : Reply) (old new : ModelState) → FreeStep t p x old new
-    → ((x ≡ Done) × FreeStep t p Done old new) ⊎ ((r : Refusal) × (x ≡ Error r) × FreeStep t p (Error r) old new)
-free_reply t None (Given u q) old new s = absurd s
-free_reply t None (Error r) old new s = absurd s
-free_reply t None Done old new s = inl (refl, s)
-free_reply t None (Bytes xs) old new s = absurd s
-free_reply t None (replies.Capacity n) old new s = absurd s
-free_reply t None (replies.Report w) old new s = absurd s
-free_reply t None (replies.Leaks zs) old new s = absurd s
-free_reply t None (replies.Budget n) old new s = absurd s
-free_reply t (Some p) (Given u q) old new s = absurd s
-free_reply t (Some p) (Error r) old new s = inr (r, refl, s)
-free_reply t (Some p) Done old new s = inl (refl, s)
-free_reply t (Some p) (Bytes xs) old new s = absurd s
-free_reply t (Some p) (replies.Capacity n) old new s = absurd s
-free_reply t (Some p) (replies.Report w) old new s = absurd s
-free_reply t (Some p) (replies.Leaks zs) old new s = absurd s
-free_reply t (Some p) (replies.Budget n) old new s = absurd s
+free_bytes : (setup : Setup) (t : ℕ) (p : Option (Piece DeviceMemory)) (x : Result (Unit {0}) Refusal) (old new next : ModelState) → BlocksWellFormed setup.properties.granularity old.slots
+    → FreeStep setup t p x old new → FreeStep setup t p x old next → new.byte_view ≡ next.byte_view
+free_bytes setup t None (Ok u) old new next sound a b = ap bytes_in (a ∙ sym b)
+free_bytes setup t None (Err r) old new next sound a b = absurd a
+free_bytes setup t (Some p) (Ok u) old new next sound a b = freed_bytes setup t p old new next sound a b
+free_bytes setup t (Some p) (Err r) old new next sound a b = ap bytes_in (a.2 ∙ sym b.2)
 
-free_done_once : (setup : Setup) (t : ℕ) (p : Option (Piece DeviceMemory)) (old new next : ModelState) → BlocksWellFormed setup.properties.granularity old.slots → FreeStep t p Done old new → FreeStep
-    t p Done old next → new ≡ next
-free_done_once setup t None old new next sound a b = a ∙ sym b
-free_done_once setup t (Some p) old new next sound a b = release_once setup t p old new next sound a.1 b.1
-
-pub done_or_fails : (t : ℕ) (p : Option (Piece DeviceMemory)) (r : Refusal) (old new next : ModelState) → FreeStep t p Done old new → FreeStep t p (Error r) old next → ⊥
-done_or_fails t None r old new next a b = b
-done_or_fails t (Some p) r old new next a b = b.0 a.0
-
-free_fails_once : (setup : Setup) (t : ℕ) (p : Option (Piece DeviceMemory)) (r s : Refusal) (old new next : ModelState) → BlocksWellFormed setup.properties.granularity old.slots → FreeStep t p
-    (Error r) old new → FreeStep t p (Error s) old next → (r ≡ s) × (new ≡ next)
-free_fails_once setup t None r s old new next sound a b = absurd a
-free_fails_once setup t (Some p) r s old new next sound a b =
-    (refusal_once is_same_memory setup.properties.granularity p (slot_at (slots_at old.slots t) p.slot) r s (sound t p.slot) a.1 b.1, a.2 ∙ sym b.2)
-
-free_once : (setup : Setup) (t : ℕ) (p : Option (Piece DeviceMemory)) (x y : Reply) (old new next : ModelState) → BlocksWellFormed setup.properties.granularity old.slots → FreeStep t p x old new →
-    FreeStep t p y old next → (x ≡ y) × (new ≡ next)
-free_once setup t p x y old new next sound a b =
-    ⊎_elim
-    (λ ok. ⊎_elim
-    (λ also. (ok.0 ∙ sym also.0, free_done_once setup t p old new next sound ok.1 also.1))
-    (λ err. absurd (done_or_fails t p err.0 old new next ok.1 err.2))
-    (free_reply t p y old next b))
-    (λ err. ⊎_elim
-    (λ ok. absurd (done_or_fails t p err.0 old next new ok.1 err.2))
-    (λ also. let once = free_fails_once setup t p err.0 also.0 old new next sound err.2 also.2 in (err.1 ∙ ap Error once.0 ∙ sym also.1, once.1))
-    (free_reply t p y old next b))
-    (free_reply t p x old new a)
-
--- ---- a new name
-
-pub rename_reply : (t : ℕ) (p : Option (Piece DeviceMemory)) (name : List ℕ) (host : Bool) (x : Reply) (old new : ModelState) → RenameStep t p name host x old new
-    → ((x ≡ Done) × RenameStep t p name host Done old new) ⊎ ((r : Refusal) × (x ≡ Error r) × RenameStep t p name host (Error r) old new)
-rename_reply t None name host (Given u q) old new s = absurd s
-rename_reply t None name host (Error r) old new s = inr (r, refl, s)
-rename_reply t None name host Done old new s = inl (refl, s)
-rename_reply t None name host (Bytes xs) old new s = absurd s
-rename_reply t None name host (replies.Capacity n) old new s = absurd s
-rename_reply t None name host (replies.Report w) old new s = absurd s
-rename_reply t None name host (replies.Leaks zs) old new s = absurd s
-rename_reply t None name host (replies.Budget n) old new s = absurd s
-rename_reply t (Some p) name host (Given u q) old new s = absurd s
-rename_reply t (Some p) name host (Error r) old new s = inr (r, refl, s)
-rename_reply t (Some p) name host Done old new s = inl (refl, s)
-rename_reply t (Some p) name host (Bytes xs) old new s = absurd s
-rename_reply t (Some p) name host (replies.Capacity n) old new s = absurd s
-rename_reply t (Some p) name host (replies.Report w) old new s = absurd s
-rename_reply t (Some p) name host (replies.Leaks zs) old new s = absurd s
-rename_reply t (Some p) name host (replies.Budget n) old new s = absurd s
-
-rename_done_once : (t : ℕ) (p : Option (Piece DeviceMemory)) (name : List ℕ) (host : Bool) (old new next : ModelState) → RenameStep t p name host Done old new → RenameStep t p name host Done old next
-    → new ≡ next
-rename_done_once t None name host old new next a b = a.1 ∙ sym b.1
-rename_done_once t (Some p) name host old new next a b =
-    let left = renamed_once (slots_at old.slots t) p name a.1.left b.1.left a.1.renames b.1.renames in
-    states_alike new next (a.1.slots ∙ (ap (slice_set old.slots t) left ∙ sym b.1.slots)) (a.3 ∙ sym b.3) (a.2 ∙ sym b.2)
-
-pub named_or_fails : (t : ℕ) (p : Option (Piece DeviceMemory)) (name : List ℕ) (host : Bool) (r : Refusal) (old new next : ModelState) → RenameStep t p name host Done old new → RenameStep t p name
-    host (Error r) old next → ⊥
-named_or_fails t None name host r old new next a b = false_true (sym b.0 ∙ a.0)
-named_or_fails t (Some p) name host r old new next a b =
-    ⊎_elim (λ starved. false_true (sym starved.0 ∙ a.0)) (λ dead. dead.0 a.1.live) b.0
-
-pub rename_fails_once : (setup : Setup) (t : ℕ) (p : Option (Piece DeviceMemory)) (name : List ℕ) (host : Bool) (r s : Refusal) (old new next : ModelState) → BlocksWellFormed
-    setup.properties.granularity old.slots
-    → RenameStep t p name host (Error r) old new → RenameStep t p name host (Error s) old next → (r ≡ s) × (new ≡ next)
-rename_fails_once setup t None name host r s old new next sound a b = (a.1 ∙ sym b.1, a.2 ∙ sym b.2)
-rename_fails_once setup t (Some p) name host r s old new next sound a b = (
-  ⊎_elim
-      (λ x. ⊎_elim (λ y. x.2 ∙ sym y.2) (λ dead. absurd (dead.0 x.1)) b.0)
-      (λ dead. ⊎_elim
-      (λ y. absurd (dead.0 y.1))
-      (λ also. name_refusal_once is_same_memory setup.properties.granularity p (slot_at (slots_at old.slots t) p.slot) r s (sound t p.slot) dead.1 also.1 dead.2 also.2)
-      b.0)
-      a.0,
-  a.1 ∙ sym b.1,
-)
-
-rename_once : (setup : Setup) (t : ℕ) (p : Option (Piece DeviceMemory)) (name : List ℕ) (host : Bool) (x y : Reply) (old new next : ModelState) → BlocksWellFormed setup.properties.granularity
-    old.slots
-    → RenameStep t p name host x old new → RenameStep t p name host y old next → (x ≡ y) × (new ≡ next)
-rename_once setup t p name host x y old new next sound a b =
-    ⊎_elim
-    (λ ok. ⊎_elim
-    (λ also. (ok.0 ∙ sym also.0, rename_done_once t p name host old new next ok.1 also.1))
-    (λ err. absurd (named_or_fails t p name host err.0 old new next ok.1 err.2))
-    (rename_reply t p name host y old next b))
-    (λ err. ⊎_elim
-    (λ ok. absurd (named_or_fails t p name host err.0 old next new ok.1 err.2))
-    (λ also. let once = rename_fails_once setup t p name host err.0 also.0 old new next sound err.2 also.2 in (err.1 ∙ ap Error once.0 ∙ sym also.1, once.1))
-    (rename_reply t p name host y old next b))
-    (rename_reply t p name host x old new a)
-
--- ---- what is shown and told
-
--- a reply to a call that shows something, or wants host memory
-pub shown_reply : (host : Bool) (x : Reply) (old new : ModelState) → ReportStep host x old new → (new ≡ old) ×
-    (((host ≡ true) × (x ≡ replies.Report (whole_report old.slots))) ⊎ ((host ≡ false) × (x ≡ Error host_out_of_memory)))
-shown_reply host (Given u q) old new s = absurd s
-shown_reply host (Error r) old new s = (s.2, inr (s.0, ap Error s.1))
-shown_reply host Done old new s = absurd s
-shown_reply host (Bytes xs) old new s = absurd s
-shown_reply host (replies.Capacity n) old new s = absurd s
-shown_reply host (replies.Report w) old new s = (s.2, inl (s.0, ap replies.Report s.1))
-shown_reply host (replies.Leaks zs) old new s = absurd s
-shown_reply host (replies.Budget n) old new s = absurd s
-
-pub told_reply : (host : Bool) (x : Reply) (old new : ModelState) → LeaksStep host x old new → (new ≡ old) ×
-    (((host ≡ true) × (x ≡ replies.Leaks (map leak_text (all_leaks old.slots)))) ⊎ ((host ≡ false) × (x ≡ Error host_out_of_memory)))
-told_reply host (Given u q) old new s = absurd s
-told_reply host (Error r) old new s = (s.2, inr (s.0, ap Error s.1))
-told_reply host Done old new s = absurd s
-told_reply host (Bytes xs) old new s = absurd s
-told_reply host (replies.Capacity n) old new s = absurd s
-told_reply host (replies.Report w) old new s = absurd s
-told_reply host (replies.Budget n) old new s = absurd s
-told_reply host (replies.Leaks zs) old new s = (s.2, inl (s.0, ap replies.Leaks s.1))
-
-pub by_host : (host : Bool) (x y a b : Reply) → ((host ≡ true) × (x ≡ a)) ⊎ ((host ≡ false) × (x ≡ b)) → ((host ≡ true) × (y ≡ a)) ⊎ ((host ≡ false) × (y ≡ b)) → x ≡ y
-by_host host x y a b h k =
-    ⊎_elim
-    (λ p. ⊎_elim (λ q. p.1 ∙ sym q.1) (λ q. absurd (false_true (sym q.0 ∙ p.0))) k)
-    (λ p. ⊎_elim (λ q. absurd (false_true (sym p.0 ∙ q.0))) (λ q. p.1 ∙ sym q.1) k)
-    h
-
--- ---- bytes
+rename_bytes : (setup : Setup) (t : ℕ) (p : Option (Piece DeviceMemory)) (name : List ℕ) (host : Bool) (x : Result (Unit {0}) Refusal) (old new : ModelState)
+    → RenameStep setup t p name host x old new → new.byte_view ≡ old.byte_view
+rename_bytes setup t None name host x old new a = ap bytes_in a.1
+rename_bytes setup t (Some p) name host x old new a = a.1
 
 writes_once : (p : AllocationId) (ws : List ℕ) (old new next : ByteView) → Writes p ws old new → Writes p ws old next → new ≡ next
 writes_once p ws old new next a b = byte_views_alike new next (lists_alike p old new next (a.list ∙ sym b.list) a.others b.others)
     (λ t i at. a.unallocated_bytes t i at ∙ sym (b.unallocated_bytes t i at))
-
-write_once : (setup : Setup) (a : Allocation) (ws : List ℕ) (old new next : ModelState) → WriteStep setup a ws old new → WriteStep setup a ws old next → new ≡ next
-write_once setup a ws old new next x y = states_alike new next (x.slots ∙ sym y.slots) (x.budgets ∙ sym y.budgets)
-    (writes_once (id_of a) ws old.byte_view new.byte_view next.byte_view x.writes y.writes)
 
 read_once : (setup : Setup) (a : Allocation) (s : ModelState) (x y : Option (List ℕ)) → IsRead setup a s x → IsRead setup a s y → x ≡ y
 read_once setup a s None None h k = refl
@@ -403,108 +333,34 @@ read_once setup a s None (Some ys) h k = absurd (h k.0)
 read_once setup a s (Some xs) None h k = absurd (k h.0)
 read_once setup a s (Some xs) (Some ys) h k = sym h.1 ∙ k.1
 
--- ---- the replies that a call may give
-
-pub write_reply : (setup : Setup) (a : Allocation) (ws : List ℕ) (o : CallEnvironment) (x : Reply) (old new : ModelState) → Step setup (Write a ws) o x old new → (x ≡ Done) × WriteStep setup a ws old
-    new
-write_reply setup a ws o (Given u q) old new s = absurd s
-write_reply setup a ws o (Error r) old new s = absurd s
-write_reply setup a ws o Done old new s = (refl, s.1)
-write_reply setup a ws o (Bytes xs) old new s = absurd s
-write_reply setup a ws o (replies.Capacity n) old new s = absurd s
-write_reply setup a ws o (replies.Report w) old new s = absurd s
-write_reply setup a ws o (replies.Leaks zs) old new s = absurd s
-write_reply setup a ws o (replies.Budget n) old new s = absurd s
-
-pub read_reply : (setup : Setup) (a : Allocation) (o : CallEnvironment) (x : Reply) (old new : ModelState) → Step setup (Read a) o x old new → (xs : Option (List ℕ)) × (x ≡ Bytes xs) × IsRead setup a
-    old xs × (new ≡ old)
-read_reply setup a o (Given u q) old new s = absurd s
-read_reply setup a o (Error r) old new s = absurd s
-read_reply setup a o Done old new s = absurd s
-read_reply setup a o (Bytes xs) old new s = (xs, refl, s.1, s.2)
-read_reply setup a o (replies.Capacity n) old new s = absurd s
-read_reply setup a o (replies.Report w) old new s = absurd s
-read_reply setup a o (replies.Leaks zs) old new s = absurd s
-read_reply setup a o (replies.Budget n) old new s = absurd s
-
-pub sum_reply : (setup : Setup) (o : CallEnvironment) (x : Reply) (old new : ModelState) → Step setup Capacity o x old new → (x ≡ replies.Capacity (total_capacity old.slots)) × (new ≡ old)
-sum_reply setup o (Given u q) old new s = absurd s
-sum_reply setup o (Error r) old new s = absurd s
-sum_reply setup o Done old new s = absurd s
-sum_reply setup o (Bytes xs) old new s = absurd s
-sum_reply setup o (replies.Capacity n) old new s = (ap replies.Capacity s.1, s.2)
-sum_reply setup o (replies.Report w) old new s = absurd s
-sum_reply setup o (replies.Leaks zs) old new s = absurd s
-sum_reply setup o (replies.Budget n) old new s = absurd s
-
-pub budget_reply : (setup : Setup) (t : ℕ) (o : CallEnvironment) (x : Reply) (old new : ModelState) → Step setup (Budget t) o x old new → (x ≡ replies.Budget (budget_at old.budgets t)) × (new ≡ old)
-budget_reply setup t o (Given u q) old new s = absurd s
-budget_reply setup t o (Error r) old new s = absurd s
-budget_reply setup t o Done old new s = absurd s
-budget_reply setup t o (Bytes xs) old new s = absurd s
-budget_reply setup t o (replies.Capacity n) old new s = absurd s
-budget_reply setup t o (replies.Report w) old new s = absurd s
-budget_reply setup t o (replies.Leaks zs) old new s = absurd s
-budget_reply setup t o (replies.Budget b) old new s = (ap replies.Budget s.1, s.2)
-
--- ---- budgets
-
--- a reply to a call that is done or fails, and the refusal that it tells
-abbrev pub done_by : Option Refusal → Reply
-done_by None = Done
-done_by (Some r) = Error r
-
-pub set_reply : (t : ℕ) (budget : Option ℕ) (x : Reply) (old new : ModelState) → SetBudgetStep t budget x old new
-    → (r : Option Refusal) × (x ≡ done_by r) × SetsBudget t budget old.budgets r new.budgets × (new.slots ≡ old.slots) × (new.byte_view ≡ old.byte_view)
-set_reply t budget (Given u q) old new s = absurd s
-set_reply t budget (Error r) old new s = (Some r, refl, s.0, s.1, s.2)
-set_reply t budget Done old new s = (None, refl, s.0, s.1, s.2)
-set_reply t budget (Bytes xs) old new s = absurd s
-set_reply t budget (replies.Capacity n) old new s = absurd s
-set_reply t budget (replies.Report w) old new s = absurd s
-set_reply t budget (replies.Leaks zs) old new s = absurd s
-set_reply t budget (replies.Budget b) old new s = absurd s
-
--- a budget is set or refused, and not both
-pub sets_once : (t : ℕ) (budget : Option ℕ) (old : Budgets) (r s : Option Refusal) (new next : Budgets) → SetsBudget t budget old r new → SetsBudget t budget old s next → (r ≡ s) × (new ≡ next)
-sets_once t budget old None None new next a b = (refl, a.1 ∙ sym b.1)
-sets_once t budget old None (Some s) new next a b = let below = a.0 in let past = b.0 in absurd (omega (arith, below, past))
-sets_once t budget old (Some r) None new next a b = let below = b.0 in let past = a.0 in absurd (omega (arith, below, past))
-sets_once t budget old (Some r) (Some s) new next a b = (ap Some (a.1 ∙ sym b.1), a.2 ∙ sym b.2)
-
 -- ---- any call
 
 pub step_once : (setup : Setup) (call : Call) (o : CallEnvironment) (x y : Reply) (old new next : ModelState) → BlocksWellFormed setup.properties.granularity old.slots
     → Step setup call o x old new → Step setup call o y old next → (x ≡ y) × (new ≡ next)
 step_once setup (Allocate d) o x y old new next sound a b = allocate_once setup d (is_valid d) o x y old new next sound a b
-step_once setup (Free f) o x y old new next sound a b = free_once setup f.memory_type_index (piece_of f) x y old new next sound a.1 b.1
+step_once setup (Free f) o x y old new next sound a b =
+    let t = f.memory_type_index in
+    let p = piece_of f in
+    let once = free_alike setup old new old next sound (refl, refl) t p a.1 b.1 a.3 b.3 in
+    let other = subst (λ z. FreeStep setup t p z old next) (sym once.0) b.3 in
+    (a.2 ∙ ap done_with once.0 ∙ sym b.2, states_alike new next once.1.0 once.1.1 (free_bytes setup t p a.1 old new next sound a.3 other))
+step_once setup (Rename f name) o x y old new next sound a b =
+    let t = f.memory_type_index in
+    let p = piece_of f in
+    let host = o.first.host in
+    let once = rename_alike setup old new old next sound (refl, refl) t p name host a.1 b.1 a.3 b.3 in (
+      a.2 ∙ ap done_with once.0 ∙ sym b.2,
+      states_alike new next once.1.0 once.1.1 (rename_bytes setup t p name host a.1 old new a.3 ∙ sym (rename_bytes setup t p name host b.1 old next b.3)),
+    )
 step_once setup (Write w ws) o x y old new next sound a b =
-    let p = write_reply setup w ws o x old new a in
-    let q = write_reply setup w ws o y old next b in
-    (p.0 ∙ sym q.0, write_once setup w ws old new next p.1 q.1)
-step_once setup (Read r) o x y old new next sound a b =
-    let p = read_reply setup r o x old new a in
-    let q = read_reply setup r o y old next b in
-    (p.1 ∙ ap Bytes (read_once setup r old p.0 q.0 p.2 q.2) ∙ sym q.1, p.3 ∙ sym q.3)
-step_once setup Capacity o x y old new next sound a b =
-    let p = sum_reply setup o x old new a in
-    let q = sum_reply setup o y old next b in
-    (p.0 ∙ sym q.0, p.1 ∙ sym q.1)
-step_once setup (Rename f name) o x y old new next sound a b = rename_once setup f.memory_type_index (piece_of f) name o.first.host x y old new next sound a.1 b.1
-step_once setup Report o x y old new next sound a b =
-    let p = shown_reply o.first.host x old new a.1 in
-    let q = shown_reply o.first.host y old next b.1 in
-    (by_host o.first.host x y (replies.Report (whole_report old.slots)) (Error host_out_of_memory) p.1 q.1, p.0 ∙ sym q.0)
-step_once setup Leaks o x y old new next sound a b =
-    let p = told_reply o.first.host x old new a.1 in
-    let q = told_reply o.first.host y old next b.1 in
-    (by_host o.first.host x y (replies.Leaks (map leak_text (all_leaks old.slots))) (Error host_out_of_memory) p.1 q.1, p.0 ∙ sym q.0)
+    let p = a.2 in
+    let q = b.2 in
+    (a.1 ∙ sym b.1, states_alike new next (p.slots ∙ sym q.slots) (p.budgets ∙ sym q.budgets) (writes_once (id_of w) ws old.byte_view new.byte_view next.byte_view p.writes q.writes))
+step_once setup (Read r) o x y old new next sound a b = (a.2 ∙ ap Bytes (read_once setup r old a.1 b.1 a.3 b.3) ∙ sym b.2, a.4 ∙ sym b.4)
+step_once setup Capacity o x y old new next sound a b = (a.1 ∙ sym b.1, a.2 ∙ sym b.2)
+step_once setup Report o x y old new next sound a b = (a.2 ∙ ap report_with (makes_once _ (host_met o.first.host) a.1 b.1 a.3 b.3) ∙ sym b.2, a.4 ∙ sym b.4)
+step_once setup Leaks o x y old new next sound a b = (a.2 ∙ ap leaks_with (makes_once _ (host_met o.first.host) a.1 b.1 a.3 b.3) ∙ sym b.2, a.4 ∙ sym b.4)
 step_once setup (SetBudget t budget) o x y old new next sound a b =
-    let p = set_reply t budget x old new a.1 in
-    let q = set_reply t budget y old next b.1 in
-    let once = sets_once t budget old.budgets p.0 q.0 new.budgets next.budgets p.2 q.2 in
-    (p.1 ∙ ap done_by once.0 ∙ sym q.1, states_alike new next (p.3 ∙ sym q.3) once.1 (p.4 ∙ sym q.4))
-step_once setup (Budget t) o x y old new next sound a b =
-    let p = budget_reply setup t o x old new a in
-    let q = budget_reply setup t o y old next b in
-    (p.0 ∙ sym q.0, p.1 ∙ sym q.1)
+    let once = set_alike setup old new old next sound (refl, refl) t budget a.1 b.1 a.3 b.3 in
+    (a.2 ∙ ap done_with once.0 ∙ sym b.2, states_alike new next once.1.0 once.1.1 (a.4 ∙ sym b.4))
+step_once setup (Budget t) o x y old new next sound a b = (a.1 ∙ sym b.1, a.2 ∙ sym b.2)

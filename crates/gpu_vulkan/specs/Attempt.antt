@@ -45,6 +45,10 @@ unseen setup budgets slots = record { source = tt; sizes = setup.sizes; slots = 
 abbrev pub AnyQuestion : Unit {0} → (t size : ℕ) → AllocationScheme → Result DeviceMemory Refusal → Unit {0} → Type 0
 AnyQuestion old t size scheme result new = Unit {0}
 
+-- a block that goes back, of which the pool sees nothing
+abbrev pub AnyBlockBack : Unit {0} → DeviceMemory → Unit {0} → Type 0
+AnyBlockBack old memory new = Unit {0}
+
 -- the pool's request met with this: the device is asked only where the host has memory
 abbrev pub IsMet : AttemptEnvironment → Environment DeviceMemory → Type 0
 IsMet o NothingMet = (o.host ≡ true) × (o.asked ≡ None)

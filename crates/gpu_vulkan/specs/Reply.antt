@@ -1,5 +1,5 @@
 -- What a call answers: each reply has the name of the call that it answers, or says what came of it.
-use Rattle.std.specs.Prelude.{ℕ, List, Option}
+use Rattle.std.specs.Prelude.{ℕ, List, Option, Result, Ok, Err}
 use Rattle.gpu_values.specs.Refusal.{Refusal}
 use Rattle.gpu_values.specs.Report as reports
 use Rattle.gpu_slots.specs.declared.piece.Piece.{Piece}
@@ -17,3 +17,18 @@ pub data Reply : Type 0 where
   Leaks : (texts : List (List ℕ)) → Reply
   -- a memory type's budget, None where it has none
   Budget : (budget : Option ℕ) → Reply
+
+-- the reply of a call that is done, or refused
+abbrev pub done_with : Result (Unit {0}) Refusal → Reply
+done_with (Ok _) = Done
+done_with (Err r) = Error r
+
+-- a report, or why there is none
+abbrev pub report_with : Result reports.Report Refusal → Reply
+report_with (Ok r) = Report r
+report_with (Err r) = Error r
+
+-- the texts of what leaks, or why there are none
+abbrev pub leaks_with : Result (List (List ℕ)) Refusal → Reply
+leaks_with (Ok texts) = Leaks texts
+leaks_with (Err r) = Error r

@@ -1,11 +1,8 @@
--- An allocator as a model: what each call makes of its blocks and bytes, and what it answers, given what it met with.
-use Rattle.std.specs.Prelude.{◌≡◌, ◌≢◌, ◌⊎◌, ℕ, Vec, String, Bool, true, false, List, map, IsTrue, string_bytes, Option, Some, None, Result, Ok, Err}
+-- An allocator as a model: what each call returns and leaves of its blocks, budgets and bytes, by what it met with.
+use Rattle.std.specs.Prelude.{◌≡◌, ℕ, Vec, String, Bool, true, false, List, map, string_bytes, Option, Some, None, Result, Ok, Err}
 use Rattle.std.specs.Global.{Global}
-use Rattle.std.specs.List.{slice_set}
 use Rattle.std.specs.Int.NonZero.{non_zero_u64_get}
-use Rattle.gpu_values.specs.Refusal.{Refusal, refusal_of, host_out_of_memory, no_compatible_memory_type_found, invalid_allocation_create_desc}
-use Rattle.gpu_slots.specs.TypeRelease.{has_several, ReleasesPiece, IsFreeRefusal, IsNameRefusal}
-use Rattle.gpu_slots.specs.TypeState.{Slot, slot_at}
+use Rattle.gpu_values.specs.Refusal.{Refusal, refusal_of, no_compatible_memory_type_found, invalid_allocation_create_desc}
 use Rattle.gpu_block_views.specs.Leak.{leak_text}
 use Rattle.gpu_values.specs.Report.{report_of}
 use Rattle.gpu_values.specs.declared.report.AllocatorReport.{AllocatorReport}
@@ -15,26 +12,32 @@ use Rattle.gpu_device.specs.declared.vulkan.device.VulkanDevice.{Ghosts}
 use Rattle.gpu_device.specs.declared.vulkan.types.DeviceMemory.{DeviceMemory}
 use Rattle.gpu_device.specs.declared.vulkan.types.MemoryAllocateInfo.{MemoryAllocateInfo}
 use Rattle.gpu_vulkan.specs.Allocate.{Attempts, next_type, is_valid}
-use Rattle.gpu_vulkan.specs.Attempt.{AttemptEnvironment, Asked, Answer}
+use Rattle.gpu_vulkan.specs.Attempt.{AttemptEnvironment, Asked, Answer, unseen, AnyBlockBack}
 use Rattle.gpu_vulkan.specs.BlockAnswer.{BlockAnswer, Declined, Granted, Mapped, NotMapped, refused_after}
 use Rattle.gpu_vulkan_setup.specs.Types.{is_mapped}
 use Rattle.gpu_vulkan.specs.Blocks.{Slots}
-use Rattle.gpu_memory_types.specs.Blocks.{slots_at, total_capacity}
+use Rattle.gpu_memory_types.specs.Blocks.{total_capacity}
 use Rattle.gpu_vulkan.specs.ByteView.{AllocationId, ByteView, byte_view_of, TakesOut, PutsBack, AddsBlock, DropsBlock, Writes}
 use Rattle.gpu_vulkan_setup.specs.Choice.{best_type}
 use Rattle.gpu_vulkan.specs.Lends.{number_in}
 use Rattle.gpu_vulkan.specs.Live.{is_same_memory, IsLiveIn}
 use Rattle.gpu_vulkan.specs.Live.{piece_of, IsGiven, IsMapped}
-use Rattle.gpu_memory_types.specs.Budgets.{Budgets, budget_at, SetsBudget}
+use Rattle.gpu_memory_types.specs.Budgets.{Budgets, budget_at}
 use Rattle.gpu_memory_types.specs.Leaks.{all_leaks}
-use Rattle.gpu_memory_types.specs.Rename.{IsRenamed}
 use Rattle.gpu_memory_types.specs.Reports.{whole_report}
 use Rattle.gpu_vulkan_setup.specs.Setup.{Setup}
 use Rattle.gpu_vulkan.specs.State.{State}
 use Rattle.gpu_vulkan.specs.declared.allocation.Allocation.{Allocation}
 use Rattle.gpu_vulkan_setup.specs.declared.describe.AllocationCreateDesc.{AllocationCreateDesc}
+use Rattle.gpu_pool.specs.Allocate.{Environment, NothingMet, NoHostMemory}
+use Rattle.gpu_pool.specs.Free.{FreesPiece}
+use Rattle.gpu_pool.specs.Rename.{RenamesBy}
+use Rattle.gpu_pool.specs.State as pools
+use Rattle.gpu_pool.specs.Step.{Makes, SetsBudgetOf}
+use Rattle.gpu_memory_types.specs.Release.{IsReleaseRefusal}
+use Rattle.gpu_values.specs.Report as reports
 use Rattle.gpu_vulkan.specs.Reply as replies
-use Rattle.gpu_vulkan.specs.Reply.{Reply, Given, Error, Done, Bytes}
+use Rattle.gpu_vulkan.specs.Reply.{Reply, Given, Error, Done, Bytes, done_with, report_with, leaks_with}
 
 -- the blocks with their pieces, the budgets of memory types, and the bytes
 pub record ModelState : Type 0 where
@@ -128,66 +131,46 @@ AllocateStep setup d true o reply old new = FoundStep setup d (best_type setup.p
 
 -- ---- a free
 
+-- the blocks and budgets of a model, as a pool
+abbrev pub pool_in : Setup → ModelState → pools.State (Unit {0}) DeviceMemory
+pool_in setup s = unseen setup s.budgets s.slots
+
 -- the block goes, or it stays
 abbrev pub MayDrop : (t i : ℕ) → Option DeviceMemory → ByteView → ByteView → Type 0
 MayDrop t i None mid new = new ≡ mid
 MayDrop t i (Some memory) mid new = DropsBlock t i mid new
 
--- a live piece goes, and its list back into the rest
-pub record ReleaseStep (t : ℕ) (p : Piece DeviceMemory) (old new : ModelState) : Type 0 where
-  pub went : Option DeviceMemory
-  pub left : List (Option (Slot DeviceMemory))
-  pub releases : ReleasesPiece (IsTrue (has_several (slots_at old.slots t))) (slots_at old.slots t) p went left
-  pub slots : new.slots ≡ slice_set old.slots t left
+-- a live piece is freed, and its list goes back into the rest
+pub record FreedStep (setup : Setup) (t : ℕ) (p : Piece DeviceMemory) (old new : ModelState) : Type 0 where
+  pub live : IsLiveIn old.slots t (Some p)
+  pub frees : FreesPiece AnyBlockBack t p (pool_in setup old) (pool_in setup new)
   pub mid : ByteView
   pub back : PutsBack (id_in t p) p.offset p.size old.byte_view mid
-  pub drops : MayDrop t p.slot went mid new.byte_view
-  pub budgets : new.budgets ≡ old.budgets
+  pub drops : MayDrop t p.slot frees.went mid new.byte_view
 
-abbrev pub FreeStep : (t : ℕ) → Option (Piece DeviceMemory) → Reply → ModelState → ModelState → Type 0
-FreeStep t None Done old new = new ≡ old
-FreeStep t (Some p) Done old new = IsLiveIn old.slots t (Some p) × ReleaseStep t p old new
-FreeStep t (Some p) (Error r) old new =
-    (IsLiveIn old.slots t (Some p) → ⊥) × IsFreeRefusal is_same_memory p (slot_at (slots_at old.slots t) p.slot) r × (new ≡ old)
-FreeStep t p _ old new = ⊥
+-- a null allocation is nothing to free, and of a piece that isn't live nothing changes
+abbrev pub FreeStep : Setup → (t : ℕ) → Option (Piece DeviceMemory) → Result (Unit {0}) Refusal → ModelState → ModelState → Type 0
+FreeStep setup t None (Ok _) old new = new ≡ old
+FreeStep setup t None (Err r) old new = ⊥
+FreeStep setup t (Some p) (Ok _) old new = FreedStep setup t p old new
+FreeStep setup t (Some p) (Err r) old new = (IsLiveIn old.slots t (Some p) → ⊥) × IsReleaseRefusal is_same_memory t old.slots p r × (new ≡ old)
 
 -- ---- a new name
-
--- a live piece's record has another name, or the null allocation has no record; a refusal, for want of host memory or of a live piece, changes nothing
-abbrev pub RenameStep : (t : ℕ) → Option (Piece DeviceMemory) → (name : List ℕ) → (host : Bool) → Reply → ModelState → ModelState → Type 0
-RenameStep t None name host Done old new = (host ≡ true) × (new ≡ old)
-RenameStep t None name host (Error r) old new = (host ≡ false) × (r ≡ host_out_of_memory) × (new ≡ old)
-RenameStep t (Some p) name host Done old new = (host ≡ true) × IsRenamed is_same_memory t p name old.slots new.slots × (new.byte_view ≡ old.byte_view) × (new.budgets ≡ old.budgets)
-RenameStep t (Some p) name host (Error r) old new =
-    (((host ≡ false) × IsLiveIn old.slots t (Some p) × (r ≡ host_out_of_memory))
-    ⊎ ((IsLiveIn old.slots t (Some p) → ⊥) × (r ≢ host_out_of_memory) × IsNameRefusal is_same_memory p (slot_at (slots_at old.slots t) p.slot) r))
-    × (new ≡ old)
-RenameStep t p name host _ old new = ⊥
 
 -- the call asks the device nothing
 abbrev pub AsksNothing : CallEnvironment → Type 0
 AsksNothing o = (o.first.asked ≡ None) × (o.second ≡ nothing_met)
 
--- ---- reports and leaks
+-- what such a call met with, as a pool's
+abbrev pub host_met : (host : Bool) → Environment DeviceMemory
+host_met true = NothingMet
+host_met false = NoHostMemory
 
--- what is shown, or want of host memory
-abbrev pub ReportStep : (host : Bool) → Reply → ModelState → ModelState → Type 0
-ReportStep host (replies.Report r) old new = (host ≡ true) × (r ≡ whole_report old.slots) × (new ≡ old)
-ReportStep host (Error r) old new = (host ≡ false) × (r ≡ host_out_of_memory) × (new ≡ old)
-ReportStep host _ old new = ⊥
-
-abbrev pub LeaksStep : (host : Bool) → Reply → ModelState → ModelState → Type 0
-LeaksStep host (replies.Leaks texts) old new = (host ≡ true) × (texts ≡ map leak_text (all_leaks old.slots)) × (new ≡ old)
-LeaksStep host (Error r) old new = (host ≡ false) × (r ≡ host_out_of_memory) × (new ≡ old)
-LeaksStep host _ old new = ⊥
-
--- ---- budgets
-
--- a memory type's budget is set, or there is no such type and nothing changes
-abbrev pub SetBudgetStep : (t : ℕ) → (budget : Option ℕ) → Reply → ModelState → ModelState → Type 0
-SetBudgetStep t budget Done old new = SetsBudget t budget old.budgets None new.budgets × (new.slots ≡ old.slots) × (new.byte_view ≡ old.byte_view)
-SetBudgetStep t budget (Error r) old new = SetsBudget t budget old.budgets (Some r) new.budgets × (new.slots ≡ old.slots) × (new.byte_view ≡ old.byte_view)
-SetBudgetStep t budget _ old new = ⊥
+-- a live piece's record has another name, or the null allocation has no record; no byte changes
+abbrev pub RenameStep : Setup → (t : ℕ) → Option (Piece DeviceMemory) → (name : List ℕ) → (host : Bool) → Result (Unit {0}) Refusal → ModelState → ModelState → Type 0
+RenameStep setup t None name host answer old new = Makes tt (host_met host) answer × (new ≡ old)
+RenameStep setup t (Some p) name host answer old new =
+    RenamesBy is_same_memory t p name (pool_in setup old) (host_met host) answer (pool_in setup new) × (new.byte_view ≡ old.byte_view)
 
 -- ---- bytes
 
@@ -207,19 +190,22 @@ IsRead setup a s (Some xs) = IsMapped setup.properties s.slots a × (s.byte_view
 
 -- ---- any call
 
--- from old, the call may give this reply and leave new, where it meets with these environment
+-- from old, the call may return this reply and leave new, where it met with this
 abbrev pub Step : Setup → Call → CallEnvironment → Reply → ModelState → ModelState → Type 0
 Step setup (Allocate d) o reply old new = AllocateStep setup d (is_valid d) o reply old new
-Step setup (Free a) o reply old new = MeetsNothing o × FreeStep a.memory_type_index (piece_of a) reply old new
-Step setup (Rename a name) o reply old new = AsksNothing o × RenameStep a.memory_type_index (piece_of a) name o.first.host reply old new
-Step setup Report o reply old new = AsksNothing o × ReportStep o.first.host reply old new
-Step setup Leaks o reply old new = AsksNothing o × LeaksStep o.first.host reply old new
-Step setup (SetBudget t budget) o reply old new = MeetsNothing o × SetBudgetStep t budget reply old new
-Step setup (Budget t) o (replies.Budget b) old new = MeetsNothing o × (b ≡ budget_at old.budgets t) × (new ≡ old)
-Step setup (Write a bytes) o Done old new = MeetsNothing o × WriteStep setup a bytes old new
-Step setup (Read a) o (Bytes xs) old new = MeetsNothing o × IsRead setup a old xs × (new ≡ old)
-Step setup Capacity o (replies.Capacity n) old new = MeetsNothing o × (n ≡ total_capacity old.slots) × (new ≡ old)
-Step setup _ o _ old new = ⊥
+Step setup (Free a) o reply old new = MeetsNothing o × (answer : Result (Unit {0}) Refusal) × (reply ≡ done_with answer) × FreeStep setup a.memory_type_index (piece_of a) answer old new
+Step setup (Rename a name) o reply old new =
+    AsksNothing o × (answer : Result (Unit {0}) Refusal) × (reply ≡ done_with answer) × RenameStep setup a.memory_type_index (piece_of a) name o.first.host answer old new
+Step setup (Write a bytes) o reply old new = MeetsNothing o × (reply ≡ Done) × WriteStep setup a bytes old new
+Step setup (Read a) o reply old new = MeetsNothing o × (bytes : Option (List ℕ)) × (reply ≡ Bytes bytes) × IsRead setup a old bytes × (new ≡ old)
+Step setup Capacity o reply old new = MeetsNothing o × (reply ≡ replies.Capacity (total_capacity old.slots)) × (new ≡ old)
+Step setup Report o reply old new =
+    AsksNothing o × (answer : Result reports.Report Refusal) × (reply ≡ report_with answer) × Makes (whole_report old.slots) (host_met o.first.host) answer × (new ≡ old)
+Step setup Leaks o reply old new =
+    AsksNothing o × (answer : Result (List (List ℕ)) Refusal) × (reply ≡ leaks_with answer) × Makes (map leak_text (all_leaks old.slots)) (host_met o.first.host) answer × (new ≡ old)
+Step setup (SetBudget t budget) o reply old new =
+    MeetsNothing o × (answer : Result (Unit {0}) Refusal) × (reply ≡ done_with answer) × SetsBudgetOf t budget (pool_in setup old) answer (pool_in setup new) × (new.byte_view ≡ old.byte_view)
+Step setup (Budget t) o reply old new = MeetsNothing o × (reply ≡ replies.Budget (budget_at old.budgets t)) × (new ≡ old)
 
 -- ---- over a device
 

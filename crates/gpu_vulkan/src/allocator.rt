@@ -120,18 +120,18 @@ impl<D: VulkanDevice> Allocator<D> {
         self.pool.source().setup()
     }
 
-    /// Takes a piece of device memory, of a block that is there or of a new one. Its bytes are what the block has at its place:
-    /// they aren't cleared. The errors, in the order in which they are looked at:
+    /// Allocates a piece of device memory, of a block that is there or of a new one. Its bytes are what the block has at its
+    /// place: they aren't cleared. The errors, in the order in which they are looked at:
     /// - `InvalidAllocationCreateDesc`: the size is 0, or the alignment isn't a power of two;
     /// - `NoCompatibleMemoryTypeFound`: no memory type of `memory_type_bits` has the flags that the location must have;
     /// - `OutOfMemory`: the request is above its heap;
     /// - `HostOutOfMemory`: the host refused memory for the name, the record or the block's own lists;
     /// - `OutOfMemory`: a new block would carry the sum of all blocks' sizes past `u64::MAX`;
     /// - `BudgetExceeded`: a new block would carry its memory type past its budget (`set_budget`);
-    /// - `OutOfMemory`, `Internal` or `FailedToMap`: the device refused the block's memory for want of memory (code -2), for
-    ///   another cause, or refused to map it.
+    /// - `OutOfMemory`, `Internal` or `FailedToMap`: the device refused the block's memory because it is out of memory (code
+    ///   -2), for another cause, or refused to map it.
     ///
-    /// A request for uploads (`CpuToGpu`) that one memory type refuses for any cause but want of host memory is tried once more
+    /// A request for uploads (`CpuToGpu`) that one memory type refuses for any cause but a host out of memory is tried once more
     /// at the first of `memory_type_bits` with HOST_VISIBLE and HOST_COHERENT, and that answer counts. A refusal leaves every
     /// block as it was, and the device holds what it held.
     pub fn allocate<L: Log>(&mut self, log: &L, desc: &AllocationCreateDesc) -> Result<Allocation>
@@ -258,6 +258,7 @@ impl<D: VulkanDevice> Allocator<D> {
         ensures step { (ws : List ℕ) → length ws ≡ allocation.now.size
             → IsStep D.VulkanDevice (Write allocation.now ws) Done self.old (written_at D.VulkanDevice self.old allocation.now ws) }
     {
+        self.allocations_are_apart();
         blocks_are_held(&self.pool);
         let pool = &mut self.pool;
         pool.source.range_mut(allocation.device_memory, allocation.offset, allocation.size)
@@ -294,8 +295,8 @@ impl<D: VulkanDevice> Allocator<D> {
         }
     }
 
-    /// Gives an allocation back, and its block with it where the block is left empty and isn't the only shared one of its
-    /// memory type. A live one is never refused. A null one is nothing to give back; any other comes back as it was, beside
+    /// Frees an allocation, and gives its block back where the block is left empty and isn't the only shared one of its
+    /// memory type. A live one is never refused. A null one is nothing to free; any other comes back as it was, beside
     /// `Internal`, and then nothing changes. It takes no memory.
     pub fn free<L: Log>(
         &mut self,

@@ -92,7 +92,7 @@ pub fn allocate_in_type<D: VulkanDevice>(
     }
 }
 
-/// The memory type that is asked after a refusal: memory for uploads is then taken where the host can write it, be it slow
+/// The memory type that is asked after a refusal: memory for uploads is then allocated where the host can write it, be it slow
 /// for the device.
 fn next_type(setup: &Setup, desc: &AllocationCreateDesc, error: &AllocationError) -> Option<usize>
     ensures next { result ≡ next_type setup.now desc.now (refusal_of error.now) }

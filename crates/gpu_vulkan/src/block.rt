@@ -10,7 +10,7 @@ ghost use Rattle.gpu_vulkan.specs.BlockAnswer.{BlockAnswer, Asks, Gives, memory_
 use gpu_device::vulkan::{DeviceMemory, MemoryAllocateInfo, VulkanDevice};
 use gpu_values::{AllocationError, Fault, Result};
 
-/// Vulkan's code for want of device memory (`VK_ERROR_OUT_OF_DEVICE_MEMORY`).
+/// Vulkan's code where the device is out of memory (`VK_ERROR_OUT_OF_DEVICE_MEMORY`).
 const OUT_OF_DEVICE_MEMORY: i32 = -2;
 
 /// Why memory was refused.

@@ -55,7 +55,7 @@ pub fn log_allocate<L: Log>(
     }
 }
 
-/// Tells what is given back, where the settings ask for it.
+/// Logs what is freed, where the settings ask for it.
 pub fn log_free<L: Log>(log: &L, settings: AllocatorDebugSettings, allocation: &Allocation) {
     if settings.log_frees {
         let name = match &allocation.name {

@@ -123,7 +123,7 @@ impl<D: VulkanDevice> VulkanBlocks<D> {
         self.device.range_mut(memory, start, len)
     }
 
-    /// The device, given back once no block is left: it holds what it held at first.
+    /// The device, once no block is left: it holds what it held at first.
     pub fn into_device(self) -> D
         requires { (n : ℕ) → blocks_of (D.held self.first) (D.held self.device) n ≡ None }
         ensures same { result ≡ self.device }

@@ -1,5 +1,5 @@
 -- What the allocator's steps do to the lists of live pieces.
-use Rattle.std.proofs.Common.{◌≡◌, ◌∙◌, ℕ, List, length, Option, Some, None, Ok, Err, Bool, true, false, refl, sym, ap, subst}
+use Rattle.std.proofs.Common.{◌≡◌, ◌∙◌, ℕ, List, length, Option, Some, None, Ok, Err, Result, Bool, true, false, refl, sym, ap, subst}
 use Rattle.std.specs.Prelude.{if◌then◌else◌}
 use Rattle.std.specs.Option.{option_map}
 use Rattle.std.specs.declared.num.NonZeroU64.{NonZeroU64}
@@ -16,7 +16,6 @@ use Rattle.gpu_vulkan.specs.Reply as answers
 use Rattle.gpu_vulkan.specs.Step.{ModelState, CallEnvironment, Step, Allocate, Free, Rename, Report, Leaks, Capacity, SetBudget}
 use Rattle.gpu_vulkan.specs.Step.{id_in, id_of, BytesAfter, AttemptStep, Follows, next_by, FoundStep, AllocateStep, MayDrop, FreeStep, RenameStep, reply_of}
 use Rattle.gpu_vulkan.specs.declared.allocation.Allocation.{Allocation}
-use Rattle.gpu_vulkan.proofs.OneStep.{set_reply}
 use Rattle.gpu_vulkan_setup.specs.declared.describe.AllocationCreateDesc.{AllocationCreateDesc}
 
 -- a place of a live piece comes in, with a list of that size where its memory is mapped
@@ -151,12 +150,19 @@ dropped : (t i : ℕ) (went : Option DeviceMemory) (mid new : ByteView) → MayD
 dropped t i None mid new h r = ap (λ b. b.allocation_bytes r) h
 dropped t i (Some m) mid new h r = h.allocation_bytes r
 
+done_is_ok : (x : Result (Unit {0}) Refusal) → answers.Done ≡ answers.done_with x → x ≡ Ok tt
+done_is_ok (Ok u) e = refl
+done_is_ok (Err r) e = absurd (cc)
+
+-- a free that is done
+pub freed : (setup : Setup) (a : Allocation) (o : CallEnvironment) (old new : ModelState) → Step setup (Free a) o answers.Done old new → FreeStep setup a.memory_type_index (piece_of a) (Ok tt) old new
+freed setup a o old new step = subst (λ x. FreeStep setup a.memory_type_index (piece_of a) x old new) (done_is_ok step.1 step.2) step.3
+
 pub lost : (setup : Setup) (a : Allocation) (o : CallEnvironment) (p : Piece DeviceMemory) (old new : ModelState) → Step setup (Free a) o answers.Done old new → piece_of a ≡ Some p → Lost
     (id_in a.memory_type_index p) old.byte_view new.byte_view
 lost setup a o p old new step is =
-    let freed = subst (λ z. FreeStep a.memory_type_index z answers.Done old new) is step.1 in
-    let release = freed.1 in
-    let same = dropped a.memory_type_index p.slot release.went release.mid new.byte_view release.drops in
+    let release = subst (λ z. FreeStep setup a.memory_type_index z (Ok tt) old new) is (freed setup a o old new step) in
+    let same = dropped a.memory_type_index p.slot release.frees.went release.mid new.byte_view release.drops in
     record {
       gone = same (id_in a.memory_type_index p) ∙ release.back.gone;
       others = λ r apart. same r ∙ release.back.others r apart;
@@ -164,59 +170,24 @@ lost setup a o p old new step is =
 
 -- ---- what changes no byte
 
-renamed_bytes : (t : ℕ) (p : Option (Piece DeviceMemory)) (name : List ℕ) (host : Bool) (reply : answers.Reply) (old new : ModelState) → RenameStep t p name host reply old new
-    → new.byte_view ≡ old.byte_view
-renamed_bytes t None name host answers.Done old new h = ap (λ s. s.byte_view) h.1
-renamed_bytes t None name host (answers.Error r) old new h = ap (λ s. s.byte_view) h.2
-renamed_bytes t (Some p) name host answers.Done old new h = h.2
-renamed_bytes t (Some p) name host (answers.Error r) old new h = ap (λ s. s.byte_view) h.1
-renamed_bytes t None name host (answers.Given u q) old new h = absurd h
-renamed_bytes t None name host (answers.Bytes xs) old new h = absurd h
-renamed_bytes t None name host (answers.Capacity n) old new h = absurd h
-renamed_bytes t None name host (answers.Report w) old new h = absurd h
-renamed_bytes t None name host (answers.Leaks zs) old new h = absurd h
-renamed_bytes t None name host (answers.Budget b) old new h = absurd h
-renamed_bytes t (Some p) name host (answers.Given u q) old new h = absurd h
-renamed_bytes t (Some p) name host (answers.Bytes xs) old new h = absurd h
-renamed_bytes t (Some p) name host (answers.Capacity n) old new h = absurd h
-renamed_bytes t (Some p) name host (answers.Report w) old new h = absurd h
-renamed_bytes t (Some p) name host (answers.Leaks zs) old new h = absurd h
-renamed_bytes t (Some p) name host (answers.Budget b) old new h = absurd h
+renamed_bytes : (setup : Setup) (t : ℕ) (p : Option (Piece DeviceMemory)) (name : List ℕ) (host : Bool) (x : Result (Unit {0}) Refusal) (old new : ModelState)
+    → RenameStep setup t p name host x old new → new.byte_view ≡ old.byte_view
+renamed_bytes setup t None name host x old new h = ap (λ s. s.byte_view) h.1
+renamed_bytes setup t (Some p) name host x old new h = h.1
 
 pub named_bytes : (setup : Setup) (a : Allocation) (name : List ℕ) (o : CallEnvironment) (reply : answers.Reply) (old new : ModelState) → Step setup (Rename a name) o reply old new → new.byte_view ≡
     old.byte_view
-named_bytes setup a name o reply old new h = renamed_bytes a.memory_type_index (piece_of a) name o.first.host reply old new h.1
+named_bytes setup a name o reply old new h = renamed_bytes setup a.memory_type_index (piece_of a) name o.first.host h.1 old new h.3
 
 pub shown_same : (setup : Setup) (o : CallEnvironment) (reply : answers.Reply) (old new : ModelState) → Step setup Report o reply old new → new ≡ old
-shown_same setup o (answers.Report r) old new h = h.1.2
-shown_same setup o (answers.Error r) old new h = h.1.2
-shown_same setup o (answers.Given t p) old new h = absurd h.1
-shown_same setup o answers.Done old new h = absurd h.1
-shown_same setup o (answers.Bytes xs) old new h = absurd h.1
-shown_same setup o (answers.Capacity n) old new h = absurd h.1
-shown_same setup o (answers.Leaks ts) old new h = absurd h.1
-shown_same setup o (answers.Budget b) old new h = absurd h.1
+shown_same setup o reply old new h = h.4
 
 pub told_same : (setup : Setup) (o : CallEnvironment) (reply : answers.Reply) (old new : ModelState) → Step setup Leaks o reply old new → new ≡ old
-told_same setup o (answers.Leaks ts) old new h = h.1.2
-told_same setup o (answers.Error r) old new h = h.1.2
-told_same setup o (answers.Given t p) old new h = absurd h.1
-told_same setup o answers.Done old new h = absurd h.1
-told_same setup o (answers.Bytes xs) old new h = absurd h.1
-told_same setup o (answers.Capacity n) old new h = absurd h.1
-told_same setup o (answers.Report r) old new h = absurd h.1
-told_same setup o (answers.Budget b) old new h = absurd h.1
+told_same setup o reply old new h = h.4
 
 pub summed_same : (setup : Setup) (o : CallEnvironment) (reply : answers.Reply) (old new : ModelState) → Step setup Capacity o reply old new → new ≡ old
-summed_same setup o (answers.Capacity n) old new h = h.2
-summed_same setup o (answers.Given t p) old new h = absurd h
-summed_same setup o (answers.Error r) old new h = absurd h
-summed_same setup o answers.Done old new h = absurd h
-summed_same setup o (answers.Bytes xs) old new h = absurd h
-summed_same setup o (answers.Report r) old new h = absurd h
-summed_same setup o (answers.Leaks ts) old new h = absurd h
-summed_same setup o (answers.Budget b) old new h = absurd h
+summed_same setup o reply old new h = h.2
 
 pub budget_set_bytes : (setup : Setup) (t : ℕ) (budget : Option ℕ) (o : CallEnvironment) (reply : answers.Reply) (old new : ModelState)
     → Step setup (SetBudget t budget) o reply old new → new.byte_view ≡ old.byte_view
-budget_set_bytes setup t budget o reply old new h = (set_reply t budget reply old new h.1).4
+budget_set_bytes setup t budget o reply old new h = h.4

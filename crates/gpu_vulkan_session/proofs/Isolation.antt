@@ -20,7 +20,7 @@ module _ (setup : Setup) (key other at : ℕ) (bytes : List ℕ) (o : CommandEnv
 
   put_in : (a : Allocation) (xs : List ℕ) (fits : Bool) → old.bound key ≡ Some a → WritesIn setup a at bytes xs fits o reply old new → Leaves
   put_in a xs false found h = unchanged h.1.1
-  put_in a xs true found h = let one = h.1.1 in one.writes.others (id_of b) (other_place a b (own.apart key other a b found bound one.live.0 live apart))
+  put_in a xs true found h = let one = h.1.2 in one.writes.others (id_of b) (other_place a b (own.apart key other a b found bound one.live.0 live apart))
 
   put_over : (a : Allocation) (read : Option (List ℕ)) → old.bound key ≡ Some a → WritesOver setup a at bytes read o reply old new → Leaves
   put_over a None found h = unchanged h.1.1

@@ -9,7 +9,7 @@ use Rattle.gpu_memory_types.specs.Blocks.{BlocksWellFormed}
 use Rattle.gpu_vulkan_setup.specs.Setup.{Setup}
 use Rattle.gpu_vulkan.specs.declared.allocation.Allocation.{Allocation}
 use Rattle.gpu_vulkan.proofs.KeptBudgets.{keeps_budgets}
-use Rattle.gpu_vulkan.proofs.EqualButBytes.{budgets_alike}
+use Rattle.gpu_vulkan.proofs.EqualButBytes.{step_alike}
 use Rattle.gpu_vulkan_session.specs.Command.{Wanted, KeyCommand, Alloc, Null, Free, Rename, Write, Read, SessionCommand, Under, Report, Leaks, Capacity, SetBudget}
 use Rattle.gpu_vulkan_session.specs.Reply.{SessionReply}
 use Rattle.gpu_vulkan_session.specs.Session.{SessionState, CommandEnvironment, ServesAlloc, ServesNull, Asks, WritesIn, WritesOver, ServesBound, ServesUnbound, ServesAt, Serves}
@@ -68,7 +68,8 @@ module _ (ours : ℕ → Bool) (setup : Setup) (s t new next : SessionState) (o 
     (slots : s.model.slots ≡ t.model.slots) (budgets : s.model.budgets ≡ t.model.budgets) (met : EqualButBytesCommandEnvironment o p) where
   same_call : (call : model.Call) → ((other : model.Call) → call ≡ other → EqualButBytesCall call other) → Asks setup call o.call reply s new → Asks setup call p.call other_reply t next →
       new.model.budgets ≡ next.model.budgets
-  same_call call alike h k = budgets_alike setup o.call p.call h.model_reply k.model_reply s.model new.model t.model next.model sound slots budgets met.call call call (alike call refl) h.step k.step
+  same_call call alike h k =
+      (step_alike setup o.call p.call h.model_reply k.model_reply s.model new.model t.model next.model sound slots budgets met.call call call (alike call refl) h.step k.step).1.1
 
   -- commands that differ at most in bytes leave the same budgets
   pub budgets_next : (command other : SessionCommand) → EqualButBytesCommand ours command other → Serves setup command o reply s new → Serves setup other p other_reply t next → new.model.budgets ≡

@@ -49,11 +49,11 @@ same_place_of a b slots same live =
 
 free_as : (setup : Setup) (a b : Allocation) (o : CallEnvironment) (s new : ModelState) → handle a ≡ handle b → Step setup (model.Free b) o answers.Done s new
     → Step setup (model.Free a) o answers.Done s new
-free_as setup a b o s new same h = (h.0, subst (λ z. FreeStep z.memory_type z.piece answers.Done s new) (sym same) h.1)
+free_as setup a b o s new same h = (h.0, h.1, h.2, subst (λ z. FreeStep setup z.memory_type z.piece h.1 s new) (sym same) h.3)
 
 rename_as : (setup : Setup) (a b : Allocation) (name : List ℕ) (o : CallEnvironment) (model_reply : answers.Reply) (s new : ModelState) → handle a ≡ handle b → Step setup (model.Rename b name) o
     model_reply s new → Step setup (model.Rename a name) o model_reply s new
-rename_as setup a b name o model_reply s new same h = (h.0, subst (λ z. RenameStep z.memory_type z.piece name o.first.host model_reply s new) (sym same) h.1)
+rename_as setup a b name o model_reply s new same h = (h.0, h.1, h.2, subst (λ z. RenameStep setup z.memory_type z.piece name o.first.host h.1 s new) (sym same) h.3)
 
 named_handle : (a b : Allocation) (name : List ℕ) → IsNamed a name b → handle b ≡ handle a
 named_handle a b name h = ap handle h.others
@@ -188,7 +188,7 @@ module _ (ours : ℕ → Bool) (written : Written) (setup : Setup) (s t new next
       let law = step_alike setup o.call p.call h.model_reply k.model_reply s.model new.model t.model next.model kept.sound alike.slots budgets met.call (model.Allocate h.description)
       (model.Allocate k.description)
       (same_description h.description k.description w h.describes k.describes) h.step k.step in
-      binds_both key w h.description k.description h.model_reply k.model_reply law.0 law.1 h.step k.step h.binds k.binds
+      binds_both key w h.description k.description h.model_reply k.model_reply law.0 law.1.0 h.step k.step h.binds k.binds
   take_both key w false true e h k = absurd (cc)
   take_both key w true false e h k = absurd (cc)
 
@@ -210,12 +210,12 @@ module _ (ours : ℕ → Bool) (written : Written) (setup : Setup) (s t new next
       let law = step_alike setup o.call p.call answers.Done answers.Done s.model new.model t.model next.model kept.sound alike.slots budgets met.call (model.Free a) (model.Free a) refl h.step step in
       next_at (Under key Free) Done Done h.done k.done refl (⊎_elim
       (λ null.
-      alike_unbound ours written setup s t new next kept kept_new alike key h.bound k.bound law.1
+      alike_unbound ours written setup s t new next kept kept_new alike key h.bound k.bound law.1.0
       (ap (λ x. x.byte_view) (freed_null setup a o.call s.model new.model h.step null)) (ap (λ x. x.byte_view) (freed_null setup a p.call t.model next.model step null)))
       (λ live.
       let q = live_piece a (piece_of a) s.model.slots refl live in
       let place = place_piece a q.0 q.1 in
-      alike_returned ours written setup s t new next kept kept_new alike key a found live h.bound k.bound law.1
+      alike_returned ours written setup s t new next kept kept_new alike key a found live h.bound k.bound law.1.0
       (subst (λ r. Lost r s.model.byte_view new.model.byte_view) (sym place) (lost setup a o.call q.0 s.model new.model h.step q.1))
       (subst (λ r. Lost r t.model.byte_view next.model.byte_view) (sym place) (lost setup a p.call q.0 t.model next.model step q.1)))
       (kept.own.live key a found))
@@ -247,7 +247,7 @@ module _ (ours : ℕ → Bool) (written : Written) (setup : Setup) (s t new next
       let step = rename_as setup a b name p.call k.model_reply t.model next.model same k.step in
       let law = step_alike setup o.call p.call h.model_reply k.model_reply s.model new.model t.model next.model kept.sound alike.slots budgets met.call (model.Rename a name) (model.Rename a name)
       refl h.step step in
-      named_both key a b name h.model_reply k.model_reply same found law.0 law.1 (named_bytes setup a name o.call h.model_reply s.model new.model h.step)
+      named_both key a b name h.model_reply k.model_reply same found law.0 law.1.0 (named_bytes setup a name o.call h.model_reply s.model new.model h.step)
       (named_bytes setup a name p.call k.model_reply t.model next.model step) h.binds k.binds
 
   -- ---- writes
@@ -261,8 +261,8 @@ module _ (ours : ℕ → Bool) (written : Written) (setup : Setup) (s t new next
   put_fits key at ws vs a b x y true as_many mine found r fit fit_too h k =
       let le : at + length ws ≤ length r.xs = grind (arith, nat_tests, fit) in
       let le_too : at + length vs ≤ length r.ys = grind (arith, nat_tests, fit_too) in
-      let one = h.1.1 in
-      let two = k.1.1 in
+      let one = h.1.2 in
+      let two = k.1.2 in
       let n = subst (λ q. Writes q (overwritten r.ys at vs) t.model.byte_view next.model.byte_view) (sym r.place) two.writes in
       next_at (Under key (Write at ws)) Done Done h.0 k.0 refl
       (alike_written ours written setup s t new next kept kept_new alike key at a ws vs r.xs r.ys found r.live h.2 k.2 (one.slots ∙ alike.slots ∙ sym two.slots) as_many mine r.here r.there le le_too
@@ -398,7 +398,9 @@ module _ (ours : ℕ → Bool) (written : Written) (setup : Setup) (s t new next
   lawful : (call : model.Call) → ((other : model.Call) → call ≡ other → EqualButBytesCall call other) → (x y : answers.Reply) → Step setup call o.call x s.model new.model → Step setup call p.call y
       t.model next.model
       → EqualButBytesReply x y × (new.model.slots ≡ next.model.slots)
-  lawful call same x y h k = step_alike setup o.call p.call x y s.model new.model t.model next.model kept.sound alike.slots budgets met.call call call (same call refl) h k
+  lawful call same x y h k =
+      let once = step_alike setup o.call p.call x y s.model new.model t.model next.model kept.sound alike.slots budgets met.call call call (same call refl) h k in
+      (once.0, once.1.0)
 
   step_next : (command other : SessionCommand) → EqualButBytesCommand ours command other → Serves setup command o reply s new → Serves setup other p other_reply t next → Next ours written command
       reply other_reply new next

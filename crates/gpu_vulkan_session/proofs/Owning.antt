@@ -1,5 +1,5 @@
 -- The numbers go on owning their pieces.
-use Rattle.std.proofs.Common.{◌≡◌, ◌⊎◌, ℕ, List, Option, Some, None, ap, sym, subst, ◌∙◌, inl, inr, ⊎_elim}
+use Rattle.std.proofs.Common.{◌≡◌, ◌⊎◌, ℕ, List, Option, Some, None, Ok, ap, sym, subst, ◌∙◌, inl, inr, ⊎_elim}
 use Rattle.std.proofs.lemmas.Bool.{cases_eq}
 use Rattle.gpu_vulkan.specs.Blocks.{Slots}
 use Rattle.gpu_vulkan.specs.Lends.{AreDistinct}
@@ -12,6 +12,7 @@ use Rattle.gpu_vulkan.specs.Step.{ModelState, CallEnvironment, Step, Free, FreeS
 use Rattle.gpu_vulkan.specs.declared.allocation.Allocation.{Allocation}
 use Rattle.gpu_vulkan_session.specs.Session.{SessionState, IsOwn, bind}
 use Rattle.gpu_vulkan_session.proofs.Binding.{bound_here, bound_other}
+use Rattle.gpu_vulkan_session.proofs.Changes.{freed}
 
 pub null_dead : (slots : Slots) (a : Allocation) → piece_of a ≡ None → IsLive slots a → ⊥
 null_dead slots a e live = subst (λ p. IsLiveIn slots a.memory_type_index p) e live
@@ -124,4 +125,4 @@ module _ (old : SessionState) (own : IsOwn old) where
 
 -- a null allocation's free changes nothing
 pub freed_null : (setup : Setup) (a : Allocation) (o : CallEnvironment) (old new : ModelState) → Step setup (Free a) o answers.Done old new → piece_of a ≡ None → new ≡ old
-freed_null setup a o old new step e = subst (λ p. FreeStep a.memory_type_index p answers.Done old new) e step.1
+freed_null setup a o old new step e = subst (λ p. FreeStep setup a.memory_type_index p (Ok tt) old new) e (freed setup a o old new step)

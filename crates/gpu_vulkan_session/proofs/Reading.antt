@@ -20,7 +20,10 @@ use Rattle.gpu_vulkan_session.proofs.Serving.{quiet, stayed, served_quietly, ser
 -- bytes that are read in the model
 pub read_of : {D : Type 0} (g : Ghosts D) (s : SessionValue D) (a : Allocation) (bytes : Option (List ℕ)) → IsStep g (model.Read a) (answers.Bytes bytes) s.allocator s.allocator → IsRead
     s.allocator.setup a (session_of g s).model bytes
-read_of g s a bytes step = step.step.1
+read_of g s a bytes step =
+    let k = step.step in
+    let same : bytes ≡ k.1 = (let e = k.2 in cc) in
+    subst (IsRead s.allocator.setup a (session_of g s).model) (sym same) k.3
 
 module _ {D : Type 0} (g : Ghosts D) (s : SessionValue D) (key at : ℕ) where
   -- a read that is reply something, with room for its bytes or not

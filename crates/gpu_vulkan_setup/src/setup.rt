@@ -161,13 +161,6 @@ impl Setup {
         &self.memory_types
     }
 
-    /// The sizes of blocks.
-    pub fn sizes(&self) -> AllocationSizes
-        ensures { result ≡ self.now.sizes }
-    {
-        self.settings.sizes
-    }
-
     /// Whether memory is made so that shaders may read its address.
     pub fn buffer_device_address(&self) -> bool
         ensures { result ≡ self.now.device_address }

@@ -2,8 +2,11 @@ use Rattle.std.proofs.Common.{◌≡◌, ◌∙◌, refl, ℕ, Some, ap, subst}
 use Rattle.gpu_device.specs.Held.{range_of}
 use Rattle.gpu_device.proofs.Writes.{length_of_range}
 use Rattle.gpu_memory_types.specs.Blocks.{BlocksWellFormed}
+use Rattle.gpu_vulkan.specs.Apart.{SharesNoByte}
 use Rattle.gpu_vulkan.specs.Blocks.{HoldsJustLiveBlocks}
-use Rattle.gpu_vulkan.specs.Lends.{written_at}
+use Rattle.gpu_vulkan.specs.Live.{IsLive}
+use Rattle.gpu_vulkan.specs.declared.allocation.Allocation.{Allocation}
+use Rattle.gpu_vulkan.specs.Lends.{AreDistinct, written_at}
 use Rattle.gpu_vulkan.specs.State.{State, state_of, Pool}
 use Rattle.gpu_vulkan.proofs.Listed.{write_step}
 use Rattle.gpu_vulkan.proofs.Writing.{own_written, others_kept}
@@ -19,6 +22,8 @@ returns g c =
     let whole = λ (k : ℕ). L.whole s.device k in
     let sound : BlocksWellFormed s.setup.properties.granularity s.slots =
     subst (λ (s : State g.row.D.Denot). BlocksWellFormed s.setup.properties.granularity s.slots) c.self.view_is c.blocks_are_held.ensures.sound in
+    let apart : (x y : Allocation) → IsLive s.slots x → IsLive s.slots y → AreDistinct x y → SharesNoByte x y =
+    subst (λ (s : State g.row.D.Denot). (x y : Allocation) → IsLive s.slots x → IsLive s.slots y → AreDistinct x y → SharesNoByte x y) c.self.view_is c.allocations_are_apart.ensures.apart in
     let holds : HoldsJustLiveBlocks s.setup.properties (V.held s.first) (V.held s.device) s.slots =
     subst (λ (s : State g.row.D.Denot). HoldsJustLiveBlocks s.setup.properties (V.held s.first) (V.held s.device) s.slots) c.self.view_is c.blocks_are_held.ensures.holds in
     let value : range_of (V.held s.device) n a.offset a.size ≡ Some c.range_mut.result.now =
@@ -36,7 +41,7 @@ returns g c =
           own = rw (L.write_leaves_others s.device n a.offset ws)
               (own_written s.setup.properties (V.held s.first) (V.held s.device) s.slots sound holds whole a ws c.requires count);
           others = λ b live other. rw (L.write_leaves_others s.device n a.offset ws)
-              (others_kept s.setup.properties (V.held s.first) (V.held s.device) s.slots sound holds whole a ws c.requires count b live other);
+              (others_kept s.setup.properties (V.held s.first) (V.held s.device) s.slots sound holds whole a ws c.requires count b (apart b a live c.requires.0 other));
           slots = refl;
           setup = refl;
           first = refl;
