@@ -1,92 +1,175 @@
--- A question for a resource, over a device: what is met with, counted and named, and what the device holds beside the blocks then.
-use Rattle.std.proofs.Common.{◌≡◌, ◌∙◌, refl, sym, ap, subst, List, [], ◌∷◌, length, Option, Some, None}
-use Rattle.std.specs.Option.{option_map, option_copied}
-use Rattle.gpu_device.specs.D3D12.{Held, Entry, Properties}
-use Rattle.gpu_device.specs.Granted.{with_granted, counted}
+-- What the device's answers and what is released are for the source.
+use Rattle.std.specs.Prelude.{IsSome}
+use Rattle.std.proofs.Common.{◌≡◌, ◌∙◌, refl, sym, ap, subst, ℕ, Option, Some, None, Ok, Err, Result}
+use Rattle.gpu_values.specs.Refusal.{Refusal, refusal_of}
+use Rattle.gpu_values.specs.declared.error.AllocationError.{AllocationError}
+use Rattle.gpu_device.specs.D3D12.{Held, Entry, without_resource}
+use Rattle.gpu_device.specs.Granted.{with_granted}
 use Rattle.gpu_device.specs.declared.d3d12.device.D3D12Device.{Ghosts}
-use Rattle.gpu_device.specs.declared.d3d12.types.Format.{Format}
 use Rattle.gpu_device.specs.declared.d3d12.types.HeapFlags.{HeapFlags}
 use Rattle.gpu_device.specs.declared.d3d12.types.HeapProperties.{HeapProperties}
-use Rattle.gpu_device.specs.declared.d3d12.types.ResourceDesc.{ResourceDesc}
-use Rattle.gpu_device.specs.declared.d3d12.types.ResourceHeapTier.{ResourceHeapTier}
-use Rattle.gpu_d3d12_setup.specs.Question.{resource_question, told_info, handed_on}
-use Rattle.gpu_d3d12_setup.specs.ResourceAnswer.{ResourceAnswer, resource_number}
-use Rattle.gpu_d3d12_setup.specs.declared.device_version.ID3D12DeviceVersion.{ID3D12DeviceVersion}
-use Rattle.gpu_d3d12_setup.specs.declared.device_version.ID3D12DeviceVersion.TheVariants.{Device, Device10, Device12}
+use Rattle.gpu_device.specs.declared.d3d12.types.ID3D12Heap.{ID3D12Heap}
+use Rattle.gpu_memory_types.proofs.Options.{none_some, some_same}
+use Rattle.gpu_d3d12_setup.specs.DeviceVersion.{device_of, with_device}
+use Rattle.gpu_d3d12_setup.specs.HeapAnswer.{HeapAnswer, Granted, Declined, Null, AsksHeap, IsWithoutHeap, Gives}
+use Rattle.gpu_d3d12_setup.specs.Heaps.{heap_desc}
+use Rattle.gpu_d3d12_setup.specs.ResourceAnswer.{ResourceAnswer, AsksResource, resource_number}
+use Rattle.gpu_d3d12_setup.specs.declared.memory_kind.MemoryKind.{MemoryKind}
 use Rattle.gpu_d3d12_setup.specs.declared.question.ResourceCreateDesc.{ResourceCreateDesc}
 use Rattle.gpu_d3d12_setup.specs.declared.question.ResourceQuestion.{ResourceQuestion}
-use Rattle.gpu_d3d12_setup.specs.declared.question.ResourceStateOrBarrierLayout.{ResourceStateOrBarrierLayout}
-use Rattle.gpu_d3d12_setup.specs.declared.question.ResourceStateOrBarrierLayout.TheVariants.{ResourceState, BarrierLayout}
-use Rattle.gpu_d3d12_blocks.specs.Blocks.{Slots, HoldsJustLiveBlocks}
-use Rattle.gpu_d3d12_blocks.specs.Committed.{IsAfterResource}
-use Rattle.gpu_d3d12_blocks.specs.Suballocation.{AttemptEnvironment}
-use Rattle.gpu_d3d12_blocks.proofs.Beside.{granted_holds}
-use Rattle.gpu_d3d12.specs.State.{interface_of}
-use Rattle.gpu_d3d12.specs.Step.{AskedResource, IsAskedWith, resource_answer, granted_number, CountsAndNames, TellsReason}
+use Rattle.gpu_pool.specs.Source.{HoldsAfter, Removes, result_of}
+use Rattle.gpu_d3d12.specs.Blocks.{kind_at, IsWithoutResource}
+use Rattle.gpu_d3d12.specs.Source.{SourceState, entry_block, blocks_of, beside, HoldsFirst, heap_result, held_by, source_blocks, source_beside, with_source_device, AsksBlock, GivesHeap, MakesResource, ReleasesResource}
+use Rattle.gpu_d3d12.proofs.Changing.{heap_adds, heap_comes, heap_beside, heap_removes, heap_goes, gone_beside, Stays, resource_asked, resource_goes}
+use Rattle.gpu_d3d12.proofs.Versions.{device_with, same_version, kept_version}
 
--- the interface alone decides by which question a resource is made
-pub same_question : {D : Type 0} (v : ID3D12DeviceVersion D) (s : ResourceStateOrBarrierLayout) (castable : List Format) → resource_question (interface_of v) s castable ≡ resource_question v s
-    castable
-same_question v (ResourceState s) [] = refl
-same_question v (ResourceState s) (f ∷ fs) = refl
-same_question (Device12 d) (BarrierLayout l) castable = refl
-same_question (Device10 d) (BarrierLayout l) [] = refl
-same_question (Device10 d) (BarrierLayout l) (f ∷ fs) = refl
-same_question (Device d) (BarrierLayout l) [] = refl
-same_question (Device d) (BarrierLayout l) (f ∷ fs) = refl
+granted_same : (m n : ℕ) → Granted m ≡ Granted n → m ≡ n
+granted_same m n e = cc
 
--- and which size and alignment it is told by
-pub same_info : {D : Type 0} (p : Properties) (v : ID3D12DeviceVersion D) (desc : ResourceDesc) (castable : List Format) → told_info p (interface_of v) desc castable ≡ told_info p v desc castable
-same_info p (Device d) desc castable = refl
-same_info p (Device10 d) desc castable = refl
-same_info p (Device12 d) desc castable = refl
+-- what the asker makes of an answer is what a pool is told
+pub answered_is : (answer : HeapAnswer) (result : Result ID3D12Heap AllocationError) → Gives result answer → result_of result ≡ heap_result answer
+answered_is (Granted n) (Ok heap) is = λ i. Ok (record { 0 = granted_same heap.0 n (sym is) i })
+answered_is (Granted n) (Err e) is = absurd (none_some (refusal_of e) is)
+answered_is (Declined code) (Ok heap) is = absurd (no_granted heap.0 code is)
+  where
+    no_granted : (n : ℕ) (code : _) → Declined code ≡ Granted n → ⊥
+    no_granted n code e = cc
+answered_is (Declined code) (Err e) is = ap Err (sym (some_same _ _ is))
+answered_is Null (Ok heap) is = absurd (null_granted heap.0 is)
+  where
+    null_granted : (n : ℕ) → Null ≡ Granted n → ⊥
+    null_granted n e = cc
+answered_is Null (Err e) is = ap Err (sym (some_same _ _ is))
 
--- what is met with where the device answers so
-abbrev pub asked_of : ResourceQuestion → ResourceCreateDesc → (memory : Option (HeapProperties × HeapFlags)) → Option ResourceAnswer → Option AskedResource
-asked_of question d memory None = None
-asked_of question d memory (Some answer) =
-    Some (record { formats = option_map length (handed_on question d.castable_formats.now); clear = option_copied d.clear_value; memory = memory; answer = answer })
+-- ---- a source whose device changed
 
-pub answer_is : (question : ResourceQuestion) (d : ResourceCreateDesc) (memory : Option (HeapProperties × HeapFlags)) (o : Option ResourceAnswer) → resource_answer (asked_of question d memory o) ≡ o
-answer_is question d memory None = refl
-answer_is question d memory (Some answer) = refl
+-- what holds of a source at any time
+abbrev pub Holds : {D : Type 0} → Ghosts D → SourceState D → Type 0
+Holds g s = (g.properties (device_of s.device) ≡ g.properties (device_of s.first)) × (s.device ≡ with_device s.first (device_of s.device)) × HoldsFirst s.tier (g.held (device_of s.first)) (held_by g s)
 
-pub asked_with : (question : ResourceQuestion) (d : ResourceCreateDesc) (memory : Option (HeapProperties × HeapFlags)) (o : Option ResourceAnswer) → IsAskedWith question d memory
-    (asked_of question d memory o)
-asked_with question d memory None = tt
-asked_with question d memory (Some answer) = (refl, refl, refl)
+module _ {D : Type 0} (g : Ghosts D) (s : SourceState D) (after : D) where
+  -- its device
+  abbrev pub to : D
+  to = device_of (with_device s.device after)
 
-module _ {D : Type 0} (g : Ghosts D) (question : ResourceQuestion) (d : ResourceCreateDesc) (memory : Option (HeapProperties × HeapFlags)) (entry : Entry) where
-  -- the question comes after an attempt, if there was one
-  pub asked_counts : (e : AttemptEnvironment) (o : Option ResourceAnswer) (device between to : D) → CountsAndNames g device (record { attempt = e; resource = None }) between
-      → IsAfterResource g between question d memory entry o to → CountsAndNames g device (record { attempt = e; resource = asked_of question d memory o }) to
-  asked_counts e None device between to c is = record {
-    count = ap g.refused is ∙ c.count;
-    latest_heap = ap g.latest_heap is ∙ c.latest_heap;
-    latest_formats = ap g.latest_formats is ∙ c.latest_formats;
-    latest_clear = ap g.latest_clear is ∙ c.latest_clear;
-    latest_memory = ap g.latest_memory is ∙ c.latest_memory;
+  abbrev pub new : SourceState D
+  new = with_source_device s after
+
+  pub to_is : after ≡ to
+  to_is = sym (device_with s.device after)
+
+  pub state_is : new ≡ with_source_device s to
+  state_is = λ i. record s { device = same_version s.device after i }
+
+  holds_new : g.properties to ≡ g.properties (device_of s.device) → HoldsFirst s.tier (g.held (device_of s.first)) (g.held to) → Holds g s → Holds g new
+  holds_new constant first h = (constant ∙ h.0, kept_version s.device s.first after h.1, first)
+
+-- ---- a heap is asked for
+
+module _ {D : Type 0} (g : Ghosts D) (s : SourceState D) (t size : ℕ) (k : MemoryKind) (at : kind_at s.tier t ≡ Some k) (h : Holds g s) (after : D) where
+  abbrev first : Held
+  first = g.held (device_of s.first)
+
+  abbrev now : Held
+  now = g.held (to g s after)
+
+  -- what an answer leaves
+  record Left (answer : HeapAnswer) : Type 0 where
+    pub blocks : HoldsAfter (λ heap. heap.0) (source_blocks g s) (record { memory_type = t; size = size }) (heap_result answer) (source_blocks g (new g s after))
+    pub holds : HoldsFirst s.tier first now
+    pub beside : source_beside g (new g s after) ≡ source_beside g s
+
+  same_left : (answer : HeapAnswer) (e : Refusal) → heap_result answer ≡ Err e → now ≡ held_by g s → Left answer
+  same_left answer e is same = record {
+    blocks = subst (λ r. HoldsAfter (λ heap. heap.0) (source_blocks g s) (record { memory_type = t; size = size }) r (source_blocks g (new g s after))) (sym is) (λ n. ap (λ (j : Held). blocks_of first j n) same);
+    holds = subst (HoldsFirst s.tier first) (sym same) h.2;
+    beside = ap (beside first) same;
   }
-  asked_counts e (Some answer) device between to c is = record {
-    count = is.count ∙ ap (λ n. counted n (resource_number answer)) c.count;
-    latest_heap = is.latest_heap ∙ c.latest_heap;
-    latest_formats = is.latest_formats;
-    latest_clear = is.latest_clear;
-    latest_memory = is.latest_memory;
+
+  left : (answer : HeapAnswer) → AsksHeap g (device_of s.device) (heap_desc k size) answer (to g s after) → Left answer
+  left (Granted n) a = record {
+    blocks = heap_adds s.tier first (held_by g s) now n t size k at a.number.1 a.held h.2;
+    holds = heap_comes s.tier first (held_by g s) now n t size k at a.number.1 a.held h.2;
+    beside = heap_beside s.tier first (held_by g s) now n t size k at a.number.1 a.held h.2;
+  }
+  left (Declined code) a = same_left (Declined code) _ refl a.held
+  left Null a = same_left Null _ refl a.held
+
+  module _ (answer : HeapAnswer) (result : Result ID3D12Heap AllocationError) (asked : AsksHeap g (device_of s.device) (heap_desc k size) answer after) (gives : Gives result answer) where
+    there : AsksHeap g (device_of s.device) (heap_desc k size) answer (to g s after)
+    there = subst (λ (d : D). AsksHeap g (device_of s.device) (heap_desc k size) answer d) (to_is g s after) asked
+
+    pub asks_block : AsksBlock g s t size tt (result_of result) (new g s after)
+    asks_block = record {
+      kind = k;
+      at = at;
+      heap_answer = answer;
+      answered = answered_is answer result gives;
+      asks = there;
+      beside = (left answer there).beside;
+      state = state_is g s after;
+    }
+
+    pub holds_answer : HoldsAfter (λ heap. heap.0) (source_blocks g s) (record { memory_type = t; size = size }) (result_of result) (source_blocks g (new g s after))
+    holds_answer = subst (λ r. HoldsAfter (λ heap. heap.0) (source_blocks g s) (record { memory_type = t; size = size }) r (source_blocks g (new g s after)))
+        (sym (answered_is answer result gives)) (left answer there).blocks
+
+    pub asked_holds : Holds g (new g s after)
+    asked_holds = holds_new g s after there.constant (left answer there).holds h
+
+-- ---- a heap goes back
+
+module _ {D : Type 0} (g : Ghosts D) (s : SourceState D) (heap : ID3D12Heap) (some : IsSome (source_blocks g s heap.0)) (h : Holds g s) (after : D)
+    (went : IsWithoutHeap g (device_of s.device) heap.0 after) where
+  gone : IsWithoutHeap g (device_of s.device) heap.0 (to g s after)
+  gone = subst (λ (d : D). IsWithoutHeap g (device_of s.device) heap.0 d) (to_is g s after) went
+
+  pub gives_heap : GivesHeap g s heap (new g s after)
+  gives_heap = record {
+    gives = gone;
+    beside = gone_beside s.tier (g.held (device_of s.first)) (held_by g s) (g.held (to g s after)) heap.0 some gone.held h.2;
+    state = state_is g s after;
   }
 
-  pub asked_holds : (tier : ResourceHeapTier) (aside : Held) (ss : Slots) (o : Option ResourceAnswer) (device to : D) → HoldsJustLiveBlocks tier aside (g.held device) ss
-      → IsAfterResource g device question d memory entry o to → HoldsJustLiveBlocks tier (with_granted aside (granted_number o) entry) (g.held to) ss
-  asked_holds tier aside ss None device to h is = subst (λ (k : Held). HoldsJustLiveBlocks tier aside k ss) (sym (ap g.held is)) h
-  asked_holds tier aside ss (Some answer) device to h is =
-      subst (λ (k : Held). HoldsJustLiveBlocks tier (with_granted aside (resource_number answer) entry) k ss) (sym is.held)
-      (granted_holds tier aside (g.held device) ss (resource_number answer) entry h is.number)
+  pub removes_block : Removes (source_blocks g s) heap.0 (source_blocks g (new g s after))
+  removes_block = heap_removes s.tier (g.held (device_of s.first)) (held_by g s) (g.held (to g s after)) heap.0 some gone.held h.2
 
-  pub asked_constant : (o : Option ResourceAnswer) (device to : D) → IsAfterResource g device question d memory entry o to → g.properties to ≡ g.properties device
-  asked_constant None device to is = ap g.properties is
-  asked_constant (Some answer) device to is = is.constant
+  pub gone_holds : Holds g (new g s after)
+  gone_holds = holds_new g s after gone.constant (heap_goes s.tier (g.held (device_of s.first)) (held_by g s) (g.held (to g s after)) heap.0 some gone.held h.2) h
 
-  -- the reason is told by the device that answered
-  pub asked_reason : (o : Option ResourceAnswer) (device to : D) → IsAfterResource g device question d memory entry o to → TellsReason g (asked_of question d memory o) to
-  asked_reason None device to is = record { answered = to; told = tt; went = None; gives_back = refl }
-  asked_reason (Some answer) device to is = record { answered = to; told = is.reason; went = None; gives_back = refl }
+-- ---- a resource
+
+-- a resource is asked for, and the blocks stay
+module _ {D : Type 0} (g : Ghosts D) (s : SourceState D) (question : ResourceQuestion) (d : ResourceCreateDesc) (memory : Option (HeapProperties × HeapFlags)) (entry : Entry)
+    (none : entry_block (Some entry) ≡ None) (answer : ResourceAnswer) (h : Holds g s) (after : D) (asked : AsksResource g (device_of s.device) question d memory entry answer after) where
+  answered : AsksResource g (device_of s.device) question d memory entry answer (to g s after)
+  answered = subst (λ (x : D). AsksResource g (device_of s.device) question d memory entry answer x) (to_is g s after) asked
+
+  stays : Stays s.tier (g.held (device_of s.first)) (held_by g s) (g.held (to g s after)) (with_granted (source_beside g s) (resource_number answer) entry)
+  stays = resource_asked s.tier (g.held (device_of s.first)) (held_by g s) entry none h.2 (g.held (to g s after)) (resource_number answer) answered.number answered.held
+
+  pub makes_resource : MakesResource g d s question memory entry answer (new g s after)
+  makes_resource = record { asks = answered; beside = stays.beside_is; state = state_is g s after }
+
+  pub made_blocks : (n : ℕ) → source_blocks g (new g s after) n ≡ source_blocks g s n
+  made_blocks = stays.blocks
+
+  pub made_holds : Holds g (new g s after)
+  made_holds = holds_new g s after answered.constant stays.holds h
+
+-- a resource is released, and the blocks stay
+module _ {D : Type 0} (g : Ghosts D) (s : SourceState D) (number : ℕ) (h : Holds g s) (after : D) (went : IsWithoutResource g (device_of s.device) number after) where
+  released : IsWithoutResource g (device_of s.device) number (to g s after)
+  released = subst (λ (x : D). IsWithoutResource g (device_of s.device) number x) (to_is g s after) went
+
+  stays_without : Stays s.tier (g.held (device_of s.first)) (held_by g s) (g.held (to g s after)) (without_resource (source_beside g s) number)
+  stays_without = resource_goes s.tier (g.held (device_of s.first)) (held_by g s) (g.held (to g s after)) number released.held h.2
+
+  pub releases_resource : ReleasesResource g s number (new g s after)
+  releases_resource = record { releases = released; beside = stays_without.beside_is; state = state_is g s after }
+
+  pub released_blocks : (n : ℕ) → source_blocks g (new g s after) n ≡ source_blocks g s n
+  released_blocks = stays_without.blocks
+
+  pub released_holds : Holds g (new g s after)
+  released_holds = holds_new g s after released.asks_nothing.constant stays_without.holds h

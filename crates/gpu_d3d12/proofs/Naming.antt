@@ -15,17 +15,22 @@ use Rattle.gpu_slots.specs.TypeState.{Slot, slot_at}
 use Rattle.gpu_slots.specs.declared.piece.Piece.{Piece}
 use Rattle.gpu_slots.proofs.Slotted.{set_only}
 use Rattle.gpu_device.specs.declared.d3d12.types.ID3D12Heap.{ID3D12Heap}
-use Rattle.gpu_values.specs.declared.error.AllocationError.{AllocationError}
-use Rattle.gpu_d3d12_blocks.specs.Blocks.{Slots}
+use Rattle.gpu_values.specs.Refusal.{Refusal}
+use Rattle.gpu_pool.specs.Allocate.{Environment, NothingMet, NoHostMemory, Answered}
+use Rattle.gpu_pool.specs.State.{State}
+use Rattle.gpu_d3d12.specs.Blocks.{Slots, is_same_heap}
 use Rattle.gpu_memory_types.specs.Blocks.{slots_at}
 use Rattle.gpu_d3d12.specs.Live.{piece_of, IsLive}
-use Rattle.gpu_d3d12_blocks.specs.Release.{is_same_heap, IsLiveIn}
 use Rattle.gpu_memory_types.specs.Rename.{IsRenamed}
-use Rattle.gpu_d3d12.specs.Rename.{Renames}
+use Rattle.gpu_pool.specs.Live as pools
+use Rattle.gpu_pool.specs.Rename as pool_renames
 use Rattle.gpu_d3d12.specs.declared.allocation.Allocation.{Allocation}
 use Rattle.gpu_memory_types.proofs.Placed.{some_below}
-use Rattle.gpu_d3d12_blocks.proofs.Releasing.{type_below}
+use Rattle.gpu_pool.proofs.Freeing.{type_below}
 use Rattle.gpu_memory_types.proofs.Types.{slots_after}
+
+abbrev IsLiveIn : Slots → (u : ℕ) → Piece ID3D12Heap → Type 0
+IsLiveIn slots u q = pools.IsLive is_same_heap slots u q
 
 map_keeps : {A B : Type 0} (f : A → B) (xs : List A) → All (λ z. Contains (map f xs) (f z)) xs
 map_keeps f [] = All-nil (λ z. Contains (map f []) (f z))
@@ -92,21 +97,30 @@ live_below None slots i p at live = absurd live
 live_below (Some s) slots i p at live = some_below slots i s at
 
 piece_lives : (t : ℕ) (p : Piece ID3D12Heap) (name : List ℕ) (old new : Slots) → IsRenamed is_same_heap t p name old new → (u : ℕ) (q : Piece ID3D12Heap)
-    → IsLiveIn old u (Some q) → IsLiveIn new u (Some q)
+    → IsLiveIn old u q → IsLiveIn new u q
 piece_lives t p name old new r u q live =
     let slots = slots_at old t in
     let below = live_below (slot_at slots p.slot) slots p.slot p refl r.live in
-    subst (λ (ss : Slots). IsLiveIn ss u (Some q)) (sym r.slots)
+    subst (λ (ss : Slots). IsLiveIn ss u q) (sym r.slots)
     (⊎_elim
     (λ h.
-    let at : IsLivePiece is_same_heap slots q = subst (λ k. IsLiveIn old k (Some q)) h.0 live in
+    let at : IsLivePiece is_same_heap slots q = subst (λ k. IsLiveIn old k q) h.0 live in
     subst (λ (ss : List (Option (Slot ID3D12Heap))). IsLivePiece is_same_heap ss q) (sym (h.1 ∙ r.renames.slots))
     (slots_hold slots p.slot _ name r.renames.slot q below r.renames.renames at))
     (λ h. subst (λ (ss : List (Option (Slot ID3D12Heap))). IsLivePiece is_same_heap ss q) (sym h.1) live)
-    (slots_after old t r.left u (type_below old t p r.live)))
+    (slots_after old t r.left u (type_below is_same_heap old t p r.live)))
 
 -- what was live is live
-pub renamed_lives : (a : Allocation) (name : List ℕ) (old : Slots) (result : Result (Unit {0}) AllocationError) (b : Allocation) (new : Slots)
-    → Renames a name old result b new → (x : Allocation) → IsLive old x → IsLive new x
-renamed_lives a name old (Ok _) b new r x live = piece_lives a.memory_type_index (piece_of a) name old new r.1 x.memory_type_index (piece_of x) live
-renamed_lives a name old (Err e) b new r x live = subst (λ (ss : Slots). IsLive ss x) (sym r.2) live
+pub renamed_lives : {S : Type 0} (t : ℕ) (p : Piece ID3D12Heap) (name : List ℕ) (old : State S ID3D12Heap) (result : Result (Unit {0}) Refusal) (new : State S ID3D12Heap)
+    → pool_renames.Renames is_same_heap t p name old result new → (x : Allocation) → IsLive old.slots x → IsLive new.slots x
+renamed_lives {S} t p name old result new r x live = by r.0 result r.1
+  where
+    same : new ≡ old → IsLive new.slots x
+    same is = subst (λ (s : State S ID3D12Heap). IsLive s.slots x) (sym is) live
+
+    by : (met : Environment ID3D12Heap) (result : Result (Unit {0}) Refusal) → pool_renames.RenamesBy is_same_heap t p name old met result new → IsLive new.slots x
+    by NothingMet (Ok u) r = piece_lives t p name old.slots new.slots r.0 x.memory_type_index (piece_of x) live
+    by NothingMet (Err e) r = same r.1
+    by NoHostMemory (Ok u) r = absurd r
+    by NoHostMemory (Err e) r = same r.2
+    by (Answered size answer) result r = absurd r

@@ -1,199 +1,297 @@
--- The model isn't loose: a state, a call and what it meets with decide the reply and the next state.
-use Rattle.gpu_memory_types.specs.Budgets.{Budgets}
-use Rattle.std.proofs.Common.{◌⊎◌, ◌≡◌, ◌∙◌, ℕ, inl, inr, map, refl, sym, ap, subst, Bool, true, false, List, slice_set, ⊎_elim, IsTrue}
-use Rattle.gpu_block_views.specs.Leak.{leak_text}
-use Rattle.gpu_slots.specs.TypeRelease.{has_several}
-use Rattle.gpu_slots.specs.TypeState.{slot_at}
+-- The model isn't loose: a state, a call and what it met with decide the reply and the next state.
+use Rattle.std.proofs.Common.{◌≡◌, ◌∙◌, refl, sym, ap, subst, ℕ, zero, suc, Bool, true, false, List, [], ◌∷◌, map, slice_set, Option, Some, None, Ok, Err, Result}
+use Rattle.std.specs.List.{remove}
+use Rattle.gpu_values.specs.Refusal.{Refusal}
+use Rattle.gpu_slots.specs.Slots.{AreSound}
 use Rattle.gpu_slots.specs.declared.piece.Piece.{Piece}
-use Rattle.gpu_core.proofs.OneOutcome.{released_once, refusal_once, renamed_once, name_refusal_once}
+use Rattle.gpu_device.specs.D3D12 as entries
+use Rattle.gpu_device.specs.D3D12.{Entry}
+use Rattle.gpu_device.specs.Granted.{counted}
+use Rattle.gpu_device.specs.declared.d3d12.types.HeapFlags.{HeapFlags}
+use Rattle.gpu_device.specs.declared.d3d12.types.HeapProperties.{HeapProperties}
 use Rattle.gpu_device.specs.declared.d3d12.types.ID3D12Heap.{ID3D12Heap}
-use Rattle.gpu_memory_types.specs.Attempt.{AllocatesInType}
-use Rattle.gpu_memory_types.specs.Blocks.{slots_at, total_capacity, BlocksWellFormed}
-use Rattle.gpu_memory_types.specs.Leaks.{all_leaks}
-use Rattle.gpu_memory_types.specs.Reports.{whole_report}
-use Rattle.gpu_memory_types.proofs.OneOutcome.{false_true, allocates_once}
-use Rattle.gpu_values.specs.Refusal.{Refusal, host_out_of_memory}
+use Rattle.gpu_device.specs.declared.d3d12.types.ResourceHeapTier.{ResourceHeapTier}
+use Rattle.gpu_memory_types.specs.Blocks.{slots_at, BlocksWellFormed}
+use Rattle.gpu_memory_types.proofs.Options.{none_some, some_same}
+use Rattle.gpu_d3d12_setup.specs.Heaps.{heap_desc, is_host}
 use Rattle.gpu_d3d12_setup.specs.MemoryKinds.{memory_kinds}
+use Rattle.gpu_d3d12_setup.specs.Question.{resource_question}
+use Rattle.gpu_d3d12_setup.specs.ResourceAnswer.{ResourceAnswer, placed_texts}
+use Rattle.gpu_d3d12_setup.specs.Setup.{kinds_told}
 use Rattle.gpu_d3d12_setup.specs.declared.describe.AllocationCreateDesc.{AllocationCreateDesc}
-use Rattle.gpu_d3d12_setup.specs.declared.setup.Setup.{Setup}
+use Rattle.gpu_d3d12_setup.specs.declared.memory_kind.MemoryKind.{MemoryKind}
+use Rattle.gpu_d3d12_setup.specs.declared.question.ResourceCreateDesc.{ResourceCreateDesc}
+use Rattle.gpu_d3d12_setup.specs.declared.question.ResourceQuestion.{ResourceQuestion}
+use Rattle.gpu_d3d12_setup.specs.declared.question.ResourceType.{ResourceType}
+use Rattle.gpu_d3d12_setup.specs.declared.question.ResourceType.TheVariants as resource_types
 use Rattle.gpu_d3d12_setup.proofs.FirstServing.{one_first}
-use Rattle.gpu_d3d12.specs.Allocate.{is_valid}
-use Rattle.gpu_d3d12_blocks.specs.Suballocation.{AttemptEnvironment, asked_block, request_at}
-use Rattle.gpu_d3d12_blocks.specs.Blocks.{Slots}
+use Rattle.gpu_pool.specs.Allocate as environments
+use Rattle.gpu_pool.specs.Allocate.{NothingMet, NoHostMemory}
+use Rattle.gpu_pool.specs.Free.{Frees}
+use Rattle.gpu_pool.specs.Reply as replies
+use Rattle.gpu_pool.specs.State as pools
+use Rattle.gpu_pool.specs.State.{IsSoundAt, kind_at}
+use Rattle.gpu_pool.specs.Step as calls
+use Rattle.gpu_pool.specs.Step.{AskDecides, GiveBackDecides}
+use Rattle.gpu_pool.proofs.OneStep as pool
+use Rattle.gpu_d3d12.specs.Allocate.{is_valid, request_in}
+use Rattle.gpu_d3d12.specs.Blocks.{Slots, is_same_heap}
+use Rattle.gpu_d3d12.specs.Committed.{Commits, CommitsBy, IsAfterResource, fits, records_at, number_or_refusal}
 use Rattle.gpu_d3d12.specs.Live.{piece_of}
-use Rattle.gpu_d3d12_blocks.specs.Release.{is_same_heap}
-use Rattle.gpu_d3d12.specs.Reply as replies
-use Rattle.gpu_d3d12.specs.Reply.{Reply, Given, Error, Done, Made}
-use Rattle.gpu_d3d12.specs.Step.{Call, Allocate, Free, Rename, Capacity, Report, Leaks, CreateResource, FreeResource, Statistics, SetBudget, Budget}
-use Rattle.gpu_d3d12.specs.Step.{reply_of, ServeStep, AllocateStep, ReleaseStep, FreeStep, RenameStep, ReportStep, LeaksStep, BlockStep}
+use Rattle.gpu_d3d12.specs.Reply.{Reply, Pool, made_reply}
+use Rattle.gpu_d3d12.specs.Resource.{piece_desc, record_of}
+use Rattle.gpu_d3d12.specs.State.{Basis, Seen, Model}
+use Rattle.gpu_d3d12.specs.Step.{Call, Allocate, Free, Rename, Capacity, Report, Leaks, CreateResource, FreeResource, Statistics, SetBudget, Budget, Environment, host_met, number_in, info_of, size_made, allocated_reply}
+use Rattle.gpu_d3d12.specs.Step.{SeesQuestion, SeesGiven, SeesMade, SeesReleased, AllocatesBy, Commit, EndsBy, PlacesThen, Place, MakesBy, CreatesBy, FreesPlaced, FreesCommitted, FreesResource, OfPool, IsPoolCall, Step}
+use Rattle.gpu_d3d12.specs.declared.allocation.Allocation.{Allocation}
+use Rattle.gpu_d3d12.specs.declared.committed_record.CommittedRecord.{CommittedRecord}
+use Rattle.gpu_d3d12.specs.declared.resource.Resource.{Resource}
 
--- ---- an allocation
+abbrev Pools : Type 0
+Pools = pools.State Seen ID3D12Heap
 
-serve_once : (setup : Setup) (budgets : Budgets) (d : AllocationCreateDesc) (o : AttemptEnvironment) (x y : Reply) (old new next : Slots) → BlocksWellFormed 1 old
-    → ServeStep setup budgets d o x old new → ServeStep setup budgets d o y old next → (x ≡ y) × (new ≡ next)
-serve_once setup budgets d o x y old new next sound a b =
-    let types : a.memory_type ≡ b.memory_type = one_first d.location d.resource_category (memory_kinds setup.tier) a.memory_type b.memory_type a.first b.first in
-    let other : AllocatesInType (request_at setup budgets a.memory_type d) old o.host (asked_block o.asked) b.answer next =
-    subst (λ t. AllocatesInType (request_at setup budgets t d) old o.host (asked_block o.asked) b.answer next) (sym types) b.allocates in
-    let once = allocates_once (request_at setup budgets a.memory_type d) old o.host (asked_block o.asked) a.answer b.answer new next (sound a.memory_type) a.allocates other in
-    let answers = once.0 in
-    (a.reply_is ∙ (λ i. reply_of (types i) (answers i)) ∙ sym b.reply_is, once.1)
+question_decides : (tier : ResourceHeapTier) → AskDecides (SeesQuestion tier)
+question_decides tier old a b t size extra answer x y =
+    let here = some_same x.kind y.kind (sym x.at ∙ y.at) in
+    x.state ∙ (λ i. record old { refused = counted old.refused (number_in answer); latest_heap = Some (heap_desc (here i) size) }) ∙ sym y.state
 
-pub allocate_once : (setup : Setup) (budgets : Budgets) (d : AllocationCreateDesc) (valid : Bool) (o : AttemptEnvironment) (x y : Reply) (old new next : Slots) → BlocksWellFormed 1 old
-    → AllocateStep setup budgets d valid o x old new → AllocateStep setup budgets d valid o y old next → (x ≡ y) × (new ≡ next)
-allocate_once setup budgets d false o x y old new next sound a b = (a.1 ∙ sym b.1, a.2 ∙ sym b.2)
-allocate_once setup budgets d true o x y old new next sound a b = serve_once setup budgets d o x y old new next sound a b
+given_decides : GiveBackDecides SeesGiven
+given_decides old a b heap x y = x ∙ sym y
 
--- ---- a free
+-- all memory types have pages of 1
+page_at : (kinds : List MemoryKind) (t : ℕ) → 1 ≡ (kind_at (map (λ k. (is_host k, 1)) kinds) t).1
+page_at [] t = refl
+page_at (k ∷ kinds) zero = refl
+page_at (k ∷ kinds) (suc t) = page_at kinds t
 
-pub release_once : (t : ℕ) (p : Piece ID3D12Heap) (old new next : Slots) → BlocksWellFormed 1 old → ReleaseStep t p old new → ReleaseStep t p old next → new ≡ next
-release_once t p old new next sound a b =
-    let once = released_once 1 (IsTrue (has_several (slots_at old t))) (slots_at old t) p a.went b.went a.left b.left (sound t) a.releases b.releases in
-    a.slots ∙ (ap (slice_set old t) once.1 ∙ sym b.slots)
+pub sound_at : (tier : ResourceHeapTier) (slots : Slots) → BlocksWellFormed 1 slots → (t : ℕ) → IsSoundAt (kinds_told tier) slots t
+sound_at tier slots sound t = subst (λ n. AreSound n (slots_at slots t)) (page_at (memory_kinds tier) t) (sound t)
 
--- a free is done, or refused
-free_reply : (t : ℕ) (p : Piece ID3D12Heap) (x : Reply) (old new : Slots) → FreeStep t p x old new
-    → ((x ≡ Done) × FreeStep t p Done old new) ⊎ ((r : Refusal) × (x ≡ Error r) × FreeStep t p (Error r) old new)
-free_reply t p (Given u q) old new s = absurd s
-free_reply t p (Error r) old new s = inr (r, refl, s)
-free_reply t p Done old new s = inl (refl, s)
-free_reply t p (replies.Capacity n) old new s = absurd s
-free_reply t p (replies.Report w) old new s = absurd s
-free_reply t p (replies.Leaks zs) old new s = absurd s
-free_reply t p (Made u q number size) old new s = absurd s
-free_reply t p (replies.Statistics c) old new s = absurd s
-free_reply t p (replies.Budget c) old new s = absurd s
+pub well_formed : (tier : ResourceHeapTier) (slots : Slots) → ((t : ℕ) → IsSoundAt (kinds_told tier) slots t) → BlocksWellFormed 1 slots
+well_formed tier slots sound t = subst (λ n. AreSound n (slots_at slots t)) (sym (page_at (memory_kinds tier) t)) (sound t)
 
-pub free_once : (t : ℕ) (p : Piece ID3D12Heap) (x y : Reply) (old new next : Slots) → BlocksWellFormed 1 old → FreeStep t p x old new → FreeStep t p y old next → (x ≡ y) × (new ≡ next)
-free_once t p x y old new next sound a b =
-    ⊎_elim
-    (λ ok. ⊎_elim
-    (λ also. (ok.0 ∙ sym also.0, release_once t p old new next sound ok.1.1 also.1.1))
-    (λ err. absurd (err.2.0 ok.1.0))
-    (free_reply t p y old next b))
-    (λ err. ⊎_elim
-    (λ ok. absurd (err.2.0 ok.1.0))
-    (λ also. (
-      err.1 ∙ ap Error (refusal_once is_same_heap 1 p (slot_at (slots_at old t) p.slot) err.0 also.0 (sound t p.slot) err.2.1 also.2.1) ∙ sym also.1,
-      err.2.2 ∙ sym also.2.2,
-    ))
-    (free_reply t p y old next b))
-    (free_reply t p x old new a)
+module _ (basis : Basis) where
+  abbrev kinds : List (Bool × ℕ)
+  kinds = kinds_told basis.tier
 
--- ---- a new name
+  abbrev Sound : Pools → Type 0
+  Sound s = (t : ℕ) → IsSoundAt kinds s.slots t
 
-rename_reply : (t : ℕ) (p : Piece ID3D12Heap) (name : List ℕ) (host : Bool) (x : Reply) (old new : Slots) → RenameStep t p name host x old new
-    → ((x ≡ Done) × RenameStep t p name host Done old new) ⊎ ((r : Refusal) × (x ≡ Error r) × RenameStep t p name host (Error r) old new)
-rename_reply t p name host (Given u q) old new s = absurd s
-rename_reply t p name host (Error r) old new s = inr (r, refl, s)
-rename_reply t p name host Done old new s = inl (refl, s)
-rename_reply t p name host (replies.Capacity n) old new s = absurd s
-rename_reply t p name host (replies.Report w) old new s = absurd s
-rename_reply t p name host (replies.Leaks zs) old new s = absurd s
-rename_reply t p name host (Made u q number size) old new s = absurd s
-rename_reply t p name host (replies.Statistics c) old new s = absurd s
-rename_reply t p name host (replies.Budget c) old new s = absurd s
+  -- ---- the pool
 
-named_or_fails : (t : ℕ) (p : Piece ID3D12Heap) (name : List ℕ) (host : Bool) (r : Refusal) (old new next : Slots) → RenameStep t p name host Done old new
-    → RenameStep t p name host (Error r) old next → ⊥
-named_or_fails t p name host r old new next a b = ⊎_elim (λ starved. false_true (sym starved.0 ∙ a.0)) (λ dead. dead.0 a.1.live) b.0
+  abbrev IsCall : calls.Call ID3D12Heap (Unit {0}) → environments.Environment ID3D12Heap → replies.Reply ID3D12Heap → (old new : Pools) → Type 0
+  IsCall call met reply old new = IsPoolCall (SeesQuestion basis.tier) SeesGiven SeesMade SeesReleased basis call met reply old new
 
-rename_fails_once : (t : ℕ) (p : Piece ID3D12Heap) (name : List ℕ) (host : Bool) (r s : Refusal) (old new next : Slots) → BlocksWellFormed 1 old
-    → RenameStep t p name host (Error r) old new → RenameStep t p name host (Error s) old next → (r ≡ s) × (new ≡ next)
-rename_fails_once t p name host r s old new next sound a b = (
-  ⊎_elim
-      (λ x. ⊎_elim (λ y. x.2 ∙ sym y.2) (λ dead. absurd (dead.0 x.1)) b.0)
-      (λ dead. ⊎_elim
-      (λ y. absurd (dead.0 y.1))
-      (λ also. name_refusal_once is_same_heap 1 p (slot_at (slots_at old t) p.slot) r s (sound t p.slot) dead.1 also.1 dead.2 also.2)
-      b.0)
-      a.0,
-  a.1 ∙ sym b.1,
-)
+  call_once : (call : calls.Call ID3D12Heap (Unit {0})) (met : environments.Environment ID3D12Heap) (x y : replies.Reply ID3D12Heap) (old new next : Pools) → Sound old → IsCall call met x old new
+      → IsCall call met y old next → (x ≡ y) × (new ≡ next)
+  call_once call met x y old new next sound a b = pool.step_once (SeesQuestion basis.tier) SeesGiven is_same_heap (question_decides basis.tier) given_decides kinds call met x y old new next sound a b
 
-rename_once : (t : ℕ) (p : Piece ID3D12Heap) (name : List ℕ) (host : Bool) (x y : Reply) (old new next : Slots) → BlocksWellFormed 1 old
-    → RenameStep t p name host x old new → RenameStep t p name host y old next → (x ≡ y) × (new ≡ next)
-rename_once t p name host x y old new next sound a b =
-    ⊎_elim
-    (λ ok. ⊎_elim
-    (λ also.
-    let left = renamed_once (slots_at old t) p name ok.1.1.left also.1.1.left ok.1.1.renames also.1.1.renames in
-    (ok.0 ∙ sym also.0, ok.1.1.slots ∙ (ap (slice_set old t) left ∙ sym also.1.1.slots)))
-    (λ err. absurd (named_or_fails t p name host err.0 old new next ok.1 err.2))
-    (rename_reply t p name host y old next b))
-    (λ err. ⊎_elim
-    (λ ok. absurd (named_or_fails t p name host err.0 old next new ok.1 err.2))
-    (λ also. let once = rename_fails_once t p name host err.0 also.0 old new next sound err.2 also.2 in (err.1 ∙ ap Error once.0 ∙ sym also.1, once.1))
-    (rename_reply t p name host y old next b))
-    (rename_reply t p name host x old new a)
+  abbrev Allocates : AllocationCreateDesc → Bool → environments.Environment ID3D12Heap → replies.Reply ID3D12Heap → (old new : Pools) → Type 0
+  Allocates d valid met reply old new = AllocatesBy (SeesQuestion basis.tier) SeesGiven SeesMade SeesReleased basis d valid met reply old new
 
--- ---- what is shown and told
+  allocate_once : (d : AllocationCreateDesc) (valid : Bool) (met : environments.Environment ID3D12Heap) (x y : replies.Reply ID3D12Heap) (old new next : Pools) → Sound old
+      → Allocates d valid met x old new → Allocates d valid met y old next → (x ≡ y) × (new ≡ next)
+  allocate_once d false met x y old new next sound a b = (a.1 ∙ sym b.1, a.2 ∙ sym b.2)
+  allocate_once d true met x y old new next sound a b =
+      let types : a.0 ≡ b.0 = one_first d.location d.resource_category (memory_kinds basis.tier) a.0 b.0 a.1 b.1 in
+      let other = subst (λ t. IsCall (calls.Allocate (request_in t d)) met y old next) (sym types) b.2 in
+      call_once (calls.Allocate (request_in a.0 d)) met x y old new next sound a.2 other
 
--- a reply to a call that shows something, or wants host memory
-shown_reply : (host : Bool) (x : Reply) (old new : Slots) → ReportStep host x old new
-    → (new ≡ old) × (((host ≡ true) × (x ≡ replies.Report (whole_report old))) ⊎ ((host ≡ false) × (x ≡ Error host_out_of_memory)))
-shown_reply host (Given u q) old new s = absurd s
-shown_reply host (Error r) old new s = (s.2, inr (s.0, ap Error s.1))
-shown_reply host Done old new s = absurd s
-shown_reply host (replies.Capacity n) old new s = absurd s
-shown_reply host (replies.Report w) old new s = (s.2, inl (s.0, ap replies.Report s.1))
-shown_reply host (replies.Leaks zs) old new s = absurd s
-shown_reply host (Made u q number size) old new s = absurd s
-shown_reply host (replies.Statistics c) old new s = absurd s
-shown_reply host (replies.Budget c) old new s = absurd s
+  frees_once : (t : ℕ) (p : Piece ID3D12Heap) (old : Pools) → Sound old → (x y : Result (Unit {0}) Refusal) (new next : Pools) → Frees SeesGiven is_same_heap t p old x new
+      → Frees SeesGiven is_same_heap t p old y next → (x ≡ y) × (new ≡ next)
+  frees_once t p old sound x y new next a b = pool.frees_once kinds SeesGiven given_decides is_same_heap t p old (sound t) x y new next a b
 
-told_reply : (host : Bool) (x : Reply) (old new : Slots) → LeaksStep host x old new
-    → (new ≡ old) × (((host ≡ true) × (x ≡ replies.Leaks (map leak_text (all_leaks old)))) ⊎ ((host ≡ false) × (x ≡ Error host_out_of_memory)))
-told_reply host (Given u q) old new s = absurd s
-told_reply host (Error r) old new s = (s.2, inr (s.0, ap Error s.1))
-told_reply host Done old new s = absurd s
-told_reply host (replies.Capacity n) old new s = absurd s
-told_reply host (replies.Report w) old new s = absurd s
-told_reply host (replies.Leaks zs) old new s = (s.2, inl (s.0, ap replies.Leaks s.1))
-told_reply host (Made u q number size) old new s = absurd s
-told_reply host (replies.Statistics c) old new s = absurd s
-told_reply host (replies.Budget c) old new s = absurd s
+  of_pool_once : (P : environments.Environment ID3D12Heap → replies.Reply ID3D12Heap → (old new : Pools) → Type 0) (met : Environment) (x y : Reply) (old new next : Model)
+      → ((r s : replies.Reply ID3D12Heap) → P met.pool r old.pool new.pool → P met.pool s old.pool next.pool → (r ≡ s) × (new.pool ≡ next.pool))
+      → OfPool (SeesQuestion basis.tier) SeesGiven SeesMade SeesReleased basis P met x old new → OfPool (SeesQuestion basis.tier) SeesGiven SeesMade SeesReleased basis P met y old next → (x ≡ y) × (new ≡ next)
+  of_pool_once P met x y old new next once a b =
+      let k = once a.1 b.1 a.3 b.3 in
+      let pools = k.1 in
+      let records = a.4 ∙ sym b.4 in
+      (a.2 ∙ ap Pool k.0 ∙ sym b.2, λ i. record { pool = pools i; committed = records i })
 
-by_host : (host : Bool) (x y a b : Reply) → ((host ≡ true) × (x ≡ a)) ⊎ ((host ≡ false) × (x ≡ b)) → ((host ≡ true) × (y ≡ a)) ⊎ ((host ≡ false) × (y ≡ b)) → x ≡ y
-by_host host x y a b h k =
-    ⊎_elim
-    (λ p. ⊎_elim (λ q. p.1 ∙ sym q.1) (λ q. absurd (false_true (sym q.0 ∙ p.0))) k)
-    (λ p. ⊎_elim (λ q. absurd (false_true (sym p.0 ∙ q.0))) (λ q. p.1 ∙ sym q.1) k)
-    h
+  -- ---- a committed resource
 
-sum_reply : (setup : Setup) (budgets : Budgets) (o : AttemptEnvironment) (x : Reply) (old new : Slots) → BlockStep setup budgets Capacity o x old new
-    → (x ≡ replies.Capacity (total_capacity old)) × (new ≡ old)
-sum_reply setup budgets o (Given u q) old new s = absurd s
-sum_reply setup budgets o (Error r) old new s = absurd s
-sum_reply setup budgets o Done old new s = absurd s
-sum_reply setup budgets o (replies.Capacity n) old new s = (ap replies.Capacity s.1, s.2)
-sum_reply setup budgets o (replies.Report w) old new s = absurd s
-sum_reply setup budgets o (replies.Leaks zs) old new s = absurd s
-sum_reply setup budgets o (Made u q number size) old new s = absurd s
-sum_reply setup budgets o (replies.Statistics c) old new s = absurd s
-sum_reply setup budgets o (replies.Budget c) old new s = absurd s
+  after_once : (d : ResourceCreateDesc) (question : ResourceQuestion) (memory : Option (HeapProperties × HeapFlags)) (entry : Entry) (o : Option ResourceAnswer) (old a b : Seen)
+      → IsAfterResource (λ s answer t. SeesMade d s question memory entry answer t) old o a → IsAfterResource (λ s answer t. SeesMade d s question memory entry answer t) old o b → a ≡ b
+  after_once d question memory entry None old a b x y = x ∙ sym y
+  after_once d question memory entry (Some answer) old a b x y = x ∙ sym y
 
--- ---- a call on the blocks
+  abbrev nothing : environments.Environment ID3D12Heap
+  nothing = NothingMet
 
-pub block_step_once : (setup : Setup) (budgets : Budgets) (call : Call) (o : AttemptEnvironment) (x y : Reply) (old new next : Slots) → BlocksWellFormed 1 old
-    → BlockStep setup budgets call o x old new → BlockStep setup budgets call o y old next → (x ≡ y) × (new ≡ next)
-block_step_once setup budgets (Allocate d) o x y old new next sound a b = allocate_once setup budgets d (is_valid d) o x y old new next sound a b
-block_step_once setup budgets (Free w) o x y old new next sound a b = free_once w.memory_type_index (piece_of w) x y old new next sound a.1 b.1
-block_step_once setup budgets (Rename w name) o x y old new next sound a b = rename_once w.memory_type_index (piece_of w) name o.host x y old new next sound a.1 b.1
-block_step_once setup budgets Report o x y old new next sound a b =
-    let one = shown_reply o.host x old new a.1 in
-    let other = shown_reply o.host y old next b.1 in
-    (by_host o.host x y _ _ one.1 other.1, one.0 ∙ sym other.0)
-block_step_once setup budgets Leaks o x y old new next sound a b =
-    let one = told_reply o.host x old new a.1 in
-    let other = told_reply o.host y old next b.1 in
-    (by_host o.host x y _ _ one.1 other.1, one.0 ∙ sym other.0)
-block_step_once setup budgets Capacity o x y old new next sound a b =
-    let one = sum_reply setup budgets o x old new a in
-    let other = sum_reply setup budgets o y old next b in
-    (one.0 ∙ sym other.0, one.1 ∙ sym other.1)
-block_step_once setup budgets (CreateResource d) o x y old new next sound a b = absurd a
-block_step_once setup budgets (FreeResource r) o x y old new next sound a b = absurd a
-block_step_once setup budgets (Statistics t) o x y old new next sound a b = absurd a
-block_step_once setup budgets (SetBudget t n) o x y old new next sound a b = absurd a
-block_step_once setup budgets (Budget t) o x y old new next sound a b = absurd a
+  abbrev starved : environments.Environment ID3D12Heap
+  starved = NoHostMemory
+
+  met_apart : nothing ≡ starved → ⊥
+  met_apart e = cc
+
+  host_same : (x y : Bool) → host_met x ≡ host_met y → x ≡ y
+  host_same true true e = refl
+  host_same false false e = refl
+  host_same true false e = absurd (met_apart e)
+  host_same false true e = absurd (met_apart (sym e))
+
+  commits_by_once : (fits host : Bool) (old : List CommittedRecord) (size : ℕ) (o : Option ResourceAnswer) (x y : Result ℕ Refusal) (new next : List CommittedRecord)
+      → CommitsBy fits host old size o x new → CommitsBy fits host old size o y next → (x ≡ y) × (new ≡ next)
+  commits_by_once false host old size o x y new next a b = (a.2 ∙ sym b.2, a.3 ∙ sym b.3)
+  commits_by_once true false old size o x y new next a b = (a.1 ∙ sym b.1, a.2 ∙ sym b.2)
+  commits_by_once true true old size None x y new next a b = absurd a
+  commits_by_once true true old size (Some answer) x y new next a b = (a.0 ∙ sym b.0, a.1 ∙ sym b.1)
+
+  commit_once : (d : ResourceCreateDesc) (question : ResourceQuestion) (own : HeapProperties × HeapFlags) (met : Environment) (x y : Reply) (old new next : Model)
+      → Commit (SeesQuestion basis.tier) SeesGiven SeesMade SeesReleased basis d question own met x old new
+      → Commit (SeesQuestion basis.tier) SeesGiven SeesMade SeesReleased basis d question own met y old next → (x ≡ y) × (new ≡ next)
+  commit_once d question own met x y old new next a b =
+      let size = (info_of basis d).size_in_bytes in
+      let types = one_first d.memory_location d.resource_category (memory_kinds basis.tier) a.memory_type b.memory_type a.first b.first in
+      let hosts = host_same a.host b.host (sym a.no_heap ∙ b.no_heap) in
+      let other : Commits a.host (records_at old.committed a.memory_type) size met.resource b.number b.left =
+      subst (λ h. Commits h (records_at old.committed a.memory_type) size met.resource b.number b.left) (sym hosts)
+      (subst (λ t. Commits b.host (records_at old.committed t) size met.resource b.number b.left) (sym types) b.commits) in
+      let once = commits_by_once (fits (records_at old.committed a.memory_type) size) a.host (records_at old.committed a.memory_type) size met.resource a.number b.number a.left b.left a.commits other in
+      let numbers = once.0 in
+      let lists = once.1 in
+      let sources = after_once d question (Some own) (entries.Committed (size_made basis question d)) met.resource old.pool.source new.pool.source next.pool.source a.asked b.asked in
+      let pools = a.pool ∙ (λ i. record (old.pool) { source = sources i }) ∙ sym b.pool in
+      let records = a.committed ∙ (λ i. slice_set old.committed (types i) (lists i)) ∙ sym b.committed in
+      (a.reply_is ∙ (λ i. made_reply (types i) None size (numbers i)) ∙ sym b.reply_is, λ i. record { pool = pools i; committed = records i })
+
+  -- ---- a placed resource
+
+  abbrev of_piece : (t : ℕ) → Piece ID3D12Heap → replies.Reply ID3D12Heap
+  of_piece t p = replies.Allocated t p
+
+  abbrev of_error : Refusal → replies.Reply ID3D12Heap
+  of_error r = replies.Error r
+
+  type_same : (t u : ℕ) (p q : Piece ID3D12Heap) → of_piece t p ≡ of_piece u q → t ≡ u
+  type_same t u p q e = cc
+
+  piece_same : (t u : ℕ) (p q : Piece ID3D12Heap) → of_piece t p ≡ of_piece u q → p ≡ q
+  piece_same t u p q e = cc
+
+  piece_error : (t : ℕ) (p : Piece ID3D12Heap) (r : Refusal) → of_piece t p ≡ of_error r → ⊥
+  piece_error t p r e = cc
+
+  refusal_same : (r s : Refusal) → of_error r ≡ of_error s → r ≡ s
+  refusal_same r s e = cc
+
+  replied : (o p : Result (ℕ × Piece ID3D12Heap) Refusal) → allocated_reply o ≡ allocated_reply p → o ≡ p
+  replied (Ok x) (Ok y) e = (
+      let types = type_same x.0 y.0 x.1 y.1 e in
+      let pieces = piece_same x.0 y.0 x.1 y.1 e in
+      λ i. Ok (types i, pieces i))
+  replied (Ok x) (Err r) e = absurd (piece_error x.0 x.1 r e)
+  replied (Err r) (Ok x) e = absurd (piece_error x.0 x.1 r (sym e))
+  replied (Err r) (Err s) e = ap Err (refusal_same r s e)
+
+  ends_once : (t : ℕ) (p : Piece ID3D12Heap) (r : Result ℕ Refusal) (old new next : Pools) → Sound old → EndsBy (SeesQuestion basis.tier) SeesGiven SeesMade SeesReleased basis t p r old new
+      → EndsBy (SeesQuestion basis.tier) SeesGiven SeesMade SeesReleased basis t p r old next → new ≡ next
+  ends_once t p (Ok number) old new next sound a b = a ∙ sym b
+  ends_once t p (Err refusal) old new next sound a b = (frees_once t p old sound (Ok tt) (Ok tt) new next a b).1
+
+  places_once : (d : ResourceCreateDesc) (question : ResourceQuestion) (allocated : Result (ℕ × Piece ID3D12Heap) Refusal) (o : Option ResourceAnswer) (x y : Reply) (old new next : Pools)
+      → PlacesThen (SeesQuestion basis.tier) SeesGiven SeesMade SeesReleased basis d question allocated o x old new
+      → PlacesThen (SeesQuestion basis.tier) SeesGiven SeesMade SeesReleased basis d question allocated o y old next → (x ≡ y) × (new ≡ next)
+  places_once d question (Ok p) (Some answer) x y old new next a b =
+      let same = a.asked ∙ sym b.asked in
+      let r = number_or_refusal placed_texts answer in
+      let other : EndsBy (SeesQuestion basis.tier) SeesGiven SeesMade SeesReleased basis p.0 p.1 r (record old { source = a.between }) next =
+      subst (λ s. EndsBy (SeesQuestion basis.tier) SeesGiven SeesMade SeesReleased basis p.0 p.1 r (record old { source = s }) next) (sym same) b.ends in
+      (a.reply_is ∙ sym b.reply_is, ends_once p.0 p.1 r (record old { source = a.between }) new next a.sound a.ends other)
+  places_once d question (Ok p) None x y old new next a b = absurd a
+  places_once d question (Err refusal) (Some answer) x y old new next a b = absurd a
+  places_once d question (Err refusal) None x y old new next a b = (a.0 ∙ sym b.0, a.1 ∙ sym b.1)
+
+  place_once : (d : ResourceCreateDesc) (question : ResourceQuestion) (met : Environment) (x y : Reply) (old new next : Pools) → Sound old
+      → Place (SeesQuestion basis.tier) SeesGiven SeesMade SeesReleased basis d question met x old new
+      → Place (SeesQuestion basis.tier) SeesGiven SeesMade SeesReleased basis d question met y old next → (x ≡ y) × (new ≡ next)
+  place_once d question met x y old new next sound a b =
+      let once = allocate_once (piece_desc d (info_of basis d)) (is_valid (piece_desc d (info_of basis d))) met.pool (allocated_reply a.allocated) (allocated_reply b.allocated) old a.mid b.mid sound a.allocates b.allocates in
+      let pieces = replied a.allocated b.allocated once.0 in
+      let other : PlacesThen (SeesQuestion basis.tier) SeesGiven SeesMade SeesReleased basis d question a.allocated met.resource y a.mid next =
+      subst (λ o. PlacesThen (SeesQuestion basis.tier) SeesGiven SeesMade SeesReleased basis d question o met.resource y a.mid next) (sym pieces)
+      (subst (λ s. PlacesThen (SeesQuestion basis.tier) SeesGiven SeesMade SeesReleased basis d question b.allocated met.resource y s next) (sym once.1) b.places) in
+      places_once d question a.allocated met.resource x y a.mid new next a.places other
+
+  makes_once : (d : ResourceCreateDesc) (question : ResourceQuestion) (type : ResourceType) (met : Environment) (x y : Reply) (old new next : Model) → Sound old.pool
+      → MakesBy (SeesQuestion basis.tier) SeesGiven SeesMade SeesReleased basis d question type met x old new
+      → MakesBy (SeesQuestion basis.tier) SeesGiven SeesMade SeesReleased basis d question type met y old next → (x ≡ y) × (new ≡ next)
+  makes_once d question (resource_types.Committed properties flags) met x y old new next sound a b = commit_once d question (properties.now, flags) met x y old new next a b
+  makes_once d question resource_types.Placed met x y old new next sound a b =
+      let once = place_once d question met x y old.pool new.pool next.pool sound a.0 b.0 in
+      let pools = once.1 in
+      let records = a.1 ∙ sym b.1 in
+      (once.0, λ i. record { pool = pools i; committed = records i })
+
+  creates_once : (d : ResourceCreateDesc) (q : Result ResourceQuestion Refusal) (met : Environment) (x y : Reply) (old new next : Model) → Sound old.pool
+      → CreatesBy (SeesQuestion basis.tier) SeesGiven SeesMade SeesReleased basis d q met x old new
+      → CreatesBy (SeesQuestion basis.tier) SeesGiven SeesMade SeesReleased basis d q met y old next → (x ≡ y) × (new ≡ next)
+  creates_once d (Err refusal) met x y old new next sound a b = (a.1 ∙ sym b.1, a.2 ∙ sym b.2)
+  creates_once d (Ok question) met x y old new next sound a b = makes_once d question d.resource_type.now met x y old new next sound a b
+
+  -- ---- a resource that is given back
+
+  placed_back_once : (a : Allocation) (number : ℕ) (old : Pools) → Sound old → (x y : Result (Unit {0}) Refusal) (new next : Pools)
+      → FreesPlaced (SeesQuestion basis.tier) SeesGiven SeesMade SeesReleased basis a number old x new
+      → FreesPlaced (SeesQuestion basis.tier) SeesGiven SeesMade SeesReleased basis a number old y next → (x ≡ y) × (new ≡ next)
+  placed_back_once a number old sound (Ok u) (Ok v) new next f g =
+      let same = f.1 ∙ sym g.1 in
+      let t = a.memory_type_index in
+      let other : Frees SeesGiven is_same_heap t (piece_of a) (record old { source = f.0 }) (Ok v) next = subst (λ s. Frees SeesGiven is_same_heap t (piece_of a) (record old { source = s }) (Ok v) next) (sym same) g.2 in
+      frees_once t (piece_of a) (record old { source = f.0 }) sound (Ok u) (Ok v) new next f.2 other
+  placed_back_once a number old sound (Ok u) (Err e) new next f g = absurd (g.0 f.2.0)
+  placed_back_once a number old sound (Err e) (Ok u) new next f g = absurd (f.0 g.2.0)
+  placed_back_once a number old sound (Err e) (Err r) new next f g = frees_once a.memory_type_index (piece_of a) old sound (Err e) (Err r) new next f g
+
+  committed_back_once : (t : ℕ) (r : CommittedRecord) (old : Model) (x y : Result (Unit {0}) Refusal) (new next : Model)
+      → FreesCommitted (SeesQuestion basis.tier) SeesGiven SeesMade SeesReleased basis t r old x new
+      → FreesCommitted (SeesQuestion basis.tier) SeesGiven SeesMade SeesReleased basis t r old y next → (x ≡ y) × (new ≡ next)
+  committed_back_once t r old (Ok u) (Ok v) new next f g =
+      let places = some_same f.0.place g.0.place (sym f.0.stands ∙ g.0.stands) in
+      let records = f.0.records ∙ (λ i. slice_set old.committed t (remove (records_at old.committed t) (places i))) ∙ sym g.0.records in
+      let sources = f.1 ∙ sym g.1 in
+      let pools = f.2 ∙ (λ i. record (old.pool) { source = sources i }) ∙ sym g.2 in
+      (refl, λ i. record { pool = pools i; committed = records i })
+  committed_back_once t r old (Ok u) (Err e) new next f g = absurd (none_some f.0.place (sym g.0 ∙ f.0.stands))
+  committed_back_once t r old (Err e) (Ok u) new next f g = absurd (none_some g.0.place (sym f.0 ∙ g.0.stands))
+  committed_back_once t r old (Err e) (Err s) new next f g = (ap Err (f.1 ∙ sym g.1), f.2 ∙ sym g.2)
+
+  back_once : (o : Option Allocation) (r : Resource) (old : Model) → Sound old.pool → (x y : Result (Unit {0}) Refusal) (new next : Model)
+      → FreesResource (SeesQuestion basis.tier) SeesGiven SeesMade SeesReleased basis o r old x new
+      → FreesResource (SeesQuestion basis.tier) SeesGiven SeesMade SeesReleased basis o r old y next → (x ≡ y) × (new ≡ next)
+  back_once (Some a) r old sound x y new next f g =
+      let once = placed_back_once a r.resource.0 old.pool sound x y new.pool next.pool f.0 g.0 in
+      let pools = once.1 in
+      let records = f.1 ∙ sym g.1 in
+      (once.0, λ i. record { pool = pools i; committed = records i })
+  back_once None r old sound x y new next f g = committed_back_once r.memory_type_index (record_of r) old x y new next f g
+
+  -- ---- any call
+
+  called_once : (call : calls.Call ID3D12Heap (Unit {0})) (met : Environment) (x y : Reply) (old new next : Model) → Sound old.pool
+      → OfPool (SeesQuestion basis.tier) SeesGiven SeesMade SeesReleased basis (IsCall call) met x old new → OfPool (SeesQuestion basis.tier) SeesGiven SeesMade SeesReleased basis (IsCall call) met y old next
+      → (x ≡ y) × (new ≡ next)
+  called_once call met x y old new next sound a b =
+      of_pool_once (IsCall call) met x y old new next (λ r s p q. call_once call met.pool r s old.pool new.pool next.pool sound p q) a b
+
+  once : (call : Call) (met : Environment) (x y : Reply) (old new next : Model) → Sound old.pool → Step basis call met x old new → Step basis call met y old next → (x ≡ y) × (new ≡ next)
+  once (Allocate d) met x y old new next sound a b =
+      of_pool_once (Allocates d (is_valid d)) met x y old new next (λ r s p q. allocate_once d (is_valid d) met.pool r s old.pool new.pool next.pool sound p q) a b
+  once (Free w) met x y old new next sound a b = called_once (calls.Free w.memory_type_index (piece_of w)) met x y old new next sound a b
+  once (Rename w name) met x y old new next sound a b = called_once (calls.Rename w.memory_type_index (piece_of w) name) met x y old new next sound a b
+  once Capacity met x y old new next sound a b = called_once calls.Capacity met x y old new next sound a b
+  once Report met x y old new next sound a b = called_once calls.Report met x y old new next sound a b
+  once Leaks met x y old new next sound a b = called_once calls.LeakTexts met x y old new next sound a b
+  once (SetBudget t budget) met x y old new next sound a b = called_once (calls.SetBudget t budget) met x y old new next sound a b
+  once (Budget t) met x y old new next sound a b = called_once (calls.Budget t) met x y old new next sound a b
+  once (CreateResource d) met x y old new next sound a b = creates_once d (resource_question basis.interface d.initial_state_or_layout d.castable_formats.now) met x y old new next sound a b
+  once (FreeResource r) met x y old new next sound a b =
+      let k = back_once r.allocation r old sound a.1 b.1 new next a.3 b.3 in
+      (a.2 ∙ ap (λ answer. Pool (replies.done_as answer)) k.0 ∙ sym b.2, k.1)
+  once (Statistics t) met x y old new next sound a b = (a.1 ∙ sym b.1, a.2 ∙ sym b.2)
+
+pub step_once : (basis : Basis) (call : Call) (met : Environment) (x y : Reply) (old new next : Model) → BlocksWellFormed 1 old.pool.slots → Step basis call met x old new → Step basis call met y old next
+    → (x ≡ y) × (new ≡ next)
+step_once basis call met x y old new next sound a b = once basis call met x y old new next (sound_at basis.tier old.pool.slots sound) a b

@@ -1,57 +1,50 @@
--- An allocation: which memory type is asked, and what that comes to.
-use Rattle.gpu_memory_types.specs.Budgets.{Budgets}
+-- An allocation: which memory type is asked, and what is returned and left.
 use Rattle.std.specs.Prelude.{◌≡◌, ℕ, ◌==◌, ◌&&◌, not, Bool, true, false, Some, Result, Ok, Err}
 use Rattle.std.specs.Int.{is_power_of_two}
 use Rattle.gpu_values.specs.Refusal.{Refusal, refusal_of, refusal_in, invalid_allocation_create_desc}
 use Rattle.gpu_values.specs.declared.error.AllocationError.{AllocationError}
+use Rattle.gpu_slots.specs.declared.piece.Piece.{Piece}
 use Rattle.gpu_device.specs.declared.d3d12.device.D3D12Device.{Ghosts}
-use Rattle.gpu_memory_types.specs.Attempt.{AllocatesInType, Gave, Refused}
+use Rattle.gpu_device.specs.declared.d3d12.types.ID3D12Heap.{ID3D12Heap}
+use Rattle.gpu_d3d12_setup.specs.Describe.{request_of}
 use Rattle.gpu_d3d12_setup.specs.MemoryKinds.{memory_kinds, IsFirstServing}
+use Rattle.gpu_d3d12_setup.specs.Setup.{kinds_told}
 use Rattle.gpu_d3d12_setup.specs.declared.describe.AllocationCreateDesc.{AllocationCreateDesc}
-use Rattle.gpu_d3d12_setup.specs.declared.setup.Setup.{Setup}
-use Rattle.gpu_d3d12_blocks.specs.Suballocation.{AttemptEnvironment, Answer, asked_block, request_at, IsAskedFor, IsAfter}
-use Rattle.gpu_d3d12_blocks.specs.Blocks.{Slots}
+use Rattle.gpu_pool.specs.Allocate as pools
 use Rattle.gpu_d3d12.specs.Live.{IsGiven}
+use Rattle.gpu_d3d12.specs.Source.{AsksBlock}
+use Rattle.gpu_d3d12.specs.State.{State, Pool, pool_of}
 use Rattle.gpu_d3d12.specs.declared.allocation.Allocation.{Allocation}
-
--- what the caller of an attempt gets
-abbrev pub Answers : (t : ℕ) → AllocationCreateDesc → Result Allocation AllocationError → Answer → Type 0
-Answers t d (Ok a) (Gave p) = IsGiven t d.name.now p a
-Answers t d (Ok a) (Refused e) = ⊥
-Answers t d (Err e) (Gave p) = ⊥
-Answers t d (Err e) (Refused r) = refusal_of e ≡ r
-
--- an attempt at the t-th memory type, over a device
-pub record IsAttempt {D : Type 0} (g : Ghosts D) (setup : Setup) (budgets : Budgets) (t : ℕ) (d : AllocationCreateDesc) (old : Slots) (device : D) (result : Result Allocation AllocationError)
-    (new : Slots) (after : D) : Type 0 where
-  pub environment : AttemptEnvironment
-  pub answer : Answer
-  pub allocates : AllocatesInType (request_at setup budgets t d) old environment.host (asked_block environment.asked) answer new
-  pub asked_for : IsAskedFor setup t environment.asked
-  pub asked : IsAfter g device environment.asked after
-  pub answers : Answers t d result answer
 
 -- the size isn't 0, and the alignment is a power of two
 abbrev pub is_valid : AllocationCreateDesc → Bool
 is_valid d = not (d.size == 0) && is_power_of_two d.alignment
 
--- a refusal before anything is taken or asked
-pub record IsRefused {D : Type 0} (refusal : Refusal) (old : Slots) (device : D) (result : Result Allocation AllocationError) (new : Slots) (after : D) : Type 0 where
-  pub cause : refusal_in result ≡ Some refusal
-  pub slots : new ≡ old
-  pub device_is : after ≡ device
+-- what the t-th memory type is asked for: all pieces are linear, and none wishes a dedicated block
+abbrev pub request_in : (t : ℕ) → AllocationCreateDesc → pools.RequestAt (Unit {0})
+request_in t d = record { memory_type = t; requested_dedicated = false; request = request_of d; extra = tt }
 
--- an attempt at the first memory type that serves the location and the category
-pub record IsServed {D : Type 0} (g : Ghosts D) (setup : Setup) (budgets : Budgets) (d : AllocationCreateDesc) (old : Slots) (device : D) (result : Result Allocation AllocationError) (new : Slots)
-    (after : D) : Type 0 where
-  pub memory_type : ℕ
-  pub first : IsFirstServing d.location d.resource_category (memory_kinds setup.tier) memory_type
-  pub attempt : IsAttempt g setup budgets memory_type d old device result new after
+-- the caller's allocation is the pool's piece, under the name that was asked for
+abbrev pub Returns : (t : ℕ) → AllocationCreateDesc → Result Allocation AllocationError → Result (Piece ID3D12Heap) Refusal → Type 0
+Returns t d (Ok a) (Ok p) = IsGiven t d.name.now p a
+Returns t d (Ok a) (Err r) = ⊥
+Returns t d (Err e) (Ok p) = ⊥
+Returns t d (Err e) (Err r) = refusal_of e ≡ r
 
--- what an allocation comes to, where the description is valid or isn't
-abbrev pub AllocatesBy : {D : Type 0} → Ghosts D → Setup → Budgets → AllocationCreateDesc → (valid : Bool) → Slots → D → Result Allocation AllocationError → Slots → D → Type 0
-AllocatesBy g setup budgets d false old device result new after = IsRefused invalid_allocation_create_desc old device result new after
-AllocatesBy g setup budgets d true old device result new after = IsServed g setup budgets d old device result new after
+module _ {D : Type 0} (g : Ghosts D) (d : AllocationCreateDesc) where
+  -- the first memory type that serves the location and the category is asked
+  pub record IsAttempted (old : Pool D) (result : Result Allocation AllocationError) (new : Pool D) : Type 0 where
+    pub memory_type : ℕ
+    pub first : IsFirstServing d.location d.resource_category (memory_kinds old.source.tier) memory_type
+    pub answer : Result (Piece ID3D12Heap) Refusal
+    pub allocates : pools.Allocates (kinds_told old.source.tier) (AsksBlock g) (request_in memory_type d) old answer new
+    pub returns : Returns memory_type d result answer
 
-abbrev pub Allocates : {D : Type 0} → Ghosts D → Setup → Budgets → AllocationCreateDesc → Slots → D → Result Allocation AllocationError → Slots → D → Type 0
-Allocates g setup budgets d old device result new after = AllocatesBy g setup budgets d (is_valid d) old device result new after
+  -- an allocation of a pool, where its description is valid or isn't
+  abbrev pub AllocatesBy : (valid : Bool) → Pool D → Result Allocation AllocationError → Pool D → Type 0
+  AllocatesBy false old result new = (refusal_in result ≡ Some invalid_allocation_create_desc) × (new ≡ old)
+  AllocatesBy true old result new = IsAttempted old result new
+
+  -- an allocation, as its description is
+  abbrev pub Allocates : State D → Result Allocation AllocationError → State D → Type 0
+  Allocates old result new = AllocatesBy (is_valid d) (pool_of old) result (pool_of new)

@@ -1,7 +1,7 @@
 -- What holds of all live allocations: each lies inside its block, and no two share a byte.
 use Rattle.std.specs.Prelude.{◌≢◌, ◌⊎◌, ◌+◌, ◌≤◌}
 use Rattle.gpu_memory_types.specs.Apart as pieces
-use Rattle.gpu_d3d12_blocks.specs.Blocks.{Slots}
+use Rattle.gpu_d3d12.specs.Blocks.{Slots}
 use Rattle.gpu_d3d12.specs.Live.{piece_of}
 use Rattle.gpu_d3d12.specs.declared.allocation.Allocation.{Allocation}
 

@@ -1,21 +1,26 @@
--- What giving an allocation back comes to.
-use Rattle.std.specs.Prelude.{◌≡◌, Some, Result, Ok, Err}
-use Rattle.gpu_values.specs.Refusal.{refusal_of}
+-- What freeing an allocation returns and leaves.
+use Rattle.std.specs.Prelude.{◌≡◌, Result, Ok, Err}
+use Rattle.gpu_values.specs.Refusal.{Refusal, refusal_of}
 use Rattle.gpu_values.specs.declared.error.AllocationError.{AllocationError}
-use Rattle.gpu_slots.specs.TypeRelease.{IsFreeRefusal}
-use Rattle.gpu_slots.specs.TypeState.{slot_at}
 use Rattle.gpu_device.specs.declared.d3d12.device.D3D12Device.{Ghosts}
-use Rattle.gpu_memory_types.specs.Blocks.{slots_at}
-use Rattle.gpu_d3d12_blocks.specs.Blocks.{Slots}
+use Rattle.gpu_pool.specs.Free as pools
+use Rattle.gpu_d3d12.specs.Blocks.{is_same_heap}
 use Rattle.gpu_d3d12.specs.Live.{piece_of}
-use Rattle.gpu_d3d12_blocks.specs.Release.{is_same_heap, IsLiveIn, IsReleased}
+use Rattle.gpu_d3d12.specs.Source.{GivesHeap}
+use Rattle.gpu_d3d12.specs.State.{State, pool_of}
 use Rattle.gpu_d3d12.specs.declared.allocation.Allocation.{Allocation}
 
--- a live piece goes; of one that isn't live nothing changes, and the allocation comes back as it was
-abbrev pub Frees : {D : Type 0} → Ghosts D → Allocation → Slots → D → Result (Unit {0}) (AllocationError × Allocation) → Slots → D → Type 0
-Frees g a old device (Ok _) new after =
-    IsLiveIn old a.memory_type_index (Some (piece_of a)) × IsReleased g a.memory_type_index (piece_of a) old device new after
-Frees g a old device (Err e) new after =
-    (IsLiveIn old a.memory_type_index (Some (piece_of a)) → ⊥)
-    × IsFreeRefusal is_same_heap (piece_of a) (slot_at (slots_at old a.memory_type_index) a.memory_block_index) (refusal_of e.0)
-    × (e.1 ≡ a) × (new ≡ old) × (after ≡ device)
+-- a free, as its pool sees it
+abbrev pub freed_of : {V : Type 0} → Result (Unit {0}) (AllocationError × V) → Result (Unit {0}) Refusal
+freed_of (Ok _) = Ok tt
+freed_of (Err e) = Err (refusal_of e.0)
+
+-- what isn't freed comes back as it was
+abbrev pub ComesBack : {V : Type 0} → V → Result (Unit {0}) (AllocationError × V) → Type 0
+ComesBack a (Ok _) = Unit {0}
+ComesBack a (Err e) = e.1 ≡ a
+
+-- a live piece is freed, and its block goes back with it where that goes; of one that isn't live nothing changes, and the allocation comes back as it was
+pub record Frees {D : Type 0} (g : Ghosts D) (a : Allocation) (old : State D) (result : Result (Unit {0}) (AllocationError × Allocation)) (new : State D) : Type 0 where
+  pub frees : pools.Frees (GivesHeap g) is_same_heap a.memory_type_index (piece_of a) (pool_of old) (freed_of result) (pool_of new)
+  pub comes_back : ComesBack a result

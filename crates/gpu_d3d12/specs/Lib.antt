@@ -1,11 +1,13 @@
+pub mod Blocks
+pub mod Committed
+pub mod Source
+pub mod State
 pub mod Live
+pub mod Apart
 pub mod Allocate
 pub mod Free
 pub mod Rename
 pub mod Resource
-pub mod FreeResource
-pub mod State
 pub mod Reply
 pub mod Step
-pub mod Apart
-pub mod Budgets
+pub mod Over

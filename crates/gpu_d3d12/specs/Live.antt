@@ -1,10 +1,10 @@
 -- An allocation, as its owner holds it, and the piece that it stands for.
-use Rattle.std.specs.Prelude.{◌≡◌, ℕ, List, Some, string_bytes}
+use Rattle.std.specs.Prelude.{◌≡◌, ℕ, List, string_bytes}
 use Rattle.gpu_slots.specs.declared.piece.Piece.{Piece}
 use Rattle.gpu_device.specs.declared.d3d12.types.ID3D12Heap.{ID3D12Heap}
 use Rattle.gpu_memory_types.specs.Apart as pieces
-use Rattle.gpu_d3d12_blocks.specs.Blocks.{Slots}
-use Rattle.gpu_d3d12_blocks.specs.Release.{IsLiveIn}
+use Rattle.gpu_pool.specs.Live as pool
+use Rattle.gpu_d3d12.specs.Blocks.{Slots, is_same_heap}
 use Rattle.gpu_d3d12.specs.declared.allocation.Allocation.{Allocation}
 
 -- the piece that an allocation stands for
@@ -13,7 +13,7 @@ piece_of a = record { slot = a.memory_block_index; number = a.number; offset = a
 
 -- the allocator has a record with the allocation's type, slot, number, offset, size and heap
 abbrev pub IsLive : Slots → Allocation → Type 0
-IsLive slots a = IsLiveIn slots a.memory_type_index (Some (piece_of a))
+IsLive slots a = pool.IsLive is_same_heap slots a.memory_type_index (piece_of a)
 
 -- the allocation that is given for a piece of the t-th memory type
 pub record IsGiven (t : ℕ) (name : List ℕ) (p : Piece ID3D12Heap) (a : Allocation) : Type 0 where
@@ -28,3 +28,7 @@ AreDistinct a b = pieces.AreDistinct a.memory_type_index (piece_of a) b.memory_t
 -- what was live is live
 abbrev pub StayLive : (old new : Slots) → Type 0
 StayLive old new = (a : Allocation) → IsLive old a → IsLive new a
+
+-- the allocation is live, and none that was live before
+abbrev pub IsNewlyLive : (old new : Slots) → Allocation → Type 0
+IsNewlyLive old new a = IsLive new a × ((b : Allocation) → IsLive old b → AreDistinct b a)

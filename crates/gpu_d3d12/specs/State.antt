@@ -1,18 +1,31 @@
 -- What callers see of an allocator.
-use Rattle.gpu_memory_types.specs.Budgets.{Budgets}
-use Rattle.std.specs.Prelude.{◌≡◌, ◌^◌, ◌<◌, length, Ok}
+use Rattle.std.specs.Prelude.{ℕ, Option}
+use Rattle.gpu_values.specs.Sizes.{Sizes}
+use Rattle.gpu_values.specs.declared.allocator_debug_settings.AllocatorDebugSettings.{AllocatorDebugSettings}
 use Rattle.gpu_device.specs.D3D12.{Held, Properties}
 use Rattle.gpu_device.specs.declared.d3d12.device.D3D12Device.{Ghosts}
+use Rattle.gpu_device.specs.declared.d3d12.types.ClearValue.{ClearValue}
+use Rattle.gpu_device.specs.declared.d3d12.types.HeapDesc.{HeapDesc}
+use Rattle.gpu_device.specs.declared.d3d12.types.HeapFlags.{HeapFlags}
+use Rattle.gpu_device.specs.declared.d3d12.types.HeapProperties.{HeapProperties}
+use Rattle.gpu_device.specs.declared.d3d12.types.ID3D12Heap.{ID3D12Heap}
+use Rattle.gpu_device.specs.declared.d3d12.types.ResourceHeapTier.{ResourceHeapTier}
+use Rattle.gpu_memory_types.specs.Budgets.{Budgets}
 use Rattle.gpu_d3d12_setup.specs.DeviceVersion.{device_of}
-use Rattle.gpu_d3d12_setup.specs.MemoryKinds.{memory_kinds}
 use Rattle.gpu_d3d12_setup.specs.declared.device_version.ID3D12DeviceVersion.{ID3D12DeviceVersion}
 use Rattle.gpu_d3d12_setup.specs.declared.device_version.ID3D12DeviceVersion.TheVariants.{Device, Device10, Device12}
-use Rattle.gpu_d3d12_setup.specs.declared.setup.Setup.{Setup}
-use Rattle.gpu_memory_types.specs.Blocks.{total_capacity, BlocksWellFormed}
-use Rattle.gpu_d3d12_blocks.specs.Blocks.{Slots, HoldsJustLiveBlocks, beside}
-use Rattle.gpu_d3d12_blocks.specs.Committed.{Committed}
+use Rattle.gpu_pool.specs.State as pools
+use Rattle.gpu_d3d12.specs.Blocks.{Slots}
+use Rattle.gpu_d3d12.specs.Committed.{Committed}
+use Rattle.gpu_d3d12.specs.Source.{SourceState, source_beside}
 
--- the device, what it was when it was handed in, what the allocator is made with, the blocks, the budgets of the memory types, and the committed resources
+-- what an allocator is made with, and never changes: the device's heap tier, how large its blocks are, and what is logged
+pub record Setup : Type 0 where
+  pub tier : ResourceHeapTier
+  pub sizes : Sizes
+  pub debug : AllocatorDebugSettings
+
+-- the device, what it was when it was handed in, what the allocator is made with, the blocks, the budgets of memory types, and the committed resources
 pub record State (D : Type 0) : Type 0 where
   pub device : ID3D12DeviceVersion D
   pub first : ID3D12DeviceVersion D
@@ -21,19 +34,35 @@ pub record State (D : Type 0) : Type 0 where
   pub budgets : Budgets
   pub committed : Committed
 
+-- a pool over a device
+abbrev pub Pool : (D : Type 0) → Type 0
+Pool D = pools.State (SourceState D) ID3D12Heap
+
+-- the pool of an allocator
+abbrev pub pool_of : {D : Type 0} → State D → Pool D
+pool_of s = record {
+  source = record { device = s.device; first = s.first; tier = s.setup.tier };
+  sizes = s.setup.sizes;
+  slots = s.slots;
+  budgets = s.budgets;
+}
+
+-- the allocator over a pool
+abbrev pub state_of : {D : Type 0} → Pool D → Committed → AllocatorDebugSettings → State D
+state_of p committed debug = record {
+  device = p.source.device;
+  first = p.source.first;
+  setup = record { tier = p.source.tier; sizes = p.sizes; debug = debug };
+  slots = p.slots;
+  budgets = p.budgets;
+  committed = committed;
+}
+
 -- what the device holds beside the live blocks
 abbrev pub beside_of : {D : Type 0} → Ghosts D → State D → Held
-beside_of g s = beside (g.held (device_of s.device)) s.slots
+beside_of g s = source_beside g (pool_of s).source
 
--- what calls change: the blocks, the budgets of the memory types, the committed resources by memory type, and what the device holds beside the blocks
-pub record Contents : Type 0 where
-  pub slots : Slots
-  pub budgets : Budgets
-  pub committed : Committed
-  pub beside : Held
-
-abbrev pub contents_of : {D : Type 0} → Ghosts D → State D → Contents
-contents_of g s = record { slots = s.slots; budgets = s.budgets; committed = s.committed; beside = beside_of g s }
+-- ---- what no call changes
 
 -- the newest interface of a device, without the device
 abbrev pub interface_of : {D : Type 0} → ID3D12DeviceVersion D → ID3D12DeviceVersion (Unit {0})
@@ -41,20 +70,64 @@ interface_of (Device d) = Device tt
 interface_of (Device10 d) = Device10 tt
 interface_of (Device12 d) = Device12 tt
 
--- what no call changes: what the allocator is made with, the device's newest interface, and what it tells of itself
+-- the device's heap tier, its newest interface, and its properties
 pub record Basis : Type 0 where
-  pub setup : Setup
+  pub tier : ResourceHeapTier
   pub interface : ID3D12DeviceVersion (Unit {0})
   pub properties : Properties
 
-abbrev pub basis_of : {D : Type 0} → Ghosts D → State D → Basis
-basis_of g s = record { setup = s.setup; interface = interface_of s.device; properties = g.properties (device_of s.device) }
+-- the basis of a source
+abbrev pub source_basis : {D : Type 0} → Ghosts D → SourceState D → Basis
+source_basis g s = record { tier = s.tier; interface = interface_of s.device; properties = g.properties (device_of s.device) }
 
--- what stays so by every call: `told` is what the device told of itself when it was handed in, `now` what it tells, `held` what it holds, and `beside` that of it beside the blocks
-pub record AllocatorInvariant (told now : Properties) (beside held : Held) (setup : Setup) (slots : Slots) : Type 0 where
-  pub tier : told.tier ≡ Ok setup.tier
-  pub constant : now ≡ told
-  pub types : length slots ≡ length (memory_kinds setup.tier)
-  pub sound : BlocksWellFormed 1 slots
-  pub sum : total_capacity slots < 2 ^ 64
-  pub holds : HoldsJustLiveBlocks setup.tier beside held slots
+-- the basis of an allocator
+abbrev pub basis_of : {D : Type 0} → Ghosts D → State D → Basis
+basis_of g s = source_basis g (pool_of s).source
+
+-- ---- what calls change
+
+-- the pool, and the committed resources by memory type
+pub record Contents (S : Type 0) : Type 0 where
+  pub pool : pools.State S ID3D12Heap
+  pub committed : Committed
+
+-- the contents of an allocator
+abbrev pub contents_of : {D : Type 0} → State D → Contents (SourceState D)
+contents_of s = record { pool = pool_of s; committed = s.committed }
+
+-- what a model sees of a device: what it holds beside the blocks, how often it refused, and what it was asked last: the heap; and of a resource how
+-- many castable formats, which clear value, and for a committed one which heap properties and flags
+pub record Seen : Type 0 where
+  pub beside : Held
+  pub refused : ℕ
+  pub latest_heap : Option HeapDesc
+  pub latest_formats : Option ℕ
+  pub latest_clear : Option ClearValue
+  pub latest_memory : Option (HeapProperties × HeapFlags)
+
+-- what is seen of a device
+abbrev pub seen_of : {D : Type 0} → Ghosts D → SourceState D → Seen
+seen_of g s = record {
+  beside = source_beside g s;
+  refused = g.refused (device_of s.device);
+  latest_heap = g.latest_heap (device_of s.device);
+  latest_formats = g.latest_formats (device_of s.device);
+  latest_clear = g.latest_clear (device_of s.device);
+  latest_memory = g.latest_memory (device_of s.device);
+}
+
+-- the contents over what is seen of the device
+abbrev pub Model : Type 0
+Model = Contents Seen
+
+-- the same contents over what a model sees of the source
+abbrev pub over : {S T : Type 0} → (S → T) → Contents S → Contents T
+over view c = record { pool = pools.over view c.pool; committed = c.committed }
+
+-- an allocator as a model
+abbrev pub model_of : {D : Type 0} → Ghosts D → State D → Model
+model_of g s = over (seen_of g) (contents_of s)
+
+-- the same contents, where no memory type has a budget
+abbrev pub without_budgets : {S : Type 0} → Contents S → Contents S
+without_budgets c = record c { pool = pools.without_budgets c.pool }

@@ -1,6 +1,6 @@
 //! The allocator: blocks of heaps by memory type, and the calls that share them out.
 
-ghost use Rattle.std.specs.Prelude.{◌≡◌, ◌↔◌, [], All, map, string_bytes, Some, Ok, IfOk, IfErr, IsTrue, length, ◌%◌, None};
+ghost use Rattle.std.specs.Prelude.{◌≡◌, ◌↔◌, ◌%◌, [], All, None, Ok, IfOk, IfErr, IsTrue, length, map, string_bytes};
 ghost use Rattle.std.specs.Option.{unwrap_or};
 ghost use Rattle.gpu_values.specs.Refusal.{refusal_of, refusal_in, host_out_of_memory};
 ghost use Rattle.gpu_values.specs.Report.{report_of};
@@ -8,78 +8,64 @@ ghost use Rattle.gpu_values.specs.declared.error.AllocationError.TheVariants.{Ho
 ghost use Rattle.gpu_block_views.specs.Leak.{leak_text};
 ghost use Rattle.gpu_memory_types.specs.Blocks.{total_capacity, BlocksWellFormed};
 ghost use Rattle.gpu_memory_types.specs.Budgets.{budget_at, budgets, SetsBudget};
-ghost use Rattle.gpu_memory_types.specs.Types.{slots_of, kinds};
-ghost use Rattle.gpu_d3d12_setup.specs.Setup.{kinds_told};
 ghost use Rattle.gpu_memory_types.specs.Leaks.{all_leaks};
 ghost use Rattle.gpu_memory_types.specs.Reports.{whole_report};
+ghost use Rattle.gpu_memory_types.specs.Types.{slots_of, kinds};
 ghost use Rattle.gpu_d3d12_setup.specs.DeviceVersion.{device_of, with_device};
 ghost use Rattle.gpu_d3d12_setup.specs.MemoryKinds.{memory_kinds};
-ghost use Rattle.gpu_d3d12_setup.specs.Setup.{setup_fault};
-ghost use Rattle.gpu_d3d12_blocks.specs.Committed.{statistics_at};
+ghost use Rattle.gpu_d3d12_setup.specs.Setup.{kinds_told, setup_fault};
+ghost use Rattle.gpu_pool.specs.Reply as replies;
 ghost use Rattle.gpu_d3d12.specs.Allocate.{Allocates};
 ghost use Rattle.gpu_d3d12.specs.Apart.{IsInside, SharesNoByte};
-ghost use Rattle.gpu_d3d12_blocks.specs.Blocks.{HoldsJustLiveBlocks};
+ghost use Rattle.gpu_d3d12.specs.Blocks.{HoldsJustLiveBlocks, AsksNothing};
+ghost use Rattle.gpu_d3d12.specs.Committed.{statistics_at};
 ghost use Rattle.gpu_d3d12.specs.Free.{Frees};
-ghost use Rattle.gpu_d3d12_blocks.specs.Release.{AsksNothing};
 ghost use Rattle.gpu_d3d12.specs.Live.{IsLive, AreDistinct, StayLive};
 ghost use Rattle.gpu_d3d12.specs.Rename.{Renames};
+ghost use Rattle.gpu_d3d12.specs.Reply as module_replies;
 ghost use Rattle.gpu_d3d12.specs.Resource.{BeginsAligned, IsBeside, IsLivePlaced, IsNewIn, LiesInHeap};
-ghost use Rattle.gpu_d3d12.specs.declared.resource.Resource.{Resource};
-ghost use Rattle.gpu_d3d12.specs.State.{basis_of, beside_of};
-ghost use Rattle.gpu_d3d12.specs.Reply as replies;
-ghost use Rattle.gpu_d3d12.specs.Step.{IsMadeBy, IsCreateStep, CommitStep, PlaceStep, FreeResource, Statistics, SetBudget, Budget, info_of, IsStep, IsAllocateStep, Free, Rename, Capacity, Report, Leaks, freed_as, renamed_as, shown_as, told_as};
+ghost use Rattle.gpu_d3d12.specs.State.{basis_of, beside_of, pool_of};
+ghost use Rattle.gpu_d3d12.specs.Step.{Free, Rename, Capacity, Report, Leaks, FreeResource, Statistics, SetBudget, Budget, info_of, IsStep, IsAllocateStep, IsCreateStep, freed_as, done_as, shown_as, leaked_as};
 ghost use Rattle.gpu_d3d12.specs.declared.allocation.Allocation.{Allocation};
+ghost use Rattle.gpu_d3d12.specs.declared.resource.Resource.{Resource};
 
-use crate::attempt::serve;
-use crate::giving::give_back;
+use crate::allocating::allocate_piece;
+use crate::freeing::free_resource;
 use crate::logging::{log_allocate, log_free, log_last_leaks, log_leaks};
-use crate::making::{committed_at, make_placed, piece_desc};
+use crate::making::{make_committed, make_placed};
 use crate::rename::rename;
-use crate::{Allocation, Resource};
-use gpu_d3d12_blocks::{CommittedResources, OwnMemory, free_all, free_piece};
+use crate::source::D3D12Blocks;
+use crate::{Allocation, CommittedResources, OwnMemory, Resource};
 use gpu_d3d12_setup::{
     AllocationCreateDesc, AllocatorCreateDesc, CommittedAllocationStatistics, ID3D12DeviceVersion,
-    ResourceCreateDesc, ResourceQuestion, ResourceType, Setup, allocation_info_of, parts_of,
-    question_for, type_for,
+    ResourceCreateDesc, ResourceType, parts_of, question_for,
 };
 use gpu_device::d3d12::{D3D12Device, ID3D12Heap};
 use gpu_memory_types::MemoryTypes;
-use gpu_values::{AllocationError, AllocatorReport, Result};
+use gpu_pool::Pool;
+use gpu_values::{AllocationError, AllocatorDebugSettings, AllocatorReport, Result};
 use log::{Level, Log};
 use std::alloc::{AllocError, Global};
 use std::marker::Model;
-use std::snapshot::Snapshot;
 
 /// Allocates pieces of heaps from a few large blocks. It must be spent by `destroy`.
 pub struct Allocator<D: D3D12Device> {
-    device: ID3D12DeviceVersion<D>,
-    first: Snapshot<ID3D12DeviceVersion<D>>,
-    setup: Setup,
-    types: MemoryTypes<ID3D12Heap>,
+    pool: Pool<D3D12Blocks<D>>,
     committed: CommittedResources,
+    debug: AllocatorDebugSettings,
     alloc: Global,
 }
 
 impl<D: D3D12Device> Model for Allocator<D> {
     ghost use Rattle.std.specs.Prelude.{◌≡◌, length};
-    ghost use Rattle.gpu_memory_types.specs.Budgets.{budgets};
-    ghost use Rattle.gpu_d3d12_blocks.specs.Blocks.{beside};
-    ghost use Rattle.gpu_d3d12_setup.specs.DeviceVersion.{device_of, with_device};
-    ghost use Rattle.gpu_d3d12_setup.specs.MemoryKinds.{memory_kinds};
     ghost use Rattle.gpu_d3d12_setup.specs.Setup.{kinds_told};
-    ghost use Rattle.gpu_d3d12.specs.State.{State, AllocatorInvariant};
-    ghost use Rattle.gpu_memory_types.specs.Types.{slots_of, kinds, MemoryTypesInvariant};
+    ghost use Rattle.gpu_d3d12.specs.State.{State, state_of};
 
     ghost Value = { State D };
 
-    ghost view = { λ a. record { device = a.device; first = a.first.value; setup = a.setup; slots = slots_of a.types; budgets = budgets a.types; committed = a.committed } };
+    ghost view = { λ a. state_of a.pool a.committed a.debug };
 
-    ghost invariant = { λ a. (kinds a.types ≡ kinds_told a.setup.tier)
-        × AllocatorInvariant (D.properties (device_of a.first.value)) (D.properties (device_of a.device))
-        (beside (D.held (device_of a.device)) (slots_of a.types)) (D.held (device_of a.device)) a.setup (slots_of a.types)
-        × MemoryTypesInvariant a.types
-        × (a.device ≡ with_device a.first.value (device_of a.device))
-        × (length a.committed ≡ length (memory_kinds a.setup.tier)) };
+    ghost invariant = { λ a. length a.committed ≡ length (kinds_told a.pool.source.tier) };
 }
 
 impl<D: D3D12Device> Allocator<D> {
@@ -105,35 +91,25 @@ impl<D: D3D12Device> Allocator<D> {
     {
         let AllocatorCreateDesc {
             device,
-            debug_settings,
+            debug_settings: debug,
             allocation_sizes,
         } = desc;
-        let (setup, types) = match parts_of(
-            alloc,
-            device.device(),
-            allocation_sizes,
-            debug_settings,
-        ) {
+        let (tier, types) = match parts_of(alloc, device.device()) {
             Err(error) => return Err((error, device)),
             Ok(parts) => parts,
         };
         match CommittedResources::new(alloc, types.count()) {
             Err(AllocError) => Err((AllocationError::HostOutOfMemory, device)),
-            Ok(committed) => {
-                let first = Snapshot::of(&device);
-                Ok(Allocator {
-                    device,
-                    first,
-                    setup,
-                    types,
-                    committed,
-                    alloc,
-                })
-            }
+            Ok(committed) => Ok(Allocator {
+                pool: Pool::new(D3D12Blocks::new(device, tier), allocation_sizes, types),
+                committed,
+                debug,
+                alloc,
+            }),
         }
     }
 
-    /// Takes a piece of a heap that is there or of a new one. The errors, in the order in which they are looked at:
+    /// Allocates a piece of a heap that is there or of a new one. The errors, in the order in which they are looked at:
     /// - `InvalidAllocationCreateDesc`: the size is 0, or the alignment isn't a power of two;
     /// - `HostOutOfMemory`: the host refused memory for the name, the record or the block's own lists;
     /// - `OutOfMemory`: a new block would carry the sum of all blocks' sizes past `u64::MAX`;
@@ -143,25 +119,24 @@ impl<D: D3D12Device> Allocator<D> {
     ///
     /// A refusal leaves every block as it was, and the device holds what it held.
     pub fn allocate<L: Log>(&mut self, log: &L, desc: &AllocationCreateDesc) -> Result<Allocation>
-        // which memory type is asked, what that comes to, and what the device then holds
-        ensures allocates { Allocates D.D3D12Device self.old.setup self.old.budgets desc.now self.old.slots (device_of self.old.device) result self.new.slots (device_of self.new.device) }
+        // which memory type is asked, what it met with, what is returned, and what that leaves of blocks and device
+        ensures allocates { Allocates D.D3D12Device desc.now self.old result self.new }
         ensures constant { (self.new.first ≡ self.old.first) × (self.new.setup ≡ self.old.setup) × (self.new.committed ≡ self.old.committed) }
         ensures step { IsAllocateStep D.D3D12Device desc.now result self.old self.new }
         ensures aligned { IfOk result (λ a. a.offset % desc.now.alignment ≡ 0) }
         ensures keeps { StayLive self.old.slots self.new.slots }
         ensures gives { IfOk result (λ a. IsLive self.new.slots a × ((b : Allocation) → IsLive self.old.slots b → AreDistinct b a)) }
     {
-        log_allocate(log, self.setup.debug, desc);
-        let device = self.device.device_mut();
-        serve(self.alloc, &self.setup, device, &mut self.types, desc)
+        log_allocate(log, self.debug, desc);
+        allocate_piece(self.alloc, &mut self.pool, desc)
     }
 
     /// The sum of the sizes of the live blocks, in bytes.
     pub fn capacity(&self) -> u64
         ensures sum { result ≡ total_capacity self.now.slots }
-        ensures step { IsStep D.D3D12Device Capacity (replies.Capacity result) self.now self.now }
+        ensures step { IsStep D.D3D12Device Capacity (module_replies.Pool (replies.Capacity result)) self.now self.now }
     {
-        self.types.capacity()
+        self.pool.capacity()
     }
 
     /// The memory types, lent to be looked at: their blocks with pieces and gaps, and what is counted of them.
@@ -170,7 +145,7 @@ impl<D: D3D12Device> Allocator<D> {
         ensures budgets { budgets result.now ≡ self.now.budgets }
         ensures kinds { kinds result.now ≡ kinds_told self.now.setup.tier }
     {
-        &self.types
+        self.pool.memory_types()
     }
 
     /// The device, lent. It holds one heap for each live block, and beside these what it held when it was handed in, and the
@@ -180,7 +155,7 @@ impl<D: D3D12Device> Allocator<D> {
         ensures holds { HoldsJustLiveBlocks self.now.setup.tier (beside_of D.D3D12Device self.now) (D.held (device_of self.now.device)) self.now.slots }
         ensures constant { D.properties (device_of self.now.device) ≡ D.properties (device_of self.now.first) }
     {
-        &self.device
+        self.pool.source().device()
     }
 
     /// What holds of live allocations at any time, for callers' proofs: each lies inside its block, and no two share a
@@ -190,7 +165,7 @@ impl<D: D3D12Device> Allocator<D> {
         ensures inside { (a : Allocation) → IsLive self.now.slots a → IsInside self.now.slots a }
         ensures apart { (a b : Allocation) → IsLive self.now.slots a → IsLive self.now.slots b → AreDistinct a b → SharesNoByte a b }
     {
-        let _ = &self.device;
+        self.pool.pieces_are_apart();
     }
 
     /// What holds of live placed resources at any time, for callers' proofs: the device holds the heap that each is placed in,
@@ -199,18 +174,19 @@ impl<D: D3D12Device> Allocator<D> {
         ensures { (r : Resource) (a : Allocation) → IsLivePlaced (D.held (device_of self.now.device)) self.now.slots r a
             → LiesInHeap (D.held (device_of self.now.device)) a }
     {
-        let _ = &self.device;
+        let _ = self.device();
+        self.allocations_are_apart();
     }
 
     /// Whether an allocation is live: the allocator has a record with its type, slot, number, offset, size and heap.
     pub fn is_live(&self, allocation: &Allocation) -> bool
         ensures { IsTrue result ↔ IsLive self.now.slots allocation.now }
     {
-        self.types
+        self.pool
             .is_live(allocation.memory_type_index, &allocation.piece())
     }
 
-    /// Gives an allocation back, and its block with it where the block is left empty and isn't the only shared one of its
+    /// Frees an allocation, and gives its block back where the block is left empty and isn't the only shared one of its
     /// memory type. A live one is never refused; any other comes back as it was, beside `Internal`, and then nothing changes.
     /// Release what you placed there before. It takes no memory.
     pub fn free<L: Log>(
@@ -218,16 +194,15 @@ impl<D: D3D12Device> Allocator<D> {
         log: &L,
         allocation: Allocation,
     ) -> Result<(), (AllocationError, Allocation)>
-        ensures frees { Frees D.D3D12Device allocation self.old.slots (device_of self.old.device) result self.new.slots (device_of self.new.device) }
+        ensures frees { Frees D.D3D12Device allocation self.old result self.new }
         ensures constant { (self.new.first ≡ self.old.first) × (self.new.setup ≡ self.old.setup) }
         ensures step { IsStep D.D3D12Device (Free allocation) (freed_as result) self.old self.new }
         ensures keeps { (b : Allocation) → IsLive self.old.slots b → AreDistinct b allocation → IsLive self.new.slots b }
     {
-        log_free(log, self.setup.debug, &allocation);
+        log_free(log, self.debug, &allocation);
         let piece = allocation.piece();
         let index = allocation.memory_type_index;
-        let device = self.device.device_mut();
-        match free_piece(device, &mut self.types, index, &piece) {
+        match self.pool.free(index, &piece) {
             Ok(()) => Ok(()),
             Err(error) => Err((error, allocation)),
         }
@@ -239,70 +214,17 @@ impl<D: D3D12Device> Allocator<D> {
     pub fn set_budget(&mut self, memory_type: usize, budget: Option<u64>) -> Result<()>
         ensures budgets { SetsBudget memory_type budget self.old.budgets (refusal_in result) self.new.budgets }
         ensures others { self.new ≡ record self.old { budgets = self.new.budgets } }
-        ensures step { IsStep D.D3D12Device (SetBudget memory_type budget) (renamed_as result) self.old self.new }
+        ensures step { IsStep D.D3D12Device (SetBudget memory_type budget) (done_as result) self.old self.new }
     {
-        self.types.set_budget(memory_type, budget)
+        self.pool.set_budget(memory_type, budget)
     }
 
     /// The budget of a memory type, in bytes; `None` where it has none, or there is no such type.
     pub fn budget(&self, memory_type: usize) -> Option<u64>
         ensures budget { result ≡ budget_at self.now.budgets memory_type }
-        ensures step { IsStep D.D3D12Device (Budget memory_type) (replies.Budget result) self.now self.now }
+        ensures step { IsStep D.D3D12Device (Budget memory_type) (module_replies.Pool (replies.Budget result)) self.now self.now }
     {
-        self.types.budget(memory_type)
-    }
-
-    /// Makes a committed resource by this question.
-    fn commit(
-        &mut self,
-        question: ResourceQuestion,
-        own: OwnMemory,
-        desc: &ResourceCreateDesc,
-    ) -> Result<Resource>
-        ensures step { IsMadeBy D.D3D12Device (CommitStep (basis_of D.D3D12Device self.old) desc.now question (own.entry.heap_properties.now, own.entry.heap_flags)) desc.now result self.old self.new }
-        ensures constant { (self.new.first ≡ self.old.first) × (self.new.setup ≡ self.old.setup) × (self.new.slots ≡ self.old.slots) }
-    {
-        let size = allocation_info_of(&self.device, desc).size_in_bytes;
-        let index = type_for(
-            self.setup.tier,
-            desc.memory_location,
-            desc.resource_category,
-        );
-        let device = self.device.device_mut();
-        match self
-            .committed
-            .create(device, index, question, own, desc, size)
-        {
-            Err(error) => Err(error),
-            Ok(resource) => Ok(committed_at(desc, index, resource, size)),
-        }
-    }
-
-    /// Makes a placed resource by this question.
-    fn place<L: Log>(
-        &mut self,
-        log: &L,
-        question: ResourceQuestion,
-        desc: &ResourceCreateDesc,
-    ) -> Result<Resource>
-        ensures step { IsMadeBy D.D3D12Device (PlaceStep (basis_of D.D3D12Device self.old) desc.now question) desc.now result self.old self.new }
-        ensures constant { (self.new.first ≡ self.old.first) × (self.new.setup ≡ self.old.setup) × (self.new.committed ≡ self.old.committed) }
-        ensures keeps { StayLive self.old.slots self.new.slots }
-        ensures gives { IfOk result (λ r. IsNewIn self.old.slots self.new.slots r.allocation) }
-        ensures aligned { IfOk result (λ r. BeginsAligned (info_of (basis_of D.D3D12Device self.old) desc.now).alignment r.allocation) }
-    {
-        let asked = piece_desc(desc, allocation_info_of(&self.device, desc));
-        log_allocate(log, self.setup.debug, &asked);
-        let device = self.device.device_mut();
-        make_placed(
-            self.alloc,
-            &self.setup,
-            device,
-            &mut self.types,
-            question,
-            desc,
-            &asked,
-        )
+        self.pool.budget(memory_type)
     }
 
     /// Makes a resource: in a piece of a heap, or in memory of its own. Its size in bytes and its alignment are what the device
@@ -331,10 +253,11 @@ impl<D: D3D12Device> Allocator<D> {
         ensures gives { IfOk result (λ r. IsNewIn self.old.slots self.new.slots r.allocation) }
         ensures aligned { IfOk result (λ r. BeginsAligned (info_of (basis_of D.D3D12Device self.old) desc.now).alignment r.allocation) }
     {
-        let question = match question_for(&self.device, desc) {
+        let question = match question_for(self.pool.source().device(), desc) {
             Err(error) => return Err(error),
             Ok(question) => question,
         };
+        let pool = &mut self.pool;
         match desc.resource_type {
             ResourceType::Committed {
                 heap_properties,
@@ -344,9 +267,11 @@ impl<D: D3D12Device> Allocator<D> {
                     heap_properties,
                     heap_flags: *heap_flags,
                 };
-                self.commit(question, own, desc)
+                make_committed(pool, &mut self.committed, question, own, desc)
             }
-            ResourceType::Placed => self.place(log, question, desc),
+            ResourceType::Placed => {
+                make_placed(log, self.debug, self.alloc, pool, question, desc)
+            }
         }
     }
 
@@ -363,16 +288,8 @@ impl<D: D3D12Device> Allocator<D> {
         ensures back { IfErr result (λ e. e.1 ≡ resource) }
         ensures constant { (self.new.first ≡ self.old.first) × (self.new.setup ≡ self.old.setup) }
     {
-        let debug = self.setup.debug;
-        let device = self.device.device_mut();
-        match give_back(
-            log,
-            debug,
-            device,
-            &mut self.types,
-            &mut self.committed,
-            &resource,
-        ) {
+        let pool = &mut self.pool;
+        match free_resource(log, self.debug, pool, &mut self.committed, &resource) {
             Ok(()) => Ok(()),
             Err(error) => Err((error, resource)),
         }
@@ -382,7 +299,7 @@ impl<D: D3D12Device> Allocator<D> {
     /// sum in bytes; `None` where there is no such memory type.
     pub fn committed(&self, memory_type: usize) -> Option<CommittedAllocationStatistics>
         ensures statistics { result ≡ statistics_at self.now.committed memory_type }
-        ensures step { IsStep D.D3D12Device (Statistics memory_type) (replies.Statistics result) self.now self.now }
+        ensures step { IsStep D.D3D12Device (Statistics memory_type) (module_replies.Statistics result) self.now self.now }
     {
         self.committed.statistics(memory_type)
     }
@@ -390,12 +307,12 @@ impl<D: D3D12Device> Allocator<D> {
     /// Gives an allocation another name, and with it the record that reports and leaks show. `Internal` where the
     /// allocation isn't live, else `HostOutOfMemory` where the host refused memory; then both names are as they were.
     pub fn rename_allocation(&mut self, allocation: &mut Allocation, name: &str) -> Result<()>
-        ensures renames { Renames allocation.old name.now self.old.slots result allocation.new self.new.slots }
-        ensures step { IsStep D.D3D12Device (Rename allocation.old name.now) (renamed_as result) self.old self.new }
+        ensures renames { Renames allocation.old name.now (pool_of self.old) result allocation.new (pool_of self.new) }
+        ensures step { IsStep D.D3D12Device (Rename allocation.old name.now) (done_as result) self.old self.new }
         ensures live { StayLive self.old.slots self.new.slots }
         ensures constant { (self.new.device ≡ self.old.device) × (self.new.first ≡ self.old.first) × (self.new.setup ≡ self.old.setup) }
     {
-        rename(self.alloc, &mut self.types, allocation, name)
+        rename(self.alloc, &mut self.pool, allocation, name)
     }
 
     /// What is allocated: the live blocks and pieces by memory type, then by slot, pieces by offset, and the sums of both.
@@ -406,22 +323,22 @@ impl<D: D3D12Device> Allocator<D> {
         ensures capacity { IfOk result (λ r. r.total_capacity_bytes ≡ total_capacity self.now.slots) }
         ensures cause { IfErr result (λ e. e ≡ HostOutOfMemory) }
     {
-        self.types.report(self.alloc)
+        self.pool.report(self.alloc)
     }
 
     /// The texts of all live pieces by memory type, then by slot, then in order of offset. The only refusal is
     /// `HostOutOfMemory`.
     pub fn leak_texts(&self) -> Result<Vec<String>>
-        ensures step { IsStep D.D3D12Device Leaks (told_as result) self.now self.now }
+        ensures step { IsStep D.D3D12Device Leaks (leaked_as result) self.now self.now }
         ensures texts { IfOk result (λ v. map string_bytes v.items ≡ map leak_text (all_leaks self.now.slots)) }
         ensures cause { IfErr result (λ e. e ≡ HostOutOfMemory) }
     {
-        self.types.leak_texts(self.alloc)
+        self.pool.leak_texts(self.alloc)
     }
 
     /// Logs the same texts one by one, each as a message of its own. It takes no memory.
     pub fn report_memory_leaks<L: Log>(&self, log: &L, level: Level) {
-        log_leaks(log, level, &self.types);
+        log_leaks(log, level, self.pool.memory_types());
     }
 
     /// Gives every block back, and returns the device, which then holds what it held when it was handed in, and the resources
@@ -433,16 +350,13 @@ impl<D: D3D12Device> Allocator<D> {
         ensures asks_nothing { AsksNothing D.D3D12Device (device_of self.device) (device_of result) }
         ensures version { result ≡ with_device self.first (device_of result) }
     {
+        log_last_leaks(log, self.debug, self.pool.memory_types());
         let Allocator {
-            mut device,
-            first: _,
-            setup,
-            types,
+            pool,
             committed: _,
+            debug: _,
             alloc: _,
         } = self;
-        log_last_leaks(log, setup.debug, &types);
-        free_all(device.device_mut(), &types);
-        device
+        pool.destroy().into_device()
     }
 }

@@ -2,20 +2,19 @@
 
 ghost use Rattle.std.specs.Prelude.{◌≡◌};
 ghost use Rattle.gpu_memory_types.specs.Blocks.{BlocksWellFormed};
-ghost use Rattle.gpu_d3d12.specs.Budgets.{MeetsNoBudget, without_budgets};
-ghost use Rattle.gpu_d3d12.specs.State.{Basis, Contents};
 ghost use Rattle.gpu_d3d12.specs.Reply.{Reply};
-ghost use Rattle.gpu_d3d12.specs.Step.{Call, Environment, Step};
+ghost use Rattle.gpu_d3d12.specs.State.{Basis, Model, without_budgets};
+ghost use Rattle.gpu_d3d12.specs.Step.{Call, Environment, Step, MeetsNoBudget};
 
-/// The model isn't loose: a state, a call, and what the device and the host answered it decide the reply and the next state.
+/// The model isn't loose: a state, a call and what it met with decide the reply and the next state.
 pub fn one_step()
-    ensures { (basis : Basis) (call : Call) (met : Environment) (a b : Reply) (old new next : Contents) → BlocksWellFormed 1 old.slots
+    ensures { (basis : Basis) (call : Call) (met : Environment) (a b : Reply) (old new next : Model) → BlocksWellFormed 1 old.pool.slots
         → Step basis call met a old new → Step basis call met b old next → (a ≡ b) × (new ≡ next) }
 {}
 
-/// Budgets of memory types that aren't asked decide nothing: a call that asks no memory type with a budget answers and steps
+/// Budgets of memory types that aren't asked decide nothing: a call that asks no memory type with a budget returns and steps
 /// as if there were no budgets.
 pub fn unasked_budgets_decide_nothing()
-    ensures { (basis : Basis) (call : Call) (met : Environment) (reply : Reply) (old new : Contents) → MeetsNoBudget basis call old.budgets
+    ensures { (basis : Basis) (call : Call) (met : Environment) (reply : Reply) (old new : Model) → MeetsNoBudget basis call old.pool.budgets
         → Step basis call met reply old new → Step basis call met reply (without_budgets old) (without_budgets new) }
 {}

@@ -1,25 +1,29 @@
-//! Making resources: what is given for the device's, and a piece of a heap for a placed one.
+//! Making resources: what is given for the device's, in a piece of a heap or in memory of its own.
 
-ghost use Rattle.std.specs.Prelude.{◌≡◌, None};
-ghost use Rattle.gpu_memory_types.specs.Budgets.{budgets};
-ghost use Rattle.gpu_memory_types.specs.Types.{slots_of, kinds, MemoryTypesInvariant};
-ghost use Rattle.gpu_d3d12_setup.specs.Question.{made_size};
+ghost use Rattle.std.specs.Prelude.{◌≡◌, ◌≤◌, None, IfOk, length};
+ghost use Rattle.gpu_d3d12_setup.specs.MemoryKinds.{memory_kinds, IsFirstServing};
 ghost use Rattle.gpu_d3d12_setup.specs.Setup.{kinds_told};
-ghost use Rattle.gpu_d3d12.specs.Resource.{piece_desc, IsMade, IsPlaced, IsPlacedIn};
+ghost use Rattle.gpu_d3d12.specs.Live.{StayLive};
+ghost use Rattle.gpu_d3d12.specs.Over.{IsCommittedOver, IsPlacedOver};
+ghost use Rattle.gpu_d3d12.specs.Resource.{piece_desc, IsMade, IsPlacedIn, IsNewIn, BeginsAligned};
+ghost use Rattle.gpu_d3d12.specs.State.{source_basis};
+ghost use Rattle.gpu_d3d12.specs.Step.{info_of};
 
-use crate::attempt::serve;
-use crate::{Allocation, Resource};
-use gpu_d3d12_blocks::free_piece;
+use crate::allocating::allocate_piece;
+use crate::logging::log_allocate;
+use crate::source::D3D12Blocks;
+use crate::{Allocation, CommittedResources, OwnMemory, Resource};
 use gpu_d3d12_setup::{
-    AllocationCreateDesc, ResourceCreateDesc, ResourceQuestion, Setup, create_placed,
+    AllocationCreateDesc, ResourceCreateDesc, ResourceQuestion, allocation_info_of, type_for,
 };
-use gpu_device::d3d12::{D3D12Device, ID3D12Heap, ID3D12Resource, ResourceAllocationInfo};
-use gpu_memory_types::MemoryTypes;
-use gpu_values::Result;
+use gpu_device::d3d12::{D3D12Device, ID3D12Resource, ResourceAllocationInfo};
+use gpu_pool::Pool;
+use gpu_values::{AllocatorDebugSettings, Result};
+use log::Log;
 use std::alloc::Global;
 
 /// What the piece of a placed resource is asked for, where the device tells this of it.
-pub fn piece_desc<'a>(
+fn piece_desc<'a>(
     desc: &ResourceCreateDesc<'a>,
     info: ResourceAllocationInfo,
 ) -> AllocationCreateDesc<'a>
@@ -35,7 +39,7 @@ pub fn piece_desc<'a>(
 }
 
 /// The resource in memory of its own, of the memory type at `index`.
-pub fn committed_at(
+fn committed_at(
     desc: &ResourceCreateDesc,
     index: usize,
     resource: ID3D12Resource,
@@ -70,35 +74,59 @@ fn placed_in(
     }
 }
 
-/// A resource in a piece of its own, which is asked for by `asked`. Where the device refuses the resource, the piece is
-/// given back.
-pub fn make_placed<D: D3D12Device>(
+/// Makes a committed resource by this question.
+pub fn make_committed<D: D3D12Device>(
+    pool: &mut Pool<D3D12Blocks<D>>,
+    committed: &mut CommittedResources,
+    question: ResourceQuestion,
+    own: OwnMemory,
+    desc: &ResourceCreateDesc,
+) -> Result<Resource>
+    requires { length committed.old ≡ length (kinds_told pool.old.source.tier) }
+    ensures made { IsCommittedOver D.D3D12Device desc.now question (own.entry.heap_properties.now, own.entry.heap_flags)
+        (record { pool = pool.old; committed = committed.old }) result (record { pool = pool.new; committed = committed.new }) }
+    ensures kinds { kinds_told pool.new.source.tier ≡ kinds_told pool.old.source.tier }
+    ensures many { length committed.new ≡ length committed.old }
+    ensures alone { IfOk result (λ r. r.allocation ≡ None) }
+{
+    let source = &mut pool.source;
+    let size = allocation_info_of(source.device(), desc).size_in_bytes;
+    let index = type_for(source.tier(), desc.memory_location, desc.resource_category);
+    match committed.create(source, index, question, own, desc, size) {
+        Err(error) => Err(error),
+        Ok(resource) => Ok(committed_at(desc, index, resource, size)),
+    }
+}
+
+/// Makes a placed resource by this question, in a piece of its own. Where the device refuses the resource, the piece is freed.
+pub fn make_placed<D: D3D12Device, L: Log>(
+    log: &L,
+    debug: AllocatorDebugSettings,
     alloc: Global,
-    setup: &Setup,
-    device: &mut D,
-    types: &mut MemoryTypes<ID3D12Heap>,
+    pool: &mut Pool<D3D12Blocks<D>>,
     question: ResourceQuestion,
     desc: &ResourceCreateDesc,
-    asked: &AllocationCreateDesc,
 ) -> Result<Resource>
-    requires kinds { kinds types.old ≡ kinds_told setup.now.tier }
-    requires kept { MemoryTypesInvariant types.old }
-    ensures placed { IsPlaced D.D3D12Device setup.now (budgets types.old) question desc.now asked.now
-        (made_size (D.properties device.old) question desc.now.resource_desc.now desc.now.castable_formats.now)
-        (slots_of types.old) device.old result (slots_of types.new) device.new }
-    ensures kinds { kinds types.new ≡ kinds types.old }
-    ensures budgets { budgets types.new ≡ budgets types.old }
-    ensures kept { MemoryTypesInvariant types.new }
+    ensures made { IsPlacedOver D.D3D12Device desc.now question pool.old result pool.new }
+    ensures kinds { kinds_told pool.new.source.tier ≡ kinds_told pool.old.source.tier }
+    ensures keeps { StayLive pool.old.slots pool.new.slots }
+    ensures gives { IfOk result (λ r. IsNewIn pool.old.slots pool.new.slots r.allocation) }
+    ensures aligned { IfOk result (λ r. BeginsAligned (info_of (source_basis D.D3D12Device pool.old.source) desc.now).alignment r.allocation) }
 {
-    let allocation = match serve(alloc, setup, device, types, asked) {
+    let asked = piece_desc(desc, allocation_info_of(pool.source().device(), desc));
+    log_allocate(log, debug, &asked);
+    let allocation = match allocate_piece(alloc, pool, &asked) {
         Err(error) => return Err(error),
         Ok(allocation) => allocation,
     };
-    match create_placed(device, question, desc, allocation.heap, allocation.offset) {
+    match pool
+        .source
+        .create_placed(question, desc, allocation.heap, allocation.offset)
+    {
         Ok(resource) => Ok(placed_in(desc, allocation, resource, asked.size)),
         Err(error) => {
             let piece = allocation.piece();
-            let _ = free_piece(device, types, allocation.memory_type_index, &piece);
+            let _ = pool.free(allocation.memory_type_index, &piece);
             Err(error)
         }
     }

@@ -1,85 +1,43 @@
-//! Giving pieces other names.
+//! Renaming pieces.
 
-ghost use Rattle.std.specs.Prelude.{◌≡◌, Some, IfOk, IfErr, OnOk, OnErr, IsSomeAnd, string_bytes};
-ghost use Rattle.gpu_values.specs.declared.error.AllocationError.TheVariants.{HostOutOfMemory};
-ghost use Rattle.gpu_values.specs.Refusal.{refusal_of};
-ghost use Rattle.gpu_memory_types.specs.Blocks.{slots_at};
-ghost use Rattle.gpu_memory_types.specs.Rename.{IsNotNamed, IsRenamed};
-ghost use Rattle.gpu_memory_types.specs.Budgets.{budgets};
-ghost use Rattle.gpu_memory_types.specs.Types.{slots_of, kinds, MemoryTypesInvariant};
-ghost use Rattle.gpu_d3d12_blocks.specs.Release.{is_same_heap, IsLiveIn};
+ghost use Rattle.std.specs.Prelude.{◌≡◌};
+ghost use Rattle.gpu_d3d12.specs.Live.{StayLive};
 ghost use Rattle.gpu_d3d12.specs.Rename.{Renames};
 
 use crate::Allocation;
-use gpu_device::d3d12::ID3D12Heap;
-use gpu_memory_types::MemoryTypes;
-use gpu_slots::Piece;
-use gpu_values::Result;
-use std::alloc::Global;
-
-/// The name in memory of its own where the piece is live. For any other none is taken. The only refusal is
-/// `HostOutOfMemory`.
-fn name_for(
-    alloc: Global,
-    types: &MemoryTypes<ID3D12Heap>,
-    index: usize,
-    piece: &Piece<ID3D12Heap>,
-    name: &str,
-) -> Result<Option<String>>
-    ensures name { IsLiveIn (slots_of types.now) index (Some piece.now) → IfOk result (λ own. IsSomeAnd own (λ s. string_bytes s ≡ name.now)) }
-    ensures cause { IfErr result (λ e. e ≡ HostOutOfMemory) }
-    ensures live { OnErr result (IsLiveIn (slots_of types.now) index (Some piece.now)) }
-{
-    if !types.is_live(index, piece) {
-        return Ok(None);
-    }
-    Ok(Some(String::from_str(alloc, name)?))
-}
-
-/// Gives a live piece of the memory type at `index` another name, which is answered in memory of its own. A refusal
-/// changes nothing.
-fn rename_piece(
-    alloc: Global,
-    types: &mut MemoryTypes<ID3D12Heap>,
-    index: usize,
-    piece: &Piece<ID3D12Heap>,
-    name: &str,
-) -> Result<Option<String>>
-    ensures name { IfOk result (λ own. IsSomeAnd own (λ s. string_bytes s ≡ name.now)) }
-    ensures renamed { OnOk result (IsRenamed is_same_heap index piece.now name.now (slots_of types.old) (slots_of types.new)) }
-    ensures cause { IfErr result (λ e. IsNotNamed is_same_heap (slots_at (slots_of types.old) index) piece.now (refusal_of e)) }
-    ensures refused { OnErr result (slots_of types.new ≡ slots_of types.old) }
-    ensures kinds { kinds types.new ≡ kinds types.old }
-    ensures budgets { budgets types.new ≡ budgets types.old }
-    ensures kept { MemoryTypesInvariant types.old → MemoryTypesInvariant types.new }
-{
-    let own = name_for(alloc, types, index, piece, name)?;
-    match types.rename(index, piece, name) {
-        Ok(()) => Ok(own),
-        Err(error) => Err(error),
-    }
-}
+use crate::source::D3D12Blocks;
+use gpu_device::d3d12::D3D12Device;
+use gpu_pool::Pool;
+use gpu_values::{AllocationError, Result};
+use std::alloc::{AllocError, Global};
 
 /// Gives an allocation another name, and the record of its piece with it. `Internal` where it isn't live, else
 /// `HostOutOfMemory` where the host refused memory; a refusal changes nothing.
-pub fn rename(
+pub fn rename<D: D3D12Device>(
     alloc: Global,
-    types: &mut MemoryTypes<ID3D12Heap>,
+    pool: &mut Pool<D3D12Blocks<D>>,
     allocation: &mut Allocation,
     name: &str,
 ) -> Result<()>
-    ensures renames { Renames allocation.old name.now (slots_of types.old) result allocation.new (slots_of types.new) }
-    ensures kinds { kinds types.new ≡ kinds types.old }
-    ensures budgets { budgets types.new ≡ budgets types.old }
-    ensures kept { MemoryTypesInvariant types.old → MemoryTypesInvariant types.new }
+    ensures renames { Renames allocation.old name.now pool.old result allocation.new pool.new }
+    ensures live { StayLive pool.old.slots pool.new.slots }
+    ensures source { pool.new.source ≡ pool.old.source }
 {
     let piece = allocation.piece();
-    match rename_piece(alloc, types, allocation.memory_type_index, &piece, name) {
-        Ok(Some(own)) => {
+    let index = allocation.memory_type_index;
+    if !pool.is_live(index, &piece) {
+        // This is refused, and says why.
+        return pool.rename(index, &piece, name);
+    }
+    let own = match String::from_str(alloc, name) {
+        Ok(own) => own,
+        Err(AllocError) => return Err(AllocationError::HostOutOfMemory),
+    };
+    match pool.rename(index, &piece, name) {
+        Ok(()) => {
             allocation.name = own;
             Ok(())
         }
-        Ok(None) => Ok(()),
         Err(error) => Err(error),
     }
 }

@@ -22,4 +22,4 @@ pub use question::{
     ResourceStateOrBarrierLayout, ResourceType, allocation_info_of, question_for,
 };
 pub use resource::{create_committed, create_placed};
-pub use setup::{Setup, empty_types, parts_of, tier_of};
+pub use setup::{empty_types, parts_of, tier_of};

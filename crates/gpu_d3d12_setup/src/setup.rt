@@ -1,4 +1,4 @@
-//! What an allocator is made with, and never changes.
+//! The heap tier of a device, and its memory types.
 
 ghost use Rattle.std.specs.Prelude.{◌≡◌, ℤ, Ok, Err, IfOk, IfErr, MatchResult, All, [], None};
 ghost use Rattle.std.specs.Option.{unwrap_or};
@@ -12,19 +12,8 @@ use crate::memory_kind::{kind_at, type_count};
 use gpu_core::MemoryType;
 use gpu_device::d3d12::{D3D12Device, ID3D12Heap, ResourceHeapTier};
 use gpu_memory_types::MemoryTypes;
-use gpu_values::{AllocationError, AllocationSizes, AllocatorDebugSettings, Fault, Result};
+use gpu_values::{AllocationError, Fault, Result};
 use std::alloc::{AllocError, Global};
-
-/// What the device told of itself, and what the allocator's maker chose.
-#[derive(Clone, Copy, Debug)]
-pub struct Setup {
-    /// Whether a heap may hold resources of all kinds, which decides the memory types.
-    pub tier: ResourceHeapTier,
-    /// How large the blocks are, in bytes.
-    pub sizes: AllocationSizes,
-    /// What is logged.
-    pub debug: AllocatorDebugSettings,
-}
 
 /// The device's heap tier, or why it can't be told. That is a property of the device, and no refused question.
 pub fn tier_of<D: D3D12Device>(device: &D) -> Result<ResourceHeapTier>
@@ -58,17 +47,14 @@ pub fn empty_types(
     Ok(types)
 }
 
-/// The setup over a device, and its memory types. `Internal` where the device can't tell its heap tier, else
-/// `HostOutOfMemory` where the host refused memory.
+/// The device's heap tier, and its memory types. `Internal` where the device can't tell its heap tier, else `HostOutOfMemory`
+/// where the host refused memory.
 pub fn parts_of<D: D3D12Device>(
     alloc: Global,
     device: &D,
-    sizes: AllocationSizes,
-    debug: AllocatorDebugSettings,
-) -> Result<(Setup, MemoryTypes<ID3D12Heap>)>
-    ensures tier { IfOk result (λ parts. (D.properties device.now).tier ≡ Ok parts.0.tier) }
-    ensures chosen { IfOk result (λ parts. (parts.0.sizes ≡ sizes) × (parts.0.debug ≡ debug)) }
-    ensures kinds { IfOk result (λ parts. kinds parts.1 ≡ kinds_told parts.0.tier) }
+) -> Result<(ResourceHeapTier, MemoryTypes<ID3D12Heap>)>
+    ensures tier { IfOk result (λ parts. (D.properties device.now).tier ≡ Ok parts.0) }
+    ensures kinds { IfOk result (λ parts. kinds parts.1 ≡ kinds_told parts.0) }
     ensures empty { IfOk result (λ parts. All (λ slots. slots ≡ []) (slots_of parts.1)) }
     ensures unbounded { IfOk result (λ parts. All (λ b. b ≡ None) (budgets parts.1)) }
     ensures kept { IfOk result (λ parts. MemoryTypesInvariant parts.1) }
@@ -78,10 +64,8 @@ pub fn parts_of<D: D3D12Device>(
         Ok(tier) => tier,
         Err(error) => return Err(error),
     };
-    let types = match empty_types(alloc, tier) {
-        Ok(types) => types,
-        Err(AllocError) => return Err(AllocationError::HostOutOfMemory),
-    };
-    let setup = Setup { tier, sizes, debug };
-    Ok((setup, MemoryTypes::new(types)))
+    match empty_types(alloc, tier) {
+        Ok(types) => Ok((tier, MemoryTypes::new(types))),
+        Err(AllocError) => Err(AllocationError::HostOutOfMemory),
+    }
 }

@@ -1,4 +1,4 @@
-use Rattle.gpu_d3d12.proofs.OneOutcome.{step_once}
+use Rattle.gpu_d3d12.proofs.OneStep.{step_once}
 use Rattle.gpu_d3d12.proofs.laws.one_step.Goals as goal
 
 pub returns : goal.returns

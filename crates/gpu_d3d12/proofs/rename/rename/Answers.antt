@@ -1,20 +1,7 @@
-use Rattle.std.proofs.Common.{subst, refl, rules}
-use Rattle.gpu_slots.specs.declared.piece.Piece.{Piece}
-use Rattle.gpu_device.specs.declared.d3d12.types.ID3D12Heap.{ID3D12Heap}
-use Rattle.gpu_memory_types.specs.Blocks.{slots_at}
-use Rattle.gpu_memory_types.specs.Rename.{IsNotNamed}
-use Rattle.gpu_memory_types.specs.Types.{slots_of}
-use Rattle.gpu_values.specs.Refusal.{refusal_of}
-use Rattle.gpu_d3d12_blocks.specs.Release.{is_same_heap}
+use Rattle.gpu_pool.specs.Source.{result_of}
+use Rattle.gpu_d3d12.proofs.Naming.{renamed_lives}
 use Rattle.gpu_d3d12.proofs.rename.rename.Goals as goal
 
-pub returns-in-Err-clause-renames : goal.returns-in-Err-clause-renames
-returns-in-Err-clause-renames c = (
-  subst (λ (p : Piece ID3D12Heap). IsNotNamed is_same_heap (slots_at (slots_of c.args.types.now) c.args.allocation.now.memory_type_index) p (refusal_of c.in-Err.error))
-      c.piece-piece.ensures c.in-Err.ensures.cause,
-  refl,
-  c.in-Err.ensures.refused,
-)
-
-pub returns-in-Ok-Some-clause-renames : goal.returns-in-Ok-Some-clause-renames
-returns-in-Ok-Some-clause-renames c = search rules
+pub returns-in-Ok-rename-clause-live : goal.returns-in-Ok-rename-clause-live
+returns-in-Ok-rename-clause-live g c = λ x live.
+    renamed_lives c.args.allocation.now.memory_type_index c.piece-piece.result c.args.name.now c.args.pool.now (result_of c.rename-2.result) c.rename-2.new.self c.rename-2.ensures.renames x live

@@ -1,22 +1,14 @@
-use Rattle.gpu_d3d12_setup.specs.DeviceVersion.{device_of}
-use Rattle.gpu_d3d12.specs.State.{AllocatorInvariant, beside_of}
-use Rattle.gpu_d3d12.proofs.Apart.{live_inside, live_apart}
+use Rattle.std.proofs.Common.{sym, subst}
+use Rattle.gpu_d3d12.specs.Live.{piece_of, IsLive}
+use Rattle.gpu_d3d12.specs.State.{State}
+use Rattle.gpu_d3d12.specs.declared.allocation.Allocation.{Allocation}
 use Rattle.gpu_d3d12.proofs.allocator.Allocator.allocations_are_apart.Goals as goal
+use Rattle.gpu_d3d12.proofs.allocator.Allocator.allocations_are_apart.Goals.{After-pieces_are_apart}
 
-pub returns-clause-inside : goal.returns-clause-inside
-returns-clause-inside g c =
-    let V = g.D.D3D12Device in
-    let s = c.args.self.now in
-    let first = device_of s.first in
-    let now = device_of s.device in
-    let kept : AllocatorInvariant (V.properties first) (V.properties now) (beside_of V s) (V.held now) s.setup s.slots = rw (← c.self.view_is) c.self.invariant.1 in
-    live_inside s.setup.tier (beside_of V s) (V.held (device_of s.device)) s.slots kept.sound kept.holds
+inside : (g : _) (c : After-pieces_are_apart g) → (a : Allocation) → IsLive c.args.self.now.slots a → IsLive c.self.inside.pool.slots a
+inside g c a live = subst (λ (s : State g.row.D.Denot). IsLive s.slots a) (sym c.self.view_is) live
 
 pub returns-clause-apart : goal.returns-clause-apart
-returns-clause-apart g c =
-    let V = g.D.D3D12Device in
-    let s = c.args.self.now in
-    let first = device_of s.first in
-    let now = device_of s.device in
-    let kept : AllocatorInvariant (V.properties first) (V.properties now) (beside_of V s) (V.held now) s.setup s.slots = rw (← c.self.view_is) c.self.invariant.1 in
-    live_apart s.setup.tier (beside_of V s) (V.held (device_of s.device)) s.slots kept.sound kept.holds
+returns-clause-apart g c = λ a b live_a live_b other.
+    let later = (goal.at.returns-clause-apart g c).After-pieces_are_apart in
+    c.pieces_are_apart.ensures.apart a.memory_type_index (piece_of a) b.memory_type_index (piece_of b) (inside g later a live_a) (inside g later b live_b) other

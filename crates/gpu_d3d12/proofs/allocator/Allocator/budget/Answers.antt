@@ -1,8 +1,9 @@
-use Rattle.std.proofs.Common.{rules}
+use Rattle.std.proofs.Common.{rules, ◌≡◌}
+use Rattle.gpu_memory_types.specs.Budgets.{budget_at}
+use Rattle.gpu_d3d12.proofs.Calls.{budget_step}
 use Rattle.gpu_d3d12.proofs.allocator.Allocator.budget.Goals as goal
 
-pub returns-clause-budget : goal.returns-clause-budget
-returns-clause-budget g c = search rules
-
 pub returns-clause-step : goal.returns-clause-step
-returns-clause-step g c = search rules
+returns-clause-step g c =
+    let is : c.budget.result ≡ budget_at c.args.self.now.budgets c.args.memory_type = search rules in
+    budget_step g.D.D3D12Device c.args.self.now c.args.memory_type c.budget.result is

@@ -1,20 +1,31 @@
-use Rattle.std.proofs.Common.{◌∙◌, ap}
-use Rattle.gpu_memory_types.specs.Types.{slots_of}
-use Rattle.gpu_d3d12_setup.specs.DeviceVersion.{device_of}
-use Rattle.gpu_d3d12_blocks.specs.Blocks.{beside}
-use Rattle.gpu_d3d12_blocks.specs.Release.{without_all}
+use Rattle.std.proofs.Common.{◌∙◌, sym, ap, subst}
+use Rattle.gpu_d3d12_setup.specs.DeviceVersion.{device_of, with_device}
+use Rattle.gpu_d3d12_setup.specs.declared.device_version.ID3D12DeviceVersion.{ID3D12DeviceVersion}
+use Rattle.gpu_d3d12.specs.Blocks.{AsksNothing}
 use Rattle.gpu_d3d12.specs.State.{State, beside_of}
-use Rattle.gpu_d3d12_blocks.proofs.Returned.{all_returned}
-use Rattle.gpu_d3d12.proofs.Steps.{device_with}
+use Rattle.gpu_d3d12.proofs.Leaving.{empties}
+use Rattle.gpu_d3d12.proofs.Staying.{all_back_stays, same_first}
 use Rattle.gpu_d3d12.proofs.allocator.Allocator.destroy.Goals as goal
 
 pub returns-clause-held : goal.returns-clause-held
 returns-clause-held g c =
     let V = g.D.D3D12Device in
     let i = c.self.inside in
-    let ss = slots_of i.types in
-    ap V.held (device_with i.device c.free_all.new.device)
-    ∙ c.free_all.ensures.held
-    ∙ ap (λ d. without_all (V.held d) ss) c.device_mut.ensures.value
-    ∙ all_returned i.setup.tier (beside (V.held (device_of i.device)) ss) (V.held (device_of i.device)) ss c.self.invariant.1.holds
-    ∙ ap (λ (s : State g.row.D.Denot). beside_of V s) c.self.view_is
+    c.into_device.ensures.held ∙ (empties V i.pool.source _ c.destroy.result c.destroy.ensures.gives_back).beside ∙ ap (λ (s : State g.row.D.Denot). beside_of V s) c.self.view_is
+
+pub returns-clause-asks_nothing : goal.returns-clause-asks_nothing
+returns-clause-asks_nothing g c =
+    let V = g.D.D3D12Device in
+    let i = c.self.inside in
+    let k = empties V i.pool.source _ c.destroy.result c.destroy.ensures.gives_back in
+    subst (λ (s : State g.row.D.Denot). AsksNothing V (device_of s.device) (device_of c.into_device.result)) c.self.view_is
+    (subst (λ (v : ID3D12DeviceVersion g.row.D.Denot). AsksNothing V (device_of i.pool.source.device) (device_of v)) (sym c.into_device.ensures.same) k.asks_nothing)
+
+pub returns-clause-version : goal.returns-clause-version
+returns-clause-version g c =
+    let V = g.D.D3D12Device in
+    let i = c.self.inside in
+    let to = device_of c.into_device.result in
+    c.into_device.ensures.version
+    ∙ ap (λ (v : ID3D12DeviceVersion g.row.D.Denot). with_device v to) (same_first V i.pool.source c.destroy.result (all_back_stays V i.pool.source _ c.destroy.result c.destroy.ensures.gives_back))
+    ∙ ap (λ (s : State g.row.D.Denot). with_device s.first to) c.self.view_is

@@ -1,10 +1,10 @@
 use Rattle.std.proofs.Common.{rules, ◌≡◌, IfOk}
 use Rattle.gpu_values.specs.Report.{report_of}
 use Rattle.gpu_memory_types.specs.Reports.{whole_report}
-use Rattle.gpu_d3d12.proofs.Steps.{report_step}
+use Rattle.gpu_d3d12.proofs.Calls.{report_step}
 use Rattle.gpu_d3d12.proofs.allocator.Allocator.generate_report.Goals as goal
 
 pub returns-clause-step : goal.returns-clause-step
 returns-clause-step g c =
-    let told : IfOk c.report.result (λ r. report_of r ≡ whole_report c.args.self.now.slots) = search rules in
-    report_step g.D.D3D12Device c.args.self.now c.report.result told c.report.ensures.cause
+    let shown : IfOk c.report.result (λ r. report_of r ≡ whole_report c.args.self.now.slots) = search rules in
+    report_step g.D.D3D12Device c.args.self.now c.report.result shown c.report.ensures.cause

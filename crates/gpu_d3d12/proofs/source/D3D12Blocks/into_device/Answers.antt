@@ -1,0 +1,13 @@
+use Rattle.std.proofs.Common.{◌≡◌, ◌∙◌, ℕ, None, sym, ap, subst}
+use Rattle.gpu_d3d12_setup.specs.DeviceVersion.{device_of}
+use Rattle.gpu_d3d12.specs.Source.{SourceState, source_blocks, source_beside}
+use Rattle.gpu_d3d12.proofs.Changing.{all_beside}
+use Rattle.gpu_d3d12.proofs.source.D3D12Blocks.into_device.Goals as goal
+
+pub returns-clause-held : goal.returns-clause-held
+returns-clause-held g c =
+    let V = g.D.D3D12Device in
+    let i = c.self.inside in
+    let was : SourceState g.row.D.Denot = record { device = i.device; first = i.first.value; tier = i.tier } in
+    let none : (n : ℕ) → source_blocks V was n ≡ None = subst (λ (s : SourceState g.row.D.Denot). (n : ℕ) → source_blocks V s n ≡ None) (sym c.self.view_is) c.requires in
+    all_beside (V.held (device_of i.first.value)) (V.held (device_of i.device)) none ∙ ap (source_beside V) c.self.view_is

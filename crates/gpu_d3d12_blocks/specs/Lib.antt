@@ -1,4 +1,0 @@
-pub mod Blocks
-pub mod Suballocation
-pub mod Release
-pub mod Committed
