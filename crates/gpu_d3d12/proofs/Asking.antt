@@ -3,6 +3,7 @@ use Rattle.std.specs.Prelude.{IsSome}
 use Rattle.std.proofs.Common.{◌≡◌, ◌∙◌, refl, sym, ap, subst, ℕ, Option, Some, None, Ok, Err, Result}
 use Rattle.gpu_values.specs.Refusal.{Refusal, refusal_of}
 use Rattle.gpu_values.specs.declared.error.AllocationError.{AllocationError}
+use Rattle.gpu_device.specs.declared.d3d12.event.ResourcePlace.{ResourcePlace}
 use Rattle.gpu_device.specs.D3D12.{Held, Entry, without_resource}
 use Rattle.gpu_device.specs.Granted.{with_granted}
 use Rattle.gpu_device.specs.declared.d3d12.device.D3D12Device.{Ghosts}
@@ -140,15 +141,15 @@ module _ {D : Type 0} (g : Ghosts D) (s : SourceState D) (heap : ID3D12Heap) (so
 -- ---- a resource
 
 -- a resource is asked for, and the blocks stay
-module _ {D : Type 0} (g : Ghosts D) (s : SourceState D) (question : ResourceQuestion) (d : ResourceCreateDesc) (memory : Option (HeapProperties × HeapFlags)) (entry : Entry)
-    (none : entry_block (Some entry) ≡ None) (answer : ResourceAnswer) (h : Holds g s) (after : D) (asked : AsksResource g (device_of s.device) question d memory entry answer after) where
-  answered : AsksResource g (device_of s.device) question d memory entry answer (to g s after)
-  answered = subst (λ (x : D). AsksResource g (device_of s.device) question d memory entry answer x) (to_is g s after) asked
+module _ {D : Type 0} (g : Ghosts D) (s : SourceState D) (question : ResourceQuestion) (d : ResourceCreateDesc) (place : ResourcePlace) (entry : Entry)
+    (none : entry_block (Some entry) ≡ None) (answer : ResourceAnswer) (h : Holds g s) (after : D) (asked : AsksResource g (device_of s.device) question d place entry answer after) where
+  answered : AsksResource g (device_of s.device) question d place entry answer (to g s after)
+  answered = subst (λ (x : D). AsksResource g (device_of s.device) question d place entry answer x) (to_is g s after) asked
 
   stays : Stays s.tier (g.held (device_of s.first)) (held_by g s) (g.held (to g s after)) (with_granted (source_beside g s) (resource_number answer) entry)
   stays = resource_asked s.tier (g.held (device_of s.first)) (held_by g s) entry none h.2 (g.held (to g s after)) (resource_number answer) answered.number answered.held
 
-  pub makes_resource : MakesResource g d s question memory entry answer (new g s after)
+  pub makes_resource : MakesResource g d s question place entry answer (new g s after)
   makes_resource = record { asks = answered; beside = stays.beside_is; state = state_is g s after }
 
   pub made_blocks : (n : ℕ) → source_blocks g (new g s after) n ≡ source_blocks g s n

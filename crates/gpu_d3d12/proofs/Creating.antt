@@ -3,6 +3,8 @@ use Rattle.std.proofs.Common.{◌≡◌, ◌∙◌, refl, sym, ap, subst, ℕ, t
 use Rattle.gpu_values.specs.Refusal.{Refusal, refusal_of}
 use Rattle.gpu_values.specs.declared.error.AllocationError.{AllocationError}
 use Rattle.gpu_slots.specs.declared.piece.Piece.{Piece}
+use Rattle.gpu_device.specs.declared.d3d12.event.ResourcePlace.TheVariants.{Own, InHeap}
+use Rattle.gpu_device.specs.declared.d3d12.event.ResourcePlace.{ResourcePlace}
 use Rattle.gpu_device.specs.D3D12 as entries
 use Rattle.gpu_device.specs.declared.d3d12.device.D3D12Device.{Ghosts}
 use Rattle.gpu_device.specs.declared.d3d12.types.HeapFlags.{HeapFlags}
@@ -98,16 +100,16 @@ module _ {D : Type 0} (g : Ghosts D) (d : ResourceCreateDesc) (question : Resour
       }
 
   module _ (a : Allocation) (sound : IsSound) (allocates : IsAllocated (Ok a)) (between : SourceState D) (answer : ResourceAnswer)
-      (asked : MakesResource g d mid.source question None (entries.Placed a.heap.0 a.offset (made_size (g.properties (device_of mid.source.device)) question d.resource_desc.now d.castable_formats.now)) answer between) where
+      (asked : MakesResource g d mid.source question (InHeap a.heap a.offset) (entries.Placed a.heap.0 a.offset (made_size (g.properties (device_of mid.source.device)) question d.resource_desc.now d.castable_formats.now)) answer between) where
     abbrev made_as : Reply
     made_as = made_reply a.memory_type_index (Some (piece_of a)) size (number_or_refusal placed_texts answer)
 
     same : g.properties (device_of mid.source.device) ≡ g.properties (device_of old.source.device)
     same = (allocates_keeps g p (is_valid p) old (Ok a) mid allocates).source.constant
 
-    asked_here : MakesResource g d mid.source question None (entries.Placed a.heap.0 a.offset (size_made basis question d)) answer between
+    asked_here : MakesResource g d mid.source question (InHeap a.heap a.offset) (entries.Placed a.heap.0 a.offset (size_made basis question d)) answer between
     asked_here =
-        subst (λ q. MakesResource g d mid.source question None (entries.Placed a.heap.0 a.offset (made_size q question d.resource_desc.now d.castable_formats.now)) answer between) same asked
+        subst (λ q. MakesResource g d mid.source question (InHeap a.heap a.offset) (entries.Placed a.heap.0 a.offset (made_size q question d.resource_desc.now d.castable_formats.now)) answer between) same asked
 
     -- the device was asked for the resource in the piece
     pub was_asked : (new : states.Pool D) → EndsBy (AsksBlock g) (GivesHeap g) (MakesResource g) (ReleasesResource g) basis a.memory_type_index (piece_of a) (number_or_refusal placed_texts answer) (record mid { source = between }) new
@@ -161,7 +163,7 @@ module _ {D : Type 0} (g : Ghosts D) (d : ResourceCreateDesc) (question : Resour
   of = source_basis g old.pool.source
 
   abbrev asks : SourceState D → ResourceAnswer → SourceState D → Type 0
-  asks s answer t = MakesResource g d s question (Some own) (entries.Committed (size_made of question d)) answer t
+  asks s answer t = MakesResource g d s question (Own own.0 own.1) (entries.Committed (size_made of question d)) answer t
 
   pub committed_over : size ≡ (info_of of d).size_in_bytes → IsFirstServing d.memory_location d.resource_category (memory_kinds old.pool.source.tier) index
       → IsCommitted asks size (records_at old.committed index) old.pool.source made (records_at left index) source → left ≡ slice_set old.committed index (records_at left index)
@@ -199,11 +201,11 @@ module _ (d : ResourceCreateDesc) (index size : ℕ) (given : Result Resource Al
 
 -- ---- what the call for a resource is
 
-after_stays : {D : Type 0} (g : Ghosts D) (d : ResourceCreateDesc) (question : ResourceQuestion) (memory : Option (HeapProperties × HeapFlags)) (entry : _) (o : Option ResourceAnswer)
-    (old new : SourceState D) → IsAfterResource (λ s answer t. MakesResource g d s question memory entry answer t) old o new → Stays g old new × TellsReason g o new
-after_stays g d question memory entry None old new is = (stays_same g old new is, record { answered = new; told = tt; went = None; gives_back = refl })
-after_stays g d question memory entry (Some answer) old new is =
-    (made_stays g d old question memory entry answer new is, record { answered = new; told = is.asks.reason; went = None; gives_back = refl })
+after_stays : {D : Type 0} (g : Ghosts D) (d : ResourceCreateDesc) (question : ResourceQuestion) (place : ResourcePlace) (entry : _) (o : Option ResourceAnswer)
+    (old new : SourceState D) → IsAfterResource (λ s answer t. MakesResource g d s question place entry answer t) old o new → Stays g old new × TellsReason g o new
+after_stays g d question place entry None old new is = (stays_same g old new is, record { answered = new; told = tt; went = None; gives_back = refl })
+after_stays g d question place entry (Some answer) old new is =
+    (made_stays g d old question place entry answer new is, record { answered = new; told = is.asks.reason; went = None; gives_back = refl })
 
 module _ {D : Type 0} (g : Ghosts D) (basis : Basis) where
   ends_stay : (t : ℕ) (p : Piece ID3D12Heap) (r : Result ℕ Refusal) (old new : states.Pool D) (answer : ResourceAnswer)
@@ -218,7 +220,7 @@ module _ {D : Type 0} (g : Ghosts D) (basis : Basis) where
       → PlacesThen (AsksBlock g) (GivesHeap g) (MakesResource g) (ReleasesResource g) basis d question allocated o reply old new → Stays g old.source new.source × TellsReason g o new.source
   places_stay d question (Ok p) (Some answer) reply old new a =
       let rest = ends_stay p.0 p.1 (number_or_refusal placed_texts answer) (record old { source = a.between }) new answer a.ends a.asked.asks.reason in
-      (then_stays g old.source a.between new.source (made_stays g d old.source question None _ answer a.between a.asked) rest.0, rest.1)
+      (then_stays g old.source a.between new.source (made_stays g d old.source question _ _ answer a.between a.asked) rest.0, rest.1)
   places_stay d question (Ok p) None reply old new a = absurd a
   places_stay d question (Err refusal) (Some answer) reply old new a = absurd a
   places_stay d question (Err refusal) None reply old new a =
@@ -293,7 +295,7 @@ module _ {D : Type 0} (g : Ghosts D) (d : ResourceCreateDesc) (old new : State D
       → resource_question old.device d.initial_state_or_layout d.castable_formats.now ≡ Ok question
       → IsCommittedOver g d question (properties.now, flags) (contents_of old) result (contents_of new) → IsCreateStep g d result old new
   committed_step question properties flags of asked o =
-      let after = after_stays g d question (Some (properties.now, flags)) _ o.environment.resource (pool_of old).source (pool_of new).source o.commits.asked in
+      let after = after_stays g d question (Own properties.now flags) _ o.environment.resource (pool_of old).source (pool_of new).source o.commits.asked in
       by_question question (resource_types.Committed properties flags) of asked o.environment o.reply
       (commit_seen g (basis_of g old) d question (properties.now, flags) o.environment o.reply (contents_of old) (contents_of new) o.commits) after.0 o.replies after.1
 

@@ -1,6 +1,6 @@
 -- What a device holds, from what its source and its pool say, and what it is left with.
 use Rattle.std.specs.Prelude.{IsSome, IsSomeAnd}
-use Rattle.std.proofs.Common.{◌≡◌, ◌∙◌, ◌+◌, ◌≤◌, refl, sym, ap, subst, ⊎_elim, ℕ, [], ◌∷◌, Option, Some, None, arith}
+use Rattle.std.proofs.Common.{◌≡◌, ◌∙◌, ◌+◌, ◌≤◌, refl, sym, ap, subst, ⊎_elim, ℕ, List, [], ◌∷◌, Option, Some, None, arith}
 use Rattle.std.proofs.lemmas.Bool.{eqb-true}
 use Rattle.std.specs.FinMap.{get}
 use Rattle.gpu_block.specs.Block.{size_of}
@@ -21,7 +21,7 @@ use Rattle.gpu_pool.specs.Free.{GivesBackAll}
 use Rattle.gpu_pool.specs.Held.{HoldsJustBlocks}
 use Rattle.gpu_pool.specs.Source.{HeldBlock}
 use Rattle.gpu_d3d12.specs.Apart.{IsInside}
-use Rattle.gpu_d3d12.specs.Blocks.{Slots, kind_at, is_same_heap, IsBlockEntry, HoldsJustLiveBlocks, AsksNothing}
+use Rattle.gpu_d3d12.specs.Blocks.{Slots, kind_at, is_same_heap, IsBlockEntry, HoldsJustLiveBlocks, AsksNothing, releases_recorded}
 use Rattle.gpu_d3d12.specs.Live.{piece_of, IsLive}
 use Rattle.gpu_d3d12.specs.Resource.{LiesInHeap}
 use Rattle.gpu_d3d12.specs.Source.{SourceState, heap_type, entry_block, blocks_of, beside, HoldsFirst, source_beside, GivesHeap}
@@ -97,15 +97,17 @@ live_in_heap tier aside held slots k a live inside =
 
 -- ---- all blocks go back
 
--- the device was asked nothing, and what it holds beside the blocks stays
-pub record Empties {D : Type 0} (g : Ghosts D) (old new : SourceState D) : Type 0 where
+-- the device was asked nothing, each heap went back once, and what it holds beside the blocks stays
+pub record Empties {D : Type 0} (g : Ghosts D) (old : SourceState D) (heaps : List ID3D12Heap) (new : SourceState D) : Type 0 where
+  pub history : g.history (device_of new.device) ≡ releases_recorded heaps (g.history (device_of old.device))
   pub asks_nothing : AsksNothing g (device_of old.device) (device_of new.device)
   pub beside : source_beside g new ≡ source_beside g old
 
-pub empties : {D : Type 0} (g : Ghosts D) (old : SourceState D) (heaps : _) (new : SourceState D) → GivesBackAll (GivesHeap g) old heaps new → Empties g old new
+pub empties : {D : Type 0} (g : Ghosts D) (old : SourceState D) (heaps : List ID3D12Heap) (new : SourceState D) → GivesBackAll (GivesHeap g) old heaps new → Empties g old heaps new
 empties {D} g old [] new is =
     let device = ap (λ (s : SourceState D). device_of s.device) is in
     record {
+      history = ap g.history device;
       asks_nothing = record {
         count = ap g.refused device;
         latest_heap = ap g.latest_heap device;
@@ -121,6 +123,7 @@ empties {D} g old (heap ∷ heaps) new is =
     let rest = empties g is.0 heaps new is.2 in
     let n = rest.asks_nothing in
     record {
+      history = rest.history ∙ ap (releases_recorded heaps) one.history;
       asks_nothing = record {
         count = n.count ∙ one.count;
         latest_heap = n.latest_heap ∙ one.latest_heap;

@@ -4,6 +4,8 @@ use Rattle.std.specs.List.{remove}
 use Rattle.gpu_values.specs.Refusal.{Refusal}
 use Rattle.gpu_slots.specs.Slots.{AreSound}
 use Rattle.gpu_slots.specs.declared.piece.Piece.{Piece}
+use Rattle.gpu_device.specs.declared.d3d12.event.ResourcePlace.TheVariants.{Own}
+use Rattle.gpu_device.specs.declared.d3d12.event.ResourcePlace.{ResourcePlace}
 use Rattle.gpu_device.specs.D3D12 as entries
 use Rattle.gpu_device.specs.D3D12.{Entry}
 use Rattle.gpu_device.specs.Granted.{counted}
@@ -112,10 +114,10 @@ module _ (basis : Basis) where
 
   -- ---- a committed resource
 
-  after_once : (d : ResourceCreateDesc) (question : ResourceQuestion) (memory : Option (HeapProperties × HeapFlags)) (entry : Entry) (o : Option ResourceAnswer) (old a b : Seen)
-      → IsAfterResource (λ s answer t. SeesMade d s question memory entry answer t) old o a → IsAfterResource (λ s answer t. SeesMade d s question memory entry answer t) old o b → a ≡ b
-  after_once d question memory entry None old a b x y = x ∙ sym y
-  after_once d question memory entry (Some answer) old a b x y = x ∙ sym y
+  after_once : (d : ResourceCreateDesc) (question : ResourceQuestion) (place : ResourcePlace) (entry : Entry) (o : Option ResourceAnswer) (old a b : Seen)
+      → IsAfterResource (λ s answer t. SeesMade d s question place entry answer t) old o a → IsAfterResource (λ s answer t. SeesMade d s question place entry answer t) old o b → a ≡ b
+  after_once d question place entry None old a b x y = x ∙ sym y
+  after_once d question place entry (Some answer) old a b x y = x ∙ sym y
 
   abbrev nothing : environments.Environment ID3D12Heap
   nothing = NothingMet
@@ -152,7 +154,7 @@ module _ (basis : Basis) where
       let once = commits_by_once (fits (records_at old.committed a.memory_type) size) a.host (records_at old.committed a.memory_type) size met.resource a.number b.number a.left b.left a.commits other in
       let numbers = once.0 in
       let lists = once.1 in
-      let sources = after_once d question (Some own) (entries.Committed (size_made basis question d)) met.resource old.pool.source new.pool.source next.pool.source a.asked b.asked in
+      let sources = after_once d question (Own own.0 own.1) (entries.Committed (size_made basis question d)) met.resource old.pool.source new.pool.source next.pool.source a.asked b.asked in
       let pools = a.pool ∙ (λ i. record (old.pool) { source = sources i }) ∙ sym b.pool in
       let records = a.committed ∙ (λ i. slice_set old.committed (types i) (lists i)) ∙ sym b.committed in
       (a.reply_is ∙ (λ i. made_reply (types i) None size (numbers i)) ∙ sym b.reply_is, λ i. record { pool = pools i; committed = records i })

@@ -1,6 +1,7 @@
 -- What no call changes of a source: what it was at first, its tier, its device's interface and properties.
 use Rattle.std.proofs.Common.{◌≡◌, ◌∙◌, refl, sym, ap, subst, ℕ, [], ◌∷◌, true, false, Option, Some, None, Ok, Err, Result}
 use Rattle.gpu_values.specs.Refusal.{Refusal}
+use Rattle.gpu_device.specs.declared.d3d12.event.ResourcePlace.{ResourcePlace}
 use Rattle.gpu_device.specs.declared.d3d12.device.D3D12Device.{Ghosts}
 use Rattle.gpu_device.specs.declared.d3d12.types.HeapFlags.{HeapFlags}
 use Rattle.gpu_device.specs.declared.d3d12.types.HeapProperties.{HeapProperties}
@@ -66,9 +67,9 @@ module _ {D : Type 0} (g : Ghosts D) where
   pub given_stays : (old : SourceState D) (heap : ID3D12Heap) (new : SourceState D) → GivesHeap g old heap new → Stays old new
   given_stays old heap new a = record { state = a.state; constant = a.gives.constant }
 
-  pub made_stays : (d : ResourceCreateDesc) (old : SourceState D) (question : ResourceQuestion) (memory : Option (HeapProperties × HeapFlags)) (entry : _) (answer : ResourceAnswer) (new : SourceState D)
-      → MakesResource g d old question memory entry answer new → Stays old new
-  made_stays d old question memory entry answer new a = record { state = a.state; constant = a.asks.constant }
+  pub made_stays : (d : ResourceCreateDesc) (old : SourceState D) (question : ResourceQuestion) (place : ResourcePlace) (entry : _) (answer : ResourceAnswer) (new : SourceState D)
+      → MakesResource g d old question place entry answer new → Stays old new
+  made_stays d old question place entry answer new a = record { state = a.state; constant = a.asks.constant }
 
   pub released_stays : (old : SourceState D) (number : ℕ) (new : SourceState D) → ReleasesResource g old number new → Stays old new
   released_stays old number new a = record { state = a.state; constant = a.releases.asks_nothing.constant }

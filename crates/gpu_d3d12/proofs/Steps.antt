@@ -2,6 +2,8 @@
 use Rattle.std.proofs.Common.{◌≡◌, ◌∙◌, refl, sym, ap, subst, ℕ, true, false, Bool, Option, Some, None, Ok, Err, Result}
 use Rattle.gpu_values.specs.Refusal.{Refusal}
 use Rattle.gpu_slots.specs.declared.piece.Piece.{Piece}
+use Rattle.gpu_device.specs.declared.d3d12.event.ResourcePlace.TheVariants.{Own}
+use Rattle.gpu_device.specs.declared.d3d12.event.ResourcePlace.{ResourcePlace}
 use Rattle.gpu_device.specs.D3D12.{Entry}
 use Rattle.gpu_device.specs.Granted.{counted}
 use Rattle.gpu_device.specs.declared.d3d12.device.D3D12Device.{Ghosts}
@@ -72,9 +74,9 @@ module _ {D : Type 0} (g : Ghosts D) where
     latest_memory = a.gives.latest_memory i;
   }
 
-  pub sees_made : (d : ResourceCreateDesc) (old : SourceState D) (question : ResourceQuestion) (memory : Option (HeapProperties × HeapFlags)) (entry : Entry) (answer : ResourceAnswer) (new : SourceState D)
-      → MakesResource g d old question memory entry answer new → SeesMade d (seen_of g old) question memory entry answer (seen_of g new)
-  sees_made d old question memory entry answer new a = λ i. record {
+  pub sees_made : (d : ResourceCreateDesc) (old : SourceState D) (question : ResourceQuestion) (place : ResourcePlace) (entry : Entry) (answer : ResourceAnswer) (new : SourceState D)
+      → MakesResource g d old question place entry answer new → SeesMade d (seen_of g old) question place entry answer (seen_of g new)
+  sees_made d old question place entry answer new a = λ i. record {
     beside = a.beside i;
     refused = a.asks.count i;
     latest_heap = a.asks.latest_heap i;
@@ -126,10 +128,10 @@ module _ {D : Type 0} (g : Ghosts D) where
       ),
     )
 
-    after_seen : (d : ResourceCreateDesc) (question : ResourceQuestion) (memory : Option (HeapProperties × HeapFlags)) (entry : Entry) (o : Option ResourceAnswer) (old new : SourceState D)
-        → IsAfterResource (λ s answer t. MakesResource g d s question memory entry answer t) old o new → IsAfterResource (λ s answer t. SeesMade d s question memory entry answer t) (seen_of g old) o (seen_of g new)
-    after_seen d question memory entry None old new is = ap (seen_of g) is
-    after_seen d question memory entry (Some answer) old new is = sees_made d old question memory entry answer new is
+    after_seen : (d : ResourceCreateDesc) (question : ResourceQuestion) (place : ResourcePlace) (entry : Entry) (o : Option ResourceAnswer) (old new : SourceState D)
+        → IsAfterResource (λ s answer t. MakesResource g d s question place entry answer t) old o new → IsAfterResource (λ s answer t. SeesMade d s question place entry answer t) (seen_of g old) o (seen_of g new)
+    after_seen d question place entry None old new is = ap (seen_of g) is
+    after_seen d question place entry (Some answer) old new is = sees_made d old question place entry answer new is
 
     pub commit_seen : (d : ResourceCreateDesc) (question : ResourceQuestion) (own : HeapProperties × HeapFlags) (met : Environment) (reply : Reply) (old new : Contents (SourceState D))
         → Commit (AsksBlock g) (GivesHeap g) (MakesResource g) (ReleasesResource g) basis d question own met reply old new
@@ -142,7 +144,7 @@ module _ {D : Type 0} (g : Ghosts D) where
       number = c.number;
       left = c.left;
       commits = c.commits;
-      asked = after_seen d question (Some own) _ met.resource old.pool.source new.pool.source c.asked;
+      asked = after_seen d question (Own own.0 own.1) _ met.resource old.pool.source new.pool.source c.asked;
       reply_is = c.reply_is;
       pool = ap (pools.over (seen_of g)) c.pool;
       committed = c.committed;
@@ -159,7 +161,7 @@ module _ {D : Type 0} (g : Ghosts D) where
     places_seen d question (Ok p) (Some answer) reply old new a = record {
       sound = a.sound;
       between = seen_of g a.between;
-      asked = sees_made d old.source question None _ answer a.between a.asked;
+      asked = sees_made d old.source question _ _ answer a.between a.asked;
       reply_is = a.reply_is;
       ends = ends_seen p.0 p.1 (number_or_refusal placed_texts answer) (record old { source = a.between }) new a.ends;
     }

@@ -1,7 +1,9 @@
 -- The live blocks of all memory types, and what the device holds of them.
-use Rattle.std.specs.Prelude.{◌≡◌, ℕ, Bool, nat_eq, slice_get, Option, IsSomeAnd}
+use Rattle.std.specs.Prelude.{◌≡◌, ℕ, Bool, nat_eq, List, [], ◌∷◌, slice_get, Option, IsSomeAnd}
 use Rattle.gpu_device.specs.D3D12.{Held, Entry, Heap, without_resource}
 use Rattle.gpu_device.specs.declared.d3d12.device.D3D12Device.{Ghosts}
+use Rattle.gpu_device.specs.declared.d3d12.event.Event.{Event}
+use Rattle.gpu_device.specs.declared.d3d12.event.Event.TheVariants.{ReleasedHeap, ReleasedResource}
 use Rattle.gpu_device.specs.declared.d3d12.types.ID3D12Heap.{ID3D12Heap}
 use Rattle.gpu_device.specs.declared.d3d12.types.ResourceHeapTier.{ResourceHeapTier}
 use Rattle.gpu_d3d12_setup.specs.Heaps.{heap_desc}
@@ -36,6 +38,11 @@ is_same_heap m n = nat_eq m.0 n.0
 
 -- ---- what a device was asked
 
+-- what the history has more once these heaps went back, one after another
+abbrev pub releases_recorded : List ID3D12Heap → List Event → List Event
+releases_recorded [] before = before
+releases_recorded (heap ∷ heaps) before = releases_recorded heaps (ReleasedHeap heap ∷ before)
+
 -- the device was asked nothing, and its properties are the same
 pub record AsksNothing {D : Type 0} (g : Ghosts D) (old new : D) : Type 0 where
   pub count : g.refused new ≡ g.refused old
@@ -45,7 +52,8 @@ pub record AsksNothing {D : Type 0} (g : Ghosts D) (old new : D) : Type 0 where
   pub latest_memory : g.latest_memory new ≡ g.latest_memory old
   pub constant : g.properties new ≡ g.properties old
 
--- a resource was released, and the device was asked nothing
+-- a resource was released, once, and the device was asked nothing
 pub record IsWithoutResource {D : Type 0} (g : Ghosts D) (old : D) (number : ℕ) (new : D) : Type 0 where
   pub held : g.held new ≡ without_resource (g.held old) number
+  pub history : g.history new ≡ ReleasedResource (record { 0 = number }) ∷ g.history old
   pub asks_nothing : AsksNothing g old new

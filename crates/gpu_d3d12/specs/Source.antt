@@ -3,6 +3,7 @@ use Rattle.std.specs.Prelude.{◌≡◌, ◌⊎◌, ℕ, ◌+◌, ◌*◌, true,
 use Rattle.std.specs.FinMap.{get, retain_keys}
 use Rattle.std.proofs.lemmas.Bool.{eqb-true}
 use Rattle.gpu_values.specs.Refusal.{Refusal}
+use Rattle.gpu_device.specs.declared.d3d12.event.ResourcePlace.{ResourcePlace}
 use Rattle.gpu_device.specs.D3D12.{Held, Entry, Heap, Committed, Placed, without_resource}
 use Rattle.gpu_device.specs.Granted.{with_granted}
 use Rattle.gpu_device.specs.declared.d3d12.device.D3D12Device.{Ghosts}
@@ -114,7 +115,7 @@ module _ {D : Type 0} (g : Ghosts D) where
   abbrev pub source_beside : SourceState D → Held
   source_beside s = beside (g.held (device_of s.first)) (held_by s)
 
-  -- the device was asked for a heap of the memory type and this size
+  -- the device was asked once for a heap of the memory type and this size
   pub record AsksBlock (old : SourceState D) (t size : ℕ) (extra : Unit {0}) (answer : Result ID3D12Heap Refusal) (new : SourceState D) : Type 0 where
     pub kind : MemoryKind
     pub at : kind_at old.tier t ≡ Some kind
@@ -124,20 +125,20 @@ module _ {D : Type 0} (g : Ghosts D) where
     pub beside : source_beside new ≡ source_beside old
     pub state : new ≡ with_source_device old (device_of new.device)
 
-  -- a heap went back
+  -- a heap went back, once
   pub record GivesHeap (old : SourceState D) (heap : ID3D12Heap) (new : SourceState D) : Type 0 where
     pub gives : IsWithoutHeap g (device_of old.device) heap.0 (device_of new.device)
     pub beside : source_beside new ≡ source_beside old
     pub state : new ≡ with_source_device old (device_of new.device)
 
-  -- the device was asked for a resource by this question, with these heap properties and flags for a committed one; a new one has this entry
-  pub record MakesResource (d : ResourceCreateDesc) (old : SourceState D) (question : ResourceQuestion) (memory : Option (HeapProperties × HeapFlags)) (entry : Entry) (answer : ResourceAnswer)
+  -- the device was asked once for a resource that lies there, by this question; a new one has this entry
+  pub record MakesResource (d : ResourceCreateDesc) (old : SourceState D) (question : ResourceQuestion) (place : ResourcePlace) (entry : Entry) (answer : ResourceAnswer)
       (new : SourceState D) : Type 0 where
-    pub asks : AsksResource g (device_of old.device) question d memory entry answer (device_of new.device)
+    pub asks : AsksResource g (device_of old.device) question d place entry answer (device_of new.device)
     pub beside : source_beside new ≡ with_granted (source_beside old) (resource_number answer) entry
     pub state : new ≡ with_source_device old (device_of new.device)
 
-  -- the device released a resource
+  -- the device released a resource, once
   pub record ReleasesResource (old : SourceState D) (number : ℕ) (new : SourceState D) : Type 0 where
     pub releases : IsWithoutResource g (device_of old.device) number (device_of new.device)
     pub beside : source_beside new ≡ without_resource (source_beside old) number

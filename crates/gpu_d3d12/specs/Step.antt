@@ -10,7 +10,10 @@ use Rattle.gpu_values.specs.declared.error.AllocationError.{AllocationError}
 use Rattle.gpu_values.specs.declared.memory_location.MemoryLocation.{MemoryLocation}
 use Rattle.gpu_device.specs.D3D12 as entries
 use Rattle.gpu_device.specs.D3D12.{Entry, without_resource}
+use Rattle.gpu_device.specs.D3D12History.{place_memory}
 use Rattle.gpu_device.specs.Granted.{with_granted, counted}
+use Rattle.gpu_device.specs.declared.d3d12.event.ResourcePlace.{ResourcePlace}
+use Rattle.gpu_device.specs.declared.d3d12.event.ResourcePlace.TheVariants.{Own, InHeap}
 use Rattle.gpu_device.specs.declared.d3d12.device.D3D12Device.{Ghosts}
 use Rattle.gpu_device.specs.declared.d3d12.types.HeapFlags.{HeapFlags}
 use Rattle.gpu_device.specs.declared.d3d12.types.HeapProperties.{HeapProperties}
@@ -96,7 +99,7 @@ allocated_reply (Err refusal) = replies.Error refusal
 
 -- asks, gives_back, makes and releases are the source's: a question for a heap, a heap that goes back, a question for a resource, one that is released
 module _ {S : Type 0} (asks : S → ℕ → ℕ → Unit {0} → Result ID3D12Heap Refusal → S → Type 0) (gives_back : S → ID3D12Heap → S → Type 0)
-    (makes : ResourceCreateDesc → S → ResourceQuestion → Option (HeapProperties × HeapFlags) → Entry → ResourceAnswer → S → Type 0) (releases : S → ℕ → S → Type 0) (basis : Basis) where
+    (makes : ResourceCreateDesc → S → ResourceQuestion → ResourcePlace → Entry → ResourceAnswer → S → Type 0) (releases : S → ℕ → S → Type 0) (basis : Basis) where
   -- ---- calls of the pool
 
   -- a call of the pool, over this source
@@ -120,7 +123,7 @@ module _ {S : Type 0} (asks : S → ℕ → ℕ → Unit {0} → Result ID3D12He
     pub number : Result ℕ Refusal
     pub left : List CommittedRecord
     pub commits : Commits host (records_at old.committed memory_type) (info_of basis d).size_in_bytes met.resource number left
-    pub asked : IsAfterResource (λ s answer t. makes d s question (Some own) (entries.Committed (size_made basis question d)) answer t) old.pool.source met.resource new.pool.source
+    pub asked : IsAfterResource (λ s answer t. makes d s question (Own own.0 own.1) (entries.Committed (size_made basis question d)) answer t) old.pool.source met.resource new.pool.source
     pub reply_is : reply ≡ made_reply memory_type None (info_of basis d).size_in_bytes number
     pub pool : new.pool ≡ record old.pool { source = new.pool.source }
     pub committed : new.committed ≡ slice_set old.committed memory_type left
@@ -134,7 +137,7 @@ module _ {S : Type 0} (asks : S → ℕ → ℕ → Unit {0} → Result ID3D12He
   pub record AsksInPiece (d : ResourceCreateDesc) (question : ResourceQuestion) (t : ℕ) (p : Piece ID3D12Heap) (answer : ResourceAnswer) (reply : Reply) (old new : pools.State S ID3D12Heap) : Type 0 where
     pub sound : (t : ℕ) → IsSoundAt (kinds_told basis.tier) old.slots t
     pub between : S
-    pub asked : makes d old.source question None (entries.Placed p.block.0 p.offset (size_made basis question d)) answer between
+    pub asked : makes d old.source question (InHeap p.block p.offset) (entries.Placed p.block.0 p.offset (size_made basis question d)) answer between
     pub reply_is : reply ≡ made_reply t (Some p) (info_of basis d).size_in_bytes (number_or_refusal placed_texts answer)
     pub ends : EndsBy t p (number_or_refusal placed_texts answer) (record old { source = between }) new
 
@@ -220,15 +223,15 @@ pub record SeesQuestion (tier : ResourceHeapTier) (old : Seen) (t size : ℕ) (e
 abbrev pub SeesGiven : Seen → ID3D12Heap → Seen → Type 0
 SeesGiven old heap new = new ≡ old
 
--- the device was asked for a resource by this question, with these heap properties and flags for a committed one; a new one has this entry
-abbrev pub SeesMade : ResourceCreateDesc → Seen → ResourceQuestion → Option (HeapProperties × HeapFlags) → Entry → ResourceAnswer → Seen → Type 0
-SeesMade d old question memory entry answer new = new ≡ record {
+-- the device was asked for a resource that lies there, by this question; a new one has this entry
+abbrev pub SeesMade : ResourceCreateDesc → Seen → ResourceQuestion → ResourcePlace → Entry → ResourceAnswer → Seen → Type 0
+SeesMade d old question place entry answer new = new ≡ record {
   beside = with_granted old.beside (resource_number answer) entry;
   refused = counted old.refused (resource_number answer);
   latest_heap = old.latest_heap;
   latest_formats = option_map length (handed_on question d.castable_formats.now);
   latest_clear = option_copied d.clear_value;
-  latest_memory = memory;
+  latest_memory = place_memory place;
 }
 
 -- a resource is released

@@ -1,6 +1,6 @@
 //! The allocator: blocks of heaps by memory type, and the calls that share them out.
 
-ghost use Rattle.std.specs.Prelude.{◌≡◌, ◌↔◌, ◌%◌, [], All, None, Ok, IfOk, IfErr, IsTrue, length, map, string_bytes};
+ghost use Rattle.std.specs.Prelude.{◌≡◌, ◌↔◌, ◌%◌, [], All, None, Ok, IfOk, IfErr, IsTrue, length, map, string_bytes, ◌<◌, IsOk};
 ghost use Rattle.std.specs.Option.{unwrap_or};
 ghost use Rattle.gpu_values.specs.Refusal.{refusal_of, refusal_in, host_out_of_memory};
 ghost use Rattle.gpu_values.specs.Report.{report_of};
@@ -15,9 +15,10 @@ ghost use Rattle.gpu_d3d12_setup.specs.DeviceVersion.{device_of, with_device};
 ghost use Rattle.gpu_d3d12_setup.specs.MemoryKinds.{memory_kinds};
 ghost use Rattle.gpu_d3d12_setup.specs.Setup.{kinds_told, setup_fault};
 ghost use Rattle.gpu_pool.specs.Reply as replies;
+ghost use Rattle.gpu_pool.specs.Handles.{all_handles};
 ghost use Rattle.gpu_d3d12.specs.Allocate.{Allocates};
 ghost use Rattle.gpu_d3d12.specs.Apart.{IsInside, SharesNoByte};
-ghost use Rattle.gpu_d3d12.specs.Blocks.{HoldsJustLiveBlocks, AsksNothing};
+ghost use Rattle.gpu_d3d12.specs.Blocks.{HoldsJustLiveBlocks, AsksNothing, releases_recorded};
 ghost use Rattle.gpu_d3d12.specs.Committed.{statistics_at};
 ghost use Rattle.gpu_d3d12.specs.Free.{Frees};
 ghost use Rattle.gpu_d3d12.specs.Live.{IsLive, AreDistinct, StayLive};
@@ -213,6 +214,7 @@ impl<D: D3D12Device> Allocator<D> {
     /// sum gives no block back. `Internal` where there is no such memory type, and then nothing changes. It takes no memory.
     pub fn set_budget(&mut self, memory_type: usize, budget: Option<u64>) -> Result<()>
         ensures budgets { SetsBudget memory_type budget self.old.budgets (refusal_in result) self.new.budgets }
+        ensures found { memory_type < length self.old.slots → IsOk result }
         ensures others { self.new ≡ record self.old { budgets = self.new.budgets } }
         ensures step { IsStep D.D3D12Device (SetBudget memory_type budget) (done_as result) self.old self.new }
     {
@@ -348,6 +350,8 @@ impl<D: D3D12Device> Allocator<D> {
         // what was held at first, and the resources that weren't given back
         ensures held { D.held (device_of result) ≡ beside_of D.D3D12Device self }
         ensures asks_nothing { AsksNothing D.D3D12Device (device_of self.device) (device_of result) }
+        // each heap goes back once: by memory type, then by slot
+        ensures recorded { D.history (device_of result) ≡ releases_recorded (all_handles self.slots) (D.history (device_of self.device)) }
         ensures version { result ≡ with_device self.first (device_of result) }
     {
         log_last_leaks(log, self.debug, self.pool.memory_types());

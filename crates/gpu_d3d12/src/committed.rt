@@ -3,6 +3,7 @@
 ghost use Rattle.std.specs.Prelude.{◌≡◌, ℕ, ◌+◌, ◌^◌, ◌<◌, length, All, [], IfOk, IfErr, OnOk, OnErr, Some, None};
 ghost use Rattle.std.specs.List.{slice_set, remove};
 ghost use Rattle.gpu_values.specs.Refusal.{refusal_of};
+ghost use Rattle.gpu_device.specs.declared.d3d12.event.ResourcePlace.TheVariants.{Own};
 ghost use Rattle.gpu_device.specs.D3D12.{Committed};
 ghost use Rattle.gpu_d3d12_setup.specs.DeviceVersion.{device_of};
 ghost use Rattle.gpu_d3d12_setup.specs.Question.{made_size};
@@ -52,7 +53,7 @@ fn commit<D: D3D12Device>(
     size: u64,
 ) -> Result<ID3D12Resource>
     requires { total_size records.old.items < 2 ^ 64 }
-    ensures committed { IsCommitted (λ s answer t. MakesResource D.D3D12Device desc.now s question (Some (own.entry.heap_properties.now, own.entry.heap_flags))
+    ensures committed { IsCommitted (λ s answer t. MakesResource D.D3D12Device desc.now s question (Own own.entry.heap_properties.now own.entry.heap_flags)
         (Committed (made_size (D.properties (device_of source.old.device)) question desc.now.resource_desc.now desc.now.castable_formats.now)) answer t)
         size records.old.items source.old result records.new.items source.new }
     ensures blocks { (n : ℕ) → source_blocks D.D3D12Device source.new n ≡ source_blocks D.D3D12Device source.old n }
@@ -168,7 +169,7 @@ impl CommittedResources {
         size: u64,
     ) -> Result<ID3D12Resource>
         requires there { index < length self.old }
-        ensures committed { IsCommitted (λ s answer t. MakesResource D.D3D12Device desc.now s question (Some (own.entry.heap_properties.now, own.entry.heap_flags))
+        ensures committed { IsCommitted (λ s answer t. MakesResource D.D3D12Device desc.now s question (Own own.entry.heap_properties.now own.entry.heap_flags)
             (Committed (made_size (D.properties (device_of source.old.device)) question desc.now.resource_desc.now desc.now.castable_formats.now)) answer t)
             size (records_at self.old index) source.old result (records_at self.new index) source.new }
         ensures blocks { (n : ℕ) → source_blocks D.D3D12Device source.new n ≡ source_blocks D.D3D12Device source.old n }

@@ -2,6 +2,7 @@
 
 ghost use Rattle.std.specs.Prelude.{◌≡◌, ℕ, Some, None};
 ghost use Rattle.gpu_device.specs.D3D12.{Committed, Placed};
+ghost use Rattle.gpu_device.specs.declared.d3d12.event.ResourcePlace.TheVariants.{Own, InHeap};
 ghost use Rattle.gpu_d3d12_setup.specs.DeviceVersion.{device_of, with_device};
 ghost use Rattle.gpu_d3d12_setup.specs.Question.{made_size};
 ghost use Rattle.gpu_d3d12_setup.specs.ResourceAnswer.{ResourceAnswer, Makes, committed_texts, placed_texts};
@@ -107,7 +108,7 @@ impl<D: D3D12Device> D3D12Blocks<D> {
         desc: &ResourceCreateDesc,
     ) -> Result<ID3D12Resource>
         ensures makes { (answer : ResourceAnswer)
-            × MakesResource D.D3D12Device desc.now self.old question (Some (own.entry.heap_properties.now, own.entry.heap_flags))
+            × MakesResource D.D3D12Device desc.now self.old question (Own own.entry.heap_properties.now own.entry.heap_flags)
             (Committed (made_size (D.properties (device_of self.old.device)) question desc.now.resource_desc.now desc.now.castable_formats.now)) answer self.new
             × Makes committed_texts result answer }
         ensures blocks { (n : ℕ) → source_blocks D.D3D12Device self.new n ≡ source_blocks D.D3D12Device self.old n }
@@ -127,7 +128,7 @@ impl<D: D3D12Device> D3D12Blocks<D> {
         offset: u64,
     ) -> Result<ID3D12Resource>
         ensures makes { (answer : ResourceAnswer)
-            × MakesResource D.D3D12Device desc.now self.old question None
+            × MakesResource D.D3D12Device desc.now self.old question (InHeap heap offset)
             (Placed heap.0 offset (made_size (D.properties (device_of self.old.device)) question desc.now.resource_desc.now desc.now.castable_formats.now)) answer self.new
             × Makes placed_texts result answer }
         ensures blocks { (n : ℕ) → source_blocks D.D3D12Device self.new n ≡ source_blocks D.D3D12Device self.old n }

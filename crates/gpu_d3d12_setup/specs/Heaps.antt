@@ -11,7 +11,6 @@ use Rattle.gpu_device.specs.declared.d3d12.types.MemoryPool.TheVariants as pools
 use Rattle.gpu_device.specs.declared.d3d12.types.HeapProperties.{HeapProperties}
 use Rattle.gpu_device.specs.declared.d3d12.types.HeapDesc.{HeapDesc}
 use Rattle.gpu_d3d12_setup.specs.declared.memory_kind.MemoryKind.{MemoryKind}
-use Rattle.gpu_d3d12_setup.specs.declared.heap.TheConstants.{HEAP_ALIGNMENT}
 
 -- on a system with one GPU
 abbrev pub properties_with : HeapType → CpuPageProperty → MemoryPool → HeapProperties
@@ -40,6 +39,6 @@ is_default Custom = false
 abbrev pub is_host : MemoryKind → Bool
 is_host k = not (is_default (heap_properties k.location).heap_type)
 
--- the heap that is asked for a block
+-- the heap that is asked for a block; textures with several samples may lie in it (`D3D12_DEFAULT_MSAA_RESOURCE_PLACEMENT_ALIGNMENT`)
 abbrev pub heap_desc : MemoryKind → (size : ℕ) → HeapDesc
-heap_desc k size = record { size = size; properties = heap_properties k.location; alignment = HEAP_ALIGNMENT; content = k.content }
+heap_desc k size = record { size = size; properties = heap_properties k.location; alignment = 4194304; content = k.content }

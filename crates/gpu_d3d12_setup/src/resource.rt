@@ -4,6 +4,7 @@ ghost use Rattle.std.specs.Prelude.{◌≡◌, Some, None};
 ghost use Rattle.std.specs.Option.{option_copied};
 ghost use Rattle.gpu_values.specs.Refusal.{refusal_of};
 ghost use Rattle.gpu_device.specs.D3D12.{Committed, Placed};
+ghost use Rattle.gpu_device.specs.declared.d3d12.event.ResourcePlace.TheVariants.{Own, InHeap};
 ghost use Rattle.gpu_d3d12_setup.specs.Question.{made_size};
 ghost use Rattle.gpu_d3d12_setup.specs.ResourceAnswer.{ResourceAnswer, AsksResource, Makes, answer_of, code_refusal, texts_of, committed_texts, placed_texts};
 
@@ -90,7 +91,7 @@ pub fn create_committed<D: D3D12Device>(
     heap_flags: HeapFlags,
 ) -> Result<ID3D12Resource>
     ensures { (answer : ResourceAnswer)
-        × AsksResource D.D3D12Device device.old question desc.now (Some (heap_properties.now, heap_flags))
+        × AsksResource D.D3D12Device device.old question desc.now (Own heap_properties.now heap_flags)
         (Committed (made_size (D.properties device.old) question desc.now.resource_desc.now desc.now.castable_formats.now)) answer device.new
         × Makes committed_texts result answer }
 {
@@ -140,7 +141,7 @@ pub fn create_placed<D: D3D12Device>(
     offset: u64,
 ) -> Result<ID3D12Resource>
     ensures { (answer : ResourceAnswer)
-        × AsksResource D.D3D12Device device.old question desc.now None
+        × AsksResource D.D3D12Device device.old question desc.now (InHeap heap offset)
         (Placed heap.0 offset (made_size (D.properties device.old) question desc.now.resource_desc.now desc.now.castable_formats.now)) answer device.new
         × Makes placed_texts result answer }
 {

@@ -1,4 +1,5 @@
 use Rattle.std.proofs.Common.{◌∙◌, sym, ap, subst, arith, List, ◌+◌, ◌<◌, ◌^◌, ◌++◌, ◌∷◌, [], Err, Some}
+use Rattle.gpu_device.specs.declared.d3d12.event.ResourcePlace.TheVariants.{Own}
 use Rattle.gpu_device.specs.D3D12.{Committed}
 use Rattle.gpu_d3d12_setup.specs.DeviceVersion.{device_of}
 use Rattle.gpu_d3d12_setup.specs.Question.{made_size}
@@ -22,7 +23,7 @@ abbrev asks : (g : _) (c : After-create_committed g) → SourceState g.row.D.Den
 asks g c s answer t =
     let V = g.D.D3D12Device in
     let d = c.args.desc.now in
-    MakesResource V d s c.args.question (Some (c.args.own.heap_properties.now, c.args.own.heap_flags))
+    MakesResource V d s c.args.question (Own c.args.own.heap_properties.now c.args.own.heap_flags)
     (Committed (made_size (V.properties (device_of c.args.source.now.device)) c.args.question d.resource_desc.now d.castable_formats.now)) answer t
 
 pub returns-in-Err-clause-committed : goal.returns-in-Err-clause-committed

@@ -1,13 +1,14 @@
-use Rattle.std.proofs.Common.{sym, ap, Some, to_z, of_z, w32, rules}
+use Rattle.std.proofs.Common.{rules}
 use Rattle.gpu_d3d12_setup.specs.HeapAnswer.{Declined}
 use Rattle.gpu_d3d12_setup.proofs.heap.create_block_heap.Goals as goal
 
 pub returns-in-Err : goal.returns-in-Err
 returns-in-Err g c = (
-  Declined (to_z w32 (of_z w32 c.in-Err.code)),
+  Declined c.in-Err.code,
   record {
     number = tt;
     held = c.in-Err.ensures.holds;
+    history = c.in-Err.ensures.recorded;
     count = c.in-Err.ensures.counts;
     latest_heap = c.create_heap.ensures.names_heap;
     latest_formats = c.create_heap.ensures.names_no_formats;
@@ -15,7 +16,7 @@ returns-in-Err g c = (
     latest_memory = c.create_heap.ensures.names_no_memory;
     constant = c.create_heap.ensures.constant;
   },
-  ap Some (sym c.refusal_of_heap.ensures),
+  search rules,
 )
 
 pub returns-in-Ok-None : goal.returns-in-Ok-None

@@ -1,7 +1,8 @@
 use Rattle.std.proofs.Common.{◌∙◌, sym, ap, subst}
 use Rattle.gpu_d3d12_setup.specs.DeviceVersion.{device_of, with_device}
 use Rattle.gpu_d3d12_setup.specs.declared.device_version.ID3D12DeviceVersion.{ID3D12DeviceVersion}
-use Rattle.gpu_d3d12.specs.Blocks.{AsksNothing}
+use Rattle.gpu_pool.specs.Handles.{all_handles}
+use Rattle.gpu_d3d12.specs.Blocks.{AsksNothing, releases_recorded}
 use Rattle.gpu_d3d12.specs.State.{State, beside_of}
 use Rattle.gpu_d3d12.proofs.Leaving.{empties}
 use Rattle.gpu_d3d12.proofs.Staying.{all_back_stays, same_first}
@@ -20,6 +21,14 @@ returns-clause-asks_nothing g c =
     let k = empties V i.pool.source _ c.destroy.result c.destroy.ensures.gives_back in
     subst (λ (s : State g.row.D.Denot). AsksNothing V (device_of s.device) (device_of c.into_device.result)) c.self.view_is
     (subst (λ (v : ID3D12DeviceVersion g.row.D.Denot). AsksNothing V (device_of i.pool.source.device) (device_of v)) (sym c.into_device.ensures.same) k.asks_nothing)
+
+pub returns-clause-recorded : goal.returns-clause-recorded
+returns-clause-recorded g c =
+    let V = g.D.D3D12Device in
+    let i = c.self.inside in
+    ap (λ (v : ID3D12DeviceVersion g.row.D.Denot). V.history (device_of v)) c.into_device.ensures.same
+    ∙ (empties V i.pool.source _ c.destroy.result c.destroy.ensures.gives_back).history
+    ∙ ap (λ (s : State g.row.D.Denot). releases_recorded (all_handles s.slots) (V.history (device_of s.device))) c.self.view_is
 
 pub returns-clause-version : goal.returns-clause-version
 returns-clause-version g c =

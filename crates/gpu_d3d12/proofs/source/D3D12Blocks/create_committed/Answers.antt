@@ -1,4 +1,5 @@
 use Rattle.std.proofs.Common.{◌≡◌, ℕ, refl, subst, Some}
+use Rattle.gpu_device.specs.declared.d3d12.event.ResourcePlace.TheVariants.{Own}
 use Rattle.gpu_device.specs.D3D12.{Committed, Entry}
 use Rattle.gpu_d3d12_setup.specs.DeviceVersion.{device_of}
 use Rattle.gpu_d3d12_setup.specs.Question.{made_size}
@@ -15,19 +16,19 @@ abbrev entry : (g : _) (c : After-create_committed g) → SourceState g.row.D.De
 entry g c s = Committed (made_size (g.D.D3D12Device.properties (device_of s.device)) c.args.question c.args.desc.now.resource_desc.now c.args.desc.now.castable_formats.now)
 
 asked : (g : _) (c : After-create_committed g)
-    → AsksResource g.D.D3D12Device (device_of (was g c).device) c.args.question c.args.desc.now (Some (c.args.own.heap_properties.now, c.args.own.heap_flags)) (entry g c (was g c)) c.create_committed.ensures.0 c.create_committed.new.device
+    → AsksResource g.D.D3D12Device (device_of (was g c).device) c.args.question c.args.desc.now (Own c.args.own.heap_properties.now c.args.own.heap_flags) (entry g c (was g c)) c.create_committed.ensures.0 c.create_committed.new.device
 asked g c =
     let a = c.create_committed.ensures in
     let V = g.D.D3D12Device in
     subst
-    (λ (d : g.row.D.Denot). AsksResource V d c.args.question c.args.desc.now (Some (c.args.own.heap_properties.now, c.args.own.heap_flags))
+    (λ (d : g.row.D.Denot). AsksResource V d c.args.question c.args.desc.now (Own c.args.own.heap_properties.now c.args.own.heap_flags)
     (Committed (made_size (V.properties d) c.args.question c.args.desc.now.resource_desc.now c.args.desc.now.castable_formats.now)) a.0 c.create_committed.new.device)
     c.device_mut-device.ensures.value a.1
 
 pub invariant_of-self : goal.invariant_of-self
 invariant_of-self g c =
     let later = (goal.at.invariant_of-self g c).After-create_committed in
-    made_holds g.D.D3D12Device (was g later) c.args.question c.args.desc.now (Some (c.args.own.heap_properties.now, c.args.own.heap_flags)) (entry g later (was g later)) refl c.create_committed.ensures.0 c.self.invariant c.create_committed.new.device (asked g later)
+    made_holds g.D.D3D12Device (was g later) c.args.question c.args.desc.now (Own c.args.own.heap_properties.now c.args.own.heap_flags) (entry g later (was g later)) refl c.create_committed.ensures.0 c.self.invariant c.create_committed.new.device (asked g later)
 
 pub returns-clause-makes : goal.returns-clause-makes
 returns-clause-makes g c =
@@ -36,8 +37,8 @@ returns-clause-makes g c =
     let after = c.create_committed.new.device in
     let a = c.create_committed.ensures in (
       a.0,
-      subst (λ (s : SourceState g.row.D.Denot). MakesResource V c.args.desc.now s c.args.question (Some (c.args.own.heap_properties.now, c.args.own.heap_flags)) (entry g later s) a.0 (new V (was g later) after)) c.self.view_is
-          (makes_resource V (was g later) c.args.question c.args.desc.now (Some (c.args.own.heap_properties.now, c.args.own.heap_flags)) (entry g later (was g later)) refl a.0 c.self.invariant after (asked g later)),
+      subst (λ (s : SourceState g.row.D.Denot). MakesResource V c.args.desc.now s c.args.question (Own c.args.own.heap_properties.now c.args.own.heap_flags) (entry g later s) a.0 (new V (was g later) after)) c.self.view_is
+          (makes_resource V (was g later) c.args.question c.args.desc.now (Own c.args.own.heap_properties.now c.args.own.heap_flags) (entry g later (was g later)) refl a.0 c.self.invariant after (asked g later)),
       a.2,
     )
 
@@ -47,4 +48,4 @@ returns-clause-blocks g c =
     let later = (goal.at.returns-clause-blocks g c).After-create_committed in
     let after = c.create_committed.new.device in
     subst (λ (s : SourceState g.row.D.Denot). (n : ℕ) → source_blocks V (new V (was g later) after) n ≡ source_blocks V s n) c.self.view_is
-    (made_blocks V (was g later) c.args.question c.args.desc.now (Some (c.args.own.heap_properties.now, c.args.own.heap_flags)) (entry g later (was g later)) refl c.create_committed.ensures.0 c.self.invariant after (asked g later))
+    (made_blocks V (was g later) c.args.question c.args.desc.now (Own c.args.own.heap_properties.now c.args.own.heap_flags) (entry g later (was g later)) refl c.create_committed.ensures.0 c.self.invariant after (asked g later))

@@ -15,6 +15,7 @@ went g c =
     subst (λ (d : g.row.D.Denot). IsWithoutResource g.D.D3D12Device d c.args.resource.0 c.release_resource.new.self) c.device_mut.ensures.value
     (record {
       held = e.gives_back;
+      history = e.recorded;
       asks_nothing = record {
         count = e.counts_nothing;
         latest_heap = e.names_no_heap;
