@@ -1,20 +1,24 @@
 -- The model isn't loose: a state, a call and what it met with decide the reply and the next state.
-use Rattle.std.proofs.Common.{◌≡◌, ◌∙◌, refl, sym, ap, subst, ℕ, zero, suc, Bool, true, false, List, [], ◌∷◌, map, slice_set, Option, Some, None, Ok, Err, Result}
+use Rattle.std.specs.Prelude.{codes}
+use Rattle.std.specs.Ordering.{int_eq}
+use Rattle.std.proofs.lemmas.Bool.Decides.{Decides-int_eq}
+use Rattle.std.proofs.Common.{◌≡◌, ◌∙◌, refl, sym, ap, subst, ℤ, pos, neg_ℤ, cond, ℕ, zero, suc, Bool, true, false, List, [], ◌∷◌, map, slice_set, Option, Some, None, Ok, Err, Result}
 use Rattle.std.specs.List.{remove}
-use Rattle.gpu_values.specs.Refusal.{Refusal}
+use Rattle.gpu_values.specs.Refusal.{Refusal, out_of_memory, internal}
 use Rattle.gpu_slots.specs.Slots.{AreSound}
 use Rattle.gpu_slots.specs.declared.piece.Piece.{Piece}
 use Rattle.gpu_device.specs.declared.d3d12.event.ResourcePlace.TheVariants.{Own}
 use Rattle.gpu_device.specs.declared.d3d12.event.ResourcePlace.{ResourcePlace}
 use Rattle.gpu_device.specs.D3D12 as entries
 use Rattle.gpu_device.specs.D3D12.{Entry}
-use Rattle.gpu_device.specs.Granted.{counted}
+use Rattle.gpu_device.specs.declared.d3d12.event.Event.TheVariants.{AskedHeap}
 use Rattle.gpu_device.specs.declared.d3d12.types.HeapFlags.{HeapFlags}
 use Rattle.gpu_device.specs.declared.d3d12.types.HeapProperties.{HeapProperties}
 use Rattle.gpu_device.specs.declared.d3d12.types.ID3D12Heap.{ID3D12Heap}
 use Rattle.gpu_device.specs.declared.d3d12.types.ResourceHeapTier.{ResourceHeapTier}
 use Rattle.gpu_memory_types.specs.Blocks.{slots_at, BlocksWellFormed}
 use Rattle.gpu_memory_types.proofs.Options.{none_some, some_same}
+use Rattle.gpu_d3d12_setup.specs.HeapAnswer.{HeapAnswer, Granted, Declined, Null, null_refusal, told_answer}
 use Rattle.gpu_d3d12_setup.specs.Heaps.{heap_desc, is_host}
 use Rattle.gpu_d3d12_setup.specs.MemoryKinds.{memory_kinds}
 use Rattle.gpu_d3d12_setup.specs.Question.{resource_question}
@@ -38,12 +42,13 @@ use Rattle.gpu_pool.specs.Step.{AskDecides, GiveBackDecides}
 use Rattle.gpu_pool.proofs.OneStep as pool
 use Rattle.gpu_d3d12.specs.Allocate.{is_valid, request_in}
 use Rattle.gpu_d3d12.specs.Blocks.{Slots, is_same_heap}
+use Rattle.gpu_d3d12.specs.Source.{heap_result}
 use Rattle.gpu_d3d12.specs.Committed.{Commits, CommitsBy, IsAfterResource, fits, records_at, number_or_refusal}
 use Rattle.gpu_d3d12.specs.Live.{piece_of}
 use Rattle.gpu_d3d12.specs.Reply.{Reply, Pool, made_reply}
 use Rattle.gpu_d3d12.specs.Resource.{piece_desc, record_of}
 use Rattle.gpu_d3d12.specs.State.{Basis, Seen, Model}
-use Rattle.gpu_d3d12.specs.Step.{Call, Allocate, Free, Rename, Capacity, Report, Leaks, CreateResource, FreeResource, Statistics, SetBudget, Budget, Environment, host_met, number_in, info_of, size_made, allocated_reply}
+use Rattle.gpu_d3d12.specs.Step.{Call, Allocate, Free, Rename, Capacity, Report, Leaks, CreateResource, FreeResource, Statistics, SetBudget, Budget, Environment, host_met, info_of, size_made, allocated_reply}
 use Rattle.gpu_d3d12.specs.Step.{SeesQuestion, SeesGiven, SeesMade, SeesReleased, AllocatesBy, Commit, EndsBy, PlacesThen, Place, MakesBy, CreatesBy, FreesPlaced, FreesCommitted, FreesResource, OfPool, IsPoolCall, Step}
 use Rattle.gpu_d3d12.specs.declared.allocation.Allocation.{Allocation}
 use Rattle.gpu_d3d12.specs.declared.committed_record.CommittedRecord.{CommittedRecord}
@@ -52,10 +57,50 @@ use Rattle.gpu_d3d12.specs.declared.resource.Resource.{Resource}
 abbrev Pools : Type 0
 Pools = pools.State Seen ID3D12Heap
 
+-- ---- what a heap's answer becomes tells the answer
+
+abbrev heap_in : Result ID3D12Heap Refusal → ℕ
+heap_in (Ok heap) = heap.0
+heap_in (Err e) = 0
+
+abbrev heap_err : Refusal → Result ID3D12Heap Refusal
+heap_err e = Err e
+
+err_same : (e f : Refusal) → heap_err e ≡ heap_err f → e ≡ f
+err_same e f same = cc
+
+abbrev want_of_memory : ℤ
+want_of_memory = neg_ℤ (pos 2147024882)
+
+abbrev code_by : Bool → ℤ → Refusal
+code_by b code = cond b out_of_memory (internal (codes "ID3D12Device::CreateHeap failed") (Some code))
+
+one_code : (c d : ℤ) (b e : Bool) → int_eq c want_of_memory ≡ b → int_eq d want_of_memory ≡ e → code_by b c ≡ code_by e d → c ≡ d
+one_code c d true true is also same = (Decides-int_eq c want_of_memory).0 is ∙ sym ((Decides-int_eq d want_of_memory).0 also)
+one_code c d true false is also same = cc
+one_code c d false true is also same = cc
+one_code c d false false is also same = cc
+
+no_code : (c : ℤ) (b : Bool) → code_by b c ≡ null_refusal → ⊥
+no_code c true same = cc
+no_code c false same = cc
+
+one_answer : (a b : HeapAnswer) → heap_result a ≡ heap_result b → a ≡ b
+one_answer (Granted n) (Granted m) same = ap Granted (ap heap_in same)
+one_answer (Granted n) (Declined d) same = cc
+one_answer (Granted n) Null same = cc
+one_answer (Declined c) (Granted m) same = cc
+one_answer (Declined c) (Declined d) same = ap Declined (one_code c d (int_eq c want_of_memory) (int_eq d want_of_memory) refl refl (err_same _ _ same))
+one_answer (Declined c) Null same = absurd (no_code c (int_eq c want_of_memory) (err_same _ _ same))
+one_answer Null (Granted m) same = cc
+one_answer Null (Declined d) same = absurd (no_code d (int_eq d want_of_memory) (sym (err_same _ _ same)))
+one_answer Null Null same = refl
+
 question_decides : (tier : ResourceHeapTier) → AskDecides (SeesQuestion tier)
 question_decides tier old a b t size extra answer x y =
     let here = some_same x.kind y.kind (sym x.at ∙ y.at) in
-    x.state ∙ (λ i. record old { refused = counted old.refused (number_in answer); latest_heap = Some (heap_desc (here i) size) }) ∙ sym y.state
+    let answers = one_answer x.heap_answer y.heap_answer (sym x.answered ∙ y.answered) in
+    x.state ∙ (λ i. record old { history = AskedHeap (heap_desc (here i) size) (told_answer (answers i)) ∷ old.history }) ∙ sym y.state
 
 given_decides : GiveBackDecides SeesGiven
 given_decides old a b heap x y = x ∙ sym y

@@ -31,71 +31,33 @@ use Rattle.gpu_d3d12.specs.Resource.{piece_desc}
 use Rattle.gpu_d3d12.specs.Source.{SourceState, AsksBlock, GivesHeap, MakesResource, ReleasesResource, heap_result}
 use Rattle.gpu_d3d12.specs.State as states
 use Rattle.gpu_d3d12.specs.State.{Basis, Contents, seen_of, over}
-use Rattle.gpu_d3d12.specs.Step.{Environment, number_in, info_of, allocated_reply, SeesQuestion, SeesGiven, SeesMade, SeesReleased, AllocatesBy, Commit, EndsBy, PlacesThen, Place, FreesPlaced, FreesCommitted, FreesResource}
+use Rattle.gpu_d3d12.specs.Step.{Environment, info_of, allocated_reply, SeesQuestion, SeesGiven, SeesMade, SeesReleased, AllocatesBy, Commit, EndsBy, PlacesThen, Place, FreesPlaced, FreesCommitted, FreesResource}
 use Rattle.gpu_d3d12.specs.declared.allocation.Allocation.{Allocation}
 use Rattle.gpu_d3d12.specs.declared.committed_record.CommittedRecord.{CommittedRecord}
 use Rattle.gpu_d3d12.specs.declared.resource.Resource.{Resource}
-
-number_is : (answer : HeapAnswer) → number_in (heap_result answer) ≡ heap_number answer
-number_is (Granted n) = refl
-number_is (Declined code) = refl
-number_is Null = refl
 
 module _ {D : Type 0} (g : Ghosts D) where
   -- ---- what is seen of a device
 
   pub sees_question : (old : SourceState D) (t size : ℕ) (answer : Result ID3D12Heap Refusal) (new : SourceState D) → AsksBlock g old t size tt answer new
       → SeesQuestion old.tier (seen_of g old) t size tt answer (seen_of g new)
-  sees_question old t size answer new a =
-      let numbers : heap_number a.heap_answer ≡ number_in answer = sym (number_is a.heap_answer) ∙ ap number_in (sym a.answered) in
-      let counts = a.asks.count ∙ ap (counted (seen_of g old).refused) numbers in
-      record {
-        kind = a.kind;
-        at = a.at;
-        heap_answer = a.heap_answer;
-        answered = a.answered;
-        state = λ i. record {
-          beside = a.beside i;
-          refused = counts i;
-          latest_heap = a.asks.latest_heap i;
-          latest_formats = a.asks.latest_formats i;
-          latest_clear = a.asks.latest_clear i;
-          latest_memory = a.asks.latest_memory i;
-        };
-      }
+  sees_question old t size answer new a = record {
+    kind = a.kind;
+    at = a.at;
+    heap_answer = a.heap_answer;
+    answered = a.answered;
+    state = λ i. record { beside = a.beside i; history = a.asks.history i };
+  }
 
   pub sees_given : (old : SourceState D) (heap : ID3D12Heap) (new : SourceState D) → GivesHeap g old heap new → SeesGiven (seen_of g old) heap (seen_of g new)
-  sees_given old heap new a = λ i. record {
-    beside = a.beside i;
-    refused = a.gives.count i;
-    latest_heap = a.gives.latest_heap i;
-    latest_formats = a.gives.latest_formats i;
-    latest_clear = a.gives.latest_clear i;
-    latest_memory = a.gives.latest_memory i;
-  }
+  sees_given old heap new a = λ i. record { beside = a.beside i; history = a.gives.history i }
 
   pub sees_made : (d : ResourceCreateDesc) (old : SourceState D) (question : ResourceQuestion) (place : ResourcePlace) (entry : Entry) (answer : ResourceAnswer) (new : SourceState D)
       → MakesResource g d old question place entry answer new → SeesMade d (seen_of g old) question place entry answer (seen_of g new)
-  sees_made d old question place entry answer new a = λ i. record {
-    beside = a.beside i;
-    refused = a.asks.count i;
-    latest_heap = a.asks.latest_heap i;
-    latest_formats = a.asks.latest_formats i;
-    latest_clear = a.asks.latest_clear i;
-    latest_memory = a.asks.latest_memory i;
-  }
+  sees_made d old question place entry answer new a = λ i. record { beside = a.beside i; history = a.asks.history i }
 
   pub sees_released : (old : SourceState D) (number : ℕ) (new : SourceState D) → ReleasesResource g old number new → SeesReleased (seen_of g old) number (seen_of g new)
-  sees_released old number new a =
-      let n = a.releases.asks_nothing in
-      λ i. record {
-        beside = a.beside i;
-        refused = n.count i;
-        latest_heap = n.latest_heap i;
-        latest_formats = n.latest_formats i;
-        latest_clear = n.latest_clear i;
-        latest_memory = n.latest_memory i;
-      }
+  sees_released old number new a = λ i. record { beside = a.beside i; history = a.releases.history i }
 
   -- ---- each call, over what is seen
 

@@ -1,13 +1,10 @@
 -- What callers see of an allocator.
-use Rattle.std.specs.Prelude.{ℕ, Option}
+use Rattle.std.specs.Prelude.{List}
 use Rattle.gpu_values.specs.Sizes.{Sizes}
 use Rattle.gpu_values.specs.declared.allocator_debug_settings.AllocatorDebugSettings.{AllocatorDebugSettings}
 use Rattle.gpu_device.specs.D3D12.{Held, Properties}
 use Rattle.gpu_device.specs.declared.d3d12.device.D3D12Device.{Ghosts}
-use Rattle.gpu_device.specs.declared.d3d12.types.ClearValue.{ClearValue}
-use Rattle.gpu_device.specs.declared.d3d12.types.HeapDesc.{HeapDesc}
-use Rattle.gpu_device.specs.declared.d3d12.types.HeapFlags.{HeapFlags}
-use Rattle.gpu_device.specs.declared.d3d12.types.HeapProperties.{HeapProperties}
+use Rattle.gpu_device.specs.declared.d3d12.event.Event.{Event}
 use Rattle.gpu_device.specs.declared.d3d12.types.ID3D12Heap.{ID3D12Heap}
 use Rattle.gpu_device.specs.declared.d3d12.types.ResourceHeapTier.{ResourceHeapTier}
 use Rattle.gpu_memory_types.specs.Budgets.{Budgets}
@@ -95,26 +92,14 @@ pub record Contents (S : Type 0) : Type 0 where
 abbrev pub contents_of : {D : Type 0} → State D → Contents (SourceState D)
 contents_of s = record { pool = pool_of s; committed = s.committed }
 
--- what a model sees of a device: what it holds beside the blocks, how often it refused, and what it was asked last: the heap; and of a resource how
--- many castable formats, which clear value, and for a committed one which heap properties and flags
+-- what a model sees of a device: what it holds beside the blocks, and all that it was asked and was given back
 pub record Seen : Type 0 where
   pub beside : Held
-  pub refused : ℕ
-  pub latest_heap : Option HeapDesc
-  pub latest_formats : Option ℕ
-  pub latest_clear : Option ClearValue
-  pub latest_memory : Option (HeapProperties × HeapFlags)
+  pub history : List Event
 
 -- what is seen of a device
 abbrev pub seen_of : {D : Type 0} → Ghosts D → SourceState D → Seen
-seen_of g s = record {
-  beside = source_beside g s;
-  refused = g.refused (device_of s.device);
-  latest_heap = g.latest_heap (device_of s.device);
-  latest_formats = g.latest_formats (device_of s.device);
-  latest_clear = g.latest_clear (device_of s.device);
-  latest_memory = g.latest_memory (device_of s.device);
-}
+seen_of g s = record { beside = source_beside g s; history = g.history (device_of s.device) }
 
 -- the contents over what is seen of the device
 abbrev pub Model : Type 0

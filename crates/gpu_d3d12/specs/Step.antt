@@ -1,8 +1,7 @@
 -- An allocator as a model: what each call returns and leaves of its contents, by what it met with.
-use Rattle.std.specs.Prelude.{◌≡◌, ℕ, ℤ, Vec, String, Bool, true, false, List, map, length, string_bytes, Option, Some, None, Result, Ok, Err}
+use Rattle.std.specs.Prelude.{◌≡◌, ℕ, ℤ, Vec, String, Bool, true, false, List, ◌∷◌, map, string_bytes, Option, Some, None, Result, Ok, Err}
 use Rattle.std.specs.Global.{Global}
 use Rattle.std.specs.List.{slice_set}
-use Rattle.std.specs.Option.{option_map, option_copied}
 use Rattle.gpu_values.specs.Refusal.{Refusal, refusal_of, invalid_allocation_create_desc}
 use Rattle.gpu_values.specs.Report.{report_of}
 use Rattle.gpu_values.specs.declared.report.AllocatorReport.{AllocatorReport}
@@ -10,8 +9,8 @@ use Rattle.gpu_values.specs.declared.error.AllocationError.{AllocationError}
 use Rattle.gpu_values.specs.declared.memory_location.MemoryLocation.{MemoryLocation}
 use Rattle.gpu_device.specs.D3D12 as entries
 use Rattle.gpu_device.specs.D3D12.{Entry, without_resource}
-use Rattle.gpu_device.specs.D3D12History.{place_memory}
-use Rattle.gpu_device.specs.Granted.{with_granted, counted}
+use Rattle.gpu_device.specs.Granted.{with_granted}
+use Rattle.gpu_device.specs.declared.d3d12.event.Event.TheVariants.{AskedHeap, AskedResource, ReleasedHeap, ReleasedResource}
 use Rattle.gpu_device.specs.declared.d3d12.event.ResourcePlace.{ResourcePlace}
 use Rattle.gpu_device.specs.declared.d3d12.event.ResourcePlace.TheVariants.{Own, InHeap}
 use Rattle.gpu_device.specs.declared.d3d12.device.D3D12Device.{Ghosts}
@@ -23,11 +22,12 @@ use Rattle.gpu_device.specs.declared.d3d12.types.ResourceHeapTier.{ResourceHeapT
 use Rattle.gpu_slots.specs.declared.piece.Piece.{Piece}
 use Rattle.gpu_memory_types.specs.Budgets.{Budgets, budget_at}
 use Rattle.gpu_d3d12_setup.specs.DeviceVersion.{device_of, with_device}
-use Rattle.gpu_d3d12_setup.specs.HeapAnswer.{HeapAnswer}
+use Rattle.gpu_d3d12_setup.specs.HeapAnswer.{HeapAnswer, told_answer}
 use Rattle.gpu_d3d12_setup.specs.Heaps.{heap_desc}
 use Rattle.gpu_d3d12_setup.specs.MemoryKinds.{memory_kinds, IsFirstServing}
-use Rattle.gpu_d3d12_setup.specs.Question.{resource_question, told_info, made_size, handed_on}
-use Rattle.gpu_d3d12_setup.specs.ResourceAnswer.{ResourceAnswer, IsReasonTold, resource_number, placed_texts}
+use Rattle.gpu_d3d12_setup.specs.Question.{resource_question, told_info, made_size}
+use Rattle.gpu_d3d12_setup.specs.ResourceAnswer.{ResourceAnswer, IsReasonTold, resource_number, request_asked, placed_texts}
+use Rattle.gpu_d3d12_setup.specs.ResourceAnswer as resource_answers
 use Rattle.gpu_d3d12_setup.specs.Setup.{kinds_told}
 use Rattle.gpu_d3d12_setup.specs.declared.category.ResourceCategory.{ResourceCategory}
 use Rattle.gpu_d3d12_setup.specs.declared.describe.AllocationCreateDesc.{AllocationCreateDesc}
@@ -206,37 +206,28 @@ module _ {S : Type 0} (asks : S → ℕ → ℕ → Unit {0} → Result ID3D12He
 
 -- ---- what is seen of a device
 
--- the number of a heap that is granted
-abbrev pub number_in : Result ID3D12Heap Refusal → Option ℕ
-number_in (Ok heap) = Some heap.0
-number_in (Err e) = None
-
--- the device was asked for a heap of the memory type and this size
+-- the device was asked once for a heap of the memory type and this size
 pub record SeesQuestion (tier : ResourceHeapTier) (old : Seen) (t size : ℕ) (extra : Unit {0}) (answer : Result ID3D12Heap Refusal) (new : Seen) : Type 0 where
   pub kind : MemoryKind
   pub at : kind_at tier t ≡ Some kind
   pub heap_answer : HeapAnswer
   pub answered : answer ≡ heap_result heap_answer
-  pub state : new ≡ record old { refused = counted old.refused (number_in answer); latest_heap = Some (heap_desc kind size) }
+  pub state : new ≡ record old { history = AskedHeap (heap_desc kind size) (told_answer heap_answer) ∷ old.history }
 
--- nothing is seen of a heap that goes back
+-- a heap goes back, once
 abbrev pub SeesGiven : Seen → ID3D12Heap → Seen → Type 0
-SeesGiven old heap new = new ≡ old
+SeesGiven old heap new = new ≡ record old { history = ReleasedHeap heap ∷ old.history }
 
--- the device was asked for a resource that lies there, by this question; a new one has this entry
+-- the device was asked once for a resource that lies there, by this question; a new one has this entry
 abbrev pub SeesMade : ResourceCreateDesc → Seen → ResourceQuestion → ResourcePlace → Entry → ResourceAnswer → Seen → Type 0
 SeesMade d old question place entry answer new = new ≡ record {
   beside = with_granted old.beside (resource_number answer) entry;
-  refused = counted old.refused (resource_number answer);
-  latest_heap = old.latest_heap;
-  latest_formats = option_map length (handed_on question d.castable_formats.now);
-  latest_clear = option_copied d.clear_value;
-  latest_memory = place_memory place;
+  history = AskedResource (request_asked question d place) (resource_answers.told_answer answer) ∷ old.history;
 }
 
--- a resource is released
+-- a resource is released, once
 abbrev pub SeesReleased : Seen → (number : ℕ) → Seen → Type 0
-SeesReleased old number new = new ≡ record old { beside = without_resource old.beside number }
+SeesReleased old number new = new ≡ record old { beside = without_resource old.beside number; history = ReleasedResource (record { 0 = number }) ∷ old.history }
 
 -- a step of the model
 abbrev pub Step : Basis → Call → Environment → Reply → (old new : Model) → Type 0
