@@ -1,6 +1,6 @@
 -- What the device's answers and what is released are for the source.
 use Rattle.std.specs.Prelude.{IsSome}
-use Rattle.std.proofs.Common.{◌≡◌, ◌∙◌, refl, sym, ap, subst, ℕ, Option, Some, None, Ok, Err, Result}
+use Rattle.std.proofs.Common.{◌≡◌, ◌∙◌, refl, sym, ap, subst, ℕ, List, ◌∷◌, Option, Some, None, Ok, Err, Result}
 use Rattle.gpu_values.specs.Refusal.{Refusal, refusal_of}
 use Rattle.gpu_values.specs.declared.error.AllocationError.{AllocationError}
 use Rattle.gpu_device.specs.declared.d3d12.event.ResourcePlace.{ResourcePlace}
@@ -22,6 +22,10 @@ use Rattle.gpu_pool.specs.Source.{HoldsAfter, Removes, result_of}
 use Rattle.gpu_d3d12.specs.Blocks.{kind_at, IsWithoutResource}
 use Rattle.gpu_d3d12.specs.Source.{SourceState, entry_block, blocks_of, beside, HoldsFirst, heap_result, held_by, source_blocks, source_beside, with_source_device, AsksBlock, GivesHeap, MakesResource, ReleasesResource}
 use Rattle.gpu_d3d12.proofs.Changing.{heap_adds, heap_comes, heap_beside, heap_removes, heap_goes, gone_beside, Stays, resource_asked, resource_goes}
+use Rattle.gpu_d3d12.specs.Journal.{with_made, IsResource, HoldsResources}
+use Rattle.gpu_d3d12.specs.declared.journal.ResourceEvent.{ResourceEvent}
+use Rattle.gpu_d3d12.specs.declared.journal.ResourceEvent.TheVariants.{Released}
+use Rattle.gpu_d3d12.proofs.Journaling.{heap_quiet, heap_goes_quiet, resource_asked_for, resource_released}
 use Rattle.gpu_d3d12.proofs.Versions.{device_with, same_version, kept_version}
 
 granted_same : (m n : ℕ) → Granted m ≡ Granted n → m ≡ n
@@ -47,6 +51,7 @@ answered_is Null (Err e) is = ap Err (sym (some_same _ _ is))
 -- what holds of a source at any time
 abbrev pub Holds : {D : Type 0} → Ghosts D → SourceState D → Type 0
 Holds g s = (g.properties (device_of s.device) ≡ g.properties (device_of s.first)) × (s.device ≡ with_device s.first (device_of s.device)) × HoldsFirst s.tier (g.held (device_of s.first)) (held_by g s)
+    × HoldsResources (g.held (device_of s.first)) (held_by g s) s.journal
 
 module _ {D : Type 0} (g : Ghosts D) (s : SourceState D) (after : D) where
   -- its device
@@ -56,14 +61,22 @@ module _ {D : Type 0} (g : Ghosts D) (s : SourceState D) (after : D) where
   abbrev pub new : SourceState D
   new = with_source_device s after
 
+  -- the same once a resource was made or released
+  abbrev pub noted : List ResourceEvent → SourceState D
+  noted events = record new { journal = events }
+
   pub to_is : after ≡ to
   to_is = sym (device_with s.device after)
 
   pub state_is : new ≡ with_source_device s to
   state_is = λ i. record s { device = same_version s.device after i }
 
-  holds_new : g.properties to ≡ g.properties (device_of s.device) → HoldsFirst s.tier (g.held (device_of s.first)) (g.held to) → Holds g s → Holds g new
-  holds_new constant first h = (constant ∙ h.0, kept_version s.device s.first after h.1, first)
+  pub noted_is : (events : List ResourceEvent) → noted events ≡ record (with_source_device s to) { journal = events }
+  noted_is events = λ i. record s { device = same_version s.device after i; journal = events }
+
+  holds_new : (events : List ResourceEvent) → g.properties to ≡ g.properties (device_of s.device) → HoldsFirst s.tier (g.held (device_of s.first)) (g.held to)
+      → HoldsResources (g.held (device_of s.first)) (g.held to) events → Holds g s → Holds g (noted events)
+  holds_new events constant first resources h = (constant ∙ h.0, kept_version s.device s.first after h.1, first, resources)
 
 -- ---- a heap is asked for
 
@@ -78,12 +91,14 @@ module _ {D : Type 0} (g : Ghosts D) (s : SourceState D) (t size : ℕ) (k : Mem
   record Left (answer : HeapAnswer) : Type 0 where
     pub blocks : HoldsAfter (λ heap. heap.0) (source_blocks g s) (record { memory_type = t; size = size }) (heap_result answer) (source_blocks g (new g s after))
     pub holds : HoldsFirst s.tier first now
+    pub resources : HoldsResources first now s.journal
     pub beside : source_beside g (new g s after) ≡ source_beside g s
 
   same_left : (answer : HeapAnswer) (e : Refusal) → heap_result answer ≡ Err e → now ≡ held_by g s → Left answer
   same_left answer e is same = record {
     blocks = subst (λ r. HoldsAfter (λ heap. heap.0) (source_blocks g s) (record { memory_type = t; size = size }) r (source_blocks g (new g s after))) (sym is) (λ n. ap (λ (j : Held). blocks_of first j n) same);
     holds = subst (HoldsFirst s.tier first) (sym same) h.2;
+    resources = subst (λ (j : Held). HoldsResources first j s.journal) (sym same) h.3;
     beside = ap (beside first) same;
   }
 
@@ -91,6 +106,7 @@ module _ {D : Type 0} (g : Ghosts D) (s : SourceState D) (t size : ℕ) (k : Mem
   left (Granted n) a = record {
     blocks = heap_adds s.tier first (held_by g s) now n t size k at a.number.1 a.held h.2;
     holds = heap_comes s.tier first (held_by g s) now n t size k at a.number.1 a.held h.2;
+    resources = heap_quiet first (held_by g s) now s.journal n (heap_desc k size) a.number.1 a.held h.3;
     beside = heap_beside s.tier first (held_by g s) now n t size k at a.number.1 a.held h.2;
   }
   left (Declined code) a = same_left (Declined code) _ refl a.held
@@ -116,7 +132,7 @@ module _ {D : Type 0} (g : Ghosts D) (s : SourceState D) (t size : ℕ) (k : Mem
         (sym (answered_is answer result gives)) (left answer there).blocks
 
     pub asked_holds : Holds g (new g s after)
-    asked_holds = holds_new g s after there.constant (left answer there).holds h
+    asked_holds = holds_new g s after s.journal there.constant (left answer there).holds (left answer there).resources h
 
 -- ---- a heap goes back
 
@@ -136,27 +152,34 @@ module _ {D : Type 0} (g : Ghosts D) (s : SourceState D) (heap : ID3D12Heap) (so
   removes_block = heap_removes s.tier (g.held (device_of s.first)) (held_by g s) (g.held (to g s after)) heap.0 some gone.held h.2
 
   pub gone_holds : Holds g (new g s after)
-  gone_holds = holds_new g s after gone.constant (heap_goes s.tier (g.held (device_of s.first)) (held_by g s) (g.held (to g s after)) heap.0 some gone.held h.2) h
+  gone_holds =
+      holds_new g s after s.journal gone.constant (heap_goes s.tier (g.held (device_of s.first)) (held_by g s) (g.held (to g s after)) heap.0 some gone.held h.2)
+      (heap_goes_quiet (g.held (device_of s.first)) (held_by g s) (g.held (to g s after)) s.journal heap.0 some gone.held h.3) h
 
 -- ---- a resource
 
 -- a resource is asked for, and the blocks stay
 module _ {D : Type 0} (g : Ghosts D) (s : SourceState D) (question : ResourceQuestion) (d : ResourceCreateDesc) (place : ResourcePlace) (entry : Entry)
-    (none : entry_block (Some entry) ≡ None) (answer : ResourceAnswer) (h : Holds g s) (after : D) (asked : AsksResource g (device_of s.device) question d place entry answer after) where
+    (none : entry_block (Some entry) ≡ None) (resource : IsResource (Some entry)) (answer : ResourceAnswer) (h : Holds g s) (after : D) (asked : AsksResource g (device_of s.device) question d place entry answer after) where
   answered : AsksResource g (device_of s.device) question d place entry answer (to g s after)
   answered = subst (λ (x : D). AsksResource g (device_of s.device) question d place entry answer x) (to_is g s after) asked
 
   stays : Stays s.tier (g.held (device_of s.first)) (held_by g s) (g.held (to g s after)) (with_granted (source_beside g s) (resource_number answer) entry)
   stays = resource_asked s.tier (g.held (device_of s.first)) (held_by g s) entry none h.2 (g.held (to g s after)) (resource_number answer) answered.number answered.held
 
-  pub makes_resource : MakesResource g d s question place entry answer (new g s after)
-  makes_resource = record { asks = answered; beside = stays.beside_is; state = state_is g s after }
+  abbrev made : SourceState D
+  made = noted g s after (with_made (resource_number answer) s.journal)
 
-  pub made_blocks : (n : ℕ) → source_blocks g (new g s after) n ≡ source_blocks g s n
+  pub makes_resource : MakesResource g d s question place entry answer made
+  makes_resource = record { asks = answered; beside = stays.beside_is; state = noted_is g s after (with_made (resource_number answer) s.journal) }
+
+  pub made_blocks : (n : ℕ) → source_blocks g made n ≡ source_blocks g s n
   made_blocks = stays.blocks
 
-  pub made_holds : Holds g (new g s after)
-  made_holds = holds_new g s after answered.constant stays.holds h
+  pub made_holds : Holds g made
+  made_holds =
+      holds_new g s after (with_made (resource_number answer) s.journal) answered.constant stays.holds
+      (resource_asked_for (g.held (device_of s.first)) (held_by g s) (g.held (to g s after)) s.journal (resource_number answer) entry resource answered.number answered.held h.3) h
 
 -- a resource is released, and the blocks stay
 module _ {D : Type 0} (g : Ghosts D) (s : SourceState D) (number : ℕ) (h : Holds g s) (after : D) (went : IsWithoutResource g (device_of s.device) number after) where
@@ -166,11 +189,16 @@ module _ {D : Type 0} (g : Ghosts D) (s : SourceState D) (number : ℕ) (h : Hol
   stays_without : Stays s.tier (g.held (device_of s.first)) (held_by g s) (g.held (to g s after)) (without_resource (source_beside g s) number)
   stays_without = resource_goes s.tier (g.held (device_of s.first)) (held_by g s) (g.held (to g s after)) number released.held h.2
 
-  pub releases_resource : ReleasesResource g s number (new g s after)
-  releases_resource = record { releases = released; beside = stays_without.beside_is; state = state_is g s after }
+  abbrev released_there : SourceState D
+  released_there = noted g s after (Released (record { 0 = number }) ∷ s.journal)
 
-  pub released_blocks : (n : ℕ) → source_blocks g (new g s after) n ≡ source_blocks g s n
+  pub releases_resource : ReleasesResource g s number released_there
+  releases_resource = record { releases = released; beside = stays_without.beside_is; state = noted_is g s after (Released (record { 0 = number }) ∷ s.journal) }
+
+  pub released_blocks : (n : ℕ) → source_blocks g released_there n ≡ source_blocks g s n
   released_blocks = stays_without.blocks
 
-  pub released_holds : Holds g (new g s after)
-  released_holds = holds_new g s after released.asks_nothing.constant stays_without.holds h
+  pub released_holds : Holds g released_there
+  released_holds =
+      holds_new g s after (Released (record { 0 = number }) ∷ s.journal) released.asks_nothing.constant stays_without.holds
+      (resource_released (g.held (device_of s.first)) (held_by g s) (g.held (to g s after)) s.journal number released.held h.3) h

@@ -62,7 +62,7 @@ new_same (Some (Committed size)) = refl
 new_same (Some (Placed heap offset size)) = refl
 
 -- what is no block by its entry isn't one
-no_block_entry : (x y : Option Entry) → entry_block y ≡ None → new_block x y ≡ None
+pub no_block_entry : (x y : Option Entry) → entry_block y ≡ None → new_block x y ≡ None
 no_block_entry None y none = none
 no_block_entry (Some (Heap desc)) y none = refl
 no_block_entry (Some (Committed size)) y none = none
@@ -95,7 +95,7 @@ pub no_first_heap : (x y : Option Entry) → IsSome (new_block x y) → IsHeap x
 no_first_heap x y is h = is_some_none (new_block x y) (λ i. new_block (h.1 i) y) is
 
 -- what is left under a number once a resource is released there
-abbrev left : Option Entry → Option Entry
+abbrev pub left : Option Entry → Option Entry
 left None = None
 left (Some (Heap desc)) = Some (Heap desc)
 left (Some (Committed size)) = None
@@ -107,7 +107,7 @@ left_is h n (Some (Heap desc)) is = is
 left_is h n (Some (Committed size)) is = get-remove_same h n
 left_is h n (Some (Placed heap offset size)) is = get-remove_same h n
 
-left_at : (h : Held) (n : ℕ) → get (without_resource h n) n ≡ left (get h n)
+pub left_at : (h : Held) (n : ℕ) → get (without_resource h n) n ≡ left (get h n)
 left_at h n = left_is h n (get h n) refl
 
 left_entry : (y : Option Entry) → entry_block (left y) ≡ entry_block y
@@ -131,7 +131,7 @@ left_heap (Some (Placed heap offset size)) desc is = absurd (none_some (Heap des
 -- ---- beside the blocks
 
 -- what is shown beside the blocks of what is held under a number
-abbrev shown : Option HeldBlock → Option Entry → Option Entry
+abbrev pub shown : Option HeldBlock → Option Entry → Option Entry
 shown None y = y
 shown (Some b) y = None
 
@@ -244,7 +244,7 @@ module _ (tier : ResourceHeapTier) (first held now : Held) (n t size : ℕ) (k :
 
 -- ---- a heap goes
 
-heap_removed : (h : Held) (n : ℕ) (x : Option Entry) → IsHeap x → get (remove_if_heap h n x) n ≡ None
+pub heap_removed : (h : Held) (n : ℕ) (x : Option Entry) → IsHeap x → get (remove_if_heap h n x) n ≡ None
 heap_removed h n None is = absurd (none_some (Heap is.0) is.1)
 heap_removed h n (Some (Heap desc)) is = get-remove_same h n
 heap_removed h n (Some (Committed size)) is = absurd (no_heap_committed size is.0 is.1)

@@ -1,4 +1,5 @@
 pub mod Changing
+pub mod Journaling
 pub mod Versions
 pub mod Asking
 pub mod Records

@@ -1,4 +1,5 @@
 pub mod Blocks
+pub mod Journal
 pub mod Committed
 pub mod Source
 pub mod State

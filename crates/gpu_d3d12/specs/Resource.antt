@@ -1,5 +1,5 @@
 -- A resource, as its owner holds it, and what asking for one comes to.
-use Rattle.std.specs.Prelude.{◌≡◌, ℕ, ◌+◌, ◌≤◌, ◌%◌, Option, Some, None}
+use Rattle.std.specs.Prelude.{◌≡◌, ℕ, ◌+◌, ◌≤◌, ◌%◌, Option, Some, None, Result, Ok, Err}
 use Rattle.std.specs.FinMap.{get}
 use Rattle.gpu_device.specs.declared.d3d12.types.HeapDesc.{HeapDesc}
 use Rattle.gpu_slots.specs.declared.piece.Piece.{Piece}
@@ -10,6 +10,7 @@ use Rattle.gpu_d3d12_setup.specs.declared.describe.AllocationCreateDesc.{Allocat
 use Rattle.gpu_d3d12_setup.specs.declared.question.ResourceCreateDesc.{ResourceCreateDesc}
 use Rattle.gpu_d3d12.specs.Blocks.{Slots}
 use Rattle.gpu_d3d12.specs.declared.committed_record.CommittedRecord.{CommittedRecord}
+use Rattle.gpu_values.specs.declared.error.AllocationError.{AllocationError}
 use Rattle.gpu_d3d12.specs.Live.{IsLive, IsGiven, AreDistinct}
 use Rattle.gpu_d3d12.specs.declared.allocation.Allocation.{Allocation}
 use Rattle.gpu_d3d12.specs.declared.resource.Resource.{Resource}
@@ -78,6 +79,11 @@ pub record LiesInHeap (held : Held) (a : Allocation) : Type 0 where
   pub inside : a.offset + a.size ≤ desc.size
 
 -- ---- what the caller gets
+
+-- the number of a resource that is given
+abbrev pub number_given : Result Resource AllocationError → Option ℕ
+number_given (Ok r) = Some r.resource.0
+number_given (Err e) = None
 
 -- a resource stands in the piece of this allocation
 pub record IsPlacedIn (d : ResourceCreateDesc) (a : Allocation) (number size : ℕ) (r : Resource) : Type 0 where

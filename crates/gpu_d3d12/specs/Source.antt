@@ -1,5 +1,5 @@
 -- A DirectX 12 device as a source of blocks: what it holds, and what its calls are in DirectX 12's own words.
-use Rattle.std.specs.Prelude.{◌≡◌, ◌⊎◌, ℕ, ◌+◌, ◌*◌, true, not, is_some, nat_eq, Option, Some, None, Result, Ok, Err, IsSomeAnd}
+use Rattle.std.specs.Prelude.{◌≡◌, ◌⊎◌, ℕ, ◌+◌, ◌*◌, true, not, is_some, nat_eq, Option, Some, None, Result, Ok, Err, IsSomeAnd, List, ◌∷◌}
 use Rattle.std.specs.FinMap.{get, retain_keys}
 use Rattle.std.proofs.lemmas.Bool.{eqb-true}
 use Rattle.gpu_values.specs.Refusal.{Refusal}
@@ -25,13 +25,17 @@ use Rattle.gpu_d3d12_setup.specs.declared.memory_kind.MemoryKind.{MemoryKind}
 use Rattle.gpu_d3d12_setup.specs.declared.question.ResourceCreateDesc.{ResourceCreateDesc}
 use Rattle.gpu_d3d12_setup.specs.declared.question.ResourceQuestion.{ResourceQuestion}
 use Rattle.gpu_pool.specs.Source.{HeldBlock, HeldBlocks}
+use Rattle.gpu_d3d12.specs.Journal.{with_made}
+use Rattle.gpu_d3d12.specs.declared.journal.ResourceEvent.{ResourceEvent}
+use Rattle.gpu_d3d12.specs.declared.journal.ResourceEvent.TheVariants.{Released}
 use Rattle.gpu_d3d12.specs.Blocks.{kind_at, IsWithoutResource}
 
--- the device, what it was when it was handed in, and its heap tier
+-- the device, what it was when it was handed in, its heap tier, and which resources were made and released since
 pub record SourceState (D : Type 0) : Type 0 where
   pub device : ID3D12DeviceVersion D
   pub first : ID3D12DeviceVersion D
   pub tier : ResourceHeapTier
+  pub journal : List ResourceEvent
 
 -- ---- heaps as blocks
 
@@ -136,10 +140,10 @@ module _ {D : Type 0} (g : Ghosts D) where
       (new : SourceState D) : Type 0 where
     pub asks : AsksResource g (device_of old.device) question d place entry answer (device_of new.device)
     pub beside : source_beside new ≡ with_granted (source_beside old) (resource_number answer) entry
-    pub state : new ≡ with_source_device old (device_of new.device)
+    pub state : new ≡ record (with_source_device old (device_of new.device)) { journal = with_made (resource_number answer) old.journal }
 
   -- the device released a resource, once
   pub record ReleasesResource (old : SourceState D) (number : ℕ) (new : SourceState D) : Type 0 where
     pub releases : IsWithoutResource g (device_of old.device) number (device_of new.device)
     pub beside : source_beside new ≡ without_resource (source_beside old) number
-    pub state : new ≡ with_source_device old (device_of new.device)
+    pub state : new ≡ record (with_source_device old (device_of new.device)) { journal = Released (record { 0 = number }) ∷ old.journal }

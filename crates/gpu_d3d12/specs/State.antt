@@ -14,6 +14,7 @@ use Rattle.gpu_d3d12_setup.specs.declared.device_version.ID3D12DeviceVersion.The
 use Rattle.gpu_pool.specs.State as pools
 use Rattle.gpu_d3d12.specs.Blocks.{Slots}
 use Rattle.gpu_d3d12.specs.Committed.{Committed}
+use Rattle.gpu_d3d12.specs.declared.journal.ResourceEvent.{ResourceEvent}
 use Rattle.gpu_d3d12.specs.Source.{SourceState, source_beside}
 
 -- what an allocator is made with, and never changes: the device's heap tier, how large its blocks are, and what is logged
@@ -22,7 +23,8 @@ pub record Setup : Type 0 where
   pub sizes : Sizes
   pub debug : AllocatorDebugSettings
 
--- the device, what it was when it was handed in, what the allocator is made with, the blocks, the budgets of memory types, and the committed resources
+-- the device, what it was when it was handed in, what the allocator is made with, the blocks, the budgets of memory types, the committed resources, and
+-- which resources were made and released
 pub record State (D : Type 0) : Type 0 where
   pub device : ID3D12DeviceVersion D
   pub first : ID3D12DeviceVersion D
@@ -30,6 +32,7 @@ pub record State (D : Type 0) : Type 0 where
   pub slots : Slots
   pub budgets : Budgets
   pub committed : Committed
+  pub journal : List ResourceEvent
 
 -- a pool over a device
 abbrev pub Pool : (D : Type 0) → Type 0
@@ -38,7 +41,7 @@ Pool D = pools.State (SourceState D) ID3D12Heap
 -- the pool of an allocator
 abbrev pub pool_of : {D : Type 0} → State D → Pool D
 pool_of s = record {
-  source = record { device = s.device; first = s.first; tier = s.setup.tier };
+  source = record { device = s.device; first = s.first; tier = s.setup.tier; journal = s.journal };
   sizes = s.setup.sizes;
   slots = s.slots;
   budgets = s.budgets;
@@ -53,6 +56,7 @@ state_of p committed debug = record {
   slots = p.slots;
   budgets = p.budgets;
   committed = committed;
+  journal = p.source.journal;
 }
 
 -- what the device holds beside the live blocks

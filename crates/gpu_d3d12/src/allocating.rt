@@ -43,6 +43,7 @@ fn attempt<D: D3D12Device>(
     requires first { IsFirstServing desc.now.location desc.now.resource_category (memory_kinds pool.old.source.tier) index }
     ensures attempts { IsAttempted D.D3D12Device desc.now pool.old result pool.new }
     ensures kinds { kinds_told pool.new.source.tier ≡ kinds_told pool.old.source.tier }
+    ensures journal { pool.new.source.journal ≡ pool.old.source.journal }
     ensures aligned { IfOk result (λ a. a.offset % desc.now.alignment ≡ 0) }
     ensures keeps { StayLive pool.old.slots pool.new.slots }
     ensures live { IfOk result (λ a. IsNewlyLive pool.old.slots pool.new.slots a) }
@@ -66,6 +67,7 @@ pub fn allocate_piece<D: D3D12Device>(
 ) -> Result<Allocation>
     ensures allocates { AllocatesBy D.D3D12Device desc.now (is_valid desc.now) pool.old result pool.new }
     ensures kinds { kinds_told pool.new.source.tier ≡ kinds_told pool.old.source.tier }
+    ensures journal { pool.new.source.journal ≡ pool.old.source.journal }
     ensures aligned { IfOk result (λ a. a.offset % desc.now.alignment ≡ 0) }
     ensures keeps { StayLive pool.old.slots pool.new.slots }
     ensures live { IfOk result (λ a. IsNewlyLive pool.old.slots pool.new.slots a) }

@@ -21,10 +21,11 @@ ghost use Rattle.gpu_d3d12.specs.Apart.{IsInside, SharesNoByte};
 ghost use Rattle.gpu_d3d12.specs.Blocks.{HoldsJustLiveBlocks, AsksNothing, releases_recorded};
 ghost use Rattle.gpu_d3d12.specs.Committed.{statistics_at};
 ghost use Rattle.gpu_d3d12.specs.Free.{Frees};
+ghost use Rattle.gpu_d3d12.specs.Journal.{IsFirstAndOut, with_made, with_released};
 ghost use Rattle.gpu_d3d12.specs.Live.{IsLive, AreDistinct, StayLive};
 ghost use Rattle.gpu_d3d12.specs.Rename.{Renames};
 ghost use Rattle.gpu_d3d12.specs.Reply as module_replies;
-ghost use Rattle.gpu_d3d12.specs.Resource.{BeginsAligned, IsBeside, IsLivePlaced, IsNewIn, LiesInHeap};
+ghost use Rattle.gpu_d3d12.specs.Resource.{number_given, BeginsAligned, IsBeside, IsLivePlaced, IsNewIn, LiesInHeap};
 ghost use Rattle.gpu_d3d12.specs.State.{basis_of, beside_of, pool_of};
 ghost use Rattle.gpu_d3d12.specs.Step.{Free, Rename, Capacity, Report, Leaks, FreeResource, Statistics, SetBudget, Budget, info_of, IsStep, IsAllocateStep, IsCreateStep, freed_as, done_as, shown_as, leaked_as};
 ghost use Rattle.gpu_d3d12.specs.declared.allocation.Allocation.{Allocation};
@@ -86,6 +87,7 @@ impl<D: D3D12Device> Allocator<D> {
         ensures budgets { IfOk result (λ a. All (λ b. b ≡ None) a.budgets) }
         ensures committed { IfOk result (λ a. (length a.committed ≡ length (memory_kinds a.setup.tier)) × All (λ records. records ≡ []) a.committed) }
         ensures beside { IfOk result (λ a. beside_of D.D3D12Device a ≡ D.held (device_of desc.device)) }
+        ensures journal { IfOk result (λ a. a.journal ≡ []) }
         ensures refused { IfErr result (λ e. e.1 ≡ desc.device) }
         // the device's tier can't be told, else want of host memory: nothing else refuses
         ensures cause { IfErr result (λ e. refusal_of e.0 ≡ unwrap_or (setup_fault (D.properties (device_of desc.device))) host_out_of_memory) }
@@ -123,6 +125,7 @@ impl<D: D3D12Device> Allocator<D> {
         // which memory type is asked, what it met with, what is returned, and what that leaves of blocks and device
         ensures allocates { Allocates D.D3D12Device desc.now self.old result self.new }
         ensures constant { (self.new.first ≡ self.old.first) × (self.new.setup ≡ self.old.setup) × (self.new.committed ≡ self.old.committed) }
+        ensures journal { self.new.journal ≡ self.old.journal }
         ensures step { IsAllocateStep D.D3D12Device desc.now result self.old self.new }
         ensures aligned { IfOk result (λ a. a.offset % desc.now.alignment ≡ 0) }
         ensures keeps { StayLive self.old.slots self.new.slots }
@@ -149,11 +152,14 @@ impl<D: D3D12Device> Allocator<D> {
         self.pool.memory_types()
     }
 
-    /// The device, lent. It holds one heap for each live block, and beside these what it held when it was handed in, and the
-    /// resources that were made and not given back.
+    /// The device, lent. It holds one heap for each live block, and beside these what it held when it was handed in, the resources
+    /// that are out (made, and not given back), and nothing else. A resource that another allocator made and that was given to
+    /// `free_resource` beside a live piece is released too: of such numbers (`strays`) it may hold less than at first.
     pub fn device(&self) -> &ID3D12DeviceVersion<D>
         ensures lent { result.now ≡ self.now.device }
         ensures holds { HoldsJustLiveBlocks self.now.setup.tier (beside_of D.D3D12Device self.now) (D.held (device_of self.now.device)) self.now.slots }
+        // beside the live blocks: what was held at first, the resources that are out, and nothing else
+        ensures beside { IsFirstAndOut (D.held (device_of self.now.first)) (beside_of D.D3D12Device self.now) self.now.journal }
         ensures constant { D.properties (device_of self.now.device) ≡ D.properties (device_of self.now.first) }
     {
         self.pool.source().device()
@@ -197,6 +203,7 @@ impl<D: D3D12Device> Allocator<D> {
     ) -> Result<(), (AllocationError, Allocation)>
         ensures frees { Frees D.D3D12Device allocation self.old result self.new }
         ensures constant { (self.new.first ≡ self.old.first) × (self.new.setup ≡ self.old.setup) }
+        ensures journal { self.new.journal ≡ self.old.journal }
         ensures step { IsStep D.D3D12Device (Free allocation) (freed_as result) self.old self.new }
         ensures keeps { (b : Allocation) → IsLive self.old.slots b → AreDistinct b allocation → IsLive self.new.slots b }
     {
@@ -248,6 +255,7 @@ impl<D: D3D12Device> Allocator<D> {
         log: &L,
         desc: &ResourceCreateDesc,
     ) -> Result<Resource>
+        ensures journal { self.new.journal ≡ with_made (number_given result) self.old.journal }
         // by which question it is made, or why by none; where the device refuses a placed one, its piece goes as by `free`
         ensures step { IsCreateStep D.D3D12Device desc.now result self.old self.new }
         ensures constant { (self.new.first ≡ self.old.first) × (self.new.setup ≡ self.old.setup) }
@@ -285,6 +293,7 @@ impl<D: D3D12Device> Allocator<D> {
         log: &L,
         resource: Resource,
     ) -> Result<(), (AllocationError, Resource)>
+        ensures journal { self.new.journal ≡ with_released resource.resource result self.old.journal }
         ensures step { IsStep D.D3D12Device (FreeResource resource) (freed_as result) self.old self.new }
         ensures keeps { (b : Allocation) → IsLive self.old.slots b → IsBeside b resource.allocation → IsLive self.new.slots b }
         ensures back { IfErr result (λ e. e.1 ≡ resource) }
@@ -313,6 +322,7 @@ impl<D: D3D12Device> Allocator<D> {
         ensures step { IsStep D.D3D12Device (Rename allocation.old name.now) (done_as result) self.old self.new }
         ensures live { StayLive self.old.slots self.new.slots }
         ensures constant { (self.new.device ≡ self.old.device) × (self.new.first ≡ self.old.first) × (self.new.setup ≡ self.old.setup) }
+        ensures journal { self.new.journal ≡ self.old.journal }
     {
         rename(self.alloc, &mut self.pool, allocation, name)
     }
@@ -347,8 +357,9 @@ impl<D: D3D12Device> Allocator<D> {
     /// that were made and not given back: give placed ones back before, for their heaps go. What is still live is logged first,
     /// as warnings, where the settings ask for it. It is never refused.
     pub fn destroy<L: Log>(self, log: &L) -> ID3D12DeviceVersion<D>
-        // what was held at first, and the resources that weren't given back
         ensures held { D.held (device_of result) ≡ beside_of D.D3D12Device self }
+        // what was held at first, the resources that are out, and nothing else
+        ensures left { IsFirstAndOut (D.held (device_of self.first)) (D.held (device_of result)) self.journal }
         ensures asks_nothing { AsksNothing D.D3D12Device (device_of self.device) (device_of result) }
         // each heap goes back once: by memory type, then by slot
         ensures recorded { D.history (device_of result) ≡ releases_recorded (all_handles self.slots) (D.history (device_of self.device)) }

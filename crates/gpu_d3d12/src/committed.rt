@@ -8,6 +8,7 @@ ghost use Rattle.gpu_device.specs.D3D12.{Committed};
 ghost use Rattle.gpu_d3d12_setup.specs.DeviceVersion.{device_of};
 ghost use Rattle.gpu_d3d12_setup.specs.Question.{made_size};
 ghost use Rattle.gpu_d3d12.specs.Committed.{total_size, statistics_of, place_of, freed, IsCommitted};
+ghost use Rattle.gpu_d3d12.specs.Journal.{with_made, with_released, number_in};
 ghost use Rattle.gpu_d3d12.specs.Source.{MakesResource, ReleasesResource, source_blocks};
 
 use crate::CommittedRecord;
@@ -58,6 +59,7 @@ fn commit<D: D3D12Device>(
         size records.old.items source.old result records.new.items source.new }
     ensures blocks { (n : ℕ) → source_blocks D.D3D12Device source.new n ≡ source_blocks D.D3D12Device source.old n }
     ensures tier { source.new.tier ≡ source.old.tier }
+    ensures journal { source.new.journal ≡ with_made (number_in result) source.old.journal }
     ensures sum { total_size records.new.items < 2 ^ 64 }
 {
     if size > u64::MAX - total_size(records) {
@@ -104,6 +106,7 @@ fn release<D: D3D12Device>(
     ensures refused { OnErr result ((records.new.items ≡ records.old.items) × (source.new ≡ source.old)) }
     ensures blocks { (n : ℕ) → source_blocks D.D3D12Device source.new n ≡ source_blocks D.D3D12Device source.old n }
     ensures tier { source.new.tier ≡ source.old.tier }
+    ensures journal { source.new.journal ≡ with_released made.resource result source.old.journal }
     ensures sum { total_size records.old.items < 2 ^ 64 → total_size records.new.items < 2 ^ 64 }
 {
     let Some(place) = place_of(records, made) else {
@@ -174,6 +177,7 @@ impl CommittedResources {
             size (records_at self.old index) source.old result (records_at self.new index) source.new }
         ensures blocks { (n : ℕ) → source_blocks D.D3D12Device source.new n ≡ source_blocks D.D3D12Device source.old n }
         ensures tier { source.new.tier ≡ source.old.tier }
+        ensures journal { source.new.journal ≡ with_made (number_in result) source.old.journal }
         ensures others { self.new ≡ slice_set self.old index (records_at self.new index) }
         ensures kept { SumsFit self.new }
     {
@@ -194,6 +198,7 @@ impl CommittedResources {
         ensures refused { OnErr result ((self.new ≡ self.old) × (source.new ≡ source.old)) }
         ensures blocks { (n : ℕ) → source_blocks D.D3D12Device source.new n ≡ source_blocks D.D3D12Device source.old n }
         ensures tier { source.new.tier ≡ source.old.tier }
+        ensures journal { source.new.journal ≡ with_released made.resource result source.old.journal }
         ensures kept { SumsFit self.new }
     {
         if index >= self.types.len() {

@@ -3,6 +3,7 @@
 ghost use Rattle.std.specs.Prelude.{◌≡◌, length};
 ghost use Rattle.gpu_d3d12_setup.specs.Setup.{kinds_told};
 ghost use Rattle.gpu_pool.specs.Source.{result_of};
+ghost use Rattle.gpu_d3d12.specs.Journal.{with_released};
 ghost use Rattle.gpu_d3d12.specs.Live.{IsLive, AreDistinct};
 ghost use Rattle.gpu_d3d12.specs.Over.{FreesPlacedOver, FreesResourceOver};
 ghost use Rattle.gpu_d3d12.specs.Resource.{IsBeside};
@@ -26,6 +27,7 @@ fn free_placed<D: D3D12Device, L: Log>(
 ) -> Result<()>
     ensures frees { FreesPlacedOver D.D3D12Device allocation.now resource.0 pool.old (result_of result) pool.new }
     ensures kinds { kinds_told pool.new.source.tier ≡ kinds_told pool.old.source.tier }
+    ensures journal { pool.new.source.journal ≡ with_released resource result pool.old.source.journal }
     ensures keeps { (b : Allocation) → IsLive pool.old.slots b → AreDistinct b allocation.now → IsLive pool.new.slots b }
 {
     let piece = allocation.piece();
@@ -50,6 +52,7 @@ pub fn free_resource<D: D3D12Device, L: Log>(
     ensures frees { FreesResourceOver D.D3D12Device resource.now
         (record { pool = pool.old; committed = committed.old }) (result_of result) (record { pool = pool.new; committed = committed.new }) }
     ensures kinds { kinds_told pool.new.source.tier ≡ kinds_told pool.old.source.tier }
+    ensures journal { pool.new.source.journal ≡ with_released resource.now.resource result pool.old.source.journal }
     ensures many { length committed.new ≡ length committed.old }
     ensures keeps { (b : Allocation) → IsLive pool.old.slots b → IsBeside b resource.now.allocation → IsLive pool.new.slots b }
 {

@@ -7,6 +7,7 @@ mod allocator;
 mod committed;
 mod committed_record;
 mod freeing;
+mod journal;
 pub mod laws;
 mod logging;
 mod making;

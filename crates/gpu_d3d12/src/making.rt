@@ -3,9 +3,10 @@
 ghost use Rattle.std.specs.Prelude.{◌≡◌, ◌≤◌, None, IfOk, length};
 ghost use Rattle.gpu_d3d12_setup.specs.MemoryKinds.{memory_kinds, IsFirstServing};
 ghost use Rattle.gpu_d3d12_setup.specs.Setup.{kinds_told};
+ghost use Rattle.gpu_d3d12.specs.Journal.{with_made};
 ghost use Rattle.gpu_d3d12.specs.Live.{StayLive};
 ghost use Rattle.gpu_d3d12.specs.Over.{IsCommittedOver, IsPlacedOver};
-ghost use Rattle.gpu_d3d12.specs.Resource.{piece_desc, IsMade, IsPlacedIn, IsNewIn, BeginsAligned};
+ghost use Rattle.gpu_d3d12.specs.Resource.{number_given, piece_desc, IsMade, IsPlacedIn, IsNewIn, BeginsAligned};
 ghost use Rattle.gpu_d3d12.specs.State.{source_basis};
 ghost use Rattle.gpu_d3d12.specs.Step.{info_of};
 
@@ -86,6 +87,7 @@ pub fn make_committed<D: D3D12Device>(
     ensures made { IsCommittedOver D.D3D12Device desc.now question (own.entry.heap_properties.now, own.entry.heap_flags)
         (record { pool = pool.old; committed = committed.old }) result (record { pool = pool.new; committed = committed.new }) }
     ensures kinds { kinds_told pool.new.source.tier ≡ kinds_told pool.old.source.tier }
+    ensures journal { pool.new.source.journal ≡ with_made (number_given result) pool.old.source.journal }
     ensures many { length committed.new ≡ length committed.old }
     ensures alone { IfOk result (λ r. r.allocation ≡ None) }
 {
@@ -109,6 +111,7 @@ pub fn make_placed<D: D3D12Device, L: Log>(
 ) -> Result<Resource>
     ensures made { IsPlacedOver D.D3D12Device desc.now question pool.old result pool.new }
     ensures kinds { kinds_told pool.new.source.tier ≡ kinds_told pool.old.source.tier }
+    ensures journal { pool.new.source.journal ≡ with_made (number_given result) pool.old.source.journal }
     ensures keeps { StayLive pool.old.slots pool.new.slots }
     ensures gives { IfOk result (λ r. IsNewIn pool.old.slots pool.new.slots r.allocation) }
     ensures aligned { IfOk result (λ r. BeginsAligned (info_of (source_basis D.D3D12Device pool.old.source) desc.now).alignment r.allocation) }

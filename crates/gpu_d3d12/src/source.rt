@@ -1,6 +1,7 @@
 //! A DirectX 12 device as a source of blocks: heaps, beside the resources that are made.
 
-ghost use Rattle.std.specs.Prelude.{◌≡◌, ℕ, Some, None};
+ghost use Rattle.std.specs.Prelude.{◌≡◌, ℕ, [], Some, None};
+ghost use Rattle.gpu_d3d12.specs.Journal.{HoldsResources, IsFirstAndOut, with_made, number_in};
 ghost use Rattle.gpu_device.specs.D3D12.{Committed, Placed};
 ghost use Rattle.gpu_device.specs.declared.d3d12.event.ResourcePlace.TheVariants.{Own, InHeap};
 ghost use Rattle.gpu_d3d12_setup.specs.DeviceVersion.{device_of, with_device};
@@ -10,6 +11,7 @@ ghost use Rattle.gpu_d3d12_setup.specs.Setup.{kinds_told};
 ghost use Rattle.gpu_d3d12.specs.Source.{AsksBlock, GivesHeap, MakesResource, ReleasesResource, held_by, source_blocks, source_beside, HoldsFirst, one_number};
 
 use crate::OwnMemory;
+use crate::journal::{Journal, ResourceEvent};
 use gpu_d3d12_setup::{
     ID3D12DeviceVersion, ResourceCreateDesc, ResourceQuestion, create_block_heap, create_committed,
     create_placed, heap_desc, kind_at, release_block_heap,
@@ -20,25 +22,29 @@ use gpu_values::Result;
 use std::marker::Model;
 use std::snapshot::Snapshot;
 
-/// A DirectX 12 device. It holds the heaps that it held when it was handed in, and beside those just heaps of blocks.
+/// A DirectX 12 device. It holds what it held when it was handed in, and beside that just heaps of blocks and the resources that
+/// are out.
 pub struct D3D12Blocks<D: D3D12Device> {
     device: ID3D12DeviceVersion<D>,
     first: Snapshot<ID3D12DeviceVersion<D>>,
     tier: ResourceHeapTier,
+    journal: Journal,
 }
 
 impl<D: D3D12Device> Model for D3D12Blocks<D> {
     ghost use Rattle.std.specs.Prelude.{◌≡◌};
     ghost use Rattle.gpu_d3d12_setup.specs.DeviceVersion.{device_of, with_device};
+    ghost use Rattle.gpu_d3d12.specs.Journal.{events, HoldsResources};
     ghost use Rattle.gpu_d3d12.specs.Source.{SourceState, HoldsFirst};
 
     ghost Value = { SourceState D };
 
-    ghost view = { λ s. record { device = s.device; first = s.first.value; tier = s.tier } };
+    ghost view = { λ s. record { device = s.device; first = s.first.value; tier = s.tier; journal = events s.journal } };
 
     ghost invariant = { λ s. (D.properties (device_of s.device) ≡ D.properties (device_of s.first.value))
         × (s.device ≡ with_device s.first.value (device_of s.device))
-        × HoldsFirst s.tier (D.held (device_of s.first.value)) (D.held (device_of s.device)) };
+        × HoldsFirst s.tier (D.held (device_of s.first.value)) (D.held (device_of s.device))
+        × HoldsResources (D.held (device_of s.first.value)) (D.held (device_of s.device)) (events s.journal) };
 }
 
 impl<D: D3D12Device> BlockSource for D3D12Blocks<D> {
@@ -71,7 +77,7 @@ impl<D: D3D12Device> BlockSource for D3D12Blocks<D> {
 impl<D: D3D12Device> D3D12Blocks<D> {
     /// A source without blocks, over a device of this heap tier.
     pub fn new(device: ID3D12DeviceVersion<D>, tier: ResourceHeapTier) -> Self
-        ensures made { result ≡ record { device = device; first = device; tier = tier } }
+        ensures made { result ≡ record { device = device; first = device; tier = tier; journal = [] } }
         ensures none { (n : ℕ) → source_blocks D.D3D12Device result n ≡ None }
         ensures beside { source_beside D.D3D12Device result ≡ D.held (device_of device) }
     {
@@ -80,6 +86,7 @@ impl<D: D3D12Device> D3D12Blocks<D> {
             device,
             first,
             tier,
+            journal: Journal::new(),
         }
     }
 
@@ -87,6 +94,7 @@ impl<D: D3D12Device> D3D12Blocks<D> {
     pub fn device(&self) -> &ID3D12DeviceVersion<D>
         ensures lent { result.now ≡ self.now.device }
         ensures holds { HoldsFirst self.now.tier (D.held (device_of self.now.first)) (held_by D.D3D12Device self.now) }
+        ensures resources { HoldsResources (D.held (device_of self.now.first)) (held_by D.D3D12Device self.now) self.now.journal }
         ensures constant { D.properties (device_of self.now.device) ≡ D.properties (device_of self.now.first) }
     {
         &self.device
@@ -113,9 +121,12 @@ impl<D: D3D12Device> D3D12Blocks<D> {
             × Makes committed_texts result answer }
         ensures blocks { (n : ℕ) → source_blocks D.D3D12Device self.new n ≡ source_blocks D.D3D12Device self.old n }
         ensures tier { self.new.tier ≡ self.old.tier }
+        ensures journal { self.new.journal ≡ with_made (number_in result) self.old.journal }
     {
         let device = self.device.device_mut();
-        create_committed(device, question, desc, own.heap_properties, own.heap_flags)
+        let answer = create_committed(device, question, desc, own.heap_properties, own.heap_flags);
+        self.journal.note(&answer);
+        answer
     }
 
     /// Asks for a resource at an offset in bytes in a heap, by this question. `Internal` where the device refuses, with the
@@ -133,9 +144,12 @@ impl<D: D3D12Device> D3D12Blocks<D> {
             × Makes placed_texts result answer }
         ensures blocks { (n : ℕ) → source_blocks D.D3D12Device self.new n ≡ source_blocks D.D3D12Device self.old n }
         ensures tier { self.new.tier ≡ self.old.tier }
+        ensures journal { self.new.journal ≡ with_made (number_in result) self.old.journal }
     {
         let device = self.device.device_mut();
-        create_placed(device, question, desc, heap, offset)
+        let answer = create_placed(device, question, desc, heap, offset);
+        self.journal.note(&answer);
+        answer
     }
 
     /// Releases a resource. Never refused.
@@ -145,6 +159,7 @@ impl<D: D3D12Device> D3D12Blocks<D> {
         ensures tier { self.new.tier ≡ self.old.tier }
     {
         self.device.device_mut().release_resource(resource);
+        self.journal.push(ResourceEvent::Released(resource));
     }
 
     /// The device, given back once no block is left: it holds what it held beside the blocks.
@@ -152,12 +167,14 @@ impl<D: D3D12Device> D3D12Blocks<D> {
         requires { (n : ℕ) → source_blocks D.D3D12Device self n ≡ None }
         ensures same { result ≡ self.device }
         ensures held { D.held (device_of result) ≡ source_beside D.D3D12Device self }
+        ensures left { IsFirstAndOut (D.held (device_of self.first)) (D.held (device_of result)) self.journal }
         ensures version { result ≡ with_device self.first (device_of result) }
     {
         let D3D12Blocks {
             device,
             first: _,
             tier: _,
+            journal: _,
         } = self;
         device
     }

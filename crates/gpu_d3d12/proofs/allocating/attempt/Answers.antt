@@ -1,6 +1,10 @@
 use Rattle.std.proofs.Common.{◌∙◌, refl, Ok, Err}
+use Rattle.gpu_values.specs.Refusal.{refusal_of}
+use Rattle.gpu_d3d12_setup.specs.Setup.{kinds_told}
+use Rattle.gpu_pool.specs.Allocate.{request_at}
 use Rattle.gpu_d3d12.specs.Live.{piece_of}
 use Rattle.gpu_d3d12.proofs.Giving.{attempted, starved, given_live}
+use Rattle.gpu_d3d12.proofs.Staying.{serves_keeps}
 use Rattle.gpu_d3d12.proofs.allocating.attempt.Goals as goal
 
 pub returns-in-Err-clause-attempts : goal.returns-in-Err-clause-attempts
@@ -25,3 +29,15 @@ returns-in-Ok-allocate-clause-keeps g c = λ a live. c.allocate.ensures.keeps a.
 pub returns-in-Ok-allocate-clause-live : goal.returns-in-Ok-allocate-clause-live
 returns-in-Ok-allocate-clause-live g c =
     given_live c.args.pool.now.slots c.allocate.new.self.slots c.args.index _ c.in-Ok-allocate.piece c.allocation_of.result c.allocation_of.ensures c.in-Ok-allocate.ensures.live
+
+pub returns-in-Ok-allocate-clause-journal : goal.returns-in-Ok-allocate-clause-journal
+returns-in-Ok-allocate-clause-journal g c =
+    let a = c.in-Ok-allocate.ensures.allocates in
+    let old = c.args.pool.now in
+    (serves_keeps g.D.D3D12Device (kinds_told old.source.tier) (request_at c.args.index c.request_of.result tt) old a.0 (Ok c.in-Ok-allocate.piece) c.allocate.new.self a.1).journal
+
+pub returns-in-Err-allocate-clause-journal : goal.returns-in-Err-allocate-clause-journal
+returns-in-Err-allocate-clause-journal g c =
+    let a = c.in-Err-allocate.ensures.allocates in
+    let old = c.args.pool.now in
+    (serves_keeps g.D.D3D12Device (kinds_told old.source.tier) (request_at c.args.index c.request_of.result tt) old a.0 (Err (refusal_of c.in-Err-allocate.error)) c.allocate.new.self a.1).journal

@@ -1,11 +1,13 @@
-use Rattle.std.proofs.Common.{◌∙◌, sym, ap, subst}
+use Rattle.std.proofs.Common.{List, ◌∙◌, sym, ap, subst}
 use Rattle.gpu_d3d12_setup.specs.DeviceVersion.{device_of, with_device}
 use Rattle.gpu_d3d12_setup.specs.declared.device_version.ID3D12DeviceVersion.{ID3D12DeviceVersion}
 use Rattle.gpu_pool.specs.Handles.{all_handles}
 use Rattle.gpu_d3d12.specs.Blocks.{AsksNothing, releases_recorded}
+use Rattle.gpu_d3d12.specs.Journal.{IsFirstAndOut}
+use Rattle.gpu_d3d12.specs.declared.journal.ResourceEvent.{ResourceEvent}
 use Rattle.gpu_d3d12.specs.State.{State, beside_of}
 use Rattle.gpu_d3d12.proofs.Leaving.{empties}
-use Rattle.gpu_d3d12.proofs.Staying.{all_back_stays, same_first}
+use Rattle.gpu_d3d12.proofs.Staying.{all_back_stays, all_back_journal, same_first}
 use Rattle.gpu_d3d12.proofs.allocator.Allocator.destroy.Goals as goal
 
 pub returns-clause-held : goal.returns-clause-held
@@ -38,3 +40,13 @@ returns-clause-version g c =
     c.into_device.ensures.version
     ∙ ap (λ (v : ID3D12DeviceVersion g.row.D.Denot). with_device v to) (same_first V i.pool.source c.destroy.result (all_back_stays V i.pool.source _ c.destroy.result c.destroy.ensures.gives_back))
     ∙ ap (λ (s : State g.row.D.Denot). with_device s.first to) c.self.view_is
+
+pub returns-clause-left : goal.returns-clause-left
+returns-clause-left g c =
+    let V = g.D.D3D12Device in
+    let i = c.self.inside in
+    let back = c.destroy.ensures.gives_back in
+    let first = same_first V i.pool.source c.destroy.result (all_back_stays V i.pool.source _ c.destroy.result back) ∙ ap (λ (s : State g.row.D.Denot). s.first) c.self.view_is in
+    let journal = all_back_journal V i.pool.source _ c.destroy.result back ∙ ap (λ (s : State g.row.D.Denot). s.journal) c.self.view_is in
+    subst (λ (xs : List ResourceEvent). IsFirstAndOut (V.held (device_of c.args.self.first)) (V.held (device_of c.into_device.result)) xs) journal
+    (subst (λ (v : ID3D12DeviceVersion g.row.D.Denot). IsFirstAndOut (V.held (device_of v)) (V.held (device_of c.into_device.result)) c.destroy.result.journal) first c.into_device.ensures.left)

@@ -4,13 +4,14 @@ use Rattle.gpu_d3d12_setup.specs.DeviceVersion.{device_of}
 use Rattle.gpu_d3d12_setup.specs.HeapAnswer.{AsksHeap}
 use Rattle.gpu_d3d12_setup.specs.Heaps.{heap_desc}
 use Rattle.gpu_pool.specs.Source.{HoldsAfter, result_of}
+use Rattle.gpu_d3d12.specs.Journal.{events}
 use Rattle.gpu_d3d12.specs.Source.{SourceState, AsksBlock, source_blocks}
 use Rattle.gpu_d3d12.proofs.Asking.{new, asks_block, holds_answer, asked_holds}
 use Rattle.gpu_d3d12.proofs.source.D3D12BlocksBlockSource.ask.Goals as goal
 use Rattle.gpu_d3d12.proofs.source.D3D12BlocksBlockSource.ask.Goals.{After-create_block_heap}
 
 abbrev was : (g : _) (c : After-create_block_heap g) → SourceState g.row.D.Denot
-was g c = let i = c.self.inside in record { device = i.device; first = i.first.value; tier = i.tier }
+was g c = let i = c.self.inside in record { device = i.device; first = i.first.value; tier = i.tier; journal = events i.journal }
 
 asked : (g : _) (c : After-create_block_heap g) → AsksHeap g.D.D3D12Device (device_of (was g c).device) (heap_desc c.kind_at.result c.args.size) c.create_block_heap.ensures.0 c.create_block_heap.new.device
 asked g c =

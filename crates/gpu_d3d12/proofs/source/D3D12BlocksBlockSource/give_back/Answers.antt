@@ -3,13 +3,14 @@ use Rattle.std.proofs.Common.{subst, sym}
 use Rattle.gpu_d3d12_setup.specs.DeviceVersion.{device_of}
 use Rattle.gpu_d3d12_setup.specs.HeapAnswer.{IsWithoutHeap}
 use Rattle.gpu_pool.specs.Source.{Removes}
+use Rattle.gpu_d3d12.specs.Journal.{events}
 use Rattle.gpu_d3d12.specs.Source.{SourceState, GivesHeap, source_blocks}
 use Rattle.gpu_d3d12.proofs.Asking.{new, gives_heap, removes_block, gone_holds}
 use Rattle.gpu_d3d12.proofs.source.D3D12BlocksBlockSource.give_back.Goals as goal
 use Rattle.gpu_d3d12.proofs.source.D3D12BlocksBlockSource.give_back.Goals.{After-release_block_heap}
 
 abbrev was : (g : _) (c : After-release_block_heap g) → SourceState g.row.D.Denot
-was g c = let i = c.self.inside in record { device = i.device; first = i.first.value; tier = i.tier }
+was g c = let i = c.self.inside in record { device = i.device; first = i.first.value; tier = i.tier; journal = events i.journal }
 
 some : (g : _) (c : After-release_block_heap g) → IsSome (source_blocks g.D.D3D12Device (was g c) c.args.handle.0)
 some g c = subst (λ (s : SourceState g.row.D.Denot). IsSome (source_blocks g.D.D3D12Device s c.args.handle.0)) (sym c.self.view_is) c.requires
