@@ -66,21 +66,21 @@ refused_replies d (Err e) r is = some_same (refusal_of e) r is
 
 module _ {D : Type 0} (g : Ghosts D) where
   -- an allocation, as what its pool met with and replied
-  pub record Taken (basis : Basis) (d : AllocationCreateDesc) (valid : Bool) (old : states.Pool D) (result : Result Allocation AllocationError) (new : states.Pool D) : Type 0 where
+  pub record Attempted (basis : Basis) (d : AllocationCreateDesc) (valid : Bool) (old : states.Pool D) (result : Result Allocation AllocationError) (new : states.Pool D) : Type 0 where
     pub met : environments.Environment ID3D12Heap
     pub allocated : Result (ℕ × Piece ID3D12Heap) Refusal
     pub allocates : AllocatesBy (AsksBlock g) (GivesHeap g) (MakesResource g) (ReleasesResource g) basis d valid met (allocated_reply allocated) old new
     pub replies : Replies d result (allocated_reply allocated)
 
-  pub taken : (d : AllocationCreateDesc) (valid : Bool) (old : states.Pool D) (result : Result Allocation AllocationError) (new : states.Pool D) → allocations.AllocatesBy g d valid old result new
-      → Taken (source_basis g old.source) d valid old result new
-  taken d false old result new a = record {
+  pub attempted : (d : AllocationCreateDesc) (valid : Bool) (old : states.Pool D) (result : Result Allocation AllocationError) (new : states.Pool D) → allocations.AllocatesBy g d valid old result new
+      → Attempted (source_basis g old.source) d valid old result new
+  attempted d false old result new a = record {
     met = NothingMet;
     allocated = Err invalid_allocation_create_desc;
     allocates = (refl, refl, a.1);
     replies = refused_replies d result invalid_allocation_create_desc a.0;
   }
-  taken d true old result new a = record {
+  attempted d true old result new a = record {
     met = a.allocates.0;
     allocated = paired a.memory_type a.answer;
     allocates = (a.memory_type, a.first, (a.answer, paired_reply a.memory_type a.answer, a.allocates.1));
@@ -92,7 +92,7 @@ module _ {D : Type 0} (g : Ghosts D) where
   pub allocate_step : (d : AllocationCreateDesc) (old new : State D) (result : Result Allocation AllocationError) → allocations.Allocates g d old result new → new.committed ≡ old.committed
       → IsAllocateStep g d result old new
   allocate_step d old new result a committed =
-      let t = taken d (is_valid d) (pool_of old) result (pool_of new) a in
+      let t = attempted d (is_valid d) (pool_of old) result (pool_of new) a in
       record {
         reply = allocated_reply t.allocated;
         step = record {

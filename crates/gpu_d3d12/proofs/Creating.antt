@@ -42,7 +42,7 @@ use Rattle.gpu_d3d12.specs.Step.{Environment, nothing_met, host_met, info_of, si
 use Rattle.gpu_d3d12.specs.Step.{SeesQuestion, SeesGiven, SeesMade, SeesReleased, IsStep, Replies, RepliesResource, TellsReason, IsCreateStep, freed_as}
 use Rattle.gpu_d3d12.specs.declared.allocation.Allocation.{Allocation}
 use Rattle.gpu_d3d12.specs.declared.resource.Resource.{Resource}
-use Rattle.gpu_d3d12.proofs.Calls.{taken}
+use Rattle.gpu_d3d12.proofs.Calls.{attempted}
 use Rattle.gpu_d3d12.proofs.Records.{refused_reply}
 use Rattle.gpu_d3d12.proofs.Staying.{Stays, stays, stays_same, then_stays, same_version, made_stays, released_stays, frees_stays, serves_keeps, allocates_keeps}
 use Rattle.gpu_d3d12.proofs.Steps.{commit_seen, place_seen, frees_resource_seen}
@@ -85,7 +85,7 @@ module _ {D : Type 0} (g : Ghosts D) (d : ResourceCreateDesc) (question : Resour
   -- no piece was allocated, so the device isn't asked
   pub not_allocated : (e : AllocationError) → IsAllocated (Err e) → IsPlacedOver g d question old (Err e) mid
   not_allocated e a =
-      let t = taken g p (is_valid p) old (Err e) mid a in
+      let t = attempted g p (is_valid p) old (Err e) mid a in
       let is = refused_as p e t.allocated t.replies in
       record {
         environment = record { pool = t.met; resource = None };
@@ -115,7 +115,7 @@ module _ {D : Type 0} (g : Ghosts D) (d : ResourceCreateDesc) (question : Resour
     pub was_asked : (new : states.Pool D) → EndsBy (AsksBlock g) (GivesHeap g) (MakesResource g) (ReleasesResource g) basis a.memory_type_index (piece_of a) (number_or_refusal placed_texts answer) (record mid { source = between }) new
         → (result : Result Resource AllocationError) → RepliesResource d result made_as → IsPlacedOver g d question old result new
     was_asked new ends result told =
-        let t = taken g p (is_valid p) old (Ok a) mid allocates in
+        let t = attempted g p (is_valid p) old (Ok a) mid allocates in
         let is = given_as p a t.allocated t.replies in
         record {
           environment = record { pool = t.met; resource = Some answer };
@@ -130,7 +130,7 @@ module _ {D : Type 0} (g : Ghosts D) (d : ResourceCreateDesc) (question : Resour
         }
 
     has_name : IsGiven a.memory_type_index d.name.now (piece_of a) a
-    has_name = (given_as p a (taken g p (is_valid p) old (Ok a) mid allocates).allocated (taken g p (is_valid p) old (Ok a) mid allocates).replies).1
+    has_name = (given_as p a (attempted g p (is_valid p) old (Ok a) mid allocates).allocated (attempted g p (is_valid p) old (Ok a) mid allocates).replies).1
 
     pub placed : (r : ID3D12Resource) (resource : Resource) → answer ≡ Granted r.0 → IsPlacedIn d a r.0 size resource → IsPlacedOver g d question old (Ok resource) (record mid { source = between })
     placed r resource is in_it =

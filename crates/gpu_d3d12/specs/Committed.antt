@@ -19,6 +19,7 @@ Committed = List (List CommittedRecord)
 abbrev pub records_at : Committed → (t : ℕ) → List CommittedRecord
 records_at committed t = slice_index_or committed t []
 
+-- the sum of the records' sizes, in bytes
 abbrev pub total_size : List CommittedRecord → ℕ
 total_size records = sum_by (λ r. r.size) records
 
@@ -26,6 +27,7 @@ total_size records = sum_by (λ r. r.size) records
 abbrev pub SumsFit : Committed → Type 0
 SumsFit committed = (t : ℕ) → total_size (records_at committed t) < 2 ^ 64
 
+-- how many records there are, and their sizes' sum
 abbrev pub statistics_of : List CommittedRecord → CommittedAllocationStatistics
 statistics_of records = record { num_allocations = length records; total_size = total_size records }
 
@@ -46,6 +48,7 @@ abbrev pub IsAfterResource : {S : Type 0} → (asks : S → ResourceAnswer → S
 IsAfterResource asks old None new = new ≡ old
 IsAfterResource asks old (Some answer) new = asks old answer new
 
+-- a resource by its number, or why there is none
 abbrev pub resource_reply : Result ID3D12Resource AllocationError → Result ℕ Refusal
 resource_reply (Ok resource) = Ok resource.0
 resource_reply (Err e) = Err (refusal_of e)
@@ -68,6 +71,7 @@ CommitsBy true false old size answer reply new = (answer ≡ None) × (reply ≡
 CommitsBy true true old size None reply new = ⊥
 CommitsBy true true old size (Some answer) reply new = (reply ≡ number_or_refusal committed_texts answer) × (new ≡ with_record old size (resource_number answer))
 
+-- the same, as the sum decides
 abbrev pub Commits : (host : Bool) → List CommittedRecord → (size : ℕ) → Option ResourceAnswer → Result ℕ Refusal → List CommittedRecord → Type 0
 Commits host old size answer reply new = CommitsBy (fits old size) host old size answer reply new
 
@@ -89,6 +93,7 @@ is_same_record a b = (a.resource.0 == b.resource.0) && (a.size == b.size)
 abbrev pub place_of : List CommittedRecord → CommittedRecord → Option ℕ
 place_of records r = position (λ x. is_same_record x r) records
 
+-- no record is of this resource
 abbrev pub freed : Refusal
 freed = internal (codes "Resource was already freed.") None
 
