@@ -1,8 +1,6 @@
 -- What a request comes to at one memory type: a shared block serves it, or the device is asked for a new block.
-use Rattle.std.specs.Prelude.{◌≡◌, ◌≢◌, ℕ, Bool, true, false, List, Option, Some, None}
-use Rattle.std.specs.FinMap.{FinMap, get}
+use Rattle.std.specs.Prelude.{◌≡◌, ℕ, Bool, true, false, List, Option, Some, None}
 use Rattle.std.specs.List.{slice_set}
-use Rattle.std.specs.Ordering.{nat_cmp}
 use Rattle.gpu_values.specs.Refusal.{Refusal, host_out_of_memory}
 use Rattle.gpu_block_pieces.specs.Request.{Request}
 use Rattle.gpu_values.specs.Sizes.{Sizes}
@@ -78,23 +76,3 @@ pub record AllocatesInType {H : Type 0} (q : RequestAt) (old : Slots H) (host : 
   pub left : List (Option (Slot H))
   pub is_carried_out : IsCarriedOut (total_capacity old) q.budget (slots_at old q.memory_type) plan asked answer left
   pub slots : new ≡ slice_set old q.memory_type left
-
--- ---- what the device holds then
-
--- a block of that size in the t-th memory type has an entry, and it is one that it may have
-abbrev pub IsEntryOf : {E : Type 0} → (IsEntry : (t size : ℕ) → E → Type 0) → (t size : ℕ) → Option E → Type 0
-IsEntryOf IsEntry t size None = ⊥
-IsEntryOf IsEntry t size (Some e) = IsEntry t size e
-
--- a granted block's entry is new, and nothing else changes; a refusal changes nothing
-abbrev pub HoldsResult : {H E : Type 0} → (number_of : H → ℕ) → (IsEntry : (t size : ℕ) → E → Type 0) → (t size : ℕ) → (held : FinMap nat_cmp E) → BlockResult H → (now : FinMap nat_cmp E) → Type 0
-HoldsResult number_of IsEntry t size held (Allocated n) now =
-    (get held (number_of n) ≡ None)
-    × IsEntryOf IsEntry t size (get now (number_of n))
-    × ((m : ℕ) → m ≢ number_of n → get now m ≡ get held m)
-HoldsResult number_of IsEntry t size held (NotAllocated refusal) now = now ≡ held
-
--- a device that isn't asked holds what it held
-abbrev pub HoldsAsked : {H E : Type 0} → (number_of : H → ℕ) → (IsEntry : (t size : ℕ) → E → Type 0) → (t : ℕ) → (held : FinMap nat_cmp E) → Option (AskedBlock H) → (now : FinMap nat_cmp E) → Type 0
-HoldsAsked number_of IsEntry t held None now = now ≡ held
-HoldsAsked number_of IsEntry t held (Some a) now = HoldsResult number_of IsEntry t a.size held a.result now

@@ -1,10 +1,10 @@
 -- What a device holds of an allocator's blocks. The device's map has an entry of some type E for each number; a module says which
 -- entry a block of a memory type and size may have (IsEntry), and which number its device has for it (number_of).
-use Rattle.std.specs.Prelude.{◌≡◌, ◌≢◌, ℕ, List, [], ◌∷◌, Option, Some, None}
+use Rattle.std.specs.Prelude.{◌≡◌, ◌≢◌, ℕ, Option, Some, None}
 use Rattle.std.specs.Ordering.{nat_cmp}
-use Rattle.std.specs.FinMap.{FinMap, get, remove}
+use Rattle.std.specs.FinMap.{FinMap, get}
 use Rattle.gpu_block.specs.Block.{Block, size_of}
-use Rattle.gpu_slots.specs.TypeState.{Slot, block_number}
+use Rattle.gpu_slots.specs.TypeState.{Slot}
 use Rattle.gpu_memory_types.specs.Blocks.{Slots, block_at}
 
 -- a block of the t-th memory type has an entry, and it is one that a block of its size may have
@@ -22,19 +22,3 @@ pub record HoldsBlocks {H E : Type 0} (number_of : H → ℕ) (IsEntry : (t size
   pub one_block : (t i u j : ℕ) (s r : Slot H) → block_at slots t i ≡ Some s → block_at slots u j ≡ Some r → number_of s.number ≡ number_of r.number → (t ≡ u) × (i ≡ j)
   pub new : (t i : ℕ) (s : Slot H) → block_at slots t i ≡ Some s → get first (number_of s.number) ≡ None
   pub others : (number : ℕ) → IsNoBlock number_of slots number → get held number ≡ get first number
-
--- ---- blocks that are given back one by one
-
-abbrev pub without_block : {H E : Type 0} → (number_of : H → ℕ) → FinMap nat_cmp E → Option H → FinMap nat_cmp E
-without_block number_of held None = held
-without_block number_of held (Some block) = remove held (number_of block)
-
--- the blocks in these slots went
-abbrev pub without : {H E : Type 0} → (number_of : H → ℕ) → FinMap nat_cmp E → List (Option (Slot H)) → FinMap nat_cmp E
-without number_of held [] = held
-without number_of held (s ∷ ss) = without number_of (without_block number_of held (block_number s)) ss
-
--- the blocks of all these memory types went
-abbrev pub without_all : {H E : Type 0} → (number_of : H → ℕ) → FinMap nat_cmp E → Slots H → FinMap nat_cmp E
-without_all number_of held [] = held
-without_all number_of held (s ∷ ss) = without_all number_of (without number_of held s) ss

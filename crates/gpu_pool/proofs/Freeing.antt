@@ -9,7 +9,7 @@ use Rattle.gpu_memory_types.specs.Apart.{AreDistinct}
 use Rattle.gpu_memory_types.specs.Blocks.{Slots, slots_at}
 use Rattle.gpu_memory_types.proofs.Options.{none_some, some_same}
 use Rattle.gpu_memory_types.proofs.Placed.{only_block, some_below}
-use Rattle.gpu_memory_types.proofs.Releasing.{releases_size}
+use Rattle.gpu_memory_types.proofs.Sizes.{releases_size}
 use Rattle.gpu_memory_types.proofs.StayLive.{released_keeps_others}
 use Rattle.gpu_pool.specs.Free.{GivesBackAny, GivesBackOf, Frees}
 use Rattle.gpu_pool.specs.Held.{HoldsJustBlocks}

@@ -9,7 +9,7 @@ use Rattle.gpu_memory_types.specs.Attempt as attempts
 use Rattle.gpu_memory_types.specs.Attempt.{Allocated, NotAllocated, AskedBlock, NoHostMemory as no_memory, SharedBlock, NewBlock, Answer, Gave, Refused, AllocatesInType}
 use Rattle.gpu_memory_types.specs.Blocks.{Slots, slots_at}
 use Rattle.gpu_memory_types.specs.Budgets.{budget_at}
-use Rattle.gpu_memory_types.proofs.Granting.{takes_size}
+use Rattle.gpu_memory_types.proofs.Sizes.{takes_size}
 use Rattle.gpu_memory_types.proofs.Placed.{only_block, installs_only, prepares_only}
 use Rattle.gpu_memory_types.proofs.Types.{slots_same}
 use Rattle.gpu_pool.specs.Allocate.{RequestAt, Environment, NothingMet, NoHostMemory, Answered, NeedsNewBlock, AsksOf, Serves}
