@@ -3,7 +3,6 @@ pub mod Apart
 pub mod Budgets
 pub mod Changed
 pub mod Holding
-pub mod OneOutcome
 pub mod Options
 pub mod Placed
 pub mod Reporting

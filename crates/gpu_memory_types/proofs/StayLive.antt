@@ -4,7 +4,6 @@ use Rattle.std.specs.Option.{option_to_list}
 use Rattle.std.specs.Int.NonZero.{non_zero_u64_get}
 use Rattle.gpu_block.specs.Block.{Block, free_list, dedicated, is_general, TakesIn, ReleasesIn, HoldsPiece, IsSoundBlock}
 use Rattle.gpu_block_pieces.specs.FreeList.{Extent}
-use Rattle.gpu_values.specs.Refusal.{Refusal}
 use Rattle.gpu_block_pieces.specs.Request.{Request}
 use Rattle.gpu_slots.specs.Slots.{SlotIsSound, AreSound}
 use Rattle.gpu_slots.specs.TypeRelease.{SlotHolds, SlotReleases, ReleasesPiece}
@@ -15,13 +14,9 @@ use Rattle.gpu_core.proofs.EmptyBlocks.{takes_holds, holds_some}
 use Rattle.gpu_slots.proofs.Found.{only_one}
 use Rattle.gpu_slots.proofs.Slotted.{set_only}
 use Rattle.gpu_block_pieces.proofs.Live.{takes_keeps, takes_new_number, releases_keeps}
-use Rattle.gpu_memory_types.specs.Attempt.{RequestAt, type_asked, BlockResult, Allocated, NotAllocated, AskedBlock, Plan, NoHostMemory, SharedBlock, NewBlock, IsPlan, Answer, Gave, Refused}
-use Rattle.gpu_memory_types.specs.Attempt.{IsAfterResult, IsCarriedOut, AllocatesInType}
-use Rattle.gpu_memory_types.specs.Blocks.{Slots, slots_at, block_at, total_capacity}
+use Rattle.gpu_memory_types.specs.Blocks.{Slots, slots_at, block_at}
 use Rattle.gpu_memory_types.specs.Live.{IsLiveIn}
-use Rattle.gpu_memory_types.proofs.OneOutcome.{gave_refused}
 use Rattle.gpu_memory_types.proofs.Placed.{OnlyBlock, only_block, installs_only, prepares_only, some_below, same_place}
-use Rattle.gpu_memory_types.proofs.Types.{slots_same}
 
 -- ---- one block
 
@@ -72,30 +67,16 @@ live_at eq same ss t p b at number holds =
 
 -- ---- a request
 
--- what an answer makes of live pieces: all stay live, and a piece that is given is live and is none of them
-pub record KeepsPieces {H : Type 0} (eq : H → H → Bool) (t : ℕ) (old new : Slots H) (answer : Answer H) : Type 0 where
+-- a piece that is allocated is live and none of those that were, which all stay live
+pub record IsNewPiece {H : Type 0} (eq : H → H → Bool) (t : ℕ) (old new : Slots H) (p : Piece H) : Type 0 where
   pub keeps : (u : ℕ) (q : Piece H) → IsLiveIn eq old u (Some q) → IsLiveIn eq new u (Some q)
-  pub live : (p : Piece H) → answer ≡ Gave p → IsLiveIn eq new t (Some p)
-  pub other : (p : Piece H) → answer ≡ Gave p → (u : ℕ) (q : Piece H) → IsLiveIn eq old u (Some q) → u ≡ t → q.slot ≡ p.slot → non_zero_u64_get q.number ≢ non_zero_u64_get p.number
+  pub live : IsLiveIn eq new t (Some p)
+  pub other : (u : ℕ) (q : Piece H) → IsLiveIn eq old u (Some q) → u ≡ t → q.slot ≡ p.slot → non_zero_u64_get q.number ≢ non_zero_u64_get p.number
 
-pub gave_same : {H : Type 0} (p q : Piece H) → Gave p ≡ Gave q → p ≡ q
-gave_same p q e = cc
-
-pub keeps_all : {H : Type 0} (eq : H → H → Bool) (t : ℕ) (old new : Slots H) (r : Refusal) (answer : Answer H) → answer ≡ Refused r → new ≡ old → KeepsPieces eq t old new answer
-keeps_all {H} eq t old new r answer refused same = record {
-  keeps = λ u q live. subst (λ (ss : Slots H). IsLiveIn eq ss u (Some q)) (sym same) live;
-  live = λ p e. absurd (gave_refused p r (sym e ∙ refused));
-  other = λ p e u q live type slot number. gave_refused p r (sym e ∙ refused);
-}
-
-module _ {H : Type 0} (eq : H → H → Bool) (same : (h : H) → eq h h ≡ true) (q : RequestAt) (old : Slots H) (below : q.memory_type < length old) (sound : AreSound q.granularity (slots_at old q.memory_type)) where
-  abbrev t : ℕ
-  t = q.memory_type
-
-  served_keeps : (p : Piece H) (taken : List (Option (Slot H))) → PreparesPiece (slots_at old t) q.request p taken → AreSound q.granularity (slots_at (slice_set old t taken) t)
-      → KeepsPieces eq t old (slice_set old t taken) (Gave p)
+module _ {H : Type 0} (eq : H → H → Bool) (same : (h : H) → eq h h ≡ true) (granularity t : ℕ) (r : Request) (old : Slots H) (below : t < length old) (sound : AreSound granularity (slots_at old t)) where
+  pub served_keeps : (p : Piece H) (taken : List (Option (Slot H))) → PreparesPiece (slots_at old t) r p taken → AreSound granularity (slots_at (slice_set old t taken) t)
+      → IsNewPiece eq t old (slice_set old t taken) p
   served_keeps p taken s after =
-      let r = q.request in
       let new = slice_set old t taken in
       let b : Slot H = record s.slot { block = s.after } in
       let n = non_zero_u64_get p.number in
@@ -106,27 +87,25 @@ module _ {H : Type 0} (eq : H → H → Bool) (same : (h : H) → eq h h ≡ tru
       record {
         keeps = λ u z was. keeps_by eq old new t p.slot (Some b) only u z
             (λ h type slot. ((held z h).0, taken_keeps s.slot.block r p.offset n s.after s.shared s.takes (non_zero_u64_get z.number) z.offset z.size (held z h).1)) was;
-        live = λ z e. subst (λ (y : Piece H). IsLiveIn eq new t (Some y)) (gave_same p z e) live;
-        other = λ y e u z was type slot number.
-            let one = gave_same p y e in
+        live = live;
+        other = λ u z was type slot number.
             let here : SlotHolds eq z (block_at old t p.slot) =
-            subst (λ j. SlotHolds eq z (block_at old t j)) (slot ∙ ap (λ (x : Piece H). x.slot) (sym one)) (subst (λ v. SlotHolds eq z (block_at old v z.slot)) type was) in
-            taken_number s.slot.block r p.offset n s.after s.shared (sound_slot q.granularity old t p.slot s.slot sound s.at) (sound_slot q.granularity new t p.slot b after only.at) s.takes
-            (non_zero_u64_get z.number) z.offset z.size (held z here).1 (number ∙ ap (λ (x : Piece H). non_zero_u64_get x.number) (sym one));
+            subst (λ j. SlotHolds eq z (block_at old t j)) slot (subst (λ v. SlotHolds eq z (block_at old v z.slot)) type was) in
+            taken_number s.slot.block r p.offset n s.after s.shared (sound_slot granularity old t p.slot s.slot sound s.at) (sound_slot granularity new t p.slot b after only.at) s.takes
+            (non_zero_u64_get z.number) z.offset z.size (held z here).1 number;
       }
 
-  installed_keeps : (own : Bool) (size : ℕ) (ready : Ready) (n : H) (p : Piece H) (x : List (Option (Slot H)))
-      → TakesIn (fresh_block own size q.granularity) q.request ready.offset ready.number ready.block → ready.size ≡ q.request.size → Installs (slots_at old t) own ready n p x
-      → KeepsPieces eq t old (slice_set old t x) (Gave p)
+  pub installed_keeps : (own : Bool) (size : ℕ) (ready : Ready) (n : H) (p : Piece H) (x : List (Option (Slot H)))
+      → TakesIn (fresh_block own size granularity) r ready.offset ready.number ready.block → ready.size ≡ r.size → Installs (slots_at old t) own ready n p x
+      → IsNewPiece eq t old (slice_set old t x) p
   installed_keeps own size ready n p x takes sized made =
-      let r = q.request in
       let new = slice_set old t x in
       let b : Slot H = record { number = n; block = ready.block } in
       let k = non_zero_u64_get p.number in
       let only_at = installs_only (slots_at old t) own ready n p x made in
       let only = only_block old t p.slot (Some b) x below only_at.1 in
       let none : block_at old t p.slot ≡ None = only_at.0 in
-      let taken : HoldsPiece ready.block ready.number ready.offset r.size = takes_holds (fresh_block own size q.granularity) r ready.offset ready.number ready.block takes in
+      let taken : HoldsPiece ready.block ready.number ready.offset r.size = takes_holds (fresh_block own size granularity) r ready.offset ready.number ready.block takes in
       let long : p.size ≡ r.size = made.piece.2 ∙ sized in
       let at_number : HoldsPiece ready.block k ready.offset r.size = subst (λ m. HoldsPiece ready.block m ready.offset r.size) (sym made.piece.1) taken in
       let at_offset : HoldsPiece ready.block k p.offset r.size = subst (λ o. HoldsPiece ready.block k o r.size) (sym made.piece.0) at_number in
@@ -135,39 +114,10 @@ module _ {H : Type 0} (eq : H → H → Bool) (same : (h : H) → eq h h ≡ tru
       let nothing : (z : Piece H) → SlotHolds eq z (block_at old t p.slot) → ⊥ = λ z h. subst (SlotHolds eq z) none h in
       record {
         keeps = λ u z was. keeps_by eq old new t p.slot (Some b) only u z (λ h type slot. absurd (nothing z h)) was;
-        live = λ z e. subst (λ (y : Piece H). IsLiveIn eq new t (Some y)) (gave_same p z e) live;
-        other = λ y e u z was type slot number.
-            let here : SlotHolds eq z (block_at old t z.slot) = subst (λ v. SlotHolds eq z (block_at old v z.slot)) type was in
-            nothing z (subst (λ j. SlotHolds eq z (block_at old t j)) (slot ∙ ap (λ (x : Piece H). x.slot) (sym (gave_same p y e))) here);
+        live = live;
+        other = λ u z was type slot number.
+            nothing z (subst (λ j. SlotHolds eq z (block_at old t j)) slot (subst (λ v. SlotHolds eq z (block_at old v z.slot)) type was));
       }
-
-  slots_kept : (x : List (Option (Slot H))) → x ≡ slots_at old t → slice_set old t x ≡ old
-  slots_kept x is = ap (slice_set old t) is ∙ slots_same old t
-
-  granted_keeps : (own : Bool) (size : ℕ) (ready : Ready) (g : BlockResult H) (answer : Answer H) (x : List (Option (Slot H)))
-      → TakesIn (fresh_block own size q.granularity) q.request ready.offset ready.number ready.block → ready.size ≡ q.request.size → IsAfterResult (slots_at old t) own ready g answer x
-      → KeepsPieces eq t old (slice_set old t x) answer
-  granted_keeps own size ready (NotAllocated refusal) answer x takes sized s = keeps_all eq t old (slice_set old t x) refusal answer s.0 (slots_kept x s.1)
-  granted_keeps own size ready (Allocated n) answer x takes sized s = subst (KeepsPieces eq t old (slice_set old t x)) (sym s.1) (installed_keeps own size ready n s.0 x takes sized s.2)
-
-  planned_keeps : (plan : Plan H) (host : Bool) (o : Option (AskedBlock H)) (answer : Answer H) (x : List (Option (Slot H))) → IsPlan q (type_asked q old) host plan
-      → IsCarriedOut (total_capacity old) q.budget (slots_at old t) plan o answer x → AreSound q.granularity (slots_at (slice_set old t x) t) → KeepsPieces eq t old (slice_set old t x) answer
-  planned_keeps NoHostMemory host None answer x plan comes after = keeps_all eq t old (slice_set old t x) _ answer comes.0 (slots_kept x comes.1)
-  planned_keeps NoHostMemory host (Some a) answer x plan comes after = absurd comes
-  planned_keeps (SharedBlock p taken) host (Some a) answer x plan comes after = absurd comes
-  planned_keeps (SharedBlock p taken) host None answer x plan comes after =
-      subst (λ w. KeepsPieces eq t old (slice_set old t x) w) (sym comes.0)
-      (subst (λ (ss : List (Option (Slot H))). KeepsPieces eq t old (slice_set old t ss) (Gave p)) (sym comes.1)
-      (served_keeps p taken plan.2 (subst (λ (ss : List (Option (Slot H))). AreSound q.granularity (slots_at (slice_set old t ss) t)) comes.1 after)))
-  planned_keeps (NewBlock size own ready) host None answer x plan comes after = keeps_all eq t old (slice_set old t x) _ answer comes.2 (slots_kept x comes.3)
-  planned_keeps (NewBlock size own ready) host (Some a) answer x plan comes after = granted_keeps own size ready a.result answer x plan.1.takes plan.1.piece comes.2
-
-  -- a request leaves every live piece live, and what it gives is live and none of them
-  pub allocates_keeps : (host : Bool) (asked : Option (AskedBlock H)) (answer : Answer H) (new : Slots H) → AllocatesInType q old host asked answer new → AreSound q.granularity (slots_at new t)
-      → KeepsPieces eq t old new answer
-  allocates_keeps host asked answer new a after =
-      subst (λ (ss : Slots H). KeepsPieces eq t old ss answer) (sym a.slots)
-      (planned_keeps a.plan host asked answer a.left a.is_plan a.is_carried_out (subst (λ (ss : Slots H). AreSound q.granularity (slots_at ss t)) a.slots after))
 
 -- ---- a release
 

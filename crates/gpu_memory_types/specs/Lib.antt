@@ -8,5 +8,4 @@ pub mod Rename
 pub mod Reports
 pub mod Leaks
 pub mod Held
-pub mod Attempt
 pub mod Apart

@@ -6,6 +6,7 @@ pub mod Serving
 pub mod Owning
 pub mod Freeing
 pub mod Renaming
+pub mod Naming
 pub mod Apart
 pub mod OneStep
 pub mod WithoutBudgets

@@ -2,33 +2,19 @@
 use Rattle.std.proofs.Common.{◌≡◌, ◌∙◌, refl, sym, ap, subst, ℕ, Bool, List, slice_set, Option, Some, None, Ok, Err, Result, IsTrue, arith}
 use Rattle.gpu_values.specs.Refusal.{Refusal}
 use Rattle.gpu_slots.specs.TypeRelease.{has_several}
-use Rattle.gpu_slots.specs.TypeState.{slot_at}
+use Rattle.gpu_slots.specs.TypeState.{TypeState, slot_at, capacity_of}
+use Rattle.gpu_slots.specs.TypeTake.{Installs}
 use Rattle.gpu_slots.specs.declared.piece.Piece.{Piece}
-use Rattle.gpu_core.proofs.OneOutcome.{released_once, refusal_once, renamed_once, name_refusal_once}
-use Rattle.gpu_memory_types.specs.Attempt.{Answer, Refused}
-use Rattle.gpu_memory_types.specs.Blocks.{slots_at}
-use Rattle.gpu_memory_types.specs.Budgets.{SetsBudget}
-use Rattle.gpu_memory_types.proofs.OneOutcome.{allocates_once, gave_refused}
-use Rattle.gpu_memory_types.proofs.StayLive.{gave_same}
-use Rattle.gpu_pool.specs.Allocate.{RequestAt, Environment, NothingMet, NoHostMemory, Answered, Serves}
+use Rattle.gpu_core.proofs.OneOutcome.{prepared_once, needed_once, serves_or_needs, installed_once, released_once, refusal_once, renamed_once, name_refusal_once}
+use Rattle.gpu_memory_types.specs.Blocks.{slots_at, total_capacity}
+use Rattle.gpu_memory_types.specs.Budgets.{SetsBudget, budget_at, block_refusal}
+use Rattle.gpu_memory_types.proofs.Options.{some_same}
+use Rattle.gpu_pool.specs.Allocate.{RequestAt, Environment, NothingMet, NoHostMemory, Answered, type_asked, with_slots, NeedsNewBlock, Serves}
 use Rattle.gpu_pool.specs.Free.{GivesBackAny, Frees}
 use Rattle.gpu_pool.specs.Rename.{RenamesBy}
 use Rattle.gpu_pool.specs.Reply.{Reply, allocated_as, done_as, reported_as, leaked_as}
 use Rattle.gpu_pool.specs.State.{State, kind_at, IsSoundAt}
 use Rattle.gpu_pool.specs.Step.{Call, Allocate, Free, Rename, SetBudget, Budget, Capacity, Handles, Report, LeakTexts, refusal_in, Makes, SetsBudgetOf, Step, AskDecides, GiveBackDecides}
-use Rattle.gpu_pool.proofs.Serving.{host_of, asked_of, answer_of, attempt_at, in_type, serves_constant, SourceAfter, serves_source}
-
-abbrev refused : (H : Type 0) → Refusal → Answer H
-refused H r = Refused r
-
-refused_same : (H : Type 0) (r s : Refusal) → refused H r ≡ refused H s → r ≡ s
-refused_same H r s e = cc
-
-answer_same : {H : Type 0} (x y : Result (Piece H) Refusal) → answer_of x ≡ answer_of y → x ≡ y
-answer_same (Ok p) (Ok q) e = ap Ok (gave_same p q e)
-answer_same (Ok p) (Err e) is = absurd (gave_refused p e is)
-answer_same (Err e) (Ok p) is = absurd (gave_refused p e (sym is))
-answer_same {H} (Err e) (Err r) is = ap Err (refused_same H e r is)
 
 alike : {S H : Type 0} (a b : State S H) → a.source ≡ b.source → a.sizes ≡ b.sizes → a.slots ≡ b.slots → a.budgets ≡ b.budgets → a ≡ b
 alike a b source sizes slots budgets = λ i. record { source = source i; sizes = sizes i; slots = slots i; budgets = budgets i }
@@ -36,23 +22,50 @@ alike a b source sizes slots budgets = λ i. record { source = source i; sizes =
 -- ---- an allocation
 
 module _ {S H X : Type 0} (kinds : List (Bool × ℕ)) (asks : S → ℕ → ℕ → X → Result H Refusal → S → Type 0) (decides : AskDecides asks) (q : RequestAt X) (old : State S H) where
-  source_once : (met : Environment H) (a b : S) → SourceAfter kinds asks q old met a → SourceAfter kinds asks q old met b → a ≡ b
-  source_once NothingMet a b x y = x ∙ sym y
-  source_once NoHostMemory a b x y = x ∙ sym y
-  source_once (Answered size answer) a b x y = decides old.source a b q.memory_type size q.extra answer x y
+  abbrev here : TypeState H
+  here = type_asked kinds asks q old
+
+  needs_once : (size other : ℕ) (x y : Option Refusal) (a : NeedsNewBlock kinds asks q old size x) (b : NeedsNewBlock kinds asks q old other y)
+      → (size ≡ other) × (a.is_dedicated ≡ b.is_dedicated) × (a.pending ≡ b.pending)
+  needs_once size other x y a b = needed_once here old.sizes q.requested_dedicated q.request size other a.is_dedicated b.is_dedicated a.pending b.pending a.needs b.needs
+
+  abbrev limits : (size : ℕ) → Option Refusal
+  limits size = block_refusal (total_capacity old.slots) (budget_at old.budgets q.memory_type) (capacity_of (slots_at old.slots q.memory_type)) size
 
   -- one answer and one next state
   pub serves_once : IsSoundAt kinds old.slots q.memory_type → (met : Environment H) (x y : Result (Piece H) Refusal) (new next : State S H) → Serves kinds asks q old met x new
       → Serves kinds asks q old met y next → (x ≡ y) × (new ≡ next)
-  serves_once sound met x y new next a b =
-      let once = allocates_once (attempt_at kinds asks q old) old.slots (host_of met) (asked_of met) (answer_of x) (answer_of y) new.slots next.slots sound
-      (in_type kinds asks q old met x new a) (in_type kinds asks q old met y next b) in
-      let same = serves_constant kinds asks q old met x new a in
-      let also = serves_constant kinds asks q old met y next b in (
-        answer_same x y once.0,
-        alike new next (source_once met new.source next.source (serves_source kinds asks q old met x new a) (serves_source kinds asks q old met y next b))
-            (same.0 ∙ sym also.0) once.1 (same.1 ∙ sym also.1),
-      )
+  serves_once sound NothingMet (Ok p) (Ok r) new next a b =
+      let once = prepared_once (kind_at kinds q.memory_type).1 (slots_at old.slots q.memory_type) q.request p r a.left b.left sound a.takes b.takes in
+      (ap Ok once.0, a.state ∙ ap (with_slots kinds asks q old) once.1 ∙ sym b.state)
+  serves_once sound NothingMet (Ok p) (Err e) new next a b =
+      let n = b.0.1 in
+      absurd (serves_or_needs here old.sizes q.requested_dedicated q.request p a.left b.0.0 n.is_dedicated n.pending a.shared a.takes n.needs)
+  serves_once sound NothingMet (Err e) (Ok r) new next a b =
+      let n = a.0.1 in
+      absurd (serves_or_needs here old.sizes q.requested_dedicated q.request r b.left a.0.0 n.is_dedicated n.pending b.shared b.takes n.needs)
+  serves_once sound NothingMet (Err e) (Err r) new next a b =
+      let sizes = (needs_once a.0.0 b.0.0 (Some e) (Some r) a.0.1 b.0.1).0 in
+      (ap Err (some_same e r (sym a.0.1.limits ∙ ap limits sizes ∙ b.0.1.limits)), a.1 ∙ sym b.1)
+  serves_once sound NoHostMemory (Ok p) y new next a b = absurd a
+  serves_once sound NoHostMemory (Err e) (Ok r) new next a b = absurd b
+  serves_once sound NoHostMemory (Err e) (Err r) new next a b = (ap Err (a.0 ∙ sym b.0), a.1 ∙ sym b.1)
+  serves_once sound (Answered size (Ok handle)) (Ok p) (Ok r) new next a b =
+      let slots = slots_at old.slots q.memory_type in
+      let needs = needs_once size size None None a.needs b.needs in
+      let other : Installs slots a.needs.is_dedicated a.needs.pending handle r b.left =
+      subst (λ k. Installs slots k a.needs.pending handle r b.left) (sym needs.1) (subst (λ k. Installs slots b.needs.is_dedicated k handle r b.left) (sym needs.2) b.installs) in
+      let once = installed_once slots a.needs.is_dedicated a.needs.pending handle p r a.left b.left a.installs other in
+      let lists = once.1 in
+      let sources = decides old.source new.source next.source q.memory_type size q.extra (Ok handle) a.question b.question in
+      (ap Ok once.0, a.state ∙ (λ i. record (with_slots kinds asks q old (lists i)) { source = sources i }) ∙ sym b.state)
+  serves_once sound (Answered size (Ok handle)) (Ok p) (Err r) new next a b = absurd b
+  serves_once sound (Answered size (Ok handle)) (Err e) y new next a b = absurd a
+  serves_once sound (Answered size (Err why)) (Ok p) y new next a b = absurd a
+  serves_once sound (Answered size (Err why)) (Err e) (Ok r) new next a b = absurd b
+  serves_once sound (Answered size (Err why)) (Err e) (Err r) new next a b =
+      let sources = decides old.source new.source next.source q.memory_type size q.extra (Err why) a.0.question b.0.question in
+      (ap Err (a.1 ∙ sym b.1), a.0.state ∙ (λ i. record old { source = sources i }) ∙ sym b.0.state)
 
 -- ---- a free
 

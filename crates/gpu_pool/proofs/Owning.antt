@@ -1,20 +1,20 @@
 -- Which pieces stay live, and that the blocks of a pool are sound.
-use Rattle.std.proofs.Common.{◌≡◌, ◌∙◌, refl, sym, ap, subst, ℕ, ◌<◌, ◌%◌, Bool, true, List, length, Ok, Err, Result, IfOk}
+use Rattle.std.proofs.Common.{◌≡◌, ◌∙◌, refl, sym, ap, subst, ℕ, ◌<◌, ◌%◌, Bool, true, List, Option, length, slice_set, Ok, Err, Result, IfOk}
 use Rattle.std.proofs.lemmas.List.{length-map}
 use Rattle.gpu_values.specs.Refusal.{Refusal}
 use Rattle.gpu_values.specs.declared.error.AllocationError.{AllocationError}
 use Rattle.gpu_slots.specs.Slots.{AreSound}
+use Rattle.gpu_slots.specs.TypeState.{Slot}
 use Rattle.gpu_slots.specs.declared.piece.Piece.{Piece}
 use Rattle.gpu_memory_types.specs.Blocks.{Slots, slots_at}
 use Rattle.gpu_memory_types.specs.Types.{Types, slots_of, type_of, kinds, MemoryTypesInvariant}
-use Rattle.gpu_memory_types.proofs.Aligned.{allocates_aligned}
-use Rattle.gpu_memory_types.proofs.StayLive.{KeepsPieces, allocates_keeps}
+use Rattle.gpu_memory_types.proofs.Aligned.{takes_aligned}
+use Rattle.gpu_memory_types.proofs.StayLive.{IsNewPiece, served_keeps, installed_keeps}
 use Rattle.gpu_memory_types.proofs.Types.{type_sound}
-use Rattle.gpu_pool.specs.Allocate.{RequestAt, Allocates}
-use Rattle.gpu_pool.specs.Live.{StayLive, IsNewlyLive}
+use Rattle.gpu_pool.specs.Allocate.{RequestAt, Environment, NothingMet, NoHostMemory, Answered, Serves, Allocates}
+use Rattle.gpu_pool.specs.Live.{IsLive, StayLive, IsNewlyLive}
 use Rattle.gpu_pool.specs.Source.{result_of}
 use Rattle.gpu_pool.specs.State.{State, kind_at, IsSoundAt}
-use Rattle.gpu_pool.proofs.Serving.{host_of, asked_of, answer_of, attempt_at, in_type}
 use Rattle.gpu_pool.proofs.Allocating.{kind_is}
 
 -- the blocks of each memory type are sound with its pages
@@ -32,19 +32,52 @@ pub record Owns {H : Type 0} (eq : H → H → Bool) (t : ℕ) (old new : Slots 
   pub keeps : StayLive eq old new
   pub gives : IfOk result (λ p. IsNewlyLive eq old new t p)
 
-owned : {H : Type 0} (eq : H → H → Bool) (t : ℕ) (old new : Slots H) (result : Result (Piece H) AllocationError) → KeepsPieces eq t old new (answer_of (result_of result)) → Owns eq t old new result
-owned eq t old new (Ok p) k = record { keeps = k.keeps; gives = (k.live p refl, λ u q live. k.other p refl u q live) }
-owned eq t old new (Err e) k = record { keeps = k.keeps; gives = tt }
+module _ {S H X : Type 0} (ks : List (Bool × ℕ)) (asks : S → ℕ → ℕ → X → Result H Refusal → S → Type 0) (q : RequestAt X) (old : State S H) where
+  abbrev t : ℕ
+  t = q.memory_type
 
-pub allocates_owns : {S H X : Type 0} (ks : List (Bool × ℕ)) (asks : S → ℕ → ℕ → X → Result H Refusal → S → Type 0) (eq : H → H → Bool) → ((h : H) → eq h h ≡ true) → (q : RequestAt X) (old : State S H)
-    → q.memory_type < length old.slots → IsSoundAt ks old.slots q.memory_type → (result : Result (Piece H) AllocationError) (new : State S H) → IsSoundAt ks new.slots q.memory_type
-    → Allocates ks asks q old (result_of result) new → Owns eq q.memory_type old.slots new.slots result
-allocates_owns ks asks eq same q old below sound result new sound_after a =
-    owned eq q.memory_type old.slots new.slots result
-    (allocates_keeps eq same (attempt_at ks asks q old) old.slots below sound (host_of a.0) (asked_of a.0) (answer_of (result_of result)) new.slots (in_type ks asks q old a.0 (result_of result) new a.1) sound_after)
+  abbrev granularity : ℕ
+  granularity = (kind_at ks t).1
 
--- a piece that is allocated begins at a multiple of the alignment that was asked for
-pub allocates_at : {S H X : Type 0} (ks : List (Bool × ℕ)) (asks : S → ℕ → ℕ → X → Result H Refusal → S → Type 0) (q : RequestAt X) (old : State S H) (result : Result (Piece H) AllocationError) (new : State S H)
-    → Allocates ks asks q old (result_of result) new → IfOk result (λ p. p.offset % q.request.alignment ≡ 0)
-allocates_at ks asks q old (Ok p) new a = allocates_aligned (attempt_at ks asks q old) old.slots (host_of a.0) (asked_of a.0) p new.slots (in_type ks asks q old a.0 (Ok p) new a.1)
-allocates_at ks asks q old (Err e) new a = tt
+  module _ (eq : H → H → Bool) (same : (h : H) → eq h h ≡ true) (below : t < length old.slots) (sound : IsSoundAt ks old.slots t) (new : State S H) (sound_after : IsSoundAt ks new.slots t) where
+    abbrev Owned : Result (Piece H) AllocationError → Type 0
+    Owned result = Owns eq t old.slots new.slots result
+
+    unchanged : (e : AllocationError) → new.slots ≡ old.slots → Owned (Err e)
+    unchanged e is = record { keeps = λ u p live. subst (λ (ss : Slots H). IsLive eq ss u p) (sym is) live; gives = tt }
+
+    -- a piece of these slots
+    new_piece : (p : Piece H) (left : List (Option (Slot H))) → new.slots ≡ slice_set old.slots t left
+        → (AreSound granularity (slots_at (slice_set old.slots t left) t) → IsNewPiece eq t old.slots (slice_set old.slots t left) p) → Owned (Ok p)
+    new_piece p left is by =
+        let k : IsNewPiece eq t old.slots new.slots p =
+        subst (λ (ss : Slots H). IsNewPiece eq t old.slots ss p) (sym is) (by (subst (λ (ss : Slots H). AreSound granularity (slots_at ss t)) is sound_after)) in
+        record { keeps = k.keeps; gives = (k.live, k.other) }
+
+    owned : (met : Environment H) (result : Result (Piece H) AllocationError) → Serves ks asks q old met (result_of result) new → Owned result
+    owned NothingMet (Ok p) a = new_piece p a.left (ap (λ (s : State S H). s.slots) a.state) (served_keeps eq same granularity t q.request old.slots below sound p a.left a.takes)
+    owned NothingMet (Err e) a = unchanged e (ap (λ (s : State S H). s.slots) a.1)
+    owned NoHostMemory (Ok p) a = absurd a
+    owned NoHostMemory (Err e) a = unchanged e (ap (λ (s : State S H). s.slots) a.1)
+    owned (Answered size (Ok handle)) (Ok p) a =
+        let n = a.needs in
+        new_piece p a.left (ap (λ (s : State S H). s.slots) a.state)
+        (λ _. installed_keeps eq same granularity t q.request old.slots below sound n.is_dedicated size n.pending handle p a.left n.needs.takes n.needs.piece a.installs)
+    owned (Answered size (Ok handle)) (Err e) a = absurd a
+    owned (Answered size (Err why)) (Ok p) a = absurd a
+    owned (Answered size (Err why)) (Err e) a = unchanged e (ap (λ (s : State S H). s.slots) a.0.state)
+
+    pub allocates_owns : (result : Result (Piece H) AllocationError) → Allocates ks asks q old (result_of result) new → Owned result
+    allocates_owns result a = owned a.0 result a.1
+
+  aligned : (met : Environment H) (result : Result (Piece H) AllocationError) (new : State S H) → Serves ks asks q old met (result_of result) new → IfOk result (λ p. p.offset % q.request.alignment ≡ 0)
+  aligned met (Err e) new a = tt
+  aligned NothingMet (Ok p) new a = takes_aligned _ q.request p.offset _ _ a.takes.takes
+  aligned NoHostMemory (Ok p) new a = absurd a
+  aligned (Answered size (Ok handle)) (Ok p) new a =
+      subst (λ o. o % q.request.alignment ≡ 0) (sym a.installs.piece.0) (takes_aligned _ q.request a.needs.pending.offset _ _ a.needs.needs.takes)
+  aligned (Answered size (Err why)) (Ok p) new a = absurd a
+
+  -- a piece that is allocated begins at a multiple of the alignment that was asked for
+  pub allocates_at : (result : Result (Piece H) AllocationError) (new : State S H) → Allocates ks asks q old (result_of result) new → IfOk result (λ p. p.offset % q.request.alignment ≡ 0)
+  allocates_at result new a = aligned a.0 result new a.1

@@ -1,17 +1,13 @@
--- What a request leaves: as one attempt of all memory types, what the source holds, and the same over a model of the source.
+-- What a request leaves: what else of the pool, what the source holds, and the same over a model of the source.
 use Rattle.std.proofs.Common.{◌≡◌, ◌∙◌, refl, sym, ap, subst, ℕ, ◌<◌, Bool, true, false, List, length, slice_set, Option, Some, None, Ok, Err, Result}
 use Rattle.gpu_block.specs.Block.{size_of}
 use Rattle.gpu_values.specs.Refusal.{Refusal}
 use Rattle.gpu_slots.specs.TypeState.{Slot}
 use Rattle.gpu_slots.specs.TypeTake.{fresh_block}
 use Rattle.gpu_slots.specs.declared.piece.Piece.{Piece}
-use Rattle.gpu_memory_types.specs.Attempt as attempts
-use Rattle.gpu_memory_types.specs.Attempt.{Allocated, NotAllocated, AskedBlock, NoHostMemory as no_memory, SharedBlock, NewBlock, Answer, Gave, Refused, AllocatesInType}
 use Rattle.gpu_memory_types.specs.Blocks.{Slots, slots_at}
-use Rattle.gpu_memory_types.specs.Budgets.{budget_at}
 use Rattle.gpu_memory_types.proofs.Sizes.{takes_size}
 use Rattle.gpu_memory_types.proofs.Placed.{only_block, installs_only, prepares_only}
-use Rattle.gpu_memory_types.proofs.Types.{slots_same}
 use Rattle.gpu_pool.specs.Allocate.{RequestAt, Environment, NothingMet, NoHostMemory, Answered, NeedsNewBlock, AsksOf, Serves}
 use Rattle.gpu_pool.specs.Held.{held_as, HoldsJustBlocks}
 use Rattle.gpu_pool.specs.Source.{Adds}
@@ -23,61 +19,9 @@ fresh_size : (own : Bool) (size granularity : ℕ) → size_of (fresh_block own 
 fresh_size true size granularity = refl
 fresh_size false size granularity = refl
 
--- ---- as one attempt among all memory types
-
-abbrev pub host_of : {H : Type 0} → Environment H → Bool
-host_of NothingMet = true
-host_of NoHostMemory = false
-host_of (Answered size answer) = true
-
-abbrev pub asked_of : {H : Type 0} → Environment H → Option (AskedBlock H)
-asked_of NothingMet = None
-asked_of NoHostMemory = None
-asked_of (Answered size (Ok handle)) = Some (record { size = size; result = Allocated handle })
-asked_of (Answered size (Err e)) = Some (record { size = size; result = NotAllocated e })
-
-abbrev pub answer_of : {H : Type 0} → Result (Piece H) Refusal → Answer H
-answer_of (Ok p) = Gave p
-answer_of (Err e) = Refused e
+-- ---- what else of the pool
 
 module _ {S H X : Type 0} (kinds : List (Bool × ℕ)) (asks : S → ℕ → ℕ → X → Result H Refusal → S → Type 0) (q : RequestAt X) (old : State S H) where
-  abbrev t : ℕ
-  t = q.memory_type
-
-  abbrev pub attempt_at : attempts.RequestAt
-  attempt_at = record {
-    memory_type = t;
-    is_host = (kind_at kinds t).0;
-    granularity = (kind_at kinds t).1;
-    budget = budget_at old.budgets t;
-    sizes = old.sizes;
-    wants_own = q.requested_dedicated;
-    request = q.request;
-  }
-
-  abbrev slots : State S H → Slots H
-  slots s = s.slots
-
-  same_slots : (new : State S H) → slots new ≡ slots old → slots new ≡ slice_set (slots old) t (slots_at (slots old) t)
-  same_slots new is = is ∙ sym (slots_same (slots old) t)
-
-  pub in_type : (met : Environment H) (answer : Result (Piece H) Refusal) (new : State S H) → Serves kinds asks q old met answer new
-      → AllocatesInType attempt_at old.slots (host_of met) (asked_of met) (answer_of answer) new.slots
-  in_type NothingMet (Ok p) new a = record { plan = SharedBlock p a.left; is_plan = (refl, a.shared, a.takes); left = a.left; is_carried_out = (refl, refl); slots = ap slots a.state }
-  in_type NothingMet (Err e) new a =
-      let n = a.0.1 in
-      record { plan = NewBlock a.0.0 n.is_dedicated n.pending; is_plan = (refl, n.needs); left = slots_at old.slots t; is_carried_out = (e, n.limits, refl, refl); slots = same_slots new (ap slots a.1) }
-  in_type NoHostMemory (Ok p) new a = absurd a
-  in_type NoHostMemory (Err e) new a = record { plan = no_memory; is_plan = refl; left = slots_at old.slots t; is_carried_out = (ap Refused a.0, refl); slots = same_slots new (ap slots a.1) }
-  in_type (Answered size (Ok handle)) (Ok p) new a =
-      let n = a.needs in
-      record { plan = NewBlock size n.is_dedicated n.pending; is_plan = (refl, n.needs); left = a.left; is_carried_out = (n.limits, refl, (p, refl, a.installs)); slots = ap slots a.state }
-  in_type (Answered size (Ok handle)) (Err e) new a = absurd a
-  in_type (Answered size (Err why)) (Ok p) new a = absurd a
-  in_type (Answered size (Err why)) (Err e) new a =
-      let n = a.0.needs in
-      record { plan = NewBlock size n.is_dedicated n.pending; is_plan = (refl, n.needs); left = slots_at old.slots t; is_carried_out = (n.limits, refl, (ap Refused a.1, refl)); slots = same_slots new (ap slots a.0.state) }
-
   -- nothing else changes
   pub serves_constant : (met : Environment H) (answer : Result (Piece H) Refusal) (new : State S H) → Serves kinds asks q old met answer new → (new.sizes ≡ old.sizes) × (new.budgets ≡ old.budgets)
   serves_constant NothingMet (Ok p) new a = (ap (λ (s : State S H). s.sizes) a.state, ap (λ (s : State S H). s.budgets) a.state)
@@ -93,7 +37,7 @@ module _ {S H X : Type 0} (kinds : List (Bool × ℕ)) (asks : S → ℕ → ℕ
   abbrev pub SourceAfter : Environment H → S → Type 0
   SourceAfter NothingMet new = new ≡ old.source
   SourceAfter NoHostMemory new = new ≡ old.source
-  SourceAfter (Answered size answer) new = asks old.source t size q.extra answer new
+  SourceAfter (Answered size answer) new = asks old.source q.memory_type size q.extra answer new
 
   pub serves_source : (met : Environment H) (answer : Result (Piece H) Refusal) (new : State S H) → Serves kinds asks q old met answer new → SourceAfter met new.source
   serves_source NothingMet (Ok p) new a = ap (λ (s : State S H). s.source) a.state

@@ -6,6 +6,7 @@ mod allocate;
 mod free;
 mod handles;
 pub mod laws;
+pub mod logging;
 mod pool;
 mod source;
 

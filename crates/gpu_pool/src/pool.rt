@@ -116,6 +116,7 @@ impl<S: BlockSource> Pool<S> {
     /// `HostOutOfMemory`; then nothing changes.
     pub fn rename(&mut self, index: usize, piece: &Piece<S::Handle>, name: &str) -> Result<()>
         ensures renames { Renames S.Handle.eq index piece.now name.now self.old (result_of result) self.new }
+        ensures keeps { StayLive S.Handle.eq self.old.slots self.new.slots }
     {
         self.types.rename(index, piece, name)
     }

@@ -43,7 +43,7 @@ fn lines_of(
     let Ok(mut a) = Allocator::new(alloc, desc) else {
         return Err(Fail::from("the allocator can't be made"));
     };
-    let done = calls(&sink.with_target("gpu"), &mut a);
+    let done = calls(&sink, &mut a);
     let _ = a.destroy();
     done?;
     Ok(sink.into_lines())
@@ -58,11 +58,11 @@ fn check_lines(rt: &impl Abort, lines: &Lines, want: &[&str]) {
 
 /// Before the description is looked at.
 const ALLOCATING: [&str; 2] = [
-    "[DEBUG gpu] Allocating `piece` of 512 bytes with an alignment of 256.",
-    "[DEBUG gpu] Allocating `piece` of 0 bytes with an alignment of 256.",
+    "[DEBUG gpu_allocator::metal] Allocating `piece` of 512 bytes with an alignment of 256.",
+    "[DEBUG gpu_allocator::metal] Allocating `piece` of 0 bytes with an alignment of 256.",
 ];
 
-const FREEING: &str = "[DEBUG gpu] Freeing `piece`.";
+const FREEING: &str = "[DEBUG gpu_allocator::metal] Freeing `piece`.";
 
 #[test]
 fn allocations_and_frees_are_logged(rt: HostRuntime) -> Outcome {
@@ -75,6 +75,22 @@ fn allocations_and_frees_are_logged(rt: HostRuntime) -> Outcome {
 fn each_setting_logs_its_own_lines(rt: HostRuntime) -> Outcome {
     check_lines(&rt, &lines_of(rt.alloc(), true, false)?, &ALLOCATING);
     check_lines(&rt, &lines_of(rt.alloc(), false, true)?, &[FREEING]);
+    Ok(())
+}
+
+#[test]
+fn a_log_keeps_its_own_target(rt: HostRuntime) -> Outcome {
+    let sink = Memory::new(rt.alloc());
+    let device = simulated(rt.alloc(), true, &[])?;
+    let mut desc = described(device, AllocationSizes::default(), false);
+    desc.debug_settings = settings(false, true);
+    let Ok(mut a) = Allocator::new(rt.alloc(), desc) else {
+        return Err(Fail::from("the allocator can't be made"));
+    };
+    let done = calls(&sink.with_target("gpu"), &mut a);
+    let _ = a.destroy();
+    done?;
+    check_lines(&rt, &sink.into_lines(), &["[DEBUG gpu] Freeing `piece`."]);
     Ok(())
 }
 

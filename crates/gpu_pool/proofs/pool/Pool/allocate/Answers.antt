@@ -71,9 +71,9 @@ owns g c =
     let B = g.S.BlockSource in
     let i = c.self.inside in
     let ks = B.kinds i.source in
-    let here = allocates_owns ks (AsksOf B) g.S.Handle.PartialEq.eq g.met.S.Handle.Eq.laws.refl (request_at c.args.index c.args.request.now c.args.extra) (was g c) (below g c)
-    (sound_at i.types ks c.self.invariant.0 c.self.invariant.2 c.args.index) c.attempt.result (now g c)
-    (sound_at c.attempt.new.types ks (c.attempt.ensures.kinds ∙ c.self.invariant.0) c.attempt.ensures.kept c.args.index) c.attempt.ensures.allocates in
+    let here = allocates_owns ks (AsksOf B) (request_at c.args.index c.args.request.now c.args.extra) (was g c) g.S.Handle.PartialEq.eq g.met.S.Handle.Eq.laws.refl (below g c)
+    (sound_at i.types ks c.self.invariant.0 c.self.invariant.2 c.args.index) (now g c)
+    (sound_at c.attempt.new.types ks (c.attempt.ensures.kinds ∙ c.self.invariant.0) c.attempt.ensures.kept c.args.index) c.attempt.result c.attempt.ensures.allocates in
     subst (λ (s : State g.row.S.Denot g.row.S-Handle.Denot). Owns g.S.Handle.PartialEq.eq c.args.index s.slots (slots_of c.attempt.new.types) c.attempt.result) c.self.view_is here
 
 pub returns-clause-keeps : goal.returns-clause-keeps

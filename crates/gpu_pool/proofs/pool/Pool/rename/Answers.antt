@@ -11,6 +11,7 @@ use Rattle.gpu_pool.specs.Allocate.{NothingMet, NoHostMemory}
 use Rattle.gpu_pool.specs.Rename.{Renames}
 use Rattle.gpu_pool.specs.Source.{result_of}
 use Rattle.gpu_pool.specs.State.{State}
+use Rattle.gpu_pool.proofs.Naming.{renamed_stay}
 use Rattle.gpu_pool.proofs.Renaming.{renamed_holds}
 use Rattle.gpu_pool.proofs.pool.Pool.rename.Goals as goal
 use Rattle.gpu_pool.proofs.pool.Pool.rename.Goals.{After-rename}
@@ -48,8 +49,9 @@ invariant_of-self g c =
 pub returns : goal.returns
 returns g c =
     let i = c.self.inside in
-    record {
-      renames = subst
-          (λ (s : State g.row.S.Denot g.row.S-Handle.Denot). Renames g.S.Handle.PartialEq.eq c.args.index c.args.piece.now c.args.name.now s (result_of c.rename.result) (state i.source i.sizes c.rename.new.self))
-          c.self.view_is (renames g (goal.at.returns g c).After-rename);
-    }
+    let eq = g.S.Handle.PartialEq.eq in
+    let new : State g.row.S.Denot g.row.S-Handle.Denot = state i.source i.sizes c.rename.new.self in
+    let is : Renames eq c.args.index c.args.piece.now c.args.name.now c.args.self.now (result_of c.rename.result) new =
+    subst (λ (s : State g.row.S.Denot g.row.S-Handle.Denot). Renames eq c.args.index c.args.piece.now c.args.name.now s (result_of c.rename.result) new)
+    c.self.view_is (renames g (goal.at.returns g c).After-rename) in
+    record { renames = is; keeps = renamed_stay eq c.args.index c.args.piece.now c.args.name.now c.args.self.now new (result_of c.rename.result) is }
