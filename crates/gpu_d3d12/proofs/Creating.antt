@@ -14,7 +14,7 @@ use Rattle.gpu_device.specs.declared.d3d12.types.ID3D12Resource.{ID3D12Resource}
 use Rattle.gpu_d3d12_setup.specs.DeviceVersion.{device_of}
 use Rattle.gpu_d3d12_setup.specs.MemoryKinds.{memory_kinds, IsFirstServing}
 use Rattle.gpu_d3d12_setup.specs.Question.{resource_question, made_size}
-use Rattle.gpu_d3d12_setup.specs.ResourceAnswer.{ResourceAnswer, Granted, IsReasonTold, resource_refusal, placed_texts}
+use Rattle.gpu_d3d12_setup.specs.ResourceAnswer.{ResourceAnswer, Granted, resource_refusal, placed_texts}
 use Rattle.gpu_d3d12_setup.specs.Setup.{kinds_told}
 use Rattle.gpu_d3d12_setup.specs.declared.describe.AllocationCreateDesc.{AllocationCreateDesc}
 use Rattle.gpu_d3d12_setup.specs.declared.question.ResourceCreateDesc.{ResourceCreateDesc}
@@ -39,7 +39,7 @@ use Rattle.gpu_d3d12.specs.Source.{SourceState, AsksBlock, GivesHeap, MakesResou
 use Rattle.gpu_d3d12.specs.State as states
 use Rattle.gpu_d3d12.specs.State.{State, Basis, Contents, seen_of, pool_of, contents_of, source_basis, basis_of, model_of}
 use Rattle.gpu_d3d12.specs.Step.{Environment, nothing_met, host_met, info_of, size_made, allocated_reply, AllocatesBy, EndsBy, PlacesThen, Place, MakesBy, CreatesBy, FreesResource, FreeResource}
-use Rattle.gpu_d3d12.specs.Step.{SeesQuestion, SeesGiven, SeesMade, SeesReleased, IsStep, Replies, RepliesResource, TellsReason, IsCreateStep, freed_as}
+use Rattle.gpu_d3d12.specs.Step.{SeesQuestion, SeesGiven, SeesMade, SeesReleased, IsStep, Replies, RepliesResource, IsJustAnswered, IsReasonMet, TellsReason, IsCreateStep, freed_as}
 use Rattle.gpu_d3d12.specs.declared.allocation.Allocation.{Allocation}
 use Rattle.gpu_d3d12.specs.declared.resource.Resource.{Resource}
 use Rattle.gpu_d3d12.proofs.Calls.{attempted}
@@ -205,11 +205,11 @@ after_stays : {D : Type 0} (g : Ghosts D) (d : ResourceCreateDesc) (question : R
     (old new : SourceState D) → IsAfterResource (λ s answer t. MakesResource g d s question place entry answer t) old o new → Stays g old new × TellsReason g o new
 after_stays g d question place entry None old new is = (stays_same g old new is, record { answered = new; told = tt; went = None; gives_back = refl })
 after_stays g d question place entry (Some answer) old new is =
-    (made_stays g d old question place entry answer new is, record { answered = new; told = is.asks.reason; went = None; gives_back = refl })
+    (made_stays g d old question place entry answer new is, record { answered = new; told = (is.asks.reason, subst IsJustAnswered (sym is.asks.history) tt); went = None; gives_back = refl })
 
 module _ {D : Type 0} (g : Ghosts D) (basis : Basis) where
   ends_stay : (t : ℕ) (p : Piece ID3D12Heap) (r : Result ℕ Refusal) (old new : states.Pool D) (answer : ResourceAnswer)
-      → EndsBy (AsksBlock g) (GivesHeap g) (MakesResource g) (ReleasesResource g) basis t p r old new → IsReasonTold (g.removal_reason (device_of old.source.device)) answer
+      → EndsBy (AsksBlock g) (GivesHeap g) (MakesResource g) (ReleasesResource g) basis t p r old new → IsReasonMet g (Some answer) (device_of old.source.device)
       → Stays g old.source new.source × TellsReason g (Some answer) new.source
   ends_stay t p (Ok number) old new answer is told =
       let same = ap (λ (s : states.Pool D). s.source) is in
@@ -219,7 +219,7 @@ module _ {D : Type 0} (g : Ghosts D) (basis : Basis) where
   places_stay : (d : ResourceCreateDesc) (question : ResourceQuestion) (allocated : Result (ℕ × Piece ID3D12Heap) Refusal) (o : Option ResourceAnswer) (reply : Reply) (old new : states.Pool D)
       → PlacesThen (AsksBlock g) (GivesHeap g) (MakesResource g) (ReleasesResource g) basis d question allocated o reply old new → Stays g old.source new.source × TellsReason g o new.source
   places_stay d question (Ok p) (Some answer) reply old new a =
-      let rest = ends_stay p.0 p.1 (number_or_refusal placed_texts answer) (record old { source = a.between }) new answer a.ends a.asked.asks.reason in
+      let rest = ends_stay p.0 p.1 (number_or_refusal placed_texts answer) (record old { source = a.between }) new answer a.ends (a.asked.asks.reason, subst IsJustAnswered (sym a.asked.asks.history) tt) in
       (then_stays g old.source a.between new.source (made_stays g d old.source question _ _ answer a.between a.asked) rest.0, rest.1)
   places_stay d question (Ok p) None reply old new a = absurd a
   places_stay d question (Err refusal) (Some answer) reply old new a = absurd a

@@ -8,7 +8,6 @@ pub mod Staying
 pub mod Steps
 pub mod Calls
 pub mod Creating
-pub mod Naming
 pub mod Leaving
 pub mod OneStep
 pub mod WithoutBudgets

@@ -5,19 +5,13 @@ use Rattle.std.specs.List.{list_any}
 use Rattle.gpu_device.specs.D3D12.{Held, Entry, Heap, Committed, Placed}
 use Rattle.gpu_values.specs.declared.error.AllocationError.{AllocationError}
 use Rattle.gpu_device.specs.declared.d3d12.types.ID3D12Resource.{ID3D12Resource}
-use Rattle.gpu_d3d12.specs.declared.journal.Chain.{Chain, Empty, Then'}
 use Rattle.gpu_d3d12.specs.declared.journal.Journal.{Journal}
 use Rattle.gpu_d3d12.specs.declared.journal.ResourceEvent.{ResourceEvent}
 use Rattle.gpu_d3d12.specs.declared.journal.ResourceEvent.TheVariants.{Made, Released}
 
 -- what happened, newest first
-abbrev pub listed : Chain → List ResourceEvent
-listed Empty = []
-listed (Then' event shape before) = event ∷ listed before
-
--- what a journal holds
 abbrev pub events : Journal → List ResourceEvent
-events j = listed j.chain.value
+events j = j.history
 
 -- the number is in the list
 abbrev pub is_in : List ℕ → ℕ → Bool

@@ -1,5 +1,5 @@
 -- An allocator as a model: what each call returns and leaves of its contents, by what it met with.
-use Rattle.std.specs.Prelude.{◌≡◌, ℕ, ℤ, Vec, String, Bool, true, false, List, ◌∷◌, map, string_bytes, Option, Some, None, Result, Ok, Err}
+use Rattle.std.specs.Prelude.{◌≡◌, ℕ, ℤ, Vec, String, Bool, true, false, List, [], ◌∷◌, map, string_bytes, Option, Some, None, Result, Ok, Err}
 use Rattle.std.specs.Global.{Global}
 use Rattle.std.specs.List.{slice_set}
 use Rattle.gpu_values.specs.Refusal.{Refusal, refusal_of, invalid_allocation_create_desc}
@@ -10,6 +10,7 @@ use Rattle.gpu_values.specs.declared.memory_location.MemoryLocation.{MemoryLocat
 use Rattle.gpu_device.specs.D3D12 as entries
 use Rattle.gpu_device.specs.D3D12.{Entry, without_resource}
 use Rattle.gpu_device.specs.Granted.{with_granted}
+use Rattle.gpu_device.specs.declared.d3d12.event.Event.{Event}
 use Rattle.gpu_device.specs.declared.d3d12.event.Event.TheVariants.{AskedHeap, AskedResource, ReleasedHeap, ReleasedResource}
 use Rattle.gpu_device.specs.declared.d3d12.event.ResourcePlace.{ResourcePlace}
 use Rattle.gpu_device.specs.declared.d3d12.event.ResourcePlace.TheVariants.{Own, InHeap}
@@ -259,15 +260,21 @@ RepliesResource d (Ok r) (Made t piece number size) = IsMade d t piece number si
 RepliesResource d (Err e) (Pool (replies.Error refusal)) = refusal_of e ≡ refusal
 RepliesResource d _ _ = ⊥
 
--- the reason in the answer for a resource, if there is one, is this
-abbrev pub IsReasonMet : (told : ℤ) → Option ResourceAnswer → Type 0
-IsReasonMet told None = Unit {0}
-IsReasonMet told (Some answer) = IsReasonTold told answer
+-- the device has just answered a question for a resource
+abbrev pub IsJustAnswered : List Event → Type 0
+IsJustAnswered [] = ⊥
+IsJustAnswered (AskedResource request answer ∷ events) = Unit {0}
+IsJustAnswered (event ∷ events) = ⊥
+
+-- the reason in the answer for a resource, if there is one, is the one that the device told when it had just answered
+abbrev pub IsReasonMet : {D : Type 0} → Ghosts D → Option ResourceAnswer → D → Type 0
+IsReasonMet g None device = Unit {0}
+IsReasonMet g (Some answer) device = IsReasonTold (g.removal_reason device) answer × IsJustAnswered (g.history device)
 
 -- the reason that was met with is the one that the device told when it had answered; it has at most given a heap back since
 pub record TellsReason {D : Type 0} (g : Ghosts D) (asked : Option ResourceAnswer) (new : SourceState D) : Type 0 where
   pub answered : SourceState D
-  pub told : IsReasonMet (g.removal_reason (device_of answered.device)) asked
+  pub told : IsReasonMet g asked (device_of answered.device)
   pub went : Option ID3D12Heap
   pub gives_back : GivesBackAny (GivesHeap g) answered went new
 

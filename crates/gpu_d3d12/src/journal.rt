@@ -4,28 +4,22 @@ ghost use Rattle.std.specs.Prelude.{◌≡◌, [], ◌∷◌};
 ghost use Rattle.gpu_d3d12.specs.Journal.{events, with_made, number_in};
 
 use gpu_device::d3d12::ID3D12Resource;
+use gpu_device::History;
 use gpu_values::Result;
-use std::mem;
-use std::snapshot::Snapshot;
 
 /// A resource was made, or released.
 #[derive(Clone, Copy)]
 pub enum ResourceEvent {
+    /// The device granted it.
     Made(ID3D12Resource),
+    /// The device was told to release it.
     Released(ID3D12Resource),
-}
-
-/// What happened, newest first.
-#[derive(Drop)]
-pub enum Chain {
-    Empty,
-    Then(ResourceEvent, Snapshot<Chain>),
 }
 
 /// The resources that were made and released, newest first. It has no bytes.
 #[derive(Drop)]
 pub struct Journal {
-    chain: Snapshot<Chain>,
+    history: History<ResourceEvent>,
 }
 
 impl Journal {
@@ -34,7 +28,7 @@ impl Journal {
         ensures { events result ≡ [] }
     {
         Journal {
-            chain: Snapshot::of(&Chain::Empty),
+            history: History::new(),
         }
     }
 
@@ -42,8 +36,7 @@ impl Journal {
     pub fn push(&mut self, event: ResourceEvent)
         ensures { events self.new ≡ event ∷ events self.old }
     {
-        let before = mem::replace(&mut self.chain, Snapshot::of(&Chain::Empty));
-        self.chain = Snapshot::of(&Chain::Then(event, before));
+        self.history.push(&event);
     }
 
     /// A resource was asked for: one that is granted is made.

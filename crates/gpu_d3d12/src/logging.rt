@@ -1,48 +1,32 @@
-//! Log lines. They change no answer and no state, whatever log they are sent to.
+//! Log lines of this allocator.
 
 use crate::Allocation;
 use gpu_d3d12_setup::AllocationCreateDesc;
 use gpu_device::d3d12::ID3D12Heap;
 use gpu_memory_types::MemoryTypes;
+use gpu_pool::logging;
 use gpu_values::AllocatorDebugSettings;
-use log::{Level, Log, debug, log};
+use log::{Level, Log};
 
-/// Tells what is asked for, where the settings ask for it.
-pub fn log_allocate<L: Log>(
-    log: &L,
-    settings: AllocatorDebugSettings,
-    desc: &AllocationCreateDesc,
-) {
-    if settings.log_allocations {
-        let name = desc.name;
-        let size = desc.size;
-        let alignment = desc.alignment;
-        debug!(log; "Allocating `{name}` of {size} bytes with an alignment of {alignment}.");
-    }
+/// The records' target, unless the log has its own.
+const MODULE: &str = "gpu_allocator::d3d12";
+
+/// Logs what is asked for, where the settings ask for it.
+pub fn log_allocate<L: Log>(log: &L, debug: AllocatorDebugSettings, desc: &AllocationCreateDesc) {
+    logging::log_request(log, MODULE, debug, desc.name, desc.size, desc.alignment);
 }
 
-/// Tells what is given back, where the settings ask for it.
-pub fn log_free<L: Log>(log: &L, settings: AllocatorDebugSettings, allocation: &Allocation) {
-    if settings.log_frees {
-        let name = allocation.name.as_str();
-        debug!(log; "Freeing `{name}`.");
-    }
+/// Logs what is freed, where the settings ask for it.
+pub fn log_free<L: Log>(log: &L, debug: AllocatorDebugSettings, allocation: &Allocation) {
+    logging::log_freed(log, MODULE, debug, allocation.name.as_str());
 }
 
-/// Tells each live piece by memory type, then by slot, then in order of offset. It takes no memory.
+/// Logs each live piece by memory type, then by slot, then in order of offset. It takes no memory.
 pub fn log_leaks<L: Log>(log: &L, level: Level, types: &MemoryTypes<ID3D12Heap>) {
-    for leak in types.leaks() {
-        log!(log; level, "{leak}");
-    }
+    logging::log_leaks(log, MODULE, level, types);
 }
 
-/// The same as warnings, where the settings ask for them as an allocator goes.
-pub fn log_last_leaks<L: Log>(
-    log: &L,
-    settings: AllocatorDebugSettings,
-    types: &MemoryTypes<ID3D12Heap>,
-) {
-    if settings.log_leaks_on_shutdown {
-        log_leaks(log, Level::Warn, types);
-    }
+/// Logs the same as warnings, where the settings ask for it as an allocator goes.
+pub fn log_last_leaks<L: Log>(log: &L, debug: AllocatorDebugSettings, types: &MemoryTypes<ID3D12Heap>) {
+    logging::log_last_leaks(log, MODULE, debug, types);
 }

@@ -29,6 +29,15 @@ impl<D> ID3D12DeviceVersion<D> {
         }
     }
 
+    /// The device, by value.
+    pub fn into_device(self) -> D
+        ensures { result ≡ device_of self }
+    {
+        match self {
+            Self::Device(device) | Self::Device10(device) | Self::Device12(device) => device,
+        }
+    }
+
     /// The device, lent to be asked.
     pub fn device_mut(&mut self) -> &mut D
         ensures* writes_back { sem 𝓛 (lends_device D.row self.entry result) }

@@ -139,11 +139,7 @@ fn give(a: &mut Allocator<SimD3D12>, allocation: Allocation) -> Outcome {
 
 /// The device of an allocator that is gone.
 fn destroyed(a: Allocator<SimD3D12>) -> SimD3D12 {
-    match a.destroy(&Discard) {
-        ID3D12DeviceVersion::Device(device) => device,
-        ID3D12DeviceVersion::Device10(device) => device,
-        ID3D12DeviceVersion::Device12(device) => device,
-    }
+    a.destroy(&Discard).into_device()
 }
 
 /// The offset, size and number of an allocation.

@@ -114,12 +114,12 @@ fn pieces<L: Log>(log: &L, a: &mut Allocator<SimD3D12>) -> Outcome {
     Ok(())
 }
 
-/// The lines of two pieces one of which is given back, and of the allocator's end.
+/// The lines of two pieces one of which is given back, and of the allocator's end, in a log without a target of its own.
 fn lines_of(alloc: Global, settings: AllocatorDebugSettings) -> std::result::Result<Lines, Fail> {
     let sink = Memory::new(alloc);
     let mut a = logging(alloc, settings, &[])?;
-    let done = pieces(&sink.with_target("gpu"), &mut a);
-    let _ = a.destroy(&sink.with_target("gpu"));
+    let done = pieces(&sink, &mut a);
+    let _ = a.destroy(&sink);
     done?;
     Ok(sink.into_lines())
 }
@@ -139,12 +139,12 @@ const LEFT: &str = "leak detected: {
 
 #[test]
 fn all_is_logged_in_order(rt: HostRuntime) -> Outcome {
-    let leak = format!(in rt.alloc(); "[WARN  gpu] {LEFT}")?;
+    let leak = format!(in rt.alloc(); "[WARN  gpu_allocator::d3d12] {LEFT}")?;
     let want = [
-        "[DEBUG gpu] Allocating `a` of 256 bytes with an alignment of 256.",
-        "[DEBUG gpu] Allocating `b` of 512 bytes with an alignment of 256.",
-        "[DEBUG gpu] Allocating `c` of 0 bytes with an alignment of 3.",
-        "[DEBUG gpu] Freeing `a`.",
+        "[DEBUG gpu_allocator::d3d12] Allocating `a` of 256 bytes with an alignment of 256.",
+        "[DEBUG gpu_allocator::d3d12] Allocating `b` of 512 bytes with an alignment of 256.",
+        "[DEBUG gpu_allocator::d3d12] Allocating `c` of 0 bytes with an alignment of 3.",
+        "[DEBUG gpu_allocator::d3d12] Freeing `a`.",
         leak.as_str(),
     ];
     check_lines(&rt, &lines_of(rt.alloc(), ALL)?, &want);
@@ -159,7 +159,7 @@ fn without_settings_nothing_is_logged(rt: HostRuntime) -> Outcome {
 
 #[test]
 fn by_default_leaks_alone_are_logged(rt: HostRuntime) -> Outcome {
-    let leak = format!(in rt.alloc(); "[WARN  gpu] {LEFT}")?;
+    let leak = format!(in rt.alloc(); "[WARN  gpu_allocator::d3d12] {LEFT}")?;
     let lines = lines_of(rt.alloc(), AllocatorDebugSettings::default())?;
     check_lines(&rt, &lines, &[leak.as_str()]);
     Ok(())
