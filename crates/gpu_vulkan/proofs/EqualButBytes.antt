@@ -1,13 +1,17 @@
 -- Calls that differ at most in bytes get the same reply but for bytes, and leave the same blocks.
-use Rattle.std.proofs.Common.{map, ◌≡◌, ◌∙◌, ℕ, ◌<◌, length, Ok, Err, Result, refl, sym, ap, subst, Bool, true, false, List, Option, Some, None, arith, ⊎_elim}
+use Rattle.std.proofs.Common.{map, ◌≡◌, ◌∙◌, ℕ, ◌<◌, length, Ok, Err, Result, refl, sym, ap, subst, Bool, true, false, List, [], Option, Some, None, IsTrue, arith, ⊎_elim}
 use Rattle.std.specs.Prelude.{◌&&◌, not, if◌then◌else◌}
 use Rattle.gpu_values.specs.Refusal.{Refusal}
 use Rattle.gpu_block_views.specs.Leak.{leak_text}
+use Rattle.gpu_slots.specs.TypeRelease.{has_several, ReleasesPiece}
+use Rattle.gpu_slots.specs.declared.piece.Piece.{Piece}
+use Rattle.gpu_core.proofs.OneOutcome.{released_once}
+use Rattle.gpu_device.specs.declared.vulkan.event.Event.{Event}
 use Rattle.gpu_device.specs.declared.vulkan.types.DeviceMemory.{DeviceMemory}
 use Rattle.gpu_device.specs.declared.vulkan.types.MemoryAllocateInfo.{MemoryAllocateInfo}
 use Rattle.gpu_memory_types.specs.Budgets.{Budgets, budget_at}
 use Rattle.gpu_vulkan.proofs.KeptBudgets.{keeps_budgets}
-use Rattle.gpu_vulkan.proofs.OneStep.{allocates_once, mid_sound, SameBlocks, unchanged, free_alike, rename_alike, set_alike}
+use Rattle.gpu_vulkan.proofs.OneStep.{allocates_once, mid_sound, SameBlocks, unchanged, free_alike, rename_alike, rename_rest, set_alike}
 use Rattle.gpu_pool.specs.Step.{Makes}
 use Rattle.gpu_pool.proofs.OneStep.{makes_once}
 use Rattle.gpu_vulkan.specs.Allocate.{Attempts, IsTooLarge, IsWithinHeap, is_valid, is_for_upload, is_short}
@@ -19,10 +23,10 @@ use Rattle.gpu_pool.specs.Allocate.{RequestAt, Environment, NothingMet, NoHostMe
 use Rattle.gpu_vulkan.specs.Source.{IsResult}
 use Rattle.gpu_vulkan.proofs.Following.{next_below, best_below}
 use Rattle.gpu_vulkan.specs.Attempt.{AttemptEnvironment, Asked, Answer, IsMet, request_in, unseen, AnyQuestion, Allocates}
-use Rattle.gpu_vulkan.specs.BlockAnswer.{BlockAnswer, Declined, Granted, Mapped, NotMapped, answer_number, answer_refusal}
-use Rattle.gpu_vulkan_setup.specs.Types.{kinds_told}
+use Rattle.gpu_vulkan.specs.BlockAnswer.{BlockAnswer, Declined, Granted, Mapped, NotMapped, answer_number, answer_refusal, question_recorded}
+use Rattle.gpu_vulkan_setup.specs.Types.{is_mapped, kinds_told}
 use Rattle.gpu_vulkan.specs.Blocks.{Slots}
-use Rattle.gpu_memory_types.specs.Blocks.{total_capacity, BlocksWellFormed}
+use Rattle.gpu_memory_types.specs.Blocks.{slots_at, total_capacity, BlocksWellFormed}
 use Rattle.gpu_vulkan_setup.specs.Choice.{first_type, required, best_type}
 use Rattle.gpu_vulkan_setup.specs.Describe.{is_own, kind_of, request_of}
 use Rattle.gpu_vulkan.specs.Live.{piece_of, IsMapped}
@@ -32,7 +36,7 @@ use Rattle.gpu_vulkan_setup.specs.Setup.{Setup}
 use Rattle.gpu_vulkan.specs.Reply as replies
 use Rattle.gpu_vulkan.specs.Reply.{Reply, Given, Error, Done, Bytes, done_with, report_with, leaks_with}
 use Rattle.gpu_vulkan.specs.Step.{ModelState, Call, Allocate, Free, Write, Rename, Report, Leaks, Read, Capacity, SetBudget, Budget}
-use Rattle.gpu_vulkan.specs.Step.{CallEnvironment, AttemptStep, reply_of, next_by, Follows, ServeStep, RefuseStep, FoundStep, AllocateStep, host_met, RenameStep, IsRead, Step}
+use Rattle.gpu_vulkan.specs.Step.{CallEnvironment, AttemptStep, reply_of, next_by, Follows, ServeStep, RefuseStep, FoundStep, AllocateStep, asked_recorded, went_recorded, FreeStep, host_met, RenameStep, IsRead, Step}
 use Rattle.gpu_vulkan.specs.declared.allocation.Allocation.{Allocation}
 use Rattle.gpu_vulkan_setup.specs.declared.describe.AllocationCreateDesc.{AllocationCreateDesc}
 
@@ -70,6 +74,23 @@ result_alike : (r : Result DeviceMemory Refusal) (a b : BlockAnswer) → EqualBu
 result_alike (Ok memory) a b same is = number_alike a b same ∙ is
 result_alike (Err e) a b same is = refusal_alike a b same ∙ is
 
+recorded_alike : (info : MemoryAllocateInfo) (a b : BlockAnswer) (before : List Event) → EqualButBytesAnswer a b → question_recorded info a before ≡ question_recorded info b before
+recorded_alike info (Mapped n xs) (Mapped m ys) before same = ap (λ k. question_recorded info (Mapped k []) before) same
+recorded_alike info (Mapped n xs) (Declined code) before same = ap (λ a. question_recorded info a before) same
+recorded_alike info (Mapped n xs) (Granted m) before same = ap (λ a. question_recorded info a before) same
+recorded_alike info (Mapped n xs) (NotMapped number code) before same = ap (λ a. question_recorded info a before) same
+recorded_alike info (Declined code) b before same = ap (λ a. question_recorded info a before) same
+recorded_alike info (Granted n) b before same = ap (λ a. question_recorded info a before) same
+recorded_alike info (NotMapped number code) b before same = ap (λ a. question_recorded info a before) same
+
+asked_alike : (o p : Option Asked) (before other : List Event) → EqualButBytesAsked o p → before ≡ other → asked_recorded o before ≡ asked_recorded p other
+asked_alike None None before other same e = e
+asked_alike None (Some b) before other same e = absurd same
+asked_alike (Some a) None before other same e = absurd same
+asked_alike (Some a) (Some b) before other same e =
+    let info = same.0 in
+    (λ i. question_recorded (info i) a.answer (e i)) ∙ recorded_alike b.info a.answer b.answer other same.1
+
 none_alike : (o p : Option Asked) → EqualButBytesAsked o p → p ≡ None → o ≡ None
 none_alike None p same is = refl
 none_alike (Some a) None same is = absurd same
@@ -104,6 +125,17 @@ met_alike o p (Answered size r) same is =
     (same.host ∙ is.0, (a.asked, a.is, a.sized, a.result))
 
 -- ---- an attempt
+
+-- from two histories that are the same come two that are
+abbrev SameHistory : (old new twin next : ModelState) → Type 0
+SameHistory old new twin next = old.history ≡ twin.history → new.history ≡ next.history
+
+abbrev history_in : ModelState → List Event
+history_in s = s.history
+
+-- where nothing changes on either side
+unchanged_history : (old new twin next : ModelState) → new ≡ old → next ≡ twin → SameHistory old new twin next
+unchanged_history old new twin next a b e = ap history_in a ∙ e ∙ sym (ap history_in b)
 
 module _ (setup : Setup) (d e : AllocationCreateDesc) (same : EqualButBytesDescription d e) where
   same_size : d.requirements.size ≡ e.requirements.size
@@ -147,23 +179,24 @@ module _ (setup : Setup) (d e : AllocationCreateDesc) (same : EqualButBytesDescr
   -- the same from two states with the same blocks and budgets
   attempt_alike : (t : ℕ) (o p : AttemptEnvironment) (x y : Answer) (old new twin next : ModelState) → t < length setup.properties.types → BlocksWellFormed setup.properties.granularity old.slots → old.slots ≡ twin.slots → old.budgets ≡
       twin.budgets → EqualButBytesAttemptEnvironment o p
-      → AttemptStep setup t d o x old new → AttemptStep setup t e p y twin next → (x ≡ y) × (new.slots ≡ next.slots)
+      → AttemptStep setup t d o x old new → AttemptStep setup t e p y twin next → (x ≡ y) × (new.slots ≡ next.slots) × SameHistory old new twin next
   attempt_alike t o p x y old new twin next there sound slots budgets met a b =
-      attempts_alike old.budgets old.slots t o p x y new.slots next.slots there sound met a.slots
-      (subst (λ z. Attempts setup z old.slots t e p y next.slots) (sym budgets) (subst (λ z. Attempts setup twin.budgets z t e p y next.slots) (sym slots) b.slots))
+      let other = subst (λ z. Attempts setup z old.slots t e p y next.slots) (sym budgets) (subst (λ z. Attempts setup twin.budgets z t e p y next.slots) (sym slots) b.slots) in
+      let both = attempts_alike old.budgets old.slots t o p x y new.slots next.slots there sound met a.slots other in
+      (both.0, both.1, λ h. a.recorded ∙ asked_alike o.asked p.asked old.history twin.history met.asked h ∙ sym b.recorded)
 
   follows_alike : (u : Option ℕ) (o p : AttemptEnvironment) (t : ℕ) (first : Answer) (mid twin : ModelState) (x y : Reply) (new next : ModelState) →
       ((v : ℕ) → u ≡ Some v → (v < length setup.properties.types) × BlocksWellFormed setup.properties.granularity mid.slots)
       → mid.slots ≡ twin.slots → mid.budgets ≡ twin.budgets → EqualButBytesAttemptEnvironment o p → Follows setup d u o t first mid x new → Follows setup e u p t first twin y next → (x ≡ y) ×
-      (new.slots ≡ next.slots)
-  follows_alike None o p t first mid twin x y new next sound slots budgets met a b = (a.1 ∙ sym b.1, ap (λ s. s.slots) a.2 ∙ slots ∙ sym (ap (λ s. s.slots) b.2))
+      (new.slots ≡ next.slots) × SameHistory mid new twin next
+  follows_alike None o p t first mid twin x y new next sound slots budgets met a b = (a.1 ∙ sym b.1, ap (λ s. s.slots) a.2 ∙ slots ∙ sym (ap (λ s. s.slots) b.2), unchanged_history mid new twin next a.2 b.2)
   follows_alike (Some u) o p t first mid twin x y new next sound slots budgets met a b =
       let once = attempt_alike u o p a.0 b.0 mid new twin next (sound u refl).0 (sound u refl).1 slots budgets met a.1 b.1 in
-      (a.2 ∙ ap (reply_of u) once.0 ∙ sym b.2, once.1)
+      (a.2 ∙ ap (reply_of u) once.0 ∙ sym b.2, once.1, once.2)
 
   serve_alike : (t : ℕ) (o p : CallEnvironment) (x y : Reply) (old new twin next : ModelState) → t < length setup.properties.types → BlocksWellFormed setup.properties.granularity old.slots → old.slots ≡ twin.slots → old.budgets ≡
       twin.budgets → EqualButBytesCallEnvironment o p
-      → ServeStep setup t d o x old new → ServeStep setup t e p y twin next → (x ≡ y) × (new.slots ≡ next.slots)
+      → ServeStep setup t d o x old new → ServeStep setup t e p y twin next → (x ≡ y) × (new.slots ≡ next.slots) × SameHistory old new twin next
   serve_alike t o p x y old new twin next there sound slots budgets met a b =
       let first = attempt_alike t o.first p.first a.answer b.answer old a.mid twin b.mid there sound slots budgets met.first a.attempt b.attempt in
       let answers = first.0 in
@@ -171,22 +204,25 @@ module _ (setup : Setup) (d e : AllocationCreateDesc) (same : EqualButBytesDescr
       subst (λ w. Follows setup e (next_by setup e w) p.second t w b.mid y next) (sym answers) b.follows in
       let other : Follows setup e (next_by setup d a.answer) p.second t a.answer b.mid y next =
       subst (λ u. Follows setup e u p.second t a.answer b.mid y next) (sym (next_alike setup d e a.answer same)) named in
-      follows_alike (next_by setup d a.answer) o.second p.second t a.answer a.mid b.mid x y new next (λ v is. (next_below setup d a.answer v is, mid_sound setup t v d o.first a.answer old a.mid sound a.attempt is)) first.1
-      (a.attempt.budgets ∙ budgets ∙ sym b.attempt.budgets) met.second a.follows other
+      let second = follows_alike (next_by setup d a.answer) o.second p.second t a.answer a.mid b.mid x y new next
+      (λ v is. (next_below setup d a.answer v is, mid_sound setup t v d o.first a.answer old a.mid sound a.attempt is)) first.1
+      (a.attempt.budgets ∙ budgets ∙ sym b.attempt.budgets) met.second a.follows other in
+      (second.0, second.1, λ h. second.2 (first.2 h))
 
   refuse_alike : (r : Refusal) (o p : CallEnvironment) (x y : Reply) (old new twin next : ModelState) → old.slots ≡ twin.slots → RefuseStep r o x old new → RefuseStep r p y twin next → (x ≡ y) ×
-      (new.slots ≡ next.slots)
-  refuse_alike r o p x y old new twin next slots a b = (a.reply_is ∙ sym b.reply_is, ap (λ s. s.slots) a.same ∙ slots ∙ sym (ap (λ s. s.slots) b.same))
+      (new.slots ≡ next.slots) × SameHistory old new twin next
+  refuse_alike r o p x y old new twin next slots a b =
+      (a.reply_is ∙ sym b.reply_is, ap (λ s. s.slots) a.same ∙ slots ∙ sym (ap (λ s. s.slots) b.same), unchanged_history old new twin next a.same b.same)
 
   found_alike : (t : Option ℕ) (o p : CallEnvironment) (x y : Reply) (old new twin next : ModelState) → ((v : ℕ) → t ≡ Some v → v < length setup.properties.types) → BlocksWellFormed setup.properties.granularity old.slots → old.slots ≡ twin.slots → old.budgets
       ≡ twin.budgets → EqualButBytesCallEnvironment o p
-      → FoundStep setup d t o x old new → FoundStep setup e t p y twin next → (x ≡ y) × (new.slots ≡ next.slots)
+      → FoundStep setup d t o x old new → FoundStep setup e t p y twin next → (x ≡ y) × (new.slots ≡ next.slots) × SameHistory old new twin next
   found_alike None o p x y old new twin next there sound slots budgets met a b = refuse_alike _ o p x y old new twin next slots a b
   found_alike (Some t) o p x y old new twin next there sound slots budgets met a b = serve_alike t o p x y old new twin next (there t refl) sound slots budgets met a b
 
   allocate_alike : (valid : Bool) (o p : CallEnvironment) (x y : Reply) (old new twin next : ModelState) → BlocksWellFormed setup.properties.granularity old.slots → old.slots ≡ twin.slots →
       old.budgets ≡ twin.budgets → EqualButBytesCallEnvironment o p
-      → AllocateStep setup d valid o x old new → AllocateStep setup e valid p y twin next → (x ≡ y) × (new.slots ≡ next.slots)
+      → AllocateStep setup d valid o x old new → AllocateStep setup e valid p y twin next → (x ≡ y) × (new.slots ≡ next.slots) × SameHistory old new twin next
   allocate_alike false o p x y old new twin next sound slots budgets met a b = refuse_alike _ o p x y old new twin next slots a b
   allocate_alike true o p x y old new twin next sound slots budgets met a b =
       let types : best_type setup.properties.types d.requirements.memory_type_bits d.location ≡ best_type setup.properties.types e.requirements.memory_type_bits e.location =
@@ -227,21 +263,37 @@ same_alike (replies.Report r) y e = e
 same_alike (replies.Leaks ts) y e = e
 same_alike (replies.Budget n) y e = e
 
+-- the block that goes is the same
+free_history : (setup : Setup) (t : ℕ) (p : Option (Piece DeviceMemory)) (x : Result (Unit {0}) Refusal) (old new twin next : ModelState) → BlocksWellFormed setup.properties.granularity old.slots
+    → old.slots ≡ twin.slots → FreeStep setup t p x old new → FreeStep setup t p x twin next → SameHistory old new twin next
+free_history setup t None (Ok u) old new twin next sound slots a b = unchanged_history old new twin next a b
+free_history setup t None (Err r) old new twin next sound slots a b = absurd a
+free_history setup t (Some p) (Err r) old new twin next sound slots a b = unchanged_history old new twin next a.2 b.2
+free_history setup t (Some p) (Ok u) old new twin next sound slots a b =
+    let r = a.frees.slots in
+    let s = b.frees.slots in
+    let there = subst (λ (ss : Slots). ReleasesPiece (IsTrue (has_several (slots_at ss t))) (slots_at ss t) p b.frees.went s.left) (sym slots) s.releases in
+    let went = (released_once setup.properties.granularity (IsTrue (has_several (slots_at old.slots t))) (slots_at old.slots t) p a.frees.went b.frees.went r.left s.left (sound t) r.releases there).0 in
+    λ h. a.recorded ∙ (λ i. went_recorded (is_mapped setup.properties t) (went i) (h i)) ∙ sym b.recorded
+
 -- ---- any call
 
 module _ (setup : Setup) (o p : CallEnvironment) (x y : Reply) (old new twin next : ModelState) (sound : BlocksWellFormed setup.properties.granularity old.slots) (slots : old.slots ≡ twin.slots)
     (budgets : old.budgets ≡ twin.budgets) (met : EqualButBytesCallEnvironment o p) where
   abbrev Alike : Type 0
-  Alike = EqualButBytesReply x y × SameBlocks new next
+  Alike = EqualButBytesReply x y × SameBlocks new next × SameHistory old new twin next
+
+  unchanged_both : new ≡ old → next ≡ twin → SameBlocks new next × SameHistory old new twin next
+  unchanged_both a b = (unchanged setup old new twin next sound (slots, budgets) a b, unchanged_history old new twin next a b)
 
   allocated : (d e : AllocationCreateDesc) → EqualButBytesDescription d e → Step setup (Allocate d) o x old new → Step setup (Allocate e) p y twin next → Alike
   allocated d e same a b =
       let once = allocate_alike setup d e same (is_valid d) o p x y old new twin next sound slots budgets met a
       (subst (λ v. AllocateStep setup e v p y twin next) (sym (valid_alike setup d e same)) b) in
-      (same_alike x y once.0, (once.1, keeps_budgets setup (Allocate d) o x old new tt a ∙ budgets ∙ sym (keeps_budgets setup (Allocate e) p y twin next tt b)))
+      (same_alike x y once.0, (once.1, keeps_budgets setup (Allocate d) o x old new tt a ∙ budgets ∙ sym (keeps_budgets setup (Allocate e) p y twin next tt b)), once.2)
 
   written : (w v : Allocation) (ws vs : List ℕ) → Step setup (Write w ws) o x old new → Step setup (Write v vs) p y twin next → Alike
-  written w v ws vs a b = (same_alike x y (a.1 ∙ sym b.1), (a.2.slots ∙ slots ∙ sym b.2.slots, a.2.budgets ∙ budgets ∙ sym b.2.budgets))
+  written w v ws vs a b = (same_alike x y (a.1 ∙ sym b.1), (a.2.slots ∙ slots ∙ sym b.2.slots, a.2.budgets ∙ budgets ∙ sym b.2.budgets), λ h. a.2.history ∙ h ∙ sym b.2.history)
 
   -- what is made of the same blocks for callers of hosts alike
   made : {A : Type 0} (of : Slots → A) (u v : Result A Refusal) → Makes (of old.slots) (host_met o.first.host) u → Makes (of twin.slots) (host_met p.first.host) v → u ≡ v
@@ -255,28 +307,37 @@ module _ (setup : Setup) (o p : CallEnvironment) (x y : Reply) (old new twin nex
   same_call (Allocate d) a b = allocated d d (record { requirements = refl; location = refl; linear = refl; scheme = refl; name = refl }) a b
   same_call (Write w ws) a b = written w w ws ws a b
   same_call (Free f) a b =
-      let once = free_alike setup old new twin next sound (slots, budgets) f.memory_type_index (piece_of f) a.1 b.1 a.3 b.3 in
-      (same_alike x y (a.2 ∙ ap done_with once.0 ∙ sym b.2), once.1)
+      let t = f.memory_type_index in
+      let once = free_alike setup old new twin next sound (slots, budgets) t (piece_of f) a.1 b.1 a.3 b.3 in
+      let other = subst (λ z. FreeStep setup t (piece_of f) z twin next) (sym once.0) b.3 in
+      (same_alike x y (a.2 ∙ ap done_with once.0 ∙ sym b.2), once.1, free_history setup t (piece_of f) a.1 old new twin next sound slots a.3 other)
   same_call (Rename f name) a b =
       let t = f.memory_type_index in
       let other = subst (λ h. RenameStep setup t (piece_of f) name h b.1 twin next) (sym met.first.host) b.3 in
       let once = rename_alike setup old new twin next sound (slots, budgets) t (piece_of f) name o.first.host a.1 b.1 a.3 other in
-      (same_alike x y (a.2 ∙ ap done_with once.0 ∙ sym b.2), once.1)
+      let here = rename_rest setup t (piece_of f) name o.first.host a.1 old new a.3 in
+      let there = rename_rest setup t (piece_of f) name o.first.host b.1 twin next other in
+      (same_alike x y (a.2 ∙ ap done_with once.0 ∙ sym b.2), once.1, λ h. here.history ∙ h ∙ sym there.history)
   same_call (Read r) a b =
-      (bytes_alike x y a.1 b.1 a.2 b.2 (read_alike setup r old twin a.1 b.1 slots a.3 b.3), unchanged setup old new twin next sound (slots, budgets) a.4 b.4)
+      let both = unchanged_both a.4 b.4 in
+      (bytes_alike x y a.1 b.1 a.2 b.2 (read_alike setup r old twin a.1 b.1 slots a.3 b.3), both.0, both.1)
   same_call Capacity a b =
-      (same_alike x y (a.1 ∙ ap (λ z. replies.Capacity (total_capacity z)) slots ∙ sym b.1), unchanged setup old new twin next sound (slots, budgets) a.2 b.2)
+      let both = unchanged_both a.2 b.2 in
+      (same_alike x y (a.1 ∙ ap (λ z. replies.Capacity (total_capacity z)) slots ∙ sym b.1), both.0, both.1)
   same_call (SetBudget t budget) a b =
       let once = set_alike setup old new twin next sound (slots, budgets) t budget a.1 b.1 a.3 b.3 in
-      (same_alike x y (a.2 ∙ ap done_with once.0 ∙ sym b.2), once.1)
+      (same_alike x y (a.2 ∙ ap done_with once.0 ∙ sym b.2), once.1, λ h. a.4.history ∙ h ∙ sym b.4.history)
   same_call (Budget t) a b =
-      (same_alike x y (a.1 ∙ ap (λ z. replies.Budget (budget_at z t)) budgets ∙ sym b.1), unchanged setup old new twin next sound (slots, budgets) a.2 b.2)
+      let both = unchanged_both a.2 b.2 in
+      (same_alike x y (a.1 ∙ ap (λ z. replies.Budget (budget_at z t)) budgets ∙ sym b.1), both.0, both.1)
   same_call Report a b =
       let once = made (λ ss. whole_report ss) a.1 b.1 a.3 b.3 in
-      (same_alike x y (a.2 ∙ ap report_with once ∙ sym b.2), unchanged setup old new twin next sound (slots, budgets) a.4 b.4)
+      let both = unchanged_both a.4 b.4 in
+      (same_alike x y (a.2 ∙ ap report_with once ∙ sym b.2), both.0, both.1)
   same_call Leaks a b =
       let once = made (λ ss. map leak_text (all_leaks ss)) a.1 b.1 a.3 b.3 in
-      (same_alike x y (a.2 ∙ ap leaks_with once ∙ sym b.2), unchanged setup old new twin next sound (slots, budgets) a.4 b.4)
+      let both = unchanged_both a.4 b.4 in
+      (same_alike x y (a.2 ∙ ap leaks_with once ∙ sym b.2), both.0, both.1)
 
   to_same : (call other : Call) → call ≡ other → Step setup call o x old new → Step setup other p y twin next → Alike
   to_same call other e a b = same_call call a (subst (λ c. Step setup c p y twin next) (sym e) b)

@@ -3,6 +3,7 @@ use Rattle.std.proofs.Common.{◌≡◌, ◌∙◌, ℕ, ◌+◌, ◌<◌, refl,
 use Rattle.std.specs.FinMap.{get}
 use Rattle.std.specs.Prelude.{Contains}
 use Rattle.std.specs.Int.NonZero.{non_zero_u64_get}
+use Rattle.std.specs.Option.{is_some}
 use Rattle.std.proofs.lemmas.Bool.{eqb-true}
 use Rattle.gpu_block.specs.Block.{Block, extents_of, ReleasesIn, IsSoundBlock}
 use Rattle.gpu_block_pieces.specs.FreeList.{Extent}
@@ -13,15 +14,17 @@ use Rattle.gpu_slots.specs.declared.piece.Piece.{Piece}
 use Rattle.gpu_slots.proofs.Found.{one_in}
 use Rattle.gpu_slots.proofs.Slotted.{set_only}
 use Rattle.gpu_values.specs.declared.error.AllocationError.{AllocationError}
-use Rattle.gpu_device.specs.Held.{Held, IsWhole, bytes_of, entry_bytes}
+use Rattle.gpu_device.specs.Held.{Held, Entry, IsWhole, bytes_of, entry_bytes}
 use Rattle.gpu_device.specs.declared.vulkan.device.VulkanDevice.{Ghosts}
 use Rattle.gpu_device.specs.declared.vulkan.types.DeviceMemory.{DeviceMemory}
 use Rattle.gpu_device.proofs.Maps.{get-remove_other}
 use Rattle.gpu_memory_types.specs.Budgets.{Budgets}
 use Rattle.gpu_vulkan_setup.specs.Types.{is_mapped}
-use Rattle.gpu_vulkan.specs.Blocks.{Slots, HoldsJustLiveBlocks}
+use Rattle.gpu_vulkan.specs.Blocks.{Slots, HoldsJustLiveBlocks, IsBlockEntry}
 use Rattle.gpu_memory_types.specs.Blocks.{slots_at, block_at, BlocksWellFormed}
+use Rattle.gpu_memory_types.specs.Held.{HasEntry}
 use Rattle.gpu_vulkan.specs.ByteView.{ByteView, byte_view_of, PutsBack}
+use Rattle.gpu_vulkan.specs.BlockAnswer.{free_recorded}
 use Rattle.gpu_vulkan.specs.Free.{GivesBack, IsReleased}
 use Rattle.gpu_vulkan.specs.Free.{FreesPiece, Frees}
 use Rattle.gpu_vulkan.specs.Live.{is_same_memory, IsLiveIn}
@@ -34,7 +37,7 @@ use Rattle.gpu_vulkan.specs.Source.{SourceState, GivesMemory}
 use Rattle.gpu_vulkan.specs.State.{State, Pool, setup_of, IsConstant}
 use Rattle.gpu_vulkan.specs.Reply.{Done, done_with}
 use Rattle.gpu_vulkan.specs.Attempt.{unseen, AnyBlockBack}
-use Rattle.gpu_vulkan.specs.Step.{ModelState, model_of, Free, id_in, MayDrop, FreedStep, FreeStep, IsStep, nothing_met, freed_as}
+use Rattle.gpu_vulkan.specs.Step.{ModelState, model_of, Free, id_in, MayDrop, went_recorded, FreedStep, FreeStep, IsStep, nothing_met, freed_as}
 use Rattle.gpu_vulkan.specs.declared.allocation.Allocation.{Allocation}
 use Rattle.gpu_vulkan.proofs.ByteViews.{released_byte_view, dropped_byte_view, with_back, with_back_puts}
 use Rattle.gpu_vulkan.proofs.Joins.{OneMore, one_more_released, found_number}
@@ -120,6 +123,28 @@ module _ {D : Type 0} (g : Ghosts D) (setup : Setup) (first : Held) (t : ℕ) (o
               one;
         }
 
+    -- the memory of a block is mapped where its type is
+    mapped_as : (a : Slot DeviceMemory) (held : Held) → block_at old t p.slot ≡ Some a → HoldsJustLiveBlocks setup.properties first held old
+        → is_some (bytes_of held a.number.0) ≡ is_mapped setup.properties t
+    mapped_as a held at h = by (get held a.number.0) (h.blocks t p.slot a at)
+      where
+        by : (e : Option Entry) → HasEntry (IsBlockEntry setup.properties) t a.block e → is_some (entry_bytes e) ≡ is_mapped setup.properties t
+        by None has = absurd has
+        by (Some e) has = has.2
+
+    -- the memory that goes is given back as it is mapped
+    settled_recorded : (several : Type 0) (a b : Option (Slot DeviceMemory)) (went : Option DeviceMemory) (device after : D)
+        → block_at old t p.slot ≡ a → SlotReleases several n a went b → GivesBack g device went after → HoldsJustLiveBlocks setup.properties first (g.held device) old
+        → g.history after ≡ went_recorded (is_mapped setup.properties t) went (g.history device)
+    settled_recorded several a b None device after at rel back h = ap g.history back
+    settled_recorded several None b (Some m) device after at rel back h = absurd rel
+    settled_recorded several (Some a) (Some b) (Some m) device after at rel back h = absurd (none_some m (sym rel.0))
+    settled_recorded several (Some a) None (Some m) device after at rel back h =
+        let held = g.held device in
+        let same : m ≡ a.number = some_same m a.number rel.0 in
+        let mapped = ap (λ (k : DeviceMemory). is_some (bytes_of held k.0)) same ∙ mapped_as a held at h in
+        back.history ∙ ap (λ mapped. free_recorded mapped m (g.history device)) mapped
+
     any_back : (went : Option DeviceMemory) → GivesBackAny AnyBlockBack tt went tt
     any_back None = refl
     any_back (Some memory) = tt
@@ -127,7 +152,8 @@ module _ {D : Type 0} (g : Ghosts D) (setup : Setup) (first : Held) (t : ℕ) (o
     pub released_step : (device : D) (new : Slots) (after : D) → IsReleased g t p old device new after → IsLiveIn old t (Some p)
         → HoldsJustLiveBlocks setup.properties first (g.held device) old → ((m : ℕ) → IsWhole (get (g.held device) m))
         → (before now : Budgets) → now ≡ before
-        → FreedStep setup t p (record { slots = old; budgets = before; byte_view = byte_view_of (g.held device) old }) (record { slots = new; budgets = now; byte_view = byte_view_of (g.held after) new })
+        → FreedStep setup t p (record { slots = old; budgets = before; byte_view = byte_view_of (g.held device) old; history = g.history device })
+        (record { slots = new; budgets = now; byte_view = byte_view_of (g.held after) new; history = g.history after })
     released_step device new after r live h whole before now same =
         let left = settled_bytes _ (slot_at (slots_at old t) p.slot) r.releases.slot r.went device after refl r.releases.releases r.gives_back live h whole in
         let new_is : new ≡ slice_set old t (slice_set (slots_at old t) p.slot r.releases.slot) = r.slots ∙ ap (slice_set old t) r.releases.slots in
@@ -142,6 +168,7 @@ module _ {D : Type 0} (g : Ghosts D) (setup : Setup) (first : Held) (t : ℕ) (o
           mid = left.mid;
           back = left.back;
           drops = subst (λ (ss : Slots). MayDrop t p.slot r.went left.mid (byte_view_of (g.held after) ss)) (sym new_is) left.drops;
+          recorded = settled_recorded _ (slot_at (slots_at old t) p.slot) r.releases.slot r.went device after refl r.releases.releases r.gives_back h;
         }
 
 -- ---- from the pool's words
@@ -185,7 +212,7 @@ module _ {D : Type 0} (g : Ghosts D) (first : Held) (old new : State D) (sound :
     (h : HoldsJustLiveBlocks old.setup.properties first (g.held old.device) old.slots) (whole : (m : ℕ) → IsWhole (get (g.held old.device) m))
     (budgets : new.budgets ≡ old.budgets) where
   same_model : new.slots ≡ old.slots → new.device ≡ old.device → model_of g new ≡ model_of g old
-  same_model slots device = λ i. record { slots = slots i; budgets = budgets i; byte_view = byte_view_of (g.held (device i)) (slots i) }
+  same_model slots device = λ i. record { slots = slots i; budgets = budgets i; byte_view = byte_view_of (g.held (device i)) (slots i); history = g.history (device i) }
 
   -- how a free ends, as the model's, and what the device counts and names
   record Freed (a : Allocation) (o : Option (Piece DeviceMemory)) (result : Result (Unit {0}) (AllocationError × Allocation)) : Type 0 where

@@ -194,9 +194,10 @@ module _ {D : Type 0} (g : Ghosts D) (first : Held) (s : State D) (sound : Block
   pub write_step : (written : (n start : ℕ) (ws : List ℕ) → g.held (g.written s.device n start ws) ≡ with_range (g.held s.device) n start ws)
       → ((n start : ℕ) (ws : List ℕ) → g.refused (g.written s.device n start ws) ≡ g.refused s.device)
       → ((n start : ℕ) (ws : List ℕ) → g.latest (g.written s.device n start ws) ≡ g.latest s.device)
+      → ((n start : ℕ) (ws : List ℕ) → g.history (g.written s.device n start ws) ≡ g.history s.device)
       → IsMapped s.setup.properties s.slots a → (xs : List ℕ) → bytes_at (g.held s.device) a ≡ Some xs → (ws : List ℕ) → length ws ≡ a.size
       → IsStep g (Write a ws) Done s (written_at g s a ws)
-  write_step written counts names live xs was ws long = record {
+  write_step written counts names records live xs was ws long = record {
     environment = record { first = nothing_met; second = nothing_met };
     step = (
       (refl, refl),
@@ -205,6 +206,7 @@ module _ {D : Type 0} (g : Ghosts D) (first : Held) (s : State D) (sound : Block
         live = live;
         slots = refl;
         budgets = refl;
+        history = records a.device_memory.0 a.offset ws;
         writes = subst (λ k. Writes (id_of a) ws (byte_view_of (g.held s.device) s.slots) (byte_view_of k s.slots)) (sym (written a.device_memory.0 a.offset ws))
             (writes_list s.setup first (g.held s.device) s.slots sound h whole a ws live long xs was);
       },
@@ -282,7 +284,7 @@ set_step g old new t budget result device slots sets = record {
     result_of result,
     done_reply result,
     record { budgets = subst (λ r. SetsBudget t budget old.budgets r new.budgets) (same_refusal result) sets; state = λ i. unseen old.setup new.budgets (slots i) },
-    λ i. byte_view_of (g.held (device i)) (slots i),
+    record { byte_view = λ i. byte_view_of (g.held (device i)) (slots i); history = ap g.history device },
   );
   count = ap g.refused device;
   latest = ap g.latest device;

@@ -35,7 +35,7 @@ use Rattle.gpu_pool.specs.Source.{result_of}
 use Rattle.gpu_vulkan.specs.Attempt.{unseen}
 use Rattle.gpu_vulkan.specs.State.{State}
 use Rattle.gpu_vulkan.proofs.Listed.{done_reply}
-use Rattle.gpu_vulkan.specs.Step.{model_of, Rename, Report, Leaks, RenameStep, IsStep, CallEnvironment, nothing_met, done_as, shown_as, told_as}
+use Rattle.gpu_vulkan.specs.Step.{model_of, Rename, Report, Leaks, RenameStep, KeepsTheRest, IsStep, CallEnvironment, nothing_met, done_as, shown_as, told_as}
 use Rattle.gpu_vulkan.specs.declared.allocation.Allocation.{Allocation}
 use Rattle.gpu_vulkan.proofs.OneStep.{byte_views_alike}
 use Rattle.gpu_memory_types.proofs.Placed.{OnlyBlock, only_block, some_below, same_place}
@@ -170,7 +170,7 @@ no_question host = record { first = record { host = host; asked = None }; second
 
 module _ {D : Type 0} (g : Ghosts D) (old new : State D) (device : new.device ≡ old.device) (budgets : new.budgets ≡ old.budgets) where
   same_model : new.slots ≡ old.slots → model_of g new ≡ model_of g old
-  same_model slots = λ i. record { slots = slots i; budgets = budgets i; byte_view = byte_view_of (g.held (device i)) (slots i) }
+  same_model slots = λ i. record { slots = slots i; budgets = budgets i; byte_view = byte_view_of (g.held (device i)) (slots i); history = g.history (device i) }
 
   -- how a rename ends, as the model's
   record Renaming (a : Allocation) (o : Option (Piece DeviceMemory)) (name : List ℕ) (result : Result (Unit {0}) AllocationError) : Type 0 where
@@ -180,8 +180,8 @@ module _ {D : Type 0} (g : Ghosts D) (old new : State D) (device : new.device �
   same_pool : new.slots ≡ old.slots → unseen old.setup new.budgets new.slots ≡ unseen old.setup old.budgets old.slots
   same_pool slots = λ i. unseen old.setup (budgets i) (slots i)
 
-  same_bytes : new.slots ≡ old.slots → byte_view_of (g.held new.device) new.slots ≡ byte_view_of (g.held old.device) old.slots
-  same_bytes slots = λ i. byte_view_of (g.held (device i)) (slots i)
+  same_rest : new.slots ≡ old.slots → KeepsTheRest (model_of g old) (model_of g new)
+  same_rest slots = record { byte_view = λ i. byte_view_of (g.held (device i)) (slots i); history = ap g.history device }
 
   renaming : (a b : Allocation) (o : Option (Piece DeviceMemory)) (name : List ℕ) (result : Result (Unit {0}) AllocationError) → RenamesBy a o name old.slots result b new.slots → Renaming a o name
       result
@@ -191,13 +191,16 @@ module _ {D : Type 0} (g : Ghosts D) (old new : State D) (device : new.device �
     host = true;
     step = (
       (r.1, λ i. unseen old.setup (budgets i) new.slots),
-      ap (λ d. byte_view_of (g.held d) new.slots) device ∙ renamed_byte_view (g.held old.device) a.memory_type_index p name old.slots new.slots r.1,
+      record {
+        byte_view = ap (λ d. byte_view_of (g.held d) new.slots) device ∙ renamed_byte_view (g.held old.device) a.memory_type_index p name old.slots new.slots r.1;
+        history = ap g.history device;
+      },
     );
   }
   renaming a b (Some p) name (Err e) r =
       ⊎_elim
-      (λ starved. record { host = false; step = ((starved.0, starved.1, same_pool r.2), same_bytes r.2) })
-      (λ dead. record { host = true; step = ((record { dead = dead.0; other = dead.1; cause = dead.2 }, same_pool r.2), same_bytes r.2) })
+      (λ starved. record { host = false; step = ((starved.0, starved.1, same_pool r.2), same_rest r.2) })
+      (λ dead. record { host = true; step = ((record { dead = dead.0; other = dead.1; cause = dead.2 }, same_pool r.2), same_rest r.2) })
       r.0
 
   pub rename_step : (a b : Allocation) (name : List ℕ) (result : Result (Unit {0}) AllocationError) → Renames a name old.slots result b new.slots → IsStep g (Rename a name) (done_as result) old new

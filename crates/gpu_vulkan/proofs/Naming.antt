@@ -1,37 +1,14 @@
--- A new name leaves every live allocation live.
-use Rattle.std.proofs.Common.{◌≡◌, ◌∙◌, refl, sym, ap, subst, ℕ, ◌<◌, Bool, true, false, if◌then◌else◌, List, [], ◌∷◌, map, length, slice_set, Option, Some, None, Ok, Err, Result, arith, inl, inr, ⊎_elim}
-use Rattle.std.specs.Prelude.{All, Contains, ◌==◌}
-use Rattle.std.specs.Option.{option_map, option_to_list}
-use Rattle.std.specs.Int.NonZero.{non_zero_u64_get}
-use Rattle.std.proofs.lemmas.Bool.{cases_eq}
-use Rattle.std.proofs.lemmas.List.Elements.{All-nil, All-cons, All-weaker, All-contains}
-use Rattle.gpu_block_pieces.proofs.Live.{here, there}
-use Rattle.gpu_block.specs.Block.{Block, free_list, dedicated, HoldsPiece, RenamesIn}
-use Rattle.gpu_block_pieces.specs.Changes.{with_name}
-use Rattle.gpu_block.specs.Dedicated.{renamed}
-use Rattle.gpu_block_pieces.specs.FreeList.{Extent}
-use Rattle.gpu_slots.specs.TypeRelease.{SlotHolds, SlotRenames, IsLive as IsLivePiece}
-use Rattle.gpu_slots.specs.TypeState.{Slot, slot_at}
+-- What a rename is, from the pool's words.
+use Rattle.std.proofs.Common.{◌≡◌, ℕ, List, Ok, Err, Result, inl, inr}
+use Rattle.gpu_values.specs.Refusal.{Refusal}
 use Rattle.gpu_slots.specs.declared.piece.Piece.{Piece}
-use Rattle.gpu_slots.proofs.Slotted.{set_only}
 use Rattle.gpu_device.specs.declared.vulkan.types.DeviceMemory.{DeviceMemory}
-use Rattle.gpu_values.specs.declared.error.AllocationError.{AllocationError}
-use Rattle.gpu_vulkan.specs.Blocks.{Slots}
 use Rattle.gpu_memory_types.specs.Blocks.{slots_at}
-use Rattle.gpu_vulkan.specs.Live.{is_same_memory, IsLiveIn}
-use Rattle.gpu_vulkan.specs.Live.{piece_of, IsLive}
 use Rattle.gpu_memory_types.specs.Rename.{IsNotNamed, IsRenamed}
 use Rattle.gpu_pool.specs.Allocate.{Environment, NothingMet, NoHostMemory, Answered}
 use Rattle.gpu_pool.specs.Rename as pools
-use Rattle.gpu_values.specs.Refusal.{Refusal}
+use Rattle.gpu_vulkan.specs.Live.{is_same_memory}
 use Rattle.gpu_vulkan.specs.State.{Pool}
-use Rattle.gpu_vulkan.specs.Rename.{RenamesBy, Renames}
-use Rattle.gpu_vulkan.specs.declared.allocation.Allocation.{Allocation}
-use Rattle.gpu_memory_types.proofs.Placed.{some_below}
-use Rattle.gpu_pool.proofs.Freeing.{type_below}
-use Rattle.gpu_memory_types.proofs.Types.{slots_after}
-
--- ---- from the pool's words
 
 module _ (t : ℕ) (p : Piece DeviceMemory) (name : List ℕ) {D : Type 0} (old new : Pool D) where
   named_by : (met : Environment DeviceMemory) → pools.RenamesBy is_same_memory t p name old met (Ok tt) new → IsRenamed is_same_memory t p name old.slots new.slots × (new ≡ record old { slots = new.slots })
@@ -49,103 +26,3 @@ module _ (t : ℕ) (p : Piece DeviceMemory) (name : List ℕ) {D : Type 0} (old 
 
   pub refused : (e : Refusal) → pools.Renames is_same_memory t p name old (Err e) new → IsNotNamed is_same_memory (slots_at old.slots t) p e × (new ≡ old)
   refused e r = refused_by e r.0 r.1
-
--- ---- which pieces live
-
-map_keeps : {A B : Type 0} (f : A → B) (xs : List A) → All (λ z. Contains (map f xs) (f z)) xs
-map_keeps f [] = All-nil (λ z. Contains (map f []) (f z))
-map_keeps f (y ∷ ys) =
-    All-cons (λ z. Contains (map f (y ∷ ys)) (f z)) y ys (here (f y) (map f ys))
-    (All-weaker (λ z. Contains (map f ys) (f z)) (λ z. Contains (map f (y ∷ ys)) (f z)) (λ z q. there (f y) (f z) (map f ys) q) ys (map_keeps f ys))
-
-contains_map : {A B : Type 0} (f : A → B) (xs : List A) (x : A) → Contains xs x → Contains (map f xs) (f x)
-contains_map f xs x h = All-contains (λ z. Contains (map f xs) (f z)) xs x (map_keeps f xs) h
-
--- an extent is as it was beside its name
-abbrev IsAlike : Extent → Extent → Type 0
-IsAlike x y = (y.number ≡ x.number) × (y.offset ≡ x.offset) × (y.end ≡ x.end)
-
-alike : (b : Bool) (name : List ℕ) (x : Extent) → IsAlike x (if b then record x { name = name } else x)
-alike true name x = (refl, refl, refl)
-alike false name x = (refl, refl, refl)
-
-held_named : (name : List ℕ) (o : Option Extent) (x : Extent) → Contains (option_to_list o) x → Contains (option_to_list (option_map (renamed name) o)) (renamed name x)
-held_named name None x h = (let l = h.1 in absurd (omega (arith, l)))
-held_named name (Some z) x h = contains_map (renamed name) (z ∷ []) x h
-
--- a new name leaves every piece of the block
-named_holds : (old : Block) (n : ℕ) (name : List ℕ) (new : Block) → RenamesIn old n name new → (m o size : ℕ) → HoldsPiece old m o size → HoldsPiece new m o size
-named_holds (free_list a) n name (free_list b) r m o size h =
-    let x : Extent = h.0 in
-    let same : IsAlike x (with_name n name x) = alike (x.number == n) name x in (
-      with_name n name x,
-      subst (λ (xs : List Extent). Contains xs (with_name n name x)) (sym r.extents) (contains_map (with_name n name) a.extents x h.1),
-      same.0 ∙ h.2,
-      same.1 ∙ h.3,
-      same.2 ∙ h.4,
-    )
-named_holds (free_list a) n name (dedicated b) r m o size h = absurd r
-named_holds (dedicated a) n name (free_list b) r m o size h = absurd r
-named_holds (dedicated a) n name (dedicated b) r m o size h = (
-  renamed name h.0,
-  subst (λ b. Contains (option_to_list b.piece) (renamed name h.0)) (sym r.2) (held_named name a.piece h.0 h.1),
-  h.2,
-  h.3,
-  h.4,
-)
-
-slot_holds : (n : ℕ) (name : List ℕ) (a b : Option (Slot DeviceMemory)) (p : Piece DeviceMemory) → SlotRenames n name a b → SlotHolds is_same_memory p a → SlotHolds is_same_memory p b
-slot_holds n name None b p r live = absurd live
-slot_holds n name (Some a) None p r live = absurd r
-slot_holds n name (Some a) (Some b) p r live =
-    (ap (λ (k : DeviceMemory). is_same_memory k p.block) r.0 ∙ live.0, named_holds a.block n name b.block r.1 (non_zero_u64_get p.number) p.offset p.size live.1)
-
--- of the slots of one memory type
-slots_hold : (slots : List (Option (Slot DeviceMemory))) (i n : ℕ) (name : List ℕ) (b : Option (Slot DeviceMemory)) (p : Piece DeviceMemory) → i < length slots
-    → SlotRenames n name (slot_at slots i) b → IsLivePiece is_same_memory slots p → IsLivePiece is_same_memory (slice_set slots i b) p
-slots_hold slots i n name b p below r live =
-    let only = set_only slots i b below in
-    ⊎_elim
-    (λ (here : p.slot ≡ i).
-    subst (λ s. SlotHolds is_same_memory p s) (sym (ap (slot_at (slice_set slots i b)) here ∙ only.at))
-    (slot_holds n name (slot_at slots i) b p r (subst (λ k. SlotHolds is_same_memory p (slot_at slots k)) here live)))
-    (λ away. subst (λ s. SlotHolds is_same_memory p s) (sym (only.others p.slot away)) live)
-    (cases_eq p.slot i)
-
-live_below : (s : Option (Slot DeviceMemory)) (slots : List (Option (Slot DeviceMemory))) (i : ℕ) (p : Piece DeviceMemory) → slot_at slots i ≡ s → SlotHolds is_same_memory p s → i < length slots
-live_below None slots i p at live = absurd live
-live_below (Some s) slots i p at live = some_below slots i s at
-
-piece_lives : (t : ℕ) (p : Piece DeviceMemory) (name : List ℕ) (old new : Slots) → IsRenamed is_same_memory t p name old new → (u : ℕ) (q : Piece DeviceMemory)
-    → IsLiveIn old u (Some q) → IsLiveIn new u (Some q)
-piece_lives t p name old new r u q live =
-    let slots = slots_at old t in
-    let below = live_below (slot_at slots p.slot) slots p.slot p refl r.live in
-    subst (λ (ss : Slots). IsLiveIn ss u (Some q)) (sym r.slots)
-    (⊎_elim
-    (λ h.
-    let at : IsLivePiece is_same_memory slots q = subst (λ k. IsLiveIn old k (Some q)) h.0 live in
-    subst (λ (ss : List (Option (Slot DeviceMemory))). IsLivePiece is_same_memory ss q) (sym (h.1 ∙ r.renames.slots))
-    (slots_hold slots p.slot _ name r.renames.slot q below r.renames.renames at))
-    (λ h. subst (λ (ss : List (Option (Slot DeviceMemory))). IsLivePiece is_same_memory ss q) (sym h.1) live)
-    (slots_after old t r.left u (type_below is_same_memory old t p r.live)))
-
-lives_in : (t : ℕ) (p : Piece DeviceMemory) (name : List ℕ) (old new : Slots) → IsRenamed is_same_memory t p name old new → (u : ℕ) (o : Option (Piece DeviceMemory))
-    → IsLiveIn old u o → IsLiveIn new u o
-lives_in t p name old new r u None live = absurd live
-lives_in t p name old new r u (Some q) live = piece_lives t p name old new r u q live
-
-same_lives : (old new : Slots) → new ≡ old → (x : Allocation) → IsLive old x → IsLive new x
-same_lives old new same x live = subst (λ (ss : Slots). IsLive ss x) (sym same) live
-
-lives_by : (a : Allocation) (o : Option (Piece DeviceMemory)) (name : List ℕ) (old : Slots) (result : Result (Unit {0}) AllocationError) (b : Allocation) (new : Slots)
-    → RenamesBy a o name old result b new → (x : Allocation) → IsLive old x → IsLive new x
-lives_by a None name old (Ok _) b new r x live = same_lives old new r.1 x live
-lives_by a None name old (Err e) b new r x live = same_lives old new r.2 x live
-lives_by a (Some p) name old (Ok _) b new r x live = lives_in a.memory_type_index p name old new r.1 x.memory_type_index (piece_of x) live
-lives_by a (Some p) name old (Err e) b new r x live = same_lives old new r.2 x live
-
--- what was live is live
-pub renamed_lives : (a : Allocation) (name : List ℕ) (old : Slots) (result : Result (Unit {0}) AllocationError) (b : Allocation) (new : Slots)
-    → Renames a name old result b new → (x : Allocation) → IsLive old x → IsLive new x
-renamed_lives a name old result b new r x live = lives_by a (piece_of a) name old result b new r x live

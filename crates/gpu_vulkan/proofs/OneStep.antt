@@ -8,7 +8,7 @@ use Rattle.gpu_slots.specs.TypeRelease.{has_several}
 use Rattle.gpu_slots.specs.declared.piece.Piece.{Piece}
 use Rattle.gpu_core.proofs.OneOutcome.{released_once}
 use Rattle.gpu_slots.specs.Slots.{AreSound}
-use Rattle.gpu_memory_types.proofs.OneOutcome.{false_true}
+use Rattle.std.proofs.lemmas.Bool.{false≢true}
 use Rattle.gpu_device.specs.declared.vulkan.types.DeviceMemory.{DeviceMemory}
 use Rattle.gpu_memory_types.specs.Budgets.{Budgets}
 use Rattle.gpu_vulkan.specs.Allocate.{Attempts, IsTooLarge, IsWithinHeap, is_valid}
@@ -33,7 +33,7 @@ use Rattle.gpu_vulkan.specs.Live.{piece_of}
 use Rattle.gpu_vulkan_setup.specs.Setup.{Setup}
 use Rattle.gpu_vulkan.specs.Reply.{Reply, Bytes, done_with, report_with, leaks_with}
 use Rattle.gpu_vulkan.specs.Step.{ModelState, Call, Allocate, Free, Write, Rename, Report, Leaks, Read, Capacity, SetBudget, Budget}
-use Rattle.gpu_vulkan.specs.Step.{CallEnvironment, BytesAfter, AttemptStep, reply_of, next_by, Follows, ServeStep, RefuseStep, FoundStep, AllocateStep, pool_in, MayDrop, FreedStep, FreeStep, host_met, RenameStep, IsRead, Step, id_in, id_of}
+use Rattle.gpu_vulkan.specs.Step.{CallEnvironment, BytesAfter, AttemptStep, reply_of, next_by, Follows, ServeStep, RefuseStep, FoundStep, AllocateStep, pool_in, MayDrop, FreedStep, FreeStep, host_met, KeepsTheRest, went_recorded, RenameStep, IsRead, Step, id_in, id_of}
 use Rattle.gpu_vulkan.specs.declared.allocation.Allocation.{Allocation}
 use Rattle.gpu_vulkan_setup.specs.declared.describe.AllocationCreateDesc.{AllocationCreateDesc}
 use Rattle.gpu_vulkan.proofs.Attempts.{refused_same}
@@ -56,7 +56,7 @@ block_once (Granted n) (Err e) (Ok m) is also = absurd (none_some e is)
 block_once (Mapped n bytes) (Err e) (Ok m) is also = absurd (none_some e is)
 
 starved_or_not : {A : Type 0} (o : AttemptEnvironment) → o.host ≡ true → o.host ≡ false → A
-starved_or_not o is also = absurd (false_true (sym also ∙ is))
+starved_or_not o is also = absurd (false≢true (sym also ∙ is))
 
 asked_or_not : {A : Type 0} (o : AttemptEnvironment) (a : Asked) → o.asked ≡ None → o.asked ≡ Some a → A
 asked_or_not o a is also = absurd (none_some a (sym is ∙ also))
@@ -178,8 +178,8 @@ bytes_once mapped t (Some asked) (Ok p) old new next a b =
     let mids = adds_once t p.slot _ old a.0 b.0 a.1 b.1 in
     takes_out_once mapped (id_in t p) p.offset p.size a.0 new next a.2 (subst (λ m. TakesOut mapped (id_in t p) p.offset p.size m next) (sym mids) b.2)
 
-states_alike : (a b : ModelState) → a.slots ≡ b.slots → a.budgets ≡ b.budgets → a.byte_view ≡ b.byte_view → a ≡ b
-states_alike a b slots budgets byte_view = λ i. record { slots = slots i; budgets = budgets i; byte_view = byte_view i }
+states_alike : (a b : ModelState) → a.slots ≡ b.slots → a.budgets ≡ b.budgets → a.byte_view ≡ b.byte_view → a.history ≡ b.history → a ≡ b
+states_alike a b slots budgets byte_view history = λ i. record { slots = slots i; budgets = budgets i; byte_view = byte_view i; history = history i }
 
 attempt_once : (setup : Setup) (t : ℕ) (d : AllocationCreateDesc) (o : AttemptEnvironment) (x y : Answer) (old new next : ModelState) → t < length setup.properties.types
     → BlocksWellFormed setup.properties.granularity old.slots → AttemptStep setup t d o x old new → AttemptStep setup t d o y old next → (x ≡ y) × (new ≡ next)
@@ -187,7 +187,8 @@ attempt_once setup t d o x y old new next below sound a b =
     let once = attempts_once setup old.budgets old.slots t d below sound o x y new.slots next.slots a.slots b.slots in
     let other : BytesAfter (is_mapped setup.properties t) t o.asked x old.byte_view next.byte_view = subst (λ w. BytesAfter (is_mapped setup.properties t) t o.asked w old.byte_view next.byte_view)
     (sym once.0) b.bytes in
-    (once.0, states_alike new next once.1 (a.budgets ∙ sym b.budgets) (bytes_once (is_mapped setup.properties t) t o.asked x old.byte_view new.byte_view next.byte_view a.bytes other))
+    (once.0, states_alike new next once.1 (a.budgets ∙ sym b.budgets) (bytes_once (is_mapped setup.properties t) t o.asked x old.byte_view new.byte_view next.byte_view a.bytes other)
+    (a.recorded ∙ sym b.recorded))
 
 -- ---- an allocation
 
@@ -299,9 +300,20 @@ module _ (setup : Setup) (old new twin next : ModelState) (sound : BlocksWellFor
 abbrev bytes_in : ModelState → ByteView
 bytes_in s = s.byte_view
 
-freed_bytes : (setup : Setup) (t : ℕ) (p : Piece DeviceMemory) (old new next : ModelState) → BlocksWellFormed setup.properties.granularity old.slots → FreedStep setup t p old new
-    → FreedStep setup t p old next → new.byte_view ≡ next.byte_view
-freed_bytes setup t p old new next sound a b =
+-- two ends have the same bytes and the same history
+record SameRest (a b : ModelState) : Type 0 where
+  pub byte_view : a.byte_view ≡ b.byte_view
+  pub history : a.history ≡ b.history
+
+both : (a b : ModelState) → a ≡ b → SameRest a b
+both a b same = record { byte_view = ap bytes_in same; history = ap (λ (s : ModelState). s.history) same }
+
+kept_both : (old a b : ModelState) → KeepsTheRest old a → KeepsTheRest old b → SameRest a b
+kept_both old a b x y = record { byte_view = x.byte_view ∙ sym y.byte_view; history = x.history ∙ sym y.history }
+
+freed_rest : (setup : Setup) (t : ℕ) (p : Piece DeviceMemory) (old new next : ModelState) → BlocksWellFormed setup.properties.granularity old.slots → FreedStep setup t p old new
+    → FreedStep setup t p old next → SameRest new next
+freed_rest setup t p old new next sound a b =
     let r = a.frees.slots in
     let s = b.frees.slots in
     let once = released_once setup.properties.granularity (IsTrue (has_several (slots_at old.slots t))) (slots_at old.slots t) p a.frees.went b.frees.went r.left s.left (sound t) r.releases s.releases in
@@ -309,19 +321,22 @@ freed_bytes setup t p old new next sound a b =
     let went = once.0 in
     let other : MayDrop t p.slot a.frees.went a.mid next.byte_view = subst (λ m. MayDrop t p.slot a.frees.went m next.byte_view) (sym mids)
     (subst (λ w. MayDrop t p.slot w b.mid next.byte_view) (sym went) b.drops) in
-    drops_once t p.slot a.frees.went a.mid new.byte_view next.byte_view a.drops other
+    record {
+      byte_view = drops_once t p.slot a.frees.went a.mid new.byte_view next.byte_view a.drops other;
+      history = a.recorded ∙ ap (λ w. went_recorded (is_mapped setup.properties t) w old.history) went ∙ sym b.recorded;
+    }
 
-free_bytes : (setup : Setup) (t : ℕ) (p : Option (Piece DeviceMemory)) (x : Result (Unit {0}) Refusal) (old new next : ModelState) → BlocksWellFormed setup.properties.granularity old.slots
-    → FreeStep setup t p x old new → FreeStep setup t p x old next → new.byte_view ≡ next.byte_view
-free_bytes setup t None (Ok u) old new next sound a b = ap bytes_in (a ∙ sym b)
-free_bytes setup t None (Err r) old new next sound a b = absurd a
-free_bytes setup t (Some p) (Ok u) old new next sound a b = freed_bytes setup t p old new next sound a b
-free_bytes setup t (Some p) (Err r) old new next sound a b = ap bytes_in (a.2 ∙ sym b.2)
+free_rest : (setup : Setup) (t : ℕ) (p : Option (Piece DeviceMemory)) (x : Result (Unit {0}) Refusal) (old new next : ModelState) → BlocksWellFormed setup.properties.granularity old.slots
+    → FreeStep setup t p x old new → FreeStep setup t p x old next → SameRest new next
+free_rest setup t None (Ok u) old new next sound a b = both new next (a ∙ sym b)
+free_rest setup t None (Err r) old new next sound a b = absurd a
+free_rest setup t (Some p) (Ok u) old new next sound a b = freed_rest setup t p old new next sound a b
+free_rest setup t (Some p) (Err r) old new next sound a b = both new next (a.2 ∙ sym b.2)
 
-rename_bytes : (setup : Setup) (t : ℕ) (p : Option (Piece DeviceMemory)) (name : List ℕ) (host : Bool) (x : Result (Unit {0}) Refusal) (old new : ModelState)
-    → RenameStep setup t p name host x old new → new.byte_view ≡ old.byte_view
-rename_bytes setup t None name host x old new a = ap bytes_in a.1
-rename_bytes setup t (Some p) name host x old new a = a.1
+pub rename_rest : (setup : Setup) (t : ℕ) (p : Option (Piece DeviceMemory)) (name : List ℕ) (host : Bool) (x : Result (Unit {0}) Refusal) (old new : ModelState)
+    → RenameStep setup t p name host x old new → KeepsTheRest old new
+rename_rest setup t None name host x old new a = record { byte_view = ap bytes_in a.1; history = ap (λ (s : ModelState). s.history) a.1 }
+rename_rest setup t (Some p) name host x old new a = a.1
 
 writes_once : (p : AllocationId) (ws : List ℕ) (old new next : ByteView) → Writes p ws old new → Writes p ws old next → new ≡ next
 writes_once p ws old new next a b = byte_views_alike new next (lists_alike p old new next (a.list ∙ sym b.list) a.others b.others)
@@ -342,25 +357,25 @@ step_once setup (Free f) o x y old new next sound a b =
     let t = f.memory_type_index in
     let p = piece_of f in
     let once = free_alike setup old new old next sound (refl, refl) t p a.1 b.1 a.3 b.3 in
-    let other = subst (λ z. FreeStep setup t p z old next) (sym once.0) b.3 in
-    (a.2 ∙ ap done_with once.0 ∙ sym b.2, states_alike new next once.1.0 once.1.1 (free_bytes setup t p a.1 old new next sound a.3 other))
+    let rest = free_rest setup t p a.1 old new next sound a.3 (subst (λ z. FreeStep setup t p z old next) (sym once.0) b.3) in
+    (a.2 ∙ ap done_with once.0 ∙ sym b.2, states_alike new next once.1.0 once.1.1 rest.byte_view rest.history)
 step_once setup (Rename f name) o x y old new next sound a b =
     let t = f.memory_type_index in
     let p = piece_of f in
     let host = o.first.host in
-    let once = rename_alike setup old new old next sound (refl, refl) t p name host a.1 b.1 a.3 b.3 in (
-      a.2 ∙ ap done_with once.0 ∙ sym b.2,
-      states_alike new next once.1.0 once.1.1 (rename_bytes setup t p name host a.1 old new a.3 ∙ sym (rename_bytes setup t p name host b.1 old next b.3)),
-    )
+    let once = rename_alike setup old new old next sound (refl, refl) t p name host a.1 b.1 a.3 b.3 in
+    let rest = kept_both old new next (rename_rest setup t p name host a.1 old new a.3) (rename_rest setup t p name host b.1 old next b.3) in
+    (a.2 ∙ ap done_with once.0 ∙ sym b.2, states_alike new next once.1.0 once.1.1 rest.byte_view rest.history)
 step_once setup (Write w ws) o x y old new next sound a b =
     let p = a.2 in
     let q = b.2 in
-    (a.1 ∙ sym b.1, states_alike new next (p.slots ∙ sym q.slots) (p.budgets ∙ sym q.budgets) (writes_once (id_of w) ws old.byte_view new.byte_view next.byte_view p.writes q.writes))
+    (a.1 ∙ sym b.1, states_alike new next (p.slots ∙ sym q.slots) (p.budgets ∙ sym q.budgets) (writes_once (id_of w) ws old.byte_view new.byte_view next.byte_view p.writes q.writes)
+    (p.history ∙ sym q.history))
 step_once setup (Read r) o x y old new next sound a b = (a.2 ∙ ap Bytes (read_once setup r old a.1 b.1 a.3 b.3) ∙ sym b.2, a.4 ∙ sym b.4)
 step_once setup Capacity o x y old new next sound a b = (a.1 ∙ sym b.1, a.2 ∙ sym b.2)
 step_once setup Report o x y old new next sound a b = (a.2 ∙ ap report_with (makes_once _ (host_met o.first.host) a.1 b.1 a.3 b.3) ∙ sym b.2, a.4 ∙ sym b.4)
 step_once setup Leaks o x y old new next sound a b = (a.2 ∙ ap leaks_with (makes_once _ (host_met o.first.host) a.1 b.1 a.3 b.3) ∙ sym b.2, a.4 ∙ sym b.4)
 step_once setup (SetBudget t budget) o x y old new next sound a b =
     let once = set_alike setup old new old next sound (refl, refl) t budget a.1 b.1 a.3 b.3 in
-    (a.2 ∙ ap done_with once.0 ∙ sym b.2, states_alike new next once.1.0 once.1.1 (a.4 ∙ sym b.4))
+    (a.2 ∙ ap done_with once.0 ∙ sym b.2, states_alike new next once.1.0 once.1.1 (a.4.byte_view ∙ sym b.4.byte_view) (a.4.history ∙ sym b.4.history))
 step_once setup (Budget t) o x y old new next sound a b = (a.1 ∙ sym b.1, a.2 ∙ sym b.2)

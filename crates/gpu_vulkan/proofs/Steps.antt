@@ -19,7 +19,7 @@ use Rattle.gpu_vulkan_setup.specs.Setup.{Setup}
 use Rattle.gpu_vulkan.specs.State.{State}
 use Rattle.gpu_vulkan.specs.Reply.{Reply, Error}
 use Rattle.gpu_vulkan.specs.Step.{ModelState, model_of, CallEnvironment, reply_of, next_by, AttemptStep, Follows, ServeStep, RefuseStep, FoundStep, AllocateStep, IsAllocateStep}
-use Rattle.gpu_vulkan.specs.Step.{Replies, nothing_met, count_after, latest_after}
+use Rattle.gpu_vulkan.specs.Step.{Replies, nothing_met, count_after, latest_after, asked_recorded}
 use Rattle.gpu_vulkan.specs.declared.allocation.Allocation.{Allocation}
 use Rattle.gpu_vulkan_setup.specs.declared.describe.AllocationCreateDesc.{AllocationCreateDesc}
 use Rattle.gpu_vulkan.proofs.Attempts.{refused_same, attempt_held}
@@ -36,6 +36,10 @@ counted g mapped (Some a) device after is = is.count
 named : {D : Type 0} (g : Ghosts D) (mapped : Bool) (o : Option Asked) (device after : D) → IsAfter g device mapped o after → g.latest after ≡ latest_after (g.latest device) o
 named g mapped None device after is = ap g.latest is
 named g mapped (Some a) device after is = is.latest
+
+recorded_so : {D : Type 0} (g : Ghosts D) (mapped : Bool) (o : Option Asked) (device after : D) → IsAfter g device mapped o after → g.history after ≡ asked_recorded o (g.history device)
+recorded_so g mapped None device after is = ap g.history is
+recorded_so g mapped (Some a) device after is = is.history
 
 -- ---- what the caller gets
 
@@ -72,13 +76,13 @@ mid_is_held g setup budgets d t u old device result mid between a is = by a.answ
 
 module _ {D : Type 0} (g : Ghosts D) (whole : (x : D) (n : ℕ) → IsWhole (get (g.held x) n)) (setup : Setup) (budgets : Budgets) (d : AllocationCreateDesc) (first : Held) where
   abbrev at : D → Slots → ModelState
-  at device slots = record { slots = slots; budgets = budgets; byte_view = byte_view_of (g.held device) slots }
+  at device slots = record { slots = slots; budgets = budgets; byte_view = byte_view_of (g.held device) slots; history = g.history device }
 
   attempt_step : (t : ℕ) (old : Slots) (device : D) (result : Result Allocation AllocationError) (new : Slots) (after : D) → t < length old
       → BlocksWellFormed setup.properties.granularity old → BlocksWellFormed setup.properties.granularity new → HoldsJustLiveBlocks setup.properties first (g.held device) old
       → HoldsJustLiveBlocks setup.properties first (g.held after) new → (a : IsAttempt g setup budgets t d old device result new after) → AttemptStep setup t d a.environment a.answer (at device old) (at after new)
   attempt_step t old device result new after below sound sound_after before holds a =
-      record { slots = a.attempts; budgets = refl; bytes = attempt_bytes g setup budgets d first t old below sound new device after sound_after before holds (whole after) result a }
+      record { slots = a.attempts; budgets = refl; bytes = attempt_bytes g setup budgets d first t old below sound new device after sound_after before holds (whole after) result a; recorded = recorded_so g (is_mapped setup.properties t) a.environment.asked device after a.asked }
 
   pub record Served (t : ℕ) (old : Slots) (device : D) (result : Result Allocation AllocationError) (new : Slots) (after : D) : Type 0 where
     pub environment : CallEnvironment
@@ -151,8 +155,8 @@ module _ {D : Type 0} (g : Ghosts D) (whole : (x : D) (n : ℕ) → IsWhole (get
       → Served t old.slots old.device result new.slots new.device → IsAllocateStep g d result old new
   served_step t old new result is before after found valid s =
       let With : Budgets → Budgets → Type 0 =
-      λ a b. ServeStep setup t d s.environment s.reply (record { slots = old.slots; budgets = a; byte_view = byte_view_of (g.held old.device) old.slots })
-      (record { slots = new.slots; budgets = b; byte_view = byte_view_of (g.held new.device) new.slots }) in
+      λ a b. ServeStep setup t d s.environment s.reply (record { slots = old.slots; budgets = a; byte_view = byte_view_of (g.held old.device) old.slots; history = g.history old.device })
+      (record { slots = new.slots; budgets = b; byte_view = byte_view_of (g.held new.device) new.slots; history = g.history new.device }) in
       let step : ServeStep setup t d s.environment s.reply (model_of g old) (model_of g new) =
       subst (λ b. With old.budgets b) (sym after) (subst (λ b. With b budgets) (sym before) s.step) in
       record {
@@ -180,7 +184,7 @@ module _ {D : Type 0} (g : Ghosts D) (d : AllocationCreateDesc) (old new : State
   refused_with r = record {
     met = (refl, refl);
     reply_is = refl;
-    same = λ i. record { slots = slots i; budgets = budgets i; byte_view = byte_view_of (g.held (device i)) (slots i) };
+    same = λ i. record { slots = slots i; budgets = budgets i; byte_view = byte_view_of (g.held (device i)) (slots i); history = g.history (device i) };
   }
 
   refused_by : (r : Refusal) → refusal_in result ≡ Some r

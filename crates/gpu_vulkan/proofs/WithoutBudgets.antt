@@ -18,7 +18,7 @@ use Rattle.gpu_vulkan.specs.Budgets.{MayAsk, MeetsNoBudget, without_budgets}
 use Rattle.gpu_vulkan.specs.Live.{piece_of}
 use Rattle.gpu_vulkan.specs.Reply.{Reply}
 use Rattle.gpu_vulkan.specs.Step.{ModelState, Call, Allocate, Free, Write, Rename, Report, Leaks, Read, Capacity, SetBudget, Budget, CallEnvironment}
-use Rattle.gpu_vulkan.specs.Step.{Step, AttemptStep, AllocateStep, FoundStep, Follows, FreeStep, RenameStep, IsRead, next_by}
+use Rattle.gpu_vulkan.specs.Step.{Step, AttemptStep, AllocateStep, FoundStep, Follows, FreeStep, KeepsTheRest, RenameStep, IsRead, next_by}
 use Rattle.gpu_pool.specs.State as pools
 use Rattle.gpu_memory_types.proofs.Options.{none_some}
 
@@ -43,7 +43,7 @@ module _ (setup : Setup) (d : AllocationCreateDesc) where
 
   attempt_plain : (t : ℕ) (o : AttemptEnvironment) (answer : Answer) (old new : ModelState) → budget_at old.budgets t ≡ None
       → AttemptStep setup t d o answer old new → AttemptStep setup t d o answer (without_budgets old) (without_budgets new)
-  attempt_plain t o answer old new none a = record { slots = attempts_plain old.budgets old.slots t o answer new.slots none a.slots; budgets = refl; bytes = a.bytes }
+  attempt_plain t o answer old new none a = record { slots = attempts_plain old.budgets old.slots t o answer new.slots none a.slots; budgets = refl; bytes = a.bytes; recorded = a.recorded }
 
   chosen : (b : Bool) (o : Option ℕ) (u : ℕ) → (if b then o else None) ≡ Some u → (b ≡ true) × (o ≡ Some u)
   chosen true o u is = (refl, is)
@@ -87,16 +87,19 @@ free_plain setup t None (Ok u) old new a = ap without_budgets a
 free_plain setup t None (Err r) old new a = absurd a
 free_plain setup t (Some p) (Ok u) old new a =
     let f = a.frees in
-    record { live = a.live; frees = record { went = f.went; slots = f.slots; source = f.source; state = ap pools.without_budgets f.state }; mid = a.mid; back = a.back; drops = a.drops }
+    record { live = a.live; frees = record { went = f.went; slots = f.slots; source = f.source; state = ap pools.without_budgets f.state }; mid = a.mid; back = a.back; drops = a.drops; recorded = a.recorded }
 free_plain setup t (Some p) (Err r) old new a = (a.0, a.1, ap without_budgets a.2)
+
+kept_plain : (old new : ModelState) → KeepsTheRest old new → KeepsTheRest (without_budgets old) (without_budgets new)
+kept_plain old new a = record { byte_view = a.byte_view; history = a.history }
 
 rename_plain : (setup : Setup) (t : ℕ) (p : Option (Piece DeviceMemory)) (name : List ℕ) (host : Bool) (x : Result (Unit {0}) Refusal) (old new : ModelState) → RenameStep setup t p name host x old new
     → RenameStep setup t p name host x (without_budgets old) (without_budgets new)
 rename_plain setup t None name host x old new a = (a.0, ap without_budgets a.1)
-rename_plain setup t (Some p) name true (Ok u) old new a = ((a.0.0, ap pools.without_budgets a.0.1), a.1)
-rename_plain setup t (Some p) name true (Err r) old new a = ((record { dead = a.0.0.dead; other = a.0.0.other; cause = a.0.0.cause }, ap pools.without_budgets a.0.1), a.1)
+rename_plain setup t (Some p) name true (Ok u) old new a = ((a.0.0, ap pools.without_budgets a.0.1), kept_plain old new a.1)
+rename_plain setup t (Some p) name true (Err r) old new a = ((record { dead = a.0.0.dead; other = a.0.0.other; cause = a.0.0.cause }, ap pools.without_budgets a.0.1), kept_plain old new a.1)
 rename_plain setup t (Some p) name false (Ok u) old new a = absurd a.0
-rename_plain setup t (Some p) name false (Err r) old new a = ((a.0.0, a.0.1, ap pools.without_budgets a.0.2), a.1)
+rename_plain setup t (Some p) name false (Err r) old new a = ((a.0.0, a.0.1, ap pools.without_budgets a.0.2), kept_plain old new a.1)
 
 read_plain : (setup : Setup) (r : Allocation) (bytes : Option (List ℕ)) (s : ModelState) → IsRead setup r s bytes → IsRead setup r (without_budgets s) bytes
 read_plain setup r None s is = is
@@ -107,7 +110,7 @@ pub step_plain : (setup : Setup) (call : Call) (o : CallEnvironment) (x : Reply)
 step_plain setup (Allocate d) o x old new none a = allocate_plain setup d (is_valid d) o x old new none a
 step_plain setup (Free f) o x old new none a = (a.0, a.1, a.2, free_plain setup f.memory_type_index (piece_of f) a.1 old new a.3)
 step_plain setup (Rename f name) o x old new none a = (a.0, a.1, a.2, rename_plain setup f.memory_type_index (piece_of f) name o.first.host a.1 old new a.3)
-step_plain setup (Write w ws) o x old new none a = (a.0, a.1, record { live = a.2.live; slots = a.2.slots; budgets = refl; writes = a.2.writes })
+step_plain setup (Write w ws) o x old new none a = (a.0, a.1, record { live = a.2.live; slots = a.2.slots; budgets = refl; history = a.2.history; writes = a.2.writes })
 step_plain setup (Read r) o x old new none a = (a.0, a.1, a.2, read_plain setup r a.1 old a.3, ap without_budgets a.4)
 step_plain setup Capacity o x old new none a = (a.0, a.1, ap without_budgets a.2)
 step_plain setup Report o x old new none a = (a.0, a.1, a.2, a.3, ap without_budgets a.4)

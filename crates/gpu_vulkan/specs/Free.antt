@@ -2,6 +2,7 @@
 use Rattle.std.specs.Prelude.{◌≡◌, ℕ, List, IsTrue, Option, Some, None, Result, Ok, Err}
 use Rattle.std.specs.FinMap.{remove}
 use Rattle.std.specs.List.{slice_set}
+use Rattle.std.specs.Option.{is_some}
 use Rattle.gpu_values.specs.Refusal.{refusal_of}
 use Rattle.gpu_slots.specs.TypeRelease.{has_several, ReleasesPiece, IsFreeRefusal}
 use Rattle.gpu_slots.specs.TypeState.{Slot, slot_at}
@@ -19,7 +20,7 @@ use Rattle.gpu_vulkan.specs.declared.allocation.Allocation.{Allocation}
 -- the device after the memory of a block went back, once: it holds all else as before, and was asked nothing
 pub record IsWithout {D : Type 0} (g : Ghosts D) (old : D) (memory : DeviceMemory) (new : D) : Type 0 where
   pub held : g.held new ≡ remove (g.held old) memory.0
-  pub history : g.history new ≡ free_recorded (bytes_of (g.held old) memory.0) memory (g.history old)
+  pub history : g.history new ≡ free_recorded (is_some (bytes_of (g.held old) memory.0)) memory (g.history old)
   pub count : g.refused new ≡ g.refused old
   pub latest : g.latest new ≡ g.latest old
   pub constant : g.properties new ≡ g.properties old

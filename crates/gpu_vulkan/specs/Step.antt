@@ -9,11 +9,12 @@ use Rattle.gpu_values.specs.declared.report.AllocatorReport.{AllocatorReport}
 use Rattle.gpu_values.specs.declared.error.AllocationError.{AllocationError}
 use Rattle.gpu_slots.specs.declared.piece.Piece.{Piece}
 use Rattle.gpu_device.specs.declared.vulkan.device.VulkanDevice.{Ghosts}
+use Rattle.gpu_device.specs.declared.vulkan.event.Event.{Event}
 use Rattle.gpu_device.specs.declared.vulkan.types.DeviceMemory.{DeviceMemory}
 use Rattle.gpu_device.specs.declared.vulkan.types.MemoryAllocateInfo.{MemoryAllocateInfo}
 use Rattle.gpu_vulkan.specs.Allocate.{Attempts, next_type, is_valid}
 use Rattle.gpu_vulkan.specs.Attempt.{AttemptEnvironment, Asked, Answer, unseen, AnyBlockBack}
-use Rattle.gpu_vulkan.specs.BlockAnswer.{BlockAnswer, Declined, Granted, Mapped, NotMapped, refused_after}
+use Rattle.gpu_vulkan.specs.BlockAnswer.{BlockAnswer, Declined, Granted, Mapped, NotMapped, refused_after, question_recorded, free_recorded}
 use Rattle.gpu_vulkan_setup.specs.Types.{is_mapped}
 use Rattle.gpu_vulkan.specs.Blocks.{Slots}
 use Rattle.gpu_memory_types.specs.Blocks.{total_capacity}
@@ -39,14 +40,15 @@ use Rattle.gpu_values.specs.Report as reports
 use Rattle.gpu_vulkan.specs.Reply as replies
 use Rattle.gpu_vulkan.specs.Reply.{Reply, Given, Error, Done, Bytes, done_with, report_with, leaks_with}
 
--- the blocks with their pieces, the budgets of memory types, and the bytes
+-- the blocks with their pieces, the budgets of memory types, the bytes, and all that the device was asked and given back, newest first
 pub record ModelState : Type 0 where
   pub slots : Slots
   pub budgets : Budgets
   pub byte_view : ByteView
+  pub history : List Event
 
 abbrev pub model_of : {D : Type 0} → Ghosts D → State D → ModelState
-model_of g s = record { slots = s.slots; budgets = s.budgets; byte_view = byte_view_of (g.held s.device) s.slots }
+model_of g s = record { slots = s.slots; budgets = s.budgets; byte_view = byte_view_of (g.held s.device) s.slots; history = g.history s.device }
 
 pub data Call : Type 0 where
   Allocate : (d : AllocationCreateDesc) → Call
@@ -91,10 +93,16 @@ BytesAfter mapped t None (Ok p) old new = TakesOut mapped (id_in t p) p.offset p
 BytesAfter mapped t (Some a) (Ok p) old new =
     (mid : ByteView) × AddsBlock t p.slot (answer_bytes a.answer) old mid × TakesOut mapped (id_in t p) p.offset p.size mid new
 
+-- what the history has more after an attempt: its question, where it asked one
+abbrev pub asked_recorded : Option Asked → List Event → List Event
+asked_recorded None before = before
+asked_recorded (Some a) before = question_recorded a.info a.answer before
+
 pub record AttemptStep (setup : Setup) (t : ℕ) (d : AllocationCreateDesc) (o : AttemptEnvironment) (answer : Answer) (old new : ModelState) : Type 0 where
   pub slots : Attempts setup old.budgets old.slots t d o answer new.slots
   pub budgets : new.budgets ≡ old.budgets
   pub bytes : BytesAfter (is_mapped setup.properties t) t o.asked answer old.byte_view new.byte_view
+  pub recorded : new.history ≡ asked_recorded o.asked old.history
 
 abbrev pub reply_of : (t : ℕ) → Answer → Reply
 reply_of t (Ok p) = Given t p
@@ -140,6 +148,11 @@ abbrev pub MayDrop : (t i : ℕ) → Option DeviceMemory → ByteView → ByteVi
 MayDrop t i None mid new = new ≡ mid
 MayDrop t i (Some memory) mid new = DropsBlock t i mid new
 
+-- what the history has more then: the memory of the block that goes, once
+abbrev pub went_recorded : (mapped : Bool) → Option DeviceMemory → List Event → List Event
+went_recorded mapped None before = before
+went_recorded mapped (Some memory) before = free_recorded mapped memory before
+
 -- a live piece is freed, and its list goes back into the rest
 pub record FreedStep (setup : Setup) (t : ℕ) (p : Piece DeviceMemory) (old new : ModelState) : Type 0 where
   pub live : IsLiveIn old.slots t (Some p)
@@ -147,6 +160,7 @@ pub record FreedStep (setup : Setup) (t : ℕ) (p : Piece DeviceMemory) (old new
   pub mid : ByteView
   pub back : PutsBack (id_in t p) p.offset p.size old.byte_view mid
   pub drops : MayDrop t p.slot frees.went mid new.byte_view
+  pub recorded : new.history ≡ went_recorded (is_mapped setup.properties t) frees.went old.history
 
 -- a null allocation is nothing to free, and of a piece that isn't live nothing changes
 abbrev pub FreeStep : Setup → (t : ℕ) → Option (Piece DeviceMemory) → Result (Unit {0}) Refusal → ModelState → ModelState → Type 0
@@ -166,11 +180,16 @@ abbrev pub host_met : (host : Bool) → Environment DeviceMemory
 host_met true = NothingMet
 host_met false = NoHostMemory
 
+-- no byte changes, and the device is asked nothing and given nothing back
+pub record KeepsTheRest (old new : ModelState) : Type 0 where
+  pub byte_view : new.byte_view ≡ old.byte_view
+  pub history : new.history ≡ old.history
+
 -- a live piece's record has another name, or the null allocation has no record; no byte changes
 abbrev pub RenameStep : Setup → (t : ℕ) → Option (Piece DeviceMemory) → (name : List ℕ) → (host : Bool) → Result (Unit {0}) Refusal → ModelState → ModelState → Type 0
 RenameStep setup t None name host answer old new = Makes tt (host_met host) answer × (new ≡ old)
 RenameStep setup t (Some p) name host answer old new =
-    RenamesBy is_same_memory t p name (pool_in setup old) (host_met host) answer (pool_in setup new) × (new.byte_view ≡ old.byte_view)
+    RenamesBy is_same_memory t p name (pool_in setup old) (host_met host) answer (pool_in setup new) × KeepsTheRest old new
 
 -- ---- bytes
 
@@ -181,6 +200,7 @@ pub record WriteStep (setup : Setup) (a : Allocation) (bytes : List ℕ) (old ne
   pub live : IsMapped setup.properties old.slots a
   pub slots : new.slots ≡ old.slots
   pub budgets : new.budgets ≡ old.budgets
+  pub history : new.history ≡ old.history
   pub writes : Writes (id_of a) bytes old.byte_view new.byte_view
 
 -- a live allocation in mapped memory reads as its list, and any other has no bytes
@@ -204,7 +224,7 @@ Step setup Report o reply old new =
 Step setup Leaks o reply old new =
     AsksNothing o × (answer : Result (List (List ℕ)) Refusal) × (reply ≡ leaks_with answer) × Makes (map leak_text (all_leaks old.slots)) (host_met o.first.host) answer × (new ≡ old)
 Step setup (SetBudget t budget) o reply old new =
-    MeetsNothing o × (answer : Result (Unit {0}) Refusal) × (reply ≡ done_with answer) × SetsBudgetOf t budget (pool_in setup old) answer (pool_in setup new) × (new.byte_view ≡ old.byte_view)
+    MeetsNothing o × (answer : Result (Unit {0}) Refusal) × (reply ≡ done_with answer) × SetsBudgetOf t budget (pool_in setup old) answer (pool_in setup new) × KeepsTheRest old new
 Step setup (Budget t) o reply old new = MeetsNothing o × (reply ≡ replies.Budget (budget_at old.budgets t)) × (new ≡ old)
 
 -- ---- over a device

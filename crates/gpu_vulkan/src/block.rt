@@ -2,6 +2,7 @@
 
 ghost use Rattle.std.specs.Prelude.{◌≡◌, ℕ, ℤ, true, List, ◌∷◌, length, Option, None, Ok, IfErr, OnErr, OnOk};
 ghost use Rattle.std.specs.FinMap.{remove};
+ghost use Rattle.std.specs.Option.{is_some};
 ghost use Rattle.gpu_values.specs.Refusal.{refusal_of};
 ghost use Rattle.gpu_device.specs.Held.{IsUnmapped, size_of, bytes_of, mapped_with, raised};
 ghost use Rattle.gpu_device.specs.declared.vulkan.event.Event.TheVariants.{AskedMapping, Freed};
@@ -100,7 +101,7 @@ pub fn free_block_memory<D: VulkanDevice>(device: &mut D, memory: DeviceMemory)
     ensures gives_back { D.held device.new ≡ remove (D.held device.old) memory.0 }
     ensures counts_nothing { D.refused device.new ≡ D.refused device.old }
     ensures names_no_question { D.latest device.new ≡ D.latest device.old }
-    ensures recorded { D.history device.new ≡ free_recorded (bytes_of (D.held device.old) memory.0) memory (D.history device.old) }
+    ensures recorded { D.history device.new ≡ free_recorded (is_some (bytes_of (D.held device.old) memory.0)) memory (D.history device.old) }
     ensures constant { D.properties device.new ≡ D.properties device.old }
 {
     if device.bytes(memory, 0, 0).is_some() {

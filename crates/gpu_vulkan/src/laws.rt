@@ -26,11 +26,11 @@ pub fn one_step()
 
 /// Bytes decide nothing but bytes: from two states with the same blocks and budgets, calls that differ at most in the bytes of a
 /// write, and that meet with answers that differ at most in the bytes of newly mapped blocks, get the same reply but for the bytes
-/// of a read, and leave the same blocks and budgets.
+/// of a read, and leave the same blocks and budgets; and where the device was asked and given back the same before, it was after.
 pub fn bytes_decide_nothing()
     ensures { (setup : Setup) (call other : Call) (met meets : CallEnvironment) (a b : Reply) (old new twin next : ModelState) → BlocksWellFormed setup.properties.granularity old.slots
         → old.slots ≡ twin.slots → old.budgets ≡ twin.budgets → EqualButBytesCallEnvironment met meets → EqualButBytesCall call other → Step setup call met a old new → Step setup other meets b twin next
-        → EqualButBytesReply a b × (new.slots ≡ next.slots) × (new.budgets ≡ next.budgets) }
+        → EqualButBytesReply a b × (new.slots ≡ next.slots) × (new.budgets ≡ next.budgets) × (old.history ≡ twin.history → new.history ≡ next.history) }
 {}
 
 /// Budgets of memory types that aren't asked decide nothing: a call that asks no memory type with a budget answers and steps

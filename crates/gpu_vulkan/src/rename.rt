@@ -6,7 +6,7 @@ ghost use Rattle.gpu_values.specs.Refusal.{refusal_of};
 ghost use Rattle.gpu_memory_types.specs.Blocks.{slots_at};
 ghost use Rattle.gpu_memory_types.specs.Rename.{IsNotNamed, IsRenamed};
 ghost use Rattle.gpu_vulkan.specs.Live.{is_same_memory, IsLiveIn};
-ghost use Rattle.gpu_vulkan.specs.Rename.{Renames};
+ghost use Rattle.gpu_vulkan.specs.Rename.{Renames, StayLive};
 
 use crate::Allocation;
 use crate::source::VulkanBlocks;
@@ -55,6 +55,7 @@ fn rename_piece<D: VulkanDevice>(
     ensures renamed { OnOk result (IsRenamed is_same_memory index piece.now name.now pool.old.slots pool.new.slots) }
     ensures cause { IfErr result (λ e. IsNotNamed is_same_memory (slots_at pool.old.slots index) piece.now (refusal_of e)) }
     ensures refused { OnErr result (pool.new.slots ≡ pool.old.slots) }
+    ensures keeps { StayLive pool.old.slots pool.new.slots }
     ensures others { pool.new ≡ record pool.old { slots = pool.new.slots } }
 {
     let own = name_for(alloc, pool, index, piece, name)?;
@@ -73,6 +74,7 @@ pub fn rename<D: VulkanDevice>(
     name: &str,
 ) -> Result<()>
     ensures renames { Renames allocation.old name.now pool.old.slots result allocation.new pool.new.slots }
+    ensures live { StayLive pool.old.slots pool.new.slots }
     ensures others { pool.new ≡ record pool.old { slots = pool.new.slots } }
 {
     let own = match allocation.piece() {

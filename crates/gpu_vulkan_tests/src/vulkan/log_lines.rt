@@ -77,29 +77,29 @@ fn script<L: Log>(log: &L, a: &mut Allocator<SimVulkan>) -> Outcome {
     Ok(())
 }
 
-/// The lines of the script, and of the allocator's making and end.
+/// The lines of the script, and of the allocator's making and end, in a log without a target of its own.
 fn lines_of(alloc: Global, settings: AllocatorDebugSettings) -> std::result::Result<Lines, Fail> {
     let sink = Memory::new(alloc);
-    let mut a = logging(alloc, &sink.with_target("gpu"), settings)?;
-    let done = script(&sink.with_target("gpu"), &mut a);
-    let _ = a.destroy(&sink.with_target("gpu"));
+    let mut a = logging(alloc, &sink, settings)?;
+    let done = script(&sink, &mut a);
+    let _ = a.destroy(&sink);
     done?;
     Ok(sink.into_lines())
 }
 
 #[test]
 fn all_is_logged_in_order(rt: HostRuntime) -> Outcome {
-    let leak = format!(in rt.alloc(); "[WARN  gpu] {SECOND}")?;
+    let leak = format!(in rt.alloc(); "[WARN  gpu_allocator::vulkan] {SECOND}")?;
     let want = [
-        "[DEBUG gpu] memory type count: 1",
-        "[DEBUG gpu] memory heap count: 1",
-        "[DEBUG gpu] memory type[0]: prop flags: 0x6, heap[0]",
-        "[DEBUG gpu] heap[0] flags: 0x0, size: 1024 MiB",
-        "[DEBUG gpu] Allocating `a` of 100 bytes with an alignment of 1.",
-        "[DEBUG gpu] Allocating `b` of 64 bytes with an alignment of 256.",
-        "[DEBUG gpu] Allocating `c` of 0 bytes with an alignment of 3.",
-        "[DEBUG gpu] Freeing `a`.",
-        "[DEBUG gpu] Freeing `<null>`.",
+        "[DEBUG gpu_allocator::vulkan] memory type count: 1",
+        "[DEBUG gpu_allocator::vulkan] memory heap count: 1",
+        "[DEBUG gpu_allocator::vulkan] memory type[0]: prop flags: 0x6, heap[0]",
+        "[DEBUG gpu_allocator::vulkan] heap[0] flags: 0x0, size: 1024 MiB",
+        "[DEBUG gpu_allocator::vulkan] Allocating `a` of 100 bytes with an alignment of 1.",
+        "[DEBUG gpu_allocator::vulkan] Allocating `b` of 64 bytes with an alignment of 256.",
+        "[DEBUG gpu_allocator::vulkan] Allocating `c` of 0 bytes with an alignment of 3.",
+        "[DEBUG gpu_allocator::vulkan] Freeing `a`.",
+        "[DEBUG gpu_allocator::vulkan] Freeing `<null>`.",
         leak.as_str(),
     ];
     check_lines(&rt, &lines_of(rt.alloc(), ALL)?, &want);
@@ -114,7 +114,7 @@ fn without_settings_nothing_is_logged(rt: HostRuntime) -> Outcome {
 
 #[test]
 fn by_default_leaks_alone_are_logged(rt: HostRuntime) -> Outcome {
-    let leak = format!(in rt.alloc(); "[WARN  gpu] {SECOND}")?;
+    let leak = format!(in rt.alloc(); "[WARN  gpu_allocator::vulkan] {SECOND}")?;
     let lines = lines_of(rt.alloc(), AllocatorDebugSettings::default())?;
     check_lines(&rt, &lines, &[leak.as_str()]);
     Ok(())

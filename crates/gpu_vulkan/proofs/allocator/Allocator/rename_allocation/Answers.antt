@@ -3,7 +3,6 @@ use Rattle.gpu_vulkan.specs.Live.{IsLive}
 use Rattle.gpu_vulkan.specs.State.{State, state_of, Pool}
 use Rattle.gpu_vulkan.specs.Step.{IsStep, Rename, done_as}
 use Rattle.gpu_vulkan.proofs.Named.{rename_step}
-use Rattle.gpu_vulkan.proofs.Naming.{renamed_lives}
 use Rattle.gpu_vulkan.proofs.allocator.Allocator.rename_allocation.Goals as goal
 
 pub returns-clause-step : goal.returns-clause-step
@@ -16,6 +15,4 @@ returns-clause-step g c =
     c.rename.new.allocation c.args.name.now c.rename.result c.rename.ensures.renames)
 
 pub returns-clause-live : goal.returns-clause-live
-returns-clause-live g c = λ x live.
-    let before : IsLive c.self.inside.pool.slots x = subst (λ (s : State g.row.D.Denot). IsLive s.slots x) (sym c.self.view_is) live in
-    renamed_lives c.args.allocation.now c.args.name.now c.self.inside.pool.slots c.rename.result c.rename.new.allocation c.rename.new.pool.slots c.rename.ensures.renames x before
+returns-clause-live g c = λ x live. c.rename.ensures.live x (subst (λ (s : State g.row.D.Denot). IsLive s.slots x) (sym c.self.view_is) live)
