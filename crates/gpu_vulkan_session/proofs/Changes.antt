@@ -17,6 +17,7 @@ use Rattle.gpu_vulkan.specs.Step.{ModelState, CallEnvironment, Step, Allocate, F
 use Rattle.gpu_vulkan.specs.Step.{id_in, id_of, BytesAfter, AttemptStep, Follows, next_by, FoundStep, AllocateStep, MayDrop, FreeStep, RenameStep, reply_of}
 use Rattle.gpu_vulkan.specs.declared.allocation.Allocation.{Allocation}
 use Rattle.gpu_vulkan_setup.specs.declared.describe.AllocationCreateDesc.{AllocationCreateDesc}
+use Rattle.gpu_vulkan.proofs.OneStep.{rename_rest}
 
 -- a place of a live piece comes in, with a list of that size where its memory is mapped
 pub record Gained (mapped : Bool) (q : AllocationId) (size : ℕ) (old new : ByteView) : Type 0 where
@@ -170,14 +171,9 @@ lost setup a o p old new step is =
 
 -- ---- what changes no byte
 
-renamed_bytes : (setup : Setup) (t : ℕ) (p : Option (Piece DeviceMemory)) (name : List ℕ) (host : Bool) (x : Result (Unit {0}) Refusal) (old new : ModelState)
-    → RenameStep setup t p name host x old new → new.byte_view ≡ old.byte_view
-renamed_bytes setup t None name host x old new h = ap (λ s. s.byte_view) h.1
-renamed_bytes setup t (Some p) name host x old new h = h.1
-
 pub named_bytes : (setup : Setup) (a : Allocation) (name : List ℕ) (o : CallEnvironment) (reply : answers.Reply) (old new : ModelState) → Step setup (Rename a name) o reply old new → new.byte_view ≡
     old.byte_view
-named_bytes setup a name o reply old new h = renamed_bytes setup a.memory_type_index (piece_of a) name o.first.host h.1 old new h.3
+named_bytes setup a name o reply old new h = (rename_rest setup a.memory_type_index (piece_of a) name o.first.host h.1 old new h.3).byte_view
 
 pub shown_same : (setup : Setup) (o : CallEnvironment) (reply : answers.Reply) (old new : ModelState) → Step setup Report o reply old new → new ≡ old
 shown_same setup o reply old new h = h.4
@@ -190,4 +186,4 @@ summed_same setup o reply old new h = h.2
 
 pub budget_set_bytes : (setup : Setup) (t : ℕ) (budget : Option ℕ) (o : CallEnvironment) (reply : answers.Reply) (old new : ModelState)
     → Step setup (SetBudget t budget) o reply old new → new.byte_view ≡ old.byte_view
-budget_set_bytes setup t budget o reply old new h = h.4
+budget_set_bytes setup t budget o reply old new h = h.4.byte_view

@@ -4,6 +4,8 @@ ghost use Rattle.std.specs.Prelude.{◌≡◌, ◌≢◌, ◌≤◌, ◌<◌, �
 ghost use Rattle.std.specs.Map.{lookup};
 ghost use Rattle.std.specs.HashMap.{spare};
 ghost use Rattle.gpu_values.specs.declared.error.AllocationError.TheVariants.{HostOutOfMemory};
+ghost use Rattle.gpu_pool.specs.Handles.{all_handles};
+ghost use Rattle.gpu_vulkan.specs.BlockAnswer.{frees_recorded};
 ghost use Rattle.gpu_vulkan.specs.Blocks.{HoldsJustLiveBlocks};
 ghost use Rattle.gpu_vulkan_session.specs.Command as commands;
 ghost use Rattle.gpu_vulkan_session.specs.Reply as replies;
@@ -109,6 +111,9 @@ impl<D: VulkanDevice> Session<D> {
         ensures held { D.held result ≡ D.held self.allocator.first }
         ensures counts_nothing { D.refused result ≡ D.refused self.allocator.device }
         ensures names_no_question { D.latest result ≡ D.latest self.allocator.device }
+        // each memory goes back once, unmapped before where it is mapped: by memory type, then by slot
+        ensures recorded { D.history result ≡ frees_recorded (D.held self.allocator.device) (all_handles self.allocator.slots)
+            (D.history self.allocator.device) }
         ensures constant { D.properties result ≡ D.properties self.allocator.first }
     {
         let Session {
