@@ -8,6 +8,8 @@ use Rattle.gpu_values.specs.declared.allocator_debug_settings.AllocatorDebugSett
 use Rattle.gpu_device.specs.declared.vulkan.device.VulkanDevice.{Ghosts}
 use Rattle.gpu_sim.specs.Simulation.{held_of, properties_of, plan_of, history_of, refused_of, latest_of, written_sim}
 use Rattle.gpu_sim.specs.declared.sim_vulkan.SimVulkan.{SimVulkan}
+use Rattle.gpu_pool.specs.Handles.{all_handles}
+use Rattle.gpu_vulkan.specs.BlockAnswer.{frees_recorded}
 use Rattle.gpu_vulkan.specs.Blocks.{HoldsJustLiveBlocks}
 use Rattle.gpu_vulkan_setup.specs.Setup.{setup_fault}
 use Rattle.gpu_vulkan_session.specs.Command as session_commands
@@ -60,6 +62,7 @@ pub record IsFresh (c : Configured) (s : SessionValue SimVulkan) : Type 0 where
   pub holds_nothing : held_of s.allocator.first ≡ empty
   pub refused_nothing : refused_of s.allocator.first ≡ 0
   pub not_asked : latest_of s.allocator.first ≡ None
+  pub recorded_nothing : history_of s.allocator.first ≡ []
 
 -- the allocator is made, or refused by the named cause
 abbrev pub Begins : Configured → device_replies.Reply → Stage → Type 0
@@ -76,10 +79,11 @@ abbrev pub Ends : SessionValue SimVulkan → device_replies.Reply → Stage → 
 Ends s (Held count) Closed = count ≡ map_len (held_of s.allocator.first)
 Ends s _ _ = ⊥
 
--- an allocator that is still there has given every block back, and its device was asked for nothing more
+-- an allocator that is still there has given every block back, each memory once, and its device was asked for nothing more
 abbrev pub Ended : Stage → Option SimVulkan → Type 0
 Ended (Device s) (Some device) = (held_of device ≡ held_of s.allocator.first)
     × (refused_of device ≡ refused_of s.allocator.device) × (latest_of device ≡ latest_of s.allocator.device)
+    × (history_of device ≡ frees_recorded (held_of s.allocator.device) (all_handles s.allocator.slots) (history_of s.allocator.device))
 Ended (Device s) None = ⊥
 Ended _ (Some device) = ⊥
 Ended _ None = Unit {0}

@@ -44,9 +44,9 @@ fn sizes_of(device: u64, host: u64, max_device: u64, max_host: u64) -> Allocatio
 }
 
 impl Configuration {
-    ghost use Rattle.std.specs.Prelude.{◌≡◌, IfOk, OnErr, Some, None, true, false};
+    ghost use Rattle.std.specs.Prelude.{◌≡◌, [], IfOk, OnErr, Some, None, true, false};
     ghost use Rattle.std.specs.FinMap.{empty};
-    ghost use Rattle.gpu_sim.specs.Simulation.{held_of, plan_of, refused_of, latest_of};
+    ghost use Rattle.gpu_sim.specs.Simulation.{held_of, plan_of, history_of, refused_of, latest_of};
     ghost use Rattle.gpu_trace_run.specs.Configuration.{nothing_configured, configured_by, plan_by, sizes_by};
 
     /// Nothing is configured.
@@ -108,6 +108,7 @@ impl Configuration {
         ensures held { held_of result ≡ empty }
         ensures refused { refused_of result ≡ 0 }
         ensures latest { latest_of result ≡ None }
+        ensures history { history_of result ≡ [] }
     {
         let Configuration {
             heaps,
