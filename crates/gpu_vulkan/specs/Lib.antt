@@ -1,6 +1,7 @@
 pub mod BlockAnswer
 pub mod Source
 pub mod RangeLends
+pub mod SlabLends
 pub mod Blocks
 pub mod Live
 pub mod Attempt

@@ -1,6 +1,6 @@
 //! The allocator: blocks of device memory by memory type, and the calls that share them out.
 
-ghost use Rattle.std.specs.Prelude.{◌≡◌, ◌↔◌, [], All, map, string_bytes, Some, None, IfOk, IfErr, OnOk, IsSome, IfSome, IsTrue, List, ℕ, length, option_copied, ◌%◌, ◌<◌, IsOk};
+ghost use Rattle.std.specs.Prelude.{◌≡◌, ◌↔◌, [], All, map, string_bytes, Some, None, IfOk, IfErr, OnOk, IsSome, IfSome, OnSome, IsTrue, List, ℕ, length, option_copied, ◌%◌, ◌<◌, IsOk};
 ghost use Rattle.std.specs.Option.{unwrap_or};
 ghost use Rattle.gpu_values.specs.Refusal.{refusal_of, refusal_in, host_out_of_memory};
 ghost use Rattle.gpu_vulkan_setup.specs.Setup.{setup_fault};
@@ -59,7 +59,8 @@ impl<D: VulkanDevice> Model for Allocator<D> {
 }
 
 impl<D: VulkanDevice> Allocator<D> {
-    ghost use Rattle.gpu_vulkan.specs.Lends.{lends_piece, written_at, ChangesOnly};
+    ghost use Rattle.gpu_vulkan.specs.Lends.{lends_piece, lends_piece_if, written_at, ChangesOnly};
+    ghost use Rattle.gpu_vulkan.specs.SlabLends.{lends_slab_if};
 
     /// An allocator without blocks and without budgets, which owns the device. Where it can't be made, the device comes back
     /// as it was, beside the error: `InvalidAllocatorCreateDesc` for the first that holds of a null physical device, a
@@ -265,32 +266,59 @@ impl<D: VulkanDevice> Allocator<D> {
         pool.source.range_mut(allocation.device_memory, allocation.offset, allocation.size)
     }
 
-    /// Lends the same bytes to be written where the allocation is live and in mapped memory; else `None`. It takes no memory.
-    /// What a write leaves is promised of `slice_mut` alone.
+    // The allocator's own reference, handed back, and whether the allocation is live and mapped. The proofs of the next two calls
+    // are written by hand: with this they name one call before they lend, and share nothing.
+    fn with_mapped_found(&mut self, allocation: &Allocation) -> (&mut Self, bool)
+        ensures same_reference { result.0.ghost_name ≡ self.entry.ghost_name }
+        ensures unchanged { result.0.now ≡ self.old }
+        ensures found { IsTrue result.1 ↔ IsMapped self.old.setup.properties self.old.slots allocation.now }
+    {
+        let found = self.mapped_slice(allocation).is_some();
+        (self, found)
+    }
+
+    /// Lends the same bytes to be written where the allocation is live and in mapped memory; else `None`, and the allocator
+    /// stays as it is. It takes no memory.
     pub fn mapped_slice_mut(&mut self, allocation: &Allocation) -> Option<&mut [u8]>
+        // once the slice has ended, what it then holds stands at the allocation's place; at None nothing has changed
+        ensures* lends { sem 𝓛 (lends_piece_if D.row D.VulkanDevice self.entry allocation.now result) }
         ensures mapped { IsSome result ↔ IsMapped self.old.setup.properties self.old.slots allocation.now }
         ensures value { IfSome result (λ s. bytes_at (D.held self.old.device) allocation.now ≡ Some s.now) }
         ensures len { IfSome result (λ s. length s.now ≡ allocation.now.size) }
+        ensures isolated { OnSome result ((ws : List ℕ) → length ws ≡ allocation.now.size
+            → ChangesOnly D.VulkanDevice self.old allocation.now ws (written_at D.VulkanDevice self.old allocation.now ws)) }
+        ensures step { OnSome result ((ws : List ℕ) → length ws ≡ allocation.now.size
+            → IsStep D.VulkanDevice (Write allocation.now ws) Done self.old (written_at D.VulkanDevice self.old allocation.now ws)) }
     {
-        if self.mapped_slice(allocation).is_some() {
-            Some(self.slice_mut(allocation))
+        let (allocator, found) = self.with_mapped_found(allocation);
+        if found {
+            Some(allocator.slice_mut(allocation))
         } else {
             None
         }
     }
 
-    /// The same as a slab: `None` where the allocation is null, isn't live or isn't mapped. It takes no memory.
+    /// The same as a slab: `None` where the allocation is null, isn't live or isn't mapped, and then the allocator stays as it
+    /// is. It takes no memory.
     pub fn try_as_mapped_slab(
         &mut self,
         allocation: &Allocation,
     ) -> Option<MappedAllocationSlab<'_>>
+        // once the slab's bytes are let go, what they then hold stands at the allocation's place; at None nothing has changed
+        ensures* lends { sem 𝓛 (lends_slab_if D.row D.VulkanDevice self.entry allocation.now result) }
         ensures mapped { IsSome result ↔ IsMapped self.old.setup.properties self.old.slots allocation.now }
         ensures value { IfSome result (λ s. bytes_at (D.held self.old.device) allocation.now ≡ Some s.bytes.now) }
         ensures len { IfSome result (λ s. length s.bytes.now ≡ allocation.now.size) }
+        ensures isolated { OnSome result ((ws : List ℕ) → length ws ≡ allocation.now.size
+            → ChangesOnly D.VulkanDevice self.old allocation.now ws (written_at D.VulkanDevice self.old allocation.now ws)) }
+        ensures step { OnSome result ((ws : List ℕ) → length ws ≡ allocation.now.size
+            → IsStep D.VulkanDevice (Write allocation.now ws) Done self.old (written_at D.VulkanDevice self.old allocation.now ws)) }
     {
-        if self.mapped_slice(allocation).is_some() {
-            let bytes = self.slice_mut(allocation);
-            Some(MappedAllocationSlab { bytes })
+        let (allocator, found) = self.with_mapped_found(allocation);
+        if found {
+            Some(MappedAllocationSlab {
+                bytes: allocator.slice_mut(allocation),
+            })
         } else {
             None
         }

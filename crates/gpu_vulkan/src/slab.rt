@@ -1,6 +1,7 @@
 //! The bytes of a mapped allocation, lent.
 
 ghost use Rattle.std.specs.Prelude.{◌≡◌, length};
+ghost use Rattle.std.specs.Borrow.{sem};
 
 /// The bytes of a mapped allocation, lent to be read and written. Offsets in it begin at the allocation's.
 #[derive(Drop)]
@@ -9,6 +10,8 @@ pub struct MappedAllocationSlab<'a> {
 }
 
 impl<'a> MappedAllocationSlab<'a> {
+    ghost use Rattle.gpu_vulkan.specs.SlabLends.{lends_slab};
+
     /// How many bytes there are: the allocation's size.
     pub fn size(&self) -> usize
         ensures { result ≡ length self.now.bytes.now }
@@ -25,7 +28,9 @@ impl<'a> MappedAllocationSlab<'a> {
 
     /// The bytes, to be written.
     pub fn as_mut_slice(&mut self) -> &mut [u8]
-        ensures { result.now ≡ self.old.bytes.now }
+        // once the slice has ended, what it then holds is what the slab's bytes are
+        ensures* lends { sem 𝓛 (lends_slab self.entry result) }
+        ensures value { result.now ≡ self.old.bytes.now }
     {
         &mut *self.bytes
     }

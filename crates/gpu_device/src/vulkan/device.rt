@@ -1,7 +1,7 @@
 //! The device, as a trait with laws.
 
-ghost use Rattle.std.specs.Prelude.{◌≡◌, ◌≢◌, ℕ, ◌^◌, ◌<◌, ◌↔◌, List, ◌∷◌, length, slice_get, Option, Some, None, IsSome, IfSome, IfOk, OnErr, OnOk, true, false, option_copied};
-ghost use Rattle.std.specs.Borrow.{sem, Lends, Array, u8 as byte};
+ghost use Rattle.std.specs.Prelude.{◌≡◌, ◌≢◌, ℕ, ◌^◌, ◌<◌, ◌↔◌, List, ◌∷◌, length, slice_get, Option, Some, None, IsSome, IfSome, IsTrue, IfOk, OnErr, OnOk, true, false, option_copied};
+ghost use Rattle.std.specs.Borrow.{sem, Lends, LendsIf, Array, u8 as byte};
 ghost use Rattle.std.specs.FinMap.{get, insert, remove};
 ghost use Rattle.gpu_device.specs.Properties.{Properties};
 ghost use Rattle.gpu_device.specs.Held.{Held, new_entry, size_of, range_of, IsUnmapped, IsWhole, mapped_with, unmapped, with_range, raised};
@@ -146,13 +146,31 @@ pub trait VulkanDevice {
 
     ghost latest_is: { (d : Self) → latest d ≡ latest_in (history d) };
 
-    /// Lends the bytes of a range to be written, exactly where `bytes` gives it.
+    /// The device's own reference, handed back, and whether `bytes` gives a range. It changes nothing.
+    final fn with_range_found(
+        &mut self,
+        memory: DeviceMemory,
+        start: u64,
+        len: u64,
+    ) -> (&mut Self, bool)
+        ensures same_reference { result.0.ghost_name ≡ self.entry.ghost_name }
+        ensures unchanged { result.0.now ≡ self.old }
+        ensures found { IsTrue result.1 ↔ IsSome (range_of (held self.old) memory.0 start len) }
+    {
+        let found = self.bytes(memory, start, len).is_some();
+        (self, found)
+    }
+
+    /// Lends the bytes of a range to be written, exactly where `bytes` gives it; else the device stays as it is.
     final fn bytes_mut(&mut self, memory: DeviceMemory, start: u64, len: u64) -> Option<&mut [u8]>
+        // once the slice has ended, what it then holds stands in that range; at None nothing has changed
+        ensures* lends { sem 𝓛 (LendsIf Self.row (Array byte 0) self.entry result (written self.old memory.0 start) self.old) }
         ensures inside { IsSome result ↔ IsSome (range_of (held self.old) memory.0 start len) }
         ensures value { IfSome result (λ slice. range_of (held self.old) memory.0 start len ≡ Some slice.now) }
     {
-        if self.bytes(memory, start, len).is_some() {
-            Some(self.range_mut(memory, start, len))
+        let (device, found) = self.with_range_found(memory, start, len);
+        if found {
+            Some(device.range_mut(memory, start, len))
         } else {
             None
         }

@@ -42,9 +42,12 @@ returns g c =
               (own_written s.setup.properties (V.held s.first) (V.held s.device) s.slots sound holds whole a ws c.requires count);
           others = λ b live other. rw (L.write_leaves_others s.device n a.offset ws)
               (others_kept s.setup.properties (V.held s.first) (V.held s.device) s.slots sound holds whole a ws c.requires count b (apart b a live c.requires.0 other));
+          held = L.write_leaves_others s.device n a.offset ws;
           slots = refl;
           setup = refl;
           first = refl;
+          budgets = refl;
+          history = L.write_records_nothing s.device n a.offset ws;
           refused = L.write_counts_nothing s.device n a.offset ws;
           latest = L.write_names_no_question s.device n a.offset ws;
           history = L.write_records_nothing s.device n a.offset ws;
