@@ -1,30 +1,8 @@
 //! Budgets of memory types.
 
-mod refused;
-
 use super::*;
-use gpu_values::{AllocationError, MemoryLocation};
+use gpu_values::AllocationError;
 use std::process::Abort;
-
-/// The size of every block in these rows, in bytes.
-const BLOCK: u64 = 4 * MB;
-
-/// A piece for downloads: it is asked for once.
-fn download(size: u64) -> AllocationCreateDesc<'static> {
-    managed(size, 1, MemoryLocation::GpuToCpu)
-}
-
-/// The number of an error in a trace, as far as these rows meet it; 0 where something was given.
-fn error_of(answer: std::result::Result<Allocation, AllocationError>) -> u64 {
-    match answer {
-        Ok(_) => 0,
-        Err(AllocationError::OutOfMemory) => 1,
-        Err(AllocationError::Internal(_)) => 6,
-        Err(AllocationError::HostOutOfMemory) => 10,
-        Err(AllocationError::BudgetExceeded) => 11,
-        Err(_) => 99,
-    }
-}
 
 fn set(a: &mut Allocator<SimVulkan>, memory_type: usize, budget: Option<u64>) -> Outcome {
     match a.set_budget(memory_type, budget) {

@@ -1,6 +1,6 @@
-//! Every call of the Vulkan allocator, while the host refuses one request for memory. With ample memory the test passes.
-//! Where one request was refused it fails with a text of its own, after all else held: `tools/check_refused` refuses each
-//! in turn, and looks for that text.
+//! Names, reports and leaks of the Vulkan allocator, and the calls that take no memory, while the host refuses one request for
+//! memory. With ample memory the test passes. Where one request was refused it fails with a text of its own, after all else
+//! held: `tools/check_refused` refuses each in turn, and looks for that text.
 
 use super::counting::Counting;
 use super::reports::{FIRST, SECOND, check_block, check_row};
@@ -10,10 +10,10 @@ use log::Level;
 use std::process::Abort;
 
 /// What a run ends with in which one request was refused.
-pub(super) const TOLD: &str = "one call was refused, and nothing was lost";
+const TOLD: &str = "one call was refused, and nothing was lost";
 
 /// Whether the host refused memory: the allocator, or the device, whose code for it is -1.
-pub(super) fn is_want_of_memory(error: &AllocationError) -> bool {
+fn is_want_of_memory(error: &AllocationError) -> bool {
     match error {
         AllocationError::HostOutOfMemory => true,
         AllocationError::Internal(fault) | AllocationError::FailedToMap(fault) => {
@@ -137,77 +137,13 @@ fn look(rt: &impl Abort, a: &mut Allocator<SimVulkan>, x: &Allocation) {
     assert!(rt; a.device().refusals() <= 1);
 }
 
-/// A piece of a shared block, and one that is too large for it.
-fn two_blocks(rt: &impl Abort, a: &mut Allocator<SimVulkan>, refused: &mut u64) -> Outcome {
-    let x = take_again(rt, a, &managed(512, 256, MemoryLocation::GpuToCpu), refused)?;
-    assert!(rt; place(&x) == (0, 0, Some(2)));
-    let y = take_again(rt, a, &managed(5 * MB, 1, MemoryLocation::Unknown), refused)?;
-    assert!(rt; place(&y) == (1, 0, Some(1)));
-    look(rt, a, &x);
-    give(a, x)?;
-    give(a, y)
-}
-
-/// A piece of the shared block that stayed.
-fn block_that_stayed(rt: &impl Abort, a: &mut Allocator<SimVulkan>, refused: &mut u64) -> Outcome {
-    let z = take_again(rt, a, &managed(100, 1, MemoryLocation::GpuToCpu), refused)?;
-    assert!(rt; place(&z) == (0, 0, Some(3)));
-    assert!(rt; a.capacity() == 4 * MB);
-    give(a, z)
-}
-
-fn calls(rt: &impl Abort, a: &mut Allocator<SimVulkan>, refused: &mut u64) -> Outcome {
-    two_blocks(rt, a, refused)?;
-    block_that_stayed(rt, a, refused)?;
-    give(a, Allocation::default())
-}
-
-/// Runs the calls, and tells how many were refused.
-fn run(rt: &impl Abort, mut a: Allocator<SimVulkan>) -> std::result::Result<u64, Fail> {
-    let mut refused = 0;
-    let done = calls(rt, &mut a, &mut refused);
-    let device = a.destroy(&Discard);
-    done?;
-    assert!(rt; device.held() == 0);
-    Ok(refused)
-}
-
 /// How a test ends in which so many calls were refused.
-pub(super) fn ends(refused: u64) -> Outcome {
+fn ends(refused: u64) -> Outcome {
     match refused {
         0 => Ok(()),
         1 => Err(Fail::new(TOLD)),
         _ => Err(Fail::new("more than one call was refused")),
     }
-}
-
-/// An allocator; else the device came back as it was.
-pub(super) fn begin(
-    rt: &impl Abort,
-    alloc: Global,
-    device: SimVulkan,
-) -> Option<Allocator<SimVulkan>> {
-    let sizes = AllocationSizes::new(4 * MB, 4 * MB);
-    match Allocator::new(&Discard, alloc, described(device, sizes)) {
-        Ok(a) => Some(a),
-        Err((error, device)) => {
-            assert!(rt; is_want_of_memory(&error));
-            assert!(rt; device.held() == 0);
-            None
-        }
-    }
-}
-
-#[test]
-fn the_vulkan_allocator_loses_nothing_where_memory_is_refused(rt: HostRuntime) -> Outcome {
-    let properties = one_type(&[(6, 0)], &[1024 * MB]);
-    let Ok(device) = simulated(rt.alloc(), &properties) else {
-        return Err(Fail::new(TOLD));
-    };
-    let Some(a) = begin(&rt, rt.alloc(), device) else {
-        return Err(Fail::new(TOLD));
-    };
-    ends(run(&rt, a)?)
 }
 
 /// A piece for downloads: uploads are asked for again where the device lacks host memory.
@@ -253,6 +189,7 @@ fn names(
     refused: &mut u64,
 ) -> Outcome {
     let (x, _y) = two_renamed(rt, alloc, a, refused)?;
+    look(rt, a, &x);
     check_two(rt, a, refused)?;
     let counting = Counting::new();
     a.report_memory_leaks(&counting, Level::Warn);
