@@ -42,5 +42,4 @@ pub record ChangesOnly {D : Type 0} (g : Ghosts D) (old : State D) (a : Allocati
   pub history : g.history new.device ≡ g.history old.device
   pub refused : g.refused new.device ≡ g.refused old.device
   pub latest : g.latest new.device ≡ g.latest old.device
-  pub history : g.history new.device ≡ g.history old.device
   pub constant : g.properties new.device ≡ g.properties old.device

@@ -50,7 +50,6 @@ returns g c =
           history = L.write_records_nothing s.device n a.offset ws;
           refused = L.write_counts_nothing s.device n a.offset ws;
           latest = L.write_names_no_question s.device n a.offset ws;
-          history = L.write_records_nothing s.device n a.offset ws;
           constant = L.write_constant s.device n a.offset ws;
         };
         step = λ ws count. write_step V (V.held s.first) s sound holds whole a (L.write_leaves_others s.device) (L.write_counts_nothing s.device) (L.write_names_no_question s.device)
