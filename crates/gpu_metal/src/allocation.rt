@@ -1,6 +1,6 @@
 //! A piece of a heap, as its owner holds it.
 
-ghost use Rattle.std.specs.Prelude.{◌≡◌, IsSomeAnd};
+ghost use Rattle.std.specs.Prelude.{◌≡◌, Some, IsSomeAnd};
 
 use gpu_device::metal::MTLHeap;
 use gpu_slots::Piece;
@@ -42,6 +42,27 @@ impl Allocation {
         ensures { result ≡ self.now.offset }
     {
         self.offset
+    }
+
+    /// The index of its memory type.
+    pub fn memory_type_index(&self) -> usize
+        ensures { result ≡ self.now.memory_type_index }
+    {
+        self.memory_type_index
+    }
+
+    /// The slot of its block in its memory type.
+    pub fn memory_block_index(&self) -> usize
+        ensures { result ≡ self.now.memory_block_index }
+    {
+        self.memory_block_index
+    }
+
+    /// The number of the piece in its block. It is always there.
+    pub fn chunk_id(&self) -> Option<NonZeroU64>
+        ensures { result ≡ Some self.now.number }
+    {
+        Some(self.number)
     }
 
     /// The name with which it was asked for. Every allocation has one.

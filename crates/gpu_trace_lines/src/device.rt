@@ -1,6 +1,6 @@
 //! Device traces: configuration lines, commands to an allocator over the simulated device, and the replies.
 
-mod ask;
+pub mod ask;
 pub mod reply;
 pub mod setting;
 

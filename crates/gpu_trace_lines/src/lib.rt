@@ -6,7 +6,7 @@ pub mod device;
 mod hex;
 mod line;
 mod reply;
-mod words;
+pub mod words;
 
-pub use line::{Line, read};
+pub use line::{Line, ascii, read};
 pub use reply::Reply;

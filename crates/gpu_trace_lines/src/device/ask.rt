@@ -15,7 +15,8 @@ use gpu_device::vulkan::{AllocationScheme, Buffer, Image, MemoryRequirements};
 use gpu_values::MemoryLocation;
 use std::alloc::{AllocError, Global};
 
-fn location_of(word: &str) -> Option<MemoryLocation>
+/// The location that a word names.
+pub fn location_of(word: &str) -> Option<MemoryLocation>
     ensures { MatchOption result ((l : MemoryLocation) → word.now ≢ location_word l) (λ l. word.now ≡ location_word l) }
 {
     match word {
@@ -238,7 +239,7 @@ fn capacity(arguments: &[&str]) -> Option<Command>
 }
 
 /// A budget: a number of bytes, or `none`.
-fn budget_of(word: &str) -> Option<Option<u64>>
+pub fn budget_of(word: &str) -> Option<Option<u64>>
     ensures { MatchOption result ((b : Option ℕ) → FitsBudget b → word.now ≢ budget_word b) (λ b. FitsBudget b × (word.now ≡ budget_word b)) }
 {
     if word == "none" {

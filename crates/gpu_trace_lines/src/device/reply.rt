@@ -118,7 +118,11 @@ fn write_blocks<W: fmt::Write>(
     Ok(())
 }
 
-fn write_report<W: fmt::Write>(report: &AllocatorReport, f: &mut fmt::Formatter<W>) -> fmt::Result
+/// A report of an allocator: its pieces and blocks, a line each, and the sums.
+pub fn write_report<W: fmt::Write>(
+    report: &AllocatorReport,
+    f: &mut fmt::Formatter<W>,
+) -> fmt::Result
     ensures { DisplaysOnOk W.write_str_gives f.old result (Some (report_text report.now)) f.new }
 {
     write_pieces(&report.allocations, f)?;

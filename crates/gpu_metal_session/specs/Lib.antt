@@ -1,0 +1,5 @@
+pub mod Command
+pub mod Describe
+pub mod Reply
+pub mod Session
+pub mod Served

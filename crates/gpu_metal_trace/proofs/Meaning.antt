@@ -1,0 +1,49 @@
+-- Which settings and commands a line of words can say.
+use Rattle.std.proofs.Common.{◌≡◌, ◌≢◌, ℕ, ◌<◌, ◌^◌, List, ◌∷◌, get_or}
+use Rattle.std.specs.Borrow.{Bor}
+use Rattle.std.specs.Fmt.{decimal}
+use Rattle.std.specs.Prelude.{codes}
+use Rattle.gpu_device.specs.declared.metal.types.StorageMode.{StorageMode}
+use Rattle.gpu_metal_session.specs.declared.command.Command.{Command}
+use Rattle.gpu_metal_session.specs.declared.command.Command.TheVariants.{Alloc, Buffer, AccelerationStructure, Texture, Free, Heaps, Commit, Report, Capacity, SetBudget}
+use Rattle.gpu_metal_trace.specs.Command as commands
+use Rattle.gpu_metal_trace.specs.Command.{mode_word, FitsMode}
+use Rattle.gpu_trace_lines.specs.Words.{texts}
+use Rattle.gpu_trace_lines.specs.declared.device.setting.Setting.{Setting}
+use Rattle.gpu_trace_lines.specs.declared.device.setting.Setting.TheVariants.{Heap, MemoryType, Granularity, Sizes, Refuse}
+use Rattle.gpu_trace_lines.specs.Setting.{words}
+use Rattle.gpu_metal_trace.specs.Setting.{IsShared}
+
+pub sizes_shared : (s : Setting) (rest : List (List ℕ)) → codes "sizes" ∷ rest ≡ words s → IsShared s
+sizes_shared (Heap size) rest e = cc
+sizes_shared (MemoryType flags heap) rest e = cc
+sizes_shared (Granularity bytes) rest e = cc
+sizes_shared (Sizes device host max_device max_host) rest e = tt
+sizes_shared (Refuse question refusal) rest e = tt
+
+pub refuse_shared : (s : Setting) (rest : List (List ℕ)) → codes "refuse" ∷ rest ≡ words s → IsShared s
+refuse_shared (Heap size) rest e = cc
+refuse_shared (MemoryType flags heap) rest e = cc
+refuse_shared (Granularity bytes) rest e = cc
+refuse_shared (Sizes device host max_device max_host) rest e = tt
+refuse_shared (Refuse question refusal) rest e = tt
+
+-- four words that aren't a texture's stand in no command for one
+pub no_texture : (arguments : List (Bor (List ℕ))) (d : Bor (List ℕ))
+    → ((m : StorageMode) (w h b : ℕ) → FitsMode m → w < 2 ^ 64 → h < 2 ^ 64 → b < 2 ^ 64 → (get_or arguments 1 d).now ≡ mode_word m → (get_or arguments 2 d).now ≡ decimal w
+    → (get_or arguments 3 d).now ≡ decimal h → (get_or arguments 4 d).now ≢ decimal b)
+    → (c : Command) → commands.Spells (codes "texture" ∷ texts arguments) c → ⊥
+no_texture (k ∷ m ∷ w ∷ h ∷ b ∷ rest) d none (Texture key t name) s =
+    let f = s.fits.1 in
+    let is = s.is in
+    none t.storage_mode t.width t.height t.bytes_per_texel f.mode_fits f.width_fits f.height_fits f.bytes_fit (cc) (cc) (cc) (cc)
+no_texture arguments d none (Texture key t name) s = let is = s.is in cc
+no_texture arguments d none (Alloc key size alignment location name) s = let is = s.is in cc
+no_texture arguments d none (Buffer key length location name) s = let is = s.is in cc
+no_texture arguments d none (AccelerationStructure key size location name) s = let is = s.is in cc
+no_texture arguments d none (Free key) s = let is = s.is in cc
+no_texture arguments d none Heaps s = let is = s.is in cc
+no_texture arguments d none Commit s = let is = s.is in cc
+no_texture arguments d none Report s = let is = s.is in cc
+no_texture arguments d none Capacity s = let is = s.is in cc
+no_texture arguments d none (SetBudget t budget) s = let is = s.is in cc

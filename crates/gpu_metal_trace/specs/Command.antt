@@ -1,0 +1,66 @@
+-- What a command of a Metal trace says. Each has one spelling: its words, with decimal numbers and no leading zeros.
+use Rattle.std.specs.Prelude.{◌≡◌, ℕ, ◌<◌, ◌^◌, List, [], ◌∷◌, ◌++◌, Option, Some, None, codes, string_bytes}
+use Rattle.std.specs.Fmt.{decimal}
+use Rattle.gpu_device.specs.declared.metal.types.StorageMode.{StorageMode}
+use Rattle.gpu_device.specs.declared.metal.types.StorageMode.TheVariants.{Shared, Managed, Private, Memoryless, Other}
+use Rattle.gpu_device.specs.declared.metal.types.TextureDescriptor.{TextureDescriptor}
+use Rattle.gpu_metal_session.specs.declared.command.Command.{Command}
+use Rattle.gpu_metal_session.specs.declared.command.Command.TheVariants.{Alloc, Buffer, AccelerationStructure, Texture, Free, Heaps, Commit, Report, Capacity, SetBudget}
+use Rattle.gpu_trace_lines.specs.Ask.{location_word, budget_word, FitsBudget}
+use Rattle.gpu_trace_lines.specs.Words.{IsName}
+
+abbrev pub mode_word : StorageMode → List ℕ
+mode_word Shared = codes "shared"
+mode_word Managed = codes "managed"
+mode_word Private = codes "private"
+mode_word Memoryless = codes "memoryless"
+mode_word (Other mode) = codes "other:" ++ decimal mode
+
+abbrev pub words : Command → List (List ℕ)
+words (Alloc key size alignment location name) = codes "alloc" ∷ decimal key ∷ decimal size ∷ decimal alignment ∷ location_word location ∷ string_bytes name ∷ []
+words (Buffer key length location name) = codes "buffer" ∷ decimal key ∷ decimal length ∷ location_word location ∷ string_bytes name ∷ []
+words (AccelerationStructure key size location name) = codes "structure" ∷ decimal key ∷ decimal size ∷ location_word location ∷ string_bytes name ∷ []
+words (Texture key t name) =
+    codes "texture" ∷ decimal key ∷ mode_word t.storage_mode ∷ decimal t.width ∷ decimal t.height ∷ decimal t.bytes_per_texel ∷ string_bytes name ∷ []
+words (Free key) = codes "free" ∷ decimal key ∷ []
+words Heaps = codes "heaps" ∷ []
+words Commit = codes "commit" ∷ []
+words Report = codes "report" ∷ []
+words Capacity = codes "capacity" ∷ []
+words (SetBudget t budget) = codes "budget" ∷ decimal t ∷ budget_word budget ∷ []
+
+abbrev pub FitsMode : StorageMode → Type 0
+FitsMode Shared = Unit {0}
+FitsMode Managed = Unit {0}
+FitsMode Private = Unit {0}
+FitsMode Memoryless = Unit {0}
+FitsMode (Other mode) = mode < 2 ^ 32
+
+pub record FitsTexture (t : TextureDescriptor) : Type 0 where
+  pub mode_fits : FitsMode t.storage_mode
+  pub width_fits : t.width < 2 ^ 64
+  pub height_fits : t.height < 2 ^ 64
+  pub bytes_fit : t.bytes_per_texel < 2 ^ 64
+
+-- what a command's numbers and names may be
+abbrev pub Fits : Command → Type 0
+Fits (Alloc key size alignment location name) = (key < 2 ^ 64) × (size < 2 ^ 64) × (alignment < 2 ^ 64) × IsName (string_bytes name)
+Fits (Buffer key length location name) = (key < 2 ^ 64) × (length < 2 ^ 64) × IsName (string_bytes name)
+Fits (AccelerationStructure key size location name) = (key < 2 ^ 64) × (size < 2 ^ 64) × IsName (string_bytes name)
+Fits (Texture key t name) = (key < 2 ^ 64) × FitsTexture t × IsName (string_bytes name)
+Fits (Free key) = key < 2 ^ 64
+Fits Heaps = Unit {0}
+Fits Commit = Unit {0}
+Fits Report = Unit {0}
+Fits Capacity = Unit {0}
+Fits (SetBudget t budget) = (t < 2 ^ 64) × FitsBudget budget
+
+-- these words are the command's
+pub record Spells (line : List (List ℕ)) (c : Command) : Type 0 where
+  pub is : line ≡ words c
+  pub fits : Fits c
+
+-- the words are this command's, or no command's
+abbrev pub Says : List (List ℕ) → Option Command → Type 0
+Says line (Some c) = Spells line c
+Says line None = (c : Command) → Spells line c → ⊥

@@ -1,0 +1,11 @@
+//! The run of a trace of any sort, from the bytes in to the bytes out: its lines one after another, each with its reply, up to the
+//! first bad one.
+#![tactic(auto)]
+
+mod outcome;
+mod run;
+mod trace;
+
+pub use outcome::Outcome;
+pub use run::{LIMIT, TraceError, lines_in, read_trace, run_trace};
+pub use trace::Trace;
