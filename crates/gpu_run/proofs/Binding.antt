@@ -7,10 +7,10 @@ use Rattle.std.proofs.lemmas.Bool.{cases_eq}
 use Rattle.std.proofs.lemmas.Bool.Decides.{nat_tests}
 use Rattle.gpu_run.specs.Bindings.{Bindings, bind, bindings_of}
 
-eq_true : (key k : ℕ) → key ≡ k → (key == k) ≡ true
+pub eq_true : (key k : ℕ) → key ≡ k → (key == k) ≡ true
 eq_true key k e = grind (arith, nat_tests, e)
 
-eq_false : (key k : ℕ) → (key ≡ k → ⊥) → (key == k) ≡ false
+pub eq_false : (key k : ℕ) → (key ≡ k → ⊥) → (key == k) ≡ false
 eq_false key k apart = grind (arith, nat_tests, apart)
 
 pub none_bound : {T : Type 0} (o : Option T) (b : Bool) → b ≡ is_some o → b ≡ false → o ≡ None
@@ -27,6 +27,16 @@ module _ {T : Type 0} where
 
   pub bound_other : (b : Bindings T) (key k : ℕ) (to : Option T) → (key ≡ k → ⊥) → bind b key to k ≡ b k
   bound_other b key k to apart = ap (λ z. if z then to else b k) (eq_false key k apart)
+
+  -- binding what is bound changes nothing
+  pub bind_same : (b : Bindings T) (key : ℕ) (to : Option T) → b key ≡ to → bind b key to ≡ b
+  bind_same b key to e = λ i k. at k i
+    where
+      at : (k : ℕ) → bind b key to k ≡ b k
+      at k = elim (cases_eq key k) [
+        | inl same ↦ bound_here b key k to same ∙ sym e ∙ ap b same
+        | inr apart ↦ bound_other b key k to apart
+      ]
 
   -- one number of the map changed
   pub rebound : (old new : List (ℕ × T)) (key : ℕ) (to : Option T) → ((k : ℕ) → lookup (nat_eq k) new ≡ cond (nat_eq key k) to (lookup (nat_eq k) old))

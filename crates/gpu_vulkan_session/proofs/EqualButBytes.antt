@@ -14,9 +14,10 @@ use Rattle.gpu_vulkan.specs.Live.{piece_of, IsLive}
 use Rattle.gpu_vulkan_setup.specs.Setup.{Setup}
 use Rattle.gpu_vulkan.specs.Step.{id_of}
 use Rattle.gpu_vulkan.specs.declared.allocation.Allocation.{Allocation}
-use Rattle.gpu_vulkan_session.specs.Session.{SessionState, SessionInvariant, bind, overwritten}
+use Rattle.gpu_run.specs.Bindings.{bind}
+use Rattle.gpu_vulkan_session.specs.Session.{SessionState, SessionInvariant, overwritten}
 use Rattle.gpu_vulkan_session.specs.Laws.{Written}
-use Rattle.gpu_vulkan_session.proofs.Binding.{bound_here, bound_other, eq_true, eq_false}
+use Rattle.gpu_run.proofs.Binding.{bound_here, bound_other, eq_true, eq_false}
 use Rattle.gpu_vulkan_session.proofs.Owning.{was_live, null_dead, some_same, none_some}
 use Rattle.gpu_vulkan_session.proofs.Ranges.{length_put, put_alike}
 use Rattle.gpu_vulkan_session.proofs.Changes.{Gained, Lost}

@@ -1,4 +1,3 @@
-pub mod Binding
 pub mod Serving
 pub mod Owning
 pub mod Taking

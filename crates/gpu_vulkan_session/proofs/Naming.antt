@@ -15,9 +15,11 @@ use Rattle.gpu_vulkan.proofs.Untouched.{same_leaves}
 use Rattle.gpu_vulkan_session.specs.Reply as replies
 use Rattle.gpu_vulkan_session.specs.Command.{Under, Rename}
 use Rattle.gpu_vulkan_session.specs.Reply.{SessionReply}
-use Rattle.gpu_vulkan_session.specs.Session.{CommandEnvironment, bind}
+use Rattle.gpu_run.specs.Bindings.{bind}
+use Rattle.gpu_vulkan_session.specs.Session.{CommandEnvironment}
 use Rattle.gpu_vulkan_session.specs.Served.{SessionValue, session_of, IsServed}
-use Rattle.gpu_vulkan_session.proofs.Binding.{bindings, bind_same}
+use Rattle.gpu_run.specs.Bindings.{bindings_of}
+use Rattle.gpu_run.proofs.Binding.{bind_same}
 use Rattle.gpu_vulkan_session.proofs.Serving.{serves_at}
 
 pub named_of : (a b : Allocation) (p : Option (Piece DeviceMemory)) (name : List ℕ) (u : Unit {0}) (old new : Slots) → RenamesBy a p name old (Ok u) b new → IsNamed a name b
@@ -28,8 +30,8 @@ pub same_of : (a b : Allocation) (p : Option (Piece DeviceMemory)) (name : List 
 same_of a b None name e old new h = h.1
 same_of a b (Some p) name e old new h = h.1
 
-module _ {D : Type 0} (g : Ghosts D) (old new : SessionValue D) (key : ℕ) (name : List ℕ) (a b : Allocation) (reply : SessionReply) (found : bindings old.bound key ≡ Some a)
-    (is : bindings new.bound ≡ bind (bindings old.bound) key (Some b)) (constant : (new.allocator.setup ≡ old.allocator.setup) × (new.allocator.first ≡ old.allocator.first))
+module _ {D : Type 0} (g : Ghosts D) (old new : SessionValue D) (key : ℕ) (name : List ℕ) (a b : Allocation) (reply : SessionReply) (found : bindings_of old.bound key ≡ Some a)
+    (is : bindings_of new.bound ≡ bind (bindings_of old.bound) key (Some b)) (constant : (new.allocator.setup ≡ old.allocator.setup) × (new.allocator.first ≡ old.allocator.first))
     (device : new.allocator.device ≡ old.allocator.device) where
   pub renamed : IsNamed a name b → reply ≡ replies.Done → IsStep g (model.Rename a name) answers.Done old.allocator new.allocator → IsServed g (Under key (Rename name)) reply old new
   renamed named fine step =
@@ -48,7 +50,7 @@ module _ {D : Type 0} (g : Ghosts D) (old new : SessionValue D) (key : ℕ) (nam
       (Under key (Rename name)) reply old new
   not_renamed e same fails step =
       let o : CommandEnvironment = record { room = true; call = step.environment } in
-      let unchanged : bindings new.bound ≡ bindings old.bound = is ∙ bind_same (bindings old.bound) key (Some b) (found ∙ ap Some (sym same)) in
+      let unchanged : bindings_of new.bound ≡ bindings_of old.bound = is ∙ bind_same (bindings_of old.bound) key (Some b) (found ∙ ap Some (sym same)) in
       record {
         environment = o;
         serves = serves_at old.allocator.setup (session_of g old) (session_of g new) key (Rename name) o reply (Some a) found

@@ -27,7 +27,7 @@ use Rattle.gpu_vulkan_session.specs.Session.{SessionState, SessionInvariant, sho
 use Rattle.gpu_vulkan_session.specs.Session.{WritesOver, WritesAt, reply_to_part, reply_to_read, ReadsAt, ServesBound, ServesUnbound, ServesAt, reply_by, Asks, Serves, Runs}
 use Rattle.gpu_vulkan_session.specs.Laws.{EqualButBytesKeyCommand, EqualButBytesCommand, EqualButBytesCommandEnvironment, Written, everything, written_after, EqualButBytesAnswer}
 use Rattle.gpu_vulkan_session.specs.Laws.{EqualButBytesReplies, NonInterference}
-use Rattle.gpu_vulkan_session.proofs.Binding.{bound_here}
+use Rattle.gpu_run.proofs.Binding.{bound_here}
 use Rattle.gpu_vulkan_session.proofs.Owning.{null_dead, some_same, none_some, freed_null}
 use Rattle.gpu_vulkan_session.proofs.Changes.{Gained, Lost, gained, not_gained, place_piece, lost, named_bytes, shown_same, told_same, summed_same, budget_set_bytes}
 use Rattle.gpu_vulkan_session.proofs.KeptBudgets.{budgets_next}

@@ -10,8 +10,9 @@ use Rattle.gpu_vulkan_setup.specs.Setup.{Setup}
 use Rattle.gpu_vulkan.specs.Reply as answers
 use Rattle.gpu_vulkan.specs.Step.{ModelState, CallEnvironment, Step, Free, FreeStep}
 use Rattle.gpu_vulkan.specs.declared.allocation.Allocation.{Allocation}
-use Rattle.gpu_vulkan_session.specs.Session.{SessionState, IsOwn, bind}
-use Rattle.gpu_vulkan_session.proofs.Binding.{bound_here, bound_other}
+use Rattle.gpu_run.specs.Bindings.{bind}
+use Rattle.gpu_vulkan_session.specs.Session.{SessionState, IsOwn}
+use Rattle.gpu_run.proofs.Binding.{bound_here, bound_other}
 use Rattle.gpu_vulkan_session.proofs.Changes.{freed}
 
 pub null_dead : (slots : Slots) (a : Allocation) → piece_of a ≡ None → IsLive slots a → ⊥

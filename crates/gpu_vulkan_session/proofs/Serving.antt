@@ -1,8 +1,12 @@
 -- What the session's calls cite.
-use Rattle.std.proofs.Common.{◌≡◌, ◌+◌, ℕ, List, [], ◌∷◌, ◌++◌, ◌<◌, length, take, map, Option, Some, true, false, refl, ap, sym, subst, ◌∙◌, get_or}
-use Rattle.std.proofs.lemmas.List.{take_more}
+use Rattle.std.proofs.Common.{◌≡◌, ℕ, List, [], ◌∷◌, map, Option, Some, Ok, Err, Result, IfOk, true, false, refl, ap, sym, subst, ◌∙◌}
+use Rattle.std.specs.Prelude.{Vec}
+use Rattle.std.specs.Global.{Global}
+use Rattle.gpu_values.specs.declared.error.AllocationError.{AllocationError}
+use Rattle.gpu_commands.specs.declared.vulkan.command.Command.{Command}
+use Rattle.gpu_commands.specs.declared.vulkan.reply.Reply.{Reply}
+use Rattle.gpu_run.specs.Run.{IsRun as IsRunOf}
 use Rattle.gpu_device.specs.declared.vulkan.device.VulkanDevice.{Ghosts}
-use Rattle.gpu_device.specs.declared.vulkan.types.MemoryAllocateInfo.{MemoryAllocateInfo}
 use Rattle.gpu_memory_types.specs.Blocks.{BlocksWellFormed}
 use Rattle.gpu_vulkan_setup.specs.Setup.{Setup}
 use Rattle.gpu_vulkan.specs.State.{State}
@@ -11,10 +15,10 @@ use Rattle.gpu_vulkan.specs.Step as model
 use Rattle.gpu_vulkan.specs.Step.{CallEnvironment, nothing_met, MeetsNothing, count_after, latest_after, IsStep}
 use Rattle.gpu_vulkan.proofs.Untouched.{same_leaves}
 use Rattle.gpu_vulkan.specs.declared.allocation.Allocation.{Allocation}
-use Rattle.gpu_vulkan_session.specs.Command.{KeyCommand, SessionCommand, Under}
+use Rattle.gpu_vulkan_session.specs.Command.{KeyCommand, Under}
 use Rattle.gpu_vulkan_session.specs.Reply.{SessionReply}
 use Rattle.gpu_vulkan_session.specs.Session.{SessionState, IsOwn, SessionInvariant, CommandEnvironment, Stays, ServesAt, Serves, Runs, Asks, reply_by}
-use Rattle.gpu_vulkan_session.specs.Served.{SessionValue, session_of, count_over, latest_over, IsServed, ServesEach}
+use Rattle.gpu_vulkan_session.specs.Served.{SessionValue, session_of, command_of, reply_of, count_over, latest_over, IsServed, ServesCommand, IsRun, ServesEach}
 
 -- nothing is met with
 abbrev pub quiet : CommandEnvironment
@@ -51,37 +55,6 @@ module _ {D : Type 0} (g : Ghosts D) where
       → Asks old.allocator.setup call step.environment reply (session_of g old) (session_of g old)
   asked call model_reply reply old is step = record { model_reply = model_reply; step = step.step; reply_is = is; bound = refl }
 
--- ---- runs
-
--- a run goes on by one command
-pub runs_more : (setup : Setup) (s mid new : SessionState) (commands : List SessionCommand) (command : SessionCommand) (environment : List CommandEnvironment) (o : CommandEnvironment)
-    (reply : List SessionReply) (t : SessionReply)
-    → Runs setup s commands environment reply mid → Serves setup command o t mid new → SessionInvariant setup new → Runs setup s (commands ++ command ∷ []) (environment ++ o ∷ []) (reply ++ t ∷ [])
-    new
-runs_more setup s mid new [] command [] o [] t same step own = (new, subst (λ x. Serves setup command o t x new) same step, own, refl)
-runs_more setup s mid new [] command [] o (t2 ∷ reply) t run step own = absurd run
-runs_more setup s mid new [] command (o2 ∷ environment) o reply t run step own = absurd run
-runs_more setup s mid new (order2 ∷ commands) command [] o reply t run step own = absurd run
-runs_more setup s mid new (order2 ∷ commands) command (o2 ∷ environment) o [] t run step own = absurd run
-runs_more setup s mid new (order2 ∷ commands) command (o2 ∷ environment) o (t2 ∷ reply) t run step own =
-    (run.0, run.1, run.2, runs_more setup run.0 mid new commands command environment o reply t run.3 step own)
-
-pub count_more : (n : ℕ) (cs : List CommandEnvironment) (o : CommandEnvironment) → count_over n (cs ++ o ∷ []) ≡ count_after (count_after (count_over n cs) o.call.first.asked) o.call.second.asked
-count_more n [] o = refl
-count_more n (c ∷ cs) o = count_more (count_after (count_after n c.call.first.asked) c.call.second.asked) cs o
-
-pub latest_more : (latest : Option MemoryAllocateInfo) (cs : List CommandEnvironment) (o : CommandEnvironment)
-    → latest_over latest (cs ++ o ∷ []) ≡ latest_after (latest_after (latest_over latest cs) o.call.first.asked) o.call.second.asked
-latest_more latest [] o = refl
-latest_more latest (c ∷ cs) o = latest_more (latest_after (latest_after latest c.call.first.asked) c.call.second.asked) cs o
-
-pub map_push : {A B : Type 0} (f : A → B) (xs : List A) (x : A) → map f (xs ++ x ∷ []) ≡ map f xs ++ f x ∷ []
-map_push f [] x = refl
-map_push f (y ∷ xs) x = ap (λ ys. f y ∷ ys) (map_push f xs x)
-
-pub map_take_more : {A B : Type 0} (f : A → B) (xs : List A) (i : ℕ) (x : A) → i < length xs → x ≡ get_or xs i x → map f (take (i + 1) xs) ≡ map f (take i xs) ++ f x ∷ []
-map_take_more f xs i x lt at = ap (map f) (take_more xs i x lt ∙ ap (λ y. take i xs ++ y ∷ []) (sym at)) ∙ map_push f (take i xs) x
-
 -- the blocks are sound and the numbers own their pieces, in the words of callers
 pub kept_at : {D : Type 0} (g : Ghosts D) (allocator : State D) (bound : List (ℕ × Allocation)) (s : SessionValue D) (setup : Setup) → record { allocator = allocator; bound = bound } ≡ s →
     s.allocator.setup ≡ setup
@@ -92,11 +65,54 @@ kept_at g allocator bound s setup is same sound own =
       own = own;
     })
 
--- one command more is served
-pub each_more : {D : Type 0} (g : Ghosts D) (old mid new : SessionValue D) (commands : List SessionCommand) (command : SessionCommand) (reply : List SessionReply) (t : SessionReply) → ServesEach g
-    commands reply old mid → IsServed g command t mid new
-    → ServesEach g (commands ++ command ∷ []) (reply ++ t ∷ []) old new
-each_more g old mid new [] command [] t same step = (new, subst (λ x. IsServed g command t x new) same step, refl)
-each_more g old mid new [] command (u ∷ reply) t run step = absurd run
-each_more g old mid new (o ∷ commands) command [] t run step = absurd run
-each_more g old mid new (o ∷ commands) command (u ∷ reply) t run step = (run.0, run.1, each_more g run.0 mid new commands command reply t run.2 step)
+-- ---- runs
+
+module _ {D : Type 0} (g : Ghosts D) where
+  -- command by command
+  each_of : (commands : List Command) (replies : List Reply) (old new : SessionValue D) → IsRunOf (ServesCommand g) commands replies old new
+      → ServesEach g (map command_of commands) (map reply_of replies) old new
+  each_of [] [] old new same = same
+  each_of [] (r ∷ rs) old new run = absurd run
+  each_of (c ∷ cs) [] old new run = absurd run
+  each_of (c ∷ cs) (r ∷ rs) old new run = (run.0, run.1.served, each_of cs rs run.0 new run.2)
+
+  -- as one run of the model
+  run_of : (commands : List Command) (replies : List Reply) (old new : SessionValue D) → IsRunOf (ServesCommand g) commands replies old new
+      → IsRun g (map command_of commands) (map reply_of replies) old new
+  run_of [] [] old new same = record {
+    environment = [];
+    runs = ap (session_of g) same;
+    count = ap (λ (s : SessionValue D). g.refused s.allocator.device) same;
+    latest = ap (λ (s : SessionValue D). g.latest s.allocator.device) same;
+    constant = (ap (λ (s : SessionValue D). s.allocator.setup) same, ap (λ (s : SessionValue D). s.allocator.first) same);
+  }
+  run_of [] (r ∷ rs) old new run = absurd run
+  run_of (c ∷ cs) [] old new run = absurd run
+  run_of (c ∷ cs) (r ∷ rs) old new run =
+      let mid = run.0 in
+      let step = run.1.served in
+      let rest = run_of cs rs mid new run.2 in
+      let setup = step.constant.0 in
+      record {
+        environment = step.environment ∷ rest.environment;
+        runs = (
+          session_of g mid,
+          step.serves,
+          subst (λ s. SessionInvariant s (session_of g mid)) setup run.1.kept,
+          subst (λ s. Runs s (session_of g mid) (map command_of cs) rest.environment (map reply_of rs) (session_of g new)) setup rest.runs,
+        );
+        count = rest.count ∙ ap (λ n. count_over n rest.environment) step.count;
+        latest = rest.latest ∙ ap (λ q. latest_over q rest.environment) step.latest;
+        constant = (rest.constant.0 ∙ step.constant.0, rest.constant.1 ∙ step.constant.1);
+      }
+
+  -- the same of what a run returns
+  pub each_served : (commands : List Command) (old new : SessionValue D) (result : Result (Vec Reply Global) AllocationError)
+      → IfOk result (λ replies. IsRunOf (ServesCommand g) commands replies.items old new) → IfOk result (λ replies. ServesEach g (map command_of commands) (map reply_of replies.items) old new)
+  each_served commands old new (Ok replies) run = each_of commands replies.items old new run
+  each_served commands old new (Err e) run = tt
+
+  pub run_served : (commands : List Command) (old new : SessionValue D) (result : Result (Vec Reply Global) AllocationError)
+      → IfOk result (λ replies. IsRunOf (ServesCommand g) commands replies.items old new) → IfOk result (λ replies. IsRun g (map command_of commands) (map reply_of replies.items) old new)
+  run_served commands old new (Ok replies) run = run_of commands replies.items old new run
+  run_served commands old new (Err e) run = tt

@@ -23,9 +23,10 @@ use Rattle.gpu_vulkan.proofs.Untouched.{allocate_leaves}
 use Rattle.gpu_vulkan_session.specs.Reply as replies
 use Rattle.gpu_vulkan_session.specs.Command.{Wanted, Describes, Alloc, Under}
 use Rattle.gpu_vulkan_session.specs.Reply.{Shown}
-use Rattle.gpu_vulkan_session.specs.Session.{shown, bind}
+use Rattle.gpu_run.specs.Bindings.{bind}
+use Rattle.gpu_vulkan_session.specs.Session.{shown}
 use Rattle.gpu_vulkan_session.specs.Served.{SessionValue, session_of, shown_allocation, IsServed}
-use Rattle.gpu_vulkan_session.proofs.Binding.{bindings}
+use Rattle.gpu_run.specs.Bindings.{bindings_of}
 use Rattle.gpu_vulkan_session.proofs.Serving.{serves_at}
 
 -- the model_reply of the model, where an allocation is given
@@ -79,7 +80,7 @@ shown_same setup d w t p a wants given =
         }
 
 module _ {D : Type 0} (g : Ghosts D) (old new : SessionValue D) (key : ℕ) (w : Wanted) (d : AllocationCreateDesc) (wants : Describes d w) where
-  pub not_taken : (e : AllocationError) → bindings old.bound key ≡ None → bindings new.bound ≡ bindings old.bound → IsAllocateStep g d (Err e) old.allocator new.allocator → Allocates g
+  pub not_taken : (e : AllocationError) → bindings_of old.bound key ≡ None → bindings_of new.bound ≡ bindings_of old.bound → IsAllocateStep g d (Err e) old.allocator new.allocator → Allocates g
       old.allocator.setup old.allocator.budgets d old.allocator.slots old.allocator.device (Err e) new.allocator.slots new.allocator.device
       → (new.allocator.first ≡ old.allocator.first) × (new.allocator.setup ≡ old.allocator.setup) → IsServed g (Under key (Alloc w)) (replies.Error (refusal_of e)) old new
   not_taken e none same s allocates constant =
@@ -100,7 +101,7 @@ module _ {D : Type 0} (g : Ghosts D) (old new : SessionValue D) (key : ℕ) (w :
         constant = (constant.1, constant.0);
       }
 
-  pub taken : (a : Allocation) (reply : replies.SessionReply) → bindings old.bound key ≡ None → bindings new.bound ≡ bind (bindings old.bound) key (Some a) → IsAllocateStep g d (Ok a) old.allocator
+  pub taken : (a : Allocation) (reply : replies.SessionReply) → bindings_of old.bound key ≡ None → bindings_of new.bound ≡ bind (bindings_of old.bound) key (Some a) → IsAllocateStep g d (Ok a) old.allocator
       new.allocator → Allocates g old.allocator.setup old.allocator.budgets d old.allocator.slots old.allocator.device (Ok a) new.allocator.slots new.allocator.device
       → (new.allocator.first ≡ old.allocator.first) × (new.allocator.setup ≡ old.allocator.setup) → reply ≡ replies.Given (shown_allocation a) → IsServed g (Under key (Alloc w)) reply old new
   taken a reply none same s allocates constant is_told =

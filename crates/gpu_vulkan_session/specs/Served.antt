@@ -1,6 +1,5 @@
 -- What a session's calls say in the model.
-use Rattle.std.specs.Prelude.{◌≡◌, ℕ, Bool, true, false, List, [], ◌∷◌, Option, nat_eq, map, string_bytes}
-use Rattle.std.specs.Map.{lookup}
+use Rattle.std.specs.Prelude.{◌≡◌, ℕ, Bool, true, false, List, [], ◌∷◌, Option, map, string_bytes}
 use Rattle.std.specs.Int.NonZero.{non_zero_u64_get}
 use Rattle.gpu_values.specs.Refusal.{refusal_of}
 use Rattle.gpu_values.specs.Report.{report_of}
@@ -11,10 +10,11 @@ use Rattle.gpu_vulkan.specs.State.{State}
 use Rattle.gpu_vulkan.specs.Untouched.{LeavesMemory}
 use Rattle.gpu_vulkan.specs.Step.{model_of, count_after, latest_after}
 use Rattle.gpu_vulkan.specs.declared.allocation.Allocation.{Allocation}
+use Rattle.gpu_run.specs.Bindings.{bindings_of}
 use Rattle.gpu_vulkan_session.specs.Reply as replies
 use Rattle.gpu_vulkan_session.specs.Command.{SessionCommand, Alloc, Null, Free, Rename, Write, Read, Under, Report, Leaks, Capacity, SetBudget}
 use Rattle.gpu_vulkan_session.specs.Reply.{Shown, SessionReply, Given, Done, Bytes, Busy, Unbound, Unmapped, OutOfRange, Error}
-use Rattle.gpu_vulkan_session.specs.Session.{SessionState, CommandEnvironment, Serves, Runs}
+use Rattle.gpu_vulkan_session.specs.Session.{SessionState, SessionInvariant, CommandEnvironment, Serves, Runs}
 use Rattle.gpu_commands.specs.declared.vulkan.command.Command.{Command}
 use Rattle.gpu_commands.specs.declared.vulkan.command.Command.TheVariants as asked
 use Rattle.gpu_commands.specs.declared.vulkan.reply.Reply.{Reply}
@@ -77,7 +77,7 @@ pub record SessionValue (D : Type 0) : Type 0 where
 
 -- the session's state in the model
 abbrev pub session_of : {D : Type 0} → Ghosts D → SessionValue D → SessionState
-session_of g s = record { bound = λ key. lookup (nat_eq key) s.bound; model = model_of g s.allocator }
+session_of g s = record { bound = bindings_of s.bound; model = model_of g s.allocator }
 
 -- the device's count of refusals after all questions of a run
 abbrev pub count_over : ℕ → List CommandEnvironment → ℕ
@@ -102,6 +102,11 @@ pub record IsServed {D : Type 0} (g : Ghosts D) (command : SessionCommand) (repl
   pub latest : g.latest new.allocator.device ≡ latest_after (latest_after (g.latest old.allocator.device) environment.call.first.asked) environment.call.second.asked
   pub untouched : is_write command ≡ false → LeavesMemory (g.held old.allocator.device) (g.held new.allocator.device)
   pub constant : (new.allocator.setup ≡ old.allocator.setup) × (new.allocator.first ≡ old.allocator.first)
+
+-- a command is served, and the numbers own their pieces afterwards
+pub record ServesCommand {D : Type 0} (g : Ghosts D) (old : SessionValue D) (command : Command) (reply : Reply) (new : SessionValue D) : Type 0 where
+  pub served : IsServed g (command_of command) (reply_of reply) old new
+  pub kept : SessionInvariant new.allocator.setup (session_of g new)
 
 -- the replies are those of a run at some environment, whose refusals and questions are what the device counts and names
 pub record IsRun {D : Type 0} (g : Ghosts D) (commands : List SessionCommand) (reply : List SessionReply) (old new : SessionValue D) : Type 0 where

@@ -1,5 +1,5 @@
 -- A session as a model: what the caller's numbers stand for, and the allocator's blocks and bytes; and what a command makes of them and is answered.
-use Rattle.std.specs.Prelude.{◌≡◌, ◌≢◌, ◌⊎◌, ℕ, ◌+◌, ◌++◌, ◌==◌, nat_le, Bool, true, false, if◌then◌else◌, List, [], ◌∷◌, length, take, drop, Option, Some, None}
+use Rattle.std.specs.Prelude.{◌≡◌, ◌≢◌, ◌⊎◌, ℕ, ◌+◌, ◌++◌, nat_le, Bool, true, false, if◌then◌else◌, List, [], ◌∷◌, length, take, drop, Option, Some, None}
 use Rattle.std.specs.Int.NonZero.{non_zero_u64_get}
 use Rattle.gpu_values.specs.Refusal.{host_out_of_memory}
 use Rattle.gpu_slots.specs.declared.piece.Piece.{Piece}
@@ -16,26 +16,16 @@ use Rattle.gpu_vulkan.specs.Step as model
 use Rattle.gpu_vulkan.specs.Step.{ModelState, CallEnvironment, MeetsNothing, IsRead, Step}
 use Rattle.gpu_vulkan.specs.declared.allocation.Allocation.{Allocation}
 use Rattle.gpu_vulkan_setup.specs.declared.describe.AllocationCreateDesc.{AllocationCreateDesc}
+use Rattle.gpu_run.specs.Bindings.{Bindings, bind}
 use Rattle.gpu_vulkan_session.specs.Command.{Wanted, Describes, KeyCommand, Alloc, Null, Free, Rename, Write, Read, SessionCommand, Under, Report, Leaks, Capacity, SetBudget}
 use Rattle.gpu_vulkan_session.specs.Reply as replies
 use Rattle.gpu_vulkan_session.specs.Reply.{Shown, SessionReply, Given, Done, Bytes, Busy, Unbound, Unmapped, OutOfRange, Error}
 
 -- ---- states
 
--- what the caller's numbers stand for
-abbrev pub Bindings : Type 0
-Bindings = ℕ → Option Allocation
-
 pub record SessionState : Type 0 where
-  pub bound : Bindings
+  pub bound : Bindings Allocation
   pub model : ModelState
-
-abbrev pub no_bindings : Bindings
-no_bindings key = None
-
--- the number stands for this from now on, None for nothing
-abbrev pub bind : Bindings → (key : ℕ) → Option Allocation → Bindings
-bind bound key to k = if key == k then to else bound k
 
 -- each number stands for a live allocation or a null one, and no two for one piece
 pub record IsOwn (s : SessionState) : Type 0 where
@@ -66,7 +56,7 @@ abbrev pub Stays : CommandEnvironment → SessionState → SessionState → Type
 Stays o old new = MeetsNothing o.call × (new ≡ old)
 
 -- what the allocator's reply to a request binds and is answered
-abbrev pub Binds : Setup → (key : ℕ) → Wanted → AllocationCreateDesc → answers.Reply → SessionReply → (old new : Bindings) → Type 0
+abbrev pub Binds : Setup → (key : ℕ) → Wanted → AllocationCreateDesc → answers.Reply → SessionReply → (old new : Bindings Allocation) → Type 0
 Binds setup key w d (answers.Given t p) reply old new = (a : Allocation) × IsGiven setup t d p a × (reply ≡ Given (shown setup w t p)) × (new ≡ bind old key (Some a))
 Binds setup key w d (answers.Error r) reply old new = (reply ≡ Error r) × (new ≡ old)
 Binds setup key w d _ reply old new = ⊥
@@ -94,7 +84,7 @@ pub record Frees (setup : Setup) (key : ℕ) (a : Allocation) (o : CallEnvironme
   pub bound : new.bound ≡ bind old.bound key None
 
 -- what the allocator's reply to a new name binds and is answered
-abbrev pub BindsNamed : (key : ℕ) → Allocation → (name : List ℕ) → answers.Reply → SessionReply → (old new : Bindings) → Type 0
+abbrev pub BindsNamed : (key : ℕ) → Allocation → (name : List ℕ) → answers.Reply → SessionReply → (old new : Bindings Allocation) → Type 0
 BindsNamed key a name answers.Done reply old new = (reply ≡ Done) × ((b : Allocation) × IsNamed a name b × (new ≡ bind old key (Some b)))
 BindsNamed key a name (answers.Error r) reply old new = (reply ≡ Error r) × (new ≡ old)
 BindsNamed key a name _ reply old new = ⊥

@@ -1,8 +1,6 @@
 //! Sessions.
 
-ghost use Rattle.std.specs.Prelude.{◌≡◌, ◌≢◌, ◌≤◌, ◌<◌, ◌+◌, ℕ, [], length, map, take, nat_eq, nat_le, cond, Some, None, IfOk, IfErr, OnErr};
-ghost use Rattle.std.specs.Map.{lookup};
-ghost use Rattle.std.specs.HashMap.{spare};
+ghost use Rattle.std.specs.Prelude.{◌≡◌, ◌≢◌, ◌≤◌, ◌+◌, [], length, map, nat_le, None, IfOk, IfErr, OnErr};
 ghost use Rattle.gpu_values.specs.declared.error.AllocationError.TheVariants.{HostOutOfMemory};
 ghost use Rattle.gpu_pool.specs.Handles.{all_handles};
 ghost use Rattle.gpu_vulkan.specs.BlockAnswer.{frees_recorded};
@@ -15,6 +13,7 @@ ghost use Rattle.gpu_vulkan_session.specs.Served.{session_of, command_of, reply_
 
 use gpu_commands::vulkan::{Command, Given, Reply};
 use gpu_device::vulkan::VulkanDevice;
+use gpu_run::{Machine, bind};
 use gpu_values::{AllocationError, Result};
 use gpu_vulkan::{Allocation, Allocator};
 use gpu_vulkan_setup::AllocationCreateDesc;
@@ -40,6 +39,22 @@ impl<D: VulkanDevice> Model for Session<D> {
     ghost view = { λ s. record { allocator = s.allocator; bound = s.bound.entries } };
 
     ghost invariant = { λ s. IsOwn (session_of D.VulkanDevice (record { allocator = s.allocator; bound = s.bound.entries })) };
+}
+
+impl<D: VulkanDevice> Machine for Session<D> {
+    ghost use Rattle.gpu_vulkan_session.specs.Served.{ServesCommand};
+
+    type Command = Command;
+
+    type Reply = Reply;
+
+    ghost serves = { ServesCommand D.VulkanDevice };
+
+    fn serve<L: Log>(&mut self, log: &L, command: &Command) -> Reply {
+        let reply = Session::serve(self, log, command);
+        self.numbers_own_their_pieces();
+        reply
+    }
 }
 
 impl<D: VulkanDevice> Session<D> {
@@ -69,17 +84,9 @@ impl<D: VulkanDevice> Session<D> {
         ensures holds { HoldsJustLiveBlocks self.new.allocator.setup.properties (D.held self.new.allocator.first)
             (D.held self.new.allocator.device) self.new.allocator.slots }
     {
-        let Ok(mut replies) = Vec::with_capacity(self.alloc, commands.len()) else {
-            let _ = self.allocator.device();
-            return Err(AllocationError::HostOutOfMemory);
-        };
-        for command in commands {
-            let reply = self.serve(log, command);
-            self.allocator.allocations_are_apart();
-            replies.push_reserved(reply);
-        }
+        let replies = gpu_run::run(self.alloc, self, log, commands);
         let _ = self.allocator.device();
-        Ok(replies)
+        replies
     }
 
     /// The device, lent. It holds what it held when the allocator was made, and just the live blocks.
@@ -290,23 +297,12 @@ fn fits(at: u64, size: u64, whole: u64) -> bool
     at <= whole && size <= whole - at
 }
 
-/// WritesAt bytes over those from `at` on.
+/// Writes bytes over those from `at` on.
 fn put(target: &mut [u8], at: usize, bytes: &[u8])
     requires { at + length bytes.now ≤ length target.old }
     ensures { target.new ≡ overwritten target.old at bytes.now }
 {
     target[at..at + bytes.len()].copy_from_slice(bytes);
-}
-
-/// Binds a number that there is room for.
-fn bind(bound: &mut HashMap<u64, Allocation>, key: u64, allocation: Allocation)
-    requires { 1 ≤ spare bound.old }
-    ensures { (k : ℕ) → lookup (nat_eq k) bound.new.entries ≡ cond (nat_eq key k) (Some allocation) (lookup (nat_eq k) bound.old.entries) }
-{
-    match bound.insert(key, allocation) {
-        Ok(_) => {}
-        Err(_) => unreachable!(),
-    }
 }
 
 /// What is told of a new allocation.

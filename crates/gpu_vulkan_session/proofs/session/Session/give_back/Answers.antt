@@ -2,10 +2,10 @@ use Rattle.std.proofs.Common.{◌≡◌, Some, None, true, refl, ap, sym, subst}
 use Rattle.gpu_vulkan_session.specs.Reply as replies
 use Rattle.gpu_vulkan_session.specs.Session as sessions
 use Rattle.gpu_vulkan_session.specs.Command.{Free, Under}
-use Rattle.gpu_vulkan_session.specs.Session.{bind}
 use Rattle.gpu_vulkan.proofs.Untouched.{same_leaves, free_leaves}
 use Rattle.gpu_vulkan_session.specs.Served.{SessionValue, session_of, IsServed}
-use Rattle.gpu_vulkan_session.proofs.Binding.{bindings, rebound}
+use Rattle.gpu_run.specs.Bindings.{bindings_of}
+use Rattle.gpu_run.proofs.Binding.{rebound}
 use Rattle.gpu_vulkan_session.proofs.Serving.{quiet, serves_at}
 use Rattle.gpu_vulkan_session.proofs.session.Session.give_back.Goals as goal
 
@@ -15,7 +15,7 @@ returns-in-None g c =
     let s : SessionValue g.row.D.Denot = record { allocator = c.self.inside.allocator; bound = c.self.inside.bound.entries } in
     let new : SessionValue g.row.D.Denot = record { allocator = c.self.inside.allocator; bound = c.remove.new.self.entries } in
     let same : new ≡ s = ap (λ es. record { allocator = s.allocator; bound = es }) c.in-None.ensures.unchanged in
-    let none : bindings s.bound c.args.key ≡ None = sym c.in-None.ensures.value in
+    let none : bindings_of s.bound c.args.key ≡ None = sym c.in-None.ensures.value in
     subst (λ x. IsServed V (Under c.args.key Free) replies.Unbound x new) c.self.view_is (record {
       environment = quiet;
       serves = serves_at s.allocator.setup (session_of V s) (session_of V new) c.args.key Free quiet replies.Unbound None none (refl, ((refl, refl), ap (session_of V) same));
@@ -30,7 +30,7 @@ returns-in-Ok g c =
     let V = g.D.VulkanDevice in
     let s : SessionValue g.row.D.Denot = record { allocator = c.self.inside.allocator; bound = c.self.inside.bound.entries } in
     let new : SessionValue g.row.D.Denot = record { allocator = c.free.new.self; bound = c.remove.new.self.entries } in
-    let some : bindings s.bound c.args.key ≡ Some c.in-Some.allocation = sym c.in-Some.ensures.value in
+    let some : bindings_of s.bound c.args.key ≡ Some c.in-Some.allocation = sym c.in-Some.ensures.value in
     let step = c.in-Ok.ensures.step in
     let o : sessions.CommandEnvironment = record { room = true; call = step.environment } in
     subst (λ x. IsServed V (Under c.args.key Free) replies.Done x new) c.self.view_is (record {

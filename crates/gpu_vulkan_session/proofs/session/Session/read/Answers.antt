@@ -2,7 +2,7 @@ use Rattle.std.proofs.Common.{◌≡◌, ◌∙◌, ◌+◌, ◌-◌, arith, Som
 use Rattle.gpu_vulkan_session.specs.Reply as replies
 use Rattle.gpu_vulkan_session.specs.Command.{Read, Under}
 use Rattle.gpu_vulkan_session.specs.Served.{SessionValue, session_of, reply_of, IsServed}
-use Rattle.gpu_vulkan_session.proofs.Binding.{bindings}
+use Rattle.gpu_run.specs.Bindings.{bindings_of}
 use Rattle.gpu_vulkan_session.proofs.Serving.{quiet, short, stayed, served_quietly}
 use Rattle.gpu_vulkan_session.proofs.Reading.{read_of, gets_bound, past_told, data_told}
 use Rattle.gpu_vulkan_session.proofs.session.Session.read.Goals as goal
@@ -12,7 +12,7 @@ pub returns-in_default : goal.returns-in_default
 returns-in_default g c =
     let V = g.D.VulkanDevice in
     let s : SessionValue g.row.D.Denot = record { allocator = c.self.inside.allocator; bound = c.self.inside.bound.entries } in
-    let none : bindings s.bound c.args.key ≡ None = sym c.in_default.ensures.value in
+    let none : bindings_of s.bound c.args.key ≡ None = sym c.in_default.ensures.value in
     subst (λ x. IsServed V (Under c.args.key (Read c.args.at c.args.size)) replies.Unbound x x) c.self.view_is
     (served_quietly V c.args.key (Read c.args.at c.args.size) replies.Unbound s quiet None refl none (refl, stayed (session_of V s)))
 
@@ -21,7 +21,7 @@ returns-in_default-mapped_slice g c =
     let V = g.D.VulkanDevice in
     let s : SessionValue g.row.D.Denot = record { allocator = c.self.inside.allocator; bound = c.self.inside.bound.entries } in
     let a = c.in-Some.allocation.now in
-    let found : bindings s.bound c.args.key ≡ Some a = sym c.in-Some.ensures.value in
+    let found : bindings_of s.bound c.args.key ≡ Some a = sym c.in-Some.ensures.value in
     let read = read_of V s a None c.in_default-mapped_slice.ensures.step in
     subst (λ x. IsServed V (Under c.args.key (Read c.args.at c.args.size)) replies.Unmapped x x) c.self.view_is
     (gets_bound V s c.args.key c.args.at c.args.size a None quiet replies.Unmapped found read refl refl)
@@ -32,7 +32,7 @@ returns-then-not-fits g c =
     let s : SessionValue g.row.D.Denot = record { allocator = c.self.inside.allocator; bound = c.self.inside.bound.entries } in
     let a = c.in-Some.allocation.now in
     let xs = c.in-Some-mapped_slice.bytes.now in
-    let found : bindings s.bound c.args.key ≡ Some a = sym c.in-Some.ensures.value in
+    let found : bindings_of s.bound c.args.key ≡ Some a = sym c.in-Some.ensures.value in
     let read = read_of V s a (Some xs) c.in-Some-mapped_slice.ensures.step in
     subst (λ x. IsServed V (Under c.args.key (Read c.args.at c.args.size)) replies.OutOfRange x x) c.self.view_is
     (gets_bound V s c.args.key c.args.at c.args.size a (Some xs) quiet replies.OutOfRange found read refl (sym (past_told true c.args.at c.args.size xs (sym c.fits.ensures ∙ c.if-not-fits.true))))
@@ -43,7 +43,7 @@ returns g c =
     let s : SessionValue g.row.D.Denot = record { allocator = c.self.inside.allocator; bound = c.self.inside.bound.entries } in
     let a = c.in-Some.allocation.now in
     let xs = c.in-Some-mapped_slice.bytes.now in
-    let found : bindings s.bound c.args.key ≡ Some a = sym c.in-Some.ensures.value in
+    let found : bindings_of s.bound c.args.key ≡ Some a = sym c.in-Some.ensures.value in
     let read = read_of V s a (Some xs) c.in-Some-mapped_slice.ensures.step in
     let fit = sym c.fits.ensures ∙ c.if-not-fits.false in
     subst (λ x. IsServed V (Under c.args.key (Read c.args.at c.args.size)) (reply_of c.match-from_slice.result) x x) c.self.view_is

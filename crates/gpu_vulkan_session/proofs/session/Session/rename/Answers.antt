@@ -4,7 +4,8 @@ use Rattle.gpu_vulkan.specs.Live.{piece_of}
 use Rattle.gpu_vulkan_session.specs.Reply as replies
 use Rattle.gpu_vulkan_session.specs.Command.{Rename, Under}
 use Rattle.gpu_vulkan_session.specs.Served.{SessionValue, session_of, reply_of, IsServed}
-use Rattle.gpu_vulkan_session.proofs.Binding.{bindings, rebound}
+use Rattle.gpu_run.specs.Bindings.{bindings_of}
+use Rattle.gpu_run.proofs.Binding.{rebound}
 use Rattle.gpu_vulkan_session.proofs.Naming.{named_of, same_of, renamed, not_renamed}
 use Rattle.gpu_vulkan_session.proofs.Serving.{quiet, stayed, served_quietly}
 use Rattle.gpu_vulkan_session.proofs.session.Session.rename.Goals as goal
@@ -16,7 +17,7 @@ returns-in-None g c =
     let s : SessionValue g.row.D.Denot = record { allocator = c.self.inside.allocator; bound = c.self.inside.bound.entries } in
     let new : SessionValue g.row.D.Denot = record { allocator = c.self.inside.allocator; bound = c.get_mut.follows.lender-at-none.entries } in
     let same : s ≡ new = ap (λ m. record { allocator = s.allocator; bound = m.entries }) (sym (c.get_mut.follows.holds-at-none)) in
-    let none : bindings s.bound c.args.key ≡ None = sym c.in-None.ensures.value in
+    let none : bindings_of s.bound c.args.key ≡ None = sym c.in-None.ensures.value in
     subst (λ x. IsServed V (Under c.args.key (Rename c.args.name.now)) replies.Unbound x new) c.self.view_is
     (subst (λ y. IsServed V (Under c.args.key (Rename c.args.name.now)) replies.Unbound s y) same
     (served_quietly V c.args.key (Rename c.args.name.now) replies.Unbound s quiet None refl none (refl, stayed (session_of V s))))
@@ -28,8 +29,8 @@ returns-after-rename_allocation g c =
     let a = c.in-Some.allocation.now in
     let b = c.rename_allocation.new.allocation in
     let new : SessionValue g.row.D.Denot = record { allocator = c.rename_allocation.new.self; bound = (c.get_mut.follows.lender b).entries } in
-    let found : bindings s.bound c.args.key ≡ Some a = sym c.in-Some.ensures.value in
-    let some : IsSome (bindings s.bound c.args.key) = subst (λ o. IsSome o) (sym found) refl in
+    let found : bindings_of s.bound c.args.key ≡ Some a = sym c.in-Some.ensures.value in
+    let some : IsSome (bindings_of s.bound c.args.key) = subst (λ o. IsSome o) (sym found) refl in
     let is = rebound s.bound new.bound c.args.key (Some b) ((c.get_mut.follows.holds b).3 some).0 in
     let reply = reply_of c.match-rename_allocation.result in
     let constant : (new.allocator.setup ≡ s.allocator.setup) × (new.allocator.first ≡ s.allocator.first) = (c.rename_allocation.ensures.constant.2, c.rename_allocation.ensures.constant.1) in

@@ -7,7 +7,7 @@ use Rattle.gpu_vulkan_session.specs.Reply as replies
 use Rattle.gpu_vulkan_session.specs.Command.{Alloc, Under}
 use Rattle.gpu_vulkan.proofs.Untouched.{same_leaves}
 use Rattle.gpu_vulkan_session.specs.Served.{SessionValue, session_of, reply_of, IsServed}
-use Rattle.gpu_vulkan_session.proofs.Binding.{some_bound, none_bound, same_bindings, bound_after}
+use Rattle.gpu_run.proofs.Binding.{some_bound, none_bound, same_bindings, bound_after}
 use Rattle.gpu_vulkan_session.proofs.Owning.{own_kept, own_given}
 use Rattle.gpu_vulkan_session.proofs.Serving.{quiet, short, stayed, served_quietly, serves_at}
 use Rattle.gpu_vulkan_session.proofs.Taking.{taken, not_taken}

@@ -7,9 +7,10 @@ use Rattle.gpu_values.specs.Refusal.{host_out_of_memory}
 use Rattle.gpu_vulkan.proofs.Untouched.{same_leaves}
 use Rattle.gpu_vulkan_session.specs.Reply as replies
 use Rattle.gpu_vulkan_session.specs.Command.{Null, Under}
-use Rattle.gpu_vulkan_session.specs.Session.{bind}
+use Rattle.gpu_run.specs.Bindings.{bind}
 use Rattle.gpu_vulkan_session.specs.Served.{SessionValue, session_of, IsServed}
-use Rattle.gpu_vulkan_session.proofs.Binding.{bindings, some_bound, none_bound, same_bindings, bound_after}
+use Rattle.gpu_run.specs.Bindings.{bindings_of}
+use Rattle.gpu_run.proofs.Binding.{some_bound, none_bound, same_bindings, bound_after}
 use Rattle.gpu_vulkan_session.proofs.Serving.{quiet, short, stayed, served_quietly, serves_at}
 use Rattle.gpu_vulkan_session.proofs.session.Session.take_null.Goals as goal
 
@@ -45,7 +46,7 @@ returns g c =
     let none = none_bound (lookup (nat_eq c.args.key) s.bound) c.contains_key.result c.contains_key.ensures c.if-contains_key.false in
     let put = subst (λ a. (k : ℕ) → lookup (nat_eq k) new.bound ≡ cond (nat_eq c.args.key k) (Some a) (lookup (nat_eq k) c.reserve.new.self.entries)) c.default.ensures c.bind.ensures in
     let is = bound_after s.bound c.reserve.new.self.entries new.bound c.args.key (Some null_allocation) (c.reserve.ensures.entries.2) put in
-    let same : session_of V new ≡ record (session_of V s) { bound = bind (bindings s.bound) c.args.key (Some null_allocation) } = ap (λ b. record { bound = b; model = model_of V s.allocator }) is in
+    let same : session_of V new ≡ record (session_of V s) { bound = bind (bindings_of s.bound) c.args.key (Some null_allocation) } = ap (λ b. record { bound = b; model = model_of V s.allocator }) is in
     subst (λ x. IsServed V (Under c.args.key Null) replies.Done x new) c.self.view_is (record {
       environment = quiet;
       serves = serves_at s.allocator.setup (session_of V s) (session_of V new) c.args.key Null quiet replies.Done None none ((refl, refl), (refl, same));
