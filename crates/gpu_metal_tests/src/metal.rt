@@ -1,6 +1,7 @@
 //! The Metal allocator.
 
 mod account;
+mod ample;
 mod budgets;
 mod foreign;
 mod log_lines;
