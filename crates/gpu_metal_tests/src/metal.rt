@@ -1,14 +1,10 @@
 //! The Metal allocator.
 
-mod account;
 mod ample;
-mod budgets;
 mod foreign;
 mod log_lines;
 mod refusals;
-mod refused;
 mod rows;
-mod scripts;
 
 use gpu_device::metal::{CpuCacheMode, HeapDescriptor, MTLHeap, MTLResidencySet, StorageMode};
 use gpu_metal::{Allocation, Allocator};

@@ -122,67 +122,6 @@ fn two_buffers_on_a_device_without_residency_sets(rt: HostRuntime) -> Outcome {
     two_buffers_without_a_set(&rt, rt.alloc(), device)
 }
 
-/// Looks that the report shows one piece, of 512 bytes, and one block, of `size` bytes.
-fn check_report(rt: &impl Abort, a: &Allocator<SimMetal>, size: u64) -> Outcome {
-    let Ok(report) = a.generate_report() else {
-        return Err(Fail::from("a report was refused"));
-    };
-    assert!(rt; (report.total_allocated_bytes, report.total_capacity_bytes) == (512, size));
-    assert!(rt; (report.allocations.len(), report.blocks.len()) == (1, 1));
-    Ok(())
-}
-
-/// A piece of 512 bytes at this location, of the memory type at `index`: while it is live, the heap that was asked for it is
-/// the only one and the only member of the residency set, and the report shows it and nothing else.
-fn buffer_at(
-    rt: &impl Abort,
-    a: &mut Allocator<SimMetal>,
-    location: MemoryLocation,
-    index: usize,
-    want: (HeapDescriptor, u64),
-) -> Outcome {
-    let desc = buffer(a, "buffer", 512, location);
-    let allocation = take(a, &desc)?;
-    assert!(rt; (allocation.offset(), allocation.size()) == (0, 512));
-    assert!(rt; allocation.heap() == MTLHeap(2));
-    assert!(rt; a.device().last_heap() == Some(want));
-    assert!(rt; first_number(a, index) == Some(2));
-    check_live(rt, a, &[MTLHeap(2)]);
-    check_heaps(rt, a.device().members(MTLResidencySet(1)), &[MTLHeap(2)]);
-    check_report(rt, a, want.1)
-}
-
-/// The same, and the residency set is empty once the allocator is destroyed.
-fn heap_at(
-    rt: &impl Abort,
-    alloc: Global,
-    location: MemoryLocation,
-    index: usize,
-    want: (HeapDescriptor, u64),
-) -> Outcome {
-    let mut a = made(alloc, true, &[])?;
-    let done = buffer_at(rt, &mut a, location, index, want);
-    let device = a.destroy();
-    check_heaps(rt, device.members(MTLResidencySet(1)), &[]);
-    done
-}
-
-#[test]
-fn heaps_by_location(rt: HostRuntime) -> Outcome {
-    let alloc = rt.alloc();
-    let for_the_gpu = (PRIVATE, 268_435_456);
-    heap_at(&rt, alloc, MemoryLocation::Unknown, 0, for_the_gpu)?;
-    heap_at(&rt, alloc, MemoryLocation::GpuOnly, 0, for_the_gpu)?;
-    heap_at(
-        &rt,
-        alloc,
-        MemoryLocation::CpuToGpu,
-        1,
-        (UPLOADS, 67_108_864),
-    )?;
-    heap_at(&rt, alloc, MemoryLocation::GpuToCpu, 2, (READS, 67_108_864))
-}
-
 /// A texture of 10 times 10 texels: 400 bytes, which the device rounds up.
 fn texture(storage_mode: StorageMode) -> TextureDescriptor {
     TextureDescriptor {
