@@ -3,8 +3,8 @@
 ghost use Rattle.std.specs.Prelude.{◌≡◌, [], ◌∷◌};
 ghost use Rattle.gpu_d3d12.specs.Journal.{events, with_made, number_in};
 
-use gpu_device::d3d12::ID3D12Resource;
 use gpu_device::History;
+use gpu_device::d3d12::ID3D12Resource;
 use gpu_values::Result;
 
 /// A resource was made, or released.

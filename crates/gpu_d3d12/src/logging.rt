@@ -27,6 +27,10 @@ pub fn log_leaks<L: Log>(log: &L, level: Level, types: &MemoryTypes<ID3D12Heap>)
 }
 
 /// Logs the same as warnings, where the settings ask for it as an allocator goes.
-pub fn log_last_leaks<L: Log>(log: &L, debug: AllocatorDebugSettings, types: &MemoryTypes<ID3D12Heap>) {
+pub fn log_last_leaks<L: Log>(
+    log: &L,
+    debug: AllocatorDebugSettings,
+    types: &MemoryTypes<ID3D12Heap>,
+) {
     logging::log_last_leaks(log, MODULE, debug, types);
 }

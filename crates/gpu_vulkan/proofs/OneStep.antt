@@ -186,9 +186,11 @@ attempt_once : (setup : Setup) (t : ℕ) (d : AllocationCreateDesc) (o : Attempt
 attempt_once setup t d o x y old new next below sound a b =
     let once = attempts_once setup old.budgets old.slots t d below sound o x y new.slots next.slots a.slots b.slots in
     let other : BytesAfter (is_mapped setup.properties t) t o.asked x old.byte_view next.byte_view = subst (λ w. BytesAfter (is_mapped setup.properties t) t o.asked w old.byte_view next.byte_view)
-    (sym once.0) b.bytes in
-    (once.0, states_alike new next once.1 (a.budgets ∙ sym b.budgets) (bytes_once (is_mapped setup.properties t) t o.asked x old.byte_view new.byte_view next.byte_view a.bytes other)
-    (a.recorded ∙ sym b.recorded))
+    (sym once.0) b.bytes in (
+      once.0,
+      states_alike new next once.1 (a.budgets ∙ sym b.budgets) (bytes_once (is_mapped setup.properties t) t o.asked x old.byte_view new.byte_view next.byte_view a.bytes other)
+          (a.recorded ∙ sym b.recorded),
+    )
 
 -- ---- an allocation
 
@@ -368,9 +370,11 @@ step_once setup (Rename f name) o x y old new next sound a b =
     (a.2 ∙ ap done_with once.0 ∙ sym b.2, states_alike new next once.1.0 once.1.1 rest.byte_view rest.history)
 step_once setup (Write w ws) o x y old new next sound a b =
     let p = a.2 in
-    let q = b.2 in
-    (a.1 ∙ sym b.1, states_alike new next (p.slots ∙ sym q.slots) (p.budgets ∙ sym q.budgets) (writes_once (id_of w) ws old.byte_view new.byte_view next.byte_view p.writes q.writes)
-    (p.history ∙ sym q.history))
+    let q = b.2 in (
+      a.1 ∙ sym b.1,
+      states_alike new next (p.slots ∙ sym q.slots) (p.budgets ∙ sym q.budgets) (writes_once (id_of w) ws old.byte_view new.byte_view next.byte_view p.writes q.writes)
+          (p.history ∙ sym q.history),
+    )
 step_once setup (Read r) o x y old new next sound a b = (a.2 ∙ ap Bytes (read_once setup r old a.1 b.1 a.3 b.3) ∙ sym b.2, a.4 ∙ sym b.4)
 step_once setup Capacity o x y old new next sound a b = (a.1 ∙ sym b.1, a.2 ∙ sym b.2)
 step_once setup Report o x y old new next sound a b = (a.2 ∙ ap report_with (makes_once _ (host_met o.first.host) a.1 b.1 a.3 b.3) ∙ sym b.2, a.4 ∙ sym b.4)

@@ -76,6 +76,10 @@ pub fn log_leaks<L: Log>(log: &L, level: Level, types: &MemoryTypes<DeviceMemory
 }
 
 /// Logs the same as warnings, where the settings ask for it as an allocator goes.
-pub fn log_last_leaks<L: Log>(log: &L, debug: AllocatorDebugSettings, types: &MemoryTypes<DeviceMemory>) {
+pub fn log_last_leaks<L: Log>(
+    log: &L,
+    debug: AllocatorDebugSettings,
+    types: &MemoryTypes<DeviceMemory>,
+) {
     logging::log_last_leaks(log, MODULE, debug, types);
 }
