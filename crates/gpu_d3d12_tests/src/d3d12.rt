@@ -1,6 +1,7 @@
 //! Worked rows of the DirectX 12 allocator.
 
 mod account;
+mod ample;
 mod foreign;
 mod log_lines;
 mod pieces;
