@@ -1,14 +1,12 @@
 -- What the device's answers and what is released are for the source.
 use Rattle.std.specs.Prelude.{IsSome}
-use Rattle.std.proofs.Common.{◌≡◌, ◌∙◌, refl, sym, ap, subst, ℕ, List, ◌∷◌, Option, Some, None, Ok, Err, Result}
+use Rattle.std.proofs.Common.{◌≡◌, ◌∙◌, refl, sym, ap, subst, ℕ, List, ◌∷◌, Some, None, Ok, Err, Result}
 use Rattle.gpu_values.specs.Refusal.{Refusal, refusal_of}
 use Rattle.gpu_values.specs.declared.error.AllocationError.{AllocationError}
 use Rattle.gpu_device.specs.declared.d3d12.event.ResourcePlace.{ResourcePlace}
 use Rattle.gpu_device.specs.D3D12.{Held, Entry, without_resource}
 use Rattle.gpu_device.specs.Granted.{with_granted}
 use Rattle.gpu_device.specs.declared.d3d12.device.D3D12Device.{Ghosts}
-use Rattle.gpu_device.specs.declared.d3d12.types.HeapFlags.{HeapFlags}
-use Rattle.gpu_device.specs.declared.d3d12.types.HeapProperties.{HeapProperties}
 use Rattle.gpu_device.specs.declared.d3d12.types.ID3D12Heap.{ID3D12Heap}
 use Rattle.gpu_memory_types.proofs.Options.{none_some, some_same}
 use Rattle.gpu_d3d12_setup.specs.DeviceVersion.{device_of, with_device}

@@ -1,16 +1,14 @@
 -- A call over a device is a step of the model.
-use Rattle.std.proofs.Common.{◌≡◌, ◌∙◌, refl, sym, ap, subst, ℕ, true, false, Bool, Option, Some, None, Ok, Err, Result}
+use Rattle.std.proofs.Common.{◌≡◌, ap, subst, ℕ, true, false, Bool, Option, Some, None, Ok, Err, Result}
 use Rattle.gpu_values.specs.Refusal.{Refusal}
 use Rattle.gpu_slots.specs.declared.piece.Piece.{Piece}
 use Rattle.gpu_device.specs.declared.d3d12.event.ResourcePlace.TheVariants.{Own}
 use Rattle.gpu_device.specs.declared.d3d12.event.ResourcePlace.{ResourcePlace}
 use Rattle.gpu_device.specs.D3D12.{Entry}
-use Rattle.gpu_device.specs.Granted.{counted}
 use Rattle.gpu_device.specs.declared.d3d12.device.D3D12Device.{Ghosts}
 use Rattle.gpu_device.specs.declared.d3d12.types.HeapFlags.{HeapFlags}
 use Rattle.gpu_device.specs.declared.d3d12.types.HeapProperties.{HeapProperties}
 use Rattle.gpu_device.specs.declared.d3d12.types.ID3D12Heap.{ID3D12Heap}
-use Rattle.gpu_d3d12_setup.specs.HeapAnswer.{HeapAnswer, Granted, Declined, Null, heap_number}
 use Rattle.gpu_d3d12_setup.specs.ResourceAnswer.{ResourceAnswer, placed_texts}
 use Rattle.gpu_d3d12_setup.specs.Setup.{kinds_told}
 use Rattle.gpu_d3d12_setup.specs.declared.describe.AllocationCreateDesc.{AllocationCreateDesc}
@@ -28,7 +26,7 @@ use Rattle.gpu_d3d12.specs.Committed.{IsAfterResource, number_or_refusal}
 use Rattle.gpu_d3d12.specs.Live.{piece_of}
 use Rattle.gpu_d3d12.specs.Reply.{Reply}
 use Rattle.gpu_d3d12.specs.Resource.{piece_desc}
-use Rattle.gpu_d3d12.specs.Source.{SourceState, AsksBlock, GivesHeap, MakesResource, ReleasesResource, heap_result}
+use Rattle.gpu_d3d12.specs.Source.{SourceState, AsksBlock, GivesHeap, MakesResource, ReleasesResource}
 use Rattle.gpu_d3d12.specs.State as states
 use Rattle.gpu_d3d12.specs.State.{Basis, Contents, seen_of, over}
 use Rattle.gpu_d3d12.specs.Step.{Environment, info_of, allocated_reply, SeesQuestion, SeesGiven, SeesMade, SeesReleased, AllocatesBy, Commit, EndsBy, PlacesThen, Place, FreesPlaced, FreesCommitted, FreesResource}

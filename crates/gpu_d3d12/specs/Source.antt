@@ -12,8 +12,6 @@ use Rattle.gpu_device.specs.declared.d3d12.types.CpuPageProperty.TheVariants as 
 use Rattle.gpu_device.specs.declared.d3d12.types.HeapContent.{HeapContent}
 use Rattle.gpu_device.specs.declared.d3d12.types.HeapContent.TheVariants.{All, Buffers, RtDsTextures, NonRtDsTextures}
 use Rattle.gpu_device.specs.declared.d3d12.types.HeapDesc.{HeapDesc}
-use Rattle.gpu_device.specs.declared.d3d12.types.HeapFlags.{HeapFlags}
-use Rattle.gpu_device.specs.declared.d3d12.types.HeapProperties.{HeapProperties}
 use Rattle.gpu_device.specs.declared.d3d12.types.ID3D12Heap.{ID3D12Heap}
 use Rattle.gpu_device.specs.declared.d3d12.types.ResourceHeapTier.{ResourceHeapTier}
 use Rattle.gpu_d3d12_setup.specs.DeviceVersion.{device_of, with_device}

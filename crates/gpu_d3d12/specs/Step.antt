@@ -1,5 +1,5 @@
 -- An allocator as a model: what each call returns and leaves of its contents, by what it met with.
-use Rattle.std.specs.Prelude.{◌≡◌, ℕ, ℤ, Vec, String, Bool, true, false, List, [], ◌∷◌, map, string_bytes, Option, Some, None, Result, Ok, Err}
+use Rattle.std.specs.Prelude.{◌≡◌, ℕ, Vec, String, Bool, true, false, List, [], ◌∷◌, map, string_bytes, Option, Some, None, Result, Ok, Err}
 use Rattle.std.specs.Global.{Global}
 use Rattle.std.specs.List.{slice_set}
 use Rattle.gpu_values.specs.Refusal.{Refusal, refusal_of, invalid_allocation_create_desc}

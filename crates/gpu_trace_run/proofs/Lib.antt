@@ -1,4 +1,2 @@
-pub mod Runs
-pub mod Input
 pub mod Sorts
 pub mod ReplayedLines

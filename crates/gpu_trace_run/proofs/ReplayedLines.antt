@@ -6,11 +6,12 @@ use Rattle.std.proofs.lemmas.List.{length-map, get_or-map, take_all}
 use Rattle.gpu_trace_lines.specs.Words.{texts}
 use Rattle.gpu_trace_run.specs.declared.replay.Replayed.{Replayed}
 use Rattle.gpu_trace_run.specs.declared.replay.Replayed.TheVariants as replayed
-use Rattle.gpu_trace_run.specs.declared.stage.Outcome.{Outcome}
-use Rattle.gpu_trace_run.specs.declared.stage.Outcome.TheVariants.{Nothing, Replied, Bad}
+use Rattle.gpu_trace_text.specs.declared.outcome.Outcome.{Outcome}
+use Rattle.gpu_trace_text.specs.declared.outcome.Outcome.TheVariants.{Nothing, Replied, Bad}
 use Rattle.gpu_trace_run.specs.declared.stage.Stage.{Stage}
-use Rattle.gpu_trace_run.specs.Stage.{is_bad}
-use Rattle.gpu_trace_run.specs.Run.{Serves, lines_of, longest_trace}
+use Rattle.gpu_trace_lines.specs.declared.reply.Reply.{Reply}
+use Rattle.gpu_trace_run.specs.Run.{Serves}
+use Rattle.gpu_trace_text.specs.Run.{is_bad, lines_of, longest_trace}
 use Rattle.gpu_trace_run.specs.Replay.{LeadTo, serve, StopAt, Replays, ReplaysTrace}
 
 text_at : (lines : List (Bor (List ℕ))) (n : ℕ) (d : Bor (List ℕ)) → n < length lines → (get_or lines n d).now ≡ get_or (texts lines) n []
@@ -20,7 +21,7 @@ texts_below : (lines : List (Bor (List ℕ))) (n : ℕ) → n < length lines →
 texts_below lines n lt = rw length-map lt
 
 -- one line more
-pub line_more : (lines : List (Bor (List ℕ))) (d : Bor (List ℕ)) (stage next : Stage) (n : ℕ) (o : Outcome)
+pub line_more : (lines : List (Bor (List ℕ))) (d : Bor (List ℕ)) (stage next : Stage) (n : ℕ) (o : Outcome Reply)
     → LeadTo (take n (texts lines)) stage → n < length lines → Serves stage (get_or lines n d).now o next → is_bad o ≡ false → LeadTo (take (n + 1) (texts lines)) next
 line_more lines d stage next n o led lt did goes =
     let did' : Serves stage (get_or (texts lines) n []) o next = rw (← text_at lines n d lt) did in
@@ -33,7 +34,7 @@ all_lines lines stage n led le =
     rw same at led
 
 -- the line at which it stops
-pub line_bad : (lines : List (Bor (List ℕ))) (d : Bor (List ℕ)) (stage next : Stage) (n : ℕ) (o : Outcome)
+pub line_bad : (lines : List (Bor (List ℕ))) (d : Bor (List ℕ)) (stage next : Stage) (n : ℕ) (o : Outcome Reply)
     → LeadTo (take n (texts lines)) stage → n < length lines → Serves stage (get_or lines n d).now o next → is_bad o ≡ true → StopAt (texts lines) n
 line_bad lines d stage next n Nothing led lt did stop = cc
 line_bad lines d stage next n (Replied r) led lt did stop = cc

@@ -11,8 +11,9 @@ use Rattle.gpu_trace_lines.specs.declared.device.setting.Setting as settings
 use Rattle.gpu_trace_lines.specs.declared.device.setting.Setting.TheVariants.{Heap, MemoryType, Granularity, Sizes, Refuse}
 use Rattle.gpu_trace_lines.specs.declared.line.Line.{Line}
 use Rattle.gpu_trace_lines.specs.declared.line.Line.TheVariants as lines
-use Rattle.gpu_trace_run.specs.declared.stage.Outcome.{Outcome}
-use Rattle.gpu_trace_run.specs.declared.stage.Outcome.TheVariants.{Nothing, Replied, Bad}
+use Rattle.gpu_trace_lines.specs.declared.reply.Reply.{Reply}
+use Rattle.gpu_trace_text.specs.declared.outcome.Outcome.{Outcome}
+use Rattle.gpu_trace_text.specs.declared.outcome.Outcome.TheVariants.{Nothing, Replied, Bad}
 use Rattle.gpu_trace_run.specs.declared.stage.Stage.{Stage}
 use Rattle.gpu_trace_lines.specs.Words.{words_of}
 use Rattle.gpu_trace_lines.specs.BlockCommand as block
@@ -178,7 +179,7 @@ alike stage line (lines.Asks c) m means also a = said_beside stage line (lines.A
 alike stage line lines.Destroy m means also a = said_beside stage line lines.Destroy m tt means also a
 alike stage line lines.Bad m means also a = nothing_beside stage line m means also a
 
-pub served : (old new : Stage) (line : List ℕ) (l : Line) (o : Outcome) → Means line l → Does old l o new → Serves old line o new
+pub served : (old new : Stage) (line : List ℕ) (l : Line) (o : Outcome Reply) → Means line l → Does old l o new → Serves old line o new
 served old new line l Nothing means did = (l, means, did)
 served old new line l (Replied r) means did = (l, means, did)
 served old new line l Bad means did = λ m also a. did (alike old line l m means also a)

@@ -2,16 +2,17 @@
 use Rattle.std.specs.Prelude.{◌≡◌, ℕ, ◌+◌, ◌<◌, ◌≤◌, ◌⊎◌, false, List, [], ◌∷◌, ◌++◌, length, take, slice_index_or}
 use Rattle.gpu_trace_run.specs.declared.replay.Replayed.{Replayed}
 use Rattle.gpu_trace_run.specs.declared.replay.Replayed.TheVariants.{Whole, Bad}
-use Rattle.gpu_trace_run.specs.declared.stage.Outcome.{Outcome}
+use Rattle.gpu_trace_text.specs.declared.outcome.Outcome.{Outcome}
 use Rattle.gpu_trace_run.specs.declared.stage.Stage.{Stage}
 use Rattle.gpu_trace_run.specs.declared.stage.Stage.TheVariants.{Before}
-use Rattle.gpu_trace_run.specs.Stage.{is_bad}
-use Rattle.gpu_trace_run.specs.Run.{Serves, IsBad, lines_of, longest_trace}
+use Rattle.gpu_trace_lines.specs.declared.reply.Reply.{Reply}
+use Rattle.gpu_trace_run.specs.Run.{Serves, IsBad}
+use Rattle.gpu_trace_text.specs.Run.{is_bad, lines_of, longest_trace}
 
 -- these lines, served from the first to the last, lead to this stage
 pub data LeadTo : List (List ℕ) → Stage → Type 0 where
   begin : LeadTo [] Before
-  serve : (lines : List (List ℕ)) (line : List ℕ) (old : Stage) (outcome : Outcome) {new : Stage}
+  serve : (lines : List (List ℕ)) (line : List ℕ) (old : Stage) (outcome : Outcome Reply) {new : Stage}
       → LeadTo lines old → Serves old line outcome new → is_bad outcome ≡ false → LeadTo (lines ++ line ∷ []) new
 
 -- the i-th line, counted from 0, is the first that may not come

@@ -25,8 +25,8 @@ use Rattle.gpu_trace_lines.specs.declared.line.Line.{Line}
 use Rattle.gpu_trace_lines.specs.declared.line.Line.TheVariants as lines
 use Rattle.gpu_trace_lines.specs.declared.reply.Reply.{Reply}
 use Rattle.gpu_trace_lines.specs.declared.reply.Reply.TheVariants as replies
-use Rattle.gpu_trace_run.specs.declared.stage.Outcome.{Outcome}
-use Rattle.gpu_trace_run.specs.declared.stage.Outcome.TheVariants.{Nothing, Replied, Bad}
+use Rattle.gpu_trace_text.specs.declared.outcome.Outcome.{Outcome}
+use Rattle.gpu_trace_text.specs.declared.outcome.Outcome.TheVariants.{Nothing, Replied, Bad}
 use Rattle.gpu_trace_run.specs.declared.stage.Stage.{Stage}
 use Rattle.gpu_trace_run.specs.declared.stage.Stage.TheVariants.{Before, Block, Configuring, Device, Closed}
 use Rattle.gpu_trace_lines.specs.BlockCommand.{Fits as FitsBlock}
@@ -163,15 +163,10 @@ Admits stage lines.Bad = ⊥
 Admits stage l = AdmitsSort stage (sort_of l)
 
 -- what one line does that was read so
-abbrev pub Does : Stage → Line → Outcome → Stage → Type 0
+abbrev pub Does : Stage → Line → Outcome Reply → Stage → Type 0
 Does old l Nothing new = Quietly old l new
 Does old l (Replied r) new = Step old l r new
 Does old l Bad new = Admits old l → ⊥
-
-abbrev pub is_bad : Outcome → Bool
-is_bad Nothing = false
-is_bad (Replied r) = false
-is_bad Bad = true
 
 -- the numbers and names of a line that was read
 abbrev pub FitsLine : Line → Type 0
@@ -179,9 +174,9 @@ FitsLine (lines.Says c) = FitsBlock c
 FitsLine _ = Unit {0}
 
 -- a session served a command
-abbrev pub ServedSo : SessionValue SimVulkan → SessionCommand → Outcome → Stage → Type 0
+abbrev pub ServedSo : SessionValue SimVulkan → SessionCommand → Outcome Reply → Stage → Type 0
 ServedSo s command (Replied (replies.Device r)) new = Serves s command r new
 ServedSo s command _ new = ⊥
 
-abbrev pub MatchServed : SessionValue SimVulkan → SessionCommand → Stage × Outcome → Type 0
+abbrev pub MatchServed : SessionValue SimVulkan → SessionCommand → Stage × Outcome Reply → Type 0
 MatchServed s command r = ServedSo s command r.1 r.0

@@ -11,4 +11,4 @@ pub use block_stage::BlockStage;
 pub use configuration::Configuration;
 pub use replay::{Replayed, replay_trace};
 pub use run::run_trace;
-pub use stage::{Outcome, Stage};
+pub use stage::Stage;

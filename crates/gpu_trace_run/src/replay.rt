@@ -4,8 +4,9 @@ ghost use Rattle.std.specs.Prelude.{IfOk, IfSome};
 ghost use Rattle.gpu_trace_lines.specs.Words.{texts};
 ghost use Rattle.gpu_trace_run.specs.Replay.{Replays, ReplaysTrace};
 
-use crate::run::{LIMIT, TraceError, lines_in, read_trace, serve};
+use crate::run::serve;
 use crate::stage::Stage;
+use gpu_trace_text::{LIMIT, TraceError, lines_in, read_trace};
 use log::Log;
 use std::alloc::{AllocError, Global};
 use std::io::Read;

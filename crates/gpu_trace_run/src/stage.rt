@@ -1,9 +1,9 @@
 //! How far a trace has come.
 
-ghost use Rattle.std.specs.Prelude.{◌≡◌, IfOk};
+ghost use Rattle.std.specs.Prelude.{IfOk};
 ghost use Rattle.gpu_trace_lines.specs.BlockCommand.{Fits};
 ghost use Rattle.gpu_vulkan_session.specs.Served.{command_of};
-ghost use Rattle.gpu_trace_run.specs.Stage.{IsSound, Begins, Does, MatchServed, Ended, FitsLine, is_bad};
+ghost use Rattle.gpu_trace_run.specs.Stage.{IsSound, Begins, Does, MatchServed, Ended, FitsLine};
 ghost use Rattle.gpu_trace_run.specs.declared.block_stage.BlockStage.TheVariants as block_stages;
 
 use crate::block_stage::BlockStage;
@@ -16,6 +16,7 @@ use gpu_sim::SimVulkan;
 use gpu_trace_lines::device::reply as device;
 use gpu_trace_lines::device::setting::Setting;
 use gpu_trace_lines::{Line, Reply};
+use gpu_trace_text::Outcome;
 use gpu_values::AllocatorDebugSettings;
 use gpu_vulkan::Allocator;
 use gpu_vulkan_session::Session;
@@ -37,28 +38,8 @@ pub enum Stage {
     Closed,
 }
 
-/// What a line did.
-#[derive(Drop)]
-pub enum Outcome {
-    Nothing,
-    Replied(Reply),
-    Bad,
-}
-
-impl Outcome {
-    /// Whether the line is bad, so that the trace stops here.
-    pub fn is_bad(&self) -> bool
-        ensures { result ≡ is_bad self.now }
-    {
-        match self {
-            Outcome::Bad => true,
-            Outcome::Nothing | Outcome::Replied(_) => false,
-        }
-    }
-}
-
 /// Serves a command of a block trace.
-fn serve_block(mut stage: BlockStage, alloc: Global, command: Command) -> (Stage, Outcome)
+fn serve_block(mut stage: BlockStage, alloc: Global, command: Command) -> (Stage, Outcome<Reply>)
     requires { Fits command }
     ensures { Does (Stage.Block stage) (Line.Says command) result.1 result.0 }
 {
@@ -107,7 +88,7 @@ fn make<L: Log>(log: &L, alloc: Global, configuration: Configuration) -> (Stage,
 fn configure(
     mut configuration: Configuration,
     setting: Setting,
-) -> Result<(Stage, Outcome), AllocError>
+) -> Result<(Stage, Outcome<Reply>), AllocError>
     ensures { IfOk result (λ r. Does (Stage.Configuring configuration) (Line.Configures setting) r.1 r.0) }
 {
     if configuration.set(&setting)? {
@@ -118,7 +99,11 @@ fn configure(
 }
 
 /// Serves one command of a device trace.
-fn serve_ask<L: Log>(log: &L, mut session: Session<SimVulkan>, command: &Ask) -> (Stage, Outcome)
+fn serve_ask<L: Log>(
+    log: &L,
+    mut session: Session<SimVulkan>,
+    command: &Ask,
+) -> (Stage, Outcome<Reply>)
     ensures { MatchServed session (command_of command.now) result }
 {
     let reply = session.serve(log, command);
@@ -130,7 +115,7 @@ fn serve_ask<L: Log>(log: &L, mut session: Session<SimVulkan>, command: &Ask) ->
 }
 
 /// Serves a line of a device trace whose allocator is made.
-fn serve_device<L: Log>(log: &L, session: Session<SimVulkan>, line: Line) -> (Stage, Outcome)
+fn serve_device<L: Log>(log: &L, session: Session<SimVulkan>, line: Line) -> (Stage, Outcome<Reply>)
     ensures { Does (Stage.Device session) line result.1 result.0 }
 {
     match line {
@@ -159,7 +144,7 @@ impl Stage {
         log: &L,
         alloc: Global,
         line: Line,
-    ) -> Result<(Stage, Outcome), AllocError>
+    ) -> Result<(Stage, Outcome<Reply>), AllocError>
         requires { FitsLine line }
         ensures { IfOk result (λ r. Does self line r.1 r.0) }
     {
@@ -191,7 +176,11 @@ impl Stage {
 }
 
 /// Serves the first line that isn't blank.
-fn serve_first<L: Log>(log: &L, alloc: Global, line: Line) -> Result<(Stage, Outcome), AllocError>
+fn serve_first<L: Log>(
+    log: &L,
+    alloc: Global,
+    line: Line,
+) -> Result<(Stage, Outcome<Reply>), AllocError>
     requires { FitsLine line }
     ensures { IfOk result (λ r. Does Stage.Before line r.1 r.0) }
 {
@@ -213,7 +202,7 @@ fn serve_configuring<L: Log>(
     alloc: Global,
     configuration: Configuration,
     line: Line,
-) -> Result<(Stage, Outcome), AllocError>
+) -> Result<(Stage, Outcome<Reply>), AllocError>
     ensures { IfOk result (λ r. Does (Stage.Configuring configuration) line r.1 r.0) }
 {
     match line {

@@ -1,4 +1,4 @@
-use Rattle.std.proofs.Common.{◌∙◌, sym, ap, subst, arith, List, ◌+◌, ◌<◌, ◌^◌, ◌++◌, ◌∷◌, [], Err, Some}
+use Rattle.std.proofs.Common.{◌∙◌, sym, ap, subst, arith, List, ◌+◌, ◌<◌, ◌^◌, ◌++◌, ◌∷◌, [], Err}
 use Rattle.gpu_device.specs.declared.d3d12.event.ResourcePlace.TheVariants.{Own}
 use Rattle.gpu_device.specs.D3D12.{Committed}
 use Rattle.gpu_d3d12_setup.specs.DeviceVersion.{device_of}

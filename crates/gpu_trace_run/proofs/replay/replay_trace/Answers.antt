@@ -1,6 +1,6 @@
 use Rattle.std.proofs.Common.{rules, ◌≡◌, ◌∙◌, ap, ◌<◌, ◌≤◌, length}
 use Rattle.gpu_trace_lines.specs.Words.{texts}
-use Rattle.gpu_trace_run.specs.Run.{lines_of, longest_trace}
+use Rattle.gpu_trace_text.specs.Run.{lines_of, longest_trace}
 use Rattle.gpu_trace_run.proofs.ReplayedLines.{too_long, all_read}
 use Rattle.gpu_trace_run.proofs.replay.replay_trace.Goals as goal
 

@@ -1,4 +1,4 @@
-use Rattle.std.proofs.Common.{◌≡◌, ◌∙◌, ℕ, List, refl, sym, ap, subst, None}
+use Rattle.std.proofs.Common.{◌≡◌, ◌∙◌, ℕ, List, refl, sym, ap, subst}
 use Rattle.gpu_device.specs.declared.d3d12.event.ResourcePlace.TheVariants.{InHeap}
 use Rattle.gpu_device.specs.D3D12.{Placed, Entry}
 use Rattle.gpu_d3d12_setup.specs.DeviceVersion.{device_of}

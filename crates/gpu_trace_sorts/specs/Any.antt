@@ -1,0 +1,54 @@
+-- A trace of any sort: the first line tells which it is.
+use Rattle.std.specs.Prelude.{◌≡◌, ◌≢◌, ◌⊎◌, ℕ, List, codes}
+use Rattle.gpu_trace_lines.specs.Reply as vulkan_replies
+use Rattle.gpu_metal_trace.specs.Configuration.{nothing_configured}
+use Rattle.gpu_metal_trace.specs.Reply as metal_replies
+use Rattle.gpu_metal_trace.specs.Stage as metal
+use Rattle.gpu_metal_trace.specs.declared.stage.Stage as metal_stages
+use Rattle.gpu_metal_trace.specs.declared.stage.Stage.TheVariants.{Configuring}
+use Rattle.gpu_trace_run.specs.Run as vulkan
+use Rattle.gpu_trace_run.specs.declared.stage.Stage as vulkan_stages
+use Rattle.gpu_trace_run.specs.declared.stage.Stage.TheVariants.{Before}
+use Rattle.gpu_trace_text.specs.declared.outcome.Outcome.{Outcome}
+use Rattle.gpu_trace_text.specs.declared.outcome.Outcome.TheVariants.{Nothing, Replied, Bad}
+use Rattle.gpu_trace_sorts.specs.declared.any.AnyReply.{AnyReply}
+use Rattle.gpu_trace_sorts.specs.declared.any.AnyReply.TheVariants as replies
+use Rattle.gpu_trace_sorts.specs.declared.any.AnyTrace.{AnyTrace}
+use Rattle.gpu_trace_sorts.specs.declared.any.AnyTrace.TheVariants.{Vulkan, Metal}
+
+-- a line does in a block trace or a device trace what it does there
+abbrev pub DidVulkan : vulkan_stages.Stage → List ℕ → Outcome AnyReply → AnyTrace → Type 0
+DidVulkan old line Nothing (Vulkan new) = vulkan.Serves old line Nothing new
+DidVulkan old line (Replied (replies.Vulkan r)) (Vulkan new) = vulkan.Serves old line (Replied r) new
+DidVulkan old line Bad (Vulkan new) = vulkan.Serves old line Bad new
+DidVulkan old line _ _ = ⊥
+
+-- a line does in a Metal trace what it does there
+abbrev pub DidMetal : metal_stages.Stage → List ℕ → Outcome AnyReply → AnyTrace → Type 0
+DidMetal old line Nothing (Metal new) = metal.DoesText old line Nothing new
+DidMetal old line (Replied (replies.Metal r)) (Metal new) = metal.DoesText old line (Replied r) new
+DidMetal old line Bad (Metal new) = metal.DoesText old line Bad new
+DidMetal old line _ _ = ⊥
+
+-- the line that a Metal trace begins with
+abbrev pub metal_line : List ℕ
+metal_line = codes "metal"
+
+-- the first line that isn't blank begins a Metal trace, or is the first of another sort
+abbrev pub DoesFirst : List ℕ → Outcome AnyReply → AnyTrace → Type 0
+DoesFirst line did new =
+    ((line ≡ metal_line) × (did ≡ Nothing) × (new ≡ Metal (Configuring nothing_configured)))
+    ⊎ ((line ≢ metal_line) × DidVulkan Before line did new)
+
+-- what a line does
+abbrev pub Does : AnyTrace → List ℕ → Outcome AnyReply → AnyTrace → Type 0
+Does (Vulkan Before) line did new = DoesFirst line did new
+Does (Vulkan old) line did new = DidVulkan old line did new
+Does (Metal old) line did new = DidMetal old line did new
+
+abbrev pub reply_line : AnyReply → List ℕ
+reply_line (replies.Vulkan r) = vulkan_replies.reply_line r
+reply_line (replies.Metal r) = metal_replies.reply_line r
+
+abbrev pub MatchDone : (Outcome AnyReply → AnyTrace → Type 0) → AnyTrace × Outcome AnyReply → Type 0
+MatchDone does r = does r.1 r.0

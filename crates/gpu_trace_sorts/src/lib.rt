@@ -1,0 +1,6 @@
+//! Traces of each sort: the first line tells which it is.
+#![tactic(auto)]
+
+mod any;
+
+pub use any::{AnyReply, AnyTrace, run_trace};
