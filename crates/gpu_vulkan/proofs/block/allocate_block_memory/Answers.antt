@@ -1,4 +1,4 @@
-use Rattle.std.proofs.Common.{◌∙◌, sym, ap, Some, Ok, Err, true, ◌∷◌, refl, rules}
+use Rattle.std.proofs.Common.{◌∙◌, sym, ap, Some, Ok, true, ◌∷◌, refl, rules}
 use Rattle.std.specs.FinMap.{remove}
 use Rattle.gpu_device.specs.Held.{Held, size_of, mapped_with, raised}
 use Rattle.gpu_device.proofs.Changes.{size-new}

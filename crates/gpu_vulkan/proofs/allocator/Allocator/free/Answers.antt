@@ -1,4 +1,4 @@
-use Rattle.std.proofs.Common.{rules, Some, None, Ok, Err, Result, Option, ◌≡◌, ◌∙◌, sym, subst}
+use Rattle.std.proofs.Common.{rules, Some, None, Option, ◌≡◌, ◌∙◌, sym, subst}
 use Rattle.gpu_slots.specs.declared.piece.Piece.{Piece}
 use Rattle.gpu_device.specs.declared.vulkan.types.DeviceMemory.{DeviceMemory}
 use Rattle.gpu_vulkan.specs.Free.{FreesPiece, Frees}
