@@ -8,6 +8,7 @@ mod refusals;
 mod refused;
 mod rows;
 mod scripts;
+mod sessions;
 
 use gpu_device::metal::{CpuCacheMode, HeapDescriptor, MTLHeap, MTLResidencySet, StorageMode};
 use gpu_metal::{Allocation, Allocator};
