@@ -149,40 +149,118 @@ class Allocation:
         return self.of_type.slots[self.slot] if self.of_type else None
 
 
-class Device:
-    """The Vulkan allocator over a device that refuses the questions of its script."""
+class Allocator:
+    """Memory types and what the caller's numbers stand for, over a device that refuses the questions of its script."""
 
     def __init__(self):
-        self.heaps, self.types, self.page, self.refuses, self.questions = [], [], 1, {}, 0
+        self.types, self.page, self.refuses, self.questions, self.bound = [], 1, {}, 0, {}
         self.device, self.host = Sizes(256 * MB, 256 * MB), Sizes(64 * MB, 64 * MB)
-        self.bound = {}
 
     def configure(self, words):
-        numbers = [int(it) for it in words[1:] if it != "null"]
-        if words[0] == "heap":
-            self.heaps.append(numbers[0])
-        elif words[0] == "type":
-            self.types.append(MemoryType(len(self.types), *numbers))
-        elif words[0] == "granularity":
-            self.page = numbers[0]
-        elif words[0] == "sizes":
-            self.device, self.host = Sizes(numbers[0], numbers[2]), Sizes(numbers[1], numbers[3])
+        if words[0] == "sizes":
+            device, host, most_of_device, most_of_host = map(int, words[1:])
+            self.device, self.host = Sizes(device, most_of_device), Sizes(host, most_of_host)
         elif words[0] == "refuse":
-            self.refuses.setdefault(numbers[0], None if words[2] == "null" else numbers[1])
+            self.refuses.setdefault(int(words[1]), None if words[2] == "null" else int(words[2]))
         else:
             return False
         return True
-
-    def new(self):
-        wrong = not is_power_of_two(self.page) or len(self.types) > 32 or any(it.heap >= len(self.heaps) for it in self.types)
-        return "error E5" if wrong else "ok"
 
     def refusal(self):
         """The next question, and whether it is refused."""
         self.questions += 1
         return self.questions in self.refuses, self.refuses.get(self.questions)
 
-    def ask(self, of_type):
+    def in_type(self, of_type, size, alignment, kind, is_own, name):
+        """A piece of the memory type: of the highest shared block that has a place, or of a new block."""
+        shared_size = (self.host if of_type.flags & HOST_VISIBLE else self.device).next(len(of_type.shared()))
+        if is_own or size > shared_size:
+            return self.in_new_block(of_type, Dedicated(size, self.page), size, alignment, kind, name)
+        for slot in range(len(of_type.slots) - 1, -1, -1):
+            block = of_type.slots[slot]
+            extent = block.take(size, alignment, kind, name) if block and not isinstance(block, Dedicated) else None
+            if extent:
+                return Allocation(of_type, slot, extent)
+        return self.in_new_block(of_type, Block(shared_size, self.page), size, alignment, kind, name)
+
+    def in_new_block(self, of_type, block, size, alignment, kind, name):
+        if self.sum_of_blocks() + block.size > MAX:
+            raise Refused("E1")
+        if of_type.budget is not None and of_type.capacity() + block.size > of_type.budget:
+            raise Refused("E11")
+        block.handle = self.ask(of_type, block.size)
+        extent = block.take(size, alignment, kind, name)
+        return Allocation(of_type, of_type.put(block), extent)
+
+    def give_back(self, got):
+        """The piece goes, and its block with it where that is left empty and isn't the only shared one of its memory type."""
+        block, several = got.block(), len(got.of_type.shared()) > 1
+        block.free(got.extent)
+        if not block.extents and (isinstance(block, Dedicated) or several):
+            got.of_type.slots[got.slot] = None
+            self.release(block.handle)
+
+    def release(self, handle):
+        """The driver's object behind a block goes back."""
+
+    def sum_of_blocks(self):
+        return sum(it.capacity() for it in self.types)
+
+    def every_block(self):
+        return [(of_type, slot, it) for of_type in self.types for slot, it in enumerate(of_type.slots) if it]
+
+    # ---- the commands
+
+    def free(self, key):
+        got = self.bound.pop(key, None)
+        if not got:
+            return "unbound"
+        if got.block():
+            self.give_back(got)
+        return "ok"
+
+    def report(self):
+        rows, blocks = [], []
+        for _, _, block in self.every_block():
+            first = len(rows)
+            rows += block.rows()
+            blocks.append(b"block %d %d %d\n" % (block.size, first, len(rows)))
+        total = sum(it.allocated() for _, _, it in self.every_block())
+        return (b"".join(rows + blocks) + b"total %d capacity %d" % (total, self.sum_of_blocks())).decode()
+
+    def capacity(self):
+        return str(self.sum_of_blocks())
+
+    def budget(self, index, size):
+        if int(index) >= len(self.types):
+            return "error E6"
+        self.types[int(index)].budget = None if size == "none" else int(size)
+        return "ok"
+
+
+class Device(Allocator):
+    """The Vulkan allocator."""
+
+    def __init__(self):
+        super().__init__()
+        self.heaps = []
+
+    def configure(self, words):
+        if words[0] == "heap":
+            self.heaps.append(int(words[1]))
+        elif words[0] == "type":
+            self.types.append(MemoryType(len(self.types), int(words[1]), int(words[2])))
+        elif words[0] == "granularity":
+            self.page = int(words[1])
+        else:
+            return super().configure(words)
+        return True
+
+    def new(self):
+        wrong = not is_power_of_two(self.page) or len(self.types) > 32 or any(it.heap >= len(self.heaps) for it in self.types)
+        return "error E5" if wrong else "ok"
+
+    def ask(self, of_type, size):
         """Memory for a block, mapped where the host can see it."""
         is_refused, code = self.refusal()
         if is_refused:
@@ -210,24 +288,7 @@ class Device:
     def attempt(self, of_type, size, alignment, kind, scheme, name):
         if size > self.heaps[of_type.heap]:
             raise Refused("E1")
-        shared_size = (self.host if of_type.flags & HOST_VISIBLE else self.device).next(len(of_type.shared()))
-        if scheme != "managed" or size > shared_size:
-            return self.in_new_block(of_type, Dedicated(size, self.page), size, alignment, kind, name)
-        for slot in range(len(of_type.slots) - 1, -1, -1):
-            block = of_type.slots[slot]
-            extent = block.take(size, alignment, kind, name) if block and not isinstance(block, Dedicated) else None
-            if extent:
-                return Allocation(of_type, slot, extent)
-        return self.in_new_block(of_type, Block(shared_size, self.page), size, alignment, kind, name)
-
-    def in_new_block(self, of_type, block, size, alignment, kind, name):
-        if sum(it.capacity() for it in self.types) + block.size > MAX:
-            raise Refused("E1")
-        if of_type.budget is not None and of_type.capacity() + block.size > of_type.budget:
-            raise Refused("E11")
-        self.ask(of_type)
-        extent = block.take(size, alignment, kind, name)
-        return Allocation(of_type, of_type.put(block), extent)
+        return self.in_type(of_type, size, alignment, kind, scheme != "managed", name)
 
     # ---- the commands
 
@@ -247,18 +308,6 @@ class Device:
         if key in self.bound:
             return "busy"
         self.bound[key] = Allocation()
-        return "ok"
-
-    def free(self, key):
-        got = self.bound.pop(key, None)
-        if not got:
-            return "unbound"
-        block = got.block()
-        if block:
-            several = len(got.of_type.shared()) > 1
-            block.free(got.extent)
-            if not block.extents and (isinstance(block, Dedicated) or several):
-                got.of_type.slots[got.slot] = None
         return "ok"
 
     def rename(self, key, name):
@@ -292,30 +341,9 @@ class Device:
         held, first = self.place(key, int(at), int(length))
         return held if isinstance(held, str) else bytes(held.get(first + i, 0) for i in range(int(length))).hex()
 
-    def every_block(self):
-        return [(of_type, slot, it) for of_type in self.types for slot, it in enumerate(of_type.slots) if it]
-
-    def report(self):
-        rows, blocks = [], []
-        for _, _, block in self.every_block():
-            first = len(rows)
-            rows += block.rows()
-            blocks.append(b"block %d %d %d\n" % (block.size, first, len(rows)))
-        total = sum(it.allocated() for _, _, it in self.every_block())
-        return (b"".join(rows + blocks) + b"total %d capacity %d" % (total, int(self.capacity()))).decode()
-
     def leaks(self):
         told = [leak_text(of_type.index, slot, block, it) for of_type, slot, block in self.every_block() for it in block.extents]
         return "".join(f"{it}\n" for it in told) + f"leaks {len(told)}"
-
-    def capacity(self):
-        return str(sum(it.capacity() for it in self.types))
-
-    def budget(self, index, size):
-        if int(index) >= len(self.types):
-            return "error E6"
-        self.types[int(index)].budget = None if size == "none" else int(size)
-        return "ok"
 
     def destroy(self):
         return "held 0"
@@ -329,6 +357,113 @@ def leak_text(memory_type, slot, block, extent):
         piece = (f"    chunk: {{\n        chunk_id: {extent.number},\n        size: {size},\n        offset: 0x{extent.start:x},\n"
                  f"        allocation_type: {extent.kind},\n        name: {name}\n    }}\n")
     return f"leak detected: {{\n    memory type: {memory_type}\n    memory block: {slot}\n{piece}}}"
+
+
+class Metal(Allocator):
+    """The Metal allocator over a device that numbers its heaps and sets in one row."""
+
+    LOCATIONS = ["GpuOnly", "CpuToGpu", "GpuToCpu"]
+    HEAPS = ["private defaultcache", "shared writecombined", "shared defaultcache"]
+    ALIGNMENT = 256
+
+    def __init__(self):
+        super().__init__()
+        self.sets, self.residency, self.set = "yes", "no", None
+        self.types = [MemoryType(at, HOST_VISIBLE if at > 0 else 0, None) for at in range(3)]
+        self.issued, self.held, self.latest_heap = 0, 0, "none"
+
+    def configure(self, words):
+        if words[0] in ("sets", "residency"):
+            setattr(self, words[0], words[1])
+            return True
+        return super().configure(words)
+
+    def question(self, is_able):
+        """The number that the device grants."""
+        if self.refusal()[0] or not is_able:
+            raise Refused("E6")
+        self.issued, self.held = self.issued + 1, self.held + 1
+        return self.issued
+
+    def new(self):
+        if self.residency == "no":
+            return "ok"
+        try:
+            self.question(self.sets == "yes")
+        except Refused as why:
+            return f"error {why}"
+        self.set = [], []
+        return "ok"
+
+    def ask(self, of_type, size):
+        self.latest_heap = f"{size} {self.HEAPS[of_type.index]}"
+        number = self.question(True)
+        if self.set:
+            self.set[0].append(number)
+        return number
+
+    def release(self, handle):
+        self.held -= 1
+        if self.set:
+            self.set[0].remove(handle)
+
+    # ---- the commands
+
+    def bind(self, key, location, size, alignment, name):
+        """Binds a piece under a number that is free, and replies where it lies."""
+        if size == 0 or not is_power_of_two(alignment):
+            return "error E4"
+        of_type = self.types[self.LOCATIONS.index(location) if location in self.LOCATIONS else 0]
+        try:
+            got = self.in_type(of_type, size, alignment, "Linear", False, name.encode())
+        except Refused as why:
+            return f"error {why}"
+        self.bound[key] = got
+        return (f"ok type {got.of_type.index} slot {got.slot} offset {got.extent.offset} size {size} chunk {got.extent.number} "
+                f"heap {got.block().handle}")
+
+    def alloc(self, key, size, alignment, location, name):
+        return "busy" if key in self.bound else self.bind(key, location, int(size), int(alignment), name)
+
+    def told(self, key, location, size, name):
+        """A piece of the size that the device tells: whole units, at least one, and at most as many as 64 bits hold."""
+        units = min(max(-(-size // self.ALIGNMENT), 1), MAX // self.ALIGNMENT)
+        return "busy" if key in self.bound else self.bind(key, location, units * self.ALIGNMENT, self.ALIGNMENT, name)
+
+    def buffer(self, key, length, location, name):
+        return self.told(key, location, int(length), name)
+
+    structure = buffer
+
+    def texture(self, key, mode, width, height, texel, name):
+        if key not in self.bound and mode.startswith("other:"):
+            return "error E6"
+        size = min(int(width) * int(height) * int(texel), MAX)
+        return self.told(key, "GpuOnly" if mode == "private" else "Unknown", size, name)
+
+    def heaps(self):
+        handles = [block.handle for _, _, block in self.every_block()]
+        return "".join(f"heap {it}\n" for it in handles) + f"heaps {len(handles)}"
+
+    def listed(self, word, at):
+        return " ".join([word, str(len(self.set[at])), *map(str, self.set[at])]) if self.set else "none"
+
+    def members(self):
+        return self.listed("members", 0)
+
+    def committed(self):
+        return self.listed("committed", 1)
+
+    def commit(self):
+        if self.set:
+            self.set = self.set[0], list(self.set[0])
+        return "ok"
+
+    def asked(self):
+        return f"asked {self.questions} heap {self.latest_heap}"
+
+    def destroy(self):
+        return f"held {self.held - len(self.every_block())} members 0"
 
 
 class BlockTrace:
@@ -368,7 +503,8 @@ def replies(trace):
         machine, written, lines = BlockTrace(lines[0]), [], lines[1:]
         written.append(f"block {machine.block.size}")
     else:
-        machine, written = Device(), []
+        is_metal = bool(lines) and lines[0] == ["metal"]
+        machine, written, lines = Metal() if is_metal else Device(), [], lines[is_metal:]
         while lines and machine.configure(lines[0]):
             lines = lines[1:]
     for verb, *words in lines:

@@ -1,4 +1,4 @@
-"""Random traces of both sorts, each from a seed: the same seed gives the same trace."""
+"""Random traces of each sort, each from a seed: the same seed gives the same trace."""
 import random
 
 MB = 1 << 20
@@ -78,3 +78,47 @@ class DeviceTrace:
 
 def device_trace(seed, commands):
     return "\n".join(DeviceTrace(seed, commands).lines).encode()
+
+
+class MetalTrace:
+    """A device with its refusals, with a residency set or without, and a list of commands."""
+
+    def __init__(self, seed, commands):
+        self.rng = rng = random.Random(seed)
+        self.live, self.lines = [], ["metal"]
+        if rng.random() < 0.8:
+            self.lines.append("sizes " + " ".join(str(rng.choice([4, 8, 16]) * MB) for _ in range(4)))
+        if rng.random() < 0.7:
+            self.lines += [f"refuse {rng.randint(2, 40)} {rng.choice(['-1', '-2', '7', 'null'])}" for _ in range(rng.randint(1, 6))]
+        if rng.random() < 0.6:
+            self.lines += ["residency yes", *(["sets yes"] if rng.random() < 0.5 else [])]
+        self.lines.append("new")
+        self.lines += [self.command(key) for key in range(commands)]
+        self.lines += ["report", "heaps", "members", "committed", "asked", "capacity", "destroy", ""]
+
+    def command(self, key):
+        chance = self.rng.random()
+        if chance < 0.30 and self.live:
+            return f"free {self.live.pop(self.rng.randrange(len(self.live)))}"
+        if chance < 0.75 or not self.live:
+            return self.request(key)
+        return self.other(key, self.rng.choice(self.live))
+
+    def request(self, key):
+        rng, asked, location = self.rng, size(self.rng, 4 * MB), self.rng.choice(LOCATIONS)
+        self.live.append(key)
+        mode = rng.choice(["shared", "managed", "private", "memoryless", "other:7"])
+        return rng.choice([
+            f"alloc {key} {asked} {alignment(rng, 1)} {location} piece-{key}", f"buffer {key} {asked} {location} buffer-{key}",
+            f"structure {key} {asked} {location} structure-{key}",
+            f"texture {key} {mode} {rng.choice([0, 1, 100, 2000, 1 << 40])} {rng.randint(0, 3000)} {rng.choice([1, 4, 16])} texture-{key}"])
+
+    def other(self, key, old):
+        rng = self.rng
+        index, kept = rng.randrange(4), rng.choice(["none", "0", str(rng.randint(1, 20) * 4 * MB)])
+        return rng.choice(["commit", "commit", "members", "committed", "heaps", "asked", "report", "capacity", f"budget {index} {kept}",
+                           f"free {key + 1000000}", f"alloc {old} 1 1 Unknown twice", f"texture {old} other:1 1 1 1 twice"])
+
+
+def metal_trace(seed, commands):
+    return "\n".join(MetalTrace(seed, commands).lines).encode()

@@ -5,6 +5,7 @@ mod foreign;
 mod log_lines;
 mod refusals;
 mod rows;
+mod sessions;
 
 use gpu_device::metal::{CpuCacheMode, HeapDescriptor, MTLHeap, MTLResidencySet, StorageMode};
 use gpu_metal::{Allocation, Allocator};

@@ -1,8 +1,12 @@
 // Sessions and traces, for users: re-exports what the crates below prove.
 #![tactic(auto)]
 
+pub mod metal;
+pub mod vulkan;
+
 pub use gpu_commands::vulkan::{Command, Given, Reply};
-pub use gpu_trace_run::{
-    BlockStage, Configuration, Outcome, Replayed, Stage, replay_trace, run_trace,
-};
+pub use gpu_run::{Machine, run};
+pub use gpu_trace_run::{BlockStage, Configuration, Replayed, Stage, replay_trace};
+pub use gpu_trace_sorts::{AnyReply, AnyTrace, run_trace};
+pub use gpu_trace_text::{Outcome, Trace};
 pub use gpu_vulkan_session::{Session, laws};
