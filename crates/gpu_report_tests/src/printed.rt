@@ -43,7 +43,7 @@ fn one(rt: &impl Abort) -> u64
 }
 
 /// A block with a piece of 300 bytes, and one of 1000 bytes behind padding.
-fn two_pieces(rt: &impl Abort, alloc: Global) -> SubAllocator {
+fn two_pieces(rt: &impl Abort, alloc: Global, name: &str) -> SubAllocator {
     let granularity = one(rt);
     let alignment = 256u64;
     assert!(rt; alignment.is_power_of_two());
@@ -51,7 +51,7 @@ fn two_pieces(rt: &impl Abort, alloc: Global) -> SubAllocator {
         rt,
         "there is memory",
     );
-    let first = list.allocate(300, granularity, AllocationType::Linear, granularity, NAME);
+    let first = list.allocate(300, granularity, AllocationType::Linear, granularity, name);
     assert!(rt; first.is_ok());
     let second = list.allocate(1000, alignment, AllocationType::NonLinear, granularity, "b");
     assert!(rt; second.is_ok());
@@ -98,7 +98,7 @@ const TWO_PIECES: &[(&str, u64)] = &[
 
 #[test]
 fn blocks_read_back(rt: HostRuntime) {
-    let block = two_pieces(&rt, rt.alloc());
+    let block = two_pieces(&rt, rt.alloc(), NAME);
     let view = BlockView {
         memory_type: 3,
         slot: 2,
@@ -128,10 +128,101 @@ fn report_reads_back(rt: HostRuntime) {
     check_numbers(&rt, &read, ONE_PIECE);
 }
 
+/// A block that is one piece's own.
+fn dedicated(rt: &impl Abort, alloc: Global) -> SubAllocator {
+    let mut block = DedicatedBlockAllocator::new(alloc, 1000);
+    let piece = block.allocate(1000, AllocationType::Linear, "c");
+    assert!(rt; piece.is_ok());
+    SubAllocator::Dedicated(block)
+}
+
+/// A block in slot `slot` of memory type 3.
+fn view(slot: usize, block: &SubAllocator) -> BlockView<'_> {
+    BlockView {
+        memory_type: 3,
+        slot,
+        page_size: 1,
+        block,
+    }
+}
+
+const EACH_FORM: &str =
+    "{\"blocks\":[{\"gaps\":[{\"size\":4192792,\"start\":1512}],\"memory_type\":3,\"page_size\":1,\"pieces\":[{\"kind\":\"linear\",\"name\":\"a\",\"number\":2,\"offset\":0,\"padding\":0,\"size\":300},{\"kind\":\"nonlinear\",\"name\":\"b\",\"number\":3,\"offset\":512,\"padding\":212,\"size\":1000}],\"size\":4194304,\"slot\":0,\"statistics\":{\"gaps\":1,\"longest_gap\":4192792,\"piece_bytes\":1512,\"pieces\":2}},{\"gaps\":[],\"memory_type\":3,\"page_size\":1,\"pieces\":[{\"kind\":\"linear\",\"name\":\"c\",\"number\":1,\"offset\":0,\"padding\":0,\"size\":1000}],\"size\":1000,\"slot\":1,\"statistics\":{\"gaps\":0,\"longest_gap\":0,\"piece_bytes\":1000,\"pieces\":1}},{\"gaps\":[{\"size\":77,\"start\":0}],\"memory_type\":3,\"page_size\":1,\"pieces\":[],\"size\":77,\"slot\":2,\"statistics\":{\"gaps\":1,\"longest_gap\":77,\"piece_bytes\":0,\"pieces\":0}}],\"schema\":\"gpu_report.blocks\",\"version\":1}";
+
+#[test]
+fn blocks_of_each_form(rt: HostRuntime) {
+    let shared = two_pieces(&rt, rt.alloc(), "a");
+    let full = dedicated(&rt, rt.alloc());
+    let empty = SubAllocator::Dedicated(DedicatedBlockAllocator::new(rt.alloc(), 77));
+    let views = [view(0, &shared), view(1, &full), view(2, &empty)];
+    let text = text_of(&rt, rt.alloc(), &BlocksJson(&views));
+    assert!(&rt; text.as_str() == EACH_FORM);
+    let picture = text_of(&rt, rt.alloc(), &BlocksSvg(&views));
+    assert!(rt;
+        picture.contains(
+            "type 3, slot 1: 1000 B, 1 pieces, 1000 B taken, 0 gaps, longest 0 B, not to scale</text>"
+        )
+    );
+}
+
 #[test]
 fn no_blocks(rt: HostRuntime) {
     let text = text_of(&rt, rt.alloc(), &BlocksJson(&[]));
     assert!(rt; text.as_str() == "{\"blocks\":[],\"schema\":\"gpu_report.blocks\",\"version\":1}");
+}
+
+/// A report of many blocks with a piece each.
+fn many(rt: &impl Abort, alloc: Global) -> AllocatorReport {
+    let mut allocations = Vec::new(alloc);
+    let mut blocks = Vec::new(alloc);
+    for nth in 0..130usize {
+        let name = String::from_str(alloc, LONG).expect(rt, "there is memory");
+        let row = AllocationReport {
+            name,
+            offset: nth as u64,
+            size: 7,
+        };
+        assert!(rt; allocations.push(row).is_ok());
+        let block = MemoryBlockReport {
+            size: 1000,
+            allocations: nth..nth + 1,
+        };
+        assert!(rt; blocks.push(block).is_ok());
+    }
+    AllocatorReport {
+        allocations,
+        blocks,
+        total_allocated_bytes: 910,
+        total_capacity_bytes: 130_000,
+    }
+}
+
+const LONG: &str = "positions_and_normals_of_the_forest_behind_the_river";
+
+/// The last numbers of many.
+const LAST_OF_MANY: &[(&str, u64)] = &[
+    ("/allocations/129/offset", 129),
+    ("/allocations/129/size", 7),
+    ("/blocks/129/size", 1000),
+    ("/blocks/129/allocations/start", 129),
+    ("/total_capacity_bytes", 130_000),
+];
+
+#[test]
+fn many_blocks(rt: HostRuntime) {
+    let report = many(&rt, rt.alloc());
+    let read = read_back(&rt, rt.alloc(), &ReportJson(&report));
+    check_numbers(&rt, &read, LAST_OF_MANY);
+    let name = read
+        .pointer("/allocations/129/name")
+        .and_then(Value::as_str);
+    assert!(rt; name == Some(LONG));
+    let picture = text_of(&rt, rt.alloc(), &ReportSvg(&report));
+    assert!(rt;
+        picture.contains(
+            "7 bytes at 129: positions_and_normals_of_the_forest_behind_the_river</title>"
+        )
+    );
 }
 
 #[test]
@@ -143,7 +234,7 @@ fn names_in_pictures(rt: HostRuntime) {
 
 #[test]
 fn a_small_block_beside_a_large_one(rt: HostRuntime) {
-    let small = two_pieces(&rt, rt.alloc());
+    let small = two_pieces(&rt, rt.alloc(), NAME);
     let large = SubAllocator::Dedicated(DedicatedBlockAllocator::new(
         rt.alloc(),
         9_223_372_036_854_775_808,
