@@ -157,6 +157,43 @@ fn errors_print_the_text_and_the_code_of_their_fault(rt: HostRuntime) -> Result<
     Ok(())
 }
 
+const LOST: Fault = Fault {
+    text: "vkMapMemory failed",
+    code: Some(-4),
+};
+
+const FIRST: Fault = Fault {
+    text: "vkMapMemory failed",
+    code: Some(i64::MIN),
+};
+
+const LAST: Fault = Fault {
+    text: "vkMapMemory failed",
+    code: Some(i64::MAX),
+};
+
+#[test]
+fn faults_print_their_codes(rt: HostRuntime) -> Result<(), Fail> {
+    check_text(&rt, rt.alloc(), &LOST, "vkMapMemory failed (code -4)")?;
+    for (error, want) in [
+        (
+            AllocationError::FailedToMap(LOST),
+            "Failed to map memory: vkMapMemory failed (code -4)",
+        ),
+        (
+            AllocationError::InvalidAllocatorCreateDesc(LAST),
+            "Invalid AllocatorCreateDesc vkMapMemory failed (code 9223372036854775807)",
+        ),
+        (
+            AllocationError::Internal(FIRST),
+            "Internal error: vkMapMemory failed (code -9223372036854775808)",
+        ),
+    ] {
+        check_text(&rt, rt.alloc(), &error, want)?;
+    }
+    Ok(())
+}
+
 // ---- reports
 
 #[test]

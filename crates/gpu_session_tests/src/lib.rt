@@ -2,6 +2,8 @@
 #![tactic(auto)]
 
 #[cfg(test)]
+mod numbers;
+#[cfg(test)]
 mod sessions;
 #[cfg(test)]
 mod traces;
