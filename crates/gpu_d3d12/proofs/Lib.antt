@@ -7,6 +7,7 @@ pub mod Giving
 pub mod Staying
 pub mod Steps
 pub mod Calls
+pub mod Fresh
 pub mod Creating
 pub mod Leaving
 pub mod OneStep

@@ -2,6 +2,7 @@
 
 ghost use Rattle.std.specs.Prelude.{◌≡◌, ◌↔◌, ◌%◌, [], All, None, Ok, IfOk, IfErr, IsTrue, length, map, string_bytes, ◌<◌, IsOk};
 ghost use Rattle.std.specs.Option.{unwrap_or};
+ghost use Rattle.std.specs.FinMap.{get};
 ghost use Rattle.gpu_values.specs.Refusal.{refusal_of, refusal_in, host_out_of_memory};
 ghost use Rattle.gpu_values.specs.Report.{report_of};
 ghost use Rattle.gpu_values.specs.declared.error.AllocationError.TheVariants.{HostOutOfMemory};
@@ -261,6 +262,8 @@ impl<D: D3D12Device> Allocator<D> {
         ensures constant { (self.new.first ≡ self.old.first) × (self.new.setup ≡ self.old.setup) }
         ensures keeps { StayLive self.old.slots self.new.slots }
         ensures gives { IfOk result (λ r. IsNewIn self.old.slots self.new.slots r.allocation) }
+        // under this number the device held neither a resource nor a heap of others
+        ensures fresh { IfOk result (λ r. get (beside_of D.D3D12Device self.old) r.resource.0 ≡ None) }
         ensures aligned { IfOk result (λ r. BeginsAligned (info_of (basis_of D.D3D12Device self.old) desc.now).alignment r.allocation) }
     {
         let question = match question_for(self.pool.source().device(), desc) {

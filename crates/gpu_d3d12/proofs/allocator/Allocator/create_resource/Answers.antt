@@ -7,6 +7,7 @@ use Rattle.gpu_d3d12.specs.Over.{IsCommittedOver, IsPlacedOver}
 use Rattle.gpu_d3d12.specs.Source.{SourceState}
 use Rattle.gpu_d3d12.specs.State.{State, Setup, state_of, pool_of, contents_of, source_basis}
 use Rattle.gpu_d3d12.proofs.Creating.{not_asked, committed_step, placed_step, place_stays, place_sizes}
+use Rattle.gpu_d3d12.proofs.Fresh.{committed_fresh, placed_fresh}
 use Rattle.gpu_d3d12.proofs.Staying.{same_first, same_tier}
 use Rattle.gpu_d3d12.proofs.allocator.Allocator.create_resource.Goals as goal
 use Rattle.gpu_d3d12.proofs.allocator.Allocator.create_resource.Goals.{After-question_for}
@@ -59,3 +60,20 @@ returns-in-Placed-clause-constant g c =
       same_first V i.pool.source now.source stay ∙ ap (λ (s : State g.row.D.Denot). s.first) c.self.view_is,
       setups ∙ ap (λ (s : State g.row.D.Denot). s.setup) c.self.view_is,
     )
+
+-- a number that nothing was held under before, as the pool's source was
+pub returns-in-Committed-clause-fresh : goal.returns-in-Committed-clause-fresh
+returns-in-Committed-clause-fresh g c =
+    let V = g.D.D3D12Device in
+    let own : HeapProperties × HeapFlags = (c.in-Committed.heap_properties.now, c.in-Committed.heap_flags) in
+    let new : State g.row.D.Denot = state_of c.make_committed.new.pool c.make_committed.new.committed c.self.inside.debug in
+    committed_fresh V c.args.desc.now c.in-Ok.question own (contents_of c.args.self.now) c.make_committed.result (contents_of new)
+    (subst (λ (s : State g.row.D.Denot). IsCommittedOver V c.args.desc.now c.in-Ok.question own (contents_of s) c.make_committed.result (contents_of new)) c.self.view_is c.make_committed.ensures.made)
+
+pub returns-in-Placed-clause-fresh : goal.returns-in-Placed-clause-fresh
+returns-in-Placed-clause-fresh g c =
+    let V = g.D.D3D12Device in
+    let i = c.self.inside in
+    let new : State g.row.D.Denot = state_of c.make_placed.new.pool i.committed i.debug in
+    placed_fresh V c.args.desc.now c.in-Ok.question (pool_of c.args.self.now) c.make_placed.result (pool_of new)
+    (subst (λ (s : State g.row.D.Denot). IsPlacedOver V c.args.desc.now c.in-Ok.question (pool_of s) c.make_placed.result (pool_of new)) c.self.view_is c.make_placed.ensures.made)
