@@ -1,5 +1,5 @@
 -- The configuration of a device trace: the simulated device and the block sizes that its lines describe.
-use Rattle.std.specs.Prelude.{ℕ, ◌-◌, ◌*◌, ◌^◌, List, [], ◌∷◌, ◌++◌, Option, Some, None}
+use Rattle.std.specs.Prelude.{ℕ, ◌-◌, ◌^◌, List, [], ◌∷◌, ◌++◌, Option, Some, None}
 use Rattle.std.specs.Option.{unwrap_or}
 use Rattle.gpu_values.specs.Sizes.{Sizes, default_sizes, only_size, with_largest}
 use Rattle.gpu_device.specs.Properties.{Properties}

@@ -1,5 +1,5 @@
 -- A trace from its first line on: which line may come, its reply, and the stage that it leaves.
-use Rattle.std.specs.Prelude.{◌≡◌, Bool, true, false, [], length, All, Option, Some, None}
+use Rattle.std.specs.Prelude.{◌≡◌, false, [], length, All, Option, Some, None}
 use Rattle.std.specs.FinMap.{empty, len as map_len}
 use Rattle.std.specs.Option.{unwrap_or}
 use Rattle.gpu_values.specs.Refusal.{refusal_of, host_out_of_memory}

@@ -1,6 +1,4 @@
 use Rattle.std.proofs.Common.{sym, refl}
-use Rattle.std.proofs.lemmas.List.{length-map, take_all}
-use Rattle.gpu_trace_lines.specs.Words.{texts}
 use Rattle.gpu_trace_run.specs.Replay.{begin}
 use Rattle.gpu_trace_run.proofs.ReplayedLines.{line_more, line_bad, all_lines}
 use Rattle.gpu_trace_run.proofs.replay.replay_lines.Goals as goal
