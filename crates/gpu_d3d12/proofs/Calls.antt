@@ -26,12 +26,12 @@ use Rattle.gpu_pool.specs.Source.{result_of}
 use Rattle.gpu_pool.specs.State as pools
 use Rattle.gpu_pool.specs.Step as calls
 use Rattle.gpu_d3d12.specs.Allocate as allocations
-use Rattle.gpu_d3d12.specs.Allocate.{is_valid, request_in, Returns}
+use Rattle.gpu_d3d12.specs.Allocate.{is_valid, request_in}
 use Rattle.gpu_d3d12.specs.Blocks.{is_same_heap}
 use Rattle.gpu_d3d12.specs.Committed.{statistics_at}
 use Rattle.gpu_d3d12.specs.Free.{freed_of, Frees}
-use Rattle.gpu_d3d12.specs.Live.{piece_of}
-use Rattle.gpu_d3d12.specs.Rename.{Renames}
+use Rattle.gpu_pool.specs.Allocation.{piece_of, Returns, RenamesNamed}
+use Rattle.gpu_d3d12.specs.Live.{Allocation}
 use Rattle.gpu_d3d12.specs.Reply.{Reply, error}
 use Rattle.gpu_d3d12.specs.Reply as module_replies
 use Rattle.gpu_d3d12.specs.Source.{AsksBlock, GivesHeap, MakesResource, ReleasesResource}
@@ -39,7 +39,6 @@ use Rattle.gpu_d3d12.specs.State as states
 use Rattle.gpu_d3d12.specs.State.{State, Basis, Contents, seen_of, over, pool_of, source_basis, basis_of, model_of}
 use Rattle.gpu_d3d12.specs.Step.{Call, Free, Rename, Capacity, Report, Leaks, Statistics, SetBudget, Budget, nothing_met, allocated_reply, AllocatesBy, SeesQuestion, SeesGiven, Step, IsStep}
 use Rattle.gpu_d3d12.specs.Step.{Replies, IsAllocateStep, freed_as, done_as, shown_as, leaked_as}
-use Rattle.gpu_d3d12.specs.declared.allocation.Allocation.{Allocation}
 use Rattle.gpu_d3d12.proofs.Staying.{stays_same, same_version, frees_stays, allocates_keeps}
 use Rattle.gpu_d3d12.proofs.Steps.{frees_seen, allocates_seen}
 
@@ -53,7 +52,7 @@ paired_reply : (t : ℕ) (answer : Result (Piece ID3D12Heap) Refusal) → alloca
 paired_reply t (Ok p) = refl
 paired_reply t (Err e) = refl
 
-replies_of : (t : ℕ) (d : AllocationCreateDesc) (result : Result Allocation AllocationError) (answer : Result (Piece ID3D12Heap) Refusal) → Returns t d result answer
+replies_of : (t : ℕ) (d : AllocationCreateDesc) (result : Result Allocation AllocationError) (answer : Result (Piece ID3D12Heap) Refusal) → Returns t d.name.now result answer
     → Replies d result (allocated_reply (paired t answer))
 replies_of t d (Ok a) (Ok p) h = h
 replies_of t d (Ok a) (Err r) h = absurd h
@@ -161,7 +160,7 @@ module _ {D : Type 0} (g : Ghosts D) where
   rename_seen t p name old NoHostMemory (Err e) new r = (r.0, r.1, ap (pools.over (seen_of g)) r.2)
   rename_seen t p name old (environments.Answered size answer) result new r = absurd r
 
-  pub rename_step : (a b : Allocation) (name : List ℕ) (old new : State D) (result : Result (Unit {0}) AllocationError) → Renames a name (pool_of old) result b (pool_of new)
+  pub rename_step : (a b : Allocation) (name : List ℕ) (old new : State D) (result : Result (Unit {0}) AllocationError) → RenamesNamed is_same_heap a name (pool_of old) result b (pool_of new)
       → (pool_of new).source ≡ (pool_of old).source → new.committed ≡ old.committed → IsStep g (Rename a name) (done_as result) old new
   rename_step a b name old new result r source committed =
       let met = r.record_is.0 in

@@ -30,7 +30,8 @@ use Rattle.gpu_d3d12.specs.Allocate.{is_valid, request_in}
 use Rattle.gpu_d3d12.specs.Blocks.{is_same_heap}
 use Rattle.gpu_d3d12.specs.Committed.{Committed, Commits, IsCommitted, IsAfterResource, records_at, resource_reply, number_or_refusal}
 use Rattle.gpu_d3d12.specs.Free.{freed_of}
-use Rattle.gpu_d3d12.specs.Live.{piece_of, IsLive, IsGiven}
+use Rattle.gpu_pool.specs.Allocation.{IsGiven, piece_of}
+use Rattle.gpu_d3d12.specs.Live.{Allocation, IsLive}
 use Rattle.gpu_d3d12.specs.Over.{IsCommittedOver, IsPlacedOver, FreesPlacedOver, FreesResourceOver}
 use Rattle.gpu_d3d12.specs.Reply.{Reply, error, made_reply}
 use Rattle.gpu_d3d12.specs.Reply as module_replies
@@ -40,7 +41,6 @@ use Rattle.gpu_d3d12.specs.State as states
 use Rattle.gpu_d3d12.specs.State.{State, Basis, Contents, seen_of, pool_of, contents_of, source_basis, basis_of, model_of}
 use Rattle.gpu_d3d12.specs.Step.{Environment, nothing_met, host_met, info_of, size_made, allocated_reply, AllocatesBy, EndsBy, PlacesThen, Place, MakesBy, CreatesBy, FreesResource, FreeResource}
 use Rattle.gpu_d3d12.specs.Step.{SeesQuestion, SeesGiven, SeesMade, SeesReleased, IsStep, Replies, RepliesResource, IsJustAnswered, IsReasonMet, TellsReason, IsCreateStep, freed_as}
-use Rattle.gpu_d3d12.specs.declared.allocation.Allocation.{Allocation}
 use Rattle.gpu_d3d12.specs.declared.resource.Resource.{Resource}
 use Rattle.gpu_d3d12.proofs.Calls.{attempted}
 use Rattle.gpu_d3d12.proofs.Records.{refused_reply}

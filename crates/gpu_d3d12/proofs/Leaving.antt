@@ -22,10 +22,10 @@ use Rattle.gpu_pool.specs.Held.{HoldsJustBlocks}
 use Rattle.gpu_pool.specs.Source.{HeldBlock}
 use Rattle.gpu_d3d12.specs.Apart.{IsInside}
 use Rattle.gpu_d3d12.specs.Blocks.{Slots, kind_at, is_same_heap, IsBlockEntry, HoldsJustLiveBlocks, AsksNothing, releases_recorded}
-use Rattle.gpu_d3d12.specs.Live.{piece_of, IsLive}
+use Rattle.gpu_pool.specs.Allocation.{piece_of}
+use Rattle.gpu_d3d12.specs.Live.{Allocation, IsLive}
 use Rattle.gpu_d3d12.specs.Resource.{LiesInHeap}
 use Rattle.gpu_d3d12.specs.Source.{SourceState, heap_type, entry_block, blocks_of, beside, HoldsFirst, source_beside, GivesHeap}
-use Rattle.gpu_d3d12.specs.declared.allocation.Allocation.{Allocation}
 use Rattle.gpu_d3d12.proofs.Changing.{new_entry, heap_now, no_first_heap, beside_block, beside_other}
 
 -- ---- blocks as the device's entries

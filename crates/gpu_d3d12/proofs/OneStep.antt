@@ -44,13 +44,13 @@ use Rattle.gpu_d3d12.specs.Allocate.{is_valid, request_in}
 use Rattle.gpu_d3d12.specs.Blocks.{Slots, is_same_heap}
 use Rattle.gpu_d3d12.specs.Source.{heap_result}
 use Rattle.gpu_d3d12.specs.Committed.{Commits, CommitsBy, IsAfterResource, fits, records_at, number_or_refusal}
-use Rattle.gpu_d3d12.specs.Live.{piece_of}
+use Rattle.gpu_pool.specs.Allocation.{piece_of}
+use Rattle.gpu_d3d12.specs.Live.{Allocation}
 use Rattle.gpu_d3d12.specs.Reply.{Reply, Pool, made_reply}
 use Rattle.gpu_d3d12.specs.Resource.{piece_desc, record_of}
 use Rattle.gpu_d3d12.specs.State.{Basis, Seen, Model}
 use Rattle.gpu_d3d12.specs.Step.{Call, Allocate, Free, Rename, Capacity, Report, Leaks, CreateResource, FreeResource, Statistics, SetBudget, Budget, Environment, host_met, info_of, size_made, allocated_reply}
 use Rattle.gpu_d3d12.specs.Step.{SeesQuestion, SeesGiven, SeesMade, SeesReleased, AllocatesBy, Commit, EndsBy, PlacesThen, Place, MakesBy, CreatesBy, FreesPlaced, FreesCommitted, FreesResource, OfPool, IsPoolCall, Step}
-use Rattle.gpu_d3d12.specs.declared.allocation.Allocation.{Allocation}
 use Rattle.gpu_d3d12.specs.declared.committed_record.CommittedRecord.{CommittedRecord}
 use Rattle.gpu_d3d12.specs.declared.resource.Resource.{Resource}
 

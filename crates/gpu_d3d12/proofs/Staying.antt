@@ -21,7 +21,7 @@ use Rattle.gpu_d3d12.specs.Blocks.{is_same_heap}
 use Rattle.gpu_d3d12.specs.Source.{SourceState, with_source_device, AsksBlock, GivesHeap, MakesResource, ReleasesResource}
 use Rattle.gpu_d3d12.specs.State as states
 use Rattle.gpu_d3d12.specs.State.{Basis, source_basis, interface_of}
-use Rattle.gpu_d3d12.specs.declared.allocation.Allocation.{Allocation}
+use Rattle.gpu_d3d12.specs.Live.{Allocation}
 use Rattle.gpu_d3d12.proofs.Versions.{same_device, with_twice, same_interface}
 
 module _ {D : Type 0} (g : Ghosts D) where

@@ -23,14 +23,14 @@ use Rattle.gpu_pool.proofs.Serving.{serves_over}
 use Rattle.gpu_d3d12.specs.Allocate.{is_valid, request_in}
 use Rattle.gpu_d3d12.specs.Blocks.{is_same_heap}
 use Rattle.gpu_d3d12.specs.Committed.{IsAfterResource, number_or_refusal}
-use Rattle.gpu_d3d12.specs.Live.{piece_of}
+use Rattle.gpu_pool.specs.Allocation.{piece_of}
+use Rattle.gpu_d3d12.specs.Live.{Allocation}
 use Rattle.gpu_d3d12.specs.Reply.{Reply}
 use Rattle.gpu_d3d12.specs.Resource.{piece_desc}
 use Rattle.gpu_d3d12.specs.Source.{SourceState, AsksBlock, GivesHeap, MakesResource, ReleasesResource}
 use Rattle.gpu_d3d12.specs.State as states
 use Rattle.gpu_d3d12.specs.State.{Basis, Contents, seen_of, over}
 use Rattle.gpu_d3d12.specs.Step.{Environment, info_of, allocated_reply, SeesQuestion, SeesGiven, SeesMade, SeesReleased, AllocatesBy, Commit, EndsBy, PlacesThen, Place, FreesPlaced, FreesCommitted, FreesResource}
-use Rattle.gpu_d3d12.specs.declared.allocation.Allocation.{Allocation}
 use Rattle.gpu_d3d12.specs.declared.committed_record.CommittedRecord.{CommittedRecord}
 use Rattle.gpu_d3d12.specs.declared.resource.Resource.{Resource}
 

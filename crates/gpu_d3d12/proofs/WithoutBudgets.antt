@@ -24,13 +24,13 @@ use Rattle.gpu_pool.proofs.WithoutBudgets as plain
 use Rattle.gpu_d3d12.specs.Allocate.{is_valid, request_in}
 use Rattle.gpu_d3d12.specs.Blocks.{is_same_heap}
 use Rattle.gpu_d3d12.specs.Committed.{number_or_refusal}
-use Rattle.gpu_d3d12.specs.Live.{piece_of}
+use Rattle.gpu_pool.specs.Allocation.{piece_of}
+use Rattle.gpu_d3d12.specs.Live.{Allocation}
 use Rattle.gpu_d3d12.specs.Reply.{Reply}
 use Rattle.gpu_d3d12.specs.Resource.{piece_desc, record_of}
 use Rattle.gpu_d3d12.specs.State.{Basis, Seen, Model, without_budgets}
 use Rattle.gpu_d3d12.specs.Step.{Call, Allocate, Free, Rename, Capacity, Report, Leaks, CreateResource, FreeResource, Statistics, SetBudget, Budget, Environment, info_of, allocated_reply, MakesWithoutBudget, MeetsNoBudget}
 use Rattle.gpu_d3d12.specs.Step.{SeesQuestion, SeesGiven, SeesMade, SeesReleased, AllocatesBy, Commit, EndsBy, PlacesThen, Place, MakesBy, CreatesBy, FreesPlaced, FreesCommitted, FreesResource, OfPool, IsPoolCall, Step}
-use Rattle.gpu_d3d12.specs.declared.allocation.Allocation.{Allocation}
 use Rattle.gpu_d3d12.specs.declared.committed_record.CommittedRecord.{CommittedRecord}
 use Rattle.gpu_d3d12.specs.declared.resource.Resource.{Resource}
 

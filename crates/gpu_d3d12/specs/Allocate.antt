@@ -1,7 +1,7 @@
 -- An allocation: which memory type is asked, and what is returned and left.
-use Rattle.std.specs.Prelude.{◌≡◌, ℕ, ◌==◌, ◌&&◌, not, Bool, true, false, Some, Result, Ok, Err}
+use Rattle.std.specs.Prelude.{◌≡◌, ℕ, ◌==◌, ◌&&◌, not, Bool, true, false, Some, Result}
 use Rattle.std.specs.Int.{is_power_of_two}
-use Rattle.gpu_values.specs.Refusal.{Refusal, refusal_of, refusal_in, invalid_allocation_create_desc}
+use Rattle.gpu_values.specs.Refusal.{Refusal, refusal_in, invalid_allocation_create_desc}
 use Rattle.gpu_values.specs.declared.error.AllocationError.{AllocationError}
 use Rattle.gpu_slots.specs.declared.piece.Piece.{Piece}
 use Rattle.gpu_device.specs.declared.d3d12.device.D3D12Device.{Ghosts}
@@ -11,10 +11,10 @@ use Rattle.gpu_d3d12_setup.specs.MemoryKinds.{memory_kinds, IsFirstServing}
 use Rattle.gpu_d3d12_setup.specs.Setup.{kinds_told}
 use Rattle.gpu_d3d12_setup.specs.declared.describe.AllocationCreateDesc.{AllocationCreateDesc}
 use Rattle.gpu_pool.specs.Allocate as pools
-use Rattle.gpu_d3d12.specs.Live.{IsGiven}
+use Rattle.gpu_pool.specs.Allocation.{Returns}
+use Rattle.gpu_d3d12.specs.Live.{Allocation}
 use Rattle.gpu_d3d12.specs.Source.{AsksBlock}
 use Rattle.gpu_d3d12.specs.State.{State, Pool, pool_of}
-use Rattle.gpu_d3d12.specs.declared.allocation.Allocation.{Allocation}
 
 -- the size isn't 0, and the alignment is a power of two
 abbrev pub is_valid : AllocationCreateDesc → Bool
@@ -24,13 +24,6 @@ is_valid d = not (d.size == 0) && is_power_of_two d.alignment
 abbrev pub request_in : (t : ℕ) → AllocationCreateDesc → pools.RequestAt (Unit {0})
 request_in t d = record { memory_type = t; requested_dedicated = false; request = request_of d; extra = tt }
 
--- the caller's allocation is the pool's piece, under the name that was asked for
-abbrev pub Returns : (t : ℕ) → AllocationCreateDesc → Result Allocation AllocationError → Result (Piece ID3D12Heap) Refusal → Type 0
-Returns t d (Ok a) (Ok p) = IsGiven t d.name.now p a
-Returns t d (Ok a) (Err r) = ⊥
-Returns t d (Err e) (Ok p) = ⊥
-Returns t d (Err e) (Err r) = refusal_of e ≡ r
-
 module _ {D : Type 0} (g : Ghosts D) (d : AllocationCreateDesc) where
   -- the first memory type that serves the location and the category is asked
   pub record IsAttempted (old : Pool D) (result : Result Allocation AllocationError) (new : Pool D) : Type 0 where
@@ -38,7 +31,7 @@ module _ {D : Type 0} (g : Ghosts D) (d : AllocationCreateDesc) where
     pub first : IsFirstServing d.location d.resource_category (memory_kinds old.source.tier) memory_type
     pub answer : Result (Piece ID3D12Heap) Refusal
     pub allocates : pools.Allocates (kinds_told old.source.tier) (AsksBlock g) (request_in memory_type d) old answer new
-    pub returns : Returns memory_type d result answer
+    pub returns : Returns memory_type d.name.now result answer
 
   -- an allocation of a pool, where its description is valid or isn't
   abbrev pub AllocatesBy : (valid : Bool) → Pool D → Result Allocation AllocationError → Pool D → Type 0

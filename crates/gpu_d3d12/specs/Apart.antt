@@ -2,8 +2,8 @@
 use Rattle.std.specs.Prelude.{◌≢◌, ◌⊎◌, ◌+◌, ◌≤◌}
 use Rattle.gpu_memory_types.specs.Apart as pieces
 use Rattle.gpu_d3d12.specs.Blocks.{Slots}
-use Rattle.gpu_d3d12.specs.Live.{piece_of}
-use Rattle.gpu_d3d12.specs.declared.allocation.Allocation.{Allocation}
+use Rattle.gpu_pool.specs.Allocation.{piece_of}
+use Rattle.gpu_d3d12.specs.Live.{Allocation}
 
 -- the allocation ends inside its block
 abbrev pub IsInside : Slots → Allocation → Type 0

@@ -5,10 +5,10 @@ use Rattle.gpu_values.specs.declared.error.AllocationError.{AllocationError}
 use Rattle.gpu_device.specs.declared.d3d12.device.D3D12Device.{Ghosts}
 use Rattle.gpu_pool.specs.Free as pools
 use Rattle.gpu_d3d12.specs.Blocks.{is_same_heap}
-use Rattle.gpu_d3d12.specs.Live.{piece_of}
+use Rattle.gpu_pool.specs.Allocation.{piece_of}
+use Rattle.gpu_d3d12.specs.Live.{Allocation}
 use Rattle.gpu_d3d12.specs.Source.{GivesHeap}
 use Rattle.gpu_d3d12.specs.State.{State, pool_of}
-use Rattle.gpu_d3d12.specs.declared.allocation.Allocation.{Allocation}
 
 -- a free, as its pool sees it
 abbrev pub freed_of : {V : Type 0} → Result (Unit {0}) (AllocationError × V) → Result (Unit {0}) Refusal

@@ -11,7 +11,7 @@ use Rattle.gpu_d3d12.specs.Reply.{Reply}
 use Rattle.gpu_d3d12.specs.Source.{SourceState, AsksBlock, GivesHeap, MakesResource, ReleasesResource}
 use Rattle.gpu_d3d12.specs.State.{Pool, Contents, source_basis}
 use Rattle.gpu_d3d12.specs.Step.{Environment, Commit, Place, FreesPlaced, FreesResource, RepliesResource}
-use Rattle.gpu_d3d12.specs.declared.allocation.Allocation.{Allocation}
+use Rattle.gpu_d3d12.specs.Live.{Allocation}
 use Rattle.gpu_d3d12.specs.declared.resource.Resource.{Resource}
 
 module _ {D : Type 0} (g : Ghosts D) where

@@ -11,8 +11,8 @@ use Rattle.gpu_d3d12_setup.specs.declared.question.ResourceCreateDesc.{ResourceC
 use Rattle.gpu_d3d12.specs.Blocks.{Slots}
 use Rattle.gpu_d3d12.specs.declared.committed_record.CommittedRecord.{CommittedRecord}
 use Rattle.gpu_values.specs.declared.error.AllocationError.{AllocationError}
-use Rattle.gpu_d3d12.specs.Live.{IsLive, IsGiven, AreDistinct}
-use Rattle.gpu_d3d12.specs.declared.allocation.Allocation.{Allocation}
+use Rattle.gpu_pool.specs.Allocation.{AreDistinct, IsGiven}
+use Rattle.gpu_d3d12.specs.Live.{Allocation, IsLive}
 use Rattle.gpu_d3d12.specs.declared.resource.Resource.{Resource}
 
 -- what the piece of a placed resource is asked for, where the device tells this of its size and alignment

@@ -47,13 +47,13 @@ use Rattle.gpu_pool.specs.Step as calls
 use Rattle.gpu_d3d12.specs.Allocate.{is_valid, request_in}
 use Rattle.gpu_d3d12.specs.Blocks.{kind_at, is_same_heap}
 use Rattle.gpu_d3d12.specs.Committed.{Commits, IsAfterResource, records_at, statistics_at, number_or_refusal, GivesRecord, place_of, freed}
-use Rattle.gpu_d3d12.specs.Live.{piece_of, IsGiven}
+use Rattle.gpu_pool.specs.Allocation.{IsGiven, piece_of}
+use Rattle.gpu_d3d12.specs.Live.{Allocation}
 use Rattle.gpu_d3d12.specs.Reply.{Reply, Pool, Made, error, made_reply}
 use Rattle.gpu_d3d12.specs.Reply as module_replies
 use Rattle.gpu_d3d12.specs.Resource.{piece_desc, record_of, IsMade}
 use Rattle.gpu_d3d12.specs.Source.{SourceState, GivesHeap, heap_result}
 use Rattle.gpu_d3d12.specs.State.{State, Basis, Contents, Seen, Model, pool_of, basis_of, model_of}
-use Rattle.gpu_d3d12.specs.declared.allocation.Allocation.{Allocation}
 use Rattle.gpu_d3d12.specs.declared.committed_record.CommittedRecord.{CommittedRecord}
 use Rattle.gpu_d3d12.specs.declared.resource.Resource.{Resource}
 

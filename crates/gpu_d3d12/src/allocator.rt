@@ -19,24 +19,22 @@ ghost use Rattle.gpu_pool.specs.Reply as replies;
 ghost use Rattle.gpu_pool.specs.Handles.{all_handles};
 ghost use Rattle.gpu_d3d12.specs.Allocate.{Allocates};
 ghost use Rattle.gpu_d3d12.specs.Apart.{IsInside, SharesNoByte};
-ghost use Rattle.gpu_d3d12.specs.Blocks.{HoldsJustLiveBlocks, AsksNothing, releases_recorded};
+ghost use Rattle.gpu_d3d12.specs.Blocks.{HoldsJustLiveBlocks, AsksNothing, releases_recorded, is_same_heap};
 ghost use Rattle.gpu_d3d12.specs.Committed.{statistics_at};
 ghost use Rattle.gpu_d3d12.specs.Free.{Frees};
 ghost use Rattle.gpu_d3d12.specs.Journal.{IsFirstAndOut, with_made, with_released};
-ghost use Rattle.gpu_d3d12.specs.Live.{IsLive, AreDistinct, StayLive};
-ghost use Rattle.gpu_d3d12.specs.Rename.{Renames};
+ghost use Rattle.gpu_pool.specs.Allocation.{AreDistinct, RenamesNamed};
+ghost use Rattle.gpu_d3d12.specs.Live.{Allocation, IsLive, IsNewlyLive, StayLive};
 ghost use Rattle.gpu_d3d12.specs.Reply as module_replies;
 ghost use Rattle.gpu_d3d12.specs.Resource.{number_given, BeginsAligned, IsBeside, IsLivePlaced, IsNewIn, LiesInHeap};
 ghost use Rattle.gpu_d3d12.specs.State.{basis_of, beside_of, pool_of};
 ghost use Rattle.gpu_d3d12.specs.Step.{Free, Rename, Capacity, Report, Leaks, FreeResource, Statistics, SetBudget, Budget, info_of, IsStep, IsAllocateStep, IsCreateStep, freed_as, done_as, shown_as, leaked_as};
-ghost use Rattle.gpu_d3d12.specs.declared.allocation.Allocation.{Allocation};
 ghost use Rattle.gpu_d3d12.specs.declared.resource.Resource.{Resource};
 
 use crate::allocating::allocate_piece;
 use crate::freeing::free_resource;
 use crate::logging::{log_allocate, log_free, log_last_leaks, log_leaks};
 use crate::making::{make_committed, make_placed};
-use crate::rename::rename;
 use crate::source::D3D12Blocks;
 use crate::{Allocation, CommittedResources, OwnMemory, Resource};
 use gpu_d3d12_setup::{
@@ -130,7 +128,7 @@ impl<D: D3D12Device> Allocator<D> {
         ensures step { IsAllocateStep D.D3D12Device desc.now result self.old self.new }
         ensures aligned { IfOk result (λ a. a.offset % desc.now.alignment ≡ 0) }
         ensures keeps { StayLive self.old.slots self.new.slots }
-        ensures gives { IfOk result (λ a. IsLive self.new.slots a × ((b : Allocation) → IsLive self.old.slots b → AreDistinct b a)) }
+        ensures gives { IfOk result (λ a. IsNewlyLive self.old.slots self.new.slots a) }
     {
         log_allocate(log, self.debug, desc);
         allocate_piece(self.alloc, &mut self.pool, desc)
@@ -191,7 +189,7 @@ impl<D: D3D12Device> Allocator<D> {
         ensures { IsTrue result ↔ IsLive self.now.slots allocation.now }
     {
         self.pool
-            .is_live(allocation.memory_type_index, &allocation.piece())
+            .is_live(allocation.memory_type_index(), &allocation.piece())
     }
 
     /// Frees an allocation, and gives its block back where the block is left empty and isn't the only shared one of its
@@ -210,7 +208,7 @@ impl<D: D3D12Device> Allocator<D> {
     {
         log_free(log, self.debug, &allocation);
         let piece = allocation.piece();
-        let index = allocation.memory_type_index;
+        let index = allocation.memory_type_index();
         match self.pool.free(index, &piece) {
             Ok(()) => Ok(()),
             Err(error) => Err((error, allocation)),
@@ -321,13 +319,13 @@ impl<D: D3D12Device> Allocator<D> {
     /// Gives an allocation another name, and with it the record that reports and leaks show. `Internal` where the
     /// allocation isn't live, else `HostOutOfMemory` where the host refused memory; then both names are as they were.
     pub fn rename_allocation(&mut self, allocation: &mut Allocation, name: &str) -> Result<()>
-        ensures renames { Renames allocation.old name.now (pool_of self.old) result allocation.new (pool_of self.new) }
+        ensures renames { RenamesNamed is_same_heap allocation.old name.now (pool_of self.old) result allocation.new (pool_of self.new) }
         ensures step { IsStep D.D3D12Device (Rename allocation.old name.now) (done_as result) self.old self.new }
         ensures live { StayLive self.old.slots self.new.slots }
         ensures constant { (self.new.device ≡ self.old.device) × (self.new.first ≡ self.old.first) × (self.new.setup ≡ self.old.setup) }
         ensures journal { self.new.journal ≡ self.old.journal }
     {
-        rename(self.alloc, &mut self.pool, allocation, name)
+        self.pool.rename_named(self.alloc, allocation, name)
     }
 
     /// What is allocated: the live blocks and pieces by memory type, then by slot, pieces by offset, and the sums of both.

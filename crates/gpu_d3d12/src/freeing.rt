@@ -4,10 +4,10 @@ ghost use Rattle.std.specs.Prelude.{◌≡◌, length};
 ghost use Rattle.gpu_d3d12_setup.specs.Setup.{kinds_told};
 ghost use Rattle.gpu_pool.specs.Source.{result_of};
 ghost use Rattle.gpu_d3d12.specs.Journal.{with_released};
-ghost use Rattle.gpu_d3d12.specs.Live.{IsLive, AreDistinct};
+ghost use Rattle.gpu_pool.specs.Allocation.{AreDistinct};
+ghost use Rattle.gpu_d3d12.specs.Live.{Allocation, IsLive};
 ghost use Rattle.gpu_d3d12.specs.Over.{FreesPlacedOver, FreesResourceOver};
 ghost use Rattle.gpu_d3d12.specs.Resource.{IsBeside};
-ghost use Rattle.gpu_d3d12.specs.declared.allocation.Allocation.{Allocation};
 
 use crate::logging::log_free;
 use crate::source::D3D12Blocks;
@@ -31,7 +31,7 @@ fn free_placed<D: D3D12Device, L: Log>(
     ensures keeps { (b : Allocation) → IsLive pool.old.slots b → AreDistinct b allocation.now → IsLive pool.new.slots b }
 {
     let piece = allocation.piece();
-    let index = allocation.memory_type_index;
+    let index = allocation.memory_type_index();
     if !pool.is_live(index, &piece) {
         // This is refused, and says why.
         return pool.free(index, &piece);

@@ -2,7 +2,6 @@
 #![tactic(auto)]
 
 mod allocating;
-mod allocation;
 mod allocator;
 mod committed;
 mod committed_record;
@@ -11,12 +10,13 @@ mod journal;
 pub mod laws;
 mod logging;
 mod making;
-mod rename;
 mod resource;
 mod source;
 
-pub use allocation::Allocation;
 pub use allocator::Allocator;
 use committed::{CommittedResources, OwnMemory};
 use committed_record::CommittedRecord;
 pub use resource::Resource;
+
+/// A piece of a heap, as its owner holds it. Place a resource there.
+pub type Allocation = gpu_pool::Allocation<gpu_device::d3d12::ID3D12Heap>;

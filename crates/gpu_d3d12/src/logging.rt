@@ -18,7 +18,7 @@ pub fn log_allocate<L: Log>(log: &L, debug: AllocatorDebugSettings, desc: &Alloc
 
 /// Logs what is freed, where the settings ask for it.
 pub fn log_free<L: Log>(log: &L, debug: AllocatorDebugSettings, allocation: &Allocation) {
-    logging::log_freed(log, MODULE, debug, allocation.name.as_str());
+    logging::log_freed(log, MODULE, debug, allocation.name().unwrap_or(""));
 }
 
 /// Logs each live piece by memory type, then by slot, then in order of offset. It takes no memory.

@@ -68,7 +68,7 @@ fn placed_in(
 {
     Resource {
         resource,
-        memory_type_index: allocation.memory_type_index,
+        memory_type_index: allocation.memory_type_index(),
         allocation: Some(allocation),
         memory_location: desc.memory_location,
         size,
@@ -124,12 +124,12 @@ pub fn make_placed<D: D3D12Device, L: Log>(
     };
     match pool
         .source
-        .create_placed(question, desc, allocation.heap, allocation.offset)
+        .create_placed(question, desc, allocation.heap(), allocation.offset())
     {
         Ok(resource) => Ok(placed_in(desc, allocation, resource, asked.size)),
         Err(error) => {
             let piece = allocation.piece();
-            let _ = pool.free(allocation.memory_type_index, &piece);
+            let _ = pool.free(allocation.memory_type_index(), &piece);
             Err(error)
         }
     }

@@ -18,7 +18,7 @@ use Rattle.gpu_pool.proofs.OneStep as pool
 use Rattle.gpu_pool.proofs.WithoutBudgets as plain
 use Rattle.gpu_metal.specs.Allocate.{is_valid, request_in}
 use Rattle.gpu_metal.specs.Blocks.{Slots, is_same_heap}
-use Rattle.gpu_metal.specs.Live.{piece_of}
+use Rattle.gpu_pool.specs.Allocation.{piece_of}
 use Rattle.gpu_metal.specs.Source.{heap_in}
 use Rattle.gpu_metal.specs.State.{Model}
 use Rattle.gpu_metal.specs.Step.{Call, Allocate, Free, Commit, SetBudget, Budget, Capacity, LiveHeaps, Report, with_question, SeesQuestion, SeesGiven, PoolStep, AllocateStep, Step, MeetsNoBudget}

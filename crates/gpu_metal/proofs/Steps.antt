@@ -22,14 +22,14 @@ use Rattle.gpu_pool.specs.Source.{result_of}
 use Rattle.gpu_pool.specs.Step as pools
 use Rattle.gpu_pool.proofs.Freeing.{frees_over}
 use Rattle.gpu_pool.proofs.Serving.{serves_over}
-use Rattle.gpu_metal.specs.Allocate.{is_valid, request_in, Returns, IsAttempted, AllocatesBy}
+use Rattle.gpu_metal.specs.Allocate.{is_valid, request_in, IsAttempted, AllocatesBy}
 use Rattle.gpu_metal.specs.Blocks.{is_same_heap}
 use Rattle.gpu_metal.specs.Free.{freed_of, Frees}
-use Rattle.gpu_metal.specs.Live.{piece_of}
+use Rattle.gpu_pool.specs.Allocation.{piece_of, Returns}
+use Rattle.gpu_metal.specs.Live.{Allocation}
 use Rattle.gpu_metal.specs.Source.{SourceState, AsksBlock, GivesHeap, CommitsSet}
 use Rattle.gpu_metal.specs.State.{State, pool_of, seen_of, model_of}
 use Rattle.gpu_metal.specs.Step.{Free, Commit, SetBudget, Budget, Capacity, LiveHeaps, Report, SeesQuestion, SeesGiven, AllocateStep, IsStep, Replies, IsAllocateStep, freed_as, done_as, shown_as}
-use Rattle.gpu_metal.specs.declared.allocation.Allocation.{Allocation}
 
 module _ {D : Type 0} (g : Ghosts D) where
   sees_question : (old new : SourceState D) (t size : ℕ) (answer : Result MTLHeap Refusal) → AsksBlock g old t size tt answer new → SeesQuestion (seen_of g old) t size tt answer (seen_of g new)
@@ -45,7 +45,7 @@ module _ {D : Type 0} (g : Ghosts D) where
 
   -- ---- an allocation
 
-  replies_of : (t : ℕ) (d : AllocationCreateDesc) (result : Result Allocation AllocationError) (answer : Result (Piece MTLHeap) Refusal) → Returns t d result answer → Replies d result (allocated_as t answer)
+  replies_of : (t : ℕ) (d : AllocationCreateDesc) (result : Result Allocation AllocationError) (answer : Result (Piece MTLHeap) Refusal) → Returns t d.name.now result answer → Replies d result (allocated_as t answer)
   replies_of t d (Ok a) (Ok p) h = h
   replies_of t d (Ok a) (Err r) h = absurd h
   replies_of t d (Err e) (Ok p) h = absurd h

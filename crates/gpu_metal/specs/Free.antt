@@ -5,10 +5,10 @@ use Rattle.gpu_values.specs.declared.error.AllocationError.{AllocationError}
 use Rattle.gpu_device.specs.declared.metal.device.MetalDevice.{Ghosts}
 use Rattle.gpu_pool.specs.Free as pools
 use Rattle.gpu_metal.specs.Blocks.{is_same_heap}
-use Rattle.gpu_metal.specs.Live.{piece_of}
+use Rattle.gpu_pool.specs.Allocation.{piece_of}
+use Rattle.gpu_metal.specs.Live.{Allocation}
 use Rattle.gpu_metal.specs.Source.{GivesHeap}
 use Rattle.gpu_metal.specs.State.{State, pool_of}
-use Rattle.gpu_metal.specs.declared.allocation.Allocation.{Allocation}
 
 -- a free, as its pool sees it
 abbrev pub freed_of : Result (Unit {0}) (AllocationError × Allocation) → Result (Unit {0}) Refusal

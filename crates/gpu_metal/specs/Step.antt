@@ -20,10 +20,10 @@ use Rattle.gpu_pool.specs.Reply.{Reply, Allocated, Error, Done}
 use Rattle.gpu_pool.specs.Step as pools
 use Rattle.gpu_metal.specs.Allocate.{is_valid, request_in}
 use Rattle.gpu_metal.specs.Blocks.{is_same_heap}
-use Rattle.gpu_metal.specs.Live.{piece_of, IsGiven}
+use Rattle.gpu_pool.specs.Allocation.{IsGiven, piece_of}
+use Rattle.gpu_metal.specs.Live.{Allocation}
 use Rattle.gpu_metal.specs.Source.{joined, left, committed, heap_in, IsHeapAnswer}
 use Rattle.gpu_metal.specs.State.{State, Seen, Model, model_of}
-use Rattle.gpu_metal.specs.declared.allocation.Allocation.{Allocation}
 
 -- a call of an allocator
 pub data Call : Type 0 where

@@ -1,6 +1,6 @@
 //! The allocator: blocks of heaps by memory type, and the calls that share them out.
 
-ghost use Rattle.std.specs.Prelude.{◌≡◌, ◌↔◌, ◌%◌, ◌<◌, [], All, None, true, IfOk, IfErr, IsOk, IsTrue, length, option_copied, string_bytes};
+ghost use Rattle.std.specs.Prelude.{◌≡◌, ◌↔◌, ◌%◌, ◌<◌, [], All, None, IfOk, IfErr, IsOk, IsTrue, length, option_copied};
 ghost use Rattle.gpu_values.specs.Refusal.{refusal_of, refusal_in};
 ghost use Rattle.gpu_values.specs.Report.{report_of};
 ghost use Rattle.gpu_values.specs.declared.error.AllocationError.TheVariants.{HostOutOfMemory};
@@ -8,19 +8,19 @@ ghost use Rattle.gpu_memory_types.specs.Blocks.{total_capacity, BlocksWellFormed
 ghost use Rattle.gpu_memory_types.specs.Budgets.{budget_at, budgets, SetsBudget};
 ghost use Rattle.gpu_memory_types.specs.Reports.{whole_report};
 ghost use Rattle.gpu_memory_types.specs.Types.{slots_of, kinds};
-ghost use Rattle.gpu_metal_setup.specs.MemoryKinds.{locations, IsFirstServing};
+ghost use Rattle.gpu_metal_setup.specs.MemoryKinds.{locations};
 ghost use Rattle.gpu_metal_setup.specs.Residency.{MakesSet, ChangesHeld, with_committed, commit_recorded, releases_recorded};
 ghost use Rattle.gpu_metal_setup.specs.Setup.{kinds_of_device, IsNotMade};
 ghost use Rattle.gpu_pool.specs.Handles.{all_handles};
 ghost use Rattle.gpu_pool.specs.Reply as replies;
 ghost use Rattle.gpu_pool.specs.Reply.{Done};
-ghost use Rattle.gpu_metal.specs.Allocate.{is_valid, IsAttempted, Allocates};
+ghost use Rattle.gpu_metal.specs.Allocate.{Allocates};
 ghost use Rattle.gpu_metal.specs.Apart.{IsInside, SharesNoByte};
 ghost use Rattle.gpu_metal.specs.Blocks.{residency_of, left_behind, HoldsJustLiveBlocks};
 ghost use Rattle.gpu_metal.specs.Free.{Frees};
-ghost use Rattle.gpu_metal.specs.Live.{IsLive, IsGiven, AreDistinct, StayLive};
+ghost use Rattle.gpu_pool.specs.Allocation.{AreDistinct};
+ghost use Rattle.gpu_metal.specs.Live.{Allocation, IsLive, StayLive, IsNewlyLive};
 ghost use Rattle.gpu_metal.specs.Step.{IsStep, IsAllocateStep, Free, Commit, SetBudget, Budget, Capacity, LiveHeaps, Report, freed_as, done_as, shown_as};
-ghost use Rattle.gpu_metal.specs.declared.allocation.Allocation.{Allocation};
 
 use crate::Allocation;
 use crate::logging::{log_allocate, log_free};
@@ -31,7 +31,6 @@ use gpu_metal_setup::{
     AllocationCreateDesc, AllocatorCreateDesc, empty_types, request_of, type_for,
 };
 use gpu_pool::{Handles, Pool};
-use gpu_slots::Piece;
 use gpu_values::{AllocationError, AllocatorDebugSettings, AllocatorReport, Result};
 use log::Log;
 use std::alloc::{AllocError, Global};
@@ -53,47 +52,6 @@ impl<D: MetalDevice> Model for Allocator<D> {
     ghost Value = { State D };
 
     ghost view = { λ a. state_of a.pool a.debug };
-}
-
-/// The allocation of a piece of the memory type at `index`.
-fn allocation_of(index: usize, piece: Piece<MTLHeap>, name: String) -> Allocation
-    ensures { IsGiven index (string_bytes name) piece result }
-{
-    Allocation {
-        number: piece.number,
-        offset: piece.offset,
-        size: piece.size,
-        memory_block_index: piece.slot,
-        memory_type_index: index,
-        heap: piece.block,
-        name,
-    }
-}
-
-/// An allocation in the memory type at `index`, the first that serves its location. All host memory for it is at hand before
-/// the device is asked.
-fn attempt<D: MetalDevice>(
-    alloc: Global,
-    pool: &mut Pool<MetalBlocks<D>>,
-    desc: &AllocationCreateDesc,
-    index: usize,
-) -> Result<Allocation>
-    requires valid { is_valid desc.now ≡ true }
-    requires there { index < length locations }
-    requires first { IsFirstServing desc.now.location index }
-    ensures attempts { IsAttempted D.MetalDevice desc.now pool.old result pool.new }
-    ensures aligned { IfOk result (λ a. a.offset % desc.now.alignment ≡ 0) }
-    ensures keeps { StayLive pool.old.slots pool.new.slots }
-    ensures live { IfOk result (λ a. IsLive pool.new.slots a × ((b : Allocation) → IsLive pool.old.slots b → AreDistinct b a)) }
-{
-    let name = match String::from_str(alloc, desc.name) {
-        Ok(name) => name,
-        Err(AllocError) => return Err(AllocationError::HostOutOfMemory),
-    };
-    match pool.allocate(index, &request_of(desc), ()) {
-        Ok(piece) => Ok(allocation_of(index, piece, name)),
-        Err(error) => Err(error),
-    }
 }
 
 impl<D: MetalDevice> Allocator<D> {
@@ -147,14 +105,15 @@ impl<D: MetalDevice> Allocator<D> {
         ensures step { IsAllocateStep D.MetalDevice desc.now result self.old self.new }
         ensures aligned { IfOk result (λ a. a.offset % desc.now.alignment ≡ 0) }
         ensures keeps { StayLive self.old.slots self.new.slots }
-        ensures gives { IfOk result (λ a. IsLive self.new.slots a × ((b : Allocation) → IsLive self.old.slots b → AreDistinct b a)) }
+        ensures gives { IfOk result (λ a. IsNewlyLive self.old.slots self.new.slots a) }
     {
         log_allocate(log, self.debug, desc);
         if desc.size == 0 || !desc.alignment.is_power_of_two() {
             return Err(AllocationError::InvalidAllocationCreateDesc);
         }
         let index = type_for(desc.location);
-        attempt(self.alloc, &mut self.pool, desc, index)
+        self.pool
+            .allocate_named(self.alloc, index, &request_of(desc), ())
     }
 
     /// Frees an allocation, and gives its block back where the block is left empty and isn't the only shared one of its
@@ -172,7 +131,7 @@ impl<D: MetalDevice> Allocator<D> {
     {
         log_free(log, self.debug, &allocation);
         let piece = allocation.piece();
-        let index = allocation.memory_type_index;
+        let index = allocation.memory_type_index();
         match self.pool.free(index, &piece) {
             Ok(()) => Ok(()),
             Err(error) => Err((error, allocation)),
@@ -280,7 +239,7 @@ impl<D: MetalDevice> Allocator<D> {
         ensures { IsTrue result ↔ IsLive self.now.slots allocation.now }
     {
         self.pool
-            .is_live(allocation.memory_type_index, &allocation.piece())
+            .is_live(allocation.memory_type_index(), &allocation.piece())
     }
 
     /// Gives every block back, and returns the device, which then holds what it held when it was handed in, and the residency

@@ -8,11 +8,11 @@ use Rattle.gpu_device.specs.declared.metal.device.MetalDevice.{Ghosts}
 use Rattle.gpu_device.specs.declared.metal.types.MTLHeap.{MTLHeap}
 use Rattle.gpu_pool.specs.Allocate.{Environment}
 use Rattle.gpu_pool.specs.Reply as answers
-use Rattle.gpu_metal.specs.Live.{piece_of, IsGiven}
+use Rattle.gpu_pool.specs.Allocation.{IsGiven, piece_of}
+use Rattle.gpu_metal.specs.Live.{Allocation}
 use Rattle.gpu_metal.specs.State.{State, model_of}
 use Rattle.gpu_metal.specs.Step as model
 use Rattle.gpu_metal.specs.Step.{IsStep, IsAllocateStep, Replies, Step}
-use Rattle.gpu_metal.specs.declared.allocation.Allocation.{Allocation}
 use Rattle.gpu_metal_setup.specs.declared.describe.AllocationCreateDesc.{AllocationCreateDesc}
 use Rattle.gpu_run.specs.Bindings.{bind, bindings_of}
 use Rattle.gpu_metal_session.specs.Command.{Alloc, Under}

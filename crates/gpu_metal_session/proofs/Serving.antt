@@ -9,11 +9,11 @@ use Rattle.gpu_device.specs.declared.metal.types.MTLHeap.{MTLHeap}
 use Rattle.gpu_memory_types.specs.Blocks.{BlocksWellFormed}
 use Rattle.gpu_pool.specs.Allocate.{NothingMet}
 use Rattle.gpu_pool.specs.Reply as answers
-use Rattle.gpu_metal.specs.Live.{AreDistinct}
+use Rattle.gpu_pool.specs.Allocation.{AreDistinct}
+use Rattle.gpu_metal.specs.Live.{Allocation}
 use Rattle.gpu_metal.specs.State.{State, model_of}
 use Rattle.gpu_metal.specs.Step as model
 use Rattle.gpu_metal.specs.Step.{Step, IsStep}
-use Rattle.gpu_metal.specs.declared.allocation.Allocation.{Allocation}
 use Rattle.gpu_run.specs.Bindings.{bindings_of}
 use Rattle.gpu_run.specs.Run.{IsRun}
 use Rattle.gpu_metal_session.specs.Command.{KeyCommand, SessionCommand, Under, Heaps}

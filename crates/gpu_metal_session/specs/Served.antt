@@ -2,7 +2,7 @@
 use Rattle.std.specs.Prelude.{◌≡◌, ℕ, List}
 use Rattle.gpu_device.specs.declared.metal.device.MetalDevice.{Ghosts}
 use Rattle.gpu_metal.specs.State.{State, model_of}
-use Rattle.gpu_metal.specs.declared.allocation.Allocation.{Allocation}
+use Rattle.gpu_metal.specs.Live.{Allocation}
 use Rattle.gpu_run.specs.Bindings.{bindings_of}
 use Rattle.gpu_metal_session.specs.Command.{SessionCommand, command_of}
 use Rattle.gpu_metal_session.specs.Reply.{SessionReply, reply_of}

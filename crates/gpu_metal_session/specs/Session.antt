@@ -7,11 +7,11 @@ use Rattle.gpu_device.specs.declared.metal.types.MTLHeap.{MTLHeap}
 use Rattle.gpu_memory_types.specs.Blocks.{BlocksWellFormed}
 use Rattle.gpu_pool.specs.Allocate.{Environment, NothingMet, NoHostMemory, Answered}
 use Rattle.gpu_pool.specs.Reply as answers
-use Rattle.gpu_metal.specs.Live.{IsLive, IsGiven, AreDistinct}
+use Rattle.gpu_pool.specs.Allocation.{AreDistinct, IsGiven}
+use Rattle.gpu_metal.specs.Live.{Allocation, IsLive}
 use Rattle.gpu_metal.specs.State.{Model}
 use Rattle.gpu_metal.specs.Step as model
 use Rattle.gpu_metal.specs.Step.{Step}
-use Rattle.gpu_metal.specs.declared.allocation.Allocation.{Allocation}
 use Rattle.gpu_metal_setup.specs.declared.describe.AllocationCreateDesc.{AllocationCreateDesc}
 use Rattle.gpu_run.specs.Bindings.{Bindings, bind, AreOwn}
 use Rattle.gpu_metal_session.specs.Command.{KeyCommand, Alloc, Free, SessionCommand, Under, Heaps, Commit, Report, Capacity, SetBudget}

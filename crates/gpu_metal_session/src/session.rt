@@ -12,7 +12,7 @@ ghost use Rattle.gpu_metal_session.specs.Reply as replies;
 ghost use Rattle.gpu_metal_session.specs.Reply.{reply_of, shown};
 ghost use Rattle.gpu_metal_session.specs.Session.{SessionInvariant};
 ghost use Rattle.gpu_metal_session.specs.Served.{session_of, IsConstant, IsAnswered, ServesCommand};
-ghost use Rattle.gpu_metal.specs.Live.{piece_of};
+ghost use Rattle.gpu_pool.specs.Allocation.{piece_of};
 
 use crate::command::Command;
 use crate::describe::{Wanted, describe};

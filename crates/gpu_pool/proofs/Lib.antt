@@ -10,3 +10,4 @@ pub mod Naming
 pub mod Apart
 pub mod OneStep
 pub mod WithoutBudgets
+pub mod Giving

@@ -6,5 +6,6 @@ pub mod Live
 pub mod Allocate
 pub mod Free
 pub mod Rename
+pub mod Allocation
 pub mod Reply
 pub mod Step

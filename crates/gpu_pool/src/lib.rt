@@ -3,13 +3,16 @@
 #![tactic(auto)]
 
 mod allocate;
+mod allocation;
 mod free;
 mod handles;
 pub mod laws;
 pub mod logging;
+mod named;
 mod pool;
 mod source;
 
+pub use allocation::Allocation;
 pub use handles::Handles;
 pub use pool::Pool;
 pub use source::BlockSource;

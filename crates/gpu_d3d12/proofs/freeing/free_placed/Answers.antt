@@ -7,7 +7,8 @@ use Rattle.gpu_memory_types.specs.Types.{slots_of}
 use Rattle.gpu_pool.specs.Free.{Frees}
 use Rattle.gpu_pool.specs.Source.{result_of}
 use Rattle.gpu_d3d12.specs.Blocks.{is_same_heap}
-use Rattle.gpu_d3d12.specs.Live.{piece_of, IsLive}
+use Rattle.gpu_pool.specs.Allocation.{piece_of}
+use Rattle.gpu_d3d12.specs.Live.{IsLive}
 use Rattle.gpu_d3d12.specs.Over.{FreesPlacedOver}
 use Rattle.gpu_d3d12.specs.Source.{GivesHeap}
 use Rattle.gpu_d3d12.specs.State.{Pool}

@@ -17,12 +17,12 @@ use Rattle.gpu_pool.proofs.Holding.{same_holds}
 use Rattle.gpu_pool.proofs.Owning.{sound_at}
 use Rattle.gpu_d3d12.specs.Allocate.{is_valid, AllocatesBy}
 use Rattle.gpu_d3d12.specs.Blocks.{is_same_heap}
-use Rattle.gpu_d3d12.specs.Live.{piece_of, IsLive}
+use Rattle.gpu_pool.specs.Allocation.{piece_of}
+use Rattle.gpu_d3d12.specs.Live.{Allocation, IsLive}
 use Rattle.gpu_d3d12.specs.Resource.{piece_desc, IsPlacedIn}
 use Rattle.gpu_d3d12.specs.Source.{SourceState, source_blocks, GivesHeap}
 use Rattle.gpu_d3d12.specs.State.{Pool, source_basis}
 use Rattle.gpu_d3d12.specs.Step.{info_of}
-use Rattle.gpu_d3d12.specs.declared.allocation.Allocation.{Allocation}
 use Rattle.gpu_d3d12.proofs.Creating.{not_allocated, placed, refused, freed_live}
 use Rattle.gpu_d3d12.proofs.Versions.{same_info}
 use Rattle.gpu_d3d12.proofs.making.make_placed.Goals as goal

@@ -1,7 +1,7 @@
 use Rattle.std.proofs.Common.{sym, subst}
-use Rattle.gpu_d3d12.specs.Live.{piece_of, IsLive}
+use Rattle.gpu_pool.specs.Allocation.{piece_of}
+use Rattle.gpu_d3d12.specs.Live.{Allocation, IsLive}
 use Rattle.gpu_d3d12.specs.State.{State}
-use Rattle.gpu_d3d12.specs.declared.allocation.Allocation.{Allocation}
 use Rattle.gpu_d3d12.proofs.allocator.Allocator.allocations_are_apart.Goals as goal
 use Rattle.gpu_d3d12.proofs.allocator.Allocator.allocations_are_apart.Goals.{After-pieces_are_apart}
 

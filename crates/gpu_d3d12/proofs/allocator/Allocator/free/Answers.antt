@@ -2,7 +2,8 @@ use Rattle.std.proofs.Common.{rules, sym, ap, subst}
 use Rattle.gpu_slots.specs.declared.piece.Piece.{Piece}
 use Rattle.gpu_device.specs.declared.d3d12.types.ID3D12Heap.{ID3D12Heap}
 use Rattle.gpu_memory_types.specs.Apart.{AreDistinct}
-use Rattle.gpu_d3d12.specs.Live.{piece_of, IsLive}
+use Rattle.gpu_pool.specs.Allocation.{piece_of}
+use Rattle.gpu_d3d12.specs.Live.{IsLive}
 use Rattle.gpu_d3d12.specs.Free.{Frees}
 use Rattle.gpu_d3d12.specs.State.{State, state_of}
 use Rattle.gpu_d3d12.proofs.Calls.{free_step}

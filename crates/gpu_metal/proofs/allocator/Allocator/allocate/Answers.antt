@@ -1,9 +1,10 @@
 use Rattle.std.proofs.Common.{rules, ◌≡◌, refl, sym, subst, true, false}
 use Rattle.gpu_metal.specs.Allocate.{is_valid, AllocatesBy, Allocates}
 use Rattle.gpu_metal.specs.State.{State, state_of}
+use Rattle.gpu_metal.proofs.Giving.{attempted}
 use Rattle.gpu_metal.proofs.Steps.{invalid_step, allocate_step}
 use Rattle.gpu_metal.proofs.allocator.Allocator.allocate.Goals as goal
-use Rattle.gpu_metal.proofs.allocator.Allocator.allocate.Goals.{then-desc-eq0-via-then-desc-eq0, then-desc-eq0-via-else-desc-eq0+then-not-is_power_of_two, After-attempt}
+use Rattle.gpu_metal.proofs.allocator.Allocator.allocate.Goals.{then-desc-eq0-via-then-desc-eq0, then-desc-eq0-via-else-desc-eq0+then-not-is_power_of_two, After-allocate_named}
 
 pub returns-then-desc-eq0-clause-step : goal.returns-then-desc-eq0-clause-step
 returns-then-desc-eq0-clause-step g c =
@@ -14,23 +15,25 @@ returns-then-desc-eq0-clause-step g c =
     ] in
     invalid_step g.D.MetalDevice c.args.desc.now c.args.self.now c.args.self.now _ invalid refl refl
 
-abbrev now : (g : _) (c : After-attempt g) → State g.row.D.Denot
-now g c = state_of c.attempt.new.pool c.self.inside.debug
+abbrev now : (g : _) (c : After-allocate_named g) → State g.row.D.Denot
+now g c = state_of c.allocate_named.new.pool c.self.inside.debug
 
-allocates : (g : _) (c : After-attempt g) → Allocates g.D.MetalDevice c.args.desc.now c.args.self.now c.attempt.result (now g c)
+allocates : (g : _) (c : After-allocate_named g) → Allocates g.D.MetalDevice c.args.desc.now c.args.self.now c.allocate_named.result (now g c)
 allocates g c =
     let V = g.D.MetalDevice in
     let i = c.self.inside in
     let d = c.args.desc.now in
     let valid : is_valid d ≡ true = search rules in
-    let here : Allocates V d (state_of i.pool i.debug) c.attempt.result (now g c) =
-    subst (λ v. AllocatesBy V d v (state_of i.pool i.debug) c.attempt.result (now g c)) (sym valid) c.attempt.ensures.attempts in
-    subst (λ (s : State g.row.D.Denot). Allocates V d s c.attempt.result (now g c)) c.self.view_is here
+    let tried = attempted V d c.type_for.result c.type_for.ensures.first i.pool c.request_of.result c.request_of.ensures.asks c.request_of.ensures.shared c.allocate_named.result c.allocate_named.new.pool
+        c.allocate_named.ensures.allocates in
+    let here : Allocates V d (state_of i.pool i.debug) c.allocate_named.result (now g c) =
+    subst (λ v. AllocatesBy V d v (state_of i.pool i.debug) c.allocate_named.result (now g c)) (sym valid) tried in
+    subst (λ (s : State g.row.D.Denot). Allocates V d s c.allocate_named.result (now g c)) c.self.view_is here
 
 pub returns-clause-allocates : goal.returns-clause-allocates
-returns-clause-allocates g c = allocates g (goal.at.returns-clause-allocates g c).After-attempt
+returns-clause-allocates g c = allocates g (goal.at.returns-clause-allocates g c).After-allocate_named
 
 pub returns-clause-step : goal.returns-clause-step
 returns-clause-step g c =
-    let later = (goal.at.returns-clause-step g c).After-attempt in
-    allocate_step g.D.MetalDevice c.args.desc.now c.args.self.now (now g later) c.attempt.result (allocates g later)
+    let later = (goal.at.returns-clause-step g c).After-allocate_named in
+    allocate_step g.D.MetalDevice c.args.desc.now c.args.self.now (now g later) c.allocate_named.result (allocates g later)

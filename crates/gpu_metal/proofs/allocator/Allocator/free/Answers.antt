@@ -2,7 +2,8 @@ use Rattle.std.proofs.Common.{rules, sym, subst}
 use Rattle.gpu_slots.specs.declared.piece.Piece.{Piece}
 use Rattle.gpu_device.specs.declared.metal.types.MTLHeap.{MTLHeap}
 use Rattle.gpu_memory_types.specs.Apart.{AreDistinct}
-use Rattle.gpu_metal.specs.Live.{piece_of, IsLive}
+use Rattle.gpu_pool.specs.Allocation.{piece_of}
+use Rattle.gpu_metal.specs.Live.{IsLive}
 use Rattle.gpu_metal.specs.Free.{Frees}
 use Rattle.gpu_metal.specs.State.{State, state_of}
 use Rattle.gpu_metal.proofs.Steps.{free_step}

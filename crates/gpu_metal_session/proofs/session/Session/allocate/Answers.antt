@@ -2,7 +2,8 @@ use Rattle.std.proofs.Common.{◌≡◌, Some, None, Err, refl, ap, subst}
 use Rattle.std.specs.Prelude.{nat_eq}
 use Rattle.std.specs.Map.{lookup}
 use Rattle.gpu_values.specs.Refusal.{refusal_of, host_out_of_memory}
-use Rattle.gpu_metal.specs.Live.{IsLive, AreDistinct}
+use Rattle.gpu_pool.specs.Allocation.{AreDistinct}
+use Rattle.gpu_metal.specs.Live.{IsLive}
 use Rattle.gpu_metal.specs.State.{model_of}
 use Rattle.gpu_run.specs.Bindings.{bindings_of}
 use Rattle.gpu_run.proofs.Binding.{some_bound, none_bound, same_bindings, bound_after}

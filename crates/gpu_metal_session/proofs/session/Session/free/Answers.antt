@@ -1,5 +1,6 @@
 use Rattle.std.proofs.Common.{◌≡◌, Some, None, true, refl, ap, sym, subst}
-use Rattle.gpu_metal.specs.Live.{IsLive, AreDistinct}
+use Rattle.gpu_pool.specs.Allocation.{AreDistinct}
+use Rattle.gpu_metal.specs.Live.{IsLive}
 use Rattle.gpu_metal.specs.Step as model
 use Rattle.gpu_pool.specs.Reply as answers
 use Rattle.gpu_run.specs.Bindings.{bindings_of}

@@ -1,27 +1,40 @@
-//! A piece of a heap, as its owner holds it.
+//! A piece of a pool, as its owner holds it.
 
-ghost use Rattle.std.specs.Prelude.{◌≡◌, Some, false};
+ghost use Rattle.std.specs.Prelude.{◌≡◌, Some, false, IsSomeAnd, string_bytes};
+ghost use Rattle.gpu_pool.specs.Allocation.{piece_of, IsGiven};
 
-use gpu_device::d3d12::ID3D12Heap;
 use gpu_slots::Piece;
 use std::num::NonZeroU64;
 
 /// A piece of a heap: bytes `offset..offset + size` of `heap`. Place a resource there. Give it back by the allocator's
 /// `free`; one that is let go otherwise stays live until `destroy`.
 #[derive(Debug, Drop)]
-pub struct Allocation {
+pub struct Allocation<H> {
     pub(crate) number: NonZeroU64,
     pub(crate) offset: u64,
     pub(crate) size: u64,
     pub(crate) memory_block_index: usize,
     pub(crate) memory_type_index: usize,
-    pub(crate) heap: ID3D12Heap,
+    pub(crate) heap: H,
     pub(crate) name: String,
 }
 
-impl Allocation {
-    ghost use Rattle.gpu_d3d12.specs.Live.{piece_of};
+/// The allocation of a piece of the memory type at `index`.
+pub(crate) fn allocation_of<H>(index: usize, piece: Piece<H>, name: String) -> Allocation<H>
+    ensures { IsGiven index (string_bytes name) piece result }
+{
+    Allocation {
+        number: piece.number,
+        offset: piece.offset,
+        size: piece.size,
+        memory_block_index: piece.slot,
+        memory_type_index: index,
+        heap: piece.block,
+        name,
+    }
+}
 
+impl<H: Copy> Allocation<H> {
     /// The number of the piece in its block. It is always there.
     pub fn chunk_id(&self) -> Option<NonZeroU64>
         ensures { result ≡ Some self.now.number }
@@ -30,7 +43,7 @@ impl Allocation {
     }
 
     /// The heap that it lies in.
-    pub fn heap(&self) -> ID3D12Heap
+    pub fn heap(&self) -> H
         ensures { result ≡ self.now.heap }
     {
         self.heap
@@ -50,6 +63,27 @@ impl Allocation {
         self.size
     }
 
+    /// The index of its memory type.
+    pub fn memory_type_index(&self) -> usize
+        ensures { result ≡ self.now.memory_type_index }
+    {
+        self.memory_type_index
+    }
+
+    /// The slot of its block in its memory type.
+    pub fn memory_block_index(&self) -> usize
+        ensures { result ≡ self.now.memory_block_index }
+    {
+        self.memory_block_index
+    }
+
+    /// The name that it was last given. Every allocation has one.
+    pub fn name(&self) -> Option<&str>
+        ensures { IsSomeAnd result (λ name. name.now ≡ string_bytes self.now.name) }
+    {
+        Some(self.name.as_str())
+    }
+
     /// Whether it is no piece. None such is ever made.
     pub fn is_null(&self) -> bool
         ensures { result ≡ false }
@@ -58,7 +92,7 @@ impl Allocation {
     }
 
     /// The piece that it stands for.
-    pub(crate) fn piece(&self) -> Piece<ID3D12Heap>
+    pub fn piece(&self) -> Piece<H>
         ensures { result ≡ piece_of self.now }
     {
         Piece {

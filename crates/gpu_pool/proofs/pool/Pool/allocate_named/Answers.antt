@@ -1,0 +1,21 @@
+use Rattle.std.proofs.Common.{◌∙◌, refl, Ok, Err}
+use Rattle.gpu_values.specs.Refusal.{host_out_of_memory, refusal_of}
+use Rattle.gpu_pool.specs.Allocate.{NoHostMemory}
+use Rattle.gpu_pool.specs.Allocation.{piece_of}
+use Rattle.gpu_pool.proofs.Giving.{given_live}
+use Rattle.gpu_pool.proofs.pool.Pool.allocate_named.Goals as goal
+
+pub returns-in-Ok-allocate-clause-allocates : goal.returns-in-Ok-allocate-clause-allocates
+returns-in-Ok-allocate-clause-allocates g c =
+    let is = c.allocation_of.ensures in
+    record {
+      answer = Ok c.in-Ok-allocate.piece;
+      allocates = c.in-Ok-allocate.ensures.allocates;
+      returns = record { piece = is.piece; memory_type = is.memory_type; has_name = is.has_name ∙ c.in-Ok.ensures.name };
+    }
+
+pub returns-in-Err-allocate-clause-allocates : goal.returns-in-Err-allocate-clause-allocates
+returns-in-Err-allocate-clause-allocates g c = record { answer = Err (refusal_of c.in-Err-allocate.error); allocates = c.in-Err-allocate.ensures.allocates; returns = refl }
+
+pub returns-in-Ok-allocate-clause-keeps : goal.returns-in-Ok-allocate-clause-keeps
+returns-in-Ok-allocate-clause-keeps g c = λ a live. c.allocate.ensures.keeps a.memory_type_index (piece_of a) live

@@ -1,0 +1,81 @@
+//! Pieces that their owners hold with their names.
+
+ghost use Rattle.std.specs.Prelude.{◌≡◌, ◌≢◌, ◌<◌, ◌%◌, length, string_bytes, IsTrue, IfOk, IfErr};
+ghost use Rattle.std.specs.Int.{is_power_of_two};
+ghost use Rattle.gpu_values.specs.declared.error.AllocationError.TheVariants.{HostOutOfMemory};
+ghost use Rattle.gpu_pool.specs.Allocate.{request_at};
+ghost use Rattle.gpu_pool.specs.Allocation.{AllocatesNamed, RenamesNamed, IsLive, StayLive, IsNewlyLive};
+
+use crate::allocation::{Allocation, allocation_of};
+use crate::{BlockSource, Pool};
+use gpu_slots::Request;
+use gpu_values::{AllocationError, AllocationType, Result};
+use std::alloc::{AllocError, Global};
+
+/// A name of its own. The only refusal is `HostOutOfMemory`.
+fn own_name(alloc: Global, name: &str) -> Result<String>
+    ensures name { IfOk result (λ own. string_bytes own ≡ name.now) }
+    ensures cause { IfErr result (λ e. e ≡ HostOutOfMemory) }
+{
+    match String::from_str(alloc, name) {
+        Ok(own) => Ok(own),
+        Err(AllocError) => Err(AllocationError::HostOutOfMemory),
+    }
+}
+
+impl<S: BlockSource> Pool<S> {
+    /// Allocates a piece of the memory type at `index`, as `allocate` does, for an owner who holds it with the name. All host
+    /// memory for it is at hand before the source is asked.
+    pub fn allocate_named(
+        &mut self,
+        alloc: Global,
+        index: usize,
+        request: &Request,
+        extra: S::Extra,
+    ) -> Result<Allocation<S::Handle>>
+        requires there { index < length (S.kinds self.old.source) }
+        requires sized { 0 < request.now.size }
+        requires aligned { IsTrue (is_power_of_two request.now.alignment) }
+        requires piece { request.now.kind ≢ AllocationType.Free }
+        ensures allocates { AllocatesNamed (S.kinds self.old.source) S.asks (request_at index request.now extra)
+            self.old result self.new }
+        ensures constant { S.kinds self.new.source ≡ S.kinds self.old.source }
+        ensures aligned { IfOk result (λ a. a.offset % request.now.alignment ≡ 0) }
+        ensures keeps { StayLive S.Handle.eq self.old.slots self.new.slots }
+        ensures live { IfOk result (λ a. IsNewlyLive S.Handle.eq self.old.slots self.new.slots a) }
+    {
+        let name = own_name(alloc, request.name)?;
+        match self.allocate(index, request, extra) {
+            Ok(piece) => Ok(allocation_of(index, piece, name)),
+            Err(error) => Err(error),
+        }
+    }
+
+    /// Gives an allocation another name, and the record of its piece with it. `Internal` where it isn't live, else
+    /// `HostOutOfMemory` where the host refused memory; a refusal changes nothing.
+    pub fn rename_named(
+        &mut self,
+        alloc: Global,
+        allocation: &mut Allocation<S::Handle>,
+        name: &str,
+    ) -> Result<()>
+        ensures renames { RenamesNamed S.Handle.eq allocation.old name.now self.old result allocation.new self.new }
+        ensures keeps { StayLive S.Handle.eq self.old.slots self.new.slots }
+        ensures source { self.new.source ≡ self.old.source }
+    {
+        let piece = allocation.piece();
+        let index = allocation.memory_type_index;
+        if !self.is_live(index, &piece) {
+            // This is refused, and says why.
+            return self.rename(index, &piece, name);
+        }
+        let own = own_name(alloc, name)?;
+        match self.rename(index, &piece, name) {
+            Ok(()) => {
+                allocation.name = own;
+                Ok(())
+            }
+            Err(error) => Err(error),
+        }
+    }
+}
