@@ -45,9 +45,7 @@ impl FreeListAllocator {
     ghost use Rattle.gpu_block_pieces.specs.FreeList.{SomeExtent, IsGap, extent_bytes};
     ghost use Rattle.gpu_block_pieces.specs.Request.{Request, request};
     ghost use Rattle.gpu_cost.specs.Cost.{Rises};
-    ghost use Rattle.gpu_block_pieces.specs.Place.{HasNoPlace};
     ghost use Rattle.gpu_block_pieces.specs.Search.{IsSearch};
-    ghost use Rattle.gpu_block_views.specs.Pieces.{gaps_between, longest};
     ghost use Rattle.gpu_block_pieces.specs.Changes.{Takes, Releases, Renames};
     ghost use Rattle.gpu_block_pieces.specs.BlockRefusal.{IsTakeRefusal, release_refusal, IsRenameRefusal};
     ghost use Rattle.gpu_block_pieces.specs.Laws.{IsSound, IsInOrder, IsPageSeparated, IsLongEnough, IsForNumbers, IsCovered};
@@ -131,29 +129,5 @@ impl FreeListAllocator {
         ensures within { result ≤ self.now.block.size }
     {
         self.pieces.allocated()
-    }
-
-    /// The size of the block in bytes.
-    pub(crate) fn size(&self) -> u64
-        ensures { result ≡ self.now.block.size }
-    {
-        self.pieces.size()
-    }
-
-    /// The bytes of the longest gap, 0 where there is none. A request of more bytes has no place. It looks at no other gap.
-    pub fn longest_gap(&self) -> u64
-        ensures longest { result ≡ longest (gaps_between 0 self.now.block.extents self.now.block.size) }
-        ensures law { (r : Request) → result < r.size → HasNoPlace self.now.block r }
-    {
-        // a read, so that the proof has the invariant
-        let _chunks = self.pieces.walk();
-        self.pieces.longest_gap()
-    }
-
-    /// Whether no piece is live.
-    pub fn is_empty(&self) -> bool
-        ensures { IsTrue result ↔ self.now.block.extents ≡ [] }
-    {
-        self.pieces.is_empty()
     }
 }

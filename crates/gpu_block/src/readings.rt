@@ -1,7 +1,7 @@
 //! Where counters are made: one for a new block, and one for each call that changes nothing, whose look-ups are told to
 //! nobody. Calls that change a block are in other modules, and count in the block's own counter.
 
-ghost use Rattle.std.specs.Prelude.{◌≡◌, ◌<◌, ◌≤◌, IfOk, IfErr, IsTrue, map, true, false};
+ghost use Rattle.std.specs.Prelude.{◌≡◌, ◌↔◌, ◌<◌, ◌≤◌, IfOk, IfErr, IsTrue, [], map, true, false};
 ghost use Rattle.std.specs.Int.{is_power_of_two};
 ghost use Rattle.std.specs.Int.NonZero.{non_zero_u64_get};
 ghost use Rattle.gpu_values.specs.declared.error.AllocationError.TheVariants.{HostOutOfMemory};
@@ -27,6 +27,9 @@ impl BeginsCount for Reading {}
 impl FreeListAllocator {
     ghost use Rattle.gpu_block_pieces.specs.FreeList.{FindsPlace, fresh_free_list};
     ghost use Rattle.gpu_block_pieces.specs.Laws.{IsSound, IsInOrder};
+    ghost use Rattle.gpu_block_pieces.specs.Place.{HasNoPlace};
+    ghost use Rattle.gpu_block_pieces.specs.Request.{Request};
+    ghost use Rattle.gpu_block_views.specs.Pieces.{gaps_between, longest};
 
     /// A block of `size` bytes without pieces: one gap with number 1, and 2 is the next new number. `size` isn't 0.
     /// `granularity` is the page size in bytes, a power of two: Vulkan's bufferImageGranularity, elsewhere 1. The only refusal
@@ -57,6 +60,30 @@ impl FreeListAllocator {
             pieces: CutBlock::new(alloc, size, granularity, counter)?,
             cost: Cost::begin(&Reading),
         })
+    }
+
+    /// The size of the block in bytes.
+    pub(crate) fn size(&self) -> u64
+        ensures { result ≡ self.now.block.size }
+    {
+        self.pieces.size(&mut Cost::begin(&Reading))
+    }
+
+    /// The bytes of the longest gap, 0 where there is none. A request of more bytes has no place. It looks at no other gap.
+    pub fn longest_gap(&self) -> u64
+        ensures longest { result ≡ longest (gaps_between 0 self.now.block.extents self.now.block.size) }
+        ensures law { (r : Request) → result < r.size → HasNoPlace self.now.block r }
+    {
+        // a read, so that the proof has the invariant
+        let _chunks = self.pieces.walk();
+        self.pieces.longest_gap(&mut Cost::begin(&Reading))
+    }
+
+    /// Whether no piece is live.
+    pub fn is_empty(&self) -> bool
+        ensures { IsTrue result ↔ self.now.block.extents ≡ [] }
+    {
+        self.pieces.is_empty(&mut Cost::begin(&Reading))
     }
 
     /// The offset and the size in bytes of the live piece with that number.

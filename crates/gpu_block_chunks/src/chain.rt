@@ -1,6 +1,6 @@
 //! The chunks of a block, in slots that a hashed map finds by number, each linked to the slots of the ones beside it.
 
-ghost use Rattle.std.specs.Prelude.{◌≡◌, ◌+◌, ◌-◌, ◌<◌, ◌≤◌, is_some, if◌then◌else◌, IfSome, IfOk, OnOk, IsOk, MatchOption, Some, None};
+ghost use Rattle.std.specs.Prelude.{◌≡◌, ◌+◌, ◌-◌, ◌^◌, ◌<◌, ◌≤◌, is_some, if◌then◌else◌, IfSome, IfOk, OnOk, IsOk, MatchOption, Some, None};
 ghost use Rattle.std.specs.Option.{option_copied, option_map};
 ghost use Rattle.gpu_cost.specs.Cost.{LooksUp, LooksUpBetween};
 ghost use Rattle.gpu_block_chunks.specs.Nodes.{held_at, node_value, link_number, Leads, Reaches};
@@ -125,12 +125,21 @@ impl Chain {
         })
     }
 
-    /// The size of the block in bytes.
-    pub fn size(&self) -> u64
-        ensures value { result ≡ self.now.size }
+    /// Tells proofs that the chunks cover the block, and that no two have one number; it does nothing.
+    pub fn laid_out(&self)
         ensures covers { Covers self.now.chunks 0 self.now.size }
         ensures distinct { AreDistinct self.now.chunks }
+        ensures bounded { self.now.size < 2 ^ 64 }
     {
+        let _size = self.size;
+    }
+
+    /// The size of the block in bytes. It counts as a look-up.
+    pub fn size(&self, count: &mut Cost) -> u64
+        ensures value { result ≡ self.now.size }
+        ensures counted { LooksUp 1 count.old count.new }
+    {
+        count.look_up();
         self.size
     }
 

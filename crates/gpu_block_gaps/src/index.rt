@@ -1,7 +1,7 @@
 //! The gaps of a block in the order of length and start.
 ghost use Rattle.std.specs.Prelude.{◌≡◌, ℕ, ◌+◌, ◌<◌, ◌≤◌, List, [], length, slice_index_or, OnOk, OnErr, IsOk, IsTrue};
 ghost use Rattle.std.specs.List.{AllPairs, insert, remove};
-ghost use Rattle.gpu_cost.specs.Cost.{Halves};
+ghost use Rattle.gpu_cost.specs.Cost.{Halves, Tests};
 ghost use Rattle.gpu_block_gaps.specs.Index.{Before, IsBefore, IsPlaceOf, HasKey, HasNoKey, HasKeyAt, IsInserted, IsRemoved, IsReplaced, HasLength, place_without};
 
 use crate::scan::Scan;
@@ -138,11 +138,13 @@ impl GapIndex {
         let _ = self.entries.len();
     }
 
-    /// The length of the longest gap, which is the last one; 0 where there is none.
-    pub fn longest(&self) -> u64
+    /// The length of the longest gap, which is the last one; 0 where there is none. It counts as a test.
+    pub fn longest(&self, cost: &mut Cost) -> u64
         ensures bound { (k : ℕ) (d : Gap) → k < length self.now.gaps → (slice_index_or self.now.gaps k d).length ≤ result }
         ensures reached { 0 < result → HasLength self.now.gaps result }
+        ensures counted { Tests 1 cost.old cost.new }
     {
+        cost.test();
         match self.entries.len() {
             0 => 0,
             count => self.entries.get(count - 1).length,

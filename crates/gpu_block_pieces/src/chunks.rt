@@ -3,7 +3,7 @@
 ghost use Rattle.std.specs.Prelude.{◌≡◌, ◌≢◌, ℕ, ◌+◌, ◌-◌, ◌^◌, ◌<◌, ◌≤◌, length, [], IfOk, OnOk, OnErr, MatchOption, IsTrue, ◌↔◌};
 ghost use Rattle.std.specs.List.{list_any};
 ghost use Rattle.std.specs.Int.{is_power_of_two};
-ghost use Rattle.gpu_cost.specs.Cost.{LooksUp, LooksUpBetween};
+ghost use Rattle.gpu_cost.specs.Cost.{LooksUp, LooksUpBetween, Tests};
 ghost use Rattle.gpu_block_chunks.specs.ChunkList.{IsFree};
 ghost use Rattle.gpu_block_pieces.specs.Chunks.{NoneFits, IsTaken, IsNamedAt, HoldsNumber, extents_of, is_gap_by};
 ghost use Rattle.gpu_block_chunks.specs.Chain.{IsFresh, HasNoNumber, StandsAt, IsReleased};
@@ -61,10 +61,11 @@ impl Chunks {
     }
 
     /// The size of the block in bytes.
-    pub fn size(&self) -> u64
-        ensures { result ≡ self.now.size }
+    pub fn size(&self, cost: &mut Cost) -> u64
+        ensures value { result ≡ self.now.size }
+        ensures counted { LooksUp 1 cost.old cost.new }
     {
-        self.chain.size()
+        self.chain.size(cost)
     }
 
     /// The shortest gap in which the request fits, and of equal ones the lowest.
@@ -78,17 +79,18 @@ impl Chunks {
     {
         // a read, so that the proof has the invariant
         let _live = self.live;
-        let _size = self.chain.size();
+        self.chain.laid_out();
         find(&self.index, wanted, cost)
     }
 
     /// The length of the longest gap, 0 where there is none.
-    pub fn longest_gap(&self) -> u64
-        ensures { IsLongestOf self.now.items result }
+    pub fn longest_gap(&self, cost: &mut Cost) -> u64
+        ensures longest { IsLongestOf self.now.items result }
+        ensures counted { Tests 1 cost.old cost.new }
     {
         // a read, so that the proof has the invariant
         let _live = self.live;
-        self.index.longest()
+        self.index.longest(cost)
     }
 
     /// Gives the found gap, or its front, to a piece, and tells the piece's number. All memory is taken first, also for what
@@ -115,7 +117,7 @@ impl Chunks {
         ensures none { OnErr result (LooksUp 0 cost.old cost.new) }
     {
         // a read, so that the proof has the invariant
-        let _size = self.chain.size();
+        self.chain.laid_out();
         make_room(&mut self.chain, &mut self.index, self.live)?;
         let taken = found.offset + wanted.size - found.gap.start;
         if taken < found.gap.length {
@@ -152,7 +154,7 @@ impl Chunks {
     {
         // a read, so that the proof has the invariant
         let _live = self.live;
-        let _size = self.chain.size();
+        self.chain.laid_out();
         let around = self.chain.around(number, cost)?;
         if is_free(around.here.kind) {
             return None;
@@ -168,7 +170,7 @@ impl Chunks {
         ensures counted { LooksUpBetween 5 15 cost.old cost.new }
     {
         // a read, so that the proof has the invariant
-        let _size = self.chain.size();
+        self.chain.laid_out();
         self.live -= 1;
         release(&mut self.chain, &mut self.index, around, cost);
     }
@@ -181,7 +183,7 @@ impl Chunks {
     {
         // a read, so that the proof has the invariant
         let _live = self.live;
-        let _size = self.chain.size();
+        self.chain.laid_out();
         let (chunk, _) = self.chain.chunk(number, cost)?;
         if is_free(chunk.kind) {
             return None;
@@ -195,7 +197,7 @@ impl Chunks {
         ensures counted { LooksUp 1 cost.old cost.new }
     {
         // a read, so that the proof has the invariant
-        let _size = self.chain.size();
+        self.chain.laid_out();
         match self.chain.chunk(number, cost) {
             Some((chunk, _)) => is_free(chunk.kind),
             None => false,
@@ -217,7 +219,7 @@ impl Chunks {
         ensures counted { LooksUp 1 cost.old cost.new }
     {
         // two reads, so that the proof has the invariant
-        let _size = self.chain.size();
+        self.chain.laid_out();
         let _live = self.live;
         self.chain.fill(number, offset, kind, text, cost);
     }
@@ -229,10 +231,12 @@ impl Chunks {
         Walk::of_chain(&self.chain)
     }
 
-    /// Whether all chunks are free.
-    pub fn none_taken(&self) -> bool
-        ensures { IsTrue result ↔ extents_of self.now.items ≡ [] }
+    /// Whether all chunks are free. It counts as a look-up.
+    pub fn none_taken(&self, cost: &mut Cost) -> bool
+        ensures free { IsTrue result ↔ extents_of self.now.items ≡ [] }
+        ensures counted { LooksUp 1 cost.old cost.new }
     {
+        cost.look_up();
         self.live == 0
     }
 }

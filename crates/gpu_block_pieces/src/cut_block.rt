@@ -48,7 +48,7 @@ impl Model for CutBlock {
 }
 
 impl CutBlock {
-    ghost use Rattle.gpu_cost.specs.Cost.{counts_of, LooksUp, LooksUpBetween};
+    ghost use Rattle.gpu_cost.specs.Cost.{counts_of, LooksUp, LooksUpBetween, Tests};
     ghost use Rattle.gpu_block_chunks.specs.ChunkList.{Covers};
     ghost use Rattle.gpu_block_pieces.specs.FreeList.{FindsPlace, SomeExtent, IsGap, IsLongestGap, extent_bytes, fresh_free_list};
     ghost use Rattle.gpu_block_pieces.specs.Request.{Request, request};
@@ -209,11 +209,12 @@ impl CutBlock {
     }
 
     /// The bytes of the longest gap, 0 where there is none. A request of more bytes has no place.
-    pub fn longest_gap(&self) -> u64
+    pub fn longest_gap(&self, cost: &mut Cost) -> u64
         ensures longest { IsLongestGap self.now result }
         ensures law { (r : Request) → result < r.size → HasNoPlace self.now r }
+        ensures cost { Tests 1 cost.old cost.new }
     {
-        self.chunks.longest_gap()
+        self.chunks.longest_gap(cost)
     }
 
     /// The bytes of all pieces, padding included. It looks at no piece.
@@ -221,22 +222,24 @@ impl CutBlock {
         ensures sum { result ≡ extent_bytes self.now.extents }
         ensures within { result ≤ self.now.size }
     {
-        let _size = self.chunks.size();
+        let _chunks = self.chunks.walk();
         self.allocated
     }
 
     /// The size of the block in bytes.
-    pub fn size(&self) -> u64
-        ensures { result ≡ self.now.size }
+    pub fn size(&self, cost: &mut Cost) -> u64
+        ensures size { result ≡ self.now.size }
+        ensures cost { LooksUp 1 cost.old cost.new }
     {
-        self.chunks.size()
+        self.chunks.size(cost)
     }
 
     /// Whether no piece is live.
-    pub fn is_empty(&self) -> bool
-        ensures { IsTrue result ↔ self.now.extents ≡ [] }
+    pub fn is_empty(&self, cost: &mut Cost) -> bool
+        ensures empty { IsTrue result ↔ self.now.extents ≡ [] }
+        ensures cost { LooksUp 1 cost.old cost.new }
     {
-        self.chunks.none_taken()
+        self.chunks.none_taken(cost)
     }
 
     /// The chunks of the block, pieces and gaps, in order of start.

@@ -39,7 +39,7 @@ pub fn take_front(
     ensures size { (chain.new.size ≡ chain.old.size) × (index.new.room ≡ index.old.room) }
     ensures counted { LooksUpBetween 3 4 cost.old cost.new }
 {
-    let _size = chain.size();
+    chain.laid_out();
     let gap = found.gap;
     chain.split_front(gap.number, number, taken, found.offset, kind, name, cost);
     index.in_order();
@@ -71,7 +71,7 @@ pub fn take_whole(
     ensures size { (chain.new.size ≡ chain.old.size) × (index.new.room ≡ index.old.room) }
     ensures counted { LooksUp 1 cost.old cost.new }
 {
-    let _size = chain.size();
+    chain.laid_out();
     let gap = found.gap;
     index.remove(gap.length, gap.start, Some(found.place));
     chain.fill(gap.number, found.offset, kind, name, cost);
@@ -154,7 +154,7 @@ fn gap_at(chain: &Chain, number: u64, cost: &mut Cost) -> Gap
         → result ≡ gap_between (last_kind AllocationType.Free front) c (kind_or back AllocationType.Free) }
     ensures counted { LooksUpBetween 1 3 cost.old cost.new }
 {
-    let _size = chain.size();
+    chain.laid_out();
     let Some(around) = chain.around(number, cost) else {
         unreachable!();
     };
@@ -194,9 +194,9 @@ pub fn release(chain: &mut Chain, index: &mut GapIndex, around: Around, cost: &m
     ensures size { (chain.new.size ≡ chain.old.size) × (index.new.room ≡ index.old.room) }
     ensures counted { LooksUpBetween 5 15 cost.old cost.new }
 {
-    let _size = chain.size();
+    chain.laid_out();
     chain.release(around.here.number, cost);
-    let _size = chain.size();
+    chain.laid_out();
     index.in_order();
     let gap = gap_at(chain, first_number(around), cost);
     put_joined(index, around, gap);

@@ -2,7 +2,7 @@
 use Rattle.std.specs.Prelude.{◌≡◌, ℕ, ◌+◌, ◌/◌, ◌==◌, ◌≤◌, zero, suc, if◌then◌else◌}
 use Rattle.gpu_cost.specs.declared.cost.Cost.{Cost}
 
--- how often a length was compared, a gap was tested, and a chunk was looked up by its number
+-- how often a length was compared, a gap was tested, and a chunk was looked up by its number; the longest gap is told by a test, and the block's size, or that no chunk is live, by a look-up
 pub record Counts : Type 0 where
   pub comparisons : ℕ
   pub tests : ℕ
@@ -26,6 +26,12 @@ pub record Halves (n : ℕ) (old new : Cost) : Type 0 where
   pub from : old.comparisons + digits n ≤ new.comparisons + 1
   pub to : new.comparisons ≤ old.comparisons + digits n
   pub tests : new.tests ≡ old.tests
+  pub lookups : new.lookups ≡ old.lookups
+
+-- just so many gaps were tested, and nothing else is counted
+pub record Tests (n : ℕ) (old new : Cost) : Type 0 where
+  pub comparisons : new.comparisons ≡ old.comparisons
+  pub tests : new.tests ≡ old.tests + n
   pub lookups : new.lookups ≡ old.lookups
 
 -- just so many chunks were looked up, and nothing else is counted

@@ -6,5 +6,5 @@ unreachable-requires c = none_stands c.args.chain.now.chunks c.args.number c.in_
 
 pub returns-clause-gap : goal.returns-clause-gap
 returns-clause-gap c = λ front d back p n.
-    gap_here c.args.chain.now.chunks front back d c.args.number c.in-Some.around c.kind_of.result c.kind_of-2.result c.size-size.ensures.distinct c.in-Some.ensures.value c.kind_of.ensures
+    gap_here c.args.chain.now.chunks front back d c.args.number c.in-Some.around c.kind_of.result c.kind_of-2.result c.laid_out.ensures.distinct c.in-Some.ensures.value c.kind_of.ensures
     c.kind_of-2.ensures p n

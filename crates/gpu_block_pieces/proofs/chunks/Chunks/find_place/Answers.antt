@@ -1,4 +1,4 @@
-use Rattle.std.proofs.Common.{ap, subst, arith, List, length, MatchOption}
+use Rattle.std.proofs.Common.{ap, subst, List, length, MatchOption}
 use Rattle.gpu_block_chunks.specs.declared.chunk.Chunk.{Chunk}
 use Rattle.gpu_block_pieces.specs.Chunks.{NoneFits}
 use Rattle.gpu_block_pieces.specs.Indexed.{LaidChunks, IsChosen, Spends}
@@ -9,12 +9,12 @@ use Rattle.gpu_block_pieces.proofs.chunks.Chunks.find_place.Goals as goal
 
 pub find-requires-clause-placed : goal.find-requires-clause-placed
 find-requires-clause-placed c =
-    placed_all c.self.inside.chain.chunks c.self.inside.index.gaps c.self.inside.chain.size c.size-size.ensures.covers (omega (arith, c.size-size.ensures.value)) c.self.invariant.listed.same
+    placed_all c.self.inside.chain.chunks c.self.inside.index.gaps c.self.inside.chain.size c.laid_out.ensures.covers c.laid_out.ensures.bounded c.self.invariant.listed.same
 
 pub returns-clause-found : goal.returns-clause-found
 returns-clause-found c =
     subst (λ (xs : List Chunk). MatchOption c.find.result (NoneFits xs c.args.wanted (length xs)) (λ f. IsChosen xs c.args.wanted f)) (ap (λ (v : LaidChunks). v.items) c.self.view_is)
-    (found_chosen c.self.inside.chain.chunks c.self.inside.index.gaps c.args.wanted c.self.inside.chain.size c.size-size.ensures.covers c.self.invariant.listed.same _ _ c.find.result
+    (found_chosen c.self.inside.chain.chunks c.self.inside.index.gaps c.args.wanted c.self.inside.chain.size c.laid_out.ensures.covers c.self.invariant.listed.same _ _ c.find.result
     c.find.ensures.ordered c.find.ensures.found)
 
 pub returns-clause-cost : goal.returns-clause-cost

@@ -7,5 +7,5 @@ use Rattle.gpu_block_pieces.proofs.chunks.Chunks.piece.Goals as goal
 
 pub returns-then-is_free-clause-piece : goal.returns-then-is_free-clause-piece
 returns-then-is_free-clause-piece c = λ k h.
-    not_held c.self.inside.chain.chunks c.in_ok-chunk.chunk.now c.args.number c.size-size.ensures.distinct c.in_ok-chunk.ensures.value.at (c.is_free.ensures.0 c.if-is_free.true) k
+    not_held c.self.inside.chain.chunks c.in_ok-chunk.chunk.now c.args.number c.laid_out.ensures.distinct c.in_ok-chunk.ensures.value.at (c.is_free.ensures.0 c.if-is_free.true) k
     (subst (λ (xs : List Chunk). HoldsNumber xs c.args.number k) (sym (ap (λ (v : LaidChunks). v.items) c.self.view_is)) h)

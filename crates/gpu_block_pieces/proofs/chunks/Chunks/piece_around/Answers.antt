@@ -7,5 +7,5 @@ use Rattle.gpu_block_pieces.proofs.chunks.Chunks.piece_around.Goals as goal
 
 pub returns-then-is_free-clause-piece : goal.returns-then-is_free-clause-piece
 returns-then-is_free-clause-piece c = λ k h.
-    around_not_held c.self.inside.chain.chunks c.in_ok-around.around c.args.number c.size-size.ensures.distinct c.in_ok-around.ensures.value (c.is_free.ensures.0 c.if-is_free.true) k
+    around_not_held c.self.inside.chain.chunks c.in_ok-around.around c.args.number c.laid_out.ensures.distinct c.in_ok-around.ensures.value (c.is_free.ensures.0 c.if-is_free.true) k
     (subst (λ (xs : List Chunk). HoldsNumber xs c.args.number k) (sym (ap (λ (v : LaidChunks). v.items) c.self.view_is)) h)

@@ -14,9 +14,9 @@ pub invariant_of-self : goal.invariant_of-self
 invariant_of-self c =
     let p = subst (λ (xs : List Chunk). IsPieceOf xs c.args.number c.args.offset c.args.kind) (sym (ap (λ (v : LaidChunks). v.items) c.self.view_is)) c.requires.piece in
     record {
-      listed = named_listed c.self.inside.chain.chunks c.fill.new.self.chunks c.args.number c.args.offset c.args.kind c.args.text c.size-size.ensures.distinct p c.fill.ensures.chunks
+      listed = named_listed c.self.inside.chain.chunks c.fill.new.self.chunks c.args.number c.args.offset c.args.kind c.args.text c.laid_out.ensures.distinct p c.fill.ensures.chunks
           c.self.inside.index.gaps c.self.invariant.listed;
-      counted = c.self.invariant.counted ∙ sym (named_live c.self.inside.chain.chunks c.fill.new.self.chunks c.args.number c.args.offset c.args.kind c.args.text c.size-size.ensures.distinct p
+      counted = c.self.invariant.counted ∙ sym (named_live c.self.inside.chain.chunks c.fill.new.self.chunks c.args.number c.args.offset c.args.kind c.args.text c.laid_out.ensures.distinct p
           c.fill.ensures.chunks);
       roomy = c.self.invariant.roomy;
     }
@@ -26,4 +26,4 @@ returns-clause-named c =
     let e = ap (λ (v : LaidChunks). v.items) c.self.view_is in
     let p = subst (λ (xs : List Chunk). IsPieceOf xs c.args.number c.args.offset c.args.kind) (sym e) c.requires.piece in
     subst (λ (xs : List Chunk). (i : ℕ) → HoldsNumber xs c.args.number i → IsNamedAt xs i c.args.text c.fill.new.self.chunks) e
-    (named_at c.self.inside.chain.chunks c.fill.new.self.chunks c.args.number c.args.offset c.args.kind c.args.text c.size-size.ensures.distinct p c.fill.ensures.chunks)
+    (named_at c.self.inside.chain.chunks c.fill.new.self.chunks c.args.number c.args.offset c.args.kind c.args.text c.laid_out.ensures.distinct p c.fill.ensures.chunks)

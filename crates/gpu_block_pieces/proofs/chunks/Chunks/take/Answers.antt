@@ -11,7 +11,7 @@ use Rattle.gpu_block_pieces.proofs.chunks.Chunks.take.Goals as goal
 pub overflow_add-taken : goal.overflow_add-taken
 overflow_add-taken c =
     let h = subst (λ (xs : List Chunk). IsChosen xs c.args.wanted c.args.found) (sym (ap (λ (v : LaidChunks). v.items) c.self.view_is)) c.requires.chosen in
-    let f = chosen_fits c.self.inside.chain.chunks c.args.wanted c.args.found c.self.inside.chain.size c.size-size.ensures.covers (omega (arith, c.size-size.ensures.value)) h in
+    let f = chosen_fits c.self.inside.chain.chunks c.args.wanted c.args.found c.self.inside.chain.size c.laid_out.ensures.covers c.laid_out.ensures.bounded h in
     omega (arith, f.high, f.ends)
 
 pub take_front-requires-clause-gap : goal.take_front-requires-clause-gap
@@ -39,8 +39,8 @@ pub returns-then-taken-found-clause-taken : goal.returns-then-taken-found-clause
 returns-then-taken-found-clause-taken c =
     let v = ap (λ (v : LaidChunks). v.items) c.self.view_is in
     let h = subst (λ (xs : List Chunk). IsChosen xs c.args.wanted c.args.found) (sym v) c.requires.chosen in
-    let f = chosen_fits c.self.inside.chain.chunks c.args.wanted c.args.found c.self.inside.chain.size c.size-size.ensures.covers (omega (arith, c.size-size.ensures.value)) h in
-    front_taken c.args.self.now.items c.take_front.new.chain.chunks c.args.wanted c.args.found c.args.counter c.args.name (subst (λ (xs : List Chunk). AreDistinct xs) v c.size-size.ensures.distinct)
+    let f = chosen_fits c.self.inside.chain.chunks c.args.wanted c.args.found c.self.inside.chain.size c.laid_out.ensures.covers c.laid_out.ensures.bounded h in
+    front_taken c.args.self.now.items c.take_front.new.chain.chunks c.args.wanted c.args.found c.args.counter c.args.name (subst (λ (xs : List Chunk). AreDistinct xs) v c.laid_out.ensures.distinct)
     (c.args.found.offset + c.args.wanted.size - c.args.found.gap.start) refl c.if-taken-found.true f.low
     (subst (λ (xs : List Chunk). IsSplit xs c.args.found.gap.number (c.args.found.offset + c.args.wanted.size - c.args.found.gap.start) c.args.counter c.args.found.offset c.args.wanted.kind
     c.args.name c.take_front.new.chain.chunks) (c.in_ok-make_room.ensures.chain.0 ∙ v) c.take_front.ensures.chunks)
@@ -49,9 +49,9 @@ pub returns-clause-taken : goal.returns-clause-taken
 returns-clause-taken c =
     let v = ap (λ (v : LaidChunks). v.items) c.self.view_is in
     let h = subst (λ (xs : List Chunk). IsChosen xs c.args.wanted c.args.found) (sym v) c.requires.chosen in
-    let f = chosen_fits c.self.inside.chain.chunks c.args.wanted c.args.found c.self.inside.chain.size c.size-size.ensures.covers (omega (arith, c.size-size.ensures.value)) h in
+    let f = chosen_fits c.self.inside.chain.chunks c.args.wanted c.args.found c.self.inside.chain.size c.laid_out.ensures.covers c.laid_out.ensures.bounded h in
     let some = c.requires.sized in
-    whole_taken c.args.self.now.items c.take_whole.new.chain.chunks c.args.wanted c.args.found c.args.counter c.args.name (subst (λ (xs : List Chunk). AreDistinct xs) v c.size-size.ensures.distinct)
+    whole_taken c.args.self.now.items c.take_whole.new.chain.chunks c.args.wanted c.args.found c.args.counter c.args.name (subst (λ (xs : List Chunk). AreDistinct xs) v c.laid_out.ensures.distinct)
     (omega (arith, c.if-taken-found.false)) (omega (arith, f.low, f.high))
     (subst (λ (xs : List Chunk). IsFilled xs c.args.found.gap.number c.args.found.offset c.args.wanted.kind c.args.name c.take_whole.new.chain.chunks) (c.in_ok-make_room.ensures.chain.0 ∙ v)
     c.take_whole.ensures.chunks)

@@ -8,7 +8,7 @@ the_longest : (c : After-longest_gap) → IsLongestGap c.args.self.now c.longest
 the_longest c =
     let i = c.self.inside in
     subst (λ (b : FreeList). IsLongestGap b c.longest_gap.result) c.self.view_is
-    (longest_in i.chunks.items i.chunks.size i.granularity i.counter c.longest_gap.result c.self.invariant.1 c.longest_gap.ensures)
+    (longest_in i.chunks.items i.chunks.size i.granularity i.counter c.longest_gap.result c.self.invariant.1 c.longest_gap.ensures.longest)
 
 pub returns-clause-longest : goal.returns-clause-longest
 returns-clause-longest c = the_longest c

@@ -2,7 +2,7 @@ use Rattle.std.proofs.Common.{ap}
 use Rattle.gpu_block_chunks.specs.Chain.{Linked}
 use Rattle.gpu_block_chunks.proofs.Listing.{distinct_listed}
 use Rattle.gpu_block_chunks.specs.Nodes.{held_at}
-use Rattle.gpu_block_chunks.proofs.chain.Chain.size.Goals as goal
+use Rattle.gpu_block_chunks.proofs.chain.Chain.laid_out.Goals as goal
 
 pub returns-clause-distinct : goal.returns-clause-distinct
 returns-clause-distinct c =
