@@ -7,7 +7,6 @@ pub mod Live
 pub mod Apart
 pub mod Allocate
 pub mod Free
-pub mod Rename
 pub mod Resource
 pub mod Reply
 pub mod Step

@@ -188,8 +188,7 @@ impl<D: D3D12Device> Allocator<D> {
     pub fn is_live(&self, allocation: &Allocation) -> bool
         ensures { IsTrue result ↔ IsLive self.now.slots allocation.now }
     {
-        self.pool
-            .is_live(allocation.memory_type_index(), &allocation.piece())
+        self.pool.is_live_named(allocation)
     }
 
     /// Frees an allocation, and gives its block back where the block is left empty and isn't the only shared one of its
@@ -207,9 +206,7 @@ impl<D: D3D12Device> Allocator<D> {
         ensures keeps { (b : Allocation) → IsLive self.old.slots b → AreDistinct b allocation → IsLive self.new.slots b }
     {
         log_free(log, self.debug, &allocation);
-        let piece = allocation.piece();
-        let index = allocation.memory_type_index();
-        match self.pool.free(index, &piece) {
+        match self.pool.free_named(&allocation) {
             Ok(()) => Ok(()),
             Err(error) => Err((error, allocation)),
         }

@@ -30,15 +30,13 @@ fn free_placed<D: D3D12Device, L: Log>(
     ensures journal { pool.new.source.journal ≡ with_released resource result pool.old.source.journal }
     ensures keeps { (b : Allocation) → IsLive pool.old.slots b → AreDistinct b allocation.now → IsLive pool.new.slots b }
 {
-    let piece = allocation.piece();
-    let index = allocation.memory_type_index();
-    if !pool.is_live(index, &piece) {
+    if !pool.is_live_named(allocation) {
         // This is refused, and says why.
-        return pool.free(index, &piece);
+        return pool.free_named(allocation);
     }
     log_free(log, debug, allocation);
     pool.source.release(resource);
-    pool.free(index, &piece)
+    pool.free_named(allocation)
 }
 
 /// Gives a resource back, and with it its piece or its record. Where that isn't live nothing changes. It takes no memory.

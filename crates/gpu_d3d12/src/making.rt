@@ -128,8 +128,7 @@ pub fn make_placed<D: D3D12Device, L: Log>(
     {
         Ok(resource) => Ok(placed_in(desc, allocation, resource, asked.size)),
         Err(error) => {
-            let piece = allocation.piece();
-            let _ = pool.free(allocation.memory_type_index(), &piece);
+            let _ = pool.free_named(&allocation);
             Err(error)
         }
     }

@@ -20,5 +20,5 @@ module _ {D : Type 0} (g : Ghosts D) (d : AllocationCreateDesc) (t : _) (first :
       → AllocatesNamed kinds_of_device (AsksBlock g) (pools.request_at t r tt) old result new → IsAttempted g d old result new
   attempted r asks shared result new named =
       let a = subst (λ q. AllocatesNamed kinds_of_device (AsksBlock g) q old result new)
-          (λ i. record { memory_type = t; requested_dedicated = shared i; request = asks i; extra = tt }) named in
+      (λ i. record { memory_type = t; requested_dedicated = shared i; request = asks i; extra = tt }) named in
       record { memory_type = t; first = first; answer = a.answer; allocates = a.allocates; returns = a.returns }

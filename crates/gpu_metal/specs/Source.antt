@@ -18,7 +18,7 @@ use Rattle.gpu_device.specs.declared.metal.types.StorageMode.TheVariants.{Shared
 use Rattle.gpu_metal_setup.specs.HeapAnswer.{AsksHeap, heap_refusal}
 use Rattle.gpu_metal_setup.specs.MemoryKinds.{locations, heap_descriptor}
 use Rattle.gpu_metal_setup.specs.Residency.{with_left, with_committed, release_recorded, commit_recorded, ChangesHeld}
-use Rattle.gpu_pool.specs.Source.{HeldBlock, HeldBlocks}
+use Rattle.gpu_pool.specs.Source.{HeldBlock, HeldBlocks, block_since}
 use Rattle.gpu_metal.specs.Blocks.{Residency, residency_of, is_same_heap}
 
 -- the device, what it was when it was handed in, and the residency set, where there is one
@@ -49,10 +49,8 @@ entry_block None = None
 entry_block (Some (Heap desc size)) = option_map (λ t. record { memory_type = t; size = size }) (heap_type desc)
 entry_block (Some (Set members committed)) = None
 
--- what was there at first is no block
 abbrev pub new_block : (at_first now : Option Entry) → Option HeldBlock
-new_block None now = entry_block now
-new_block (Some e) now = None
+new_block = block_since entry_block
 
 -- the heaps that came since, as blocks
 abbrev pub blocks_of : (first held : Held) → HeldBlocks

@@ -130,9 +130,7 @@ impl<D: MetalDevice> Allocator<D> {
         ensures keeps { (b : Allocation) → IsLive self.old.slots b → AreDistinct b allocation → IsLive self.new.slots b }
     {
         log_free(log, self.debug, &allocation);
-        let piece = allocation.piece();
-        let index = allocation.memory_type_index();
-        match self.pool.free(index, &piece) {
+        match self.pool.free_named(&allocation) {
             Ok(()) => Ok(()),
             Err(error) => Err((error, allocation)),
         }
@@ -238,8 +236,7 @@ impl<D: MetalDevice> Allocator<D> {
     pub fn is_live(&self, allocation: &Allocation) -> bool
         ensures { IsTrue result ↔ IsLive self.now.slots allocation.now }
     {
-        self.pool
-            .is_live(allocation.memory_type_index(), &allocation.piece())
+        self.pool.is_live_named(allocation)
     }
 
     /// Gives every block back, and returns the device, which then holds what it held when it was handed in, and the residency

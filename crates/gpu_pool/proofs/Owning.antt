@@ -1,5 +1,5 @@
 -- Which pieces stay live, and that the blocks of a pool are sound.
-use Rattle.std.proofs.Common.{◌≡◌, ◌∙◌, refl, sym, ap, subst, ℕ, ◌<◌, ◌%◌, Bool, true, List, Option, length, slice_set, Ok, Err, Result, IfOk}
+use Rattle.std.proofs.Common.{◌≡◌, ◌∙◌, sym, ap, subst, ℕ, ◌<◌, ◌%◌, Bool, true, List, Option, length, slice_set, Ok, Err, Result, IfOk}
 use Rattle.std.proofs.lemmas.List.{length-map}
 use Rattle.gpu_values.specs.Refusal.{Refusal}
 use Rattle.gpu_values.specs.declared.error.AllocationError.{AllocationError}

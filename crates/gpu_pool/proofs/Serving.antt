@@ -5,7 +5,7 @@ use Rattle.gpu_values.specs.Refusal.{Refusal}
 use Rattle.gpu_slots.specs.TypeState.{Slot}
 use Rattle.gpu_slots.specs.TypeTake.{fresh_block}
 use Rattle.gpu_slots.specs.declared.piece.Piece.{Piece}
-use Rattle.gpu_memory_types.specs.Blocks.{Slots, slots_at}
+use Rattle.gpu_memory_types.specs.Blocks.{slots_at}
 use Rattle.gpu_memory_types.proofs.Sizes.{takes_size}
 use Rattle.gpu_memory_types.proofs.Placed.{only_block, installs_only, prepares_only}
 use Rattle.gpu_pool.specs.Allocate.{RequestAt, Environment, NothingMet, NoHostMemory, Answered, NeedsNewBlock, AsksOf, Serves}

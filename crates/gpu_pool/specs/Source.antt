@@ -23,6 +23,11 @@ pub record Removes (old : HeldBlocks) (number : ℕ) (new : HeldBlocks) : Type 0
   pub gone : new number ≡ None
   pub others : (n : ℕ) → n ≢ number → new n ≡ old n
 
+-- what is held under a number, as a block; what was there at first is none
+abbrev pub block_since : {E : Type 0} → (as_block : Option E → Option HeldBlock) → (at_first now : Option E) → Option HeldBlock
+block_since as_block None now = as_block now
+block_since as_block (Some e) now = None
+
 -- a result, its error as a refusal
 abbrev pub result_of : {A : Type 0} → Result A AllocationError → Result A Refusal
 result_of (Ok a) = Ok a

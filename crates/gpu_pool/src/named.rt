@@ -1,10 +1,13 @@
 //! Pieces that their owners hold with their names.
 
-ghost use Rattle.std.specs.Prelude.{◌≡◌, ◌≢◌, ◌<◌, ◌%◌, length, string_bytes, IsTrue, IfOk, IfErr};
+ghost use Rattle.std.specs.Prelude.{◌≡◌, ◌≢◌, ◌↔◌, ◌<◌, ◌%◌, length, string_bytes, IsTrue, IfOk, IfErr};
 ghost use Rattle.std.specs.Int.{is_power_of_two};
 ghost use Rattle.gpu_values.specs.declared.error.AllocationError.TheVariants.{HostOutOfMemory};
 ghost use Rattle.gpu_pool.specs.Allocate.{request_at};
-ghost use Rattle.gpu_pool.specs.Allocation.{AllocatesNamed, RenamesNamed, IsLive, StayLive, IsNewlyLive};
+ghost use Rattle.gpu_pool.specs.Allocation.{piece_of, AllocatesNamed, RenamesNamed, AreDistinct, IsLive, StayLive, IsNewlyLive};
+ghost use Rattle.gpu_pool.specs.Free.{Frees};
+ghost use Rattle.gpu_pool.specs.Source.{result_of};
+ghost use Rattle.gpu_pool.specs.declared.allocation.Allocation.{Allocation};
 
 use crate::allocation::{Allocation, allocation_of};
 use crate::{BlockSource, Pool};
@@ -44,11 +47,32 @@ impl<S: BlockSource> Pool<S> {
         ensures keeps { StayLive S.Handle.eq self.old.slots self.new.slots }
         ensures live { IfOk result (λ a. IsNewlyLive S.Handle.eq self.old.slots self.new.slots a) }
     {
-        let name = own_name(alloc, request.name)?;
+        let name = match own_name(alloc, request.name) {
+            Ok(name) => name,
+            Err(error) => return Err(error),
+        };
         match self.allocate(index, request, extra) {
             Ok(piece) => Ok(allocation_of(index, piece, name)),
             Err(error) => Err(error),
         }
+    }
+
+    /// Frees an allocation, as `free` frees its piece. It takes no memory.
+    pub fn free_named(&mut self, allocation: &Allocation<S::Handle>) -> Result<()>
+        ensures frees { Frees S.gives_back S.Handle.eq allocation.now.memory_type_index (piece_of allocation.now)
+            self.old (result_of result) self.new }
+        ensures constant { S.kinds self.new.source ≡ S.kinds self.old.source }
+        ensures keeps { (b : Allocation S.Handle) → IsLive S.Handle.eq self.old.slots b → AreDistinct b allocation.now
+            → IsLive S.Handle.eq self.new.slots b }
+    {
+        self.free(allocation.memory_type_index, &allocation.piece())
+    }
+
+    /// Whether an allocation is live: there is a record with its type, slot, number, offset, size and heap.
+    pub fn is_live_named(&self, allocation: &Allocation<S::Handle>) -> bool
+        ensures { IsTrue result ↔ IsLive S.Handle.eq self.now.slots allocation.now }
+    {
+        self.is_live(allocation.memory_type_index, &allocation.piece())
     }
 
     /// Gives an allocation another name, and the record of its piece with it. `Internal` where it isn't live, else
@@ -69,7 +93,10 @@ impl<S: BlockSource> Pool<S> {
             // This is refused, and says why.
             return self.rename(index, &piece, name);
         }
-        let own = own_name(alloc, name)?;
+        let own = match own_name(alloc, name) {
+            Ok(own) => own,
+            Err(error) => return Err(error),
+        };
         match self.rename(index, &piece, name) {
             Ok(()) => {
                 allocation.name = own;

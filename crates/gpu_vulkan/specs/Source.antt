@@ -12,7 +12,7 @@ use Rattle.gpu_device.specs.declared.vulkan.types.DeviceMemory.{DeviceMemory}
 use Rattle.gpu_device.specs.declared.vulkan.types.MemoryAllocateInfo.{MemoryAllocateInfo}
 use Rattle.gpu_vulkan_setup.specs.Setup.{Setup}
 use Rattle.gpu_vulkan_setup.specs.Types.{is_mapped}
-use Rattle.gpu_pool.specs.Source.{HeldBlock, HeldBlocks}
+use Rattle.gpu_pool.specs.Source.{HeldBlock, HeldBlocks, block_since}
 use Rattle.gpu_vulkan.specs.BlockAnswer.{BlockAnswer, Asks, answer_number, answer_refusal, free_recorded}
 
 -- the device, what it was when it was handed in, and what the allocator is made with
@@ -28,10 +28,8 @@ abbrev pub entry_block : Option Entry → Option HeldBlock
 entry_block None = None
 entry_block (Some e) = Some (record { memory_type = e.memory_type_index; size = e.size })
 
--- what was there at first is no block
 abbrev pub new_block : (at_first now : Option Entry) → Option HeldBlock
-new_block None now = entry_block now
-new_block (Some e) now = None
+new_block = block_since entry_block
 
 -- the memory that came since, as blocks
 abbrev pub blocks_of : (first held : Held) → HeldBlocks

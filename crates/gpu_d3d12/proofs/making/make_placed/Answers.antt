@@ -1,26 +1,24 @@
 use Rattle.std.proofs.Common.{◌≡◌, ◌∙◌, ℕ, refl, sym, ap, subst, Ok, Err, Result}
 use Rattle.gpu_values.specs.declared.error.AllocationError.{AllocationError}
-use Rattle.gpu_slots.specs.declared.piece.Piece.{Piece}
 use Rattle.gpu_device.specs.declared.d3d12.types.ID3D12Heap.{ID3D12Heap}
-use Rattle.gpu_memory_types.specs.Apart as pieces
 use Rattle.gpu_memory_types.specs.Budgets.{budgets}
 use Rattle.gpu_memory_types.specs.Types.{slots_of}
+use Rattle.gpu_device.specs.D3D12.{Placed}
+use Rattle.gpu_device.specs.declared.d3d12.event.ResourcePlace.TheVariants.{InHeap}
 use Rattle.gpu_d3d12_setup.specs.DeviceVersion.{device_of}
-use Rattle.gpu_d3d12_setup.specs.Question.{told_info}
+use Rattle.gpu_d3d12_setup.specs.ResourceAnswer.{ResourceAnswer}
+use Rattle.gpu_d3d12_setup.specs.Question.{told_info, made_size}
 use Rattle.gpu_d3d12_setup.specs.Setup.{kinds_told}
 use Rattle.gpu_d3d12_setup.specs.declared.describe.AllocationCreateDesc.{AllocationCreateDesc}
 use Rattle.gpu_d3d12_setup.specs.declared.device_version.ID3D12DeviceVersion.{ID3D12DeviceVersion}
-use Rattle.gpu_pool.specs.Free.{Frees}
 use Rattle.gpu_pool.specs.Source.{result_of}
 use Rattle.gpu_pool.specs.State.{IsSoundAt}
 use Rattle.gpu_pool.proofs.Holding.{same_holds}
 use Rattle.gpu_pool.proofs.Owning.{sound_at}
 use Rattle.gpu_d3d12.specs.Allocate.{is_valid, AllocatesBy}
-use Rattle.gpu_d3d12.specs.Blocks.{is_same_heap}
-use Rattle.gpu_pool.specs.Allocation.{piece_of}
 use Rattle.gpu_d3d12.specs.Live.{Allocation, IsLive}
 use Rattle.gpu_d3d12.specs.Resource.{piece_desc, IsPlacedIn}
-use Rattle.gpu_d3d12.specs.Source.{SourceState, source_blocks, GivesHeap}
+use Rattle.gpu_d3d12.specs.Source.{SourceState, source_blocks, MakesResource}
 use Rattle.gpu_d3d12.specs.State.{Pool, source_basis}
 use Rattle.gpu_d3d12.specs.Step.{info_of}
 use Rattle.gpu_d3d12.proofs.Creating.{not_allocated, placed, refused, freed_live}
@@ -63,6 +61,16 @@ invariant_of-pool g c =
       c.pool.invariant.2,
     )
 
+pub invariant_of-pool-in-Err-create_placed : goal.invariant_of-pool-in-Err-create_placed
+invariant_of-pool-in-Err-create_placed g c =
+    let V = g.D.D3D12Device in
+    let i = c.pool.inside in
+    let slots = slots_of i.types in (
+      c.pool.invariant.0 ∙ ap kinds_told (sym c.create_placed.ensures.tier),
+      same_holds (λ heap. heap.0) (source_blocks V i.source) (source_blocks V c.create_placed.new.self) slots slots refl c.create_placed.ensures.blocks c.pool.invariant.1,
+      c.pool.invariant.2,
+    )
+
 -- the pool with the piece
 abbrev mid : (g : _) (c : After-create_placed g) → Pool g.row.D.Denot
 mid g c = let i = c.pool.inside in record { source = i.source; sizes = i.sizes; slots = slots_of i.types; budgets = budgets i.types }
@@ -80,6 +88,24 @@ allocates g c first is =
     subst (λ (s : Pool g.row.D.Denot). AllocatesBy V (asked g first) (is_valid (asked g first)) c.args.pool.now a s) (sym c.pool.view_is)
     (subst (λ q. AllocatesBy V q (is_valid q) c.args.pool.now a c.allocate_piece.new.pool) is c.in-Ok.ensures.allocates)
 
+-- the size of the resource
+abbrev size_there : (g : _) (c : After-create_placed g) → ℕ
+size_there g c = made_size (g.D.D3D12Device.properties (device_of (mid g c).source.device)) c.args.question c.args.desc.now.resource_desc.now c.args.desc.now.castable_formats.now
+
+-- the device was asked for a resource where the piece lies
+placed_there : (g : _) (c : After-create_placed g) (answer : ResourceAnswer)
+    → MakesResource g.D.D3D12Device c.args.desc.now (mid g c).source c.args.question (InHeap c.heap.result c.offset.result) (Placed c.heap.result.0 c.offset.result (size_there g c)) answer c.create_placed.new.self
+    → MakesResource g.D.D3D12Device c.args.desc.now (mid g c).source c.args.question (InHeap c.in-Ok.allocation.heap c.in-Ok.allocation.offset)
+    (Placed c.in-Ok.allocation.heap.0 c.in-Ok.allocation.offset (size_there g c)) answer c.create_placed.new.self
+placed_there g c answer makes =
+    let V = g.D.D3D12Device in
+    let d = c.args.desc.now in
+    let s = (mid g c).source in
+    let q = c.args.question in
+    let new = c.create_placed.new.self in
+    subst (λ (h : ID3D12Heap). MakesResource V d s q (InHeap h c.in-Ok.allocation.offset) (Placed h.0 c.in-Ok.allocation.offset (size_there g c)) answer new) c.heap.ensures
+    (subst (λ o. MakesResource V d s q (InHeap c.heap.result o) (Placed c.heap.result.0 o (size_there g c)) answer new) c.offset.ensures makes)
+
 pub returns-in-Ok-create_placed-clause-made : goal.returns-in-Ok-create_placed-clause-made
 returns-in-Ok-create_placed-clause-made g c =
     let V = g.D.D3D12Device in
@@ -89,7 +115,7 @@ returns-in-Ok-create_placed-clause-made g c =
     let a = c.in-Ok.allocation in
     let e = c.in-Ok-create_placed.ensures.makes in
     let r = c.in-Ok-create_placed.resource in
-    placed V d c.args.question c.args.pool.now (mid g later) a (sound g later) (allocates g later first (asked_is g first)) c.create_placed.new.self e.0 e.1 r c.placed_in.result e.2
+    placed V d c.args.question c.args.pool.now (mid g later) a (sound g later) (allocates g later first (asked_is g first)) c.create_placed.new.self e.0 (placed_there g later e.0 e.1) r c.placed_in.result e.2
     (subst (λ n. IsPlacedIn d a r.0 n c.placed_in.result) (ap (λ (q : AllocationCreateDesc). q.size) (asked_is g first)) c.placed_in.ensures)
 
 live : (g : _) (c : After-create_placed g) → IsLive (mid g c).slots c.in-Ok.allocation
@@ -103,13 +129,9 @@ returns-in-Err-create_placed-clause-made g c =
     let a = c.in-Ok.allocation in
     let e = c.in-Err-create_placed.ensures.makes in
     let between = c.create_placed.new.self in
-    let frees = subst (λ (p : Piece ID3D12Heap). Frees (GivesHeap V) is_same_heap a.memory_type_index p (record (mid g later) { source = between }) (result_of c.free.result) c.free.new.self)
-    c.piece-piece.ensures c.free.ensures.frees in
-    refused V c.args.desc.now c.args.question c.args.pool.now (mid g later) a (sound g later) (allocates g later first (asked_is g first)) between e.0 e.1 c.in-Err-create_placed.error e.2 c.free.new.self
-    (freed_live V a (record (mid g later) { source = between }) (live g later) (result_of c.free.result) c.free.new.self frees)
+    refused V c.args.desc.now c.args.question c.args.pool.now (mid g later) a (sound g later) (allocates g later first (asked_is g first)) between e.0 (placed_there g later e.0 e.1) c.in-Err-create_placed.error e.2 c.free_named.new.self
+    (freed_live V a (record (mid g later) { source = between }) (live g later) (result_of c.free_named.result) c.free_named.new.self c.free_named.ensures.frees)
 
 pub returns-in-Err-create_placed-clause-keeps : goal.returns-in-Err-create_placed-clause-keeps
 returns-in-Err-create_placed-clause-keeps g c = λ b was.
-    let a = c.in-Ok.allocation in
-    c.free.ensures.keeps b.memory_type_index (piece_of b) (subst (λ (s : Pool g.row.D.Denot). IsLive s.slots b) (sym c.pool.view_is) (c.in-Ok.ensures.keeps b was))
-    (subst (λ (p : Piece ID3D12Heap). pieces.AreDistinct b.memory_type_index (piece_of b) a.memory_type_index p) (sym c.piece-piece.ensures) (c.in-Ok.ensures.live.1 b was))
+    c.free_named.ensures.keeps b (subst (λ (s : Pool g.row.D.Denot). IsLive s.slots b) (sym c.pool.view_is) (c.in-Ok.ensures.keeps b was)) (c.in-Ok.ensures.live.1 b was)

@@ -1,5 +1,7 @@
+use Rattle.std.specs.Prelude.{IfOk}
 use Rattle.std.proofs.Common.{rules, ◌≡◌, refl, sym, subst, true, false}
 use Rattle.gpu_metal.specs.Allocate.{is_valid, AllocatesBy, Allocates}
+use Rattle.gpu_metal.specs.Live.{IsLive, IsNewlyLive}
 use Rattle.gpu_metal.specs.State.{State, state_of}
 use Rattle.gpu_metal.proofs.Giving.{attempted}
 use Rattle.gpu_metal.proofs.Steps.{invalid_step, allocate_step}
@@ -16,7 +18,7 @@ returns-then-desc-eq0-clause-step g c =
     invalid_step g.D.MetalDevice c.args.desc.now c.args.self.now c.args.self.now _ invalid refl refl
 
 abbrev now : (g : _) (c : After-allocate_named g) → State g.row.D.Denot
-now g c = state_of c.allocate_named.new.pool c.self.inside.debug
+now g c = state_of c.allocate_named.new.self c.self.inside.debug
 
 allocates : (g : _) (c : After-allocate_named g) → Allocates g.D.MetalDevice c.args.desc.now c.args.self.now c.allocate_named.result (now g c)
 allocates g c =
@@ -24,8 +26,8 @@ allocates g c =
     let i = c.self.inside in
     let d = c.args.desc.now in
     let valid : is_valid d ≡ true = search rules in
-    let tried = attempted V d c.type_for.result c.type_for.ensures.first i.pool c.request_of.result c.request_of.ensures.asks c.request_of.ensures.shared c.allocate_named.result c.allocate_named.new.pool
-        c.allocate_named.ensures.allocates in
+    let tried = attempted V d c.type_for-index.result c.type_for-index.ensures.first i.pool c.request_of.result c.request_of.ensures.asks c.request_of.ensures.shared c.allocate_named.result c.allocate_named.new.self
+    c.allocate_named.ensures.allocates in
     let here : Allocates V d (state_of i.pool i.debug) c.allocate_named.result (now g c) =
     subst (λ v. AllocatesBy V d v (state_of i.pool i.debug) c.allocate_named.result (now g c)) (sym valid) tried in
     subst (λ (s : State g.row.D.Denot). Allocates V d s c.allocate_named.result (now g c)) c.self.view_is here
@@ -37,3 +39,10 @@ pub returns-clause-step : goal.returns-clause-step
 returns-clause-step g c =
     let later = (goal.at.returns-clause-step g c).After-allocate_named in
     allocate_step g.D.MetalDevice c.args.desc.now c.args.self.now (now g later) c.allocate_named.result (allocates g later)
+
+pub returns-clause-keeps : goal.returns-clause-keeps
+returns-clause-keeps g c = λ a live. c.allocate_named.ensures.keeps a (subst (λ (s : State g.row.D.Denot). IsLive s.slots a) (sym c.self.view_is) live)
+
+pub returns-clause-gives : goal.returns-clause-gives
+returns-clause-gives g c =
+    subst (λ (s : State g.row.D.Denot). IfOk c.allocate_named.result (λ a. IsNewlyLive s.slots c.allocate_named.new.self.slots a)) c.self.view_is c.allocate_named.ensures.live

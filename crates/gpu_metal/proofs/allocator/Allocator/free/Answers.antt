@@ -10,13 +10,10 @@ use Rattle.gpu_metal.proofs.Steps.{free_step}
 use Rattle.gpu_metal.proofs.allocator.Allocator.free.Goals as goal
 
 pub returns-clause-keeps : goal.returns-clause-keeps
-returns-clause-keeps g c = λ b live other.
-    let before : IsLive c.self.inside.pool.slots b = subst (λ (s : State g.row.D.Denot). IsLive s.slots b) (sym c.self.view_is) live in
-    c.free.ensures.keeps b.memory_type_index (piece_of b) before
-    (subst (λ (p : Piece MTLHeap). AreDistinct b.memory_type_index (piece_of b) c.args.allocation.memory_type_index p) (sym c.piece-piece.ensures) other)
+returns-clause-keeps g c = λ b live other. c.free_named.ensures.keeps b (subst (λ (s : State g.row.D.Denot). IsLive s.slots b) (sym c.self.view_is) live) other
 
 pub returns-clause-step : goal.returns-clause-step
 returns-clause-step g c =
-    let new : State g.row.D.Denot = state_of c.free.new.self c.self.inside.debug in
-    let frees : Frees g.D.MetalDevice c.args.allocation c.args.self.now c.match-free.result new = search rules in
-    free_step g.D.MetalDevice c.args.allocation c.args.self.now new c.match-free.result frees
+    let new : State g.row.D.Denot = state_of c.free_named.new.self c.self.inside.debug in
+    let frees : Frees g.D.MetalDevice c.args.allocation c.args.self.now c.match-free_named.result new = search rules in
+    free_step g.D.MetalDevice c.args.allocation c.args.self.now new c.match-free_named.result frees
