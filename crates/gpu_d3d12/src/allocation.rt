@@ -50,6 +50,20 @@ impl Allocation {
         self.size
     }
 
+    /// The index of its memory type.
+    pub fn memory_type_index(&self) -> usize
+        ensures { result ≡ self.now.memory_type_index }
+    {
+        self.memory_type_index
+    }
+
+    /// The slot of its block in its memory type.
+    pub fn memory_block_index(&self) -> usize
+        ensures { result ≡ self.now.memory_block_index }
+    {
+        self.memory_block_index
+    }
+
     /// Whether it is no piece. None such is ever made.
     pub fn is_null(&self) -> bool
         ensures { result ≡ false }
