@@ -42,9 +42,6 @@ ok_err n e is = cc
 ok_same : (m n : ℕ) → ◌≡◌ {A = Result ℕ Refusal} (Ok m) (Ok n) → m ≡ n
 ok_same m n is = cc
 
-none_some : (a : ResourceAnswer) → Some a ≡ None → ⊥
-none_some a is = cc
-
 -- an answer that gives this number granted it
 granted : (texts : Texts) (a : ResourceAnswer) (n : ℕ) → number_or_refusal texts a ≡ Ok n → resource_number a ≡ Some n
 granted texts (Granted m) n is = ap Some (ok_same m n is)

@@ -165,9 +165,10 @@ impl<D: D3D12Device> Allocator<D> {
     }
 
     /// What holds of live allocations at any time, for callers' proofs: each lies inside its block, and no two share a
-    /// byte. All blocks are sound. It does nothing.
+    /// byte. All blocks are sound, and each memory type has a list of committed resources. It does nothing.
     pub fn allocations_are_apart(&self)
         ensures sound { BlocksWellFormed 1 self.now.slots }
+        ensures lists { length self.now.committed ≡ length (kinds_told self.now.setup.tier) }
         ensures inside { (a : Allocation) → IsLive self.now.slots a → IsInside self.now.slots a }
         ensures apart { (a b : Allocation) → IsLive self.now.slots a → IsLive self.now.slots b → AreDistinct a b → SharesNoByte a b }
     {

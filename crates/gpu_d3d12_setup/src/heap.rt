@@ -42,7 +42,7 @@ fn properties_with(
 }
 
 /// Where the heaps of a location lie.
-fn heap_properties(location: MemoryLocation) -> HeapProperties
+pub fn heap_properties(location: MemoryLocation) -> HeapProperties
     ensures { result ≡ heap_properties location }
 {
     let unknown = CpuPageProperty::Unknown;

@@ -15,7 +15,7 @@ mod setup;
 pub use category::ResourceCategory;
 pub use describe::{AllocationCreateDesc, AllocatorCreateDesc, request_of};
 pub use device_version::ID3D12DeviceVersion;
-pub use heap::{create_block_heap, heap_desc, release_block_heap};
+pub use heap::{create_block_heap, heap_desc, heap_properties, release_block_heap};
 pub use memory_kind::{MemoryKind, kind_at, type_count, type_for};
 pub use question::{
     CommittedAllocationStatistics, ResourceCreateDesc, ResourceQuestion,

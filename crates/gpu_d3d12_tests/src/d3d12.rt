@@ -10,6 +10,7 @@ mod refusals;
 mod refused;
 mod resources;
 mod scripts;
+mod sessions;
 
 use gpu_d3d12::{Allocation, Allocator};
 use gpu_d3d12_setup::{

@@ -19,7 +19,7 @@ ghost use Rattle.gpu_metal.specs.Apart.{IsInside, SharesNoByte};
 ghost use Rattle.gpu_metal.specs.Blocks.{residency_of, left_behind, HoldsJustLiveBlocks};
 ghost use Rattle.gpu_metal.specs.Free.{Frees};
 ghost use Rattle.gpu_pool.specs.Allocation.{AreDistinct};
-ghost use Rattle.gpu_metal.specs.Live.{Allocation, IsLive, StayLive, IsNewlyLive};
+ghost use Rattle.gpu_metal.specs.Live.{Allocation, IsLive, IsNewlyLive, StayLive};
 ghost use Rattle.gpu_metal.specs.Step.{IsStep, IsAllocateStep, Free, Commit, SetBudget, Budget, Capacity, LiveHeaps, Report, freed_as, done_as, shown_as};
 
 use crate::Allocation;
