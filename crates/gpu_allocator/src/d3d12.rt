@@ -1,9 +1,9 @@
 //! DirectX 12: heaps for buffers and textures, and resources.
 
-pub use gpu_d3d12::{Allocation, Allocator, Resource, laws};
-pub use gpu_d3d12_setup::{
-    AllocationCreateDesc, AllocatorCreateDesc, CommittedAllocationStatistics, ID3D12DeviceVersion,
-    ResourceCategory, ResourceCreateDesc, ResourceStateOrBarrierLayout, ResourceType,
+pub use gpu_d3d12::{
+    Allocation, AllocationCreateDesc, Allocator, AllocatorCreateDesc,
+    CommittedAllocationStatistics, ID3D12DeviceVersion, Resource, ResourceCategory,
+    ResourceCreateDesc, ResourceStateOrBarrierLayout, ResourceType, laws,
 };
 pub use gpu_device::d3d12::{
     ClearValue, CpuPageProperty, D3D12Device, Format, HeapContent, HeapDesc, HeapFlags,

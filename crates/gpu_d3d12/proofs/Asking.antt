@@ -9,13 +9,13 @@ use Rattle.gpu_device.specs.Granted.{with_granted}
 use Rattle.gpu_device.specs.declared.d3d12.device.D3D12Device.{Ghosts}
 use Rattle.gpu_device.specs.declared.d3d12.types.ID3D12Heap.{ID3D12Heap}
 use Rattle.gpu_memory_types.proofs.Options.{none_some, some_same}
-use Rattle.gpu_d3d12_setup.specs.DeviceVersion.{device_of, with_device}
-use Rattle.gpu_d3d12_setup.specs.HeapAnswer.{HeapAnswer, Granted, Declined, Null, AsksHeap, IsWithoutHeap, Gives}
-use Rattle.gpu_d3d12_setup.specs.Heaps.{heap_desc}
-use Rattle.gpu_d3d12_setup.specs.ResourceAnswer.{ResourceAnswer, AsksResource, resource_number}
-use Rattle.gpu_d3d12_setup.specs.declared.memory_kind.MemoryKind.{MemoryKind}
-use Rattle.gpu_d3d12_setup.specs.declared.question.ResourceCreateDesc.{ResourceCreateDesc}
-use Rattle.gpu_d3d12_setup.specs.declared.question.ResourceQuestion.{ResourceQuestion}
+use Rattle.gpu_d3d12.specs.DeviceVersion.{device_of, with_device}
+use Rattle.gpu_d3d12.specs.HeapAnswer.{HeapAnswer, Granted, Declined, Null, AsksHeap, IsWithoutHeap, Gives}
+use Rattle.gpu_d3d12.specs.Heaps.{heap_desc}
+use Rattle.gpu_d3d12.specs.ResourceAnswer.{ResourceAnswer, AsksResource, resource_number}
+use Rattle.gpu_d3d12.specs.declared.memory_kind.MemoryKind.{MemoryKind}
+use Rattle.gpu_d3d12.specs.declared.question.ResourceCreateDesc.{ResourceCreateDesc}
+use Rattle.gpu_d3d12.specs.declared.question.ResourceQuestion.{ResourceQuestion}
 use Rattle.gpu_pool.specs.Source.{HoldsAfter, Removes, result_of}
 use Rattle.gpu_d3d12.specs.Blocks.{kind_at, IsWithoutResource}
 use Rattle.gpu_d3d12.specs.Source.{SourceState, entry_block, blocks_of, beside, HoldsFirst, heap_result, held_by, source_blocks, source_beside, with_source_device, AsksBlock, GivesHeap, MakesResource, ReleasesResource}

@@ -13,9 +13,9 @@ use Rattle.gpu_device.proofs.HeapsAndResources.{get-without_heap_other, get-with
 use Rattle.gpu_device.proofs.Maps.{get-insert_same, get-insert_other, get-remove_same, held_alike}
 use Rattle.gpu_values.specs.declared.memory_location.MemoryLocation.TheVariants.{GpuOnly, CpuToGpu, GpuToCpu}
 use Rattle.gpu_memory_types.proofs.Options.{none_some, some_same}
-use Rattle.gpu_d3d12_setup.specs.Heaps.{heap_properties, heap_desc}
-use Rattle.gpu_d3d12_setup.specs.MemoryKinds.{kind}
-use Rattle.gpu_d3d12_setup.specs.declared.memory_kind.MemoryKind.{MemoryKind}
+use Rattle.gpu_d3d12.specs.Heaps.{heap_properties, heap_desc}
+use Rattle.gpu_d3d12.specs.MemoryKinds.{kind}
+use Rattle.gpu_d3d12.specs.declared.memory_kind.MemoryKind.{MemoryKind}
 use Rattle.gpu_pool.specs.Source.{HeldBlock, Adds, Removes}
 use Rattle.gpu_d3d12.specs.Blocks.{kind_at}
 use Rattle.gpu_d3d12.specs.Source.{page_location, content_type, heap_type, entry_block, new_block, blocks_of, beside, IsHeapOf, HoldsFirst}

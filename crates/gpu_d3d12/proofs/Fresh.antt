@@ -11,12 +11,12 @@ use Rattle.gpu_device.specs.declared.d3d12.types.HeapFlags.{HeapFlags}
 use Rattle.gpu_device.specs.declared.d3d12.types.HeapProperties.{HeapProperties}
 use Rattle.gpu_device.specs.declared.d3d12.types.ID3D12Heap.{ID3D12Heap}
 use Rattle.gpu_slots.specs.declared.piece.Piece.{Piece}
-use Rattle.gpu_d3d12_setup.specs.DeviceVersion.{device_of}
-use Rattle.gpu_d3d12_setup.specs.ResourceAnswer.{ResourceAnswer, Granted, Declined, Null, Texts, resource_number, committed_texts, placed_texts}
-use Rattle.gpu_d3d12_setup.specs.Setup.{kinds_told}
-use Rattle.gpu_d3d12_setup.specs.declared.describe.AllocationCreateDesc.{AllocationCreateDesc}
-use Rattle.gpu_d3d12_setup.specs.declared.question.ResourceCreateDesc.{ResourceCreateDesc}
-use Rattle.gpu_d3d12_setup.specs.declared.question.ResourceQuestion.{ResourceQuestion}
+use Rattle.gpu_d3d12.specs.DeviceVersion.{device_of}
+use Rattle.gpu_d3d12.specs.ResourceAnswer.{ResourceAnswer, Granted, Declined, Null, Texts, resource_number, committed_texts, placed_texts}
+use Rattle.gpu_d3d12.specs.Setup.{kinds_told}
+use Rattle.gpu_d3d12.specs.declared.describe.AllocationCreateDesc.{AllocationCreateDesc}
+use Rattle.gpu_d3d12.specs.declared.question.ResourceCreateDesc.{ResourceCreateDesc}
+use Rattle.gpu_d3d12.specs.declared.question.ResourceQuestion.{ResourceQuestion}
 use Rattle.gpu_pool.specs.Allocate as environments
 use Rattle.gpu_pool.specs.Allocate.{NothingMet, NoHostMemory, Answered}
 use Rattle.gpu_pool.specs.Reply as replies

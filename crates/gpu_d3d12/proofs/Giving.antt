@@ -4,10 +4,10 @@ use Rattle.gpu_values.specs.declared.error.AllocationError.{AllocationError}
 use Rattle.gpu_slots.specs.declared.piece.Request.{Request}
 use Rattle.gpu_slots.specs.TypeTake.{asked}
 use Rattle.gpu_device.specs.declared.d3d12.device.D3D12Device.{Ghosts}
-use Rattle.gpu_d3d12_setup.specs.Describe.{request_of}
-use Rattle.gpu_d3d12_setup.specs.MemoryKinds.{memory_kinds, IsFirstServing}
-use Rattle.gpu_d3d12_setup.specs.Setup.{kinds_told}
-use Rattle.gpu_d3d12_setup.specs.declared.describe.AllocationCreateDesc.{AllocationCreateDesc}
+use Rattle.gpu_d3d12.specs.Describe.{request_of}
+use Rattle.gpu_d3d12.specs.MemoryKinds.{memory_kinds, IsFirstServing}
+use Rattle.gpu_d3d12.specs.Setup.{kinds_told}
+use Rattle.gpu_d3d12.specs.declared.describe.AllocationCreateDesc.{AllocationCreateDesc}
 use Rattle.gpu_pool.specs.Allocate as pools
 use Rattle.gpu_pool.specs.Allocation.{AllocatesNamed}
 use Rattle.gpu_d3d12.specs.Allocate.{IsAttempted}

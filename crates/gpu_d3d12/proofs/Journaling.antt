@@ -14,7 +14,7 @@ use Rattle.gpu_device.proofs.Maps.{get-insert_same, get-insert_other}
 use Rattle.gpu_memory_types.proofs.Options.{none_some}
 use Rattle.gpu_values.specs.Refusal.{refusal_of}
 use Rattle.gpu_values.specs.declared.error.AllocationError.{AllocationError}
-use Rattle.gpu_d3d12_setup.specs.ResourceAnswer.{ResourceAnswer, Granted, Declined, Null, Texts, Makes, resource_number}
+use Rattle.gpu_d3d12.specs.ResourceAnswer.{ResourceAnswer, Granted, Declined, Null, Texts, Makes, resource_number}
 use Rattle.gpu_d3d12.specs.Journal.{number_in, is_in, out, strays, with_made, IsResource, HoldsResources, IsFirstAndOut}
 use Rattle.gpu_d3d12.specs.Source.{entry_block, new_block, blocks_of, beside, HoldsFirst}
 use Rattle.gpu_d3d12.specs.declared.journal.ResourceEvent.{ResourceEvent}

@@ -14,9 +14,9 @@ use Rattle.gpu_memory_types.specs.Apart.{EndsInside}
 use Rattle.gpu_memory_types.specs.Held.{HasEntry}
 use Rattle.gpu_memory_types.proofs.Apart.{found}
 use Rattle.gpu_memory_types.proofs.Options.{some_same}
-use Rattle.gpu_d3d12_setup.specs.DeviceVersion.{device_of}
-use Rattle.gpu_d3d12_setup.specs.Heaps.{heap_desc}
-use Rattle.gpu_d3d12_setup.specs.declared.memory_kind.MemoryKind.{MemoryKind}
+use Rattle.gpu_d3d12.specs.DeviceVersion.{device_of}
+use Rattle.gpu_d3d12.specs.Heaps.{heap_desc}
+use Rattle.gpu_d3d12.specs.declared.memory_kind.MemoryKind.{MemoryKind}
 use Rattle.gpu_pool.specs.Free.{GivesBackAll}
 use Rattle.gpu_pool.specs.Held.{HoldsJustBlocks}
 use Rattle.gpu_pool.specs.Source.{HeldBlock}

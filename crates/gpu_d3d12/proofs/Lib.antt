@@ -1,3 +1,5 @@
+pub mod Lists
+pub mod FirstServing
 pub mod Changing
 pub mod Journaling
 pub mod Versions

@@ -18,19 +18,19 @@ use Rattle.gpu_device.specs.declared.d3d12.types.ID3D12Heap.{ID3D12Heap}
 use Rattle.gpu_device.specs.declared.d3d12.types.ResourceHeapTier.{ResourceHeapTier}
 use Rattle.gpu_memory_types.specs.Blocks.{slots_at, BlocksWellFormed}
 use Rattle.gpu_memory_types.proofs.Options.{none_some, some_same}
-use Rattle.gpu_d3d12_setup.specs.HeapAnswer.{HeapAnswer, Granted, Declined, Null, null_refusal, told_answer}
-use Rattle.gpu_d3d12_setup.specs.Heaps.{heap_desc, is_host}
-use Rattle.gpu_d3d12_setup.specs.MemoryKinds.{memory_kinds}
-use Rattle.gpu_d3d12_setup.specs.Question.{resource_question}
-use Rattle.gpu_d3d12_setup.specs.ResourceAnswer.{ResourceAnswer, placed_texts}
-use Rattle.gpu_d3d12_setup.specs.Setup.{kinds_told}
-use Rattle.gpu_d3d12_setup.specs.declared.describe.AllocationCreateDesc.{AllocationCreateDesc}
-use Rattle.gpu_d3d12_setup.specs.declared.memory_kind.MemoryKind.{MemoryKind}
-use Rattle.gpu_d3d12_setup.specs.declared.question.ResourceCreateDesc.{ResourceCreateDesc}
-use Rattle.gpu_d3d12_setup.specs.declared.question.ResourceQuestion.{ResourceQuestion}
-use Rattle.gpu_d3d12_setup.specs.declared.question.ResourceType.{ResourceType}
-use Rattle.gpu_d3d12_setup.specs.declared.question.ResourceType.TheVariants as resource_types
-use Rattle.gpu_d3d12_setup.proofs.FirstServing.{one_first}
+use Rattle.gpu_d3d12.specs.HeapAnswer.{HeapAnswer, Granted, Declined, Null, null_refusal, told_answer}
+use Rattle.gpu_d3d12.specs.Heaps.{heap_desc, is_host}
+use Rattle.gpu_d3d12.specs.MemoryKinds.{memory_kinds}
+use Rattle.gpu_d3d12.specs.Question.{resource_question}
+use Rattle.gpu_d3d12.specs.ResourceAnswer.{ResourceAnswer, placed_texts}
+use Rattle.gpu_d3d12.specs.Setup.{kinds_told}
+use Rattle.gpu_d3d12.specs.declared.describe.AllocationCreateDesc.{AllocationCreateDesc}
+use Rattle.gpu_d3d12.specs.declared.memory_kind.MemoryKind.{MemoryKind}
+use Rattle.gpu_d3d12.specs.declared.question.ResourceCreateDesc.{ResourceCreateDesc}
+use Rattle.gpu_d3d12.specs.declared.question.ResourceQuestion.{ResourceQuestion}
+use Rattle.gpu_d3d12.specs.declared.question.ResourceType.{ResourceType}
+use Rattle.gpu_d3d12.specs.declared.question.ResourceType.TheVariants as resource_types
+use Rattle.gpu_d3d12.proofs.FirstServing.{one_first}
 use Rattle.gpu_pool.specs.Allocate as environments
 use Rattle.gpu_pool.specs.Allocate.{NothingMet, NoHostMemory}
 use Rattle.gpu_pool.specs.Free.{Frees}

@@ -16,7 +16,7 @@ use Rattle.gpu_memory_types.proofs.Options.{none_some, some_same}
 use Rattle.gpu_values.specs.Refusal.{Refusal, refusal_of, out_of_memory, host_out_of_memory}
 use Rattle.gpu_values.specs.declared.error.AllocationError.{AllocationError}
 use Rattle.gpu_device.specs.declared.d3d12.types.ID3D12Resource.{ID3D12Resource}
-use Rattle.gpu_d3d12_setup.specs.ResourceAnswer.{ResourceAnswer, Granted, Declined, Null, Texts, committed_texts, resource_number, resource_refusal}
+use Rattle.gpu_d3d12.specs.ResourceAnswer.{ResourceAnswer, Granted, Declined, Null, Texts, committed_texts, resource_number, resource_refusal}
 use Rattle.gpu_d3d12.specs.Committed.{fits, with_record, number_or_refusal, CommitsBy, IsCommitted, GivesRecord, Committed, records_at, total_size, SumsFit, place_of, is_same_record}
 use Rattle.gpu_d3d12.specs.declared.committed_record.CommittedRecord.{CommittedRecord}
 

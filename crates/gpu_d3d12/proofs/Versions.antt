@@ -3,12 +3,12 @@ use Rattle.std.proofs.Common.{◌≡◌, ◌∙◌, refl, sym, ap, List, [], ◌
 use Rattle.gpu_device.specs.D3D12.{Properties}
 use Rattle.gpu_device.specs.declared.d3d12.types.Format.{Format}
 use Rattle.gpu_device.specs.declared.d3d12.types.ResourceDesc.{ResourceDesc}
-use Rattle.gpu_d3d12_setup.specs.DeviceVersion.{device_of, with_device}
-use Rattle.gpu_d3d12_setup.specs.Question.{resource_question, told_info}
-use Rattle.gpu_d3d12_setup.specs.declared.device_version.ID3D12DeviceVersion.{ID3D12DeviceVersion}
-use Rattle.gpu_d3d12_setup.specs.declared.device_version.ID3D12DeviceVersion.TheVariants.{Device, Device10, Device12}
-use Rattle.gpu_d3d12_setup.specs.declared.question.ResourceStateOrBarrierLayout.{ResourceStateOrBarrierLayout}
-use Rattle.gpu_d3d12_setup.specs.declared.question.ResourceStateOrBarrierLayout.TheVariants.{ResourceState, BarrierLayout}
+use Rattle.gpu_d3d12.specs.DeviceVersion.{device_of, with_device}
+use Rattle.gpu_d3d12.specs.Question.{resource_question, told_info}
+use Rattle.gpu_d3d12.specs.declared.device_version.ID3D12DeviceVersion.{ID3D12DeviceVersion}
+use Rattle.gpu_d3d12.specs.declared.device_version.ID3D12DeviceVersion.TheVariants.{Device, Device10, Device12}
+use Rattle.gpu_d3d12.specs.declared.question.ResourceStateOrBarrierLayout.{ResourceStateOrBarrierLayout}
+use Rattle.gpu_d3d12.specs.declared.question.ResourceStateOrBarrierLayout.TheVariants.{ResourceState, BarrierLayout}
 use Rattle.gpu_d3d12.specs.State.{interface_of}
 
 pub same_device : {D : Type 0} (v : ID3D12DeviceVersion D) → v ≡ with_device v (device_of v)

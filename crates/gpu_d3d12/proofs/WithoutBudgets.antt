@@ -6,15 +6,15 @@ use Rattle.gpu_device.specs.declared.d3d12.types.HeapFlags.{HeapFlags}
 use Rattle.gpu_device.specs.declared.d3d12.types.HeapProperties.{HeapProperties}
 use Rattle.gpu_device.specs.declared.d3d12.types.ID3D12Heap.{ID3D12Heap}
 use Rattle.gpu_memory_types.specs.Budgets.{budget_at}
-use Rattle.gpu_d3d12_setup.specs.MemoryKinds.{memory_kinds, IsFirstServing}
-use Rattle.gpu_d3d12_setup.specs.Question.{resource_question}
-use Rattle.gpu_d3d12_setup.specs.ResourceAnswer.{ResourceAnswer, placed_texts}
-use Rattle.gpu_d3d12_setup.specs.Setup.{kinds_told}
-use Rattle.gpu_d3d12_setup.specs.declared.describe.AllocationCreateDesc.{AllocationCreateDesc}
-use Rattle.gpu_d3d12_setup.specs.declared.question.ResourceCreateDesc.{ResourceCreateDesc}
-use Rattle.gpu_d3d12_setup.specs.declared.question.ResourceQuestion.{ResourceQuestion}
-use Rattle.gpu_d3d12_setup.specs.declared.question.ResourceType.{ResourceType}
-use Rattle.gpu_d3d12_setup.specs.declared.question.ResourceType.TheVariants as resource_types
+use Rattle.gpu_d3d12.specs.MemoryKinds.{memory_kinds, IsFirstServing}
+use Rattle.gpu_d3d12.specs.Question.{resource_question}
+use Rattle.gpu_d3d12.specs.ResourceAnswer.{ResourceAnswer, placed_texts}
+use Rattle.gpu_d3d12.specs.Setup.{kinds_told}
+use Rattle.gpu_d3d12.specs.declared.describe.AllocationCreateDesc.{AllocationCreateDesc}
+use Rattle.gpu_d3d12.specs.declared.question.ResourceCreateDesc.{ResourceCreateDesc}
+use Rattle.gpu_d3d12.specs.declared.question.ResourceQuestion.{ResourceQuestion}
+use Rattle.gpu_d3d12.specs.declared.question.ResourceType.{ResourceType}
+use Rattle.gpu_d3d12.specs.declared.question.ResourceType.TheVariants as resource_types
 use Rattle.gpu_pool.specs.Allocate as environments
 use Rattle.gpu_pool.specs.Free.{Frees}
 use Rattle.gpu_pool.specs.Reply as replies

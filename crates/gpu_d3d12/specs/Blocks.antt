@@ -6,9 +6,9 @@ use Rattle.gpu_device.specs.declared.d3d12.event.Event.{Event}
 use Rattle.gpu_device.specs.declared.d3d12.event.Event.TheVariants.{ReleasedHeap, ReleasedResource}
 use Rattle.gpu_device.specs.declared.d3d12.types.ID3D12Heap.{ID3D12Heap}
 use Rattle.gpu_device.specs.declared.d3d12.types.ResourceHeapTier.{ResourceHeapTier}
-use Rattle.gpu_d3d12_setup.specs.Heaps.{heap_desc}
-use Rattle.gpu_d3d12_setup.specs.MemoryKinds.{memory_kinds}
-use Rattle.gpu_d3d12_setup.specs.declared.memory_kind.MemoryKind.{MemoryKind}
+use Rattle.gpu_d3d12.specs.Heaps.{heap_desc}
+use Rattle.gpu_d3d12.specs.MemoryKinds.{memory_kinds}
+use Rattle.gpu_d3d12.specs.declared.memory_kind.MemoryKind.{MemoryKind}
 use Rattle.gpu_memory_types.specs.Blocks as all
 use Rattle.gpu_memory_types.specs.Held.{HoldsBlocks}
 

@@ -5,8 +5,8 @@ use Rattle.std.specs.Option.{option_map}
 use Rattle.gpu_values.specs.Refusal.{Refusal, refusal_of, internal, out_of_memory, host_out_of_memory}
 use Rattle.gpu_values.specs.declared.error.AllocationError.{AllocationError}
 use Rattle.gpu_device.specs.declared.d3d12.types.ID3D12Resource.{ID3D12Resource}
-use Rattle.gpu_d3d12_setup.specs.ResourceAnswer.{ResourceAnswer, Granted, Declined, Null, Texts, committed_texts, resource_number, code_refusal}
-use Rattle.gpu_d3d12_setup.specs.declared.question.CommittedAllocationStatistics.{CommittedAllocationStatistics}
+use Rattle.gpu_d3d12.specs.ResourceAnswer.{ResourceAnswer, Granted, Declined, Null, Texts, committed_texts, resource_number, code_refusal}
+use Rattle.gpu_d3d12.specs.declared.question.CommittedAllocationStatistics.{CommittedAllocationStatistics}
 use Rattle.gpu_d3d12.specs.declared.committed_record.CommittedRecord.{CommittedRecord}
 
 -- ---- what is kept

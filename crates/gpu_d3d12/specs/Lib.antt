@@ -1,3 +1,13 @@
+pub mod DeviceVersion
+pub mod Lends
+pub mod Category
+pub mod MemoryKinds
+pub mod Heaps
+pub mod HeapAnswer
+pub mod Describe
+pub mod Question
+pub mod ResourceAnswer
+pub mod Setup
 pub mod Blocks
 pub mod Journal
 pub mod Committed

@@ -14,14 +14,14 @@ use Rattle.gpu_device.specs.declared.d3d12.types.HeapContent.TheVariants.{All, B
 use Rattle.gpu_device.specs.declared.d3d12.types.HeapDesc.{HeapDesc}
 use Rattle.gpu_device.specs.declared.d3d12.types.ID3D12Heap.{ID3D12Heap}
 use Rattle.gpu_device.specs.declared.d3d12.types.ResourceHeapTier.{ResourceHeapTier}
-use Rattle.gpu_d3d12_setup.specs.DeviceVersion.{device_of, with_device}
-use Rattle.gpu_d3d12_setup.specs.HeapAnswer.{HeapAnswer, Granted, Declined, Null, AsksHeap, IsWithoutHeap, code_refusal, null_refusal}
-use Rattle.gpu_d3d12_setup.specs.Heaps.{heap_desc}
-use Rattle.gpu_d3d12_setup.specs.ResourceAnswer.{ResourceAnswer, AsksResource, resource_number}
-use Rattle.gpu_d3d12_setup.specs.declared.device_version.ID3D12DeviceVersion.{ID3D12DeviceVersion}
-use Rattle.gpu_d3d12_setup.specs.declared.memory_kind.MemoryKind.{MemoryKind}
-use Rattle.gpu_d3d12_setup.specs.declared.question.ResourceCreateDesc.{ResourceCreateDesc}
-use Rattle.gpu_d3d12_setup.specs.declared.question.ResourceQuestion.{ResourceQuestion}
+use Rattle.gpu_d3d12.specs.DeviceVersion.{device_of, with_device}
+use Rattle.gpu_d3d12.specs.HeapAnswer.{HeapAnswer, Granted, Declined, Null, AsksHeap, IsWithoutHeap, code_refusal, null_refusal}
+use Rattle.gpu_d3d12.specs.Heaps.{heap_desc}
+use Rattle.gpu_d3d12.specs.ResourceAnswer.{ResourceAnswer, AsksResource, resource_number}
+use Rattle.gpu_d3d12.specs.declared.device_version.ID3D12DeviceVersion.{ID3D12DeviceVersion}
+use Rattle.gpu_d3d12.specs.declared.memory_kind.MemoryKind.{MemoryKind}
+use Rattle.gpu_d3d12.specs.declared.question.ResourceCreateDesc.{ResourceCreateDesc}
+use Rattle.gpu_d3d12.specs.declared.question.ResourceQuestion.{ResourceQuestion}
 use Rattle.gpu_pool.specs.Source.{HeldBlock, HeldBlocks}
 use Rattle.gpu_d3d12.specs.Journal.{with_made}
 use Rattle.gpu_d3d12.specs.declared.journal.ResourceEvent.{ResourceEvent}

@@ -8,9 +8,9 @@ use Rattle.gpu_device.specs.declared.d3d12.event.Event.{Event}
 use Rattle.gpu_device.specs.declared.d3d12.types.ID3D12Heap.{ID3D12Heap}
 use Rattle.gpu_device.specs.declared.d3d12.types.ResourceHeapTier.{ResourceHeapTier}
 use Rattle.gpu_memory_types.specs.Budgets.{Budgets}
-use Rattle.gpu_d3d12_setup.specs.DeviceVersion.{device_of}
-use Rattle.gpu_d3d12_setup.specs.declared.device_version.ID3D12DeviceVersion.{ID3D12DeviceVersion}
-use Rattle.gpu_d3d12_setup.specs.declared.device_version.ID3D12DeviceVersion.TheVariants.{Device, Device10, Device12}
+use Rattle.gpu_d3d12.specs.DeviceVersion.{device_of}
+use Rattle.gpu_d3d12.specs.declared.device_version.ID3D12DeviceVersion.{ID3D12DeviceVersion}
+use Rattle.gpu_d3d12.specs.declared.device_version.ID3D12DeviceVersion.TheVariants.{Device, Device10, Device12}
 use Rattle.gpu_pool.specs.State as pools
 use Rattle.gpu_d3d12.specs.Blocks.{Slots}
 use Rattle.gpu_d3d12.specs.Committed.{Committed}

@@ -22,21 +22,21 @@ use Rattle.gpu_device.specs.declared.d3d12.types.ResourceAllocationInfo.{Resourc
 use Rattle.gpu_device.specs.declared.d3d12.types.ResourceHeapTier.{ResourceHeapTier}
 use Rattle.gpu_slots.specs.declared.piece.Piece.{Piece}
 use Rattle.gpu_memory_types.specs.Budgets.{Budgets, budget_at}
-use Rattle.gpu_d3d12_setup.specs.DeviceVersion.{device_of, with_device}
-use Rattle.gpu_d3d12_setup.specs.HeapAnswer.{HeapAnswer, told_answer}
-use Rattle.gpu_d3d12_setup.specs.Heaps.{heap_desc}
-use Rattle.gpu_d3d12_setup.specs.MemoryKinds.{memory_kinds, IsFirstServing}
-use Rattle.gpu_d3d12_setup.specs.Question.{resource_question, told_info, made_size}
-use Rattle.gpu_d3d12_setup.specs.ResourceAnswer.{ResourceAnswer, IsReasonTold, resource_number, request_asked, placed_texts}
-use Rattle.gpu_d3d12_setup.specs.ResourceAnswer as resource_answers
-use Rattle.gpu_d3d12_setup.specs.Setup.{kinds_told}
-use Rattle.gpu_d3d12_setup.specs.declared.category.ResourceCategory.{ResourceCategory}
-use Rattle.gpu_d3d12_setup.specs.declared.describe.AllocationCreateDesc.{AllocationCreateDesc}
-use Rattle.gpu_d3d12_setup.specs.declared.memory_kind.MemoryKind.{MemoryKind}
-use Rattle.gpu_d3d12_setup.specs.declared.question.ResourceCreateDesc.{ResourceCreateDesc}
-use Rattle.gpu_d3d12_setup.specs.declared.question.ResourceQuestion.{ResourceQuestion}
-use Rattle.gpu_d3d12_setup.specs.declared.question.ResourceType.{ResourceType}
-use Rattle.gpu_d3d12_setup.specs.declared.question.ResourceType.TheVariants as kinds_of_resources
+use Rattle.gpu_d3d12.specs.DeviceVersion.{device_of, with_device}
+use Rattle.gpu_d3d12.specs.HeapAnswer.{HeapAnswer, told_answer}
+use Rattle.gpu_d3d12.specs.Heaps.{heap_desc}
+use Rattle.gpu_d3d12.specs.MemoryKinds.{memory_kinds, IsFirstServing}
+use Rattle.gpu_d3d12.specs.Question.{resource_question, told_info, made_size}
+use Rattle.gpu_d3d12.specs.ResourceAnswer.{ResourceAnswer, IsReasonTold, resource_number, request_asked, placed_texts}
+use Rattle.gpu_d3d12.specs.ResourceAnswer as resource_answers
+use Rattle.gpu_d3d12.specs.Setup.{kinds_told}
+use Rattle.gpu_d3d12.specs.declared.category.ResourceCategory.{ResourceCategory}
+use Rattle.gpu_d3d12.specs.declared.describe.AllocationCreateDesc.{AllocationCreateDesc}
+use Rattle.gpu_d3d12.specs.declared.memory_kind.MemoryKind.{MemoryKind}
+use Rattle.gpu_d3d12.specs.declared.question.ResourceCreateDesc.{ResourceCreateDesc}
+use Rattle.gpu_d3d12.specs.declared.question.ResourceQuestion.{ResourceQuestion}
+use Rattle.gpu_d3d12.specs.declared.question.ResourceType.{ResourceType}
+use Rattle.gpu_d3d12.specs.declared.question.ResourceType.TheVariants as kinds_of_resources
 use Rattle.gpu_pool.specs.Allocate as environments
 use Rattle.gpu_pool.specs.Allocate.{NothingMet, NoHostMemory}
 use Rattle.gpu_pool.specs.Free.{GivesBackAny, Frees}

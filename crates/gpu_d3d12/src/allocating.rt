@@ -1,13 +1,12 @@
 //! An allocation of a pool.
 
 ghost use Rattle.std.specs.Prelude.{◌≡◌, ◌%◌, IfOk};
-ghost use Rattle.gpu_d3d12_setup.specs.Setup.{kinds_told};
+ghost use Rattle.gpu_d3d12.specs.Setup.{kinds_told};
 ghost use Rattle.gpu_d3d12.specs.Allocate.{is_valid, AllocatesBy};
 ghost use Rattle.gpu_d3d12.specs.Live.{IsNewlyLive, StayLive};
 
-use crate::Allocation;
 use crate::source::D3D12Blocks;
-use gpu_d3d12_setup::{AllocationCreateDesc, request_of, type_for};
+use crate::{Allocation, AllocationCreateDesc, request_of, type_for};
 use gpu_device::d3d12::D3D12Device;
 use gpu_pool::Pool;
 use gpu_values::{AllocationError, Result};

@@ -12,9 +12,9 @@ ghost use Rattle.gpu_memory_types.specs.Budgets.{budget_at, budgets, SetsBudget}
 ghost use Rattle.gpu_memory_types.specs.Leaks.{all_leaks};
 ghost use Rattle.gpu_memory_types.specs.Reports.{whole_report};
 ghost use Rattle.gpu_memory_types.specs.Types.{slots_of, kinds};
-ghost use Rattle.gpu_d3d12_setup.specs.DeviceVersion.{device_of, with_device};
-ghost use Rattle.gpu_d3d12_setup.specs.MemoryKinds.{memory_kinds};
-ghost use Rattle.gpu_d3d12_setup.specs.Setup.{kinds_told, setup_fault};
+ghost use Rattle.gpu_d3d12.specs.DeviceVersion.{device_of, with_device};
+ghost use Rattle.gpu_d3d12.specs.MemoryKinds.{memory_kinds};
+ghost use Rattle.gpu_d3d12.specs.Setup.{kinds_told, setup_fault};
 ghost use Rattle.gpu_pool.specs.Reply as replies;
 ghost use Rattle.gpu_pool.specs.Handles.{all_handles};
 ghost use Rattle.gpu_d3d12.specs.Allocate.{Allocates};
@@ -36,10 +36,10 @@ use crate::freeing::free_resource;
 use crate::logging::{log_allocate, log_free, log_last_leaks, log_leaks};
 use crate::making::{make_committed, make_placed};
 use crate::source::D3D12Blocks;
-use crate::{Allocation, CommittedResources, OwnMemory, Resource};
-use gpu_d3d12_setup::{
-    AllocationCreateDesc, AllocatorCreateDesc, CommittedAllocationStatistics, ID3D12DeviceVersion,
-    ResourceCreateDesc, ResourceType, parts_of, question_for,
+use crate::{
+    Allocation, AllocationCreateDesc, AllocatorCreateDesc, CommittedAllocationStatistics,
+    CommittedResources, ID3D12DeviceVersion, OwnMemory, Resource, ResourceCreateDesc, ResourceType,
+    parts_of, question_for,
 };
 use gpu_device::d3d12::{D3D12Device, ID3D12Heap};
 use gpu_memory_types::MemoryTypes;
@@ -59,7 +59,7 @@ pub struct Allocator<D: D3D12Device> {
 
 impl<D: D3D12Device> Model for Allocator<D> {
     ghost use Rattle.std.specs.Prelude.{◌≡◌, length};
-    ghost use Rattle.gpu_d3d12_setup.specs.Setup.{kinds_told};
+    ghost use Rattle.gpu_d3d12.specs.Setup.{kinds_told};
     ghost use Rattle.gpu_d3d12.specs.State.{State, state_of};
 
     ghost Value = { State D };

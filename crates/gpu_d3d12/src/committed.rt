@@ -5,15 +5,14 @@ ghost use Rattle.std.specs.List.{slice_set, remove};
 ghost use Rattle.gpu_values.specs.Refusal.{refusal_of};
 ghost use Rattle.gpu_device.specs.declared.d3d12.event.ResourcePlace.TheVariants.{Own};
 ghost use Rattle.gpu_device.specs.D3D12.{Committed};
-ghost use Rattle.gpu_d3d12_setup.specs.DeviceVersion.{device_of};
-ghost use Rattle.gpu_d3d12_setup.specs.Question.{made_size};
+ghost use Rattle.gpu_d3d12.specs.DeviceVersion.{device_of};
+ghost use Rattle.gpu_d3d12.specs.Question.{made_size};
 ghost use Rattle.gpu_d3d12.specs.Committed.{total_size, statistics_of, place_of, freed, IsCommitted};
 ghost use Rattle.gpu_d3d12.specs.Journal.{with_made, with_released, number_in};
 ghost use Rattle.gpu_d3d12.specs.Source.{MakesResource, ReleasesResource, source_blocks};
 
-use crate::CommittedRecord;
 use crate::source::D3D12Blocks;
-use gpu_d3d12_setup::{CommittedAllocationStatistics, ResourceCreateDesc, ResourceQuestion};
+use crate::{CommittedAllocationStatistics, CommittedRecord, ResourceCreateDesc, ResourceQuestion};
 use gpu_device::d3d12::{D3D12Device, HeapFlags, HeapProperties, ID3D12Resource};
 use gpu_values::{AllocationError, Result, internal_fault};
 use std::alloc::{AllocError, Global};

@@ -1,7 +1,7 @@
 //! Resources that are given back.
 
 ghost use Rattle.std.specs.Prelude.{◌≡◌, length};
-ghost use Rattle.gpu_d3d12_setup.specs.Setup.{kinds_told};
+ghost use Rattle.gpu_d3d12.specs.Setup.{kinds_told};
 ghost use Rattle.gpu_pool.specs.Source.{result_of};
 ghost use Rattle.gpu_d3d12.specs.Journal.{with_released};
 ghost use Rattle.gpu_pool.specs.Allocation.{AreDistinct};

@@ -1,10 +1,20 @@
 //! Laws of the definitions, each the contract of a function that does nothing.
 
-ghost use Rattle.std.specs.Prelude.{◌≡◌};
+ghost use Rattle.std.specs.Prelude.{◌≡◌, ℕ, List};
 ghost use Rattle.gpu_memory_types.specs.Blocks.{BlocksWellFormed};
 ghost use Rattle.gpu_d3d12.specs.Reply.{Reply};
 ghost use Rattle.gpu_d3d12.specs.State.{Basis, Model, without_budgets};
 ghost use Rattle.gpu_d3d12.specs.Step.{Call, Environment, Step, MeetsNoBudget};
+ghost use Rattle.gpu_values.specs.declared.memory_location.MemoryLocation.{MemoryLocation};
+ghost use Rattle.gpu_d3d12.specs.declared.category.ResourceCategory.{ResourceCategory};
+ghost use Rattle.gpu_d3d12.specs.declared.memory_kind.MemoryKind.{MemoryKind};
+ghost use Rattle.gpu_d3d12.specs.MemoryKinds.{IsFirstServing};
+
+/// A request is served by one memory type: no two are the first that serves it.
+pub fn one_memory_type()
+    ensures { (location : MemoryLocation) (category : ResourceCategory) (kinds : List MemoryKind) (i j : ℕ)
+        → IsFirstServing location category kinds i → IsFirstServing location category kinds j → i ≡ j }
+{}
 
 /// The model isn't loose: a state, a call and what it met with decide the reply and the next state.
 pub fn one_step()

@@ -3,20 +3,42 @@
 
 mod allocating;
 mod allocator;
+mod category;
 mod committed;
 mod committed_record;
+mod describe;
+mod device_version;
 mod freeing;
+mod heap;
 mod journal;
 pub mod laws;
 mod logging;
 mod making;
+mod memory_kind;
+mod question;
 mod resource;
+mod resource_answer;
+mod setup;
 mod source;
 
 pub use allocator::Allocator;
+pub use category::ResourceCategory;
 use committed::{CommittedResources, OwnMemory};
 use committed_record::CommittedRecord;
+use describe::request_of;
+pub use describe::{AllocationCreateDesc, AllocatorCreateDesc};
+pub use device_version::ID3D12DeviceVersion;
+pub use heap::heap_properties;
+use heap::{create_block_heap, heap_desc, release_block_heap};
+pub use memory_kind::type_for;
+use memory_kind::{MemoryKind, kind_at, type_count};
+pub use question::{
+    CommittedAllocationStatistics, ResourceCreateDesc, ResourceQuestion,
+    ResourceStateOrBarrierLayout, ResourceType, allocation_info_of, question_for,
+};
 pub use resource::Resource;
+pub use resource_answer::{create_committed, create_placed};
+use setup::{empty_types, parts_of, tier_of};
 
 /// A piece of a heap, as its owner holds it. Place a resource there.
 pub type Allocation = gpu_pool::Allocation<gpu_device::d3d12::ID3D12Heap>;

@@ -1,7 +1,6 @@
 //! Log lines of this allocator.
 
-use crate::Allocation;
-use gpu_d3d12_setup::AllocationCreateDesc;
+use crate::{Allocation, AllocationCreateDesc};
 use gpu_device::d3d12::ID3D12Heap;
 use gpu_memory_types::MemoryTypes;
 use gpu_pool::logging;

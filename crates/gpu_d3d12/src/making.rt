@@ -1,8 +1,8 @@
 //! Making resources: what is given for the device's, in a piece of a heap or in memory of its own.
 
 ghost use Rattle.std.specs.Prelude.{◌≡◌, ◌≤◌, None, IfOk, length};
-ghost use Rattle.gpu_d3d12_setup.specs.MemoryKinds.{memory_kinds, IsFirstServing};
-ghost use Rattle.gpu_d3d12_setup.specs.Setup.{kinds_told};
+ghost use Rattle.gpu_d3d12.specs.MemoryKinds.{memory_kinds, IsFirstServing};
+ghost use Rattle.gpu_d3d12.specs.Setup.{kinds_told};
 ghost use Rattle.gpu_d3d12.specs.Journal.{with_made};
 ghost use Rattle.gpu_d3d12.specs.Live.{StayLive};
 ghost use Rattle.gpu_d3d12.specs.Over.{IsCommittedOver, IsPlacedOver};
@@ -13,9 +13,9 @@ ghost use Rattle.gpu_d3d12.specs.Step.{info_of};
 use crate::allocating::allocate_piece;
 use crate::logging::log_allocate;
 use crate::source::D3D12Blocks;
-use crate::{Allocation, CommittedResources, OwnMemory, Resource};
-use gpu_d3d12_setup::{
-    AllocationCreateDesc, ResourceCreateDesc, ResourceQuestion, allocation_info_of, type_for,
+use crate::{
+    Allocation, AllocationCreateDesc, CommittedResources, OwnMemory, Resource, ResourceCreateDesc,
+    ResourceQuestion, allocation_info_of, type_for,
 };
 use gpu_device::d3d12::{D3D12Device, ID3D12Resource, ResourceAllocationInfo};
 use gpu_pool::Pool;

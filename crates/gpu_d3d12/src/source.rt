@@ -4,17 +4,16 @@ ghost use Rattle.std.specs.Prelude.{◌≡◌, ℕ, [], Some, None};
 ghost use Rattle.gpu_d3d12.specs.Journal.{HoldsResources, IsFirstAndOut, with_made, number_in};
 ghost use Rattle.gpu_device.specs.D3D12.{Committed, Placed};
 ghost use Rattle.gpu_device.specs.declared.d3d12.event.ResourcePlace.TheVariants.{Own, InHeap};
-ghost use Rattle.gpu_d3d12_setup.specs.DeviceVersion.{device_of, with_device};
-ghost use Rattle.gpu_d3d12_setup.specs.Question.{made_size};
-ghost use Rattle.gpu_d3d12_setup.specs.ResourceAnswer.{ResourceAnswer, Makes, committed_texts, placed_texts};
-ghost use Rattle.gpu_d3d12_setup.specs.Setup.{kinds_told};
+ghost use Rattle.gpu_d3d12.specs.DeviceVersion.{device_of, with_device};
+ghost use Rattle.gpu_d3d12.specs.Question.{made_size};
+ghost use Rattle.gpu_d3d12.specs.ResourceAnswer.{ResourceAnswer, Makes, committed_texts, placed_texts};
+ghost use Rattle.gpu_d3d12.specs.Setup.{kinds_told};
 ghost use Rattle.gpu_d3d12.specs.Source.{AsksBlock, GivesHeap, MakesResource, ReleasesResource, held_by, source_blocks, source_beside, HoldsFirst, one_number};
 
-use crate::OwnMemory;
 use crate::journal::{Journal, ResourceEvent};
-use gpu_d3d12_setup::{
-    ID3D12DeviceVersion, ResourceCreateDesc, ResourceQuestion, create_block_heap, create_committed,
-    create_placed, heap_desc, kind_at, release_block_heap,
+use crate::{
+    ID3D12DeviceVersion, OwnMemory, ResourceCreateDesc, ResourceQuestion, create_block_heap,
+    create_committed, create_placed, heap_desc, kind_at, release_block_heap,
 };
 use gpu_device::d3d12::{D3D12Device, ID3D12Heap, ID3D12Resource, ResourceHeapTier};
 use gpu_pool::BlockSource;
@@ -33,7 +32,7 @@ pub struct D3D12Blocks<D: D3D12Device> {
 
 impl<D: D3D12Device> Model for D3D12Blocks<D> {
     ghost use Rattle.std.specs.Prelude.{◌≡◌};
-    ghost use Rattle.gpu_d3d12_setup.specs.DeviceVersion.{device_of, with_device};
+    ghost use Rattle.gpu_d3d12.specs.DeviceVersion.{device_of, with_device};
     ghost use Rattle.gpu_d3d12.specs.Journal.{events, HoldsResources};
     ghost use Rattle.gpu_d3d12.specs.Source.{SourceState, HoldsFirst};
 

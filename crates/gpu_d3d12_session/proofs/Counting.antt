@@ -6,9 +6,9 @@ use Rattle.gpu_device.specs.D3D12.{granted_heap}
 use Rattle.gpu_device.specs.D3D12History.{refused_in}
 use Rattle.gpu_device.specs.Granted.{counted}
 use Rattle.gpu_device.specs.declared.d3d12.types.ID3D12Heap.{ID3D12Heap}
-use Rattle.gpu_d3d12_setup.specs.HeapAnswer.{HeapAnswer, Granted, Declined, Null, told_answer}
-use Rattle.gpu_d3d12_setup.specs.declared.describe.AllocationCreateDesc.{AllocationCreateDesc}
-use Rattle.gpu_d3d12_setup.specs.Setup.{kinds_told}
+use Rattle.gpu_d3d12.specs.HeapAnswer.{HeapAnswer, Granted, Declined, Null, told_answer}
+use Rattle.gpu_d3d12.specs.declared.describe.AllocationCreateDesc.{AllocationCreateDesc}
+use Rattle.gpu_d3d12.specs.Setup.{kinds_told}
 use Rattle.gpu_pool.specs.Allocate.{RequestAt, Environment, NothingMet, NoHostMemory, Answered, Serves}
 use Rattle.gpu_pool.specs.Free as pools
 use Rattle.gpu_pool.specs.Rename.{RenamesBy}

@@ -18,14 +18,14 @@ use Rattle.gpu_device.specs.declared.d3d12.types.HeapProperties.{HeapProperties}
 use Rattle.gpu_device.specs.declared.d3d12.types.ID3D12Heap.{ID3D12Heap}
 use Rattle.gpu_device.proofs.Maps.{get-insert_same, get-insert_other}
 use Rattle.gpu_device.proofs.HeapsAndResources.{get-without_resource_other}
-use Rattle.gpu_d3d12_setup.specs.Heaps.{is_host}
-use Rattle.gpu_d3d12_setup.specs.MemoryKinds.{memory_kinds, Serves}
-use Rattle.gpu_d3d12_setup.specs.ResourceAnswer.{ResourceAnswer, Granted, Declined, Null, Texts, resource_number, told_answer, placed_texts, committed_texts}
-use Rattle.gpu_d3d12_setup.specs.Setup.{kinds_told}
-use Rattle.gpu_d3d12_setup.specs.declared.question.ResourceCreateDesc.{ResourceCreateDesc}
-use Rattle.gpu_d3d12_setup.specs.declared.question.ResourceQuestion.{ResourceQuestion}
-use Rattle.gpu_d3d12_setup.specs.declared.question.ResourceType.{ResourceType}
-use Rattle.gpu_d3d12_setup.specs.declared.question.ResourceType.TheVariants as kinds_of_resources
+use Rattle.gpu_d3d12.specs.Heaps.{is_host}
+use Rattle.gpu_d3d12.specs.MemoryKinds.{memory_kinds, Serves}
+use Rattle.gpu_d3d12.specs.ResourceAnswer.{ResourceAnswer, Granted, Declined, Null, Texts, resource_number, told_answer, placed_texts, committed_texts}
+use Rattle.gpu_d3d12.specs.Setup.{kinds_told}
+use Rattle.gpu_d3d12.specs.declared.question.ResourceCreateDesc.{ResourceCreateDesc}
+use Rattle.gpu_d3d12.specs.declared.question.ResourceQuestion.{ResourceQuestion}
+use Rattle.gpu_d3d12.specs.declared.question.ResourceType.{ResourceType}
+use Rattle.gpu_d3d12.specs.declared.question.ResourceType.TheVariants as kinds_of_resources
 use Rattle.gpu_pool.specs.Reply as answers
 use Rattle.gpu_d3d12.specs.Allocate.{is_valid}
 use Rattle.gpu_d3d12.specs.Committed.{records_at, CommitsBy, IsAfterResource, number_or_refusal, with_record, fits}

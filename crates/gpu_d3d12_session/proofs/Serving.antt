@@ -4,9 +4,9 @@ use Rattle.std.specs.Prelude.{IfOk, OnErr, Vec}
 use Rattle.gpu_values.specs.declared.error.AllocationError.{AllocationError}
 use Rattle.gpu_device.specs.D3D12History.{refused_in}
 use Rattle.gpu_device.specs.declared.d3d12.device.D3D12Device.{Ghosts}
-use Rattle.gpu_d3d12_setup.specs.DeviceVersion.{device_of, with_device}
-use Rattle.gpu_d3d12_setup.specs.declared.device_version.ID3D12DeviceVersion.{ID3D12DeviceVersion}
-use Rattle.gpu_d3d12_setup.specs.declared.device_version.ID3D12DeviceVersion.TheVariants.{Device, Device10, Device12}
+use Rattle.gpu_d3d12.specs.DeviceVersion.{device_of, with_device}
+use Rattle.gpu_d3d12.specs.declared.device_version.ID3D12DeviceVersion.{ID3D12DeviceVersion}
+use Rattle.gpu_d3d12.specs.declared.device_version.ID3D12DeviceVersion.TheVariants.{Device, Device10, Device12}
 use Rattle.gpu_pool.specs.Allocation.{AreDistinct}
 use Rattle.gpu_d3d12.specs.Live.{Allocation}
 use Rattle.gpu_d3d12.specs.Reply as module_replies

@@ -2,11 +2,11 @@
 use Rattle.std.specs.Prelude.{◌≡◌, ℕ, List, string_bytes}
 use Rattle.std.specs.Option.{option_copied}
 use Rattle.gpu_values.specs.declared.memory_location.MemoryLocation.{MemoryLocation}
-use Rattle.gpu_d3d12_setup.specs.declared.category.ResourceCategory.{ResourceCategory}
-use Rattle.gpu_d3d12_setup.specs.declared.describe.AllocationCreateDesc.{AllocationCreateDesc}
-use Rattle.gpu_d3d12_setup.specs.declared.question.ResourceCreateDesc.{ResourceCreateDesc}
-use Rattle.gpu_d3d12_setup.specs.declared.question.ResourceType.{ResourceType}
-use Rattle.gpu_d3d12_setup.specs.declared.question.ResourceType.TheVariants.{Committed, Placed}
+use Rattle.gpu_d3d12.specs.declared.category.ResourceCategory.{ResourceCategory}
+use Rattle.gpu_d3d12.specs.declared.describe.AllocationCreateDesc.{AllocationCreateDesc}
+use Rattle.gpu_d3d12.specs.declared.question.ResourceCreateDesc.{ResourceCreateDesc}
+use Rattle.gpu_d3d12.specs.declared.question.ResourceType.{ResourceType}
+use Rattle.gpu_d3d12.specs.declared.question.ResourceType.TheVariants.{Committed, Placed}
 use Rattle.gpu_d3d12_session.specs.declared.command.Memory.{Memory}
 use Rattle.gpu_d3d12_session.specs.declared.command.Memory.TheVariants as memories
 use Rattle.gpu_d3d12_session.specs.declared.command.WantedResource.{WantedResource}

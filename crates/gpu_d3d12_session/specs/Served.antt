@@ -1,7 +1,7 @@
 -- What a session's calls say in the model.
 use Rattle.std.specs.Prelude.{◌≡◌, ℕ, List, ◌∷◌, Option, Some, None}
 use Rattle.gpu_device.specs.declared.d3d12.device.D3D12Device.{Ghosts}
-use Rattle.gpu_d3d12_setup.specs.DeviceVersion.{device_of}
+use Rattle.gpu_d3d12.specs.DeviceVersion.{device_of}
 use Rattle.gpu_d3d12.specs.State.{State, basis_of, interface_of, model_of}
 use Rattle.gpu_d3d12.specs.Live.{Allocation}
 use Rattle.gpu_d3d12.specs.declared.journal.ResourceEvent.{ResourceEvent}

@@ -1,6 +1,6 @@
 //! What a session is asked for.
 
-use gpu_d3d12_setup::{ResourceCategory, ResourceStateOrBarrierLayout};
+use gpu_d3d12::{ResourceCategory, ResourceStateOrBarrierLayout};
 use gpu_device::d3d12::{ClearValue, Format, HeapFlags, HeapProperties, ResourceDesc};
 use gpu_values::MemoryLocation;
 

@@ -4,7 +4,7 @@ ghost use Rattle.std.specs.Prelude.{◌≡◌};
 ghost use Rattle.gpu_d3d12_session.specs.Describe.{memory_of, AsksForResource};
 
 use crate::command::{Memory, WantedResource};
-use gpu_d3d12_setup::{ResourceCreateDesc, ResourceType};
+use gpu_d3d12::{ResourceCreateDesc, ResourceType};
 
 /// Where the memory comes from, in the allocator's words.
 pub(crate) fn resource_type(memory: &Memory) -> ResourceType<'_>

@@ -1,6 +1,6 @@
 //! What a session answers.
 
-use gpu_d3d12_setup::CommittedAllocationStatistics;
+use gpu_d3d12::CommittedAllocationStatistics;
 use gpu_device::d3d12::{ID3D12Heap, ID3D12Resource};
 use gpu_values::{AllocationError, AllocatorReport};
 use std::num::NonZeroU64;

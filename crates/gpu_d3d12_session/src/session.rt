@@ -3,7 +3,7 @@
 ghost use Rattle.std.specs.Prelude.{◌≡◌, [], length, IfOk, IfErr, OnErr, option_copied};
 ghost use Rattle.std.specs.Option.{option_map};
 ghost use Rattle.gpu_values.specs.declared.error.AllocationError.TheVariants.{HostOutOfMemory};
-ghost use Rattle.gpu_d3d12_setup.specs.DeviceVersion.{device_of, with_device};
+ghost use Rattle.gpu_d3d12.specs.DeviceVersion.{device_of, with_device};
 ghost use Rattle.gpu_d3d12.specs.Blocks.{HoldsJustLiveBlocks, AsksNothing, releases_recorded};
 ghost use Rattle.gpu_d3d12.specs.Journal.{IsFirstAndOut};
 ghost use Rattle.gpu_pool.specs.Allocation.{piece_of};
@@ -22,8 +22,9 @@ ghost use Rattle.gpu_d3d12_session.specs.declared.command.WantedResource.{Wanted
 use crate::command::{Command, WantedResource};
 use crate::describe::{describe, resource_type};
 use crate::reply::{Given, Made, Reply};
-use gpu_d3d12::{Allocation, Allocator, Resource};
-use gpu_d3d12_setup::{AllocationCreateDesc, ID3D12DeviceVersion, ResourceCreateDesc};
+use gpu_d3d12::{
+    Allocation, AllocationCreateDesc, Allocator, ID3D12DeviceVersion, Resource, ResourceCreateDesc,
+};
 use gpu_device::d3d12::D3D12Device;
 use gpu_run::{Machine, bind};
 use gpu_values::{AllocationError, Result};

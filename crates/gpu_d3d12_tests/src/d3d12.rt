@@ -12,9 +12,9 @@ mod resources;
 mod scripts;
 mod sessions;
 
-use gpu_d3d12::{Allocation, Allocator};
-use gpu_d3d12_setup::{
-    AllocationCreateDesc, AllocatorCreateDesc, ID3D12DeviceVersion, ResourceCategory,
+use gpu_d3d12::{
+    Allocation, AllocationCreateDesc, Allocator, AllocatorCreateDesc, ID3D12DeviceVersion,
+    ResourceCategory,
 };
 use gpu_device::d3d12::{Format, ResourceDesc, ResourceDimension, ResourceHeapTier};
 use gpu_sim_base::Refusal;

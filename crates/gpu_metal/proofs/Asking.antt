@@ -11,9 +11,9 @@ use Rattle.gpu_device.specs.declared.metal.device.MetalDevice.{Ghosts}
 use Rattle.gpu_device.specs.declared.metal.types.MTLHeap.{MTLHeap}
 use Rattle.gpu_device.specs.declared.metal.types.MTLResidencySet.{MTLResidencySet}
 use Rattle.gpu_device.proofs.Maps.{get-insert_same, get-insert_other}
-use Rattle.gpu_metal_setup.specs.HeapAnswer.{AsksHeap, heap_refusal}
-use Rattle.gpu_metal_setup.specs.MemoryKinds.{locations, heap_descriptor}
-use Rattle.gpu_metal_setup.specs.Residency.{MakesSet}
+use Rattle.gpu_metal.specs.HeapAnswer.{AsksHeap, heap_refusal}
+use Rattle.gpu_metal.specs.MemoryKinds.{locations, heap_descriptor}
+use Rattle.gpu_metal.specs.Residency.{MakesSet}
 use Rattle.gpu_pool.specs.Source.{HoldsAfter, result_of}
 use Rattle.gpu_metal.specs.Source.{AsksBlock}
 use Rattle.gpu_metal.specs.Source.{blocks_of, new_block, HoldsFirst, joined}

@@ -4,10 +4,10 @@ use Rattle.gpu_values.specs.declared.error.AllocationError.{AllocationError}
 use Rattle.gpu_slots.specs.declared.piece.Request.{Request}
 use Rattle.gpu_slots.specs.TypeTake.{asked}
 use Rattle.gpu_device.specs.declared.metal.device.MetalDevice.{Ghosts}
-use Rattle.gpu_metal_setup.specs.Describe.{request_of}
-use Rattle.gpu_metal_setup.specs.MemoryKinds.{IsFirstServing}
-use Rattle.gpu_metal_setup.specs.Setup.{kinds_of_device}
-use Rattle.gpu_metal_setup.specs.declared.describe.AllocationCreateDesc.{AllocationCreateDesc}
+use Rattle.gpu_metal.specs.Describe.{request_of}
+use Rattle.gpu_metal.specs.MemoryKinds.{IsFirstServing}
+use Rattle.gpu_metal.specs.Setup.{kinds_of_device}
+use Rattle.gpu_metal.specs.declared.describe.AllocationCreateDesc.{AllocationCreateDesc}
 use Rattle.gpu_pool.specs.Allocate as pools
 use Rattle.gpu_pool.specs.Allocation.{AllocatesNamed}
 use Rattle.gpu_metal.specs.Allocate.{IsAttempted}

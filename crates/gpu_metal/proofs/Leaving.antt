@@ -18,12 +18,12 @@ use Rattle.gpu_device.proofs.Maps.{get-insert_same, get-insert_other}
 use Rattle.gpu_memory_types.specs.Blocks.{block_at}
 use Rattle.gpu_memory_types.specs.Held.{HasEntry, HoldsBlocks}
 use Rattle.gpu_memory_types.proofs.Options.{none_some, some_same}
-use Rattle.gpu_metal_setup.specs.MemoryKinds.{heap_descriptor}
+use Rattle.gpu_metal.specs.MemoryKinds.{heap_descriptor}
 use Rattle.gpu_pool.specs.Free.{GivesBackAll}
 use Rattle.gpu_pool.specs.Held.{HoldsJustBlocks}
 use Rattle.gpu_pool.specs.Source.{HeldBlock}
 use Rattle.gpu_device.specs.declared.metal.device.MetalDevice.{Ghosts}
-use Rattle.gpu_metal_setup.specs.Residency.{releases_recorded, ChangesHeld}
+use Rattle.gpu_metal.specs.Residency.{releases_recorded, ChangesHeld}
 use Rattle.gpu_metal.specs.Source.{type_of, heap_type, new_block, blocks_of, HasBlocks, HoldsFirst}
 use Rattle.gpu_metal.specs.Source.{SourceState, GivesHeap, set_of, left}
 use Rattle.gpu_metal.proofs.Changing.{beside_blocks, is_some_none}

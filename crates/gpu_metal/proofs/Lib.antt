@@ -1,3 +1,6 @@
+pub mod FirstServing
+pub mod Holding
+pub mod Lists
 pub mod Members
 pub mod Changing
 pub mod Asking

@@ -5,10 +5,10 @@ use Rattle.gpu_device.specs.declared.metal.types.MTLHeap.{MTLHeap}
 use Rattle.gpu_memory_types.specs.Blocks.{slots_at, BlocksWellFormed}
 use Rattle.gpu_memory_types.specs.Budgets.{budget_at}
 use Rattle.gpu_memory_types.proofs.Options.{some_same}
-use Rattle.gpu_metal_setup.specs.MemoryKinds.{heap_descriptor, IsFirstServing}
-use Rattle.gpu_metal_setup.specs.Setup.{kinds_of_device}
-use Rattle.gpu_metal_setup.specs.declared.describe.AllocationCreateDesc.{AllocationCreateDesc}
-use Rattle.gpu_metal_setup.proofs.FirstServing.{one_first}
+use Rattle.gpu_metal.specs.MemoryKinds.{heap_descriptor, IsFirstServing}
+use Rattle.gpu_metal.specs.Setup.{kinds_of_device}
+use Rattle.gpu_metal.specs.declared.describe.AllocationCreateDesc.{AllocationCreateDesc}
+use Rattle.gpu_metal.proofs.FirstServing.{one_first}
 use Rattle.gpu_pool.specs.Allocate.{Environment}
 use Rattle.gpu_pool.specs.Reply.{Reply}
 use Rattle.gpu_pool.specs.State.{kind_at, IsSoundAt, without_budgets}

@@ -12,8 +12,8 @@ use Rattle.gpu_memory_types.specs.Blocks.{total_capacity}
 use Rattle.gpu_memory_types.specs.Budgets.{budget_at, SetsBudget}
 use Rattle.gpu_memory_types.specs.Reports.{whole_report}
 use Rattle.gpu_memory_types.proofs.Options.{none_some, some_same}
-use Rattle.gpu_metal_setup.specs.Setup.{kinds_of_device}
-use Rattle.gpu_metal_setup.specs.declared.describe.AllocationCreateDesc.{AllocationCreateDesc}
+use Rattle.gpu_metal.specs.Setup.{kinds_of_device}
+use Rattle.gpu_metal.specs.declared.describe.AllocationCreateDesc.{AllocationCreateDesc}
 use Rattle.gpu_pool.specs.Allocate.{NothingMet, NoHostMemory}
 use Rattle.gpu_pool.specs.Handles.{all_handles}
 use Rattle.gpu_pool.specs.Reply as replies

@@ -1,3 +1,8 @@
+pub mod MemoryKinds
+pub mod Describe
+pub mod Residency
+pub mod HeapAnswer
+pub mod Setup
 pub mod Blocks
 pub mod Source
 pub mod State

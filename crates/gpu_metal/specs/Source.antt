@@ -15,9 +15,9 @@ use Rattle.gpu_device.specs.declared.metal.types.MTLHeap.{MTLHeap}
 use Rattle.gpu_device.specs.declared.metal.types.MTLResidencySet.{MTLResidencySet}
 use Rattle.gpu_device.specs.declared.metal.types.StorageMode.{StorageMode}
 use Rattle.gpu_device.specs.declared.metal.types.StorageMode.TheVariants.{Shared, Managed, Private, Memoryless, Other}
-use Rattle.gpu_metal_setup.specs.HeapAnswer.{AsksHeap, heap_refusal}
-use Rattle.gpu_metal_setup.specs.MemoryKinds.{locations, heap_descriptor}
-use Rattle.gpu_metal_setup.specs.Residency.{with_left, with_committed, release_recorded, commit_recorded, ChangesHeld}
+use Rattle.gpu_metal.specs.HeapAnswer.{AsksHeap, heap_refusal}
+use Rattle.gpu_metal.specs.MemoryKinds.{locations, heap_descriptor}
+use Rattle.gpu_metal.specs.Residency.{with_left, with_committed, release_recorded, commit_recorded, ChangesHeld}
 use Rattle.gpu_pool.specs.Source.{HeldBlock, HeldBlocks, block_since}
 use Rattle.gpu_metal.specs.Blocks.{Residency, residency_of, is_same_heap}
 

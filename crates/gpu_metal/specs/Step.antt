@@ -9,11 +9,11 @@ use Rattle.gpu_device.specs.declared.metal.device.MetalDevice.{Ghosts}
 use Rattle.gpu_device.specs.declared.metal.types.HeapDescriptor.{HeapDescriptor}
 use Rattle.gpu_device.specs.declared.metal.types.MTLHeap.{MTLHeap}
 use Rattle.gpu_memory_types.specs.Budgets.{Budgets, budget_at}
-use Rattle.gpu_metal_setup.specs.HeapAnswer.{question_recorded}
-use Rattle.gpu_metal_setup.specs.Residency.{release_recorded, commit_recorded}
-use Rattle.gpu_metal_setup.specs.MemoryKinds.{locations, heap_descriptor, IsFirstServing}
-use Rattle.gpu_metal_setup.specs.Setup.{kinds_of_device}
-use Rattle.gpu_metal_setup.specs.declared.describe.AllocationCreateDesc.{AllocationCreateDesc}
+use Rattle.gpu_metal.specs.HeapAnswer.{question_recorded}
+use Rattle.gpu_metal.specs.Residency.{release_recorded, commit_recorded}
+use Rattle.gpu_metal.specs.MemoryKinds.{locations, heap_descriptor, IsFirstServing}
+use Rattle.gpu_metal.specs.Setup.{kinds_of_device}
+use Rattle.gpu_metal.specs.declared.describe.AllocationCreateDesc.{AllocationCreateDesc}
 use Rattle.gpu_pool.specs.Allocate.{Environment, NothingMet}
 use Rattle.gpu_pool.specs.Reply as replies
 use Rattle.gpu_pool.specs.Reply.{Reply, Allocated, Error, Done}

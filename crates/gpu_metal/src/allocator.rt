@@ -8,9 +8,9 @@ ghost use Rattle.gpu_memory_types.specs.Blocks.{total_capacity, BlocksWellFormed
 ghost use Rattle.gpu_memory_types.specs.Budgets.{budget_at, budgets, SetsBudget};
 ghost use Rattle.gpu_memory_types.specs.Reports.{whole_report};
 ghost use Rattle.gpu_memory_types.specs.Types.{slots_of, kinds};
-ghost use Rattle.gpu_metal_setup.specs.MemoryKinds.{locations};
-ghost use Rattle.gpu_metal_setup.specs.Residency.{MakesSet, ChangesHeld, with_committed, commit_recorded, releases_recorded};
-ghost use Rattle.gpu_metal_setup.specs.Setup.{kinds_of_device, IsNotMade};
+ghost use Rattle.gpu_metal.specs.MemoryKinds.{locations};
+ghost use Rattle.gpu_metal.specs.Residency.{MakesSet, ChangesHeld, with_committed, commit_recorded, releases_recorded};
+ghost use Rattle.gpu_metal.specs.Setup.{kinds_of_device, IsNotMade};
 ghost use Rattle.gpu_pool.specs.Handles.{all_handles};
 ghost use Rattle.gpu_pool.specs.Reply as replies;
 ghost use Rattle.gpu_pool.specs.Reply.{Done};
@@ -22,14 +22,13 @@ ghost use Rattle.gpu_pool.specs.Allocation.{AreDistinct};
 ghost use Rattle.gpu_metal.specs.Live.{Allocation, IsLive, IsNewlyLive, StayLive};
 ghost use Rattle.gpu_metal.specs.Step.{IsStep, IsAllocateStep, Free, Commit, SetBudget, Budget, Capacity, LiveHeaps, Report, freed_as, done_as, shown_as};
 
-use crate::Allocation;
 use crate::logging::{log_allocate, log_free};
 use crate::source::MetalBlocks;
+use crate::{
+    Allocation, AllocationCreateDesc, AllocatorCreateDesc, empty_types, request_of, type_for,
+};
 use gpu_device::metal::{MTLHeap, MTLResidencySet, MetalDevice};
 use gpu_memory_types::MemoryTypes;
-use gpu_metal_setup::{
-    AllocationCreateDesc, AllocatorCreateDesc, empty_types, request_of, type_for,
-};
 use gpu_pool::{Handles, Pool};
 use gpu_values::{AllocationError, AllocatorDebugSettings, AllocatorReport, Result};
 use log::Log;

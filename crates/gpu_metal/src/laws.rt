@@ -1,6 +1,6 @@
 //! Laws of the definitions, each the contract of a function that does nothing.
 
-ghost use Rattle.std.specs.Prelude.{◌≡◌};
+ghost use Rattle.std.specs.Prelude.{◌≡◌, ℕ};
 ghost use Rattle.gpu_device.specs.declared.metal.types.MTLHeap.{MTLHeap};
 ghost use Rattle.gpu_memory_types.specs.Blocks.{BlocksWellFormed};
 ghost use Rattle.gpu_pool.specs.Allocate.{Environment};
@@ -8,6 +8,13 @@ ghost use Rattle.gpu_pool.specs.Reply.{Reply};
 ghost use Rattle.gpu_pool.specs.State.{without_budgets};
 ghost use Rattle.gpu_metal.specs.State.{Model};
 ghost use Rattle.gpu_metal.specs.Step.{Call, Step, MeetsNoBudget};
+ghost use Rattle.gpu_values.specs.declared.memory_location.MemoryLocation.{MemoryLocation};
+ghost use Rattle.gpu_metal.specs.MemoryKinds.{IsFirstServing};
+
+/// A location is served by one memory type: no two are the first that serves it.
+pub fn one_memory_type()
+    ensures { (location : MemoryLocation) (i j : ℕ) → IsFirstServing location i → IsFirstServing location j → i ≡ j }
+{}
 
 /// The model isn't loose: a state, a call and what it met with decide the reply and the next state.
 pub fn one_step()

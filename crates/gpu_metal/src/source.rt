@@ -2,15 +2,13 @@
 
 ghost use Rattle.std.specs.Prelude.{◌≡◌, ℕ, ℤ, true, None, Err, IfOk, IfErr, option_copied};
 ghost use Rattle.gpu_values.specs.Refusal.{refusal_of};
-ghost use Rattle.gpu_metal_setup.specs.Residency.{MakesSet, AnswersSet, set_refusal};
-ghost use Rattle.gpu_metal_setup.specs.Setup.{kinds_of_device};
+ghost use Rattle.gpu_metal.specs.Residency.{MakesSet, AnswersSet, set_refusal};
+ghost use Rattle.gpu_metal.specs.Setup.{kinds_of_device};
 ghost use Rattle.gpu_metal.specs.Blocks.{residency_of, left_behind};
 ghost use Rattle.gpu_metal.specs.Source.{AsksBlock, GivesHeap, CommitsSet, blocks_of, HoldsFirst, one_number};
 
+use crate::{commit_set, create_block_heap, create_residency_set, location_at, release_block_heap};
 use gpu_device::metal::{MTLHeap, MTLResidencySet, MetalDevice};
-use gpu_metal_setup::{
-    commit_set, create_block_heap, create_residency_set, location_at, release_block_heap,
-};
 use gpu_pool::BlockSource;
 use gpu_values::{AllocationError, Result};
 use std::marker::Model;

@@ -13,7 +13,7 @@ use Rattle.gpu_metal.specs.Live.{Allocation}
 use Rattle.gpu_metal.specs.State.{State, model_of}
 use Rattle.gpu_metal.specs.Step as model
 use Rattle.gpu_metal.specs.Step.{IsStep, IsAllocateStep, Replies, Step}
-use Rattle.gpu_metal_setup.specs.declared.describe.AllocationCreateDesc.{AllocationCreateDesc}
+use Rattle.gpu_metal.specs.declared.describe.AllocationCreateDesc.{AllocationCreateDesc}
 use Rattle.gpu_run.specs.Bindings.{bind, bindings_of}
 use Rattle.gpu_metal_session.specs.Command.{Alloc, Under}
 use Rattle.gpu_metal_session.specs.Describe.{Described, described, Describes}

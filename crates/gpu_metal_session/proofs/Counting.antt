@@ -7,11 +7,11 @@ use Rattle.gpu_device.specs.declared.metal.event.Event.{Event}
 use Rattle.gpu_device.specs.declared.metal.types.HeapDescriptor.{HeapDescriptor}
 use Rattle.gpu_device.specs.declared.metal.types.MTLHeap.{MTLHeap}
 use Rattle.gpu_device.specs.declared.metal.types.MTLResidencySet.{MTLResidencySet}
-use Rattle.gpu_metal_setup.specs.HeapAnswer.{question_recorded}
-use Rattle.gpu_metal_setup.specs.MemoryKinds.{heap_descriptor}
-use Rattle.gpu_metal_setup.specs.Residency.{release_recorded, commit_recorded}
-use Rattle.gpu_metal_setup.specs.Setup.{kinds_of_device}
-use Rattle.gpu_metal_setup.specs.declared.describe.AllocationCreateDesc.{AllocationCreateDesc}
+use Rattle.gpu_metal.specs.HeapAnswer.{question_recorded}
+use Rattle.gpu_metal.specs.MemoryKinds.{heap_descriptor}
+use Rattle.gpu_metal.specs.Residency.{release_recorded, commit_recorded}
+use Rattle.gpu_metal.specs.Setup.{kinds_of_device}
+use Rattle.gpu_metal.specs.declared.describe.AllocationCreateDesc.{AllocationCreateDesc}
 use Rattle.gpu_pool.specs.Allocate.{RequestAt, Environment, NothingMet, NoHostMemory, Answered, Serves}
 use Rattle.gpu_pool.specs.Free as pools
 use Rattle.gpu_pool.specs.Reply.{Reply}

@@ -7,8 +7,8 @@ use Rattle.gpu_device.specs.Metal.{Properties}
 use Rattle.gpu_device.specs.declared.metal.types.SizeAndAlign.{SizeAndAlign}
 use Rattle.gpu_device.specs.declared.metal.types.StorageMode.{StorageMode}
 use Rattle.gpu_device.specs.declared.metal.types.StorageMode.TheVariants.{Shared, Managed, Private, Memoryless, Other}
-use Rattle.gpu_metal_setup.specs.Describe.{buffer_storage_mode}
-use Rattle.gpu_metal_setup.specs.declared.describe.AllocationCreateDesc.{AllocationCreateDesc}
+use Rattle.gpu_metal.specs.Describe.{buffer_storage_mode}
+use Rattle.gpu_metal.specs.declared.describe.AllocationCreateDesc.{AllocationCreateDesc}
 use Rattle.gpu_metal_session.specs.declared.describe.Wanted.{Wanted}
 use Rattle.gpu_metal_session.specs.declared.describe.Wanted.TheVariants.{Piece, Buffer, AccelerationStructure, Texture}
 

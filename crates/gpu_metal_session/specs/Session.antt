@@ -12,7 +12,7 @@ use Rattle.gpu_metal.specs.Live.{Allocation, IsLive}
 use Rattle.gpu_metal.specs.State.{Model}
 use Rattle.gpu_metal.specs.Step as model
 use Rattle.gpu_metal.specs.Step.{Step}
-use Rattle.gpu_metal_setup.specs.declared.describe.AllocationCreateDesc.{AllocationCreateDesc}
+use Rattle.gpu_metal.specs.declared.describe.AllocationCreateDesc.{AllocationCreateDesc}
 use Rattle.gpu_run.specs.Bindings.{Bindings, bind, AreOwn}
 use Rattle.gpu_metal_session.specs.Command.{KeyCommand, Alloc, Free, SessionCommand, Under, Heaps, Commit, Report, Capacity, SetBudget}
 use Rattle.gpu_metal_session.specs.Describe.{Described, described, AsksFor}

@@ -3,7 +3,7 @@
 ghost use Rattle.std.specs.Prelude.{◌≡◌, [], length, IfOk, IfErr, OnErr, Some};
 ghost use Rattle.gpu_values.specs.declared.error.AllocationError.TheVariants.{HostOutOfMemory};
 ghost use Rattle.gpu_metal.specs.Blocks.{HoldsJustLiveBlocks, residency_of, left_behind};
-ghost use Rattle.gpu_metal_setup.specs.Residency.{ChangesHeld, releases_recorded};
+ghost use Rattle.gpu_metal.specs.Residency.{ChangesHeld, releases_recorded};
 ghost use Rattle.gpu_pool.specs.Handles.{all_handles};
 ghost use Rattle.gpu_run.specs.Run.{IsRun};
 ghost use Rattle.gpu_metal_session.specs.Command as commands;

@@ -8,8 +8,7 @@ mod rows;
 mod sessions;
 
 use gpu_device::metal::{CpuCacheMode, HeapDescriptor, MTLHeap, MTLResidencySet, StorageMode};
-use gpu_metal::{Allocation, Allocator};
-use gpu_metal_setup::{AllocationCreateDesc, AllocatorCreateDesc};
+use gpu_metal::{Allocation, AllocationCreateDesc, Allocator, AllocatorCreateDesc};
 use gpu_sim_base::Refusal;
 use gpu_sim_metal::SimMetal;
 use gpu_values::{AllocationSizes, AllocatorDebugSettings, MemoryLocation};

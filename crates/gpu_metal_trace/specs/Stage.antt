@@ -13,9 +13,9 @@ use Rattle.gpu_device.specs.declared.metal.types.MTLResidencySet.{MTLResidencySe
 use Rattle.gpu_metal.specs.Blocks.{residency_of, left_behind}
 use Rattle.gpu_metal_session.specs.Served.{SessionValue, ServesCommand}
 use Rattle.gpu_metal_session.specs.declared.command.Command.{Command}
-use Rattle.gpu_metal_setup.specs.MemoryKinds.{locations}
-use Rattle.gpu_metal_setup.specs.Residency.{MakesSet}
-use Rattle.gpu_metal_setup.specs.Setup.{IsNotMade}
+use Rattle.gpu_metal.specs.MemoryKinds.{locations}
+use Rattle.gpu_metal.specs.Residency.{MakesSet}
+use Rattle.gpu_metal.specs.Setup.{IsNotMade}
 use Rattle.gpu_sim_metal.specs.Simulation.{held_of, properties_of, plan_of, history_of, refused_of, latest_heap_of}
 use Rattle.gpu_sim_metal.specs.declared.sim_metal.SimMetal.{SimMetal}
 use Rattle.gpu_trace_text.specs.declared.outcome.Outcome.{Outcome}

@@ -4,7 +4,7 @@ use Rattle.std.specs.Io.KnownBytes.{Appends}
 use Rattle.gpu_block.specs.Block.{HasPages}
 use Rattle.gpu_device.specs.declared.vulkan.types.DeviceMemory.{DeviceMemory}
 use Rattle.gpu_memory_types.specs.Types.{Types, slots_of, kinds}
-use Rattle.gpu_vulkan_setup.specs.Types.{kinds_told}
+use Rattle.gpu_vulkan.specs.Types.{kinds_told}
 use Rattle.gpu_report.specs.declared.view.BlockView.{BlockView}
 use Rattle.gpu_report.specs.View.{ShownBlock, shown, shown_from}
 use Rattle.gpu_report.specs.BlocksJson.{blocks_json}

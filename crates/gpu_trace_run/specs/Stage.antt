@@ -11,7 +11,7 @@ use Rattle.gpu_sim.specs.declared.sim_vulkan.SimVulkan.{SimVulkan}
 use Rattle.gpu_pool.specs.Handles.{all_handles}
 use Rattle.gpu_vulkan.specs.BlockAnswer.{frees_recorded}
 use Rattle.gpu_vulkan.specs.Blocks.{HoldsJustLiveBlocks}
-use Rattle.gpu_vulkan_setup.specs.Setup.{setup_fault}
+use Rattle.gpu_vulkan.specs.Setup.{setup_fault}
 use Rattle.gpu_vulkan_session.specs.Command as session_commands
 use Rattle.gpu_vulkan_session.specs.Command.{SessionCommand}
 use Rattle.gpu_vulkan_session.specs.Session.{SessionInvariant}

@@ -18,9 +18,8 @@ use gpu_trace_lines::device::setting::Setting;
 use gpu_trace_lines::{Line, Reply};
 use gpu_trace_text::Outcome;
 use gpu_values::AllocatorDebugSettings;
-use gpu_vulkan::Allocator;
+use gpu_vulkan::{Allocator, AllocatorCreateDesc};
 use gpu_vulkan_session::Session;
-use gpu_vulkan_setup::AllocatorCreateDesc;
 use log::Log;
 use std::alloc::{AllocError, Global};
 

@@ -18,7 +18,7 @@ use Rattle.gpu_vulkan.specs.BlockAnswer.{BlockAnswer, Declined, Granted, Mapped,
 use Rattle.gpu_pool.specs.Source.{result_of}
 use Rattle.gpu_values.specs.declared.error.AllocationError.{AllocationError}
 use Rattle.gpu_vulkan.specs.Source.{new_block, blocks_of, HoldsFirst}
-use Rattle.gpu_vulkan_setup.specs.Types.{is_mapped, is_host_visible, mapped_by}
+use Rattle.gpu_vulkan.specs.Types.{is_mapped, is_host_visible, mapped_by}
 use Rattle.gpu_device.specs.declared.vulkan.types.MemoryTypeInfo.{MemoryTypeInfo}
 
 new_none : (x : Option Entry) → new_block x None ≡ None

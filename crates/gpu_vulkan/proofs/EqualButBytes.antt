@@ -24,21 +24,21 @@ use Rattle.gpu_vulkan.specs.Source.{IsResult}
 use Rattle.gpu_vulkan.proofs.Following.{next_below, best_below}
 use Rattle.gpu_vulkan.specs.Attempt.{AttemptEnvironment, Asked, Answer, IsMet, request_in, unseen, AnyQuestion, Allocates}
 use Rattle.gpu_vulkan.specs.BlockAnswer.{BlockAnswer, Declined, Granted, Mapped, NotMapped, answer_number, answer_refusal, question_recorded}
-use Rattle.gpu_vulkan_setup.specs.Types.{is_mapped, kinds_told}
+use Rattle.gpu_vulkan.specs.Types.{is_mapped, kinds_told}
 use Rattle.gpu_vulkan.specs.Blocks.{Slots}
 use Rattle.gpu_memory_types.specs.Blocks.{slots_at, total_capacity, BlocksWellFormed}
-use Rattle.gpu_vulkan_setup.specs.Choice.{first_type, required, best_type}
-use Rattle.gpu_vulkan_setup.specs.Describe.{is_own, kind_of, request_of}
+use Rattle.gpu_vulkan.specs.Choice.{first_type, required, best_type}
+use Rattle.gpu_vulkan.specs.Describe.{is_own, kind_of, request_of}
 use Rattle.gpu_vulkan.specs.Live.{piece_of, IsMapped}
 use Rattle.gpu_memory_types.specs.Leaks.{all_leaks}
 use Rattle.gpu_memory_types.specs.Reports.{whole_report}
-use Rattle.gpu_vulkan_setup.specs.Setup.{Setup}
+use Rattle.gpu_vulkan.specs.Setup.{Setup}
 use Rattle.gpu_vulkan.specs.Reply as replies
 use Rattle.gpu_vulkan.specs.Reply.{Reply, Given, Error, Done, Bytes, done_with, report_with, leaks_with}
 use Rattle.gpu_vulkan.specs.Step.{ModelState, Call, Allocate, Free, Write, Rename, Report, Leaks, Read, Capacity, SetBudget, Budget}
 use Rattle.gpu_vulkan.specs.Step.{CallEnvironment, AttemptStep, reply_of, next_by, Follows, ServeStep, RefuseStep, FoundStep, AllocateStep, asked_recorded, went_recorded, FreeStep, host_met, RenameStep, IsRead, Step}
 use Rattle.gpu_vulkan.specs.declared.allocation.Allocation.{Allocation}
-use Rattle.gpu_vulkan_setup.specs.declared.describe.AllocationCreateDesc.{AllocationCreateDesc}
+use Rattle.gpu_vulkan.specs.declared.describe.AllocationCreateDesc.{AllocationCreateDesc}
 
 -- ---- descriptions that ask for the same
 

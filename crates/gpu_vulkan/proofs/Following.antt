@@ -4,9 +4,9 @@ use Rattle.gpu_device.specs.declared.vulkan.types.MemoryTypeInfo.{MemoryTypeInfo
 use Rattle.gpu_vulkan.specs.Allocate.{is_for_upload, is_short}
 use Rattle.gpu_vulkan.specs.Attempt.{Answer}
 use Rattle.gpu_vulkan.specs.Step.{next_by}
-use Rattle.gpu_vulkan_setup.specs.Choice.{serves, first_from, first_type, preferred, required, or_else, best_type}
-use Rattle.gpu_vulkan_setup.specs.Setup.{Setup}
-use Rattle.gpu_vulkan_setup.specs.declared.describe.AllocationCreateDesc.{AllocationCreateDesc}
+use Rattle.gpu_vulkan.specs.Choice.{serves, first_from, first_type, preferred, required, or_else, best_type}
+use Rattle.gpu_vulkan.specs.Setup.{Setup}
+use Rattle.gpu_vulkan.specs.declared.describe.AllocationCreateDesc.{AllocationCreateDesc}
 use Rattle.gpu_memory_types.proofs.Options.{none_some, some_same}
 
 chosen_below : (b : Bool) (index u n : ℕ) (rest : Option ℕ) → (rest ≡ Some u → u < n) → index < n → (if b then Some index else rest) ≡ Some u → u < n

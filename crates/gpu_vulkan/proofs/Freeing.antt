@@ -19,7 +19,7 @@ use Rattle.gpu_device.specs.declared.vulkan.device.VulkanDevice.{Ghosts}
 use Rattle.gpu_device.specs.declared.vulkan.types.DeviceMemory.{DeviceMemory}
 use Rattle.gpu_device.proofs.Maps.{get-remove_other}
 use Rattle.gpu_memory_types.specs.Budgets.{Budgets}
-use Rattle.gpu_vulkan_setup.specs.Types.{is_mapped}
+use Rattle.gpu_vulkan.specs.Types.{is_mapped}
 use Rattle.gpu_vulkan.specs.Blocks.{Slots, HoldsJustLiveBlocks, IsBlockEntry}
 use Rattle.gpu_memory_types.specs.Blocks.{slots_at, block_at, BlocksWellFormed}
 use Rattle.gpu_memory_types.specs.Held.{HasEntry}
@@ -29,7 +29,7 @@ use Rattle.gpu_vulkan.specs.Free.{GivesBack, IsReleased}
 use Rattle.gpu_vulkan.specs.Free.{FreesPiece, Frees}
 use Rattle.gpu_vulkan.specs.Live.{is_same_memory, IsLiveIn}
 use Rattle.gpu_vulkan.specs.Live.{piece_of}
-use Rattle.gpu_vulkan_setup.specs.Setup.{Setup}
+use Rattle.gpu_vulkan.specs.Setup.{Setup}
 use Rattle.gpu_pool.specs.Free as pools
 use Rattle.gpu_pool.specs.Free.{GivesBackAny}
 use Rattle.gpu_values.specs.Refusal.{Refusal, refusal_of}

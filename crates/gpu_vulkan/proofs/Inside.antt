@@ -11,7 +11,7 @@ use Rattle.gpu_device.specs.Held.{Held, Entry, HasRange, bytes_of, entry_bytes, 
 use Rattle.gpu_device.specs.Properties.{Properties}
 use Rattle.gpu_device.specs.declared.vulkan.types.DeviceMemory.{DeviceMemory}
 use Rattle.gpu_memory_types.specs.Held.{HasEntry}
-use Rattle.gpu_vulkan_setup.specs.Types.{is_mapped}
+use Rattle.gpu_vulkan.specs.Types.{is_mapped}
 use Rattle.gpu_vulkan.specs.Blocks.{Slots, IsBlockEntry, HoldsJustLiveBlocks}
 use Rattle.gpu_memory_types.specs.Blocks.{slots_at, BlocksWellFormed}
 use Rattle.gpu_vulkan.specs.Live.{is_same_memory, IsLiveIn}

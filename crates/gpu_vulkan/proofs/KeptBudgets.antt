@@ -10,8 +10,8 @@ use Rattle.gpu_vulkan.specs.Reply.{Reply}
 use Rattle.gpu_vulkan.specs.Step.{ModelState, Call, Allocate, Free, Write, Rename, Report, Leaks, Read, Capacity, SetBudget, Budget, CallEnvironment, Step, AllocateStep}
 use Rattle.gpu_vulkan.specs.Step.{FoundStep, Follows, FreeStep, RenameStep, next_by}
 use Rattle.gpu_vulkan.specs.Attempt.{AttemptEnvironment, Answer}
-use Rattle.gpu_vulkan_setup.specs.Setup.{Setup}
-use Rattle.gpu_vulkan_setup.specs.declared.describe.AllocationCreateDesc.{AllocationCreateDesc}
+use Rattle.gpu_vulkan.specs.Setup.{Setup}
+use Rattle.gpu_vulkan.specs.declared.describe.AllocationCreateDesc.{AllocationCreateDesc}
 use Rattle.gpu_pool.specs.State.{State}
 
 abbrev budgets_of : ModelState → List (Option ℕ)

@@ -15,7 +15,7 @@ use Rattle.gpu_memory_types.specs.Held.{HasEntry}
 use Rattle.gpu_memory_types.specs.Types.{Types, slots_of, kinds}
 use Rattle.gpu_memory_types.proofs.Options.{none_some, some_same}
 use Rattle.gpu_memory_types.proofs.Types.{slots_past}
-use Rattle.gpu_vulkan_setup.specs.Types.{is_host_visible, is_mapped, kinds_told}
+use Rattle.gpu_vulkan.specs.Types.{is_host_visible, is_mapped, kinds_told}
 use Rattle.gpu_pool.specs.Held.{HoldsJustBlocks, held_as}
 use Rattle.gpu_pool.specs.Source.{HeldBlock}
 use Rattle.gpu_pool.specs.State.{kind_at, IsSoundAt}

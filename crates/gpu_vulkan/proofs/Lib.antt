@@ -1,3 +1,5 @@
+pub mod Taken
+pub mod Heaps
 pub mod Changing
 pub mod Attempts
 pub mod Following

@@ -28,7 +28,7 @@ use Rattle.gpu_pool.specs.Source.{result_of}
 use Rattle.gpu_pool.specs.Step as pools
 use Rattle.gpu_vulkan.specs.Attempt.{unseen}
 use Rattle.gpu_vulkan.specs.State.{State}
-use Rattle.gpu_vulkan_setup.specs.Setup.{Setup}
+use Rattle.gpu_vulkan.specs.Setup.{Setup}
 use Rattle.gpu_vulkan.specs.Reply as replies
 use Rattle.gpu_vulkan.specs.Reply.{Done, Bytes, done_with}
 use Rattle.gpu_vulkan.specs.Step.{SetBudget, Budget, done_as, model_of, id_of, IsRead, IsStep, Write, Read, Capacity, nothing_met}

@@ -11,8 +11,8 @@ use Rattle.gpu_memory_types.proofs.Options.{none_some, some_same}
 use Rattle.gpu_pool.proofs.Freeing.{type_below}
 use Rattle.gpu_pool.specs.Live as pool
 use Rattle.gpu_pool.specs.Live.{AreBytesApart}
-use Rattle.gpu_vulkan_setup.specs.Setup.{Setup}
-use Rattle.gpu_vulkan_setup.specs.declared.describe.AllocationCreateDesc.{AllocationCreateDesc}
+use Rattle.gpu_vulkan.specs.Setup.{Setup}
+use Rattle.gpu_vulkan.specs.declared.describe.AllocationCreateDesc.{AllocationCreateDesc}
 use Rattle.gpu_vulkan.specs.Apart.{IsInside, SharesNoByte, HasKind, KeepsPages}
 use Rattle.gpu_vulkan.specs.Blocks.{Slots}
 use Rattle.gpu_vulkan.specs.Lends.{AreDistinct, number_in}

@@ -13,7 +13,7 @@ use Rattle.gpu_device.specs.declared.vulkan.types.DeviceMemory.{DeviceMemory}
 use Rattle.gpu_memory_types.specs.Budgets.{Budgets}
 use Rattle.gpu_vulkan.specs.Allocate.{Attempts, IsTooLarge, IsWithinHeap, is_valid}
 use Rattle.gpu_vulkan.specs.Attempt.{AttemptEnvironment, Asked, Answer, IsMet, request_in, unseen, AnyQuestion, AnyBlockBack}
-use Rattle.gpu_vulkan_setup.specs.Types.{is_mapped, kinds_told}
+use Rattle.gpu_vulkan.specs.Types.{is_mapped, kinds_told}
 use Rattle.gpu_memory_types.proofs.Options.{none_some, some_same}
 use Rattle.gpu_pool.specs.Allocate.{Environment, NothingMet, NoHostMemory, Answered, Serves}
 use Rattle.gpu_pool.specs.State as states
@@ -30,12 +30,12 @@ use Rattle.gpu_memory_types.specs.Blocks.{slots_at, BlocksWellFormed}
 use Rattle.gpu_vulkan.specs.ByteView.{AllocationId, is_same_id, ByteView, IsOutOf, TakesOut, PutsBack, AddsBlock, Writes}
 use Rattle.gpu_vulkan.specs.Live.{is_same_memory}
 use Rattle.gpu_vulkan.specs.Live.{piece_of}
-use Rattle.gpu_vulkan_setup.specs.Setup.{Setup}
+use Rattle.gpu_vulkan.specs.Setup.{Setup}
 use Rattle.gpu_vulkan.specs.Reply.{Reply, Bytes, done_with, report_with, leaks_with}
 use Rattle.gpu_vulkan.specs.Step.{ModelState, Call, Allocate, Free, Write, Rename, Report, Leaks, Read, Capacity, SetBudget, Budget}
 use Rattle.gpu_vulkan.specs.Step.{CallEnvironment, BytesAfter, AttemptStep, reply_of, next_by, Follows, ServeStep, RefuseStep, FoundStep, AllocateStep, pool_in, MayDrop, FreedStep, FreeStep, host_met, KeepsTheRest, went_recorded, RenameStep, IsRead, Step, id_in, id_of}
 use Rattle.gpu_vulkan.specs.declared.allocation.Allocation.{Allocation}
-use Rattle.gpu_vulkan_setup.specs.declared.describe.AllocationCreateDesc.{AllocationCreateDesc}
+use Rattle.gpu_vulkan.specs.declared.describe.AllocationCreateDesc.{AllocationCreateDesc}
 use Rattle.gpu_vulkan.proofs.Attempts.{refused_same}
 use Rattle.gpu_vulkan.proofs.Following.{next_below, best_below}
 use Rattle.gpu_vulkan.proofs.Leaving.{sound_told}

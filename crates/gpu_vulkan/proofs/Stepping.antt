@@ -23,18 +23,18 @@ use Rattle.gpu_vulkan.specs.Allocate.{IsTooLarge, IsWithinHeap, IsAttempt}
 use Rattle.gpu_memory_types.proofs.Options.{none_some, some_same}
 use Rattle.gpu_pool.specs.Allocate.{Environment, NothingMet, NoHostMemory, Answered, Serves}
 use Rattle.gpu_pool.specs.State as states
-use Rattle.gpu_vulkan_setup.specs.Describe.{request_of}
+use Rattle.gpu_vulkan.specs.Describe.{request_of}
 use Rattle.gpu_vulkan.specs.Attempt.{AttemptEnvironment, Asked, Answer, IsAfter, IsMet, request_in, unseen, AnyQuestion}
 use Rattle.gpu_vulkan.specs.BlockAnswer.{BlockAnswer, Declined, Granted, Mapped, NotMapped, Asks, answer_number}
-use Rattle.gpu_vulkan_setup.specs.Types.{is_mapped, kinds_told}
+use Rattle.gpu_vulkan.specs.Types.{is_mapped, kinds_told}
 use Rattle.gpu_vulkan.specs.Blocks.{Slots, HoldsJustLiveBlocks, memory_number, IsBlockEntry}
 use Rattle.gpu_memory_types.specs.Blocks.{slots_at, block_at, BlocksWellFormed}
 use Rattle.gpu_vulkan.specs.ByteView.{ByteView, byte_view_of, TakesOut, AddsBlock}
 use Rattle.gpu_vulkan.specs.Live.{is_same_memory, IsLiveIn}
-use Rattle.gpu_vulkan_setup.specs.Setup.{Setup}
+use Rattle.gpu_vulkan.specs.Setup.{Setup}
 use Rattle.gpu_vulkan.specs.Step.{BytesAfter, id_in, answer_bytes}
 use Rattle.gpu_vulkan.specs.declared.allocation.Allocation.{Allocation}
-use Rattle.gpu_vulkan_setup.specs.declared.describe.AllocationCreateDesc.{AllocationCreateDesc}
+use Rattle.gpu_vulkan.specs.declared.describe.AllocationCreateDesc.{AllocationCreateDesc}
 use Rattle.gpu_vulkan.proofs.ByteViews.{served_byte_view, installed_byte_view, with_new_adds, with_new}
 use Rattle.gpu_memory_types.proofs.Holding.{not_a_block}
 use Rattle.gpu_vulkan.proofs.Inside.{live_range, live_unmapped}

@@ -10,18 +10,18 @@ use Rattle.gpu_device.specs.declared.vulkan.types.DeviceMemory.{DeviceMemory}
 use Rattle.gpu_memory_types.specs.Budgets.{Budgets}
 use Rattle.gpu_vulkan.specs.Allocate.{Attempts, IsAttempt, Answers, IsServed, IsFollowed, is_valid, next_after, next_type}
 use Rattle.gpu_vulkan.specs.Attempt.{AttemptEnvironment, Asked, Answer, IsAfter}
-use Rattle.gpu_vulkan_setup.specs.Types.{is_mapped}
+use Rattle.gpu_vulkan.specs.Types.{is_mapped}
 use Rattle.gpu_vulkan.specs.Blocks.{Slots, HoldsJustLiveBlocks}
 use Rattle.gpu_memory_types.specs.Blocks.{BlocksWellFormed}
 use Rattle.gpu_vulkan.specs.ByteView.{byte_view_of}
-use Rattle.gpu_vulkan_setup.specs.Choice.{best_type}
-use Rattle.gpu_vulkan_setup.specs.Setup.{Setup}
+use Rattle.gpu_vulkan.specs.Choice.{best_type}
+use Rattle.gpu_vulkan.specs.Setup.{Setup}
 use Rattle.gpu_vulkan.specs.State.{State}
 use Rattle.gpu_vulkan.specs.Reply.{Reply, Error}
 use Rattle.gpu_vulkan.specs.Step.{ModelState, model_of, CallEnvironment, reply_of, next_by, AttemptStep, Follows, ServeStep, RefuseStep, FoundStep, AllocateStep, IsAllocateStep}
 use Rattle.gpu_vulkan.specs.Step.{Replies, nothing_met, count_after, latest_after, asked_recorded}
 use Rattle.gpu_vulkan.specs.declared.allocation.Allocation.{Allocation}
-use Rattle.gpu_vulkan_setup.specs.declared.describe.AllocationCreateDesc.{AllocationCreateDesc}
+use Rattle.gpu_vulkan.specs.declared.describe.AllocationCreateDesc.{AllocationCreateDesc}
 use Rattle.gpu_vulkan.proofs.Attempts.{refused_same, attempt_held}
 use Rattle.gpu_vulkan.proofs.Following.{next_below}
 use Rattle.gpu_vulkan.proofs.Stepping.{attempt_bytes}

@@ -14,15 +14,15 @@ use Rattle.gpu_memory_types.specs.Budgets.{Budgets}
 use Rattle.gpu_vulkan.specs.Allocate.{IsAttempt, IsFollowed, IsFound, AllocatesBy, Allocates, is_valid}
 use Rattle.gpu_vulkan.specs.Attempt.{Asked, IsAfter}
 use Rattle.gpu_vulkan.specs.BlockAnswer.{BlockAnswer, Declined, Granted, Mapped, NotMapped, IsNew, answer_number, held_after}
-use Rattle.gpu_vulkan_setup.specs.Types.{is_mapped}
+use Rattle.gpu_vulkan.specs.Types.{is_mapped}
 use Rattle.gpu_vulkan.specs.Blocks.{Slots}
 use Rattle.gpu_vulkan.specs.Free.{GivesBack}
 use Rattle.gpu_vulkan.specs.Free.{FreesPiece, Frees}
 use Rattle.gpu_vulkan.specs.Live.{piece_of}
-use Rattle.gpu_vulkan_setup.specs.Setup.{Setup}
+use Rattle.gpu_vulkan.specs.Setup.{Setup}
 use Rattle.gpu_vulkan.specs.Untouched.{LeavesMemory}
 use Rattle.gpu_vulkan.specs.declared.allocation.Allocation.{Allocation}
-use Rattle.gpu_vulkan_setup.specs.declared.describe.AllocationCreateDesc.{AllocationCreateDesc}
+use Rattle.gpu_vulkan.specs.declared.describe.AllocationCreateDesc.{AllocationCreateDesc}
 
 -- what was held is held as it was
 abbrev StayHeld : (old new : Held) → Type 0

@@ -8,10 +8,10 @@ use Rattle.gpu_pool.proofs.WithoutBudgets.{serves_plain}
 use Rattle.gpu_memory_types.specs.Budgets.{Budgets, budget_at}
 use Rattle.gpu_vulkan.specs.Blocks.{Slots}
 use Rattle.gpu_vulkan.specs.Attempt.{AttemptEnvironment, Answer, request_in, unseen, AnyQuestion}
-use Rattle.gpu_vulkan_setup.specs.Choice.{required, first_type, best_type}
-use Rattle.gpu_vulkan_setup.specs.Setup.{Setup}
-use Rattle.gpu_vulkan_setup.specs.Types.{kinds_told}
-use Rattle.gpu_vulkan_setup.specs.declared.describe.AllocationCreateDesc.{AllocationCreateDesc}
+use Rattle.gpu_vulkan.specs.Choice.{required, first_type, best_type}
+use Rattle.gpu_vulkan.specs.Setup.{Setup}
+use Rattle.gpu_vulkan.specs.Types.{kinds_told}
+use Rattle.gpu_vulkan.specs.declared.describe.AllocationCreateDesc.{AllocationCreateDesc}
 use Rattle.gpu_vulkan.specs.declared.allocation.Allocation.{Allocation}
 use Rattle.gpu_vulkan.specs.Allocate.{Attempts, IsTooLarge, IsWithinHeap, is_valid, is_for_upload, is_short}
 use Rattle.gpu_vulkan.specs.Budgets.{MayAsk, MeetsNoBudget, without_budgets}

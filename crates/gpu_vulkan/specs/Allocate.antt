@@ -11,13 +11,13 @@ use Rattle.gpu_device.specs.declared.vulkan.device.VulkanDevice.{Ghosts}
 use Rattle.gpu_memory_types.specs.Budgets.{Budgets}
 use Rattle.gpu_vulkan.specs.Attempt as attempts
 use Rattle.gpu_vulkan.specs.Attempt.{AttemptEnvironment, Answer, IsAskedFor, IsAfter}
-use Rattle.gpu_vulkan_setup.specs.Types.{is_mapped, heap_size}
+use Rattle.gpu_vulkan.specs.Types.{is_mapped, heap_size}
 use Rattle.gpu_vulkan.specs.Blocks.{Slots}
-use Rattle.gpu_vulkan_setup.specs.Choice.{required, first_type, best_type}
+use Rattle.gpu_vulkan.specs.Choice.{required, first_type, best_type}
 use Rattle.gpu_vulkan.specs.Live.{IsGiven}
-use Rattle.gpu_vulkan_setup.specs.Setup.{Setup}
+use Rattle.gpu_vulkan.specs.Setup.{Setup}
 use Rattle.gpu_vulkan.specs.declared.allocation.Allocation.{Allocation}
-use Rattle.gpu_vulkan_setup.specs.declared.describe.AllocationCreateDesc.{AllocationCreateDesc}
+use Rattle.gpu_vulkan.specs.declared.describe.AllocationCreateDesc.{AllocationCreateDesc}
 
 -- the request is above its heap: the device isn't asked
 pub record IsTooLarge (setup : Setup) (old : Slots) (t : ℕ) (d : AllocationCreateDesc) (o : AttemptEnvironment) (answer : Answer) (new : Slots) : Type 0 where

@@ -9,10 +9,10 @@ use Rattle.gpu_device.specs.declared.vulkan.types.MemoryAllocateInfo.{MemoryAllo
 use Rattle.gpu_memory_types.specs.Budgets.{Budgets}
 use Rattle.gpu_pool.specs.Allocate.{RequestAt, Environment, NothingMet, NoHostMemory, Answered, Serves}
 use Rattle.gpu_pool.specs.State as pools
-use Rattle.gpu_vulkan_setup.specs.Describe.{is_own, request_of}
-use Rattle.gpu_vulkan_setup.specs.Setup.{Setup}
-use Rattle.gpu_vulkan_setup.specs.Types.{is_mapped, kinds_told}
-use Rattle.gpu_vulkan_setup.specs.declared.describe.AllocationCreateDesc.{AllocationCreateDesc}
+use Rattle.gpu_vulkan.specs.Describe.{is_own, request_of}
+use Rattle.gpu_vulkan.specs.Setup.{Setup}
+use Rattle.gpu_vulkan.specs.Types.{is_mapped, kinds_told}
+use Rattle.gpu_vulkan.specs.declared.describe.AllocationCreateDesc.{AllocationCreateDesc}
 use Rattle.gpu_vulkan.specs.Blocks.{Slots}
 use Rattle.gpu_vulkan.specs.BlockAnswer.{BlockAnswer, IsAnswer, Asks}
 use Rattle.gpu_vulkan.specs.Source.{IsResult, question}

@@ -1,9 +1,9 @@
 -- Which memory types an allocation may ask, and calls that meet no budget.
 use Rattle.std.specs.Prelude.{◌≡◌, ◌⊎◌, ℕ, true, [], Some, None}
 use Rattle.gpu_memory_types.specs.Budgets.{Budgets, budget_at}
-use Rattle.gpu_vulkan_setup.specs.Choice.{required, first_type, best_type}
-use Rattle.gpu_vulkan_setup.specs.Setup.{Setup}
-use Rattle.gpu_vulkan_setup.specs.declared.describe.AllocationCreateDesc.{AllocationCreateDesc}
+use Rattle.gpu_vulkan.specs.Choice.{required, first_type, best_type}
+use Rattle.gpu_vulkan.specs.Setup.{Setup}
+use Rattle.gpu_vulkan.specs.declared.describe.AllocationCreateDesc.{AllocationCreateDesc}
 use Rattle.gpu_vulkan.specs.Allocate.{is_for_upload}
 use Rattle.gpu_vulkan.specs.Step.{ModelState, Call, Allocate, SetBudget, Budget}
 

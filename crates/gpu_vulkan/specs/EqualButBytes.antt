@@ -4,7 +4,7 @@ use Rattle.gpu_vulkan.specs.Attempt.{AttemptEnvironment, Asked}
 use Rattle.gpu_vulkan.specs.BlockAnswer.{BlockAnswer, Mapped}
 use Rattle.gpu_vulkan.specs.Reply.{Reply, Bytes}
 use Rattle.gpu_vulkan.specs.Step.{Call, Allocate, Write, CallEnvironment}
-use Rattle.gpu_vulkan_setup.specs.declared.describe.AllocationCreateDesc.{AllocationCreateDesc}
+use Rattle.gpu_vulkan.specs.declared.describe.AllocationCreateDesc.{AllocationCreateDesc}
 
 -- the same answer, but for the bytes that a newly mapped block holds
 abbrev pub EqualButBytesAnswer : BlockAnswer → BlockAnswer → Type 0

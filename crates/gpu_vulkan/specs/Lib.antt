@@ -1,3 +1,7 @@
+pub mod Describe
+pub mod Choice
+pub mod Types
+pub mod Setup
 pub mod BlockAnswer
 pub mod Source
 pub mod RangeLends

@@ -6,12 +6,12 @@ use Rattle.gpu_device.specs.Held.{Held, range_of}
 use Rattle.gpu_device.specs.Properties.{Properties}
 use Rattle.gpu_device.specs.declared.vulkan.types.DeviceMemory.{DeviceMemory}
 use Rattle.gpu_memory_types.specs.Live as all
-use Rattle.gpu_vulkan_setup.specs.Types.{is_host_visible, is_mapped}
+use Rattle.gpu_vulkan.specs.Types.{is_host_visible, is_mapped}
 use Rattle.gpu_vulkan.specs.Blocks.{Slots}
-use Rattle.gpu_vulkan_setup.specs.Describe.{is_own}
-use Rattle.gpu_vulkan_setup.specs.Setup.{Setup}
+use Rattle.gpu_vulkan.specs.Describe.{is_own}
+use Rattle.gpu_vulkan.specs.Setup.{Setup}
 use Rattle.gpu_vulkan.specs.declared.allocation.Allocation.{Allocation}
-use Rattle.gpu_vulkan_setup.specs.declared.describe.AllocationCreateDesc.{AllocationCreateDesc}
+use Rattle.gpu_vulkan.specs.declared.describe.AllocationCreateDesc.{AllocationCreateDesc}
 
 -- no piece
 abbrev pub null_allocation : Allocation

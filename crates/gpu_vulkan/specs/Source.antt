@@ -10,8 +10,8 @@ use Rattle.gpu_device.specs.declared.vulkan.device.VulkanDevice.{Ghosts}
 use Rattle.gpu_device.specs.declared.vulkan.types.AllocationScheme.{AllocationScheme}
 use Rattle.gpu_device.specs.declared.vulkan.types.DeviceMemory.{DeviceMemory}
 use Rattle.gpu_device.specs.declared.vulkan.types.MemoryAllocateInfo.{MemoryAllocateInfo}
-use Rattle.gpu_vulkan_setup.specs.Setup.{Setup}
-use Rattle.gpu_vulkan_setup.specs.Types.{is_mapped}
+use Rattle.gpu_vulkan.specs.Setup.{Setup}
+use Rattle.gpu_vulkan.specs.Types.{is_mapped}
 use Rattle.gpu_pool.specs.Source.{HeldBlock, HeldBlocks, block_since}
 use Rattle.gpu_vulkan.specs.BlockAnswer.{BlockAnswer, Asks, answer_number, answer_refusal, free_recorded}
 

@@ -15,21 +15,21 @@ use Rattle.gpu_device.specs.declared.vulkan.types.MemoryAllocateInfo.{MemoryAllo
 use Rattle.gpu_vulkan.specs.Allocate.{Attempts, next_type, is_valid}
 use Rattle.gpu_vulkan.specs.Attempt.{AttemptEnvironment, Asked, Answer, unseen, AnyBlockBack}
 use Rattle.gpu_vulkan.specs.BlockAnswer.{BlockAnswer, Declined, Granted, Mapped, NotMapped, refused_after, question_recorded, free_recorded}
-use Rattle.gpu_vulkan_setup.specs.Types.{is_mapped}
+use Rattle.gpu_vulkan.specs.Types.{is_mapped}
 use Rattle.gpu_vulkan.specs.Blocks.{Slots}
 use Rattle.gpu_memory_types.specs.Blocks.{total_capacity}
 use Rattle.gpu_vulkan.specs.ByteView.{AllocationId, ByteView, byte_view_of, TakesOut, PutsBack, AddsBlock, DropsBlock, Writes}
-use Rattle.gpu_vulkan_setup.specs.Choice.{best_type}
+use Rattle.gpu_vulkan.specs.Choice.{best_type}
 use Rattle.gpu_vulkan.specs.Lends.{number_in}
 use Rattle.gpu_vulkan.specs.Live.{is_same_memory, IsLiveIn}
 use Rattle.gpu_vulkan.specs.Live.{piece_of, IsGiven, IsMapped}
 use Rattle.gpu_memory_types.specs.Budgets.{Budgets, budget_at}
 use Rattle.gpu_memory_types.specs.Leaks.{all_leaks}
 use Rattle.gpu_memory_types.specs.Reports.{whole_report}
-use Rattle.gpu_vulkan_setup.specs.Setup.{Setup}
+use Rattle.gpu_vulkan.specs.Setup.{Setup}
 use Rattle.gpu_vulkan.specs.State.{State}
 use Rattle.gpu_vulkan.specs.declared.allocation.Allocation.{Allocation}
-use Rattle.gpu_vulkan_setup.specs.declared.describe.AllocationCreateDesc.{AllocationCreateDesc}
+use Rattle.gpu_vulkan.specs.declared.describe.AllocationCreateDesc.{AllocationCreateDesc}
 use Rattle.gpu_pool.specs.Allocate.{Environment, NothingMet, NoHostMemory}
 use Rattle.gpu_pool.specs.Free.{FreesPiece}
 use Rattle.gpu_pool.specs.Rename.{RenamesBy}

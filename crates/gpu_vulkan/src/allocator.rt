@@ -3,7 +3,7 @@
 ghost use Rattle.std.specs.Prelude.{◌≡◌, ◌↔◌, [], All, map, string_bytes, Some, None, IfOk, IfErr, OnOk, IsSome, IfSome, OnSome, IsTrue, List, ℕ, length, option_copied, ◌%◌, ◌<◌, IsOk};
 ghost use Rattle.std.specs.Option.{unwrap_or};
 ghost use Rattle.gpu_values.specs.Refusal.{refusal_of, refusal_in, host_out_of_memory};
-ghost use Rattle.gpu_vulkan_setup.specs.Setup.{setup_fault};
+ghost use Rattle.gpu_vulkan.specs.Setup.{setup_fault};
 ghost use Rattle.gpu_memory_types.specs.Blocks.{total_capacity, BlocksWellFormed};
 ghost use Rattle.gpu_pool.specs.Handles.{all_handles};
 ghost use Rattle.gpu_vulkan.specs.BlockAnswer.{frees_recorded};
@@ -20,7 +20,7 @@ ghost use Rattle.gpu_vulkan.specs.Rename.{Renames, StayLive};
 ghost use Rattle.gpu_memory_types.specs.Reports.{whole_report};
 ghost use Rattle.gpu_memory_types.specs.Budgets.{budget_at, budgets, SetsBudget};
 ghost use Rattle.gpu_memory_types.specs.Types.{slots_of, kinds};
-ghost use Rattle.gpu_vulkan_setup.specs.Types.{kinds_told};
+ghost use Rattle.gpu_vulkan.specs.Types.{kinds_told};
 ghost use Rattle.gpu_memory_types.specs.Leaks.{all_leaks};
 ghost use Rattle.gpu_block_views.specs.Leak.{leak_text};
 ghost use Rattle.gpu_values.specs.Report.{report_of};
@@ -33,13 +33,13 @@ use super::rename::rename;
 use super::{Allocation, MappedAllocationSlab};
 use crate::attempt::{allocate_with_fallback, blocks_are_held};
 use crate::source::VulkanBlocks;
+use crate::{
+    AllocationCreateDesc, AllocatorCreateDesc, Settings, Setup, best_type, fault_of, parts_of,
+};
 use gpu_device::vulkan::{DeviceMemory, VulkanDevice};
 use gpu_memory_types::MemoryTypes;
 use gpu_pool::Pool;
 use gpu_values::{AllocationError, AllocatorReport, Result};
-use gpu_vulkan_setup::{
-    AllocationCreateDesc, AllocatorCreateDesc, Settings, Setup, best_type, fault_of, parts_of,
-};
 use log::{Level, Log};
 use std::alloc::{AllocError, Global};
 use std::marker::Model;

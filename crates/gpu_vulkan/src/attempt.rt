@@ -12,15 +12,15 @@ ghost use Rattle.gpu_vulkan.specs.Rename.{StayLive};
 ghost use Rattle.gpu_vulkan.specs.State.{setup_of, IsConstant};
 ghost use Rattle.gpu_vulkan.specs.declared.allocation.Allocation.{Allocation};
 
-use crate::Allocation;
 use crate::source::VulkanBlocks;
+use crate::{
+    Allocation, AllocationCreateDesc, Setup, first_type, is_mapped, is_own, request_of,
+    required_flags,
+};
 use gpu_device::vulkan::{DeviceMemory, VulkanDevice};
 use gpu_pool::Pool;
 use gpu_slots::Piece;
 use gpu_values::{AllocationError, MemoryLocation, Result};
-use gpu_vulkan_setup::{
-    AllocationCreateDesc, Setup, first_type, is_mapped, is_own, request_of, required_flags,
-};
 use std::alloc::{AllocError, Global};
 
 /// The allocation of a piece of the memory type at `index`.

@@ -1,11 +1,11 @@
 //! Log lines of this allocator.
 
 use super::Allocation;
+use crate::AllocationCreateDesc;
 use gpu_device::vulkan::{DeviceMemory, VulkanDevice};
 use gpu_memory_types::MemoryTypes;
 use gpu_pool::logging;
 use gpu_values::AllocatorDebugSettings;
-use gpu_vulkan_setup::AllocationCreateDesc;
 use log::{Level, Log, debug, target_or};
 
 /// The records' target, unless the log has its own.

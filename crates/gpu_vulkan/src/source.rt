@@ -3,15 +3,15 @@
 ghost use Rattle.std.specs.Prelude.{◌≡◌, ℕ, List, IsSome, Some, None};
 ghost use Rattle.std.specs.Borrow.{sem};
 ghost use Rattle.gpu_device.specs.Held.{range_of};
-ghost use Rattle.gpu_vulkan_setup.specs.Setup.{IsValid};
-ghost use Rattle.gpu_vulkan_setup.specs.Types.{kinds_told};
+ghost use Rattle.gpu_vulkan.specs.Setup.{IsValid};
+ghost use Rattle.gpu_vulkan.specs.Types.{kinds_told};
 ghost use Rattle.gpu_vulkan.specs.Source.{AsksBlock, GivesMemory, HoldsFirst, blocks_of, one_number};
 
+use crate::Setup;
 use crate::block::{allocate_block_memory, free_block_memory};
 use gpu_device::vulkan::{AllocationScheme, DeviceMemory, MemoryAllocateInfo, VulkanDevice};
 use gpu_pool::BlockSource;
 use gpu_values::Result;
-use gpu_vulkan_setup::Setup;
 use std::marker::Model;
 use std::snapshot::Snapshot;
 
@@ -24,7 +24,7 @@ pub struct VulkanBlocks<D: VulkanDevice> {
 
 impl<D: VulkanDevice> Model for VulkanBlocks<D> {
     ghost use Rattle.std.specs.Prelude.{◌≡◌};
-    ghost use Rattle.gpu_vulkan_setup.specs.Setup.{IsValid};
+    ghost use Rattle.gpu_vulkan.specs.Setup.{IsValid};
     ghost use Rattle.gpu_vulkan.specs.Source.{SourceState, HoldsFirst};
 
     ghost Value = { SourceState D };

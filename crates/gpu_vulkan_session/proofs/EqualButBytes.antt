@@ -11,7 +11,7 @@ use Rattle.gpu_vulkan.specs.ByteView.{AllocationId, is_same_id, ByteView, Writes
 use Rattle.gpu_vulkan.specs.Lends.{AreDistinct}
 use Rattle.gpu_vulkan.specs.Live.{IsLiveIn}
 use Rattle.gpu_vulkan.specs.Live.{piece_of, IsLive}
-use Rattle.gpu_vulkan_setup.specs.Setup.{Setup}
+use Rattle.gpu_vulkan.specs.Setup.{Setup}
 use Rattle.gpu_vulkan.specs.Step.{id_of}
 use Rattle.gpu_vulkan.specs.declared.allocation.Allocation.{Allocation}
 use Rattle.gpu_run.specs.Bindings.{bind}

@@ -2,7 +2,7 @@
 use Rattle.std.proofs.Common.{◌≡◌, ℕ, ◌+◌, List, length, Option, Some, None, Bool, true, false, ap}
 use Rattle.std.specs.Prelude.{◌≢◌, nat_le}
 use Rattle.gpu_vulkan.specs.Live.{IsLive}
-use Rattle.gpu_vulkan_setup.specs.Setup.{Setup}
+use Rattle.gpu_vulkan.specs.Setup.{Setup}
 use Rattle.gpu_vulkan.specs.Step.{id_of}
 use Rattle.gpu_vulkan.specs.declared.allocation.Allocation.{Allocation}
 use Rattle.gpu_vulkan_session.specs.Command.{Write}

@@ -8,18 +8,18 @@ use Rattle.gpu_values.specs.Refusal.{Refusal, host_out_of_memory}
 use Rattle.gpu_slots.specs.declared.piece.Piece.{Piece}
 use Rattle.gpu_device.specs.declared.vulkan.types.DeviceMemory.{DeviceMemory}
 use Rattle.gpu_vulkan.specs.EqualButBytes.{EqualButBytesDescription, EqualButBytesCall, EqualButBytesReply}
-use Rattle.gpu_vulkan_setup.specs.Types.{is_mapped}
+use Rattle.gpu_vulkan.specs.Types.{is_mapped}
 use Rattle.gpu_vulkan.specs.Blocks.{Slots}
 use Rattle.gpu_vulkan.specs.ByteView.{AllocationId, Writes}
 use Rattle.gpu_vulkan.specs.Live.{IsLiveIn}
 use Rattle.gpu_vulkan.specs.Live.{piece_of, null_allocation, IsLive, IsMapped}
 use Rattle.gpu_vulkan.specs.Rename.{IsNamed}
-use Rattle.gpu_vulkan_setup.specs.Setup.{Setup}
+use Rattle.gpu_vulkan.specs.Setup.{Setup}
 use Rattle.gpu_vulkan.specs.Reply as answers
 use Rattle.gpu_vulkan.specs.Step as model
 use Rattle.gpu_vulkan.specs.Step.{ModelState, CallEnvironment, Step, IsRead, id_of, id_in, FreeStep, RenameStep, WriteStep}
 use Rattle.gpu_vulkan.specs.declared.allocation.Allocation.{Allocation}
-use Rattle.gpu_vulkan_setup.specs.declared.describe.AllocationCreateDesc.{AllocationCreateDesc}
+use Rattle.gpu_vulkan.specs.declared.describe.AllocationCreateDesc.{AllocationCreateDesc}
 use Rattle.gpu_vulkan.proofs.EqualButBytes.{step_alike}
 use Rattle.gpu_vulkan_session.specs.Command.{Wanted, Describes, KeyCommand, Alloc, Null, Free, Rename, Write, Read, SessionCommand, Under, Report, Leaks, Capacity, SetBudget}
 use Rattle.gpu_vulkan_session.specs.Reply.{SessionReply, Given, Done, Bytes, Busy, Unbound, Unmapped, OutOfRange, Error}

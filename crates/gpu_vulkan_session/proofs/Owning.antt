@@ -6,7 +6,7 @@ use Rattle.gpu_vulkan.specs.Lends.{AreDistinct}
 use Rattle.gpu_vulkan.specs.Live.{IsLiveIn}
 use Rattle.gpu_vulkan.specs.Live.{piece_of, null_allocation, IsLive}
 use Rattle.gpu_vulkan.specs.Rename.{IsNamed, StayLive}
-use Rattle.gpu_vulkan_setup.specs.Setup.{Setup}
+use Rattle.gpu_vulkan.specs.Setup.{Setup}
 use Rattle.gpu_vulkan.specs.Reply as answers
 use Rattle.gpu_vulkan.specs.Step.{ModelState, CallEnvironment, Step, Free, FreeStep}
 use Rattle.gpu_vulkan.specs.declared.allocation.Allocation.{Allocation}

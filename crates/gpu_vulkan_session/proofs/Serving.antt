@@ -8,7 +8,7 @@ use Rattle.gpu_commands.specs.declared.vulkan.reply.Reply.{Reply}
 use Rattle.gpu_run.specs.Run.{IsRun as IsRunOf}
 use Rattle.gpu_device.specs.declared.vulkan.device.VulkanDevice.{Ghosts}
 use Rattle.gpu_memory_types.specs.Blocks.{BlocksWellFormed}
-use Rattle.gpu_vulkan_setup.specs.Setup.{Setup}
+use Rattle.gpu_vulkan.specs.Setup.{Setup}
 use Rattle.gpu_vulkan.specs.State.{State}
 use Rattle.gpu_vulkan.specs.Reply as answers
 use Rattle.gpu_vulkan.specs.Step as model

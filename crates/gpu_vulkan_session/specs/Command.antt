@@ -3,7 +3,7 @@ use Rattle.std.specs.Prelude.{◌≡◌, ℕ, Bool, List, Option}
 use Rattle.gpu_values.specs.declared.memory_location.MemoryLocation.{MemoryLocation}
 use Rattle.gpu_device.specs.declared.vulkan.types.AllocationScheme.{AllocationScheme}
 use Rattle.gpu_device.specs.declared.vulkan.types.MemoryRequirements.{MemoryRequirements}
-use Rattle.gpu_vulkan_setup.specs.declared.describe.AllocationCreateDesc.{AllocationCreateDesc}
+use Rattle.gpu_vulkan.specs.declared.describe.AllocationCreateDesc.{AllocationCreateDesc}
 
 -- what an allocation is asked for
 pub record Wanted : Type 0 where

@@ -2,7 +2,7 @@
 use Rattle.std.specs.Prelude.{◌≡◌, ℕ, ◌+◌, ◌<◌, ◌==◌, ◌&&◌, nat_le, nat_lt, List, [], ◌∷◌, length, slice_get, Bool, true, false, if◌then◌else◌}
 use Rattle.std.specs.List.{AllZip}
 use Rattle.gpu_vulkan.specs.EqualButBytes.{EqualButBytesCallEnvironment}
-use Rattle.gpu_vulkan_setup.specs.Setup.{Setup}
+use Rattle.gpu_vulkan.specs.Setup.{Setup}
 use Rattle.gpu_vulkan_session.specs.Command.{KeyCommand, Alloc, Write, Read, SessionCommand, Under}
 use Rattle.gpu_vulkan_session.specs.Reply.{SessionReply, Given, Done, Bytes}
 use Rattle.gpu_vulkan_session.specs.Session.{SessionState, SessionInvariant, CommandEnvironment, Runs}

@@ -2,7 +2,7 @@
 
 ghost use Rattle.std.specs.Prelude.{◌≡◌, ◌≢◌, ℕ, List, Some};
 ghost use Rattle.gpu_vulkan.specs.Live.{IsLive};
-ghost use Rattle.gpu_vulkan_setup.specs.Setup.{Setup};
+ghost use Rattle.gpu_vulkan.specs.Setup.{Setup};
 ghost use Rattle.gpu_vulkan.specs.Step.{id_of};
 ghost use Rattle.gpu_vulkan.specs.declared.allocation.Allocation.{Allocation};
 ghost use Rattle.gpu_vulkan_session.specs.Command.{Under, Write};

@@ -3,8 +3,7 @@
 
 use super::resources::{IN_STATE, asked, counts, make, own_memory};
 use super::*;
-use gpu_d3d12::Resource;
-use gpu_d3d12_setup::{ResourceCreateDesc, ResourceType};
+use gpu_d3d12::{Resource, ResourceCreateDesc, ResourceType};
 use gpu_values::AllocatorReport;
 
 /// A name of 52 bytes.

@@ -2,7 +2,7 @@
 
 use super::resources::{IN_STATE, asked, own_memory};
 use super::*;
-use gpu_d3d12_setup::ResourceType;
+use gpu_d3d12::ResourceType;
 use gpu_values::AllocationError;
 use log::sink::{Lines, Memory};
 use log::{Level, Log};

@@ -1,7 +1,7 @@
 //! Pieces and the heaps that they lie in.
 
 use super::*;
-use gpu_d3d12_setup::type_for;
+use gpu_d3d12::type_for;
 use gpu_device::d3d12::{
     CpuPageProperty, HeapContent, HeapDesc, HeapProperties, HeapType, ID3D12Heap, MemoryPool,
 };

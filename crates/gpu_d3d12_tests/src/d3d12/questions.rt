@@ -1,7 +1,7 @@
 //! Questions for resources.
 
 use super::*;
-use gpu_d3d12_setup::{
+use gpu_d3d12::{
     ResourceCreateDesc, ResourceQuestion, ResourceStateOrBarrierLayout, ResourceType,
     allocation_info_of, create_committed, create_placed, question_for,
 };

@@ -1,8 +1,7 @@
 //! Resources: placed in pieces of heaps, and committed.
 
 use super::*;
-use gpu_d3d12::Resource;
-use gpu_d3d12_setup::{ResourceCreateDesc, ResourceStateOrBarrierLayout, ResourceType};
+use gpu_d3d12::{Resource, ResourceCreateDesc, ResourceStateOrBarrierLayout, ResourceType};
 use gpu_device::d3d12::{
     ClearValue, CpuPageProperty, HeapFlags, HeapProperties, HeapType, MemoryPool,
 };

@@ -3,8 +3,7 @@
 use super::account::Account;
 use super::resources::{IN_STATE, asked, own_memory};
 use super::*;
-use gpu_d3d12::Resource;
-use gpu_d3d12_setup::ResourceType;
+use gpu_d3d12::{Resource, ResourceType};
 use gpu_device::d3d12::D3D12Device;
 use gpu_values::{AllocationError, AllocatorReport};
 use log::Level;

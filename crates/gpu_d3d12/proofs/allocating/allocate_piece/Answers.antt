@@ -1,6 +1,6 @@
 use Rattle.std.proofs.Common.{rules, ◌≡◌, ◌∙◌, ap, sym, subst, true}
-use Rattle.gpu_d3d12_setup.specs.MemoryKinds.{memory_kinds, IsFirstServing}
-use Rattle.gpu_d3d12_setup.specs.Setup.{kinds_told}
+use Rattle.gpu_d3d12.specs.MemoryKinds.{memory_kinds, IsFirstServing}
+use Rattle.gpu_d3d12.specs.Setup.{kinds_told}
 use Rattle.gpu_pool.specs.Allocate.{request_at}
 use Rattle.gpu_d3d12.specs.Source.{SourceState}
 use Rattle.gpu_d3d12.specs.Allocate.{is_valid, AllocatesBy}

@@ -1,9 +1,9 @@
 use Rattle.std.proofs.Common.{◌∙◌, sym, ap, subst, arith, List, ◌+◌, ◌<◌, ◌^◌, ◌++◌, ◌∷◌, [], Err}
 use Rattle.gpu_device.specs.declared.d3d12.event.ResourcePlace.TheVariants.{Own}
 use Rattle.gpu_device.specs.D3D12.{Committed}
-use Rattle.gpu_d3d12_setup.specs.DeviceVersion.{device_of}
-use Rattle.gpu_d3d12_setup.specs.Question.{made_size}
-use Rattle.gpu_d3d12_setup.specs.ResourceAnswer.{ResourceAnswer}
+use Rattle.gpu_d3d12.specs.DeviceVersion.{device_of}
+use Rattle.gpu_d3d12.specs.Question.{made_size}
+use Rattle.gpu_d3d12.specs.ResourceAnswer.{ResourceAnswer}
 use Rattle.gpu_d3d12.specs.Committed.{total_size, IsCommitted}
 use Rattle.gpu_d3d12.specs.Source.{SourceState, MakesResource}
 use Rattle.gpu_d3d12.specs.declared.committed_record.CommittedRecord.{CommittedRecord}

@@ -4,11 +4,11 @@ use Rattle.gpu_memory_types.specs.Types.{slots_of}
 use Rattle.gpu_device.specs.declared.d3d12.types.HeapFlags.{HeapFlags}
 use Rattle.gpu_device.specs.declared.d3d12.types.HeapProperties.{HeapProperties}
 use Rattle.gpu_device.specs.declared.d3d12.types.ResourceHeapTier.{ResourceHeapTier}
-use Rattle.gpu_d3d12_setup.specs.DeviceVersion.{device_of}
-use Rattle.gpu_d3d12_setup.specs.MemoryKinds.{memory_kinds, IsFirstServing}
-use Rattle.gpu_d3d12_setup.specs.Question.{told_info}
-use Rattle.gpu_d3d12_setup.specs.Setup.{kinds_told}
-use Rattle.gpu_d3d12_setup.specs.declared.device_version.ID3D12DeviceVersion.{ID3D12DeviceVersion}
+use Rattle.gpu_d3d12.specs.DeviceVersion.{device_of}
+use Rattle.gpu_d3d12.specs.MemoryKinds.{memory_kinds, IsFirstServing}
+use Rattle.gpu_d3d12.specs.Question.{told_info}
+use Rattle.gpu_d3d12.specs.Setup.{kinds_told}
+use Rattle.gpu_d3d12.specs.declared.device_version.ID3D12DeviceVersion.{ID3D12DeviceVersion}
 use Rattle.gpu_pool.proofs.Holding.{same_holds}
 use Rattle.gpu_d3d12.specs.Committed.{resource_reply}
 use Rattle.gpu_d3d12.specs.Over.{IsCommittedOver}

@@ -5,12 +5,12 @@ use Rattle.gpu_memory_types.specs.Budgets.{budgets}
 use Rattle.gpu_memory_types.specs.Types.{slots_of}
 use Rattle.gpu_device.specs.D3D12.{Placed}
 use Rattle.gpu_device.specs.declared.d3d12.event.ResourcePlace.TheVariants.{InHeap}
-use Rattle.gpu_d3d12_setup.specs.DeviceVersion.{device_of}
-use Rattle.gpu_d3d12_setup.specs.ResourceAnswer.{ResourceAnswer}
-use Rattle.gpu_d3d12_setup.specs.Question.{told_info, made_size}
-use Rattle.gpu_d3d12_setup.specs.Setup.{kinds_told}
-use Rattle.gpu_d3d12_setup.specs.declared.describe.AllocationCreateDesc.{AllocationCreateDesc}
-use Rattle.gpu_d3d12_setup.specs.declared.device_version.ID3D12DeviceVersion.{ID3D12DeviceVersion}
+use Rattle.gpu_d3d12.specs.DeviceVersion.{device_of}
+use Rattle.gpu_d3d12.specs.ResourceAnswer.{ResourceAnswer}
+use Rattle.gpu_d3d12.specs.Question.{told_info, made_size}
+use Rattle.gpu_d3d12.specs.Setup.{kinds_told}
+use Rattle.gpu_d3d12.specs.declared.describe.AllocationCreateDesc.{AllocationCreateDesc}
+use Rattle.gpu_d3d12.specs.declared.device_version.ID3D12DeviceVersion.{ID3D12DeviceVersion}
 use Rattle.gpu_pool.specs.Source.{result_of}
 use Rattle.gpu_pool.specs.State.{IsSoundAt}
 use Rattle.gpu_pool.proofs.Holding.{same_holds}

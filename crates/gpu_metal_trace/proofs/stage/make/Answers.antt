@@ -1,6 +1,6 @@
 use Rattle.std.proofs.Common.{subst}
 use Rattle.gpu_values.specs.Refusal.{refusal_of}
-use Rattle.gpu_metal_setup.specs.Setup.{IsNotMade}
+use Rattle.gpu_metal.specs.Setup.{IsNotMade}
 use Rattle.gpu_metal_trace.specs.Stage.{simulated}
 use Rattle.gpu_metal_trace.proofs.stage.make.Goals as goal
 

@@ -1,7 +1,7 @@
 use Rattle.std.specs.Prelude.{IsSomeAnd}
 use Rattle.std.proofs.Common.{◌≡◌, ◌∙◌, refl, ap, subst, arith, Ok, Err, ℕ, slice_get}
-use Rattle.gpu_vulkan_setup.specs.Setup.{Setup}
-use Rattle.gpu_vulkan_setup.specs.Types.{heap_size, is_host_visible}
+use Rattle.gpu_vulkan.specs.Setup.{Setup}
+use Rattle.gpu_vulkan.specs.Types.{heap_size, is_host_visible}
 use Rattle.gpu_vulkan.specs.Live.{IsGiven}
 use Rattle.gpu_vulkan.specs.Source.{SourceState}
 use Rattle.gpu_vulkan.specs.State.{setup_of}

@@ -1,7 +1,7 @@
 use Rattle.std.proofs.Common.{◌∙◌, sym, ap, subst, length}
 use Rattle.gpu_memory_types.specs.Blocks.{BlocksWellFormed}
 use Rattle.gpu_pool.specs.State.{IsSoundAt}
-use Rattle.gpu_vulkan_setup.specs.Types.{kinds_told}
+use Rattle.gpu_vulkan.specs.Types.{kinds_told}
 use Rattle.gpu_vulkan.specs.Blocks.{Slots}
 use Rattle.gpu_vulkan.specs.Source.{SourceState, HoldsFirst}
 use Rattle.gpu_vulkan.proofs.Leaving.{as_many, well_formed, just_live}

@@ -1,8 +1,8 @@
 use Rattle.std.proofs.Common.{◌≡◌, ◌∙◌, sym, ap, subst}
 use Rattle.gpu_device.specs.declared.d3d12.types.HeapFlags.{HeapFlags}
 use Rattle.gpu_device.specs.declared.d3d12.types.HeapProperties.{HeapProperties}
-use Rattle.gpu_d3d12_setup.specs.Question.{resource_question}
-use Rattle.gpu_d3d12_setup.specs.declared.device_version.ID3D12DeviceVersion.{ID3D12DeviceVersion}
+use Rattle.gpu_d3d12.specs.Question.{resource_question}
+use Rattle.gpu_d3d12.specs.declared.device_version.ID3D12DeviceVersion.{ID3D12DeviceVersion}
 use Rattle.gpu_d3d12.specs.Over.{IsCommittedOver, IsPlacedOver}
 use Rattle.gpu_d3d12.specs.Source.{SourceState}
 use Rattle.gpu_d3d12.specs.State.{State, Setup, state_of, pool_of, contents_of, source_basis}

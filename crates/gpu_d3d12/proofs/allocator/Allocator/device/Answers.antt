@@ -1,5 +1,5 @@
 use Rattle.std.proofs.Common.{subst}
-use Rattle.gpu_d3d12_setup.specs.DeviceVersion.{device_of}
+use Rattle.gpu_d3d12.specs.DeviceVersion.{device_of}
 use Rattle.gpu_d3d12.specs.Blocks.{HoldsJustLiveBlocks}
 use Rattle.gpu_d3d12.specs.Journal.{HoldsResources, IsFirstAndOut}
 use Rattle.gpu_d3d12.specs.Source.{SourceState, HoldsFirst, held_by}

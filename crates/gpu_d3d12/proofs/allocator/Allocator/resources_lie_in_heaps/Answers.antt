@@ -1,4 +1,4 @@
-use Rattle.gpu_d3d12_setup.specs.DeviceVersion.{device_of}
+use Rattle.gpu_d3d12.specs.DeviceVersion.{device_of}
 use Rattle.gpu_d3d12.specs.State.{beside_of}
 use Rattle.gpu_d3d12.proofs.Leaving.{live_in_heap}
 use Rattle.gpu_d3d12.proofs.allocator.Allocator.resources_lie_in_heaps.Goals as goal

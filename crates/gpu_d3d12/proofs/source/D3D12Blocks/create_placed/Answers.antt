@@ -1,9 +1,9 @@
 use Rattle.std.proofs.Common.{◌≡◌, ◌∙◌, ℕ, List, refl, sym, ap, subst}
 use Rattle.gpu_device.specs.declared.d3d12.event.ResourcePlace.TheVariants.{InHeap}
 use Rattle.gpu_device.specs.D3D12.{Placed, Entry}
-use Rattle.gpu_d3d12_setup.specs.DeviceVersion.{device_of}
-use Rattle.gpu_d3d12_setup.specs.Question.{made_size}
-use Rattle.gpu_d3d12_setup.specs.ResourceAnswer.{AsksResource, placed_texts, resource_number}
+use Rattle.gpu_d3d12.specs.DeviceVersion.{device_of}
+use Rattle.gpu_d3d12.specs.Question.{made_size}
+use Rattle.gpu_d3d12.specs.ResourceAnswer.{AsksResource, placed_texts, resource_number}
 use Rattle.gpu_d3d12.specs.Journal.{events, with_made}
 use Rattle.gpu_d3d12.specs.Source.{SourceState, MakesResource, source_blocks}
 use Rattle.gpu_d3d12.specs.declared.journal.ResourceEvent.{ResourceEvent}

@@ -1,6 +1,6 @@
 use Rattle.std.proofs.Common.{◌≡◌, ◌∙◌, ℕ, None, sym, ap, subst}
 use Rattle.gpu_device.specs.D3D12.{Held}
-use Rattle.gpu_d3d12_setup.specs.DeviceVersion.{device_of}
+use Rattle.gpu_d3d12.specs.DeviceVersion.{device_of}
 use Rattle.gpu_d3d12.specs.Journal.{events, IsFirstAndOut}
 use Rattle.gpu_d3d12.specs.Source.{SourceState, source_blocks, source_beside}
 use Rattle.gpu_d3d12.proofs.Changing.{all_beside}

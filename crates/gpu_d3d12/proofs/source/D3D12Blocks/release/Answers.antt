@@ -1,5 +1,5 @@
 use Rattle.std.proofs.Common.{◌≡◌, ℕ, List, ◌∷◌, sym, subst}
-use Rattle.gpu_d3d12_setup.specs.DeviceVersion.{device_of}
+use Rattle.gpu_d3d12.specs.DeviceVersion.{device_of}
 use Rattle.gpu_d3d12.specs.Blocks.{IsWithoutResource}
 use Rattle.gpu_d3d12.specs.Journal.{events}
 use Rattle.gpu_d3d12.specs.Source.{SourceState, ReleasesResource, source_blocks}

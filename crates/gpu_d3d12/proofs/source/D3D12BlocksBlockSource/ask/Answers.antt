@@ -1,8 +1,8 @@
 use Rattle.std.proofs.Common.{subst}
 use Rattle.gpu_device.specs.declared.d3d12.types.HeapDesc.{HeapDesc}
-use Rattle.gpu_d3d12_setup.specs.DeviceVersion.{device_of}
-use Rattle.gpu_d3d12_setup.specs.HeapAnswer.{AsksHeap}
-use Rattle.gpu_d3d12_setup.specs.Heaps.{heap_desc}
+use Rattle.gpu_d3d12.specs.DeviceVersion.{device_of}
+use Rattle.gpu_d3d12.specs.HeapAnswer.{AsksHeap}
+use Rattle.gpu_d3d12.specs.Heaps.{heap_desc}
 use Rattle.gpu_pool.specs.Source.{HoldsAfter, result_of}
 use Rattle.gpu_d3d12.specs.Journal.{events}
 use Rattle.gpu_d3d12.specs.Source.{SourceState, AsksBlock, source_blocks}

@@ -1,7 +1,7 @@
 use Rattle.std.specs.Prelude.{IsSome}
 use Rattle.std.proofs.Common.{subst, sym}
-use Rattle.gpu_d3d12_setup.specs.DeviceVersion.{device_of}
-use Rattle.gpu_d3d12_setup.specs.HeapAnswer.{IsWithoutHeap}
+use Rattle.gpu_d3d12.specs.DeviceVersion.{device_of}
+use Rattle.gpu_d3d12.specs.HeapAnswer.{IsWithoutHeap}
 use Rattle.gpu_pool.specs.Source.{Removes}
 use Rattle.gpu_d3d12.specs.Journal.{events}
 use Rattle.gpu_d3d12.specs.Source.{SourceState, GivesHeap, source_blocks}

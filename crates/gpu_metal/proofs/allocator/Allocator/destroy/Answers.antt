@@ -1,5 +1,5 @@
 use Rattle.std.proofs.Common.{◌∙◌, sym, ap, subst}
-use Rattle.gpu_metal_setup.specs.Residency.{releases_recorded, ChangesHeld}
+use Rattle.gpu_metal.specs.Residency.{releases_recorded, ChangesHeld}
 use Rattle.gpu_pool.specs.Handles.{all_handles}
 use Rattle.gpu_metal.specs.Blocks.{left_behind, residency_of}
 use Rattle.gpu_metal.specs.State.{State}

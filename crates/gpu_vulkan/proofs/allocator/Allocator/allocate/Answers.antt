@@ -2,8 +2,8 @@ use Rattle.std.proofs.Common.{rules, ◌≡◌, ◌∙◌, refl, sym, ap, subst,
 use Rattle.gpu_device.specs.Properties.{Properties}
 use Rattle.gpu_memory_types.specs.Blocks.{BlocksWellFormed}
 use Rattle.gpu_vulkan.specs.Allocate.{is_valid}
-use Rattle.gpu_vulkan_setup.specs.Choice.{best_type}
-use Rattle.gpu_vulkan_setup.specs.Setup.{Setup}
+use Rattle.gpu_vulkan.specs.Choice.{best_type}
+use Rattle.gpu_vulkan.specs.Setup.{Setup}
 use Rattle.gpu_vulkan.specs.Blocks.{HoldsJustLiveBlocks}
 use Rattle.gpu_vulkan.specs.State.{State, state_of, setup_of}
 use Rattle.gpu_vulkan.specs.Step.{IsAllocateStep}

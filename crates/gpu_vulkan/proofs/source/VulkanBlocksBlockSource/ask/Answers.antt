@@ -1,7 +1,7 @@
 use Rattle.std.proofs.Common.{◌∙◌, ◌<◌, refl, sym, subst, length, arith, Bool, ℕ}
 use Rattle.std.proofs.lemmas.List.{length-map}
 use Rattle.gpu_pool.specs.Source.{HoldsAfter, result_of}
-use Rattle.gpu_vulkan_setup.specs.Types.{is_mapped, is_host_visible, kinds_told}
+use Rattle.gpu_vulkan.specs.Types.{is_mapped, is_host_visible, kinds_told}
 use Rattle.gpu_vulkan.specs.Source.{AsksBlock, IsResult, question}
 use Rattle.gpu_vulkan.specs.BlockAnswer.{BlockAnswer, Asks}
 use Rattle.gpu_vulkan.specs.Source.{SourceState, blocks_of}

@@ -1,0 +1,5 @@
+use Rattle.std.proofs.Common.{rules}
+use Rattle.gpu_d3d12.proofs.heap.heap_desc.Goals as goal
+
+pub returns : goal.returns
+returns c = search rules

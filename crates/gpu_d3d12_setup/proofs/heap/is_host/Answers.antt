@@ -1,5 +1,0 @@
-use Rattle.std.proofs.Common.{rules}
-use Rattle.gpu_d3d12_setup.proofs.heap.is_host.Goals as goal
-
-pub returns : goal.returns
-returns c = search rules

@@ -1,5 +1,0 @@
-use Rattle.std.proofs.Common.{rules}
-use Rattle.gpu_d3d12_setup.proofs.memory_kind.kind_at.Goals as goal
-
-pub returns-in-Tier1 : goal.returns-in-Tier1
-returns-in-Tier1 c = search rules

@@ -1,5 +1,0 @@
-use Rattle.std.proofs.Common.{rules}
-use Rattle.gpu_d3d12_setup.proofs.question.allocation_info_of.Goals as goal
-
-pub returns-in-Device12 : goal.returns-in-Device12
-returns-in-Device12 g c = search rules

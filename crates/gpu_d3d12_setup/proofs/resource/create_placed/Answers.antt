@@ -1,5 +1,0 @@
-use Rattle.std.proofs.Common.{rules}
-use Rattle.gpu_d3d12_setup.proofs.resource.create_placed.Goals as goal
-
-pub returns : goal.returns
-returns g c = search rules

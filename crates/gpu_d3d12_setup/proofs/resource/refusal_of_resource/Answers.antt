@@ -1,5 +1,0 @@
-use Rattle.std.proofs.Common.{rules}
-use Rattle.gpu_d3d12_setup.proofs.resource.refusal_of_resource.Goals as goal
-
-pub returns-then-code-eq-DEVICE_REMOVED : goal.returns-then-code-eq-DEVICE_REMOVED
-returns-then-code-eq-DEVICE_REMOVED g c = search rules

@@ -1,3 +1,0 @@
-pub mod FirstServing
-pub mod Holding
-pub mod Lists

@@ -1,5 +1,0 @@
-use Rattle.std.proofs.Common.{rules}
-use Rattle.gpu_metal_setup.proofs.describe.AllocationCreateDesc.acceleration_structure_with_size.Goals as goal
-
-pub returns-clause-location : goal.returns-clause-location
-returns-clause-location g c = search rules

@@ -1,5 +1,0 @@
-use Rattle.std.proofs.Common.{rules}
-use Rattle.gpu_metal_setup.proofs.describe.texture_location.Goals as goal
-
-pub returns-in-Private : goal.returns-in-Private
-returns-in-Private c = search rules

@@ -1,5 +1,0 @@
-use Rattle.std.proofs.Common.{rules}
-use Rattle.gpu_vulkan_setup.proofs.setup.has_heap.Goals as goal
-
-pub returns : goal.returns
-returns g c = search rules

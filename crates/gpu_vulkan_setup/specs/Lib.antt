@@ -1,4 +1,0 @@
-pub mod Describe
-pub mod Choice
-pub mod Types
-pub mod Setup
