@@ -1,5 +1,5 @@
 -- A block whose pieces are bound to numbers of the caller's, and what may be answered.
-use Rattle.std.specs.Prelude.{◌≡◌, ◌≢◌, ℕ, ◌<◌, List, [], Option, Some, None, IsTrue, Contains, map, true}
+use Rattle.std.specs.Prelude.{◌≡◌, ◌≢◌, ℕ, ◌<◌, List, [], Option, Some, None, IsTrue, Contains, map, true, string_bytes}
 use Rattle.std.specs.Ordering.{nat_cmp}
 use Rattle.std.specs.Int.{is_power_of_two}
 use Rattle.std.specs.Int.NonZero.{non_zero_u64_get}
@@ -8,10 +8,13 @@ use Rattle.std.specs.BTreeMap.{insert_entry, is_at}
 use Rattle.std.specs.Map.{lookup, remove_entry}
 use Rattle.gpu_values.specs.declared.error.AllocationError.TheVariants.{OutOfMemory}
 use Rattle.gpu_block_pieces.specs.FreeList.{Extent, fresh_free_list}
-use Rattle.gpu_block_pieces.specs.Request.{Request}
+use Rattle.gpu_block_pieces.specs.Request.{Request, request}
 use Rattle.gpu_block.specs.Block.{Block, free_list, extents_of, size_of, allocated_bytes, is_general, TakesIn, ReleasesIn, IsTakeRefusalIn, IsSoundBlock}
 use Rattle.gpu_values.specs.Report.{row_of}
 use Rattle.gpu_block_views.specs.Rows.{extent_row}
+use Rattle.gpu_commands.specs.BlockCommand.{type_of_kind}
+use Rattle.gpu_commands.specs.declared.block.command.Command.{Command}
+use Rattle.gpu_commands.specs.declared.block.command.Command.TheVariants as commands
 use Rattle.gpu_commands.specs.declared.block.reply.Report.{Report}
 use Rattle.gpu_commands.specs.declared.error_number.ErrorNumber.{ErrorNumber}
 use Rattle.gpu_commands.specs.declared.error_number.ErrorNumber.TheVariants.{E1, E2, E3, E4, E5, E6, E7, E8, E9, E10, E11}
@@ -23,6 +26,7 @@ pub record State : Type 0 where
   pub block : Block
   pub bound : List (ℕ × NonZeroU64)
 
+-- a block without pieces
 abbrev pub unused : ℕ → ℕ → State
 unused size granularity = record { block = free_list (fresh_free_list size granularity 2); bound = [] }
 
@@ -30,6 +34,7 @@ unused size granularity = record { block = free_list (fresh_free_list size granu
 abbrev pub piece_at : State → ℕ → Option NonZeroU64
 piece_at s key = lookup (is_at (nat_cmp key)) s.bound
 
+-- a live piece of the block is so
 abbrev pub SomePiece : State → (Extent → Type 0) → Type 0
 SomePiece s P = (x : Extent) × Contains (extents_of s.block) x × P x
 
@@ -95,3 +100,10 @@ Reporting s (replies.Block size) = ⊥
 Reporting s replies.Given = ⊥
 Reporting s replies.Busy = ⊥
 Reporting s replies.Unbound = ⊥
+
+-- a command, its reply, and the state that it leaves; the block is there already
+abbrev pub Serves : State → Command → Reply → State → Type 0
+Serves old (commands.Block side min max count granularity) reply new = (reply ≡ replies.Busy) × (new ≡ old)
+Serves old (commands.Take key size alignment kind name) reply new = Taking old key (request size alignment (type_of_kind kind) (string_bytes name)) reply new
+Serves old (commands.Give key) reply new = Giving old key reply new
+Serves old commands.Report reply new = Reporting old reply × (new ≡ old)

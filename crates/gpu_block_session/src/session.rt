@@ -10,9 +10,11 @@ ghost use Rattle.gpu_block.specs.SubAllocator.{block_of};
 ghost use Rattle.gpu_block_session.specs.BlockSession.{Taking};
 
 use gpu_block::{FreeListAllocator, SubAllocator};
-use gpu_commands::block::{Kind, Reply, Report};
+use gpu_commands::block::{Command, Kind, Reply, Report};
 use gpu_commands::{ErrorNumber, number_of};
+use gpu_run::Machine;
 use gpu_values::AllocationType;
+use log::Log;
 use std::alloc::Global;
 use std::collections::BTreeMap;
 use std::collections::btree_map::Entry;
@@ -52,15 +54,42 @@ impl Model for BlockSession {
         × OwnsPieces (record { block = block_of s.block; bound = s.bound.entries }) };
 }
 
+impl Machine for BlockSession {
+    ghost use Rattle.gpu_block_session.specs.BlockSession.{Serves};
+
+    type Command = Command;
+
+    type Reply = Reply;
+
+    ghost serves = { Serves };
+
+    /// The block is there, so it isn't made again: the reply is `Busy`.
+    fn serve<L: Log>(&mut self, _log: &L, command: &Command) -> Reply {
+        match command {
+            Command::Block { .. } => Reply::Busy,
+            Command::Take {
+                key,
+                size,
+                alignment,
+                kind,
+                name,
+            } => self.take(*key, *size, *alignment, *kind, name.as_str()),
+            Command::Give { key } => self.give(*key),
+            Command::Report => self.report(),
+        }
+    }
+}
+
 impl BlockSession {
-    ghost use Rattle.std.specs.Prelude.{◌≡◌, ◌<◌, IsTrue, IfOk, IfErr};
+    ghost use Rattle.std.specs.Prelude.{◌≡◌, ◌<◌, IsTrue, IfOk, IfErr, OnErr, length};
     ghost use Rattle.gpu_block.specs.Block.{HasPages};
     ghost use Rattle.gpu_block.specs.SubAllocator.{block_of};
     ghost use Rattle.std.specs.Int.{is_power_of_two};
     ghost use Rattle.gpu_block_pieces.specs.Request.{request};
     ghost use Rattle.gpu_values.specs.declared.error.AllocationError.TheVariants.{HostOutOfMemory};
     ghost use Rattle.gpu_commands.specs.BlockCommand.{type_of_kind};
-    ghost use Rattle.gpu_block_session.specs.BlockSession.{unused, Taking, Giving, Reporting};
+    ghost use Rattle.gpu_block_session.specs.BlockSession.{unused, Taking, Giving, Reporting, Serves};
+    ghost use Rattle.gpu_run.specs.Run.{IsRun};
 
     /// A block of `size` bytes without pieces. The only refusal is `HostOutOfMemory`.
     pub fn new(alloc: Global, size: u64, granularity: u64) -> gpu_values::Result<BlockSession>
@@ -121,6 +150,22 @@ impl BlockSession {
         ensures { HasPages self.now.block result }
     {
         self.granularity
+    }
+
+    /// Serves commands one after another, and answers a reply for each. Room for all replies is made first: where it is refused,
+    /// the answer is `HostOutOfMemory` and nothing has run.
+    pub fn run<L: Log>(
+        &mut self,
+        alloc: Global,
+        log: &L,
+        commands: &[Command],
+    ) -> gpu_values::Result<Vec<Reply>>
+        ensures run { IfOk result (λ replies. IsRun Serves commands.now replies.items self.old self.new) }
+        ensures count { IfOk result (λ replies. length replies.items ≡ length commands.now) }
+        ensures nothing { OnErr result (self.new ≡ self.old) }
+        ensures cause { IfErr result (λ e. e ≡ HostOutOfMemory) }
+    {
+        gpu_run::run(alloc, self, log, commands)
     }
 
     /// The live pieces, and the sums.

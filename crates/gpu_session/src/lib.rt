@@ -1,6 +1,7 @@
 // Sessions and traces, for users: re-exports what the crates below prove.
 #![tactic(auto)]
 
+pub mod block;
 pub mod d3d12;
 pub mod metal;
 pub mod vulkan;
