@@ -6,6 +6,7 @@ use Rattle.gpu_trace_lines.specs.declared.device.setting.Setting.TheVariants.{He
 use Rattle.gpu_metal_trace.specs.declared.setting.Setting.{Setting}
 use Rattle.gpu_metal_trace.specs.declared.setting.Setting.TheVariants.{Sets, Residency, Shared}
 
+-- the word for a choice
 abbrev pub yes_word : Bool → List ℕ
 yes_word true = codes "yes"
 yes_word false = codes "no"
@@ -16,6 +17,7 @@ words (Sets b) = codes "sets" ∷ yes_word b ∷ []
 words (Residency b) = codes "residency" ∷ yes_word b ∷ []
 words (Shared s) = settings.words s
 
+-- block sizes and refusals are lines of a Metal trace; heaps, memory types and page sizes are none
 abbrev pub IsShared : device.Setting → Type 0
 IsShared (Heap size) = ⊥
 IsShared (MemoryType flags heap) = ⊥

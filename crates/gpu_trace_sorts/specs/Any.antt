@@ -46,9 +46,11 @@ Does (Vulkan Before) line did new = DoesFirst line did new
 Does (Vulkan old) line did new = DidVulkan old line did new
 Does (Metal old) line did new = DidMetal old line did new
 
+-- a reply's text and the end of its line, as its sort of traces writes it
 abbrev pub reply_line : AnyReply → List ℕ
 reply_line (replies.Vulkan r) = vulkan_replies.reply_line r
 reply_line (replies.Metal r) = metal_replies.reply_line r
 
+-- the stage and the outcome that a call answers are what the line does
 abbrev pub MatchDone : (Outcome AnyReply → AnyTrace → Type 0) → AnyTrace × Outcome AnyReply → Type 0
 MatchDone does r = does r.1 r.0
