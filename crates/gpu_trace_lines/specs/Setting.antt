@@ -44,3 +44,11 @@ Says line None = (s : Setting) → Spells line s → ⊥
 -- the sizes of blocks that a line stands for: on each side they begin at one size and double up to another
 abbrev pub sizes_of : (device host max_device max_host : ℕ) → Sizes
 sizes_of device host max_device max_host = record { device = with_largest (only_size device) max_device; host = with_largest (only_size host) max_host }
+
+-- block sizes and refusals are lines of each sort of traces over a device
+abbrev pub IsShared : Setting → Type 0
+IsShared (Heap size) = ⊥
+IsShared (MemoryType flags heap) = ⊥
+IsShared (Granularity bytes) = ⊥
+IsShared (BlockSizes device host max_device max_host) = Unit {0}
+IsShared (Refuse question refusal) = Unit {0}
