@@ -10,6 +10,7 @@ pub data KeyCommand : Type 0 where
   Alloc : (wanted : Wanted) (name : List ℕ) → KeyCommand
   Free : KeyCommand
 
+-- a command under a number, or one of the whole allocator
 pub data SessionCommand : Type 0 where
   Under : (key : ℕ) (command : KeyCommand) → SessionCommand
   Heaps : SessionCommand
@@ -18,6 +19,7 @@ pub data SessionCommand : Type 0 where
   Capacity : SessionCommand
   SetBudget : (memory_type : ℕ) (budget : Option ℕ) → SessionCommand
 
+-- a command without what is of its Rust form alone: a piece and a resource ask for an allocation alike
 abbrev pub command_of : Command → SessionCommand
 command_of (asked.Alloc key size alignment location name) = Under key (Alloc (Piece size alignment location) (string_bytes name))
 command_of (asked.Buffer key length location name) = Under key (Alloc (Buffer length location) (string_bytes name))

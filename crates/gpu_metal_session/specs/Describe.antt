@@ -30,6 +30,7 @@ texture_at told Managed = Ok (told_at told Unknown)
 texture_at told Memoryless = Ok (told_at told Unknown)
 texture_at told (Other mode) = Err (internal (codes "Unknown storage mode") (Some (pos mode)))
 
+-- what is wanted, with the size and alignment that the device tells of a resource
 abbrev pub described : Properties → Wanted → Result Described Refusal
 described p (Piece size alignment location) = Ok (record { size = size; alignment = alignment; location = location })
 described p (Buffer length location) = Ok (told_at (p.buffer_size length (buffer_storage_mode location)) location)

@@ -19,6 +19,7 @@ pub record Shown : Type 0 where
   pub chunk : ℕ
   pub heap : MTLHeap
 
+-- the answer to a command
 pub data SessionReply : Type 0 where
   Given : (shown : Shown) → SessionReply
   Done : SessionReply
@@ -34,9 +35,11 @@ pub data SessionReply : Type 0 where
 abbrev pub shown : (t : ℕ) → Piece MTLHeap → Shown
 shown t p = record { memory_type = t; slot = p.slot; offset = p.offset; size = p.size; chunk = non_zero_u64_get p.number; heap = p.block }
 
+-- what is shown, of the value that is handed out
 abbrev pub shown_of : GivenPiece → Shown
 shown_of g = record { memory_type = g.memory_type; slot = g.slot; offset = g.offset; size = g.size; chunk = non_zero_u64_get g.chunk; heap = g.heap }
 
+-- the answer, of the value that is handed out
 abbrev pub reply_of : Reply → SessionReply
 reply_of (answered.Given g) = Given (shown_of g)
 reply_of answered.Done = Done

@@ -79,6 +79,7 @@ abbrev pub ServesAlloc : Properties → (key : ℕ) → Wanted → (name : List 
 ServesAlloc p key wanted name false met reply old new = (reply ≡ Error host_out_of_memory) × Stays met old new
 ServesAlloc p key wanted name true met reply old new = AllocatesBy key name (described p wanted) met reply old new
 
+-- the allocation is freed, and the number stands for nothing
 pub record Frees (key : ℕ) (a : Allocation) (met : Environment MTLHeap) (reply : SessionReply) (old new : SessionState) : Type 0 where
   pub done : reply ≡ Done
   pub step : Step (model.Free a) met answers.Done old.model new.model
@@ -94,6 +95,7 @@ abbrev pub ServesUnbound : Properties → (key : ℕ) → KeyCommand → Command
 ServesUnbound p key (Alloc wanted name) o reply old new = ServesAlloc p key wanted name o.room o.met reply old new
 ServesUnbound p key Free o reply old new = (reply ≡ Unbound) × Stays o.met old new
 
+-- by whether the number stands for an allocation
 abbrev pub ServesAt : Properties → (key : ℕ) → Option Allocation → KeyCommand → CommandEnvironment → SessionReply → SessionState → SessionState → Type 0
 ServesAt p key None command o reply old new = ServesUnbound p key command o reply old new
 ServesAt p key (Some a) command o reply old new = ServesBound key a command o reply old new
@@ -121,6 +123,7 @@ abbrev pub reply_to_heaps : (room : Bool) → List MTLHeap → SessionReply
 reply_to_heaps false heaps = Error host_out_of_memory
 reply_to_heaps true heaps = replies.Heaps heaps
 
+-- the heaps of the live blocks are shown, and nothing else is asked
 pub record ShowsHeaps (o : CommandEnvironment) (reply : SessionReply) (old new : SessionState) : Type 0 where
   pub heaps : List MTLHeap
   pub step : Step model.LiveHeaps o.met (answers.Handles heaps) old.model new.model

@@ -1,4 +1,4 @@
--- Which settings and commands a line of words can say.
+-- Which commands a line of words can say.
 use Rattle.std.proofs.Common.{◌≡◌, ◌≢◌, ℕ, ◌<◌, ◌^◌, List, ◌∷◌, get_or}
 use Rattle.std.specs.Borrow.{Bor}
 use Rattle.std.specs.Fmt.{decimal}
@@ -9,24 +9,6 @@ use Rattle.gpu_metal_session.specs.declared.command.Command.TheVariants.{Alloc, 
 use Rattle.gpu_metal_trace.specs.Command as commands
 use Rattle.gpu_metal_trace.specs.Command.{mode_word, FitsMode}
 use Rattle.gpu_trace_lines.specs.Words.{texts}
-use Rattle.gpu_trace_lines.specs.declared.device.setting.Setting.{Setting}
-use Rattle.gpu_trace_lines.specs.declared.device.setting.Setting.TheVariants.{Heap, MemoryType, Granularity, Sizes, Refuse}
-use Rattle.gpu_trace_lines.specs.Setting.{words}
-use Rattle.gpu_metal_trace.specs.Setting.{IsShared}
-
-pub sizes_shared : (s : Setting) (rest : List (List ℕ)) → codes "sizes" ∷ rest ≡ words s → IsShared s
-sizes_shared (Heap size) rest e = cc
-sizes_shared (MemoryType flags heap) rest e = cc
-sizes_shared (Granularity bytes) rest e = cc
-sizes_shared (Sizes device host max_device max_host) rest e = tt
-sizes_shared (Refuse question refusal) rest e = tt
-
-pub refuse_shared : (s : Setting) (rest : List (List ℕ)) → codes "refuse" ∷ rest ≡ words s → IsShared s
-refuse_shared (Heap size) rest e = cc
-refuse_shared (MemoryType flags heap) rest e = cc
-refuse_shared (Granularity bytes) rest e = cc
-refuse_shared (Sizes device host max_device max_host) rest e = tt
-refuse_shared (Refuse question refusal) rest e = tt
 
 -- four words that aren't a texture's stand in no command for one
 pub no_texture : (arguments : List (Bor (List ℕ))) (d : Bor (List ℕ))

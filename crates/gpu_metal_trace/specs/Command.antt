@@ -9,6 +9,7 @@ use Rattle.gpu_metal_session.specs.declared.command.Command.TheVariants.{Alloc, 
 use Rattle.gpu_trace_lines.specs.Ask.{location_word, budget_word, FitsBudget}
 use Rattle.gpu_trace_lines.specs.Words.{IsName}
 
+-- the word for a storage mode; another than the four is told by its number
 abbrev pub mode_word : StorageMode → List ℕ
 mode_word Shared = codes "shared"
 mode_word Managed = codes "managed"
@@ -16,6 +17,7 @@ mode_word Private = codes "private"
 mode_word Memoryless = codes "memoryless"
 mode_word (Other mode) = codes "other:" ++ decimal mode
 
+-- a command's words
 abbrev pub words : Command → List (List ℕ)
 words (Alloc key size alignment location name) = codes "alloc" ∷ decimal key ∷ decimal size ∷ decimal alignment ∷ location_word location ∷ string_bytes name ∷ []
 words (Buffer key length location name) = codes "buffer" ∷ decimal key ∷ decimal length ∷ location_word location ∷ string_bytes name ∷ []
@@ -29,6 +31,7 @@ words Report = codes "report" ∷ []
 words Capacity = codes "capacity" ∷ []
 words (SetBudget t budget) = codes "budget" ∷ decimal t ∷ budget_word budget ∷ []
 
+-- a mode told by its number has 32 bits
 abbrev pub FitsMode : StorageMode → Type 0
 FitsMode Shared = Unit {0}
 FitsMode Managed = Unit {0}
@@ -36,6 +39,7 @@ FitsMode Private = Unit {0}
 FitsMode Memoryless = Unit {0}
 FitsMode (Other mode) = mode < 2 ^ 32
 
+-- a texture's numbers have 64 bits
 pub record FitsTexture (t : TextureDescriptor) : Type 0 where
   pub mode_fits : FitsMode t.storage_mode
   pub width_fits : t.width < 2 ^ 64

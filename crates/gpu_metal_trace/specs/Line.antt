@@ -12,6 +12,7 @@ use Rattle.gpu_metal_trace.specs.declared.line.Look.{Look}
 use Rattle.gpu_metal_trace.specs.declared.line.Look.TheVariants.{Members, Committed, Asked}
 use Rattle.gpu_metal_trace.specs.declared.setting.Setting.{Setting}
 
+-- the one word of a look
 abbrev pub look_words : Look → List (List ℕ)
 look_words Members = codes "members" ∷ []
 look_words Committed = codes "committed" ∷ []
@@ -53,6 +54,7 @@ pub record IsNothing (line : List ℕ) : Type 0 where
   pub gives : IsBlank line → ⊥
   pub says : IsAscii line → SaysNothing (words_of line)
 
+-- what a line says: nothing, if it is blank; what can't be read; or what its words say
 abbrev pub Means : List ℕ → Line → Type 0
 Means line lines.Blank = IsBlank line
 Means line lines.Bad = IsNothing line

@@ -28,6 +28,7 @@ ListsMembers None reply = reply ≡ NoSet
 ListsMembers (Some heaps) (Members told) = told.items ≡ heaps
 ListsMembers (Some heaps) reply = reply ≡ Refused E10
 
+-- the same of the committed members
 abbrev pub ListsCommitted : Option (List MTLHeap) → Reply → Type 0
 ListsCommitted None reply = reply ≡ NoSet
 ListsCommitted (Some heaps) (Committed told) = told.items ≡ heaps

@@ -8,7 +8,6 @@ use Rattle.gpu_device.specs.declared.metal.types.CpuCacheMode.{CpuCacheMode}
 use Rattle.gpu_device.specs.declared.metal.types.CpuCacheMode.TheVariants.{DefaultCache, WriteCombined}
 use Rattle.gpu_device.specs.declared.metal.types.HeapDescriptor.{HeapDescriptor}
 use Rattle.gpu_device.specs.declared.metal.types.MTLHeap.{MTLHeap}
-use Rattle.gpu_device.specs.declared.metal.types.StorageMode.{StorageMode}
 use Rattle.gpu_metal_session.specs.declared.reply.Given.{Given}
 use Rattle.gpu_metal_session.specs.declared.reply.Reply as told
 use Rattle.gpu_metal_session.specs.declared.reply.Reply.TheVariants as replies
@@ -17,6 +16,7 @@ use Rattle.gpu_metal_trace.specs.Command.{mode_word}
 use Rattle.gpu_metal_trace.specs.declared.reply.Reply.{Reply}
 use Rattle.gpu_metal_trace.specs.declared.reply.Reply.TheVariants.{Made, Refused, Served, Members, Committed, NoSet, Asked, Held}
 
+-- the place of a new allocation, and its heap
 abbrev pub given_text : Given → List ℕ
 given_text g =
     codes "ok type " ++ (decimal g.memory_type ++ (codes " slot " ++ (decimal g.slot ++ (codes " offset " ++ (decimal g.offset ++ (codes " size " ++ (decimal g.size
@@ -30,6 +30,7 @@ heap_line heap = codes "heap " ++ (decimal heap.0 ++ 10 ∷ [])
 abbrev pub heaps_text : List MTLHeap → List ℕ
 heaps_text heaps = flat_map heap_line heaps ++ (codes "heaps " ++ decimal (length heaps))
 
+-- a heap's number behind a space
 abbrev pub number_word : MTLHeap → List ℕ
 number_word heap = codes " " ++ decimal heap.0
 
@@ -37,18 +38,18 @@ number_word heap = codes " " ++ decimal heap.0
 abbrev pub listed_text : List MTLHeap → List ℕ
 listed_text heaps = decimal (length heaps) ++ flat_map number_word heaps
 
-abbrev pub mode_text : StorageMode → List ℕ
-mode_text mode = mode_word mode
-
+-- the word for a cache mode
 abbrev pub cache_text : CpuCacheMode → List ℕ
 cache_text DefaultCache = codes "defaultcache"
 cache_text WriteCombined = codes "writecombined"
 
+-- how many questions came, and of the latest one for a heap its size and modes
 abbrev pub asked_text : (questions : ℕ) → Option (HeapDescriptor × ℕ) → List ℕ
 asked_text questions None = codes "asked " ++ (decimal questions ++ codes " heap none")
 asked_text questions (Some q) =
-    codes "asked " ++ (decimal questions ++ (codes " heap " ++ (decimal q.1 ++ (codes " " ++ (mode_text q.0.storage_mode ++ (codes " " ++ cache_text q.0.cpu_cache_mode))))))
+    codes "asked " ++ (decimal questions ++ (codes " heap " ++ (decimal q.1 ++ (codes " " ++ (mode_word q.0.storage_mode ++ (codes " " ++ cache_text q.0.cpu_cache_mode))))))
 
+-- what a session answered to a command
 abbrev pub served_text : told.Reply → List ℕ
 served_text (replies.Given g) = given_text g
 served_text replies.Done = codes "ok"
@@ -59,6 +60,7 @@ served_text replies.Busy = codes "busy"
 served_text replies.Unbound = codes "unbound"
 served_text (replies.Error e) = codes "error " ++ number_text (number_of e)
 
+-- a reply without the end of its line
 abbrev pub reply_text : Reply → List ℕ
 reply_text Made = codes "ok"
 reply_text (Refused number) = codes "error " ++ number_text number

@@ -1,11 +1,11 @@
 -- What a configuration line of a Metal trace says. Each has one spelling.
 use Rattle.std.specs.Prelude.{◌≡◌, ℕ, List, [], ◌∷◌, Bool, true, false, Option, Some, None, codes}
 use Rattle.gpu_trace_lines.specs.Setting as settings
-use Rattle.gpu_trace_lines.specs.declared.device.setting.Setting as device
-use Rattle.gpu_trace_lines.specs.declared.device.setting.Setting.TheVariants.{Heap, MemoryType, Granularity, Sizes, Refuse}
+use Rattle.gpu_trace_lines.specs.Setting.{IsShared}
 use Rattle.gpu_metal_trace.specs.declared.setting.Setting.{Setting}
 use Rattle.gpu_metal_trace.specs.declared.setting.Setting.TheVariants.{Sets, Residency, Shared}
 
+-- the word for a choice
 abbrev pub yes_word : Bool → List ℕ
 yes_word true = codes "yes"
 yes_word false = codes "no"
@@ -15,13 +15,6 @@ abbrev pub words : Setting → List (List ℕ)
 words (Sets b) = codes "sets" ∷ yes_word b ∷ []
 words (Residency b) = codes "residency" ∷ yes_word b ∷ []
 words (Shared s) = settings.words s
-
-abbrev pub IsShared : device.Setting → Type 0
-IsShared (Heap size) = ⊥
-IsShared (MemoryType flags heap) = ⊥
-IsShared (Granularity bytes) = ⊥
-IsShared (Sizes device host max_device max_host) = Unit {0}
-IsShared (Refuse question refusal) = Unit {0}
 
 -- what its numbers may be
 abbrev pub Fits : Setting → Type 0

@@ -44,6 +44,7 @@ pub record IsNewDevice (c : Configured) (d : SimMetal) : Type 0 where
   pub plan : plan_of d ≡ plan_by c
   pub holds_nothing : held_of d ≡ empty
   pub refused_nothing : refused_of d ≡ 0
+  pub recorded_nothing : history_of d ≡ []
 
 -- a session in which no number stands for anything, over a fresh allocator of that configuration
 pub record IsFresh (c : Configured) (s : SessionValue SimMetal) : Type 0 where
@@ -67,6 +68,7 @@ pub record IsNotBegun (c : Configured) (number : ErrorNumber) : Type 0 where
 
 -- ---- what a line does
 
+-- `new` makes the allocator, or tells the cause for which it isn't made, and then the trace is closed
 abbrev pub Begins : Configured → Outcome Reply → Stage → Type 0
 Begins c (Replied Made) (Running s) = IsFresh c s
 Begins c (Replied (Refused number)) Closed = IsNotBegun c number
@@ -78,14 +80,17 @@ Configures c None Bad new = new ≡ Configuring c
 Configures c (Some d) Nothing new = new ≡ Configuring d
 Configures c _ _ _ = ⊥
 
+-- a command is served by the session, and answered
 abbrev pub Commands : SessionValue SimMetal → Command → Outcome Reply → Stage → Type 0
 Commands s command (Replied (Served reply)) (Running t) = ServesCommand simulated s command reply t
 Commands s command _ _ = ⊥
 
+-- what is looked up is answered, and nothing changes
 abbrev pub Looks : SessionValue SimMetal → Look → Outcome Reply → Stage → Type 0
 Looks s look (Replied reply) new = Shows s look reply × (new ≡ Running s)
 Looks s look _ _ = ⊥
 
+-- how many heaps, where there is a set
 abbrev pub count_of : Option (List MTLHeap) → ℕ
 count_of None = 0
 count_of (Some heaps) = length heaps
@@ -98,6 +103,7 @@ count_in held set = count_of (members_in held set)
 abbrev pub HoldsLeft : SessionValue SimMetal → (left : Held) → (count members : ℕ) → Type 0
 HoldsLeft s left count members = (count ≡ map_len left) × (members ≡ count_in left s.allocator.setup.residency_set)
 
+-- `destroy` tells what the device holds once all blocks went back, and closes the trace
 abbrev pub Ends : SessionValue SimMetal → Outcome Reply → Stage → Type 0
 Ends s (Replied (HoldsNow count members)) Closed =
     HoldsLeft s (left_behind (held_of s.allocator.first) s.allocator.setup.residency_set (residency_of (held_of s.allocator.device) s.allocator.setup.residency_set)) count members
@@ -107,17 +113,20 @@ Ends s _ _ = ⊥
 abbrev pub Stops : Stage → Outcome Reply → Stage → Type 0
 Stops old did new = (did ≡ Bad) × (new ≡ old)
 
+-- in the configuration a setting or `new` may come
 abbrev pub DoesConfiguring : Configured → Line → Outcome Reply → Stage → Type 0
 DoesConfiguring c (lines.Configures s) did new = Configures c (configured_by c s) did new
 DoesConfiguring c lines.New did new = Begins c did new
 DoesConfiguring c _ did new = Stops (Configuring c) did new
 
+-- with the allocator there a command, a look or `destroy` may come
 abbrev pub DoesRunning : SessionValue SimMetal → Line → Outcome Reply → Stage → Type 0
 DoesRunning s (lines.Asks command) did new = Commands s command did new
 DoesRunning s (lines.Looks look) did new = Looks s look did new
 DoesRunning s lines.Destroy did new = Ends s did new
 DoesRunning s _ did new = Stops (Running s) did new
 
+-- what a line does that isn't blank; behind the end none may come
 abbrev pub DoesIn : Stage → Line → Outcome Reply → Stage → Type 0
 DoesIn (Configuring c) l did new = DoesConfiguring c l did new
 DoesIn (Running s) l did new = DoesRunning s l did new
@@ -132,5 +141,6 @@ Does old l did new = DoesIn old l did new
 abbrev pub DoesText : Stage → List ℕ → Outcome Reply → Stage → Type 0
 DoesText old line did new = (l : Line) × Means line l × Does old l did new
 
+-- the stage and the outcome that a call answers are what the line does
 abbrev pub MatchDone : (Outcome Reply → Stage → Type 0) → Stage × Outcome Reply → Type 0
 MatchDone does r = does r.1 r.0

@@ -1,30 +1,19 @@
 //! What a command of a Metal trace says.
 
-ghost use Rattle.std.specs.Prelude.{◌≡◌, ◌≢◌, ℕ, ◌<◌, ◌^◌, ◌∷◌, List, IfOk, MatchOption, codes, string_bytes};
+ghost use Rattle.std.specs.Prelude.{◌≡◌, ◌≢◌, ℕ, ◌<◌, ◌^◌, ◌∷◌, List, IfOk, MatchOption, codes};
 ghost use Rattle.std.specs.Fmt.{decimal};
 ghost use Rattle.gpu_values.specs.declared.memory_location.MemoryLocation.{MemoryLocation};
 ghost use Rattle.gpu_device.specs.declared.metal.types.StorageMode.{StorageMode};
 ghost use Rattle.gpu_trace_lines.specs.Ask.{location_word};
-ghost use Rattle.gpu_trace_lines.specs.Words.{texts, IsName};
+ghost use Rattle.gpu_trace_lines.specs.Words.{texts};
 ghost use Rattle.gpu_metal_trace.specs.Command.{mode_word, FitsMode, Says};
 
 use gpu_device::metal::{StorageMode, TextureDescriptor};
 use gpu_metal_session::Command;
 use gpu_trace_lines::device::ask::{budget_of, location_of};
-use gpu_trace_lines::words::{is_name, number, small_number};
+use gpu_trace_lines::words::{name_of, number, small_number};
 use gpu_values::MemoryLocation;
 use std::alloc::{AllocError, Global};
-
-/// A name, where the word may be one.
-fn name_of(alloc: Global, word: &str) -> Result<Option<String>, AllocError>
-    ensures { IfOk result (λ found. MatchOption found (IsName word.now → ⊥) (λ name. IsName word.now × (string_bytes name ≡ word.now))) }
-{
-    if !is_name(word) {
-        return Ok(None);
-    }
-    let name = word.to_string(alloc)?;
-    Ok(Some(name))
-}
 
 fn mode_of(word: &str) -> Option<StorageMode>
     ensures { MatchOption result ((m : StorageMode) → FitsMode m → word.now ≢ mode_word m) (λ m. FitsMode m × (word.now ≡ mode_word m)) }

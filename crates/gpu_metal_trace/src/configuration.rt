@@ -1,14 +1,15 @@
 //! The configuration of a Metal trace.
 
-ghost use Rattle.std.specs.Prelude.{◌≡◌, IfOk, OnErr, Some, None, true, false};
+ghost use Rattle.std.specs.Prelude.{◌≡◌, [], IfOk, OnErr, Some, None, true, false};
 ghost use Rattle.std.specs.FinMap.{empty};
-ghost use Rattle.gpu_sim_metal.specs.Simulation.{held_of, plan_of, refused_of};
-ghost use Rattle.gpu_metal_trace.specs.Configuration.{sizes_of, nothing_configured, configured_by, plan_by, sizes_by, wants_set};
+ghost use Rattle.gpu_sim_metal.specs.Simulation.{held_of, plan_of, history_of, refused_of};
+ghost use Rattle.gpu_metal_trace.specs.Configuration.{nothing_configured, configured_by, plan_by, sizes_by, wants_set};
 
 use crate::setting::Setting;
 use gpu_sim_base::Refusal;
 use gpu_sim_metal::SimMetal;
 use gpu_trace_lines::device::setting;
+use gpu_trace_lines::device::setting::sizes_of;
 use gpu_values::AllocationSizes;
 use std::alloc::{AllocError, Global};
 use std::marker::Model;
@@ -99,6 +100,7 @@ impl Configuration {
         ensures plan { plan_of result ≡ plan_by self }
         ensures held { held_of result ≡ empty }
         ensures refused { refused_of result ≡ 0 }
+        ensures history { history_of result ≡ [] }
     {
         let Configuration {
             sets,
@@ -108,12 +110,4 @@ impl Configuration {
         } = self;
         SimMetal::new(alloc, sets.unwrap_or(true), refusals)
     }
-}
-
-fn sizes_of(device: u64, host: u64, max_device: u64, max_host: u64) -> AllocationSizes
-    ensures { result ≡ sizes_of device host max_device max_host }
-{
-    AllocationSizes::new(device, host)
-        .with_max_device_memblock_size(max_device)
-        .with_max_host_memblock_size(max_host)
 }

@@ -2,7 +2,8 @@
 
 ghost use Rattle.std.specs.Prelude.{◌≡◌, Some};
 ghost use Rattle.std.specs.Fmt.{DisplaysOnOk};
-ghost use Rattle.gpu_metal_trace.specs.Reply.{given_text, heap_line, heaps_text, number_word, listed_text, mode_text, cache_text, asked_text, served_text};
+ghost use Rattle.gpu_metal_trace.specs.Command.{mode_word};
+ghost use Rattle.gpu_metal_trace.specs.Reply.{given_text, heap_line, heaps_text, number_word, listed_text, cache_text, asked_text, served_text};
 
 use gpu_commands::{ErrorNumber, number_of};
 use gpu_device::metal::{CpuCacheMode, HeapDescriptor, MTLHeap, StorageMode};
@@ -94,7 +95,7 @@ fn write_listed<W: fmt::Write>(heaps: &[MTLHeap], f: &mut fmt::Formatter<W>) -> 
 }
 
 fn write_mode<W: fmt::Write>(mode: StorageMode, f: &mut fmt::Formatter<W>) -> fmt::Result
-    ensures { DisplaysOnOk W.write_str_gives f.old result (Some (mode_text mode)) f.new }
+    ensures { DisplaysOnOk W.write_str_gives f.old result (Some (mode_word mode)) f.new }
 {
     match mode {
         StorageMode::Shared => write!(f, "shared"),

@@ -49,7 +49,7 @@ fn residency(arguments: &[&str]) -> Option<Setting>
     Some(Setting::Residency(yes))
 }
 
-#[tactic(auto, using(crate::proofs::Meaning::sizes_shared))]
+#[tactic(auto, using(gpu_trace_lines::proofs::Settings::sizes_shared))]
 fn sizes(alloc: Global, arguments: &[&str]) -> Result<Option<Setting>, AllocError>
     ensures { IfOk result (λ found. Says (codes "sizes" ∷ texts arguments.now) found) }
 {
@@ -59,7 +59,7 @@ fn sizes(alloc: Global, arguments: &[&str]) -> Result<Option<Setting>, AllocErro
     }
 }
 
-#[tactic(auto, using(crate::proofs::Meaning::refuse_shared))]
+#[tactic(auto, using(gpu_trace_lines::proofs::Settings::refuse_shared))]
 fn refuse(alloc: Global, arguments: &[&str]) -> Result<Option<Setting>, AllocError>
     ensures { IfOk result (λ found. Says (codes "refuse" ∷ texts arguments.now) found) }
 {

@@ -2,6 +2,7 @@
 use Rattle.std.specs.Prelude.{◌≡◌, ◌≢◌, ℕ, ◌==◌, nat_eq, if◌then◌else◌, List, Option, Some, None}
 use Rattle.std.specs.Map.{lookup}
 
+-- what each number stands for, None for nothing
 abbrev pub Bindings : Type 0 → Type 0
 Bindings T = ℕ → Option T
 

@@ -6,4 +6,6 @@ mod numbers;
 #[cfg(test)]
 mod sessions;
 #[cfg(test)]
+mod trace_errors;
+#[cfg(test)]
 mod traces;

@@ -2,10 +2,11 @@
 use Rattle.std.specs.Prelude.{◌≡◌, ℕ, ◌<◌, ◌^◌, List, [], ◌∷◌, Option, Some, None, codes, FitsSigned}
 use Rattle.std.specs.Int.{w32}
 use Rattle.std.specs.Fmt.{decimal, signed_decimal}
+use Rattle.gpu_values.specs.Sizes.{Sizes, only_size, with_largest}
 use Rattle.gpu_sim_base.specs.declared.script.Refusal.{Refusal}
 use Rattle.gpu_sim_base.specs.declared.script.Refusal.TheVariants.{Code, Null}
 use Rattle.gpu_trace_lines.specs.declared.device.setting.Setting.{Setting}
-use Rattle.gpu_trace_lines.specs.declared.device.setting.Setting.TheVariants.{Heap, MemoryType, Granularity, Sizes, Refuse}
+use Rattle.gpu_trace_lines.specs.declared.device.setting.Setting.TheVariants.{Heap, MemoryType, Granularity, Sizes as BlockSizes, Refuse}
 
 abbrev pub refusal_word : Refusal → List ℕ
 refusal_word (Code code) = signed_decimal code
@@ -15,7 +16,7 @@ abbrev pub words : Setting → List (List ℕ)
 words (Heap size) = codes "heap" ∷ decimal size ∷ []
 words (MemoryType flags heap) = codes "type" ∷ decimal flags ∷ decimal heap ∷ []
 words (Granularity bytes) = codes "granularity" ∷ decimal bytes ∷ []
-words (Sizes device host max_device max_host) = codes "sizes" ∷ decimal device ∷ decimal host ∷ decimal max_device ∷ decimal max_host ∷ []
+words (BlockSizes device host max_device max_host) = codes "sizes" ∷ decimal device ∷ decimal host ∷ decimal max_device ∷ decimal max_host ∷ []
 words (Refuse question refusal) = codes "refuse" ∷ decimal question ∷ refusal_word refusal ∷ []
 
 abbrev pub FitsRefusal : Refusal → Type 0
@@ -27,7 +28,7 @@ abbrev pub Fits : Setting → Type 0
 Fits (Heap size) = size < 2 ^ 64
 Fits (MemoryType flags heap) = (flags < 2 ^ 32) × (heap < 2 ^ 32)
 Fits (Granularity bytes) = bytes < 2 ^ 64
-Fits (Sizes device host max_device max_host) = (device < 2 ^ 64) × (host < 2 ^ 64) × (max_device < 2 ^ 64) × (max_host < 2 ^ 64)
+Fits (BlockSizes device host max_device max_host) = (device < 2 ^ 64) × (host < 2 ^ 64) × (max_device < 2 ^ 64) × (max_host < 2 ^ 64)
 Fits (Refuse question refusal) = (0 < question) × (question < 2 ^ 64) × FitsRefusal refusal
 
 -- these words are the setting's
@@ -39,3 +40,15 @@ pub record Spells (line : List (List ℕ)) (s : Setting) : Type 0 where
 abbrev pub Says : List (List ℕ) → Option Setting → Type 0
 Says line (Some s) = Spells line s
 Says line None = (s : Setting) → Spells line s → ⊥
+
+-- the sizes of blocks that a line stands for: on each side they begin at one size and double up to another
+abbrev pub sizes_of : (device host max_device max_host : ℕ) → Sizes
+sizes_of device host max_device max_host = record { device = with_largest (only_size device) max_device; host = with_largest (only_size host) max_host }
+
+-- block sizes and refusals are lines of each sort of traces over a device
+abbrev pub IsShared : Setting → Type 0
+IsShared (Heap size) = ⊥
+IsShared (MemoryType flags heap) = ⊥
+IsShared (Granularity bytes) = ⊥
+IsShared (BlockSizes device host max_device max_host) = Unit {0}
+IsShared (Refuse question refusal) = Unit {0}

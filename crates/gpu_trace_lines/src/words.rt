@@ -1,6 +1,6 @@
 //! The words that commands are made of.
 
-ghost use Rattle.std.specs.Prelude.{◌≡◌, ◌≢◌, ℕ, ◌<◌, ◌^◌, ◌↔◌, length, slice_index, IsTrue, MatchOption, IfOk, ℤ, FitsSigned};
+ghost use Rattle.std.specs.Prelude.{◌≡◌, ◌≢◌, ℕ, ◌<◌, ◌^◌, ◌↔◌, length, slice_index, IsTrue, MatchOption, IfOk, ℤ, FitsSigned, string_bytes};
 ghost use Rattle.std.specs.Int.{w32};
 ghost use Rattle.std.specs.Fmt.{decimal, signed_decimal};
 ghost use Rattle.gpu_trace_lines.specs.Words.{texts, words_of, IsName};
@@ -67,8 +67,19 @@ fn has_leading_zero(digits: &[u8]) -> bool
 }
 
 /// Whether a word may be a name: 1 to 64 printable characters.
-pub fn is_name(word: &str) -> bool
+fn is_name(word: &str) -> bool
     ensures { IsTrue result ↔ IsName word.now }
 {
     !word.is_empty() && word.len() <= 64 && word.as_bytes().iter().all(|b| 0x21 <= *b && *b <= 0x7e)
+}
+
+/// A name, where the word may be one.
+pub fn name_of(alloc: Global, word: &str) -> Result<Option<String>, AllocError>
+    ensures { IfOk result (λ found. MatchOption found (IsName word.now → ⊥) (λ name. IsName word.now × (string_bytes name ≡ word.now))) }
+{
+    if !is_name(word) {
+        return Ok(None);
+    }
+    let name = word.to_string(alloc)?;
+    Ok(Some(name))
 }

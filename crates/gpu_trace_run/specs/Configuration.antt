@@ -1,7 +1,7 @@
 -- The configuration of a device trace: the simulated device and the block sizes that its lines describe.
 use Rattle.std.specs.Prelude.{ℕ, ◌-◌, ◌^◌, List, [], ◌∷◌, ◌++◌, Option, Some, None}
 use Rattle.std.specs.Option.{unwrap_or}
-use Rattle.gpu_values.specs.Sizes.{Sizes, default_sizes, only_size, with_largest}
+use Rattle.gpu_values.specs.Sizes.{Sizes, default_sizes}
 use Rattle.gpu_device.specs.Properties.{Properties}
 use Rattle.gpu_device.specs.declared.vulkan.types.MemoryHeap.{MemoryHeap}
 use Rattle.gpu_device.specs.declared.vulkan.types.MemoryTypeInfo.{MemoryTypeInfo}
@@ -9,6 +9,7 @@ use Rattle.gpu_sim.specs.Plan.{Plan}
 use Rattle.gpu_sim_base.specs.declared.script.Refusal.{Refusal}
 use Rattle.gpu_trace_lines.specs.declared.device.setting.Setting.{Setting}
 use Rattle.gpu_trace_lines.specs.declared.device.setting.Setting.TheVariants.{Heap, MemoryType, Granularity, Sizes as BlockSizes, Refuse}
+use Rattle.gpu_trace_lines.specs.Setting.{sizes_of}
 
 pub record Configured : Type 0 where
   pub heaps : List MemoryHeap
@@ -20,9 +21,6 @@ pub record Configured : Type 0 where
 
 abbrev pub nothing_configured : Configured
 nothing_configured = record { heaps = []; types = []; granularity = None; sizes = None; refusals = [] }
-
-abbrev pub sizes_of : (device host max_device max_host : ℕ) → Sizes
-sizes_of device host max_device max_host = record { device = with_largest (only_size device) max_device; host = with_largest (only_size host) max_host }
 
 -- a page size and block sizes are set once
 abbrev pub with_granularity : Configured → Option ℕ → ℕ → Option Configured

@@ -1,12 +1,9 @@
 //! The configuration of a device trace.
 
-ghost use Rattle.std.specs.Prelude.{◌≡◌};
-ghost use Rattle.gpu_trace_run.specs.Configuration.{sizes_of};
-
 use gpu_device::vulkan::{MemoryHeap, MemoryPropertyFlags, MemoryTypeInfo};
 use gpu_sim::SimVulkan;
 use gpu_sim_base::Refusal;
-use gpu_trace_lines::device::setting::Setting;
+use gpu_trace_lines::device::setting::{Setting, sizes_of};
 use gpu_values::AllocationSizes;
 use std::alloc::{AllocError, Global};
 use std::marker::Model;
@@ -33,14 +30,6 @@ impl Model for Configuration {
       sizes = c.sizes;
       refusals = c.refusals.items;
     } };
-}
-
-fn sizes_of(device: u64, host: u64, max_device: u64, max_host: u64) -> AllocationSizes
-    ensures { result ≡ sizes_of device host max_device max_host }
-{
-    AllocationSizes::new(device, host)
-        .with_max_device_memblock_size(max_device)
-        .with_max_host_memblock_size(max_host)
 }
 
 impl Configuration {

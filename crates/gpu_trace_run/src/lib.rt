@@ -1,4 +1,4 @@
-// The run of a whole trace: how far a trace has come, what a line does, and from the bytes in to the bytes out.
+// Block traces and device traces: how far such a trace has come, what a line does, and the stage that a whole one leaves.
 #![tactic(auto)]
 
 mod block_stage;
@@ -10,5 +10,4 @@ mod stage;
 pub use block_stage::BlockStage;
 pub use configuration::Configuration;
 pub use replay::{Replayed, replay_trace};
-pub use run::run_trace;
 pub use stage::Stage;

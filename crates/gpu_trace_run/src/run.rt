@@ -1,10 +1,7 @@
-//! The run of a block or device trace.
+//! A block or device trace, as the run of a trace of any sort sees it.
 
-ghost use Rattle.std.specs.Prelude.{◌≡◌, ◌≤◌, ℕ, Some, None, IfOk, IfSome};
-ghost use Rattle.gpu_trace_lines.specs.Reply.{reply_line};
+ghost use Rattle.std.specs.Prelude.{IfOk};
 ghost use Rattle.gpu_trace_run.specs.Run.{Serves};
-ghost use Rattle.gpu_trace_run.specs.declared.stage.Stage.TheVariants.{Before};
-ghost use Rattle.gpu_trace_text.specs.Run.{Answers};
 
 use crate::stage::Stage;
 use gpu_trace_lines::{Reply, read};
@@ -12,7 +9,7 @@ use gpu_trace_text::{Outcome, Trace};
 use log::Log;
 use std::alloc::{AllocError, Global};
 use std::io;
-use std::io::{Read, Write};
+use std::io::Write;
 
 /// Reads a line and serves what it says.
 pub(crate) fn serve<L: Log>(
@@ -58,23 +55,4 @@ impl Trace for Stage {
     fn end<L: Log>(self, log: &L) {
         let _ = Stage::end(self, log);
     }
-}
-
-/// Reads a block or device trace, runs it and writes its replies, a line each: what each line means and what is answered stands
-/// in docs/TRACE.md. Answers the exit status: 0 where each line was read; 2 where one could not be, and then `bad line N` is
-/// written behind the earlier replies; 1 where a read or a write failed, or memory for the trace itself was refused. Replies are
-/// written one by one and flushed at the end, so hand in a writer with a buffer.
-pub fn run_trace<R: Read, W: Write, L: Log>(
-    log: &L,
-    alloc: Global,
-    reader: &mut R,
-    writer: &mut W,
-) -> u8
-    ensures status { result ≤ 2 }
-    ensures whole { result ≡ 0 → IfSome (R.remaining reader.old) (λ input.
-        Answers Serves reply_line Before input (W.contents writer.old) (W.contents writer.new) None) }
-    ensures bad { result ≡ 2 → IfSome (R.remaining reader.old) (λ input. (n : ℕ) ×
-        Answers Serves reply_line Before input (W.contents writer.old) (W.contents writer.new) (Some n)) }
-{
-    gpu_trace_text::run_trace(log, alloc, Stage::Before, reader, writer)
 }

@@ -3,11 +3,11 @@
 ghost use Rattle.std.specs.Prelude.{◌≡◌, ◌≤◌, ℕ, Some, None, IfOk, IfSome};
 ghost use Rattle.gpu_trace_run.specs.declared.stage.Stage.TheVariants as stages;
 ghost use Rattle.gpu_trace_text.specs.Run.{Answers};
-ghost use Rattle.gpu_trace_sorts.specs.Any.{Does, DidVulkan, DidMetal, MatchDone, reply_line};
+ghost use Rattle.gpu_trace_sorts.specs.Any.{Does, DidVulkan, DidMetal, DidD3D12, MatchDone, reply_line};
 ghost use Rattle.gpu_trace_sorts.specs.declared.any.AnyTrace.TheVariants.{Vulkan};
 
+use gpu_d3d12_trace as d3d12;
 use gpu_metal_trace as metal;
-use gpu_metal_trace::Configuration;
 use gpu_trace_run::Stage;
 use gpu_trace_text::{Outcome, Trace};
 use log::Log;
@@ -21,6 +21,8 @@ pub enum AnyTrace {
     Vulkan(Stage),
     /// A Metal trace.
     Metal(metal::Stage),
+    /// A DirectX 12 trace.
+    D3D12(d3d12::Stage),
 }
 
 /// The answer to a line of a trace of any sort.
@@ -28,6 +30,7 @@ pub enum AnyTrace {
 pub enum AnyReply {
     Vulkan(gpu_trace_lines::Reply),
     Metal(metal::Reply),
+    D3D12(d3d12::Reply),
 }
 
 /// Serves a line of a block trace or a device trace.
@@ -66,6 +69,24 @@ fn serve_metal<L: Log>(
     Ok((AnyTrace::Metal(stage), outcome))
 }
 
+/// Serves a line of a DirectX 12 trace.
+fn serve_d3d12<L: Log>(
+    log: &L,
+    alloc: Global,
+    stage: d3d12::Stage,
+    line: &[u8],
+) -> Result<(AnyTrace, Outcome<AnyReply>), AllocError>
+    ensures { IfOk result (MatchDone (DidD3D12 stage line.now)) }
+{
+    let (stage, outcome) = stage.serve(log, alloc, line)?;
+    let outcome = match outcome {
+        Outcome::Nothing => Outcome::Nothing,
+        Outcome::Replied(reply) => Outcome::Replied(AnyReply::D3D12(reply)),
+        Outcome::Bad => Outcome::Bad,
+    };
+    Ok((AnyTrace::D3D12(stage), outcome))
+}
+
 impl Trace for AnyTrace {
     ghost use Rattle.gpu_trace_sorts.specs.Any.{Does, reply_line};
 
@@ -83,11 +104,16 @@ impl Trace for AnyTrace {
     ) -> Result<(Self, Outcome<AnyReply>), AllocError> {
         match self {
             AnyTrace::Metal(stage) => serve_metal(log, alloc, stage, line),
+            AnyTrace::D3D12(stage) => serve_d3d12(log, alloc, stage, line),
             AnyTrace::Vulkan(stage) => match stage {
                 Stage::Before => match line {
                     [b'm', b'e', b't', b'a', b'l'] => {
-                        let start = metal::Stage::Configuring(Configuration::new(alloc));
+                        let start = metal::Stage::Configuring(metal::Configuration::new(alloc));
                         Ok((AnyTrace::Metal(start), Outcome::Nothing))
+                    }
+                    [b'd', b'3', b'd', b'1', b'2'] => {
+                        let start = d3d12::Stage::Configuring(d3d12::Configuration::new(alloc));
+                        Ok((AnyTrace::D3D12(start), Outcome::Nothing))
                     }
                     _ => serve_vulkan(log, alloc, Stage::Before, line),
                 },
@@ -103,6 +129,7 @@ impl Trace for AnyTrace {
         match reply {
             AnyReply::Vulkan(reply) => Stage::write(reply, writer),
             AnyReply::Metal(reply) => metal::Stage::write(reply, writer),
+            AnyReply::D3D12(reply) => d3d12::Stage::write(reply, writer),
         }
     }
 
@@ -110,6 +137,7 @@ impl Trace for AnyTrace {
         match self {
             AnyTrace::Vulkan(stage) => Trace::end(stage, log),
             AnyTrace::Metal(stage) => stage.end(log),
+            AnyTrace::D3D12(stage) => stage.end(log),
         }
     }
 }

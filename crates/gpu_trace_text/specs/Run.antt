@@ -6,6 +6,7 @@ use Rattle.std.specs.Io.KnownBytes.{Appends}
 use Rattle.gpu_trace_text.specs.declared.outcome.Outcome.{Outcome}
 use Rattle.gpu_trace_text.specs.declared.outcome.Outcome.TheVariants.{Nothing, Replied, Bad}
 
+-- the line stops the trace
 abbrev pub is_bad : {R : Type 0} → Outcome R → Bool
 is_bad Nothing = false
 is_bad (Replied r) = false
@@ -33,6 +34,7 @@ lines_of text = slice_split (λ b. b == 10) text
 abbrev pub longest_trace : ℕ
 longest_trace = 1048576
 
+-- what is written for the bad line of that number, where there is one
 abbrev pub bad_text : Option ℕ → List ℕ
 bad_text None = []
 bad_text (Some n) = codes "bad line " ++ (decimal n ++ 10 ∷ [])

@@ -7,7 +7,7 @@ ghost use Rattle.gpu_commands.specs.declared.block.command.Side.{Side};
 ghost use Rattle.gpu_commands.specs.declared.block.command.Kind.{Kind};
 ghost use Rattle.gpu_trace_lines.specs.BlockCommand.{IsPowerOfTwo, side_word, kind_word, Says};
 
-use crate::words::{is_name, number};
+use crate::words::{name_of, number};
 use gpu_commands::block::{Command, Kind, Side};
 use std::alloc::{AllocError, Global};
 
@@ -83,10 +83,9 @@ fn take(alloc: Global, arguments: &[&str]) -> Result<Option<Command>, AllocError
     let Some(kind) = kind_of(kind) else {
         return Ok(None);
     };
-    if !is_name(name) {
+    let Some(name) = name_of(alloc, name)? else {
         return Ok(None);
-    }
-    let name = name.to_string(alloc)?;
+    };
     Ok(Some(Command::Take {
         key,
         size,

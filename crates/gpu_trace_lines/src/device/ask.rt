@@ -9,7 +9,7 @@ ghost use Rattle.gpu_trace_lines.specs.Words.{texts};
 ghost use Rattle.gpu_trace_lines.specs.Ask.{location_word, linear_word, scheme_word, budget_word, FitsScheme, FitsBudget, IsLength, IsPayload, Says};
 
 use crate::hex;
-use crate::words::{is_name, number, small_number};
+use crate::words::{name_of, number, small_number};
 use gpu_commands::vulkan::Command;
 use gpu_device::vulkan::{AllocationScheme, Buffer, Image, MemoryRequirements};
 use gpu_values::MemoryLocation;
@@ -90,10 +90,9 @@ fn request_of(
     let Some(scheme) = scheme_of(scheme) else {
         return Ok(None);
     };
-    if !is_name(name) {
+    let Some(name) = name_of(alloc, name)? else {
         return Ok(None);
-    }
-    let name = name.to_string(alloc)?;
+    };
     Ok(Some(Command::Alloc {
         key,
         requirements,
@@ -148,10 +147,9 @@ fn rename(alloc: Global, arguments: &[&str]) -> Result<Option<Command>, AllocErr
     let Some(key) = number(key) else {
         return Ok(None);
     };
-    if !is_name(name) {
+    let Some(name) = name_of(alloc, name)? else {
         return Ok(None);
-    }
-    let name = name.to_string(alloc)?;
+    };
     Ok(Some(Command::Rename { key, name }))
 }
 

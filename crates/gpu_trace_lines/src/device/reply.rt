@@ -138,7 +138,8 @@ fn write_leak<W: fmt::Write>(text: &str, f: &mut fmt::Formatter<W>) -> fmt::Resu
     writeln!(f, "{text}")
 }
 
-fn write_leaks<W: fmt::Write>(texts: &[String], f: &mut fmt::Formatter<W>) -> fmt::Result
+/// The texts of leaks, each with a line end, and their count.
+pub fn write_leaks<W: fmt::Write>(texts: &[String], f: &mut fmt::Formatter<W>) -> fmt::Result
     ensures { DisplaysOnOk W.write_str_gives f.old result (Some (leaks_text (map string_bytes texts.now))) f.new }
 {
     for text in texts {

@@ -4,10 +4,11 @@ ghost use Rattle.std.specs.Prelude.{◌≡◌, ◌≢◌, ℕ, ◌<◌, ◌^◌,
 ghost use Rattle.std.specs.Fmt.{decimal};
 ghost use Rattle.gpu_sim_base.specs.declared.script.Refusal.{Refusal};
 ghost use Rattle.gpu_trace_lines.specs.Words.{texts};
-ghost use Rattle.gpu_trace_lines.specs.Setting.{refusal_word, FitsRefusal, Says};
+ghost use Rattle.gpu_trace_lines.specs.Setting.{refusal_word, FitsRefusal, Says, sizes_of};
 
 use crate::words::{code, number, small_number};
 use gpu_sim_base::Refusal;
+use gpu_values::AllocationSizes;
 use std::alloc::{AllocError, Global};
 
 /// A configuration line of a device trace. Sizes are bytes.
@@ -143,4 +144,13 @@ pub fn setting_of(
         "refuse" => refuse(alloc, arguments),
         _ => Ok(None),
     }
+}
+
+/// The sizes of blocks that the numbers of a `sizes` line stand for.
+pub fn sizes_of(device: u64, host: u64, max_device: u64, max_host: u64) -> AllocationSizes
+    ensures { result ≡ sizes_of device host max_device max_host }
+{
+    AllocationSizes::new(device, host)
+        .with_max_device_memblock_size(max_device)
+        .with_max_host_memblock_size(max_host)
 }

@@ -1,0 +1,15 @@
+use Rattle.std.proofs.Common.{◌≡◌, ◌==◌, ◌∙◌, ap}
+use Rattle.std.specs.List.{slice_split}
+use Rattle.gpu_trace_lines.specs.Words.{texts}
+use Rattle.gpu_d3d12_trace.proofs.Parts.{all_spelled, not_spelled}
+use Rattle.gpu_d3d12_trace.proofs.numbers.numbers_of.Goals as goal
+
+pub returns-in_default : goal.returns-in_default
+returns-in_default c =
+    let are : texts c.deref-part-items.result.now ≡ slice_split (λ b. b == c.args.separator) c.args.word.now = ap texts c.deref-part-items.ensures.value ∙ c.in_ok-parts.ensures in
+    not_spelled c.args.separator c.args.word.now c.deref-part-items.result.now c.loop-part.part-index _ are c.requires c.loop-part-test.true c.in_default.ensures
+
+pub returns : goal.returns
+returns c =
+    let are : texts c.deref-part-items.result.now ≡ slice_split (λ b. b == c.args.separator) c.args.word.now = ap texts c.deref-part-items.ensures.value ∙ c.in_ok-parts.ensures in
+    all_spelled c.args.separator c.args.word.now c.deref-part-items.result.now c.loop-part.part-index c.loop-part.numbers.items are c.loop-part-test.false c.loop-part.invariant.spelled c.loop-part.invariant.small
