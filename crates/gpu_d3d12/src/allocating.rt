@@ -3,7 +3,8 @@
 ghost use Rattle.std.specs.Prelude.{◌≡◌, ◌%◌, IfOk};
 ghost use Rattle.gpu_d3d12.specs.Setup.{kinds_told};
 ghost use Rattle.gpu_d3d12.specs.Allocate.{is_valid, AllocatesBy};
-ghost use Rattle.gpu_d3d12.specs.Live.{IsNewlyLive, StayLive};
+ghost use Rattle.gpu_pool.specs.Allocation.{IsNewlyLive, StayLive};
+ghost use Rattle.gpu_d3d12.specs.Blocks.{is_same_heap};
 
 use crate::source::D3D12Blocks;
 use crate::{Allocation, AllocationCreateDesc, request_of, type_for};
@@ -23,8 +24,8 @@ pub fn allocate_piece<D: D3D12Device>(
     ensures kinds { kinds_told pool.new.source.tier ≡ kinds_told pool.old.source.tier }
     ensures journal { pool.new.source.journal ≡ pool.old.source.journal }
     ensures aligned { IfOk result (λ a. a.offset % desc.now.alignment ≡ 0) }
-    ensures keeps { StayLive pool.old.slots pool.new.slots }
-    ensures live { IfOk result (λ a. IsNewlyLive pool.old.slots pool.new.slots a) }
+    ensures keeps { StayLive is_same_heap pool.old.slots pool.new.slots }
+    ensures live { IfOk result (λ a. IsNewlyLive is_same_heap pool.old.slots pool.new.slots a) }
 {
     if desc.size == 0 || !desc.alignment.is_power_of_two() {
         return Err(AllocationError::InvalidAllocationCreateDesc);

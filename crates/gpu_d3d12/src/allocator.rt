@@ -1,20 +1,17 @@
 //! The allocator: blocks of heaps by memory type, and the calls that share them out.
 
-ghost use Rattle.std.specs.Prelude.{◌≡◌, ◌↔◌, ◌%◌, [], All, None, Ok, IfOk, IfErr, IsTrue, length, map, string_bytes, ◌<◌, IsOk};
+ghost use Rattle.std.specs.Prelude.{◌≡◌, ◌↔◌, ◌%◌, [], All, None, Ok, IfOk, IfErr, IsTrue, length, ◌<◌};
 ghost use Rattle.std.specs.Option.{unwrap_or};
 ghost use Rattle.std.specs.FinMap.{get};
-ghost use Rattle.gpu_values.specs.Refusal.{refusal_of, refusal_in, host_out_of_memory};
-ghost use Rattle.gpu_values.specs.Report.{report_of};
+ghost use Rattle.gpu_values.specs.Refusal.{refusal_of, host_out_of_memory};
 ghost use Rattle.gpu_values.specs.declared.error.AllocationError.TheVariants.{HostOutOfMemory};
-ghost use Rattle.gpu_block_views.specs.Leak.{leak_text};
 ghost use Rattle.gpu_memory_types.specs.Blocks.{total_capacity, BlocksWellFormed};
-ghost use Rattle.gpu_memory_types.specs.Budgets.{budget_at, budgets, SetsBudget};
-ghost use Rattle.gpu_memory_types.specs.Leaks.{all_leaks};
-ghost use Rattle.gpu_memory_types.specs.Reports.{whole_report};
+ghost use Rattle.gpu_memory_types.specs.Budgets.{budget_at, budgets};
 ghost use Rattle.gpu_memory_types.specs.Types.{slots_of, kinds};
 ghost use Rattle.gpu_d3d12.specs.DeviceVersion.{device_of, with_device};
 ghost use Rattle.gpu_d3d12.specs.MemoryKinds.{memory_kinds};
 ghost use Rattle.gpu_d3d12.specs.Setup.{kinds_told, setup_fault};
+ghost use Rattle.gpu_pool.specs.Told.{Reports, SetsBudgetAt, TextsLeaks};
 ghost use Rattle.gpu_pool.specs.Reply as replies;
 ghost use Rattle.gpu_pool.specs.Handles.{all_handles};
 ghost use Rattle.gpu_d3d12.specs.Allocate.{Allocates};
@@ -23,8 +20,8 @@ ghost use Rattle.gpu_d3d12.specs.Blocks.{HoldsJustLiveBlocks, AsksNothing, relea
 ghost use Rattle.gpu_d3d12.specs.Committed.{statistics_at};
 ghost use Rattle.gpu_d3d12.specs.Free.{Frees};
 ghost use Rattle.gpu_d3d12.specs.Journal.{IsFirstAndOut, with_made, with_released};
-ghost use Rattle.gpu_pool.specs.Allocation.{AreDistinct, RenamesNamed};
-ghost use Rattle.gpu_d3d12.specs.Live.{Allocation, IsLive, IsNewlyLive, StayLive};
+ghost use Rattle.gpu_pool.specs.Allocation.{AreDistinct, IsNewlyLive, RenamesNamed, StayLive};
+ghost use Rattle.gpu_d3d12.specs.Live.{Allocation, IsLive};
 ghost use Rattle.gpu_d3d12.specs.Reply as module_replies;
 ghost use Rattle.gpu_d3d12.specs.Resource.{number_given, BeginsAligned, IsBeside, IsLivePlaced, IsNewIn, LiesInHeap};
 ghost use Rattle.gpu_d3d12.specs.State.{basis_of, beside_of, pool_of};
@@ -127,8 +124,8 @@ impl<D: D3D12Device> Allocator<D> {
         ensures journal { self.new.journal ≡ self.old.journal }
         ensures step { IsAllocateStep D.D3D12Device desc.now result self.old self.new }
         ensures aligned { IfOk result (λ a. a.offset % desc.now.alignment ≡ 0) }
-        ensures keeps { StayLive self.old.slots self.new.slots }
-        ensures gives { IfOk result (λ a. IsNewlyLive self.old.slots self.new.slots a) }
+        ensures keeps { StayLive is_same_heap self.old.slots self.new.slots }
+        ensures gives { IfOk result (λ a. IsNewlyLive is_same_heap self.old.slots self.new.slots a) }
     {
         log_allocate(log, self.debug, desc);
         allocate_piece(self.alloc, &mut self.pool, desc)
@@ -217,8 +214,7 @@ impl<D: D3D12Device> Allocator<D> {
     /// refused with `BudgetExceeded`. Committed resources don't count. `None` takes the bound away; a budget below the present
     /// sum gives no block back. `Internal` where there is no such memory type, and then nothing changes. It takes no memory.
     pub fn set_budget(&mut self, memory_type: usize, budget: Option<u64>) -> Result<()>
-        ensures budgets { SetsBudget memory_type budget self.old.budgets (refusal_in result) self.new.budgets }
-        ensures found { memory_type < length self.old.slots → IsOk result }
+        ensures budgets { SetsBudgetAt self.old.slots memory_type budget self.old.budgets result self.new.budgets }
         ensures others { self.new ≡ record self.old { budgets = self.new.budgets } }
         ensures step { IsStep D.D3D12Device (SetBudget memory_type budget) (done_as result) self.old self.new }
     {
@@ -256,7 +252,7 @@ impl<D: D3D12Device> Allocator<D> {
         // by which question it is made, or why by none; where the device refuses a placed one, its piece goes as by `free`
         ensures step { IsCreateStep D.D3D12Device desc.now result self.old self.new }
         ensures constant { (self.new.first ≡ self.old.first) × (self.new.setup ≡ self.old.setup) }
-        ensures keeps { StayLive self.old.slots self.new.slots }
+        ensures keeps { StayLive is_same_heap self.old.slots self.new.slots }
         ensures gives { IfOk result (λ r. IsNewIn self.old.slots self.new.slots r.allocation) }
         // under this number the device held neither a resource nor a heap of others
         ensures fresh { IfOk result (λ r. get (beside_of D.D3D12Device self.old) r.resource.0 ≡ None) }
@@ -319,7 +315,7 @@ impl<D: D3D12Device> Allocator<D> {
     pub fn rename_allocation(&mut self, allocation: &mut Allocation, name: &str) -> Result<()>
         ensures renames { RenamesNamed is_same_heap allocation.old name.now (pool_of self.old) result allocation.new (pool_of self.new) }
         ensures step { IsStep D.D3D12Device (Rename allocation.old name.now) (done_as result) self.old self.new }
-        ensures live { StayLive self.old.slots self.new.slots }
+        ensures live { StayLive is_same_heap self.old.slots self.new.slots }
         ensures constant { (self.new.device ≡ self.old.device) × (self.new.first ≡ self.old.first) × (self.new.setup ≡ self.old.setup) }
         ensures journal { self.new.journal ≡ self.old.journal }
     {
@@ -330,9 +326,7 @@ impl<D: D3D12Device> Allocator<D> {
     /// The only refusal is `HostOutOfMemory`.
     pub fn generate_report(&self) -> Result<AllocatorReport>
         ensures step { IsStep D.D3D12Device Report (shown_as result) self.now self.now }
-        ensures report { IfOk result (λ r. report_of r ≡ whole_report self.now.slots) }
-        ensures capacity { IfOk result (λ r. r.total_capacity_bytes ≡ total_capacity self.now.slots) }
-        ensures cause { IfErr result (λ e. e ≡ HostOutOfMemory) }
+        ensures reports { Reports self.now.slots result }
     {
         self.pool.report(self.alloc)
     }
@@ -341,8 +335,7 @@ impl<D: D3D12Device> Allocator<D> {
     /// `HostOutOfMemory`.
     pub fn leak_texts(&self) -> Result<Vec<String>>
         ensures step { IsStep D.D3D12Device Leaks (leaked_as result) self.now self.now }
-        ensures texts { IfOk result (λ v. map string_bytes v.items ≡ map leak_text (all_leaks self.now.slots)) }
-        ensures cause { IfErr result (λ e. e ≡ HostOutOfMemory) }
+        ensures texts { TextsLeaks self.now.slots result }
     {
         self.pool.leak_texts(self.alloc)
     }

@@ -1,10 +1,10 @@
 //! Making resources: what is given for the device's, in a piece of a heap or in memory of its own.
 
-ghost use Rattle.std.specs.Prelude.{◌≡◌, ◌≤◌, None, IfOk, length};
-ghost use Rattle.gpu_d3d12.specs.MemoryKinds.{memory_kinds, IsFirstServing};
+ghost use Rattle.std.specs.Prelude.{◌≡◌, None, IfOk, length};
 ghost use Rattle.gpu_d3d12.specs.Setup.{kinds_told};
 ghost use Rattle.gpu_d3d12.specs.Journal.{with_made};
-ghost use Rattle.gpu_d3d12.specs.Live.{StayLive};
+ghost use Rattle.gpu_pool.specs.Allocation.{StayLive};
+ghost use Rattle.gpu_d3d12.specs.Blocks.{is_same_heap};
 ghost use Rattle.gpu_d3d12.specs.Over.{IsCommittedOver, IsPlacedOver};
 ghost use Rattle.gpu_d3d12.specs.Resource.{number_given, piece_desc, IsMade, IsPlacedIn, IsNewIn, BeginsAligned};
 ghost use Rattle.gpu_d3d12.specs.State.{source_basis};
@@ -112,7 +112,7 @@ pub fn make_placed<D: D3D12Device, L: Log>(
     ensures made { IsPlacedOver D.D3D12Device desc.now question pool.old result pool.new }
     ensures kinds { kinds_told pool.new.source.tier ≡ kinds_told pool.old.source.tier }
     ensures journal { pool.new.source.journal ≡ with_made (number_given result) pool.old.source.journal }
-    ensures keeps { StayLive pool.old.slots pool.new.slots }
+    ensures keeps { StayLive is_same_heap pool.old.slots pool.new.slots }
     ensures gives { IfOk result (λ r. IsNewIn pool.old.slots pool.new.slots r.allocation) }
     ensures aligned { IfOk result (λ r. BeginsAligned (info_of (source_basis D.D3D12Device pool.old.source) desc.now).alignment r.allocation) }
 {

@@ -1,6 +1,6 @@
 //! A DirectX 12 device as a source of blocks: heaps, beside the resources that are made.
 
-ghost use Rattle.std.specs.Prelude.{◌≡◌, ℕ, [], Some, None};
+ghost use Rattle.std.specs.Prelude.{◌≡◌, ℕ, [], None};
 ghost use Rattle.gpu_d3d12.specs.Journal.{HoldsResources, IsFirstAndOut, with_made, number_in};
 ghost use Rattle.gpu_device.specs.D3D12.{Committed, Placed};
 ghost use Rattle.gpu_device.specs.declared.d3d12.event.ResourcePlace.TheVariants.{Own, InHeap};

@@ -5,8 +5,9 @@ use Rattle.std.specs.FinMap.{get}
 use Rattle.std.proofs.lemmas.Bool.{cases_eq}
 use Rattle.gpu_d3d12.specs.Blocks.{Slots}
 use Rattle.gpu_d3d12.specs.Committed.{Committed, records_at}
-use Rattle.gpu_pool.specs.Allocation.{AreDistinct}
-use Rattle.gpu_d3d12.specs.Live.{Allocation, IsLive, StayLive}
+use Rattle.gpu_pool.specs.Allocation.{AreDistinct, StayLive}
+use Rattle.gpu_d3d12.specs.Live.{Allocation, IsLive}
+use Rattle.gpu_d3d12.specs.Blocks.{is_same_heap}
 use Rattle.gpu_d3d12.specs.Resource.{IsBeside, IsNewIn, record_of}
 use Rattle.gpu_d3d12.specs.State.{Model}
 use Rattle.gpu_d3d12.specs.declared.committed_record.CommittedRecord.{CommittedRecord}
@@ -40,7 +41,7 @@ none_is (Some a) e h = none_some a (sym e)
 
 -- what was live, held and kept of records is so still
 pub record HasMore (old new : Model) : Type 0 where
-  pub live : StayLive old.pool.slots new.pool.slots
+  pub live : StayLive is_same_heap old.pool.slots new.pool.slots
   pub beside : (n : ℕ) → IsSome (get old.pool.source.beside n) → IsSome (get new.pool.source.beside n)
   pub records : (t : ℕ) (q : CommittedRecord) → Contains (records_at old.committed t) q → Contains (records_at new.committed t) q
 
@@ -52,7 +53,7 @@ more_resource : (old new : Model) (r : Resource) → HasMore old new → IsLiveR
 more_resource old new r more h = record { kept = kept_more old new r r.allocation more h.kept; held = more.beside r.resource.0 h.held }
 
 -- nothing is held beside the blocks that wasn't, and the records are the same
-pub more_by : (old new : Model) → StayLive old.pool.slots new.pool.slots → new.pool.source.beside ≡ old.pool.source.beside → new.committed ≡ old.committed → HasMore old new
+pub more_by : (old new : Model) → StayLive is_same_heap old.pool.slots new.pool.slots → new.pool.source.beside ≡ old.pool.source.beside → new.committed ≡ old.committed → HasMore old new
 more_by old new live beside committed = record {
   live = live;
   beside = λ n h. subst (λ b. IsSome (get b n)) (sym beside) h;

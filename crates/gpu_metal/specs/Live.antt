@@ -11,11 +11,3 @@ Allocation = owned.Allocation MTLHeap
 -- the allocator has a record with the allocation's type, slot, number, offset, size and heap
 abbrev pub IsLive : Slots → Allocation → Type 0
 IsLive = pool.IsLive is_same_heap
-
--- what was live is live
-abbrev pub StayLive : (old new : Slots) → Type 0
-StayLive = pool.StayLive is_same_heap
-
--- the allocation is live, and none that was live before
-abbrev pub IsNewlyLive : (old new : Slots) → Allocation → Type 0
-IsNewlyLive = pool.IsNewlyLive is_same_heap

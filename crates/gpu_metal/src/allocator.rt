@@ -1,25 +1,24 @@
 //! The allocator: blocks of heaps by memory type, and the calls that share them out.
 
-ghost use Rattle.std.specs.Prelude.{◌≡◌, ◌↔◌, ◌%◌, ◌<◌, [], All, None, IfOk, IfErr, IsOk, IsTrue, length, option_copied};
-ghost use Rattle.gpu_values.specs.Refusal.{refusal_of, refusal_in};
-ghost use Rattle.gpu_values.specs.Report.{report_of};
+ghost use Rattle.std.specs.Prelude.{◌≡◌, ◌↔◌, ◌%◌, ◌<◌, [], All, None, IfOk, IfErr, IsTrue, length, option_copied};
+ghost use Rattle.gpu_values.specs.Refusal.{refusal_of};
 ghost use Rattle.gpu_values.specs.declared.error.AllocationError.TheVariants.{HostOutOfMemory};
 ghost use Rattle.gpu_memory_types.specs.Blocks.{total_capacity, BlocksWellFormed};
-ghost use Rattle.gpu_memory_types.specs.Budgets.{budget_at, budgets, SetsBudget};
-ghost use Rattle.gpu_memory_types.specs.Reports.{whole_report};
+ghost use Rattle.gpu_memory_types.specs.Budgets.{budget_at, budgets};
 ghost use Rattle.gpu_memory_types.specs.Types.{slots_of, kinds};
 ghost use Rattle.gpu_metal.specs.MemoryKinds.{locations};
 ghost use Rattle.gpu_metal.specs.Residency.{MakesSet, ChangesHeld, with_committed, commit_recorded, releases_recorded};
 ghost use Rattle.gpu_metal.specs.Setup.{kinds_of_device, IsNotMade};
+ghost use Rattle.gpu_pool.specs.Told.{Reports, SetsBudgetAt};
 ghost use Rattle.gpu_pool.specs.Handles.{all_handles};
 ghost use Rattle.gpu_pool.specs.Reply as replies;
 ghost use Rattle.gpu_pool.specs.Reply.{Done};
 ghost use Rattle.gpu_metal.specs.Allocate.{Allocates};
 ghost use Rattle.gpu_metal.specs.Apart.{IsInside, SharesNoByte};
-ghost use Rattle.gpu_metal.specs.Blocks.{residency_of, left_behind, HoldsJustLiveBlocks};
+ghost use Rattle.gpu_metal.specs.Blocks.{is_same_heap, residency_of, left_behind, HoldsJustLiveBlocks};
 ghost use Rattle.gpu_metal.specs.Free.{Frees};
-ghost use Rattle.gpu_pool.specs.Allocation.{AreDistinct};
-ghost use Rattle.gpu_metal.specs.Live.{Allocation, IsLive, IsNewlyLive, StayLive};
+ghost use Rattle.gpu_pool.specs.Allocation.{AreDistinct, IsNewlyLive, StayLive};
+ghost use Rattle.gpu_metal.specs.Live.{Allocation, IsLive};
 ghost use Rattle.gpu_metal.specs.Step.{IsStep, IsAllocateStep, Free, Commit, SetBudget, Budget, Capacity, LiveHeaps, Report, freed_as, done_as, shown_as};
 
 use crate::logging::{log_allocate, log_free};
@@ -103,8 +102,8 @@ impl<D: MetalDevice> Allocator<D> {
         ensures constant { (self.new.first ≡ self.old.first) × (self.new.setup ≡ self.old.setup) × (self.new.budgets ≡ self.old.budgets) }
         ensures step { IsAllocateStep D.MetalDevice desc.now result self.old self.new }
         ensures aligned { IfOk result (λ a. a.offset % desc.now.alignment ≡ 0) }
-        ensures keeps { StayLive self.old.slots self.new.slots }
-        ensures gives { IfOk result (λ a. IsNewlyLive self.old.slots self.new.slots a) }
+        ensures keeps { StayLive is_same_heap self.old.slots self.new.slots }
+        ensures gives { IfOk result (λ a. IsNewlyLive is_same_heap self.old.slots self.new.slots a) }
     {
         log_allocate(log, self.debug, desc);
         if desc.size == 0 || !desc.alignment.is_power_of_two() {
@@ -167,8 +166,7 @@ impl<D: MetalDevice> Allocator<D> {
     /// refused with `BudgetExceeded`. `None` takes the bound away; a budget below the present sum gives no block back.
     /// `Internal` where there is no such memory type, and then nothing changes. It takes no memory.
     pub fn set_budget(&mut self, memory_type: usize, budget: Option<u64>) -> Result<()>
-        ensures budgets { SetsBudget memory_type budget self.old.budgets (refusal_in result) self.new.budgets }
-        ensures found { memory_type < length self.old.slots → IsOk result }
+        ensures budgets { SetsBudgetAt self.old.slots memory_type budget self.old.budgets result self.new.budgets }
         ensures others { self.new ≡ record self.old { budgets = self.new.budgets } }
         ensures step { IsStep D.MetalDevice (SetBudget memory_type budget) (done_as result) self.old self.new }
     {
@@ -195,9 +193,7 @@ impl<D: MetalDevice> Allocator<D> {
     /// The only refusal is `HostOutOfMemory`.
     pub fn generate_report(&self) -> Result<AllocatorReport>
         ensures step { IsStep D.MetalDevice Report (shown_as result) self.now self.now }
-        ensures report { IfOk result (λ r. report_of r ≡ whole_report self.now.slots) }
-        ensures capacity { IfOk result (λ r. r.total_capacity_bytes ≡ total_capacity self.now.slots) }
-        ensures cause { IfErr result (λ e. e ≡ HostOutOfMemory) }
+        ensures reports { Reports self.now.slots result }
     {
         self.pool.report(self.alloc)
     }

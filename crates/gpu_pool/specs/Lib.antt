@@ -7,5 +7,6 @@ pub mod Allocate
 pub mod Free
 pub mod Rename
 pub mod Allocation
+pub mod Told
 pub mod Reply
 pub mod Step

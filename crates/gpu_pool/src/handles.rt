@@ -1,6 +1,6 @@
 //! The handles of the live blocks, one after another.
 
-ghost use Rattle.std.specs.Prelude.{◌≡◌, ◌≤◌, ◌<◌, ◌++◌, [], ◌∷◌, drop, MatchOption};
+ghost use Rattle.std.specs.Prelude.{◌≡◌, ◌<◌, [], ◌∷◌, drop, MatchOption};
 ghost use Rattle.std.specs.Iterator.{YieldsFirst, item_count};
 ghost use Rattle.gpu_memory_types.specs.Blocks.{slots_at};
 ghost use Rattle.gpu_memory_types.specs.Types.{slots_of};

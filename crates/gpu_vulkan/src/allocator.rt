@@ -1,10 +1,11 @@
 //! The allocator: blocks of device memory by memory type, and the calls that share them out.
 
-ghost use Rattle.std.specs.Prelude.{◌≡◌, ◌↔◌, [], All, map, string_bytes, Some, None, IfOk, IfErr, OnOk, IsSome, IfSome, OnSome, IsTrue, List, ℕ, length, option_copied, ◌%◌, ◌<◌, IsOk};
+ghost use Rattle.std.specs.Prelude.{◌≡◌, ◌↔◌, [], All, map, Some, None, IfOk, IfErr, OnOk, IsSome, IfSome, OnSome, IsTrue, List, ℕ, length, option_copied, ◌%◌, ◌<◌};
 ghost use Rattle.std.specs.Option.{unwrap_or};
-ghost use Rattle.gpu_values.specs.Refusal.{refusal_of, refusal_in, host_out_of_memory};
+ghost use Rattle.gpu_values.specs.Refusal.{refusal_of, host_out_of_memory};
 ghost use Rattle.gpu_vulkan.specs.Setup.{setup_fault};
 ghost use Rattle.gpu_memory_types.specs.Blocks.{total_capacity, BlocksWellFormed};
+ghost use Rattle.gpu_pool.specs.Told.{Reports, SetsBudgetAt, TextsLeaks};
 ghost use Rattle.gpu_pool.specs.Handles.{all_handles};
 ghost use Rattle.gpu_vulkan.specs.BlockAnswer.{frees_recorded};
 ghost use Rattle.gpu_vulkan.specs.Blocks.{HoldsJustLiveBlocks};
@@ -17,13 +18,9 @@ ghost use Rattle.gpu_vulkan.specs.Reply as replies;
 ghost use Rattle.gpu_vulkan.specs.Reply.{Done, Bytes};
 ghost use Rattle.gpu_vulkan.specs.Step.{IsStep, IsAllocateStep, Free, Rename, Write, Read, Capacity, Report, Leaks, SetBudget, Budget, freed_as, done_as, shown_as, told_as};
 ghost use Rattle.gpu_vulkan.specs.Rename.{Renames, StayLive};
-ghost use Rattle.gpu_memory_types.specs.Reports.{whole_report};
-ghost use Rattle.gpu_memory_types.specs.Budgets.{budget_at, budgets, SetsBudget};
+ghost use Rattle.gpu_memory_types.specs.Budgets.{budget_at, budgets};
 ghost use Rattle.gpu_memory_types.specs.Types.{slots_of, kinds};
 ghost use Rattle.gpu_vulkan.specs.Types.{kinds_told};
-ghost use Rattle.gpu_memory_types.specs.Leaks.{all_leaks};
-ghost use Rattle.gpu_block_views.specs.Leak.{leak_text};
-ghost use Rattle.gpu_values.specs.Report.{report_of};
 ghost use Rattle.gpu_values.specs.declared.error.AllocationError.TheVariants.{HostOutOfMemory};
 ghost use Rattle.std.specs.Borrow.{sem};
 ghost use Rattle.gpu_vulkan.specs.Live.{IsLive, IsMapped, bytes_at};
@@ -173,8 +170,7 @@ impl<D: VulkanDevice> Allocator<D> {
     /// below the present sum gives no block back. `Internal` where there is no such memory type, and then nothing changes.
     /// It takes no memory.
     pub fn set_budget(&mut self, memory_type: usize, budget: Option<u64>) -> Result<()>
-        ensures budgets { SetsBudget memory_type budget self.old.budgets (refusal_in result) self.new.budgets }
-        ensures found { memory_type < length self.old.slots → IsOk result }
+        ensures budgets { SetsBudgetAt self.old.slots memory_type budget self.old.budgets result self.new.budgets }
         ensures others { self.new ≡ record self.old { budgets = self.new.budgets } }
         ensures step { IsStep D.VulkanDevice (SetBudget memory_type budget) (done_as result) self.old self.new }
     {
@@ -367,9 +363,7 @@ impl<D: VulkanDevice> Allocator<D> {
     /// The only refusal is `HostOutOfMemory`.
     pub fn generate_report(&self) -> Result<AllocatorReport>
         ensures step { IsStep D.VulkanDevice Report (shown_as result) self.now self.now }
-        ensures report { IfOk result (λ r. report_of r ≡ whole_report self.now.slots) }
-        ensures capacity { IfOk result (λ r. r.total_capacity_bytes ≡ total_capacity self.now.slots) }
-        ensures cause { IfErr result (λ e. e ≡ HostOutOfMemory) }
+        ensures reports { Reports self.now.slots result }
     {
         self.pool.report(self.alloc)
     }
@@ -378,8 +372,7 @@ impl<D: VulkanDevice> Allocator<D> {
     /// `HostOutOfMemory`.
     pub fn leak_texts(&self) -> Result<Vec<String>>
         ensures step { IsStep D.VulkanDevice Leaks (told_as result) self.now self.now }
-        ensures texts { IfOk result (λ v. map string_bytes v.items ≡ map leak_text (all_leaks self.now.slots)) }
-        ensures cause { IfErr result (λ e. e ≡ HostOutOfMemory) }
+        ensures texts { TextsLeaks self.now.slots result }
     {
         self.pool.leak_texts(self.alloc)
     }

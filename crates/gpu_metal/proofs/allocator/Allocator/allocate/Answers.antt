@@ -1,7 +1,9 @@
 use Rattle.std.specs.Prelude.{IfOk}
 use Rattle.std.proofs.Common.{rules, ◌≡◌, refl, sym, subst, true, false}
 use Rattle.gpu_metal.specs.Allocate.{is_valid, AllocatesBy, Allocates}
-use Rattle.gpu_metal.specs.Live.{IsLive, IsNewlyLive}
+use Rattle.gpu_pool.specs.Allocation.{IsNewlyLive}
+use Rattle.gpu_metal.specs.Live.{IsLive}
+use Rattle.gpu_metal.specs.Blocks.{is_same_heap}
 use Rattle.gpu_metal.specs.State.{State, state_of}
 use Rattle.gpu_metal.proofs.Giving.{attempted}
 use Rattle.gpu_metal.proofs.Steps.{invalid_step, allocate_step}
@@ -45,4 +47,4 @@ returns-clause-keeps g c = λ a live. c.allocate_named.ensures.keeps a (subst (�
 
 pub returns-clause-gives : goal.returns-clause-gives
 returns-clause-gives g c =
-    subst (λ (s : State g.row.D.Denot). IfOk c.allocate_named.result (λ a. IsNewlyLive s.slots c.allocate_named.new.self.slots a)) c.self.view_is c.allocate_named.ensures.live
+    subst (λ (s : State g.row.D.Denot). IfOk c.allocate_named.result (λ a. IsNewlyLive is_same_heap s.slots c.allocate_named.new.self.slots a)) c.self.view_is c.allocate_named.ensures.live
