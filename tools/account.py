@@ -198,9 +198,9 @@ class Allocator:
         block.free(got.extent)
         if not block.extents and (isinstance(block, Dedicated) or several):
             got.of_type.slots[got.slot] = None
-            self.release(block.handle)
+            self.take_back(block.handle)
 
-    def release(self, handle):
+    def take_back(self, handle):
         """The driver's object behind a block goes back."""
 
     def sum_of_blocks(self):
@@ -227,6 +227,18 @@ class Allocator:
             blocks.append(b"block %d %d %d\n" % (block.size, first, len(rows)))
         total = sum(it.allocated() for _, _, it in self.every_block())
         return (b"".join(rows + blocks) + b"total %d capacity %d" % (total, self.sum_of_blocks())).decode()
+
+    def rename(self, key, name):
+        got = self.bound.get(key)
+        if not got:
+            return "unbound"
+        if got.extent:
+            got.extent.name = name.encode()
+        return "ok"
+
+    def leaks(self):
+        told = [leak_text(of_type.index, slot, block, it) for of_type, slot, block in self.every_block() for it in block.extents]
+        return "".join(f"{it}\n" for it in told) + f"leaks {len(told)}"
 
     def capacity(self):
         return str(self.sum_of_blocks())
@@ -310,14 +322,6 @@ class Device(Allocator):
         self.bound[key] = Allocation()
         return "ok"
 
-    def rename(self, key, name):
-        got = self.bound.get(key)
-        if not got:
-            return "unbound"
-        if got.extent:
-            got.extent.name = name.encode()
-        return "ok"
-
     def place(self, key, at, length):
         """The block's bytes and the first of them that are meant, or the reply where there are none."""
         got = self.bound.get(key)
@@ -341,10 +345,6 @@ class Device(Allocator):
         held, first = self.place(key, int(at), int(length))
         return held if isinstance(held, str) else bytes(held.get(first + i, 0) for i in range(int(length))).hex()
 
-    def leaks(self):
-        told = [leak_text(of_type.index, slot, block, it) for of_type, slot, block in self.every_block() for it in block.extents]
-        return "".join(f"{it}\n" for it in told) + f"leaks {len(told)}"
-
     def destroy(self):
         return "held 0"
 
@@ -359,10 +359,53 @@ def leak_text(memory_type, slot, block, extent):
     return f"leak detected: {{\n    memory type: {memory_type}\n    memory block: {slot}\n{piece}}}"
 
 
-class Metal(Allocator):
-    """The Metal allocator over a device that numbers its heaps and sets in one row."""
+LOCATIONS = ["GpuOnly", "CpuToGpu", "GpuToCpu"]
 
-    LOCATIONS = ["GpuOnly", "CpuToGpu", "GpuToCpu"]
+
+def whole_units(size, unit):
+    """The size that a device tells: whole units, at least one, and at most as many as 64 bits hold."""
+    return min(max(-(-size // unit), 1), MAX // unit) * unit
+
+
+class Numbered(Allocator):
+    """An allocator over a device that numbers all that it grants in one row."""
+
+    def __init__(self):
+        super().__init__()
+        self.issued, self.held, self.latest_heap = 0, 0, "none"
+
+    def number(self):
+        """The number that the device grants."""
+        self.issued, self.held = self.issued + 1, self.held + 1
+        return self.issued
+
+    def take_back(self, handle):
+        self.held -= 1
+
+    def allocate(self, of_type, size, alignment, name):
+        if size == 0 or not is_power_of_two(alignment):
+            raise Refused("E4")
+        return self.in_type(of_type, size, alignment, "Linear", False, name.encode())
+
+    def bind(self, key, of_type, size, alignment, name):
+        """Binds a piece under a number that is free, and replies where it lies."""
+        if key in self.bound:
+            return "busy"
+        try:
+            got = self.allocate(of_type, size, alignment, name)
+        except Refused as why:
+            return f"error {why}"
+        self.bound[key] = got
+        return f"ok {place_of(got)} size {size} chunk {got.extent.number} heap {got.block().handle}"
+
+
+def place_of(got):
+    return f"type {got.of_type.index} slot {got.slot} offset {got.extent.offset}"
+
+
+class Metal(Numbered):
+    """The Metal allocator."""
+
     HEAPS = ["private defaultcache", "shared writecombined", "shared defaultcache"]
     ALIGNMENT = 256
 
@@ -370,7 +413,6 @@ class Metal(Allocator):
         super().__init__()
         self.sets, self.residency, self.set = "yes", "no", None
         self.types = [MemoryType(at, HOST_VISIBLE if at > 0 else 0, None) for at in range(3)]
-        self.issued, self.held, self.latest_heap = 0, 0, "none"
 
     def configure(self, words):
         if words[0] in ("sets", "residency"):
@@ -379,11 +421,9 @@ class Metal(Allocator):
         return super().configure(words)
 
     def question(self, is_able):
-        """The number that the device grants."""
         if self.refusal()[0] or not is_able:
             raise Refused("E6")
-        self.issued, self.held = self.issued + 1, self.held + 1
-        return self.issued
+        return self.number()
 
     def new(self):
         if self.residency == "no":
@@ -402,33 +442,22 @@ class Metal(Allocator):
             self.set[0].append(number)
         return number
 
-    def release(self, handle):
-        self.held -= 1
+    def take_back(self, handle):
+        super().take_back(handle)
         if self.set:
             self.set[0].remove(handle)
 
     # ---- the commands
 
-    def bind(self, key, location, size, alignment, name):
-        """Binds a piece under a number that is free, and replies where it lies."""
-        if size == 0 or not is_power_of_two(alignment):
-            return "error E4"
-        of_type = self.types[self.LOCATIONS.index(location) if location in self.LOCATIONS else 0]
-        try:
-            got = self.in_type(of_type, size, alignment, "Linear", False, name.encode())
-        except Refused as why:
-            return f"error {why}"
-        self.bound[key] = got
-        return (f"ok type {got.of_type.index} slot {got.slot} offset {got.extent.offset} size {size} chunk {got.extent.number} "
-                f"heap {got.block().handle}")
+    def type_for(self, location):
+        return self.types[LOCATIONS.index(location) if location in LOCATIONS else 0]
 
     def alloc(self, key, size, alignment, location, name):
-        return "busy" if key in self.bound else self.bind(key, location, int(size), int(alignment), name)
+        return self.bind(key, self.type_for(location), int(size), int(alignment), name)
 
     def told(self, key, location, size, name):
-        """A piece of the size that the device tells: whole units, at least one, and at most as many as 64 bits hold."""
-        units = min(max(-(-size // self.ALIGNMENT), 1), MAX // self.ALIGNMENT)
-        return "busy" if key in self.bound else self.bind(key, location, units * self.ALIGNMENT, self.ALIGNMENT, name)
+        """A piece of the size that the device tells."""
+        return self.bind(key, self.type_for(location), whole_units(size, self.ALIGNMENT), self.ALIGNMENT, name)
 
     def buffer(self, key, length, location, name):
         return self.told(key, location, int(length), name)
@@ -466,6 +495,127 @@ class Metal(Allocator):
         return f"held {self.held - len(self.every_block())} members 0"
 
 
+class D3D12(Numbered):
+    """The DirectX 12 allocator. Of each memory type there is its location and its category, None for any; its committed resources
+    are pairs of number and size. What a resource's number stands for is its memory type, number, size and piece, if it has one."""
+
+    HEAPS = {"GpuOnly": "default unknown unknown", "CpuToGpu": "custom writecombine l0", "GpuToCpu": "custom writeback l0"}
+    CONTENTS = {None: "all", "buffer": "buffers", "target": "rtdstextures", "texture": "nonrtdstextures"}
+    HEAP_ALIGNMENT, ALIGNMENT, OUT_OF_MEMORY = 4 * MB, 65536, -2147024882
+
+    def __init__(self):
+        super().__init__()
+        self.tier, self.interface, self.resources, self.latest = ["2"], "device12", {}, ("none", "none", "none")
+        self.kinds, self.committed_of = [], []
+
+    def configure(self, words):
+        if words[0] == "tier":
+            self.tier = words[1:]
+        elif words[0] == "version":
+            self.interface = words[1]
+        else:
+            return super().configure(words)
+        return True
+
+    def new(self):
+        if self.tier[0] == "refused":
+            return "error E6"
+        categories = ["buffer", "target", "texture"] if self.tier == ["1"] else [None]
+        self.kinds = [(location, category) for location in LOCATIONS for category in categories]
+        self.types = [MemoryType(at, 0 if location == "GpuOnly" else HOST_VISIBLE, None) for at, (location, _) in enumerate(self.kinds)]
+        self.committed_of = [[] for _ in self.kinds]
+        return "ok"
+
+    def type_for(self, location, category):
+        serves = [location in ("Unknown", its) and may in (None, category) for its, may in self.kinds]
+        return self.types[serves.index(True)]
+
+    def ask(self, of_type, size):
+        location, category = self.kinds[of_type.index]
+        self.latest_heap = f"{size} {self.HEAPS[location]} {self.HEAP_ALIGNMENT} {self.CONTENTS[category]}"
+        is_refused, code = self.refusal()
+        if is_refused:
+            raise Refused("E1" if code == self.OUT_OF_MEMORY else "E6")
+        return self.number()
+
+    def ask_resource(self, latest):
+        self.latest = latest
+        if self.refusal()[0]:
+            raise Refused("E6")
+        return self.number()
+
+    def handed_on(self, initial, formats):
+        """How many formats the question for a resource hands on, or why it isn't asked."""
+        is_state, has_formats = initial.startswith("state:"), formats != "none"
+        if is_state and has_formats:
+            raise Refused("E8")
+        if has_formats and self.interface != "device12":
+            raise Refused("E9")
+        if not is_state and self.interface == "device":
+            raise Refused("E7")
+        if is_state or self.interface == "device10":
+            return "none"
+        return str(len(formats.split(",")) if has_formats else 0)
+
+    def make_committed(self, of_type, size, name, latest):
+        records = self.committed_of[of_type.index]
+        if sum(it for _, it in records) + size > MAX:
+            raise Refused("E1")
+        number = self.ask_resource(latest)
+        records.append((number, size))
+        return (of_type, number, size, None), f"ok resource {number} size {size}"
+
+    def make_placed(self, of_type, size, name, latest):
+        got = self.allocate(of_type, size, self.ALIGNMENT, name)
+        try:
+            number = self.ask_resource(latest)
+        except Refused:
+            self.give_back(got)
+            raise
+        return (of_type, number, size, got), f"ok resource {number} size {size} {place_of(got)} chunk {got.extent.number}"
+
+    # ---- the commands
+
+    def alloc(self, key, size, alignment, location, category, name):
+        return self.bind(key, self.type_for(location, category), int(size), int(alignment), name)
+
+    def create(self, key, place, location, category, _dimension, width, _height, _depth, _flags, initial, formats, clear, name):
+        if key in self.resources:
+            return "busy"
+        make = self.make_placed if place == "placed" else self.make_committed
+        try:
+            latest = self.handed_on(initial, formats), clear, initial
+            made = make(self.type_for(location, category), whole_units(int(width), self.ALIGNMENT), name, latest)
+        except Refused as why:
+            return f"error {why}"
+        self.resources[key], reply = made
+        return reply
+
+    def release(self, key):
+        if key not in self.resources:
+            return "unbound"
+        of_type, number, size, got = self.resources.pop(key)
+        self.held -= 1
+        if got:
+            self.give_back(got)
+        else:
+            self.committed_of[of_type.index].remove((number, size))
+        return "ok"
+
+    def committed(self, index):
+        if int(index) >= len(self.kinds):
+            return "none"
+        records = self.committed_of[int(index)]
+        return f"committed {len(records)} {sum(it for _, it in records)}"
+
+    def asked(self):
+        formats, clear, initial = self.latest
+        return f"asked {self.questions} heap {self.latest_heap} formats {formats} clear {clear} initial {initial}"
+
+    def destroy(self):
+        return f"held {self.held - len(self.every_block())}"
+
+
 class BlockTrace:
     """One block, with no device."""
 
@@ -496,6 +646,10 @@ class BlockTrace:
         return (b"".join(self.block.rows()) + b"total %d capacity %d" % (self.block.allocated(), self.block.size)).decode()
 
 
+# by the line that begins a trace of the sort
+SORTS = {"metal": Metal, "d3d12": D3D12}
+
+
 def replies(trace):
     """The replies to a trace without a bad line, as bytes, and how many questions the device was asked."""
     lines = [it.split(" ") for it in trace.decode().split("\n") if it and not it.startswith("#")]
@@ -503,8 +657,8 @@ def replies(trace):
         machine, written, lines = BlockTrace(lines[0]), [], lines[1:]
         written.append(f"block {machine.block.size}")
     else:
-        is_metal = bool(lines) and lines[0] == ["metal"]
-        machine, written, lines = Metal() if is_metal else Device(), [], lines[is_metal:]
+        sort = SORTS.get(" ".join(lines[0])) if lines else None
+        machine, written, lines = (sort or Device)(), [], lines[sort is not None:]
         while lines and machine.configure(lines[0]):
             lines = lines[1:]
     for verb, *words in lines:

@@ -32,32 +32,55 @@ def block_trace(seed, commands):
     return "\n".join([*lines, "report", ""]).encode()
 
 
-class DeviceTrace:
-    """A device with its memory types and refusals, and a list of commands."""
+class AllocatorTrace:
+    """The configuration of an allocator and its device with refusals, and a list of commands. `live` is what may be given back."""
+
+    # the first question that may be refused, by which codes, and the commands behind the random ones
+    FIRST, CODES, LAST = 1, [], []
 
     def __init__(self, seed, commands):
-        self.rng = rng = random.Random(seed)
-        self.page, self.types, self.live, self.sizes = rng.choice([1, 1, 64, 1024]), rng.choice(TYPES), [], {}
-        self.lines = [f"heap {it * MB}" for it in (rng.choice([64, 512]), rng.choice([128, 1024]))]
-        self.lines += [f"type {it}" for it in self.types] + [f"granularity {self.page}"]
-        if rng.random() < 0.8:
-            self.lines.append("sizes " + " ".join(str(rng.choice([4, 8, 16]) * MB) for _ in range(4)))
-        if rng.random() < 0.7:
-            self.lines += [f"refuse {rng.randint(1, 40)} {rng.choice(['-1', '-2', '-5', '7', 'null'])}" for _ in range(rng.randint(1, 6))]
-        self.lines.append("new")
-        for key in range(commands):
-            self.lines.append(self.command(key))
-        self.lines += ["report", "leaks", "capacity", "destroy", ""]
+        self.rng, self.live = random.Random(seed), []
+        self.lines = [*self.begin(), *self.sizes_line(), *self.refuse_lines(), *self.settings(), "new"]
+        self.lines += [self.command(key) for key in range(commands)]
+        self.lines += [*self.LAST, ""]
+
+    def settings(self):
+        return []
+
+    def sizes_line(self):
+        rng = self.rng
+        return ["sizes " + " ".join(str(rng.choice([4, 8, 16]) * MB) for _ in range(4))] if rng.random() < 0.8 else []
+
+    def refuse_lines(self):
+        rng = self.rng
+        if rng.random() >= 0.7:
+            return []
+        return [f"refuse {rng.randint(self.FIRST, 40)} {rng.choice(self.CODES)}" for _ in range(rng.randint(1, 6))]
 
     def command(self, key):
         chance = self.rng.random()
         if chance < 0.30 and self.live:
-            return f"free {self.live.pop(self.rng.randrange(len(self.live)))}"
+            return self.give_back(self.live.pop(self.rng.randrange(len(self.live))))
         if chance < 0.75 or not self.live:
-            return self.alloc(key)
+            return self.request(key)
         return self.other(key, self.rng.choice(self.live))
 
-    def alloc(self, key):
+    def give_back(self, old):
+        return f"free {old}"
+
+
+class DeviceTrace(AllocatorTrace):
+    """With memory types and a page size."""
+
+    CODES, LAST = ["-1", "-2", "-5", "7", "null"], ["report", "leaks", "capacity", "destroy"]
+
+    def begin(self):
+        rng = self.rng
+        self.page, self.types, self.sizes = rng.choice([1, 1, 64, 1024]), rng.choice(TYPES), {}
+        heaps = [f"heap {it * MB}" for it in (rng.choice([64, 512]), rng.choice([128, 1024]))]
+        return heaps + [f"type {it}" for it in self.types] + [f"granularity {self.page}"]
+
+    def request(self, key):
         rng, asked = self.rng, size(self.rng, 4 * MB)
         bits = rng.choice([(1 << len(self.types)) - 1] * 3 + [rng.randrange(1 << len(self.types))])
         scheme = "managed" if rng.random() < 0.85 else rng.choice(["buffer:7", "image:9"])
@@ -80,29 +103,18 @@ def device_trace(seed, commands):
     return "\n".join(DeviceTrace(seed, commands).lines).encode()
 
 
-class MetalTrace:
-    """A device with its refusals, with a residency set or without, and a list of commands."""
+class MetalTrace(AllocatorTrace):
+    """With a residency set or without."""
 
-    def __init__(self, seed, commands):
-        self.rng = rng = random.Random(seed)
-        self.live, self.lines = [], ["metal"]
-        if rng.random() < 0.8:
-            self.lines.append("sizes " + " ".join(str(rng.choice([4, 8, 16]) * MB) for _ in range(4)))
-        if rng.random() < 0.7:
-            self.lines += [f"refuse {rng.randint(2, 40)} {rng.choice(['-1', '-2', '7', 'null'])}" for _ in range(rng.randint(1, 6))]
-        if rng.random() < 0.6:
-            self.lines += ["residency yes", *(["sets yes"] if rng.random() < 0.5 else [])]
-        self.lines.append("new")
-        self.lines += [self.command(key) for key in range(commands)]
-        self.lines += ["report", "heaps", "members", "committed", "asked", "capacity", "destroy", ""]
+    FIRST, CODES = 2, ["-1", "-2", "7", "null"]
+    LAST = ["report", "heaps", "members", "committed", "asked", "capacity", "destroy"]
 
-    def command(self, key):
-        chance = self.rng.random()
-        if chance < 0.30 and self.live:
-            return f"free {self.live.pop(self.rng.randrange(len(self.live)))}"
-        if chance < 0.75 or not self.live:
-            return self.request(key)
-        return self.other(key, self.rng.choice(self.live))
+    def begin(self):
+        return ["metal"]
+
+    def settings(self):
+        rng = self.rng
+        return ["residency yes", *(["sets yes"] if rng.random() < 0.5 else [])] if rng.random() < 0.6 else []
 
     def request(self, key):
         rng, asked, location = self.rng, size(self.rng, 4 * MB), self.rng.choice(LOCATIONS)
@@ -122,3 +134,51 @@ class MetalTrace:
 
 def metal_trace(seed, commands):
     return "\n".join(MetalTrace(seed, commands).lines).encode()
+
+
+class D3D12Trace(AllocatorTrace):
+    """With a heap tier and an interface. What may be given back is an allocation or a resource, by its verb and number."""
+
+    CODES = ["-1", "-2147024882", "-2005270523", "7", "null"]
+    LAST = ["report", "leaks", *(f"committed {at}" for at in range(4)), "asked", "capacity", "destroy"]
+
+    def begin(self):
+        return ["d3d12"]
+
+    def settings(self):
+        rng = self.rng
+        tier = [f"tier {rng.choice([1, 1, 2])}"] if rng.random() < 0.7 else []
+        return tier + ([f"version {rng.choice(['device', 'device10', 'device12'])}"] if rng.random() < 0.5 else [])
+
+    def request(self, key):
+        rng, location, category = self.rng, self.rng.choice(LOCATIONS), self.rng.choice(["buffer", "target", "texture"])
+        if rng.random() < 0.5:
+            self.live.append(("free", key))
+            return f"alloc {key} {size(rng, 4 * MB)} {alignment(rng, 65536)} {location} {category} piece-{key}"
+        self.live.append(("release", key))
+        return f"create {key} {rng.choice(['placed', 'committed'])} {location} {category} {self.description()} resource-{key}"
+
+    def description(self):
+        rng = self.rng
+        dimension = rng.choice(["unknown", "buffer", "texture1d", "texture2d", "texture3d"])
+        width = rng.choice([0, 1, 65536, rng.randint(1, 300000), size(rng, 4 * MB)])
+        initial = rng.choice(["state", "layout", "layout"])
+        formats = ",".join(str(rng.randrange(100)) for _ in range(rng.choice([0] * 6 + [1, 3, 16]))) or "none"
+        clear = "none" if rng.random() < 0.7 else ":".join(str(rng.choice([0, 28, (1 << 32) - 1])) for _ in range(5))
+        height, depth, flags = rng.choice([0, 1, (1 << 32) - 1]), rng.choice([0, 1, 65535]), rng.randrange(4)
+        return f"{dimension} {width} {height} {depth} {flags} {initial}:{rng.randrange(5)} {formats} {clear}"
+
+    def give_back(self, old):
+        return f"{old[0]} {old[1]}"
+
+    def other(self, key, old):
+        rng, (verb, number) = self.rng, old
+        index, kept = rng.randrange(10), rng.choice(["none", "0", str(rng.randint(1, 20) * 4 * MB)])
+        twice = {"free": f"alloc {number} 1 1 Unknown buffer twice",
+                 "release": f"create {number} placed Unknown buffer buffer 1 1 1 0 state:0 none none twice"}[verb]
+        return rng.choice([twice, f"rename {number} other-{key}", f"free {key + 1000000}", f"release {key + 1000000}", "report", "leaks",
+                           "capacity", "asked", f"committed {index}", f"committed {rng.randrange(3)}", f"budget {index} {kept}"])
+
+
+def d3d12_trace(seed, commands):
+    return "\n".join(D3D12Trace(seed, commands).lines).encode()
