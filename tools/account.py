@@ -496,17 +496,26 @@ class BlockTrace:
         return (b"".join(self.block.rows()) + b"total %d capacity %d" % (self.block.allocated(), self.block.size)).decode()
 
 
+def served(trace):
+    """Of each command of a trace without a bad line the number of its line, its reply, and the machine that served it."""
+    lines = [(number, it.split(" ")) for number, it in enumerate(trace.decode().split("\n"), 1) if it and not it.startswith("#")]
+    if lines and lines[0][1][0] == "block":
+        number, words = lines.pop(0)
+        machine = BlockTrace(words)
+        yield number, f"block {machine.block.size}", machine
+    else:
+        is_metal = bool(lines) and lines[0][1] == ["metal"]
+        machine, lines = Metal() if is_metal else Device(), lines[is_metal:]
+        while lines and machine.configure(lines[0][1]):
+            lines = lines[1:]
+    for number, (verb, *words) in lines:
+        yield number, getattr(machine, verb)(*words), machine
+
+
 def replies(trace):
     """The replies to a trace without a bad line, as bytes, and how many questions the device was asked."""
-    lines = [it.split(" ") for it in trace.decode().split("\n") if it and not it.startswith("#")]
-    if lines and lines[0][0] == "block":
-        machine, written, lines = BlockTrace(lines[0]), [], lines[1:]
-        written.append(f"block {machine.block.size}")
-    else:
-        is_metal = bool(lines) and lines[0] == ["metal"]
-        machine, written, lines = Metal() if is_metal else Device(), [], lines[is_metal:]
-        while lines and machine.configure(lines[0]):
-            lines = lines[1:]
-    for verb, *words in lines:
-        written.append(getattr(machine, verb)(*words))
-    return "".join(f"{it}\n" for it in written).encode(), getattr(machine, "questions", 0)
+    written, questions = [], 0
+    for _, reply, machine in served(trace):
+        written.append(reply)
+        questions = getattr(machine, "questions", 0)
+    return "".join(f"{it}\n" for it in written).encode(), questions
