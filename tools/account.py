@@ -650,17 +650,26 @@ class BlockTrace:
 SORTS = {"metal": Metal, "d3d12": D3D12}
 
 
+def served(trace):
+    """Of each command of a trace without a bad line the number of its line, its reply, and the machine that served it."""
+    lines = [(number, it.split(" ")) for number, it in enumerate(trace.decode().split("\n"), 1) if it and not it.startswith("#")]
+    if lines and lines[0][1][0] == "block":
+        number, words = lines.pop(0)
+        machine = BlockTrace(words)
+        yield number, f"block {machine.block.size}", machine
+    else:
+        sort = SORTS.get(" ".join(lines[0][1])) if lines else None
+        machine, lines = (sort or Device)(), lines[sort is not None:]
+        while lines and machine.configure(lines[0][1]):
+            lines = lines[1:]
+    for number, (verb, *words) in lines:
+        yield number, getattr(machine, verb)(*words), machine
+
+
 def replies(trace):
     """The replies to a trace without a bad line, as bytes, and how many questions the device was asked."""
-    lines = [it.split(" ") for it in trace.decode().split("\n") if it and not it.startswith("#")]
-    if lines and lines[0][0] == "block":
-        machine, written, lines = BlockTrace(lines[0]), [], lines[1:]
-        written.append(f"block {machine.block.size}")
-    else:
-        sort = SORTS.get(" ".join(lines[0])) if lines else None
-        machine, written, lines = (sort or Device)(), [], lines[sort is not None:]
-        while lines and machine.configure(lines[0]):
-            lines = lines[1:]
-    for verb, *words in lines:
-        written.append(getattr(machine, verb)(*words))
-    return "".join(f"{it}\n" for it in written).encode(), getattr(machine, "questions", 0)
+    written, questions = [], 0
+    for _, reply, machine in served(trace):
+        written.append(reply)
+        questions = getattr(machine, "questions", 0)
+    return "".join(f"{it}\n" for it in written).encode(), questions

@@ -1,1 +1,2 @@
 pub mod ShownTypes
+pub mod Started
