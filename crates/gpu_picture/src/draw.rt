@@ -1,17 +1,17 @@
-//! What is written of the stage that a trace leaves.
+//! What is written of the blocks that a trace leaves.
 
 ghost use Rattle.std.specs.Prelude.{◌≡◌, map, IfOk, OnOk};
 ghost use Rattle.std.specs.Io.KnownBytes.{Appends};
 ghost use Rattle.gpu_report.specs.View.{shown};
-ghost use Rattle.gpu_picture.specs.Draw.{drawing, shown_types, DrawsBlock, DrawsDevice, Draws};
+ghost use Rattle.gpu_picture.specs.Draw.{drawing, shown_types, DrawsBlock, DrawsTypes, DrawsVulkan, DrawsMetal, DrawsD3D12, Draws};
 
-use gpu_device::vulkan::DeviceMemory;
+use gpu_d3d12_trace as d3d12;
 use gpu_memory_types::MemoryTypes;
+use gpu_metal_trace as metal;
 use gpu_report::{BlockView, BlocksJson, BlocksSvg, add_views};
-use gpu_sim::SimVulkan;
 use gpu_trace_run::{BlockStage, Stage};
+use gpu_trace_sorts::AnyTrace;
 use gpu_values::AllocationError;
-use gpu_vulkan_session::Session;
 use std::alloc::Global;
 use std::io;
 use std::io::Write;
@@ -58,9 +58,9 @@ fn draw_block<W: Write>(form: Form, stage: &BlockStage, writer: &mut W) -> io::R
 }
 
 /// Views of all live blocks, by memory type and slot. The only refusal is `HostOutOfMemory`.
-fn views_of<'a>(
+fn views_of<'a, H: Copy + Eq>(
     alloc: Global,
-    types: &'a MemoryTypes<DeviceMemory>,
+    types: &'a MemoryTypes<H>,
 ) -> Result<Vec<BlockView<'a>>, AllocationError>
     ensures { IfOk result (λ views. map shown views.items ≡ shown_types 0 types.now) }
 {
@@ -73,29 +73,76 @@ fn views_of<'a>(
     Ok(views)
 }
 
-/// Writes all blocks of a device trace's allocator. Fails too where host memory for the views is refused.
-fn draw_device<W: Write>(
+/// Writes all live blocks of an allocator's memory types. Fails too where host memory for the views is refused.
+fn draw_types<H: Copy + Eq, W: Write>(
     alloc: Global,
     form: Form,
-    session: &Session<SimVulkan>,
+    types: &MemoryTypes<H>,
     writer: &mut W,
 ) -> io::Result<()>
-    ensures { OnOk result (DrawsDevice form session.now (W.contents writer.old) (W.contents writer.new)) }
+    ensures { OnOk result (DrawsTypes form types.now (W.contents writer.old) (W.contents writer.new)) }
 {
-    match views_of(alloc, session.allocator().memory_types()) {
+    match views_of(alloc, types) {
         Ok(views) => write_views(form, &views, writer),
         Err(_) => Err(io::Error::from(io::ErrorKind::OutOfMemory)),
     }
 }
 
-/// Writes the blocks that a stage has: the one of a block trace, or all of a device trace's allocator. A trace that made neither, or
-/// destroyed its allocator, has none.
-pub fn draw<W: Write>(alloc: Global, form: Form, stage: &Stage, writer: &mut W) -> io::Result<()>
-    ensures { OnOk result (Draws form stage.now (W.contents writer.old) (W.contents writer.new)) }
+/// Writes the blocks of a block trace or of a device trace's allocator.
+fn draw_vulkan<W: Write>(alloc: Global, form: Form, stage: &Stage, writer: &mut W) -> io::Result<()>
+    ensures { OnOk result (DrawsVulkan form stage.now (W.contents writer.old) (W.contents writer.new)) }
 {
     match stage {
         Stage::Block(stage) => draw_block(form, stage, writer),
-        Stage::Device(session) => draw_device(alloc, form, session, writer),
+        Stage::Device(session) => {
+            draw_types(alloc, form, session.allocator().memory_types(), writer)
+        }
         Stage::Before | Stage::Configuring(_) | Stage::Closed => write_views(form, &[], writer),
+    }
+}
+
+/// Writes the blocks of a Metal trace's allocator.
+fn draw_metal<W: Write>(
+    alloc: Global,
+    form: Form,
+    stage: &metal::Stage,
+    writer: &mut W,
+) -> io::Result<()>
+    ensures { OnOk result (DrawsMetal form stage.now (W.contents writer.old) (W.contents writer.new)) }
+{
+    match stage {
+        metal::Stage::Running(session) => {
+            draw_types(alloc, form, session.allocator().memory_types(), writer)
+        }
+        metal::Stage::Configuring(_) | metal::Stage::Closed => write_views(form, &[], writer),
+    }
+}
+
+/// Writes the blocks of a DirectX 12 trace's allocator.
+fn draw_d3d12<W: Write>(
+    alloc: Global,
+    form: Form,
+    stage: &d3d12::Stage,
+    writer: &mut W,
+) -> io::Result<()>
+    ensures { OnOk result (DrawsD3D12 form stage.now (W.contents writer.old) (W.contents writer.new)) }
+{
+    match stage {
+        d3d12::Stage::Running(session) => {
+            draw_types(alloc, form, session.allocator().memory_types(), writer)
+        }
+        d3d12::Stage::Configuring(_) | d3d12::Stage::Closed => write_views(form, &[], writer),
+    }
+}
+
+/// Writes the blocks that a trace leaves: the one of a block trace, or all of its allocator. A trace that made neither, or
+/// destroyed its allocator, has none.
+pub fn draw<W: Write>(alloc: Global, form: Form, trace: &AnyTrace, writer: &mut W) -> io::Result<()>
+    ensures { OnOk result (Draws form trace.now (W.contents writer.old) (W.contents writer.new)) }
+{
+    match trace {
+        AnyTrace::Vulkan(stage) => draw_vulkan(alloc, form, stage, writer),
+        AnyTrace::Metal(stage) => draw_metal(alloc, form, stage, writer),
+        AnyTrace::D3D12(stage) => draw_d3d12(alloc, form, stage, writer),
     }
 }

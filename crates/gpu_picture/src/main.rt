@@ -4,7 +4,8 @@
 mod draw;
 
 use draw::{Form, draw};
-use gpu_trace_run::{Replayed, Stage, replay_trace};
+use gpu_trace_sorts::{AnyTrace, replay_trace};
+use gpu_trace_text::{Replayed, Trace};
 use log::sink::Discard;
 use std::io::{BufWriter, Write};
 use std::process::ExitCode;
@@ -25,10 +26,10 @@ fn form_of(rt: &HostRuntime) -> io::Result<Option<Form>> {
     Ok(form)
 }
 
-/// Writes the stage to standard output, through a buffer.
-fn write(rt: &HostRuntime, form: Form, stage: &Stage) -> io::Result<()> {
+/// Writes what a trace leaves to standard output, through a buffer.
+fn write(rt: &HostRuntime, form: Form, trace: &AnyTrace) -> io::Result<()> {
     let mut writer = BufWriter::new(rt.alloc(), rt.stdout())?;
-    draw(rt.alloc(), form, stage, &mut writer)?;
+    draw(rt.alloc(), form, trace, &mut writer)?;
     writer.flush()
 }
 
@@ -41,9 +42,9 @@ fn main(rt: HostRuntime) -> ExitCode {
     };
     let mut reader = rt.stdin();
     match replay_trace(&Discard, rt.alloc(), &mut reader) {
-        Ok(Replayed::Whole(stage)) => {
-            let written = write(&rt, form, &stage);
-            let _ = stage.end(&Discard);
+        Ok(Replayed::Whole(trace)) => {
+            let written = write(&rt, form, &trace);
+            trace.end(&Discard);
             match written {
                 Ok(()) => ExitCode::SUCCESS,
                 Err(_) => ExitCode::from(1),

@@ -7,7 +7,7 @@ pub mod vulkan;
 
 pub use gpu_commands::vulkan::{Command, Given, Reply};
 pub use gpu_run::{Machine, run};
-pub use gpu_trace_run::{BlockStage, Configuration, Replayed, Stage, replay_trace};
-pub use gpu_trace_sorts::{AnyReply, AnyTrace, run_trace};
-pub use gpu_trace_text::{Outcome, Trace, TraceError};
+pub use gpu_trace_run::{BlockStage, Configuration, Stage};
+pub use gpu_trace_sorts::{AnyReply, AnyTrace, replay_trace, run_trace};
+pub use gpu_trace_text::{Outcome, Replayed, Trace, TraceError};
 pub use gpu_vulkan_session::{Session, laws};

@@ -1,2 +1,1 @@
 pub mod Sorts
-pub mod ReplayedLines

@@ -2,4 +2,3 @@ pub mod BlockStage
 pub mod Configuration
 pub mod Stage
 pub mod Run
-pub mod Replay

@@ -12,7 +12,7 @@ use std::io;
 use std::io::Write;
 
 /// Reads a line and serves what it says.
-pub(crate) fn serve<L: Log>(
+fn serve<L: Log>(
     log: &L,
     alloc: Global,
     stage: Stage,

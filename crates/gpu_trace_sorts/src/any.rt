@@ -3,13 +3,14 @@
 ghost use Rattle.std.specs.Prelude.{◌≡◌, ◌≤◌, ℕ, Some, None, IfOk, IfSome};
 ghost use Rattle.gpu_trace_run.specs.declared.stage.Stage.TheVariants as stages;
 ghost use Rattle.gpu_trace_text.specs.Run.{Answers};
+ghost use Rattle.gpu_trace_text.specs.Replay.{ReplaysTrace};
 ghost use Rattle.gpu_trace_sorts.specs.Any.{Does, DidVulkan, DidMetal, DidD3D12, MatchDone, reply_line};
 ghost use Rattle.gpu_trace_sorts.specs.declared.any.AnyTrace.TheVariants.{Vulkan};
 
 use gpu_d3d12_trace as d3d12;
 use gpu_metal_trace as metal;
 use gpu_trace_run::Stage;
-use gpu_trace_text::{Outcome, Trace};
+use gpu_trace_text::{Outcome, Replayed, Trace, TraceError};
 use log::Log;
 use std::alloc::{AllocError, Global};
 use std::io;
@@ -159,4 +160,17 @@ pub fn run_trace<R: Read, W: Write, L: Log>(
         Answers Does reply_line (Vulkan stages.Before) input (W.contents writer.old) (W.contents writer.new) (Some n)) }
 {
     gpu_trace_text::run_trace(log, alloc, AnyTrace::Vulkan(Stage::Before), reader, writer)
+}
+
+/// Reads a trace of any sort and serves its lines, and writes no replies: what each line means stands in docs/TRACE.md. Answers
+/// how far they come, or the number of the first bad line; a trace above 1,048,576 bytes is bad in its first. Fails where a read
+/// fails, or memory for the trace itself is refused.
+pub fn replay_trace<R: Read, L: Log>(
+    log: &L,
+    alloc: Global,
+    reader: &mut R,
+) -> Result<Replayed<AnyTrace>, TraceError>
+    ensures { IfOk result (λ r. IfSome (R.remaining reader.old) (λ input. ReplaysTrace Does (Vulkan stages.Before) input r)) }
+{
+    gpu_trace_text::replay_trace(log, alloc, AnyTrace::Vulkan(Stage::Before), reader)
 }

@@ -3,4 +3,4 @@
 
 mod any;
 
-pub use any::{AnyReply, AnyTrace, run_trace};
+pub use any::{AnyReply, AnyTrace, replay_trace, run_trace};

@@ -33,10 +33,10 @@ Appends-kept (Some os) (Some bs) (Some cs) xs h k = k ∙ h
 split_at : (lines : List (List ℕ)) (n : ℕ) (line : List ℕ) → n < length lines → line ≡ get_or lines n [] → drop n lines ≡ line ∷ drop (n + 1) lines
 split_at lines n line lt is = rw (is, add-one) (drop-cons lines n [] lt)
 
-text_at : (lines : List (Bor (List ℕ))) (n : ℕ) (d : Bor (List ℕ)) → n < length lines → (get_or lines n d).now ≡ get_or (texts lines) n []
+pub text_at : (lines : List (Bor (List ℕ))) (n : ℕ) (d : Bor (List ℕ)) → n < length lines → (get_or lines n d).now ≡ get_or (texts lines) n []
 text_at lines n d lt = sym (get_or-map (λ w. w.now) lines n d [] lt)
 
-texts_below : (lines : List (Bor (List ℕ))) (n : ℕ) → n < length lines → n < length (texts lines)
+pub texts_below : (lines : List (Bor (List ℕ))) (n : ℕ) → n < length lines → n < length (texts lines)
 texts_below lines n lt = rw length-map lt
 
 module _ {S R : Type 0} (does : Does S R) (reply_line : R → List ℕ) (first : S) where

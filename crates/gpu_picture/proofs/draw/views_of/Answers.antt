@@ -7,7 +7,7 @@ use Rattle.gpu_picture.proofs.draw.views_of.Goals as goal
 
 -- src/draw.rt:69:5
 pub loop-index-preserved : goal.loop-index-preserved
-loop-index-preserved c = elim c.match-memory_type.branch [
+loop-index-preserved g c = elim c.match-memory_type.branch [
   | in-Some+in_ok-add_views w ↦ rw w.views-is (one_more c.args.types.now c.loop-index.index w.in-Some.memory_type.now
       (map shown c.loop-index.views.items) (map shown w.add_views.new.views.items) (shown_types 0 c.args.types.now)
       (ap (option_map (λ t. t.now)) (sym w.in-Some.is) ∙ c.memory_type.ensures) w.in_ok-add_views.ensures.added c.loop-index.invariant)
