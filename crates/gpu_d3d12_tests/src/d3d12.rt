@@ -1,15 +1,11 @@
 //! Worked rows of the DirectX 12 allocator.
 
-mod account;
-mod ample;
 mod foreign;
 mod log_lines;
 mod pieces;
 mod questions;
 mod refusals;
-mod refused;
 mod resources;
-mod scripts;
 mod sessions;
 
 use gpu_d3d12::{
@@ -81,17 +77,6 @@ fn buffer(width: u64) -> ResourceDesc {
         layout: 1,
         flags: 0,
     }
-}
-
-/// A piece for a buffer of this width in bytes.
-fn buffer_piece<'a>(
-    a: &Allocator<SimD3D12>,
-    width: u64,
-    name: &'a str,
-) -> AllocationCreateDesc<'a> {
-    let device = a.device().device();
-    let desc = buffer(width);
-    AllocationCreateDesc::from_d3d12_resource_desc(device, &desc, name, MemoryLocation::GpuOnly)
 }
 
 /// A piece of 512 bytes for a resource of this category.

@@ -17,6 +17,7 @@ use Rattle.gpu_d3d12_trace.specs.Numbers.{IsSeparator, AreNumbers, numbers_word}
 own : IsNumeralModel (AllDigits 10) (digits_value 10)
 own = numerals_by_value (AllDigits 10) tells_digits
 
+-- it has 32 bits
 abbrev pub IsSmall : ℕ → Type 0
 IsSmall n = n < 2 ^ 32
 

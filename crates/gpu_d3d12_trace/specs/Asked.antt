@@ -16,6 +16,7 @@ abbrev pub shape_initial : ResourceShape → ResourceStateOrBarrierLayout
 shape_initial (InState desc state) = ResourceState state
 shape_initial (InLayout desc layout formats) = BarrierLayout layout
 
+-- the same of a question, where there is one
 abbrev pub request_initial : Option ResourceRequest → Option ResourceStateOrBarrierLayout
 request_initial None = None
 request_initial (Some request) = Some (shape_initial request.shape)

@@ -7,6 +7,7 @@ use Rattle.gpu_trace_lines.specs.Ask.{location_word, budget_word, FitsBudget}
 use Rattle.gpu_trace_lines.specs.Words.{IsName}
 use Rattle.gpu_d3d12_trace.specs.Resource.{category_word, wanted_words, FitsWanted}
 
+-- a command's words
 abbrev pub words : Command → List (List ℕ)
 words (Alloc key size alignment location category name) =
     codes "alloc" ∷ decimal key ∷ decimal size ∷ decimal alignment ∷ location_word location ∷ category_word category ∷ string_bytes name ∷ []

@@ -16,6 +16,7 @@ use Rattle.gpu_d3d12_trace.specs.declared.setting.Setting.TheVariants.{Tier, Int
 use Rattle.gpu_d3d12_trace.specs.declared.setting.Version.{Version}
 use Rattle.gpu_d3d12_trace.specs.declared.setting.Version.TheVariants.{Device, Device10, Device12}
 
+-- what the lines of the configuration said
 pub record Configured : Type 0 where
   -- the heap tier, or the code with which the device can't tell it
   pub tier : Option (Result ResourceHeapTier ℤ)
@@ -25,6 +26,7 @@ pub record Configured : Type 0 where
   -- which questions of the device are refused, by their number
   pub refusals : List (ℕ × Refusal)
 
+-- before the first of them
 abbrev pub nothing_configured : Configured
 nothing_configured = record { tier = None; version = None; sizes = None; refusals = [] }
 
@@ -33,6 +35,7 @@ abbrev pub once : {A : Type 0} → Option A → Configured → Option Configured
 once None c = Some c
 once (Some was) c = None
 
+-- block sizes are set once, and each refusal is one more; a heap, a memory type and a page size are none of a DirectX 12 trace
 abbrev pub configured_shared : Configured → device.Setting → Option Configured
 configured_shared c (BlockSizes device host max_device max_host) = once c.sizes (record c { sizes = Some (sizes_of device host max_device max_host) })
 configured_shared c (Refuse question refusal) = Some (record c { refusals = c.refusals ++ (question, refusal) ∷ [] })
@@ -58,6 +61,7 @@ plan_by c = record { script = c.refusals; questions = 0; issued = 0 }
 abbrev pub version_by : Configured → Version
 version_by c = unwrap_or c.version Device12
 
+-- the sizes that were set, or those without a choice
 abbrev pub sizes_by : Configured → Sizes
 sizes_by c = unwrap_or c.sizes default_sizes
 

@@ -10,6 +10,7 @@ use Rattle.gpu_d3d12_trace.specs.declared.line.Line.{Line}
 use Rattle.gpu_d3d12_trace.specs.declared.line.Line.TheVariants as lines
 use Rattle.gpu_d3d12_trace.specs.declared.setting.Setting.{Setting}
 
+-- the one word that asks what the device was asked
 abbrev pub asked_words : List (List ℕ)
 asked_words = codes "asked" ∷ []
 
@@ -49,6 +50,7 @@ pub record IsNothing (line : List ℕ) : Type 0 where
   pub gives : IsBlank line → ⊥
   pub says : IsAscii line → SaysNothing (words_of line)
 
+-- what a line says: nothing, if it is blank; what can't be read; or what its words say
 abbrev pub Means : List ℕ → Line → Type 0
 Means line lines.Blank = IsBlank line
 Means line lines.Bad = IsNothing line

@@ -26,6 +26,7 @@ use Rattle.gpu_d3d12_trace.specs.declared.reply.Reply.TheVariants.{Made, Refused
 
 -- ---- pieces and resources
 
+-- the place of a new allocation, and its heap
 abbrev pub given_text : Given → List ℕ
 given_text g =
     codes "ok type " ++ (decimal g.memory_type ++ (codes " slot " ++ (decimal g.slot ++ (codes " offset " ++ (decimal g.offset ++ (codes " size " ++ (decimal g.size
@@ -38,6 +39,7 @@ place_text (Some g) =
     codes " type " ++ (decimal g.memory_type ++ (codes " slot " ++ (decimal g.slot ++ (codes " offset " ++ (decimal g.offset
     ++ (codes " chunk " ++ decimal (non_zero_u64_get g.chunk)))))))
 
+-- the number and size of a new resource, and its place
 abbrev pub made_text : MadeResource → List ℕ
 made_text m = codes "ok resource " ++ (decimal m.resource.0 ++ (codes " size " ++ (decimal m.size ++ place_text m.piece)))
 
@@ -48,29 +50,34 @@ statistics_text (Some s) = codes "committed " ++ (decimal s.num_allocations ++ (
 
 -- ---- questions
 
+-- the word for a heap type
 abbrev pub type_text : HeapType → List ℕ
 type_text Default = codes "default"
 type_text Upload = codes "upload"
 type_text Readback = codes "readback"
 type_text Custom = codes "custom"
 
+-- the word for a page property
 abbrev pub page_text : CpuPageProperty → List ℕ
 page_text pages.Unknown = codes "unknown"
 page_text pages.NotAvailable = codes "notavailable"
 page_text pages.WriteCombine = codes "writecombine"
 page_text pages.WriteBack = codes "writeback"
 
+-- the word for a memory pool
 abbrev pub pool_text : MemoryPool → List ℕ
 pool_text pools.Unknown = codes "unknown"
 pool_text pools.L0 = codes "l0"
 pool_text pools.L1 = codes "l1"
 
+-- the word for what a heap may hold
 abbrev pub content_text : HeapContent → List ℕ
 content_text All = codes "all"
 content_text Buffers = codes "buffers"
 content_text RtDsTextures = codes "rtdstextures"
 content_text NonRtDsTextures = codes "nonrtdstextures"
 
+-- a heap as it was asked for: its size, its properties, its alignment and what it may hold
 abbrev pub heap_text : Option HeapDesc → List ℕ
 heap_text None = codes "none"
 heap_text (Some d) =
@@ -82,9 +89,11 @@ abbrev pub count_text : Option ℕ → List ℕ
 count_text None = codes "none"
 count_text (Some count) = decimal count
 
+-- the same behind its name
 abbrev pub formats_text : Option ℕ → List ℕ
 formats_text formats = codes " formats " ++ count_text formats
 
+-- the clear value behind its name
 abbrev pub clear_text : Option ClearValue → List ℕ
 clear_text clear = codes " clear " ++ clear_word clear
 
@@ -93,15 +102,18 @@ abbrev pub begins_text : Option ResourceStateOrBarrierLayout → List ℕ
 begins_text None = codes "none"
 begins_text (Some initial) = initial_word initial
 
+-- the same behind its name
 abbrev pub initial_text : Option ResourceStateOrBarrierLayout → List ℕ
 initial_text initial = codes " initial " ++ begins_text initial
 
+-- how many questions came, and what the latest ones were for
 abbrev pub asked_text : (questions : ℕ) → Option HeapDesc → Option ℕ → Option ClearValue → Option ResourceStateOrBarrierLayout → List ℕ
 asked_text questions heap formats clear initial =
     codes "asked " ++ (decimal questions ++ (codes " heap " ++ (heap_text heap ++ (formats_text formats ++ (clear_text clear ++ initial_text initial)))))
 
 -- ---- replies
 
+-- what a session answered to a command
 abbrev pub served_text : told.Reply → List ℕ
 served_text (replies.Given g) = given_text g
 served_text (replies.Made m) = made_text m
@@ -114,6 +126,7 @@ served_text replies.Busy = codes "busy"
 served_text replies.Unbound = codes "unbound"
 served_text (replies.Error e) = codes "error " ++ number_text (number_of e)
 
+-- a reply without the end of its line
 abbrev pub reply_text : Reply → List ℕ
 reply_text Made = codes "ok"
 reply_text (Refused number) = codes "error " ++ number_text number

@@ -21,15 +21,18 @@ use Rattle.gpu_d3d12_trace.specs.Numbers.{AreNumbers, numbers_word}
 
 -- ---- words
 
+-- the word for a category
 abbrev pub category_word : ResourceCategory → List ℕ
 category_word categories.Buffer = codes "buffer"
 category_word categories.RtvDsvTexture = codes "target"
 category_word categories.OtherTexture = codes "texture"
 
+-- whether a resource has memory of its own or lies in a piece
 abbrev pub place_word : Memory → List ℕ
 place_word (Own properties flags) = codes "committed"
 place_word Placed = codes "placed"
 
+-- the word for a dimension
 abbrev pub dimension_word : ResourceDimension → List ℕ
 dimension_word dimensions.Unknown = codes "unknown"
 dimension_word dimensions.Buffer = codes "buffer"
@@ -37,14 +40,16 @@ dimension_word dimensions.Texture1D = codes "texture1d"
 dimension_word dimensions.Texture2D = codes "texture2d"
 dimension_word dimensions.Texture3D = codes "texture3d"
 
+-- how a resource begins: in a state or in a layout, by its number
 abbrev pub initial_word : ResourceStateOrBarrierLayout → List ℕ
 initial_word (ResourceState state) = codes "state:" ++ decimal state
 initial_word (BarrierLayout layout) = codes "layout:" ++ decimal layout
 
+-- a format's number
 abbrev pub format_number : Format → ℕ
 format_number f = f.0
 
--- `,` stands between two formats
+-- the formats in their order, with `,` between each two
 abbrev pub formats_word : List Format → List ℕ
 formats_word [] = codes "none"
 formats_word (f ∷ fs) = numbers_word 44 (map format_number (f ∷ fs))
@@ -56,15 +61,17 @@ clear_word (Some v) = numbers_word 58 (v.format.0 ∷ v.value)
 
 -- ---- what may stand in them
 
+-- states and layouts have 32 bits
 abbrev pub FitsInitial : ResourceStateOrBarrierLayout → Type 0
 FitsInitial (ResourceState state) = state < 2 ^ 32
 FitsInitial (BarrierLayout layout) = layout < 2 ^ 32
 
--- at most sixteen
+-- at most sixteen formats, each of 32 bits
 pub record FitsFormats (fs : List Format) : Type 0 where
   pub few : length fs ≤ 16
   pub fit : All (λ f. f.0 < 2 ^ 32) fs
 
+-- the format and each of the four words have 32 bits
 abbrev pub FitsClear : Option ClearValue → Type 0
 FitsClear None = Unit {0}
 FitsClear (Some v) = AreNumbers (v.format.0 ∷ v.value) × (length v.value ≡ 4)
@@ -109,12 +116,14 @@ FitsMemory location Placed = Unit {0}
 
 -- ---- a whole request
 
+-- a request's words
 abbrev pub wanted_words : WantedResource → List (List ℕ)
 wanted_words w =
     place_word w.memory ∷ location_word w.location ∷ category_word w.category
     ∷ dimension_word w.desc.dimension ∷ decimal w.desc.width ∷ decimal w.desc.height ∷ decimal w.desc.depth_or_array_size ∷ decimal w.desc.flags
     ∷ initial_word w.initial ∷ formats_word w.castable_formats.items ∷ clear_word w.clear_value ∷ string_bytes w.name ∷ []
 
+-- what a request's numbers and name may be
 pub record FitsWanted (w : WantedResource) : Type 0 where
   pub memory_fits : FitsMemory w.location w.memory
   pub desc_fits : FitsDesc w.desc

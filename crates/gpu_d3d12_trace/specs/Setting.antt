@@ -17,6 +17,7 @@ tier_words (Ok Tier1) = codes "1" ∷ []
 tier_words (Ok Tier2) = codes "2" ∷ []
 tier_words (Err code) = codes "refused" ∷ signed_decimal code ∷ []
 
+-- the word for an interface
 abbrev pub version_word : Version → List ℕ
 version_word Device = codes "device"
 version_word Device10 = codes "device10"
@@ -28,6 +29,7 @@ words (Tier tier) = codes "tier" ∷ tier_words tier
 words (Interface version) = codes "version" ∷ version_word version ∷ []
 words (Shared s) = settings.words s
 
+-- a code has 32 bits, and a sign
 abbrev pub FitsTier : Result ResourceHeapTier ℤ → Type 0
 FitsTier (Ok tier) = Unit {0}
 FitsTier (Err code) = FitsSigned w32 code

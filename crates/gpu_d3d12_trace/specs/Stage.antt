@@ -81,6 +81,7 @@ pub record IsNotBegun (c : Configured) (number : ErrorNumber) : Type 0 where
 
 -- ---- what a line does
 
+-- `new` makes the allocator, or tells the cause for which it isn't made, and then the trace is closed
 abbrev pub Begins : Configured → Outcome Reply → Stage → Type 0
 Begins c (Replied Made) (Running s) = IsFresh c s
 Begins c (Replied (Refused number)) Closed = IsNotBegun c number
@@ -92,15 +93,17 @@ Configures c None Bad new = new ≡ Configuring c
 Configures c (Some d) Nothing new = new ≡ Configuring d
 Configures c _ _ _ = ⊥
 
+-- a command is served by the session, and answered
 abbrev pub Commands : SessionValue SimD3D12 → Command → Outcome Reply → Stage → Type 0
 Commands s command (Replied (Served reply)) (Running t) = ServesCommand simulated s command reply t
 Commands s command _ _ = ⊥
 
+-- what the device was asked is told, and nothing changes
 abbrev pub Tells : SessionValue SimD3D12 → Outcome Reply → Stage → Type 0
 Tells s (Replied reply) new = Shows (device_of s.allocator.device) reply × (new ≡ Running s)
 Tells s _ _ = ⊥
 
--- all blocks went back: what is left is what the device held beside them, the resources that weren't released
+-- `destroy` tells how much the device holds beside the blocks, which went back: the resources that weren't released; and closes the trace
 abbrev pub Ends : SessionValue SimD3D12 → Outcome Reply → Stage → Type 0
 Ends s (Replied (Held count)) Closed = count ≡ map_len (beside_of simulated s.allocator)
 Ends s _ _ = ⊥
@@ -109,17 +112,20 @@ Ends s _ _ = ⊥
 abbrev pub Stops : Stage → Outcome Reply → Stage → Type 0
 Stops old did new = (did ≡ Bad) × (new ≡ old)
 
+-- in the configuration a setting or `new` may come
 abbrev pub DoesConfiguring : Configured → Line → Outcome Reply → Stage → Type 0
 DoesConfiguring c (lines.Configures s) did new = Configures c (configured_by c s) did new
 DoesConfiguring c lines.New did new = Begins c did new
 DoesConfiguring c _ did new = Stops (Configuring c) did new
 
+-- with the allocator there a command, `asked` or `destroy` may come
 abbrev pub DoesRunning : SessionValue SimD3D12 → Line → Outcome Reply → Stage → Type 0
 DoesRunning s (lines.Asks command) did new = Commands s command did new
 DoesRunning s lines.Asked did new = Tells s did new
 DoesRunning s lines.Destroy did new = Ends s did new
 DoesRunning s _ did new = Stops (Running s) did new
 
+-- what a line does that isn't blank; behind the end none may come
 abbrev pub DoesIn : Stage → Line → Outcome Reply → Stage → Type 0
 DoesIn (Configuring c) l did new = DoesConfiguring c l did new
 DoesIn (Running s) l did new = DoesRunning s l did new
@@ -134,5 +140,6 @@ Does old l did new = DoesIn old l did new
 abbrev pub DoesText : Stage → List ℕ → Outcome Reply → Stage → Type 0
 DoesText old line did new = (l : Line) × Means line l × Does old l did new
 
+-- the stage and the outcome that a call answers are what the line does
 abbrev pub MatchDone : (Outcome Reply → Stage → Type 0) → Stage × Outcome Reply → Type 0
 MatchDone does r = does r.1 r.0

@@ -42,10 +42,11 @@ DidD3D12 old line (Replied (replies.D3D12 r)) (D3D12 new) = d3d12.DoesText old l
 DidD3D12 old line Bad (D3D12 new) = d3d12.DoesText old line Bad new
 DidD3D12 old line _ _ = ⊥
 
--- the lines that a Metal trace and a DirectX 12 trace begin with
+-- the line that a Metal trace begins with
 abbrev pub metal_line : List ℕ
 metal_line = codes "metal"
 
+-- the line that a DirectX 12 trace begins with
 abbrev pub d3d12_line : List ℕ
 d3d12_line = codes "d3d12"
 

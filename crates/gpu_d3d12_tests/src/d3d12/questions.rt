@@ -3,7 +3,7 @@
 use super::*;
 use gpu_d3d12::{
     ResourceCreateDesc, ResourceQuestion, ResourceStateOrBarrierLayout, ResourceType,
-    allocation_info_of, create_committed, create_placed, question_for,
+    allocation_info_of, create_committed, create_placed,
 };
 use gpu_device::d3d12::{
     ClearValue, CpuPageProperty, D3D12Device, HeapFlags, HeapProperties, HeapType, ID3D12Heap,
@@ -44,38 +44,6 @@ fn asked<'a>(
         clear_value: Some(&CLEAR),
         initial_state_or_layout,
         resource_type: &ResourceType::Placed,
-    }
-}
-
-/// The error's number where there is no question.
-fn number_of(answer: Result<ResourceQuestion>) -> u32 {
-    match answer {
-        Ok(_) => 0,
-        Err(AllocationError::BarrierLayoutNeedsDevice10) => 7,
-        Err(AllocationError::CastableFormatsRequiresEnhancedBarriers) => 8,
-        Err(AllocationError::CastableFormatsRequiresAtLeastDevice12) => 9,
-        Err(_) => 10,
-    }
-}
-
-#[test]
-fn questions_by_interface(rt: HostRuntime) -> Outcome {
-    let desc = buffer(512);
-    let formats = [Format(28)];
-    let state = asked(&desc, &formats, IN_STATE);
-    let layout = asked(&desc, &formats, IN_LAYOUT);
-    let plain = asked(&desc, &[], IN_LAYOUT);
-    let first = ID3D12DeviceVersion::Device(());
-    let tenth = ID3D12DeviceVersion::Device10(());
-    let twelfth = ID3D12DeviceVersion::Device12(());
-    assert!(&rt; number_of(question_for(&twelfth, &state)) == 8);
-    assert!(&rt; number_of(question_for(&first, &layout)) == 9);
-    assert!(&rt; number_of(question_for(&tenth, &layout)) == 9);
-    assert!(&rt; number_of(question_for(&first, &plain)) == 7);
-    assert!(&rt; number_of(question_for(&first, &asked(&desc, &[], IN_STATE))) == 0);
-    match (question_for(&twelfth, &plain), question_for(&tenth, &plain)) {
-        (Ok(ResourceQuestion::InLayoutWithFormats(1)), Ok(ResourceQuestion::InLayout(1))) => Ok(()),
-        (_, _) => Err(Fail::from("another question")),
     }
 }
 

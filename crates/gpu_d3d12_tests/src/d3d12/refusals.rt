@@ -57,27 +57,3 @@ fn a_tier_that_is_not_told(rt: HostRuntime) -> Outcome {
         Err((_, _)) => Err(Fail::from("another error, or another device")),
     }
 }
-
-fn invalid(a: &mut Allocator<SimD3D12>) -> Outcome {
-    for (size, alignment) in [(0, 1), (1, 3), (1, 0)] {
-        let desc = AllocationCreateDesc {
-            size,
-            alignment,
-            ..piece_for(MemoryLocation::GpuOnly, ResourceCategory::Buffer)
-        };
-        match a.allocate(&Discard, &desc) {
-            Err(AllocationError::InvalidAllocationCreateDesc) => {}
-            _ => return Err(Fail::from("an invalid description was taken")),
-        }
-    }
-    Ok(())
-}
-
-#[test]
-fn invalid_descriptions(rt: HostRuntime) -> Outcome {
-    let mut a = made(rt.alloc(), ResourceHeapTier::Tier2, &[])?;
-    let done = invalid(&mut a);
-    let device = destroyed(a);
-    assert!(&rt; device.questions() == 0);
-    done
-}
