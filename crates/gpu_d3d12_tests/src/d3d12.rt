@@ -5,6 +5,7 @@ mod log_lines;
 mod pieces;
 mod questions;
 mod refusals;
+mod refused;
 mod resources;
 mod sessions;
 

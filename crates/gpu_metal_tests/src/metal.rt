@@ -4,6 +4,7 @@ mod ample;
 mod foreign;
 mod log_lines;
 mod refusals;
+mod refused;
 mod rows;
 mod sessions;
 

@@ -1,0 +1,81 @@
+//! A few calls, while the host refuses one request for memory. With ample memory the test passes. Where one request was refused it
+//! fails with a text of its own, after all else held: `tools/check_refused` refuses each in turn, and looks for that text. So a
+//! call that takes memory and tells of no refusal is found.
+
+use super::resources::{IN_STATE, asked, own_memory};
+use super::*;
+use gpu_d3d12::{Resource, ResourceType};
+use std::process::Abort;
+
+/// What a run ends with in which one request was refused.
+const TOLD: &str = "one call was refused, and nothing was lost";
+
+/// How a test ends in which so many calls were refused.
+fn ends(refused: u64) -> Outcome {
+    match refused {
+        0 => Ok(()),
+        1 => Err(Fail::new(TOLD)),
+        _ => Err(Fail::new("more than one call was refused")),
+    }
+}
+
+/// An allocator whose device holds nothing; else its device came back so.
+fn begin(rt: &impl Abort, alloc: Global) -> Option<Allocator<SimD3D12>> {
+    let device = SimD3D12::new(alloc, Ok(ResourceHeapTier::Tier2), Vec::new(alloc));
+    match Allocator::new(alloc, described(device)) {
+        Ok(a) => Some(a),
+        Err((_, back)) => {
+            assert!(rt; back.device().held() == 0);
+            None
+        }
+    }
+}
+
+/// Allocates a piece, names it anew and frees it; how many of these calls were refused.
+fn piece_comes_and_goes(a: &mut Allocator<SimD3D12>, location: MemoryLocation) -> u64 {
+    match a.allocate(&Discard, &piece_for(location, ResourceCategory::Buffer)) {
+        Err(_) => 1,
+        Ok(mut allocation) => {
+            let renamed = a.rename_allocation(
+                &mut allocation,
+                "a name of more than thirty bytes, kept apart",
+            );
+            let freed = a.free(&Discard, allocation);
+            u64::from(renamed.is_err()) + u64::from(freed.is_err())
+        }
+    }
+}
+
+/// Makes a resource and gives it back; how many of these calls were refused.
+fn resource_comes_and_goes(a: &mut Allocator<SimD3D12>, memory: &ResourceType) -> u64 {
+    let made: std::result::Result<Resource, _> = a.create_resource(
+        &Discard,
+        &asked(&buffer(65536), &[], IN_STATE, memory),
+    );
+    match made {
+        Err(_) => 1,
+        Ok(resource) => u64::from(a.free_resource(&Discard, resource).is_err()),
+    }
+}
+
+/// Looks at what is allocated; how many of these calls were refused.
+fn looks(a: &Allocator<SimD3D12>) -> u64 {
+    u64::from(a.generate_report().is_err()) + u64::from(a.leak_texts().is_err())
+}
+
+#[test]
+fn each_call_of_the_directx_12_allocator_tells_of_its_refusal(rt: HostRuntime) -> Outcome {
+    let Some(mut a) = begin(&rt, rt.alloc()) else {
+        return Err(Fail::new(TOLD));
+    };
+    let mut refused = 0;
+    refused += piece_comes_and_goes(&mut a, MemoryLocation::GpuOnly);
+    refused += piece_comes_and_goes(&mut a, MemoryLocation::CpuToGpu);
+    refused += looks(&a);
+    refused += resource_comes_and_goes(&mut a, &ResourceType::Placed);
+    refused += resource_comes_and_goes(&mut a, &own_memory());
+    refused += u64::from(a.set_budget(0, Some(1)).is_err());
+    let held = destroyed(a).held();
+    assert!(&rt; held == 0);
+    ends(refused)
+}
