@@ -1,5 +1,5 @@
 -- Samples of what memory types hold, one for each command, and what is told of several.
-use Rattle.std.specs.Prelude.{ℕ, ◌-◌, ◌+◌, ◌^◌, ◌==◌, if◌then◌else◌, List, [], ◌∷◌, Option, min, max, length, slice_range}
+use Rattle.std.specs.Prelude.{ℕ, ◌-◌, ◌+◌, ◌^◌, ◌==◌, if◌then◌else◌, List, [], ◌∷◌, Option, min, max, length, slice_range, zero, suc, ◌++◌}
 use Rattle.std.specs.List.{slice_index_or}
 use Rattle.gpu_slots.specs.TypeState.{Slot, capacity_of}
 use Rattle.gpu_slots.specs.TypeReport.{allocated_of}
@@ -58,3 +58,8 @@ column_count samples = min (length samples) 1000
 -- the samples of the j-th of so many columns: all columns have as many, but for one
 unfoldable pub column : (count j : ℕ) → List Sample → List Sample
 column count j samples = slice_range samples (place count (length samples) j) (place count (length samples) (j + 1))
+
+-- the samples of the first n columns
+abbrev pub columns : (count : ℕ) → List Sample → (n : ℕ) → List Sample
+columns count samples zero = []
+columns count samples (suc n) = columns count samples n ++ column count n samples
