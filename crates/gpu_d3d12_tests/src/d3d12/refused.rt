@@ -68,14 +68,19 @@ fn each_call_of_the_directx_12_allocator_tells_of_its_refusal(rt: HostRuntime) -
     let Some(mut a) = begin(&rt, rt.alloc()) else {
         return Err(Fail::new(TOLD));
     };
-    let mut refused = 0;
-    refused += piece_comes_and_goes(&mut a, MemoryLocation::GpuOnly);
-    refused += piece_comes_and_goes(&mut a, MemoryLocation::CpuToGpu);
-    refused += looks(&a);
-    refused += resource_comes_and_goes(&mut a, &ResourceType::Placed);
-    refused += resource_comes_and_goes(&mut a, &own_memory());
-    refused += u64::from(a.set_budget(0, Some(1)).is_err());
+    let told = [
+        piece_comes_and_goes(&mut a, MemoryLocation::GpuOnly),
+        piece_comes_and_goes(&mut a, MemoryLocation::CpuToGpu),
+        looks(&a),
+        resource_comes_and_goes(&mut a, &ResourceType::Placed),
+        resource_comes_and_goes(&mut a, &own_memory()),
+        u64::from(a.set_budget(0, Some(1)).is_err()),
+    ];
     let held = destroyed(a).held();
     assert!(&rt; held == 0);
+    let mut refused: u64 = 0;
+    for one in told {
+        refused = refused.saturating_add(one);
+    }
     ends(refused)
 }

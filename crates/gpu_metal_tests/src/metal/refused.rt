@@ -45,12 +45,17 @@ fn each_call_of_the_metal_allocator_tells_of_its_refusal(rt: HostRuntime) -> Out
     let Some(mut a) = begin(&rt, rt.alloc()) else {
         return Err(Fail::new(TOLD));
     };
-    let mut refused = 0;
-    refused += piece_comes_and_goes(&mut a, MemoryLocation::GpuOnly);
-    refused += piece_comes_and_goes(&mut a, MemoryLocation::CpuToGpu);
-    refused += u64::from(a.generate_report().is_err());
-    refused += u64::from(a.set_budget(0, Some(1)).is_err());
+    let told = [
+        piece_comes_and_goes(&mut a, MemoryLocation::GpuOnly),
+        piece_comes_and_goes(&mut a, MemoryLocation::CpuToGpu),
+        u64::from(a.generate_report().is_err()),
+        u64::from(a.set_budget(0, Some(1)).is_err()),
+    ];
     let held = a.destroy().held();
     assert!(&rt; held == 1);
+    let mut refused: u64 = 0;
+    for one in told {
+        refused = refused.saturating_add(one);
+    }
     ends(refused)
 }
