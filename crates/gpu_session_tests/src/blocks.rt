@@ -67,7 +67,9 @@ fn a_block_serves_a_list_of_commands(rt: HostRuntime) -> std::result::Result<(),
         ("unbound", 0, 0),
         ("busy", 0, 0),
     ];
-    let Ok(mut session) = Session::new(rt.alloc(), 4096, 1) else {
+    let page: u64 = 1;
+    assert!(&rt; page.is_power_of_two());
+    let Ok(mut session) = Session::new(rt.alloc(), 4096, page) else {
         return Err(Fail::from("the block can't be made"));
     };
     let Ok(replies) = session.run(rt.alloc(), &Discard, &commands) else {
