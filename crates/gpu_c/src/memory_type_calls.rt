@@ -4,8 +4,8 @@
 
 ghost use Rattle.std.specs.Prelude.{◌≡◌, ◌≢◌, ◌↔◌, [], ◌∷◌, Some, None, IsSome, IsSomeAnd, IsTrue, IsUtf8};
 ghost use Rattle.std.specs.Int.{is_power_of_two};
-ghost use Rattle.gpu_slots.specs.TypeState.{slot_at, block_number};
-ghost use Rattle.gpu_slots.specs.TypeReport.{pieces_in, statistics_in};
+ghost use Rattle.gpu_core.specs.TypeState.{slot_at, block_number};
+ghost use Rattle.gpu_core.specs.TypeReport.{pieces_in, statistics_in};
 ghost use Rattle.gpu_c.specs.Handle.{Changes};
 ghost use Rattle.gpu_c_blocks.specs.Status as status;
 ghost use Rattle.gpu_c_blocks.specs.Request.{IsServed};

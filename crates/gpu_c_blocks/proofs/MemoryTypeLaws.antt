@@ -5,11 +5,11 @@ use Rattle.std.proofs.lemmas.Bool.{eqb-true}
 use Rattle.gpu_values.specs.Sizes.{Sizes}
 use Rattle.gpu_values.specs.declared.allocation_type.AllocationType.{AllocationType}
 use Rattle.gpu_block_pieces.specs.Request.{Request, request}
-use Rattle.gpu_slots.specs.TypeState.{Slot, TypeState, slot_at, capacity_of, fits_budget, KeepsOneEmptyAtMost}
-use Rattle.gpu_slots.specs.Slots.{AreSound}
-use Rattle.gpu_slots.specs.TypeTake.{has_own_block, PreparesPiece, NeedsBlock, Installs}
-use Rattle.gpu_slots.specs.TypeRelease.{SlotHolds, IsLive, has_several, ReleasesPiece, RenamesPiece}
-use Rattle.gpu_slots.specs.declared.piece.Piece.{Piece}
+use Rattle.gpu_core.specs.TypeState.{Slot, TypeState, slot_at, capacity_of, fits_budget, KeepsOneEmptyAtMost}
+use Rattle.gpu_core.specs.Slots.{AreSound}
+use Rattle.gpu_core.specs.TypeTake.{has_own_block, PreparesPiece, NeedsBlock, Installs}
+use Rattle.gpu_core.specs.TypeRelease.{SlotHolds, IsLive, has_several, ReleasesPiece, RenamesPiece}
+use Rattle.gpu_core.specs.declared.piece.Piece.{Piece}
 use Rattle.gpu_core.specs.declared.need.NeedBlock.{NeedBlock}
 use Rattle.gpu_c_blocks.specs.Request.{kind_named}
 use Rattle.gpu_c_blocks.specs.MemoryType.{AwaitingState, state_of, type_of, told_piece, told_block, SlotHasPiece, IsLiveIn, asked_of_type, TakesPiece, AwaitsNeeded, Awaits, InstallsBy, InstallsAwaited}

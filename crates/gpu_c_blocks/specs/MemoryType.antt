@@ -6,12 +6,12 @@ use Rattle.gpu_values.specs.Sizes.{Sizes, only_size, with_largest}
 use Rattle.gpu_block.specs.Block.{HoldsPiece}
 use Rattle.gpu_block_views.specs.declared.pieces.BlockStatistics.{BlockStatistics}
 use Rattle.gpu_block_pieces.specs.Request.{Request, request}
-use Rattle.gpu_slots.specs.TypeState.{Slot, TypeState, slot_at, capacity_of, shared_count, fits_budget, KeepsOneEmptyAtMost}
-use Rattle.gpu_slots.specs.Slots.{AreSound}
-use Rattle.gpu_slots.specs.TypeTake.{has_own_block, next_shared_size, NoneServes, PreparesPiece, NeedsBlock, Installs}
+use Rattle.gpu_core.specs.TypeState.{Slot, TypeState, slot_at, capacity_of, shared_count, fits_budget, KeepsOneEmptyAtMost}
+use Rattle.gpu_core.specs.Slots.{AreSound}
+use Rattle.gpu_core.specs.TypeTake.{has_own_block, next_shared_size, NoneServes, PreparesPiece, NeedsBlock, Installs}
 use Rattle.gpu_core.specs.TypePrepare.{CanInstall}
-use Rattle.gpu_slots.specs.TypeRelease.{has_several, ReleasesPiece, RenamesPiece}
-use Rattle.gpu_slots.specs.declared.piece.Piece.{Piece}
+use Rattle.gpu_core.specs.TypeRelease.{has_several, ReleasesPiece, RenamesPiece}
+use Rattle.gpu_core.specs.declared.piece.Piece.{Piece}
 use Rattle.gpu_core.specs.declared.need.NeedBlock.{NeedBlock}
 use Rattle.gpu_c_blocks.specs.Request.{IsServed, kind_named}
 use Rattle.gpu_c_blocks.specs.declared.memory_type_values.MemoryTypeSettings.{MemoryTypeSettings}

@@ -2,8 +2,8 @@
 
 ghost use Rattle.std.specs.Prelude.{◌≡◌, ◌≢◌, ◌<◌, ◌≤◌, ◌+◌, ◌^◌, ◌↔◌, [], ◌∷◌, Some, None, true, false, IsSome, IsTrue, IsUtf8, MatchOption};
 ghost use Rattle.std.specs.Int.{is_power_of_two};
-ghost use Rattle.gpu_slots.specs.TypeState.{slot_at, capacity_of, block_number, fits_budget};
-ghost use Rattle.gpu_slots.specs.TypeReport.{pieces_in, statistics_in};
+ghost use Rattle.gpu_core.specs.TypeState.{slot_at, capacity_of, block_number, fits_budget};
+ghost use Rattle.gpu_core.specs.TypeReport.{pieces_in, statistics_in};
 ghost use Rattle.gpu_c_blocks.specs.Status as status;
 ghost use Rattle.gpu_c_blocks.specs.Request.{IsServed};
 ghost use Rattle.gpu_c_blocks.specs.Status.{IsOneOf};
@@ -23,7 +23,7 @@ use crate::status::{
 use crate::virtual_block_values::PieceView;
 use crate::visit::{first_from, name_from, no_piece};
 use gpu_core::{MemoryType, NeedBlock, Prepared};
-use gpu_slots::{Piece, Request};
+use gpu_core::{Piece, Request};
 use gpu_values::AllocationSizes;
 use std::alloc::Global;
 use std::marker::Model;

@@ -8,11 +8,11 @@ use Rattle.gpu_block_pieces.specs.FreeList.{Extent}
 use Rattle.gpu_values.specs.Refusal.{Refusal, host_out_of_memory}
 use Rattle.gpu_block.specs.Dedicated.{Dedicated, IsWhole, IsNotHeld}
 use Rattle.gpu_block.specs.Block.{Block, free_list, dedicated, HoldsPiece, IsSoundBlock, IsReleaseRefusalIn, IsRenameRefusalIn}
-use Rattle.gpu_slots.specs.TypeState.{Slot}
-use Rattle.gpu_slots.specs.TypeRelease.{SlotHolds, IsFreeRefusal, IsNameRefusal}
-use Rattle.gpu_slots.specs.Slots.{SlotIsSound}
-use Rattle.gpu_slots.specs.declared.piece.Piece.{Piece}
-use Rattle.gpu_slots.proofs.Found.{only_one}
+use Rattle.gpu_core.specs.TypeState.{Slot}
+use Rattle.gpu_core.specs.TypeRelease.{SlotHolds, IsFreeRefusal, IsNameRefusal}
+use Rattle.gpu_core.specs.Slots.{SlotIsSound}
+use Rattle.gpu_core.specs.declared.piece.Piece.{Piece}
+use Rattle.gpu_core.proofs.Found.{only_one}
 
 first_number : (o : Option Extent) (size : ℕ) (x : Extent) → IfSome o (λ y. (y.start ≡ 0) × (y.offset ≡ 0) × (y.end ≡ size) × (y.number ≡ 1)) → Contains (option_to_list o) x → x.number ≡ 1
 first_number None size x whole h = (let l = h.1 in absurd (omega arith))

@@ -8,15 +8,15 @@ use Rattle.gpu_block_pieces.specs.FreeList.{Extent}
 use Rattle.gpu_block.specs.Dedicated.{held_extents, renamed, whole_extent}
 use Rattle.gpu_block_pieces.specs.Request.{Request}
 use Rattle.gpu_block.specs.Block.{Block, free_list, dedicated, extents_of, is_general, HoldsPiece, TakesIn, ReleasesIn, RenamesIn, IsSoundBlock}
-use Rattle.gpu_slots.specs.TypeState.{Slot, slot_at, slots_sum, shared_in, shared_count, HasEmptyBlock, IsOneGap, HasOneGap, KeepsOneEmptyAtMost}
-use Rattle.gpu_slots.specs.TypeTake.{PreparesPiece}
-use Rattle.gpu_slots.specs.TypeRelease.{Goes, SlotReleases, ReleasesPiece, SlotRenames, RenamesPiece}
-use Rattle.gpu_slots.specs.Slots.{AreSound, SlotIsSound}
-use Rattle.gpu_slots.specs.declared.piece.Piece.{Piece}
+use Rattle.gpu_core.specs.TypeState.{Slot, slot_at, slots_sum, shared_in, shared_count, HasEmptyBlock, IsOneGap, HasOneGap, KeepsOneEmptyAtMost}
+use Rattle.gpu_core.specs.TypeTake.{PreparesPiece}
+use Rattle.gpu_core.specs.TypeRelease.{Goes, SlotReleases, ReleasesPiece, SlotRenames, RenamesPiece}
+use Rattle.gpu_core.specs.Slots.{AreSound, SlotIsSound}
+use Rattle.gpu_core.specs.declared.piece.Piece.{Piece}
 use Rattle.gpu_block_pieces.proofs.Empty.{empty_gap, empty_only}
 use Rattle.gpu_block_pieces.proofs.Live.{piece_held, piece_of}
 use Rattle.gpu_block_pieces.proofs.Separation.{within_of}
-use Rattle.gpu_slots.proofs.Slotted.{OnlyAt, set_only, at_below}
+use Rattle.gpu_core.proofs.Slotted.{OnlyAt, set_only, at_below}
 
 -- ---- blocks that hold a piece
 

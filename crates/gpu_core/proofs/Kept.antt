@@ -5,14 +5,14 @@ use Rattle.std.proofs.lemmas.Bool.{lt-ltb}
 use Rattle.std.specs.Int.NonZero.{non_zero_u64_get}
 use Rattle.gpu_block_pieces.specs.Request.{Request}
 use Rattle.gpu_block.specs.Block.{Block, free_list, dedicated, extents_of, size_of, is_general, TakesIn, RenamesIn}
-use Rattle.gpu_slots.specs.TypeState.{Slot, slot_at, slots_sum, slot_size, shared_in, capacity_of, shared_count, KeepsOneEmptyAtMost}
-use Rattle.gpu_slots.specs.TypeTake.{PreparesPiece, new_slot, with_block}
-use Rattle.gpu_slots.specs.TypeRelease.{ReleasesPiece, RenamesPiece, SlotRenames}
+use Rattle.gpu_core.specs.TypeState.{Slot, slot_at, slots_sum, slot_size, shared_in, capacity_of, shared_count, KeepsOneEmptyAtMost}
+use Rattle.gpu_core.specs.TypeTake.{PreparesPiece, new_slot, with_block}
+use Rattle.gpu_core.specs.TypeRelease.{ReleasesPiece, RenamesPiece, SlotRenames}
 use Rattle.gpu_core.specs.TypeInvariant.{AreKept}
-use Rattle.gpu_slots.specs.Slots.{AreSound, SlotIsSound}
-use Rattle.gpu_slots.specs.declared.piece.Piece.{Piece}
-use Rattle.gpu_slots.proofs.Slotted.{OnlyAt, sum-set, sound_after, at_below}
-use Rattle.gpu_slots.proofs.NewSlots.{IsNewSlot, empty_slot, the_end, is_new_slot, with_empty, with_end, put_only}
+use Rattle.gpu_core.specs.Slots.{AreSound, SlotIsSound}
+use Rattle.gpu_core.specs.declared.piece.Piece.{Piece}
+use Rattle.gpu_core.proofs.Slotted.{OnlyAt, sum-set, sound_after, at_below}
+use Rattle.gpu_core.proofs.NewSlots.{IsNewSlot, empty_slot, the_end, is_new_slot, with_empty, with_end, put_only}
 use Rattle.gpu_core.proofs.EmptyBlocks.{one_empty_after, prepared_empty, freed_empty, renamed_empty}
 
 -- a take and a new name keep a block's form and size

@@ -1,3 +1,11 @@
+pub mod Slotted
+pub mod EmptySlots
+pub mod NewSlots
+pub mod Putting
+pub mod Found
+pub mod Starved
+pub mod Bounded
+pub mod Passing
 pub mod Needs
 pub mod EmptyBlocks
 pub mod Dead

@@ -9,7 +9,7 @@ use Rattle.gpu_block_pieces.specs.Place.{HasNoPlace}
 use Rattle.gpu_block_pieces.specs.FreeList.{fresh_free_list}
 use Rattle.std.specs.Prelude.{IsNone}
 use Rattle.gpu_block.specs.Block.{Block, free_list, dedicated, size_of, is_general, TakesIn, IsTakeRefusalIn}
-use Rattle.gpu_slots.specs.TypeTake.{fresh_block}
+use Rattle.gpu_core.specs.TypeTake.{fresh_block}
 use Rattle.gpu_block_pieces.proofs.Determined.{chosen_once}
 use Rattle.gpu_block_pieces.proofs.Empty.{empty_chosen, empty_has_place}
 use Rattle.gpu_core.proofs.Kept.{takes_same}

@@ -11,13 +11,13 @@ use Rattle.gpu_block_pieces.specs.FreeList.{Extent}
 use Rattle.gpu_block_pieces.specs.Request.{Request}
 use Rattle.gpu_values.specs.Sizes.{Sizes}
 use Rattle.gpu_block.specs.Block.{Block, free_list, dedicated, is_general, TakesIn, IsSoundBlock, IsReleaseRefusalIn, IsRenameRefusalIn, extents_of}
-use Rattle.gpu_slots.specs.TypeState.{Slot, TypeState, slot_at}
-use Rattle.gpu_slots.specs.TypeTake.{PreparesPiece, CannotServe, BlockCannotServe, Ready, NeedsBlock, Installs, has_own_block, fresh_block, next_shared_size}
-use Rattle.gpu_slots.specs.TypeRelease.{IsFreeRefusal, IsNameRefusal, Goes, SlotReleases, ReleasesPiece, SlotRenames, RenamesPiece}
+use Rattle.gpu_core.specs.TypeState.{Slot, TypeState, slot_at}
+use Rattle.gpu_core.specs.TypeTake.{PreparesPiece, CannotServe, BlockCannotServe, Ready, NeedsBlock, Installs, has_own_block, fresh_block, next_shared_size}
+use Rattle.gpu_core.specs.TypeRelease.{IsFreeRefusal, IsNameRefusal, Goes, SlotReleases, ReleasesPiece, SlotRenames, RenamesPiece}
 use Rattle.gpu_values.specs.Refusal.{Refusal, host_out_of_memory}
-use Rattle.gpu_slots.specs.Slots.{AreSound, SlotIsSound}
-use Rattle.gpu_slots.proofs.Found.{only_one}
-use Rattle.gpu_slots.specs.declared.piece.Piece.{Piece}
+use Rattle.gpu_core.specs.Slots.{AreSound, SlotIsSound}
+use Rattle.gpu_core.proofs.Found.{only_one}
+use Rattle.gpu_core.specs.declared.piece.Piece.{Piece}
 use Rattle.gpu_block.proofs.Blocks.{take_once_in, release_once_in, rename_once_in}
 use Rattle.gpu_block_pieces.proofs.Determined.{takes_or_none}
 

@@ -1,8 +1,8 @@
 -- What a memory type keeps by each call.
 use Rattle.std.specs.Prelude.{◌≡◌, ℕ, List, Option, IsTrue}
 use Rattle.std.specs.Int.{is_power_of_two}
-use Rattle.gpu_slots.specs.TypeState.{Slot, capacity_of, shared_count, KeepsOneEmptyAtMost}
-use Rattle.gpu_slots.specs.Slots.{AreSound}
+use Rattle.gpu_core.specs.TypeState.{Slot, capacity_of, shared_count, KeepsOneEmptyAtMost}
+use Rattle.gpu_core.specs.Slots.{AreSound}
 
 -- the code's sums are those of the slots, the pages are a power of two, the blocks are sound, and at most one is empty
 pub record AreKept {H : Type 0} (granularity : ℕ) (slots : List (Option (Slot H))) (capacity general : ℕ) : Type 0 where

@@ -2,9 +2,9 @@
 use Rattle.std.specs.Prelude.{◌≡◌, ℕ, Bool, true, false, not}
 use Rattle.gpu_block.specs.Block.{size_of, is_general, HoldsPiece, HasPages, IsSoundBlock, HasPagesApart}
 use Rattle.gpu_values.specs.Sizes.{Sizes}
-use Rattle.gpu_slots.specs.TypeState.{TypeState}
-use Rattle.gpu_slots.specs.TypeTake.{asked, has_own_block, PreparesPiece, Ready, NeedsBlock, has_room}
-use Rattle.gpu_slots.specs.declared.piece.Request as type_requests
+use Rattle.gpu_core.specs.TypeState.{TypeState}
+use Rattle.gpu_core.specs.TypeTake.{asked, has_own_block, PreparesPiece, Ready, NeedsBlock, has_room}
+use Rattle.gpu_core.specs.declared.piece.Request as type_requests
 use Rattle.gpu_core.specs.declared.memory_type.Prepared.{Prepared}
 use Rattle.gpu_core.specs.declared.memory_type.Prepared.TheVariants as prepared
 

@@ -2,18 +2,30 @@
 //! plain values.
 #![tactic(auto)]
 
+mod longest;
 mod memory_type;
 mod need;
+mod piece;
+mod report;
+mod slot;
+mod slots;
+mod statistics;
 pub mod type_laws;
+mod type_leaks;
 
 pub use gpu_block::{
     BlockStatistics, DedicatedBlockAllocator, FreeListAllocator, Gaps, Leak, Leaks, LivePiece,
     Pieces, SubAllocator, laws,
 };
-pub use gpu_slots::{Piece, Request, TypeLeaks};
 pub use gpu_values::{
     AllocationError, AllocationReport, AllocationSizes, AllocationType, AllocatorDebugSettings,
     AllocatorReport, Fault, MemoryBlockReport, MemoryLocation, Result, fmt_bytes,
 };
 pub use memory_type::{MemoryType, Prepared};
 pub use need::{NeedBlock, Room};
+pub use piece::{Piece, Request};
+pub use report::add_slots;
+pub use slot::{Finding, Gone, LiveBlock, find};
+pub use slots::Slots;
+pub use statistics::count_slots;
+pub use type_leaks::TypeLeaks;

@@ -8,7 +8,7 @@ ghost use Rattle.gpu_values.specs.Refusal.{refusal_of};
 use crate::need::{NeedBlock, make_room};
 use gpu_block::SubAllocator;
 use gpu_block_views::{BlockStatistics, Leaks, Pieces};
-use gpu_slots::{
+use crate::{
     Finding, LiveBlock, Piece, Request, Slots, TypeLeaks, add_slots, count_slots, find,
 };
 use gpu_values::{AllocationSizes, AllocationType, AllocatorReport, Result};
@@ -53,7 +53,7 @@ impl<H: Copy + Eq> Drop for MemoryType<H> {
 }
 
 impl<H: Copy + Eq> Model for MemoryType<H> {
-    ghost use Rattle.gpu_slots.specs.TypeState.{TypeState};
+    ghost use Rattle.gpu_core.specs.TypeState.{TypeState};
     ghost use Rattle.gpu_core.specs.TypeInvariant.{AreKept};
 
     ghost Value = { TypeState H };
@@ -70,12 +70,12 @@ impl<H: Copy + Eq> Model for MemoryType<H> {
 }
 
 impl<H: Copy + Eq> MemoryType<H> {
-    ghost use Rattle.gpu_slots.specs.TypeState.{slot_at, capacity_of, shared_count, block_number, fits_budget, KeepsOneEmptyAtMost};
-    ghost use Rattle.gpu_slots.specs.TypeTake.{Installs};
-    ghost use Rattle.gpu_slots.specs.Slots.{AreSound};
+    ghost use Rattle.gpu_core.specs.TypeState.{slot_at, capacity_of, shared_count, block_number, fits_budget, KeepsOneEmptyAtMost};
+    ghost use Rattle.gpu_core.specs.TypeTake.{Installs};
+    ghost use Rattle.gpu_core.specs.Slots.{AreSound};
     ghost use Rattle.gpu_core.specs.TypePrepare.{IsPrepared, CanInstall};
-    ghost use Rattle.gpu_slots.specs.TypeRelease.{has_several, IsLive, IsFreeRefusal, IsNameRefusal, ReleasesPiece, RenamesPiece};
-    ghost use Rattle.gpu_slots.specs.TypeReport.{leaks_in, pieces_in, statistics_in, block_in, counted_with, nothing_counted, type_leaks, with_type};
+    ghost use Rattle.gpu_core.specs.TypeRelease.{has_several, IsLive, IsFreeRefusal, IsNameRefusal, ReleasesPiece, RenamesPiece};
+    ghost use Rattle.gpu_core.specs.TypeReport.{leaks_in, pieces_in, statistics_in, block_in, counted_with, nothing_counted, type_leaks, with_type};
     ghost use Rattle.gpu_block.specs.SubAllocator.{block_of};
     ghost use Rattle.std.specs.Option.{option_map};
     ghost use Rattle.gpu_values.specs.Report.{report_of};

@@ -5,11 +5,11 @@ ghost use Rattle.std.specs.Int.{is_power_of_two};
 ghost use Rattle.gpu_block_pieces.specs.Request.{request};
 ghost use Rattle.gpu_block.specs.SubAllocator.{block_of};
 ghost use Rattle.gpu_block.specs.Block.{TakesIn, HoldsPiece, HasPages, IsSoundBlock, HasPagesApart};
-ghost use Rattle.gpu_slots.specs.TypeTake.{fresh_block, asked};
+ghost use Rattle.gpu_core.specs.TypeTake.{fresh_block, asked};
 ghost use Rattle.gpu_values.specs.declared.error.AllocationError.TheVariants.{HostOutOfMemory};
 
 use gpu_block::{DedicatedBlockAllocator, FreeListAllocator, SubAllocator};
-use gpu_slots::Request;
+use crate::Request;
 use gpu_values::{AllocationType, Result};
 use std::alloc::Global;
 use std::marker::Model;
@@ -26,7 +26,7 @@ pub struct Room {
 
 impl Model for Room {
     ghost use Rattle.std.specs.Int.NonZero.{non_zero_u64_get};
-    ghost use Rattle.gpu_slots.specs.TypeTake.{Ready};
+    ghost use Rattle.gpu_core.specs.TypeTake.{Ready};
     ghost use Rattle.gpu_block.specs.SubAllocator.{block_of};
 
     ghost Value = { Ready };

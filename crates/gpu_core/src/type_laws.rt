@@ -5,13 +5,13 @@ ghost use Rattle.gpu_block_pieces.specs.FreeList.{fresh_free_list};
 ghost use Rattle.gpu_block_pieces.specs.Request.{Request};
 ghost use Rattle.gpu_block_pieces.specs.Place.{IsBestFit, HasNoPlace};
 ghost use Rattle.gpu_block.specs.Block.{Block, extents_of, is_general, TakesIn, ReleasesIn, IsSoundBlock};
-ghost use Rattle.gpu_slots.specs.TypeTake.{fresh_block, has_own_block, PreparesPiece, Ready, NeedsBlock, Installs};
-ghost use Rattle.gpu_slots.specs.TypeState.{IsOneGap, Slot, TypeState};
-ghost use Rattle.gpu_slots.specs.TypeRelease.{IsFreeRefusal, IsNameRefusal, ReleasesPiece, RenamesPiece};
+ghost use Rattle.gpu_core.specs.TypeTake.{fresh_block, has_own_block, PreparesPiece, Ready, NeedsBlock, Installs};
+ghost use Rattle.gpu_core.specs.TypeState.{IsOneGap, Slot, TypeState};
+ghost use Rattle.gpu_core.specs.TypeRelease.{IsFreeRefusal, IsNameRefusal, ReleasesPiece, RenamesPiece};
 ghost use Rattle.gpu_values.specs.Refusal.{Refusal, host_out_of_memory};
-ghost use Rattle.gpu_slots.specs.Slots.{AreSound, SlotIsSound};
+ghost use Rattle.gpu_core.specs.Slots.{AreSound, SlotIsSound};
 ghost use Rattle.gpu_values.specs.Sizes.{Sizes};
-ghost use Rattle.gpu_slots.specs.declared.piece.Piece.{Piece};
+ghost use Rattle.gpu_core.specs.declared.piece.Piece.{Piece};
 
 /// A fresh shared block has a place for every request up to its size, and it begins at 0.
 pub fn fresh_block_has_place()

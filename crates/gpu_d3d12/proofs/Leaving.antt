@@ -4,7 +4,7 @@ use Rattle.std.proofs.Common.{◌≡◌, ◌∙◌, ◌+◌, ◌≤◌, refl, sy
 use Rattle.std.proofs.lemmas.Bool.{eqb-true}
 use Rattle.std.specs.FinMap.{get}
 use Rattle.gpu_block.specs.Block.{size_of}
-use Rattle.gpu_slots.specs.TypeState.{Slot}
+use Rattle.gpu_core.specs.TypeState.{Slot}
 use Rattle.gpu_device.specs.D3D12.{Held, Entry, Heap}
 use Rattle.gpu_device.specs.declared.d3d12.device.D3D12Device.{Ghosts}
 use Rattle.gpu_device.specs.declared.d3d12.types.HeapDesc.{HeapDesc}

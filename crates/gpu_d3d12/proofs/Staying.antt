@@ -4,7 +4,7 @@ use Rattle.gpu_values.specs.Refusal.{Refusal}
 use Rattle.gpu_device.specs.declared.d3d12.event.ResourcePlace.{ResourcePlace}
 use Rattle.gpu_device.specs.declared.d3d12.device.D3D12Device.{Ghosts}
 use Rattle.gpu_device.specs.declared.d3d12.types.ID3D12Heap.{ID3D12Heap}
-use Rattle.gpu_slots.specs.declared.piece.Piece.{Piece}
+use Rattle.gpu_core.specs.declared.piece.Piece.{Piece}
 use Rattle.gpu_d3d12.specs.DeviceVersion.{device_of, with_device}
 use Rattle.gpu_d3d12.specs.ResourceAnswer.{ResourceAnswer}
 use Rattle.gpu_d3d12.specs.Setup.{kinds_told}

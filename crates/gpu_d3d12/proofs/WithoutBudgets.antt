@@ -1,7 +1,7 @@
 -- A call that meets no budget is the same step where there are no budgets.
 use Rattle.std.proofs.Common.{◌≡◌, ap, ℕ, Bool, true, false, Option, Some, None, Ok, Err, Result}
 use Rattle.gpu_values.specs.Refusal.{Refusal}
-use Rattle.gpu_slots.specs.declared.piece.Piece.{Piece}
+use Rattle.gpu_core.specs.declared.piece.Piece.{Piece}
 use Rattle.gpu_device.specs.declared.d3d12.types.HeapFlags.{HeapFlags}
 use Rattle.gpu_device.specs.declared.d3d12.types.HeapProperties.{HeapProperties}
 use Rattle.gpu_device.specs.declared.d3d12.types.ID3D12Heap.{ID3D12Heap}

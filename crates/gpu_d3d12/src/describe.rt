@@ -1,13 +1,13 @@
 //! What an allocator and an allocation are made from.
 
 ghost use Rattle.std.specs.Prelude.{◌≡◌, false};
-ghost use Rattle.gpu_slots.specs.TypeTake.{asked};
+ghost use Rattle.gpu_core.specs.TypeTake.{asked};
 ghost use Rattle.gpu_d3d12.specs.Category.{category_of};
 ghost use Rattle.gpu_d3d12.specs.Describe.{request_of};
 
 use crate::{ID3D12DeviceVersion, ResourceCategory};
 use gpu_device::d3d12::{D3D12Device, ResourceDesc};
-use gpu_slots::Request;
+use gpu_core::Request;
 use gpu_values::{AllocationSizes, AllocationType, AllocatorDebugSettings, MemoryLocation};
 
 /// What an allocator is made from. It owns the device until `destroy` gives it back.

@@ -1,7 +1,7 @@
 -- The device counts a refusal just where a step met with one; calls of the pool leave what is held beside the blocks, and the records.
 use Rattle.std.proofs.Common.{◌≡◌, ◌∙◌, ℕ, Bool, true, false, List, Option, Some, None, Result, Ok, Err, ap, sym, subst}
 use Rattle.gpu_values.specs.Refusal.{Refusal}
-use Rattle.gpu_slots.specs.declared.piece.Piece.{Piece}
+use Rattle.gpu_core.specs.declared.piece.Piece.{Piece}
 use Rattle.gpu_device.specs.D3D12.{granted_heap}
 use Rattle.gpu_device.specs.D3D12History.{refused_in}
 use Rattle.gpu_device.specs.Granted.{counted}

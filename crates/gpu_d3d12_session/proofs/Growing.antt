@@ -6,7 +6,7 @@ use Rattle.std.proofs.lemmas.Bool.{cases_eq}
 use Rattle.std.proofs.lemmas.List.{length-map, get_or-set_same}
 use Rattle.std.proofs.lemmas.List.Elements.{Contains-append_left, Contains-push}
 use Rattle.gpu_values.specs.Refusal.{Refusal}
-use Rattle.gpu_slots.specs.declared.piece.Piece.{Piece}
+use Rattle.gpu_core.specs.declared.piece.Piece.{Piece}
 use Rattle.gpu_device.specs.D3D12 as entries
 use Rattle.gpu_device.specs.D3D12.{Held, Entry, granted_resource, without_resource}
 use Rattle.gpu_device.specs.D3D12History.{refused_in}

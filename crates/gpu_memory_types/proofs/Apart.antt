@@ -7,11 +7,11 @@ use Rattle.std.proofs.lemmas.List.Elements.{All-contains}
 use Rattle.gpu_block.specs.Block.{Block, free_list, dedicated, size_of, extents_of, IsSoundBlock, HasPages, HasPagesApart}
 use Rattle.gpu_block_pieces.specs.FreeList.{Extent}
 use Rattle.gpu_block_pieces.specs.Place.{page}
-use Rattle.gpu_slots.specs.Slots.{SlotIsSound}
-use Rattle.gpu_slots.specs.TypeRelease.{SlotHolds}
-use Rattle.gpu_slots.specs.TypeState.{Slot, slot_at}
-use Rattle.gpu_slots.specs.declared.piece.Piece.{Piece}
-use Rattle.gpu_slots.proofs.Found.{one_in, only_one}
+use Rattle.gpu_core.specs.Slots.{SlotIsSound}
+use Rattle.gpu_core.specs.TypeRelease.{SlotHolds}
+use Rattle.gpu_core.specs.TypeState.{Slot, slot_at}
+use Rattle.gpu_core.specs.declared.piece.Piece.{Piece}
+use Rattle.gpu_core.proofs.Found.{one_in, only_one}
 use Rattle.gpu_block_pieces.proofs.Separation.{within_of}
 use Rattle.gpu_values.specs.declared.allocation_type.AllocationType.{AllocationType}
 use Rattle.gpu_memory_types.specs.Apart.{EndsInside, IsInside, AreDistinct, SharesNoByte, pieces_in, HasKind, KeepsPages}

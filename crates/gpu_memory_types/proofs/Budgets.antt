@@ -3,7 +3,7 @@ use Rattle.std.proofs.Common.{◌≡◌, ◌∙◌, refl, sym, ap, ⊎_elim, ari
 use Rattle.std.proofs.lemmas.Bool.Decides.{nat_tests}
 use Rattle.std.specs.Prelude.{nat_lt, if◌then◌else◌}
 use Rattle.gpu_values.specs.Refusal.{out_of_memory, budget_exceeded}
-use Rattle.gpu_slots.specs.TypeState.{fits_budget}
+use Rattle.gpu_core.specs.TypeState.{fits_budget}
 use Rattle.gpu_memory_types.specs.Budgets.{budgets, budget_at, block_refusal}
 use Rattle.gpu_memory_types.specs.Types.{Types, type_of}
 use Rattle.gpu_memory_types.proofs.Options.{none_some}

@@ -7,14 +7,14 @@ use Rattle.gpu_values.specs.Refusal.{Refusal, refusal_of}
 use Rattle.gpu_values.specs.Sizes.{Sizes}
 use Rattle.gpu_values.specs.declared.error.AllocationError.{AllocationError}
 use Rattle.gpu_values.specs.declared.error.AllocationError.TheVariants as errors
-use Rattle.gpu_slots.specs.TypeState.{TypeState, Slot, slot_at, capacity_of}
-use Rattle.gpu_slots.specs.TypeRelease.{has_several, ReleasesPiece, RenamesPiece, IsLive, IsNameRefusal}
-use Rattle.gpu_slots.specs.TypeTake.{Ready, Installs, asked, NeedsBlock}
+use Rattle.gpu_core.specs.TypeState.{TypeState, Slot, slot_at, capacity_of}
+use Rattle.gpu_core.specs.TypeRelease.{has_several, ReleasesPiece, RenamesPiece, IsLive, IsNameRefusal}
+use Rattle.gpu_core.specs.TypeTake.{Ready, Installs, asked, NeedsBlock}
 use Rattle.gpu_core.specs.TypePrepare.{IsPrepared}
-use Rattle.gpu_slots.specs.declared.piece.Piece.{Piece}
+use Rattle.gpu_core.specs.declared.piece.Piece.{Piece}
 use Rattle.gpu_core.specs.declared.memory_type.Prepared.{Prepared}
 use Rattle.gpu_core.specs.declared.memory_type.Prepared.TheVariants as prepared
-use Rattle.gpu_slots.specs.declared.piece.Request as type_requests
+use Rattle.gpu_core.specs.declared.piece.Request as type_requests
 use Rattle.gpu_memory_types.specs.Blocks.{slots_at, total_capacity}
 use Rattle.gpu_memory_types.specs.Release.{ReleasesAt}
 use Rattle.gpu_memory_types.specs.Rename.{IsRenamed, IsNotNamed}

@@ -4,13 +4,13 @@ use Rattle.std.proofs.Common.{⊎_elim}
 use Rattle.std.specs.Option.{unwrap_or}
 use Rattle.std.proofs.lemmas.Bool.{cases_eq}
 use Rattle.gpu_block_pieces.proofs.Keyed.{lt_true, lt_false}
-use Rattle.gpu_slots.specs.Slots.{IsEmptyAt}
+use Rattle.gpu_core.specs.Slots.{IsEmptyAt}
 use Rattle.gpu_block_pieces.specs.Request.{Request}
-use Rattle.gpu_slots.specs.TypeState.{Slot, slot_at, lowest_empty, highest_empty}
-use Rattle.gpu_slots.specs.TypeTake.{Ready, PreparesPiece, Installs, with_block, new_slot}
-use Rattle.gpu_slots.specs.declared.piece.Piece.{Piece}
-use Rattle.gpu_slots.proofs.EmptySlots.{lowest_found, highest_empty_found}
-use Rattle.gpu_slots.proofs.Slotted.{OnlyAt, set_only}
+use Rattle.gpu_core.specs.TypeState.{Slot, slot_at, lowest_empty, highest_empty}
+use Rattle.gpu_core.specs.TypeTake.{Ready, PreparesPiece, Installs, with_block, new_slot}
+use Rattle.gpu_core.specs.declared.piece.Piece.{Piece}
+use Rattle.gpu_core.proofs.EmptySlots.{lowest_found, highest_empty_found}
+use Rattle.gpu_core.proofs.Slotted.{OnlyAt, set_only}
 use Rattle.gpu_memory_types.specs.Blocks.{Slots, slots_at, block_at}
 use Rattle.gpu_memory_types.proofs.Options.{none_some}
 use Rattle.gpu_memory_types.proofs.Types.{slots_after}

@@ -4,8 +4,8 @@ use Rattle.std.proofs.lemmas.List.{append-nil}
 use Rattle.std.proofs.lemmas.List.Sums.{sum_by-cons}
 use Rattle.gpu_values.specs.declared.report.MemoryBlockReport.{MemoryBlockReport}
 use Rattle.gpu_values.specs.Report.{Row, Report}
-use Rattle.gpu_slots.specs.TypeReport.{type_rows, type_blocks, allocated_of, with_type}
-use Rattle.gpu_slots.specs.TypeState.{Slot, capacity_of}
+use Rattle.gpu_core.specs.TypeReport.{type_rows, type_blocks, allocated_of, with_type}
+use Rattle.gpu_core.specs.TypeState.{Slot, capacity_of}
 use Rattle.gpu_memory_types.specs.Blocks.{Slots, total_capacity}
 use Rattle.gpu_memory_types.specs.Reports.{all_rows, all_blocks, total_allocated, whole_report}
 

@@ -5,14 +5,14 @@ use Rattle.std.specs.Int.NonZero.{non_zero_u64_get}
 use Rattle.gpu_block.specs.Block.{Block, free_list, dedicated, is_general, TakesIn, ReleasesIn, HoldsPiece, IsSoundBlock}
 use Rattle.gpu_block_pieces.specs.FreeList.{Extent}
 use Rattle.gpu_block_pieces.specs.Request.{Request}
-use Rattle.gpu_slots.specs.Slots.{SlotIsSound, AreSound}
-use Rattle.gpu_slots.specs.TypeRelease.{SlotHolds, SlotReleases, ReleasesPiece}
-use Rattle.gpu_slots.specs.TypeState.{Slot, slot_at}
-use Rattle.gpu_slots.specs.TypeTake.{Ready, fresh_block, PreparesPiece, Installs}
-use Rattle.gpu_slots.specs.declared.piece.Piece.{Piece}
+use Rattle.gpu_core.specs.Slots.{SlotIsSound, AreSound}
+use Rattle.gpu_core.specs.TypeRelease.{SlotHolds, SlotReleases, ReleasesPiece}
+use Rattle.gpu_core.specs.TypeState.{Slot, slot_at}
+use Rattle.gpu_core.specs.TypeTake.{Ready, fresh_block, PreparesPiece, Installs}
+use Rattle.gpu_core.specs.declared.piece.Piece.{Piece}
 use Rattle.gpu_core.proofs.EmptyBlocks.{takes_holds, holds_some}
-use Rattle.gpu_slots.proofs.Found.{only_one}
-use Rattle.gpu_slots.proofs.Slotted.{set_only}
+use Rattle.gpu_core.proofs.Found.{only_one}
+use Rattle.gpu_core.proofs.Slotted.{set_only}
 use Rattle.gpu_block_pieces.proofs.Live.{takes_keeps, takes_new_number, releases_keeps}
 use Rattle.gpu_memory_types.specs.Blocks.{Slots, slots_at, block_at}
 use Rattle.gpu_memory_types.specs.Live.{IsLiveIn}

@@ -8,8 +8,8 @@ use Rattle.std.proofs.lemmas.List.Elements.{All-nil, All-cons, All-head, All-tai
 use Rattle.std.proofs.lemmas.List.Sums.{sum_by-cons}
 use Rattle.std.proofs.lemmas.Option.{slice_get-map, slice_get-get_or, get_or_from_slice_get}
 use Rattle.std.proofs.Math.Seq.{map-set_same}
-use Rattle.gpu_slots.specs.TypeState.{TypeState, Slot, capacity_of}
-use Rattle.gpu_slots.specs.Slots.{AreSound}
+use Rattle.gpu_core.specs.TypeState.{TypeState, Slot, capacity_of}
+use Rattle.gpu_core.specs.Slots.{AreSound}
 use Rattle.gpu_memory_types.specs.Blocks.{Slots, slots_at, total_capacity, BlocksWellFormed}
 use Rattle.gpu_memory_types.specs.Budgets.{budgets}
 use Rattle.gpu_memory_types.specs.Types.{Types, slots_of, kinds, type_of, no_type, MemoryTypesInvariant}

@@ -1,8 +1,8 @@
 -- The live blocks of all memory types of an allocator, by memory type and slot.
 use Rattle.std.specs.Prelude.{ℕ, List, [], Option}
 use Rattle.std.specs.List.{sum_by, slice_index_or}
-use Rattle.gpu_slots.specs.TypeState.{Slot, slot_at, capacity_of}
-use Rattle.gpu_slots.specs.Slots.{AreSound}
+use Rattle.gpu_core.specs.TypeState.{Slot, slot_at, capacity_of}
+use Rattle.gpu_core.specs.Slots.{AreSound}
 
 -- the slots of each memory type, where H is the device's number of a block
 abbrev pub Slots : (H : Type 0) → Type 0

@@ -2,7 +2,7 @@
 use Rattle.std.specs.Prelude.{◌≡◌, ℕ, ◌+◌, ◌^◌, ◌<◌, ◌≤◌, List, length, map, Option, Some, None, codes, nat_lt, if◌then◌else◌}
 use Rattle.std.specs.List.{slice_index_or, slice_set}
 use Rattle.gpu_values.specs.Refusal.{Refusal, internal, out_of_memory, budget_exceeded}
-use Rattle.gpu_slots.specs.TypeState.{fits_budget}
+use Rattle.gpu_core.specs.TypeState.{fits_budget}
 use Rattle.gpu_memory_types.specs.Types.{Types}
 
 -- of each memory type, its budget, where it has one

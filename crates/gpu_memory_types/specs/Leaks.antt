@@ -1,7 +1,7 @@
 -- The pieces of an allocator that are still live.
 use Rattle.std.specs.Prelude.{ℕ, ◌+◌, List, [], ◌∷◌, ◌++◌}
 use Rattle.gpu_block_views.specs.Leak.{LeakOf}
-use Rattle.gpu_slots.specs.TypeReport.{type_leaks}
+use Rattle.gpu_core.specs.TypeReport.{type_leaks}
 use Rattle.gpu_memory_types.specs.Blocks.{Slots}
 
 -- the live pieces by memory type, then by slot, then in the order of their starts, where the first memory type has the index `first`

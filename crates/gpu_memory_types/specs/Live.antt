@@ -1,7 +1,7 @@
 -- Which pieces of an allocator are live.
 use Rattle.std.specs.Prelude.{ℕ, Bool, Option, Some, None}
-use Rattle.gpu_slots.specs.TypeRelease.{IsLive}
-use Rattle.gpu_slots.specs.declared.piece.Piece.{Piece}
+use Rattle.gpu_core.specs.TypeRelease.{IsLive}
+use Rattle.gpu_core.specs.declared.piece.Piece.{Piece}
 use Rattle.gpu_memory_types.specs.Blocks.{Slots, slots_at}
 
 -- the piece is live in the t-th memory type; the device's numbers are compared as their type compares them

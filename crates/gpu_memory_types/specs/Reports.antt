@@ -3,7 +3,7 @@ use Rattle.std.specs.Prelude.{ℕ, ◌+◌, List, [], ◌∷◌, ◌++◌, lengt
 use Rattle.std.specs.List.{sum_by}
 use Rattle.gpu_values.specs.declared.report.MemoryBlockReport.{MemoryBlockReport}
 use Rattle.gpu_values.specs.Report.{Row, Report}
-use Rattle.gpu_slots.specs.TypeReport.{type_rows, type_blocks, allocated_of}
+use Rattle.gpu_core.specs.TypeReport.{type_rows, type_blocks, allocated_of}
 use Rattle.gpu_memory_types.specs.Blocks.{Slots, total_capacity}
 
 -- the rows of all live pieces by memory type, then by slot, then in the order of their starts

@@ -3,13 +3,13 @@ use Rattle.std.specs.Prelude.{◌≡◌, ℕ, ◌⊎◌, Bool, List, Option, Som
 use Rattle.std.specs.List.{slice_set}
 use Rattle.gpu_values.specs.Refusal.{Refusal, host_out_of_memory}
 use Rattle.gpu_values.specs.Sizes.{Sizes}
-use Rattle.gpu_slots.specs.TypeState.{TypeState, Slot, capacity_of}
-use Rattle.gpu_slots.specs.TypeTake.{asked, NeedsBlock, Installs, Ready}
+use Rattle.gpu_core.specs.TypeState.{TypeState, Slot, capacity_of}
+use Rattle.gpu_core.specs.TypeTake.{asked, NeedsBlock, Installs, Ready}
 use Rattle.gpu_core.specs.TypePrepare.{IsPrepared}
-use Rattle.gpu_slots.specs.declared.piece.Piece.{Piece}
+use Rattle.gpu_core.specs.declared.piece.Piece.{Piece}
 use Rattle.gpu_core.specs.declared.memory_type.Prepared.{Prepared}
 use Rattle.gpu_core.specs.declared.memory_type.Prepared.TheVariants as prepared
-use Rattle.gpu_slots.specs.declared.piece.Request as type_requests
+use Rattle.gpu_core.specs.declared.piece.Request as type_requests
 use Rattle.gpu_memory_types.specs.Blocks.{Slots, slots_at, total_capacity}
 use Rattle.gpu_memory_types.specs.Types.{Types, slots_of, type_of}
 use Rattle.gpu_memory_types.specs.Budgets.{block_refusal}

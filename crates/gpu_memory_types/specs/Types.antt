@@ -1,8 +1,8 @@
 -- The memory types as the code keeps them.
 use Rattle.std.specs.Prelude.{ℕ, ◌^◌, ◌<◌, Bool, false, List, [], map, All, None}
 use Rattle.std.specs.List.{slice_index_or}
-use Rattle.gpu_slots.specs.TypeState.{TypeState}
-use Rattle.gpu_slots.specs.Slots.{AreSound}
+use Rattle.gpu_core.specs.TypeState.{TypeState}
+use Rattle.gpu_core.specs.Slots.{AreSound}
 use Rattle.gpu_memory_types.specs.Blocks.{Slots, total_capacity}
 
 abbrev pub Types : (H : Type 0) → Type 0

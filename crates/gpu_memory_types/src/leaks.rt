@@ -10,7 +10,7 @@ ghost use Rattle.gpu_memory_types.specs.Types.{slots_of};
 
 use gpu_block_views::Leak;
 use gpu_core::MemoryType;
-use gpu_slots::TypeLeaks;
+use gpu_core::TypeLeaks;
 use gpu_values::Result;
 use std::alloc::Global;
 use std::marker::Model;

@@ -13,7 +13,7 @@ use crate::capacity::total_capacity;
 use crate::leaks::{AllLeaks, all_leaks, texts_of};
 use crate::report::report_of;
 use gpu_core::{MemoryType, NeedBlock, Prepared};
-use gpu_slots::{Piece, Request};
+use gpu_core::{Piece, Request};
 use gpu_values::{
     AllocationError, AllocationSizes, AllocationType, AllocatorReport, Fault, Result,
 };
@@ -90,10 +90,10 @@ fn missing_type() -> AllocationError
 
 impl<H: Copy + Eq> MemoryTypes<H> {
     ghost use Rattle.gpu_core.specs.TypePrepare.{CanInstall};
-    ghost use Rattle.gpu_slots.specs.TypeState.{slot_at, block_number};
-    ghost use Rattle.gpu_slots.specs.Slots.{AreSound};
+    ghost use Rattle.gpu_core.specs.TypeState.{slot_at, block_number};
+    ghost use Rattle.gpu_core.specs.Slots.{AreSound};
     ghost use Rattle.gpu_block_views.specs.Leak.{leak_text};
-    ghost use Rattle.gpu_slots.specs.declared.piece.Piece.{Piece};
+    ghost use Rattle.gpu_core.specs.declared.piece.Piece.{Piece};
     ghost use Rattle.gpu_memory_types.specs.Apart.{IsInside, AreDistinct, SharesNoByte, KeepsPages};
     ghost use Rattle.gpu_memory_types.specs.Blocks.{slots_at, total_capacity};
     ghost use Rattle.gpu_memory_types.specs.Leaks.{all_leaks};

@@ -1,8 +1,8 @@
 -- An attempt at a memory type, from what the pool returned and left.
 use Rattle.std.proofs.Common.{◌≡◌, subst, false, Result}
 use Rattle.gpu_values.specs.declared.error.AllocationError.{AllocationError}
-use Rattle.gpu_slots.specs.declared.piece.Request.{Request}
-use Rattle.gpu_slots.specs.TypeTake.{asked}
+use Rattle.gpu_core.specs.declared.piece.Request.{Request}
+use Rattle.gpu_core.specs.TypeTake.{asked}
 use Rattle.gpu_device.specs.declared.metal.device.MetalDevice.{Ghosts}
 use Rattle.gpu_metal.specs.Describe.{request_of}
 use Rattle.gpu_metal.specs.MemoryKinds.{IsFirstServing}

@@ -1,7 +1,7 @@
 -- A number is a live block's, or it isn't.
 use Rattle.std.proofs.Common.{◌≡◌, ◌∙◌, ◌⊎◌, refl, sym, ap, ⊎_elim, inl, inr, ℕ, zero, suc, List, [], ◌∷◌, Option, Some, None}
 use Rattle.std.proofs.lemmas.Bool.{cases_eq}
-use Rattle.gpu_slots.specs.TypeState.{Slot, slot_at}
+use Rattle.gpu_core.specs.TypeState.{Slot, slot_at}
 use Rattle.gpu_device.specs.declared.metal.types.MTLHeap.{MTLHeap}
 use Rattle.gpu_memory_types.specs.Blocks.{slots_at}
 use Rattle.gpu_memory_types.specs.Held.{IsNoBlock}

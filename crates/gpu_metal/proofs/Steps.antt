@@ -5,7 +5,7 @@ use Rattle.gpu_values.specs.Report.{report_of}
 use Rattle.gpu_values.specs.declared.error.AllocationError.{AllocationError}
 use Rattle.gpu_values.specs.declared.error.AllocationError.TheVariants.{HostOutOfMemory}
 use Rattle.gpu_values.specs.declared.report.AllocatorReport.{AllocatorReport}
-use Rattle.gpu_slots.specs.declared.piece.Piece.{Piece}
+use Rattle.gpu_core.specs.declared.piece.Piece.{Piece}
 use Rattle.gpu_device.specs.declared.metal.device.MetalDevice.{Ghosts}
 use Rattle.gpu_device.specs.declared.metal.types.MTLHeap.{MTLHeap}
 use Rattle.gpu_memory_types.specs.Blocks.{total_capacity}

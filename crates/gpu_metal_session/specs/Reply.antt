@@ -4,7 +4,7 @@ use Rattle.std.specs.Int.NonZero.{non_zero_u64_get}
 use Rattle.gpu_values.specs.Refusal.{Refusal, refusal_of}
 use Rattle.gpu_values.specs.Report as reports
 use Rattle.gpu_values.specs.Report.{report_of}
-use Rattle.gpu_slots.specs.declared.piece.Piece.{Piece}
+use Rattle.gpu_core.specs.declared.piece.Piece.{Piece}
 use Rattle.gpu_device.specs.declared.metal.types.MTLHeap.{MTLHeap}
 use Rattle.gpu_metal_session.specs.declared.reply.Given.{Given as GivenPiece}
 use Rattle.gpu_metal_session.specs.declared.reply.Reply.{Reply}

@@ -1,7 +1,7 @@
 -- The views and the usages of the memory types from the i-th on.
 use Rattle.std.proofs.Common.{◌≡◌, ◌∙◌, sym, ap, ℕ, suc, zero, ◌+◌, ◌<◌, length, get_or, List, [], ◌∷◌, ◌++◌, map, drop, slice_get, Some, None, refl, add-one, append_assoc}
 use Rattle.std.proofs.lemmas.Option.{slice_get-get_or}
-use Rattle.gpu_slots.specs.TypeState.{TypeState}
+use Rattle.gpu_core.specs.TypeState.{TypeState}
 use Rattle.gpu_memory_types.specs.Types.{Types, slots_of, no_type}
 use Rattle.gpu_report.specs.View.{ShownBlock, shown_from}
 use Rattle.gpu_timeline.specs.Samples.{usage_of}

@@ -2,10 +2,10 @@
 use Rattle.std.proofs.Common.{◌≡◌, ◌∙◌, refl, sym, ap, subst, ⊎_elim, ℕ, zero, suc, ◌+◌, ◌^◌, ◌<◌, Bool, List, [], ◌∷◌, length, slice_set, Some, None, Ok, Err, Result, arith}
 use Rattle.gpu_values.specs.Refusal.{Refusal}
 use Rattle.gpu_values.specs.Sizes.{Sizes}
-use Rattle.gpu_slots.specs.TypeState.{TypeState, capacity_of}
-use Rattle.gpu_slots.specs.TypeTake.{asked, Ready, NeedsBlock, PreparesPiece, Installs, has_own_block}
-use Rattle.gpu_slots.specs.declared.piece.Piece.{Piece}
-use Rattle.gpu_slots.specs.declared.piece.Request.{Request}
+use Rattle.gpu_core.specs.TypeState.{TypeState, capacity_of}
+use Rattle.gpu_core.specs.TypeTake.{asked, Ready, NeedsBlock, PreparesPiece, Installs, has_own_block}
+use Rattle.gpu_core.specs.declared.piece.Piece.{Piece}
+use Rattle.gpu_core.specs.declared.piece.Request.{Request}
 use Rattle.gpu_core.specs.declared.memory_type.Prepared.TheVariants as prepared
 use Rattle.gpu_core.specs.declared.need.NeedBlock.{NeedBlock}
 use Rattle.gpu_memory_types.specs.Blocks.{Slots, slots_at, total_capacity}

@@ -1,7 +1,7 @@
 -- Live pieces share no byte, and lie in blocks of their own numbers.
 use Rattle.std.proofs.Common.{◌≡◌, ◌≢◌, ◌∙◌, ◌⊎◌, sym, inl, inr, ⊎_elim, ℕ, Bool, true}
-use Rattle.gpu_slots.specs.Slots.{AreSound}
-use Rattle.gpu_slots.specs.declared.piece.Piece.{Piece}
+use Rattle.gpu_core.specs.Slots.{AreSound}
+use Rattle.gpu_core.specs.declared.piece.Piece.{Piece}
 use Rattle.gpu_memory_types.specs.Apart.{AreDistinct}
 use Rattle.gpu_memory_types.specs.Blocks.{Slots, slots_at}
 use Rattle.gpu_memory_types.proofs.Apart.{found, pieces_apart}

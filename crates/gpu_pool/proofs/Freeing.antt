@@ -1,10 +1,10 @@
 -- What a free leaves: what the source holds, and which pieces are live.
 use Rattle.std.proofs.Common.{◌≡◌, refl, sym, ap, subst, ℕ, zero, suc, ◌<◌, Bool, List, [], ◌∷◌, length, slice_set, Option, Some, None, Ok, Err, Result, arith}
 use Rattle.gpu_values.specs.Refusal.{Refusal}
-use Rattle.gpu_slots.specs.TypeRelease.{SlotReleases, ReleasesPiece}
-use Rattle.gpu_slots.specs.TypeState.{Slot, slot_at}
-use Rattle.gpu_slots.specs.declared.piece.Piece.{Piece}
-use Rattle.gpu_slots.proofs.Slotted.{set_only}
+use Rattle.gpu_core.specs.TypeRelease.{SlotReleases, ReleasesPiece}
+use Rattle.gpu_core.specs.TypeState.{Slot, slot_at}
+use Rattle.gpu_core.specs.declared.piece.Piece.{Piece}
+use Rattle.gpu_core.proofs.Slotted.{set_only}
 use Rattle.gpu_memory_types.specs.Apart.{AreDistinct}
 use Rattle.gpu_memory_types.specs.Blocks.{Slots, slots_at}
 use Rattle.gpu_memory_types.proofs.Options.{none_some, some_same}

@@ -1,7 +1,7 @@
 -- An allocation is live as its piece is, and as distinct.
 use Rattle.std.proofs.Common.{◌∙◌, sym, ap, subst, Bool}
 use Rattle.std.specs.Int.NonZero.{non_zero_u64_get}
-use Rattle.gpu_slots.specs.declared.piece.Piece.{Piece}
+use Rattle.gpu_core.specs.declared.piece.Piece.{Piece}
 use Rattle.gpu_memory_types.specs.Blocks.{Slots}
 use Rattle.gpu_pool.specs.Allocation.{piece_of, IsGiven, IsNewlyLive}
 use Rattle.gpu_pool.specs.Live as live

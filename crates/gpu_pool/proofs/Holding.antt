@@ -3,7 +3,7 @@ use Rattle.std.proofs.Common.{◌≡◌, ◌≢◌, ◌∙◌, ◌⊎◌, refl, 
 use Rattle.std.proofs.lemmas.Bool.{cases_eq}
 use Rattle.std.proofs.lemmas.List.Elements.{All-head, All-tail}
 use Rattle.gpu_block.specs.Block.{size_of}
-use Rattle.gpu_slots.specs.TypeState.{Slot, slot_at}
+use Rattle.gpu_core.specs.TypeState.{Slot, slot_at}
 use Rattle.gpu_memory_types.specs.Blocks.{Slots, block_at}
 use Rattle.gpu_memory_types.specs.Held.{IsNoBlock}
 use Rattle.gpu_memory_types.proofs.Placed.{OnlyBlock, same_place}

@@ -10,10 +10,10 @@ use Rattle.gpu_block.specs.Block.{Block, free_list, dedicated, HoldsPiece, Renam
 use Rattle.gpu_block_pieces.specs.Changes.{with_name}
 use Rattle.gpu_block.specs.Dedicated.{renamed}
 use Rattle.gpu_block_pieces.specs.FreeList.{Extent}
-use Rattle.gpu_slots.specs.TypeRelease.{SlotHolds, SlotRenames, IsLive as IsLivePiece}
-use Rattle.gpu_slots.specs.TypeState.{Slot, slot_at}
-use Rattle.gpu_slots.specs.declared.piece.Piece.{Piece}
-use Rattle.gpu_slots.proofs.Slotted.{set_only}
+use Rattle.gpu_core.specs.TypeRelease.{SlotHolds, SlotRenames, IsLive as IsLivePiece}
+use Rattle.gpu_core.specs.TypeState.{Slot, slot_at}
+use Rattle.gpu_core.specs.declared.piece.Piece.{Piece}
+use Rattle.gpu_core.proofs.Slotted.{set_only}
 use Rattle.gpu_values.specs.Refusal.{Refusal}
 use Rattle.gpu_memory_types.specs.Blocks.{Slots, slots_at}
 use Rattle.gpu_memory_types.specs.Rename.{IsRenamed}

@@ -1,10 +1,10 @@
 -- The model isn't loose: a state, a call and what it met with decide the reply and the next state.
 use Rattle.std.proofs.Common.{◌≡◌, ◌∙◌, refl, sym, ap, subst, ℕ, Bool, List, slice_set, Option, Some, None, Ok, Err, Result, IsTrue, arith}
 use Rattle.gpu_values.specs.Refusal.{Refusal}
-use Rattle.gpu_slots.specs.TypeRelease.{has_several}
-use Rattle.gpu_slots.specs.TypeState.{TypeState, slot_at, capacity_of}
-use Rattle.gpu_slots.specs.TypeTake.{Installs}
-use Rattle.gpu_slots.specs.declared.piece.Piece.{Piece}
+use Rattle.gpu_core.specs.TypeRelease.{has_several}
+use Rattle.gpu_core.specs.TypeState.{TypeState, slot_at, capacity_of}
+use Rattle.gpu_core.specs.TypeTake.{Installs}
+use Rattle.gpu_core.specs.declared.piece.Piece.{Piece}
 use Rattle.gpu_core.proofs.OneOutcome.{prepared_once, needed_once, serves_or_needs, installed_once, released_once, refusal_once, renamed_once, name_refusal_once}
 use Rattle.gpu_memory_types.specs.Blocks.{slots_at, total_capacity}
 use Rattle.gpu_memory_types.specs.Budgets.{SetsBudget, budget_at, block_refusal}

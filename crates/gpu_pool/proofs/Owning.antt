@@ -3,9 +3,9 @@ use Rattle.std.proofs.Common.{◌≡◌, ◌∙◌, sym, ap, subst, ℕ, ◌<◌
 use Rattle.std.proofs.lemmas.List.{length-map}
 use Rattle.gpu_values.specs.Refusal.{Refusal}
 use Rattle.gpu_values.specs.declared.error.AllocationError.{AllocationError}
-use Rattle.gpu_slots.specs.Slots.{AreSound}
-use Rattle.gpu_slots.specs.TypeState.{Slot}
-use Rattle.gpu_slots.specs.declared.piece.Piece.{Piece}
+use Rattle.gpu_core.specs.Slots.{AreSound}
+use Rattle.gpu_core.specs.TypeState.{Slot}
+use Rattle.gpu_core.specs.declared.piece.Piece.{Piece}
 use Rattle.gpu_memory_types.specs.Blocks.{Slots, slots_at}
 use Rattle.gpu_memory_types.specs.Types.{Types, slots_of, type_of, kinds, MemoryTypesInvariant}
 use Rattle.gpu_memory_types.proofs.Aligned.{takes_aligned}

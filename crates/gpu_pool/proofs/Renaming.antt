@@ -1,10 +1,10 @@
 -- A new name leaves what the source holds.
 use Rattle.std.proofs.Common.{◌≡◌, ◌∙◌, refl, sym, ap, subst, ℕ, ◌<◌, Bool, List, length, slice_set, Option, Some, None, Ok, Err, Result}
 use Rattle.gpu_block.specs.Block.{Block, free_list, dedicated, size_of, RenamesIn}
-use Rattle.gpu_slots.specs.TypeRelease.{SlotRenames}
-use Rattle.gpu_slots.specs.TypeState.{Slot, slot_at}
-use Rattle.gpu_slots.specs.declared.piece.Piece.{Piece}
-use Rattle.gpu_slots.proofs.Slotted.{set_only}
+use Rattle.gpu_core.specs.TypeRelease.{SlotRenames}
+use Rattle.gpu_core.specs.TypeState.{Slot, slot_at}
+use Rattle.gpu_core.specs.declared.piece.Piece.{Piece}
+use Rattle.gpu_core.proofs.Slotted.{set_only}
 use Rattle.gpu_values.specs.declared.error.AllocationError.{AllocationError}
 use Rattle.gpu_memory_types.specs.Blocks.{Slots, slots_at}
 use Rattle.gpu_memory_types.specs.Rename.{IsRenamed}

@@ -2,9 +2,9 @@
 use Rattle.std.proofs.Common.{◌≡◌, ◌∙◌, refl, sym, ap, subst, ℕ, ◌<◌, Bool, true, false, List, length, slice_set, Option, Some, None, Ok, Err, Result}
 use Rattle.gpu_block.specs.Block.{size_of}
 use Rattle.gpu_values.specs.Refusal.{Refusal}
-use Rattle.gpu_slots.specs.TypeState.{Slot}
-use Rattle.gpu_slots.specs.TypeTake.{fresh_block}
-use Rattle.gpu_slots.specs.declared.piece.Piece.{Piece}
+use Rattle.gpu_core.specs.TypeState.{Slot}
+use Rattle.gpu_core.specs.TypeTake.{fresh_block}
+use Rattle.gpu_core.specs.declared.piece.Piece.{Piece}
 use Rattle.gpu_memory_types.specs.Blocks.{slots_at}
 use Rattle.gpu_memory_types.proofs.Sizes.{takes_size}
 use Rattle.gpu_memory_types.proofs.Placed.{only_block, installs_only, prepares_only}

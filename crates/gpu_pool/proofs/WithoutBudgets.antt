@@ -1,9 +1,9 @@
 -- A call that meets no budget is the same step where there are no budgets.
 use Rattle.std.proofs.Common.{◌≡◌, ◌∙◌, sym, ap, subst, ℕ, Bool, List, Option, Some, None, Ok, Err, Result}
 use Rattle.gpu_values.specs.Refusal.{Refusal}
-use Rattle.gpu_slots.specs.TypeState.{TypeState, capacity_of}
-use Rattle.gpu_slots.specs.TypeTake.{has_own_block, NeedsBlock}
-use Rattle.gpu_slots.specs.declared.piece.Piece.{Piece}
+use Rattle.gpu_core.specs.TypeState.{TypeState, capacity_of}
+use Rattle.gpu_core.specs.TypeTake.{has_own_block, NeedsBlock}
+use Rattle.gpu_core.specs.declared.piece.Piece.{Piece}
 use Rattle.gpu_memory_types.specs.Blocks.{slots_at, total_capacity}
 use Rattle.gpu_memory_types.specs.Budgets.{budget_at, block_refusal}
 use Rattle.gpu_pool.specs.Allocate.{RequestAt, Environment, NothingMet, NoHostMemory, Answered, type_asked, NeedsNewBlock, Serves}

@@ -3,10 +3,10 @@ use Rattle.std.specs.Prelude.{◌≡◌, ℕ, Bool, false, List, Option, Some, N
 use Rattle.std.specs.List.{slice_set}
 use Rattle.gpu_values.specs.Refusal.{Refusal, host_out_of_memory}
 use Rattle.gpu_block_pieces.specs.Request.{Request}
-use Rattle.gpu_slots.specs.TypeState.{TypeState, Slot, capacity_of}
-use Rattle.gpu_slots.specs.TypeTake.{asked, Ready, has_own_block, PreparesPiece, NeedsBlock, Installs}
-use Rattle.gpu_slots.specs.declared.piece.Piece.{Piece}
-use Rattle.gpu_slots.specs.declared.piece.Request as type_requests
+use Rattle.gpu_core.specs.TypeState.{TypeState, Slot, capacity_of}
+use Rattle.gpu_core.specs.TypeTake.{asked, Ready, has_own_block, PreparesPiece, NeedsBlock, Installs}
+use Rattle.gpu_core.specs.declared.piece.Piece.{Piece}
+use Rattle.gpu_core.specs.declared.piece.Request as type_requests
 use Rattle.gpu_memory_types.specs.Blocks.{slots_at, total_capacity}
 use Rattle.gpu_memory_types.specs.Budgets.{budget_at, block_refusal}
 use Rattle.gpu_pool.specs.Source.{HoldsAfter}

@@ -1,6 +1,6 @@
 -- The handles of the live blocks.
 use Rattle.std.specs.Prelude.{ℕ, ◌+◌, List, [], ◌∷◌, ◌++◌, drop, Option, Some, None}
-use Rattle.gpu_slots.specs.TypeState.{Slot}
+use Rattle.gpu_core.specs.TypeState.{Slot}
 use Rattle.gpu_memory_types.specs.Blocks.{Slots, slots_at}
 
 -- of the blocks in these slots, in order

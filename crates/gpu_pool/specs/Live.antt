@@ -1,6 +1,6 @@
 -- Which pieces of a pool are live.
 use Rattle.std.specs.Prelude.{◌⊎◌, ◌+◌, ◌≤◌, ℕ, Bool, Some}
-use Rattle.gpu_slots.specs.declared.piece.Piece.{Piece}
+use Rattle.gpu_core.specs.declared.piece.Piece.{Piece}
 use Rattle.gpu_memory_types.specs.Apart.{AreDistinct}
 use Rattle.gpu_memory_types.specs.Blocks.{Slots}
 use Rattle.gpu_memory_types.specs.Live.{IsLiveIn}

@@ -1,9 +1,9 @@
 -- What renaming a piece returns and leaves, by what it met with.
 use Rattle.std.specs.Prelude.{◌≡◌, ◌≢◌, ℕ, Bool, List, Result, Ok, Err}
 use Rattle.gpu_values.specs.Refusal.{Refusal, host_out_of_memory}
-use Rattle.gpu_slots.specs.TypeRelease.{IsNameRefusal}
-use Rattle.gpu_slots.specs.TypeState.{slot_at}
-use Rattle.gpu_slots.specs.declared.piece.Piece.{Piece}
+use Rattle.gpu_core.specs.TypeRelease.{IsNameRefusal}
+use Rattle.gpu_core.specs.TypeState.{slot_at}
+use Rattle.gpu_core.specs.declared.piece.Piece.{Piece}
 use Rattle.gpu_memory_types.specs.Blocks.{Slots, slots_at}
 use Rattle.gpu_memory_types.specs.Rename.{IsRenamed}
 use Rattle.gpu_pool.specs.Allocate.{Environment, NothingMet, NoHostMemory, Answered}

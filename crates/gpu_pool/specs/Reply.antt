@@ -2,7 +2,7 @@
 use Rattle.std.specs.Prelude.{ℕ, List, Option, Result, Ok, Err}
 use Rattle.gpu_values.specs.Refusal.{Refusal}
 use Rattle.gpu_values.specs.Report as reports
-use Rattle.gpu_slots.specs.declared.piece.Piece.{Piece}
+use Rattle.gpu_core.specs.declared.piece.Piece.{Piece}
 
 -- a reply has the name of its call, or says how the call ended
 pub data Reply (H : Type 0) : Type 0 where

@@ -2,7 +2,7 @@
 use Rattle.std.specs.Prelude.{ℕ, Bool, false, [], List}
 use Rattle.std.specs.List.{slice_index_or}
 use Rattle.gpu_values.specs.Sizes.{Sizes}
-use Rattle.gpu_slots.specs.Slots.{AreSound}
+use Rattle.gpu_core.specs.Slots.{AreSound}
 use Rattle.gpu_memory_types.specs.Blocks.{Slots, slots_at}
 use Rattle.gpu_memory_types.specs.Budgets.{Budgets}
 

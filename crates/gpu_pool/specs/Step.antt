@@ -3,7 +3,7 @@ use Rattle.std.specs.Prelude.{◌≡◌, ℕ, Bool, List, map, Option, Some, Non
 use Rattle.gpu_block_views.specs.Leak.{leak_text}
 use Rattle.gpu_values.specs.Refusal.{Refusal, host_out_of_memory}
 use Rattle.gpu_values.specs.Report as reports
-use Rattle.gpu_slots.specs.declared.piece.Piece.{Piece}
+use Rattle.gpu_core.specs.declared.piece.Piece.{Piece}
 use Rattle.gpu_memory_types.specs.Blocks.{total_capacity}
 use Rattle.gpu_memory_types.specs.Budgets.{Budgets, budget_at, SetsBudget}
 use Rattle.gpu_memory_types.specs.Leaks.{all_leaks}

@@ -10,7 +10,7 @@ ghost use Rattle.gpu_pool.specs.Source.{result_of};
 use crate::BlockSource;
 use gpu_core::Prepared;
 use gpu_memory_types::MemoryTypes;
-use gpu_slots::{Piece, Request};
+use gpu_core::{Piece, Request};
 use gpu_values::{AllocationSizes, AllocationType, Result};
 
 /// A piece of the memory type at `index`: of a shared block, or of a new one. All host memory for it is at hand before the

@@ -3,7 +3,7 @@
 ghost use Rattle.std.specs.Prelude.{◌≡◌, Some, false, IsSomeAnd, string_bytes};
 ghost use Rattle.gpu_pool.specs.Allocation.{piece_of, IsGiven};
 
-use gpu_slots::Piece;
+use gpu_core::Piece;
 use std::num::NonZeroU64;
 
 /// A piece of a heap: bytes `offset..offset + size` of `heap`. Place a resource there. Give it back by the allocator's

@@ -11,7 +11,7 @@ ghost use Rattle.gpu_pool.specs.declared.allocation.Allocation.{Allocation};
 
 use crate::allocation::{Allocation, allocation_of};
 use crate::{BlockSource, Pool};
-use gpu_slots::Request;
+use gpu_core::Request;
 use gpu_values::{AllocationError, AllocationType, Result};
 use std::alloc::{AllocError, Global};
 

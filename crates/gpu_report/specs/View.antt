@@ -2,7 +2,7 @@
 use Rattle.std.specs.Prelude.{ℕ, ◌+◌, List, [], ◌∷◌, Option, Some, None}
 use Rattle.gpu_block.specs.Block.{Block}
 use Rattle.gpu_block.specs.SubAllocator.{block_of}
-use Rattle.gpu_slots.specs.TypeState.{Slot}
+use Rattle.gpu_core.specs.TypeState.{Slot}
 use Rattle.gpu_report.specs.declared.view.BlockView.{BlockView}
 
 -- what a view shows: a block, where it stands, and the page size of its memory type

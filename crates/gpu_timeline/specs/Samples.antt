@@ -1,8 +1,8 @@
 -- Samples of what memory types hold, one for each command, and what is told of several.
 use Rattle.std.specs.Prelude.{ℕ, ◌-◌, ◌+◌, ◌^◌, ◌==◌, if◌then◌else◌, List, [], ◌∷◌, Option, min, max, length, slice_range, zero, suc, ◌++◌}
 use Rattle.std.specs.List.{slice_index_or}
-use Rattle.gpu_slots.specs.TypeState.{Slot, capacity_of}
-use Rattle.gpu_slots.specs.TypeReport.{allocated_of}
+use Rattle.gpu_core.specs.TypeState.{Slot, capacity_of}
+use Rattle.gpu_core.specs.TypeReport.{allocated_of}
 use Rattle.gpu_report.specs.Picture.{place}
 use Rattle.gpu_report.specs.Svg.{capped}
 use Rattle.gpu_timeline.specs.declared.samples.Usage.{Usage}

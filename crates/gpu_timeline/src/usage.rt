@@ -1,7 +1,7 @@
 //! What a memory type holds.
 
 ghost use Rattle.std.specs.Prelude.{◌≡◌};
-ghost use Rattle.gpu_slots.specs.TypeReport.{allocated_of};
+ghost use Rattle.gpu_core.specs.TypeReport.{allocated_of};
 ghost use Rattle.gpu_timeline.specs.Samples.{usage_of};
 
 use crate::samples::Usage;

@@ -3,8 +3,8 @@ use Rattle.std.proofs.Common.{◌≡◌, ◌∙◌, refl, ap, subst, inl, inr, �
 use Rattle.gpu_values.specs.Refusal.{Refusal, out_of_memory, host_out_of_memory}
 use Rattle.gpu_values.specs.declared.error.AllocationError.{AllocationError}
 use Rattle.gpu_values.specs.declared.error.AllocationError.TheVariants.{OutOfMemory, HostOutOfMemory}
-use Rattle.gpu_slots.specs.TypeTake.{asked}
-use Rattle.gpu_slots.specs.declared.piece.Request.{Request}
+use Rattle.gpu_core.specs.TypeTake.{asked}
+use Rattle.gpu_core.specs.declared.piece.Request.{Request}
 use Rattle.gpu_device.specs.declared.vulkan.device.VulkanDevice.{Ghosts}
 use Rattle.gpu_device.specs.declared.vulkan.types.AllocationScheme.{AllocationScheme}
 use Rattle.gpu_device.specs.declared.vulkan.types.DeviceMemory.{DeviceMemory}

@@ -4,7 +4,7 @@ use Rattle.std.specs.Prelude.{if◌then◌else◌, ◌&&◌, ◌==◌}
 use Rattle.std.proofs.lemmas.Bool.{cases_eq, cases_Bool}
 use Rattle.gpu_block_pieces.proofs.Keyed.{eq_false, eq_true}
 use Rattle.gpu_block.specs.Block.{extents_of}
-use Rattle.gpu_slots.specs.TypeState.{Slot}
+use Rattle.gpu_core.specs.TypeState.{Slot}
 use Rattle.gpu_device.specs.Held.{Held, bytes_of}
 use Rattle.gpu_device.specs.declared.vulkan.types.DeviceMemory.{DeviceMemory}
 use Rattle.gpu_vulkan.specs.Blocks.{Slots}

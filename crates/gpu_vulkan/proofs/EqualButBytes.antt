@@ -3,8 +3,8 @@ use Rattle.std.proofs.Common.{map, ◌≡◌, ◌∙◌, ℕ, ◌<◌, length, O
 use Rattle.std.specs.Prelude.{◌&&◌, not, if◌then◌else◌}
 use Rattle.gpu_values.specs.Refusal.{Refusal}
 use Rattle.gpu_block_views.specs.Leak.{leak_text}
-use Rattle.gpu_slots.specs.TypeRelease.{has_several, ReleasesPiece}
-use Rattle.gpu_slots.specs.declared.piece.Piece.{Piece}
+use Rattle.gpu_core.specs.TypeRelease.{has_several, ReleasesPiece}
+use Rattle.gpu_core.specs.declared.piece.Piece.{Piece}
 use Rattle.gpu_core.proofs.OneOutcome.{released_once}
 use Rattle.gpu_device.specs.declared.vulkan.event.Event.{Event}
 use Rattle.gpu_device.specs.declared.vulkan.types.DeviceMemory.{DeviceMemory}

@@ -7,12 +7,12 @@ use Rattle.std.specs.Option.{is_some}
 use Rattle.std.proofs.lemmas.Bool.{eqb-true}
 use Rattle.gpu_block.specs.Block.{Block, extents_of, ReleasesIn, IsSoundBlock}
 use Rattle.gpu_block_pieces.specs.FreeList.{Extent}
-use Rattle.gpu_slots.specs.Slots.{SlotIsSound}
-use Rattle.gpu_slots.specs.TypeRelease.{SlotReleases, SlotHolds}
-use Rattle.gpu_slots.specs.TypeState.{Slot, slot_at}
-use Rattle.gpu_slots.specs.declared.piece.Piece.{Piece}
-use Rattle.gpu_slots.proofs.Found.{one_in}
-use Rattle.gpu_slots.proofs.Slotted.{set_only}
+use Rattle.gpu_core.specs.Slots.{SlotIsSound}
+use Rattle.gpu_core.specs.TypeRelease.{SlotReleases, SlotHolds}
+use Rattle.gpu_core.specs.TypeState.{Slot, slot_at}
+use Rattle.gpu_core.specs.declared.piece.Piece.{Piece}
+use Rattle.gpu_core.proofs.Found.{one_in}
+use Rattle.gpu_core.proofs.Slotted.{set_only}
 use Rattle.gpu_values.specs.declared.error.AllocationError.{AllocationError}
 use Rattle.gpu_device.specs.Held.{Held, Entry, IsWhole, bytes_of, entry_bytes}
 use Rattle.gpu_device.specs.declared.vulkan.device.VulkanDevice.{Ghosts}

@@ -7,11 +7,11 @@ use Rattle.std.proofs.lemmas.Bool.{cases_eq, cases_Bool, cases_lt}
 use Rattle.std.proofs.lemmas.Bool.Decides.{nat_tests}
 use Rattle.gpu_block.specs.Block.{Block, free_list, dedicated, extents_of, IsSoundBlock}
 use Rattle.gpu_block_pieces.specs.FreeList.{Extent}
-use Rattle.gpu_slots.specs.Slots.{SlotIsSound}
-use Rattle.gpu_slots.specs.TypeState.{Slot}
+use Rattle.gpu_core.specs.Slots.{SlotIsSound}
+use Rattle.gpu_core.specs.TypeState.{Slot}
 use Rattle.gpu_block_pieces.proofs.Separation.{within_of}
 use Rattle.std.specs.Option.{option_to_list}
-use Rattle.gpu_slots.proofs.Found.{one_in, only_one}
+use Rattle.gpu_core.proofs.Found.{one_in, only_one}
 use Rattle.gpu_device.specs.Held.{Held, IsWhole, HasRange, bytes_of, range_in, range_of, put_range, put_bytes, with_range}
 use Rattle.gpu_device.specs.declared.vulkan.device.VulkanDevice.{Ghosts}
 use Rattle.gpu_device.specs.declared.vulkan.types.DeviceMemory.{DeviceMemory}

@@ -12,10 +12,10 @@ use Rattle.gpu_block_pieces.specs.FreeList.{Extent}
 use Rattle.gpu_block_views.specs.Leak.{leak_text}
 use Rattle.gpu_values.specs.Refusal.{refusal_of}
 use Rattle.gpu_values.specs.Report.{report_of}
-use Rattle.gpu_slots.specs.TypeRelease.{SlotRenames}
-use Rattle.gpu_slots.specs.TypeState.{Slot, slot_at}
-use Rattle.gpu_slots.specs.declared.piece.Piece.{Piece}
-use Rattle.gpu_slots.proofs.Slotted.{set_only}
+use Rattle.gpu_core.specs.TypeRelease.{SlotRenames}
+use Rattle.gpu_core.specs.TypeState.{Slot, slot_at}
+use Rattle.gpu_core.specs.declared.piece.Piece.{Piece}
+use Rattle.gpu_core.proofs.Slotted.{set_only}
 use Rattle.gpu_values.specs.declared.error.AllocationError.{AllocationError}
 use Rattle.gpu_values.specs.declared.error.AllocationError.TheVariants.{HostOutOfMemory}
 use Rattle.gpu_values.specs.declared.report.AllocatorReport.{AllocatorReport}

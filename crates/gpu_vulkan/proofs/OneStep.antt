@@ -4,10 +4,10 @@ use Rattle.std.proofs.lemmas.Bool.{cases_Bool, cases_lt, eqb-true}
 use Rattle.std.proofs.lemmas.Option.{slice_get_past}
 use Rattle.std.specs.Prelude.{◌&&◌, ◌==◌}
 use Rattle.gpu_values.specs.Refusal.{Refusal}
-use Rattle.gpu_slots.specs.TypeRelease.{has_several}
-use Rattle.gpu_slots.specs.declared.piece.Piece.{Piece}
+use Rattle.gpu_core.specs.TypeRelease.{has_several}
+use Rattle.gpu_core.specs.declared.piece.Piece.{Piece}
 use Rattle.gpu_core.proofs.OneOutcome.{released_once}
-use Rattle.gpu_slots.specs.Slots.{AreSound}
+use Rattle.gpu_core.specs.Slots.{AreSound}
 use Rattle.std.proofs.lemmas.Bool.{false≢true}
 use Rattle.gpu_device.specs.declared.vulkan.types.DeviceMemory.{DeviceMemory}
 use Rattle.gpu_memory_types.specs.Budgets.{Budgets}

@@ -5,11 +5,11 @@ use Rattle.std.specs.Int.NonZero.{non_zero_u64_get}
 use Rattle.gpu_block.specs.Block.{extents_of, TakesIn, IsSoundBlock, HoldsPiece}
 use Rattle.gpu_block_pieces.specs.FreeList.{Extent}
 use Rattle.gpu_values.specs.Refusal.{Refusal, out_of_memory}
-use Rattle.gpu_slots.specs.Slots.{SlotIsSound}
-use Rattle.gpu_slots.specs.TypeRelease.{SlotHolds}
-use Rattle.gpu_slots.specs.TypeState.{Slot}
-use Rattle.gpu_slots.specs.TypeTake.{Ready, fresh_block, PreparesPiece, Installs}
-use Rattle.gpu_slots.specs.declared.piece.Piece.{Piece}
+use Rattle.gpu_core.specs.Slots.{SlotIsSound}
+use Rattle.gpu_core.specs.TypeRelease.{SlotHolds}
+use Rattle.gpu_core.specs.TypeState.{Slot}
+use Rattle.gpu_core.specs.TypeTake.{Ready, fresh_block, PreparesPiece, Installs}
+use Rattle.gpu_core.specs.declared.piece.Piece.{Piece}
 use Rattle.gpu_core.proofs.EmptyBlocks.{takes_holds}
 use Rattle.gpu_core.proofs.OneOutcome.{fresh_sound}
 use Rattle.gpu_values.specs.declared.error.AllocationError.{AllocationError}

@@ -2,7 +2,7 @@
 use Rattle.std.proofs.Common.{◌≡◌, ◌∙◌, ℕ, ◌<◌, refl, sym, ap, subst, Bool, true, false, length, Option, Some, None, Ok, Err, Result, arith}
 use Rattle.std.specs.FinMap.{get}
 use Rattle.gpu_values.specs.Refusal.{Refusal, refusal_of, refusal_in, invalid_allocation_create_desc, no_compatible_memory_type_found}
-use Rattle.gpu_slots.specs.declared.piece.Piece.{Piece}
+use Rattle.gpu_core.specs.declared.piece.Piece.{Piece}
 use Rattle.gpu_values.specs.declared.error.AllocationError.{AllocationError}
 use Rattle.gpu_device.specs.Held.{Held, IsWhole}
 use Rattle.gpu_device.specs.declared.vulkan.device.VulkanDevice.{Ghosts}

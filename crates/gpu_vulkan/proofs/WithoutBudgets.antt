@@ -2,7 +2,7 @@
 use Rattle.std.proofs.Common.{◌≡◌, ◌∙◌, refl, ap, ⊎_elim, inl, inr, ℕ, List, [], Bool, true, false, Option, Some, None, Ok, Err, Result}
 use Rattle.std.specs.Prelude.{if◌then◌else◌, ◌&&◌, not}
 use Rattle.gpu_values.specs.Refusal.{Refusal}
-use Rattle.gpu_slots.specs.declared.piece.Piece.{Piece}
+use Rattle.gpu_core.specs.declared.piece.Piece.{Piece}
 use Rattle.gpu_device.specs.declared.vulkan.types.DeviceMemory.{DeviceMemory}
 use Rattle.gpu_pool.proofs.WithoutBudgets.{serves_plain}
 use Rattle.gpu_memory_types.specs.Budgets.{Budgets, budget_at}

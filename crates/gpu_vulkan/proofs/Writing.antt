@@ -6,9 +6,9 @@ use Rattle.std.specs.declared.num.NonZeroU64.{NonZeroU64}
 use Rattle.std.proofs.lemmas.Bool.{eqb-true}
 use Rattle.gpu_block.specs.Block.{extents_of}
 use Rattle.gpu_block_pieces.specs.FreeList.{Extent}
-use Rattle.gpu_slots.specs.TypeRelease.{SlotHolds}
-use Rattle.gpu_slots.specs.TypeState.{Slot, slot_at}
-use Rattle.gpu_slots.specs.declared.piece.Piece.{Piece}
+use Rattle.gpu_core.specs.TypeRelease.{SlotHolds}
+use Rattle.gpu_core.specs.TypeState.{Slot, slot_at}
+use Rattle.gpu_core.specs.declared.piece.Piece.{Piece}
 use Rattle.gpu_device.specs.Held.{Held, HasRange, bytes_of, IsWhole, range_of, with_range}
 use Rattle.gpu_device.specs.Properties.{Properties}
 use Rattle.gpu_device.specs.declared.vulkan.types.DeviceMemory.{DeviceMemory}

@@ -4,10 +4,10 @@ use Rattle.std.specs.FinMap.{remove}
 use Rattle.std.specs.List.{slice_set}
 use Rattle.std.specs.Option.{is_some}
 use Rattle.gpu_values.specs.Refusal.{refusal_of}
-use Rattle.gpu_slots.specs.TypeRelease.{has_several, ReleasesPiece, IsFreeRefusal}
-use Rattle.gpu_slots.specs.TypeState.{Slot, slot_at}
+use Rattle.gpu_core.specs.TypeRelease.{has_several, ReleasesPiece, IsFreeRefusal}
+use Rattle.gpu_core.specs.TypeState.{Slot, slot_at}
 use Rattle.gpu_values.specs.declared.error.AllocationError.{AllocationError}
-use Rattle.gpu_slots.specs.declared.piece.Piece.{Piece}
+use Rattle.gpu_core.specs.declared.piece.Piece.{Piece}
 use Rattle.gpu_device.specs.declared.vulkan.device.VulkanDevice.{Ghosts}
 use Rattle.gpu_device.specs.declared.vulkan.types.DeviceMemory.{DeviceMemory}
 use Rattle.gpu_device.specs.Held.{bytes_of}

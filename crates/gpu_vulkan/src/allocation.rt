@@ -3,7 +3,7 @@
 ghost use Rattle.std.specs.Prelude.{◌≡◌, Some, None, IsTrue, ◌↔◌};
 
 use gpu_device::vulkan::{DeviceMemory, MemoryPropertyFlags};
-use gpu_slots::Piece;
+use gpu_core::Piece;
 use std::num::NonZeroU64;
 
 /// A piece of device memory: bytes `offset..offset + size` of `memory`. Bind a buffer or image to it there. Give it

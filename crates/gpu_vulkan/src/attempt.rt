@@ -19,7 +19,7 @@ use crate::{
 };
 use gpu_device::vulkan::{DeviceMemory, VulkanDevice};
 use gpu_pool::Pool;
-use gpu_slots::Piece;
+use gpu_core::Piece;
 use gpu_values::{AllocationError, MemoryLocation, Result};
 use std::alloc::{AllocError, Global};
 

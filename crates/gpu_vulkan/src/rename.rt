@@ -12,7 +12,7 @@ use crate::Allocation;
 use crate::source::VulkanBlocks;
 use gpu_device::vulkan::{DeviceMemory, VulkanDevice};
 use gpu_pool::Pool;
-use gpu_slots::Piece;
+use gpu_core::Piece;
 use gpu_values::Result;
 use std::alloc::Global;
 

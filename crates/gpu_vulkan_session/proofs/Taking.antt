@@ -3,7 +3,7 @@ use Rattle.std.proofs.Common.{◌≡◌, ◌∙◌, ℕ, Option, Some, None, Ok,
 use Rattle.std.specs.Prelude.{IsSomeAnd, slice_get}
 use Rattle.std.specs.Int.NonZero.{non_zero_u64_get}
 use Rattle.gpu_values.specs.Refusal.{refusal_of}
-use Rattle.gpu_slots.specs.declared.piece.Piece.{Piece}
+use Rattle.gpu_core.specs.declared.piece.Piece.{Piece}
 use Rattle.gpu_values.specs.declared.error.AllocationError.{AllocationError}
 use Rattle.gpu_device.specs.declared.vulkan.device.VulkanDevice.{Ghosts}
 use Rattle.gpu_device.specs.declared.vulkan.types.DeviceMemory.{DeviceMemory}

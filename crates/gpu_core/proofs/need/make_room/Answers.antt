@@ -1,5 +1,5 @@
 use Rattle.gpu_block.specs.SubAllocator.{block_of}
-use Rattle.gpu_slots.specs.TypeTake.{asked}
+use Rattle.gpu_core.specs.TypeTake.{asked}
 use Rattle.gpu_core.proofs.EmptyBlocks.{takes_holds}
 use Rattle.gpu_core.proofs.Needs.{fresh_error, fresh_begins}
 use Rattle.gpu_core.proofs.need.make_room.Goals as goal

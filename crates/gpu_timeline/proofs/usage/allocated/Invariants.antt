@@ -1,6 +1,6 @@
 use Rattle.std.proofs.Common.{◌≡◌, ◌+◌, ◌≤◌, drop}
-use Rattle.gpu_slots.specs.TypeState.{capacity_of}
-use Rattle.gpu_slots.specs.TypeReport.{allocated_of}
+use Rattle.gpu_core.specs.TypeState.{capacity_of}
+use Rattle.gpu_core.specs.TypeReport.{allocated_of}
 use Rattle.gpu_timeline.proofs.usage.allocated.Given as goal
 
 abbrev pub invariant-loop-slot : goal.invariant-loop-slot

@@ -1,6 +1,6 @@
 use Rattle.std.proofs.Common.{refl, subst, sym, Bool, ℕ}
 use Rattle.gpu_core.specs.TypePrepare.{IsPrepared}
-use Rattle.gpu_slots.specs.declared.piece.Request.{Request}
+use Rattle.gpu_core.specs.declared.piece.Request.{Request}
 use Rattle.gpu_core.specs.declared.memory_type.Prepared.{Prepared}
 use Rattle.gpu_core.specs.declared.memory_type.Prepared.TheVariants as prepared
 use Rattle.gpu_c_blocks.specs.MemoryType.{PreparesBy, state_of}

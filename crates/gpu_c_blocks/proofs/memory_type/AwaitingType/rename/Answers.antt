@@ -1,5 +1,5 @@
 use Rattle.std.proofs.Common.{arith, List, ℕ, subst}
-use Rattle.gpu_slots.specs.TypeRelease.{RenamesPiece}
+use Rattle.gpu_core.specs.TypeRelease.{RenamesPiece}
 use Rattle.gpu_c_blocks.proofs.MemoryTypeLaws.{names_memory}
 use Rattle.gpu_c_blocks.proofs.memory_type.AwaitingType.rename.Goals.{in-Err, in-Ok-rename}
 use Rattle.gpu_c_blocks.proofs.memory_type.AwaitingType.rename.Goals as goal

@@ -1,10 +1,10 @@
 use native.Mathlib.Numerals.{unary_clauses}
 use Rattle.std.proofs.Common.{◌-◌, subst, sym, rules}
-use Rattle.gpu_slots.specs.TypeState.{slot_at, KeepsOneEmptyAtMost}
-use Rattle.gpu_slots.specs.TypeRelease.{SlotHolds}
+use Rattle.gpu_core.specs.TypeState.{slot_at, KeepsOneEmptyAtMost}
+use Rattle.gpu_core.specs.TypeRelease.{SlotHolds}
 use Rattle.gpu_core.specs.TypeInvariant.{AreKept}
-use Rattle.gpu_slots.specs.Slots.{AreSound, gone_number, gone_size, gone_shared}
-use Rattle.gpu_slots.proofs.Slotted.{on_err}
+use Rattle.gpu_core.specs.Slots.{AreSound, gone_number, gone_size, gone_shared}
+use Rattle.gpu_core.proofs.Slotted.{on_err}
 use Rattle.gpu_core.proofs.Dead.{free_dead}
 use Rattle.gpu_core.proofs.Kept.{freed_kept}
 use Rattle.gpu_core.proofs.memory_type.MemoryType.free.Goals.{In_ok-free, then-gone, else-gone}

@@ -1,10 +1,10 @@
 use Rattle.std.proofs.Common.{◌≡◌, ℕ, ◌+◌, not, cond, List, Option, subst, sym, ap, ◌∙◌, refl, arith}
 use Rattle.gpu_block.specs.SubAllocator.{block_of}
 use Rattle.gpu_block.specs.Block.{Block, is_general, size_of}
-use Rattle.gpu_slots.specs.TypeState.{Slot, capacity_of, KeepsOneEmptyAtMost}
-use Rattle.gpu_slots.specs.TypeTake.{with_block}
+use Rattle.gpu_core.specs.TypeState.{Slot, capacity_of, KeepsOneEmptyAtMost}
+use Rattle.gpu_core.specs.TypeTake.{with_block}
 use Rattle.gpu_core.specs.TypeInvariant.{AreKept}
-use Rattle.gpu_slots.specs.Slots.{AreSound}
+use Rattle.gpu_core.specs.Slots.{AreSound}
 use Rattle.gpu_core.proofs.EmptyBlocks.{holds_some}
 use Rattle.gpu_core.proofs.Kept.{installed_kept, count_le}
 use Rattle.gpu_core.proofs.memory_type.MemoryType.install.Goals as goal

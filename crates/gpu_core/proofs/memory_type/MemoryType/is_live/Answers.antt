@@ -1,11 +1,11 @@
 use Rattle.std.proofs.Common.{◌≡◌, Some, subst, sym, ap, ◌∙◌, arith}
 use Rattle.std.specs.Option.{option_map}
 use Rattle.std.proofs.lemmas.Bool.{false≢true}
-use Rattle.gpu_slots.specs.TypeState.{slot_at}
-use Rattle.gpu_slots.specs.TypeRelease.{SlotHolds, IsLive}
-use Rattle.gpu_slots.specs.Slots.{slot_of, SlotIsSound}
-use Rattle.gpu_slots.proofs.Slotted.{edits}
-use Rattle.gpu_slots.proofs.Found.{not_found}
+use Rattle.gpu_core.specs.TypeState.{slot_at}
+use Rattle.gpu_core.specs.TypeRelease.{SlotHolds, IsLive}
+use Rattle.gpu_core.specs.Slots.{slot_of, SlotIsSound}
+use Rattle.gpu_core.proofs.Slotted.{edits}
+use Rattle.gpu_core.proofs.Found.{not_found}
 use Rattle.gpu_core.proofs.memory_type.MemoryType.is_live.Goals as goal
 use Rattle.gpu_core.proofs.memory_type.MemoryType.is_live.Goals.{In-Some-Some}
 

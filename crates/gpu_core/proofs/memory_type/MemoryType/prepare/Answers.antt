@@ -3,8 +3,8 @@ use Rattle.std.proofs.lemmas.Bool.{false≢true}
 use Rattle.std.specs.Prelude.{IsNone}
 use Rattle.gpu_values.specs.Sizes.{shared_block_size}
 use Rattle.gpu_block.specs.Block.{TakesIn}
-use Rattle.gpu_slots.specs.TypeState.{capacity_of}
-use Rattle.gpu_slots.specs.TypeTake.{asked, fresh_block, PreparesPiece, NoneServes, NeedsBlock, has_own_block, next_shared_size}
+use Rattle.gpu_core.specs.TypeState.{capacity_of}
+use Rattle.gpu_core.specs.TypeTake.{asked, fresh_block, PreparesPiece, NoneServes, NeedsBlock, has_own_block, next_shared_size}
 use Rattle.gpu_core.specs.TypeInvariant.{AreKept}
 use Rattle.gpu_core.proofs.Needs.{none_of, fresh_taken}
 use Rattle.gpu_core.proofs.Kept.{prepared_kept, same_kept}

@@ -1,10 +1,10 @@
 use Rattle.std.proofs.Common.{subst, sym, ap, ◌∙◌}
 use Rattle.gpu_values.specs.Refusal.{refusal_of}
-use Rattle.gpu_slots.specs.TypeState.{slot_at, capacity_of}
-use Rattle.gpu_slots.specs.TypeRelease.{SlotHolds}
+use Rattle.gpu_core.specs.TypeState.{slot_at, capacity_of}
+use Rattle.gpu_core.specs.TypeRelease.{SlotHolds}
 use Rattle.gpu_core.specs.TypeInvariant.{AreKept}
 use Rattle.gpu_core.proofs.Dead.{name_dead}
-use Rattle.gpu_slots.proofs.Found.{on_ok, either_way, if_error}
+use Rattle.gpu_core.proofs.Found.{on_ok, either_way, if_error}
 use Rattle.gpu_core.proofs.Kept.{renamed_kept, same_kept}
 use Rattle.gpu_core.proofs.Needs.{host_error}
 use Rattle.gpu_core.proofs.memory_type.MemoryType.rename.Goals as goal

@@ -1,7 +1,7 @@
 use Rattle.std.proofs.Common.{◌≡◌, ◌∙◌, Some, sym, subst, ap, arith, length, slice_get, slice_set, ◌<◌, rules}
 use Rattle.std.proofs.lemmas.List.{length-map, map-set}
 use Rattle.std.proofs.lemmas.Grind.{common_steps}
-use Rattle.gpu_slots.specs.TypeState.{TypeState, capacity_of}
+use Rattle.gpu_core.specs.TypeState.{TypeState, capacity_of}
 use Rattle.gpu_memory_types.specs.Budgets.{budgets}
 use Rattle.gpu_memory_types.specs.Types.{slots_of, kinds, MemoryTypesInvariant}
 use Rattle.gpu_memory_types.proofs.Changed.{element_at, same_slots}

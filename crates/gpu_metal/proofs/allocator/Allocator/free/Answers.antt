@@ -1,5 +1,5 @@
 use Rattle.std.proofs.Common.{rules, sym, subst}
-use Rattle.gpu_slots.specs.declared.piece.Piece.{Piece}
+use Rattle.gpu_core.specs.declared.piece.Piece.{Piece}
 use Rattle.gpu_device.specs.declared.metal.types.MTLHeap.{MTLHeap}
 use Rattle.gpu_memory_types.specs.Apart.{AreDistinct}
 use Rattle.gpu_pool.specs.Allocation.{piece_of}

@@ -1,5 +1,5 @@
 use Rattle.std.proofs.Common.{rules, Some, None, Option, ◌≡◌, ◌∙◌, sym, subst}
-use Rattle.gpu_slots.specs.declared.piece.Piece.{Piece}
+use Rattle.gpu_core.specs.declared.piece.Piece.{Piece}
 use Rattle.gpu_device.specs.declared.vulkan.types.DeviceMemory.{DeviceMemory}
 use Rattle.gpu_vulkan.specs.Free.{FreesPiece, Frees}
 use Rattle.gpu_vulkan.specs.Live.{piece_of, IsLive}

@@ -1,0 +1,29 @@
+use Rattle.std.proofs.Common.{ℕ, refl, sym, ap, subst, inl, Some}
+use Rattle.gpu_block.specs.SubAllocator.{block_of}
+use Rattle.gpu_block.specs.Block.{Block, HasPages, IsSoundBlock, HasPagesApart}
+use Rattle.gpu_core.specs.Slots.{slot_of}
+use Rattle.gpu_values.specs.Refusal.{refusal_of}
+use Rattle.gpu_core.proofs.Starved.{starved_live}
+use Rattle.gpu_core.proofs.Found.{renamed_live, on_ok, on_error, if_error, either_way}
+use Rattle.gpu_core.proofs.slot.rename.Goals as goal
+
+pub returns-in_default : goal.returns-in_default
+returns-in_default g c =
+    let before : (n : ℕ) × (HasPages (block_of c.in-Some.block.sub) n × IsSoundBlock (block_of c.in-Some.block.sub) × HasPagesApart (block_of c.in-Some.block.sub)) = rw c.in-Some.is at c.requires in
+    let sound = before.1.1 in
+    let after : IsSoundBlock (block_of c.rename_allocation.new.self) = either_way c.rename_allocation.result _ _ c.rename_allocation.ensures.sound c.rename_allocation.ensures.refused
+    (λ e. subst IsSoundBlock (sym e) sound) in
+    let separated : HasPagesApart (block_of c.rename_allocation.new.self) = either_way c.rename_allocation.result _ _ c.rename_allocation.ensures.separated c.rename_allocation.ensures.refused
+    (λ e. subst HasPagesApart (sym e) before.1.2) in
+    record {
+      renamed = rw c.in-Some.is (on_ok c.rename_allocation.result _ _ c.rename_allocation.ensures.renamed (λ t. (refl, t)));
+      live = rw c.in-Some.is (on_ok c.rename_allocation.result _ _ c.rename_allocation.ensures.renamed
+          (λ t. renamed_live g.H.PartialEq.eq c.args.piece.now (slot_of c.in-Some.block) c.find.result c.args.name.now (block_of c.rename_allocation.new.self) c.find.ensures c.in_default.not-Other
+          sound t));
+      starved = rw c.in-Some.is (if_error c.rename_allocation.result _ _ c.rename_allocation.ensures.cause
+          (λ e h host. starved_live g.H.PartialEq.eq c.args.piece.now (slot_of c.in-Some.block) c.find.result (refusal_of e) c.find.ensures c.in_default.not-Other sound h (ap refusal_of host)));
+      cause = rw c.in-Some.is (if_error c.rename_allocation.result _ _ c.rename_allocation.ensures.cause (λ e h. inl h));
+      refused = rw c.in-Some.is (on_error c.rename_allocation.result _ _ c.rename_allocation.ensures.refused
+          (λ e. ap (λ (b : Block). Some (record { number = c.in-Some.block.number; block = b })) e));
+      kept = rw c.in-Some.is (λ n s. (c.rename_allocation.ensures.pages n s.0, after, separated));
+    }

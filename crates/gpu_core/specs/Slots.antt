@@ -1,0 +1,87 @@
+-- The slots of a memory type as its code keeps them, and the changes of one slot.
+use Rattle.std.specs.Prelude.{◌≡◌, ◌≢◌, ℕ, ◌<◌, Bool, true, List, length, Option, Some, None, cond, map, Contains, slice_index}
+use Rattle.std.specs.Option.{option_map}
+use Rattle.gpu_core.specs.declared.slot.LiveBlock.{LiveBlock}
+use Rattle.gpu_core.specs.declared.slot.Gone.{Gone}
+use Rattle.gpu_core.specs.declared.slot.Finding.{Finding}
+use Rattle.gpu_core.specs.declared.slot.Finding.TheVariants as findings
+use Rattle.gpu_block_pieces.specs.Request.{Request}
+use Rattle.gpu_block.specs.SubAllocator.{block_of}
+use Rattle.gpu_block.specs.Block.{extents_of, is_general, TakesIn, HasPages, IsSoundBlock, HasPagesApart}
+use Rattle.gpu_block_pieces.specs.FreeList.{Extent}
+use Rattle.gpu_core.specs.TypeState.{Slot, slot_at}
+use Rattle.gpu_core.specs.TypeTake.{CannotServe}
+use Rattle.gpu_core.specs.TypeRelease.{SlotHolds, Goes}
+use Rattle.gpu_core.specs.declared.piece.Piece.{Piece}
+use Rattle.std.specs.Int.NonZero.{non_zero_u64_get}
+
+abbrev pub slot_of : {H : Type 0} → LiveBlock H → Slot H
+slot_of b = record { number = b.number; block = block_of b.sub }
+
+abbrev pub slots_of : {H : Type 0} → List (Option (LiveBlock H)) → List (Option (Slot H))
+slots_of slots = map (option_map slot_of) slots
+
+-- what a contract sees of the slots: which there are, and for how many there is host memory
+pub record SlotList (H : Type 0) : Type 0 where
+  pub slots : List (Option (Slot H))
+  pub room : ℕ
+
+-- the slot serves no request of more bytes
+abbrev pub Bounds : {H : Type 0} → ℕ → Option (Slot H) → Type 0
+Bounds longest s = (r : Request) → longest < r.size → CannotServe r s
+
+-- each slot has its bound
+pub record AreBounded {H : Type 0} (longest : List ℕ) (slots : List (Option (Slot H))) : Type 0 where
+  pub length_is : length longest ≡ length slots
+  pub each : (i : ℕ) → Bounds (slice_index longest i) (slot_at slots i)
+
+-- each slot but one has its bound
+pub record OthersAreBounded {H : Type 0} (one : ℕ) (longest : List ℕ) (slots : List (Option (Slot H))) : Type 0 where
+  pub length_is : length longest ≡ length slots
+  pub each : (i : ℕ) → i ≢ one → Bounds (slice_index longest i) (slot_at slots i)
+
+-- a slot's block has the type's pages and is sound, and its pieces of different kinds share no page
+abbrev pub SlotIsSound : {H : Type 0} → ℕ → Option (Slot H) → Type 0
+SlotIsSound granularity None = Unit {0}
+SlotIsSound granularity (Some s) = HasPages s.block granularity × IsSoundBlock s.block × HasPagesApart s.block
+
+abbrev pub AreSound : {H : Type 0} → ℕ → List (Option (Slot H)) → Type 0
+AreSound granularity slots = (i : ℕ) → SlotIsSound granularity (slot_at slots i)
+
+-- a piece was taken of a shared block
+abbrev pub SlotTakes : {H : Type 0} → Option (Slot H) → Request → (offset number : ℕ) → H → Option (Slot H) → Type 0
+SlotTakes (Some old) r offset number device (Some new) =
+    (is_general old.block ≡ true) × (device ≡ old.number) × (new.number ≡ old.number) × TakesIn old.block r offset number new.block
+SlotTakes None r offset number device new = ⊥
+SlotTakes (Some old) r offset number device None = ⊥
+
+-- the i-th slot is empty
+pub record IsEmptyAt {H : Type 0} (slots : List (Option (Slot H))) (i : ℕ) : Type 0 where
+  pub below : i < length slots
+  pub empty : slot_at slots i ≡ None
+
+-- what a look for a piece finds: its record, another one under its number, or nothing under that
+abbrev pub Finds : {H : Type 0} → (H → H → Bool) → Piece H → Slot H → Finding → Type 0
+Finds eq p s findings.Piece = SlotHolds eq p (Some s)
+Finds eq p s findings.Other = (SlotHolds eq p (Some s) → ⊥) × ((x : Extent) × Contains (extents_of s.block) x × (x.number ≡ non_zero_u64_get p.number))
+Finds eq p s findings.Nothing = (x : Extent) → Contains (extents_of s.block) x → x.number ≡ non_zero_u64_get p.number → ⊥
+
+-- a slot's block stays, or goes where it is empty and dedicated or one of several shared ones
+abbrev pub Settles : {H : Type 0} → (several : Type 0) → Option (Slot H) → Option H → Option (Slot H) → Type 0
+Settles several (Some old) went (Some new) = (went ≡ None) × (new ≡ old) × (Goes several old.block → ⊥)
+Settles several (Some old) went None = (went ≡ Some old.number) × Goes several old.block
+Settles several None went None = went ≡ None
+Settles several None went (Some new) = ⊥
+
+-- of a block that went, if one did: the device's number of it, the bytes that went with it, and 1 where it was shared
+abbrev pub gone_number : {H : Type 0} → Option (Gone H) → Option H
+gone_number None = None
+gone_number (Some went) = Some went.number
+
+abbrev pub gone_size : {H : Type 0} → Option (Gone H) → ℕ
+gone_size None = 0
+gone_size (Some went) = went.size
+
+abbrev pub gone_shared : {H : Type 0} → Option (Gone H) → ℕ
+gone_shared None = 0
+gone_shared (Some went) = cond went.is_shared 1 0

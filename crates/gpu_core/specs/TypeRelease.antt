@@ -1,0 +1,65 @@
+-- Which pieces of a memory type are live, and what giving one back or naming it leaves.
+use Rattle.std.specs.Prelude.{◌≡◌, ℕ, ◌⊎◌, Bool, true, false, List, [], Option, Some, None, Contains, codes, nat_lt}
+use Rattle.std.specs.List.{slice_set}
+use Rattle.std.specs.Int.NonZero.{non_zero_u64_get}
+use Rattle.gpu_block_pieces.specs.FreeList.{Extent}
+use Rattle.gpu_values.specs.Refusal.{Refusal, internal}
+use Rattle.gpu_block.specs.Block.{Block, extents_of, is_general, HoldsPiece, ReleasesIn, IsReleaseRefusalIn, RenamesIn, IsRenameRefusalIn}
+use Rattle.gpu_core.specs.TypeState.{Slot, slot_at, shared_count}
+use Rattle.gpu_core.specs.declared.piece.Piece.{Piece}
+
+-- a slot's block has the piece, whole; the device's numbers are compared as their type compares them
+abbrev pub SlotHolds : {H : Type 0} → (H → H → Bool) → Piece H → Option (Slot H) → Type 0
+SlotHolds eq p None = ⊥
+SlotHolds eq p (Some s) = (eq s.number p.block ≡ true) × HoldsPiece s.block (non_zero_u64_get p.number) p.offset p.size
+
+abbrev pub IsLive : {H : Type 0} → (H → H → Bool) → List (Option (Slot H)) → Piece H → Type 0
+IsLive eq slots p = SlotHolds eq p (slot_at slots p.slot)
+
+-- a live piece has the number, but the record is another one
+abbrev pub IsOther : {H : Type 0} → (H → H → Bool) → Piece H → Slot H → Refusal → Type 0
+IsOther eq p s refusal =
+    (SlotHolds eq p (Some s) → ⊥)
+    × ((x : Extent) × Contains (extents_of s.block) x × (x.number ≡ non_zero_u64_get p.number))
+    × (refusal ≡ internal (codes "Allocation does not belong to this allocator.") None)
+
+-- why a piece isn't given back: its slot has no block; else the block refuses its number; else the record is another one
+abbrev pub IsFreeRefusal : {H : Type 0} → (H → H → Bool) → Piece H → Option (Slot H) → Refusal → Type 0
+IsFreeRefusal eq p None refusal = refusal ≡ internal (codes "Memory block must be Some.") None
+IsFreeRefusal eq p (Some s) refusal = IsReleaseRefusalIn s.block (Some p.number) refusal ⊎ IsOther eq p s refusal
+
+-- why a piece isn't named: the same, or host memory was refused
+abbrev pub IsNameRefusal : {H : Type 0} → (H → H → Bool) → Piece H → Option (Slot H) → Refusal → Type 0
+IsNameRefusal eq p None refusal = refusal ≡ internal (codes "Memory block must be Some.") None
+IsNameRefusal eq p (Some s) refusal = IsRenameRefusalIn s.block (Some p.number) refusal ⊎ IsOther eq p s refusal
+
+-- the type has more than one shared block
+abbrev pub has_several : {H : Type 0} → List (Option (Slot H)) → Bool
+has_several slots = nat_lt 1 (shared_count slots)
+
+-- an emptied block goes where it is dedicated or isn't the only shared one
+abbrev pub Goes : (several : Type 0) → Block → Type 0
+Goes several after = (extents_of after ≡ []) × ((is_general after ≡ false) ⊎ several)
+
+-- a slot after the release of a piece: its block stays, or it is empty and the block's number is named
+abbrev pub SlotReleases : {H : Type 0} → (several : Type 0) → ℕ → Option (Slot H) → Option H → Option (Slot H) → Type 0
+SlotReleases several number (Some old) went (Some new) = (went ≡ None) × (new.number ≡ old.number) × ReleasesIn old.block number new.block × (Goes several new.block → ⊥)
+SlotReleases several number (Some old) went None = (went ≡ Some old.number) × ((after : Block) × ReleasesIn old.block number after × Goes several after)
+SlotReleases several number None went new = ⊥
+
+-- the piece went, and its block with it where that is emptied and goes; no other slot changes
+pub record ReleasesPiece {H : Type 0} (several : Type 0) (old : List (Option (Slot H))) (p : Piece H) (gone : Option H) (new : List (Option (Slot H))) : Type 0 where
+  pub slot : Option (Slot H)
+  pub releases : SlotReleases several (non_zero_u64_get p.number) (slot_at old p.slot) gone slot
+  pub slots : new ≡ slice_set old p.slot slot
+
+abbrev pub SlotRenames : {H : Type 0} → ℕ → List ℕ → Option (Slot H) → Option (Slot H) → Type 0
+SlotRenames number name (Some old) (Some new) = (new.number ≡ old.number) × RenamesIn old.block number name new.block
+SlotRenames number name (Some old) None = ⊥
+SlotRenames number name None new = ⊥
+
+-- the piece has another name, and nothing else changes
+pub record RenamesPiece {H : Type 0} (old : List (Option (Slot H))) (p : Piece H) (name : List ℕ) (new : List (Option (Slot H))) : Type 0 where
+  pub slot : Option (Slot H)
+  pub renames : SlotRenames (non_zero_u64_get p.number) name (slot_at old p.slot) slot
+  pub slots : new ≡ slice_set old p.slot slot

@@ -1,0 +1,211 @@
+//! One slot of a memory type.
+
+ghost use Rattle.std.specs.Prelude.{◌≡◌, ◌≢◌, ℕ, ◌<◌, ◌+◌, Some, IfOk, OnOk, IfErr, IfSome, IsNone, OnErr, IsTrue};
+ghost use Rattle.std.specs.Option.{option_map};
+ghost use Rattle.std.specs.Int.{is_power_of_two};
+ghost use Rattle.std.specs.Int.NonZero.{non_zero_u64_get};
+ghost use Rattle.gpu_values.specs.declared.error.AllocationError.TheVariants.{HostOutOfMemory};
+ghost use Rattle.gpu_core.specs.TypeTake.{asked, CannotServe};
+ghost use Rattle.gpu_values.specs.Refusal.{refusal_of};
+ghost use Rattle.gpu_block.specs.SubAllocator.{block_of};
+ghost use Rattle.gpu_block.specs.Block.{IsSoundBlock, HasPages, HasPagesApart, ReleasesIn};
+ghost use Rattle.gpu_core.specs.TypeState.{slot_size, shared_in};
+ghost use Rattle.gpu_core.specs.TypeRelease.{SlotHolds, IsFreeRefusal, IsNameRefusal, SlotReleases, SlotRenames};
+ghost use Rattle.gpu_core.specs.Slots.{slot_of, Bounds, SlotTakes, SlotIsSound, Finds, Settles, gone_number, gone_size, gone_shared};
+
+use crate::{Piece, Request};
+use gpu_block::SubAllocator;
+use gpu_values::{AllocationError, AllocationType, Result, internal_fault};
+use std::num::NonZeroU64;
+
+/// A live block: the device's number of it, and its pieces.
+#[derive(Drop)]
+pub struct LiveBlock<H> {
+    pub number: H,
+    pub sub: SubAllocator,
+}
+
+/// A piece that was taken of a slot's block.
+#[derive(Drop)]
+pub struct Taken<H> {
+    pub offset: u64,
+    pub number: NonZeroU64,
+    pub block: H,
+}
+
+/// The bytes up to which a slot may serve requests: those of its shared block's longest gap, and 0 where it has none.
+pub fn longest_in<H>(slot: &Option<LiveBlock<H>>) -> u64
+    ensures { Bounds result (option_map slot_of slot.now) }
+{
+    match slot {
+        Some(block) if block.sub.supports_general_allocations() => block.sub.longest_gap(),
+        _ => 0,
+    }
+}
+
+/// Takes a piece of a shared block, or answers `None` where the slot can't serve the request. The only refusal is
+/// `HostOutOfMemory`.
+pub fn take_in<H: Copy>(
+    slot: &mut Option<LiveBlock<H>>,
+    request: &Request,
+    granularity: u64,
+) -> Result<Option<Taken<H>>>
+    requires sized { 0 < request.now.size }
+    requires aligned { IsTrue (is_power_of_two request.now.alignment) }
+    requires piece { request.now.kind ≢ AllocationType.Free }
+    requires sound { SlotIsSound granularity (option_map slot_of slot.old) }
+    ensures took { IfOk result (λ o. IfSome o (λ t. SlotTakes (option_map slot_of slot.old) (asked request.now)
+        t.offset (non_zero_u64_get t.number) t.block (option_map slot_of slot.new))) }
+    ensures none { IfOk result (λ o. IsNone o → CannotServe (asked request.now) (option_map slot_of slot.old)
+        × (option_map slot_of slot.new ≡ option_map slot_of slot.old)) }
+    ensures cause { IfErr result (λ e. e ≡ HostOutOfMemory) }
+    ensures refused { OnErr result (option_map slot_of slot.new ≡ option_map slot_of slot.old) }
+    ensures kept { SlotIsSound granularity (option_map slot_of slot.new) }
+{
+    match slot {
+        Some(block) if block.sub.supports_general_allocations() => {
+            let Request {
+                size,
+                alignment,
+                kind,
+                name,
+                ..
+            } = *request;
+            match block.sub.allocate(size, alignment, kind, granularity, name) {
+                Ok((offset, number)) => Ok(Some(Taken {
+                    offset,
+                    number,
+                    block: block.number,
+                })),
+                Err(AllocationError::OutOfMemory) => Ok(None),
+                Err(error) => Err(error),
+            }
+        }
+        _ => Ok(None),
+    }
+}
+
+/// What a look for a piece finds in a block.
+#[derive(Clone, Copy)]
+pub enum Finding {
+    /// The piece's own record.
+    Piece,
+    /// Another record under its number.
+    Other,
+    /// Nothing under its number.
+    Nothing,
+}
+
+/// Looks for a piece.
+pub fn find<H: Copy + Eq>(block: &LiveBlock<H>, piece: &Piece<H>) -> Finding
+    requires { IsSoundBlock (block_of block.now.sub) }
+    ensures { Finds H.eq piece.now (slot_of block.now) result }
+{
+    let Some((offset, size)) = block.sub.place_of(piece.number) else {
+        return Finding::Nothing;
+    };
+    if offset != piece.offset || size != piece.size {
+        return Finding::Other;
+    }
+    if block.number == piece.block {
+        Finding::Piece
+    } else {
+        Finding::Other
+    }
+}
+
+/// A block that went: the device's number of it, its size in bytes, and whether it was shared.
+#[derive(Drop)]
+pub struct Gone<H> {
+    pub number: H,
+    pub size: u64,
+    pub is_shared: bool,
+}
+
+/// Gives the block of a slot up where it is empty and dedicated, or empty and one of several shared ones.
+fn settle<H: Copy>(slot: &mut Option<LiveBlock<H>>, several: bool) -> Option<Gone<H>>
+    ensures settled { Settles (IsTrue several) (option_map slot_of slot.old) (gone_number result) (option_map slot_of slot.new) }
+    ensures size { slot_size (option_map slot_of slot.new) + gone_size result ≡ slot_size (option_map slot_of slot.old) }
+    ensures shared { shared_in (option_map slot_of slot.new) + gone_shared result ≡ shared_in (option_map slot_of slot.old) }
+{
+    if let Some(block) = slot {
+        let is_shared = block.sub.supports_general_allocations();
+        if block.sub.is_empty() && (several || !is_shared) {
+            let gone = Gone {
+                number: block.number,
+                size: block.sub.size(),
+                is_shared,
+            };
+            *slot = None;
+            return Some(gone);
+        }
+    }
+    None
+}
+
+/// Gives a piece back to its block. It takes no memory; a refusal leaves the block as it was.
+fn give_back<H: Copy + Eq>(block: &mut LiveBlock<H>, piece: &Piece<H>) -> Result<()>
+    requires { IsSoundBlock (block_of block.old.sub) }
+    ensures released { OnOk result (ReleasesIn (block_of block.old.sub) (non_zero_u64_get piece.now.number) (block_of block.new.sub)) }
+    ensures live { OnOk result (SlotHolds H.eq piece.now (Some (slot_of block.old))) }
+    ensures cause { IfErr result (λ e. IsFreeRefusal H.eq piece.now (Some (slot_of block.old)) (refusal_of e)) }
+    ensures refused { OnErr result (slot_of block.new ≡ slot_of block.old) }
+    ensures number { block.new.number ≡ block.old.number }
+    ensures pages { (g : ℕ) → HasPages (block_of block.old.sub) g → HasPages (block_of block.new.sub) g }
+    ensures sound { IsSoundBlock (block_of block.new.sub) }
+    ensures separated { OnOk result (HasPagesApart (block_of block.new.sub)) }
+{
+    match find(block, piece) {
+        Finding::Other => Err(internal_fault("Allocation does not belong to this allocator.")),
+        _ => block.sub.free(Some(piece.number)),
+    }
+}
+
+/// Gives a piece back. It takes no memory; a refusal leaves the slot as it was.
+pub fn release<H: Copy + Eq>(
+    slot: &mut Option<LiveBlock<H>>,
+    piece: &Piece<H>,
+    several: bool,
+) -> Result<Option<Gone<H>>>
+    requires { (g : ℕ) × SlotIsSound g (option_map slot_of slot.old) }
+    ensures released { IfOk result (λ went. SlotReleases (IsTrue several) (non_zero_u64_get piece.now.number)
+        (option_map slot_of slot.old) (gone_number went) (option_map slot_of slot.new)) }
+    ensures live { OnOk result (SlotHolds H.eq piece.now (option_map slot_of slot.old)) }
+    ensures size { IfOk result (λ went. slot_size (option_map slot_of slot.new) + gone_size went ≡ slot_size (option_map slot_of slot.old)) }
+    ensures shared { IfOk result (λ went. shared_in (option_map slot_of slot.new) + gone_shared went ≡ shared_in (option_map slot_of slot.old)) }
+    ensures cause { IfErr result (λ e. IsFreeRefusal H.eq piece.now (option_map slot_of slot.old) (refusal_of e)) }
+    ensures refused { OnErr result (option_map slot_of slot.new ≡ option_map slot_of slot.old) }
+    ensures kept { (g : ℕ) → SlotIsSound g (option_map slot_of slot.old) → SlotIsSound g (option_map slot_of slot.new) }
+{
+    match slot {
+        None => Err(internal_fault("Memory block must be Some.")),
+        Some(block) => match give_back(block, piece) {
+            Err(error) => Err(error),
+            Ok(()) => Ok(settle(slot, several)),
+        },
+    }
+}
+
+/// Gives a piece another name. A refusal leaves the slot as it was.
+pub fn rename<H: Copy + Eq>(
+    slot: &mut Option<LiveBlock<H>>,
+    piece: &Piece<H>,
+    name: &str,
+) -> Result<()>
+    requires { (g : ℕ) × SlotIsSound g (option_map slot_of slot.old) }
+    ensures renamed { OnOk result (SlotRenames (non_zero_u64_get piece.now.number) name.now
+        (option_map slot_of slot.old) (option_map slot_of slot.new)) }
+    ensures live { OnOk result (SlotHolds H.eq piece.now (option_map slot_of slot.old)) }
+    ensures starved { IfErr result (λ e. e ≡ HostOutOfMemory → SlotHolds H.eq piece.now (option_map slot_of slot.old)) }
+    ensures cause { IfErr result (λ e. IsNameRefusal H.eq piece.now (option_map slot_of slot.old) (refusal_of e)) }
+    ensures refused { OnErr result (option_map slot_of slot.new ≡ option_map slot_of slot.old) }
+    ensures kept { (g : ℕ) → SlotIsSound g (option_map slot_of slot.old) → SlotIsSound g (option_map slot_of slot.new) }
+{
+    match slot {
+        None => Err(internal_fault("Memory block must be Some.")),
+        Some(block) => match find(block, piece) {
+            Finding::Other => Err(internal_fault("Allocation does not belong to this allocator.")),
+            _ => block.sub.rename_allocation(Some(piece.number), name),
+        },
+    }
+}
