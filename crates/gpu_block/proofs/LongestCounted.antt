@@ -6,7 +6,7 @@ use Rattle.std.proofs.lemmas.List.Elements.{All-nil, All-cons, All-tail, All-wea
 use Rattle.std.proofs.lemmas.Bool.{cases_lt}
 use Rattle.std.proofs.lemmas.Bool.Decides.{nat_tests}
 use Rattle.gpu_block_pieces.specs.FreeList.{Extent, FreeList, IsLongestGap}
-use Rattle.gpu_block_views.specs.Pieces.{LieBetween, gap_between, gaps_between, longest}
+use Rattle.gpu_block_pieces.specs.Pieces.{LieBetween, gap_between, gaps_between, longest}
 
 -- ---- the length of the longest
 

@@ -1,9 +1,9 @@
 -- What is read of a block: its gaps, what is counted of it, and its leaks.
 use Rattle.std.specs.Prelude.{ℕ, List, map, length}
 use Rattle.gpu_block_pieces.specs.FreeList.{extent_bytes}
-use Rattle.gpu_block_views.specs.declared.pieces.BlockStatistics.{BlockStatistics}
-use Rattle.gpu_block_views.specs.Leak.{LeakOf, leak_of}
-use Rattle.gpu_block_views.specs.Pieces.{gaps_between, longest}
+use Rattle.gpu_block_pieces.specs.declared.pieces.BlockStatistics.{BlockStatistics}
+use Rattle.gpu_block_pieces.specs.Leak.{LeakOf, leak_of}
+use Rattle.gpu_block_pieces.specs.Pieces.{gaps_between, longest}
 use Rattle.gpu_block.specs.Block.{Block, extents_of, size_of, is_general}
 
 -- the gaps of a block, in order

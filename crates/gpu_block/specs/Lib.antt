@@ -2,10 +2,10 @@ pub mod Dedicated
 pub mod Block
 pub mod SubAllocator
 pub mod BlockViews
-pub use Rattle.gpu_block_views.specs.Rows
-pub use Rattle.gpu_block_views.specs.Leak
-pub use Rattle.gpu_block_views.specs.Pieces
-pub use Rattle.gpu_block_views.specs.Statistics
+pub use Rattle.gpu_block_pieces.specs.Rows
+pub use Rattle.gpu_block_pieces.specs.Leak
+pub use Rattle.gpu_block_pieces.specs.Pieces
+pub use Rattle.gpu_block_pieces.specs.Statistics
 pub use Rattle.gpu_block_pieces.specs.FreeList
 pub use Rattle.gpu_block_pieces.specs.Request
 pub use Rattle.gpu_block_pieces.specs.Place

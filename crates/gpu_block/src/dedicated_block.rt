@@ -45,7 +45,7 @@ impl DedicatedBlockAllocator {
     ghost use Rattle.gpu_block_pieces.specs.FreeList.{FindsPlace, extent_bytes};
     ghost use Rattle.gpu_block_pieces.specs.Request.{Request, request};
     ghost use Rattle.gpu_block.specs.Block.{HasNoPlaceIn, dedicated};
-    ghost use Rattle.gpu_block_views.specs.Pieces.{gaps_between, longest};
+    ghost use Rattle.gpu_block_pieces.specs.Pieces.{gaps_between, longest};
     ghost use Rattle.gpu_block.specs.Dedicated.{IsWhole, empty_dedicated, held_extents, DedicatedTakes, IsDedicatedTakeRefusal, DedicatedReleases, IsDedicatedReleaseRefusal, DedicatedRenames, IsDedicatedRenameRefusal};
 
     /// An empty block of `size` bytes, which isn't 0. It takes no memory.

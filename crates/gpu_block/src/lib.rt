@@ -9,5 +9,5 @@ mod sub_allocator;
 
 pub use dedicated_block::DedicatedBlockAllocator;
 pub use free_list::FreeListAllocator;
-pub use gpu_block_views::{BlockStatistics, Gaps, Leak, Leaks, LivePiece, Pieces};
+pub use gpu_block_pieces::{BlockStatistics, Gaps, Leak, Leaks, LivePiece, Pieces};
 pub use sub_allocator::SubAllocator;

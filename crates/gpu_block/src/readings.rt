@@ -6,14 +6,14 @@ ghost use Rattle.std.specs.Int.{is_power_of_two};
 ghost use Rattle.std.specs.Int.NonZero.{non_zero_u64_get};
 ghost use Rattle.gpu_values.specs.declared.error.AllocationError.TheVariants.{HostOutOfMemory};
 ghost use Rattle.gpu_values.specs.Report.{row_of};
-ghost use Rattle.gpu_block_views.specs.Rows.{extent_row};
-ghost use Rattle.gpu_block_views.specs.Leak.{leak_of};
-ghost use Rattle.gpu_block_views.specs.Pieces.{LieBetween};
+ghost use Rattle.gpu_block_pieces.specs.Rows.{extent_row};
+ghost use Rattle.gpu_block_pieces.specs.Leak.{leak_of};
+ghost use Rattle.gpu_block_pieces.specs.Pieces.{LieBetween};
 
 use crate::{DedicatedBlockAllocator, FreeListAllocator};
 use gpu_block_chunks::Walk;
 use gpu_block_pieces::CutBlock;
-use gpu_block_views::{Leaks, Pieces, rows_of};
+use gpu_block_pieces::{Leaks, Pieces, rows_of};
 use gpu_cost::{BeginsCount, Cost};
 use gpu_values::{AllocationReport, Result};
 use std::alloc::Global;
@@ -29,7 +29,7 @@ impl FreeListAllocator {
     ghost use Rattle.gpu_block_pieces.specs.Laws.{IsSound, IsInOrder};
     ghost use Rattle.gpu_block_pieces.specs.Place.{HasNoPlace};
     ghost use Rattle.gpu_block_pieces.specs.Request.{Request};
-    ghost use Rattle.gpu_block_views.specs.Pieces.{gaps_between, longest};
+    ghost use Rattle.gpu_block_pieces.specs.Pieces.{gaps_between, longest};
 
     /// A block of `size` bytes without pieces: one gap with number 1, and 2 is the next new number. `size` isn't 0.
     /// `granularity` is the page size in bytes, a power of two: Vulkan's bufferImageGranularity, elsewhere 1. The only refusal

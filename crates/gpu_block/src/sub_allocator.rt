@@ -7,10 +7,10 @@ ghost use Rattle.gpu_values.specs.declared.error.AllocationError.TheVariants.{Ho
 ghost use Rattle.gpu_values.specs.Refusal.{refusal_of};
 ghost use Rattle.gpu_block_pieces.specs.Request.{Request, request};
 ghost use Rattle.gpu_values.specs.Report.{row_of};
-ghost use Rattle.gpu_block_views.specs.Rows.{extent_row};
+ghost use Rattle.gpu_block_pieces.specs.Rows.{extent_row};
 
 use crate::{DedicatedBlockAllocator, FreeListAllocator};
-use gpu_block_views::{BlockStatistics, Gaps, Leaks, Pieces, count_pieces, texts_of};
+use gpu_block_pieces::{BlockStatistics, Gaps, Leaks, Pieces, count_pieces, texts_of};
 use gpu_values::{AllocationReport, AllocationType, Result};
 use std::num::NonZeroU64;
 
@@ -26,8 +26,8 @@ pub enum SubAllocator {
 impl SubAllocator {
     ghost use Rattle.gpu_block.specs.SubAllocator.{block_of, cost_of};
     ghost use Rattle.gpu_block_pieces.specs.FreeList.{FindsPlace};
-    ghost use Rattle.gpu_block_views.specs.Leak.{leak_text};
-    ghost use Rattle.gpu_block_views.specs.Pieces.{LieBetween};
+    ghost use Rattle.gpu_block_pieces.specs.Leak.{leak_text};
+    ghost use Rattle.gpu_block_pieces.specs.Pieces.{LieBetween};
     ghost use Rattle.gpu_block.specs.BlockViews.{gaps_in, statistics_of, leaks_of};
     ghost use Rattle.gpu_block.specs.Block.{extents_of, size_of, allocated_bytes, is_general, HasPages, TakesIn, HasNoPlaceIn, IsTakeRefusalIn, ReleasesIn, IsReleaseRefusalIn, RenamesIn, IsRenameRefusalIn, IsSoundBlock, IsOrderedBlock, HasPagesApart, IsCoveredBlock, IsFitLaw, IsSearchIn, CountsRise};
 

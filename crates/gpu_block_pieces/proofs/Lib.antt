@@ -1,3 +1,6 @@
+pub mod Runs
+pub mod Showing
+pub mod Texts
 pub mod Pages
 pub mod Lists
 pub mod Tiling

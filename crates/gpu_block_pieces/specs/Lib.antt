@@ -1,3 +1,7 @@
+pub mod Pieces
+pub mod Rows
+pub mod Leak
+pub mod Statistics
 pub mod FreeList
 pub mod Request
 pub mod Place

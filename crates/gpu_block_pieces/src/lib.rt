@@ -5,8 +5,16 @@
 mod chunks;
 mod cut_block;
 mod edit;
+mod gaps;
 pub mod laws;
+mod leaks;
+mod pieces;
 mod place;
+mod rows;
 mod search;
 
 pub use cut_block::CutBlock;
+pub use gaps::Gaps;
+pub use leaks::{Leak, Leaks, texts_of};
+pub use pieces::{BlockStatistics, LivePiece, Pieces, count_pieces};
+pub use rows::rows_of;

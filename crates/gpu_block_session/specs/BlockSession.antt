@@ -11,7 +11,7 @@ use Rattle.gpu_block_pieces.specs.FreeList.{Extent, fresh_free_list}
 use Rattle.gpu_block_pieces.specs.Request.{Request, request}
 use Rattle.gpu_block.specs.Block.{Block, free_list, extents_of, size_of, allocated_bytes, is_general, TakesIn, ReleasesIn, IsTakeRefusalIn, IsSoundBlock}
 use Rattle.gpu_values.specs.Report.{row_of}
-use Rattle.gpu_block_views.specs.Rows.{extent_row}
+use Rattle.gpu_block_pieces.specs.Rows.{extent_row}
 use Rattle.gpu_commands.specs.BlockCommand.{type_of_kind}
 use Rattle.gpu_commands.specs.declared.block.command.Command.{Command}
 use Rattle.gpu_commands.specs.declared.block.command.Command.TheVariants as commands

@@ -4,7 +4,7 @@ use Rattle.std.specs.Option.{is_some, unwrap_or}
 use Rattle.std.specs.Int.NonZero.{non_zero_u64_get}
 use Rattle.gpu_values.specs.Sizes.{Sizes, only_size, with_largest}
 use Rattle.gpu_block.specs.Block.{HoldsPiece}
-use Rattle.gpu_block_views.specs.declared.pieces.BlockStatistics.{BlockStatistics}
+use Rattle.gpu_block_pieces.specs.declared.pieces.BlockStatistics.{BlockStatistics}
 use Rattle.gpu_block_pieces.specs.Request.{Request, request}
 use Rattle.gpu_core.specs.TypeState.{Slot, TypeState, slot_at, capacity_of, shared_count, fits_budget, KeepsOneEmptyAtMost}
 use Rattle.gpu_core.specs.Slots.{AreSound}

@@ -5,7 +5,7 @@ ghost use Rattle.gpu_c_blocks.specs.Visit.{kind_number, told_view, piece_from, n
 
 use crate::request::{LINEAR, NON_LINEAR};
 use crate::virtual_block_values::PieceView;
-use gpu_block_views::{LivePiece, Pieces};
+use gpu_block_pieces::{LivePiece, Pieces};
 use gpu_values::AllocationType;
 
 fn kind_number(kind: AllocationType) -> u32

@@ -1,14 +1,14 @@
 -- What a memory type shows of its blocks and pieces: leaks, and what it adds to a report.
 use Rattle.std.specs.Prelude.{ℕ, ◌+◌, List, [], ◌∷◌, ◌++◌, map, length, Option, Some, None}
 use Rattle.gpu_values.specs.declared.report.MemoryBlockReport.{MemoryBlockReport}
-use Rattle.gpu_block_views.specs.declared.pieces.BlockStatistics.{BlockStatistics}
+use Rattle.gpu_block_pieces.specs.declared.pieces.BlockStatistics.{BlockStatistics}
 use Rattle.gpu_block.specs.Block.{Block, extents_of, size_of, allocated_bytes}
 use Rattle.gpu_block_pieces.specs.FreeList.{Extent}
-use Rattle.gpu_block_views.specs.Statistics.{together}
+use Rattle.gpu_block_pieces.specs.Statistics.{together}
 use Rattle.gpu_block.specs.BlockViews.{statistics_of, leaks_of}
-use Rattle.gpu_block_views.specs.Leak.{LeakOf}
+use Rattle.gpu_block_pieces.specs.Leak.{LeakOf}
 use Rattle.gpu_values.specs.Report.{Row, Report}
-use Rattle.gpu_block_views.specs.Rows.{extent_row}
+use Rattle.gpu_block_pieces.specs.Rows.{extent_row}
 use Rattle.gpu_core.specs.TypeState.{Slot, slots_sum, capacity_of}
 
 -- ---- leaks

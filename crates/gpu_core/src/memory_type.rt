@@ -7,7 +7,7 @@ ghost use Rattle.gpu_values.specs.Refusal.{refusal_of};
 
 use crate::need::{NeedBlock, make_room};
 use gpu_block::SubAllocator;
-use gpu_block_views::{BlockStatistics, Leaks, Pieces};
+use gpu_block_pieces::{BlockStatistics, Leaks, Pieces};
 use crate::{
     Finding, LiveBlock, Piece, Request, Slots, TypeLeaks, add_slots, count_slots, find,
 };

@@ -5,7 +5,7 @@ ghost use Rattle.gpu_core.specs.TypeReport.{counted_with, nothing_counted};
 ghost use Rattle.gpu_core.specs.Slots.{slots_of};
 
 use crate::LiveBlock;
-use gpu_block_views::BlockStatistics;
+use gpu_block_pieces::BlockStatistics;
 
 /// What is counted of the live blocks of all slots together.
 pub fn count_slots<H>(slots: &[Option<LiveBlock<H>>]) -> BlockStatistics

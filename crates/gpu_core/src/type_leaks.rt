@@ -7,7 +7,7 @@ ghost use Rattle.gpu_core.specs.TypeReport.{leaks_from};
 ghost use Rattle.gpu_core.specs.Slots.{slots_of};
 
 use crate::LiveBlock;
-use gpu_block_views::{Leak, Leaks};
+use gpu_block_pieces::{Leak, Leaks};
 use std::marker::Model;
 
 /// The live pieces of a memory type by slot, then in order of offset. It takes no memory.
@@ -23,7 +23,7 @@ pub struct TypeLeaks<'a, H> {
 impl<'a, H> Model for TypeLeaks<'a, H> {
     ghost use Rattle.std.specs.Prelude.{List, [], ◌++◌, drop};
     ghost use Rattle.std.specs.Option.{unwrap_or};
-    ghost use Rattle.gpu_block_views.specs.Leak.{LeakOf};
+    ghost use Rattle.gpu_block_pieces.specs.Leak.{LeakOf};
     ghost use Rattle.gpu_core.specs.TypeReport.{leaks_from};
     ghost use Rattle.gpu_core.specs.Slots.{slots_of};
 

@@ -7,7 +7,7 @@ use Rattle.gpu_values.specs.Report.{report_of}
 use Rattle.gpu_values.specs.declared.error.AllocationError.{AllocationError}
 use Rattle.gpu_values.specs.declared.error.AllocationError.TheVariants.{HostOutOfMemory}
 use Rattle.gpu_values.specs.declared.report.AllocatorReport.{AllocatorReport}
-use Rattle.gpu_block_views.specs.Leak.{leak_text}
+use Rattle.gpu_block_pieces.specs.Leak.{leak_text}
 use Rattle.gpu_core.specs.declared.piece.Piece.{Piece}
 use Rattle.gpu_device.specs.declared.d3d12.device.D3D12Device.{Ghosts}
 use Rattle.gpu_device.specs.declared.d3d12.types.ID3D12Heap.{ID3D12Heap}

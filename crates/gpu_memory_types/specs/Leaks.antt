@@ -1,6 +1,6 @@
 -- The pieces of an allocator that are still live.
 use Rattle.std.specs.Prelude.{ℕ, ◌+◌, List, [], ◌∷◌, ◌++◌}
-use Rattle.gpu_block_views.specs.Leak.{LeakOf}
+use Rattle.gpu_block_pieces.specs.Leak.{LeakOf}
 use Rattle.gpu_core.specs.TypeReport.{type_leaks}
 use Rattle.gpu_memory_types.specs.Blocks.{Slots}
 

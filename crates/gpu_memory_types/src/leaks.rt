@@ -4,11 +4,11 @@ ghost use Rattle.std.specs.Prelude.{◌≡◌, ◌++◌, [], ◌∷◌, drop, ma
 ghost use Rattle.std.specs.Option.{unwrap_or};
 ghost use Rattle.std.specs.Iterator.{YieldsFirst, item_count};
 ghost use Rattle.gpu_values.specs.declared.error.AllocationError.TheVariants.{HostOutOfMemory};
-ghost use Rattle.gpu_block_views.specs.Leak.{leak_text};
+ghost use Rattle.gpu_block_pieces.specs.Leak.{leak_text};
 ghost use Rattle.gpu_memory_types.specs.Leaks.{leaks_beginning, all_leaks};
 ghost use Rattle.gpu_memory_types.specs.Types.{slots_of};
 
-use gpu_block_views::Leak;
+use gpu_block_pieces::Leak;
 use gpu_core::MemoryType;
 use gpu_core::TypeLeaks;
 use gpu_values::Result;
@@ -27,7 +27,7 @@ pub struct AllLeaks<'a, H: Copy + Eq> {
 impl<'a, H: Copy + Eq> Model for AllLeaks<'a, H> {
     ghost use Rattle.std.specs.Prelude.{List, [], ◌++◌, drop};
     ghost use Rattle.std.specs.Option.{unwrap_or};
-    ghost use Rattle.gpu_block_views.specs.Leak.{LeakOf};
+    ghost use Rattle.gpu_block_pieces.specs.Leak.{LeakOf};
     ghost use Rattle.gpu_memory_types.specs.Leaks.{leaks_beginning};
     ghost use Rattle.gpu_memory_types.specs.Types.{slots_of};
 

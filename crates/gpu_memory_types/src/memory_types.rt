@@ -92,7 +92,7 @@ impl<H: Copy + Eq> MemoryTypes<H> {
     ghost use Rattle.gpu_core.specs.TypePrepare.{CanInstall};
     ghost use Rattle.gpu_core.specs.TypeState.{slot_at, block_number};
     ghost use Rattle.gpu_core.specs.Slots.{AreSound};
-    ghost use Rattle.gpu_block_views.specs.Leak.{leak_text};
+    ghost use Rattle.gpu_block_pieces.specs.Leak.{leak_text};
     ghost use Rattle.gpu_core.specs.declared.piece.Piece.{Piece};
     ghost use Rattle.gpu_memory_types.specs.Apart.{IsInside, AreDistinct, SharesNoByte, KeepsPages};
     ghost use Rattle.gpu_memory_types.specs.Blocks.{slots_at, total_capacity};

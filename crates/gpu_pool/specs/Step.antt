@@ -1,6 +1,6 @@
 -- A pool as a model: what each call returns and leaves, by what it met with.
 use Rattle.std.specs.Prelude.{◌≡◌, ℕ, Bool, List, map, Option, Some, None, Result, Ok, Err}
-use Rattle.gpu_block_views.specs.Leak.{leak_text}
+use Rattle.gpu_block_pieces.specs.Leak.{leak_text}
 use Rattle.gpu_values.specs.Refusal.{Refusal, host_out_of_memory}
 use Rattle.gpu_values.specs.Report as reports
 use Rattle.gpu_core.specs.declared.piece.Piece.{Piece}

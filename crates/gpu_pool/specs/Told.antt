@@ -6,7 +6,7 @@ use Rattle.gpu_values.specs.Report.{report_of}
 use Rattle.gpu_values.specs.declared.error.AllocationError.{AllocationError}
 use Rattle.gpu_values.specs.declared.error.AllocationError.TheVariants.{HostOutOfMemory}
 use Rattle.gpu_values.specs.declared.report.AllocatorReport.{AllocatorReport}
-use Rattle.gpu_block_views.specs.Leak.{leak_text}
+use Rattle.gpu_block_pieces.specs.Leak.{leak_text}
 use Rattle.gpu_memory_types.specs.Blocks.{Slots, total_capacity}
 use Rattle.gpu_memory_types.specs.Budgets.{Budgets, SetsBudget}
 use Rattle.gpu_memory_types.specs.Leaks.{all_leaks}

@@ -5,7 +5,7 @@ ghost use Rattle.std.specs.Int.{is_power_of_two};
 ghost use Rattle.gpu_values.specs.Refusal.{refusal_in};
 ghost use Rattle.gpu_values.specs.Report.{report_of};
 ghost use Rattle.gpu_values.specs.declared.error.AllocationError.TheVariants.{HostOutOfMemory};
-ghost use Rattle.gpu_block_views.specs.Leak.{leak_text};
+ghost use Rattle.gpu_block_pieces.specs.Leak.{leak_text};
 ghost use Rattle.gpu_core.specs.declared.piece.Piece.{Piece};
 ghost use Rattle.gpu_memory_types.specs.Apart.{IsInside, AreDistinct, KeepsPages};
 ghost use Rattle.gpu_memory_types.specs.Blocks.{total_capacity};

@@ -7,7 +7,7 @@ use Rattle.std.proofs.Math.Nat.{mul_comm}
 use Rattle.gpu_values.specs.declared.allocation_type.AllocationType.{AllocationType}
 use Rattle.gpu_values.specs.declared.allocation_type.AllocationType.TheVariants.{Free, Linear, NonLinear}
 use Rattle.gpu_block_pieces.specs.FreeList.{Extent}
-use Rattle.gpu_block_views.specs.Pieces.{LieBetween}
+use Rattle.gpu_block_pieces.specs.Pieces.{LieBetween}
 use Rattle.gpu_report.specs.Picture.{Cell, Tile, look_of, gap_cells, padding_cells, piece_cell, cells_between, is_piece, is_piece_cell, place}
 
 by-test : {A : Type 0} (b : Bool) (x y : A) (P : A → Type 0) → (b ≡ true → P x) → (b ≡ false → P y) → P (if b then x else y)

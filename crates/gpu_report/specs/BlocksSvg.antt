@@ -5,7 +5,7 @@ use Rattle.std.specs.Fmt.{decimal}
 use Rattle.gpu_block.specs.Block.{Block, extents_of, size_of}
 use Rattle.gpu_block.specs.SubAllocator.{block_of}
 use Rattle.gpu_block.specs.BlockViews.{statistics_of}
-use Rattle.gpu_block_views.specs.declared.pieces.BlockStatistics.{BlockStatistics}
+use Rattle.gpu_block_pieces.specs.declared.pieces.BlockStatistics.{BlockStatistics}
 use Rattle.gpu_report.specs.declared.view.BlockView.{BlockView}
 use Rattle.gpu_report.specs.declared.blocks_svg.Totals.{Totals}
 use Rattle.gpu_report.specs.Picture.{cells_between}

@@ -9,7 +9,7 @@ ghost use Rattle.gpu_report.specs.BlocksJson.{kind_word, piece_names_json, piece
 
 use crate::BlockView;
 use crate::escape::write_quoted;
-use gpu_block_views::{BlockStatistics, Gaps, LivePiece, Pieces};
+use gpu_block_pieces::{BlockStatistics, Gaps, LivePiece, Pieces};
 use gpu_values::AllocationType;
 use std::fmt;
 

@@ -13,7 +13,7 @@ use crate::svg::{
     Look, Scale, Shown, write_amount, write_bar_start, write_cell, write_legend, write_page_ends,
     write_picture_start, write_scale_note, write_style, write_totals,
 };
-use gpu_block_views::{BlockStatistics, LivePiece, Pieces};
+use gpu_block_pieces::{BlockStatistics, LivePiece, Pieces};
 use gpu_values::AllocationType;
 use std::fmt;
 

@@ -2,7 +2,7 @@
 
 ghost use Rattle.std.specs.Prelude.{◌≡◌, ℕ, ◌≤◌, List, filter, map};
 ghost use Rattle.gpu_block_pieces.specs.FreeList.{Extent};
-ghost use Rattle.gpu_block_views.specs.Pieces.{LieBetween};
+ghost use Rattle.gpu_block_pieces.specs.Pieces.{LieBetween};
 ghost use Rattle.gpu_report.specs.Picture.{Tile, cells_between, is_piece_cell, piece_cell, place};
 
 /// What is drawn of pieces that lie one behind another covers the block from its first byte to its last: no two cells share a

@@ -3,7 +3,7 @@ use Rattle.std.proofs.Common.{ℕ, ◌≤◌, List, [], ◌∷◌, arith}
 use Rattle.std.specs.List.{All, AllByRecursion}
 use Rattle.std.proofs.lemmas.List.Elements.{recursion_from_All, All-from_recursion}
 use Rattle.gpu_block_pieces.specs.FreeList.{Extent}
-use Rattle.gpu_block_views.specs.Pieces.{LieBetween}
+use Rattle.gpu_block_pieces.specs.Pieces.{LieBetween}
 use Rattle.gpu_report_reading.specs.Fits.{Fits, PieceFits}
 
 ends-after : (from to : ℕ) (xs : List Extent) → LieBetween from xs to → from ≤ to

@@ -6,7 +6,7 @@ use Rattle.gpu_block_pieces.specs.FreeList.{Extent}
 use Rattle.gpu_block.specs.Block.{extents_of, size_of}
 use Rattle.gpu_block.specs.SubAllocator.{block_of}
 use Rattle.gpu_block.specs.BlockViews.{gaps_in, statistics_of}
-use Rattle.gpu_block_views.specs.declared.pieces.BlockStatistics.{BlockStatistics}
+use Rattle.gpu_block_pieces.specs.declared.pieces.BlockStatistics.{BlockStatistics}
 use Rattle.gpu_report.specs.declared.view.BlockView.{BlockView}
 
 abbrev pub Fits : ℕ → Type 0

@@ -4,7 +4,7 @@ ghost use Rattle.std.specs.Prelude.{All};
 ghost use Rattle.gpu_values.specs.Report.{row_of, report_of};
 ghost use Rattle.gpu_report_reading.specs.Fits.{Fits, RowFits, BlockRowFits, ReportFits, GapFits, BlockFits};
 
-use gpu_block_views::{Gaps, Pieces};
+use gpu_block_pieces::{Gaps, Pieces};
 use gpu_report::BlockView;
 use gpu_values::{AllocationReport, AllocatorReport, MemoryBlockReport};
 

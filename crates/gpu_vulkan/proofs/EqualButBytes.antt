@@ -2,7 +2,7 @@
 use Rattle.std.proofs.Common.{map, ◌≡◌, ◌∙◌, ℕ, ◌<◌, length, Ok, Err, Result, refl, sym, ap, subst, Bool, true, false, List, [], Option, Some, None, IsTrue, arith, ⊎_elim}
 use Rattle.std.specs.Prelude.{◌&&◌, not, if◌then◌else◌}
 use Rattle.gpu_values.specs.Refusal.{Refusal}
-use Rattle.gpu_block_views.specs.Leak.{leak_text}
+use Rattle.gpu_block_pieces.specs.Leak.{leak_text}
 use Rattle.gpu_core.specs.TypeRelease.{has_several, ReleasesPiece}
 use Rattle.gpu_core.specs.declared.piece.Piece.{Piece}
 use Rattle.gpu_core.proofs.OneOutcome.{released_once}

@@ -9,7 +9,7 @@ use Rattle.gpu_block.specs.Block.{Block, free_list, dedicated, extents_of, Renam
 use Rattle.gpu_block_pieces.specs.Changes.{with_name}
 use Rattle.gpu_block.specs.Dedicated.{renamed, held_extents}
 use Rattle.gpu_block_pieces.specs.FreeList.{Extent}
-use Rattle.gpu_block_views.specs.Leak.{leak_text}
+use Rattle.gpu_block_pieces.specs.Leak.{leak_text}
 use Rattle.gpu_values.specs.Refusal.{refusal_of}
 use Rattle.gpu_values.specs.Report.{report_of}
 use Rattle.gpu_core.specs.TypeRelease.{SlotRenames}

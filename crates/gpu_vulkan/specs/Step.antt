@@ -3,7 +3,7 @@ use Rattle.std.specs.Prelude.{◌≡◌, ℕ, Vec, String, Bool, true, false, Li
 use Rattle.std.specs.Global.{Global}
 use Rattle.std.specs.Int.NonZero.{non_zero_u64_get}
 use Rattle.gpu_values.specs.Refusal.{Refusal, refusal_of, no_compatible_memory_type_found, invalid_allocation_create_desc}
-use Rattle.gpu_block_views.specs.Leak.{leak_text}
+use Rattle.gpu_block_pieces.specs.Leak.{leak_text}
 use Rattle.gpu_values.specs.Report.{report_of}
 use Rattle.gpu_values.specs.declared.report.AllocatorReport.{AllocatorReport}
 use Rattle.gpu_values.specs.declared.error.AllocationError.{AllocationError}

@@ -1,4 +1,4 @@
-use Rattle.gpu_block_views.proofs.Texts.{text_step}
+use Rattle.gpu_block_pieces.proofs.Texts.{text_step}
 use Rattle.gpu_memory_types.proofs.leaks.texts_of.Goals as goal
 
 pub loop-leak-preserved : goal.loop-leak-preserved

@@ -1,5 +1,5 @@
 use Rattle.std.proofs.Common.{◌≡◌, ◌++◌, map, string_bytes}
-use Rattle.gpu_block_views.specs.Leak.{leak_text}
+use Rattle.gpu_block_pieces.specs.Leak.{leak_text}
 use Rattle.gpu_memory_types.proofs.leaks.texts_of.Given as goal
 
 abbrev pub invariant-loop-leak : goal.invariant-loop-leak

@@ -1,5 +1,5 @@
 use Rattle.std.proofs.Common.{subst, sym}
-use Rattle.gpu_block_views.specs.Pieces.{IsRun}
+use Rattle.gpu_block_pieces.specs.Pieces.{IsRun}
 use Rattle.gpu_block.proofs.Whole.{whole_laid_out, whole_each}
 use Rattle.gpu_block.proofs.dedicated_block.DedicatedBlockAllocator.pieces.Goals as goal
 

@@ -2,8 +2,8 @@ use Rattle.std.proofs.Common.{◌∙◌, ◌<◌, ap, subst}
 use Rattle.gpu_block_pieces.specs.FreeList.{Counted}
 use Rattle.gpu_block_pieces.specs.Request.{Request}
 use Rattle.gpu_block_pieces.specs.Place.{HasNoPlace}
-use Rattle.gpu_block_views.specs.Pieces.{LieBetween, gaps_between, longest}
-use Rattle.gpu_block_views.proofs.Runs.{laid_out}
+use Rattle.gpu_block_pieces.specs.Pieces.{LieBetween, gaps_between, longest}
+use Rattle.gpu_block_pieces.proofs.Runs.{laid_out}
 use Rattle.gpu_block.proofs.LongestCounted.{longest_counted}
 use Rattle.gpu_block.proofs.free_list.FreeListAllocator.longest_gap.Goals as goal
 

@@ -1,7 +1,7 @@
 use Rattle.std.proofs.Common.{List, subst, sym}
 use Rattle.gpu_block_pieces.specs.FreeList.{Counted, Extent}
-use Rattle.gpu_block_views.specs.Pieces.{LieBetween}
-use Rattle.gpu_block_views.proofs.Runs.{laid_out}
+use Rattle.gpu_block_pieces.specs.Pieces.{LieBetween}
+use Rattle.gpu_block_pieces.proofs.Runs.{laid_out}
 use Rattle.gpu_block.proofs.free_list.FreeListAllocator.pieces.Goals as goal
 
 pub returns-clause-laid_out : goal.returns-clause-laid_out

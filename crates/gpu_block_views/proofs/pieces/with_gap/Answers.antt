@@ -1,5 +1,0 @@
-use Rattle.std.proofs.Common.{rules}
-use Rattle.gpu_block_views.proofs.pieces.with_gap.Goals as goal
-
-pub returns-clause-gaps : goal.returns-clause-gaps
-returns-clause-gaps c = search rules

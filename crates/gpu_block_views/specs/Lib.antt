@@ -1,4 +1,0 @@
-pub mod Pieces
-pub mod Rows
-pub mod Leak
-pub mod Statistics
