@@ -1,3 +1,8 @@
+pub mod Values
+pub mod ReportValue
+pub mod BlocksValue
+pub mod Fits
+pub mod Printed
 pub mod Escape
 pub mod Json
 pub mod ReportJson

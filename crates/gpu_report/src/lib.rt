@@ -4,8 +4,10 @@
 mod blocks_json;
 mod blocks_svg;
 mod escape;
+mod fits;
 pub mod laws;
 pub mod place;
+mod reading;
 mod report_json;
 mod report_svg;
 mod svg;
@@ -13,6 +15,8 @@ mod view;
 
 pub use blocks_json::BlocksJson;
 pub use blocks_svg::BlocksSvg;
+pub use fits::{blocks_fit, report_fits};
+pub use reading::whole_number;
 pub use report_json::ReportJson;
 pub use report_svg::ReportSvg;
 pub use svg::write_amount;

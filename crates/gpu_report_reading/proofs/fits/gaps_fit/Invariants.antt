@@ -1,6 +1,0 @@
-use Rattle.std.specs.List.{All}
-use Rattle.gpu_report_reading.specs.Fits.{GapFits}
-use Rattle.gpu_report_reading.proofs.fits.gaps_fit.Given as goal
-
-abbrev pub invariant-loop-gap : goal.invariant-loop-gap
-invariant-loop-gap l = All GapFits l.gap-iterator → All GapFits l.initial.gap-iterator
