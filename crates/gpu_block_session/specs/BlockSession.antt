@@ -12,14 +12,14 @@ use Rattle.gpu_block_pieces.specs.Request.{Request, request}
 use Rattle.gpu_block.specs.Block.{Block, free_list, extents_of, size_of, allocated_bytes, is_general, TakesIn, ReleasesIn, IsTakeRefusalIn, IsSoundBlock}
 use Rattle.gpu_values.specs.Report.{row_of}
 use Rattle.gpu_block_pieces.specs.Rows.{extent_row}
-use Rattle.gpu_commands.specs.BlockCommand.{type_of_kind}
-use Rattle.gpu_commands.specs.declared.block.command.Command.{Command}
-use Rattle.gpu_commands.specs.declared.block.command.Command.TheVariants as commands
-use Rattle.gpu_commands.specs.declared.block.reply.Report.{Report}
-use Rattle.gpu_commands.specs.declared.error_number.ErrorNumber.{ErrorNumber}
-use Rattle.gpu_commands.specs.declared.error_number.ErrorNumber.TheVariants.{E1, E2, E3, E4, E5, E6, E7, E8, E9, E10, E11}
-use Rattle.gpu_commands.specs.declared.block.reply.Reply.{Reply}
-use Rattle.gpu_commands.specs.declared.block.reply.Reply.TheVariants as replies
+use Rattle.gpu_run.specs.BlockCommand.{type_of_kind}
+use Rattle.gpu_run.specs.declared.block.command.Command.{Command}
+use Rattle.gpu_run.specs.declared.block.command.Command.TheVariants as commands
+use Rattle.gpu_run.specs.declared.block.reply.Report.{Report}
+use Rattle.gpu_run.specs.declared.error_number.ErrorNumber.{ErrorNumber}
+use Rattle.gpu_run.specs.declared.error_number.ErrorNumber.TheVariants.{E1, E2, E3, E4, E5, E6, E7, E8, E9, E10, E11}
+use Rattle.gpu_run.specs.declared.block.reply.Reply.{Reply}
+use Rattle.gpu_run.specs.declared.block.reply.Reply.TheVariants as replies
 
 -- the block, and the numbers of its pieces by the caller's numbers, in the order of these
 pub record State : Type 0 where

@@ -10,8 +10,8 @@ ghost use Rattle.gpu_block.specs.SubAllocator.{block_of};
 ghost use Rattle.gpu_block_session.specs.BlockSession.{Taking};
 
 use gpu_block::{FreeListAllocator, SubAllocator};
-use gpu_commands::block::{Command, Kind, Reply, Report};
-use gpu_commands::{ErrorNumber, number_of};
+use gpu_run::block::{Command, Kind, Reply, Report};
+use gpu_run::{ErrorNumber, number_of};
 use gpu_run::Machine;
 use gpu_values::AllocationType;
 use log::Log;
@@ -87,7 +87,7 @@ impl BlockSession {
     ghost use Rattle.std.specs.Int.{is_power_of_two};
     ghost use Rattle.gpu_block_pieces.specs.Request.{request};
     ghost use Rattle.gpu_values.specs.declared.error.AllocationError.TheVariants.{HostOutOfMemory};
-    ghost use Rattle.gpu_commands.specs.BlockCommand.{type_of_kind};
+    ghost use Rattle.gpu_run.specs.BlockCommand.{type_of_kind};
     ghost use Rattle.gpu_block_session.specs.BlockSession.{unused, Taking, Giving, Reporting, Serves};
     ghost use Rattle.gpu_run.specs.Run.{IsRun};
 

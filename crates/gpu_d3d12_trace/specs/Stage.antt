@@ -5,8 +5,8 @@ use Rattle.std.specs.Option.{unwrap_or}
 use Rattle.gpu_values.specs.Refusal.{refusal_of, host_out_of_memory}
 use Rattle.gpu_values.specs.declared.error.AllocationError.{AllocationError}
 use Rattle.gpu_values.specs.declared.allocator_debug_settings.AllocatorDebugSettings.{AllocatorDebugSettings}
-use Rattle.gpu_commands.specs.ErrorNumber.{number_of}
-use Rattle.gpu_commands.specs.declared.error_number.ErrorNumber.{ErrorNumber}
+use Rattle.gpu_run.specs.ErrorNumber.{number_of}
+use Rattle.gpu_run.specs.declared.error_number.ErrorNumber.{ErrorNumber}
 use Rattle.gpu_device.specs.D3D12History.{request_formats, request_clear, request_memory}
 use Rattle.gpu_device.specs.declared.d3d12.device.D3D12Device.{Ghosts}
 use Rattle.gpu_d3d12.specs.DeviceVersion.{device_of}

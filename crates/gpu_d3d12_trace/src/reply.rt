@@ -5,7 +5,7 @@ ghost use Rattle.std.specs.Fmt.{DisplaysOnOk};
 ghost use Rattle.gpu_d3d12_trace.specs.Reply.{given_text, place_text, made_text, statistics_text, type_text, page_text, pool_text, content_text};
 ghost use Rattle.gpu_d3d12_trace.specs.Reply.{heap_text, formats_text, clear_text, initial_text, asked_text, served_text};
 
-use gpu_commands::{ErrorNumber, number_of};
+use gpu_run::{ErrorNumber, number_of};
 use gpu_d3d12::{CommittedAllocationStatistics, ResourceStateOrBarrierLayout};
 use gpu_d3d12_session::{Given, Made, Reply as Told};
 use gpu_device::d3d12::{ClearValue, CpuPageProperty, HeapContent, HeapDesc, HeapType, MemoryPool};

@@ -8,7 +8,7 @@ use crate::line::{Line, read};
 use crate::looking::asked;
 use crate::reply::Reply;
 use crate::setting::Setting;
-use gpu_commands::number_of;
+use gpu_run::number_of;
 use gpu_d3d12::{Allocator, AllocatorCreateDesc};
 use gpu_d3d12_session::{Command, Session};
 use gpu_run::Machine;

@@ -4,8 +4,8 @@ use Rattle.std.specs.FinMap.{empty, len as map_len}
 use Rattle.gpu_values.specs.Refusal.{refusal_of}
 use Rattle.gpu_values.specs.declared.error.AllocationError.{AllocationError}
 use Rattle.gpu_values.specs.declared.allocator_debug_settings.AllocatorDebugSettings.{AllocatorDebugSettings}
-use Rattle.gpu_commands.specs.ErrorNumber.{number_of}
-use Rattle.gpu_commands.specs.declared.error_number.ErrorNumber.{ErrorNumber}
+use Rattle.gpu_run.specs.ErrorNumber.{number_of}
+use Rattle.gpu_run.specs.declared.error_number.ErrorNumber.{ErrorNumber}
 use Rattle.gpu_device.specs.Metal.{Held}
 use Rattle.gpu_device.specs.declared.metal.device.MetalDevice.{Ghosts}
 use Rattle.gpu_device.specs.declared.metal.types.MTLHeap.{MTLHeap}

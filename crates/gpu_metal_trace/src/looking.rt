@@ -5,7 +5,7 @@ ghost use Rattle.gpu_metal_trace.specs.Look.{Shows, ListsMembers, ListsCommitted
 
 use crate::line::Look;
 use crate::reply::Reply;
-use gpu_commands::ErrorNumber;
+use gpu_run::ErrorNumber;
 use gpu_device::metal::MTLResidencySet;
 use gpu_metal_session::Session;
 use gpu_sim_metal::SimMetal;

@@ -5,7 +5,7 @@ ghost use Rattle.std.specs.Fmt.{DisplaysOnOk};
 ghost use Rattle.gpu_metal_trace.specs.Command.{mode_word};
 ghost use Rattle.gpu_metal_trace.specs.Reply.{given_text, heap_line, heaps_text, number_word, listed_text, cache_text, asked_text, served_text};
 
-use gpu_commands::{ErrorNumber, number_of};
+use gpu_run::{ErrorNumber, number_of};
 use gpu_device::metal::{CpuCacheMode, HeapDescriptor, MTLHeap, StorageMode};
 use gpu_metal_session::{Given, Reply as Told};
 use gpu_trace_lines::device::reply::write_report;

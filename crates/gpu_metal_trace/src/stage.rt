@@ -9,7 +9,7 @@ use crate::line::{Line, read};
 use crate::looking::look;
 use crate::reply::Reply;
 use crate::setting::Setting;
-use gpu_commands::number_of;
+use gpu_run::number_of;
 use gpu_device::metal::MTLResidencySet;
 use gpu_metal::{Allocator, AllocatorCreateDesc};
 use gpu_metal_session::{Command, Session};

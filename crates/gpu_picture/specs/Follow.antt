@@ -1,8 +1,8 @@
 -- A trace of any sort, with what its memory types held after each of its commands.
 use Rattle.std.specs.Prelude.{◌≡◌, ℕ, ◌+◌, Bool, true, false, List, [], ◌∷◌, ◌++◌, map}
 use Rattle.gpu_block.specs.Block.{Block, size_of, allocated_bytes}
-use Rattle.gpu_commands.specs.declared.block.reply.Reply.TheVariants as block_replies
-use Rattle.gpu_commands.specs.declared.vulkan.reply.Reply.TheVariants as vulkan_replies
+use Rattle.gpu_run.specs.declared.block.reply.Reply.TheVariants as block_replies
+use Rattle.gpu_run.specs.declared.vulkan.reply.Reply.TheVariants as vulkan_replies
 use Rattle.gpu_d3d12_session.specs.declared.reply.Reply.TheVariants as d3d12_session_replies
 use Rattle.gpu_d3d12_trace.specs.declared.reply.Reply as d3d12_told
 use Rattle.gpu_d3d12_trace.specs.declared.reply.Reply.TheVariants as d3d12_replies

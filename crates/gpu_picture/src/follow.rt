@@ -11,8 +11,8 @@ ghost use Rattle.gpu_picture.specs.Follow.{told, usage_of_block, is_vulkan_refus
 ghost use Rattle.gpu_picture.specs.declared.follow.Followed.{Followed};
 
 use gpu_block::SubAllocator;
-use gpu_commands::block::Reply as BlockReply;
-use gpu_commands::vulkan::Reply as VulkanReply;
+use gpu_run::block::Reply as BlockReply;
+use gpu_run::vulkan::Reply as VulkanReply;
 use gpu_d3d12_session::Reply as D3D12Reply;
 use gpu_d3d12_trace as d3d12;
 use gpu_memory_types::MemoryTypes;

@@ -1,2 +1,4 @@
+pub mod BlockCommand
+pub mod ErrorNumber
 pub mod Bindings
 pub mod Run

@@ -2,7 +2,11 @@
 #![tactic(auto)]
 
 mod bindings;
+pub mod block;
+mod error_number;
 mod machine;
+pub mod vulkan;
 
 pub use bindings::bind;
+pub use error_number::{ErrorNumber, number_of};
 pub use machine::{Machine, run};

@@ -6,7 +6,7 @@ pub mod d3d12;
 pub mod metal;
 pub mod vulkan;
 
-pub use gpu_commands::vulkan::{Command, Given, Reply};
+pub use gpu_run::vulkan::{Command, Given, Reply};
 pub use gpu_run::{Machine, run};
 pub use gpu_trace_run::{BlockStage, Configuration, Stage};
 pub use gpu_trace_sorts::{AnyReply, AnyTrace, replay_trace, run_trace};

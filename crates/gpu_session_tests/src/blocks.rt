@@ -1,6 +1,6 @@
 //! A list of commands to a session of one block, with ample memory.
 
-use gpu_commands::ErrorNumber;
+use gpu_run::ErrorNumber;
 use gpu_session::block::{Command, Kind, Reply, Session, Side};
 use log::sink::Discard;
 use std::alloc::{AllocError, Global};

@@ -1,6 +1,6 @@
 //! Tests of what the numbers of errors print.
 
-use gpu_commands::ErrorNumber;
+use gpu_run::ErrorNumber;
 use std::test::Fail;
 
 const NUMBERS: &[(ErrorNumber, &str)] = &[

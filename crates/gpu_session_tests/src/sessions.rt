@@ -3,7 +3,7 @@
 mod refused;
 
 use gpu_allocator::vulkan::*;
-use gpu_commands::vulkan::{Command, Given, Reply};
+use gpu_run::vulkan::{Command, Given, Reply};
 use gpu_sim::SimVulkan;
 use gpu_values::{AllocationError, AllocationSizes, AllocatorDebugSettings, MemoryLocation};
 use gpu_vulkan_session::Session;

@@ -3,8 +3,8 @@ use Rattle.std.proofs.Common.{◌≢◌, ℕ, ◌<◌, ◌^◌, List, ◌∷◌,
 use Rattle.std.specs.Prelude.{codes}
 use Rattle.std.specs.Borrow.{Bor}
 use Rattle.std.specs.Fmt.{decimal}
-use Rattle.gpu_commands.specs.declared.block.command.Command.{Command}
-use Rattle.gpu_commands.specs.declared.block.command.Command.TheVariants.{Block, Take, Give, Report}
+use Rattle.gpu_run.specs.declared.block.command.Command.{Command}
+use Rattle.gpu_run.specs.declared.block.command.Command.TheVariants.{Block, Take, Give, Report}
 use Rattle.gpu_trace_lines.specs.BlockCommand.{IsPowerOfTwo, Spells}
 use Rattle.gpu_trace_lines.specs.Words.{texts}
 

@@ -6,8 +6,8 @@ use Rattle.gpu_values.specs.declared.memory_location.MemoryLocation.TheVariants.
 use Rattle.gpu_device.specs.declared.vulkan.types.AllocationScheme.{AllocationScheme}
 use Rattle.gpu_device.specs.declared.vulkan.types.AllocationScheme.TheVariants.{DedicatedBuffer, DedicatedImage, GpuAllocatorManaged}
 use Rattle.gpu_device.specs.declared.vulkan.types.MemoryRequirements.{MemoryRequirements}
-use Rattle.gpu_commands.specs.declared.vulkan.command.Command.{Command}
-use Rattle.gpu_commands.specs.declared.vulkan.command.Command.TheVariants.{Alloc, Null, Free, Rename, Write, Read, Report, Leaks, Capacity, SetBudget}
+use Rattle.gpu_run.specs.declared.vulkan.command.Command.{Command}
+use Rattle.gpu_run.specs.declared.vulkan.command.Command.TheVariants.{Alloc, Null, Free, Rename, Write, Read, Report, Leaks, Capacity, SetBudget}
 use Rattle.gpu_trace_lines.specs.Hex.{hex, AreBytes}
 use Rattle.gpu_trace_lines.specs.Words.{IsName}
 

@@ -2,12 +2,12 @@
 use Rattle.std.specs.Prelude.{◌≡◌, ℕ, ◌<◌, ◌^◌, List, [], ◌∷◌, Option, Some, None, codes, string_bytes, IsTrue}
 use Rattle.std.specs.Int.{is_power_of_two}
 use Rattle.std.specs.Fmt.{decimal}
-use Rattle.gpu_commands.specs.declared.block.command.Side.{Side}
-use Rattle.gpu_commands.specs.declared.block.command.Side.TheVariants.{Device, Host}
-use Rattle.gpu_commands.specs.declared.block.command.Kind.{Kind}
-use Rattle.gpu_commands.specs.declared.block.command.Kind.TheVariants.{Linear, NonLinear}
-use Rattle.gpu_commands.specs.declared.block.command.Command.{Command}
-use Rattle.gpu_commands.specs.declared.block.command.Command.TheVariants.{Block, Take, Give, Report}
+use Rattle.gpu_run.specs.declared.block.command.Side.{Side}
+use Rattle.gpu_run.specs.declared.block.command.Side.TheVariants.{Device, Host}
+use Rattle.gpu_run.specs.declared.block.command.Kind.{Kind}
+use Rattle.gpu_run.specs.declared.block.command.Kind.TheVariants.{Linear, NonLinear}
+use Rattle.gpu_run.specs.declared.block.command.Command.{Command}
+use Rattle.gpu_run.specs.declared.block.command.Command.TheVariants.{Block, Take, Give, Report}
 use Rattle.gpu_trace_lines.specs.Words.{IsName}
 
 abbrev pub side_word : Side → List ℕ

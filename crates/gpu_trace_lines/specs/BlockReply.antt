@@ -3,11 +3,11 @@ use Rattle.std.specs.Prelude.{ℕ, List, [], ◌∷◌, ◌++◌, codes, map}
 use Rattle.std.specs.List.{flat_map}
 use Rattle.std.specs.Fmt.{decimal}
 use Rattle.std.specs.Int.NonZero.{non_zero_u64_get}
-use Rattle.gpu_commands.specs.ErrorNumber.{number_text}
-use Rattle.gpu_commands.specs.declared.block.reply.Reply.{Reply}
-use Rattle.gpu_commands.specs.declared.block.reply.Reply.TheVariants.{Block, Taken, Given, Refused, Busy, Unbound}
-use Rattle.gpu_commands.specs.declared.block.reply.Reply.TheVariants as replies
-use Rattle.gpu_commands.specs.declared.block.reply.Report.{Report}
+use Rattle.gpu_run.specs.ErrorNumber.{number_text}
+use Rattle.gpu_run.specs.declared.block.reply.Reply.{Reply}
+use Rattle.gpu_run.specs.declared.block.reply.Reply.TheVariants.{Block, Taken, Given, Refused, Busy, Unbound}
+use Rattle.gpu_run.specs.declared.block.reply.Reply.TheVariants as replies
+use Rattle.gpu_run.specs.declared.block.reply.Report.{Report}
 use Rattle.gpu_values.specs.Report.{Row, row_of}
 
 -- a live piece, and the end of its line

@@ -6,11 +6,11 @@ use Rattle.std.specs.Int.NonZero.{non_zero_u64_get}
 use Rattle.gpu_values.specs.declared.report.AllocatorReport.{AllocatorReport}
 use Rattle.gpu_values.specs.declared.report.MemoryBlockReport.{MemoryBlockReport}
 use Rattle.gpu_values.specs.Report.{row_of}
-use Rattle.gpu_commands.specs.declared.vulkan.reply.Given.{Given}
-use Rattle.gpu_commands.specs.declared.vulkan.reply.Reply as told
-use Rattle.gpu_commands.specs.declared.vulkan.reply.Reply.TheVariants as replies
+use Rattle.gpu_run.specs.declared.vulkan.reply.Given.{Given}
+use Rattle.gpu_run.specs.declared.vulkan.reply.Reply as told
+use Rattle.gpu_run.specs.declared.vulkan.reply.Reply.TheVariants as replies
 use Rattle.gpu_trace_lines.specs.BlockReply.{piece_line}
-use Rattle.gpu_commands.specs.ErrorNumber.{number_of, number_text}
+use Rattle.gpu_run.specs.ErrorNumber.{number_of, number_text}
 use Rattle.gpu_trace_lines.specs.Hex.{hex}
 use Rattle.gpu_trace_lines.specs.declared.device.reply.Reply.{Reply}
 use Rattle.gpu_trace_lines.specs.declared.device.reply.Reply.TheVariants.{Made, Served, Held, Refused}

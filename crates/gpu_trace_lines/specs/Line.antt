@@ -1,8 +1,8 @@
 -- What a line says, whatever came before it.
 use Rattle.std.specs.Prelude.{◌≡◌, ◌≢◌, ℕ, List, [], ◌∷◌, codes}
 use Rattle.std.specs.Str.{IsAscii}
-use Rattle.gpu_commands.specs.declared.vulkan.command.Command as asks
-use Rattle.gpu_commands.specs.declared.block.command.Command.{Command}
+use Rattle.gpu_run.specs.declared.vulkan.command.Command as asks
+use Rattle.gpu_run.specs.declared.block.command.Command.{Command}
 use Rattle.gpu_trace_lines.specs.declared.device.setting.Setting.{Setting}
 use Rattle.gpu_trace_lines.specs.declared.line.Line.{Line}
 use Rattle.gpu_trace_lines.specs.declared.line.Line.TheVariants as lines

@@ -1,6 +1,6 @@
 -- The sorts of lines, as far as their order in a trace goes.
-use Rattle.gpu_commands.specs.declared.block.command.Command as block_commands
-use Rattle.gpu_commands.specs.declared.block.command.Command.TheVariants as blocks
+use Rattle.gpu_run.specs.declared.block.command.Command as block_commands
+use Rattle.gpu_run.specs.declared.block.command.Command.TheVariants as blocks
 use Rattle.gpu_trace_lines.specs.declared.device.setting.Setting as settings
 use Rattle.gpu_trace_lines.specs.declared.device.setting.Setting.TheVariants.{Heap, MemoryType, Granularity, Sizes, Refuse}
 use Rattle.gpu_trace_lines.specs.declared.line.Line.{Line}

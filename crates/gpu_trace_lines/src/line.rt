@@ -8,8 +8,8 @@ ghost use Rattle.gpu_trace_lines.specs.Words.{texts, words_of};
 use crate::device::setting::{Setting, setting_of};
 use crate::words::words;
 use crate::{block, device};
-use gpu_commands::block::Command;
-use gpu_commands::vulkan::Command as Ask;
+use gpu_run::block::Command;
+use gpu_run::vulkan::Command as Ask;
 use std::alloc::{AllocError, Global};
 use std::str;
 

@@ -2,7 +2,7 @@
 
 use crate::block::reply::write_reply;
 use crate::device::reply as device;
-use gpu_commands::block;
+use gpu_run::block;
 use std::fmt;
 
 /// The answer to a line of a trace.

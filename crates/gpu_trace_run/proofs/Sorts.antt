@@ -3,10 +3,10 @@ use Rattle.std.proofs.Common.{◌≡◌, refl, sym, ap, ◌∙◌, subst, Bool, 
 use Rattle.std.specs.Prelude.{codes}
 use Rattle.std.specs.List.{onto_first}
 use Rattle.std.specs.Str.{bytes_eq}
-use Rattle.gpu_commands.specs.declared.vulkan.command.Command as asks_commands
-use Rattle.gpu_commands.specs.declared.vulkan.command.Command.TheVariants as asked
-use Rattle.gpu_commands.specs.declared.block.command.Command as block_commands
-use Rattle.gpu_commands.specs.declared.block.command.Command.TheVariants as blocks
+use Rattle.gpu_run.specs.declared.vulkan.command.Command as asks_commands
+use Rattle.gpu_run.specs.declared.vulkan.command.Command.TheVariants as asked
+use Rattle.gpu_run.specs.declared.block.command.Command as block_commands
+use Rattle.gpu_run.specs.declared.block.command.Command.TheVariants as blocks
 use Rattle.gpu_trace_lines.specs.declared.device.setting.Setting as settings
 use Rattle.gpu_trace_lines.specs.declared.device.setting.Setting.TheVariants.{Heap, MemoryType, Granularity, Sizes, Refuse}
 use Rattle.gpu_trace_lines.specs.declared.line.Line.{Line}

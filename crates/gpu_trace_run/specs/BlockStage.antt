@@ -2,14 +2,14 @@
 use Rattle.std.specs.Prelude.{◌≡◌, ℕ, string_bytes}
 use Rattle.gpu_block_pieces.specs.Request.{request}
 use Rattle.gpu_values.specs.Sizes.{Sizes, only_size, with_largest, shared_block_size}
-use Rattle.gpu_commands.specs.declared.block.command.Side.{Side}
-use Rattle.gpu_commands.specs.declared.block.command.Side.TheVariants.{Device, Host}
-use Rattle.gpu_commands.specs.declared.block.command.Command.{Command}
-use Rattle.gpu_commands.specs.declared.block.command.Command.TheVariants.{Block, Take, Give, Report}
-use Rattle.gpu_commands.specs.declared.error_number.ErrorNumber.TheVariants.{E10}
-use Rattle.gpu_commands.specs.declared.block.reply.Reply.{Reply}
-use Rattle.gpu_commands.specs.declared.block.reply.Reply.TheVariants as replies
-use Rattle.gpu_commands.specs.BlockCommand.{is_host, type_of_kind}
+use Rattle.gpu_run.specs.declared.block.command.Side.{Side}
+use Rattle.gpu_run.specs.declared.block.command.Side.TheVariants.{Device, Host}
+use Rattle.gpu_run.specs.declared.block.command.Command.{Command}
+use Rattle.gpu_run.specs.declared.block.command.Command.TheVariants.{Block, Take, Give, Report}
+use Rattle.gpu_run.specs.declared.error_number.ErrorNumber.TheVariants.{E10}
+use Rattle.gpu_run.specs.declared.block.reply.Reply.{Reply}
+use Rattle.gpu_run.specs.declared.block.reply.Reply.TheVariants as replies
+use Rattle.gpu_run.specs.BlockCommand.{is_host, type_of_kind}
 use Rattle.gpu_trace_lines.specs.Sort.{Sort, opens_block, uses_block, reports}
 use Rattle.gpu_block_session.specs.BlockSession.{unused, Taking, Giving, Reporting}
 use Rattle.gpu_trace_run.specs.declared.block_stage.BlockStage.{BlockStage}

@@ -16,8 +16,8 @@ use Rattle.gpu_vulkan_session.specs.Command as session_commands
 use Rattle.gpu_vulkan_session.specs.Command.{SessionCommand}
 use Rattle.gpu_vulkan_session.specs.Session.{SessionInvariant}
 use Rattle.gpu_vulkan_session.specs.Served.{SessionValue, command_of, reply_of, session_of, IsServed}
-use Rattle.gpu_commands.specs.declared.block.command.Command as block_commands
-use Rattle.gpu_commands.specs.declared.block.command.Command.TheVariants as commands
+use Rattle.gpu_run.specs.declared.block.command.Command as block_commands
+use Rattle.gpu_run.specs.declared.block.command.Command.TheVariants as commands
 use Rattle.gpu_trace_run.specs.declared.block_stage.BlockStage.TheVariants as block_stages
 use Rattle.gpu_trace_lines.specs.declared.device.reply.Reply as device_replies
 use Rattle.gpu_trace_lines.specs.declared.device.reply.Reply.TheVariants.{Made, Served, Held, Refused}
@@ -33,7 +33,7 @@ use Rattle.gpu_trace_lines.specs.BlockCommand.{Fits as FitsBlock}
 use Rattle.gpu_trace_run.specs.BlockStage as block
 use Rattle.gpu_trace_lines.specs.Sort.{Sort, opens_block, reports, describes, sets_page, sets_sizes, makes, asks, destroys, sort_of}
 use Rattle.gpu_trace_run.specs.Configuration.{Configured, nothing_configured, configured_by, properties_by, plan_by, sizes_by}
-use Rattle.gpu_commands.specs.ErrorNumber.{number_of}
+use Rattle.gpu_run.specs.ErrorNumber.{number_of}
 
 -- what contracts see of the simulated device
 abbrev pub simulated : Ghosts SimVulkan

@@ -5,8 +5,8 @@ ghost use Rattle.std.specs.Int.{is_power_of_two};
 ghost use Rattle.gpu_trace_run.specs.BlockStage.{block_size};
 
 use gpu_block_session::BlockSession;
-use gpu_commands::ErrorNumber;
-use gpu_commands::block::{Command, Reply, Side};
+use gpu_run::ErrorNumber;
+use gpu_run::block::{Command, Reply, Side};
 use gpu_values::AllocationSizes;
 use std::alloc::Global;
 

@@ -8,9 +8,9 @@ ghost use Rattle.gpu_trace_run.specs.declared.block_stage.BlockStage.TheVariants
 
 use crate::block_stage::BlockStage;
 use crate::configuration::Configuration;
-use gpu_commands::block::Command;
-use gpu_commands::number_of;
-use gpu_commands::vulkan::Command as Ask;
+use gpu_run::block::Command;
+use gpu_run::number_of;
+use gpu_run::vulkan::Command as Ask;
 use gpu_device::vulkan::PhysicalDevice;
 use gpu_sim::SimVulkan;
 use gpu_trace_lines::device::reply as device;

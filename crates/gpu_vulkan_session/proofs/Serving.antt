@@ -3,8 +3,8 @@ use Rattle.std.proofs.Common.{◌≡◌, ℕ, List, [], ◌∷◌, map, Option, 
 use Rattle.std.specs.Prelude.{Vec}
 use Rattle.std.specs.Global.{Global}
 use Rattle.gpu_values.specs.declared.error.AllocationError.{AllocationError}
-use Rattle.gpu_commands.specs.declared.vulkan.command.Command.{Command}
-use Rattle.gpu_commands.specs.declared.vulkan.reply.Reply.{Reply}
+use Rattle.gpu_run.specs.declared.vulkan.command.Command.{Command}
+use Rattle.gpu_run.specs.declared.vulkan.reply.Reply.{Reply}
 use Rattle.gpu_run.specs.Run.{IsRun as IsRunOf}
 use Rattle.gpu_device.specs.declared.vulkan.device.VulkanDevice.{Ghosts}
 use Rattle.gpu_memory_types.specs.Blocks.{BlocksWellFormed}

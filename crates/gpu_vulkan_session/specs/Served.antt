@@ -15,11 +15,11 @@ use Rattle.gpu_vulkan_session.specs.Reply as replies
 use Rattle.gpu_vulkan_session.specs.Command.{SessionCommand, Alloc, Null, Free, Rename, Write, Read, Under, Report, Leaks, Capacity, SetBudget}
 use Rattle.gpu_vulkan_session.specs.Reply.{Shown, SessionReply, Given, Done, Bytes, Busy, Unbound, Unmapped, OutOfRange, Error}
 use Rattle.gpu_vulkan_session.specs.Session.{SessionState, SessionInvariant, CommandEnvironment, Serves, Runs}
-use Rattle.gpu_commands.specs.declared.vulkan.command.Command.{Command}
-use Rattle.gpu_commands.specs.declared.vulkan.command.Command.TheVariants as asked
-use Rattle.gpu_commands.specs.declared.vulkan.reply.Reply.{Reply}
-use Rattle.gpu_commands.specs.declared.vulkan.reply.Reply.TheVariants as answered
-use Rattle.gpu_commands.specs.declared.vulkan.reply.Given.{Given as GivenPiece}
+use Rattle.gpu_run.specs.declared.vulkan.command.Command.{Command}
+use Rattle.gpu_run.specs.declared.vulkan.command.Command.TheVariants as asked
+use Rattle.gpu_run.specs.declared.vulkan.reply.Reply.{Reply}
+use Rattle.gpu_run.specs.declared.vulkan.reply.Reply.TheVariants as answered
+use Rattle.gpu_run.specs.declared.vulkan.reply.Given.{Given as GivenPiece}
 
 abbrev pub command_of : Command → SessionCommand
 command_of (asked.Alloc key requirements location linear scheme name) =

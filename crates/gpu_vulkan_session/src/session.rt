@@ -11,7 +11,7 @@ ghost use Rattle.gpu_vulkan_session.specs.Command.{Wanted, Describes, Alloc, Nul
 ghost use Rattle.gpu_vulkan_session.specs.Session.{IsOwn, SessionInvariant, overwritten};
 ghost use Rattle.gpu_vulkan_session.specs.Served.{session_of, command_of, reply_of, shown_allocation, IsServed, IsRun, ServesEach};
 
-use gpu_commands::vulkan::{Command, Given, Reply};
+use gpu_run::vulkan::{Command, Given, Reply};
 use gpu_device::vulkan::VulkanDevice;
 use gpu_run::{Machine, bind};
 use gpu_values::{AllocationError, Result};

@@ -3,12 +3,12 @@
 ghost use Rattle.std.specs.Prelude.{◌≡◌, ◌≢◌, ℕ, ◌<◌, ◌^◌, ◌∷◌, [], IfOk, MatchOption, codes};
 ghost use Rattle.std.specs.Fmt.{decimal};
 ghost use Rattle.gpu_trace_lines.specs.Words.{texts};
-ghost use Rattle.gpu_commands.specs.declared.block.command.Side.{Side};
-ghost use Rattle.gpu_commands.specs.declared.block.command.Kind.{Kind};
+ghost use Rattle.gpu_run.specs.declared.block.command.Side.{Side};
+ghost use Rattle.gpu_run.specs.declared.block.command.Kind.{Kind};
 ghost use Rattle.gpu_trace_lines.specs.BlockCommand.{IsPowerOfTwo, side_word, kind_word, Says};
 
 use crate::words::{name_of, number};
-use gpu_commands::block::{Command, Kind, Side};
+use gpu_run::block::{Command, Kind, Side};
 use std::alloc::{AllocError, Global};
 
 fn side_of(word: &str) -> Option<Side>

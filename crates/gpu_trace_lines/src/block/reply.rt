@@ -6,7 +6,7 @@ ghost use Rattle.std.specs.Fmt.{DisplaysOnOk};
 ghost use Rattle.gpu_values.specs.Report.{row_of};
 ghost use Rattle.gpu_trace_lines.specs.BlockReply.{piece_line, report_text, reply_text};
 
-use gpu_commands::block::{Reply, Report};
+use gpu_run::block::{Reply, Report};
 use gpu_values::AllocationReport;
 use std::fmt;
 

@@ -10,7 +10,7 @@ ghost use Rattle.gpu_trace_lines.specs.Ask.{location_word, linear_word, scheme_w
 
 use crate::hex;
 use crate::words::{name_of, number, small_number};
-use gpu_commands::vulkan::Command;
+use gpu_run::vulkan::Command;
 use gpu_device::vulkan::{AllocationScheme, Buffer, Image, MemoryRequirements};
 use gpu_values::MemoryLocation;
 use std::alloc::{AllocError, Global};

@@ -9,8 +9,8 @@ ghost use Rattle.gpu_trace_lines.specs.Hex.{hex, hex_byte, hex_digit};
 ghost use Rattle.gpu_trace_lines.specs.DeviceReply.{bool_text, given_text, block_line, leak_line, leaks_text, report_text, served_text};
 
 use crate::block::reply::write_pieces;
-use gpu_commands::vulkan::{Given, Reply as Told};
-use gpu_commands::{ErrorNumber, number_of};
+use gpu_run::vulkan::{Given, Reply as Told};
+use gpu_run::{ErrorNumber, number_of};
 use gpu_values::{AllocatorReport, MemoryBlockReport};
 use std::fmt;
 

@@ -2,10 +2,10 @@
 use Rattle.std.specs.Prelude.{Bool, true, false}
 use Rattle.gpu_values.specs.declared.allocation_type.AllocationType.{AllocationType}
 use Rattle.gpu_values.specs.declared.allocation_type.AllocationType.TheVariants as types
-use Rattle.gpu_commands.specs.declared.block.command.Side.{Side}
-use Rattle.gpu_commands.specs.declared.block.command.Side.TheVariants.{Device, Host}
-use Rattle.gpu_commands.specs.declared.block.command.Kind.{Kind}
-use Rattle.gpu_commands.specs.declared.block.command.Kind.TheVariants.{Linear, NonLinear}
+use Rattle.gpu_run.specs.declared.block.command.Side.{Side}
+use Rattle.gpu_run.specs.declared.block.command.Side.TheVariants.{Device, Host}
+use Rattle.gpu_run.specs.declared.block.command.Kind.{Kind}
+use Rattle.gpu_run.specs.declared.block.command.Kind.TheVariants.{Linear, NonLinear}
 
 -- whether a side is the one that the host can see
 abbrev pub is_host : Side → Bool

@@ -2,8 +2,8 @@
 use Rattle.std.specs.Prelude.{ℕ, List, codes}
 use Rattle.gpu_values.specs.declared.error.AllocationError.{AllocationError}
 use Rattle.gpu_values.specs.declared.error.AllocationError.TheVariants as errors
-use Rattle.gpu_commands.specs.declared.error_number.ErrorNumber.{ErrorNumber}
-use Rattle.gpu_commands.specs.declared.error_number.ErrorNumber.TheVariants.{E1, E2, E3, E4, E5, E6, E7, E8, E9, E10, E11}
+use Rattle.gpu_run.specs.declared.error_number.ErrorNumber.{ErrorNumber}
+use Rattle.gpu_run.specs.declared.error_number.ErrorNumber.TheVariants.{E1, E2, E3, E4, E5, E6, E7, E8, E9, E10, E11}
 
 abbrev pub number_of : AllocationError → ErrorNumber
 number_of errors.OutOfMemory = E1

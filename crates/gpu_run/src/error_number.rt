@@ -1,7 +1,7 @@
 //! The numbers of errors in a trace.
 
 ghost use Rattle.std.specs.Prelude.{◌≡◌};
-ghost use Rattle.gpu_commands.specs.ErrorNumber.{number_of};
+ghost use Rattle.gpu_run.specs.ErrorNumber.{number_of};
 
 use gpu_values::AllocationError;
 use std::fmt;
@@ -54,7 +54,7 @@ pub fn number_of(error: &AllocationError) -> ErrorNumber
 
 impl fmt::Display for ErrorNumber {
     ghost use Rattle.std.specs.Prelude.{Some};
-    ghost use Rattle.gpu_commands.specs.ErrorNumber.{number_text};
+    ghost use Rattle.gpu_run.specs.ErrorNumber.{number_text};
 
     ghost output = { λ n. Some (number_text n) };
 

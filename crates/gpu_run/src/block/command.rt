@@ -2,7 +2,7 @@
 
 ghost use Rattle.std.specs.Prelude.{◌≡◌, ◌≢◌};
 ghost use Rattle.gpu_values.specs.declared.allocation_type.AllocationType.{AllocationType};
-ghost use Rattle.gpu_commands.specs.BlockCommand.{is_host, type_of_kind};
+ghost use Rattle.gpu_run.specs.BlockCommand.{is_host, type_of_kind};
 
 use gpu_values::AllocationType;
 

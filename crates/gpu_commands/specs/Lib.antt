@@ -1,2 +1,0 @@
-pub mod BlockCommand
-pub mod ErrorNumber
