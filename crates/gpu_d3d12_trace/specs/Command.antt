@@ -3,8 +3,8 @@ use Rattle.std.specs.Prelude.{◌≡◌, ℕ, ◌<◌, ◌^◌, List, [], ◌∷
 use Rattle.std.specs.Fmt.{decimal}
 use Rattle.gpu_d3d12_session.specs.declared.command.Command.{Command}
 use Rattle.gpu_d3d12_session.specs.declared.command.Command.TheVariants.{Alloc, Free, Rename, Create, Release, Leaks, Report, Capacity, Committed, SetBudget}
-use Rattle.gpu_trace_lines.specs.Ask.{location_word, budget_word, FitsBudget}
-use Rattle.gpu_trace_lines.specs.Words.{IsName}
+use Rattle.gpu_trace_text.specs.Ask.{location_word, budget_word, FitsBudget}
+use Rattle.gpu_trace_text.specs.Words.{IsName}
 use Rattle.gpu_d3d12_trace.specs.Resource.{category_word, wanted_words, FitsWanted}
 
 -- a command's words

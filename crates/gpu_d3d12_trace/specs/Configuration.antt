@@ -8,9 +8,9 @@ use Rattle.gpu_d3d12.specs.declared.device_version.ID3D12DeviceVersion.{ID3D12De
 use Rattle.gpu_d3d12.specs.declared.device_version.ID3D12DeviceVersion.TheVariants as versions
 use Rattle.gpu_sim_base.specs.declared.script.Refusal.{Refusal}
 use Rattle.gpu_sim_d3d12.specs.Simulation.{Plan}
-use Rattle.gpu_trace_lines.specs.Setting.{sizes_of}
-use Rattle.gpu_trace_lines.specs.declared.device.setting.Setting as device
-use Rattle.gpu_trace_lines.specs.declared.device.setting.Setting.TheVariants.{Heap, MemoryType, Granularity, Sizes as BlockSizes, Refuse}
+use Rattle.gpu_trace_text.specs.Setting.{sizes_of}
+use Rattle.gpu_trace_text.specs.declared.device.setting.Setting as device
+use Rattle.gpu_trace_text.specs.declared.device.setting.Setting.TheVariants.{Heap, MemoryType, Granularity, Sizes as BlockSizes, Refuse}
 use Rattle.gpu_d3d12_trace.specs.declared.setting.Setting.{Setting}
 use Rattle.gpu_d3d12_trace.specs.declared.setting.Setting.TheVariants.{Tier, Interface, Shared}
 use Rattle.gpu_d3d12_trace.specs.declared.setting.Version.{Version}

@@ -19,7 +19,7 @@ use Rattle.gpu_d3d12_session.specs.declared.reply.Given.{Given}
 use Rattle.gpu_d3d12_session.specs.declared.reply.Made.{Made as MadeResource}
 use Rattle.gpu_d3d12_session.specs.declared.reply.Reply as told
 use Rattle.gpu_d3d12_session.specs.declared.reply.Reply.TheVariants as replies
-use Rattle.gpu_trace_lines.specs.DeviceReply.{leaks_text, report_text}
+use Rattle.gpu_trace_text.specs.DeviceReply.{leaks_text, report_text}
 use Rattle.gpu_d3d12_trace.specs.Resource.{clear_word, initial_word}
 use Rattle.gpu_d3d12_trace.specs.declared.reply.Reply.{Reply}
 use Rattle.gpu_d3d12_trace.specs.declared.reply.Reply.TheVariants.{Made, Refused, Served, Asked, Held}

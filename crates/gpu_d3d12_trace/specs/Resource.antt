@@ -15,8 +15,8 @@ use Rattle.gpu_d3d12.specs.declared.question.ResourceStateOrBarrierLayout.TheVar
 use Rattle.gpu_d3d12_session.specs.declared.command.Memory.{Memory}
 use Rattle.gpu_d3d12_session.specs.declared.command.Memory.TheVariants.{Own, Placed}
 use Rattle.gpu_d3d12_session.specs.declared.command.WantedResource.{WantedResource}
-use Rattle.gpu_trace_lines.specs.Ask.{location_word}
-use Rattle.gpu_trace_lines.specs.Words.{IsName}
+use Rattle.gpu_trace_text.specs.Ask.{location_word}
+use Rattle.gpu_trace_text.specs.Words.{IsName}
 use Rattle.gpu_d3d12_trace.specs.Numbers.{AreNumbers, numbers_word}
 
 -- ---- words

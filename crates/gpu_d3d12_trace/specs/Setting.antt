@@ -4,8 +4,8 @@ use Rattle.std.specs.Int.{w32}
 use Rattle.std.specs.Fmt.{signed_decimal}
 use Rattle.gpu_device.specs.declared.d3d12.types.ResourceHeapTier.{ResourceHeapTier}
 use Rattle.gpu_device.specs.declared.d3d12.types.ResourceHeapTier.TheVariants.{Tier1, Tier2}
-use Rattle.gpu_trace_lines.specs.Setting as settings
-use Rattle.gpu_trace_lines.specs.Setting.{IsShared}
+use Rattle.gpu_trace_text.specs.Setting as settings
+use Rattle.gpu_trace_text.specs.Setting.{IsShared}
 use Rattle.gpu_d3d12_trace.specs.declared.setting.Setting.{Setting}
 use Rattle.gpu_d3d12_trace.specs.declared.setting.Setting.TheVariants.{Tier, Interface, Shared}
 use Rattle.gpu_d3d12_trace.specs.declared.setting.Version.{Version}

@@ -2,13 +2,13 @@
 
 ghost use Rattle.std.specs.Prelude.{◌≡◌, ◌∷◌, IfOk, codes};
 ghost use Rattle.std.specs.Fmt.{decimal};
-ghost use Rattle.gpu_trace_lines.specs.Words.{texts};
+ghost use Rattle.gpu_trace_text.specs.Words.{texts};
 ghost use Rattle.gpu_d3d12_trace.specs.Command.{Says};
 
 use crate::resource::{category_of, wanted_of};
 use gpu_d3d12_session::Command;
-use gpu_trace_lines::device::ask::{budget_of, location_of};
-use gpu_trace_lines::words::{name_of, number};
+use gpu_trace_text::device::ask::{budget_of, location_of};
+use gpu_trace_text::words::{name_of, number};
 use std::alloc::{AllocError, Global};
 
 fn alloc(alloc: Global, arguments: &[&str]) -> Result<Option<Command>, AllocError>

@@ -1,14 +1,14 @@
 //! What a line of a DirectX 12 trace says.
 
 ghost use Rattle.std.specs.Prelude.{◌∷◌, IfOk};
-ghost use Rattle.gpu_trace_lines.specs.Words.{texts, words_of};
+ghost use Rattle.gpu_trace_text.specs.Words.{texts, words_of};
 ghost use Rattle.gpu_d3d12_trace.specs.Line.{Means, Reads, ReadsAlone};
 
 use crate::command::said_command;
 use crate::setting::{Setting, said_setting};
 use gpu_d3d12_session::Command;
-use gpu_trace_lines::ascii;
-use gpu_trace_lines::words::words;
+use gpu_trace_text::ascii;
+use gpu_trace_text::words::words;
 use std::alloc::{AllocError, Global};
 
 /// What a line says.

@@ -2,10 +2,10 @@
 
 ghost use Rattle.std.specs.Prelude.{◌≡◌, ◌≢◌, ℕ, ◌==◌, List, IfOk, MatchOption};
 ghost use Rattle.std.specs.List.{slice_split};
-ghost use Rattle.gpu_trace_lines.specs.Words.{texts};
+ghost use Rattle.gpu_trace_text.specs.Words.{texts};
 ghost use Rattle.gpu_d3d12_trace.specs.Numbers.{IsSeparator, AreNumbers, numbers_word};
 
-use gpu_trace_lines::words::small_number;
+use gpu_trace_text::words::small_number;
 use std::alloc::{AllocError, Global};
 
 /// The parts of a word between its separators.

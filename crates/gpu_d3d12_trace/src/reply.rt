@@ -9,7 +9,7 @@ use gpu_run::{ErrorNumber, number_of};
 use gpu_d3d12::{CommittedAllocationStatistics, ResourceStateOrBarrierLayout};
 use gpu_d3d12_session::{Given, Made, Reply as Told};
 use gpu_device::d3d12::{ClearValue, CpuPageProperty, HeapContent, HeapDesc, HeapType, MemoryPool};
-use gpu_trace_lines::device::reply::{write_leaks, write_report};
+use gpu_trace_text::device::reply::{write_leaks, write_report};
 use std::fmt;
 
 /// The answer to a line of a DirectX 12 trace.

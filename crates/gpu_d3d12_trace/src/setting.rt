@@ -1,14 +1,14 @@
 //! What a configuration line of a DirectX 12 trace says.
 
 ghost use Rattle.std.specs.Prelude.{◌≡◌, ◌≢◌, [], ◌∷◌, IfOk, MatchOption, codes};
-ghost use Rattle.gpu_trace_lines.specs.Words.{texts};
+ghost use Rattle.gpu_trace_text.specs.Words.{texts};
 ghost use Rattle.gpu_d3d12_trace.specs.Setting.{version_word, Says};
 ghost use Rattle.gpu_d3d12_trace.specs.declared.setting.Version.{Version};
 
 use gpu_device::d3d12::ResourceHeapTier;
-use gpu_trace_lines::device::setting;
-use gpu_trace_lines::device::setting::setting_of;
-use gpu_trace_lines::words::code;
+use gpu_trace_text::device::setting;
+use gpu_trace_text::device::setting::setting_of;
+use gpu_trace_text::words::code;
 use std::alloc::{AllocError, Global};
 
 /// The newest interface that the device has.
@@ -86,7 +86,7 @@ fn newest(arguments: &[&str]) -> Option<Setting>
     Some(Setting::Interface(version))
 }
 
-#[tactic(auto, using(gpu_trace_lines::proofs::Settings::sizes_shared))]
+#[tactic(auto, using(gpu_trace_text::proofs::Settings::sizes_shared))]
 fn sizes(alloc: Global, arguments: &[&str]) -> Result<Option<Setting>, AllocError>
     ensures { IfOk result (λ found. Says (codes "sizes" ∷ texts arguments.now) found) }
 {
@@ -96,7 +96,7 @@ fn sizes(alloc: Global, arguments: &[&str]) -> Result<Option<Setting>, AllocErro
     }
 }
 
-#[tactic(auto, using(gpu_trace_lines::proofs::Settings::refuse_shared))]
+#[tactic(auto, using(gpu_trace_text::proofs::Settings::refuse_shared))]
 fn refuse(alloc: Global, arguments: &[&str]) -> Result<Option<Setting>, AllocError>
     ensures { IfOk result (λ found. Says (codes "refuse" ∷ texts arguments.now) found) }
 {

@@ -8,7 +8,7 @@ use Rattle.gpu_metal_session.specs.declared.command.Command.{Command}
 use Rattle.gpu_metal_session.specs.declared.command.Command.TheVariants.{Alloc, Buffer, AccelerationStructure, Texture, Free, Heaps, Commit, Report, Capacity, SetBudget}
 use Rattle.gpu_metal_trace.specs.Command as commands
 use Rattle.gpu_metal_trace.specs.Command.{mode_word, FitsMode}
-use Rattle.gpu_trace_lines.specs.Words.{texts}
+use Rattle.gpu_trace_text.specs.Words.{texts}
 
 -- four words that aren't a texture's stand in no command for one
 pub no_texture : (arguments : List (Bor (List ℕ))) (d : Bor (List ℕ))

@@ -6,8 +6,8 @@ use Rattle.gpu_device.specs.declared.metal.types.StorageMode.TheVariants.{Shared
 use Rattle.gpu_device.specs.declared.metal.types.TextureDescriptor.{TextureDescriptor}
 use Rattle.gpu_metal_session.specs.declared.command.Command.{Command}
 use Rattle.gpu_metal_session.specs.declared.command.Command.TheVariants.{Alloc, Buffer, AccelerationStructure, Texture, Free, Heaps, Commit, Report, Capacity, SetBudget}
-use Rattle.gpu_trace_lines.specs.Ask.{location_word, budget_word, FitsBudget}
-use Rattle.gpu_trace_lines.specs.Words.{IsName}
+use Rattle.gpu_trace_text.specs.Ask.{location_word, budget_word, FitsBudget}
+use Rattle.gpu_trace_text.specs.Words.{IsName}
 
 -- the word for a storage mode; another than the four is told by its number
 abbrev pub mode_word : StorageMode → List ℕ

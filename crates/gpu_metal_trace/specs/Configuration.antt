@@ -4,9 +4,9 @@ use Rattle.std.specs.Option.{unwrap_or}
 use Rattle.gpu_values.specs.Sizes.{Sizes, default_sizes}
 use Rattle.gpu_sim_base.specs.declared.script.Refusal.{Refusal}
 use Rattle.gpu_sim_metal.specs.Simulation.{Plan}
-use Rattle.gpu_trace_lines.specs.declared.device.setting.Setting as device
-use Rattle.gpu_trace_lines.specs.declared.device.setting.Setting.TheVariants.{Heap, MemoryType, Granularity, Sizes as BlockSizes, Refuse}
-use Rattle.gpu_trace_lines.specs.Setting.{sizes_of}
+use Rattle.gpu_trace_text.specs.declared.device.setting.Setting as device
+use Rattle.gpu_trace_text.specs.declared.device.setting.Setting.TheVariants.{Heap, MemoryType, Granularity, Sizes as BlockSizes, Refuse}
+use Rattle.gpu_trace_text.specs.Setting.{sizes_of}
 use Rattle.gpu_metal_trace.specs.declared.setting.Setting.{Setting}
 use Rattle.gpu_metal_trace.specs.declared.setting.Setting.TheVariants.{Sets, Residency, Shared}
 

@@ -2,8 +2,8 @@
 use Rattle.std.specs.Prelude.{◌≡◌, ◌≢◌, ℕ, List, [], ◌∷◌, codes}
 use Rattle.std.specs.Str.{IsAscii}
 use Rattle.gpu_metal_session.specs.declared.command.Command.{Command}
-use Rattle.gpu_trace_lines.specs.Line.{IsBlank, new_words, destroy_words}
-use Rattle.gpu_trace_lines.specs.Words.{words_of}
+use Rattle.gpu_trace_text.specs.Line.{IsBlank, new_words, destroy_words}
+use Rattle.gpu_trace_text.specs.Words.{words_of}
 use Rattle.gpu_metal_trace.specs.Command as command
 use Rattle.gpu_metal_trace.specs.Setting as setting
 use Rattle.gpu_metal_trace.specs.declared.line.Line.{Line}

@@ -1,7 +1,7 @@
 -- What a configuration line of a Metal trace says. Each has one spelling.
 use Rattle.std.specs.Prelude.{◌≡◌, ℕ, List, [], ◌∷◌, Bool, true, false, Option, Some, None, codes}
-use Rattle.gpu_trace_lines.specs.Setting as settings
-use Rattle.gpu_trace_lines.specs.Setting.{IsShared}
+use Rattle.gpu_trace_text.specs.Setting as settings
+use Rattle.gpu_trace_text.specs.Setting.{IsShared}
 use Rattle.gpu_metal_trace.specs.declared.setting.Setting.{Setting}
 use Rattle.gpu_metal_trace.specs.declared.setting.Setting.TheVariants.{Sets, Residency, Shared}
 

@@ -4,14 +4,14 @@ ghost use Rattle.std.specs.Prelude.{◌≡◌, ◌≢◌, ℕ, ◌<◌, ◌^◌,
 ghost use Rattle.std.specs.Fmt.{decimal};
 ghost use Rattle.gpu_values.specs.declared.memory_location.MemoryLocation.{MemoryLocation};
 ghost use Rattle.gpu_device.specs.declared.metal.types.StorageMode.{StorageMode};
-ghost use Rattle.gpu_trace_lines.specs.Ask.{location_word};
-ghost use Rattle.gpu_trace_lines.specs.Words.{texts};
+ghost use Rattle.gpu_trace_text.specs.Ask.{location_word};
+ghost use Rattle.gpu_trace_text.specs.Words.{texts};
 ghost use Rattle.gpu_metal_trace.specs.Command.{mode_word, FitsMode, Says};
 
 use gpu_device::metal::{StorageMode, TextureDescriptor};
 use gpu_metal_session::Command;
-use gpu_trace_lines::device::ask::{budget_of, location_of};
-use gpu_trace_lines::words::{name_of, number, small_number};
+use gpu_trace_text::device::ask::{budget_of, location_of};
+use gpu_trace_text::words::{name_of, number, small_number};
 use gpu_values::MemoryLocation;
 use std::alloc::{AllocError, Global};
 

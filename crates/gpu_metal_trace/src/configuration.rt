@@ -8,8 +8,8 @@ ghost use Rattle.gpu_metal_trace.specs.Configuration.{nothing_configured, config
 use crate::setting::Setting;
 use gpu_sim_base::Refusal;
 use gpu_sim_metal::SimMetal;
-use gpu_trace_lines::device::setting;
-use gpu_trace_lines::device::setting::sizes_of;
+use gpu_trace_text::device::setting;
+use gpu_trace_text::device::setting::sizes_of;
 use gpu_values::AllocationSizes;
 use std::alloc::{AllocError, Global};
 use std::marker::Model;

@@ -1,14 +1,14 @@
 //! What a line of a Metal trace says.
 
 ghost use Rattle.std.specs.Prelude.{◌≡◌, ◌∷◌, IfOk};
-ghost use Rattle.gpu_trace_lines.specs.Words.{texts, words_of};
+ghost use Rattle.gpu_trace_text.specs.Words.{texts, words_of};
 ghost use Rattle.gpu_metal_trace.specs.Line.{Means, Reads, ReadsAlone};
 
 use crate::command::said_command;
 use crate::setting::{Setting, said_setting};
 use gpu_metal_session::Command;
-use gpu_trace_lines::ascii;
-use gpu_trace_lines::words::words;
+use gpu_trace_text::ascii;
+use gpu_trace_text::words::words;
 use std::alloc::{AllocError, Global};
 
 /// What is looked up of the device, beside the session.

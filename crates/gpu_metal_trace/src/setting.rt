@@ -1,11 +1,11 @@
 //! What a configuration line of a Metal trace says.
 
 ghost use Rattle.std.specs.Prelude.{◌≡◌, ◌≢◌, ◌∷◌, Bool, IfOk, MatchOption, codes};
-ghost use Rattle.gpu_trace_lines.specs.Words.{texts};
+ghost use Rattle.gpu_trace_text.specs.Words.{texts};
 ghost use Rattle.gpu_metal_trace.specs.Setting.{yes_word, Says};
 
-use gpu_trace_lines::device::setting;
-use gpu_trace_lines::device::setting::setting_of;
+use gpu_trace_text::device::setting;
+use gpu_trace_text::device::setting::setting_of;
 use std::alloc::{AllocError, Global};
 
 /// A configuration line of a Metal trace.
@@ -49,7 +49,7 @@ fn residency(arguments: &[&str]) -> Option<Setting>
     Some(Setting::Residency(yes))
 }
 
-#[tactic(auto, using(gpu_trace_lines::proofs::Settings::sizes_shared))]
+#[tactic(auto, using(gpu_trace_text::proofs::Settings::sizes_shared))]
 fn sizes(alloc: Global, arguments: &[&str]) -> Result<Option<Setting>, AllocError>
     ensures { IfOk result (λ found. Says (codes "sizes" ∷ texts arguments.now) found) }
 {
@@ -59,7 +59,7 @@ fn sizes(alloc: Global, arguments: &[&str]) -> Result<Option<Setting>, AllocErro
     }
 }
 
-#[tactic(auto, using(gpu_trace_lines::proofs::Settings::refuse_shared))]
+#[tactic(auto, using(gpu_trace_text::proofs::Settings::refuse_shared))]
 fn refuse(alloc: Global, arguments: &[&str]) -> Result<Option<Setting>, AllocError>
     ensures { IfOk result (λ found. Says (codes "refuse" ∷ texts arguments.now) found) }
 {

@@ -17,9 +17,9 @@ use Rattle.gpu_report.specs.Svg.{capped}
 use Rattle.gpu_timeline.specs.Samples.{usage_of}
 use Rattle.gpu_timeline.specs.declared.samples.Sample.{Sample}
 use Rattle.gpu_timeline.specs.declared.samples.Usage.{Usage}
-use Rattle.gpu_trace_lines.specs.declared.device.reply.Reply.TheVariants as device_replies
-use Rattle.gpu_trace_lines.specs.declared.reply.Reply as vulkan_told
-use Rattle.gpu_trace_lines.specs.declared.reply.Reply.TheVariants as line_replies
+use Rattle.gpu_trace_text.specs.declared.device.reply.Reply.TheVariants as device_replies
+use Rattle.gpu_trace_text.specs.declared.reply.Reply as vulkan_told
+use Rattle.gpu_trace_text.specs.declared.reply.Reply.TheVariants as line_replies
 use Rattle.gpu_trace_run.specs.declared.block_stage.BlockStage.TheVariants.{Open}
 use Rattle.gpu_trace_run.specs.declared.stage.Stage as vulkan
 use Rattle.gpu_trace_run.specs.declared.stage.Stage.TheVariants.{Before, Block as InBlock, Device}

@@ -7,20 +7,20 @@ use Rattle.gpu_run.specs.declared.vulkan.command.Command as asks_commands
 use Rattle.gpu_run.specs.declared.vulkan.command.Command.TheVariants as asked
 use Rattle.gpu_run.specs.declared.block.command.Command as block_commands
 use Rattle.gpu_run.specs.declared.block.command.Command.TheVariants as blocks
-use Rattle.gpu_trace_lines.specs.declared.device.setting.Setting as settings
-use Rattle.gpu_trace_lines.specs.declared.device.setting.Setting.TheVariants.{Heap, MemoryType, Granularity, Sizes, Refuse}
-use Rattle.gpu_trace_lines.specs.declared.line.Line.{Line}
-use Rattle.gpu_trace_lines.specs.declared.line.Line.TheVariants as lines
-use Rattle.gpu_trace_lines.specs.declared.reply.Reply.{Reply}
+use Rattle.gpu_trace_text.specs.declared.device.setting.Setting as settings
+use Rattle.gpu_trace_text.specs.declared.device.setting.Setting.TheVariants.{Heap, MemoryType, Granularity, Sizes, Refuse}
+use Rattle.gpu_trace_text.specs.declared.line.Line.{Line}
+use Rattle.gpu_trace_text.specs.declared.line.Line.TheVariants as lines
+use Rattle.gpu_trace_text.specs.declared.reply.Reply.{Reply}
 use Rattle.gpu_trace_text.specs.declared.outcome.Outcome.{Outcome}
 use Rattle.gpu_trace_text.specs.declared.outcome.Outcome.TheVariants.{Nothing, Replied, Bad}
 use Rattle.gpu_trace_run.specs.declared.stage.Stage.{Stage}
-use Rattle.gpu_trace_lines.specs.Words.{words_of}
-use Rattle.gpu_trace_lines.specs.BlockCommand as block
-use Rattle.gpu_trace_lines.specs.Setting as setting
-use Rattle.gpu_trace_lines.specs.Ask as ask
-use Rattle.gpu_trace_lines.specs.Line.{IsBlank, IsRemark, IsSaid, Reads, Means}
-use Rattle.gpu_trace_lines.specs.Sort.{Sort, opens_block, uses_block, reports, describes, sets_page, sets_sizes, makes, asks, destroys, says_nothing, sort_of, sort_of_command, sort_of_setting}
+use Rattle.gpu_trace_text.specs.Words.{words_of}
+use Rattle.gpu_trace_text.specs.BlockCommand as block
+use Rattle.gpu_trace_text.specs.Setting as setting
+use Rattle.gpu_trace_text.specs.Ask as ask
+use Rattle.gpu_trace_text.specs.Line.{IsBlank, IsRemark, IsSaid, Reads, Means}
+use Rattle.gpu_trace_text.specs.Sort.{Sort, opens_block, uses_block, reports, describes, sets_page, sets_sizes, makes, asks, destroys, says_nothing, sort_of, sort_of_command, sort_of_setting}
 use Rattle.gpu_trace_run.specs.Stage.{Admits, AdmitsSort, Does}
 use Rattle.gpu_trace_run.specs.Run.{Serves}
 

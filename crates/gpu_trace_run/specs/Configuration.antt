@@ -7,9 +7,9 @@ use Rattle.gpu_device.specs.declared.vulkan.types.MemoryHeap.{MemoryHeap}
 use Rattle.gpu_device.specs.declared.vulkan.types.MemoryTypeInfo.{MemoryTypeInfo}
 use Rattle.gpu_sim.specs.Plan.{Plan}
 use Rattle.gpu_sim_base.specs.declared.script.Refusal.{Refusal}
-use Rattle.gpu_trace_lines.specs.declared.device.setting.Setting.{Setting}
-use Rattle.gpu_trace_lines.specs.declared.device.setting.Setting.TheVariants.{Heap, MemoryType, Granularity, Sizes as BlockSizes, Refuse}
-use Rattle.gpu_trace_lines.specs.Setting.{sizes_of}
+use Rattle.gpu_trace_text.specs.declared.device.setting.Setting.{Setting}
+use Rattle.gpu_trace_text.specs.declared.device.setting.Setting.TheVariants.{Heap, MemoryType, Granularity, Sizes as BlockSizes, Refuse}
+use Rattle.gpu_trace_text.specs.Setting.{sizes_of}
 
 pub record Configured : Type 0 where
   pub heaps : List MemoryHeap

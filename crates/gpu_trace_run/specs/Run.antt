@@ -1,8 +1,8 @@
 -- What a line of a block or device trace does.
 use Rattle.std.specs.Prelude.{ℕ, List}
-use Rattle.gpu_trace_lines.specs.Line.{Means}
-use Rattle.gpu_trace_lines.specs.declared.line.Line.{Line}
-use Rattle.gpu_trace_lines.specs.declared.reply.Reply.{Reply}
+use Rattle.gpu_trace_text.specs.Line.{Means}
+use Rattle.gpu_trace_text.specs.declared.line.Line.{Line}
+use Rattle.gpu_trace_text.specs.declared.reply.Reply.{Reply}
 use Rattle.gpu_trace_run.specs.Stage.{Admits, Quietly, Step}
 use Rattle.gpu_trace_run.specs.declared.stage.Stage.{Stage}
 use Rattle.gpu_trace_text.specs.declared.outcome.Outcome.{Outcome}

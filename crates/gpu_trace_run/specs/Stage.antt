@@ -19,19 +19,19 @@ use Rattle.gpu_vulkan_session.specs.Served.{SessionValue, command_of, reply_of, 
 use Rattle.gpu_run.specs.declared.block.command.Command as block_commands
 use Rattle.gpu_run.specs.declared.block.command.Command.TheVariants as commands
 use Rattle.gpu_trace_run.specs.declared.block_stage.BlockStage.TheVariants as block_stages
-use Rattle.gpu_trace_lines.specs.declared.device.reply.Reply as device_replies
-use Rattle.gpu_trace_lines.specs.declared.device.reply.Reply.TheVariants.{Made, Served, Held, Refused}
-use Rattle.gpu_trace_lines.specs.declared.line.Line.{Line}
-use Rattle.gpu_trace_lines.specs.declared.line.Line.TheVariants as lines
-use Rattle.gpu_trace_lines.specs.declared.reply.Reply.{Reply}
-use Rattle.gpu_trace_lines.specs.declared.reply.Reply.TheVariants as replies
+use Rattle.gpu_trace_text.specs.declared.device.reply.Reply as device_replies
+use Rattle.gpu_trace_text.specs.declared.device.reply.Reply.TheVariants.{Made, Served, Held, Refused}
+use Rattle.gpu_trace_text.specs.declared.line.Line.{Line}
+use Rattle.gpu_trace_text.specs.declared.line.Line.TheVariants as lines
+use Rattle.gpu_trace_text.specs.declared.reply.Reply.{Reply}
+use Rattle.gpu_trace_text.specs.declared.reply.Reply.TheVariants as replies
 use Rattle.gpu_trace_text.specs.declared.outcome.Outcome.{Outcome}
 use Rattle.gpu_trace_text.specs.declared.outcome.Outcome.TheVariants.{Nothing, Replied, Bad}
 use Rattle.gpu_trace_run.specs.declared.stage.Stage.{Stage}
 use Rattle.gpu_trace_run.specs.declared.stage.Stage.TheVariants.{Before, Block, Configuring, Device, Closed}
-use Rattle.gpu_trace_lines.specs.BlockCommand.{Fits as FitsBlock}
+use Rattle.gpu_trace_text.specs.BlockCommand.{Fits as FitsBlock}
 use Rattle.gpu_trace_run.specs.BlockStage as block
-use Rattle.gpu_trace_lines.specs.Sort.{Sort, opens_block, reports, describes, sets_page, sets_sizes, makes, asks, destroys, sort_of}
+use Rattle.gpu_trace_text.specs.Sort.{Sort, opens_block, reports, describes, sets_page, sets_sizes, makes, asks, destroys, sort_of}
 use Rattle.gpu_trace_run.specs.Configuration.{Configured, nothing_configured, configured_by, properties_by, plan_by, sizes_by}
 use Rattle.gpu_run.specs.ErrorNumber.{number_of}
 

@@ -22,8 +22,8 @@ pub enum BlockStage {
 
 impl BlockStage {
     ghost use Rattle.std.specs.Prelude.{MatchOption};
-    ghost use Rattle.gpu_trace_lines.specs.BlockCommand.{Fits};
-    ghost use Rattle.gpu_trace_lines.specs.Sort.{sort_of_command};
+    ghost use Rattle.gpu_trace_text.specs.BlockCommand.{Fits};
+    ghost use Rattle.gpu_trace_text.specs.Sort.{sort_of_command};
     ghost use Rattle.gpu_trace_run.specs.BlockStage.{Admits, Step, Opening};
 
     /// Serves a command, or answers `None` to one that is out of its order.

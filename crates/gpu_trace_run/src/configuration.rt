@@ -3,7 +3,7 @@
 use gpu_device::vulkan::{MemoryHeap, MemoryPropertyFlags, MemoryTypeInfo};
 use gpu_sim::SimVulkan;
 use gpu_sim_base::Refusal;
-use gpu_trace_lines::device::setting::{Setting, sizes_of};
+use gpu_trace_text::device::setting::{Setting, sizes_of};
 use gpu_values::AllocationSizes;
 use std::alloc::{AllocError, Global};
 use std::marker::Model;

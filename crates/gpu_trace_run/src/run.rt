@@ -4,7 +4,7 @@ ghost use Rattle.std.specs.Prelude.{IfOk};
 ghost use Rattle.gpu_trace_run.specs.Run.{Serves};
 
 use crate::stage::Stage;
-use gpu_trace_lines::{Reply, read};
+use gpu_trace_text::{Reply, read};
 use gpu_trace_text::{Outcome, Trace};
 use log::Log;
 use std::alloc::{AllocError, Global};
@@ -30,7 +30,7 @@ fn serve<L: Log>(
 }
 
 impl Trace for Stage {
-    ghost use Rattle.gpu_trace_lines.specs.Reply.{reply_line};
+    ghost use Rattle.gpu_trace_text.specs.Reply.{reply_line};
     ghost use Rattle.gpu_trace_run.specs.Run.{Serves};
 
     type Reply = Reply;

@@ -1,7 +1,7 @@
 //! How far a trace has come.
 
 ghost use Rattle.std.specs.Prelude.{IfOk};
-ghost use Rattle.gpu_trace_lines.specs.BlockCommand.{Fits};
+ghost use Rattle.gpu_trace_text.specs.BlockCommand.{Fits};
 ghost use Rattle.gpu_vulkan_session.specs.Served.{command_of};
 ghost use Rattle.gpu_trace_run.specs.Stage.{IsSound, Begins, Does, MatchServed, Ended, FitsLine};
 ghost use Rattle.gpu_trace_run.specs.declared.block_stage.BlockStage.TheVariants as block_stages;
@@ -13,9 +13,9 @@ use gpu_run::number_of;
 use gpu_run::vulkan::Command as Ask;
 use gpu_device::vulkan::PhysicalDevice;
 use gpu_sim::SimVulkan;
-use gpu_trace_lines::device::reply as device;
-use gpu_trace_lines::device::setting::Setting;
-use gpu_trace_lines::{Line, Reply};
+use gpu_trace_text::device::reply as device;
+use gpu_trace_text::device::setting::Setting;
+use gpu_trace_text::{Line, Reply};
 use gpu_trace_text::Outcome;
 use gpu_values::AllocatorDebugSettings;
 use gpu_vulkan::{Allocator, AllocatorCreateDesc};

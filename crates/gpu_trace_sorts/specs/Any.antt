@@ -1,6 +1,6 @@
 -- A trace of any sort: the first line tells which it is.
 use Rattle.std.specs.Prelude.{◌≡◌, ◌≢◌, ◌⊎◌, ℕ, List, codes}
-use Rattle.gpu_trace_lines.specs.Reply as vulkan_replies
+use Rattle.gpu_trace_text.specs.Reply as vulkan_replies
 use Rattle.gpu_d3d12_trace.specs.Configuration as d3d12_configuration
 use Rattle.gpu_d3d12_trace.specs.Reply as d3d12_replies
 use Rattle.gpu_d3d12_trace.specs.Stage as d3d12

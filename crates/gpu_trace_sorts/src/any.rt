@@ -29,7 +29,7 @@ pub enum AnyTrace {
 /// The answer to a line of a trace of any sort.
 #[derive(Drop)]
 pub enum AnyReply {
-    Vulkan(gpu_trace_lines::Reply),
+    Vulkan(gpu_trace_text::Reply),
     Metal(metal::Reply),
     D3D12(d3d12::Reply),
 }

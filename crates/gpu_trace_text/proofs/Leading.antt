@@ -3,7 +3,7 @@ use Rattle.std.proofs.Common.{◌≡◌, true, false, ℕ, ◌+◌, ◌<◌, ◌
 use Rattle.std.specs.Prelude.{IfSome}
 use Rattle.std.specs.Borrow.{Bor}
 use Rattle.std.proofs.lemmas.List.{length-map, take_all}
-use Rattle.gpu_trace_lines.specs.Words.{texts}
+use Rattle.gpu_trace_text.specs.Words.{texts}
 use Rattle.gpu_trace_text.specs.declared.replay.Replayed.{Replayed}
 use Rattle.gpu_trace_text.specs.declared.replay.Replayed.TheVariants as replayed
 use Rattle.gpu_trace_text.specs.declared.outcome.Outcome.{Outcome}

@@ -1,3 +1,8 @@
+pub mod Numbers
+pub mod Commands
+pub mod Hexed
+pub mod Canonical
+pub mod Settings
 pub mod Runs
 mod Input
 pub mod Leading

@@ -1,2 +1,12 @@
+pub mod Words
+pub mod BlockCommand
+pub mod BlockReply
+pub mod Hex
+pub mod Setting
+pub mod Ask
+pub mod DeviceReply
+pub mod Line
+pub mod Sort
+pub mod Reply
 pub mod Run
 pub mod Replay

@@ -2,12 +2,20 @@
 //! first bad one; and how far a whole trace comes.
 #![tactic(auto)]
 
+mod block;
+pub mod device;
+mod hex;
+mod line;
 mod outcome;
 mod replay;
+mod reply;
 mod run;
 mod trace;
+pub mod words;
 
+pub use line::{Line, ascii, read};
 pub use outcome::Outcome;
 pub use replay::{Replayed, replay_trace};
+pub use reply::Reply;
 pub use run::{LIMIT, TraceError, lines_in, read_trace, run_trace};
 pub use trace::Trace;

@@ -1,7 +1,7 @@
 //! How far a whole trace comes, for programs that look at that and write no replies.
 
 ghost use Rattle.std.specs.Prelude.{IfOk, IfSome};
-ghost use Rattle.gpu_trace_lines.specs.Words.{texts};
+ghost use Rattle.gpu_trace_text.specs.Words.{texts};
 ghost use Rattle.gpu_trace_text.specs.Replay.{Replays, ReplaysTrace};
 
 use crate::run::{LIMIT, TraceError, lines_in, read_trace};

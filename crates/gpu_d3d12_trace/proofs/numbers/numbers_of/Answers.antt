@@ -1,6 +1,6 @@
 use Rattle.std.proofs.Common.{◌≡◌, ◌==◌, ◌∙◌, ap}
 use Rattle.std.specs.List.{slice_split}
-use Rattle.gpu_trace_lines.specs.Words.{texts}
+use Rattle.gpu_trace_text.specs.Words.{texts}
 use Rattle.gpu_d3d12_trace.proofs.Parts.{all_spelled, not_spelled}
 use Rattle.gpu_d3d12_trace.proofs.numbers.numbers_of.Goals as goal
 

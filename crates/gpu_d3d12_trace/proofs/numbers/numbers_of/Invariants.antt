@@ -1,7 +1,7 @@
 use Rattle.std.proofs.Common.{◌≡◌, ◌<◌, ◌^◌, map, take}
 use Rattle.std.specs.Fmt.{decimal}
 use Rattle.std.specs.List.{All}
-use Rattle.gpu_trace_lines.specs.Words.{texts}
+use Rattle.gpu_trace_text.specs.Words.{texts}
 use Rattle.gpu_d3d12_trace.proofs.numbers.numbers_of.Given as goal
 
 abbrev pub invariant-loop-part : goal.invariant-loop-part

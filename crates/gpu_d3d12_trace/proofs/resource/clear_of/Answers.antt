@@ -1,6 +1,6 @@
 use Rattle.std.proofs.Common.{◌≢◌, ◌∙◌, ap, length}
 use Rattle.std.specs.Prelude.{codes}
-use Rattle.gpu_trace_lines.proofs.Canonical.{differ}
+use Rattle.gpu_trace_text.proofs.Canonical.{differ}
 use Rattle.gpu_d3d12_trace.proofs.Meaning.{no_clear, not_five}
 use Rattle.gpu_d3d12_trace.proofs.resource.clear_of.Goals as goal
 

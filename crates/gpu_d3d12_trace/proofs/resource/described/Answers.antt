@@ -1,5 +1,5 @@
 use Rattle.std.proofs.Common.{◌∷◌, ap, sym}
-use Rattle.gpu_trace_lines.specs.Ask.{location_word}
+use Rattle.gpu_trace_text.specs.Ask.{location_word}
 use Rattle.gpu_d3d12_trace.specs.Resource.{place_word, category_word}
 use Rattle.gpu_d3d12_trace.proofs.Meaning.{nine_are}
 use Rattle.gpu_d3d12_trace.proofs.resource.described.Goals as goal

@@ -1,6 +1,6 @@
 use Rattle.std.proofs.Common.{◌≢◌, ◌∙◌, arith}
 use Rattle.std.specs.Prelude.{codes}
-use Rattle.gpu_trace_lines.proofs.Canonical.{differ}
+use Rattle.gpu_trace_text.proofs.Canonical.{differ}
 use Rattle.gpu_d3d12_trace.proofs.Meaning.{no_formats, too_many, formats_spelled}
 use Rattle.gpu_d3d12_trace.proofs.resource.formats_of.Goals as goal
 

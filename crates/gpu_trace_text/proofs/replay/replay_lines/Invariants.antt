@@ -1,5 +1,5 @@
 use Rattle.std.proofs.Common.{take}
-use Rattle.gpu_trace_lines.specs.Words.{texts}
+use Rattle.gpu_trace_text.specs.Words.{texts}
 use Rattle.gpu_trace_text.specs.Replay.{LeadTo}
 use Rattle.gpu_trace_text.proofs.replay.replay_lines.Given as goal
 

@@ -1,5 +1,5 @@
 use Rattle.std.proofs.Common.{rules, ◌≡◌, ◌∙◌, ap, ◌<◌, ◌≤◌, length}
-use Rattle.gpu_trace_lines.specs.Words.{texts}
+use Rattle.gpu_trace_text.specs.Words.{texts}
 use Rattle.gpu_trace_text.specs.Run.{lines_of, longest_trace}
 use Rattle.gpu_trace_text.proofs.Input.{too_long, all_read}
 use Rattle.gpu_trace_text.proofs.run.run.Goals as goal

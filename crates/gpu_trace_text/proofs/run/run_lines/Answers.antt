@@ -1,6 +1,6 @@
 use Rattle.std.proofs.Common.{sym}
 use Rattle.std.proofs.lemmas.List.{length-map}
-use Rattle.gpu_trace_lines.specs.Words.{texts}
+use Rattle.gpu_trace_text.specs.Words.{texts}
 use Rattle.gpu_trace_text.proofs.Runs.{line_done, bad_done, at_end}
 use Rattle.gpu_trace_text.proofs.run.run_lines.Goals as goal
 

@@ -1,4 +1,4 @@
-use Rattle.gpu_trace_lines.specs.Words.{texts}
+use Rattle.gpu_trace_text.specs.Words.{texts}
 use Rattle.gpu_trace_text.proofs.Runs.{SoFar}
 use Rattle.gpu_trace_text.proofs.run.run_lines.Given as goal
 

@@ -1,5 +1,0 @@
-pub mod Numbers
-pub mod Commands
-pub mod Hexed
-pub mod Canonical
-pub mod Settings

@@ -1,5 +1,0 @@
-use Rattle.std.proofs.Common.{rules}
-use Rattle.gpu_trace_lines.proofs.block.reply.write_reply.Goals as goal
-
-pub returns-in-Taken : goal.returns-in-Taken
-returns-in-Taken g c = search rules

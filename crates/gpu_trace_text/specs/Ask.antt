@@ -1,0 +1,90 @@
+-- What a command of a device trace says. Each has one spelling: its words, with decimal numbers and no leading zeros.
+use Rattle.std.specs.Prelude.{◌≡◌, ℕ, ◌<◌, ◌≤◌, ◌^◌, List, [], ◌∷◌, ◌++◌, length, Bool, true, false, Option, Some, None, codes, string_bytes}
+use Rattle.std.specs.Fmt.{decimal}
+use Rattle.gpu_values.specs.declared.memory_location.MemoryLocation.{MemoryLocation}
+use Rattle.gpu_values.specs.declared.memory_location.MemoryLocation.TheVariants.{Unknown, GpuOnly, CpuToGpu, GpuToCpu}
+use Rattle.gpu_device.specs.declared.vulkan.types.AllocationScheme.{AllocationScheme}
+use Rattle.gpu_device.specs.declared.vulkan.types.AllocationScheme.TheVariants.{DedicatedBuffer, DedicatedImage, GpuAllocatorManaged}
+use Rattle.gpu_device.specs.declared.vulkan.types.MemoryRequirements.{MemoryRequirements}
+use Rattle.gpu_run.specs.declared.vulkan.command.Command.{Command}
+use Rattle.gpu_run.specs.declared.vulkan.command.Command.TheVariants.{Alloc, Null, Free, Rename, Write, Read, Report, Leaks, Capacity, SetBudget}
+use Rattle.gpu_trace_text.specs.Hex.{hex, AreBytes}
+use Rattle.gpu_trace_text.specs.Words.{IsName}
+
+abbrev pub location_word : MemoryLocation → List ℕ
+location_word Unknown = codes "Unknown"
+location_word GpuOnly = codes "GpuOnly"
+location_word CpuToGpu = codes "CpuToGpu"
+location_word GpuToCpu = codes "GpuToCpu"
+
+abbrev pub linear_word : Bool → List ℕ
+linear_word true = codes "linear"
+linear_word false = codes "nonlinear"
+
+abbrev pub scheme_word : AllocationScheme → List ℕ
+scheme_word GpuAllocatorManaged = codes "managed"
+scheme_word (DedicatedBuffer b) = codes "buffer:" ++ decimal b.0
+scheme_word (DedicatedImage i) = codes "image:" ++ decimal i.0
+
+abbrev pub budget_word : Option ℕ → List ℕ
+budget_word None = codes "none"
+budget_word (Some bytes) = decimal bytes
+
+-- `report` is a line of block traces too, and is read there
+abbrev pub words : Command → List (List ℕ)
+words (Alloc key r location linear scheme name) =
+    codes "alloc" ∷ decimal key ∷ decimal r.size ∷ decimal r.alignment ∷ decimal r.memory_type_bits ∷ location_word location ∷ linear_word linear ∷ scheme_word scheme ∷ string_bytes name ∷ []
+words (Null key) = codes "null" ∷ decimal key ∷ []
+words (Free key) = codes "free" ∷ decimal key ∷ []
+words (Rename key name) = codes "rename" ∷ decimal key ∷ string_bytes name ∷ []
+words (Write key at bytes) = codes "write" ∷ decimal key ∷ decimal at ∷ hex bytes.items ∷ []
+words (Read key at size) = codes "read" ∷ decimal key ∷ decimal at ∷ decimal size ∷ []
+words Report = codes "report" ∷ []
+words Leaks = codes "leaks" ∷ []
+words Capacity = codes "capacity" ∷ []
+words (SetBudget t budget) = codes "budget" ∷ decimal t ∷ budget_word budget ∷ []
+
+abbrev pub FitsScheme : AllocationScheme → Type 0
+FitsScheme GpuAllocatorManaged = Unit {0}
+FitsScheme (DedicatedBuffer b) = b.0 < 2 ^ 64
+FitsScheme (DedicatedImage i) = i.0 < 2 ^ 64
+
+pub record FitsRequirements (r : MemoryRequirements) : Type 0 where
+  pub size_fits : r.size < 2 ^ 64
+  pub alignment_fits : r.alignment < 2 ^ 64
+  pub bits_fit : r.memory_type_bits < 2 ^ 32
+
+-- 1 to 4096
+abbrev pub IsLength : ℕ → Type 0
+IsLength n = (0 < n) × (n ≤ 4096)
+
+pub record IsPayload (bytes : List ℕ) : Type 0 where
+  pub are_bytes : AreBytes bytes
+  pub is_length : IsLength (length bytes)
+
+abbrev pub FitsBudget : Option ℕ → Type 0
+FitsBudget None = Unit {0}
+FitsBudget (Some bytes) = bytes < 2 ^ 64
+
+-- what a command's numbers, names and bytes may be
+abbrev pub Fits : Command → Type 0
+Fits (Alloc key r location linear scheme name) = (key < 2 ^ 64) × FitsRequirements r × FitsScheme scheme × IsName (string_bytes name)
+Fits (Null key) = key < 2 ^ 64
+Fits (Free key) = key < 2 ^ 64
+Fits (Rename key name) = (key < 2 ^ 64) × IsName (string_bytes name)
+Fits (Write key at bytes) = (key < 2 ^ 64) × (at < 2 ^ 64) × IsPayload bytes.items
+Fits (Read key at size) = (key < 2 ^ 64) × (at < 2 ^ 64) × IsLength size
+Fits Report = ⊥
+Fits Leaks = Unit {0}
+Fits Capacity = Unit {0}
+Fits (SetBudget t budget) = (t < 2 ^ 64) × FitsBudget budget
+
+-- these words are the command's
+pub record Spells (line : List (List ℕ)) (c : Command) : Type 0 where
+  pub is : line ≡ words c
+  pub fits : Fits c
+
+-- the words are this command's, or no command's
+abbrev pub Says : List (List ℕ) → Option Command → Type 0
+Says line (Some c) = Spells line c
+Says line None = (c : Command) → Spells line c → ⊥

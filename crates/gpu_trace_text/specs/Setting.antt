@@ -1,0 +1,54 @@
+-- What a configuration line of a device trace says. Each has one spelling: its words, with decimal numbers and no leading zeros.
+use Rattle.std.specs.Prelude.{◌≡◌, ℕ, ◌<◌, ◌^◌, List, [], ◌∷◌, Option, Some, None, codes, FitsSigned}
+use Rattle.std.specs.Int.{w32}
+use Rattle.std.specs.Fmt.{decimal, signed_decimal}
+use Rattle.gpu_values.specs.Sizes.{Sizes, only_size, with_largest}
+use Rattle.gpu_sim_base.specs.declared.script.Refusal.{Refusal}
+use Rattle.gpu_sim_base.specs.declared.script.Refusal.TheVariants.{Code, Null}
+use Rattle.gpu_trace_text.specs.declared.device.setting.Setting.{Setting}
+use Rattle.gpu_trace_text.specs.declared.device.setting.Setting.TheVariants.{Heap, MemoryType, Granularity, Sizes as BlockSizes, Refuse}
+
+abbrev pub refusal_word : Refusal → List ℕ
+refusal_word (Code code) = signed_decimal code
+refusal_word Null = codes "null"
+
+abbrev pub words : Setting → List (List ℕ)
+words (Heap size) = codes "heap" ∷ decimal size ∷ []
+words (MemoryType flags heap) = codes "type" ∷ decimal flags ∷ decimal heap ∷ []
+words (Granularity bytes) = codes "granularity" ∷ decimal bytes ∷ []
+words (BlockSizes device host max_device max_host) = codes "sizes" ∷ decimal device ∷ decimal host ∷ decimal max_device ∷ decimal max_host ∷ []
+words (Refuse question refusal) = codes "refuse" ∷ decimal question ∷ refusal_word refusal ∷ []
+
+abbrev pub FitsRefusal : Refusal → Type 0
+FitsRefusal (Code code) = FitsSigned w32 code
+FitsRefusal Null = Unit {0}
+
+-- what its numbers may be; questions are counted from 1
+abbrev pub Fits : Setting → Type 0
+Fits (Heap size) = size < 2 ^ 64
+Fits (MemoryType flags heap) = (flags < 2 ^ 32) × (heap < 2 ^ 32)
+Fits (Granularity bytes) = bytes < 2 ^ 64
+Fits (BlockSizes device host max_device max_host) = (device < 2 ^ 64) × (host < 2 ^ 64) × (max_device < 2 ^ 64) × (max_host < 2 ^ 64)
+Fits (Refuse question refusal) = (0 < question) × (question < 2 ^ 64) × FitsRefusal refusal
+
+-- these words are the setting's
+pub record Spells (line : List (List ℕ)) (s : Setting) : Type 0 where
+  pub is : line ≡ words s
+  pub fits : Fits s
+
+-- the words are this setting's, or no setting's
+abbrev pub Says : List (List ℕ) → Option Setting → Type 0
+Says line (Some s) = Spells line s
+Says line None = (s : Setting) → Spells line s → ⊥
+
+-- the sizes of blocks that a line stands for: on each side they begin at one size and double up to another
+abbrev pub sizes_of : (device host max_device max_host : ℕ) → Sizes
+sizes_of device host max_device max_host = record { device = with_largest (only_size device) max_device; host = with_largest (only_size host) max_host }
+
+-- block sizes and refusals are lines of each sort of traces over a device
+abbrev pub IsShared : Setting → Type 0
+IsShared (Heap size) = ⊥
+IsShared (MemoryType flags heap) = ⊥
+IsShared (Granularity bytes) = ⊥
+IsShared (BlockSizes device host max_device max_host) = Unit {0}
+IsShared (Refuse question refusal) = Unit {0}

@@ -1,0 +1,284 @@
+//! What a command of a device trace says.
+
+ghost use Rattle.std.specs.Prelude.{◌≡◌, ◌≢◌, ℕ, ◌<◌, ◌^◌, ◌∷◌, List, Bool, Option, IfOk, MatchOption, IsTrue, ◌↔◌, codes};
+ghost use Rattle.std.specs.Fmt.{decimal};
+ghost use Rattle.gpu_values.specs.declared.memory_location.MemoryLocation.{MemoryLocation};
+ghost use Rattle.gpu_device.specs.declared.vulkan.types.AllocationScheme.{AllocationScheme};
+ghost use Rattle.gpu_trace_text.specs.Hex.{hex, AreBytes};
+ghost use Rattle.gpu_trace_text.specs.Words.{texts};
+ghost use Rattle.gpu_trace_text.specs.Ask.{location_word, linear_word, scheme_word, budget_word, FitsScheme, FitsBudget, IsLength, IsPayload, Says};
+
+use crate::hex;
+use crate::words::{name_of, number, small_number};
+use gpu_run::vulkan::Command;
+use gpu_device::vulkan::{AllocationScheme, Buffer, Image, MemoryRequirements};
+use gpu_values::MemoryLocation;
+use std::alloc::{AllocError, Global};
+
+/// The location that a word names.
+pub fn location_of(word: &str) -> Option<MemoryLocation>
+    ensures { MatchOption result ((l : MemoryLocation) → word.now ≢ location_word l) (λ l. word.now ≡ location_word l) }
+{
+    match word {
+        "Unknown" => Some(MemoryLocation::Unknown),
+        "GpuOnly" => Some(MemoryLocation::GpuOnly),
+        "CpuToGpu" => Some(MemoryLocation::CpuToGpu),
+        "GpuToCpu" => Some(MemoryLocation::GpuToCpu),
+        _ => None,
+    }
+}
+
+fn is_linear(word: &str) -> Option<bool>
+    ensures { MatchOption result ((l : Bool) → word.now ≢ linear_word l) (λ l. word.now ≡ linear_word l) }
+{
+    match word {
+        "linear" => Some(true),
+        "nonlinear" => Some(false),
+        _ => None,
+    }
+}
+
+fn scheme_of(word: &str) -> Option<AllocationScheme>
+    ensures { MatchOption result ((s : AllocationScheme) → FitsScheme s → word.now ≢ scheme_word s) (λ s. FitsScheme s × (word.now ≡ scheme_word s)) }
+{
+    if word == "managed" {
+        return Some(AllocationScheme::GpuAllocatorManaged);
+    }
+    if let Some(digits) = word.strip_prefix("buffer:") {
+        return Some(AllocationScheme::DedicatedBuffer(Buffer(number(digits)?)));
+    }
+    if let Some(digits) = word.strip_prefix("image:") {
+        return Some(AllocationScheme::DedicatedImage(Image(number(digits)?)));
+    }
+    None
+}
+
+/// What is asked of the memory, in three words.
+fn requirements_of(size: &str, alignment: &str, bits: &str) -> Option<MemoryRequirements>
+    ensures { MatchOption result ((a b : ℕ) (c : ℕ) → a < 2 ^ 64 → b < 2 ^ 64 → c < 2 ^ 32 → size.now ≡ decimal a → alignment.now ≡ decimal b → bits.now ≢ decimal c)
+        (λ r. (size.now ≡ decimal r.size) × (alignment.now ≡ decimal r.alignment) × (bits.now ≡ decimal r.memory_type_bits)) }
+{
+    let size = number(size)?;
+    let alignment = number(alignment)?;
+    let memory_type_bits = small_number(bits)?;
+    Some(MemoryRequirements {
+        size,
+        alignment,
+        memory_type_bits,
+    })
+}
+
+/// The second half of a request, behind its number and what it asks of the memory.
+fn request_of(
+    alloc: Global,
+    key: u64,
+    requirements: MemoryRequirements,
+    arguments: &[&str],
+) -> Result<Option<Command>, AllocError>
+    ensures { IfOk result (λ found. Says (codes "alloc" ∷ decimal key ∷ decimal requirements.size ∷ decimal requirements.alignment
+        ∷ decimal requirements.memory_type_bits ∷ texts arguments.now) found) }
+{
+    let [location, linear, scheme, name] = arguments else {
+        return Ok(None);
+    };
+    let Some(location) = location_of(location) else {
+        return Ok(None);
+    };
+    let Some(linear) = is_linear(linear) else {
+        return Ok(None);
+    };
+    let Some(scheme) = scheme_of(scheme) else {
+        return Ok(None);
+    };
+    let Some(name) = name_of(alloc, name)? else {
+        return Ok(None);
+    };
+    Ok(Some(Command::Alloc {
+        key,
+        requirements,
+        location,
+        linear,
+        scheme,
+        name,
+    }))
+}
+
+fn alloc(alloc: Global, arguments: &[&str]) -> Result<Option<Command>, AllocError>
+    ensures { IfOk result (λ found. Says (codes "alloc" ∷ texts arguments.now) found) }
+{
+    let [key, size, alignment, bits, rest @ ..] = arguments else {
+        return Ok(None);
+    };
+    let Some(key) = number(key) else {
+        return Ok(None);
+    };
+    let Some(requirements) = requirements_of(size, alignment, bits) else {
+        return Ok(None);
+    };
+    request_of(alloc, key, requirements, rest)
+}
+
+fn null(arguments: &[&str]) -> Option<Command>
+    ensures { Says (codes "null" ∷ texts arguments.now) result }
+{
+    let [key] = arguments else {
+        return None;
+    };
+    let key = number(key)?;
+    Some(Command::Null { key })
+}
+
+fn free(arguments: &[&str]) -> Option<Command>
+    ensures { Says (codes "free" ∷ texts arguments.now) result }
+{
+    let [key] = arguments else {
+        return None;
+    };
+    let key = number(key)?;
+    Some(Command::Free { key })
+}
+
+fn rename(alloc: Global, arguments: &[&str]) -> Result<Option<Command>, AllocError>
+    ensures { IfOk result (λ found. Says (codes "rename" ∷ texts arguments.now) found) }
+{
+    let [key, name] = arguments else {
+        return Ok(None);
+    };
+    let Some(key) = number(key) else {
+        return Ok(None);
+    };
+    let Some(name) = name_of(alloc, name)? else {
+        return Ok(None);
+    };
+    Ok(Some(Command::Rename { key, name }))
+}
+
+/// Whether so many bytes may be written or read by one line.
+fn is_length(size: u64) -> bool
+    ensures { IsTrue result ↔ IsLength size }
+{
+    size > 0 && size <= 4096
+}
+
+/// Whether so many bytes may be written by one line. That they are bytes is known of each slice.
+fn may_be_written(bytes: &[u8]) -> bool
+    ensures bytes { AreBytes bytes.now }
+    ensures test { IsTrue result ↔ IsPayload bytes.now }
+{
+    is_length(bytes.len() as u64)
+}
+
+fn payload(alloc: Global, word: &str) -> Result<Option<Vec<u8>>, AllocError>
+    ensures { IfOk result (λ found. MatchOption found ((bs : List ℕ) → IsPayload bs → word.now ≢ hex bs) (λ v. IsPayload v.items × (word.now ≡ hex v.items))) }
+{
+    let Some(bytes) = hex::decode(alloc, word.as_bytes())? else {
+        return Ok(None);
+    };
+    if may_be_written(&bytes) {
+        Ok(Some(bytes))
+    } else {
+        Ok(None)
+    }
+}
+
+fn write(alloc: Global, arguments: &[&str]) -> Result<Option<Command>, AllocError>
+    ensures { IfOk result (λ found. Says (codes "write" ∷ texts arguments.now) found) }
+{
+    let [key, at, digits] = arguments else {
+        return Ok(None);
+    };
+    let Some(key) = number(key) else {
+        return Ok(None);
+    };
+    let Some(at) = number(at) else {
+        return Ok(None);
+    };
+    let Some(bytes) = payload(alloc, digits)? else {
+        return Ok(None);
+    };
+    Ok(Some(Command::Write { key, at, bytes }))
+}
+
+fn size_of(word: &str) -> Option<u64>
+    ensures { MatchOption result ((n : ℕ) → IsLength n → word.now ≢ decimal n) (λ n. IsLength n × (word.now ≡ decimal n)) }
+{
+    let size = number(word)?;
+    if is_length(size) { Some(size) } else { None }
+}
+
+fn read(arguments: &[&str]) -> Option<Command>
+    ensures { Says (codes "read" ∷ texts arguments.now) result }
+{
+    let [key, at, size] = arguments else {
+        return None;
+    };
+    let key = number(key)?;
+    let at = number(at)?;
+    let size = size_of(size)?;
+    Some(Command::Read { key, at, size })
+}
+
+fn leaks(arguments: &[&str]) -> Option<Command>
+    ensures { Says (codes "leaks" ∷ texts arguments.now) result }
+{
+    let [] = arguments else {
+        return None;
+    };
+    Some(Command::Leaks)
+}
+
+fn capacity(arguments: &[&str]) -> Option<Command>
+    ensures { Says (codes "capacity" ∷ texts arguments.now) result }
+{
+    let [] = arguments else {
+        return None;
+    };
+    Some(Command::Capacity)
+}
+
+/// A budget: a number of bytes, or `none`.
+pub fn budget_of(word: &str) -> Option<Option<u64>>
+    ensures { MatchOption result ((b : Option ℕ) → FitsBudget b → word.now ≢ budget_word b) (λ b. FitsBudget b × (word.now ≡ budget_word b)) }
+{
+    if word == "none" {
+        return Some(None);
+    }
+    let bytes = number(word)?;
+    Some(Some(bytes))
+}
+
+fn budget(arguments: &[&str]) -> Option<Command>
+    ensures { Says (codes "budget" ∷ texts arguments.now) result }
+{
+    let [memory_type, budget] = arguments else {
+        return None;
+    };
+    let memory_type = number(memory_type)?;
+    let budget = budget_of(budget)?;
+    Some(Command::SetBudget {
+        memory_type,
+        budget,
+    })
+}
+
+/// The command that a line's words say, or `None` where they say none. Only host memory can be refused.
+pub fn command_of(
+    global: Global,
+    verb: &str,
+    arguments: &[&str],
+) -> Result<Option<Command>, AllocError>
+    ensures { IfOk result (λ found. Says (verb.now ∷ texts arguments.now) found) }
+{
+    match verb {
+        "alloc" => alloc(global, arguments),
+        "null" => Ok(null(arguments)),
+        "free" => Ok(free(arguments)),
+        "rename" => rename(global, arguments),
+        "write" => write(global, arguments),
+        "read" => Ok(read(arguments)),
+        "leaks" => Ok(leaks(arguments)),
+        "capacity" => Ok(capacity(arguments)),
+        "budget" => Ok(budget(arguments)),
+        _ => Ok(None),
+    }
+}
