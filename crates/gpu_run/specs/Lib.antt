@@ -2,3 +2,8 @@ pub mod BlockCommand
 pub mod ErrorNumber
 pub mod Bindings
 pub mod Run
+pub mod VulkanCommand
+pub mod VulkanReply
+pub mod VulkanSession
+pub mod VulkanServed
+pub mod VulkanLaws

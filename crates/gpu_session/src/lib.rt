@@ -11,4 +11,4 @@ pub use gpu_run::{Machine, run};
 pub use gpu_trace_run::{BlockStage, Configuration, Stage};
 pub use gpu_trace_sorts::{AnyReply, AnyTrace, replay_trace, run_trace};
 pub use gpu_trace_text::{Outcome, Replayed, Trace, TraceError};
-pub use gpu_vulkan_session::{Session, laws};
+pub use gpu_run::vulkan::{Session, laws};

@@ -1,4 +1,4 @@
 //! Sessions over the Vulkan allocator.
 
 pub use gpu_run::vulkan::{Command, Given, Reply};
-pub use gpu_vulkan_session::{Session, laws};
+pub use gpu_run::vulkan::{Session, laws};

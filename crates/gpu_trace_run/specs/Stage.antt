@@ -12,10 +12,10 @@ use Rattle.gpu_pool.specs.Handles.{all_handles}
 use Rattle.gpu_vulkan.specs.BlockAnswer.{frees_recorded}
 use Rattle.gpu_vulkan.specs.Blocks.{HoldsJustLiveBlocks}
 use Rattle.gpu_vulkan.specs.Setup.{setup_fault}
-use Rattle.gpu_vulkan_session.specs.Command as session_commands
-use Rattle.gpu_vulkan_session.specs.Command.{SessionCommand}
-use Rattle.gpu_vulkan_session.specs.Session.{SessionInvariant}
-use Rattle.gpu_vulkan_session.specs.Served.{SessionValue, command_of, reply_of, session_of, IsServed}
+use Rattle.gpu_run.specs.VulkanCommand as session_commands
+use Rattle.gpu_run.specs.VulkanCommand.{SessionCommand}
+use Rattle.gpu_run.specs.VulkanSession.{SessionInvariant}
+use Rattle.gpu_run.specs.VulkanServed.{SessionValue, command_of, reply_of, session_of, IsServed}
 use Rattle.gpu_run.specs.declared.block.command.Command as block_commands
 use Rattle.gpu_run.specs.declared.block.command.Command.TheVariants as commands
 use Rattle.gpu_trace_run.specs.declared.block_stage.BlockStage.TheVariants as block_stages

@@ -2,7 +2,7 @@
 
 ghost use Rattle.std.specs.Prelude.{IfOk};
 ghost use Rattle.gpu_trace_text.specs.BlockCommand.{Fits};
-ghost use Rattle.gpu_vulkan_session.specs.Served.{command_of};
+ghost use Rattle.gpu_run.specs.VulkanServed.{command_of};
 ghost use Rattle.gpu_trace_run.specs.Stage.{IsSound, Begins, Does, MatchServed, Ended, FitsLine};
 ghost use Rattle.gpu_trace_run.specs.declared.block_stage.BlockStage.TheVariants as block_stages;
 
@@ -19,7 +19,7 @@ use gpu_trace_text::{Line, Reply};
 use gpu_trace_text::Outcome;
 use gpu_values::AllocatorDebugSettings;
 use gpu_vulkan::{Allocator, AllocatorCreateDesc};
-use gpu_vulkan_session::Session;
+use gpu_run::vulkan::Session;
 use log::Log;
 use std::alloc::{AllocError, Global};
 

@@ -1,0 +1,23 @@
+use Rattle.std.proofs.Common.{Some, refl, ap, sym, subst}
+use Rattle.gpu_values.specs.Refusal.{refusal_of}
+use Rattle.gpu_vulkan.specs.Reply as answers
+use Rattle.gpu_run.specs.VulkanCommand as commands
+use Rattle.gpu_run.specs.VulkanServed.{SessionValue, reply_of, IsServed}
+use Rattle.gpu_run.proofs.VulkanBudgeting.{budget_set}
+use Rattle.gpu_run.proofs.vulkan.session.Session.set_budget.Goals as goal
+use Rattle.gpu_run.proofs.vulkan.session.Session.set_budget.Goals.{in-Ok, in-Err}
+
+pub returns : goal.returns
+returns g c =
+    let V = g.D.VulkanDevice in
+    let s : SessionValue g.row.D.Denot = record { allocator = c.self.inside.allocator; bound = c.self.inside.bound.entries } in
+    let new : SessionValue g.row.D.Denot = record { allocator = c.set_budget.new.self; bound = s.bound } in
+    let reply = reply_of c.match-set_budget.result in
+    subst (λ x. IsServed V (commands.SetBudget c.args.memory_type c.args.budget) reply x new) c.self.view_is
+    (elim c.match-set_budget.branch [
+      | in-Ok w ↦
+          budget_set V s new c.args.memory_type c.args.budget answers.Done reply (ap (λ r. Some (reply_of r)) (sym w.result-is)) refl c.set_budget.ensures.others w.in-Ok.ensures.step
+      | in-Err w ↦
+          budget_set V s new c.args.memory_type c.args.budget (answers.Error (refusal_of w.in-Err.error)) reply (ap (λ r. Some (reply_of r)) (sym w.result-is)) refl
+          c.set_budget.ensures.others w.in-Err.ensures.step
+    ])
