@@ -13,3 +13,4 @@ pub mod VulkanKeptBudgets
 pub mod VulkanBudgeting
 mod VulkanNonInterference
 pub mod VulkanIsolation
+pub mod BlockOwning

@@ -7,3 +7,4 @@ pub mod VulkanReply
 pub mod VulkanSession
 pub mod VulkanServed
 pub mod VulkanLaws
+pub mod BlockSession

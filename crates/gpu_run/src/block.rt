@@ -2,6 +2,8 @@
 
 mod command;
 mod reply;
+mod session;
 
 pub use command::{Command, Kind, Side};
 pub use reply::{Reply, Report};
+pub use session::BlockSession;

@@ -1,4 +1,4 @@
 //! Sessions of one block.
 
-pub use gpu_block_session::BlockSession as Session;
+pub use gpu_run::block::BlockSession as Session;
 pub use gpu_run::block::{Command, Kind, Reply, Report, Side};

@@ -11,7 +11,7 @@ use Rattle.gpu_run.specs.declared.block.reply.Reply.{Reply}
 use Rattle.gpu_run.specs.declared.block.reply.Reply.TheVariants as replies
 use Rattle.gpu_run.specs.BlockCommand.{is_host, type_of_kind}
 use Rattle.gpu_trace_text.specs.Sort.{Sort, opens_block, uses_block, reports}
-use Rattle.gpu_block_session.specs.BlockSession.{unused, Taking, Giving, Reporting}
+use Rattle.gpu_run.specs.BlockSession.{unused, Taking, Giving, Reporting}
 use Rattle.gpu_trace_run.specs.declared.block_stage.BlockStage.{BlockStage}
 use Rattle.gpu_trace_run.specs.declared.block_stage.BlockStage.TheVariants.{Before, Open, Closed}
 

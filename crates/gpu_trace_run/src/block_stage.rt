@@ -4,7 +4,7 @@ ghost use Rattle.std.specs.Prelude.{◌≡◌, ◌<◌, IsTrue};
 ghost use Rattle.std.specs.Int.{is_power_of_two};
 ghost use Rattle.gpu_trace_run.specs.BlockStage.{block_size};
 
-use gpu_block_session::BlockSession;
+use gpu_run::block::BlockSession;
 use gpu_run::ErrorNumber;
 use gpu_run::block::{Command, Reply, Side};
 use gpu_values::AllocationSizes;

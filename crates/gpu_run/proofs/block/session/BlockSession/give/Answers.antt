@@ -2,11 +2,11 @@ use Rattle.std.proofs.Common.{rules, ◌≡◌, ◌∙◌, sym, subst, Some}
 use Rattle.std.specs.Int.NonZero.{non_zero_u64_get}
 use Rattle.gpu_block.specs.Block.{ReleasesIn, IsSoundBlock}
 use Rattle.gpu_block.specs.SubAllocator.{block_of}
-use Rattle.gpu_block_session.specs.BlockSession.{State, piece_at, Giving}
+use Rattle.gpu_run.specs.BlockSession.{State, piece_at, Giving}
 use Rattle.gpu_run.specs.declared.block.reply.Reply.TheVariants.{Given}
-use Rattle.gpu_block_session.proofs.Owning.{owns_released, released_size}
-use Rattle.gpu_block_session.proofs.session.BlockSession.give.Goals as goal
-use Rattle.gpu_block_session.proofs.session.BlockSession.give.Goals.{After-unwrap}
+use Rattle.gpu_run.proofs.BlockOwning.{owns_released, released_size}
+use Rattle.gpu_run.proofs.block.session.BlockSession.give.Goals as goal
+use Rattle.gpu_run.proofs.block.session.BlockSession.give.Goals.{After-unwrap}
 
 abbrev before : After-unwrap → State
 before c = record { block = block_of c.self.inside.block; bound = c.self.inside.bound.entries }

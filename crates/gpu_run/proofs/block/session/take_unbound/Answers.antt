@@ -1,5 +1,5 @@
 use Rattle.std.proofs.Common.{rules}
-use Rattle.gpu_block_session.proofs.session.take_unbound.Goals as goal
+use Rattle.gpu_run.proofs.block.session.take_unbound.Goals as goal
 
 pub returns-in-Ok-clause-taking : goal.returns-in-Ok-clause-taking
 returns-in-Ok-clause-taking c = search rules

@@ -1,8 +1,8 @@
 use Rattle.std.proofs.Common.{rules, ◌∙◌}
 use Rattle.gpu_block.specs.SubAllocator.{block_of}
-use Rattle.gpu_block_session.specs.BlockSession.{State}
-use Rattle.gpu_block_session.proofs.Owning.{owns_after_taking, size_after_taking}
-use Rattle.gpu_block_session.proofs.session.BlockSession.take.Goals as goal
+use Rattle.gpu_run.specs.BlockSession.{State}
+use Rattle.gpu_run.proofs.BlockOwning.{owns_after_taking, size_after_taking}
+use Rattle.gpu_run.proofs.block.session.BlockSession.take.Goals as goal
 
 pub invariant_of-self : goal.invariant_of-self
 invariant_of-self c =

@@ -15,7 +15,7 @@ use Rattle.gpu_block_pieces.specs.FreeList.{Extent}
 use Rattle.gpu_block_pieces.specs.Request.{Request}
 use Rattle.gpu_block.specs.Block.{Block, free_list, dedicated, extents_of, size_of, is_general, TakesIn, ReleasesIn, IsSoundBlock}
 use Rattle.gpu_block_pieces.proofs.Live.{takes_keeps, takes_adds, takes_new_number, releases_keeps}
-use Rattle.gpu_block_session.specs.BlockSession.{State, piece_at, Taking, OwnsPieces}
+use Rattle.gpu_run.specs.BlockSession.{State, piece_at, Taking, OwnsPieces}
 use Rattle.gpu_run.specs.declared.block.reply.Reply.{Reply}
 use Rattle.gpu_run.specs.declared.block.reply.Reply.TheVariants as replies
 

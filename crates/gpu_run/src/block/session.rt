@@ -7,12 +7,12 @@ ghost use Rattle.std.specs.BTreeMap.{get};
 ghost use Rattle.gpu_block_pieces.specs.Request.{request};
 ghost use Rattle.gpu_block.specs.Block.{is_general, HasPages, IsSoundBlock};
 ghost use Rattle.gpu_block.specs.SubAllocator.{block_of};
-ghost use Rattle.gpu_block_session.specs.BlockSession.{Taking};
+ghost use Rattle.gpu_run.specs.BlockSession.{Taking};
 
 use gpu_block::{FreeListAllocator, SubAllocator};
-use gpu_run::block::{Command, Kind, Reply, Report};
-use gpu_run::{ErrorNumber, number_of};
-use gpu_run::Machine;
+use crate::block::{Command, Kind, Reply, Report};
+use crate::{ErrorNumber, number_of};
+use crate::Machine;
 use gpu_values::AllocationType;
 use log::Log;
 use std::alloc::Global;
@@ -42,7 +42,7 @@ pub struct BlockSession {
 
 impl Model for BlockSession {
     ghost use Rattle.std.specs.Prelude.{◌≡◌};
-    ghost use Rattle.gpu_block_session.specs.BlockSession.{State, OwnsPieces};
+    ghost use Rattle.gpu_run.specs.BlockSession.{State, OwnsPieces};
     ghost use Rattle.gpu_block.specs.Block.{size_of, HasPages};
     ghost use Rattle.gpu_block.specs.SubAllocator.{block_of};
 
@@ -55,7 +55,7 @@ impl Model for BlockSession {
 }
 
 impl Machine for BlockSession {
-    ghost use Rattle.gpu_block_session.specs.BlockSession.{Serves};
+    ghost use Rattle.gpu_run.specs.BlockSession.{Serves};
 
     type Command = Command;
 
@@ -88,7 +88,7 @@ impl BlockSession {
     ghost use Rattle.gpu_block_pieces.specs.Request.{request};
     ghost use Rattle.gpu_values.specs.declared.error.AllocationError.TheVariants.{HostOutOfMemory};
     ghost use Rattle.gpu_run.specs.BlockCommand.{type_of_kind};
-    ghost use Rattle.gpu_block_session.specs.BlockSession.{unused, Taking, Giving, Reporting, Serves};
+    ghost use Rattle.gpu_run.specs.BlockSession.{unused, Taking, Giving, Reporting, Serves};
     ghost use Rattle.gpu_run.specs.Run.{IsRun};
 
     /// A block of `size` bytes without pieces. The only refusal is `HostOutOfMemory`.
@@ -165,7 +165,7 @@ impl BlockSession {
         ensures nothing { OnErr result (self.new ≡ self.old) }
         ensures cause { IfErr result (λ e. e ≡ HostOutOfMemory) }
     {
-        gpu_run::run(alloc, self, log, commands)
+        crate::run(alloc, self, log, commands)
     }
 
     /// The live pieces, and the sums.
