@@ -4,8 +4,8 @@ use Rattle.std.specs.Borrow.{Bor}
 use Rattle.std.specs.Fmt.{decimal}
 use Rattle.std.specs.Prelude.{codes}
 use Rattle.gpu_device.specs.declared.metal.types.StorageMode.{StorageMode}
-use Rattle.gpu_metal_session.specs.declared.command.Command.{Command}
-use Rattle.gpu_metal_session.specs.declared.command.Command.TheVariants.{Alloc, Buffer, AccelerationStructure, Texture, Free, Heaps, Commit, Report, Capacity, SetBudget}
+use Rattle.gpu_run.specs.declared.metal.command.Command.{Command}
+use Rattle.gpu_run.specs.declared.metal.command.Command.TheVariants.{Alloc, Buffer, AccelerationStructure, Texture, Free, Heaps, Commit, Report, Capacity, SetBudget}
 use Rattle.gpu_metal_trace.specs.Command as commands
 use Rattle.gpu_metal_trace.specs.Command.{mode_word, FitsMode}
 use Rattle.gpu_trace_text.specs.Words.{texts}

@@ -4,8 +4,8 @@ use Rattle.std.specs.Fmt.{decimal}
 use Rattle.gpu_device.specs.declared.metal.types.StorageMode.{StorageMode}
 use Rattle.gpu_device.specs.declared.metal.types.StorageMode.TheVariants.{Shared, Managed, Private, Memoryless, Other}
 use Rattle.gpu_device.specs.declared.metal.types.TextureDescriptor.{TextureDescriptor}
-use Rattle.gpu_metal_session.specs.declared.command.Command.{Command}
-use Rattle.gpu_metal_session.specs.declared.command.Command.TheVariants.{Alloc, Buffer, AccelerationStructure, Texture, Free, Heaps, Commit, Report, Capacity, SetBudget}
+use Rattle.gpu_run.specs.declared.metal.command.Command.{Command}
+use Rattle.gpu_run.specs.declared.metal.command.Command.TheVariants.{Alloc, Buffer, AccelerationStructure, Texture, Free, Heaps, Commit, Report, Capacity, SetBudget}
 use Rattle.gpu_trace_text.specs.Ask.{location_word, budget_word, FitsBudget}
 use Rattle.gpu_trace_text.specs.Words.{IsName}
 

@@ -6,7 +6,7 @@ use Rattle.gpu_device.specs.declared.metal.types.MTLHeap.{MTLHeap}
 use Rattle.gpu_device.specs.declared.metal.types.MTLResidencySet.{MTLResidencySet}
 use Rattle.gpu_sim_metal.specs.Simulation.{held_of, plan_of, latest_heap_of}
 use Rattle.gpu_sim_metal.specs.declared.sim_metal.SimMetal.{SimMetal}
-use Rattle.gpu_metal_session.specs.Served.{SessionValue}
+use Rattle.gpu_run.specs.MetalServed.{SessionValue}
 use Rattle.gpu_metal_trace.specs.declared.line.Look.{Look}
 use Rattle.gpu_metal_trace.specs.declared.line.Look.TheVariants as looks
 use Rattle.gpu_metal_trace.specs.declared.reply.Reply.{Reply}

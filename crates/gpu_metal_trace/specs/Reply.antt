@@ -8,9 +8,9 @@ use Rattle.gpu_device.specs.declared.metal.types.CpuCacheMode.{CpuCacheMode}
 use Rattle.gpu_device.specs.declared.metal.types.CpuCacheMode.TheVariants.{DefaultCache, WriteCombined}
 use Rattle.gpu_device.specs.declared.metal.types.HeapDescriptor.{HeapDescriptor}
 use Rattle.gpu_device.specs.declared.metal.types.MTLHeap.{MTLHeap}
-use Rattle.gpu_metal_session.specs.declared.reply.Given.{Given}
-use Rattle.gpu_metal_session.specs.declared.reply.Reply as told
-use Rattle.gpu_metal_session.specs.declared.reply.Reply.TheVariants as replies
+use Rattle.gpu_run.specs.declared.metal.reply.Given.{Given}
+use Rattle.gpu_run.specs.declared.metal.reply.Reply as told
+use Rattle.gpu_run.specs.declared.metal.reply.Reply.TheVariants as replies
 use Rattle.gpu_trace_text.specs.DeviceReply.{report_text}
 use Rattle.gpu_metal_trace.specs.Command.{mode_word}
 use Rattle.gpu_metal_trace.specs.declared.reply.Reply.{Reply}

@@ -11,8 +11,8 @@ use Rattle.gpu_device.specs.declared.metal.device.MetalDevice.{Ghosts}
 use Rattle.gpu_device.specs.declared.metal.types.MTLHeap.{MTLHeap}
 use Rattle.gpu_device.specs.declared.metal.types.MTLResidencySet.{MTLResidencySet}
 use Rattle.gpu_metal.specs.Blocks.{residency_of, left_behind}
-use Rattle.gpu_metal_session.specs.Served.{SessionValue, ServesCommand}
-use Rattle.gpu_metal_session.specs.declared.command.Command.{Command}
+use Rattle.gpu_run.specs.MetalServed.{SessionValue, ServesCommand}
+use Rattle.gpu_run.specs.declared.metal.command.Command.{Command}
 use Rattle.gpu_metal.specs.MemoryKinds.{locations}
 use Rattle.gpu_metal.specs.Residency.{MakesSet}
 use Rattle.gpu_metal.specs.Setup.{IsNotMade}

@@ -9,7 +9,7 @@ ghost use Rattle.gpu_trace_text.specs.Words.{texts};
 ghost use Rattle.gpu_metal_trace.specs.Command.{mode_word, FitsMode, Says};
 
 use gpu_device::metal::{StorageMode, TextureDescriptor};
-use gpu_metal_session::Command;
+use gpu_run::metal::Command;
 use gpu_trace_text::device::ask::{budget_of, location_of};
 use gpu_trace_text::words::{name_of, number, small_number};
 use gpu_values::MemoryLocation;

@@ -6,7 +6,7 @@ ghost use Rattle.gpu_metal_trace.specs.Line.{Means, Reads, ReadsAlone};
 
 use crate::command::said_command;
 use crate::setting::{Setting, said_setting};
-use gpu_metal_session::Command;
+use gpu_run::metal::Command;
 use gpu_trace_text::ascii;
 use gpu_trace_text::words::words;
 use std::alloc::{AllocError, Global};

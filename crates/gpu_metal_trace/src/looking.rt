@@ -7,7 +7,7 @@ use crate::line::Look;
 use crate::reply::Reply;
 use gpu_run::ErrorNumber;
 use gpu_device::metal::MTLResidencySet;
-use gpu_metal_session::Session;
+use gpu_run::metal::Session;
 use gpu_sim_metal::SimMetal;
 use std::alloc::Global;
 

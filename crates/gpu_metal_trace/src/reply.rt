@@ -7,7 +7,7 @@ ghost use Rattle.gpu_metal_trace.specs.Reply.{given_text, heap_line, heaps_text,
 
 use gpu_run::{ErrorNumber, number_of};
 use gpu_device::metal::{CpuCacheMode, HeapDescriptor, MTLHeap, StorageMode};
-use gpu_metal_session::{Given, Reply as Told};
+use gpu_run::metal::{Given, Reply as Told};
 use gpu_trace_text::device::reply::write_report;
 use std::fmt;
 

@@ -12,7 +12,7 @@ use crate::setting::Setting;
 use gpu_run::number_of;
 use gpu_device::metal::MTLResidencySet;
 use gpu_metal::{Allocator, AllocatorCreateDesc};
-use gpu_metal_session::{Command, Session};
+use gpu_run::metal::{Command, Session};
 use gpu_run::Machine;
 use gpu_sim_metal::SimMetal;
 use gpu_trace_text::{Outcome, Trace};

@@ -8,7 +8,7 @@ use Rattle.gpu_d3d12_trace.specs.declared.reply.Reply as d3d12_told
 use Rattle.gpu_d3d12_trace.specs.declared.reply.Reply.TheVariants as d3d12_replies
 use Rattle.gpu_d3d12_trace.specs.declared.stage.Stage as d3d12
 use Rattle.gpu_d3d12_trace.specs.declared.stage.Stage.TheVariants as d3d12_stages
-use Rattle.gpu_metal_session.specs.declared.reply.Reply.TheVariants as metal_session_replies
+use Rattle.gpu_run.specs.declared.metal.reply.Reply.TheVariants as metal_session_replies
 use Rattle.gpu_metal_trace.specs.declared.reply.Reply as metal_told
 use Rattle.gpu_metal_trace.specs.declared.reply.Reply.TheVariants as metal_replies
 use Rattle.gpu_metal_trace.specs.declared.stage.Stage as metal

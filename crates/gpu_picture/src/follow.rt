@@ -16,7 +16,7 @@ use gpu_run::vulkan::Reply as VulkanReply;
 use gpu_d3d12_session::Reply as D3D12Reply;
 use gpu_d3d12_trace as d3d12;
 use gpu_memory_types::MemoryTypes;
-use gpu_metal_session::Reply as MetalReply;
+use gpu_run::metal::Reply as MetalReply;
 use gpu_metal_trace as metal;
 use gpu_timeline::{Sample, TimelineSvg, Usage, usage_of};
 use gpu_trace_text::Reply;

@@ -14,3 +14,6 @@ pub mod VulkanBudgeting
 mod VulkanNonInterference
 pub mod VulkanIsolation
 pub mod BlockOwning
+pub mod MetalCounting
+pub mod MetalServing
+pub mod MetalAllocating

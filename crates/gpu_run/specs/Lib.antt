@@ -8,3 +8,8 @@ pub mod VulkanSession
 pub mod VulkanServed
 pub mod VulkanLaws
 pub mod BlockSession
+pub mod MetalCommand
+pub mod MetalDescribe
+pub mod MetalReply
+pub mod MetalSession
+pub mod MetalServed

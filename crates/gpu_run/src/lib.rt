@@ -5,6 +5,7 @@ mod bindings;
 pub mod block;
 mod error_number;
 mod machine;
+pub mod metal;
 pub mod vulkan;
 
 pub use bindings::bind;

@@ -1,7 +1,7 @@
 //! A session's lists of commands, with ample memory.
 
 use super::*;
-use gpu_metal_session::{Command, Reply, Session};
+use gpu_run::metal::{Command, Reply, Session};
 
 /// A piece, the heaps, the set committed, the report, a budget, and the piece freed.
 fn commands(alloc: Global) -> std::result::Result<Vec<Command>, AllocError> {

@@ -1,0 +1,33 @@
+-- What a session is asked for.
+use Rattle.std.specs.Prelude.{ℕ, List, Option, string_bytes}
+use Rattle.gpu_run.specs.declared.metal.describe.Wanted.{Wanted}
+use Rattle.gpu_run.specs.declared.metal.describe.Wanted.TheVariants.{Piece, Buffer, AccelerationStructure, Texture}
+use Rattle.gpu_run.specs.declared.metal.command.Command.{Command}
+use Rattle.gpu_run.specs.declared.metal.command.Command.TheVariants as asked
+
+-- a command under a number of the caller's
+pub data KeyCommand : Type 0 where
+  Alloc : (wanted : Wanted) (name : List ℕ) → KeyCommand
+  Free : KeyCommand
+
+-- a command under a number, or one of the whole allocator
+pub data SessionCommand : Type 0 where
+  Under : (key : ℕ) (command : KeyCommand) → SessionCommand
+  Heaps : SessionCommand
+  Commit : SessionCommand
+  Report : SessionCommand
+  Capacity : SessionCommand
+  SetBudget : (memory_type : ℕ) (budget : Option ℕ) → SessionCommand
+
+-- a command without what is of its Rust form alone: a piece and a resource ask for an allocation alike
+abbrev pub command_of : Command → SessionCommand
+command_of (asked.Alloc key size alignment location name) = Under key (Alloc (Piece size alignment location) (string_bytes name))
+command_of (asked.Buffer key length location name) = Under key (Alloc (Buffer length location) (string_bytes name))
+command_of (asked.AccelerationStructure key size location name) = Under key (Alloc (AccelerationStructure size location) (string_bytes name))
+command_of (asked.Texture key texture name) = Under key (Alloc (Texture texture) (string_bytes name))
+command_of (asked.Free key) = Under key Free
+command_of asked.Heaps = Heaps
+command_of asked.Commit = Commit
+command_of asked.Report = Report
+command_of asked.Capacity = Capacity
+command_of (asked.SetBudget t budget) = SetBudget t budget

@@ -1,0 +1,10 @@
+//! Sessions: a Metal allocator whose allocations stand under the caller's own numbers, and that serves lists of commands.
+
+mod command;
+mod describe;
+mod reply;
+mod session;
+
+pub use command::Command;
+pub use reply::{Given, Reply};
+pub use session::Session;
