@@ -1,8 +1,8 @@
 -- What a command of a DirectX 12 trace says. Each has one spelling: its words, with decimal numbers and no leading zeros.
 use Rattle.std.specs.Prelude.{◌≡◌, ℕ, ◌<◌, ◌^◌, List, [], ◌∷◌, Option, Some, None, codes, string_bytes}
 use Rattle.std.specs.Fmt.{decimal}
-use Rattle.gpu_d3d12_session.specs.declared.command.Command.{Command}
-use Rattle.gpu_d3d12_session.specs.declared.command.Command.TheVariants.{Alloc, Free, Rename, Create, Release, Leaks, Report, Capacity, Committed, SetBudget}
+use Rattle.gpu_run.specs.declared.d3d12.command.Command.{Command}
+use Rattle.gpu_run.specs.declared.d3d12.command.Command.TheVariants.{Alloc, Free, Rename, Create, Release, Leaks, Report, Capacity, Committed, SetBudget}
 use Rattle.gpu_trace_text.specs.Ask.{location_word, budget_word, FitsBudget}
 use Rattle.gpu_trace_text.specs.Words.{IsName}
 use Rattle.gpu_d3d12_trace.specs.Resource.{category_word, wanted_words, FitsWanted}

@@ -1,7 +1,7 @@
 -- What a line of a DirectX 12 trace says, whatever came before it.
 use Rattle.std.specs.Prelude.{◌≡◌, ◌≢◌, ℕ, List, [], ◌∷◌, codes}
 use Rattle.std.specs.Str.{IsAscii}
-use Rattle.gpu_d3d12_session.specs.declared.command.Command.{Command}
+use Rattle.gpu_run.specs.declared.d3d12.command.Command.{Command}
 use Rattle.gpu_trace_text.specs.Line.{IsBlank, new_words, destroy_words}
 use Rattle.gpu_trace_text.specs.Words.{words_of}
 use Rattle.gpu_d3d12_trace.specs.Command as command

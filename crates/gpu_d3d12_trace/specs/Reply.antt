@@ -15,10 +15,10 @@ use Rattle.gpu_device.specs.declared.d3d12.types.MemoryPool.{MemoryPool}
 use Rattle.gpu_device.specs.declared.d3d12.types.MemoryPool.TheVariants as pools
 use Rattle.gpu_d3d12.specs.declared.question.CommittedAllocationStatistics.{CommittedAllocationStatistics}
 use Rattle.gpu_d3d12.specs.declared.question.ResourceStateOrBarrierLayout.{ResourceStateOrBarrierLayout}
-use Rattle.gpu_d3d12_session.specs.declared.reply.Given.{Given}
-use Rattle.gpu_d3d12_session.specs.declared.reply.Made.{Made as MadeResource}
-use Rattle.gpu_d3d12_session.specs.declared.reply.Reply as told
-use Rattle.gpu_d3d12_session.specs.declared.reply.Reply.TheVariants as replies
+use Rattle.gpu_run.specs.declared.d3d12.reply.Given.{Given}
+use Rattle.gpu_run.specs.declared.d3d12.reply.Made.{Made as MadeResource}
+use Rattle.gpu_run.specs.declared.d3d12.reply.Reply as told
+use Rattle.gpu_run.specs.declared.d3d12.reply.Reply.TheVariants as replies
 use Rattle.gpu_trace_text.specs.DeviceReply.{leaks_text, report_text}
 use Rattle.gpu_d3d12_trace.specs.Resource.{clear_word, initial_word}
 use Rattle.gpu_d3d12_trace.specs.declared.reply.Reply.{Reply}

@@ -12,9 +12,9 @@ use Rattle.gpu_d3d12.specs.declared.category.ResourceCategory.{ResourceCategory}
 use Rattle.gpu_d3d12.specs.declared.category.ResourceCategory.TheVariants as categories
 use Rattle.gpu_d3d12.specs.declared.question.ResourceStateOrBarrierLayout.{ResourceStateOrBarrierLayout}
 use Rattle.gpu_d3d12.specs.declared.question.ResourceStateOrBarrierLayout.TheVariants.{ResourceState, BarrierLayout}
-use Rattle.gpu_d3d12_session.specs.declared.command.Memory.{Memory}
-use Rattle.gpu_d3d12_session.specs.declared.command.Memory.TheVariants.{Own, Placed}
-use Rattle.gpu_d3d12_session.specs.declared.command.WantedResource.{WantedResource}
+use Rattle.gpu_run.specs.declared.d3d12.command.Memory.{Memory}
+use Rattle.gpu_run.specs.declared.d3d12.command.Memory.TheVariants.{Own, Placed}
+use Rattle.gpu_run.specs.declared.d3d12.command.WantedResource.{WantedResource}
 use Rattle.gpu_trace_text.specs.Ask.{location_word}
 use Rattle.gpu_trace_text.specs.Words.{IsName}
 use Rattle.gpu_d3d12_trace.specs.Numbers.{AreNumbers, numbers_word}

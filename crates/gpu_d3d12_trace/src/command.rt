@@ -6,7 +6,7 @@ ghost use Rattle.gpu_trace_text.specs.Words.{texts};
 ghost use Rattle.gpu_d3d12_trace.specs.Command.{Says};
 
 use crate::resource::{category_of, wanted_of};
-use gpu_d3d12_session::Command;
+use gpu_run::d3d12::Command;
 use gpu_trace_text::device::ask::{budget_of, location_of};
 use gpu_trace_text::words::{name_of, number};
 use std::alloc::{AllocError, Global};

@@ -6,7 +6,7 @@ ghost use Rattle.gpu_d3d12_trace.specs.Line.{Means, Reads, ReadsAlone};
 
 use crate::command::said_command;
 use crate::setting::{Setting, said_setting};
-use gpu_d3d12_session::Command;
+use gpu_run::d3d12::Command;
 use gpu_trace_text::ascii;
 use gpu_trace_text::words::words;
 use std::alloc::{AllocError, Global};

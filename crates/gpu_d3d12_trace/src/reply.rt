@@ -7,7 +7,7 @@ ghost use Rattle.gpu_d3d12_trace.specs.Reply.{heap_text, formats_text, clear_tex
 
 use gpu_run::{ErrorNumber, number_of};
 use gpu_d3d12::{CommittedAllocationStatistics, ResourceStateOrBarrierLayout};
-use gpu_d3d12_session::{Given, Made, Reply as Told};
+use gpu_run::d3d12::{Given, Made, Reply as Told};
 use gpu_device::d3d12::{ClearValue, CpuPageProperty, HeapContent, HeapDesc, HeapType, MemoryPool};
 use gpu_trace_text::device::reply::{write_leaks, write_report};
 use std::fmt;

@@ -8,7 +8,7 @@ ghost use Rattle.gpu_device.specs.declared.d3d12.types.ResourceDesc.{ResourceDes
 ghost use Rattle.gpu_device.specs.declared.d3d12.types.ResourceDimension.{ResourceDimension};
 ghost use Rattle.gpu_d3d12.specs.declared.category.ResourceCategory.{ResourceCategory};
 ghost use Rattle.gpu_d3d12.specs.declared.question.ResourceStateOrBarrierLayout.{ResourceStateOrBarrierLayout};
-ghost use Rattle.gpu_d3d12_session.specs.declared.command.Memory.{Memory};
+ghost use Rattle.gpu_run.specs.declared.d3d12.command.Memory.{Memory};
 ghost use Rattle.gpu_trace_text.specs.Ask.{location_word};
 ghost use Rattle.gpu_trace_text.specs.Words.{texts};
 ghost use Rattle.gpu_d3d12_trace.specs.Resource.{category_word, place_word, dimension_word, initial_word, format_number, formats_word, clear_word};
@@ -16,7 +16,7 @@ ghost use Rattle.gpu_d3d12_trace.specs.Resource.{FitsInitial, FitsFormats, FitsC
 
 use crate::numbers::numbers_of;
 use gpu_d3d12::{ResourceCategory, ResourceStateOrBarrierLayout, heap_properties};
-use gpu_d3d12_session::{Memory, WantedResource};
+use gpu_run::d3d12::{Memory, WantedResource};
 use gpu_device::d3d12::{ClearValue, Format, HeapFlags, ResourceDesc, ResourceDimension};
 use gpu_trace_text::device::ask::location_of;
 use gpu_trace_text::words::{name_of, number, small_number};

@@ -10,7 +10,7 @@ use crate::reply::Reply;
 use crate::setting::Setting;
 use gpu_run::number_of;
 use gpu_d3d12::{Allocator, AllocatorCreateDesc};
-use gpu_d3d12_session::{Command, Session};
+use gpu_run::d3d12::{Command, Session};
 use gpu_run::Machine;
 use gpu_sim_d3d12::SimD3D12;
 use gpu_trace_text::{Outcome, Trace};

@@ -3,7 +3,7 @@ use Rattle.std.specs.Prelude.{◌≡◌, ℕ, ◌+◌, Bool, true, false, List, 
 use Rattle.gpu_block.specs.Block.{Block, size_of, allocated_bytes}
 use Rattle.gpu_run.specs.declared.block.reply.Reply.TheVariants as block_replies
 use Rattle.gpu_run.specs.declared.vulkan.reply.Reply.TheVariants as vulkan_replies
-use Rattle.gpu_d3d12_session.specs.declared.reply.Reply.TheVariants as d3d12_session_replies
+use Rattle.gpu_run.specs.declared.d3d12.reply.Reply.TheVariants as d3d12_session_replies
 use Rattle.gpu_d3d12_trace.specs.declared.reply.Reply as d3d12_told
 use Rattle.gpu_d3d12_trace.specs.declared.reply.Reply.TheVariants as d3d12_replies
 use Rattle.gpu_d3d12_trace.specs.declared.stage.Stage as d3d12

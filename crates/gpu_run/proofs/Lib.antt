@@ -17,3 +17,11 @@ pub mod BlockOwning
 pub mod MetalCounting
 pub mod MetalServing
 pub mod MetalAllocating
+mod D3D12Allocating
+mod D3D12Counting
+mod D3D12Creating
+mod D3D12Growing
+mod D3D12Naming
+mod D3D12Owning
+mod D3D12Records
+mod D3D12Serving

@@ -13,3 +13,8 @@ pub mod MetalDescribe
 pub mod MetalReply
 pub mod MetalSession
 pub mod MetalServed
+pub mod D3D12Command
+pub mod D3D12Describe
+pub mod D3D12Reply
+pub mod D3D12Session
+pub mod D3D12Served

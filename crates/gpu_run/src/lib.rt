@@ -3,6 +3,7 @@
 
 mod bindings;
 pub mod block;
+pub mod d3d12;
 mod error_number;
 mod machine;
 pub mod metal;

@@ -2,7 +2,7 @@
 
 use super::resources::IN_STATE;
 use super::*;
-use gpu_d3d12_session::{Command, Memory, Reply, Session, WantedResource};
+use gpu_run::d3d12::{Command, Memory, Reply, Session, WantedResource};
 use gpu_device::d3d12::{CpuPageProperty, HeapFlags, HeapProperties, HeapType, MemoryPool};
 
 /// The properties of a committed resource in the GPU's memory.

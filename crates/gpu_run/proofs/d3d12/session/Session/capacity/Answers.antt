@@ -1,0 +1,22 @@
+use Rattle.std.proofs.Common.{refl, subst}
+use Rattle.gpu_pool.specs.Reply as answers
+use Rattle.gpu_pool.specs.Step as calls
+use Rattle.gpu_d3d12.specs.Reply as module_replies
+use Rattle.gpu_d3d12.specs.State.{basis_of, model_of}
+use Rattle.gpu_d3d12.specs.Step as model
+use Rattle.gpu_run.specs.D3D12Command as commands
+use Rattle.gpu_run.specs.D3D12Reply as replies
+use Rattle.gpu_run.specs.D3D12Served.{SessionValue, IsAnswered}
+use Rattle.gpu_run.proofs.D3D12Counting.{pool_leaves}
+use Rattle.gpu_run.proofs.D3D12Serving.{told}
+use Rattle.gpu_run.proofs.d3d12.session.Session.capacity.Goals as goal
+
+pub returns : goal.returns
+returns g c =
+    let V = g.D.D3D12Device in
+    let s : SessionValue g.row.D.Denot = record { allocator = c.self.inside.allocator; bound = c.self.inside.bound.entries; resources = c.self.inside.resources.entries } in
+    let step = c.capacity.ensures.step in
+    let reply = module_replies.Pool (answers.Capacity c.capacity.result) in
+    let count = (pool_leaves (basis_of V s.allocator) calls.Capacity step.environment reply (model_of V s.allocator) (model_of V s.allocator) step.step).count in
+    subst (λ x. IsAnswered V commands.Capacity (replies.Capacity c.capacity.result) x x) c.self.view_is
+    (told V g.met.D.D3D12Device.refused_is model.Capacity reply (replies.Capacity c.capacity.result) commands.Capacity s s refl refl refl refl refl step count (λ a. a) refl)

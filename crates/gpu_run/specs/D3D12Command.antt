@@ -1,0 +1,41 @@
+-- What a session is asked for.
+use Rattle.std.specs.Prelude.{ℕ, List, Option, string_bytes}
+use Rattle.gpu_run.specs.D3D12Describe.{Wanted}
+use Rattle.gpu_run.specs.declared.d3d12.command.Command.{Command}
+use Rattle.gpu_run.specs.declared.d3d12.command.Command.TheVariants as asked
+use Rattle.gpu_run.specs.declared.d3d12.command.WantedResource.{WantedResource}
+
+-- a command under a number of an allocation
+pub data KeyCommand : Type 0 where
+  Alloc : (wanted : Wanted) → KeyCommand
+  Free : KeyCommand
+  Rename : (name : List ℕ) → KeyCommand
+
+-- a command under a number of a resource
+pub data ResourceCommand : Type 0 where
+  Create : (wanted : WantedResource) → ResourceCommand
+  Release : ResourceCommand
+
+-- a command to a session
+pub data SessionCommand : Type 0 where
+  Under : (key : ℕ) (command : KeyCommand) → SessionCommand
+  UnderResource : (key : ℕ) (command : ResourceCommand) → SessionCommand
+  Leaks : SessionCommand
+  Report : SessionCommand
+  Capacity : SessionCommand
+  Committed : (memory_type : ℕ) → SessionCommand
+  SetBudget : (memory_type : ℕ) (budget : Option ℕ) → SessionCommand
+
+-- the command in the words of the model
+abbrev pub command_of : Command → SessionCommand
+command_of (asked.Alloc key size alignment location category name) =
+    Under key (Alloc (record { size = size; alignment = alignment; location = location; category = category; name = string_bytes name }))
+command_of (asked.Free key) = Under key Free
+command_of (asked.Rename key name) = Under key (Rename (string_bytes name))
+command_of (asked.Create key wanted) = UnderResource key (Create wanted)
+command_of (asked.Release key) = UnderResource key Release
+command_of asked.Leaks = Leaks
+command_of asked.Report = Report
+command_of asked.Capacity = Capacity
+command_of (asked.Committed t) = Committed t
+command_of (asked.SetBudget t budget) = SetBudget t budget

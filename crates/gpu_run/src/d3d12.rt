@@ -1,0 +1,11 @@
+//! Sessions: a DirectX 12 allocator whose allocations and resources stand under the caller's own numbers, and that serves lists
+//! of commands.
+
+mod command;
+mod describe;
+mod reply;
+mod session;
+
+pub use command::{Command, Memory, WantedResource};
+pub use reply::{Given, Made, Reply};
+pub use session::Session;
