@@ -11,10 +11,10 @@ use Rattle.gpu_report.specs.declared.view.BlockView.{BlockView}
 use Rattle.gpu_report.specs.View.{ShownBlock, shown, shown_from}
 use Rattle.gpu_report.specs.BlocksJson.{blocks_json}
 use Rattle.gpu_report.specs.BlocksSvg.{blocks_svg}
-use Rattle.gpu_trace_run.specs.declared.block_stage.BlockStage.{BlockStage}
-use Rattle.gpu_trace_run.specs.declared.block_stage.BlockStage.TheVariants as block_stages
-use Rattle.gpu_trace_run.specs.declared.stage.Stage as vulkan
-use Rattle.gpu_trace_run.specs.declared.stage.Stage.TheVariants.{Block, Device}
+use Rattle.gpu_trace_text.specs.declared.block_stage.BlockStage.{BlockStage}
+use Rattle.gpu_trace_text.specs.declared.block_stage.BlockStage.TheVariants as block_stages
+use Rattle.gpu_trace_text.specs.declared.stage.Stage as vulkan
+use Rattle.gpu_trace_text.specs.declared.stage.Stage.TheVariants.{Block, Device}
 use Rattle.gpu_metal_trace.specs.declared.stage.Stage as metal
 use Rattle.gpu_metal_trace.specs.declared.stage.Stage.TheVariants as metal_stages
 use Rattle.gpu_d3d12_trace.specs.declared.stage.Stage as d3d12

@@ -20,9 +20,9 @@ use Rattle.gpu_timeline.specs.declared.samples.Usage.{Usage}
 use Rattle.gpu_trace_text.specs.declared.device.reply.Reply.TheVariants as device_replies
 use Rattle.gpu_trace_text.specs.declared.reply.Reply as vulkan_told
 use Rattle.gpu_trace_text.specs.declared.reply.Reply.TheVariants as line_replies
-use Rattle.gpu_trace_run.specs.declared.block_stage.BlockStage.TheVariants.{Open}
-use Rattle.gpu_trace_run.specs.declared.stage.Stage as vulkan
-use Rattle.gpu_trace_run.specs.declared.stage.Stage.TheVariants.{Before, Block as InBlock, Device}
+use Rattle.gpu_trace_text.specs.declared.block_stage.BlockStage.TheVariants.{Open}
+use Rattle.gpu_trace_text.specs.declared.stage.Stage as vulkan
+use Rattle.gpu_trace_text.specs.declared.stage.Stage.TheVariants.{Before, Block as InBlock, Device}
 use Rattle.gpu_trace_sorts.specs.Any.{Does}
 use Rattle.gpu_trace_sorts.specs.declared.any.AnyReply.{AnyReply}
 use Rattle.gpu_trace_sorts.specs.declared.any.AnyReply.TheVariants as replies

@@ -21,7 +21,7 @@ use gpu_metal_trace as metal;
 use gpu_timeline::{Sample, TimelineSvg, Usage, usage_of};
 use gpu_trace_text::Reply;
 use gpu_trace_text::device::reply as device;
-use gpu_trace_run::{BlockStage, Stage};
+use gpu_trace_text::{BlockStage, Stage};
 use gpu_trace_sorts::{AnyReply, AnyTrace};
 use gpu_trace_text::{Outcome, Replayed, Trace, TraceError, replay_trace};
 use log::Log;

@@ -11,9 +11,9 @@ use Rattle.gpu_metal_trace.specs.Reply as metal_replies
 use Rattle.gpu_metal_trace.specs.Stage as metal
 use Rattle.gpu_metal_trace.specs.declared.stage.Stage as metal_stages
 use Rattle.gpu_metal_trace.specs.declared.stage.Stage.TheVariants.{Configuring}
-use Rattle.gpu_trace_run.specs.Run as vulkan
-use Rattle.gpu_trace_run.specs.declared.stage.Stage as vulkan_stages
-use Rattle.gpu_trace_run.specs.declared.stage.Stage.TheVariants.{Before}
+use Rattle.gpu_trace_text.specs.BlockOrDevice as vulkan
+use Rattle.gpu_trace_text.specs.declared.stage.Stage as vulkan_stages
+use Rattle.gpu_trace_text.specs.declared.stage.Stage.TheVariants.{Before}
 use Rattle.gpu_trace_text.specs.declared.outcome.Outcome.{Outcome}
 use Rattle.gpu_trace_text.specs.declared.outcome.Outcome.TheVariants.{Nothing, Replied, Bad}
 use Rattle.gpu_trace_sorts.specs.declared.any.AnyReply.{AnyReply}

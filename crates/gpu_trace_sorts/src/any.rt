@@ -1,7 +1,7 @@
 //! A trace of any sort.
 
 ghost use Rattle.std.specs.Prelude.{◌≡◌, ◌≤◌, ℕ, Some, None, IfOk, IfSome};
-ghost use Rattle.gpu_trace_run.specs.declared.stage.Stage.TheVariants as stages;
+ghost use Rattle.gpu_trace_text.specs.declared.stage.Stage.TheVariants as stages;
 ghost use Rattle.gpu_trace_text.specs.Run.{Answers};
 ghost use Rattle.gpu_trace_sorts.specs.Any.{Does, DidVulkan, DidMetal, DidD3D12, MatchDone, reply_line};
 ghost use Rattle.gpu_trace_text.specs.Replay.{ReplaysTrace};
@@ -9,7 +9,7 @@ ghost use Rattle.gpu_trace_sorts.specs.declared.any.AnyTrace.TheVariants.{Vulkan
 
 use gpu_d3d12_trace as d3d12;
 use gpu_metal_trace as metal;
-use gpu_trace_run::Stage;
+use gpu_trace_text::Stage;
 use gpu_trace_text::{Outcome, Replayed, Trace, TraceError};
 use log::Log;
 use std::alloc::{AllocError, Global};

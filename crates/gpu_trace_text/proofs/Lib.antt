@@ -1,3 +1,4 @@
+pub mod Sorts
 pub mod Numbers
 pub mod Commands
 pub mod Hexed

@@ -1,3 +1,7 @@
+pub mod BlockStage
+pub mod Configuration
+pub mod Stage
+pub mod BlockOrDevice
 pub mod Words
 pub mod BlockCommand
 pub mod BlockReply

@@ -3,6 +3,8 @@
 #![tactic(auto)]
 
 mod block;
+mod block_stage;
+mod configuration;
 pub mod device;
 mod hex;
 mod line;
@@ -10,12 +12,16 @@ mod outcome;
 mod replay;
 mod reply;
 mod run;
+mod stage;
 mod trace;
 pub mod words;
 
+pub use block_stage::BlockStage;
+pub use configuration::Configuration;
 pub use line::{Line, ascii, read};
 pub use outcome::Outcome;
 pub use replay::{Replayed, replay_trace};
 pub use reply::Reply;
 pub use run::{LIMIT, TraceError, lines_in, read_trace, run_trace};
+pub use stage::Stage;
 pub use trace::Trace;

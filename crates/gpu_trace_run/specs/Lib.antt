@@ -1,4 +1,0 @@
-pub mod BlockStage
-pub mod Configuration
-pub mod Stage
-pub mod Run
