@@ -9,10 +9,10 @@ use Rattle.gpu_d3d12_trace.specs.declared.reply.Reply.TheVariants as d3d12_repli
 use Rattle.gpu_d3d12_trace.specs.declared.stage.Stage as d3d12
 use Rattle.gpu_d3d12_trace.specs.declared.stage.Stage.TheVariants as d3d12_stages
 use Rattle.gpu_run.specs.declared.metal.reply.Reply.TheVariants as metal_session_replies
-use Rattle.gpu_metal_trace.specs.declared.reply.Reply as metal_told
-use Rattle.gpu_metal_trace.specs.declared.reply.Reply.TheVariants as metal_replies
-use Rattle.gpu_metal_trace.specs.declared.stage.Stage as metal
-use Rattle.gpu_metal_trace.specs.declared.stage.Stage.TheVariants.{Running}
+use Rattle.gpu_trace_text.specs.declared.metal.reply.Reply as metal_told
+use Rattle.gpu_trace_text.specs.declared.metal.reply.Reply.TheVariants as metal_replies
+use Rattle.gpu_trace_text.specs.declared.metal.stage.Stage as metal
+use Rattle.gpu_trace_text.specs.declared.metal.stage.Stage.TheVariants.{Running}
 use Rattle.gpu_report.specs.Svg.{capped}
 use Rattle.gpu_timeline.specs.Samples.{usage_of}
 use Rattle.gpu_timeline.specs.declared.samples.Sample.{Sample}

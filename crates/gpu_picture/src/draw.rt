@@ -7,7 +7,7 @@ ghost use Rattle.gpu_picture.specs.Draw.{drawing, shown_types, DrawsBlock, Draws
 
 use gpu_d3d12_trace as d3d12;
 use gpu_memory_types::MemoryTypes;
-use gpu_metal_trace as metal;
+use gpu_trace_text::metal as metal;
 use gpu_report::{BlockView, BlocksJson, BlocksSvg, add_views};
 use gpu_trace_text::{BlockStage, Stage};
 use gpu_trace_sorts::AnyTrace;

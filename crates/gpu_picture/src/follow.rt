@@ -17,7 +17,7 @@ use gpu_run::d3d12::Reply as D3D12Reply;
 use gpu_d3d12_trace as d3d12;
 use gpu_memory_types::MemoryTypes;
 use gpu_run::metal::Reply as MetalReply;
-use gpu_metal_trace as metal;
+use gpu_trace_text::metal as metal;
 use gpu_timeline::{Sample, TimelineSvg, Usage, usage_of};
 use gpu_trace_text::Reply;
 use gpu_trace_text::device::reply as device;

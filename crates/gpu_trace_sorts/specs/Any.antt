@@ -6,11 +6,11 @@ use Rattle.gpu_d3d12_trace.specs.Reply as d3d12_replies
 use Rattle.gpu_d3d12_trace.specs.Stage as d3d12
 use Rattle.gpu_d3d12_trace.specs.declared.stage.Stage as d3d12_stages
 use Rattle.gpu_d3d12_trace.specs.declared.stage.Stage.TheVariants as d3d12_variants
-use Rattle.gpu_metal_trace.specs.Configuration.{nothing_configured}
-use Rattle.gpu_metal_trace.specs.Reply as metal_replies
-use Rattle.gpu_metal_trace.specs.Stage as metal
-use Rattle.gpu_metal_trace.specs.declared.stage.Stage as metal_stages
-use Rattle.gpu_metal_trace.specs.declared.stage.Stage.TheVariants.{Configuring}
+use Rattle.gpu_trace_text.specs.MetalConfiguration.{nothing_configured}
+use Rattle.gpu_trace_text.specs.MetalReply as metal_replies
+use Rattle.gpu_trace_text.specs.MetalStage as metal
+use Rattle.gpu_trace_text.specs.declared.metal.stage.Stage as metal_stages
+use Rattle.gpu_trace_text.specs.declared.metal.stage.Stage.TheVariants.{Configuring}
 use Rattle.gpu_trace_text.specs.BlockOrDevice as vulkan
 use Rattle.gpu_trace_text.specs.declared.stage.Stage as vulkan_stages
 use Rattle.gpu_trace_text.specs.declared.stage.Stage.TheVariants.{Before}

@@ -8,7 +8,7 @@ ghost use Rattle.gpu_trace_text.specs.Replay.{ReplaysTrace};
 ghost use Rattle.gpu_trace_sorts.specs.declared.any.AnyTrace.TheVariants.{Vulkan};
 
 use gpu_d3d12_trace as d3d12;
-use gpu_metal_trace as metal;
+use gpu_trace_text::metal as metal;
 use gpu_trace_text::Stage;
 use gpu_trace_text::{Outcome, Replayed, Trace, TraceError};
 use log::Log;

@@ -7,3 +7,4 @@ pub mod Settings
 pub mod Runs
 mod Input
 pub mod Leading
+pub mod MetalMeaning

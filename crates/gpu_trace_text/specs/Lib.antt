@@ -14,3 +14,10 @@ pub mod Sort
 pub mod Reply
 pub mod Run
 pub mod Replay
+pub mod MetalSetting
+pub mod MetalCommand
+pub mod MetalLine
+pub mod MetalReply
+pub mod MetalConfiguration
+pub mod MetalLook
+pub mod MetalStage

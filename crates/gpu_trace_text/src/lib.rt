@@ -8,6 +8,7 @@ mod configuration;
 pub mod device;
 mod hex;
 mod line;
+pub mod metal;
 mod outcome;
 mod replay;
 mod reply;

@@ -1,7 +1,0 @@
-pub mod Setting
-pub mod Command
-pub mod Line
-pub mod Reply
-pub mod Configuration
-pub mod Look
-pub mod Stage

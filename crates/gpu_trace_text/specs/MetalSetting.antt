@@ -1,0 +1,33 @@
+-- What a configuration line of a Metal trace says. Each has one spelling.
+use Rattle.std.specs.Prelude.{◌≡◌, ℕ, List, [], ◌∷◌, Bool, true, false, Option, Some, None, codes}
+use Rattle.gpu_trace_text.specs.Setting as settings
+use Rattle.gpu_trace_text.specs.Setting.{IsShared}
+use Rattle.gpu_trace_text.specs.declared.metal.setting.Setting.{Setting}
+use Rattle.gpu_trace_text.specs.declared.metal.setting.Setting.TheVariants.{Sets, Residency, Shared}
+
+-- the word for a choice
+abbrev pub yes_word : Bool → List ℕ
+yes_word true = codes "yes"
+yes_word false = codes "no"
+
+-- block sizes and refusals are the same in each sort of traces
+abbrev pub words : Setting → List (List ℕ)
+words (Sets b) = codes "sets" ∷ yes_word b ∷ []
+words (Residency b) = codes "residency" ∷ yes_word b ∷ []
+words (Shared s) = settings.words s
+
+-- what its numbers may be
+abbrev pub Fits : Setting → Type 0
+Fits (Sets b) = Unit {0}
+Fits (Residency b) = Unit {0}
+Fits (Shared s) = IsShared s × settings.Fits s
+
+-- these words are the setting's
+pub record Spells (line : List (List ℕ)) (s : Setting) : Type 0 where
+  pub is : line ≡ words s
+  pub fits : Fits s
+
+-- the words are this setting's, or no setting's
+abbrev pub Says : List (List ℕ) → Option Setting → Type 0
+Says line (Some s) = Spells line s
+Says line None = (s : Setting) → Spells line s → ⊥

@@ -1,0 +1,87 @@
+//! What a configuration line of a Metal trace says.
+
+ghost use Rattle.std.specs.Prelude.{◌≡◌, ◌≢◌, ◌∷◌, Bool, IfOk, MatchOption, codes};
+ghost use Rattle.gpu_trace_text.specs.Words.{texts};
+ghost use Rattle.gpu_trace_text.specs.MetalSetting.{yes_word, Says};
+
+use crate::device::setting;
+use crate::device::setting::setting_of;
+use std::alloc::{AllocError, Global};
+
+/// A configuration line of a Metal trace.
+#[derive(Clone, Copy, Debug)]
+pub enum Setting {
+    /// Whether the device can make residency sets.
+    Sets(bool),
+    /// Whether the allocator is to have a residency set.
+    Residency(bool),
+    /// The sizes of blocks, or a question that the device refuses.
+    Shared(setting::Setting),
+}
+
+fn is_yes(word: &str) -> Option<bool>
+    ensures { MatchOption result ((b : Bool) → word.now ≢ yes_word b) (λ b. word.now ≡ yes_word b) }
+{
+    match word {
+        "yes" => Some(true),
+        "no" => Some(false),
+        _ => None,
+    }
+}
+
+fn sets(arguments: &[&str]) -> Option<Setting>
+    ensures { Says (codes "sets" ∷ texts arguments.now) result }
+{
+    let [word] = arguments else {
+        return None;
+    };
+    let yes = is_yes(word)?;
+    Some(Setting::Sets(yes))
+}
+
+fn residency(arguments: &[&str]) -> Option<Setting>
+    ensures { Says (codes "residency" ∷ texts arguments.now) result }
+{
+    let [word] = arguments else {
+        return None;
+    };
+    let yes = is_yes(word)?;
+    Some(Setting::Residency(yes))
+}
+
+#[tactic(auto, using(crate::proofs::Settings::sizes_shared))]
+fn sizes(alloc: Global, arguments: &[&str]) -> Result<Option<Setting>, AllocError>
+    ensures { IfOk result (λ found. Says (codes "sizes" ∷ texts arguments.now) found) }
+{
+    match setting_of(alloc, "sizes", arguments)? {
+        Some(setting) => Ok(Some(Setting::Shared(setting))),
+        None => Ok(None),
+    }
+}
+
+#[tactic(auto, using(crate::proofs::Settings::refuse_shared))]
+fn refuse(alloc: Global, arguments: &[&str]) -> Result<Option<Setting>, AllocError>
+    ensures { IfOk result (λ found. Says (codes "refuse" ∷ texts arguments.now) found) }
+{
+    match setting_of(alloc, "refuse", arguments)? {
+        Some(setting) => Ok(Some(Setting::Shared(setting))),
+        None => Ok(None),
+    }
+}
+
+/// The setting that a line's words say, or `None` where they say none. Only host memory can be refused.
+pub(crate) fn said_setting(
+    alloc: Global,
+    verb: &str,
+    arguments: &[&str],
+) -> Result<Option<Setting>, AllocError>
+    ensures { IfOk result (λ found. Says (verb.now ∷ texts arguments.now) found) }
+{
+    match verb {
+        "sets" => Ok(sets(arguments)),
+        "residency" => Ok(residency(arguments)),
+        "sizes" => sizes(alloc, arguments),
+        "refuse" => refuse(alloc, arguments),
+        _ => Ok(None),
+    }
+}
