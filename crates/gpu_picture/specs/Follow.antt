@@ -4,10 +4,10 @@ use Rattle.gpu_block.specs.Block.{Block, size_of, allocated_bytes}
 use Rattle.gpu_run.specs.declared.block.reply.Reply.TheVariants as block_replies
 use Rattle.gpu_run.specs.declared.vulkan.reply.Reply.TheVariants as vulkan_replies
 use Rattle.gpu_run.specs.declared.d3d12.reply.Reply.TheVariants as d3d12_session_replies
-use Rattle.gpu_d3d12_trace.specs.declared.reply.Reply as d3d12_told
-use Rattle.gpu_d3d12_trace.specs.declared.reply.Reply.TheVariants as d3d12_replies
-use Rattle.gpu_d3d12_trace.specs.declared.stage.Stage as d3d12
-use Rattle.gpu_d3d12_trace.specs.declared.stage.Stage.TheVariants as d3d12_stages
+use Rattle.gpu_trace_text.specs.declared.d3d12.reply.Reply as d3d12_told
+use Rattle.gpu_trace_text.specs.declared.d3d12.reply.Reply.TheVariants as d3d12_replies
+use Rattle.gpu_trace_text.specs.declared.d3d12.stage.Stage as d3d12
+use Rattle.gpu_trace_text.specs.declared.d3d12.stage.Stage.TheVariants as d3d12_stages
 use Rattle.gpu_run.specs.declared.metal.reply.Reply.TheVariants as metal_session_replies
 use Rattle.gpu_trace_text.specs.declared.metal.reply.Reply as metal_told
 use Rattle.gpu_trace_text.specs.declared.metal.reply.Reply.TheVariants as metal_replies

@@ -14,7 +14,7 @@ use gpu_block::SubAllocator;
 use gpu_run::block::Reply as BlockReply;
 use gpu_run::vulkan::Reply as VulkanReply;
 use gpu_run::d3d12::Reply as D3D12Reply;
-use gpu_d3d12_trace as d3d12;
+use gpu_trace_text::d3d12 as d3d12;
 use gpu_memory_types::MemoryTypes;
 use gpu_run::metal::Reply as MetalReply;
 use gpu_trace_text::metal as metal;

@@ -1,11 +1,11 @@
 -- A trace of any sort: the first line tells which it is.
 use Rattle.std.specs.Prelude.{◌≡◌, ◌≢◌, ◌⊎◌, ℕ, List, codes}
 use Rattle.gpu_trace_text.specs.Reply as vulkan_replies
-use Rattle.gpu_d3d12_trace.specs.Configuration as d3d12_configuration
-use Rattle.gpu_d3d12_trace.specs.Reply as d3d12_replies
-use Rattle.gpu_d3d12_trace.specs.Stage as d3d12
-use Rattle.gpu_d3d12_trace.specs.declared.stage.Stage as d3d12_stages
-use Rattle.gpu_d3d12_trace.specs.declared.stage.Stage.TheVariants as d3d12_variants
+use Rattle.gpu_trace_text.specs.D3D12Configuration as d3d12_configuration
+use Rattle.gpu_trace_text.specs.D3D12Reply as d3d12_replies
+use Rattle.gpu_trace_text.specs.D3D12Stage as d3d12
+use Rattle.gpu_trace_text.specs.declared.d3d12.stage.Stage as d3d12_stages
+use Rattle.gpu_trace_text.specs.declared.d3d12.stage.Stage.TheVariants as d3d12_variants
 use Rattle.gpu_trace_text.specs.MetalConfiguration.{nothing_configured}
 use Rattle.gpu_trace_text.specs.MetalReply as metal_replies
 use Rattle.gpu_trace_text.specs.MetalStage as metal

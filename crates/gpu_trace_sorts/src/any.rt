@@ -7,7 +7,7 @@ ghost use Rattle.gpu_trace_sorts.specs.Any.{Does, DidVulkan, DidMetal, DidD3D12,
 ghost use Rattle.gpu_trace_text.specs.Replay.{ReplaysTrace};
 ghost use Rattle.gpu_trace_sorts.specs.declared.any.AnyTrace.TheVariants.{Vulkan};
 
-use gpu_d3d12_trace as d3d12;
+use gpu_trace_text::d3d12 as d3d12;
 use gpu_trace_text::metal as metal;
 use gpu_trace_text::Stage;
 use gpu_trace_text::{Outcome, Replayed, Trace, TraceError};

@@ -8,3 +8,5 @@ pub mod Runs
 mod Input
 pub mod Leading
 pub mod MetalMeaning
+pub mod D3D12Parts
+pub mod D3D12Meaning

@@ -21,3 +21,12 @@ pub mod MetalReply
 pub mod MetalConfiguration
 pub mod MetalLook
 pub mod MetalStage
+pub mod D3D12Numbers
+pub mod D3D12Resource
+pub mod D3D12Setting
+pub mod D3D12Command
+pub mod D3D12Line
+pub mod D3D12Reply
+pub mod D3D12Configuration
+pub mod D3D12Asked
+pub mod D3D12Stage

@@ -5,6 +5,7 @@
 mod block;
 mod block_stage;
 mod configuration;
+pub mod d3d12;
 pub mod device;
 mod hex;
 mod line;

@@ -1,9 +1,0 @@
-pub mod Numbers
-pub mod Resource
-pub mod Setting
-pub mod Command
-pub mod Line
-pub mod Reply
-pub mod Configuration
-pub mod Asked
-pub mod Stage

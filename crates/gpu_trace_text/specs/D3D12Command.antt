@@ -1,0 +1,45 @@
+-- What a command of a DirectX 12 trace says. Each has one spelling: its words, with decimal numbers and no leading zeros.
+use Rattle.std.specs.Prelude.{◌≡◌, ℕ, ◌<◌, ◌^◌, List, [], ◌∷◌, Option, Some, None, codes, string_bytes}
+use Rattle.std.specs.Fmt.{decimal}
+use Rattle.gpu_run.specs.declared.d3d12.command.Command.{Command}
+use Rattle.gpu_run.specs.declared.d3d12.command.Command.TheVariants.{Alloc, Free, Rename, Create, Release, Leaks, Report, Capacity, Committed, SetBudget}
+use Rattle.gpu_trace_text.specs.Ask.{location_word, budget_word, FitsBudget}
+use Rattle.gpu_trace_text.specs.Words.{IsName}
+use Rattle.gpu_trace_text.specs.D3D12Resource.{category_word, wanted_words, FitsWanted}
+
+-- a command's words
+abbrev pub words : Command → List (List ℕ)
+words (Alloc key size alignment location category name) =
+    codes "alloc" ∷ decimal key ∷ decimal size ∷ decimal alignment ∷ location_word location ∷ category_word category ∷ string_bytes name ∷ []
+words (Free key) = codes "free" ∷ decimal key ∷ []
+words (Rename key name) = codes "rename" ∷ decimal key ∷ string_bytes name ∷ []
+words (Create key wanted) = codes "create" ∷ decimal key ∷ wanted_words wanted
+words (Release key) = codes "release" ∷ decimal key ∷ []
+words Leaks = codes "leaks" ∷ []
+words Report = codes "report" ∷ []
+words Capacity = codes "capacity" ∷ []
+words (Committed t) = codes "committed" ∷ decimal t ∷ []
+words (SetBudget t budget) = codes "budget" ∷ decimal t ∷ budget_word budget ∷ []
+
+-- what a command's numbers and names may be
+abbrev pub Fits : Command → Type 0
+Fits (Alloc key size alignment location category name) = (key < 2 ^ 64) × (size < 2 ^ 64) × (alignment < 2 ^ 64) × IsName (string_bytes name)
+Fits (Free key) = key < 2 ^ 64
+Fits (Rename key name) = (key < 2 ^ 64) × IsName (string_bytes name)
+Fits (Create key wanted) = (key < 2 ^ 64) × FitsWanted wanted
+Fits (Release key) = key < 2 ^ 64
+Fits Leaks = Unit {0}
+Fits Report = Unit {0}
+Fits Capacity = Unit {0}
+Fits (Committed t) = t < 2 ^ 64
+Fits (SetBudget t budget) = (t < 2 ^ 64) × FitsBudget budget
+
+-- these words are the command's
+pub record Spells (line : List (List ℕ)) (c : Command) : Type 0 where
+  pub is : line ≡ words c
+  pub fits : Fits c
+
+-- the words are this command's, or no command's
+abbrev pub Says : List (List ℕ) → Option Command → Type 0
+Says line (Some c) = Spells line c
+Says line None = (c : Command) → Spells line c → ⊥

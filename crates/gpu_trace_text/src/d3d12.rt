@@ -1,0 +1,17 @@
+//! Traces of DirectX 12: what a line says, how replies print, and how far such a trace has come.
+
+mod command;
+mod configuration;
+mod line;
+mod looking;
+mod numbers;
+mod reply;
+mod resource;
+mod setting;
+mod stage;
+
+pub use configuration::Configuration;
+pub use line::{Line, read};
+pub use reply::Reply;
+pub use setting::{Setting, Version};
+pub use stage::Stage;

@@ -1,0 +1,186 @@
+//! What a command of a DirectX 12 trace says.
+
+ghost use Rattle.std.specs.Prelude.{◌≡◌, ◌∷◌, IfOk, codes};
+ghost use Rattle.std.specs.Fmt.{decimal};
+ghost use Rattle.gpu_trace_text.specs.Words.{texts};
+ghost use Rattle.gpu_trace_text.specs.D3D12Command.{Says};
+
+use crate::d3d12::resource::{category_of, wanted_of};
+use gpu_run::d3d12::Command;
+use crate::device::ask::{budget_of, location_of};
+use crate::words::{name_of, number};
+use std::alloc::{AllocError, Global};
+
+fn alloc(alloc: Global, arguments: &[&str]) -> Result<Option<Command>, AllocError>
+    ensures { IfOk result (λ found. Says (codes "alloc" ∷ texts arguments.now) found) }
+{
+    let [key, size, alignment, rest @ ..] = arguments else {
+        return Ok(None);
+    };
+    let Some(key) = number(key) else {
+        return Ok(None);
+    };
+    let Some(size) = number(size) else {
+        return Ok(None);
+    };
+    let Some(alignment) = number(alignment) else {
+        return Ok(None);
+    };
+    piece(alloc, key, size, alignment, rest)
+}
+
+/// The second half of a request for a piece.
+fn piece(
+    alloc: Global,
+    key: u64,
+    size: u64,
+    alignment: u64,
+    arguments: &[&str],
+) -> Result<Option<Command>, AllocError>
+    ensures { IfOk result (λ found. Says (codes "alloc" ∷ decimal key ∷ decimal size ∷ decimal alignment ∷ texts arguments.now) found) }
+{
+    let [location, category, name] = arguments else {
+        return Ok(None);
+    };
+    let Some(location) = location_of(location) else {
+        return Ok(None);
+    };
+    let Some(category) = category_of(category) else {
+        return Ok(None);
+    };
+    let Some(name) = name_of(alloc, name)? else {
+        return Ok(None);
+    };
+    Ok(Some(Command::Alloc {
+        key,
+        size,
+        alignment,
+        location,
+        category,
+        name,
+    }))
+}
+
+fn free(arguments: &[&str]) -> Option<Command>
+    ensures { Says (codes "free" ∷ texts arguments.now) result }
+{
+    let [key] = arguments else {
+        return None;
+    };
+    let key = number(key)?;
+    Some(Command::Free { key })
+}
+
+fn rename(alloc: Global, arguments: &[&str]) -> Result<Option<Command>, AllocError>
+    ensures { IfOk result (λ found. Says (codes "rename" ∷ texts arguments.now) found) }
+{
+    let [key, name] = arguments else {
+        return Ok(None);
+    };
+    let Some(key) = number(key) else {
+        return Ok(None);
+    };
+    let Some(name) = name_of(alloc, name)? else {
+        return Ok(None);
+    };
+    Ok(Some(Command::Rename { key, name }))
+}
+
+fn create(alloc: Global, arguments: &[&str]) -> Result<Option<Command>, AllocError>
+    ensures { IfOk result (λ found. Says (codes "create" ∷ texts arguments.now) found) }
+{
+    let [key, rest @ ..] = arguments else {
+        return Ok(None);
+    };
+    let Some(key) = number(key) else {
+        return Ok(None);
+    };
+    let Some(wanted) = wanted_of(alloc, rest)? else {
+        return Ok(None);
+    };
+    Ok(Some(Command::Create { key, wanted }))
+}
+
+fn release(arguments: &[&str]) -> Option<Command>
+    ensures { Says (codes "release" ∷ texts arguments.now) result }
+{
+    let [key] = arguments else {
+        return None;
+    };
+    let key = number(key)?;
+    Some(Command::Release { key })
+}
+
+fn leaks(arguments: &[&str]) -> Option<Command>
+    ensures { Says (codes "leaks" ∷ texts arguments.now) result }
+{
+    let [] = arguments else {
+        return None;
+    };
+    Some(Command::Leaks)
+}
+
+fn report(arguments: &[&str]) -> Option<Command>
+    ensures { Says (codes "report" ∷ texts arguments.now) result }
+{
+    let [] = arguments else {
+        return None;
+    };
+    Some(Command::Report)
+}
+
+fn capacity(arguments: &[&str]) -> Option<Command>
+    ensures { Says (codes "capacity" ∷ texts arguments.now) result }
+{
+    let [] = arguments else {
+        return None;
+    };
+    Some(Command::Capacity)
+}
+
+fn committed(arguments: &[&str]) -> Option<Command>
+    ensures { Says (codes "committed" ∷ texts arguments.now) result }
+{
+    let [memory_type] = arguments else {
+        return None;
+    };
+    let memory_type = number(memory_type)?;
+    Some(Command::Committed { memory_type })
+}
+
+fn budget(arguments: &[&str]) -> Option<Command>
+    ensures { Says (codes "budget" ∷ texts arguments.now) result }
+{
+    let [memory_type, budget] = arguments else {
+        return None;
+    };
+    let memory_type = number(memory_type)?;
+    let budget = budget_of(budget)?;
+    Some(Command::SetBudget {
+        memory_type,
+        budget,
+    })
+}
+
+/// The command that a line's words say, or `None` where they say none. Only host memory can be refused.
+pub(crate) fn said_command(
+    global: Global,
+    verb: &str,
+    arguments: &[&str],
+) -> Result<Option<Command>, AllocError>
+    ensures { IfOk result (λ found. Says (verb.now ∷ texts arguments.now) found) }
+{
+    match verb {
+        "alloc" => alloc(global, arguments),
+        "free" => Ok(free(arguments)),
+        "rename" => rename(global, arguments),
+        "create" => create(global, arguments),
+        "release" => Ok(release(arguments)),
+        "leaks" => Ok(leaks(arguments)),
+        "report" => Ok(report(arguments)),
+        "capacity" => Ok(capacity(arguments)),
+        "committed" => Ok(committed(arguments)),
+        "budget" => Ok(budget(arguments)),
+        _ => Ok(None),
+    }
+}

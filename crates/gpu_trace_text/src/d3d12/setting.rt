@@ -1,0 +1,124 @@
+//! What a configuration line of a DirectX 12 trace says.
+
+ghost use Rattle.std.specs.Prelude.{◌≡◌, ◌≢◌, [], ◌∷◌, IfOk, MatchOption, codes};
+ghost use Rattle.gpu_trace_text.specs.Words.{texts};
+ghost use Rattle.gpu_trace_text.specs.D3D12Setting.{version_word, Says};
+ghost use Rattle.gpu_trace_text.specs.declared.d3d12.setting.Version.{Version};
+
+use gpu_device::d3d12::ResourceHeapTier;
+use crate::device::setting;
+use crate::device::setting::setting_of;
+use crate::words::code;
+use std::alloc::{AllocError, Global};
+
+/// The newest interface that the device has.
+#[derive(Clone, Copy, Debug, PartialEq, Eq)]
+pub enum Version {
+    /// `ID3D12Device`.
+    Device,
+    /// `ID3D12Device10`.
+    Device10,
+    /// `ID3D12Device12`.
+    Device12,
+}
+
+/// A configuration line of a DirectX 12 trace.
+#[derive(Clone, Copy, Debug)]
+pub enum Setting {
+    /// The device's heap tier, or the code with which it can't tell it.
+    Tier(Result<ResourceHeapTier, i32>),
+    /// The newest interface that the device has.
+    Interface(Version),
+    /// The sizes of blocks, or a question that the device refuses.
+    Shared(setting::Setting),
+}
+
+fn told_tier(word: &str) -> Option<Setting>
+    ensures { Says (codes "tier" ∷ word.now ∷ []) result }
+{
+    match word {
+        "1" => Some(Setting::Tier(Ok(ResourceHeapTier::Tier1))),
+        "2" => Some(Setting::Tier(Ok(ResourceHeapTier::Tier2))),
+        _ => None,
+    }
+}
+
+fn refused_tier(alloc: Global, word: &str, number: &str) -> Result<Option<Setting>, AllocError>
+    ensures { IfOk result (λ found. Says (codes "tier" ∷ word.now ∷ number.now ∷ []) found) }
+{
+    if word != "refused" {
+        return Ok(None);
+    }
+    match code(alloc, number)? {
+        Some(code) => Ok(Some(Setting::Tier(Err(code)))),
+        None => Ok(None),
+    }
+}
+
+fn tier(alloc: Global, arguments: &[&str]) -> Result<Option<Setting>, AllocError>
+    ensures { IfOk result (λ found. Says (codes "tier" ∷ texts arguments.now) found) }
+{
+    match arguments {
+        [word] => Ok(told_tier(word)),
+        [word, number] => refused_tier(alloc, word, number),
+        _ => Ok(None),
+    }
+}
+
+fn version_of(word: &str) -> Option<Version>
+    ensures { MatchOption result ((v : Version) → word.now ≢ version_word v) (λ v. word.now ≡ version_word v) }
+{
+    match word {
+        "device" => Some(Version::Device),
+        "device10" => Some(Version::Device10),
+        "device12" => Some(Version::Device12),
+        _ => None,
+    }
+}
+
+fn newest(arguments: &[&str]) -> Option<Setting>
+    ensures { Says (codes "version" ∷ texts arguments.now) result }
+{
+    let [word] = arguments else {
+        return None;
+    };
+    let version = version_of(word)?;
+    Some(Setting::Interface(version))
+}
+
+#[tactic(auto, using(crate::proofs::Settings::sizes_shared))]
+fn sizes(alloc: Global, arguments: &[&str]) -> Result<Option<Setting>, AllocError>
+    ensures { IfOk result (λ found. Says (codes "sizes" ∷ texts arguments.now) found) }
+{
+    match setting_of(alloc, "sizes", arguments)? {
+        Some(setting) => Ok(Some(Setting::Shared(setting))),
+        None => Ok(None),
+    }
+}
+
+#[tactic(auto, using(crate::proofs::Settings::refuse_shared))]
+fn refuse(alloc: Global, arguments: &[&str]) -> Result<Option<Setting>, AllocError>
+    ensures { IfOk result (λ found. Says (codes "refuse" ∷ texts arguments.now) found) }
+{
+    match setting_of(alloc, "refuse", arguments)? {
+        Some(setting) => Ok(Some(Setting::Shared(setting))),
+        None => Ok(None),
+    }
+}
+
+/// The setting that a line's words say, or `None` where they say none. Only host memory can be refused.
+pub(crate) fn said_setting(
+    alloc: Global,
+    verb: &str,
+    arguments: &[&str],
+) -> Result<Option<Setting>, AllocError>
+    ensures { IfOk result (λ found. Says (verb.now ∷ texts arguments.now) found) }
+{
+    match verb {
+        "tier" => tier(alloc, arguments),
+        "version" => Ok(newest(arguments)),
+        "sizes" => sizes(alloc, arguments),
+        "refuse" => refuse(alloc, arguments),
+        _ => Ok(None),
+    }
+}
