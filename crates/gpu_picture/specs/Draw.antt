@@ -19,8 +19,8 @@ use Rattle.gpu_trace_text.specs.declared.metal.stage.Stage as metal
 use Rattle.gpu_trace_text.specs.declared.metal.stage.Stage.TheVariants as metal_stages
 use Rattle.gpu_trace_text.specs.declared.d3d12.stage.Stage as d3d12
 use Rattle.gpu_trace_text.specs.declared.d3d12.stage.Stage.TheVariants as d3d12_stages
-use Rattle.gpu_trace_sorts.specs.declared.any.AnyTrace.{AnyTrace}
-use Rattle.gpu_trace_sorts.specs.declared.any.AnyTrace.TheVariants.{Vulkan, Metal, D3D12}
+use Rattle.gpu_trace_text.specs.declared.any.AnyTrace.{AnyTrace}
+use Rattle.gpu_trace_text.specs.declared.any.AnyTrace.TheVariants.{Vulkan, Metal, D3D12}
 use Rattle.gpu_picture.specs.declared.draw.Form.{Form}
 use Rattle.gpu_picture.specs.declared.draw.Form.TheVariants.{Svg, Json}
 

@@ -23,11 +23,11 @@ use Rattle.gpu_trace_text.specs.declared.reply.Reply.TheVariants as line_replies
 use Rattle.gpu_trace_text.specs.declared.block_stage.BlockStage.TheVariants.{Open}
 use Rattle.gpu_trace_text.specs.declared.stage.Stage as vulkan
 use Rattle.gpu_trace_text.specs.declared.stage.Stage.TheVariants.{Before, Block as InBlock, Device}
-use Rattle.gpu_trace_sorts.specs.Any.{Does}
-use Rattle.gpu_trace_sorts.specs.declared.any.AnyReply.{AnyReply}
-use Rattle.gpu_trace_sorts.specs.declared.any.AnyReply.TheVariants as replies
-use Rattle.gpu_trace_sorts.specs.declared.any.AnyTrace.{AnyTrace}
-use Rattle.gpu_trace_sorts.specs.declared.any.AnyTrace.TheVariants.{Vulkan, Metal, D3D12}
+use Rattle.gpu_trace_text.specs.Any.{Does}
+use Rattle.gpu_trace_text.specs.declared.any.AnyReply.{AnyReply}
+use Rattle.gpu_trace_text.specs.declared.any.AnyReply.TheVariants as replies
+use Rattle.gpu_trace_text.specs.declared.any.AnyTrace.{AnyTrace}
+use Rattle.gpu_trace_text.specs.declared.any.AnyTrace.TheVariants.{Vulkan, Metal, D3D12}
 use Rattle.gpu_trace_text.specs.declared.outcome.Outcome.{Outcome}
 use Rattle.gpu_trace_text.specs.declared.outcome.Outcome.TheVariants.{Nothing, Replied, Bad}
 use Rattle.gpu_picture.specs.declared.follow.Followed.{Followed}

@@ -10,7 +10,7 @@ use gpu_memory_types::MemoryTypes;
 use gpu_trace_text::metal as metal;
 use gpu_report::{BlockView, BlocksJson, BlocksSvg, add_views};
 use gpu_trace_text::{BlockStage, Stage};
-use gpu_trace_sorts::AnyTrace;
+use gpu_trace_text::AnyTrace;
 use gpu_values::AllocationError;
 use std::alloc::Global;
 use std::io;

@@ -22,7 +22,7 @@ use gpu_timeline::{Sample, TimelineSvg, Usage, usage_of};
 use gpu_trace_text::Reply;
 use gpu_trace_text::device::reply as device;
 use gpu_trace_text::{BlockStage, Stage};
-use gpu_trace_sorts::{AnyReply, AnyTrace};
+use gpu_trace_text::{AnyReply, AnyTrace};
 use gpu_trace_text::{Outcome, Replayed, Trace, TraceError, replay_trace};
 use log::Log;
 use std::alloc::{AllocError, Global};
@@ -169,7 +169,7 @@ fn note(
 }
 
 impl Trace for Followed {
-    ghost use Rattle.gpu_trace_sorts.specs.Any.{reply_line};
+    ghost use Rattle.gpu_trace_text.specs.Any.{reply_line};
     ghost use Rattle.gpu_picture.specs.Follow.{Follows};
 
     type Reply = AnyReply;

@@ -7,7 +7,7 @@ mod follow;
 
 use draw::{Form, draw};
 use follow::{Followed, draw_over_time, follow_trace};
-use gpu_trace_sorts::{AnyTrace, replay_trace};
+use gpu_trace_text::{AnyTrace, replay_trace};
 use gpu_trace_text::{Replayed, Trace, TraceError};
 use log::sink::Discard;
 use std::io::{BufWriter, Write};

@@ -9,6 +9,6 @@ pub mod vulkan;
 pub use gpu_run::vulkan::{Command, Given, Reply};
 pub use gpu_run::{Machine, run};
 pub use gpu_trace_text::{BlockStage, Configuration, Stage};
-pub use gpu_trace_sorts::{AnyReply, AnyTrace, replay_trace, run_trace};
+pub use gpu_trace_text::{AnyReply, AnyTrace, replay_trace, run_trace};
 pub use gpu_trace_text::{Outcome, Replayed, Trace, TraceError};
 pub use gpu_run::vulkan::{Session, laws};

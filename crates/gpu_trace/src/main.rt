@@ -1,7 +1,7 @@
 // Runs a trace: standard input to standard output. docs/TRACE.md has the format.
 #![tactic(auto)]
 
-use gpu_trace_sorts::run_trace;
+use gpu_trace_text::run_trace;
 use log::sink::Discard;
 use std::io::BufWriter;
 use std::process::ExitCode;

@@ -1,3 +1,4 @@
+pub mod Any
 pub mod BlockStage
 pub mod Configuration
 pub mod Stage

@@ -2,6 +2,7 @@
 //! first bad one; and how far a whole trace comes.
 #![tactic(auto)]
 
+mod any;
 mod block;
 mod block_stage;
 mod configuration;
@@ -18,6 +19,7 @@ mod stage;
 mod trace;
 pub mod words;
 
+pub use any::{AnyReply, AnyTrace, replay_trace, run_trace};
 pub use block_stage::BlockStage;
 pub use configuration::Configuration;
 pub use line::{Line, ascii, read};

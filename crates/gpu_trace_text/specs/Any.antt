@@ -16,10 +16,10 @@ use Rattle.gpu_trace_text.specs.declared.stage.Stage as vulkan_stages
 use Rattle.gpu_trace_text.specs.declared.stage.Stage.TheVariants.{Before}
 use Rattle.gpu_trace_text.specs.declared.outcome.Outcome.{Outcome}
 use Rattle.gpu_trace_text.specs.declared.outcome.Outcome.TheVariants.{Nothing, Replied, Bad}
-use Rattle.gpu_trace_sorts.specs.declared.any.AnyReply.{AnyReply}
-use Rattle.gpu_trace_sorts.specs.declared.any.AnyReply.TheVariants as replies
-use Rattle.gpu_trace_sorts.specs.declared.any.AnyTrace.{AnyTrace}
-use Rattle.gpu_trace_sorts.specs.declared.any.AnyTrace.TheVariants.{Vulkan, Metal, D3D12}
+use Rattle.gpu_trace_text.specs.declared.any.AnyReply.{AnyReply}
+use Rattle.gpu_trace_text.specs.declared.any.AnyReply.TheVariants as replies
+use Rattle.gpu_trace_text.specs.declared.any.AnyTrace.{AnyTrace}
+use Rattle.gpu_trace_text.specs.declared.any.AnyTrace.TheVariants.{Vulkan, Metal, D3D12}
 
 -- a line does in a block trace or a device trace what it does there
 abbrev pub DidVulkan : vulkan_stages.Stage → List ℕ → Outcome AnyReply → AnyTrace → Type 0

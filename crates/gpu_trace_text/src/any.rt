@@ -3,9 +3,9 @@
 ghost use Rattle.std.specs.Prelude.{◌≡◌, ◌≤◌, ℕ, Some, None, IfOk, IfSome};
 ghost use Rattle.gpu_trace_text.specs.declared.stage.Stage.TheVariants as stages;
 ghost use Rattle.gpu_trace_text.specs.Run.{Answers};
-ghost use Rattle.gpu_trace_sorts.specs.Any.{Does, DidVulkan, DidMetal, DidD3D12, MatchDone, reply_line};
+ghost use Rattle.gpu_trace_text.specs.Any.{Does, DidVulkan, DidMetal, DidD3D12, MatchDone, reply_line};
 ghost use Rattle.gpu_trace_text.specs.Replay.{ReplaysTrace};
-ghost use Rattle.gpu_trace_sorts.specs.declared.any.AnyTrace.TheVariants.{Vulkan};
+ghost use Rattle.gpu_trace_text.specs.declared.any.AnyTrace.TheVariants.{Vulkan};
 
 use gpu_trace_text::d3d12 as d3d12;
 use gpu_trace_text::metal as metal;
@@ -89,7 +89,7 @@ fn serve_d3d12<L: Log>(
 }
 
 impl Trace for AnyTrace {
-    ghost use Rattle.gpu_trace_sorts.specs.Any.{Does, reply_line};
+    ghost use Rattle.gpu_trace_text.specs.Any.{Does, reply_line};
 
     type Reply = AnyReply;
 
