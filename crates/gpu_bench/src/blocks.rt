@@ -5,8 +5,7 @@ ghost use Rattle.std.specs.Int.{is_power_of_two};
 
 use crate::error::Result;
 use crate::show::{Times, show_time};
-use gpu_core::{MemoryType, Prepared};
-use gpu_core::{Piece, Request};
+use gpu_core::{MemoryType, Piece, Prepared, Request};
 use gpu_values::{AllocationError, AllocationSizes, AllocationType};
 use std::time::Instant;
 

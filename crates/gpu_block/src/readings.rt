@@ -12,8 +12,7 @@ ghost use Rattle.gpu_block_pieces.specs.Pieces.{LieBetween};
 
 use crate::{DedicatedBlockAllocator, FreeListAllocator};
 use gpu_block_chunks::Walk;
-use gpu_block_pieces::CutBlock;
-use gpu_block_pieces::{Leaks, Pieces, rows_of};
+use gpu_block_pieces::{CutBlock, Leaks, Pieces, rows_of};
 use gpu_cost::{BeginsCount, Cost};
 use gpu_values::{AllocationReport, Result};
 use std::alloc::Global;

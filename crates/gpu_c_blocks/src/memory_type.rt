@@ -11,19 +11,12 @@ ghost use Rattle.gpu_c_blocks.specs.MemoryType.{AwaitingState, fresh_memory_type
 ghost use Rattle.gpu_c_blocks.specs.Visit.{told_view, piece_in_from, ShowsName};
 ghost use Rattle.gpu_c_blocks.specs.declared.status.TheConstants.{OK, OUT_OF_MEMORY, INVALID, NOT_LIVE, HOST_OUT_OF_MEMORY, BUDGET_EXCEEDED, AWAITS_BLOCK, AWAITS_NO_BLOCK};
 
-use crate::memory_type_values::{
-    MemoryBlock, MemoryBlockStatistics, MemoryPiece, MemoryPrepared, MemoryRequest,
-    MemoryStatistics, MemoryTypeSettings,
-};
+use crate::memory_type_values::{MemoryBlock, MemoryBlockStatistics, MemoryPiece, MemoryPrepared, MemoryRequest, MemoryStatistics, MemoryTypeSettings};
 use crate::request::served;
-use crate::status::{
-    AWAITS_BLOCK, AWAITS_NO_BLOCK, BUDGET_EXCEEDED, HOST_OUT_OF_MEMORY, INVALID, NOT_LIVE, OK,
-    OUT_OF_MEMORY,
-};
+use crate::status::{AWAITS_BLOCK, AWAITS_NO_BLOCK, BUDGET_EXCEEDED, HOST_OUT_OF_MEMORY, INVALID, NOT_LIVE, OK, OUT_OF_MEMORY};
 use crate::virtual_block_values::PieceView;
 use crate::visit::{first_from, name_from, no_piece};
-use gpu_core::{MemoryType, NeedBlock, Prepared};
-use gpu_core::{Piece, Request};
+use gpu_core::{MemoryType, NeedBlock, Piece, Prepared, Request};
 use gpu_values::AllocationSizes;
 use std::alloc::Global;
 use std::marker::Model;

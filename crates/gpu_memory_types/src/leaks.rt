@@ -9,8 +9,7 @@ ghost use Rattle.gpu_memory_types.specs.Leaks.{leaks_beginning, all_leaks};
 ghost use Rattle.gpu_memory_types.specs.Types.{slots_of};
 
 use gpu_block_pieces::Leak;
-use gpu_core::MemoryType;
-use gpu_core::TypeLeaks;
+use gpu_core::{MemoryType, TypeLeaks};
 use gpu_values::Result;
 use std::alloc::Global;
 use std::marker::Model;

@@ -12,11 +12,8 @@ ghost use Rattle.gpu_values.specs.Report.{report_of};
 use crate::capacity::total_capacity;
 use crate::leaks::{AllLeaks, all_leaks, texts_of};
 use crate::report::report_of;
-use gpu_core::{MemoryType, NeedBlock, Prepared};
-use gpu_core::{Piece, Request};
-use gpu_values::{
-    AllocationError, AllocationSizes, AllocationType, AllocatorReport, Fault, Result,
-};
+use gpu_core::{MemoryType, NeedBlock, Piece, Prepared, Request};
+use gpu_values::{AllocationError, AllocationSizes, AllocationType, AllocatorReport, Fault, Result};
 use std::alloc::Global;
 use std::marker::Model;
 

@@ -11,19 +11,14 @@ ghost use Rattle.gpu_picture.specs.Follow.{told, usage_of_block, is_vulkan_refus
 ghost use Rattle.gpu_picture.specs.declared.follow.Followed.{Followed};
 
 use gpu_block::SubAllocator;
-use gpu_run::block::Reply as BlockReply;
-use gpu_run::vulkan::Reply as VulkanReply;
-use gpu_run::d3d12::Reply as D3D12Reply;
-use gpu_trace_text::d3d12 as d3d12;
 use gpu_memory_types::MemoryTypes;
+use gpu_run::block::Reply as BlockReply;
+use gpu_run::d3d12::Reply as D3D12Reply;
 use gpu_run::metal::Reply as MetalReply;
-use gpu_trace_text::metal as metal;
+use gpu_run::vulkan::Reply as VulkanReply;
 use gpu_timeline::{Sample, TimelineSvg, Usage, usage_of};
-use gpu_trace_text::Reply;
+use gpu_trace_text::{AnyReply, AnyTrace, BlockStage, Outcome, Replayed, Reply, Stage, Trace, TraceError, d3d12, metal, replay_from};
 use gpu_trace_text::device::reply as device;
-use gpu_trace_text::{BlockStage, Stage};
-use gpu_trace_text::{AnyReply, AnyTrace};
-use gpu_trace_text::{Outcome, Replayed, Trace, TraceError, replay_trace};
 use log::Log;
 use std::alloc::{AllocError, Global};
 use std::io;
@@ -237,7 +232,7 @@ pub fn follow_trace<R: Read, L: Log>(
 ) -> Result<Replayed<Followed>, TraceError>
     ensures { IfOk result (λ r. IfSome (R.remaining reader.old) (λ input. (first : Followed) × IsStart first × ReplaysTrace Follows first input r)) }
 {
-    replay_trace(log, alloc, start(alloc), reader)
+    replay_from(log, alloc, start(alloc), reader)
 }
 
 /// Writes what memory types held after one command after another, as a picture.

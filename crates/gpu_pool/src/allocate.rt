@@ -8,9 +8,8 @@ ghost use Rattle.gpu_pool.specs.Allocate.{request_at, Allocates, AsksOf};
 ghost use Rattle.gpu_pool.specs.Source.{result_of};
 
 use crate::BlockSource;
-use gpu_core::Prepared;
+use gpu_core::{Piece, Prepared, Request};
 use gpu_memory_types::MemoryTypes;
-use gpu_core::{Piece, Request};
 use gpu_values::{AllocationSizes, AllocationType, Result};
 
 /// A piece of the memory type at `index`: of a shared block, or of a new one. All host memory for it is at hand before the

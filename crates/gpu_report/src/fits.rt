@@ -4,8 +4,8 @@ ghost use Rattle.std.specs.Prelude.{All};
 ghost use Rattle.gpu_values.specs.Report.{row_of, report_of};
 ghost use Rattle.gpu_report.specs.Fits.{Fits, RowFits, BlockRowFits, ReportFits, GapFits, BlockFits};
 
+use crate::BlockView;
 use gpu_block_pieces::{Gaps, Pieces};
-use gpu_report::BlockView;
 use gpu_values::{AllocationReport, AllocatorReport, MemoryBlockReport};
 
 fn row_fits(row: &AllocationReport)

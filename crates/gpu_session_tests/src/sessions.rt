@@ -3,10 +3,9 @@
 mod refused;
 
 use gpu_allocator::vulkan::*;
-use gpu_run::vulkan::{Command, Given, Reply};
+use gpu_run::vulkan::{Command, Given, Reply, Session};
 use gpu_sim::SimVulkan;
 use gpu_values::{AllocationError, AllocationSizes, AllocatorDebugSettings, MemoryLocation};
-use gpu_run::vulkan::Session;
 use log::sink::Discard;
 use std::alloc::{AllocError, Global};
 use std::process::Abort;

@@ -7,10 +7,7 @@ ghost use Rattle.gpu_trace_text.specs.Any.{Does, DidVulkan, DidMetal, DidD3D12, 
 ghost use Rattle.gpu_trace_text.specs.Replay.{ReplaysTrace};
 ghost use Rattle.gpu_trace_text.specs.declared.any.AnyTrace.TheVariants.{Vulkan};
 
-use gpu_trace_text::d3d12 as d3d12;
-use gpu_trace_text::metal as metal;
-use gpu_trace_text::Stage;
-use gpu_trace_text::{Outcome, Replayed, Trace, TraceError};
+use crate::{Outcome, Replayed, Stage, Trace, TraceError, d3d12, metal, replay_from, run_from};
 use log::Log;
 use std::alloc::{AllocError, Global};
 use std::io;
@@ -29,7 +26,7 @@ pub enum AnyTrace {
 /// The answer to a line of a trace of any sort.
 #[derive(Drop)]
 pub enum AnyReply {
-    Vulkan(gpu_trace_text::Reply),
+    Vulkan(crate::Reply),
     Metal(metal::Reply),
     D3D12(d3d12::Reply),
 }
@@ -159,7 +156,7 @@ pub fn run_trace<R: Read, W: Write, L: Log>(
     ensures bad { result ≡ 2 → IfSome (R.remaining reader.old) (λ input. (n : ℕ) ×
         Answers Does reply_line (Vulkan stages.Before) input (W.contents writer.old) (W.contents writer.new) (Some n)) }
 {
-    gpu_trace_text::run_trace(log, alloc, AnyTrace::Vulkan(Stage::Before), reader, writer)
+    run_from(log, alloc, AnyTrace::Vulkan(Stage::Before), reader, writer)
 }
 
 /// Reads a trace of any sort and serves its lines, and writes no replies: what each line means stands in docs/TRACE.md. Answers
@@ -172,5 +169,5 @@ pub fn replay_trace<R: Read, L: Log>(
 ) -> Result<Replayed<AnyTrace>, TraceError>
     ensures { IfOk result (λ r. IfSome (R.remaining reader.old) (λ input. ReplaysTrace Does (Vulkan stages.Before) input r)) }
 {
-    gpu_trace_text::replay_trace(log, alloc, AnyTrace::Vulkan(Stage::Before), reader)
+    replay_from(log, alloc, AnyTrace::Vulkan(Stage::Before), reader)
 }

@@ -4,9 +4,8 @@ ghost use Rattle.std.specs.Prelude.{◌≡◌, ◌<◌, IsTrue};
 ghost use Rattle.std.specs.Int.{is_power_of_two};
 ghost use Rattle.gpu_trace_text.specs.BlockStage.{block_size};
 
-use gpu_run::block::BlockSession;
 use gpu_run::ErrorNumber;
-use gpu_run::block::{Command, Reply, Side};
+use gpu_run::block::{BlockSession, Command, Reply, Side};
 use gpu_values::AllocationSizes;
 use std::alloc::Global;
 

@@ -1,9 +1,9 @@
 //! The configuration of a device trace.
 
+use crate::device::setting::{Setting, sizes_of};
 use gpu_device::vulkan::{MemoryHeap, MemoryPropertyFlags, MemoryTypeInfo};
 use gpu_sim::SimVulkan;
 use gpu_sim_base::Refusal;
-use gpu_trace_text::device::setting::{Setting, sizes_of};
 use gpu_values::AllocationSizes;
 use std::alloc::{AllocError, Global};
 use std::marker::Model;

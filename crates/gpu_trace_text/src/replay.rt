@@ -42,7 +42,7 @@ fn replay_lines<T: Trace, L: Log>(
 /// Reads a trace and serves its lines from this start on: what each line means stands in docs/TRACE.md. Answers how far they
 /// come, or the number of the first bad line; a trace above 1,048,576 bytes is bad in its first. Fails where a read fails, or
 /// memory for the trace itself is refused; then the trace is ended.
-pub fn replay_trace<T: Trace, R: Read, L: Log>(
+pub fn replay_from<T: Trace, R: Read, L: Log>(
     log: &L,
     alloc: Global,
     start: T,

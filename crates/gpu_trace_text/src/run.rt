@@ -137,7 +137,7 @@ fn run<T: Trace, R: Read, W: Write, L: Log>(
 /// read; 2 where one could not be, and then `bad line N` is written behind the earlier replies; 1 where a read or a write
 /// failed, or memory for the trace itself was refused. Replies are written one by one and flushed at the end, so hand in a
 /// writer with a buffer.
-pub fn run_trace<T: Trace, R: Read, W: Write, L: Log>(
+pub fn run_from<T: Trace, R: Read, W: Write, L: Log>(
     log: &L,
     alloc: Global,
     start: T,

@@ -9,10 +9,9 @@ ghost use Rattle.gpu_block.specs.Block.{is_general, HasPages, IsSoundBlock};
 ghost use Rattle.gpu_block.specs.SubAllocator.{block_of};
 ghost use Rattle.gpu_run.specs.BlockSession.{Taking};
 
-use gpu_block::{FreeListAllocator, SubAllocator};
+use crate::{ErrorNumber, Machine, number_of};
 use crate::block::{Command, Kind, Reply, Report};
-use crate::{ErrorNumber, number_of};
-use crate::Machine;
+use gpu_block::{FreeListAllocator, SubAllocator};
 use gpu_values::AllocationType;
 use log::Log;
 use std::alloc::Global;

@@ -2,7 +2,7 @@ use Rattle.std.proofs.Common.{rules, ◌≡◌, ◌∙◌, ap, ◌<◌, ◌≤�
 use Rattle.gpu_trace_text.specs.Words.{texts}
 use Rattle.gpu_trace_text.specs.Run.{lines_of, longest_trace}
 use Rattle.gpu_trace_text.proofs.Leading.{too_long, all_read}
-use Rattle.gpu_trace_text.proofs.replay.replay_trace.Goals as goal
+use Rattle.gpu_trace_text.proofs.replay.replay_from.Goals as goal
 
 pub returns-then-len-gt-LIMIT : goal.returns-then-len-gt-LIMIT
 returns-then-len-gt-LIMIT g c =
