@@ -7,4 +7,4 @@ mod rings;
 mod tiered_vec;
 mod tiers;
 
-pub use crate::TieredVec;
+pub use tiered_vec::TieredVec;
