@@ -11,7 +11,7 @@ use Rattle.gpu_block_chunks.specs.ChunkList.{IsFree, Covers}
 use Rattle.gpu_block_pieces.specs.Chunks.{NoneTouch, last_kind, first_kind, Differ, extent, free_list_of, FitsAt, IsBestOf, NoneFits, size_at}
 use Rattle.gpu_block_pieces.proofs.Tiling.{Around, around, Covers-le, last_kind-push, size_at-split}
 use Rattle.gpu_block_pieces.proofs.Views.{member_of, contains_chunk, earlier, same, later}
-use Rattle.gpu_block_pieces.proofs.Gaps.{Placed, placed_at, left_of, order_in, gap_of_chunk, FreeChunk, chunk_of_gap}
+use Rattle.gpu_block_pieces.proofs.GapStarts.{Placed, placed_at, left_of, order_in, gap_of_chunk, FreeChunk, chunk_of_gap}
 
 differ_from : (k kind : AllocationType) → (IsFree k → ⊥) → (kind ≢ Free) → k ≢ kind → Differ k kind
 differ_from Free kind live piece ne = live tt

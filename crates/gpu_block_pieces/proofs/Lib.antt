@@ -6,7 +6,7 @@ pub mod Lists
 pub mod Tiling
 pub mod Edits
 pub mod Views
-pub mod Gaps
+pub mod GapStarts
 pub mod Chosen
 pub mod Keyed
 pub mod Takings

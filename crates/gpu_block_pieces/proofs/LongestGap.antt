@@ -11,7 +11,7 @@ use Rattle.gpu_block_pieces.specs.Request.{Request}
 use Rattle.gpu_block_pieces.specs.Place.{HasNoPlace}
 use Rattle.gpu_block_pieces.specs.Chunks.{AreChunks, last_kind, free_list_of}
 use Rattle.gpu_block_pieces.specs.Indexed.{gap_between, kind_or, gaps_between, HasSame, IsLongestOf}
-use Rattle.gpu_block_pieces.proofs.Gaps.{gap_of_chunk, chunk_of_gap}
+use Rattle.gpu_block_pieces.proofs.GapStarts.{gap_of_chunk, chunk_of_gap}
 use Rattle.gpu_block_pieces.proofs.Indexing.{gap_of_member, member_at, same_member, same_back}
 
 -- ---- of the chunks

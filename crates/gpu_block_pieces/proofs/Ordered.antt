@@ -16,7 +16,7 @@ use Rattle.gpu_block_pieces.specs.Chunks.{IsChunk, AreChunks, extent, extents_of
 use Rattle.gpu_block_pieces.specs.Indexed.{gap_between, kind_or, gaps_between}
 use Rattle.gpu_block_pieces.proofs.Views.{free_or_live, extents-free, extents-live, gaps-free, gaps-live, gaps-append, contains_mid}
 use Rattle.gpu_block_pieces.proofs.Takings.{StartsIn, GapIn, extents_in, gaps_in}
-use Rattle.gpu_block_pieces.proofs.Gaps.{chunk_of_gap, gap_of_chunk}
+use Rattle.gpu_block_pieces.proofs.GapStarts.{chunk_of_gap, gap_of_chunk}
 use Rattle.gpu_block_pieces.proofs.Sound.{gap_member}
 use Rattle.gpu_block_pieces.proofs.Indexing.{first_free, first_live, few_gaps}
 

@@ -14,7 +14,7 @@ use Rattle.gpu_block_pieces.proofs.Numbers.{Not, distinct_less, same_number, sam
 use Rattle.gpu_block_pieces.proofs.Tiling.{Around, around, Covers-join, last_kind-push}
 use Rattle.gpu_block_pieces.proofs.Edits.{join_front-push, join_kinds-free, join_kinds-live}
 use Rattle.gpu_block_pieces.proofs.Views.{free_or_live, extents-free, gaps-free, gaps-live, extents-append, gaps-append, extents-split, contains_chunk, member_of}
-use Rattle.gpu_block_pieces.proofs.Gaps.{gap_of_chunk, placed_at, left_of}
+use Rattle.gpu_block_pieces.proofs.GapStarts.{gap_of_chunk, placed_at, left_of}
 use Rattle.gpu_block_pieces.proofs.Takings.{StartsIn, GapIn, extents_in, gaps_in, Touching, touching, touch_join, live_after, live_before, Each, each_of}
 use Rattle.gpu_block_pieces.proofs.Keyed.{kept_all, kept_mid, placed-mid}
 

@@ -9,7 +9,7 @@ use Rattle.gpu_block_chunks.specs.ChunkList.{IsFree, Covers, AreDistinct}
 use Rattle.gpu_block_pieces.specs.Chunks.{AreChunks, IsChunk, extent, extents_of, gaps_of, free_list_of}
 use Rattle.gpu_block_pieces.proofs.Tiling.{around, Covers-le}
 use Rattle.gpu_block_pieces.proofs.Views.{free_or_live, gaps-free, gaps-live, contains_mid, Member, all_members, member_of, earlier, same, later}
-use Rattle.gpu_block_pieces.proofs.Gaps.{order_in}
+use Rattle.gpu_block_pieces.proofs.GapStarts.{order_in}
 use Rattle.gpu_block_pieces.proofs.Takings.{each_of}
 use Rattle.gpu_block_pieces.proofs.Numbers.{Not, one_at}
 
