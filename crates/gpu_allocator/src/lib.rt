@@ -9,5 +9,5 @@ pub use gpu_core::{
     AllocationError, AllocationReport, AllocationSizes, AllocationType, AllocatorDebugSettings,
     AllocatorReport, BlockStatistics, DedicatedBlockAllocator, Fault, FreeListAllocator, Gaps,
     Leak, Leaks, LivePiece, MemoryBlockReport, MemoryLocation, MemoryType, NeedBlock, Piece,
-    Pieces, Prepared, Request, Result, Room, SubAllocator, TypeLeaks, fmt_bytes, laws, type_laws,
+    Pieces, Prepared, Request, Result, PendingBlock, SubAllocator, TypeLeaks, fmt_bytes, laws, type_laws,
 };

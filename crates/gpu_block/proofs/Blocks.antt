@@ -6,8 +6,8 @@ use Rattle.gpu_values.specs.declared.error.AllocationError.TheVariants.{OutOfMem
 use Rattle.gpu_block_pieces.specs.FreeList.{FreeList}
 use Rattle.gpu_block_pieces.specs.Request.{Request}
 use Rattle.gpu_block_pieces.specs.Changes.{Renames}
-use Rattle.gpu_block.specs.Block.{Block, free_list, dedicated, TakesIn, ReleasesIn, RenamesIn, IsTakeRefusalIn, IsSoundBlock}
-use Rattle.gpu_block_pieces.proofs.Determined.{takes_once, takes_or_none, releases_once, same_block}
+use Rattle.gpu_block.specs.Block.{Block, free_list, dedicated, TakesIn, ReleasesIn, RenamesIn, IsAllocateRefusalIn, IsSoundBlock}
+use Rattle.gpu_block_pieces.proofs.OneOutcome.{takes_once, takes_or_none, releases_once, same_block}
 
 pub take_once_in : (old : Block) (r : Request) (o p n m : ℕ) (new next : Block) → IsSoundBlock old → TakesIn old r o n new → TakesIn old r p m next → (o ≡ p) × (n ≡ m) × (new ≡ next)
 take_once_in (free_list old) r o p n m (free_list new) (free_list next) sound t u =
@@ -24,7 +24,7 @@ not_empty : {X : Type 0} (o : Option X) → IsSome o → o ≡ None → ⊥
 not_empty None h e = absurd (false≢true h)
 not_empty (Some x) h e = cc
 
-pub take_or_none_in : (old : Block) (r : Request) (o n : ℕ) (new : Block) → TakesIn old r o n new → IsTakeRefusalIn old r OutOfMemory → ⊥
+pub take_or_none_in : (old : Block) (r : Request) (o n : ℕ) (new : Block) → TakesIn old r o n new → IsAllocateRefusalIn old r OutOfMemory → ⊥
 take_or_none_in (free_list old) r o n (free_list new) t h = takes_or_none old r o n new t h
 take_or_none_in (free_list old) r o n (dedicated new) t h = t
 take_or_none_in (dedicated old) r o n (dedicated new) t h =

@@ -10,8 +10,8 @@ use Rattle.gpu_block_pieces.specs.Place.{HasNoPlace}
 use Rattle.gpu_block_pieces.specs.Search.{IsSearch}
 use Rattle.gpu_block_pieces.specs.Changes.{Takes, Releases, Renames}
 use Rattle.gpu_values.specs.Refusal.{Refusal, refusal_of}
-use Rattle.gpu_block_pieces.specs.BlockRefusal.{IsTakeRefusal, release_refusal, IsRenameRefusal}
-use Rattle.gpu_block.specs.Dedicated.{Dedicated, held_extents, IsWhole, DedicatedTakes, IsDedicatedTakeRefusal, DedicatedReleases, IsDedicatedReleaseRefusal, DedicatedRenames}
+use Rattle.gpu_block_pieces.specs.BlockRefusal.{IsAllocateRefusal, release_refusal, IsRenameRefusal}
+use Rattle.gpu_block.specs.Dedicated.{Dedicated, held_extents, IsWhole, DedicatedTakes, IsDedicatedAllocateRefusal, DedicatedReleases, IsDedicatedReleaseRefusal, DedicatedRenames}
 use Rattle.gpu_block.specs.Dedicated.{IsDedicatedRenameRefusal}
 use Rattle.gpu_block_pieces.specs.Laws.{IsSound, IsInOrder, IsPageSeparated, IsLongEnough, IsForNumbers, IsCovered}
 
@@ -39,9 +39,9 @@ abbrev pub allocated_bytes : Block → ℕ
 allocated_bytes b = extent_bytes (extents_of b)
 
 -- whether the block serves requests of any size
-abbrev pub is_general : Block → Bool
-is_general (free_list b) = true
-is_general (dedicated b) = false
+abbrev pub is_shared : Block → Bool
+is_shared (free_list b) = true
+is_shared (dedicated b) = false
 
 -- the page size that a request names is the block's; a dedicated block has none
 abbrev pub HasPages : Block → ℕ → Type 0
@@ -79,9 +79,9 @@ HasNoPlaceIn (free_list b) r = HasNoPlace b r
 HasNoPlaceIn (dedicated b) r = IsSome b.piece ⊎ (r.size ≢ b.size)
 
 -- why a take is refused
-abbrev pub IsTakeRefusalIn : Block → Request → AllocationError → Type 0
-IsTakeRefusalIn (free_list b) r e = IsTakeRefusal b r e
-IsTakeRefusalIn (dedicated b) r e = IsDedicatedTakeRefusal b r (refusal_of e)
+abbrev pub IsAllocateRefusalIn : Block → Request → AllocationError → Type 0
+IsAllocateRefusalIn (free_list b) r e = IsAllocateRefusal b r e
+IsAllocateRefusalIn (dedicated b) r e = IsDedicatedAllocateRefusal b r (refusal_of e)
 
 -- why a release is refused
 abbrev pub IsReleaseRefusalIn : Block → Option NonZeroU64 → Refusal → Type 0

@@ -4,7 +4,7 @@ use Rattle.gpu_block_pieces.specs.FreeList.{extent_bytes}
 use Rattle.gpu_block_pieces.specs.declared.pieces.BlockStatistics.{BlockStatistics}
 use Rattle.gpu_block_pieces.specs.Leak.{LeakOf, leak_of}
 use Rattle.gpu_block_pieces.specs.Pieces.{gaps_between, longest}
-use Rattle.gpu_block.specs.Block.{Block, extents_of, size_of, is_general}
+use Rattle.gpu_block.specs.Block.{Block, extents_of, size_of, is_shared}
 
 -- the gaps of a block, in order
 abbrev pub gaps_in : Block → List (ℕ × ℕ)
@@ -21,4 +21,4 @@ statistics_of b = record {
 
 -- the live pieces of a block, in the order of their starts
 abbrev pub leaks_of : ℕ → ℕ → Block → List LeakOf
-leaks_of memory_type memory_block b = map (leak_of memory_type memory_block (is_general b)) (extents_of b)
+leaks_of memory_type memory_block b = map (leak_of memory_type memory_block (is_shared b)) (extents_of b)

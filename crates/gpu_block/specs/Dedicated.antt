@@ -34,8 +34,8 @@ DedicatedTakes old r offset number new =
     (old.piece ≡ None) × (r.size ≡ old.size) × (offset ≡ 0) × (number ≡ 1) × (new ≡ record { size = old.size; piece = Some (whole_extent r) })
 
 -- why a take is refused: the block is taken, or it is of another size, or the host's memory was refused
-abbrev pub IsDedicatedTakeRefusal : Dedicated → Request → Refusal → Type 0
-IsDedicatedTakeRefusal b r refusal =
+abbrev pub IsDedicatedAllocateRefusal : Dedicated → Request → Refusal → Type 0
+IsDedicatedAllocateRefusal b r refusal =
     (IsSome b.piece × (refusal ≡ out_of_memory))
     ⊎ (((b.piece ≡ None) × (r.size ≢ b.size) × (refusal ≡ internal (codes "DedicatedBlockAllocator size must match allocation size.") None))
     ⊎ ((b.piece ≡ None) × (r.size ≡ b.size) × (refusal ≡ host_out_of_memory)))

@@ -46,7 +46,7 @@ impl DedicatedBlockAllocator {
     ghost use Rattle.gpu_block_pieces.specs.Request.{Request, request};
     ghost use Rattle.gpu_block.specs.Block.{HasNoPlaceIn, dedicated};
     ghost use Rattle.gpu_block_pieces.specs.Pieces.{gaps_between, longest};
-    ghost use Rattle.gpu_block.specs.Dedicated.{IsWhole, empty_dedicated, held_extents, DedicatedTakes, IsDedicatedTakeRefusal, DedicatedReleases, IsDedicatedReleaseRefusal, DedicatedRenames, IsDedicatedRenameRefusal};
+    ghost use Rattle.gpu_block.specs.Dedicated.{IsWhole, empty_dedicated, held_extents, DedicatedTakes, IsDedicatedAllocateRefusal, DedicatedReleases, IsDedicatedReleaseRefusal, DedicatedRenames, IsDedicatedRenameRefusal};
 
     /// An empty block of `size` bytes, which isn't 0. It takes no memory.
     pub fn new(alloc: Global, size: u64) -> Self
@@ -73,7 +73,7 @@ impl DedicatedBlockAllocator {
         ensures took { IfOk result
             (λ p. DedicatedTakes self.old (request size 1 kind name.now) p.0 (non_zero_u64_get p.1) self.new) }
         ensures cause { IfErr result
-            (λ e. IsDedicatedTakeRefusal self.old (request size 1 kind name.now) (refusal_of e)) }
+            (λ e. IsDedicatedAllocateRefusal self.old (request size 1 kind name.now) (refusal_of e)) }
         ensures refused { OnErr result (self.new ≡ self.old) }
         ensures sound { OnOk result (IsWhole self.new) }
     {

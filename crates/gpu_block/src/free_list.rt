@@ -47,7 +47,7 @@ impl FreeListAllocator {
     ghost use Rattle.gpu_cost.specs.Cost.{Rises};
     ghost use Rattle.gpu_block_pieces.specs.Search.{IsSearch};
     ghost use Rattle.gpu_block_pieces.specs.Changes.{Takes, Releases, Renames};
-    ghost use Rattle.gpu_block_pieces.specs.BlockRefusal.{IsTakeRefusal, release_refusal, IsRenameRefusal};
+    ghost use Rattle.gpu_block_pieces.specs.BlockRefusal.{IsAllocateRefusal, release_refusal, IsRenameRefusal};
     ghost use Rattle.gpu_block_pieces.specs.Laws.{IsSound, IsInOrder, IsPageSeparated, IsLongEnough, IsForNumbers, IsCovered};
 
     /// Takes the best place for `size` bytes, and answers the piece's offset in bytes and its number. `OutOfMemory` where
@@ -69,7 +69,7 @@ impl FreeListAllocator {
         ensures took { IfOk result
             (λ p. Takes self.old.block (request size alignment kind name.now) p.0 (non_zero_u64_get p.1) self.new.block) }
         ensures cause { IfErr result
-            (λ e. IsTakeRefusal self.old.block (request size alignment kind name.now) e) }
+            (λ e. IsAllocateRefusal self.old.block (request size alignment kind name.now) e) }
         ensures refused { OnErr result (self.new.block ≡ self.old.block) }
         ensures pages { self.new.block.granularity ≡ self.old.block.granularity }
         // where the pieces lie, for all pairs of them; and a gap that is long enough is never refused

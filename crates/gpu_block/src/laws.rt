@@ -2,25 +2,25 @@
 
 ghost use Rattle.std.specs.Prelude.{◌≡◌, ℕ, List};
 ghost use Rattle.gpu_values.specs.declared.error.AllocationError.TheVariants.{OutOfMemory};
-ghost use Rattle.gpu_block.specs.Block.{Block, TakesIn, ReleasesIn, RenamesIn, IsTakeRefusalIn, IsSoundBlock};
+ghost use Rattle.gpu_block.specs.Block.{Block, TakesIn, ReleasesIn, RenamesIn, IsAllocateRefusalIn, IsSoundBlock};
 ghost use Rattle.gpu_block_pieces.specs.Request.{Request};
 
 pub use gpu_block_pieces::laws::{
     empty_block_has_place, extents_and_gaps_cover, kinds_share_no_page, long_gap_fits, one_release,
-    one_take, release_keeps_the_others, take_adds_one_piece, takes_or_refuses,
+    one_allocate, release_keeps_the_others, allocate_adds_one_piece, allocates_or_refuses,
 };
 pub use gpu_values::laws::one_bytes_text;
 
 /// A take in a block has one outcome.
-pub fn one_take_in()
+pub fn one_allocate_in()
     ensures { (old : Block) (r : Request) (o p n m : ℕ) (new next : Block) → IsSoundBlock old
         → TakesIn old r o n new → TakesIn old r p m next → (o ≡ p) × (n ≡ m) × (new ≡ next) }
 {}
 
 /// A take in a block and a refusal for want of a place exclude each other.
-pub fn takes_or_refuses_in()
+pub fn allocates_or_refuses_in()
     ensures { (old : Block) (r : Request) (o n : ℕ) (new : Block) → TakesIn old r o n new
-        → IsTakeRefusalIn old r OutOfMemory → ⊥ }
+        → IsAllocateRefusalIn old r OutOfMemory → ⊥ }
 {}
 
 /// A release in a block has one outcome.

@@ -4,7 +4,7 @@
 mod dedicated_block;
 mod free_list;
 pub mod laws;
-mod readings;
+mod queries;
 mod sub_allocator;
 
 pub use dedicated_block::DedicatedBlockAllocator;

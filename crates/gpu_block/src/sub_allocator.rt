@@ -29,7 +29,7 @@ impl SubAllocator {
     ghost use Rattle.gpu_block_pieces.specs.Leak.{leak_text};
     ghost use Rattle.gpu_block_pieces.specs.Pieces.{LieBetween};
     ghost use Rattle.gpu_block.specs.BlockViews.{gaps_in, statistics_of, leaks_of};
-    ghost use Rattle.gpu_block.specs.Block.{extents_of, size_of, allocated_bytes, is_general, HasPages, TakesIn, HasNoPlaceIn, IsTakeRefusalIn, ReleasesIn, IsReleaseRefusalIn, RenamesIn, IsRenameRefusalIn, IsSoundBlock, IsOrderedBlock, HasPagesApart, IsCoveredBlock, IsFitLaw, IsSearchIn, CountsRise};
+    ghost use Rattle.gpu_block.specs.Block.{extents_of, size_of, allocated_bytes, is_shared, HasPages, TakesIn, HasNoPlaceIn, IsAllocateRefusalIn, ReleasesIn, IsReleaseRefusalIn, RenamesIn, IsRenameRefusalIn, IsSoundBlock, IsOrderedBlock, HasPagesApart, IsCoveredBlock, IsFitLaw, IsSearchIn, CountsRise};
 
     /// Takes a place for `size` bytes, and answers the piece's offset in bytes and its number. A free list takes the least place
     /// in the shortest gap that fits, and refuses by `OutOfMemory` where there is none. A dedicated block takes a piece of
@@ -52,7 +52,7 @@ impl SubAllocator {
         ensures took { IfOk result
             (λ p. TakesIn (block_of self.old) (request size alignment kind name.now) p.0 (non_zero_u64_get p.1) (block_of self.new)) }
         ensures cause { IfErr result
-            (λ e. IsTakeRefusalIn (block_of self.old) (request size alignment kind name.now) e) }
+            (λ e. IsAllocateRefusalIn (block_of self.old) (request size alignment kind name.now) e) }
         ensures refused { OnErr result (block_of self.new ≡ block_of self.old) }
         ensures pages { (g : ℕ) → HasPages (block_of self.old) g → HasPages (block_of self.new) g }
         // where the pieces lie, for all pairs of them; and a gap that is long enough is never refused
@@ -227,7 +227,7 @@ impl SubAllocator {
 
     /// Whether pieces of any size may be asked for: true of a free list alone.
     pub fn supports_general_allocations(&self) -> bool
-        ensures { result ≡ is_general (block_of self.now) }
+        ensures { result ≡ is_shared (block_of self.now) }
     {
         match self {
             SubAllocator::FreeList(_) => true,

@@ -5,5 +5,5 @@ pub mod FreeSlots
 pub mod Splits
 pub mod Joins
 pub mod Unlinks
-pub mod Neighbours
+pub mod NextTo
 pub mod Listing

@@ -6,11 +6,11 @@ use Rattle.std.proofs.lemmas.List.{append_assoc}
 use Rattle.std.proofs.lemmas.List.Elements.{All-nil, All-cons, All-head, All-tail}
 use Rattle.gpu_block_chunks.specs.declared.chunk.Chunk.{Chunk}
 use Rattle.gpu_block_chunks.specs.Chain.{Node}
-use Rattle.gpu_block_chunks.specs.declared.chain.Beside.{Beside}
+use Rattle.gpu_block_chunks.specs.declared.chain.Neighbour.{Neighbour}
 use Rattle.gpu_values.specs.declared.allocation_type.AllocationType.{AllocationType}
 use Rattle.gpu_values.specs.declared.allocation_type.AllocationType.TheVariants.{Free, Linear, NonLinear}
 use Rattle.gpu_block_chunks.specs.ChunkList.{filled_chunk, cut_chunk, join_kinds, join_back, join_front, AreDistinct}
-use Rattle.gpu_block_chunks.specs.Chain.{Name, first_or, last_or, node_of, Held, Apart, Distinct, Numbered, Among, IsChain, chunks_in, StandsAt, HasNumber, HasNoNumber, IsAround, IsChunkAt}
+use Rattle.gpu_block_chunks.specs.Chain.{Name, first_or, last_or, node_of, Held, Apart, Distinct, Numbered, Among, IsChain, chunks_in, StandsAt, HasNumber, HasNoNumber, AreNeighbours, IsChunkAt}
 use Rattle.gpu_block_chunks.specs.Chain.{IsLonger, IsSplit, IsFilled, IsReleased, from_number, beside, beside_of, last_beside, first_beside, longer, right_chunk, right_rest, glue_left}
 use Rattle.gpu_block_chunks.specs.Chain.{is_free_kind, front_piece, ChangesAt, used_node, JoinsRight, JoinsLeft, walk}
 use Rattle.gpu_block_chunks.proofs.Links.{stands_from, same_test, apart_test, apart_front, held_front, held_back, apart_from_none}
@@ -64,7 +64,7 @@ apart_of k (x ∷ xs) h n =
 
 -- ---- what is beside a chunk
 
-some_last : (b : Option ℕ) (kb : Option Beside) (xs : List (ℕ × Chunk)) → is_some b ≡ is_some kb → is_some (last_or b xs) ≡ is_some (last_beside kb (chunks_in xs))
+some_last : (b : Option ℕ) (kb : Option Neighbour) (xs : List (ℕ × Chunk)) → is_some b ≡ is_some kb → is_some (last_or b xs) ≡ is_some (last_beside kb (chunks_in xs))
 some_last b kb [] e = e
 some_last b kb (x ∷ xs) e = some_last (Some x.0) (Some (beside x.1)) xs refl
 
@@ -73,7 +73,7 @@ some_first [] = refl
 some_first (x ∷ xs) = refl
 
 module _ (f : ℕ → Option Node) where
-  last_beside_is : (b : Option ℕ) (kb : Option Beside) (xs : List (ℕ × Chunk)) (a : Option ℕ) → Held f b xs a → beside_of f b ≡ kb → beside_of f (last_or b xs) ≡ last_beside kb (chunks_in xs)
+  last_beside_is : (b : Option ℕ) (kb : Option Neighbour) (xs : List (ℕ × Chunk)) (a : Option ℕ) → Held f b xs a → beside_of f b ≡ kb → beside_of f (last_or b xs) ≡ last_beside kb (chunks_in xs)
   last_beside_is b kb [] a h e = e
   last_beside_is b kb (x ∷ xs) a h e = last_beside_is (Some x.0) (Some (beside x.1)) xs a h.1 (ap (λ (o : Option Node). option_map (λ (n : Node). beside n.chunk) o) h.0)
 
@@ -82,8 +82,8 @@ module _ (f : ℕ → Option Node) where
   first_beside_is b (x ∷ xs) h = ap (λ (o : Option Node). option_map (λ (n : Node). beside n.chunk) o) h.0
 
   pub is_around : (first size : ℕ) (ps : List (ℕ × Chunk)) (cs : List Chunk) → IsChain f first size ps → chunks_in ps ≡ cs → (k : ℕ) (n : Node) → f k ≡ Some n
-      → (before after : Option Beside) → before ≡ beside_of f n.prev → after ≡ beside_of f n.next
-      → IsAround cs k (record { here = beside n.chunk; before = before; after = after })
+      → (before after : Option Neighbour) → before ≡ beside_of f n.prev → after ≡ beside_of f n.next
+      → AreNeighbours cs k (record { here = beside n.chunk; before = before; after = after })
   is_around first size ps cs chain e k n at before after eb ea =
       let s = stands_from k n.chunk ps (chain.every k n at) in
       let h = subst (λ (ys : List (ℕ × Chunk)). Held f None ys None) s.is chain.held in
@@ -102,7 +102,7 @@ module _ (f : ℕ → Option Node) where
 
   -- a chunk has a number beside it where it has a chunk beside it
   pub sides : (first size : ℕ) (ps : List (ℕ × Chunk)) → IsChain f first size ps → (k : ℕ) (n : Node) → f k ≡ Some n
-      → (before after : Option Beside) → before ≡ beside_of f n.prev → after ≡ beside_of f n.next
+      → (before after : Option Neighbour) → before ≡ beside_of f n.prev → after ≡ beside_of f n.next
       → (is_some before ≡ is_some n.prev) × (is_some after ≡ is_some n.next)
   sides first size ps chain k n at before after eb ea =
       let s = stands_from k n.chunk ps (chain.every k n at) in

@@ -5,8 +5,8 @@ use Rattle.std.specs.Option.{option_map}
 use Rattle.gpu_values.specs.declared.allocation_type.AllocationType.{AllocationType}
 use Rattle.gpu_values.specs.declared.allocation_type.AllocationType.TheVariants.{Free, Linear, NonLinear}
 use Rattle.gpu_block_chunks.specs.declared.chunk.Chunk.{Chunk}
-use Rattle.gpu_block_chunks.specs.declared.chain.Beside.{Beside}
-use Rattle.gpu_block_chunks.specs.declared.chain.Around.{Around}
+use Rattle.gpu_block_chunks.specs.declared.chain.Neighbour.{Neighbour}
+use Rattle.gpu_block_chunks.specs.declared.chain.Neighbours.{Neighbours}
 use Rattle.gpu_block_chunks.specs.ChunkList.{Covers, cut_chunk, filled_chunk, join_back, join_front}
 
 -- the bytes of a name
@@ -35,19 +35,19 @@ HasNumber cs number = (c : Chunk) × StandsAt cs number c
 abbrev pub HasNoNumber : List Chunk → ℕ → Type 0
 HasNoNumber cs number = All (λ c. c.number ≢ number) cs
 
-abbrev pub beside : Chunk → Beside
+abbrev pub beside : Chunk → Neighbour
 beside c = record { start = c.start; size = c.size; kind = c.kind; number = c.number }
 
-abbrev pub last_beside : Option Beside → List Chunk → Option Beside
+abbrev pub last_beside : Option Neighbour → List Chunk → Option Neighbour
 last_beside before [] = before
 last_beside before (c ∷ cs) = last_beside (Some (beside c)) cs
 
-abbrev pub first_beside : List Chunk → Option Beside
+abbrev pub first_beside : List Chunk → Option Neighbour
 first_beside [] = None
 first_beside (c ∷ cs) = Some (beside c)
 
 -- the chunk of that number, and what stands beside it
-pub record IsAround (cs : List Chunk) (number : ℕ) (a : Around) : Type 0 where
+pub record AreNeighbours (cs : List Chunk) (number : ℕ) (a : Neighbours) : Type 0 where
   pub chunk : Chunk
   pub at : StandsAt cs number chunk
   pub here : a.here ≡ beside chunk
@@ -55,7 +55,7 @@ pub record IsAround (cs : List Chunk) (number : ℕ) (a : Around) : Type 0 where
   pub after : a.after ≡ first_beside at.back
 
 -- how many stand beside a chunk
-abbrev pub neighbours : Option Around → ℕ
+abbrev pub neighbours : Option Neighbours → ℕ
 neighbours None = 0
 neighbours (Some a) = (if is_some a.before then 1 else 0) + (if is_some a.after then 1 else 0)
 
@@ -262,7 +262,7 @@ abbrev pub ChangesAt : ℕ → (Node → Node) → (ℕ → Option Node) → (�
 ChangesAt k change f g = (q : ℕ) → g q ≡ cond (k == q) (option_map change (f q)) (f q)
 
 -- what is known beside a chunk from the map alone
-abbrev pub beside_of : (ℕ → Option Node) → Option ℕ → Option Beside
+abbrev pub beside_of : (ℕ → Option Node) → Option ℕ → Option Neighbour
 beside_of f None = None
 beside_of f (Some k) = option_map (λ n. beside n.chunk) (f k)
 

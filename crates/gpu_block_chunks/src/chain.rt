@@ -5,7 +5,7 @@ ghost use Rattle.std.specs.Option.{option_copied, option_map};
 ghost use Rattle.gpu_cost.specs.Cost.{LooksUp, LooksUpBetween};
 ghost use Rattle.gpu_block_chunks.specs.Nodes.{held_at, node_value, link_number, Leads, Reaches};
 ghost use Rattle.gpu_block_chunks.specs.ChunkList.{Covers, AreDistinct};
-ghost use Rattle.gpu_block_chunks.specs.Chain.{HasNumber, HasNoNumber, IsAround, neighbours, IsSplit, IsFilled, IsReleased, from_number, beside, beside_of, first_after, IsChunkAt, IsFresh, IsLonger};
+ghost use Rattle.gpu_block_chunks.specs.Chain.{HasNumber, HasNoNumber, AreNeighbours, neighbours, IsSplit, IsFilled, IsReleased, from_number, beside, beside_of, first_after, IsChunkAt, IsFresh, IsLonger};
 
 mod link;
 mod node;
@@ -24,7 +24,7 @@ use std::marker::Model;
 
 /// A chunk without its name.
 #[derive(Clone, Copy)]
-pub struct Beside {
+pub struct Neighbour {
     pub start: u64,
     pub size: u64,
     pub kind: AllocationType,
@@ -33,10 +33,10 @@ pub struct Beside {
 
 /// A chunk, and what stands before and behind it.
 #[derive(Clone, Copy)]
-pub struct Around {
-    pub here: Beside,
-    pub before: Option<Beside>,
-    pub after: Option<Beside>,
+pub struct Neighbours {
+    pub here: Neighbour,
+    pub before: Option<Neighbour>,
+    pub after: Option<Neighbour>,
 }
 
 /// The chunks of a block, from its start to its end. They cover it without overlap, and no two have one number.
@@ -73,10 +73,10 @@ fn node_at<'a>(nodes: &'a Nodes, number: u64, cost: &mut Cost) -> Option<&'a Lin
     nodes.get(number)
 }
 
-fn short(chunk: &Chunk) -> Beside
+fn short(chunk: &Chunk) -> Neighbour
     ensures { result ≡ beside chunk.now }
 {
-    Beside {
+    Neighbour {
         start: chunk.start,
         size: chunk.size,
         kind: chunk.kind,
@@ -85,7 +85,7 @@ fn short(chunk: &Chunk) -> Beside
 }
 
 /// The chunk that a link leads to, if it is one.
-fn beside_at(nodes: &Nodes, link: Option<Link>, cost: &mut Cost) -> Option<Beside>
+fn beside_at(nodes: &Nodes, link: Option<Link>, cost: &mut Cost) -> Option<Neighbour>
     requires { Reaches nodes.now link }
     ensures value { result ≡ beside_of (held_at nodes.now) (link_number link) }
     ensures counted { LooksUp (if is_some link then 1 else 0) cost.old cost.new }
@@ -111,7 +111,7 @@ impl Chain {
         ensures { IfOk result (λ c. (c.size ≡ size) × IsFresh c.chunks size) }
     {
         let mut nodes = Nodes::with_capacity(alloc, 1)?;
-        let here = Beside {
+        let here = Neighbour {
             start: 0,
             size,
             kind: AllocationType::Free,
@@ -162,8 +162,8 @@ impl Chain {
     }
 
     /// The chunk of that number, and what stands beside it.
-    pub fn around(&self, number: u64, cost: &mut Cost) -> Option<Around>
-        ensures value { MatchOption result (HasNoNumber self.now.chunks number) (λ a. IsAround self.now.chunks number a) }
+    pub fn around(&self, number: u64, cost: &mut Cost) -> Option<Neighbours>
+        ensures value { MatchOption result (HasNoNumber self.now.chunks number) (λ a. AreNeighbours self.now.chunks number a) }
         ensures counted { LooksUp (1 + neighbours result) cost.old cost.new }
     {
         // a read, so that the proof has the invariant
@@ -171,7 +171,7 @@ impl Chain {
         let node = node_at(&self.nodes, number, cost)?;
         let before = beside_at(&self.nodes, node.prev, cost);
         let after = beside_at(&self.nodes, node.next, cost);
-        Some(Around {
+        Some(Neighbours {
             here: short(&node.chunk),
             before,
             after,
@@ -214,7 +214,7 @@ impl Chain {
         let _size = self.size;
         let rest = self.nodes.link_to(number);
         let ends = ends_of(&self.nodes, rest, cost);
-        let here = Beside {
+        let here = Neighbour {
             start: ends.start,
             size: taken,
             kind,

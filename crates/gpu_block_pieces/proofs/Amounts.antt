@@ -2,8 +2,8 @@
 use Rattle.std.proofs.Common.{◌≡◌, ◌≢◌, ℕ, ◌+◌, ◌-◌, ◌≤◌, List, [], ◌∷◌, ◌++◌, refl, sym, ap, ◌∙◌, subst, inl, inr, arith}
 use Rattle.std.proofs.lemmas.List.Sums.{sum_by-append, sum_by-cons}
 use Rattle.gpu_block_chunks.specs.declared.chunk.Chunk.{Chunk}
-use Rattle.gpu_block_chunks.specs.declared.chain.Beside.{Beside}
-use Rattle.gpu_block_chunks.specs.declared.chain.Around.{Around}
+use Rattle.gpu_block_chunks.specs.declared.chain.Neighbour.{Neighbour}
+use Rattle.gpu_block_chunks.specs.declared.chain.Neighbours.{Neighbours}
 use Rattle.gpu_values.specs.declared.allocation_type.AllocationType.{AllocationType}
 use Rattle.gpu_values.specs.declared.allocation_type.AllocationType.TheVariants.{Free, Linear, NonLinear}
 use Rattle.gpu_block_chunks.specs.Chain.{IsReleased}
@@ -97,15 +97,15 @@ bytes-front (a ∷ b ∷ front) c back f =
     let three = bytes-cons a (b ∷ front) in
     omega arith
 
-pub released_bytes : (cs ds : List Chunk) (a : Around) → AreDistinct cs → IsPieceAt cs a → IsReleased cs a.here.number ds → bytes_of cs ≡ a.here.size + bytes_of ds
+pub released_bytes : (cs ds : List Chunk) (a : Neighbours) → AreDistinct cs → IsPieceAt cs a → IsReleased cs a.here.number ds → bytes_of cs ≡ a.here.size + bytes_of ds
 released_bytes cs ds a w p r =
     let at = p.around.at in
     let chunk = p.around.chunk in
     let s = stands_once cs at.front at.back chunk r.chunk a.here.number w r.at at.split at.numbered in
     let gap = filled_chunk r.chunk r.chunk.start Free [] in
     let j = joined gap r.at.back tt in
-    let live : IsFree r.chunk.kind → ⊥ = λ f. p.live (subst (λ (b : Beside). IsFree b.kind) (sym p.around.here) (subst (λ (x : Chunk). IsFree x.kind) (sym s.chunks) f)) in
-    let size : a.here.size ≡ r.chunk.size = ap (λ (b : Beside). b.size) p.around.here ∙ ap (λ (x : Chunk). x.size) s.chunks in
+    let live : IsFree r.chunk.kind → ⊥ = λ f. p.live (subst (λ (b : Neighbour). IsFree b.kind) (sym p.around.here) (subst (λ (x : Chunk). IsFree x.kind) (sym s.chunks) f)) in
+    let size : a.here.size ≡ r.chunk.size = ap (λ (b : Neighbour). b.size) p.around.here ∙ ap (λ (x : Chunk). x.size) s.chunks in
     let old = bytes-mid cs r.at.front r.at.back r.chunk r.at.split live in
     let new : bytes_of ds ≡ bytes_of r.at.front + bytes_of (j.gap ∷ j.rest) = ap bytes_of (r.is ∙ ap (λ xs. join_front r.at.front xs) j.is) ∙ bytes-front r.at.front j.gap j.rest j.free in
     let same = j.bytes in

@@ -23,8 +23,8 @@ use Rattle.gpu_block_pieces.specs.Chunks.{NotBothFree, NoneTouch, AreChunks, Non
 use Rattle.gpu_block_pieces.specs.Search.{gap_end, gap_spans, is_long_span, is_tried_span, IsSearch}
 use Rattle.gpu_block_pieces.specs.Indexed.{gap_between, kind_or, gaps_between, IsChosen, chosen_at, Spends, tested}
 use Rattle.gpu_block_pieces.proofs.Views.{free_or_live, extents-free, extents-live, gaps-free, gaps-live}
-use Rattle.gpu_block_pieces.proofs.Chosen.{chosen_of_best, none_of_chunks}
-use Rattle.gpu_block_pieces.proofs.Determined.{chosen_once}
+use Rattle.gpu_block_pieces.proofs.FoundIsBestFit.{chosen_of_best, none_of_chunks}
+use Rattle.gpu_block_pieces.proofs.OneOutcome.{chosen_once}
 use Rattle.gpu_block_pieces.proofs.Indexing.{free_is, first_free, first_live, live_second}
 use Rattle.gpu_block_pieces.proofs.Spending.{one, count_cons}
 

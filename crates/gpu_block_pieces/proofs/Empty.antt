@@ -6,7 +6,7 @@ use Rattle.std.proofs.Math.Nat.{zero-mod}
 use Rattle.gpu_block_pieces.specs.FreeList.{Extent, FreeList, IsGap, SomeExtent}
 use Rattle.gpu_block_pieces.specs.Request.{Request}
 use Rattle.gpu_block_pieces.specs.Place.{IsBestFit, HasNoPlace}
-use Rattle.gpu_block_pieces.proofs.Determined.{chosen_once}
+use Rattle.gpu_block_pieces.proofs.OneOutcome.{chosen_once}
 
 no_extent : (b : FreeList) (P : Extent → Type 0) → b.extents ≡ [] → SomeExtent b P → ⊥
 no_extent b P e w = let l = (subst (λ (xs : List Extent). Contains xs w.0) e w.1).1 in omega arith

@@ -9,7 +9,7 @@ use Rattle.gpu_values.specs.declared.allocation_type.AllocationType.TheVariants.
 use Rattle.gpu_block_pieces.specs.FreeList.{Extent, SomeExtent, IsGap}
 use Rattle.gpu_block_chunks.specs.ChunkList.{IsFree, Covers}
 use Rattle.gpu_block_pieces.specs.Chunks.{NotBothFree, NoneTouch, extent, extents_of, free_list_of}
-use Rattle.gpu_block_pieces.proofs.Tiling.{Around, around, Covers-le}
+use Rattle.gpu_block_pieces.proofs.Tiling.{Neighbours, around, Covers-le}
 use Rattle.gpu_block_pieces.proofs.Edits.{snoc}
 use Rattle.gpu_block_pieces.proofs.Views.{free_or_live, Member, all_members, member_of, contains_chunk, Order, earlier, same, later, order_of}
 
@@ -60,7 +60,7 @@ left_of cs size f fs c back p =
 pub order_in : (cs : List Chunk) (size : ℕ) (f b g e : List Chunk) (c d : Chunk) → Covers cs 0 size → cs ≡ f ++ c ∷ b → cs ≡ g ++ d ∷ e → Order f c g d
 order_in cs size f b g e c d h p q = order_of f b g e c d 0 size (sym p ∙ q) (subst (λ (xs : List Chunk). Covers xs 0 size) p h)
 
-size_of : (cs : List Chunk) (size : ℕ) (f b : List Chunk) (c : Chunk) → Covers cs 0 size → cs ≡ f ++ c ∷ b → Around f c b 0 size
+size_of : (cs : List Chunk) (size : ℕ) (f b : List Chunk) (c : Chunk) → Covers cs 0 size → cs ≡ f ++ c ∷ b → Neighbours f c b 0 size
 size_of cs size f b c h p = around f c b 0 size (subst (λ (xs : List Chunk). Covers xs 0 size) p h)
 
 -- an extent that is apart from a free chunk

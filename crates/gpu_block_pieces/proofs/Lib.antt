@@ -7,8 +7,8 @@ pub mod Tiling
 pub mod Edits
 pub mod Views
 pub mod GapStarts
-pub mod Chosen
-pub mod Keyed
+pub mod FoundIsBestFit
+pub mod OrderedLists
 pub mod Takings
 pub mod Placing
 pub mod Releasing
@@ -16,10 +16,10 @@ pub mod Separation
 pub mod FitLaw
 pub mod Sound
 pub mod Ordered
-pub mod Keeping
+pub mod StaysSeparated
 pub mod Numbers
 pub mod Powers
-pub mod Determined
+pub mod OneOutcome
 pub mod Empty
 pub mod Live
 pub mod Renaming
@@ -30,9 +30,9 @@ pub mod Searches
 pub mod Indexing
 pub mod Updates
 pub mod Merges
-pub mod Choosing
+pub mod FirstFitIsBest
 pub mod LongestGap
 pub mod Spending
-pub mod Holding
+pub mod FoundByChunkId
 pub mod Costing
 pub mod Amounts

@@ -6,7 +6,7 @@ use Rattle.gpu_block_pieces.specs.FreeList.{Extent, FreeList, SomeExtent}
 use Rattle.gpu_block_pieces.specs.Request.{Request}
 use Rattle.gpu_block_pieces.specs.Changes.{placed, Takes, Releases}
 use Rattle.gpu_block_pieces.specs.Laws.{IsSound}
-use Rattle.gpu_block_pieces.proofs.Keyed.{eq_false}
+use Rattle.gpu_block_pieces.proofs.OrderedLists.{eq_false}
 use Rattle.gpu_block_pieces.proofs.Separation.{within_of}
 
 -- ---- elements of edited lists

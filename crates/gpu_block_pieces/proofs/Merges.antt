@@ -4,8 +4,8 @@ use Rattle.std.specs.List.{AllPairs, sum_by}
 use Rattle.std.proofs.lemmas.List.{length-append, append_assoc, append-nil}
 use Rattle.std.proofs.lemmas.List.Quantifiers.{all_pairs_remove}
 use Rattle.gpu_block_chunks.specs.declared.chunk.Chunk.{Chunk}
-use Rattle.gpu_block_chunks.specs.declared.chain.Beside.{Beside}
-use Rattle.gpu_block_chunks.specs.declared.chain.Around.{Around}
+use Rattle.gpu_block_chunks.specs.declared.chain.Neighbour.{Neighbour}
+use Rattle.gpu_block_chunks.specs.declared.chain.Neighbours.{Neighbours}
 use Rattle.gpu_block_gaps.specs.declared.index.Gap.{Gap}
 use Rattle.gpu_values.specs.declared.allocation_type.AllocationType.{AllocationType}
 use Rattle.gpu_values.specs.declared.allocation_type.AllocationType.TheVariants.{Free, Linear, NonLinear}
@@ -24,61 +24,61 @@ use Rattle.gpu_block_pieces.proofs.Indexing.{no_key, same_less, same_more, same_
 
 -- ---- what is forgotten of the index
 
-ordered_by : (k : AllocationType) (b : Beside) (gs mid : List Gap) → AllPairs Before gs → ForgetsBy k b gs mid → AllPairs Before mid
+ordered_by : (k : AllocationType) (b : Neighbour) (gs mid : List Gap) → AllPairs Before gs → ForgetsBy k b gs mid → AllPairs Before mid
 ordered_by Free b gs mid o h = subst (λ (xs : List Gap). AllPairs Before xs) (sym h.is) (all_pairs_remove Before gs h.place h.within o)
 ordered_by Linear b gs mid o h = subst (λ (xs : List Gap). AllPairs Before xs) (sym h) o
 ordered_by NonLinear b gs mid o h = subst (λ (xs : List Gap). AllPairs Before xs) (sym h) o
 
 -- what is left is in order
-pub forgets_ordered : (o : Option Beside) (gs mid : List Gap) → AllPairs Before gs → Forgets o gs mid → AllPairs Before mid
+pub forgets_ordered : (o : Option Neighbour) (gs mid : List Gap) → AllPairs Before gs → Forgets o gs mid → AllPairs Before mid
 forgets_ordered None gs mid o h = subst (λ (xs : List Gap). AllPairs Before xs) (sym h) o
 forgets_ordered (Some b) gs mid o h = ordered_by b.kind b gs mid o h
 
-self_by : (k : AllocationType) (b : Beside) (gs : List Gap) → (IsFree k → ⊥) → ForgetsBy k b gs gs
+self_by : (k : AllocationType) (b : Neighbour) (gs : List Gap) → (IsFree k → ⊥) → ForgetsBy k b gs gs
 self_by Free b gs l = absurd (l tt)
 self_by Linear b gs l = refl
 self_by NonLinear b gs l = refl
 
 -- where no gap stands, nothing is forgotten
-pub forgets_self : (o : Option Beside) (gs : List Gap) → (IsGapBeside o → ⊥) → Forgets o gs gs
+pub forgets_self : (o : Option Neighbour) (gs : List Gap) → (IsGapBeside o → ⊥) → Forgets o gs gs
 forgets_self None gs l = refl
 forgets_self (Some b) gs l = self_by b.kind b gs l
 
 -- beside a chunk stands what these gaps say: none, or one
-pub record GoesBy (o : Option Beside) (gone : List Gap) : Type 0 where
+pub record GoesBy (o : Option Neighbour) (gone : List Gap) : Type 0 where
   pub may : (gs xs ys : List Gap) → HasSame gs (xs ++ (gone ++ ys)) → MayForget o gs
   pub step : (gs mid xs ys : List Gap) → AllPairs Before gs → HasSame gs (xs ++ (gone ++ ys)) → Forgets o gs mid → HasSame mid (xs ++ ys)
 
 goes_none : GoesBy None []
 goes_none = record { may = λ gs xs ys same. tt; step = λ gs mid xs ys ordered same e. (λ f. ap (λ (zs : List Gap). sum_by f zs) e ∙ same f) }
 
-may_live : (k : AllocationType) (b : Beside) (gs : List Gap) → (IsFree k → ⊥) → MayForgetBy k b gs
+may_live : (k : AllocationType) (b : Neighbour) (gs : List Gap) → (IsFree k → ⊥) → MayForgetBy k b gs
 may_live Free b gs l = absurd (l tt)
 may_live Linear b gs l = tt
 may_live NonLinear b gs l = tt
 
-forgets_live : (k : AllocationType) (b : Beside) (gs mid : List Gap) → (IsFree k → ⊥) → ForgetsBy k b gs mid → mid ≡ gs
+forgets_live : (k : AllocationType) (b : Neighbour) (gs mid : List Gap) → (IsFree k → ⊥) → ForgetsBy k b gs mid → mid ≡ gs
 forgets_live Free b gs mid l h = absurd (l tt)
 forgets_live Linear b gs mid l h = h
 forgets_live NonLinear b gs mid l h = h
 
-goes_live : (b : Beside) → (IsFree b.kind → ⊥) → GoesBy (Some b) []
+goes_live : (b : Neighbour) → (IsFree b.kind → ⊥) → GoesBy (Some b) []
 goes_live b l = record {
   may = λ gs xs ys same. may_live b.kind b gs l;
   step = λ gs mid xs ys ordered same h. (λ f. ap (λ (zs : List Gap). sum_by f zs) (forgets_live b.kind b gs mid l h) ∙ same f);
 }
 
-may_free : (k : AllocationType) (b : Beside) (gs : List Gap) → IsFree k → HasKeyAt gs b.size b.start → MayForgetBy k b gs
+may_free : (k : AllocationType) (b : Neighbour) (gs : List Gap) → IsFree k → HasKeyAt gs b.size b.start → MayForgetBy k b gs
 may_free Free b gs f h = h
 may_free Linear b gs f h = absurd f
 may_free NonLinear b gs f h = absurd f
 
-forgets_free : (k : AllocationType) (b : Beside) (gs mid : List Gap) → IsFree k → ForgetsBy k b gs mid → IsRemoved gs b.size b.start mid
+forgets_free : (k : AllocationType) (b : Neighbour) (gs mid : List Gap) → IsFree k → ForgetsBy k b gs mid → IsRemoved gs b.size b.start mid
 forgets_free Free b gs mid f h = h
 forgets_free Linear b gs mid f h = absurd f
 forgets_free NonLinear b gs mid f h = absurd f
 
-goes_free : (b : Beside) (g : Gap) → IsFree b.kind → g.length ≡ b.size → g.start ≡ b.start → GoesBy (Some b) (g ∷ [])
+goes_free : (b : Neighbour) (g : Gap) → IsFree b.kind → g.length ≡ b.size → g.start ≡ b.start → GoesBy (Some b) (g ∷ [])
 goes_free b g f e1 e2 = record {
   may = λ gs xs ys same.
       let m = same_member (xs ++ g ∷ ys) gs g (same_back gs (xs ++ g ∷ ys) same) (contains_mid xs ys g) in
@@ -103,7 +103,7 @@ pub record LeftSide (front : List Chunk) (k : AllocationType) : Type 0 where
   pub touch : NoneTouch Linear outer
   pub last : NotBothFree (last_kind Linear outer) Free
 
-last_beside-push : (o : Option Beside) (xs : List Chunk) (x : Chunk) → last_beside o (xs ++ x ∷ []) ≡ Some (beside x)
+last_beside-push : (o : Option Neighbour) (xs : List Chunk) (x : Chunk) → last_beside o (xs ++ x ∷ []) ≡ Some (beside x)
 last_beside-push o [] x = refl
 last_beside-push o (y ∷ xs) x = last_beside-push (Some (beside y)) xs x
 
@@ -129,12 +129,12 @@ module _ (k : AllocationType) (fs : List Chunk) (l : Chunk) (touch : NoneTouch L
         outer = fs;
         gone = g ∷ [];
         joined = λ x. joined_chunk l x;
-        goes = subst (λ (o : Option Beside). GoesBy o (g ∷ [])) (sym (last_beside-push None fs l)) (goes_free (beside l) g f refl refl);
+        goes = subst (λ (o : Option Neighbour). GoesBy o (g ∷ [])) (sym (last_beside-push None fs l)) (goes_free (beside l) g f refl refl);
         gaps = gaps_append Free fs (l ∷ []) k ∙ (ap (λ (gs : List Gap). gs ++ gap_first l.kind g []) (after_same Free Linear fs l.kind Free last) ∙ ap
             (λ (gs : List Gap). gaps_between Free fs Free ++ gs) (first_free l.kind g [] f));
         joins = λ x ys. join_front-push fs l x ys ∙ ap (λ (zs : List Chunk). fs ++ zs) (join_kinds-free l.kind l x ys f);
         free = λ x h. f;
-        number = λ x. sym (ap (λ (o : Option Beside). first_of o x.number) (last_beside-push None fs l) ∙ first_by_free l.kind l.number x.number f);
+        number = λ x. sym (ap (λ (o : Option Neighbour). first_of o x.number) (last_beside-push None fs l) ∙ first_by_free l.kind l.number x.number f);
         shown = extents-append fs (l ∷ []) ∙ (ap (λ xs. extents_of fs ++ xs) (extents-free l [] f) ∙ append-nil (extents_of fs));
         touch = t.before;
         last = last;
@@ -147,11 +147,11 @@ module _ (k : AllocationType) (fs : List Chunk) (l : Chunk) (touch : NoneTouch L
         outer = fs ++ l ∷ [];
         gone = [];
         joined = λ x. x;
-        goes = subst (λ (o : Option Beside). GoesBy o []) (sym (last_beside-push None fs l)) (goes_live (beside l) live);
+        goes = subst (λ (o : Option Neighbour). GoesBy o []) (sym (last_beside-push None fs l)) (goes_live (beside l) live);
         gaps = after_same Free Linear (fs ++ l ∷ []) k Free last ∙ sym (append-nil (gaps_between Free (fs ++ l ∷ []) Free));
         joins = λ x ys. join_front-push fs l x ys ∙ (ap (λ (zs : List Chunk). fs ++ zs) (join_kinds-live l.kind l x ys live) ∙ sym (append_assoc fs (l ∷ []) (x ∷ ys)));
         free = λ x h. h;
-        number = λ x. sym (ap (λ (o : Option Beside). first_of o x.number) (last_beside-push None fs l) ∙ first_by_live l.kind l.number x.number live);
+        number = λ x. sym (ap (λ (o : Option Neighbour). first_of o x.number) (last_beside-push None fs l) ∙ first_by_live l.kind l.number x.number live);
         shown = refl;
         touch = touch;
         last = last;
@@ -240,7 +240,7 @@ right_side k (r ∷ bs) touch = elim (free_or_live r.kind) [
 
 -- ---- the whole release
 
-module _ (cs ds : List Chunk) (gs : List Gap) (a : Around) (listed : IsListed cs gs) (piece : IsPieceAt cs a) (distinct : AreDistinct cs) (released : IsReleased cs a.here.number ds) where
+module _ (cs ds : List Chunk) (gs : List Gap) (a : Neighbours) (listed : IsListed cs gs) (piece : IsPieceAt cs a) (distinct : AreDistinct cs) (released : IsReleased cs a.here.number ds) where
   abbrev pub front : List Chunk
   front = piece.around.at.front
 
@@ -254,7 +254,7 @@ module _ (cs ds : List Chunk) (gs : List Gap) (a : Around) (listed : IsListed cs
   freed = filled_chunk chunk chunk.start Free []
 
   live : IsFree chunk.kind → ⊥
-  live f = piece.live (subst (λ (b : Beside). IsFree b.kind) (sym piece.around.here) f)
+  live f = piece.live (subst (λ (b : Neighbour). IsFree b.kind) (sym piece.around.here) f)
 
   pub touch_at : Touching Linear front chunk back
   touch_at = touching Linear front chunk back (subst (λ (xs : List Chunk). NoneTouch Linear xs) piece.around.at.split listed.touch)
@@ -285,7 +285,7 @@ module _ (cs ds : List Chunk) (gs : List Gap) (a : Around) (listed : IsListed cs
   gap_number =
       left.number (right.joined freed)
       ∙ (ap (λ (n : ℕ). first_of (last_beside None front) n) (right.number freed ∙ piece.around.at.numbered)
-      ∙ ap (λ (o : Option Beside). first_of o a.here.number) (sym piece.around.before))
+      ∙ ap (λ (o : Option Neighbour). first_of o a.here.number) (sym piece.around.before))
 
   pub gap_there : HasNumber ds (first_of a.before a.here.number)
   gap_there = (gap, record { front = left.outer; back = right.rest; split = gap_split; numbered = gap_number })
@@ -312,18 +312,18 @@ module _ (cs ds : List Chunk) (gs : List Gap) (a : Around) (listed : IsListed cs
       ∙ ap (λ (q : AllocationType). low ++ entry ∷ gaps_between q right.rest Free) (free_is gap.kind gap_free)))
 
   pub may_before : MayForget a.before gs
-  may_before = subst (λ (o : Option Beside). MayForget o gs) (sym piece.around.before) (left.goes.may gs low (right.gone ++ high) old_same)
+  may_before = subst (λ (o : Option Neighbour). MayForget o gs) (sym piece.around.before) (left.goes.may gs low (right.gone ++ high) old_same)
 
   module _ (one two : List Gap) (ordered : AllPairs Before gs) (first : Forgets a.before gs one) where
     one_same : HasSame one (low ++ (right.gone ++ high))
-    one_same = left.goes.step gs one low (right.gone ++ high) ordered old_same (subst (λ (o : Option Beside). Forgets o gs one) piece.around.before first)
+    one_same = left.goes.step gs one low (right.gone ++ high) ordered old_same (subst (λ (o : Option Neighbour). Forgets o gs one) piece.around.before first)
 
     pub may_after : MayForget a.after one
-    may_after = subst (λ (o : Option Beside). MayForget o one) (sym piece.around.after) (right.goes.may one low high one_same)
+    may_after = subst (λ (o : Option Neighbour). MayForget o one) (sym piece.around.after) (right.goes.may one low high one_same)
 
     module _ (ordered_one : AllPairs Before one) (second : Forgets a.after one two) where
       two_same : HasSame two (low ++ high)
-      two_same = right.goes.step one two low high ordered_one one_same (subst (λ (o : Option Beside). Forgets o one two) piece.around.after second)
+      two_same = right.goes.step one two low high ordered_one one_same (subst (λ (o : Option Neighbour). Forgets o one two) piece.around.after second)
 
       pub no_entry : (size : ℕ) → Covers ds 0 size → HasNoKey two entry.length entry.start
       no_entry size covers =

@@ -15,9 +15,9 @@ use Rattle.std.proofs.lemmas.Bool.{cases_lt, false≢true}
 use Rattle.gpu_block_chunks.specs.ChunkList.{IsFree, filled_chunk}
 use Rattle.gpu_block_pieces.specs.Chunks.{AreChunks, IsChunk, free_list_of, extents_of, gaps_of, piece_of, IsBestOf, NoneFits, TakenFrom, IsTaken, IsLaidOut}
 use Rattle.gpu_block_pieces.proofs.Takings.{rest_are, rest_extents, rest_gaps, whole_are, whole_extents, whole_gaps, whole_number, each_of}
-use Rattle.gpu_block_pieces.proofs.Chosen.{chosen_of_best, none_of_chunks}
-use Rattle.gpu_block_pieces.proofs.Determined.{best_has_place}
-use Rattle.gpu_block_pieces.specs.BlockRefusal.{IsTakeRefusal}
+use Rattle.gpu_block_pieces.proofs.FoundIsBestFit.{chosen_of_best, none_of_chunks}
+use Rattle.gpu_block_pieces.proofs.OneOutcome.{best_has_place}
+use Rattle.gpu_block_pieces.specs.BlockRefusal.{IsAllocateRefusal}
 use Rattle.gpu_values.specs.declared.error.AllocationError.{AllocationError}
 use Rattle.gpu_values.specs.declared.error.AllocationError.TheVariants.{HostOutOfMemory}
 
@@ -186,6 +186,6 @@ has_place cs size counter w v text f are piece e b left =
     (λ lt. subst (λ (x : FreeList). x.counter < 2 ^ 64 - 1) e (left lt))
 
 -- want of host memory is the cause only where there is a place
-pub host_refusal : {V : Type 0} (res : Result V AllocationError) (v : FreeList) (r : Request) → IsErrAnd res (λ e. e ≡ HostOutOfMemory) → (HasNoPlace v r → ⊥) → IfErr res (λ e. IsTakeRefusal v r e)
+pub host_refusal : {V : Type 0} (res : Result V AllocationError) (v : FreeList) (r : Request) → IsErrAnd res (λ e. e ≡ HostOutOfMemory) → (HasNoPlace v r → ⊥) → IfErr res (λ e. IsAllocateRefusal v r e)
 host_refusal (Ok x) v r e h = tt
-host_refusal (Err x) v r e h = subst (λ x. IsTakeRefusal v r x) (sym e) h
+host_refusal (Err x) v r e h = subst (λ x. IsAllocateRefusal v r x) (sym e) h

@@ -11,12 +11,12 @@ use Rattle.gpu_block_pieces.specs.Changes.{with_gap, without_gap, without_extent
 use Rattle.gpu_block_chunks.specs.ChunkList.{IsFree, Covers, filled_chunk, joined_chunk, join_back, join_front, AreDistinct}
 use Rattle.gpu_block_pieces.specs.Chunks.{NotBothFree, NoneTouch, last_kind, AreChunks, IsChunk, extent, extents_of, gaps_of, free_list_of, HoldsNumber, IsReleasedAt}
 use Rattle.gpu_block_pieces.proofs.Numbers.{Not, distinct_less, same_number, same_distinct, joined_number, joined_distinct}
-use Rattle.gpu_block_pieces.proofs.Tiling.{Around, around, Covers-join, last_kind-push}
+use Rattle.gpu_block_pieces.proofs.Tiling.{Neighbours, around, Covers-join, last_kind-push}
 use Rattle.gpu_block_pieces.proofs.Edits.{join_front-push, join_kinds-free, join_kinds-live}
 use Rattle.gpu_block_pieces.proofs.Views.{free_or_live, extents-free, gaps-free, gaps-live, extents-append, gaps-append, extents-split, contains_chunk, member_of}
 use Rattle.gpu_block_pieces.proofs.GapStarts.{gap_of_chunk, placed_at, left_of}
 use Rattle.gpu_block_pieces.proofs.Takings.{StartsIn, GapIn, extents_in, gaps_in, Touching, touching, touch_join, live_after, live_before, Each, each_of}
-use Rattle.gpu_block_pieces.proofs.Keyed.{kept_all, kept_mid, placed-mid}
+use Rattle.gpu_block_pieces.proofs.OrderedLists.{kept_all, kept_mid, placed-mid}
 
 is_free_kind : (k : AllocationType) → IsFree k → k ≡ Free
 is_free_kind Free h = refl
@@ -113,7 +113,7 @@ module _ (size g counter : ℕ) (cs front back : List Chunk) (c : Chunk) (split 
   abbrev pub parts : AreChunks (front ++ c ∷ back) size counter
   parts = subst (λ (xs : List Chunk). AreChunks xs size counter) split are
 
-  pub the_around : Around front c back 0 size
+  pub the_around : Neighbours front c back 0 size
   the_around = around front c back 0 size parts.covers
 
   the_touching : Touching Linear front c back
@@ -200,7 +200,7 @@ module _ (size g counter : ℕ) (cs front back : List Chunk) (c : Chunk) (split 
   -- ---- a free chunk stands before it
 
   module _ (before : List Chunk) (l : Chunk) (fronts : front ≡ before ++ l ∷ []) (free : IsFree l.kind) (new : List Chunk) (is : new ≡ before ++ joined_chunk l the_behind.gap ∷ the_behind.rest) where
-    left_around : Around before l [] 0 c.start
+    left_around : Neighbours before l [] 0 c.start
     left_around = around before l [] 0 c.start (subst (λ (xs : List Chunk). Covers xs 0 c.start) fronts the_around.before)
 
     left_touching : Touching Linear before l []

@@ -12,7 +12,7 @@ use Rattle.gpu_block_pieces.proofs.Edits.{Covers-like}
 use Rattle.gpu_block_pieces.proofs.Views.{free_or_live, extents-free, extents-live, extents-split, gaps-live, gaps-append, contains_chunk}
 use Rattle.gpu_block_pieces.proofs.Takings.{touching, touch_join, each_of}
 use Rattle.gpu_block_pieces.proofs.Numbers.{Not, one_at, distinct_less, same_number, same_distinct}
-use Rattle.gpu_block_pieces.proofs.Keyed.{changed_mid}
+use Rattle.gpu_block_pieces.proofs.OrderedLists.{changed_mid}
 
 numbers_shown : (k : ℕ) (cs : List Chunk) → All (Not k) cs → All (λ (x : Extent). x.number ≢ k) (extents_of cs)
 numbers_shown k [] h = All-nil (λ (x : Extent). x.number ≢ k)

@@ -9,12 +9,12 @@ use Rattle.gpu_block_pieces.specs.FreeList.{Extent}
 use Rattle.gpu_block_pieces.specs.Changes.{with_extent, without_gap, moved_gap}
 use Rattle.gpu_block_chunks.specs.ChunkList.{IsFree, Covers, cut_chunk}
 use Rattle.gpu_block_pieces.specs.Chunks.{NotBothFree, NoneTouch, last_kind, AreChunks, IsChunk, extent, extents_of, gaps_of}
-use Rattle.gpu_block_pieces.proofs.Tiling.{Around, around, Covers-le}
+use Rattle.gpu_block_pieces.proofs.Tiling.{Neighbours, around, Covers-le}
 use Rattle.gpu_block_pieces.proofs.Edits.{Covers-cut, Covers-like}
 use Rattle.gpu_block_pieces.proofs.Views.{free_or_live, extents-free, extents-live, gaps-free, gaps-live, extents-append, gaps-append, extents-split, contains_mid}
 use Rattle.gpu_block_pieces.proofs.Numbers.{distinct_cut, distinct_less, same_number, same_distinct}
 use Rattle.gpu_block_chunks.proofs.Parts.{All-parts}
-use Rattle.gpu_block_pieces.proofs.Keyed.{placed-mid, kept_mid, changed_mid}
+use Rattle.gpu_block_pieces.proofs.OrderedLists.{placed-mid, kept_mid, changed_mid}
 
 -- ---- where the extents and the gaps of a run of chunks lie
 
@@ -101,7 +101,7 @@ more_given counter cs h = All-weaker (IsChunk counter) (IsChunk (counter + 1)) (
 
 module _ (size counter : ℕ) (front back : List Chunk) (c piece : Chunk) (are : AreChunks (front ++ c ∷ back) size counter) (free : IsFree c.kind) (live : IsFree piece.kind → ⊥)
     (starts : piece.start ≡ c.start) where
-  take_around : Around front c back 0 size
+  take_around : Neighbours front c back 0 size
   take_around = around front c back 0 size are.covers
 
   low_extents : (x : Extent) → x.start ≡ c.start → All (λ y. y.start < x.start) (extents_of front)

@@ -10,12 +10,12 @@ Covers-le [] from to h = omega arith
 Covers-le (c ∷ cs) from to h = let r = Covers-le cs (from + c.size) to h.2 in omega arith
 
 -- the parts around a chunk
-pub record Around (front : List Chunk) (c : Chunk) (back : List Chunk) (from to : ℕ) : Type 0 where
+pub record Neighbours (front : List Chunk) (c : Chunk) (back : List Chunk) (from to : ℕ) : Type 0 where
   pub before : Covers front from c.start
   pub nonempty : 0 < c.size
   pub after : Covers back (c.start + c.size) to
 
-pub around : (front : List Chunk) (c : Chunk) (back : List Chunk) (from to : ℕ) → Covers (front ++ c ∷ back) from to → Around front c back from to
+pub around : (front : List Chunk) (c : Chunk) (back : List Chunk) (from to : ℕ) → Covers (front ++ c ∷ back) from to → Neighbours front c back from to
 around [] c back from to h = record { before = sym h.0; nonempty = h.1; after = rw h.0 h.2 }
 around (f ∷ front) c back from to h =
     let r = around front c back (from + f.size) to h.2 in

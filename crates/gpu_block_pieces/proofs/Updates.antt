@@ -4,14 +4,14 @@ use Rattle.std.specs.Prelude.{Contains}
 use Rattle.std.specs.List.{AllPairs}
 use Rattle.std.proofs.lemmas.List.{length-append}
 use Rattle.gpu_block_chunks.specs.declared.chunk.Chunk.{Chunk}
-use Rattle.gpu_block_chunks.specs.declared.chain.Beside.{Beside}
-use Rattle.gpu_block_chunks.specs.declared.chain.Around.{Around}
+use Rattle.gpu_block_chunks.specs.declared.chain.Neighbour.{Neighbour}
+use Rattle.gpu_block_chunks.specs.declared.chain.Neighbours.{Neighbours}
 use Rattle.gpu_block_gaps.specs.declared.index.Gap.{Gap}
 use Rattle.gpu_values.specs.declared.allocation_type.AllocationType.{AllocationType}
 use Rattle.gpu_values.specs.declared.allocation_type.AllocationType.TheVariants.{Free, Linear}
 use Rattle.gpu_block_chunks.specs.ChunkList.{IsFree, Covers, AreDistinct, cut_chunk, filled_chunk}
 use Rattle.gpu_block_pieces.specs.Chunks.{NotBothFree, NoneTouch, last_kind, extents_of, extent}
-use Rattle.gpu_block_chunks.specs.Chain.{Name, HasNumber, HasNoNumber, IsAround, IsLonger, IsSplit, IsFilled, front_piece, beside, last_beside, first_beside}
+use Rattle.gpu_block_chunks.specs.Chain.{Name, HasNumber, HasNoNumber, AreNeighbours, IsLonger, IsSplit, IsFilled, front_piece, beside, last_beside, first_beside}
 use Rattle.gpu_block_gaps.specs.Index.{Before, HasKeyAt, HasNoKey, IsRemoved, IsInserted}
 use Rattle.gpu_block_pieces.specs.Indexed.{gap_between, kind_or, gaps_between, HasSame, IsListed, IsGapOf, beside_kind}
 use Rattle.gpu_block_pieces.proofs.Views.{extents-free, extents-append, extents-split}
@@ -24,7 +24,7 @@ use Rattle.gpu_block_pieces.proofs.Indexing.{same_less, same_more, same_to}
 
 -- ---- what stands beside a chunk
 
-last_beside_kind : (o : Option Beside) (xs : List Chunk) → beside_kind (last_beside o xs) ≡ last_kind (beside_kind o) xs
+last_beside_kind : (o : Option Neighbour) (xs : List Chunk) → beside_kind (last_beside o xs) ≡ last_kind (beside_kind o) xs
 last_beside_kind o [] = refl
 last_beside_kind o (x ∷ xs) = last_beside_kind (Some (beside x)) xs
 
@@ -32,14 +32,14 @@ first_beside_kind : (xs : List Chunk) → beside_kind (first_beside xs) ≡ kind
 first_beside_kind [] = refl
 first_beside_kind (x ∷ xs) = refl
 
-pub gap_here : (cs front back : List Chunk) (c : Chunk) (k : ℕ) (a : Around) (before after : AllocationType) → AreDistinct cs → IsAround cs k a → before ≡ beside_kind a.before → after ≡ beside_kind
+pub gap_here : (cs front back : List Chunk) (c : Chunk) (k : ℕ) (a : Neighbours) (before after : AllocationType) → AreDistinct cs → AreNeighbours cs k a → before ≡ beside_kind a.before → after ≡ beside_kind
     a.after → cs ≡ front ++ c ∷ back → c.number ≡ k
     → record { length = a.here.size; start = a.here.start; number = a.here.number; before = before; after = after } ≡ gap_between (last_kind Free front) c (kind_or back Free)
 gap_here cs front back c k a before after w m eb ea p n =
     let s = stands_once cs front back c m.chunk k w m.at p n in
     let b : before ≡ last_kind Free front = eb ∙ ap beside_kind m.before ∙ last_beside_kind None m.at.front ∙ ap (last_kind Free) (sym s.fronts) in
     let f : after ≡ kind_or back Free = ea ∙ ap beside_kind m.after ∙ first_beside_kind m.at.back ∙ ap (λ (xs : List Chunk). kind_or xs Free) (sym s.backs) in
-    ap (λ (h : Beside). record { length = h.size; start = h.start; number = h.number; before = before; after = after }) m.here
+    ap (λ (h : Neighbour). record { length = h.size; start = h.start; number = h.number; before = before; after = after }) m.here
     ∙ ap (λ (x : AllocationType). gap_between x m.chunk after) b
     ∙ ap (λ (x : AllocationType). gap_between (last_kind Free front) m.chunk x) f
     ∙ ap (λ (x : Chunk). gap_between (last_kind Free front) x (kind_or back Free)) (sym s.chunks)

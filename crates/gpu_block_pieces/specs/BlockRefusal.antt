@@ -10,18 +10,18 @@ use Rattle.gpu_block_pieces.specs.Request.{Request}
 use Rattle.gpu_block_pieces.specs.Place.{HasNoPlace}
 
 -- why a take is refused: the request has no place, or it has one and the host's memory was refused
-abbrev pub IsTakeRefusal : FreeList → Request → AllocationError → Type 0
-IsTakeRefusal b r errors.OutOfMemory = HasNoPlace b r
-IsTakeRefusal b r errors.HostOutOfMemory = HasNoPlace b r → ⊥
-IsTakeRefusal b r (errors.FailedToMap _) = ⊥
-IsTakeRefusal b r errors.NoCompatibleMemoryTypeFound = ⊥
-IsTakeRefusal b r errors.InvalidAllocationCreateDesc = ⊥
-IsTakeRefusal b r (errors.InvalidAllocatorCreateDesc _) = ⊥
-IsTakeRefusal b r (errors.Internal _) = ⊥
-IsTakeRefusal b r errors.BarrierLayoutNeedsDevice10 = ⊥
-IsTakeRefusal b r errors.CastableFormatsRequiresEnhancedBarriers = ⊥
-IsTakeRefusal b r errors.CastableFormatsRequiresAtLeastDevice12 = ⊥
-IsTakeRefusal b r errors.BudgetExceeded = ⊥
+abbrev pub IsAllocateRefusal : FreeList → Request → AllocationError → Type 0
+IsAllocateRefusal b r errors.OutOfMemory = HasNoPlace b r
+IsAllocateRefusal b r errors.HostOutOfMemory = HasNoPlace b r → ⊥
+IsAllocateRefusal b r (errors.FailedToMap _) = ⊥
+IsAllocateRefusal b r errors.NoCompatibleMemoryTypeFound = ⊥
+IsAllocateRefusal b r errors.InvalidAllocationCreateDesc = ⊥
+IsAllocateRefusal b r (errors.InvalidAllocatorCreateDesc _) = ⊥
+IsAllocateRefusal b r (errors.Internal _) = ⊥
+IsAllocateRefusal b r errors.BarrierLayoutNeedsDevice10 = ⊥
+IsAllocateRefusal b r errors.CastableFormatsRequiresEnhancedBarriers = ⊥
+IsAllocateRefusal b r errors.CastableFormatsRequiresAtLeastDevice12 = ⊥
+IsAllocateRefusal b r errors.BudgetExceeded = ⊥
 
 -- why a release is refused: the number is missing, or it is no live piece's
 abbrev pub release_refusal : Option NonZeroU64 → Refusal

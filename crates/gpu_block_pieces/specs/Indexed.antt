@@ -4,15 +4,15 @@ use Rattle.std.specs.List.{sum_by, count_by}
 use Rattle.gpu_values.specs.declared.allocation_type.AllocationType.{AllocationType}
 use Rattle.gpu_values.specs.declared.allocation_type.AllocationType.TheVariants.{Free, Linear, NonLinear}
 use Rattle.gpu_block_chunks.specs.declared.chunk.Chunk.{Chunk}
-use Rattle.gpu_block_chunks.specs.declared.chain.Beside.{Beside}
+use Rattle.gpu_block_chunks.specs.declared.chain.Neighbour.{Neighbour}
 use Rattle.gpu_block_gaps.specs.declared.index.Gap.{Gap}
 use Rattle.gpu_block_pieces.specs.declared.place.Wanted.{Wanted}
 use Rattle.gpu_block_pieces.specs.declared.search.Found.{Found}
 use Rattle.gpu_block_pieces.specs.Place.{FitsBetween}
 use Rattle.gpu_block_chunks.specs.ChunkList.{IsFree}
 use Rattle.gpu_block_pieces.specs.Chunks.{NoneTouch, Differ, last_kind, extents_of, FoundAt, IsBestOf}
-use Rattle.gpu_block_chunks.specs.declared.chain.Around.{Around}
-use Rattle.gpu_block_chunks.specs.Chain.{IsAround, StandsAt}
+use Rattle.gpu_block_chunks.specs.declared.chain.Neighbours.{Neighbours}
+use Rattle.gpu_block_chunks.specs.Chain.{AreNeighbours, StandsAt}
 use Rattle.gpu_cost.specs.declared.cost.Cost.{Cost}
 use Rattle.gpu_cost.specs.Cost.{digits}
 use Rattle.gpu_block_gaps.specs.Index.{IsRemoved, IsInserted, HasKeyAt}
@@ -110,45 +110,45 @@ chosen_at cs w f h = record { index = h.index; offset = f.offset; size = f.gap.l
 
 -- ---- a release
 
-abbrev pub ForgetsBy : AllocationType → Beside → List Gap → List Gap → Type 0
+abbrev pub ForgetsBy : AllocationType → Neighbour → List Gap → List Gap → Type 0
 ForgetsBy Free b old new = IsRemoved old b.size b.start new
 ForgetsBy Linear b old new = new ≡ old
 ForgetsBy NonLinear b old new = new ≡ old
 
 -- what is left of the index without the gap beside a chunk, if there is one
-abbrev pub Forgets : Option Beside → List Gap → List Gap → Type 0
+abbrev pub Forgets : Option Neighbour → List Gap → List Gap → Type 0
 Forgets None old new = new ≡ old
 Forgets (Some b) old new = ForgetsBy b.kind b old new
 
 -- what is forgotten is there
-abbrev pub MayForgetBy : AllocationType → Beside → List Gap → Type 0
+abbrev pub MayForgetBy : AllocationType → Neighbour → List Gap → Type 0
 MayForgetBy Free b gs = HasKeyAt gs b.size b.start
 MayForgetBy Linear b gs = Unit {0}
 MayForgetBy NonLinear b gs = Unit {0}
 
-abbrev pub MayForget : Option Beside → List Gap → Type 0
+abbrev pub MayForget : Option Neighbour → List Gap → Type 0
 MayForget None gs = Unit {0}
 MayForget (Some b) gs = MayForgetBy b.kind b gs
 
 -- a gap came into the index, and what stood beside it went from there if it was one
-pub record IsPut (beside : Option Beside) (gap : Gap) (old new : List Gap) : Type 0 where
+pub record IsPut (beside : Option Neighbour) (gap : Gap) (old new : List Gap) : Type 0 where
   pub rest : List Gap
   pub gone : Forgets beside old rest
   pub put : IsInserted rest gap new
 
 -- the same with what stood on either side
-pub record IsJoined (before after : Option Beside) (gap : Gap) (old new : List Gap) : Type 0 where
+pub record IsJoined (before after : Option Neighbour) (gap : Gap) (old new : List Gap) : Type 0 where
   pub one : List Gap
   pub two : List Gap
   pub first : Forgets before old one
   pub second : Forgets after one two
   pub put : IsInserted two gap new
 
-abbrev pub IsGapBeside : Option Beside → Type 0
+abbrev pub IsGapBeside : Option Neighbour → Type 0
 IsGapBeside None = ⊥
 IsGapBeside (Some b) = IsFree b.kind
 
-abbrev pub beside_kind : Option Beside → AllocationType
+abbrev pub beside_kind : Option Neighbour → AllocationType
 beside_kind None = Free
 beside_kind (Some b) = b.kind
 
@@ -158,13 +158,13 @@ first_by Free before number = before
 first_by Linear before number = number
 first_by NonLinear before number = number
 
-abbrev pub first_of : Option Beside → ℕ → ℕ
+abbrev pub first_of : Option Neighbour → ℕ → ℕ
 first_of None number = number
 first_of (Some b) number = first_by b.kind b.number number
 
 -- the chunk is a piece, and stands so in the list
-pub record IsPieceAt (cs : List Chunk) (a : Around) : Type 0 where
-  pub around : IsAround cs (a.here).number a
+pub record IsPieceAt (cs : List Chunk) (a : Neighbours) : Type 0 where
+  pub around : AreNeighbours cs (a.here).number a
   pub live : IsFree (a.here).kind → ⊥
 
 -- the piece of that number has that offset and kind

@@ -9,13 +9,13 @@ use Rattle.gpu_block_pieces.specs.FreeList.{Extent}
 pub record LeakOf : Type 0 where
   pub memory_type : ℕ
   pub memory_block : ℕ
-  pub general : Bool
+  pub shared : Bool
   pub extent : Extent
 
 -- the leak that a live piece is
 abbrev pub leak_of : ℕ → ℕ → Bool → Extent → LeakOf
-leak_of memory_type memory_block general extent =
-    record { memory_type = memory_type; memory_block = memory_block; general = general; extent = extent }
+leak_of memory_type memory_block shared extent =
+    record { memory_type = memory_type; memory_block = memory_block; shared = shared; extent = extent }
 
 -- ---- the text: of a piece its start, its padded size in hexadecimal, its kind and its name
 
@@ -60,4 +60,4 @@ block_lines memory_type memory_block =
 
 -- the whole text; no line end follows the last brace
 abbrev pub leak_text : LeakOf → List ℕ
-leak_text l = block_lines l.memory_type l.memory_block ++ (piece_text l.general l.extent ++ codes "}")
+leak_text l = block_lines l.memory_type l.memory_block ++ (piece_text l.shared l.extent ++ codes "}")

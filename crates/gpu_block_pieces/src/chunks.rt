@@ -9,10 +9,10 @@ ghost use Rattle.gpu_block_pieces.specs.Chunks.{NoneFits, IsTaken, IsNamedAt, Ho
 ghost use Rattle.gpu_block_chunks.specs.Chain.{IsFresh, HasNoNumber, StandsAt, IsReleased};
 ghost use Rattle.gpu_block_pieces.specs.Indexed.{IsChosen, chosen_at, Spends, IsPieceAt, IsPieceOf, IsLongestOf};
 
-use crate::edit::{release, take_front, take_whole};
+use crate::update::{release, allocate_front, allocate_whole};
 use crate::place::Wanted;
 use crate::search::{Found, find};
-use gpu_block_chunks::{Around, Chain, Chunk, Name, Walk, is_free};
+use gpu_block_chunks::{Neighbours, Chain, Chunk, Name, Walk, is_free};
 use gpu_block_gaps::{Gap, GapIndex};
 use gpu_cost::Cost;
 use gpu_values::AllocationType;
@@ -95,7 +95,7 @@ impl Chunks {
 
     /// Gives the found gap, or its front, to a piece, and tells the piece's number. All memory is taken first, also for what
     /// the piece's release will need.
-    pub fn take(
+    pub fn allocate(
         &mut self,
         found: Found,
         wanted: Wanted,
@@ -122,7 +122,7 @@ impl Chunks {
         let taken = found.offset + wanted.size - found.gap.start;
         if taken < found.gap.length {
             self.live += 1;
-            take_front(
+            allocate_front(
                 &mut self.chain,
                 &mut self.index,
                 found,
@@ -135,7 +135,7 @@ impl Chunks {
             return Ok(counter);
         }
         self.live += 1;
-        take_whole(
+        allocate_whole(
             &mut self.chain,
             &mut self.index,
             found,
@@ -147,7 +147,7 @@ impl Chunks {
     }
 
     /// The live piece of that number, and what stands beside it.
-    pub fn piece_around(&self, number: u64, cost: &mut Cost) -> Option<Around>
+    pub fn piece_around(&self, number: u64, cost: &mut Cost) -> Option<Neighbours>
         ensures piece { MatchOption result
             ((k : ℕ) → HoldsNumber self.now.items number k → ⊥) (λ a. (a.here.number ≡ number) × IsPieceAt self.now.items a) }
         ensures counted { LooksUpBetween 1 3 cost.old cost.new }
@@ -163,7 +163,7 @@ impl Chunks {
     }
 
     /// Frees a live piece, and joins its place with the gaps beside it. It takes no memory.
-    pub fn release(&mut self, around: Around, cost: &mut Cost)
+    pub fn release(&mut self, around: Neighbours, cost: &mut Cost)
         requires piece { IsPieceAt self.old.items around }
         ensures released { IsReleased self.old.items around.here.number self.new.items }
         ensures size { self.new.size ≡ self.old.size }
@@ -232,7 +232,7 @@ impl Chunks {
     }
 
     /// Whether all chunks are free. It counts as a look-up.
-    pub fn none_taken(&self, cost: &mut Cost) -> bool
+    pub fn is_empty(&self, cost: &mut Cost) -> bool
         ensures free { IsTrue result ↔ extents_of self.now.items ≡ [] }
         ensures counted { LooksUp 1 cost.old cost.new }
     {

@@ -55,7 +55,7 @@ impl CutBlock {
     ghost use Rattle.gpu_block_pieces.specs.Place.{HasNoPlace};
     ghost use Rattle.gpu_block_pieces.specs.Search.{IsSearch};
     ghost use Rattle.gpu_block_pieces.specs.Changes.{Takes, Releases, Renames};
-    ghost use Rattle.gpu_block_pieces.specs.BlockRefusal.{IsTakeRefusal, release_refusal, IsRenameRefusal};
+    ghost use Rattle.gpu_block_pieces.specs.BlockRefusal.{IsAllocateRefusal, release_refusal, IsRenameRefusal};
     ghost use Rattle.gpu_block_pieces.specs.Chunks.{IsChunk, extents_of};
     ghost use Rattle.gpu_block_pieces.specs.Laws.{IsSound, IsInOrder, IsPageSeparated, IsLongEnough, IsForNumbers, IsCovered};
 
@@ -99,7 +99,7 @@ impl CutBlock {
         ensures took { IfOk result
             (λ p. Takes self.old (request size alignment kind name.now) p.0 (non_zero_u64_get p.1) self.new) }
         ensures cause { IfErr result
-            (λ e. IsTakeRefusal self.old (request size alignment kind name.now) e) }
+            (λ e. IsAllocateRefusal self.old (request size alignment kind name.now) e) }
         ensures refused { OnErr result (self.new ≡ self.old) }
         ensures pages { self.new.granularity ≡ self.old.granularity }
         // where the pieces lie, for all pairs of them; and a gap that is long enough is never refused
@@ -127,7 +127,7 @@ impl CutBlock {
             return Err(AllocationError::OutOfMemory);
         }
         let text = Name::new(self.alloc, name)?;
-        let number = self.chunks.take(found, wanted, self.counter, text, cost)?;
+        let number = self.chunks.allocate(found, wanted, self.counter, text, cost)?;
         self.allocated += found.offset + size - found.gap.start;
         if rest {
             self.counter += 1;
@@ -239,7 +239,7 @@ impl CutBlock {
         ensures empty { IsTrue result ↔ self.now.extents ≡ [] }
         ensures cost { LooksUp 1 cost.old cost.new }
     {
-        self.chunks.none_taken(cost)
+        self.chunks.is_empty(cost)
     }
 
     /// The chunks of the block, pieces and gaps, in order of start.

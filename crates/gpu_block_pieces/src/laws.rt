@@ -9,13 +9,13 @@ ghost use Rattle.gpu_block_pieces.specs.Place.{Fits, HasNoPlace, page};
 ghost use Rattle.gpu_block_pieces.specs.Laws.{IsSound, IsPageSeparated, IsLongEnough, IsCovered};
 
 /// A take has one outcome.
-pub fn one_take()
+pub fn one_allocate()
     ensures { (old : FreeList) (r : Request) (o p n m : ℕ) (new next : FreeList) → IsSound old
         → Takes old r o n new → Takes old r p m next → (o ≡ p) × (n ≡ m) × (new ≡ next) }
 {}
 
 /// A take and a refusal for want of a place exclude each other.
-pub fn takes_or_refuses()
+pub fn allocates_or_refuses()
     ensures { (old : FreeList) (r : Request) (o n : ℕ) (new : FreeList) → Takes old r o n new → HasNoPlace old r → ⊥ }
 {}
 
@@ -37,7 +37,7 @@ pub fn long_gap_fits()
 {}
 
 /// A take keeps every live piece, and adds one under a number that no live piece has.
-pub fn take_adds_one_piece()
+pub fn allocate_adds_one_piece()
     ensures keeps { (old : FreeList) (r : Request) (o n : ℕ) (new : FreeList) → Takes old r o n new
         → (x : Extent) → Contains old.extents x → Contains new.extents x }
     ensures adds { (old : FreeList) (r : Request) (o n : ℕ) (new : FreeList) → Takes old r o n new

@@ -20,7 +20,7 @@ use std::marker::Model;
 pub struct Leak<'a> {
     memory_type: usize,
     memory_block: usize,
-    general: bool,
+    shared: bool,
     chunk: &'a Chunk,
 }
 
@@ -30,7 +30,7 @@ impl<'a> Model for Leak<'a> {
 
     ghost Value = { LeakOf };
 
-    ghost view = { λ l. leak_of l.memory_type l.memory_block l.general (extent l.chunk.now) };
+    ghost view = { λ l. leak_of l.memory_type l.memory_block l.shared (extent l.chunk.now) };
 }
 
 /// The live pieces of a block in order of offset. It takes no memory.
@@ -38,7 +38,7 @@ impl<'a> Model for Leak<'a> {
 pub struct Leaks<'a> {
     memory_type: usize,
     memory_block: usize,
-    general: bool,
+    shared: bool,
     rest: Walk<'a>,
     cost: Cost,
 }
@@ -50,7 +50,7 @@ impl<'a> Model for Leaks<'a> {
 
     ghost Value = { List LeakOf };
 
-    ghost view = { λ l. map (leak_of l.memory_type l.memory_block l.general) (extents_of l.rest) };
+    ghost view = { λ l. map (leak_of l.memory_type l.memory_block l.shared) (extents_of l.rest) };
 }
 
 impl<'a> Leaks<'a> {
@@ -60,16 +60,16 @@ impl<'a> Leaks<'a> {
     pub fn new(
         memory_type: usize,
         memory_block: usize,
-        general: bool,
+        shared: bool,
         rest: Walk<'a>,
         cost: Cost,
     ) -> Leaks<'a>
-        ensures { result ≡ map (leak_of memory_type memory_block general) (extents_of rest.entry) }
+        ensures { result ≡ map (leak_of memory_type memory_block shared) (extents_of rest.entry) }
     {
         Leaks {
             memory_type,
             memory_block,
-            general,
+            shared,
             rest,
             cost,
         }
@@ -88,7 +88,7 @@ impl<'a> Iterator for Leaks<'a> {
         Some(Leak {
             memory_type: self.memory_type,
             memory_block: self.memory_block,
-            general: self.general,
+            shared: self.shared,
             chunk,
         })
     }
@@ -158,13 +158,13 @@ fn write_dedicated<W: fmt::Write>(chunk: &Chunk, f: &mut fmt::Formatter<W>) -> f
 }
 
 fn write_piece<W: fmt::Write>(
-    general: bool,
+    shared: bool,
     chunk: &Chunk,
     f: &mut fmt::Formatter<W>,
 ) -> fmt::Result
-    ensures { DisplaysOnOk W.write_str_gives f.old result (Some (piece_text general (extent chunk.now))) f.new }
+    ensures { DisplaysOnOk W.write_str_gives f.old result (Some (piece_text shared (extent chunk.now))) f.new }
 {
-    if general {
+    if shared {
         write_chunk(chunk, f)
     } else {
         write_dedicated(chunk, f)
@@ -189,7 +189,7 @@ impl<'a> fmt::Display for Leak<'a> {
 
     fn fmt<W: fmt::Write>(&self, f: &mut fmt::Formatter<W>) -> fmt::Result {
         write_block(self.memory_type, self.memory_block, f)?;
-        write_piece(self.general, self.chunk, f)?;
+        write_piece(self.shared, self.chunk, f)?;
         f.write_str("}")
     }
 }

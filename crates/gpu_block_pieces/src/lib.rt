@@ -4,7 +4,7 @@
 
 mod chunks;
 mod cut_block;
-mod edit;
+mod update;
 mod gaps;
 pub mod laws;
 mod leaks;

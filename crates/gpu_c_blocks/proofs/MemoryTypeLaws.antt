@@ -7,8 +7,8 @@ use Rattle.gpu_values.specs.declared.allocation_type.AllocationType.{AllocationT
 use Rattle.gpu_block_pieces.specs.Request.{Request, request}
 use Rattle.gpu_core.specs.TypeState.{Slot, TypeState, slot_at, capacity_of, fits_budget, KeepsOneEmptyAtMost}
 use Rattle.gpu_core.specs.Slots.{AreSound}
-use Rattle.gpu_core.specs.TypeTake.{has_own_block, PreparesPiece, NeedsBlock, Installs}
-use Rattle.gpu_core.specs.TypeRelease.{SlotHolds, IsLive, has_several, ReleasesPiece, RenamesPiece}
+use Rattle.gpu_core.specs.TypeTake.{has_dedicated_block, PreparesPiece, NeedsBlock, Installs}
+use Rattle.gpu_core.specs.TypeRelease.{SlotHolds, IsLive, has_others, ReleasesPiece, RenamesPiece}
 use Rattle.gpu_core.specs.declared.piece.Piece.{Piece}
 use Rattle.gpu_core.specs.declared.need.NeedBlock.{NeedBlock}
 use Rattle.gpu_c_blocks.specs.Request.{kind_named}
@@ -51,7 +51,7 @@ installs_awaited old t t' sizes a a' need number p answer view awaited done told
     (record { piece = p; told = told; installs = installs; capacity = capacity; formed = record { sound = stays.sound; empty = stays.empty }; same = changed t t' sizes a a' None stays done }))
 
 pub frees_piece : (old : AwaitingState) (t t' : TypeState ℕ) (sizes : Sizes) (a : Option NeedBlock) (p : Piece ℕ) (cp : MemoryPiece) (went : Option ℕ) (gone : MemoryBlock)
-    → state_of t sizes a ≡ old → a ≡ None → told_piece p ≡ cp → IsLive nat_eq t.slots p → ReleasesPiece (IsTrue (has_several t.slots)) t.slots p went t'.slots → gone ≡ told_block went → capacity_of
+    → state_of t sizes a ≡ old → a ≡ None → told_piece p ≡ cp → IsLive nat_eq t.slots p → ReleasesPiece (IsTrue (has_others t.slots)) t.slots p went t'.slots → gone ≡ told_block went → capacity_of
     t'.slots ≤ capacity_of t.slots → Stays t t'
     → FreesPiece old cp gone (state_of t' sizes a)
 frees_piece old t t' sizes a p cp went gone view idle told live releases tells capacity stays =
@@ -100,7 +100,7 @@ pub is_idle : (old : AwaitingState) (t : TypeState ℕ) (sizes : Sizes) (a : Opt
 is_idle old t sizes a view idle = ap (λ (s : AwaitingState). s.awaited) (sym view) ∙ idle
 
 pub takes_piece : (old : AwaitingState) (t t' : TypeState ℕ) (sizes : Sizes) (a : Option NeedBlock) (r : MemoryRequest) (name : List ℕ) (s : Request) (p : Piece ℕ) (answer : MemoryPiece)
-    → state_of t sizes a ≡ old → s ≡ asked_of_type r name → answer ≡ told_piece p → has_own_block t sizes r.dedicated r.size ≡ false → PreparesPiece t.slots s p t'.slots → capacity_of t'.slots ≡
+    → state_of t sizes a ≡ old → s ≡ asked_of_type r name → answer ≡ told_piece p → has_dedicated_block t sizes r.dedicated r.size ≡ false → PreparesPiece t.slots s p t'.slots → capacity_of t'.slots ≡
     capacity_of t.slots → Stays t t'
     → TakesPiece old r name answer (state_of t' sizes a)
 takes_piece old t t' sizes a r name s p answer view same told shared takes capacity stays =

@@ -3,12 +3,12 @@ use Rattle.std.proofs.Common.{◌≡◌, ℕ, true, sym, ap, ◌∙◌, subst, S
 use Rattle.std.specs.Prelude.{Contains}
 use Rattle.std.proofs.lemmas.Bool.{false≢true}
 use Rattle.gpu_block_pieces.specs.FreeList.{Extent, FindsPlace}
-use Rattle.gpu_block.specs.Block.{Block, free_list, dedicated, extents_of, is_general, IsSoundBlock}
+use Rattle.gpu_block.specs.Block.{Block, free_list, dedicated, extents_of, is_shared, IsSoundBlock}
 use Rattle.gpu_c_blocks.specs.VirtualBlock.{IsLivePiece}
 use Rattle.gpu_c_blocks.specs.declared.virtual_block_values.VirtualPiece.{VirtualPiece}
 
 -- a number is one piece's
-pub one_piece : (b : Block) (x y : Extent) → is_general b ≡ true → IsSoundBlock b → Contains (extents_of b) x → Contains (extents_of b) y → x.number ≡ y.number → x ≡ y
+pub one_piece : (b : Block) (x y : Extent) → is_shared b ≡ true → IsSoundBlock b → Contains (extents_of b) x → Contains (extents_of b) y → x.number ≡ y.number → x ≡ y
 one_piece (free_list b) x y general sound cx cy e = sound.one_number x y cx cy e
 one_piece (dedicated b) x y general sound cx cy e = absurd (false≢true general)
 
@@ -17,7 +17,7 @@ pub none_lives : (b' b : Block) (piece : VirtualPiece) (n : ℕ) → b' ≡ b �
 none_lives b' b piece n same named h live = let l = subst (λ (z : Block). IsLivePiece z piece) (sym same) live in h l.1.0 l.1.1 (l.1.2 ∙ sym named)
 
 -- a piece that lies elsewhere isn't the one that is named
-pub lives_elsewhere : (b' b : Block) (piece : VirtualPiece) (n : ℕ) (place : ℕ × ℕ) → b' ≡ b → n ≡ piece.number → is_general b' ≡ true → IsSoundBlock b' → FindsPlace (extents_of b') n (Some place) →
+pub lives_elsewhere : (b' b : Block) (piece : VirtualPiece) (n : ℕ) (place : ℕ × ℕ) → b' ≡ b → n ≡ piece.number → is_shared b' ≡ true → IsSoundBlock b' → FindsPlace (extents_of b') n (Some place) →
     (place.0 ≡ piece.offset → ⊥) → IsLivePiece b piece → ⊥
 lives_elsewhere b' b piece n place same named general sound h other live =
     let l = subst (λ (z : Block). IsLivePiece z piece) (sym same) live in

@@ -8,9 +8,9 @@ use Rattle.gpu_block_pieces.specs.declared.pieces.BlockStatistics.{BlockStatisti
 use Rattle.gpu_block_pieces.specs.Request.{Request, request}
 use Rattle.gpu_core.specs.TypeState.{Slot, TypeState, slot_at, capacity_of, shared_count, fits_budget, KeepsOneEmptyAtMost}
 use Rattle.gpu_core.specs.Slots.{AreSound}
-use Rattle.gpu_core.specs.TypeTake.{has_own_block, next_shared_size, NoneServes, PreparesPiece, NeedsBlock, Installs}
+use Rattle.gpu_core.specs.TypeTake.{has_dedicated_block, next_shared_size, NoneServes, PreparesPiece, NeedsBlock, Installs}
 use Rattle.gpu_core.specs.TypePrepare.{CanInstall}
-use Rattle.gpu_core.specs.TypeRelease.{has_several, ReleasesPiece, RenamesPiece}
+use Rattle.gpu_core.specs.TypeRelease.{has_others, ReleasesPiece, RenamesPiece}
 use Rattle.gpu_core.specs.declared.piece.Piece.{Piece}
 use Rattle.gpu_core.specs.declared.need.NeedBlock.{NeedBlock}
 use Rattle.gpu_c_blocks.specs.Request.{IsServed, kind_named}
@@ -84,14 +84,14 @@ abbrev pub asked_of_type : MemoryRequest → List ℕ → Request
 asked_of_type r name = request r.size r.alignment (kind_named r.kind) name
 
 -- whether the request has a block of its own
-abbrev pub wants_own : AwaitingState → MemoryRequest → Bool
-wants_own s r = has_own_block (type_of s) s.sizes r.dedicated r.size
+abbrev pub requests_dedicated : AwaitingState → MemoryRequest → Bool
+requests_dedicated s r = has_dedicated_block (type_of s) s.sizes r.dedicated r.size
 
 -- a shared block has the piece; nothing else changes
 pub record TakesPiece (old : AwaitingState) (r : MemoryRequest) (name : List ℕ) (answer : MemoryPiece) (new : AwaitingState) : Type 0 where
   pub piece : Piece ℕ
   pub told : answer ≡ told_piece piece
-  pub shared : wants_own old r ≡ false
+  pub shared : requests_dedicated old r ≡ false
   pub takes : PreparesPiece old.slots (asked_of_type r name) piece new.slots
   pub capacity : capacity_of new.slots ≡ capacity_of old.slots
   pub formed : AreWellFormed new
@@ -99,8 +99,8 @@ pub record TakesPiece (old : AwaitingState) (r : MemoryRequest) (name : List ℕ
 
 -- a new block of that size is needed: the request has its own, or no shared block has a place
 pub record NeedsNew (old : AwaitingState) (r : MemoryRequest) (name : List ℕ) (size : ℕ) : Type 0 where
-  pub size_is : size ≡ cond (wants_own old r) r.size (next_shared_size (type_of old) old.sizes)
-  pub none : wants_own old r ≡ false → NoneServes old.slots (asked_of_type r name)
+  pub size_is : size ≡ cond (requests_dedicated old r) r.size (next_shared_size (type_of old) old.sizes)
+  pub none : requests_dedicated old r ≡ false → NoneServes old.slots (asked_of_type r name)
 
 -- the block that is needed is awaited, with the piece in it; nothing else changes
 abbrev pub AwaitsNeeded : (old : AwaitingState) → MemoryRequest → List ℕ → (size : ℕ) → (is_dedicated : Bool) → Option NeedBlock → Type 0
@@ -182,7 +182,7 @@ pub record FreesPiece (old : AwaitingState) (p : MemoryPiece) (gone : MemoryBloc
   pub piece : Piece ℕ
   pub told : told_piece piece ≡ p
   pub went : Option ℕ
-  pub releases : ReleasesPiece (IsTrue (has_several old.slots)) old.slots piece went new.slots
+  pub releases : ReleasesPiece (IsTrue (has_others old.slots)) old.slots piece went new.slots
   pub told_gone : gone ≡ told_block went
   pub capacity : capacity_of new.slots ≤ capacity_of old.slots
   pub formed : AreWellFormed new

@@ -4,7 +4,7 @@ use Rattle.std.specs.Int.{is_power_of_two}
 use Rattle.gpu_values.specs.declared.error.AllocationError.{AllocationError}
 use Rattle.gpu_block_pieces.specs.FreeList.{Extent, fresh_free_list}
 use Rattle.gpu_block.specs.Dedicated.{empty_dedicated}
-use Rattle.gpu_block.specs.Block.{Block, free_list, dedicated, extents_of, size_of, is_general, HasPages, TakesIn, ReleasesIn, RenamesIn, IsTakeRefusalIn, IsFitLaw, IsSoundBlock, IsOrderedBlock}
+use Rattle.gpu_block.specs.Block.{Block, free_list, dedicated, extents_of, size_of, is_shared, HasPages, TakesIn, ReleasesIn, RenamesIn, IsAllocateRefusalIn, IsFitLaw, IsSoundBlock, IsOrderedBlock}
 use Rattle.gpu_block.specs.Block.{HasPagesApart, IsCoveredBlock}
 use Rattle.gpu_block.specs.BlockViews.{statistics_of}
 use Rattle.gpu_block_pieces.specs.Request.{Request, request}
@@ -15,7 +15,7 @@ use Rattle.gpu_c_blocks.specs.declared.virtual_block_values.VirtualStatistics.{V
 
 -- a block that is cut into pieces, with pages of that size
 pub record IsCut (b : Block) (granularity : ℕ) : Type 0 where
-  pub general : is_general b ≡ true
+  pub shared : is_shared b ≡ true
   pub pages : HasPages b granularity
   pub paged : IsTrue (is_power_of_two granularity)
   pub sized : 0 < size_of b
@@ -48,7 +48,7 @@ pub record IsWellFormed (b : Block) : Type 0 where
 -- cause while the block has numbers
 pub record IsRefusedFor (b : Block) (r : VirtualRequest) (name : List ℕ) (e : AllocationError) : Type 0 where
   pub served : IsServed r.size r.alignment r.kind name
-  pub cause : IsTakeRefusalIn b (asked r name) e
+  pub cause : IsAllocateRefusalIn b (asked r name) e
   pub law : IsFitLaw b (asked r name) e
 
 -- the piece was taken

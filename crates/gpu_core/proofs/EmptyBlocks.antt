@@ -7,7 +7,7 @@ use Rattle.std.proofs.lemmas.Bool.{false≢true, cases_eq}
 use Rattle.gpu_block_pieces.specs.FreeList.{Extent}
 use Rattle.gpu_block.specs.Dedicated.{held_extents, renamed, whole_extent}
 use Rattle.gpu_block_pieces.specs.Request.{Request}
-use Rattle.gpu_block.specs.Block.{Block, free_list, dedicated, extents_of, is_general, HoldsPiece, TakesIn, ReleasesIn, RenamesIn, IsSoundBlock}
+use Rattle.gpu_block.specs.Block.{Block, free_list, dedicated, extents_of, is_shared, HoldsPiece, TakesIn, ReleasesIn, RenamesIn, IsSoundBlock}
 use Rattle.gpu_core.specs.TypeState.{Slot, slot_at, slots_sum, shared_in, shared_count, HasEmptyBlock, IsOneGap, HasOneGap, KeepsOneEmptyAtMost}
 use Rattle.gpu_core.specs.TypeTake.{PreparesPiece}
 use Rattle.gpu_core.specs.TypeRelease.{Goes, SlotReleases, ReleasesPiece, SlotRenames, RenamesPiece}
@@ -51,10 +51,10 @@ renames_some (dedicated old) n name (dedicated new) t e = named_some old.piece n
 -- ---- a block that is emptied
 
 abbrev shared_number : Block → ℕ
-shared_number b = cond (is_general b) 1 0
+shared_number b = cond (is_shared b) 1 0
 
 -- an emptied free list is one gap
-pub released_gap : (b : Block) (n : ℕ) (after : Block) → IsSoundBlock b → ReleasesIn b n after → extents_of after ≡ [] → (is_general after ≡ false → ⊥) → IsOneGap after
+pub released_gap : (b : Block) (n : ℕ) (after : Block) → IsSoundBlock b → ReleasesIn b n after → extents_of after ≡ [] → (is_shared after ≡ false → ⊥) → IsOneGap after
 released_gap (free_list b) n (free_list after) sound t e shared =
     let within = within_of b t.gone sound t.held in
     let low = within.0 in let high = within.1 in
@@ -73,11 +73,11 @@ gap_is_shared : {H : Type 0} (s : Option (Slot H)) → HasOneGap s → shared_in
 gap_is_shared None h = absurd h
 gap_is_shared (Some s) h = block_is_shared s.block h
 
-general_shared : (b : Block) → (is_general b ≡ false → ⊥) → shared_number b ≡ 1
+general_shared : (b : Block) → (is_shared b ≡ false → ⊥) → shared_number b ≡ 1
 general_shared (free_list b) h = refl
 general_shared (dedicated b) h = absurd (h refl)
 
-pub released_form : (b : Block) (n : ℕ) (after : Block) → ReleasesIn b n after → is_general after ≡ is_general b
+pub released_form : (b : Block) (n : ℕ) (after : Block) → ReleasesIn b n after → is_shared after ≡ is_shared b
 released_form (free_list b) n (free_list after) t = refl
 released_form (free_list b) n (dedicated after) t = absurd t
 released_form (dedicated b) n (free_list after) t = absurd t
@@ -151,7 +151,7 @@ renamed_empty slots p name new kept t =
 -- an emptied block that stays is the only shared one
 module _ {H : Type 0} (slots : List (Option (Slot H))) (i n : ℕ) (several : Type 0) (s q : Slot H) (kept : KeepsOneEmptyAtMost slots) (sound : IsSoundBlock s.block) (at : slot_at slots i ≡ Some s)
     (t : ReleasesIn s.block n q.block) (stays : Goes several q.block → ⊥) (counts : 2 ≤ shared_count slots → several) where
-  stays_shared : extents_of q.block ≡ [] → is_general q.block ≡ false → ⊥
+  stays_shared : extents_of q.block ≡ [] → is_shared q.block ≡ false → ⊥
   stays_shared e h = stays (e, inl h)
 
   others_hold : extents_of q.block ≡ [] → (j : ℕ) → j ≢ i → HasEmptyBlock (slot_at slots j) → ⊥

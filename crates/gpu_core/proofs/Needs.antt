@@ -3,14 +3,14 @@ use Rattle.std.proofs.Common.{◌≡◌, ℕ, ◌<◌, ◌≤◌, Bool, true, fa
 use Rattle.gpu_values.specs.declared.error.AllocationError.{AllocationError}
 use Rattle.gpu_values.specs.declared.error.AllocationError.TheVariants as errors
 use Rattle.gpu_values.specs.Refusal.{refusal_of, host_out_of_memory}
-use Rattle.gpu_block_pieces.specs.BlockRefusal.{IsTakeRefusal}
+use Rattle.gpu_block_pieces.specs.BlockRefusal.{IsAllocateRefusal}
 use Rattle.gpu_block_pieces.specs.Request.{Request}
 use Rattle.gpu_block_pieces.specs.Place.{HasNoPlace}
 use Rattle.gpu_block_pieces.specs.FreeList.{fresh_free_list}
 use Rattle.std.specs.Prelude.{IsNone}
-use Rattle.gpu_block.specs.Block.{Block, free_list, dedicated, size_of, is_general, TakesIn, IsTakeRefusalIn}
+use Rattle.gpu_block.specs.Block.{Block, free_list, dedicated, size_of, is_shared, TakesIn, IsAllocateRefusalIn}
 use Rattle.gpu_core.specs.TypeTake.{fresh_block}
-use Rattle.gpu_block_pieces.proofs.Determined.{chosen_once}
+use Rattle.gpu_block_pieces.proofs.OneOutcome.{chosen_once}
 use Rattle.gpu_block_pieces.proofs.Empty.{empty_chosen, empty_has_place}
 use Rattle.gpu_core.proofs.Kept.{takes_same}
 use Rattle.std.proofs.lemmas.Bool.{false≢true}
@@ -35,7 +35,7 @@ fresh_served size granularity r some le h =
     let last = n.1 in
     omega arith
 
-fresh_list_error : (size granularity : ℕ) (r : Request) (e : AllocationError) → 0 < size → r.size ≤ size → IsTakeRefusal (fresh_free_list size granularity 2) r e → e ≡ errors.HostOutOfMemory
+fresh_list_error : (size granularity : ℕ) (r : Request) (e : AllocationError) → 0 < size → r.size ≤ size → IsAllocateRefusal (fresh_free_list size granularity 2) r e → e ≡ errors.HostOutOfMemory
 fresh_list_error size granularity r errors.OutOfMemory some le h = absurd (fresh_served size granularity r some le h)
 fresh_list_error size granularity r errors.HostOutOfMemory some le h = refl
 fresh_list_error size granularity r (errors.FailedToMap _) some le h = absurd h
@@ -48,7 +48,7 @@ fresh_list_error size granularity r errors.CastableFormatsRequiresEnhancedBarrie
 fresh_list_error size granularity r errors.CastableFormatsRequiresAtLeastDevice12 some le h = absurd h
 fresh_list_error size granularity r errors.BudgetExceeded some le h = absurd h
 
-pub fresh_error : (is_dedicated : Bool) (size granularity : ℕ) (r : Request) (e : AllocationError) → (is_dedicated ≡ true → size ≡ r.size) → r.size ≤ size → 0 < r.size → IsTakeRefusalIn
+pub fresh_error : (is_dedicated : Bool) (size granularity : ℕ) (r : Request) (e : AllocationError) → (is_dedicated ≡ true → size ≡ r.size) → r.size ≤ size → 0 < r.size → IsAllocateRefusalIn
     (fresh_block is_dedicated size granularity) r e → e ≡ errors.HostOutOfMemory
 fresh_error true size granularity r e exact le some h =
     elim h [
@@ -78,13 +78,13 @@ fresh_size : (is_dedicated : Bool) (size granularity : ℕ) → size_of (fresh_b
 fresh_size true size granularity = refl
 fresh_size false size granularity = refl
 
-fresh_kind : (is_dedicated : Bool) (size granularity : ℕ) → is_general (fresh_block is_dedicated size granularity) ≡ not is_dedicated
+fresh_kind : (is_dedicated : Bool) (size granularity : ℕ) → is_shared (fresh_block is_dedicated size granularity) ≡ not is_dedicated
 fresh_kind true size granularity = refl
 fresh_kind false size granularity = refl
 
 -- what is taken of a fresh block has its size and form
 pub fresh_taken : (is_dedicated : Bool) (size granularity : ℕ) (r : Request) (o n : ℕ) (new : Block) → TakesIn (fresh_block is_dedicated size granularity) r o n new → (size_of new ≡ size) ×
-    (is_general new ≡ not is_dedicated)
+    (is_shared new ≡ not is_dedicated)
 fresh_taken is_dedicated size granularity r o n new t =
     let same = takes_same (fresh_block is_dedicated size granularity) r o n new t in
     (same.0 ∙ fresh_size is_dedicated size granularity, same.1 ∙ fresh_kind is_dedicated size granularity)

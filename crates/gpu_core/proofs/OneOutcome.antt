@@ -10,16 +10,16 @@ use Rattle.std.specs.declared.num.NonZeroU64.{NonZeroU64}
 use Rattle.gpu_block_pieces.specs.FreeList.{Extent}
 use Rattle.gpu_block_pieces.specs.Request.{Request}
 use Rattle.gpu_values.specs.Sizes.{Sizes}
-use Rattle.gpu_block.specs.Block.{Block, free_list, dedicated, is_general, TakesIn, IsSoundBlock, IsReleaseRefusalIn, IsRenameRefusalIn, extents_of}
+use Rattle.gpu_block.specs.Block.{Block, free_list, dedicated, is_shared, TakesIn, IsSoundBlock, IsReleaseRefusalIn, IsRenameRefusalIn, extents_of}
 use Rattle.gpu_core.specs.TypeState.{Slot, TypeState, slot_at}
-use Rattle.gpu_core.specs.TypeTake.{PreparesPiece, CannotServe, BlockCannotServe, Ready, NeedsBlock, Installs, has_own_block, fresh_block, next_shared_size}
+use Rattle.gpu_core.specs.TypeTake.{PreparesPiece, CannotServe, BlockCannotServe, Pending, NeedsBlock, Installs, has_dedicated_block, fresh_block, next_shared_size}
 use Rattle.gpu_core.specs.TypeRelease.{IsFreeRefusal, IsNameRefusal, Goes, SlotReleases, ReleasesPiece, SlotRenames, RenamesPiece}
 use Rattle.gpu_values.specs.Refusal.{Refusal, host_out_of_memory}
 use Rattle.gpu_core.specs.Slots.{AreSound, SlotIsSound}
 use Rattle.gpu_core.proofs.Found.{only_one}
 use Rattle.gpu_core.specs.declared.piece.Piece.{Piece}
 use Rattle.gpu_block.proofs.Blocks.{take_once_in, release_once_in, rename_once_in}
-use Rattle.gpu_block_pieces.proofs.Determined.{takes_or_none}
+use Rattle.gpu_block_pieces.proofs.OneOutcome.{takes_or_none}
 
 numbers_alike : (a b : NonZeroU64) → non_zero_u64_get a ≡ non_zero_u64_get b → a ≡ b
 numbers_alike a b e = λ i. record { value = e i; ok = to_path_p (λ j. 1 ≤ e j) {a = a.ok} {b = b.ok} (le_prop _ b.ok) i }
@@ -38,7 +38,7 @@ block_of_sound : {H : Type 0} (g : ℕ) (slots : List (Option (Slot H))) (i : �
 block_of_sound g slots i s sound at = (subst (SlotIsSound g) at (sound i)).1
 
 -- a block that takes the request can serve it
-served_or_not : (b : Block) (r : Request) (o n : ℕ) (new : Block) → is_general b ≡ true → TakesIn b r o n new → BlockCannotServe r b → ⊥
+served_or_not : (b : Block) (r : Request) (o n : ℕ) (new : Block) → is_shared b ≡ true → TakesIn b r o n new → BlockCannotServe r b → ⊥
 served_or_not (free_list b) r o n (free_list new) shared t none = takes_or_none b r o n new t none
 served_or_not (free_list b) r o n (dedicated new) shared t none = t
 served_or_not (dedicated b) r o n new shared t none = false≢true shared
@@ -88,10 +88,10 @@ fresh_sound false size g =
       one_gap = λ s k m a b. number_of_one s k a ∙ sym (number_of_one s m b);
     }
 
-ready_alike : (a b : Ready) → a.block ≡ b.block → a.offset ≡ b.offset → a.number ≡ b.number → a.size ≡ b.size → a ≡ b
+ready_alike : (a b : Pending) → a.block ≡ b.block → a.offset ≡ b.offset → a.number ≡ b.number → a.size ≡ b.size → a ≡ b
 ready_alike a b x o n z = λ i. record { block = x i; offset = o i; number = n i; size = z i }
 
-pub needed_once : {H : Type 0} (t : TypeState H) (sizes : Sizes) (own : Bool) (r : Request) (size other : ℕ) (is_dedicated kind : Bool) (ready next : Ready) → NeedsBlock t sizes own r size
+pub needed_once : {H : Type 0} (t : TypeState H) (sizes : Sizes) (own : Bool) (r : Request) (size other : ℕ) (is_dedicated kind : Bool) (ready next : Pending) → NeedsBlock t sizes own r size
     is_dedicated ready → NeedsBlock t sizes own r other kind next → (size ≡ other) × (is_dedicated ≡ kind) × (ready ≡ next)
 needed_once t sizes own r size other is_dedicated kind ready next a b =
     let kinds = a.kind ∙ sym b.kind in
@@ -102,11 +102,11 @@ needed_once t sizes own r size other is_dedicated kind ready next a b =
     a.takes taken in
     (sized, kinds, ready_alike ready next once.2 once.0 once.1 (a.piece ∙ sym b.piece))
 
-pub serves_or_needs : {H : Type 0} (t : TypeState H) (sizes : Sizes) (own : Bool) (r : Request) (p : Piece H) (new : List (Option (Slot H))) (size : ℕ) (is_dedicated : Bool) (ready : Ready) →
-    has_own_block t sizes own r.size ≡ false → PreparesPiece t.slots r p new → NeedsBlock t sizes own r size is_dedicated ready → ⊥
+pub serves_or_needs : {H : Type 0} (t : TypeState H) (sizes : Sizes) (own : Bool) (r : Request) (p : Piece H) (new : List (Option (Slot H))) (size : ℕ) (is_dedicated : Bool) (ready : Pending) →
+    has_dedicated_block t sizes own r.size ≡ false → PreparesPiece t.slots r p new → NeedsBlock t sizes own r size is_dedicated ready → ⊥
 serves_or_needs t sizes own r p new size is_dedicated ready shared s n = slot_served t.slots r p new s (n.none (n.kind ∙ shared) p.slot)
 
-pub installed_once : {H : Type 0} (old : List (Option (Slot H))) (is_dedicated : Bool) (ready : Ready) (number : H) (p q : Piece H) (new next : List (Option (Slot H))) → Installs old is_dedicated
+pub installed_once : {H : Type 0} (old : List (Option (Slot H))) (is_dedicated : Bool) (ready : Pending) (number : H) (p q : Piece H) (new next : List (Option (Slot H))) → Installs old is_dedicated
     ready number p new → Installs old is_dedicated ready number q next → (p ≡ q) × (new ≡ next)
 installed_once old is_dedicated ready number p q new next a b = (
   pieces_alike p q (a.slot ∙ sym b.slot) (a.piece.1 ∙ sym b.piece.1) (a.piece.0 ∙ sym b.piece.0) (a.piece.2 ∙ sym b.piece.2) (a.piece.3 ∙ sym b.piece.3),

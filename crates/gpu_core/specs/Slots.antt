@@ -2,12 +2,12 @@
 use Rattle.std.specs.Prelude.{◌≡◌, ◌≢◌, ℕ, ◌<◌, Bool, true, List, length, Option, Some, None, cond, map, Contains, slice_index}
 use Rattle.std.specs.Option.{option_map}
 use Rattle.gpu_core.specs.declared.slot.LiveBlock.{LiveBlock}
-use Rattle.gpu_core.specs.declared.slot.Gone.{Gone}
+use Rattle.gpu_core.specs.declared.slot.ReleasedBlock.{ReleasedBlock}
 use Rattle.gpu_core.specs.declared.slot.Finding.{Finding}
 use Rattle.gpu_core.specs.declared.slot.Finding.TheVariants as findings
 use Rattle.gpu_block_pieces.specs.Request.{Request}
 use Rattle.gpu_block.specs.SubAllocator.{block_of}
-use Rattle.gpu_block.specs.Block.{extents_of, is_general, TakesIn, HasPages, IsSoundBlock, HasPagesApart}
+use Rattle.gpu_block.specs.Block.{extents_of, is_shared, TakesIn, HasPages, IsSoundBlock, HasPagesApart}
 use Rattle.gpu_block_pieces.specs.FreeList.{Extent}
 use Rattle.gpu_core.specs.TypeState.{Slot, slot_at}
 use Rattle.gpu_core.specs.TypeTake.{CannotServe}
@@ -51,7 +51,7 @@ AreSound granularity slots = (i : ℕ) → SlotIsSound granularity (slot_at slot
 -- a piece was taken of a shared block
 abbrev pub SlotTakes : {H : Type 0} → Option (Slot H) → Request → (offset number : ℕ) → H → Option (Slot H) → Type 0
 SlotTakes (Some old) r offset number device (Some new) =
-    (is_general old.block ≡ true) × (device ≡ old.number) × (new.number ≡ old.number) × TakesIn old.block r offset number new.block
+    (is_shared old.block ≡ true) × (device ≡ old.number) × (new.number ≡ old.number) × TakesIn old.block r offset number new.block
 SlotTakes None r offset number device new = ⊥
 SlotTakes (Some old) r offset number device None = ⊥
 
@@ -74,14 +74,14 @@ Settles several None went None = went ≡ None
 Settles several None went (Some new) = ⊥
 
 -- of a block that went, if one did: the device's number of it, the bytes that went with it, and 1 where it was shared
-abbrev pub gone_number : {H : Type 0} → Option (Gone H) → Option H
-gone_number None = None
-gone_number (Some went) = Some went.number
+abbrev pub released_handle : {H : Type 0} → Option (ReleasedBlock H) → Option H
+released_handle None = None
+released_handle (Some went) = Some went.number
 
-abbrev pub gone_size : {H : Type 0} → Option (Gone H) → ℕ
-gone_size None = 0
-gone_size (Some went) = went.size
+abbrev pub released_size : {H : Type 0} → Option (ReleasedBlock H) → ℕ
+released_size None = 0
+released_size (Some went) = went.size
 
-abbrev pub gone_shared : {H : Type 0} → Option (Gone H) → ℕ
-gone_shared None = 0
-gone_shared (Some went) = cond went.is_shared 1 0
+abbrev pub released_shared : {H : Type 0} → Option (ReleasedBlock H) → ℕ
+released_shared None = 0
+released_shared (Some went) = cond went.is_shared 1 0

@@ -5,9 +5,9 @@ use Rattle.gpu_core.specs.TypeState.{Slot, capacity_of, shared_count, KeepsOneEm
 use Rattle.gpu_core.specs.Slots.{AreSound}
 
 -- the code's sums are those of the slots, the pages are a power of two, the blocks are sound, and at most one is empty
-pub record AreKept {H : Type 0} (granularity : ℕ) (slots : List (Option (Slot H))) (capacity general : ℕ) : Type 0 where
+pub record AreKept {H : Type 0} (granularity : ℕ) (slots : List (Option (Slot H))) (capacity shared : ℕ) : Type 0 where
   pub pages : IsTrue (is_power_of_two granularity)
   pub sound : AreSound granularity slots
   pub capacity_is : capacity ≡ capacity_of slots
-  pub general_is : general ≡ shared_count slots
+  pub shared_is : shared ≡ shared_count slots
   pub empty : KeepsOneEmptyAtMost slots

@@ -4,7 +4,7 @@ use Rattle.std.specs.List.{slice_set}
 use Rattle.std.specs.Int.NonZero.{non_zero_u64_get}
 use Rattle.gpu_block_pieces.specs.FreeList.{Extent}
 use Rattle.gpu_values.specs.Refusal.{Refusal, internal}
-use Rattle.gpu_block.specs.Block.{Block, extents_of, is_general, HoldsPiece, ReleasesIn, IsReleaseRefusalIn, RenamesIn, IsRenameRefusalIn}
+use Rattle.gpu_block.specs.Block.{Block, extents_of, is_shared, HoldsPiece, ReleasesIn, IsReleaseRefusalIn, RenamesIn, IsRenameRefusalIn}
 use Rattle.gpu_core.specs.TypeState.{Slot, slot_at, shared_count}
 use Rattle.gpu_core.specs.declared.piece.Piece.{Piece}
 
@@ -34,12 +34,12 @@ IsNameRefusal eq p None refusal = refusal ≡ internal (codes "Memory block must
 IsNameRefusal eq p (Some s) refusal = IsRenameRefusalIn s.block (Some p.number) refusal ⊎ IsOther eq p s refusal
 
 -- the type has more than one shared block
-abbrev pub has_several : {H : Type 0} → List (Option (Slot H)) → Bool
-has_several slots = nat_lt 1 (shared_count slots)
+abbrev pub has_others : {H : Type 0} → List (Option (Slot H)) → Bool
+has_others slots = nat_lt 1 (shared_count slots)
 
 -- an emptied block goes where it is dedicated or isn't the only shared one
 abbrev pub Goes : (several : Type 0) → Block → Type 0
-Goes several after = (extents_of after ≡ []) × ((is_general after ≡ false) ⊎ several)
+Goes several after = (extents_of after ≡ []) × ((is_shared after ≡ false) ⊎ several)
 
 -- a slot after the release of a piece: its block stays, or it is empty and the block's number is named
 abbrev pub SlotReleases : {H : Type 0} → (several : Type 0) → ℕ → Option (Slot H) → Option H → Option (Slot H) → Type 0

@@ -2,7 +2,7 @@
 use Rattle.std.specs.Prelude.{◌≡◌, ℕ, zero, suc, ◌+◌, Bool, true, false, List, [], ◌∷◌, length, Option, Some, None, cond, nat_le}
 use Rattle.std.specs.List.{slice_index_or, position}
 use Rattle.gpu_block_pieces.specs.FreeList.{IsGap}
-use Rattle.gpu_block.specs.Block.{Block, free_list, dedicated, extents_of, size_of, is_general}
+use Rattle.gpu_block.specs.Block.{Block, free_list, dedicated, extents_of, size_of, is_shared}
 
 -- a live block: the device's number of it, and its pieces
 pub record Slot (H : Type 0) : Type 0 where
@@ -29,7 +29,7 @@ slot_size (Some s) = size_of s.block
 
 abbrev pub shared_in : {H : Type 0} → Option (Slot H) → ℕ
 shared_in None = 0
-shared_in (Some s) = cond (is_general s.block) 1 0
+shared_in (Some s) = cond (is_shared s.block) 1 0
 
 -- the sum of the sizes of the live blocks
 abbrev pub capacity_of : {H : Type 0} → List (Option (Slot H)) → ℕ

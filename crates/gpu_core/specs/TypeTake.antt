@@ -7,7 +7,7 @@ use Rattle.gpu_block_pieces.specs.FreeList.{fresh_free_list}
 use Rattle.gpu_block.specs.Dedicated.{empty_dedicated}
 use Rattle.gpu_block_pieces.specs.Request.{Request}
 use Rattle.gpu_block_pieces.specs.Place.{HasNoPlace}
-use Rattle.gpu_block.specs.Block.{Block, free_list, dedicated, is_general, TakesIn}
+use Rattle.gpu_block.specs.Block.{Block, free_list, dedicated, is_shared, TakesIn}
 use Rattle.gpu_values.specs.Sizes.{Sizes, shared_block_size}
 use Rattle.gpu_core.specs.TypeState.{Slot, TypeState, shared_count, slot_at, lowest_empty, highest_empty}
 use Rattle.gpu_core.specs.declared.piece.Piece.{Piece}
@@ -22,8 +22,8 @@ abbrev pub next_shared_size : {H : Type 0} → TypeState H → Sizes → ℕ
 next_shared_size t sizes = shared_block_size sizes t.is_host (shared_count t.slots)
 
 -- whether a request has a block of its own: it asks for one, or is above the size of the next shared block
-abbrev pub has_own_block : {H : Type 0} → TypeState H → Sizes → (is_dedicated : Bool) → (size : ℕ) → Bool
-has_own_block t sizes is_dedicated size = is_dedicated || nat_lt (next_shared_size t sizes) size
+abbrev pub has_dedicated_block : {H : Type 0} → TypeState H → Sizes → (is_dedicated : Bool) → (size : ℕ) → Bool
+has_dedicated_block t sizes is_dedicated size = is_dedicated || nat_lt (next_shared_size t sizes) size
 
 -- a block that can't serve the request: it is dedicated or has no place
 abbrev pub BlockCannotServe : Request → Block → Type 0
@@ -40,7 +40,7 @@ pub record PreparesPiece {H : Type 0} (old : List (Option (Slot H))) (r : Reques
   pub slot : Slot H
   pub after : Block
   pub at : slot_at old p.slot ≡ Some slot
-  pub shared : is_general slot.block ≡ true
+  pub shared : is_shared slot.block ≡ true
   pub takes : TakesIn slot.block r p.offset (non_zero_u64_get p.number) after
   pub highest : (i : ℕ) → p.slot < i → CannotServe r (slot_at old i)
   pub number : p.block ≡ slot.number
@@ -56,15 +56,15 @@ fresh_block true size granularity = dedicated (empty_dedicated size)
 fresh_block false size granularity = free_list (fresh_free_list size granularity 2)
 
 -- a new block with the request's piece taken in it, which waits for the device's memory
-pub record Ready : Type 0 where
+pub record Pending : Type 0 where
   pub block : Block
   pub offset : ℕ
   pub number : ℕ
   pub size : ℕ
 
 -- which block a request needs; the piece begins at its start
-pub record NeedsBlock {H : Type 0} (t : TypeState H) (sizes : Sizes) (wants_own : Bool) (r : Request) (size : ℕ) (is_dedicated : Bool) (ready : Ready) : Type 0 where
-  pub kind : is_dedicated ≡ has_own_block t sizes wants_own r.size
+pub record NeedsBlock {H : Type 0} (t : TypeState H) (sizes : Sizes) (requests_dedicated : Bool) (r : Request) (size : ℕ) (is_dedicated : Bool) (ready : Pending) : Type 0 where
+  pub kind : is_dedicated ≡ has_dedicated_block t sizes requests_dedicated r.size
   pub size_is : size ≡ cond is_dedicated r.size (next_shared_size t sizes)
   pub none : is_dedicated ≡ false → NoneServes t.slots r
   pub takes : TakesIn (fresh_block is_dedicated size t.granularity) r ready.offset ready.number ready.block
@@ -83,7 +83,7 @@ abbrev pub with_block : {H : Type 0} → List (Option (Slot H)) → ℕ → Slot
 with_block slots i s = cond (nat_lt i (length slots)) (slice_set slots i (Some s)) (slots ++ Some s ∷ [])
 
 -- the new block stands in its slot, and the piece is the one taken in it
-pub record Installs {H : Type 0} (old : List (Option (Slot H))) (is_dedicated : Bool) (ready : Ready) (number : H) (p : Piece H) (new : List (Option (Slot H))) : Type 0 where
+pub record Installs {H : Type 0} (old : List (Option (Slot H))) (is_dedicated : Bool) (ready : Pending) (number : H) (p : Piece H) (new : List (Option (Slot H))) : Type 0 where
   pub slot : p.slot ≡ new_slot is_dedicated old
   pub piece : (p.offset ≡ ready.offset) × (non_zero_u64_get p.number ≡ ready.number) × (p.size ≡ ready.size) × (p.block ≡ number)
   pub slots : new ≡ with_block old (new_slot is_dedicated old) (record { number = number; block = ready.block })

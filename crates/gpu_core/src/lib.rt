@@ -22,10 +22,10 @@ pub use gpu_values::{
     AllocatorReport, Fault, MemoryBlockReport, MemoryLocation, Result, fmt_bytes,
 };
 pub use memory_type::{MemoryType, Prepared};
-pub use need::{NeedBlock, Room};
+pub use need::{NeedBlock, PendingBlock};
 pub use piece::{Piece, Request};
 pub use report::add_slots;
-pub use slot::{Finding, Gone, LiveBlock, find};
+pub use slot::{Finding, ReleasedBlock, LiveBlock, find};
 pub use slots::Slots;
 pub use statistics::count_slots;
 pub use type_leaks::TypeLeaks;

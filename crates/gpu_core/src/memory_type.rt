@@ -5,7 +5,7 @@ ghost use Rattle.std.specs.Int.{is_power_of_two};
 ghost use Rattle.gpu_values.specs.declared.error.AllocationError.TheVariants.{HostOutOfMemory};
 ghost use Rattle.gpu_values.specs.Refusal.{refusal_of};
 
-use crate::need::{NeedBlock, make_room};
+use crate::need::{NeedBlock, make_pending};
 use gpu_block::SubAllocator;
 use gpu_block_pieces::{BlockStatistics, Leaks, Pieces};
 use crate::{
@@ -32,7 +32,7 @@ pub struct MemoryType<H: Copy + Eq> {
     granularity: u64,
     slots: Slots<H>,
     capacity: u64,
-    general: usize,
+    shared: usize,
     budget: Option<u64>,
     alloc: Global,
 }
@@ -45,7 +45,7 @@ impl<H: Copy + Eq> Drop for MemoryType<H> {
             granularity: _,
             slots: _,
             capacity: _,
-            general: _,
+            shared: _,
             budget: _,
             alloc: _,
         } = self;
@@ -66,7 +66,7 @@ impl<H: Copy + Eq> Model for MemoryType<H> {
       budget = t.budget;
     } };
 
-    ghost invariant = { λ t. AreKept t.granularity t.slots.slots t.capacity t.general };
+    ghost invariant = { λ t. AreKept t.granularity t.slots.slots t.capacity t.shared };
 }
 
 impl<H: Copy + Eq> MemoryType<H> {
@@ -74,7 +74,7 @@ impl<H: Copy + Eq> MemoryType<H> {
     ghost use Rattle.gpu_core.specs.TypeTake.{Installs};
     ghost use Rattle.gpu_core.specs.Slots.{AreSound};
     ghost use Rattle.gpu_core.specs.TypePrepare.{IsPrepared, CanInstall};
-    ghost use Rattle.gpu_core.specs.TypeRelease.{has_several, IsLive, IsFreeRefusal, IsNameRefusal, ReleasesPiece, RenamesPiece};
+    ghost use Rattle.gpu_core.specs.TypeRelease.{has_others, IsLive, IsFreeRefusal, IsNameRefusal, ReleasesPiece, RenamesPiece};
     ghost use Rattle.gpu_core.specs.TypeReport.{leaks_in, pieces_in, statistics_in, block_in, counted_with, nothing_counted, type_leaks, with_type};
     ghost use Rattle.gpu_block.specs.SubAllocator.{block_of};
     ghost use Rattle.std.specs.Option.{option_map};
@@ -95,7 +95,7 @@ impl<H: Copy + Eq> MemoryType<H> {
             granularity,
             slots: Slots::new(alloc),
             capacity: 0,
-            general: 0,
+            shared: 0,
             budget: None,
             alloc,
         }
@@ -118,16 +118,16 @@ impl<H: Copy + Eq> MemoryType<H> {
         ensures sound { AreSound self.new.granularity self.new.slots }
         ensures empty { KeepsOneEmptyAtMost self.new.slots }
     {
-        let next = sizes.memblock_size(self.is_host, self.general);
+        let next = sizes.memblock_size(self.is_host, self.shared);
         let dedicated = request.dedicated || request.size > next;
         if !dedicated {
-            if let Some(piece) = self.slots.take(request, self.granularity)? {
+            if let Some(piece) = self.slots.allocate(request, self.granularity)? {
                 return Ok(Prepared::Taken(piece));
             }
         }
         self.slots.reserve()?;
         let size = if dedicated { request.size } else { next };
-        let room = make_room(self.alloc, dedicated, size, self.granularity, request)?;
+        let room = make_pending(self.alloc, dedicated, size, self.granularity, request)?;
         Ok(Prepared::NeedBlock(NeedBlock {
             size,
             dedicated,
@@ -160,7 +160,7 @@ impl<H: Copy + Eq> MemoryType<H> {
         let slot = self.slots.put(block, dedicated);
         self.capacity += size;
         if !dedicated {
-            self.general += 1;
+            self.shared += 1;
         }
         Piece {
             slot,
@@ -176,7 +176,7 @@ impl<H: Copy + Eq> MemoryType<H> {
     /// nothing changes.
     pub fn free(&mut self, piece: &Piece<H>) -> Result<Option<H>>
         ensures released { IfOk result (λ gone.
-            ReleasesPiece (IsTrue (has_several self.old.slots)) self.old.slots piece.now gone self.new.slots) }
+            ReleasesPiece (IsTrue (has_others self.old.slots)) self.old.slots piece.now gone self.new.slots) }
         ensures live { OnOk result (IsLive H.eq self.old.slots piece.now) }
         ensures dead { OnErr result (IsLive H.eq self.old.slots piece.now → ⊥) }
         ensures cause { IfErr result (λ e. IsFreeRefusal H.eq piece.now (slot_at self.old.slots piece.now.slot) (refusal_of e)) }
@@ -187,13 +187,13 @@ impl<H: Copy + Eq> MemoryType<H> {
         ensures sound { AreSound self.new.granularity self.new.slots }
         ensures empty { KeepsOneEmptyAtMost self.new.slots }
     {
-        let several = self.general > 1;
+        let several = self.shared > 1;
         match self.slots.free(piece, several)? {
             None => Ok(None),
             Some(gone) => {
                 self.capacity -= gone.size;
                 if gone.is_shared {
-                    self.general -= 1;
+                    self.shared -= 1;
                 }
                 Ok(Some(gone.number))
             }
@@ -268,7 +268,7 @@ impl<H: Copy + Eq> MemoryType<H> {
     pub fn active_general_blocks(&self) -> usize
         ensures { result ≡ shared_count self.now.slots }
     {
-        self.general
+        self.shared
     }
 
     /// How many slots there are, the empty ones included.

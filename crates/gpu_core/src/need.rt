@@ -17,19 +17,19 @@ use std::num::NonZeroU64;
 
 /// A new block with the request's piece taken in it. It waits for the device's memory; dropping it changes nothing.
 #[derive(Drop)]
-pub struct Room {
+pub struct PendingBlock {
     pub(crate) sub: SubAllocator,
     pub(crate) number: NonZeroU64,
     pub(crate) offset: u64,
     pub(crate) size: u64,
 }
 
-impl Model for Room {
+impl Model for PendingBlock {
     ghost use Rattle.std.specs.Int.NonZero.{non_zero_u64_get};
-    ghost use Rattle.gpu_core.specs.TypeTake.{Ready};
+    ghost use Rattle.gpu_core.specs.TypeTake.{Pending};
     ghost use Rattle.gpu_block.specs.SubAllocator.{block_of};
 
-    ghost Value = { Ready };
+    ghost Value = { Pending };
 
     ghost view = { λ r. record { block = block_of r.sub; offset = r.offset; number = non_zero_u64_get r.number; size = r.size } };
 }
@@ -42,7 +42,7 @@ pub struct NeedBlock {
     /// Whether the block is the piece's own.
     pub dedicated: bool,
     /// The block's lists with the piece in them, which `install` takes.
-    pub room: Room,
+    pub room: PendingBlock,
 }
 
 fn new_block(alloc: Global, is_dedicated: bool, size: u64, granularity: u64) -> Result<SubAllocator>
@@ -61,13 +61,13 @@ fn new_block(alloc: Global, is_dedicated: bool, size: u64, granularity: u64) -> 
 }
 
 /// A new block with the request's piece in it. The only refusal is `HostOutOfMemory`.
-pub fn make_room(
+pub fn make_pending(
     alloc: Global,
     is_dedicated: bool,
     size: u64,
     granularity: u64,
     request: &Request,
-) -> Result<Room>
+) -> Result<PendingBlock>
     requires sized { 0 < request.now.size }
     requires aligned { IsTrue (is_power_of_two request.now.alignment) }
     requires piece { request.now.kind ≢ AllocationType.Free }
@@ -92,7 +92,7 @@ pub fn make_room(
         granularity,
         request.name,
     ) {
-        Ok((offset, number)) => Ok(Room {
+        Ok((offset, number)) => Ok(PendingBlock {
             sub,
             number,
             offset,

@@ -11,7 +11,7 @@ ghost use Rattle.gpu_block.specs.SubAllocator.{block_of};
 ghost use Rattle.gpu_block.specs.Block.{IsSoundBlock, HasPages, HasPagesApart, ReleasesIn};
 ghost use Rattle.gpu_core.specs.TypeState.{slot_size, shared_in};
 ghost use Rattle.gpu_core.specs.TypeRelease.{SlotHolds, IsFreeRefusal, IsNameRefusal, SlotReleases, SlotRenames};
-ghost use Rattle.gpu_core.specs.Slots.{slot_of, Bounds, SlotTakes, SlotIsSound, Finds, Settles, gone_number, gone_size, gone_shared};
+ghost use Rattle.gpu_core.specs.Slots.{slot_of, Bounds, SlotTakes, SlotIsSound, Finds, Settles, released_handle, released_size, released_shared};
 
 use crate::{Piece, Request};
 use gpu_block::SubAllocator;
@@ -27,7 +27,7 @@ pub struct LiveBlock<H> {
 
 /// A piece that was taken of a slot's block.
 #[derive(Drop)]
-pub struct Taken<H> {
+pub struct Placed<H> {
     pub offset: u64,
     pub number: NonZeroU64,
     pub block: H,
@@ -45,11 +45,11 @@ pub fn longest_in<H>(slot: &Option<LiveBlock<H>>) -> u64
 
 /// Takes a piece of a shared block, or answers `None` where the slot can't serve the request. The only refusal is
 /// `HostOutOfMemory`.
-pub fn take_in<H: Copy>(
+pub fn allocate_in<H: Copy>(
     slot: &mut Option<LiveBlock<H>>,
     request: &Request,
     granularity: u64,
-) -> Result<Option<Taken<H>>>
+) -> Result<Option<Placed<H>>>
     requires sized { 0 < request.now.size }
     requires aligned { IsTrue (is_power_of_two request.now.alignment) }
     requires piece { request.now.kind ≢ AllocationType.Free }
@@ -72,7 +72,7 @@ pub fn take_in<H: Copy>(
                 ..
             } = *request;
             match block.sub.allocate(size, alignment, kind, granularity, name) {
-                Ok((offset, number)) => Ok(Some(Taken {
+                Ok((offset, number)) => Ok(Some(Placed {
                     offset,
                     number,
                     block: block.number,
@@ -116,22 +116,22 @@ pub fn find<H: Copy + Eq>(block: &LiveBlock<H>, piece: &Piece<H>) -> Finding
 
 /// A block that went: the device's number of it, its size in bytes, and whether it was shared.
 #[derive(Drop)]
-pub struct Gone<H> {
+pub struct ReleasedBlock<H> {
     pub number: H,
     pub size: u64,
     pub is_shared: bool,
 }
 
 /// Gives the block of a slot up where it is empty and dedicated, or empty and one of several shared ones.
-fn settle<H: Copy>(slot: &mut Option<LiveBlock<H>>, several: bool) -> Option<Gone<H>>
-    ensures settled { Settles (IsTrue several) (option_map slot_of slot.old) (gone_number result) (option_map slot_of slot.new) }
-    ensures size { slot_size (option_map slot_of slot.new) + gone_size result ≡ slot_size (option_map slot_of slot.old) }
-    ensures shared { shared_in (option_map slot_of slot.new) + gone_shared result ≡ shared_in (option_map slot_of slot.old) }
+fn settle<H: Copy>(slot: &mut Option<LiveBlock<H>>, several: bool) -> Option<ReleasedBlock<H>>
+    ensures settled { Settles (IsTrue several) (option_map slot_of slot.old) (released_handle result) (option_map slot_of slot.new) }
+    ensures size { slot_size (option_map slot_of slot.new) + released_size result ≡ slot_size (option_map slot_of slot.old) }
+    ensures shared { shared_in (option_map slot_of slot.new) + released_shared result ≡ shared_in (option_map slot_of slot.old) }
 {
     if let Some(block) = slot {
         let is_shared = block.sub.supports_general_allocations();
         if block.sub.is_empty() && (several || !is_shared) {
-            let gone = Gone {
+            let gone = ReleasedBlock {
                 number: block.number,
                 size: block.sub.size(),
                 is_shared,
@@ -144,7 +144,7 @@ fn settle<H: Copy>(slot: &mut Option<LiveBlock<H>>, several: bool) -> Option<Gon
 }
 
 /// Gives a piece back to its block. It takes no memory; a refusal leaves the block as it was.
-fn give_back<H: Copy + Eq>(block: &mut LiveBlock<H>, piece: &Piece<H>) -> Result<()>
+fn free_piece<H: Copy + Eq>(block: &mut LiveBlock<H>, piece: &Piece<H>) -> Result<()>
     requires { IsSoundBlock (block_of block.old.sub) }
     ensures released { OnOk result (ReleasesIn (block_of block.old.sub) (non_zero_u64_get piece.now.number) (block_of block.new.sub)) }
     ensures live { OnOk result (SlotHolds H.eq piece.now (Some (slot_of block.old))) }
@@ -166,20 +166,20 @@ pub fn release<H: Copy + Eq>(
     slot: &mut Option<LiveBlock<H>>,
     piece: &Piece<H>,
     several: bool,
-) -> Result<Option<Gone<H>>>
+) -> Result<Option<ReleasedBlock<H>>>
     requires { (g : ℕ) × SlotIsSound g (option_map slot_of slot.old) }
     ensures released { IfOk result (λ went. SlotReleases (IsTrue several) (non_zero_u64_get piece.now.number)
-        (option_map slot_of slot.old) (gone_number went) (option_map slot_of slot.new)) }
+        (option_map slot_of slot.old) (released_handle went) (option_map slot_of slot.new)) }
     ensures live { OnOk result (SlotHolds H.eq piece.now (option_map slot_of slot.old)) }
-    ensures size { IfOk result (λ went. slot_size (option_map slot_of slot.new) + gone_size went ≡ slot_size (option_map slot_of slot.old)) }
-    ensures shared { IfOk result (λ went. shared_in (option_map slot_of slot.new) + gone_shared went ≡ shared_in (option_map slot_of slot.old)) }
+    ensures size { IfOk result (λ went. slot_size (option_map slot_of slot.new) + released_size went ≡ slot_size (option_map slot_of slot.old)) }
+    ensures shared { IfOk result (λ went. shared_in (option_map slot_of slot.new) + released_shared went ≡ shared_in (option_map slot_of slot.old)) }
     ensures cause { IfErr result (λ e. IsFreeRefusal H.eq piece.now (option_map slot_of slot.old) (refusal_of e)) }
     ensures refused { OnErr result (option_map slot_of slot.new ≡ option_map slot_of slot.old) }
     ensures kept { (g : ℕ) → SlotIsSound g (option_map slot_of slot.old) → SlotIsSound g (option_map slot_of slot.new) }
 {
     match slot {
         None => Err(internal_fault("Memory block must be Some.")),
-        Some(block) => match give_back(block, piece) {
+        Some(block) => match free_piece(block, piece) {
             Err(error) => Err(error),
             Ok(()) => Ok(settle(slot, several)),
         },

@@ -9,10 +9,10 @@ ghost use Rattle.gpu_values.specs.Refusal.{refusal_of};
 ghost use Rattle.gpu_core.specs.TypeState.{slot_at, capacity_of, shared_count, lowest_empty, highest_empty};
 ghost use Rattle.gpu_core.specs.TypeRelease.{IsLive, IsFreeRefusal, IsNameRefusal, ReleasesPiece, RenamesPiece};
 ghost use Rattle.gpu_core.specs.TypeTake.{asked, PreparesPiece, NoneServes, new_slot, with_block};
-ghost use Rattle.gpu_core.specs.Slots.{slot_of, slots_of, AreSound, AreBounded, OthersAreBounded, IsEmptyAt, gone_number, gone_size, gone_shared};
+ghost use Rattle.gpu_core.specs.Slots.{slot_of, slots_of, AreSound, AreBounded, OthersAreBounded, IsEmptyAt, released_handle, released_size, released_shared};
 
 use crate::longest::Longest;
-use crate::slot::{Gone, LiveBlock, longest_in, release, rename, take_in};
+use crate::slot::{ReleasedBlock, LiveBlock, longest_in, release, rename, allocate_in};
 use crate::{Piece, Request};
 use gpu_values::{AllocationType, Result, internal_fault};
 use std::alloc::Global;
@@ -64,7 +64,7 @@ impl<H: Copy + Eq> Slots<H> {
 
     /// Takes a piece of the highest shared block that has a place, or answers `None` where none has. The only refusal is
     /// `HostOutOfMemory`.
-    pub fn take(&mut self, request: &Request, granularity: u64) -> Result<Option<Piece<H>>>
+    pub fn allocate(&mut self, request: &Request, granularity: u64) -> Result<Option<Piece<H>>>
         requires sized { 0 < request.now.size }
         requires aligned { IsTrue (is_power_of_two request.now.alignment) }
         requires piece { request.now.kind ≢ AllocationType.Free }
@@ -76,7 +76,7 @@ impl<H: Copy + Eq> Slots<H> {
         ensures room { self.new.room ≡ self.old.room }
         ensures kept { AreSound granularity self.new.slots }
     {
-        match take_shared(&mut self.blocks, &self.longest, request, granularity)? {
+        match allocate_shared(&mut self.blocks, &self.longest, request, granularity)? {
             None => Ok(None),
             Some(piece) => {
                 measure(&mut self.longest, &self.blocks, piece.slot);
@@ -115,13 +115,13 @@ impl<H: Copy + Eq> Slots<H> {
     }
 
     /// Gives a piece back. It takes no memory; a refusal changes nothing.
-    pub fn free(&mut self, piece: &Piece<H>, several: bool) -> Result<Option<Gone<H>>>
+    pub fn free(&mut self, piece: &Piece<H>, several: bool) -> Result<Option<ReleasedBlock<H>>>
         requires { (g : ℕ) × AreSound g self.old.slots }
         ensures released { IfOk result (λ went.
-            ReleasesPiece (IsTrue several) self.old.slots piece.now (gone_number went) self.new.slots) }
+            ReleasesPiece (IsTrue several) self.old.slots piece.now (released_handle went) self.new.slots) }
         ensures live { OnOk result (IsLive H.eq self.old.slots piece.now) }
-        ensures size { IfOk result (λ went. capacity_of self.new.slots + gone_size went ≡ capacity_of self.old.slots) }
-        ensures shared { IfOk result (λ went. shared_count self.new.slots + gone_shared went ≡ shared_count self.old.slots) }
+        ensures size { IfOk result (λ went. capacity_of self.new.slots + released_size went ≡ capacity_of self.old.slots) }
+        ensures shared { IfOk result (λ went. shared_count self.new.slots + released_shared went ≡ shared_count self.old.slots) }
         ensures cause { IfErr result (λ e. IsFreeRefusal H.eq piece.now (slot_at self.old.slots piece.now.slot) (refusal_of e)) }
         ensures refused { OnErr result (self.new.slots ≡ self.old.slots) }
         ensures room { self.new.room ≡ self.old.room }
@@ -161,7 +161,7 @@ fn measure<H>(longest: &mut Longest, slots: &[Option<LiveBlock<H>>], slot: usize
 
 /// Takes a piece of the highest shared block that has a place, or answers `None` where none has. Only blocks with a gap that is
 /// long enough are asked. The only refusal is `HostOutOfMemory`.
-fn take_shared<H: Copy>(
+fn allocate_shared<H: Copy>(
     slots: &mut Vec<Option<LiveBlock<H>>>,
     longest: &Longest,
     request: &Request,
@@ -185,7 +185,7 @@ fn take_shared<H: Copy>(
     while below > 0 {
         below -= 1;
         let slot = &mut slots[below];
-        match take_in(slot, request, granularity)? {
+        match allocate_in(slot, request, granularity)? {
             None => below = longest.pass_over(below, request.size),
             Some(taken) => {
                 return Ok(Some(Piece {
@@ -273,13 +273,13 @@ fn free_in<H: Copy + Eq>(
     slots: &mut Vec<Option<LiveBlock<H>>>,
     piece: &Piece<H>,
     several: bool,
-) -> Result<Option<Gone<H>>>
+) -> Result<Option<ReleasedBlock<H>>>
     requires { (g : ℕ) × AreSound g (slots_of slots.old.items) }
     ensures released { IfOk result (λ went.
-        ReleasesPiece (IsTrue several) (slots_of slots.old.items) piece.now (gone_number went) (slots_of slots.new.items)) }
+        ReleasesPiece (IsTrue several) (slots_of slots.old.items) piece.now (released_handle went) (slots_of slots.new.items)) }
     ensures live { OnOk result (IsLive H.eq (slots_of slots.old.items) piece.now) }
-    ensures size { IfOk result (λ went. capacity_of (slots_of slots.new.items) + gone_size went ≡ capacity_of (slots_of slots.old.items)) }
-    ensures shared { IfOk result (λ went. shared_count (slots_of slots.new.items) + gone_shared went ≡ shared_count (slots_of slots.old.items)) }
+    ensures size { IfOk result (λ went. capacity_of (slots_of slots.new.items) + released_size went ≡ capacity_of (slots_of slots.old.items)) }
+    ensures shared { IfOk result (λ went. shared_count (slots_of slots.new.items) + released_shared went ≡ shared_count (slots_of slots.old.items)) }
     ensures cause { IfErr result (λ e.
         IsFreeRefusal H.eq piece.now (slot_at (slots_of slots.old.items) piece.now.slot) (refusal_of e)) }
     ensures refused { OnErr result (slots_of slots.new.items ≡ slots_of slots.old.items) }

@@ -4,8 +4,8 @@ ghost use Rattle.std.specs.Prelude.{◌≡◌, ◌≢◌, ℕ, ◌<◌, ◌≤�
 ghost use Rattle.gpu_block_pieces.specs.FreeList.{fresh_free_list};
 ghost use Rattle.gpu_block_pieces.specs.Request.{Request};
 ghost use Rattle.gpu_block_pieces.specs.Place.{IsBestFit, HasNoPlace};
-ghost use Rattle.gpu_block.specs.Block.{Block, extents_of, is_general, TakesIn, ReleasesIn, IsSoundBlock};
-ghost use Rattle.gpu_core.specs.TypeTake.{fresh_block, has_own_block, PreparesPiece, Ready, NeedsBlock, Installs};
+ghost use Rattle.gpu_block.specs.Block.{Block, extents_of, is_shared, TakesIn, ReleasesIn, IsSoundBlock};
+ghost use Rattle.gpu_core.specs.TypeTake.{fresh_block, has_dedicated_block, PreparesPiece, Pending, NeedsBlock, Installs};
 ghost use Rattle.gpu_core.specs.TypeState.{IsOneGap, Slot, TypeState};
 ghost use Rattle.gpu_core.specs.TypeRelease.{IsFreeRefusal, IsNameRefusal, ReleasesPiece, RenamesPiece};
 ghost use Rattle.gpu_values.specs.Refusal.{Refusal, host_out_of_memory};
@@ -25,7 +25,7 @@ pub fn fresh_block_has_place()
 
 /// A shared block whose last piece is given back is one gap of its whole size.
 pub fn emptied_block_is_one_gap()
-    ensures { (old : Block) (n : ℕ) (new : Block) → IsSoundBlock old → is_general old ≡ true
+    ensures { (old : Block) (n : ℕ) (new : Block) → IsSoundBlock old → is_shared old ≡ true
         → ReleasesIn old n new → extents_of new ≡ [] → IsOneGap new }
 {}
 
@@ -36,16 +36,16 @@ pub fn one_piece_prepared<H: Copy + Eq>()
     ensures once { (g : ℕ) (old : List (Option (Slot H))) (r : Request) (p q : Piece H) (new next : List (Option (Slot H)))
         → AreSound g old → PreparesPiece old r p new → PreparesPiece old r q next → (p ≡ q) × (new ≡ next) }
     ensures serves_or_needs { (t : TypeState H) (sizes : Sizes) (own : Bool) (r : Request) (p : Piece H) (new : List (Option (Slot H)))
-        (size : ℕ) (is_dedicated : Bool) (ready : Ready) → has_own_block t sizes own r.size ≡ false
+        (size : ℕ) (is_dedicated : Bool) (ready : Pending) → has_dedicated_block t sizes own r.size ≡ false
         → PreparesPiece t.slots r p new → NeedsBlock t sizes own r size is_dedicated ready → ⊥ }
 {}
 
 /// A request that needs a block needs one of one size and kind, with the piece at one place in it; and a block goes to one slot.
 pub fn one_block_needed<H: Copy + Eq>()
-    ensures needs { (t : TypeState H) (sizes : Sizes) (own : Bool) (r : Request) (size other : ℕ) (is_dedicated kind : Bool) (ready next : Ready)
+    ensures needs { (t : TypeState H) (sizes : Sizes) (own : Bool) (r : Request) (size other : ℕ) (is_dedicated kind : Bool) (ready next : Pending)
         → NeedsBlock t sizes own r size is_dedicated ready → NeedsBlock t sizes own r other kind next
         → (size ≡ other) × (is_dedicated ≡ kind) × (ready ≡ next) }
-    ensures installs { (old : List (Option (Slot H))) (is_dedicated : Bool) (ready : Ready) (number : H) (p q : Piece H) (new next : List (Option (Slot H)))
+    ensures installs { (old : List (Option (Slot H))) (is_dedicated : Bool) (ready : Pending) (number : H) (p q : Piece H) (new next : List (Option (Slot H)))
         → Installs old is_dedicated ready number p new → Installs old is_dedicated ready number q next → (p ≡ q) × (new ≡ next) }
 {}
 

@@ -10,15 +10,15 @@ use Rattle.gpu_device.specs.declared.d3d12.device.D3D12Device.{Ghosts}
 use Rattle.gpu_device.specs.declared.d3d12.types.ID3D12Heap.{ID3D12Heap}
 use Rattle.gpu_memory_types.proofs.Options.{none_some, some_same}
 use Rattle.gpu_d3d12.specs.DeviceVersion.{device_of, with_device}
-use Rattle.gpu_d3d12.specs.HeapAnswer.{HeapAnswer, Granted, Declined, Null, AsksHeap, IsWithoutHeap, Gives}
+use Rattle.gpu_d3d12.specs.HeapAnswer.{HeapAnswer, Granted, Declined, Null, AsksHeap, IsWithoutHeap, IsResultOf}
 use Rattle.gpu_d3d12.specs.Heaps.{heap_desc}
 use Rattle.gpu_d3d12.specs.ResourceAnswer.{ResourceAnswer, AsksResource, resource_number}
 use Rattle.gpu_d3d12.specs.declared.memory_kind.MemoryKind.{MemoryKind}
 use Rattle.gpu_d3d12.specs.declared.question.ResourceCreateDesc.{ResourceCreateDesc}
-use Rattle.gpu_d3d12.specs.declared.question.ResourceQuestion.{ResourceQuestion}
+use Rattle.gpu_d3d12.specs.declared.question.CreateCall.{CreateCall}
 use Rattle.gpu_pool.specs.Source.{HoldsAfter, Removes, result_of}
 use Rattle.gpu_d3d12.specs.Blocks.{kind_at, IsWithoutResource}
-use Rattle.gpu_d3d12.specs.Source.{SourceState, entry_block, blocks_of, beside, HoldsFirst, heap_result, held_by, source_blocks, source_beside, with_source_device, AsksBlock, GivesHeap, MakesResource, ReleasesResource}
+use Rattle.gpu_d3d12.specs.Source.{SourceState, entry_block, blocks_of, beside, HoldsFirst, heap_result, held_by, source_blocks, source_beside, with_source_device, AsksBlock, GivesHeapBack, MakesResource, ReleasesResource}
 use Rattle.gpu_d3d12.proofs.Changing.{heap_adds, heap_comes, heap_beside, heap_removes, heap_goes, gone_beside, Stays, resource_asked, resource_goes}
 use Rattle.gpu_d3d12.specs.Journal.{with_made, IsResource, HoldsResources}
 use Rattle.gpu_d3d12.specs.declared.journal.ResourceEvent.{ResourceEvent}
@@ -30,7 +30,7 @@ granted_same : (m n : ℕ) → Granted m ≡ Granted n → m ≡ n
 granted_same m n e = cc
 
 -- what the asker makes of an answer is what a pool is told
-pub answered_is : (answer : HeapAnswer) (result : Result ID3D12Heap AllocationError) → Gives result answer → result_of result ≡ heap_result answer
+pub answered_is : (answer : HeapAnswer) (result : Result ID3D12Heap AllocationError) → IsResultOf result answer → result_of result ≡ heap_result answer
 answered_is (Granted n) (Ok heap) is = λ i. Ok (record { 0 = granted_same heap.0 n (sym is) i })
 answered_is (Granted n) (Err e) is = absurd (none_some (refusal_of e) is)
 answered_is (Declined code) (Ok heap) is = absurd (no_granted heap.0 code is)
@@ -110,7 +110,7 @@ module _ {D : Type 0} (g : Ghosts D) (s : SourceState D) (t size : ℕ) (k : Mem
   left (Declined code) a = same_left (Declined code) _ refl a.held
   left Null a = same_left Null _ refl a.held
 
-  module _ (answer : HeapAnswer) (result : Result ID3D12Heap AllocationError) (asked : AsksHeap g (device_of s.device) (heap_desc k size) answer after) (gives : Gives result answer) where
+  module _ (answer : HeapAnswer) (result : Result ID3D12Heap AllocationError) (asked : AsksHeap g (device_of s.device) (heap_desc k size) answer after) (gives : IsResultOf result answer) where
     there : AsksHeap g (device_of s.device) (heap_desc k size) answer (to g s after)
     there = subst (λ (d : D). AsksHeap g (device_of s.device) (heap_desc k size) answer d) (to_is g s after) asked
 
@@ -139,8 +139,8 @@ module _ {D : Type 0} (g : Ghosts D) (s : SourceState D) (heap : ID3D12Heap) (so
   gone : IsWithoutHeap g (device_of s.device) heap.0 (to g s after)
   gone = subst (λ (d : D). IsWithoutHeap g (device_of s.device) heap.0 d) (to_is g s after) went
 
-  pub gives_heap : GivesHeap g s heap (new g s after)
-  gives_heap = record {
+  pub gives_heap_back : GivesHeapBack g s heap (new g s after)
+  gives_heap_back = record {
     gives = gone;
     beside = gone_beside s.tier (g.held (device_of s.first)) (held_by g s) (g.held (to g s after)) heap.0 some gone.held h.2;
     state = state_is g s after;
@@ -157,7 +157,7 @@ module _ {D : Type 0} (g : Ghosts D) (s : SourceState D) (heap : ID3D12Heap) (so
 -- ---- a resource
 
 -- a resource is asked for, and the blocks stay
-module _ {D : Type 0} (g : Ghosts D) (s : SourceState D) (question : ResourceQuestion) (d : ResourceCreateDesc) (place : ResourcePlace) (entry : Entry)
+module _ {D : Type 0} (g : Ghosts D) (s : SourceState D) (question : CreateCall) (d : ResourceCreateDesc) (place : ResourcePlace) (entry : Entry)
     (none : entry_block (Some entry) ≡ None) (resource : IsResource (Some entry)) (answer : ResourceAnswer) (h : Holds g s) (after : D) (asked : AsksResource g (device_of s.device) question d place entry answer after) where
   answered : AsksResource g (device_of s.device) question d place entry answer (to g s after)
   answered = subst (λ (x : D). AsksResource g (device_of s.device) question d place entry answer x) (to_is g s after) asked

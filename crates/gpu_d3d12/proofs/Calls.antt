@@ -16,7 +16,7 @@ use Rattle.gpu_memory_types.specs.Budgets.{budget_at, SetsBudget}
 use Rattle.gpu_memory_types.specs.Leaks.{all_leaks}
 use Rattle.gpu_memory_types.specs.Reports.{whole_report}
 use Rattle.gpu_memory_types.proofs.Options.{none_some, some_same}
-use Rattle.gpu_d3d12.specs.Setup.{kinds_told}
+use Rattle.gpu_d3d12.specs.Setup.{kinds_of_device}
 use Rattle.gpu_d3d12.specs.declared.describe.AllocationCreateDesc.{AllocationCreateDesc}
 use Rattle.gpu_pool.specs.Allocate as environments
 use Rattle.gpu_pool.specs.Allocate.{NothingMet, NoHostMemory}
@@ -34,11 +34,11 @@ use Rattle.gpu_pool.specs.Allocation.{piece_of, Returns, RenamesNamed}
 use Rattle.gpu_d3d12.specs.Live.{Allocation}
 use Rattle.gpu_d3d12.specs.Reply.{Reply, error}
 use Rattle.gpu_d3d12.specs.Reply as module_replies
-use Rattle.gpu_d3d12.specs.Source.{AsksBlock, GivesHeap, MakesResource, ReleasesResource}
+use Rattle.gpu_d3d12.specs.Source.{AsksBlock, GivesHeapBack, MakesResource, ReleasesResource}
 use Rattle.gpu_d3d12.specs.State as states
 use Rattle.gpu_d3d12.specs.State.{State, Basis, Contents, seen_of, over, pool_of, source_basis, basis_of, model_of}
-use Rattle.gpu_d3d12.specs.Step.{Call, Free, Rename, Capacity, Report, Leaks, Statistics, SetBudget, Budget, nothing_met, allocated_reply, AllocatesBy, SeesQuestion, SeesGiven, Step, IsStep}
-use Rattle.gpu_d3d12.specs.Step.{Replies, IsAllocateStep, freed_as, done_as, shown_as, leaked_as}
+use Rattle.gpu_d3d12.specs.Step.{Call, Free, Rename, Capacity, Report, Leaks, Statistics, SetBudget, Budget, nothing_met, allocated_reply, AllocatesBy, SeesQuestion, SeesHeapFreed, Step, IsStep}
+use Rattle.gpu_d3d12.specs.Step.{Replies, IsAllocateStep, freed_as, reply_of_done, reply_of_report, leaked_as}
 use Rattle.gpu_d3d12.proofs.Staying.{stays_same, same_version, frees_stays, allocates_keeps}
 use Rattle.gpu_d3d12.proofs.Steps.{frees_seen, allocates_seen}
 
@@ -68,7 +68,7 @@ module _ {D : Type 0} (g : Ghosts D) where
   pub record Attempted (basis : Basis) (d : AllocationCreateDesc) (valid : Bool) (old : states.Pool D) (result : Result Allocation AllocationError) (new : states.Pool D) : Type 0 where
     pub met : environments.Environment ID3D12Heap
     pub allocated : Result (ℕ × Piece ID3D12Heap) Refusal
-    pub allocates : AllocatesBy (AsksBlock g) (GivesHeap g) (MakesResource g) (ReleasesResource g) basis d valid met (allocated_reply allocated) old new
+    pub allocates : AllocatesBy (AsksBlock g) (GivesHeapBack g) (MakesResource g) (ReleasesResource g) basis d valid met (allocated_reply allocated) old new
     pub replies : Replies d result (allocated_reply allocated)
 
   pub attempted : (d : AllocationCreateDesc) (valid : Bool) (old : states.Pool D) (result : Result Allocation AllocationError) (new : states.Pool D) → allocations.AllocatesBy g d valid old result new
@@ -113,9 +113,9 @@ module _ {D : Type 0} (g : Ghosts D) where
   -- the call of the pool, over what is seen of the device
   abbrev IsCall : Basis → calls.Call ID3D12Heap (Unit {0}) → environments.Environment ID3D12Heap → replies.Reply ID3D12Heap → (old new : State D) → Type 0
   IsCall basis call met reply old new =
-      calls.Step (kinds_told basis.tier) (SeesQuestion basis.tier) SeesGiven is_same_heap (pools.over (seen_of g) (pool_of old)) call met reply (pools.over (seen_of g) (pool_of new))
+      calls.Step (kinds_of_device basis.tier) (SeesQuestion basis.tier) SeesHeapFreed is_same_heap (pools.over (seen_of g) (pool_of old)) call met reply (pools.over (seen_of g) (pool_of new))
 
-  freed_reply : (result : Result (Unit {0}) (AllocationError × Allocation)) → freed_as result ≡ module_replies.Pool (replies.done_as (freed_of result))
+  freed_reply : (result : Result (Unit {0}) (AllocationError × Allocation)) → freed_as result ≡ module_replies.Pool (replies.reply_of_done (freed_of result))
   freed_reply (Ok u) = refl
   freed_reply (Err e) = refl
 
@@ -125,7 +125,7 @@ module _ {D : Type 0} (g : Ghosts D) where
     environment = nothing_met;
     step = (
       refl,
-      replies.done_as (freed_of result),
+      replies.reply_of_done (freed_of result),
       freed_reply result,
       (
         refl,
@@ -138,7 +138,7 @@ module _ {D : Type 0} (g : Ghosts D) where
     same_version = same_version g (pool_of old).source (pool_of new).source (frees_stays g a.memory_type_index (piece_of a) (pool_of old) (freed_of result) (pool_of new) f.frees);
   }
 
-  done_reply : (result : Result (Unit {0}) AllocationError) → done_as result ≡ module_replies.Pool (replies.done_as (result_of result))
+  done_reply : (result : Result (Unit {0}) AllocationError) → reply_of_done result ≡ module_replies.Pool (replies.reply_of_done (result_of result))
   done_reply (Ok u) = refl
   done_reply (Err e) = refl
 
@@ -161,12 +161,12 @@ module _ {D : Type 0} (g : Ghosts D) where
   rename_seen t p name old (environments.Answered size answer) result new r = absurd r
 
   pub rename_step : (a b : Allocation) (name : List ℕ) (old new : State D) (result : Result (Unit {0}) AllocationError) → RenamesNamed is_same_heap a name (pool_of old) result b (pool_of new)
-      → (pool_of new).source ≡ (pool_of old).source → new.committed ≡ old.committed → IsStep g (Rename a name) (done_as result) old new
+      → (pool_of new).source ≡ (pool_of old).source → new.committed ≡ old.committed → IsStep g (Rename a name) (reply_of_done result) old new
   rename_step a b name old new result r source committed =
       let met = r.record_is.0 in
-      still (Rename a name) (done_as result) old new met (
+      still (Rename a name) (reply_of_done result) old new met (
         refl,
-        replies.done_as (result_of result),
+        replies.reply_of_done (result_of result),
         done_reply result,
         (
           result_of result,
@@ -183,10 +183,10 @@ module _ {D : Type 0} (g : Ghosts D) where
   same_refusal (Err e) = refl
 
   pub set_step : (t : ℕ) (budget : Option ℕ) (old new : State D) (result : Result (Unit {0}) AllocationError) → SetsBudget t budget old.budgets (refusal_in result) new.budgets
-      → new ≡ record old { budgets = new.budgets } → IsStep g (SetBudget t budget) (done_as result) old new
-  set_step t budget old new result sets same = still (SetBudget t budget) (done_as result) old new NothingMet (
+      → new ≡ record old { budgets = new.budgets } → IsStep g (SetBudget t budget) (reply_of_done result) old new
+  set_step t budget old new result sets same = still (SetBudget t budget) (reply_of_done result) old new NothingMet (
     refl,
-    replies.done_as (result_of result),
+    replies.reply_of_done (result_of result),
     done_reply result,
     (
       refl,
@@ -212,7 +212,7 @@ module _ {D : Type 0} (g : Ghosts D) where
   statistics_step s t statistics is = still (Statistics t) _ s s NothingMet (refl, ap module_replies.Statistics is, refl) refl
 
   pub report_step : (s : State D) (result : Result AllocatorReport AllocationError) → IfOk result (λ r. report_of r ≡ whole_report s.slots) → IfErr result (λ e. e ≡ HostOutOfMemory)
-      → IsStep g Report (shown_as result) s s
+      → IsStep g Report (reply_of_report result) s s
   report_step s (Ok r) shown refused = still Report _ s s NothingMet (refl, replies.Report (report_of r), refl, (Ok (report_of r), refl, shown, refl), refl) refl
   report_step s (Err e) shown refused = still Report _ s s NoHostMemory (refl, replies.Error (refusal_of e), refl, (Err (refusal_of e), refl, ap refusal_of refused, refl), refl) refl
 

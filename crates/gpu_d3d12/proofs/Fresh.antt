@@ -13,10 +13,10 @@ use Rattle.gpu_device.specs.declared.d3d12.types.ID3D12Heap.{ID3D12Heap}
 use Rattle.gpu_core.specs.declared.piece.Piece.{Piece}
 use Rattle.gpu_d3d12.specs.DeviceVersion.{device_of}
 use Rattle.gpu_d3d12.specs.ResourceAnswer.{ResourceAnswer, Granted, Declined, Null, Texts, resource_number, committed_texts, placed_texts}
-use Rattle.gpu_d3d12.specs.Setup.{kinds_told}
+use Rattle.gpu_d3d12.specs.Setup.{kinds_of_device}
 use Rattle.gpu_d3d12.specs.declared.describe.AllocationCreateDesc.{AllocationCreateDesc}
 use Rattle.gpu_d3d12.specs.declared.question.ResourceCreateDesc.{ResourceCreateDesc}
-use Rattle.gpu_d3d12.specs.declared.question.ResourceQuestion.{ResourceQuestion}
+use Rattle.gpu_d3d12.specs.declared.question.CreateCall.{CreateCall}
 use Rattle.gpu_pool.specs.Allocate as environments
 use Rattle.gpu_pool.specs.Allocate.{NothingMet, NoHostMemory, Answered}
 use Rattle.gpu_pool.specs.Reply as replies
@@ -26,7 +26,7 @@ use Rattle.gpu_d3d12.specs.Committed.{CommitsBy, IsAfterResource, fits, records_
 use Rattle.gpu_d3d12.specs.Over.{IsCommittedOver, IsPlacedOver}
 use Rattle.gpu_d3d12.specs.Reply.{Reply, made_reply}
 use Rattle.gpu_d3d12.specs.Resource.{piece_desc}
-use Rattle.gpu_d3d12.specs.Source.{SourceState, held_by, source_beside, AsksBlock, GivesHeap, MakesResource, ReleasesResource}
+use Rattle.gpu_d3d12.specs.Source.{SourceState, held_by, source_beside, AsksBlock, GivesHeapBack, MakesResource, ReleasesResource}
 use Rattle.gpu_d3d12.specs.State as states
 use Rattle.gpu_d3d12.specs.State.{Basis, Contents, source_basis}
 use Rattle.gpu_d3d12.specs.Step.{AllocatesBy, PlacesThen, RepliesResource, info_of}
@@ -64,7 +64,7 @@ answered true true old size (Some a) n new c = (a, refl, granted committed_texts
 
 -- ---- what the device held
 
-module _ {D : Type 0} (g : Ghosts D) (d : ResourceCreateDesc) (question : ResourceQuestion) where
+module _ {D : Type 0} (g : Ghosts D) (d : ResourceCreateDesc) (question : CreateCall) where
   -- nothing is held under the number of a resource that is made
   unheld : (old new : SourceState D) (place : ResourcePlace) (entry : Entry) (answer : ResourceAnswer) (n : ℕ) → MakesResource g d old question place entry answer new → resource_number answer ≡ Some n
       → get (source_beside g old) n ≡ None
@@ -93,19 +93,19 @@ module _ {D : Type 0} (g : Ghosts D) (d : ResourceCreateDesc) (question : Resour
 
   -- what is held beside the blocks is the same behind a question for one
   beside_after : (basis : Basis) (q : environments.RequestAt (Unit {0})) (old : states.Pool D) (met : environments.Environment ID3D12Heap) (new : SourceState D)
-      → SourceAfter (kinds_told basis.tier) (AsksBlock g) q old met new → source_beside g new ≡ source_beside g old.source
+      → SourceAfter (kinds_of_device basis.tier) (AsksBlock g) q old met new → source_beside g new ≡ source_beside g old.source
   beside_after basis q old NothingMet new is = ap (source_beside g) is
   beside_after basis q old NoHostMemory new is = ap (source_beside g) is
   beside_after basis q old (Answered size answer) new is = is.beside
 
   allocated_beside : (basis : Basis) (p : AllocationCreateDesc) (valid : Bool) (met : environments.Environment ID3D12Heap) (reply : replies.Reply ID3D12Heap) (old new : states.Pool D)
-      → AllocatesBy (AsksBlock g) (GivesHeap g) (MakesResource g) (ReleasesResource g) basis p valid met reply old new → source_beside g new.source ≡ source_beside g old.source
+      → AllocatesBy (AsksBlock g) (GivesHeapBack g) (MakesResource g) (ReleasesResource g) basis p valid met reply old new → source_beside g new.source ≡ source_beside g old.source
   allocated_beside basis p false met reply old new a = ap (λ (s : states.Pool D). source_beside g s.source) a.2
   allocated_beside basis p true met reply old new a =
-      beside_after basis (request_in a.0 p) old met new.source (serves_source (kinds_told basis.tier) (AsksBlock g) (request_in a.0 p) old met a.2.0 new a.2.2)
+      beside_after basis (request_in a.0 p) old met new.source (serves_source (kinds_of_device basis.tier) (AsksBlock g) (request_in a.0 p) old met a.2.0 new a.2.2)
 
   placed_unheld : (basis : Basis) (allocated : Result (ℕ × Piece ID3D12Heap) Refusal) (met : Option ResourceAnswer) (reply : Reply) (old new : states.Pool D) (r : Resource)
-      → PlacesThen (AsksBlock g) (GivesHeap g) (MakesResource g) (ReleasesResource g) basis d question allocated met reply old new → RepliesResource d (Ok r) reply
+      → PlacesThen (AsksBlock g) (GivesHeapBack g) (MakesResource g) (ReleasesResource g) basis d question allocated met reply old new → RepliesResource d (Ok r) reply
       → get (source_beside g old.source) r.resource.0 ≡ None
   placed_unheld basis (Ok p) (Some answer) reply old new r a told =
       let is = number_is d p.0 (Some p.1) (info_of basis d).size_in_bytes (number_or_refusal placed_texts answer) r (subst (RepliesResource d (Ok r)) a.reply_is told) in

@@ -25,7 +25,7 @@ use Rattle.gpu_d3d12.specs.Blocks.{Slots, kind_at, is_same_heap, IsBlockEntry, H
 use Rattle.gpu_pool.specs.Allocation.{piece_of}
 use Rattle.gpu_d3d12.specs.Live.{Allocation, IsLive}
 use Rattle.gpu_d3d12.specs.Resource.{LiesInHeap}
-use Rattle.gpu_d3d12.specs.Source.{SourceState, heap_type, entry_block, blocks_of, beside, HoldsFirst, source_beside, GivesHeap}
+use Rattle.gpu_d3d12.specs.Source.{SourceState, heap_type, entry_block, blocks_of, beside, HoldsFirst, source_beside, GivesHeapBack}
 use Rattle.gpu_d3d12.proofs.Changing.{new_entry, heap_now, no_first_heap, beside_block, beside_other}
 
 -- ---- blocks as the device's entries
@@ -103,7 +103,7 @@ pub record Empties {D : Type 0} (g : Ghosts D) (old : SourceState D) (heaps : Li
   pub asks_nothing : AsksNothing g (device_of old.device) (device_of new.device)
   pub beside : source_beside g new ≡ source_beside g old
 
-pub empties : {D : Type 0} (g : Ghosts D) (old : SourceState D) (heaps : List ID3D12Heap) (new : SourceState D) → GivesBackAll (GivesHeap g) old heaps new → Empties g old heaps new
+pub empties : {D : Type 0} (g : Ghosts D) (old : SourceState D) (heaps : List ID3D12Heap) (new : SourceState D) → GivesBackAll (GivesHeapBack g) old heaps new → Empties g old heaps new
 empties {D} g old [] new is =
     let device = ap (λ (s : SourceState D). device_of s.device) is in
     record {

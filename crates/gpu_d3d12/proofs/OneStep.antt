@@ -23,11 +23,11 @@ use Rattle.gpu_d3d12.specs.Heaps.{heap_desc, is_host}
 use Rattle.gpu_d3d12.specs.MemoryKinds.{memory_kinds}
 use Rattle.gpu_d3d12.specs.Question.{resource_question}
 use Rattle.gpu_d3d12.specs.ResourceAnswer.{ResourceAnswer, placed_texts}
-use Rattle.gpu_d3d12.specs.Setup.{kinds_told}
+use Rattle.gpu_d3d12.specs.Setup.{kinds_of_device}
 use Rattle.gpu_d3d12.specs.declared.describe.AllocationCreateDesc.{AllocationCreateDesc}
 use Rattle.gpu_d3d12.specs.declared.memory_kind.MemoryKind.{MemoryKind}
 use Rattle.gpu_d3d12.specs.declared.question.ResourceCreateDesc.{ResourceCreateDesc}
-use Rattle.gpu_d3d12.specs.declared.question.ResourceQuestion.{ResourceQuestion}
+use Rattle.gpu_d3d12.specs.declared.question.CreateCall.{CreateCall}
 use Rattle.gpu_d3d12.specs.declared.question.ResourceType.{ResourceType}
 use Rattle.gpu_d3d12.specs.declared.question.ResourceType.TheVariants as resource_types
 use Rattle.gpu_d3d12.proofs.FirstServing.{one_first}
@@ -50,7 +50,7 @@ use Rattle.gpu_d3d12.specs.Reply.{Reply, Pool, made_reply}
 use Rattle.gpu_d3d12.specs.Resource.{piece_desc, record_of}
 use Rattle.gpu_d3d12.specs.State.{Basis, Seen, Model}
 use Rattle.gpu_d3d12.specs.Step.{Call, Allocate, Free, Rename, Capacity, Report, Leaks, CreateResource, FreeResource, Statistics, SetBudget, Budget, Environment, host_met, info_of, size_made, allocated_reply}
-use Rattle.gpu_d3d12.specs.Step.{SeesQuestion, SeesGiven, SeesMade, SeesReleased, AllocatesBy, Commit, EndsBy, PlacesThen, Place, MakesBy, CreatesBy, FreesPlaced, FreesCommitted, FreesResource, OfPool, IsPoolCall, Step}
+use Rattle.gpu_d3d12.specs.Step.{SeesQuestion, SeesHeapFreed, SeesMade, SeesReleased, AllocatesBy, Commit, EndsBy, PlacesThen, Place, MakesBy, CreatesBy, FreesPlaced, FreesCommitted, FreesResource, OfPool, IsPoolCall, Step}
 use Rattle.gpu_d3d12.specs.declared.committed_record.CommittedRecord.{CommittedRecord}
 use Rattle.gpu_d3d12.specs.declared.resource.Resource.{Resource}
 
@@ -102,7 +102,7 @@ question_decides tier old a b t size extra answer x y =
     let answers = one_answer x.heap_answer y.heap_answer (sym x.answered ∙ y.answered) in
     x.state ∙ (λ i. record old { history = AskedHeap (heap_desc (here i) size) (told_answer (answers i)) ∷ old.history }) ∙ sym y.state
 
-given_decides : GiveBackDecides SeesGiven
+given_decides : GiveBackDecides SeesHeapFreed
 given_decides old a b heap x y = x ∙ sym y
 
 -- all memory types have pages of 1
@@ -111,15 +111,15 @@ page_at [] t = refl
 page_at (k ∷ kinds) zero = refl
 page_at (k ∷ kinds) (suc t) = page_at kinds t
 
-pub sound_at : (tier : ResourceHeapTier) (slots : Slots) → BlocksWellFormed 1 slots → (t : ℕ) → IsSoundAt (kinds_told tier) slots t
+pub sound_at : (tier : ResourceHeapTier) (slots : Slots) → BlocksWellFormed 1 slots → (t : ℕ) → IsSoundAt (kinds_of_device tier) slots t
 sound_at tier slots sound t = subst (λ n. AreSound n (slots_at slots t)) (page_at (memory_kinds tier) t) (sound t)
 
-pub well_formed : (tier : ResourceHeapTier) (slots : Slots) → ((t : ℕ) → IsSoundAt (kinds_told tier) slots t) → BlocksWellFormed 1 slots
+pub well_formed : (tier : ResourceHeapTier) (slots : Slots) → ((t : ℕ) → IsSoundAt (kinds_of_device tier) slots t) → BlocksWellFormed 1 slots
 well_formed tier slots sound t = subst (λ n. AreSound n (slots_at slots t)) (sym (page_at (memory_kinds tier) t)) (sound t)
 
 module _ (basis : Basis) where
   abbrev kinds : List (Bool × ℕ)
-  kinds = kinds_told basis.tier
+  kinds = kinds_of_device basis.tier
 
   abbrev Sound : Pools → Type 0
   Sound s = (t : ℕ) → IsSoundAt kinds s.slots t
@@ -127,14 +127,14 @@ module _ (basis : Basis) where
   -- ---- the pool
 
   abbrev IsCall : calls.Call ID3D12Heap (Unit {0}) → environments.Environment ID3D12Heap → replies.Reply ID3D12Heap → (old new : Pools) → Type 0
-  IsCall call met reply old new = IsPoolCall (SeesQuestion basis.tier) SeesGiven SeesMade SeesReleased basis call met reply old new
+  IsCall call met reply old new = IsPoolCall (SeesQuestion basis.tier) SeesHeapFreed SeesMade SeesReleased basis call met reply old new
 
   call_once : (call : calls.Call ID3D12Heap (Unit {0})) (met : environments.Environment ID3D12Heap) (x y : replies.Reply ID3D12Heap) (old new next : Pools) → Sound old → IsCall call met x old new
       → IsCall call met y old next → (x ≡ y) × (new ≡ next)
-  call_once call met x y old new next sound a b = pool.step_once (SeesQuestion basis.tier) SeesGiven is_same_heap (question_decides basis.tier) given_decides kinds call met x y old new next sound a b
+  call_once call met x y old new next sound a b = pool.step_once (SeesQuestion basis.tier) SeesHeapFreed is_same_heap (question_decides basis.tier) given_decides kinds call met x y old new next sound a b
 
   abbrev Allocates : AllocationCreateDesc → Bool → environments.Environment ID3D12Heap → replies.Reply ID3D12Heap → (old new : Pools) → Type 0
-  Allocates d valid met reply old new = AllocatesBy (SeesQuestion basis.tier) SeesGiven SeesMade SeesReleased basis d valid met reply old new
+  Allocates d valid met reply old new = AllocatesBy (SeesQuestion basis.tier) SeesHeapFreed SeesMade SeesReleased basis d valid met reply old new
 
   allocate_once : (d : AllocationCreateDesc) (valid : Bool) (met : environments.Environment ID3D12Heap) (x y : replies.Reply ID3D12Heap) (old new next : Pools) → Sound old
       → Allocates d valid met x old new → Allocates d valid met y old next → (x ≡ y) × (new ≡ next)
@@ -144,13 +144,13 @@ module _ (basis : Basis) where
       let other = subst (λ t. IsCall (calls.Allocate (request_in t d)) met y old next) (sym types) b.2 in
       call_once (calls.Allocate (request_in a.0 d)) met x y old new next sound a.2 other
 
-  frees_once : (t : ℕ) (p : Piece ID3D12Heap) (old : Pools) → Sound old → (x y : Result (Unit {0}) Refusal) (new next : Pools) → Frees SeesGiven is_same_heap t p old x new
-      → Frees SeesGiven is_same_heap t p old y next → (x ≡ y) × (new ≡ next)
-  frees_once t p old sound x y new next a b = pool.frees_once kinds SeesGiven given_decides is_same_heap t p old (sound t) x y new next a b
+  frees_once : (t : ℕ) (p : Piece ID3D12Heap) (old : Pools) → Sound old → (x y : Result (Unit {0}) Refusal) (new next : Pools) → Frees SeesHeapFreed is_same_heap t p old x new
+      → Frees SeesHeapFreed is_same_heap t p old y next → (x ≡ y) × (new ≡ next)
+  frees_once t p old sound x y new next a b = pool.frees_once kinds SeesHeapFreed given_decides is_same_heap t p old (sound t) x y new next a b
 
   of_pool_once : (P : environments.Environment ID3D12Heap → replies.Reply ID3D12Heap → (old new : Pools) → Type 0) (met : Environment) (x y : Reply) (old new next : Model)
       → ((r s : replies.Reply ID3D12Heap) → P met.pool r old.pool new.pool → P met.pool s old.pool next.pool → (r ≡ s) × (new.pool ≡ next.pool))
-      → OfPool (SeesQuestion basis.tier) SeesGiven SeesMade SeesReleased basis P met x old new → OfPool (SeesQuestion basis.tier) SeesGiven SeesMade SeesReleased basis P met y old next → (x ≡ y) × (new ≡ next)
+      → OfPool (SeesQuestion basis.tier) SeesHeapFreed SeesMade SeesReleased basis P met x old new → OfPool (SeesQuestion basis.tier) SeesHeapFreed SeesMade SeesReleased basis P met y old next → (x ≡ y) × (new ≡ next)
   of_pool_once P met x y old new next once a b =
       let k = once a.1 b.1 a.3 b.3 in
       let pools = k.1 in
@@ -159,7 +159,7 @@ module _ (basis : Basis) where
 
   -- ---- a committed resource
 
-  after_once : (d : ResourceCreateDesc) (question : ResourceQuestion) (place : ResourcePlace) (entry : Entry) (o : Option ResourceAnswer) (old a b : Seen)
+  after_once : (d : ResourceCreateDesc) (question : CreateCall) (place : ResourcePlace) (entry : Entry) (o : Option ResourceAnswer) (old a b : Seen)
       → IsAfterResource (λ s answer t. SeesMade d s question place entry answer t) old o a → IsAfterResource (λ s answer t. SeesMade d s question place entry answer t) old o b → a ≡ b
   after_once d question place entry None old a b x y = x ∙ sym y
   after_once d question place entry (Some answer) old a b x y = x ∙ sym y
@@ -186,9 +186,9 @@ module _ (basis : Basis) where
   commits_by_once true true old size None x y new next a b = absurd a
   commits_by_once true true old size (Some answer) x y new next a b = (a.0 ∙ sym b.0, a.1 ∙ sym b.1)
 
-  commit_once : (d : ResourceCreateDesc) (question : ResourceQuestion) (own : HeapProperties × HeapFlags) (met : Environment) (x y : Reply) (old new next : Model)
-      → Commit (SeesQuestion basis.tier) SeesGiven SeesMade SeesReleased basis d question own met x old new
-      → Commit (SeesQuestion basis.tier) SeesGiven SeesMade SeesReleased basis d question own met y old next → (x ≡ y) × (new ≡ next)
+  commit_once : (d : ResourceCreateDesc) (question : CreateCall) (own : HeapProperties × HeapFlags) (met : Environment) (x y : Reply) (old new next : Model)
+      → Commit (SeesQuestion basis.tier) SeesHeapFreed SeesMade SeesReleased basis d question own met x old new
+      → Commit (SeesQuestion basis.tier) SeesHeapFreed SeesMade SeesReleased basis d question own met y old next → (x ≡ y) × (new ≡ next)
   commit_once d question own met x y old new next a b =
       let size = (info_of basis d).size_in_bytes in
       let types = one_first d.memory_location d.resource_category (memory_kinds basis.tier) a.memory_type b.memory_type a.first b.first in
@@ -233,38 +233,38 @@ module _ (basis : Basis) where
   replied (Err r) (Ok x) e = absurd (piece_error x.0 x.1 r (sym e))
   replied (Err r) (Err s) e = ap Err (refusal_same r s e)
 
-  ends_once : (t : ℕ) (p : Piece ID3D12Heap) (r : Result ℕ Refusal) (old new next : Pools) → Sound old → EndsBy (SeesQuestion basis.tier) SeesGiven SeesMade SeesReleased basis t p r old new
-      → EndsBy (SeesQuestion basis.tier) SeesGiven SeesMade SeesReleased basis t p r old next → new ≡ next
+  ends_once : (t : ℕ) (p : Piece ID3D12Heap) (r : Result ℕ Refusal) (old new next : Pools) → Sound old → EndsBy (SeesQuestion basis.tier) SeesHeapFreed SeesMade SeesReleased basis t p r old new
+      → EndsBy (SeesQuestion basis.tier) SeesHeapFreed SeesMade SeesReleased basis t p r old next → new ≡ next
   ends_once t p (Ok number) old new next sound a b = a ∙ sym b
   ends_once t p (Err refusal) old new next sound a b = (frees_once t p old sound (Ok tt) (Ok tt) new next a b).1
 
-  places_once : (d : ResourceCreateDesc) (question : ResourceQuestion) (allocated : Result (ℕ × Piece ID3D12Heap) Refusal) (o : Option ResourceAnswer) (x y : Reply) (old new next : Pools)
-      → PlacesThen (SeesQuestion basis.tier) SeesGiven SeesMade SeesReleased basis d question allocated o x old new
-      → PlacesThen (SeesQuestion basis.tier) SeesGiven SeesMade SeesReleased basis d question allocated o y old next → (x ≡ y) × (new ≡ next)
+  places_once : (d : ResourceCreateDesc) (question : CreateCall) (allocated : Result (ℕ × Piece ID3D12Heap) Refusal) (o : Option ResourceAnswer) (x y : Reply) (old new next : Pools)
+      → PlacesThen (SeesQuestion basis.tier) SeesHeapFreed SeesMade SeesReleased basis d question allocated o x old new
+      → PlacesThen (SeesQuestion basis.tier) SeesHeapFreed SeesMade SeesReleased basis d question allocated o y old next → (x ≡ y) × (new ≡ next)
   places_once d question (Ok p) (Some answer) x y old new next a b =
       let same = a.asked ∙ sym b.asked in
       let r = number_or_refusal placed_texts answer in
-      let other : EndsBy (SeesQuestion basis.tier) SeesGiven SeesMade SeesReleased basis p.0 p.1 r (record old { source = a.between }) next =
-      subst (λ s. EndsBy (SeesQuestion basis.tier) SeesGiven SeesMade SeesReleased basis p.0 p.1 r (record old { source = s }) next) (sym same) b.ends in
+      let other : EndsBy (SeesQuestion basis.tier) SeesHeapFreed SeesMade SeesReleased basis p.0 p.1 r (record old { source = a.between }) next =
+      subst (λ s. EndsBy (SeesQuestion basis.tier) SeesHeapFreed SeesMade SeesReleased basis p.0 p.1 r (record old { source = s }) next) (sym same) b.ends in
       (a.reply_is ∙ sym b.reply_is, ends_once p.0 p.1 r (record old { source = a.between }) new next a.sound a.ends other)
   places_once d question (Ok p) None x y old new next a b = absurd a
   places_once d question (Err refusal) (Some answer) x y old new next a b = absurd a
   places_once d question (Err refusal) None x y old new next a b = (a.0 ∙ sym b.0, a.1 ∙ sym b.1)
 
-  place_once : (d : ResourceCreateDesc) (question : ResourceQuestion) (met : Environment) (x y : Reply) (old new next : Pools) → Sound old
-      → Place (SeesQuestion basis.tier) SeesGiven SeesMade SeesReleased basis d question met x old new
-      → Place (SeesQuestion basis.tier) SeesGiven SeesMade SeesReleased basis d question met y old next → (x ≡ y) × (new ≡ next)
+  place_once : (d : ResourceCreateDesc) (question : CreateCall) (met : Environment) (x y : Reply) (old new next : Pools) → Sound old
+      → Place (SeesQuestion basis.tier) SeesHeapFreed SeesMade SeesReleased basis d question met x old new
+      → Place (SeesQuestion basis.tier) SeesHeapFreed SeesMade SeesReleased basis d question met y old next → (x ≡ y) × (new ≡ next)
   place_once d question met x y old new next sound a b =
       let once = allocate_once (piece_desc d (info_of basis d)) (is_valid (piece_desc d (info_of basis d))) met.pool (allocated_reply a.allocated) (allocated_reply b.allocated) old a.mid b.mid sound a.allocates b.allocates in
       let pieces = replied a.allocated b.allocated once.0 in
-      let other : PlacesThen (SeesQuestion basis.tier) SeesGiven SeesMade SeesReleased basis d question a.allocated met.resource y a.mid next =
-      subst (λ o. PlacesThen (SeesQuestion basis.tier) SeesGiven SeesMade SeesReleased basis d question o met.resource y a.mid next) (sym pieces)
-      (subst (λ s. PlacesThen (SeesQuestion basis.tier) SeesGiven SeesMade SeesReleased basis d question b.allocated met.resource y s next) (sym once.1) b.places) in
+      let other : PlacesThen (SeesQuestion basis.tier) SeesHeapFreed SeesMade SeesReleased basis d question a.allocated met.resource y a.mid next =
+      subst (λ o. PlacesThen (SeesQuestion basis.tier) SeesHeapFreed SeesMade SeesReleased basis d question o met.resource y a.mid next) (sym pieces)
+      (subst (λ s. PlacesThen (SeesQuestion basis.tier) SeesHeapFreed SeesMade SeesReleased basis d question b.allocated met.resource y s next) (sym once.1) b.places) in
       places_once d question a.allocated met.resource x y a.mid new next a.places other
 
-  makes_once : (d : ResourceCreateDesc) (question : ResourceQuestion) (type : ResourceType) (met : Environment) (x y : Reply) (old new next : Model) → Sound old.pool
-      → MakesBy (SeesQuestion basis.tier) SeesGiven SeesMade SeesReleased basis d question type met x old new
-      → MakesBy (SeesQuestion basis.tier) SeesGiven SeesMade SeesReleased basis d question type met y old next → (x ≡ y) × (new ≡ next)
+  makes_once : (d : ResourceCreateDesc) (question : CreateCall) (type : ResourceType) (met : Environment) (x y : Reply) (old new next : Model) → Sound old.pool
+      → MakesBy (SeesQuestion basis.tier) SeesHeapFreed SeesMade SeesReleased basis d question type met x old new
+      → MakesBy (SeesQuestion basis.tier) SeesHeapFreed SeesMade SeesReleased basis d question type met y old next → (x ≡ y) × (new ≡ next)
   makes_once d question (resource_types.Committed properties flags) met x y old new next sound a b = commit_once d question (properties.now, flags) met x y old new next a b
   makes_once d question resource_types.Placed met x y old new next sound a b =
       let once = place_once d question met x y old.pool new.pool next.pool sound a.0 b.0 in
@@ -272,29 +272,29 @@ module _ (basis : Basis) where
       let records = a.1 ∙ sym b.1 in
       (once.0, λ i. record { pool = pools i; committed = records i })
 
-  creates_once : (d : ResourceCreateDesc) (q : Result ResourceQuestion Refusal) (met : Environment) (x y : Reply) (old new next : Model) → Sound old.pool
-      → CreatesBy (SeesQuestion basis.tier) SeesGiven SeesMade SeesReleased basis d q met x old new
-      → CreatesBy (SeesQuestion basis.tier) SeesGiven SeesMade SeesReleased basis d q met y old next → (x ≡ y) × (new ≡ next)
+  creates_once : (d : ResourceCreateDesc) (q : Result CreateCall Refusal) (met : Environment) (x y : Reply) (old new next : Model) → Sound old.pool
+      → CreatesBy (SeesQuestion basis.tier) SeesHeapFreed SeesMade SeesReleased basis d q met x old new
+      → CreatesBy (SeesQuestion basis.tier) SeesHeapFreed SeesMade SeesReleased basis d q met y old next → (x ≡ y) × (new ≡ next)
   creates_once d (Err refusal) met x y old new next sound a b = (a.1 ∙ sym b.1, a.2 ∙ sym b.2)
   creates_once d (Ok question) met x y old new next sound a b = makes_once d question d.resource_type.now met x y old new next sound a b
 
   -- ---- a resource that is given back
 
   placed_back_once : (a : Allocation) (number : ℕ) (old : Pools) → Sound old → (x y : Result (Unit {0}) Refusal) (new next : Pools)
-      → FreesPlaced (SeesQuestion basis.tier) SeesGiven SeesMade SeesReleased basis a number old x new
-      → FreesPlaced (SeesQuestion basis.tier) SeesGiven SeesMade SeesReleased basis a number old y next → (x ≡ y) × (new ≡ next)
+      → FreesPlaced (SeesQuestion basis.tier) SeesHeapFreed SeesMade SeesReleased basis a number old x new
+      → FreesPlaced (SeesQuestion basis.tier) SeesHeapFreed SeesMade SeesReleased basis a number old y next → (x ≡ y) × (new ≡ next)
   placed_back_once a number old sound (Ok u) (Ok v) new next f g =
       let same = f.1 ∙ sym g.1 in
       let t = a.memory_type_index in
-      let other : Frees SeesGiven is_same_heap t (piece_of a) (record old { source = f.0 }) (Ok v) next = subst (λ s. Frees SeesGiven is_same_heap t (piece_of a) (record old { source = s }) (Ok v) next) (sym same) g.2 in
+      let other : Frees SeesHeapFreed is_same_heap t (piece_of a) (record old { source = f.0 }) (Ok v) next = subst (λ s. Frees SeesHeapFreed is_same_heap t (piece_of a) (record old { source = s }) (Ok v) next) (sym same) g.2 in
       frees_once t (piece_of a) (record old { source = f.0 }) sound (Ok u) (Ok v) new next f.2 other
   placed_back_once a number old sound (Ok u) (Err e) new next f g = absurd (g.0 f.2.0)
   placed_back_once a number old sound (Err e) (Ok u) new next f g = absurd (f.0 g.2.0)
   placed_back_once a number old sound (Err e) (Err r) new next f g = frees_once a.memory_type_index (piece_of a) old sound (Err e) (Err r) new next f g
 
   committed_back_once : (t : ℕ) (r : CommittedRecord) (old : Model) (x y : Result (Unit {0}) Refusal) (new next : Model)
-      → FreesCommitted (SeesQuestion basis.tier) SeesGiven SeesMade SeesReleased basis t r old x new
-      → FreesCommitted (SeesQuestion basis.tier) SeesGiven SeesMade SeesReleased basis t r old y next → (x ≡ y) × (new ≡ next)
+      → FreesCommitted (SeesQuestion basis.tier) SeesHeapFreed SeesMade SeesReleased basis t r old x new
+      → FreesCommitted (SeesQuestion basis.tier) SeesHeapFreed SeesMade SeesReleased basis t r old y next → (x ≡ y) × (new ≡ next)
   committed_back_once t r old (Ok u) (Ok v) new next f g =
       let places = some_same f.0.place g.0.place (sym f.0.stands ∙ g.0.stands) in
       let records = f.0.records ∙ (λ i. slice_set old.committed t (remove (records_at old.committed t) (places i))) ∙ sym g.0.records in
@@ -306,8 +306,8 @@ module _ (basis : Basis) where
   committed_back_once t r old (Err e) (Err s) new next f g = (ap Err (f.1 ∙ sym g.1), f.2 ∙ sym g.2)
 
   back_once : (o : Option Allocation) (r : Resource) (old : Model) → Sound old.pool → (x y : Result (Unit {0}) Refusal) (new next : Model)
-      → FreesResource (SeesQuestion basis.tier) SeesGiven SeesMade SeesReleased basis o r old x new
-      → FreesResource (SeesQuestion basis.tier) SeesGiven SeesMade SeesReleased basis o r old y next → (x ≡ y) × (new ≡ next)
+      → FreesResource (SeesQuestion basis.tier) SeesHeapFreed SeesMade SeesReleased basis o r old x new
+      → FreesResource (SeesQuestion basis.tier) SeesHeapFreed SeesMade SeesReleased basis o r old y next → (x ≡ y) × (new ≡ next)
   back_once (Some a) r old sound x y new next f g =
       let once = placed_back_once a r.resource.0 old.pool sound x y new.pool next.pool f.0 g.0 in
       let pools = once.1 in
@@ -318,7 +318,7 @@ module _ (basis : Basis) where
   -- ---- any call
 
   called_once : (call : calls.Call ID3D12Heap (Unit {0})) (met : Environment) (x y : Reply) (old new next : Model) → Sound old.pool
-      → OfPool (SeesQuestion basis.tier) SeesGiven SeesMade SeesReleased basis (IsCall call) met x old new → OfPool (SeesQuestion basis.tier) SeesGiven SeesMade SeesReleased basis (IsCall call) met y old next
+      → OfPool (SeesQuestion basis.tier) SeesHeapFreed SeesMade SeesReleased basis (IsCall call) met x old new → OfPool (SeesQuestion basis.tier) SeesHeapFreed SeesMade SeesReleased basis (IsCall call) met y old next
       → (x ≡ y) × (new ≡ next)
   called_once call met x y old new next sound a b =
       of_pool_once (IsCall call) met x y old new next (λ r s p q. call_once call met.pool r s old.pool new.pool next.pool sound p q) a b
@@ -336,7 +336,7 @@ module _ (basis : Basis) where
   once (CreateResource d) met x y old new next sound a b = creates_once d (resource_question basis.interface d.initial_state_or_layout d.castable_formats.now) met x y old new next sound a b
   once (FreeResource r) met x y old new next sound a b =
       let k = back_once r.allocation r old sound a.1 b.1 new next a.3 b.3 in
-      (a.2 ∙ ap (λ answer. Pool (replies.done_as answer)) k.0 ∙ sym b.2, k.1)
+      (a.2 ∙ ap (λ answer. Pool (replies.reply_of_done answer)) k.0 ∙ sym b.2, k.1)
   once (Statistics t) met x y old new next sound a b = (a.1 ∙ sym b.1, a.2 ∙ sym b.2)
 
 pub step_once : (basis : Basis) (call : Call) (met : Environment) (x y : Reply) (old new next : Model) → BlocksWellFormed 1 old.pool.slots → Step basis call met x old new → Step basis call met y old next

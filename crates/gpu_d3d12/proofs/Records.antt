@@ -17,7 +17,7 @@ use Rattle.gpu_values.specs.Refusal.{Refusal, refusal_of, out_of_memory, host_ou
 use Rattle.gpu_values.specs.declared.error.AllocationError.{AllocationError}
 use Rattle.gpu_device.specs.declared.d3d12.types.ID3D12Resource.{ID3D12Resource}
 use Rattle.gpu_d3d12.specs.ResourceAnswer.{ResourceAnswer, Granted, Declined, Null, Texts, committed_texts, resource_number, resource_refusal}
-use Rattle.gpu_d3d12.specs.Committed.{fits, with_record, number_or_refusal, CommitsBy, IsCommitted, GivesRecord, Committed, records_at, total_size, SumsFit, place_of, is_same_record}
+use Rattle.gpu_d3d12.specs.Committed.{fits, with_record, number_or_refusal, CommitsBy, IsCommitted, ReleasesRecord, Committed, records_at, total_size, SumsFit, place_of, is_same_record}
 use Rattle.gpu_d3d12.specs.declared.committed_record.CommittedRecord.{CommittedRecord}
 
 abbrev pub Rows : Type 0
@@ -165,7 +165,7 @@ lent_others rows i old w below view =
 -- the records after one of a memory type went
 pub lent_gives : {V E : Type 0} (rows : Rows) (i : ℕ) (old : Committed) (v w : Vec CommittedRecord Global) (made : CommittedRecord) (r : Result V E) (P : Type 0)
     → records_at (lists rows) i ≡ v.items → lists rows ≡ old → OnOk r ((place : ℕ) × (place_of v.items made ≡ Some place) × (w.items ≡ remove v.items place)) → OnOk r P
-    → OnOk r (GivesRecord i made old (lists (slice_set rows i w)) × P)
+    → OnOk r (ReleasesRecord i made old (lists (slice_set rows i w)) × P)
 lent_gives rows i old v w made (Err e) P was view gives p = tt
 lent_gives rows i old v w made (Ok u) P was view gives p =
     let here : records_at old i ≡ v.items = ap (λ (k : Committed). records_at k i) (sym view) ∙ was in (

@@ -7,10 +7,10 @@ use Rattle.gpu_device.specs.declared.d3d12.types.ID3D12Heap.{ID3D12Heap}
 use Rattle.gpu_core.specs.declared.piece.Piece.{Piece}
 use Rattle.gpu_d3d12.specs.DeviceVersion.{device_of, with_device}
 use Rattle.gpu_d3d12.specs.ResourceAnswer.{ResourceAnswer}
-use Rattle.gpu_d3d12.specs.Setup.{kinds_told}
+use Rattle.gpu_d3d12.specs.Setup.{kinds_of_device}
 use Rattle.gpu_d3d12.specs.declared.describe.AllocationCreateDesc.{AllocationCreateDesc}
 use Rattle.gpu_d3d12.specs.declared.question.ResourceCreateDesc.{ResourceCreateDesc}
-use Rattle.gpu_d3d12.specs.declared.question.ResourceQuestion.{ResourceQuestion}
+use Rattle.gpu_d3d12.specs.declared.question.CreateCall.{CreateCall}
 use Rattle.gpu_values.specs.declared.error.AllocationError.{AllocationError}
 use Rattle.gpu_pool.specs.Allocate as environments
 use Rattle.gpu_pool.specs.Allocate.{NothingMet, NoHostMemory, Answered, Serves}
@@ -18,7 +18,7 @@ use Rattle.gpu_pool.specs.Free.{GivesBackAny, GivesBackAll, Frees}
 use Rattle.gpu_pool.proofs.Serving.{SourceAfter, serves_source, serves_constant}
 use Rattle.gpu_d3d12.specs.Allocate.{request_in, AllocatesBy}
 use Rattle.gpu_d3d12.specs.Blocks.{is_same_heap}
-use Rattle.gpu_d3d12.specs.Source.{SourceState, with_source_device, AsksBlock, GivesHeap, MakesResource, ReleasesResource}
+use Rattle.gpu_d3d12.specs.Source.{SourceState, with_source_device, AsksBlock, GivesHeapBack, MakesResource, ReleasesResource}
 use Rattle.gpu_d3d12.specs.State as states
 use Rattle.gpu_d3d12.specs.State.{Basis, source_basis, interface_of}
 use Rattle.gpu_d3d12.specs.Live.{Allocation}
@@ -71,38 +71,38 @@ module _ {D : Type 0} (g : Ghosts D) where
   pub asked_stays : (old : SourceState D) (t size : ℕ) (answer : Result ID3D12Heap Refusal) (new : SourceState D) → AsksBlock g old t size tt answer new → Stays old new
   asked_stays old t size answer new a = record { state = noted old new (with_source_device old (device_of new.device)) a.state refl; constant = a.asks.constant }
 
-  pub given_stays : (old : SourceState D) (heap : ID3D12Heap) (new : SourceState D) → GivesHeap g old heap new → Stays old new
+  pub given_stays : (old : SourceState D) (heap : ID3D12Heap) (new : SourceState D) → GivesHeapBack g old heap new → Stays old new
   given_stays old heap new a = record { state = noted old new (with_source_device old (device_of new.device)) a.state refl; constant = a.gives.constant }
 
-  pub made_stays : (d : ResourceCreateDesc) (old : SourceState D) (question : ResourceQuestion) (place : ResourcePlace) (entry : _) (answer : ResourceAnswer) (new : SourceState D)
+  pub made_stays : (d : ResourceCreateDesc) (old : SourceState D) (question : CreateCall) (place : ResourcePlace) (entry : _) (answer : ResourceAnswer) (new : SourceState D)
       → MakesResource g d old question place entry answer new → Stays old new
   made_stays d old question place entry answer new a = record { state = noted old new _ a.state refl; constant = a.asks.constant }
 
   pub released_stays : (old : SourceState D) (number : ℕ) (new : SourceState D) → ReleasesResource g old number new → Stays old new
   released_stays old number new a = record { state = noted old new _ a.state refl; constant = a.releases.asks_nothing.constant }
 
-  pub back_stays : (old : SourceState D) (went : Option ID3D12Heap) (new : SourceState D) → GivesBackAny (GivesHeap g) old went new → Stays old new
+  pub back_stays : (old : SourceState D) (went : Option ID3D12Heap) (new : SourceState D) → GivesBackAny (GivesHeapBack g) old went new → Stays old new
   back_stays old None new is = stays_same old new is
   back_stays old (Some heap) new is = given_stays old heap new is
 
-  pub back_journal : (old : SourceState D) (went : Option ID3D12Heap) (new : SourceState D) → GivesBackAny (GivesHeap g) old went new → new.journal ≡ old.journal
+  pub back_journal : (old : SourceState D) (went : Option ID3D12Heap) (new : SourceState D) → GivesBackAny (GivesHeapBack g) old went new → new.journal ≡ old.journal
   back_journal old None new is = ap (λ (s : SourceState D). s.journal) is
   back_journal old (Some heap) new is = ap (λ (s : SourceState D). s.journal) is.state
 
-  pub all_back_journal : (old : SourceState D) (heaps : List ID3D12Heap) (new : SourceState D) → GivesBackAll (GivesHeap g) old heaps new → new.journal ≡ old.journal
+  pub all_back_journal : (old : SourceState D) (heaps : List ID3D12Heap) (new : SourceState D) → GivesBackAll (GivesHeapBack g) old heaps new → new.journal ≡ old.journal
   all_back_journal old [] new is = ap (λ (s : SourceState D). s.journal) is
   all_back_journal old (heap ∷ heaps) new is = all_back_journal is.0 heaps new is.2 ∙ ap (λ (s : SourceState D). s.journal) is.1.state
 
-  pub frees_journal : (t : ℕ) (p : Piece ID3D12Heap) (old : states.Pool D) (answer : Result (Unit {0}) Refusal) (new : states.Pool D) → Frees (GivesHeap g) is_same_heap t p old answer new
+  pub frees_journal : (t : ℕ) (p : Piece ID3D12Heap) (old : states.Pool D) (answer : Result (Unit {0}) Refusal) (new : states.Pool D) → Frees (GivesHeapBack g) is_same_heap t p old answer new
       → new.source.journal ≡ old.source.journal
   frees_journal t p old (Ok u) new f = back_journal old.source f.1.went new.source f.1.source
   frees_journal t p old (Err e) new f = ap (λ (s : states.Pool D). s.source.journal) f.2
 
-  pub all_back_stays : (old : SourceState D) (heaps : _) (new : SourceState D) → GivesBackAll (GivesHeap g) old heaps new → Stays old new
+  pub all_back_stays : (old : SourceState D) (heaps : _) (new : SourceState D) → GivesBackAll (GivesHeapBack g) old heaps new → Stays old new
   all_back_stays old [] new is = stays_same old new is
   all_back_stays old (heap ∷ heaps) new is = then_stays old is.0 new (given_stays old heap is.0 is.1) (all_back_stays is.0 heaps new is.2)
 
-  pub frees_stays : (t : ℕ) (p : Piece ID3D12Heap) (old : states.Pool D) (answer : Result (Unit {0}) Refusal) (new : states.Pool D) → Frees (GivesHeap g) is_same_heap t p old answer new → Stays old.source new.source
+  pub frees_stays : (t : ℕ) (p : Piece ID3D12Heap) (old : states.Pool D) (answer : Result (Unit {0}) Refusal) (new : states.Pool D) → Frees (GivesHeapBack g) is_same_heap t p old answer new → Stays old.source new.source
   frees_stays t p old (Ok u) new f = back_stays old.source f.1.went new.source f.1.source
   frees_stays t p old (Err e) new f = stays_same old.source new.source (ap (λ (s : states.Pool D). s.source) f.2)
 
@@ -143,4 +143,4 @@ module _ {D : Type 0} (g : Ghosts D) where
 
   pub allocates_keeps : (d : AllocationCreateDesc) (valid : _) (old : states.Pool D) (result : Result Allocation AllocationError) (new : states.Pool D) → AllocatesBy g d valid old result new → Keeps old new
   allocates_keeps d false old result new a = keeps_same old new a.1
-  allocates_keeps d true old result new a = serves_keeps (kinds_told old.source.tier) (request_in a.memory_type d) old a.allocates.0 a.answer new a.allocates.1
+  allocates_keeps d true old result new a = serves_keeps (kinds_of_device old.source.tier) (request_in a.memory_type d) old a.allocates.0 a.answer new a.allocates.1

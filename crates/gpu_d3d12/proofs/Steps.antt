@@ -10,10 +10,10 @@ use Rattle.gpu_device.specs.declared.d3d12.types.HeapFlags.{HeapFlags}
 use Rattle.gpu_device.specs.declared.d3d12.types.HeapProperties.{HeapProperties}
 use Rattle.gpu_device.specs.declared.d3d12.types.ID3D12Heap.{ID3D12Heap}
 use Rattle.gpu_d3d12.specs.ResourceAnswer.{ResourceAnswer, placed_texts}
-use Rattle.gpu_d3d12.specs.Setup.{kinds_told}
+use Rattle.gpu_d3d12.specs.Setup.{kinds_of_device}
 use Rattle.gpu_d3d12.specs.declared.describe.AllocationCreateDesc.{AllocationCreateDesc}
 use Rattle.gpu_d3d12.specs.declared.question.ResourceCreateDesc.{ResourceCreateDesc}
-use Rattle.gpu_d3d12.specs.declared.question.ResourceQuestion.{ResourceQuestion}
+use Rattle.gpu_d3d12.specs.declared.question.CreateCall.{CreateCall}
 use Rattle.gpu_pool.specs.Allocate as environments
 use Rattle.gpu_pool.specs.Free.{Frees}
 use Rattle.gpu_pool.specs.Reply as replies
@@ -27,10 +27,10 @@ use Rattle.gpu_pool.specs.Allocation.{piece_of}
 use Rattle.gpu_d3d12.specs.Live.{Allocation}
 use Rattle.gpu_d3d12.specs.Reply.{Reply}
 use Rattle.gpu_d3d12.specs.Resource.{piece_desc}
-use Rattle.gpu_d3d12.specs.Source.{SourceState, AsksBlock, GivesHeap, MakesResource, ReleasesResource}
+use Rattle.gpu_d3d12.specs.Source.{SourceState, AsksBlock, GivesHeapBack, MakesResource, ReleasesResource}
 use Rattle.gpu_d3d12.specs.State as states
 use Rattle.gpu_d3d12.specs.State.{Basis, Contents, seen_of, over}
-use Rattle.gpu_d3d12.specs.Step.{Environment, info_of, allocated_reply, SeesQuestion, SeesGiven, SeesMade, SeesReleased, AllocatesBy, Commit, EndsBy, PlacesThen, Place, FreesPlaced, FreesCommitted, FreesResource}
+use Rattle.gpu_d3d12.specs.Step.{Environment, info_of, allocated_reply, SeesQuestion, SeesHeapFreed, SeesMade, SeesReleased, AllocatesBy, Commit, EndsBy, PlacesThen, Place, FreesPlaced, FreesCommitted, FreesResource}
 use Rattle.gpu_d3d12.specs.declared.committed_record.CommittedRecord.{CommittedRecord}
 use Rattle.gpu_d3d12.specs.declared.resource.Resource.{Resource}
 
@@ -47,10 +47,10 @@ module _ {D : Type 0} (g : Ghosts D) where
     state = λ i. record { beside = a.beside i; history = a.asks.history i };
   }
 
-  pub sees_given : (old : SourceState D) (heap : ID3D12Heap) (new : SourceState D) → GivesHeap g old heap new → SeesGiven (seen_of g old) heap (seen_of g new)
-  sees_given old heap new a = λ i. record { beside = a.beside i; history = a.gives.history i }
+  pub sees_heap_freed : (old : SourceState D) (heap : ID3D12Heap) (new : SourceState D) → GivesHeapBack g old heap new → SeesHeapFreed (seen_of g old) heap (seen_of g new)
+  sees_heap_freed old heap new a = λ i. record { beside = a.beside i; history = a.gives.history i }
 
-  pub sees_made : (d : ResourceCreateDesc) (old : SourceState D) (question : ResourceQuestion) (place : ResourcePlace) (entry : Entry) (answer : ResourceAnswer) (new : SourceState D)
+  pub sees_made : (d : ResourceCreateDesc) (old : SourceState D) (question : CreateCall) (place : ResourcePlace) (entry : Entry) (answer : ResourceAnswer) (new : SourceState D)
       → MakesResource g d old question place entry answer new → SeesMade d (seen_of g old) question place entry answer (seen_of g new)
   sees_made d old question place entry answer new a = λ i. record { beside = a.beside i; history = a.asks.history i }
 
@@ -70,12 +70,12 @@ module _ {D : Type 0} (g : Ghosts D) where
     contents_seen c = over (seen_of g) c
 
     pub frees_seen : (t : ℕ) (p : Piece ID3D12Heap) (old : states.Pool D) (answer : Result (Unit {0}) Refusal) (new : states.Pool D)
-        → Frees (GivesHeap g) is_same_heap t p old answer new → Frees SeesGiven is_same_heap t p (pool_seen old) answer (pool_seen new)
-    frees_seen t p old answer new f = frees_over (GivesHeap g) SeesGiven (seen_of g) is_same_heap t p old new (λ heap k. sees_given old.source heap new.source k) answer f
+        → Frees (GivesHeapBack g) is_same_heap t p old answer new → Frees SeesHeapFreed is_same_heap t p (pool_seen old) answer (pool_seen new)
+    frees_seen t p old answer new f = frees_over (GivesHeapBack g) SeesHeapFreed (seen_of g) is_same_heap t p old new (λ heap k. sees_heap_freed old.source heap new.source k) answer f
 
     pub allocates_seen : (d : AllocationCreateDesc) (valid : Bool) (met : environments.Environment ID3D12Heap) (reply : replies.Reply ID3D12Heap) (old new : states.Pool D) → old.source.tier ≡ basis.tier
-        → AllocatesBy (AsksBlock g) (GivesHeap g) (MakesResource g) (ReleasesResource g) basis d valid met reply old new
-        → AllocatesBy (SeesQuestion basis.tier) SeesGiven SeesMade SeesReleased basis d valid met reply (pool_seen old) (pool_seen new)
+        → AllocatesBy (AsksBlock g) (GivesHeapBack g) (MakesResource g) (ReleasesResource g) basis d valid met reply old new
+        → AllocatesBy (SeesQuestion basis.tier) SeesHeapFreed SeesMade SeesReleased basis d valid met reply (pool_seen old) (pool_seen new)
     allocates_seen d false met reply old new tier a = (a.0, a.1, ap (pools.over (seen_of g)) a.2)
     allocates_seen d true met reply old new tier a = (
       a.0,
@@ -83,19 +83,19 @@ module _ {D : Type 0} (g : Ghosts D) where
       (
         a.2.0,
         a.2.1,
-        serves_over (kinds_told basis.tier) (AsksBlock g) (SeesQuestion basis.tier) (seen_of g) (request_in a.0 d) old new
+        serves_over (kinds_of_device basis.tier) (AsksBlock g) (SeesQuestion basis.tier) (seen_of g) (request_in a.0 d) old new
             (λ size answer k. subst (λ x. SeesQuestion x (seen_of g old.source) a.0 size tt answer (seen_of g new.source)) tier (sees_question old.source a.0 size answer new.source k)) met a.2.0 a.2.2,
       ),
     )
 
-    after_seen : (d : ResourceCreateDesc) (question : ResourceQuestion) (place : ResourcePlace) (entry : Entry) (o : Option ResourceAnswer) (old new : SourceState D)
+    after_seen : (d : ResourceCreateDesc) (question : CreateCall) (place : ResourcePlace) (entry : Entry) (o : Option ResourceAnswer) (old new : SourceState D)
         → IsAfterResource (λ s answer t. MakesResource g d s question place entry answer t) old o new → IsAfterResource (λ s answer t. SeesMade d s question place entry answer t) (seen_of g old) o (seen_of g new)
     after_seen d question place entry None old new is = ap (seen_of g) is
     after_seen d question place entry (Some answer) old new is = sees_made d old question place entry answer new is
 
-    pub commit_seen : (d : ResourceCreateDesc) (question : ResourceQuestion) (own : HeapProperties × HeapFlags) (met : Environment) (reply : Reply) (old new : Contents (SourceState D))
-        → Commit (AsksBlock g) (GivesHeap g) (MakesResource g) (ReleasesResource g) basis d question own met reply old new
-        → Commit (SeesQuestion basis.tier) SeesGiven SeesMade SeesReleased basis d question own met reply (contents_seen old) (contents_seen new)
+    pub commit_seen : (d : ResourceCreateDesc) (question : CreateCall) (own : HeapProperties × HeapFlags) (met : Environment) (reply : Reply) (old new : Contents (SourceState D))
+        → Commit (AsksBlock g) (GivesHeapBack g) (MakesResource g) (ReleasesResource g) basis d question own met reply old new
+        → Commit (SeesQuestion basis.tier) SeesHeapFreed SeesMade SeesReleased basis d question own met reply (contents_seen old) (contents_seen new)
     commit_seen d question own met reply old new c = record {
       memory_type = c.memory_type;
       first = c.first;
@@ -110,14 +110,14 @@ module _ {D : Type 0} (g : Ghosts D) where
       committed = c.committed;
     }
 
-    ends_seen : (t : ℕ) (p : Piece ID3D12Heap) (r : Result ℕ Refusal) (old new : states.Pool D) → EndsBy (AsksBlock g) (GivesHeap g) (MakesResource g) (ReleasesResource g) basis t p r old new
-        → EndsBy (SeesQuestion basis.tier) SeesGiven SeesMade SeesReleased basis t p r (pool_seen old) (pool_seen new)
+    ends_seen : (t : ℕ) (p : Piece ID3D12Heap) (r : Result ℕ Refusal) (old new : states.Pool D) → EndsBy (AsksBlock g) (GivesHeapBack g) (MakesResource g) (ReleasesResource g) basis t p r old new
+        → EndsBy (SeesQuestion basis.tier) SeesHeapFreed SeesMade SeesReleased basis t p r (pool_seen old) (pool_seen new)
     ends_seen t p (Ok number) old new is = ap (pools.over (seen_of g)) is
     ends_seen t p (Err refusal) old new f = frees_seen t p old (Ok tt) new f
 
-    places_seen : (d : ResourceCreateDesc) (question : ResourceQuestion) (allocated : Result (ℕ × Piece ID3D12Heap) Refusal) (o : Option ResourceAnswer) (reply : Reply) (old new : states.Pool D)
-        → PlacesThen (AsksBlock g) (GivesHeap g) (MakesResource g) (ReleasesResource g) basis d question allocated o reply old new
-        → PlacesThen (SeesQuestion basis.tier) SeesGiven SeesMade SeesReleased basis d question allocated o reply (pool_seen old) (pool_seen new)
+    places_seen : (d : ResourceCreateDesc) (question : CreateCall) (allocated : Result (ℕ × Piece ID3D12Heap) Refusal) (o : Option ResourceAnswer) (reply : Reply) (old new : states.Pool D)
+        → PlacesThen (AsksBlock g) (GivesHeapBack g) (MakesResource g) (ReleasesResource g) basis d question allocated o reply old new
+        → PlacesThen (SeesQuestion basis.tier) SeesHeapFreed SeesMade SeesReleased basis d question allocated o reply (pool_seen old) (pool_seen new)
     places_seen d question (Ok p) (Some answer) reply old new a = record {
       sound = a.sound;
       between = seen_of g a.between;
@@ -129,9 +129,9 @@ module _ {D : Type 0} (g : Ghosts D) where
     places_seen d question (Err refusal) (Some answer) reply old new a = absurd a
     places_seen d question (Err refusal) None reply old new a = (a.0, ap (pools.over (seen_of g)) a.1)
 
-    pub place_seen : (d : ResourceCreateDesc) (question : ResourceQuestion) (met : Environment) (reply : Reply) (old new : states.Pool D) → old.source.tier ≡ basis.tier
-        → Place (AsksBlock g) (GivesHeap g) (MakesResource g) (ReleasesResource g) basis d question met reply old new
-        → Place (SeesQuestion basis.tier) SeesGiven SeesMade SeesReleased basis d question met reply (pool_seen old) (pool_seen new)
+    pub place_seen : (d : ResourceCreateDesc) (question : CreateCall) (met : Environment) (reply : Reply) (old new : states.Pool D) → old.source.tier ≡ basis.tier
+        → Place (AsksBlock g) (GivesHeapBack g) (MakesResource g) (ReleasesResource g) basis d question met reply old new
+        → Place (SeesQuestion basis.tier) SeesHeapFreed SeesMade SeesReleased basis d question met reply (pool_seen old) (pool_seen new)
     place_seen d question met reply old new tier p = record {
       allocated = p.allocated;
       mid = pool_seen p.mid;
@@ -140,8 +140,8 @@ module _ {D : Type 0} (g : Ghosts D) where
     }
 
     frees_placed_seen : (a : Allocation) (number : ℕ) (old : states.Pool D) (answer : Result (Unit {0}) Refusal) (new : states.Pool D)
-        → FreesPlaced (AsksBlock g) (GivesHeap g) (MakesResource g) (ReleasesResource g) basis a number old answer new
-        → FreesPlaced (SeesQuestion basis.tier) SeesGiven SeesMade SeesReleased basis a number (pool_seen old) answer (pool_seen new)
+        → FreesPlaced (AsksBlock g) (GivesHeapBack g) (MakesResource g) (ReleasesResource g) basis a number old answer new
+        → FreesPlaced (SeesQuestion basis.tier) SeesHeapFreed SeesMade SeesReleased basis a number (pool_seen old) answer (pool_seen new)
     frees_placed_seen a number old (Ok u) new f = (
       seen_of g f.0,
       sees_released old.source number f.0 f.1,
@@ -150,13 +150,13 @@ module _ {D : Type 0} (g : Ghosts D) where
     frees_placed_seen a number old (Err e) new f = frees_seen a.memory_type_index (piece_of a) old (Err e) new f
 
     frees_committed_seen : (t : ℕ) (r : CommittedRecord) (old : Contents (SourceState D)) (answer : Result (Unit {0}) Refusal) (new : Contents (SourceState D))
-        → FreesCommitted (AsksBlock g) (GivesHeap g) (MakesResource g) (ReleasesResource g) basis t r old answer new
-        → FreesCommitted (SeesQuestion basis.tier) SeesGiven SeesMade SeesReleased basis t r (contents_seen old) answer (contents_seen new)
+        → FreesCommitted (AsksBlock g) (GivesHeapBack g) (MakesResource g) (ReleasesResource g) basis t r old answer new
+        → FreesCommitted (SeesQuestion basis.tier) SeesHeapFreed SeesMade SeesReleased basis t r (contents_seen old) answer (contents_seen new)
     frees_committed_seen t r old (Ok u) new f = (f.0, sees_released old.pool.source r.resource.0 new.pool.source f.1, ap (pools.over (seen_of g)) f.2)
     frees_committed_seen t r old (Err e) new f = (f.0, f.1, ap (over (seen_of g)) f.2)
 
     pub frees_resource_seen : (o : Option Allocation) (r : Resource) (old : Contents (SourceState D)) (answer : Result (Unit {0}) Refusal) (new : Contents (SourceState D))
-        → FreesResource (AsksBlock g) (GivesHeap g) (MakesResource g) (ReleasesResource g) basis o r old answer new
-        → FreesResource (SeesQuestion basis.tier) SeesGiven SeesMade SeesReleased basis o r (contents_seen old) answer (contents_seen new)
+        → FreesResource (AsksBlock g) (GivesHeapBack g) (MakesResource g) (ReleasesResource g) basis o r old answer new
+        → FreesResource (SeesQuestion basis.tier) SeesHeapFreed SeesMade SeesReleased basis o r (contents_seen old) answer (contents_seen new)
     frees_resource_seen (Some a) r old answer new f = (frees_placed_seen a r.resource.0 old.pool answer new.pool f.0, f.1)
     frees_resource_seen None r old answer new f = frees_committed_seen r.memory_type_index _ old answer new f

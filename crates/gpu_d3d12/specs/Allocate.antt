@@ -8,7 +8,7 @@ use Rattle.gpu_device.specs.declared.d3d12.device.D3D12Device.{Ghosts}
 use Rattle.gpu_device.specs.declared.d3d12.types.ID3D12Heap.{ID3D12Heap}
 use Rattle.gpu_d3d12.specs.Describe.{request_of}
 use Rattle.gpu_d3d12.specs.MemoryKinds.{memory_kinds, IsFirstServing}
-use Rattle.gpu_d3d12.specs.Setup.{kinds_told}
+use Rattle.gpu_d3d12.specs.Setup.{kinds_of_device}
 use Rattle.gpu_d3d12.specs.declared.describe.AllocationCreateDesc.{AllocationCreateDesc}
 use Rattle.gpu_pool.specs.Allocate as pools
 use Rattle.gpu_pool.specs.Allocation.{Returns}
@@ -30,7 +30,7 @@ module _ {D : Type 0} (g : Ghosts D) (d : AllocationCreateDesc) where
     pub memory_type : ℕ
     pub first : IsFirstServing d.location d.resource_category (memory_kinds old.source.tier) memory_type
     pub answer : Result (Piece ID3D12Heap) Refusal
-    pub allocates : pools.Allocates (kinds_told old.source.tier) (AsksBlock g) (request_in memory_type d) old answer new
+    pub allocates : pools.Allocates (kinds_of_device old.source.tier) (AsksBlock g) (request_in memory_type d) old answer new
     pub returns : Returns memory_type d.name.now result answer
 
   -- an allocation of a pool, where its description is valid or isn't

@@ -98,7 +98,7 @@ abbrev pub freed : Refusal
 freed = internal (codes "Resource was already freed.") None
 
 -- the record is of a resource that wasn't given back; it goes
-pub record GivesRecord (t : ℕ) (r : CommittedRecord) (old new : Committed) : Type 0 where
+pub record ReleasesRecord (t : ℕ) (r : CommittedRecord) (old new : Committed) : Type 0 where
   pub place : ℕ
   pub stands : place_of (records_at old t) r ≡ Some place
   pub records : new ≡ slice_set old t (remove (records_at old t) place)

@@ -7,7 +7,7 @@ use Rattle.gpu_pool.specs.Free as pools
 use Rattle.gpu_d3d12.specs.Blocks.{is_same_heap}
 use Rattle.gpu_pool.specs.Allocation.{piece_of}
 use Rattle.gpu_d3d12.specs.Live.{Allocation}
-use Rattle.gpu_d3d12.specs.Source.{GivesHeap}
+use Rattle.gpu_d3d12.specs.Source.{GivesHeapBack}
 use Rattle.gpu_d3d12.specs.State.{State, pool_of}
 
 -- a free, as its pool sees it
@@ -22,5 +22,5 @@ ComesBack a (Err e) = e.1 ≡ a
 
 -- a live piece is freed, and its block goes back with it where that goes; of one that isn't live nothing changes, and the allocation comes back as it was
 pub record Frees {D : Type 0} (g : Ghosts D) (a : Allocation) (old : State D) (result : Result (Unit {0}) (AllocationError × Allocation)) (new : State D) : Type 0 where
-  pub frees : pools.Frees (GivesHeap g) is_same_heap a.memory_type_index (piece_of a) (pool_of old) (freed_of result) (pool_of new)
+  pub frees : pools.Frees (GivesHeapBack g) is_same_heap a.memory_type_index (piece_of a) (pool_of old) (freed_of result) (pool_of new)
   pub comes_back : ComesBack a result

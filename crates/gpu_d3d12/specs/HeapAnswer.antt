@@ -56,9 +56,9 @@ heap_refusal (Declined code) = Some (code_refusal code)
 heap_refusal Null = Some null_refusal
 
 -- what the asker makes of the answer
-abbrev pub Gives : Result ID3D12Heap AllocationError → HeapAnswer → Type 0
-Gives (Ok heap) answer = answer ≡ Granted heap.0
-Gives (Err e) answer = heap_refusal answer ≡ Some (refusal_of e)
+abbrev pub IsResultOf : Result ID3D12Heap AllocationError → HeapAnswer → Type 0
+IsResultOf (Ok heap) answer = answer ≡ Granted heap.0
+IsResultOf (Err e) answer = heap_refusal answer ≡ Some (refusal_of e)
 
 -- a heap was given back, once, and the device was asked nothing
 pub record IsWithoutHeap {D : Type 0} (g : Ghosts D) (old : D) (number : ℕ) (new : D) : Type 0 where

@@ -10,11 +10,11 @@ use Rattle.gpu_d3d12.specs.declared.device_version.ID3D12DeviceVersion.{ID3D12De
 use Rattle.gpu_d3d12.specs.declared.device_version.ID3D12DeviceVersion.TheVariants.{Device, Device10, Device12}
 use Rattle.gpu_d3d12.specs.declared.question.ResourceStateOrBarrierLayout.{ResourceStateOrBarrierLayout}
 use Rattle.gpu_d3d12.specs.declared.question.ResourceStateOrBarrierLayout.TheVariants.{ResourceState, BarrierLayout}
-use Rattle.gpu_d3d12.specs.declared.question.ResourceQuestion.{ResourceQuestion}
-use Rattle.gpu_d3d12.specs.declared.question.ResourceQuestion.TheVariants.{InState, InLayout, InLayoutWithFormats}
+use Rattle.gpu_d3d12.specs.declared.question.CreateCall.{CreateCall}
+use Rattle.gpu_d3d12.specs.declared.question.CreateCall.TheVariants.{InState, InLayout, InLayoutWithFormats}
 
 -- by which question a resource with these castable formats is made, or why it isn't
-abbrev pub resource_question : {D : Type 0} → ID3D12DeviceVersion D → ResourceStateOrBarrierLayout → (castable : List Format) → Result ResourceQuestion Refusal
+abbrev pub resource_question : {D : Type 0} → ID3D12DeviceVersion D → ResourceStateOrBarrierLayout → (castable : List Format) → Result CreateCall Refusal
 resource_question version (ResourceState state) [] = Ok (InState state)
 resource_question version (ResourceState state) (f ∷ fs) = Err castable_formats_requires_enhanced_barriers
 resource_question (Device12 d) (BarrierLayout layout) castable = Ok (InLayoutWithFormats layout)
@@ -24,7 +24,7 @@ resource_question (Device d) (BarrierLayout layout) [] = Err barrier_layout_need
 resource_question (Device d) (BarrierLayout layout) (f ∷ fs) = Err castable_formats_requires_at_least_device12
 
 -- the list of formats that the question hands on
-abbrev pub handed_on : ResourceQuestion → (castable : List Format) → Option (List Format)
+abbrev pub handed_on : CreateCall → (castable : List Format) → Option (List Format)
 handed_on (InState state) castable = None
 handed_on (InLayout layout) castable = None
 handed_on (InLayoutWithFormats layout) castable = Some castable
@@ -40,5 +40,5 @@ told_info properties (Device10 d) desc castable = properties.allocation_info des
 told_info properties (Device12 d) desc castable = properties.allocation_info3 (desc1_of desc) castable
 
 -- the size of the resource that a question makes, as the device tells it
-abbrev pub made_size : Properties → ResourceQuestion → ResourceDesc → (castable : List Format) → ℕ
+abbrev pub made_size : Properties → CreateCall → ResourceDesc → (castable : List Format) → ℕ
 made_size properties question desc castable = told_size1 properties (desc1_of desc) (handed_on question castable)

@@ -11,7 +11,7 @@ use Rattle.gpu_d3d12.specs.declared.question.ResourceCreateDesc.{ResourceCreateD
 use Rattle.gpu_d3d12.specs.Blocks.{Slots}
 use Rattle.gpu_d3d12.specs.declared.committed_record.CommittedRecord.{CommittedRecord}
 use Rattle.gpu_values.specs.declared.error.AllocationError.{AllocationError}
-use Rattle.gpu_pool.specs.Allocation.{AreDistinct, IsGiven}
+use Rattle.gpu_pool.specs.Allocation.{AreDistinct, IsAllocated}
 use Rattle.gpu_d3d12.specs.Live.{Allocation, IsLive}
 use Rattle.gpu_d3d12.specs.declared.resource.Resource.{Resource}
 
@@ -34,7 +34,7 @@ record_of r = record { resource = r.resource; size = r.size }
 -- the piece that a resource of the t-th memory type lies in, if it lies in one
 abbrev pub LiesIn : (t : ℕ) → ResourceCreateDesc → Option (Piece ID3D12Heap) → Option Allocation → Type 0
 LiesIn t d None None = Unit {0}
-LiesIn t d (Some p) (Some a) = IsGiven t d.name.now p a
+LiesIn t d (Some p) (Some a) = IsAllocated t d.name.now p a
 LiesIn t d None (Some a) = ⊥
 LiesIn t d (Some p) None = ⊥
 

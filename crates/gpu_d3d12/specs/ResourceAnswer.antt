@@ -15,8 +15,8 @@ use Rattle.gpu_device.specs.declared.d3d12.event.ResourceShape.{ResourceShape}
 use Rattle.gpu_device.specs.declared.d3d12.event.ResourceShape.TheVariants as shapes
 use Rattle.gpu_device.specs.declared.d3d12.types.ID3D12Resource.{ID3D12Resource}
 use Rattle.gpu_d3d12.specs.declared.question.ResourceCreateDesc.{ResourceCreateDesc}
-use Rattle.gpu_d3d12.specs.declared.question.ResourceQuestion.{ResourceQuestion}
-use Rattle.gpu_d3d12.specs.declared.question.ResourceQuestion.TheVariants.{InState, InLayout, InLayoutWithFormats}
+use Rattle.gpu_d3d12.specs.declared.question.CreateCall.{CreateCall}
+use Rattle.gpu_d3d12.specs.declared.question.CreateCall.TheVariants.{InState, InLayout, InLayoutWithFormats}
 use Rattle.gpu_d3d12.specs.declared.resource_answer.ResourceTexts.{ResourceTexts}
 use Rattle.gpu_d3d12.specs.Question.{handed_on, desc1_of}
 
@@ -53,17 +53,17 @@ told_answer (Declined code reason) = Err code
 told_answer Null = Ok None
 
 -- what the resource is to be, as this question says it
-abbrev pub shape_asked : ResourceQuestion → ResourceCreateDesc → ResourceShape
+abbrev pub shape_asked : CreateCall → ResourceCreateDesc → ResourceShape
 shape_asked (InState state) d = shapes.InState d.resource_desc.now state
 shape_asked (InLayout layout) d = shapes.InLayout (desc1_of d.resource_desc.now) layout None
 shape_asked (InLayoutWithFormats layout) d = shapes.InLayout (desc1_of d.resource_desc.now) layout (Some d.castable_formats.now)
 
 -- the whole question
-abbrev pub request_asked : ResourceQuestion → ResourceCreateDesc → ResourcePlace → ResourceRequest
+abbrev pub request_asked : CreateCall → ResourceCreateDesc → ResourcePlace → ResourceRequest
 request_asked question d place = record { place = place; shape = shape_asked question d; clear_value = option_copied d.clear_value }
 
 -- the device was asked once for a resource that lies there, by this question, and answered so; the entry is the one that a new resource has
-pub record AsksResource {D : Type 0} (g : Ghosts D) (old : D) (question : ResourceQuestion) (d : ResourceCreateDesc) (place : ResourcePlace) (entry : Entry)
+pub record AsksResource {D : Type 0} (g : Ghosts D) (old : D) (question : CreateCall) (d : ResourceCreateDesc) (place : ResourcePlace) (entry : Entry)
     (answer : ResourceAnswer) (new : D) : Type 0 where
   pub number : IsNew (g.held old) (resource_number answer)
   pub held : g.held new ≡ with_granted (g.held old) (resource_number answer) entry

@@ -19,5 +19,5 @@ abbrev pub setup_fault : Properties → Option Refusal
 setup_fault p = tier_fault p.tier
 
 -- of each memory type, whether its blocks are of the host's sizes, and its page size, which is 1
-abbrev pub kinds_told : ResourceHeapTier → List (Bool × ℕ)
-kinds_told tier = map (λ k. (is_host k, 1)) (memory_kinds tier)
+abbrev pub kinds_of_device : ResourceHeapTier → List (Bool × ℕ)
+kinds_of_device tier = map (λ k. (is_host k, 1)) (memory_kinds tier)

@@ -21,7 +21,7 @@ use Rattle.gpu_d3d12.specs.ResourceAnswer.{ResourceAnswer, AsksResource, resourc
 use Rattle.gpu_d3d12.specs.declared.device_version.ID3D12DeviceVersion.{ID3D12DeviceVersion}
 use Rattle.gpu_d3d12.specs.declared.memory_kind.MemoryKind.{MemoryKind}
 use Rattle.gpu_d3d12.specs.declared.question.ResourceCreateDesc.{ResourceCreateDesc}
-use Rattle.gpu_d3d12.specs.declared.question.ResourceQuestion.{ResourceQuestion}
+use Rattle.gpu_d3d12.specs.declared.question.CreateCall.{CreateCall}
 use Rattle.gpu_pool.specs.Source.{HeldBlock, HeldBlocks}
 use Rattle.gpu_d3d12.specs.Journal.{with_made}
 use Rattle.gpu_d3d12.specs.declared.journal.ResourceEvent.{ResourceEvent}
@@ -128,13 +128,13 @@ module _ {D : Type 0} (g : Ghosts D) where
     pub state : new ≡ with_source_device old (device_of new.device)
 
   -- a heap went back, once
-  pub record GivesHeap (old : SourceState D) (heap : ID3D12Heap) (new : SourceState D) : Type 0 where
+  pub record GivesHeapBack (old : SourceState D) (heap : ID3D12Heap) (new : SourceState D) : Type 0 where
     pub gives : IsWithoutHeap g (device_of old.device) heap.0 (device_of new.device)
     pub beside : source_beside new ≡ source_beside old
     pub state : new ≡ with_source_device old (device_of new.device)
 
   -- the device was asked once for a resource that lies there, by this question; a new one has this entry
-  pub record MakesResource (d : ResourceCreateDesc) (old : SourceState D) (question : ResourceQuestion) (place : ResourcePlace) (entry : Entry) (answer : ResourceAnswer)
+  pub record MakesResource (d : ResourceCreateDesc) (old : SourceState D) (question : CreateCall) (place : ResourcePlace) (entry : Entry) (answer : ResourceAnswer)
       (new : SourceState D) : Type 0 where
     pub asks : AsksResource g (device_of old.device) question d place entry answer (device_of new.device)
     pub beside : source_beside new ≡ with_granted (source_beside old) (resource_number answer) entry

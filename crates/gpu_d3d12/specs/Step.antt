@@ -29,12 +29,12 @@ use Rattle.gpu_d3d12.specs.MemoryKinds.{memory_kinds, IsFirstServing}
 use Rattle.gpu_d3d12.specs.Question.{resource_question, told_info, made_size}
 use Rattle.gpu_d3d12.specs.ResourceAnswer.{ResourceAnswer, IsReasonTold, resource_number, request_asked, placed_texts}
 use Rattle.gpu_d3d12.specs.ResourceAnswer as resource_answers
-use Rattle.gpu_d3d12.specs.Setup.{kinds_told}
+use Rattle.gpu_d3d12.specs.Setup.{kinds_of_device}
 use Rattle.gpu_d3d12.specs.declared.category.ResourceCategory.{ResourceCategory}
 use Rattle.gpu_d3d12.specs.declared.describe.AllocationCreateDesc.{AllocationCreateDesc}
 use Rattle.gpu_d3d12.specs.declared.memory_kind.MemoryKind.{MemoryKind}
 use Rattle.gpu_d3d12.specs.declared.question.ResourceCreateDesc.{ResourceCreateDesc}
-use Rattle.gpu_d3d12.specs.declared.question.ResourceQuestion.{ResourceQuestion}
+use Rattle.gpu_d3d12.specs.declared.question.CreateCall.{CreateCall}
 use Rattle.gpu_d3d12.specs.declared.question.ResourceType.{ResourceType}
 use Rattle.gpu_d3d12.specs.declared.question.ResourceType.TheVariants as kinds_of_resources
 use Rattle.gpu_pool.specs.Allocate as environments
@@ -46,13 +46,13 @@ use Rattle.gpu_pool.specs.State.{IsSoundAt}
 use Rattle.gpu_pool.specs.Step as calls
 use Rattle.gpu_d3d12.specs.Allocate.{is_valid, request_in}
 use Rattle.gpu_d3d12.specs.Blocks.{kind_at, is_same_heap}
-use Rattle.gpu_d3d12.specs.Committed.{Commits, IsAfterResource, records_at, statistics_at, number_or_refusal, GivesRecord, place_of, freed}
-use Rattle.gpu_pool.specs.Allocation.{IsGiven, piece_of}
+use Rattle.gpu_d3d12.specs.Committed.{Commits, IsAfterResource, records_at, statistics_at, number_or_refusal, ReleasesRecord, place_of, freed}
+use Rattle.gpu_pool.specs.Allocation.{IsAllocated, piece_of}
 use Rattle.gpu_d3d12.specs.Live.{Allocation}
 use Rattle.gpu_d3d12.specs.Reply.{Reply, Pool, Made, error, made_reply}
 use Rattle.gpu_d3d12.specs.Reply as module_replies
 use Rattle.gpu_d3d12.specs.Resource.{piece_desc, record_of, IsMade}
-use Rattle.gpu_d3d12.specs.Source.{SourceState, GivesHeap, heap_result}
+use Rattle.gpu_d3d12.specs.Source.{SourceState, GivesHeapBack, heap_result}
 use Rattle.gpu_d3d12.specs.State.{State, Basis, Contents, Seen, Model, pool_of, basis_of, model_of}
 use Rattle.gpu_d3d12.specs.declared.committed_record.CommittedRecord.{CommittedRecord}
 use Rattle.gpu_d3d12.specs.declared.resource.Resource.{Resource}
@@ -90,7 +90,7 @@ abbrev pub info_of : Basis → ResourceCreateDesc → ResourceAllocationInfo
 info_of basis d = told_info basis.properties basis.interface d.resource_desc.now d.castable_formats.now
 
 -- the size that the device keeps of the resource
-abbrev pub size_made : Basis → ResourceQuestion → ResourceCreateDesc → ℕ
+abbrev pub size_made : Basis → CreateCall → ResourceCreateDesc → ℕ
 size_made basis question d = made_size basis.properties question d.resource_desc.now d.castable_formats.now
 
 -- an allocation's reply: its piece of a memory type, or why there is none
@@ -100,12 +100,12 @@ allocated_reply (Err refusal) = replies.Error refusal
 
 -- asks, gives_back, makes and releases are the source's: a question for a heap, a heap that goes back, a question for a resource, one that is released
 module _ {S : Type 0} (asks : S → ℕ → ℕ → Unit {0} → Result ID3D12Heap Refusal → S → Type 0) (gives_back : S → ID3D12Heap → S → Type 0)
-    (makes : ResourceCreateDesc → S → ResourceQuestion → ResourcePlace → Entry → ResourceAnswer → S → Type 0) (releases : S → ℕ → S → Type 0) (basis : Basis) where
+    (makes : ResourceCreateDesc → S → CreateCall → ResourcePlace → Entry → ResourceAnswer → S → Type 0) (releases : S → ℕ → S → Type 0) (basis : Basis) where
   -- ---- calls of the pool
 
   -- a call of the pool, over this source
   abbrev pub IsPoolCall : calls.Call ID3D12Heap (Unit {0}) → environments.Environment ID3D12Heap → replies.Reply ID3D12Heap → (old new : pools.State S ID3D12Heap) → Type 0
-  IsPoolCall call met reply old new = calls.Step (kinds_told basis.tier) asks gives_back is_same_heap old call met reply new
+  IsPoolCall call met reply old new = calls.Step (kinds_of_device basis.tier) asks gives_back is_same_heap old call met reply new
 
   -- the first memory type that serves the location and the category is asked, where the description is valid
   abbrev pub AllocatesBy : AllocationCreateDesc → (valid : Bool) → environments.Environment ID3D12Heap → replies.Reply ID3D12Heap → (old new : pools.State S ID3D12Heap) → Type 0
@@ -116,7 +116,7 @@ module _ {S : Type 0} (asks : S → ℕ → ℕ → Unit {0} → Result ID3D12He
   -- ---- a resource
 
   -- a committed resource, with these heap properties and flags, of which the first memory type that serves it keeps a record
-  pub record Commit (d : ResourceCreateDesc) (question : ResourceQuestion) (own : HeapProperties × HeapFlags) (met : Environment) (reply : Reply) (old new : Contents S) : Type 0 where
+  pub record Commit (d : ResourceCreateDesc) (question : CreateCall) (own : HeapProperties × HeapFlags) (met : Environment) (reply : Reply) (old new : Contents S) : Type 0 where
     pub memory_type : ℕ
     pub first : IsFirstServing d.memory_location d.resource_category (memory_kinds basis.tier) memory_type
     pub host : Bool
@@ -135,34 +135,34 @@ module _ {S : Type 0} (asks : S → ℕ → ℕ → Unit {0} → Result ID3D12He
   EndsBy t p (Err refusal) old new = Frees gives_back is_same_heap t p old (Ok tt) new
 
   -- the device is asked for the resource in this piece
-  pub record AsksInPiece (d : ResourceCreateDesc) (question : ResourceQuestion) (t : ℕ) (p : Piece ID3D12Heap) (answer : ResourceAnswer) (reply : Reply) (old new : pools.State S ID3D12Heap) : Type 0 where
-    pub sound : (t : ℕ) → IsSoundAt (kinds_told basis.tier) old.slots t
+  pub record AsksInPiece (d : ResourceCreateDesc) (question : CreateCall) (t : ℕ) (p : Piece ID3D12Heap) (answer : ResourceAnswer) (reply : Reply) (old new : pools.State S ID3D12Heap) : Type 0 where
+    pub sound : (t : ℕ) → IsSoundAt (kinds_of_device basis.tier) old.slots t
     pub between : S
     pub asked : makes d old.source question (InHeap p.block p.offset) (entries.Placed p.block.0 p.offset (size_made basis question d)) answer between
     pub reply_is : reply ≡ made_reply t (Some p) (info_of basis d).size_in_bytes (number_or_refusal placed_texts answer)
     pub ends : EndsBy t p (number_or_refusal placed_texts answer) (record old { source = between }) new
 
   -- what follows the allocation of a placed resource's piece: the device is asked where there is one
-  abbrev pub PlacesThen : ResourceCreateDesc → ResourceQuestion → (allocated : Result (ℕ × Piece ID3D12Heap) Refusal) → Option ResourceAnswer → Reply → (old new : pools.State S ID3D12Heap) → Type 0
+  abbrev pub PlacesThen : ResourceCreateDesc → CreateCall → (allocated : Result (ℕ × Piece ID3D12Heap) Refusal) → Option ResourceAnswer → Reply → (old new : pools.State S ID3D12Heap) → Type 0
   PlacesThen d question (Ok p) (Some answer) reply old new = AsksInPiece d question p.0 p.1 answer reply old new
   PlacesThen d question (Ok p) None reply old new = ⊥
   PlacesThen d question (Err refusal) (Some answer) reply old new = ⊥
   PlacesThen d question (Err refusal) None reply old new = (reply ≡ error refusal) × (new ≡ old)
 
   -- a placed resource: a piece is allocated as for any call, and the device asked for the resource there
-  pub record Place (d : ResourceCreateDesc) (question : ResourceQuestion) (met : Environment) (reply : Reply) (old new : pools.State S ID3D12Heap) : Type 0 where
+  pub record Place (d : ResourceCreateDesc) (question : CreateCall) (met : Environment) (reply : Reply) (old new : pools.State S ID3D12Heap) : Type 0 where
     pub allocated : Result (ℕ × Piece ID3D12Heap) Refusal
     pub mid : pools.State S ID3D12Heap
     pub allocates : AllocatesBy (piece_desc d (info_of basis d)) (is_valid (piece_desc d (info_of basis d))) met.pool (allocated_reply allocated) old mid
     pub places : PlacesThen d question allocated met.resource reply mid new
 
   -- a resource by this question, as its memory is
-  abbrev pub MakesBy : ResourceCreateDesc → ResourceQuestion → ResourceType → Environment → Reply → (old new : Contents S) → Type 0
+  abbrev pub MakesBy : ResourceCreateDesc → CreateCall → ResourceType → Environment → Reply → (old new : Contents S) → Type 0
   MakesBy d question (kinds_of_resources.Committed properties flags) met reply old new = Commit d question (properties.now, flags) met reply old new
   MakesBy d question kinds_of_resources.Placed met reply old new = Place d question met reply old.pool new.pool × (new.committed ≡ old.committed)
 
   -- first it is seen by which question the resource is made, or why it isn't; then its memory decides
-  abbrev pub CreatesBy : ResourceCreateDesc → Result ResourceQuestion Refusal → Environment → Reply → (old new : Contents S) → Type 0
+  abbrev pub CreatesBy : ResourceCreateDesc → Result CreateCall Refusal → Environment → Reply → (old new : Contents S) → Type 0
   CreatesBy d (Err refusal) met reply old new = (met ≡ nothing_met) × (reply ≡ error refusal) × (new ≡ old)
   CreatesBy d (Ok question) met reply old new = MakesBy d question d.resource_type.now met reply old new
 
@@ -177,7 +177,7 @@ module _ {S : Type 0} (asks : S → ℕ → ℕ → Unit {0} → Result ID3D12He
   -- a committed one: where its record is live the record goes, and it is released
   abbrev pub FreesCommitted : (t : ℕ) → CommittedRecord → Contents S → Result (Unit {0}) Refusal → Contents S → Type 0
   FreesCommitted t r old (Ok u) new =
-      GivesRecord t r old.committed new.committed × releases old.pool.source r.resource.0 new.pool.source × (new.pool ≡ record old.pool { source = new.pool.source })
+      ReleasesRecord t r old.committed new.committed × releases old.pool.source r.resource.0 new.pool.source × (new.pool ≡ record old.pool { source = new.pool.source })
   FreesCommitted t r old (Err e) new = (place_of (records_at old.committed t) r ≡ None) × (e ≡ freed) × (new ≡ old)
 
   -- a resource, as it is placed or committed
@@ -202,7 +202,7 @@ module _ {S : Type 0} (asks : S → ℕ → ℕ → Unit {0} → Result ID3D12He
   StepOver (SetBudget t budget) met reply old new = OfPool (IsPoolCall (calls.SetBudget t budget)) met reply old new
   StepOver (Budget t) met reply old new = OfPool (IsPoolCall (calls.Budget t)) met reply old new
   StepOver (CreateResource d) met reply old new = CreatesBy d (resource_question basis.interface d.initial_state_or_layout d.castable_formats.now) met reply old new
-  StepOver (FreeResource r) met reply old new = (met ≡ nothing_met) × (answer : Result (Unit {0}) Refusal) × (reply ≡ Pool (replies.done_as answer)) × FreesResource r.allocation r old answer new
+  StepOver (FreeResource r) met reply old new = (met ≡ nothing_met) × (answer : Result (Unit {0}) Refusal) × (reply ≡ Pool (replies.reply_of_done answer)) × FreesResource r.allocation r old answer new
   StepOver (Statistics t) met reply old new = (met ≡ nothing_met) × (reply ≡ module_replies.Statistics (statistics_at old.committed t)) × (new ≡ old)
 
 -- ---- what is seen of a device
@@ -216,11 +216,11 @@ pub record SeesQuestion (tier : ResourceHeapTier) (old : Seen) (t size : ℕ) (e
   pub state : new ≡ record old { history = AskedHeap (heap_desc kind size) (told_answer heap_answer) ∷ old.history }
 
 -- a heap goes back, once
-abbrev pub SeesGiven : Seen → ID3D12Heap → Seen → Type 0
-SeesGiven old heap new = new ≡ record old { history = ReleasedHeap heap ∷ old.history }
+abbrev pub SeesHeapFreed : Seen → ID3D12Heap → Seen → Type 0
+SeesHeapFreed old heap new = new ≡ record old { history = ReleasedHeap heap ∷ old.history }
 
 -- the device was asked once for a resource that lies there, by this question; a new one has this entry
-abbrev pub SeesMade : ResourceCreateDesc → Seen → ResourceQuestion → ResourcePlace → Entry → ResourceAnswer → Seen → Type 0
+abbrev pub SeesMade : ResourceCreateDesc → Seen → CreateCall → ResourcePlace → Entry → ResourceAnswer → Seen → Type 0
 SeesMade d old question place entry answer new = new ≡ record {
   beside = with_granted old.beside (resource_number answer) entry;
   history = AskedResource (request_asked question d place) (resource_answers.told_answer answer) ∷ old.history;
@@ -232,7 +232,7 @@ SeesReleased old number new = new ≡ record old { beside = without_resource old
 
 -- a step of the model
 abbrev pub Step : Basis → Call → Environment → Reply → (old new : Model) → Type 0
-Step basis call met reply old new = StepOver (SeesQuestion basis.tier) SeesGiven SeesMade SeesReleased basis call met reply old new
+Step basis call met reply old new = StepOver (SeesQuestion basis.tier) SeesHeapFreed SeesMade SeesReleased basis call met reply old new
 
 -- ---- over a device
 
@@ -244,7 +244,7 @@ pub record IsStep {D : Type 0} (g : Ghosts D) (call : Call) (reply : Reply) (old
 
 -- what an allocation's caller gets is what the model replies
 abbrev pub Replies : AllocationCreateDesc → Result Allocation AllocationError → replies.Reply ID3D12Heap → Type 0
-Replies d (Ok a) (replies.Allocated t p) = IsGiven t d.name.now p a
+Replies d (Ok a) (replies.Allocated t p) = IsAllocated t d.name.now p a
 Replies d (Err e) (replies.Error r) = refusal_of e ≡ r
 Replies d _ _ = ⊥
 
@@ -276,7 +276,7 @@ pub record TellsReason {D : Type 0} (g : Ghosts D) (asked : Option ResourceAnswe
   pub answered : SourceState D
   pub told : IsReasonMet g asked (device_of answered.device)
   pub went : Option ID3D12Heap
-  pub gives_back : GivesBackAny (GivesHeap g) answered went new
+  pub gives_back : GivesBackAny (GivesHeapBack g) answered went new
 
 -- asking for a resource is a step of the model, and its caller gets what the model replies
 pub record IsCreateStep {D : Type 0} (g : Ghosts D) (d : ResourceCreateDesc) (result : Result Resource AllocationError) (old new : State D) : Type 0 where
@@ -291,14 +291,14 @@ freed_as (Ok _) = Pool replies.Done
 freed_as (Err e) = error (refusal_of e.0)
 
 -- the reply to a call that is done or refused
-abbrev pub done_as : Result (Unit {0}) AllocationError → Reply
-done_as (Ok _) = Pool replies.Done
-done_as (Err e) = error (refusal_of e)
+abbrev pub reply_of_done : Result (Unit {0}) AllocationError → Reply
+reply_of_done (Ok _) = Pool replies.Done
+reply_of_done (Err e) = error (refusal_of e)
 
 -- the reply to a call for a report
-abbrev pub shown_as : Result AllocatorReport AllocationError → Reply
-shown_as (Ok r) = Pool (replies.Report (report_of r))
-shown_as (Err e) = error (refusal_of e)
+abbrev pub reply_of_report : Result AllocatorReport AllocationError → Reply
+reply_of_report (Ok r) = Pool (replies.Report (report_of r))
+reply_of_report (Err e) = error (refusal_of e)
 
 -- the reply to a call for the texts of what leaks
 abbrev pub leaked_as : Result (Vec (String Global) Global) AllocationError → Reply

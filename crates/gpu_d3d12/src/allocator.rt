@@ -10,7 +10,7 @@ ghost use Rattle.gpu_memory_types.specs.Budgets.{budget_at, budgets};
 ghost use Rattle.gpu_memory_types.specs.Types.{slots_of, kinds};
 ghost use Rattle.gpu_d3d12.specs.DeviceVersion.{device_of, with_device};
 ghost use Rattle.gpu_d3d12.specs.MemoryKinds.{memory_kinds};
-ghost use Rattle.gpu_d3d12.specs.Setup.{kinds_told, setup_fault};
+ghost use Rattle.gpu_d3d12.specs.Setup.{kinds_of_device, setup_fault};
 ghost use Rattle.gpu_pool.specs.Told.{Reports, SetsBudgetAt, TextsLeaks};
 ghost use Rattle.gpu_pool.specs.Reply as replies;
 ghost use Rattle.gpu_pool.specs.Handles.{all_handles};
@@ -25,17 +25,17 @@ ghost use Rattle.gpu_d3d12.specs.Live.{Allocation, IsLive};
 ghost use Rattle.gpu_d3d12.specs.Reply as module_replies;
 ghost use Rattle.gpu_d3d12.specs.Resource.{number_given, BeginsAligned, IsBeside, IsLivePlaced, IsNewIn, LiesInHeap};
 ghost use Rattle.gpu_d3d12.specs.State.{basis_of, beside_of, pool_of};
-ghost use Rattle.gpu_d3d12.specs.Step.{Free, Rename, Capacity, Report, Leaks, FreeResource, Statistics, SetBudget, Budget, info_of, IsStep, IsAllocateStep, IsCreateStep, freed_as, done_as, shown_as, leaked_as};
+ghost use Rattle.gpu_d3d12.specs.Step.{Free, Rename, Capacity, Report, Leaks, FreeResource, Statistics, SetBudget, Budget, info_of, IsStep, IsAllocateStep, IsCreateStep, freed_as, reply_of_done, reply_of_report, leaked_as};
 ghost use Rattle.gpu_d3d12.specs.declared.resource.Resource.{Resource};
 
-use crate::allocating::allocate_piece;
-use crate::freeing::free_resource;
+use crate::allocate::allocate_piece;
+use crate::free_resource::free_resource;
 use crate::logging::{log_allocate, log_free, log_last_leaks, log_leaks};
-use crate::making::{make_committed, make_placed};
+use crate::create_resource::{make_committed, make_placed};
 use crate::source::D3D12Blocks;
 use crate::{
     Allocation, AllocationCreateDesc, AllocatorCreateDesc, CommittedAllocationStatistics,
-    CommittedResources, ID3D12DeviceVersion, OwnMemory, Resource, ResourceCreateDesc, ResourceType,
+    CommittedResources, ID3D12DeviceVersion, CommittedMemory, Resource, ResourceCreateDesc, ResourceType,
     parts_of, question_for,
 };
 use gpu_device::d3d12::{D3D12Device, ID3D12Heap};
@@ -56,14 +56,14 @@ pub struct Allocator<D: D3D12Device> {
 
 impl<D: D3D12Device> Model for Allocator<D> {
     ghost use Rattle.std.specs.Prelude.{◌≡◌, length};
-    ghost use Rattle.gpu_d3d12.specs.Setup.{kinds_told};
+    ghost use Rattle.gpu_d3d12.specs.Setup.{kinds_of_device};
     ghost use Rattle.gpu_d3d12.specs.State.{State, state_of};
 
     ghost Value = { State D };
 
     ghost view = { λ a. state_of a.pool a.committed a.debug };
 
-    ghost invariant = { λ a. length a.committed ≡ length (kinds_told a.pool.source.tier) };
+    ghost invariant = { λ a. length a.committed ≡ length (kinds_of_device a.pool.source.tier) };
 }
 
 impl<D: D3D12Device> Allocator<D> {
@@ -143,7 +143,7 @@ impl<D: D3D12Device> Allocator<D> {
     pub fn memory_types(&self) -> &MemoryTypes<ID3D12Heap>
         ensures slots { slots_of result.now ≡ self.now.slots }
         ensures budgets { budgets result.now ≡ self.now.budgets }
-        ensures kinds { kinds result.now ≡ kinds_told self.now.setup.tier }
+        ensures kinds { kinds result.now ≡ kinds_of_device self.now.setup.tier }
     {
         self.pool.memory_types()
     }
@@ -165,7 +165,7 @@ impl<D: D3D12Device> Allocator<D> {
     /// byte. All blocks are sound, and each memory type has a list of committed resources. It does nothing.
     pub fn allocations_are_apart(&self)
         ensures sound { BlocksWellFormed 1 self.now.slots }
-        ensures lists { length self.now.committed ≡ length (kinds_told self.now.setup.tier) }
+        ensures lists { length self.now.committed ≡ length (kinds_of_device self.now.setup.tier) }
         ensures inside { (a : Allocation) → IsLive self.now.slots a → IsInside self.now.slots a }
         ensures apart { (a b : Allocation) → IsLive self.now.slots a → IsLive self.now.slots b → AreDistinct a b → SharesNoByte a b }
     {
@@ -216,7 +216,7 @@ impl<D: D3D12Device> Allocator<D> {
     pub fn set_budget(&mut self, memory_type: usize, budget: Option<u64>) -> Result<()>
         ensures budgets { SetsBudgetAt self.old.slots memory_type budget self.old.budgets result self.new.budgets }
         ensures others { self.new ≡ record self.old { budgets = self.new.budgets } }
-        ensures step { IsStep D.D3D12Device (SetBudget memory_type budget) (done_as result) self.old self.new }
+        ensures step { IsStep D.D3D12Device (SetBudget memory_type budget) (reply_of_done result) self.old self.new }
     {
         self.pool.set_budget(memory_type, budget)
     }
@@ -268,7 +268,7 @@ impl<D: D3D12Device> Allocator<D> {
                 heap_properties,
                 heap_flags,
             } => {
-                let own = OwnMemory {
+                let own = CommittedMemory {
                     heap_properties,
                     heap_flags: *heap_flags,
                 };
@@ -280,7 +280,7 @@ impl<D: D3D12Device> Allocator<D> {
         }
     }
 
-    /// Gives a resource back, and then its piece, with the block as by `free`, or the memory of its own. One whose piece or
+    /// IsResultOf a resource back, and then its piece, with the block as by `free`, or the memory of its own. One whose piece or
     /// record is live is never refused; any other comes back as it was, beside `Internal`, and then nothing changes. It takes
     /// no memory.
     pub fn free_resource<L: Log>(
@@ -310,11 +310,11 @@ impl<D: D3D12Device> Allocator<D> {
         self.committed.statistics(memory_type)
     }
 
-    /// Gives an allocation another name, and with it the record that reports and leaks show. `Internal` where the
+    /// IsResultOf an allocation another name, and with it the record that reports and leaks show. `Internal` where the
     /// allocation isn't live, else `HostOutOfMemory` where the host refused memory; then both names are as they were.
     pub fn rename_allocation(&mut self, allocation: &mut Allocation, name: &str) -> Result<()>
         ensures renames { RenamesNamed is_same_heap allocation.old name.now (pool_of self.old) result allocation.new (pool_of self.new) }
-        ensures step { IsStep D.D3D12Device (Rename allocation.old name.now) (done_as result) self.old self.new }
+        ensures step { IsStep D.D3D12Device (Rename allocation.old name.now) (reply_of_done result) self.old self.new }
         ensures live { StayLive is_same_heap self.old.slots self.new.slots }
         ensures constant { (self.new.device ≡ self.old.device) × (self.new.first ≡ self.old.first) × (self.new.setup ≡ self.old.setup) }
         ensures journal { self.new.journal ≡ self.old.journal }
@@ -325,7 +325,7 @@ impl<D: D3D12Device> Allocator<D> {
     /// What is allocated: the live blocks and pieces by memory type, then by slot, pieces by offset, and the sums of both.
     /// The only refusal is `HostOutOfMemory`.
     pub fn generate_report(&self) -> Result<AllocatorReport>
-        ensures step { IsStep D.D3D12Device Report (shown_as result) self.now self.now }
+        ensures step { IsStep D.D3D12Device Report (reply_of_report result) self.now self.now }
         ensures reports { Reports self.now.slots result }
     {
         self.pool.report(self.alloc)
@@ -345,7 +345,7 @@ impl<D: D3D12Device> Allocator<D> {
         log_leaks(log, level, self.pool.memory_types());
     }
 
-    /// Gives every block back, and returns the device, which then holds what it held when it was handed in, and the resources
+    /// IsResultOf every block back, and returns the device, which then holds what it held when it was handed in, and the resources
     /// that were made and not given back: give placed ones back before, for their heaps go. What is still live is logged first,
     /// as warnings, where the settings ask for it. It is never refused.
     pub fn destroy<L: Log>(self, log: &L) -> ID3D12DeviceVersion<D>

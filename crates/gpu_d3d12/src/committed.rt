@@ -12,7 +12,7 @@ ghost use Rattle.gpu_d3d12.specs.Journal.{with_made, with_released, number_in};
 ghost use Rattle.gpu_d3d12.specs.Source.{MakesResource, ReleasesResource, source_blocks};
 
 use crate::source::D3D12Blocks;
-use crate::{CommittedAllocationStatistics, CommittedRecord, ResourceCreateDesc, ResourceQuestion};
+use crate::{CommittedAllocationStatistics, CommittedRecord, ResourceCreateDesc, CreateCall};
 use gpu_device::d3d12::{D3D12Device, HeapFlags, HeapProperties, ID3D12Resource};
 use gpu_values::{AllocationError, Result, internal_fault};
 use std::alloc::{AllocError, Global};
@@ -23,7 +23,7 @@ const FREED: &str = "Resource was already freed.";
 
 /// The memory of its own that a committed resource is asked for with.
 #[derive(Clone, Copy)]
-pub struct OwnMemory<'a> {
+pub struct CommittedMemory<'a> {
     /// Where it lies.
     pub heap_properties: &'a HeapProperties,
     /// What it is for.
@@ -47,8 +47,8 @@ fn total_size(records: &[CommittedRecord]) -> u64
 fn commit<D: D3D12Device>(
     records: &mut Vec<CommittedRecord>,
     source: &mut D3D12Blocks<D>,
-    question: ResourceQuestion,
-    own: OwnMemory,
+    question: CreateCall,
+    own: CommittedMemory,
     desc: &ResourceCreateDesc,
     size: u64,
 ) -> Result<ID3D12Resource>
@@ -135,7 +135,7 @@ impl Model for CommittedResources {
 }
 
 impl CommittedResources {
-    ghost use Rattle.gpu_d3d12.specs.Committed.{SumsFit, records_at, statistics_at, GivesRecord};
+    ghost use Rattle.gpu_d3d12.specs.Committed.{SumsFit, records_at, statistics_at, ReleasesRecord};
 
     /// None as yet, of this many memory types.
     pub fn new(alloc: Global, count: usize) -> Result<Self, AllocError>
@@ -165,8 +165,8 @@ impl CommittedResources {
         &mut self,
         source: &mut D3D12Blocks<D>,
         index: usize,
-        question: ResourceQuestion,
-        own: OwnMemory,
+        question: CreateCall,
+        own: CommittedMemory,
         desc: &ResourceCreateDesc,
         size: u64,
     ) -> Result<ID3D12Resource>
@@ -191,7 +191,7 @@ impl CommittedResources {
         index: usize,
         made: CommittedRecord,
     ) -> Result<()>
-        ensures gives { OnOk result (GivesRecord index made self.old self.new × ReleasesResource D.D3D12Device source.old made.resource.0 source.new) }
+        ensures gives { OnOk result (ReleasesRecord index made self.old self.new × ReleasesResource D.D3D12Device source.old made.resource.0 source.new) }
         ensures dead { OnErr result (place_of (records_at self.old index) made ≡ None) }
         ensures cause { IfErr result (λ e. refusal_of e ≡ freed) }
         ensures refused { OnErr result ((self.new ≡ self.old) × (source.new ≡ source.old)) }

@@ -3,7 +3,7 @@
 ghost use Rattle.std.specs.Prelude.{◌≡◌};
 ghost use Rattle.gpu_values.specs.Refusal.{refusal_of};
 ghost use Rattle.gpu_d3d12.specs.Heaps.{heap_properties, is_host, heap_desc};
-ghost use Rattle.gpu_d3d12.specs.HeapAnswer.{HeapAnswer, AsksHeap, Gives, IsWithoutHeap, code_refusal};
+ghost use Rattle.gpu_d3d12.specs.HeapAnswer.{HeapAnswer, AsksHeap, IsResultOf, IsWithoutHeap, code_refusal};
 
 use crate::MemoryKind;
 use gpu_device::d3d12::{
@@ -98,7 +98,7 @@ fn refusal_of_heap(code: i32) -> AllocationError
 /// Asks for the heap of a block. `OutOfMemory` where the device has no memory for it, `Internal` where it refuses for
 /// another cause or gives null.
 pub fn create_block_heap<D: D3D12Device>(device: &mut D, desc: &HeapDesc) -> Result<ID3D12Heap>
-    ensures { (answer : HeapAnswer) × AsksHeap D.D3D12Device device.old desc.now answer device.new × Gives result answer }
+    ensures { (answer : HeapAnswer) × AsksHeap D.D3D12Device device.old desc.now answer device.new × IsResultOf result answer }
 {
     match device.create_heap(desc) {
         Err(code) => Err(refusal_of_heap(code)),
@@ -107,7 +107,7 @@ pub fn create_block_heap<D: D3D12Device>(device: &mut D, desc: &HeapDesc) -> Res
     }
 }
 
-/// Gives the heap of a block back. Never refused.
+/// IsResultOf the heap of a block back. Never refused.
 pub fn release_block_heap<D: D3D12Device>(device: &mut D, heap: ID3D12Heap)
     ensures { IsWithoutHeap D.D3D12Device device.old heap.0 device.new }
 {

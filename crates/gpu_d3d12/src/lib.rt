@@ -1,19 +1,19 @@
 //! The DirectX 12 allocator: pieces of heaps for buffers and textures, and resources placed in them or committed.
 #![tactic(auto)]
 
-mod allocating;
+mod allocate;
 mod allocator;
 mod category;
 mod committed;
 mod committed_record;
 mod describe;
 mod device_version;
-mod freeing;
+mod free_resource;
 mod heap;
 mod journal;
 pub mod laws;
 mod logging;
-mod making;
+mod create_resource;
 mod memory_kind;
 mod question;
 mod resource;
@@ -23,7 +23,7 @@ mod source;
 
 pub use allocator::Allocator;
 pub use category::ResourceCategory;
-use committed::{CommittedResources, OwnMemory};
+use committed::{CommittedResources, CommittedMemory};
 use committed_record::CommittedRecord;
 use describe::request_of;
 pub use describe::{AllocationCreateDesc, AllocatorCreateDesc};
@@ -33,7 +33,7 @@ use heap::{create_block_heap, heap_desc, release_block_heap};
 pub use memory_kind::type_for;
 use memory_kind::{MemoryKind, kind_at, type_count};
 pub use question::{
-    CommittedAllocationStatistics, ResourceCreateDesc, ResourceQuestion,
+    CommittedAllocationStatistics, ResourceCreateDesc, CreateCall,
     ResourceStateOrBarrierLayout, ResourceType, allocation_info_of, question_for,
 };
 pub use resource::Resource;

@@ -65,7 +65,7 @@ pub struct CommittedAllocationStatistics {
 
 /// By which question a resource is made.
 #[derive(Clone, Copy, Debug, PartialEq, Eq)]
-pub enum ResourceQuestion {
+pub enum CreateCall {
     /// In a state (`CreateCommittedResource`, `CreatePlacedResource`).
     InState(u32),
     /// In a layout, at a device that takes no list of formats (`CreateCommittedResource3`, `CreatePlacedResource2`).
@@ -80,7 +80,7 @@ pub enum ResourceQuestion {
 pub fn question_for<D>(
     version: &ID3D12DeviceVersion<D>,
     desc: &ResourceCreateDesc,
-) -> Result<ResourceQuestion>
+) -> Result<CreateCall>
     ensures { MatchResult result
         (λ question. resource_question version.now desc.now.initial_state_or_layout desc.now.castable_formats.now ≡ Ok question)
         (λ e. resource_question version.now desc.now.initial_state_or_layout desc.now.castable_formats.now ≡ Err (refusal_of e)) }
@@ -91,14 +91,14 @@ pub fn question_for<D>(
             return Err(AllocationError::CastableFormatsRequiresEnhancedBarriers);
         }
         ResourceStateOrBarrierLayout::ResourceState(state) => {
-            return Ok(ResourceQuestion::InState(state));
+            return Ok(CreateCall::InState(state));
         }
         ResourceStateOrBarrierLayout::BarrierLayout(layout) => layout,
     };
     match version {
-        ID3D12DeviceVersion::Device12(_) => Ok(ResourceQuestion::InLayoutWithFormats(layout)),
+        ID3D12DeviceVersion::Device12(_) => Ok(CreateCall::InLayoutWithFormats(layout)),
         _ if has_formats => Err(AllocationError::CastableFormatsRequiresAtLeastDevice12),
-        ID3D12DeviceVersion::Device10(_) => Ok(ResourceQuestion::InLayout(layout)),
+        ID3D12DeviceVersion::Device10(_) => Ok(CreateCall::InLayout(layout)),
         ID3D12DeviceVersion::Device(_) => Err(AllocationError::BarrierLayoutNeedsDevice10),
     }
 }

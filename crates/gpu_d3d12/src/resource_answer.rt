@@ -8,7 +8,7 @@ ghost use Rattle.gpu_d3d12.specs.Question.{made_size};
 ghost use Rattle.gpu_d3d12.specs.ResourceAnswer.{ResourceAnswer, AsksResource, Makes, answer_of, code_refusal, texts_of, committed_texts, placed_texts};
 
 use crate::question::desc1_of;
-use crate::{ResourceCreateDesc, ResourceQuestion};
+use crate::{ResourceCreateDesc, CreateCall};
 use gpu_device::d3d12::{D3D12Device, HeapFlags, HeapProperties, ID3D12Heap, ID3D12Resource};
 use gpu_values::{AllocationError, Fault, Result, internal_fault};
 
@@ -84,7 +84,7 @@ fn made<D: D3D12Device>(
 /// where it was removed, or where it gives null.
 pub fn create_committed<D: D3D12Device>(
     device: &mut D,
-    question: ResourceQuestion,
+    question: CreateCall,
     desc: &ResourceCreateDesc,
     heap_properties: &HeapProperties,
     heap_flags: HeapFlags,
@@ -96,14 +96,14 @@ pub fn create_committed<D: D3D12Device>(
 {
     let clear = desc.clear_value;
     let answer = match question {
-        ResourceQuestion::InState(state) => device.create_committed_resource(
+        CreateCall::InState(state) => device.create_committed_resource(
             heap_properties,
             heap_flags,
             desc.resource_desc,
             state,
             clear,
         ),
-        ResourceQuestion::InLayout(layout) => {
+        CreateCall::InLayout(layout) => {
             let desc1 = desc1_of(desc.resource_desc);
             device.create_committed_resource3(
                 heap_properties,
@@ -114,7 +114,7 @@ pub fn create_committed<D: D3D12Device>(
                 None,
             )
         }
-        ResourceQuestion::InLayoutWithFormats(layout) => {
+        CreateCall::InLayoutWithFormats(layout) => {
             let desc1 = desc1_of(desc.resource_desc);
             let formats = Some(desc.castable_formats);
             device.create_committed_resource3(
@@ -134,7 +134,7 @@ pub fn create_committed<D: D3D12Device>(
 /// reason where it was removed, or where it gives null.
 pub fn create_placed<D: D3D12Device>(
     device: &mut D,
-    question: ResourceQuestion,
+    question: CreateCall,
     desc: &ResourceCreateDesc,
     heap: ID3D12Heap,
     offset: u64,
@@ -146,14 +146,14 @@ pub fn create_placed<D: D3D12Device>(
 {
     let clear = desc.clear_value;
     let answer = match question {
-        ResourceQuestion::InState(state) => {
+        CreateCall::InState(state) => {
             device.create_placed_resource(heap, offset, desc.resource_desc, state, clear)
         }
-        ResourceQuestion::InLayout(layout) => {
+        CreateCall::InLayout(layout) => {
             let desc1 = desc1_of(desc.resource_desc);
             device.create_placed_resource2(heap, offset, &desc1, layout, clear, None)
         }
-        ResourceQuestion::InLayoutWithFormats(layout) => {
+        CreateCall::InLayoutWithFormats(layout) => {
             let desc1 = desc1_of(desc.resource_desc);
             let formats = Some(desc.castable_formats);
             device.create_placed_resource2(heap, offset, &desc1, layout, clear, formats)

@@ -5,7 +5,7 @@ ghost use Rattle.std.specs.Option.{unwrap_or};
 ghost use Rattle.gpu_values.specs.Refusal.{refusal_of, host_out_of_memory};
 ghost use Rattle.gpu_memory_types.specs.Budgets.{budgets};
 ghost use Rattle.gpu_memory_types.specs.Types.{slots_of, kinds, MemoryTypesInvariant};
-ghost use Rattle.gpu_d3d12.specs.Setup.{tier_refusal, setup_fault, kinds_told};
+ghost use Rattle.gpu_d3d12.specs.Setup.{tier_refusal, setup_fault, kinds_of_device};
 
 use crate::heap::is_host;
 use crate::memory_kind::{kind_at, type_count};
@@ -35,7 +35,7 @@ pub fn empty_types(
     alloc: Global,
     tier: ResourceHeapTier,
 ) -> Result<Vec<MemoryType<ID3D12Heap>>, AllocError>
-    ensures kinds { IfOk result (λ v. kinds v.items ≡ kinds_told tier) }
+    ensures kinds { IfOk result (λ v. kinds v.items ≡ kinds_of_device tier) }
     ensures empty { IfOk result (λ v. All (λ slots. slots ≡ []) (slots_of v.items)) }
     ensures unbounded { IfOk result (λ v. All (λ b. b ≡ None) (budgets v.items)) }
 {
@@ -54,7 +54,7 @@ pub fn parts_of<D: D3D12Device>(
     device: &D,
 ) -> Result<(ResourceHeapTier, MemoryTypes<ID3D12Heap>)>
     ensures tier { IfOk result (λ parts. (D.properties device.now).tier ≡ Ok parts.0) }
-    ensures kinds { IfOk result (λ parts. kinds parts.1 ≡ kinds_told parts.0) }
+    ensures kinds { IfOk result (λ parts. kinds parts.1 ≡ kinds_of_device parts.0) }
     ensures empty { IfOk result (λ parts. All (λ slots. slots ≡ []) (slots_of parts.1)) }
     ensures unbounded { IfOk result (λ parts. All (λ b. b ≡ None) (budgets parts.1)) }
     ensures kept { IfOk result (λ parts. MemoryTypesInvariant parts.1) }

@@ -7,12 +7,12 @@ ghost use Rattle.gpu_device.specs.declared.d3d12.event.ResourcePlace.TheVariants
 ghost use Rattle.gpu_d3d12.specs.DeviceVersion.{device_of, with_device};
 ghost use Rattle.gpu_d3d12.specs.Question.{made_size};
 ghost use Rattle.gpu_d3d12.specs.ResourceAnswer.{ResourceAnswer, Makes, committed_texts, placed_texts};
-ghost use Rattle.gpu_d3d12.specs.Setup.{kinds_told};
-ghost use Rattle.gpu_d3d12.specs.Source.{AsksBlock, GivesHeap, MakesResource, ReleasesResource, held_by, source_blocks, source_beside, HoldsFirst, one_number};
+ghost use Rattle.gpu_d3d12.specs.Setup.{kinds_of_device};
+ghost use Rattle.gpu_d3d12.specs.Source.{AsksBlock, GivesHeapBack, MakesResource, ReleasesResource, held_by, source_blocks, source_beside, HoldsFirst, one_number};
 
 use crate::journal::{Journal, ResourceEvent};
 use crate::{
-    ID3D12DeviceVersion, OwnMemory, ResourceCreateDesc, ResourceQuestion, create_block_heap,
+    ID3D12DeviceVersion, CommittedMemory, ResourceCreateDesc, CreateCall, create_block_heap,
     create_committed, create_placed, heap_desc, kind_at, release_block_heap,
 };
 use gpu_device::d3d12::{D3D12Device, ID3D12Heap, ID3D12Resource, ResourceHeapTier};
@@ -53,13 +53,13 @@ impl<D: D3D12Device> BlockSource for D3D12Blocks<D> {
 
     ghost number = { λ heap. heap.0 };
 
-    ghost kinds = { λ s. kinds_told s.tier };
+    ghost kinds = { λ s. kinds_of_device s.tier };
 
     ghost held = { source_blocks D.D3D12Device };
 
     ghost asks = { AsksBlock D.D3D12Device };
 
-    ghost gives_back = { GivesHeap D.D3D12Device };
+    ghost gives_back = { GivesHeapBack D.D3D12Device };
 
     fn ask(&mut self, memory_type: usize, size: u64, _extra: ()) -> Result<ID3D12Heap> {
         let question = heap_desc(kind_at(self.tier, memory_type), size);
@@ -110,8 +110,8 @@ impl<D: D3D12Device> D3D12Blocks<D> {
     /// where it was removed, or where it gives null.
     pub fn create_committed(
         &mut self,
-        question: ResourceQuestion,
-        own: OwnMemory,
+        question: CreateCall,
+        own: CommittedMemory,
         desc: &ResourceCreateDesc,
     ) -> Result<ID3D12Resource>
         ensures makes { (answer : ResourceAnswer)
@@ -132,7 +132,7 @@ impl<D: D3D12Device> D3D12Blocks<D> {
     /// reason where it was removed, or where it gives null.
     pub fn create_placed(
         &mut self,
-        question: ResourceQuestion,
+        question: CreateCall,
         desc: &ResourceCreateDesc,
         heap: ID3D12Heap,
         offset: u64,

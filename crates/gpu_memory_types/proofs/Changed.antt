@@ -8,8 +8,8 @@ use Rattle.gpu_values.specs.Sizes.{Sizes}
 use Rattle.gpu_values.specs.declared.error.AllocationError.{AllocationError}
 use Rattle.gpu_values.specs.declared.error.AllocationError.TheVariants as errors
 use Rattle.gpu_core.specs.TypeState.{TypeState, Slot, slot_at, capacity_of}
-use Rattle.gpu_core.specs.TypeRelease.{has_several, ReleasesPiece, RenamesPiece, IsLive, IsNameRefusal}
-use Rattle.gpu_core.specs.TypeTake.{Ready, Installs, asked, NeedsBlock}
+use Rattle.gpu_core.specs.TypeRelease.{has_others, ReleasesPiece, RenamesPiece, IsLive, IsNameRefusal}
+use Rattle.gpu_core.specs.TypeTake.{Pending, Installs, asked, NeedsBlock}
 use Rattle.gpu_core.specs.TypePrepare.{IsPrepared}
 use Rattle.gpu_core.specs.declared.piece.Piece.{Piece}
 use Rattle.gpu_core.specs.declared.memory_type.Prepared.{Prepared}
@@ -56,11 +56,11 @@ module _ {H : Type 0} (types : Types H) (i : ℕ) (old new : TypeState H) (at : 
   here = slots_are types i old at
 
   pub released : (p : Piece H) (r : Result (Option H) AllocationError)
-      → IfOk r (λ went. ReleasesPiece (IsTrue (has_several old.slots)) old.slots p went new.slots)
+      → IfOk r (λ went. ReleasesPiece (IsTrue (has_others old.slots)) old.slots p went new.slots)
       → IfOk r (λ went. ReleasesAt i p (slots_of types) went (slots_of (slice_set types i new)))
   released p (Ok went) h = record {
     left = new.slots;
-    releases = subst (λ (ss : List (Option (Slot H))). ReleasesPiece (IsTrue (has_several ss)) ss p went new.slots) here h;
+    releases = subst (λ (ss : List (Option (Slot H))). ReleasesPiece (IsTrue (has_others ss)) ss p went new.slots) here h;
     slots = slots_set types i new;
   }
   released p (Err e) h = tt
@@ -75,7 +75,7 @@ module _ {H : Type 0} (types : Types H) (i : ℕ) (old new : TypeState H) (at : 
   }
   renamed eq p name (Err e) live h = tt
 
-  pub installed : (is_dedicated : Bool) (ready : Ready) (number : H) (p : Piece H) → Installs old.slots is_dedicated ready number p new.slots
+  pub installed : (is_dedicated : Bool) (ready : Pending) (number : H) (p : Piece H) → Installs old.slots is_dedicated ready number p new.slots
       → InstallsAt i (slots_of types) is_dedicated ready number p (slots_of (slice_set types i new))
   installed is_dedicated ready number p h = record {
     left = new.slots;

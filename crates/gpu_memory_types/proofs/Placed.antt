@@ -3,11 +3,11 @@ use Rattle.std.proofs.Common.{◌≡◌, ◌≢◌, ◌∙◌, ◌⊎◌, refl, 
 use Rattle.std.proofs.Common.{⊎_elim}
 use Rattle.std.specs.Option.{unwrap_or}
 use Rattle.std.proofs.lemmas.Bool.{cases_eq}
-use Rattle.gpu_block_pieces.proofs.Keyed.{lt_true, lt_false}
+use Rattle.gpu_block_pieces.proofs.OrderedLists.{lt_true, lt_false}
 use Rattle.gpu_core.specs.Slots.{IsEmptyAt}
 use Rattle.gpu_block_pieces.specs.Request.{Request}
 use Rattle.gpu_core.specs.TypeState.{Slot, slot_at, lowest_empty, highest_empty}
-use Rattle.gpu_core.specs.TypeTake.{Ready, PreparesPiece, Installs, with_block, new_slot}
+use Rattle.gpu_core.specs.TypeTake.{Pending, PreparesPiece, Installs, with_block, new_slot}
 use Rattle.gpu_core.specs.declared.piece.Piece.{Piece}
 use Rattle.gpu_core.proofs.EmptySlots.{lowest_found, highest_empty_found}
 use Rattle.gpu_core.proofs.Slotted.{OnlyAt, set_only}
@@ -48,7 +48,7 @@ empty_slot true old i e = lowest_found old i e
 empty_slot false old i e = highest_empty_found old i e
 
 -- a new block stands in a slot that had none
-pub installs_only : {H : Type 0} (old : List (Option (Slot H))) (own : Bool) (ready : Ready) (number : H) (p : Piece H) (new : List (Option (Slot H)))
+pub installs_only : {H : Type 0} (old : List (Option (Slot H))) (own : Bool) (ready : Pending) (number : H) (p : Piece H) (new : List (Option (Slot H)))
     → Installs old own ready number p new
     → (slot_at old p.slot ≡ None) × OnlyAt old p.slot (Some (record { number = number; block = ready.block })) new
 installs_only {H} old own ready number p new h =

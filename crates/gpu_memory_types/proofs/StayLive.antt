@@ -2,13 +2,13 @@
 use Rattle.std.proofs.Common.{◌≡◌, ◌≢◌, ◌∙◌, ℕ, ◌<◌, refl, sym, ap, subst, Bool, true, List, length, slice_set, Option, Some, None, Contains, IfSome, arith, ⊎_elim}
 use Rattle.std.specs.Option.{option_to_list}
 use Rattle.std.specs.Int.NonZero.{non_zero_u64_get}
-use Rattle.gpu_block.specs.Block.{Block, free_list, dedicated, is_general, TakesIn, ReleasesIn, HoldsPiece, IsSoundBlock}
+use Rattle.gpu_block.specs.Block.{Block, free_list, dedicated, is_shared, TakesIn, ReleasesIn, HoldsPiece, IsSoundBlock}
 use Rattle.gpu_block_pieces.specs.FreeList.{Extent}
 use Rattle.gpu_block_pieces.specs.Request.{Request}
 use Rattle.gpu_core.specs.Slots.{SlotIsSound, AreSound}
 use Rattle.gpu_core.specs.TypeRelease.{SlotHolds, SlotReleases, ReleasesPiece}
 use Rattle.gpu_core.specs.TypeState.{Slot, slot_at}
-use Rattle.gpu_core.specs.TypeTake.{Ready, fresh_block, PreparesPiece, Installs}
+use Rattle.gpu_core.specs.TypeTake.{Pending, fresh_block, PreparesPiece, Installs}
 use Rattle.gpu_core.specs.declared.piece.Piece.{Piece}
 use Rattle.gpu_core.proofs.EmptyBlocks.{takes_holds, holds_some}
 use Rattle.gpu_core.proofs.Found.{only_one}
@@ -20,13 +20,13 @@ use Rattle.gpu_memory_types.proofs.Placed.{OnlyBlock, only_block, installs_only,
 
 -- ---- one block
 
-taken_keeps : (old : Block) (r : Request) (o n : ℕ) (new : Block) → is_general old ≡ true → TakesIn old r o n new → (k off size : ℕ) → HoldsPiece old k off size → HoldsPiece new k off size
+taken_keeps : (old : Block) (r : Request) (o n : ℕ) (new : Block) → is_shared old ≡ true → TakesIn old r o n new → (k off size : ℕ) → HoldsPiece old k off size → HoldsPiece new k off size
 taken_keeps (free_list old) r o n (free_list new) shared t k off size h = (h.0, takes_keeps old r o n new t h.0 h.1, h.2, h.3, h.4)
 taken_keeps (free_list old) r o n (dedicated new) shared t k off size h = absurd t
 taken_keeps (dedicated old) r o n new shared t k off size h = cc
 
 -- the number of a piece that is taken is no other live piece's
-taken_number : (old : Block) (r : Request) (o n : ℕ) (new : Block) → is_general old ≡ true → IsSoundBlock old → IsSoundBlock new → TakesIn old r o n new
+taken_number : (old : Block) (r : Request) (o n : ℕ) (new : Block) → is_shared old ≡ true → IsSoundBlock old → IsSoundBlock new → TakesIn old r o n new
     → (k off size : ℕ) → HoldsPiece old k off size → k ≡ n → ⊥
 taken_number (free_list old) r o n (free_list new) shared before after t k off size h e = takes_new_number old r o n new before after t (h.0, h.1, h.2 ∙ e)
 taken_number (free_list old) r o n (dedicated new) shared before after t k off size h e = t
@@ -95,7 +95,7 @@ module _ {H : Type 0} (eq : H → H → Bool) (same : (h : H) → eq h h ≡ tru
             (non_zero_u64_get z.number) z.offset z.size (held z here).1 number;
       }
 
-  pub installed_keeps : (own : Bool) (size : ℕ) (ready : Ready) (n : H) (p : Piece H) (x : List (Option (Slot H)))
+  pub installed_keeps : (own : Bool) (size : ℕ) (ready : Pending) (n : H) (p : Piece H) (x : List (Option (Slot H)))
       → TakesIn (fresh_block own size granularity) r ready.offset ready.number ready.block → ready.size ≡ r.size → Installs (slots_at old t) own ready n p x
       → IsNewPiece eq t old (slice_set old t x) p
   installed_keeps own size ready n p x takes sized made =

@@ -4,7 +4,7 @@ use Rattle.std.specs.List.{slice_set}
 use Rattle.gpu_values.specs.Refusal.{Refusal, host_out_of_memory}
 use Rattle.gpu_values.specs.Sizes.{Sizes}
 use Rattle.gpu_core.specs.TypeState.{TypeState, Slot, capacity_of}
-use Rattle.gpu_core.specs.TypeTake.{asked, NeedsBlock, Installs, Ready}
+use Rattle.gpu_core.specs.TypeTake.{asked, NeedsBlock, Installs, Pending}
 use Rattle.gpu_core.specs.TypePrepare.{IsPrepared}
 use Rattle.gpu_core.specs.declared.piece.Piece.{Piece}
 use Rattle.gpu_core.specs.declared.memory_type.Prepared.{Prepared}
@@ -33,7 +33,7 @@ pub record PreparesAt {H : Type 0} (t : ℕ) (old : Types H) (sizes : Sizes) (r 
 pub record NeedsTooMuch {H : Type 0} (t : ℕ) (types : Types H) (sizes : Sizes) (r : type_requests.Request) (refusal : Refusal) : Type 0 where
   pub size : ℕ
   pub is_dedicated : Bool
-  pub ready : Ready
+  pub ready : Pending
   pub needs : NeedsBlock (type_of types t) sizes r.dedicated (asked r) size is_dedicated ready
   pub above : refusal_in_type (total_capacity (slots_of types)) (type_of types t) size ≡ Some refusal
 
@@ -42,7 +42,7 @@ abbrev pub IsPrepareRefusal : {H : Type 0} → (t : ℕ) → Types H → Sizes �
 IsPrepareRefusal t types sizes r refusal = (refusal ≡ host_out_of_memory) ⊎ NeedsTooMuch t types sizes r refusal
 
 -- a new block of the t-th memory type stands in its slot, and the piece is the one taken in it
-pub record InstallsAt {H : Type 0} (t : ℕ) (old : Slots H) (is_dedicated : Bool) (ready : Ready) (number : H) (p : Piece H) (new : Slots H) : Type 0 where
+pub record InstallsAt {H : Type 0} (t : ℕ) (old : Slots H) (is_dedicated : Bool) (ready : Pending) (number : H) (p : Piece H) (new : Slots H) : Type 0 where
   pub left : List (Option (Slot H))
   pub installs : Installs (slots_at old t) is_dedicated ready number p left
   pub slots : new ≡ slice_set old t left

@@ -25,7 +25,7 @@ use Rattle.gpu_pool.specs.Source.{HeldBlock}
 use Rattle.gpu_device.specs.declared.metal.device.MetalDevice.{Ghosts}
 use Rattle.gpu_metal.specs.Residency.{releases_recorded, ChangesHeld}
 use Rattle.gpu_metal.specs.Source.{type_of, heap_type, new_block, blocks_of, HasBlocks, HoldsFirst}
-use Rattle.gpu_metal.specs.Source.{SourceState, GivesHeap, set_of, left}
+use Rattle.gpu_metal.specs.Source.{SourceState, GivesHeapBack, set_of, left}
 use Rattle.gpu_metal.proofs.Changing.{beside_blocks, is_some_none}
 use Rattle.gpu_metal.proofs.Numbers.{number_cases, number_heap}
 use Rattle.gpu_metal.specs.Blocks.{Residency, left_behind, Slots, location_at, heap_number, IsBlockEntry, AreHeapsOfBlocks, HoldsJustLiveBlocks}
@@ -47,7 +47,7 @@ pub record Empties {D : Type 0} (g : Ghosts D) (old : SourceState D) (heaps : Li
   pub changes : ChangesHeld g old.device (g.held new.device) (releases_recorded old.set heaps (g.history old.device)) new.device
   pub committed : committed_in (set_of g new) ≡ committed_in (set_of g old)
 
-pub empties : {D : Type 0} (g : Ghosts D) (old : SourceState D) (heaps : List MTLHeap) (new : SourceState D) → GivesBackAll (GivesHeap g) old heaps new → Empties g old heaps new
+pub empties : {D : Type 0} (g : Ghosts D) (old : SourceState D) (heaps : List MTLHeap) (new : SourceState D) → GivesBackAll (GivesHeapBack g) old heaps new → Empties g old heaps new
 empties {D} g old [] new is =
     let device = ap (λ (s : SourceState D). s.device) is in
     record {

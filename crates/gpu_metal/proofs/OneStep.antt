@@ -21,14 +21,14 @@ use Rattle.gpu_metal.specs.Blocks.{Slots, is_same_heap}
 use Rattle.gpu_pool.specs.Allocation.{piece_of}
 use Rattle.gpu_metal.specs.Source.{heap_in}
 use Rattle.gpu_metal.specs.State.{Model}
-use Rattle.gpu_metal.specs.Step.{Call, Allocate, Free, Commit, SetBudget, Budget, Capacity, LiveHeaps, Report, with_question, SeesQuestion, SeesGiven, PoolStep, AllocateStep, Step, MeetsNoBudget}
+use Rattle.gpu_metal.specs.Step.{Call, Allocate, Free, Commit, SetBudget, Budget, Capacity, LiveHeaps, Report, with_question, SeesQuestion, SeesHeapFreed, PoolStep, AllocateStep, Step, MeetsNoBudget}
 
 question_decides : AskDecides SeesQuestion
 question_decides old a b t size extra answer x y =
     let here = some_same x.location y.location (sym x.at ∙ y.at) in
     x.state ∙ (λ i. with_question old (heap_descriptor (here i)) size (heap_in answer)) ∙ sym y.state
 
-given_decides : GiveBackDecides SeesGiven
+given_decides : GiveBackDecides SeesHeapFreed
 given_decides old a b heap x y = x ∙ sym y
 
 -- all memory types have pages of 1
@@ -49,7 +49,7 @@ well_formed slots sound t = subst (λ n. AreSound n (slots_at slots t)) (sym (pa
 pool_once : (call : pools.Call MTLHeap (Unit {0})) (met : Environment MTLHeap) (x y : Reply MTLHeap) (old new next : Model) → BlocksWellFormed 1 old.slots → PoolStep old call met x new
     → PoolStep old call met y next → (x ≡ y) × (new ≡ next)
 pool_once call met x y old new next sound a b =
-    pool.step_once SeesQuestion SeesGiven is_same_heap question_decides given_decides kinds_of_device call met x y old new next (sound_at old.slots sound) a b
+    pool.step_once SeesQuestion SeesHeapFreed is_same_heap question_decides given_decides kinds_of_device call met x y old new next (sound_at old.slots sound) a b
 
 allocate_once : (d : AllocationCreateDesc) (valid : Bool) (met : Environment MTLHeap) (x y : Reply MTLHeap) (old new next : Model) → BlocksWellFormed 1 old.slots
     → AllocateStep d valid met x old new → AllocateStep d valid met y old next → (x ≡ y) × (new ≡ next)
@@ -74,7 +74,7 @@ step_once Report met x y old new next sound a b = pool_once pools.Report met x y
 
 pool_plain : (call : pools.Call MTLHeap (Unit {0})) (met : Environment MTLHeap) (x : Reply MTLHeap) (old new : Model) → pools.MeetsNoBudget call old.budgets → PoolStep old call met x new
     → PoolStep (without_budgets old) call met x (without_budgets new)
-pool_plain call met x old new none a = plain.step_plain SeesQuestion SeesGiven is_same_heap kinds_of_device call met x old new none a
+pool_plain call met x old new none a = plain.step_plain SeesQuestion SeesHeapFreed is_same_heap kinds_of_device call met x old new none a
 
 allocate_plain : (d : AllocationCreateDesc) (valid : Bool) (met : Environment MTLHeap) (x : Reply MTLHeap) (old new : Model) → ((t : ℕ) → IsFirstServing d.location t → budget_at old.budgets t ≡ None)
     → AllocateStep d valid met x old new → AllocateStep d valid met x (without_budgets old) (without_budgets new)

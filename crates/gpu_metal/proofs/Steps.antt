@@ -27,9 +27,9 @@ use Rattle.gpu_metal.specs.Blocks.{is_same_heap}
 use Rattle.gpu_metal.specs.Free.{freed_of, Frees}
 use Rattle.gpu_pool.specs.Allocation.{piece_of, Returns}
 use Rattle.gpu_metal.specs.Live.{Allocation}
-use Rattle.gpu_metal.specs.Source.{SourceState, AsksBlock, GivesHeap, CommitsSet}
+use Rattle.gpu_metal.specs.Source.{SourceState, AsksBlock, GivesHeapBack, CommitsSet}
 use Rattle.gpu_metal.specs.State.{State, pool_of, seen_of, model_of}
-use Rattle.gpu_metal.specs.Step.{Free, Commit, SetBudget, Budget, Capacity, LiveHeaps, Report, SeesQuestion, SeesGiven, AllocateStep, IsStep, Replies, IsAllocateStep, freed_as, done_as, shown_as}
+use Rattle.gpu_metal.specs.Step.{Free, Commit, SetBudget, Budget, Capacity, LiveHeaps, Report, SeesQuestion, SeesHeapFreed, AllocateStep, IsStep, Replies, IsAllocateStep, freed_as, reply_of_done, reply_of_report}
 
 module _ {D : Type 0} (g : Ghosts D) where
   sees_question : (old new : SourceState D) (t size : ℕ) (answer : Result MTLHeap Refusal) → AsksBlock g old t size tt answer new → SeesQuestion (seen_of g old) t size tt answer (seen_of g new)
@@ -40,8 +40,8 @@ module _ {D : Type 0} (g : Ghosts D) where
     state = λ i. record { set = ap (λ (s : SourceState D). s.set) a.state i; residency = a.residency i; history = a.asks.history i };
   }
 
-  sees_given : (old new : SourceState D) (heap : MTLHeap) → GivesHeap g old heap new → SeesGiven (seen_of g old) heap (seen_of g new)
-  sees_given old new heap a = λ i. record { set = ap (λ (s : SourceState D). s.set) a.state i; residency = a.residency i; history = a.gives.history_is i }
+  sees_heap_freed : (old new : SourceState D) (heap : MTLHeap) → GivesHeapBack g old heap new → SeesHeapFreed (seen_of g old) heap (seen_of g new)
+  sees_heap_freed old new heap a = λ i. record { set = ap (λ (s : SourceState D). s.set) a.state i; residency = a.residency i; history = a.gives.history_is i }
 
   -- ---- an allocation
 
@@ -91,7 +91,7 @@ module _ {D : Type 0} (g : Ghosts D) where
 
   -- ---- a free
 
-  freed_reply : (result : Result (Unit {0}) (AllocationError × Allocation)) → freed_as result ≡ replies.done_as (freed_of result)
+  freed_reply : (result : Result (Unit {0}) (AllocationError × Allocation)) → freed_as result ≡ replies.reply_of_done (freed_of result)
   freed_reply (Ok u) = refl
   freed_reply (Err e) = refl
 
@@ -102,8 +102,8 @@ module _ {D : Type 0} (g : Ghosts D) where
       refl,
       freed_of result,
       freed_reply result,
-      frees_over (GivesHeap g) SeesGiven (seen_of g) is_same_heap a.memory_type_index (piece_of a) (pool_of old) (pool_of new)
-          (λ heap k. sees_given (pool_of old).source (pool_of new).source heap k) (freed_of result) f.frees,
+      frees_over (GivesHeapBack g) SeesHeapFreed (seen_of g) is_same_heap a.memory_type_index (piece_of a) (pool_of old) (pool_of new)
+          (λ heap k. sees_heap_freed (pool_of old).source (pool_of new).source heap k) (freed_of result) f.frees,
     ),
   )
 
@@ -129,7 +129,7 @@ module _ {D : Type 0} (g : Ghosts D) where
 
   -- ---- budgets
 
-  done_reply : (result : Result (Unit {0}) AllocationError) → done_as result ≡ replies.done_as (result_of result)
+  done_reply : (result : Result (Unit {0}) AllocationError) → reply_of_done result ≡ replies.reply_of_done (result_of result)
   done_reply (Ok u) = refl
   done_reply (Err e) = refl
 
@@ -138,7 +138,7 @@ module _ {D : Type 0} (g : Ghosts D) where
   same_refusal (Err e) = refl
 
   pub set_step : (t : ℕ) (budget : Option ℕ) (old new : State D) (result : Result (Unit {0}) AllocationError) → SetsBudget t budget old.budgets (refusal_in result) new.budgets
-      → new ≡ record old { budgets = new.budgets } → IsStep g (SetBudget t budget) (done_as result) old new
+      → new ≡ record old { budgets = new.budgets } → IsStep g (SetBudget t budget) (reply_of_done result) old new
   set_step t budget old new result sets same = (
     NothingMet,
     (
@@ -161,6 +161,6 @@ module _ {D : Type 0} (g : Ghosts D) where
   heaps_step s heaps is = (NothingMet, (refl, ap replies.Handles is, refl))
 
   pub report_step : (s : State D) (result : Result AllocatorReport AllocationError) → IfOk result (λ r. report_of r ≡ whole_report s.slots) → IfErr result (λ e. e ≡ HostOutOfMemory)
-      → IsStep g Report (shown_as result) s s
+      → IsStep g Report (reply_of_report result) s s
   report_step s (Ok r) shown refused = (NothingMet, (Ok (report_of r), refl, shown, refl))
   report_step s (Err e) shown refused = (NoHostMemory, (Err (refusal_of e), refl, ap refusal_of refused, refl))

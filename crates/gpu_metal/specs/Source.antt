@@ -131,7 +131,7 @@ module _ {D : Type 0} (g : Ghosts D) where
     pub state : new ≡ record old { device = new.device }
 
   -- the heap left the set and went back, once
-  pub record GivesHeap (old : SourceState D) (heap : MTLHeap) (new : SourceState D) : Type 0 where
+  pub record GivesHeapBack (old : SourceState D) (heap : MTLHeap) (new : SourceState D) : Type 0 where
     pub gives : ChangesHeld g old.device (without_heap (with_left (g.held old.device) old.set heap) heap.0)
         (release_recorded old.set heap (g.history old.device)) new.device
     pub residency : set_of new ≡ left (set_of old) heap

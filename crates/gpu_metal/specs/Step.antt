@@ -20,7 +20,7 @@ use Rattle.gpu_pool.specs.Reply.{Reply, Allocated, Error, Done}
 use Rattle.gpu_pool.specs.Step as pools
 use Rattle.gpu_metal.specs.Allocate.{is_valid, request_in}
 use Rattle.gpu_metal.specs.Blocks.{is_same_heap}
-use Rattle.gpu_pool.specs.Allocation.{IsGiven, piece_of}
+use Rattle.gpu_pool.specs.Allocation.{IsAllocated, piece_of}
 use Rattle.gpu_metal.specs.Live.{Allocation}
 use Rattle.gpu_metal.specs.Source.{joined, left, committed, heap_in, IsHeapAnswer}
 use Rattle.gpu_metal.specs.State.{State, Seen, Model, model_of}
@@ -50,14 +50,14 @@ pub record SeesQuestion (old : Seen) (t size : ℕ) (extra : Unit {0}) (answer :
   pub state : new ≡ with_question old (heap_descriptor location) size (heap_in answer)
 
 -- a heap that goes back, once, is no member of the set
-abbrev pub SeesGiven : Seen → MTLHeap → Seen → Type 0
-SeesGiven old heap new = new ≡ record old { residency = left old.residency heap; history = release_recorded old.set heap old.history }
+abbrev pub SeesHeapFreed : Seen → MTLHeap → Seen → Type 0
+SeesHeapFreed old heap new = new ≡ record old { residency = left old.residency heap; history = release_recorded old.set heap old.history }
 
 -- ---- the steps
 
 -- a call of the pool, over what is seen of its device
 abbrev pub PoolStep : Model → pools.Call MTLHeap (Unit {0}) → Environment MTLHeap → Reply MTLHeap → Model → Type 0
-PoolStep old call met reply new = pools.Step kinds_of_device SeesQuestion SeesGiven is_same_heap old call met reply new
+PoolStep old call met reply new = pools.Step kinds_of_device SeesQuestion SeesHeapFreed is_same_heap old call met reply new
 
 -- the first memory type that serves the location is asked, where the description is valid
 abbrev pub AllocateStep : AllocationCreateDesc → (valid : Bool) → Environment MTLHeap → Reply MTLHeap → Model → Model → Type 0
@@ -91,7 +91,7 @@ IsStep g call reply old new = (met : Environment MTLHeap) × Step call met reply
 
 -- what an allocation's caller gets is what the model replies
 abbrev pub Replies : AllocationCreateDesc → Result Allocation AllocationError → Reply MTLHeap → Type 0
-Replies d (Ok a) (Allocated t p) = IsGiven t d.name.now p a
+Replies d (Ok a) (Allocated t p) = IsAllocated t d.name.now p a
 Replies d (Err e) (Error r) = refusal_of e ≡ r
 Replies d _ _ = ⊥
 
@@ -107,14 +107,14 @@ freed_as (Ok _) = Done
 freed_as (Err e) = Error (refusal_of e.0)
 
 -- the reply to a call that is done or refused
-abbrev pub done_as : Result (Unit {0}) AllocationError → Reply MTLHeap
-done_as (Ok _) = Done
-done_as (Err e) = Error (refusal_of e)
+abbrev pub reply_of_done : Result (Unit {0}) AllocationError → Reply MTLHeap
+reply_of_done (Ok _) = Done
+reply_of_done (Err e) = Error (refusal_of e)
 
 -- the reply to a call for a report
-abbrev pub shown_as : Result AllocatorReport AllocationError → Reply MTLHeap
-shown_as (Ok r) = replies.Report (report_of r)
-shown_as (Err e) = Error (refusal_of e)
+abbrev pub reply_of_report : Result AllocatorReport AllocationError → Reply MTLHeap
+reply_of_report (Ok r) = replies.Report (report_of r)
+reply_of_report (Err e) = Error (refusal_of e)
 
 -- ---- calls that meet no budget
 

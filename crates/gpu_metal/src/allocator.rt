@@ -19,7 +19,7 @@ ghost use Rattle.gpu_metal.specs.Blocks.{is_same_heap, residency_of, left_behind
 ghost use Rattle.gpu_metal.specs.Free.{Frees};
 ghost use Rattle.gpu_pool.specs.Allocation.{AreDistinct, IsNewlyLive, StayLive};
 ghost use Rattle.gpu_metal.specs.Live.{Allocation, IsLive};
-ghost use Rattle.gpu_metal.specs.Step.{IsStep, IsAllocateStep, Free, Commit, SetBudget, Budget, Capacity, LiveHeaps, Report, freed_as, done_as, shown_as};
+ghost use Rattle.gpu_metal.specs.Step.{IsStep, IsAllocateStep, Free, Commit, SetBudget, Budget, Capacity, LiveHeaps, Report, freed_as, reply_of_done, reply_of_report};
 
 use crate::logging::{log_allocate, log_free};
 use crate::source::MetalBlocks;
@@ -168,7 +168,7 @@ impl<D: MetalDevice> Allocator<D> {
     pub fn set_budget(&mut self, memory_type: usize, budget: Option<u64>) -> Result<()>
         ensures budgets { SetsBudgetAt self.old.slots memory_type budget self.old.budgets result self.new.budgets }
         ensures others { self.new ≡ record self.old { budgets = self.new.budgets } }
-        ensures step { IsStep D.MetalDevice (SetBudget memory_type budget) (done_as result) self.old self.new }
+        ensures step { IsStep D.MetalDevice (SetBudget memory_type budget) (reply_of_done result) self.old self.new }
     {
         self.pool.set_budget(memory_type, budget)
     }
@@ -192,7 +192,7 @@ impl<D: MetalDevice> Allocator<D> {
     /// What is allocated: the live blocks and pieces by memory type, then by slot, pieces by offset, and the sums of both.
     /// The only refusal is `HostOutOfMemory`.
     pub fn generate_report(&self) -> Result<AllocatorReport>
-        ensures step { IsStep D.MetalDevice Report (shown_as result) self.now self.now }
+        ensures step { IsStep D.MetalDevice Report (reply_of_report result) self.now self.now }
         ensures reports { Reports self.now.slots result }
     {
         self.pool.report(self.alloc)

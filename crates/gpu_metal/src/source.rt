@@ -5,7 +5,7 @@ ghost use Rattle.gpu_values.specs.Refusal.{refusal_of};
 ghost use Rattle.gpu_metal.specs.Residency.{MakesSet, AnswersSet, set_refusal};
 ghost use Rattle.gpu_metal.specs.Setup.{kinds_of_device};
 ghost use Rattle.gpu_metal.specs.Blocks.{residency_of, left_behind};
-ghost use Rattle.gpu_metal.specs.Source.{AsksBlock, GivesHeap, CommitsSet, blocks_of, HoldsFirst, one_number};
+ghost use Rattle.gpu_metal.specs.Source.{AsksBlock, GivesHeapBack, CommitsSet, blocks_of, HoldsFirst, one_number};
 
 use crate::{commit_set, create_block_heap, create_residency_set, location_at, release_block_heap};
 use gpu_device::metal::{MTLHeap, MTLResidencySet, MetalDevice};
@@ -46,7 +46,7 @@ impl<D: MetalDevice> BlockSource for MetalBlocks<D> {
 
     ghost asks = { AsksBlock D.MetalDevice };
 
-    ghost gives_back = { GivesHeap D.MetalDevice };
+    ghost gives_back = { GivesHeapBack D.MetalDevice };
 
     fn ask(&mut self, memory_type: usize, size: u64, _extra: ()) -> Result<MTLHeap> {
         create_block_heap(&mut self.device, self.set, location_at(memory_type), size)

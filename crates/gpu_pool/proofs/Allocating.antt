@@ -3,7 +3,7 @@ use Rattle.std.proofs.Common.{◌≡◌, ◌∙◌, refl, sym, ap, subst, ⊎_el
 use Rattle.gpu_values.specs.Refusal.{Refusal}
 use Rattle.gpu_values.specs.Sizes.{Sizes}
 use Rattle.gpu_core.specs.TypeState.{TypeState, capacity_of}
-use Rattle.gpu_core.specs.TypeTake.{asked, Ready, NeedsBlock, PreparesPiece, Installs, has_own_block}
+use Rattle.gpu_core.specs.TypeTake.{asked, Pending, NeedsBlock, PreparesPiece, Installs, has_dedicated_block}
 use Rattle.gpu_core.specs.declared.piece.Piece.{Piece}
 use Rattle.gpu_core.specs.declared.piece.Request.{Request}
 use Rattle.gpu_core.specs.declared.memory_type.Prepared.TheVariants as prepared
@@ -55,7 +55,7 @@ module _ {S H X : Type 0} (g : Ghosts S H X) (sizes : Sizes) (t : ℕ) (r : Requ
       let kind = kind_is types t ∙ ap (λ ks. kind_at ks t) same in
       λ i. record { is_host = (kind i).0; granularity = (kind i).1; slots = slots_are i; room = 0; budget = budget_is types t i }
 
-  needs_here : (size : ℕ) (own : Bool) (pending : Ready) → NeedsBlock here sizes r.dedicated (asked r) size own pending → NeedsBlock (type_asked ks (AsksOf g) q old) sizes r.dedicated (asked r) size own pending
+  needs_here : (size : ℕ) (own : Bool) (pending : Pending) → NeedsBlock here sizes r.dedicated (asked r) size own pending → NeedsBlock (type_asked ks (AsksOf g) q old) sizes r.dedicated (asked r) size own pending
   needs_here size own pending h =
       let roomless : NeedsBlock (record here { room = 0 }) sizes r.dedicated (asked r) size own pending =
       record { kind = h.kind; size_is = h.size_is; none = h.none; takes = h.takes; piece = h.piece; begins = h.begins } in
@@ -89,7 +89,7 @@ module _ {S H X : Type 0} (g : Ghosts S H X) (sizes : Sizes) (t : ℕ) (r : Requ
       let ss = h.slots in (
         NothingMet,
         record {
-          shared = ap (λ (k : TypeState H). has_own_block k sizes r.dedicated r.size) (sym type_is) ∙ h.prepares.0;
+          shared = ap (λ (k : TypeState H). has_dedicated_block k sizes r.dedicated r.size) (sym type_is) ∙ h.prepares.0;
           left = after;
           takes = subst (λ ss. PreparesPiece ss (asked r) p after) slots_are h.prepares.1;
           state = λ i. record { source = source; sizes = sizes; slots = ss i; budgets = bs i };

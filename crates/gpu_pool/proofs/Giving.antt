@@ -3,11 +3,11 @@ use Rattle.std.proofs.Common.{◌∙◌, sym, ap, subst, Bool}
 use Rattle.std.specs.Int.NonZero.{non_zero_u64_get}
 use Rattle.gpu_core.specs.declared.piece.Piece.{Piece}
 use Rattle.gpu_memory_types.specs.Blocks.{Slots}
-use Rattle.gpu_pool.specs.Allocation.{piece_of, IsGiven, IsNewlyLive}
+use Rattle.gpu_pool.specs.Allocation.{piece_of, IsAllocated, IsNewlyLive}
 use Rattle.gpu_pool.specs.Live as live
 use Rattle.gpu_pool.specs.declared.allocation.Allocation.{Allocation}
 
-pub given_live : {H : Type 0} (eq : H → H → Bool) (old new : Slots H) (t : _) (name : _) (p : Piece H) (a : Allocation H) → IsGiven t name p a → live.IsNewlyLive eq old new t p → IsNewlyLive eq old new a
+pub given_live : {H : Type 0} (eq : H → H → Bool) (old new : Slots H) (t : _) (name : _) (p : Piece H) (a : Allocation H) → IsAllocated t name p a → live.IsNewlyLive eq old new t p → IsNewlyLive eq old new a
 given_live {H} eq old new t name p a is h = (
   subst (λ u. live.IsLive eq new u (piece_of a)) (sym is.memory_type) (subst (λ (q : Piece H). live.IsLive eq new t q) (sym is.piece) h.0),
   λ b was types slots numbers.

@@ -1,7 +1,7 @@
 -- The model isn't loose: a state, a call and what it met with decide the reply and the next state.
 use Rattle.std.proofs.Common.{◌≡◌, ◌∙◌, refl, sym, ap, subst, ℕ, Bool, List, slice_set, Option, Some, None, Ok, Err, Result, IsTrue, arith}
 use Rattle.gpu_values.specs.Refusal.{Refusal}
-use Rattle.gpu_core.specs.TypeRelease.{has_several}
+use Rattle.gpu_core.specs.TypeRelease.{has_others}
 use Rattle.gpu_core.specs.TypeState.{TypeState, slot_at, capacity_of}
 use Rattle.gpu_core.specs.TypeTake.{Installs}
 use Rattle.gpu_core.specs.declared.piece.Piece.{Piece}
@@ -12,7 +12,7 @@ use Rattle.gpu_memory_types.proofs.Options.{some_same}
 use Rattle.gpu_pool.specs.Allocate.{RequestAt, Environment, NothingMet, NoHostMemory, Answered, type_asked, with_slots, NeedsNewBlock, Serves}
 use Rattle.gpu_pool.specs.Free.{GivesBackAny, Frees}
 use Rattle.gpu_pool.specs.Rename.{RenamesBy}
-use Rattle.gpu_pool.specs.Reply.{Reply, allocated_as, done_as, reported_as, leaked_as}
+use Rattle.gpu_pool.specs.Reply.{Reply, allocated_as, reply_of_done, reported_as, leaked_as}
 use Rattle.gpu_pool.specs.State.{State, kind_at, IsSoundAt}
 use Rattle.gpu_pool.specs.Step.{Call, Allocate, Free, Rename, SetBudget, Budget, Capacity, Handles, Report, LeakTexts, refusal_in, Makes, SetsBudgetOf, Step, AskDecides, GiveBackDecides}
 
@@ -79,7 +79,7 @@ module _ {S H : Type 0} (kinds : List (Bool × ℕ)) (gives_back : S → H → S
   frees_once (Ok u) (Ok v) new next a b =
       let r = a.1.slots in
       let s = b.1.slots in
-      let once = released_once (kind_at kinds t).1 (IsTrue (has_several (slots_at old.slots t))) (slots_at old.slots t) p a.1.went b.1.went r.left s.left sound r.releases s.releases in
+      let once = released_once (kind_at kinds t).1 (IsTrue (has_others (slots_at old.slots t))) (slots_at old.slots t) p a.1.went b.1.went r.left s.left sound r.releases s.releases in
       let here : GivesBackAny gives_back old.source b.1.went new.source = subst (λ w. GivesBackAny gives_back old.source w new.source) once.0 a.1.source in (
         refl,
         alike new next (back_once b.1.went new.source next.source here b.1.source)
@@ -147,13 +147,13 @@ step_once asks gives_back eq ask back kinds (Allocate q) met x y old new next so
     (a.1 ∙ ap (allocated_as q.memory_type) once.0 ∙ sym b.1, once.1)
 step_once asks gives_back eq ask back kinds (Free t p) met x y old new next sound a b =
     let once = frees_once kinds gives_back back eq t p old (sound t) a.1 b.1 new next a.3 b.3 in
-    (a.2 ∙ ap done_as once.0 ∙ sym b.2, once.1)
+    (a.2 ∙ ap reply_of_done once.0 ∙ sym b.2, once.1)
 step_once asks gives_back eq ask back kinds (Rename t p name) met x y old new next sound a b =
     let once = renames_once kinds eq t p name old (sound t) met a.0 b.0 new next a.2 b.2 in
-    (a.1 ∙ ap done_as once.0 ∙ sym b.1, once.1)
+    (a.1 ∙ ap reply_of_done once.0 ∙ sym b.1, once.1)
 step_once asks gives_back eq ask back kinds (SetBudget t budget) met x y old new next sound a b =
     let once = sets_once t budget old a.1 b.1 new next a.3 b.3 in
-    (a.2 ∙ ap done_as once.0 ∙ sym b.2, once.1)
+    (a.2 ∙ ap reply_of_done once.0 ∙ sym b.2, once.1)
 step_once asks gives_back eq ask back kinds (Budget t) met x y old new next sound a b = (a.1 ∙ sym b.1, a.2 ∙ sym b.2)
 step_once asks gives_back eq ask back kinds Capacity met x y old new next sound a b = (a.1 ∙ sym b.1, a.2 ∙ sym b.2)
 step_once asks gives_back eq ask back kinds Handles met x y old new next sound a b = (a.1 ∙ sym b.1, a.2 ∙ sym b.2)

@@ -2,7 +2,7 @@
 use Rattle.std.proofs.Common.{◌≡◌, ◌∙◌, sym, ap, subst, ℕ, Bool, List, Option, Some, None, Ok, Err, Result}
 use Rattle.gpu_values.specs.Refusal.{Refusal}
 use Rattle.gpu_core.specs.TypeState.{TypeState, capacity_of}
-use Rattle.gpu_core.specs.TypeTake.{has_own_block, NeedsBlock}
+use Rattle.gpu_core.specs.TypeTake.{has_dedicated_block, NeedsBlock}
 use Rattle.gpu_core.specs.declared.piece.Piece.{Piece}
 use Rattle.gpu_memory_types.specs.Blocks.{slots_at, total_capacity}
 use Rattle.gpu_memory_types.specs.Budgets.{budget_at, block_refusal}
@@ -37,7 +37,7 @@ module _ {S H X : Type 0} (kinds : List (Bool × ℕ)) (asks : S → ℕ → ℕ
 
   pub serves_plain : (met : Environment H) (answer : Result (Piece H) Refusal) (new : State S H) → Serves kinds asks q old met answer new → Serves kinds asks q plain met answer (without_budgets new)
   serves_plain NothingMet (Ok p) new a = record {
-    shared = sym (ap (λ (k : TypeState H). has_own_block k old.sizes q.requested_dedicated q.request.size) type_plain) ∙ a.shared;
+    shared = sym (ap (λ (k : TypeState H). has_dedicated_block k old.sizes q.requested_dedicated q.request.size) type_plain) ∙ a.shared;
     left = a.left;
     takes = a.takes;
     state = ap without_budgets a.state;

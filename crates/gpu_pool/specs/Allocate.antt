@@ -4,7 +4,7 @@ use Rattle.std.specs.List.{slice_set}
 use Rattle.gpu_values.specs.Refusal.{Refusal, host_out_of_memory}
 use Rattle.gpu_block_pieces.specs.Request.{Request}
 use Rattle.gpu_core.specs.TypeState.{TypeState, Slot, capacity_of}
-use Rattle.gpu_core.specs.TypeTake.{asked, Ready, has_own_block, PreparesPiece, NeedsBlock, Installs}
+use Rattle.gpu_core.specs.TypeTake.{asked, Pending, has_dedicated_block, PreparesPiece, NeedsBlock, Installs}
 use Rattle.gpu_core.specs.declared.piece.Piece.{Piece}
 use Rattle.gpu_core.specs.declared.piece.Request as type_requests
 use Rattle.gpu_memory_types.specs.Blocks.{slots_at, total_capacity}
@@ -48,7 +48,7 @@ module _ {S H X : Type 0} (kinds : List (Bool × ℕ)) (asks : S → ℕ → ℕ
 
   -- the piece lies in a shared block that has a place for it
   pub record AllocatesShared (old : State S H) (p : Piece H) (new : State S H) : Type 0 where
-    pub shared : has_own_block (type_asked old) old.sizes q.requested_dedicated q.request.size ≡ false
+    pub shared : has_dedicated_block (type_asked old) old.sizes q.requested_dedicated q.request.size ≡ false
     pub left : List (Option (Slot H))
     pub takes : PreparesPiece (slots_at old.slots q.memory_type) q.request p left
     pub state : new ≡ with_slots old left
@@ -56,7 +56,7 @@ module _ {S H X : Type 0} (kinds : List (Bool × ℕ)) (asks : S → ℕ → ℕ
   -- it needs a new block of this size; its limits refuse that (64 bits, then the budget), or don't
   pub record NeedsNewBlock (old : State S H) (size : ℕ) (refusal : Option Refusal) : Type 0 where
     pub is_dedicated : Bool
-    pub pending : Ready
+    pub pending : Pending
     pub needs : NeedsBlock (type_asked old) old.sizes q.requested_dedicated q.request size is_dedicated pending
     pub limits : block_refusal (total_capacity old.slots) (budget_at old.budgets q.memory_type) (capacity_of (slots_at old.slots q.memory_type)) size ≡ refusal
 

@@ -17,7 +17,7 @@ abbrev pub piece_of : {H : Type 0} → Allocation H → Piece H
 piece_of a = record { slot = a.memory_block_index; number = a.number; offset = a.offset; size = a.size; block = a.heap }
 
 -- the allocation that is given for a piece of the t-th memory type
-pub record IsGiven {H : Type 0} (t : ℕ) (name : List ℕ) (p : Piece H) (a : Allocation H) : Type 0 where
+pub record IsAllocated {H : Type 0} (t : ℕ) (name : List ℕ) (p : Piece H) (a : Allocation H) : Type 0 where
   pub piece : piece_of a ≡ p
   pub memory_type : a.memory_type_index ≡ t
   pub has_name : string_bytes a.name ≡ name
@@ -41,7 +41,7 @@ module _ {H : Type 0} (eq : H → H → Bool) where
 
 -- the caller's allocation is the pool's piece, under the name that was asked for
 abbrev pub Returns : {H : Type 0} → (t : ℕ) → (name : List ℕ) → Result (Allocation H) AllocationError → Result (Piece H) Refusal → Type 0
-Returns t name (Ok a) (Ok p) = IsGiven t name p a
+Returns t name (Ok a) (Ok p) = IsAllocated t name p a
 Returns t name (Ok a) (Err r) = ⊥
 Returns t name (Err e) (Ok p) = ⊥
 Returns t name (Err e) (Err r) = refusal_of e ≡ r

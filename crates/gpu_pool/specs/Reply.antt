@@ -23,9 +23,9 @@ allocated_as t (Ok p) = Allocated t p
 allocated_as t (Err e) = Error e
 
 -- the reply of a call that is done, or refused
-abbrev pub done_as : {H : Type 0} → Result (Unit {0}) Refusal → Reply H
-done_as (Ok _) = Done
-done_as (Err e) = Error e
+abbrev pub reply_of_done : {H : Type 0} → Result (Unit {0}) Refusal → Reply H
+reply_of_done (Ok _) = Done
+reply_of_done (Err e) = Error e
 
 -- a report, or why there is none
 abbrev pub reported_as : {H : Type 0} → Result reports.Report Refusal → Reply H

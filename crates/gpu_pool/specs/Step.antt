@@ -13,7 +13,7 @@ use Rattle.gpu_pool.specs.Free.{Frees}
 use Rattle.gpu_pool.specs.Handles.{all_handles}
 use Rattle.gpu_pool.specs.Rename.{RenamesBy}
 use Rattle.gpu_pool.specs.Reply as replies
-use Rattle.gpu_pool.specs.Reply.{Reply, allocated_as, done_as, reported_as, leaked_as}
+use Rattle.gpu_pool.specs.Reply.{Reply, allocated_as, reply_of_done, reported_as, leaked_as}
 use Rattle.gpu_pool.specs.State.{State}
 
 -- a call of a pool
@@ -51,9 +51,9 @@ module _ {S H X : Type 0} (kinds : List (Bool × ℕ)) (asks : S → ℕ → ℕ
   -- from old, the call may return this reply and leave new, where it met with this
   abbrev pub Step : State S H → Call H X → Environment H → Reply H → State S H → Type 0
   Step old (Allocate q) met reply new = (answer : Result (Piece H) Refusal) × (reply ≡ allocated_as q.memory_type answer) × Serves kinds asks q old met answer new
-  Step old (Free t p) met reply new = (met ≡ NothingMet) × (answer : Result (Unit {0}) Refusal) × (reply ≡ done_as answer) × Frees gives_back eq t p old answer new
-  Step old (Rename t p name) met reply new = (answer : Result (Unit {0}) Refusal) × (reply ≡ done_as answer) × RenamesBy eq t p name old met answer new
-  Step old (SetBudget t budget) met reply new = (met ≡ NothingMet) × (answer : Result (Unit {0}) Refusal) × (reply ≡ done_as answer) × SetsBudgetOf t budget old answer new
+  Step old (Free t p) met reply new = (met ≡ NothingMet) × (answer : Result (Unit {0}) Refusal) × (reply ≡ reply_of_done answer) × Frees gives_back eq t p old answer new
+  Step old (Rename t p name) met reply new = (answer : Result (Unit {0}) Refusal) × (reply ≡ reply_of_done answer) × RenamesBy eq t p name old met answer new
+  Step old (SetBudget t budget) met reply new = (met ≡ NothingMet) × (answer : Result (Unit {0}) Refusal) × (reply ≡ reply_of_done answer) × SetsBudgetOf t budget old answer new
   Step old (Budget t) met reply new = (met ≡ NothingMet) × (reply ≡ replies.Budget (budget_at old.budgets t)) × (new ≡ old)
   Step old Capacity met reply new = (met ≡ NothingMet) × (reply ≡ replies.Capacity (total_capacity old.slots)) × (new ≡ old)
   Step old Handles met reply new = (met ≡ NothingMet) × (reply ≡ replies.Handles (all_handles old.slots)) × (new ≡ old)

@@ -1,7 +1,7 @@
 //! A piece of a pool, as its owner holds it.
 
 ghost use Rattle.std.specs.Prelude.{◌≡◌, Some, false, IsSomeAnd, string_bytes};
-ghost use Rattle.gpu_pool.specs.Allocation.{piece_of, IsGiven};
+ghost use Rattle.gpu_pool.specs.Allocation.{piece_of, IsAllocated};
 
 use gpu_core::Piece;
 use std::num::NonZeroU64;
@@ -21,7 +21,7 @@ pub struct Allocation<H> {
 
 /// The allocation of a piece of the memory type at `index`.
 pub(crate) fn allocation_of<H>(index: usize, piece: Piece<H>, name: String) -> Allocation<H>
-    ensures { IsGiven index (string_bytes name) piece result }
+    ensures { IsAllocated index (string_bytes name) piece result }
 {
     Allocation {
         number: piece.number,

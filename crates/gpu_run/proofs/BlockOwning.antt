@@ -13,9 +13,9 @@ use Rattle.std.proofs.lemmas.Bool.Decides.{nat_tests}
 use Rattle.std.proofs.lemmas.Bool.{false≢true}
 use Rattle.gpu_block_pieces.specs.FreeList.{Extent}
 use Rattle.gpu_block_pieces.specs.Request.{Request}
-use Rattle.gpu_block.specs.Block.{Block, free_list, dedicated, extents_of, size_of, is_general, TakesIn, ReleasesIn, IsSoundBlock}
+use Rattle.gpu_block.specs.Block.{Block, free_list, dedicated, extents_of, size_of, is_shared, TakesIn, ReleasesIn, IsSoundBlock}
 use Rattle.gpu_block_pieces.proofs.Live.{takes_keeps, takes_adds, takes_new_number, releases_keeps}
-use Rattle.gpu_run.specs.BlockSession.{State, piece_at, Taking, OwnsPieces}
+use Rattle.gpu_run.specs.BlockSession.{State, piece_at, Allocating, OwnsPieces}
 use Rattle.gpu_run.specs.declared.block.reply.Reply.{Reply}
 use Rattle.gpu_run.specs.declared.block.reply.Reply.TheVariants as replies
 
@@ -79,34 +79,34 @@ set_at false key q m n v now e to is = inr (sym e ∙ is)
 
 -- ---- the pieces of a block that is cut into pieces, after a take and a release
 
-keeps_in : (old : Block) (r : Request) (o n : ℕ) (new : Block) → is_general old ≡ true → TakesIn old r o n new → (x : Extent) → Contains (extents_of old) x → Contains (extents_of new) x
+keeps_in : (old : Block) (r : Request) (o n : ℕ) (new : Block) → is_shared old ≡ true → TakesIn old r o n new → (x : Extent) → Contains (extents_of old) x → Contains (extents_of new) x
 keeps_in (free_list old) r o n (free_list new) is t x h = takes_keeps old r o n new t x h
 keeps_in (free_list old) r o n (dedicated new) is t x h = absurd t
 keeps_in (dedicated old) r o n new is t x h = absurd (false≢true is)
 
-adds_in : (old : Block) (r : Request) (o n : ℕ) (new : Block) → is_general old ≡ true → TakesIn old r o n new → (x : Extent) × Contains (extents_of new) x × (x.number ≡ n)
+adds_in : (old : Block) (r : Request) (o n : ℕ) (new : Block) → is_shared old ≡ true → TakesIn old r o n new → (x : Extent) × Contains (extents_of new) x × (x.number ≡ n)
 adds_in (free_list old) r o n (free_list new) is t = takes_adds old r o n new t
 adds_in (free_list old) r o n (dedicated new) is t = absurd t
 adds_in (dedicated old) r o n new is t = absurd (false≢true is)
 
-new_number_in : (old : Block) (r : Request) (o n : ℕ) (new : Block) → is_general old ≡ true → IsSoundBlock old → IsSoundBlock new → TakesIn old r o n new → (x : Extent) → Contains (extents_of old) x
+new_number_in : (old : Block) (r : Request) (o n : ℕ) (new : Block) → is_shared old ≡ true → IsSoundBlock old → IsSoundBlock new → TakesIn old r o n new → (x : Extent) → Contains (extents_of old) x
     → x.number ≡ n → ⊥
 new_number_in (free_list old) r o n (free_list new) is before after t x h e = takes_new_number old r o n new before after t (x, h, e)
 new_number_in (free_list old) r o n (dedicated new) is before after t x h e = t
 new_number_in (dedicated old) r o n new is before after t x h e = false≢true is
 
-stays_general : (old : Block) (r : Request) (o n : ℕ) (new : Block) → is_general old ≡ true → TakesIn old r o n new → is_general new ≡ true
+stays_general : (old : Block) (r : Request) (o n : ℕ) (new : Block) → is_shared old ≡ true → TakesIn old r o n new → is_shared new ≡ true
 stays_general (free_list old) r o n (free_list new) is t = refl
 stays_general (free_list old) r o n (dedicated new) is t = absurd t
 stays_general (dedicated old) r o n new is t = absurd (false≢true is)
 
-others_in : (old : Block) (n : ℕ) (new : Block) → is_general old ≡ true → IsSoundBlock old → ReleasesIn old n new → (x : Extent) → Contains (extents_of old) x → x.number ≢ n → Contains
+others_in : (old : Block) (n : ℕ) (new : Block) → is_shared old ≡ true → IsSoundBlock old → ReleasesIn old n new → (x : Extent) → Contains (extents_of old) x → x.number ≢ n → Contains
     (extents_of new) x
 others_in (free_list old) n (free_list new) is sound t x h ne = releases_keeps old n new sound t x h ne
 others_in (free_list old) n (dedicated new) is sound t x h ne = absurd t
 others_in (dedicated old) n new is sound t x h ne = absurd (false≢true is)
 
-still_general : (old : Block) (n : ℕ) (new : Block) → is_general old ≡ true → ReleasesIn old n new → is_general new ≡ true
+still_general : (old : Block) (n : ℕ) (new : Block) → is_shared old ≡ true → ReleasesIn old n new → is_shared new ≡ true
 still_general (free_list old) n (free_list new) is t = refl
 still_general (free_list old) n (dedicated new) is t = absurd t
 still_general (dedicated old) n new is t = absurd (false≢true is)
@@ -120,13 +120,13 @@ owns_released old key n block bound own is t sound set =
     let before : (q : ℕ) (m : NonZeroU64) → lookup (is_at (nat_cmp q)) bound ≡ Some m → (q ≢ key) × (piece_at old q ≡ Some m) =
     λ q m e. kept_at (is_at (nat_cmp key) q) key q m (piece_at old q) (lookup (is_at (nat_cmp q)) bound) (set q) (λ same. subst (λ z. is_at (nat_cmp key) z ≡ true) (sym same) (at_itself key)) e in
     record {
-      general = still_general old.block (non_zero_u64_get n) block own.general t;
+      shared = still_general old.block (non_zero_u64_get n) block own.shared t;
       sound = sound;
       live = λ q m e.
           let b = before q m e in
           let x = own.live q m b.1 in
           let other : x.0.number ≢ non_zero_u64_get n = λ same. b.0 (own.apart q key m n b.1 is (sym x.2 ∙ same)) in
-          (x.0, others_in old.block (non_zero_u64_get n) block own.general own.sound t x.0 x.1 other, x.2);
+          (x.0, others_in old.block (non_zero_u64_get n) block own.shared own.sound t x.0 x.1 other, x.2);
       apart = λ j k m m' e f same. own.apart j k m m' (before j m e).1 (before k m' f).1 same;
     }
 
@@ -136,14 +136,14 @@ pub owns_taken : (old : State) (key : ℕ) (r : Request) (o : ℕ) (n : NonZeroU
 owns_taken old key r o n block bound own t sound set =
     let before : (q : ℕ) (m : NonZeroU64) → lookup (is_at (nat_cmp q)) bound ≡ Some m → ((q ≡ key) × (m ≡ n)) ⊎ (piece_at old q ≡ Some m) =
     λ q m e. set_at (is_at (nat_cmp key) q) key q m n (piece_at old q) (lookup (is_at (nat_cmp q)) bound) (set q) (at_key key q) e in
-    let none : (x : Extent) → Contains (extents_of old.block) x → x.number ≡ non_zero_u64_get n → ⊥ = new_number_in old.block r o (non_zero_u64_get n) block own.general own.sound sound t in
+    let none : (x : Extent) → Contains (extents_of old.block) x → x.number ≡ non_zero_u64_get n → ⊥ = new_number_in old.block r o (non_zero_u64_get n) block own.shared own.sound sound t in
     record {
-      general = stays_general old.block r o (non_zero_u64_get n) block own.general t;
+      shared = stays_general old.block r o (non_zero_u64_get n) block own.shared t;
       sound = sound;
       live = λ q m e.
           elim (before q m e) [
-            | inl at ↦ (let a = adds_in old.block r o (non_zero_u64_get n) block own.general t in (a.0, a.1, a.2 ∙ ap non_zero_u64_get (sym at.1)))
-            | inr was ↦ (let x = own.live q m was in (x.0, keeps_in old.block r o (non_zero_u64_get n) block own.general t x.0 x.1, x.2))
+            | inl at ↦ (let a = adds_in old.block r o (non_zero_u64_get n) block own.shared t in (a.0, a.1, a.2 ∙ ap non_zero_u64_get (sym at.1)))
+            | inr was ↦ (let x = own.live q m was in (x.0, keeps_in old.block r o (non_zero_u64_get n) block own.shared t x.0 x.1, x.2))
           ];
       apart = λ j k m m' e f same.
           elim (before j m e) [
@@ -158,13 +158,13 @@ owns_taken old key r o n block bound own t sound set =
           ];
     }
 
-pub owns_after_taking : (old : State) (key : ℕ) (r : Request) (reply : Reply) (new : State) → Taking old key r reply new → IsSoundBlock new.block → OwnsPieces old → OwnsPieces new
+pub owns_after_taking : (old : State) (key : ℕ) (r : Request) (reply : Reply) (new : State) → Allocating old key r reply new → IsSoundBlock new.block → OwnsPieces old → OwnsPieces new
 owns_after_taking old key r replies.Busy new t sound own = subst OwnsPieces (sym t.1) own
-owns_after_taking old key r (replies.Taken offset chunk) new t sound own =
+owns_after_taking old key r (replies.Allocated offset chunk) new t sound own =
     owns_taken old key r offset chunk new.block new.bound own t.2 sound (λ q. ap (λ (es : Bound). lookup (is_at (nat_cmp q)) es) t.3 ∙ sets-insert_entry old.bound key chunk q)
 owns_after_taking old key r (replies.Refused number) new t sound own = subst OwnsPieces (sym t.2) own
 owns_after_taking old key r (replies.Block size) new t sound own = absurd t
-owns_after_taking old key r replies.Given new t sound own = absurd t
+owns_after_taking old key r replies.Freed new t sound own = absurd t
 owns_after_taking old key r replies.Unbound new t sound own = absurd t
 owns_after_taking old key r (replies.Report report) new t sound own = absurd t
 
@@ -182,11 +182,11 @@ released_size (free_list old) n (dedicated new) t = absurd t
 released_size (dedicated old) n (free_list new) t = absurd t
 released_size (dedicated old) n (dedicated new) t = ap (λ d. d.size) t.2
 
-pub size_after_taking : (old : State) (key : ℕ) (r : Request) (reply : Reply) (new : State) → Taking old key r reply new → size_of new.block ≡ size_of old.block
+pub size_after_taking : (old : State) (key : ℕ) (r : Request) (reply : Reply) (new : State) → Allocating old key r reply new → size_of new.block ≡ size_of old.block
 size_after_taking old key r replies.Busy new t = ap (λ s. size_of s.block) t.1
-size_after_taking old key r (replies.Taken offset chunk) new t = taken_size old.block r offset (non_zero_u64_get chunk) new.block t.2
+size_after_taking old key r (replies.Allocated offset chunk) new t = taken_size old.block r offset (non_zero_u64_get chunk) new.block t.2
 size_after_taking old key r (replies.Refused number) new t = ap (λ s. size_of s.block) t.2
 size_after_taking old key r (replies.Block size) new t = absurd t
-size_after_taking old key r replies.Given new t = absurd t
+size_after_taking old key r replies.Freed new t = absurd t
 size_after_taking old key r replies.Unbound new t = absurd t
 size_after_taking old key r (replies.Report report) new t = absurd t

@@ -9,7 +9,7 @@ use Rattle.gpu_device.specs.declared.d3d12.types.ID3D12Heap.{ID3D12Heap}
 use Rattle.gpu_d3d12.specs.declared.describe.AllocationCreateDesc.{AllocationCreateDesc}
 use Rattle.gpu_pool.specs.Reply as answers
 use Rattle.gpu_pool.specs.Step as calls
-use Rattle.gpu_pool.specs.Allocation.{IsGiven, piece_of}
+use Rattle.gpu_pool.specs.Allocation.{IsAllocated, piece_of}
 use Rattle.gpu_d3d12.specs.Live.{Allocation}
 use Rattle.gpu_pool.specs.Allocation.{IsNamed}
 use Rattle.gpu_d3d12.specs.Reply as module_replies
@@ -28,16 +28,16 @@ use Rattle.gpu_run.proofs.D3D12Counting.{allocate_leaves, pool_leaves}
 use Rattle.gpu_run.proofs.D3D12Serving.{serves_at, constant_by, answered_by}
 
 -- the model's reply, where an allocation is given
-given_reply : (d : AllocationCreateDesc) (a : Allocation) (reply : answers.Reply ID3D12Heap) → Replies d (Ok a) reply
-    → (t : ℕ) × (p : Piece ID3D12Heap) × (reply ≡ answers.Allocated t p) × IsGiven t d.name.now p a
-given_reply d a (answers.Allocated t p) h = (t, p, refl, h)
-given_reply d a (answers.Error r) h = absurd h
-given_reply d a answers.Done h = absurd h
-given_reply d a (answers.Budget b) h = absurd h
-given_reply d a (answers.Capacity n) h = absurd h
-given_reply d a (answers.Handles hs) h = absurd h
-given_reply d a (answers.Report r) h = absurd h
-given_reply d a (answers.LeakTexts ts) h = absurd h
+allocated_reply : (d : AllocationCreateDesc) (a : Allocation) (reply : answers.Reply ID3D12Heap) → Replies d (Ok a) reply
+    → (t : ℕ) × (p : Piece ID3D12Heap) × (reply ≡ answers.Allocated t p) × IsAllocated t d.name.now p a
+allocated_reply d a (answers.Allocated t p) h = (t, p, refl, h)
+allocated_reply d a (answers.Error r) h = absurd h
+allocated_reply d a answers.Done h = absurd h
+allocated_reply d a (answers.Budget b) h = absurd h
+allocated_reply d a (answers.Capacity n) h = absurd h
+allocated_reply d a (answers.Handles hs) h = absurd h
+allocated_reply d a (answers.Report r) h = absurd h
+allocated_reply d a (answers.LeakTexts ts) h = absurd h
 
 failed_reply : (d : AllocationCreateDesc) (e : AllocationError) (reply : answers.Reply ID3D12Heap) → Replies d (Err e) reply → reply ≡ answers.Error (refusal_of e)
 failed_reply d e (answers.Allocated t p) h = absurd h
@@ -70,12 +70,12 @@ module _ {D : Type 0} (g : Ghosts D) (law : (d : D) → g.refused d ≡ refused_
 
     -- the allocator allocated it
     pub allocated : (a : Allocation) (reply : SessionReply) → bindings_of new.bound ≡ bind (bindings_of old.bound) key (Some a) → IsAllocateStep g d (Ok a) old.allocator new.allocator
-        → reply ≡ replies.Given (shown a.memory_type_index (piece_of a)) → IsAnswered g (Under key (Alloc w)) reply old new
+        → reply ≡ replies.Allocated (shown a.memory_type_index (piece_of a)) → IsAnswered g (Under key (Alloc w)) reply old new
     allocated a reply same s is_told =
-        let given = given_reply d a s.reply s.replies in
-        let is : IsGiven given.0 w.name given.1 a = subst (λ n. IsGiven given.0 n given.1 a) asks.has_name given.3 in
-        let told : reply ≡ replies.Given (shown given.0 given.1) =
-        is_told ∙ ap (λ t. replies.Given (shown t (piece_of a))) is.memory_type ∙ ap (λ p. replies.Given (shown given.0 p)) is.piece in
+        let given = allocated_reply d a s.reply s.replies in
+        let is : IsAllocated given.0 w.name given.1 a = subst (λ n. IsAllocated given.0 n given.1 a) asks.has_name given.3 in
+        let told : reply ≡ replies.Allocated (shown given.0 given.1) =
+        is_told ∙ ap (λ t. replies.Allocated (shown t (piece_of a))) is.memory_type ∙ ap (λ p. replies.Allocated (shown given.0 p)) is.piece in
         answered (answers.Allocated given.0 given.1) reply
         (subst (λ r. IsStep g (model.Allocate d) (module_replies.Pool r) old.allocator new.allocator) given.2 s.step) (a, is, told, same)
 

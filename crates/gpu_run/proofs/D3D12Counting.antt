@@ -8,7 +8,7 @@ use Rattle.gpu_device.specs.Granted.{counted}
 use Rattle.gpu_device.specs.declared.d3d12.types.ID3D12Heap.{ID3D12Heap}
 use Rattle.gpu_d3d12.specs.HeapAnswer.{HeapAnswer, Granted, Declined, Null, told_answer}
 use Rattle.gpu_d3d12.specs.declared.describe.AllocationCreateDesc.{AllocationCreateDesc}
-use Rattle.gpu_d3d12.specs.Setup.{kinds_told}
+use Rattle.gpu_d3d12.specs.Setup.{kinds_of_device}
 use Rattle.gpu_pool.specs.Allocate.{RequestAt, Environment, NothingMet, NoHostMemory, Answered, Serves}
 use Rattle.gpu_pool.specs.Free as pools
 use Rattle.gpu_pool.specs.Rename.{RenamesBy}
@@ -22,7 +22,7 @@ use Rattle.gpu_d3d12.specs.Reply as module_replies
 use Rattle.gpu_d3d12.specs.Source.{heap_result}
 use Rattle.gpu_d3d12.specs.State.{Basis, Seen, Model}
 use Rattle.gpu_d3d12.specs.Step as model
-use Rattle.gpu_d3d12.specs.Step.{AllocatesBy, IsPoolCall, OfPool, SeesQuestion, SeesGiven, SeesMade, SeesReleased}
+use Rattle.gpu_d3d12.specs.Step.{AllocatesBy, IsPoolCall, OfPool, SeesQuestion, SeesHeapFreed, SeesMade, SeesReleased}
 use Rattle.gpu_run.specs.D3D12Session.{refused_by_heap, refused_by_resource, refused_after}
 
 abbrev pub PoolModel : Type 0
@@ -61,7 +61,7 @@ module _ (basis : Basis) where
   }
 
   serves_sees : (q : RequestAt (Unit {0})) (old : PoolModel) (met : Environment ID3D12Heap) (answer : Result (Piece ID3D12Heap) Refusal) (new : PoolModel)
-      → Serves (kinds_told basis.tier) (SeesQuestion basis.tier) q old met answer new → Sees met old.source new.source
+      → Serves (kinds_of_device basis.tier) (SeesQuestion basis.tier) q old met answer new → Sees met old.source new.source
   serves_sees q old NothingMet (Ok p) new h = quiet_sees old.source new.source (ap (λ s. s.source) h.state)
   serves_sees q old NothingMet (Err e) new h = quiet_sees old.source new.source (ap (λ s. s.source) h.1)
   serves_sees q old NoHostMemory (Ok p) new h = absurd h
@@ -71,12 +71,12 @@ module _ (basis : Basis) where
   serves_sees q old (Answered size (Err why)) (Ok p) new h = absurd h
   serves_sees q old (Answered size (Err why)) (Err e) new h = asked_sees old.source new.source q.memory_type size (Err why) h.0.question
 
-  gone_sees : (old new : Seen) (went : Option ID3D12Heap) → pools.GivesBackAny SeesGiven old went new → Sees NothingMet old new
+  gone_sees : (old new : Seen) (went : Option ID3D12Heap) → pools.GivesBackAny SeesHeapFreed old went new → Sees NothingMet old new
   gone_sees old new None h = quiet_sees old new h
   gone_sees old new (Some heap) h = record { count = ap (λ s. refused_in s.history) h; beside = ap (λ s. s.beside) h }
 
   pub freed_sees : (t : ℕ) (p : Piece ID3D12Heap) (old : PoolModel) (answer : Result (Unit {0}) Refusal) (new : PoolModel)
-      → pools.Frees SeesGiven is_same_heap t p old answer new → Sees NothingMet old.source new.source
+      → pools.Frees SeesHeapFreed is_same_heap t p old answer new → Sees NothingMet old.source new.source
   freed_sees t p old (Ok _) new h = gone_sees old.source new.source h.1.went h.1.source
   freed_sees t p old (Err e) new h = quiet_sees old.source new.source (ap (λ s. s.source) h.2)
 
@@ -96,7 +96,7 @@ module _ (basis : Basis) where
 
   -- any call of the pool
   pool_sees : (q : calls.Call ID3D12Heap (Unit {0})) (met : Environment ID3D12Heap) (reply : Reply ID3D12Heap) (old new : PoolModel)
-      → IsPoolCall (SeesQuestion basis.tier) SeesGiven SeesMade SeesReleased basis q met reply old new → Sees met old.source new.source
+      → IsPoolCall (SeesQuestion basis.tier) SeesHeapFreed SeesMade SeesReleased basis q met reply old new → Sees met old.source new.source
   pool_sees (calls.Allocate q) met reply old new h = serves_sees q old met h.0 new h.2
   pool_sees (calls.Free t p) met reply old new h = unmet met old.source new.source h.0 (freed_sees t p old h.1 new h.3)
   pool_sees (calls.Rename t p name) met reply old new h = renamed_sees t p name old met h.0 new h.2
@@ -108,7 +108,7 @@ module _ (basis : Basis) where
   pool_sees calls.LeakTexts met reply old new h = made_sees _ met h.0 old new h.2 h.3
 
   pub allocates_sees : (d : AllocationCreateDesc) (valid : Bool) (met : Environment ID3D12Heap) (reply : Reply ID3D12Heap) (old new : PoolModel)
-      → AllocatesBy (SeesQuestion basis.tier) SeesGiven SeesMade SeesReleased basis d valid met reply old new → Sees met old.source new.source
+      → AllocatesBy (SeesQuestion basis.tier) SeesHeapFreed SeesMade SeesReleased basis d valid met reply old new → Sees met old.source new.source
   allocates_sees d false met reply old new h = unmet met old.source new.source h.0 (quiet_sees old.source new.source (ap (λ s. s.source) h.2))
   allocates_sees d true met reply old new h = pool_sees (calls.Allocate _) met reply old new h.2
 
@@ -128,8 +128,8 @@ module _ (basis : Basis) where
   }
 
   pub pool_leaves : (q : calls.Call ID3D12Heap (Unit {0})) (met : model.Environment) (reply : module_replies.Reply) (old new : Model)
-      → OfPool (SeesQuestion basis.tier) SeesGiven SeesMade SeesReleased basis
-      (IsPoolCall (SeesQuestion basis.tier) SeesGiven SeesMade SeesReleased basis q) met reply old new → Leaves met old new
+      → OfPool (SeesQuestion basis.tier) SeesHeapFreed SeesMade SeesReleased basis
+      (IsPoolCall (SeesQuestion basis.tier) SeesHeapFreed SeesMade SeesReleased basis q) met reply old new → Leaves met old new
   pool_leaves q met reply old new h = leaves met old new h.0 (pool_sees q met.pool h.1 old.pool new.pool h.3) h.4
 
   pub allocate_leaves : (d : AllocationCreateDesc) (met : model.Environment) (reply : module_replies.Reply) (old new : Model)

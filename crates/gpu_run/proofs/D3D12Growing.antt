@@ -21,9 +21,9 @@ use Rattle.gpu_device.proofs.HeapsAndResources.{get-without_resource_other}
 use Rattle.gpu_d3d12.specs.Heaps.{is_host}
 use Rattle.gpu_d3d12.specs.MemoryKinds.{memory_kinds, Serves}
 use Rattle.gpu_d3d12.specs.ResourceAnswer.{ResourceAnswer, Granted, Declined, Null, Texts, resource_number, told_answer, placed_texts, committed_texts}
-use Rattle.gpu_d3d12.specs.Setup.{kinds_told}
+use Rattle.gpu_d3d12.specs.Setup.{kinds_of_device}
 use Rattle.gpu_d3d12.specs.declared.question.ResourceCreateDesc.{ResourceCreateDesc}
-use Rattle.gpu_d3d12.specs.declared.question.ResourceQuestion.{ResourceQuestion}
+use Rattle.gpu_d3d12.specs.declared.question.CreateCall.{CreateCall}
 use Rattle.gpu_d3d12.specs.declared.question.ResourceType.{ResourceType}
 use Rattle.gpu_d3d12.specs.declared.question.ResourceType.TheVariants as kinds_of_resources
 use Rattle.gpu_pool.specs.Reply as answers
@@ -36,7 +36,7 @@ use Rattle.gpu_d3d12.specs.Resource.{piece_desc, record_of, LiesIn}
 use Rattle.gpu_pool.specs.Allocate.{NothingMet}
 use Rattle.gpu_d3d12.specs.State.{Basis, Seen, Model}
 use Rattle.gpu_d3d12.specs.Step as model
-use Rattle.gpu_d3d12.specs.Step.{Environment, Step, Commit, Place, PlacesThen, EndsBy, MakesBy, CreatesBy, FreesResource, FreesPlaced, FreesCommitted, RepliesResource, SeesQuestion, SeesGiven, SeesMade, SeesReleased, host_met, nothing_met, info_of, size_made}
+use Rattle.gpu_d3d12.specs.Step.{Environment, Step, Commit, Place, PlacesThen, EndsBy, MakesBy, CreatesBy, FreesResource, FreesPlaced, FreesCommitted, RepliesResource, SeesQuestion, SeesHeapFreed, SeesMade, SeesReleased, host_met, nothing_met, info_of, size_made}
 use Rattle.gpu_d3d12.specs.declared.committed_record.CommittedRecord.{CommittedRecord}
 use Rattle.gpu_d3d12.specs.declared.resource.Resource.{Resource}
 use Rattle.gpu_run.specs.D3D12Session.{IsKept, refused_by_heap, refused_by_resource, refused_after}
@@ -92,13 +92,13 @@ record Adds (answer : Option ResourceAnswer) (old new : Seen) : Type 0 where
   pub count : refused_in new.history ≡ refused_by_resource answer (refused_in old.history)
   pub beside : (n : ℕ) → IsSome (get old.beside n) → IsSome (get new.beside n)
 
-adds : (d : ResourceCreateDesc) (old : Seen) (question : ResourceQuestion) (place : ResourcePlace) (e : Entry) (a : ResourceAnswer) (new : Seen) → SeesMade d old question place e a new → Adds (Some a) old new
+adds : (d : ResourceCreateDesc) (old : Seen) (question : CreateCall) (place : ResourcePlace) (e : Entry) (a : ResourceAnswer) (new : Seen) → SeesMade d old question place e a new → Adds (Some a) old new
 adds d old question place e a new is = record {
   count = ap (λ (s : Seen). refused_in s.history) is ∙ ap (counted (refused_in old.history)) (answer_number a);
   beside = λ n h. subst (λ (s : Seen). IsSome (get s.beside n)) (sym is) (granted_held old.beside (resource_number a) e n h);
 }
 
-adds_number : (d : ResourceCreateDesc) (old : Seen) (question : ResourceQuestion) (place : ResourcePlace) (e : Entry) (a : ResourceAnswer) (new : Seen) (n : ℕ) → SeesMade d old question place e a new
+adds_number : (d : ResourceCreateDesc) (old : Seen) (question : CreateCall) (place : ResourcePlace) (e : Entry) (a : ResourceAnswer) (new : Seen) (n : ℕ) → SeesMade d old question place e a new
     → resource_number a ≡ Some n → IsSome (get new.beside n)
 adds_number d old question place e a new n is number = subst (λ (s : Seen). IsSome (get s.beside n)) (sym is) (new_held old.beside (resource_number a) e n number)
 
@@ -141,7 +141,7 @@ module _ (basis : Basis) (d : ResourceCreateDesc) where
   -- a resource that is given: something is held under its number, and of a committed one there is a record
   pub record IsThere (old new : Model) (r : Resource) : Type 0 where
     pub held : IsSome (get new.pool.source.beside r.resource.0)
-    pub kept : r.allocation ≡ None → length old.committed ≡ length (kinds_told basis.tier) → Contains (records_at new.committed r.memory_type_index) (record_of r)
+    pub kept : r.allocation ≡ None → length old.committed ≡ length (kinds_of_device basis.tier) → Contains (records_at new.committed r.memory_type_index) (record_of r)
 
   stays : (old new : Model) → new ≡ old → Grows nothing_met old new
   stays old new same = record {
@@ -150,7 +150,7 @@ module _ (basis : Basis) (d : ResourceCreateDesc) where
     records = λ t q h. subst (λ (m : Model). Contains (records_at m.committed t) q) (sym same) h;
   }
 
-  after_adds : (question : ResourceQuestion) (place : ResourcePlace) (e : Entry) (answer : Option ResourceAnswer) (old new : Seen)
+  after_adds : (question : CreateCall) (place : ResourcePlace) (e : Entry) (answer : Option ResourceAnswer) (old new : Seen)
       → IsAfterResource (λ s a t. SeesMade d s question place e a t) old answer new → Adds answer old new
   after_adds question place e None old new same = record {
     count = ap (λ (s : Seen). refused_in s.history) same;
@@ -158,9 +158,9 @@ module _ (basis : Basis) (d : ResourceCreateDesc) where
   }
   after_adds question place e (Some a) old new is = adds d old question place e a new is
 
-  module _ (question : ResourceQuestion) (met : Environment) (reply : Reply) where
+  module _ (question : CreateCall) (met : Environment) (reply : Reply) where
     commit_grows : (own : HeapProperties × HeapFlags) (old new : Model)
-        → Commit (SeesQuestion basis.tier) SeesGiven SeesMade SeesReleased basis d question own met reply old new → Grows met old new
+        → Commit (SeesQuestion basis.tier) SeesHeapFreed SeesMade SeesReleased basis d question own met reply old new → Grows met old new
     commit_grows own old new c =
         let asked = after_adds question _ _ met.resource old.pool.source new.pool.source c.asked in
         record {
@@ -172,7 +172,7 @@ module _ (basis : Basis) (d : ResourceCreateDesc) where
         }
 
     commit_there : (own : HeapProperties × HeapFlags) (old new : Model) (r : Resource)
-        → Commit (SeesQuestion basis.tier) SeesGiven SeesMade SeesReleased basis d question own met reply old new → RepliesResource d (Ok r) reply → IsThere old new r
+        → Commit (SeesQuestion basis.tier) SeesHeapFreed SeesMade SeesReleased basis d question own met reply old new → RepliesResource d (Ok r) reply → IsThere old new r
     commit_there own old new r c replies =
         let size = (info_of basis d).size_in_bytes in
         let told = subst (λ a. RepliesResource d (Ok r) a) c.reply_is replies in
@@ -195,12 +195,12 @@ module _ (basis : Basis) (d : ResourceCreateDesc) where
         }
 
     ends_sees : (t : ℕ) (p : Piece ID3D12Heap) (number : Result ℕ Refusal) (old new : PoolModel)
-        → EndsBy (SeesQuestion basis.tier) SeesGiven SeesMade SeesReleased basis t p number old new → Sees NothingMet old.source new.source
+        → EndsBy (SeesQuestion basis.tier) SeesHeapFreed SeesMade SeesReleased basis t p number old new → Sees NothingMet old.source new.source
     ends_sees t p (Ok n) old new h = quiet_sees old.source new.source (ap (λ s. s.source) h)
     ends_sees t p (Err e) old new h = freed_sees basis t p old (Ok tt) new h
 
     places_adds : (allocated : Result (ℕ × Piece ID3D12Heap) Refusal) (answer : Option ResourceAnswer) (mid new : PoolModel)
-        → PlacesThen (SeesQuestion basis.tier) SeesGiven SeesMade SeesReleased basis d question allocated answer reply mid new → Adds answer mid.source new.source
+        → PlacesThen (SeesQuestion basis.tier) SeesHeapFreed SeesMade SeesReleased basis d question allocated answer reply mid new → Adds answer mid.source new.source
     places_adds (Ok p) (Some a) mid new h =
         let asked = adds d mid.source question _ _ a h.between h.asked in
         let ends = ends_sees p.0 p.1 _ (record mid { source = h.between }) new h.ends in
@@ -216,7 +216,7 @@ module _ (basis : Basis) (d : ResourceCreateDesc) where
     }
 
     places_there : (allocated : Result (ℕ × Piece ID3D12Heap) Refusal) (answer : Option ResourceAnswer) (mid new : PoolModel) (r : Resource)
-        → PlacesThen (SeesQuestion basis.tier) SeesGiven SeesMade SeesReleased basis d question allocated answer reply mid new → RepliesResource d (Ok r) reply
+        → PlacesThen (SeesQuestion basis.tier) SeesHeapFreed SeesMade SeesReleased basis d question allocated answer reply mid new → RepliesResource d (Ok r) reply
         → IsSome (get new.source.beside r.resource.0) × (r.allocation ≡ None → ⊥)
     places_there (Ok p) (Some a) mid new r h replies =
         let size = (info_of basis d).size_in_bytes in
@@ -231,7 +231,7 @@ module _ (basis : Basis) (d : ResourceCreateDesc) where
     places_there (Err e) (Some a) mid new r h replies = absurd h
     places_there (Err e) None mid new r h replies = absurd (subst (λ k. RepliesResource d (Ok r) k) h.0 replies)
 
-    place_grows : (old new : Model) → Place (SeesQuestion basis.tier) SeesGiven SeesMade SeesReleased basis d question met reply old.pool new.pool → new.committed ≡ old.committed → Grows met old new
+    place_grows : (old new : Model) → Place (SeesQuestion basis.tier) SeesHeapFreed SeesMade SeesReleased basis d question met reply old.pool new.pool → new.committed ≡ old.committed → Grows met old new
     place_grows old new p same =
         let piece = allocates_sees basis (piece_desc d (info_of basis d)) (is_valid (piece_desc d (info_of basis d))) met.pool _ old.pool p.mid p.allocates in
         let asked = places_adds p.allocated met.resource p.mid new.pool p.places in
@@ -241,24 +241,24 @@ module _ (basis : Basis) (d : ResourceCreateDesc) where
           records = λ t q h. subst (λ k. Contains (records_at k t) q) (sym same) h;
         }
 
-    makes_grows : (kind : ResourceType) (old new : Model) → MakesBy (SeesQuestion basis.tier) SeesGiven SeesMade SeesReleased basis d question kind met reply old new → Grows met old new
+    makes_grows : (kind : ResourceType) (old new : Model) → MakesBy (SeesQuestion basis.tier) SeesHeapFreed SeesMade SeesReleased basis d question kind met reply old new → Grows met old new
     makes_grows (kinds_of_resources.Committed properties flags) old new h = commit_grows (properties.now, flags) old new h
     makes_grows kinds_of_resources.Placed old new h = place_grows old new h.0 h.1
 
-    makes_there : (kind : ResourceType) (old new : Model) (r : Resource) → MakesBy (SeesQuestion basis.tier) SeesGiven SeesMade SeesReleased basis d question kind met reply old new
+    makes_there : (kind : ResourceType) (old new : Model) (r : Resource) → MakesBy (SeesQuestion basis.tier) SeesHeapFreed SeesMade SeesReleased basis d question kind met reply old new
         → RepliesResource d (Ok r) reply → IsThere old new r
     makes_there (kinds_of_resources.Committed properties flags) old new r h replies = commit_there (properties.now, flags) old new r h replies
     makes_there kinds_of_resources.Placed old new r h replies =
         let there = places_there h.0.allocated met.resource h.0.mid new.pool r h.0.places replies in
         record { held = there.0; kept = λ none many. absurd (there.1 none) }
 
-  creates_grows : (question : Result ResourceQuestion Refusal) (met : Environment) (reply : Reply) (old new : Model)
-      → CreatesBy (SeesQuestion basis.tier) SeesGiven SeesMade SeesReleased basis d question met reply old new → Grows met old new
+  creates_grows : (question : Result CreateCall Refusal) (met : Environment) (reply : Reply) (old new : Model)
+      → CreatesBy (SeesQuestion basis.tier) SeesHeapFreed SeesMade SeesReleased basis d question met reply old new → Grows met old new
   creates_grows (Err e) met reply old new h = subst (λ m. Grows m old new) (sym h.0) (stays old new h.2)
   creates_grows (Ok question) met reply old new h = makes_grows question met reply d.resource_type.now old new h
 
-  creates_there : (question : Result ResourceQuestion Refusal) (met : Environment) (reply : Reply) (old new : Model) (r : Resource)
-      → CreatesBy (SeesQuestion basis.tier) SeesGiven SeesMade SeesReleased basis d question met reply old new → RepliesResource d (Ok r) reply → IsThere old new r
+  creates_there : (question : Result CreateCall Refusal) (met : Environment) (reply : Reply) (old new : Model) (r : Resource)
+      → CreatesBy (SeesQuestion basis.tier) SeesHeapFreed SeesMade SeesReleased basis d question met reply old new → RepliesResource d (Ok r) reply → IsThere old new r
   creates_there (Err e) met reply old new r h replies = absurd (subst (λ k. RepliesResource d (Ok r) k) h.1 replies)
   creates_there (Ok question) met reply old new r h replies = makes_there question met reply d.resource_type.now old new r h replies
 
@@ -285,7 +285,7 @@ module _ (basis : Basis) (r : Resource) where
       subst (λ (s : Seen). IsSome (get s.beside n)) (sym is) (subst (λ o. IsSome o) (sym (get-without_resource_other old.beside r.resource.0 n apart)) h)
 
   frees_shrinks : (piece : Option Allocation) (answer : Result (Unit {0}) Refusal) (old new : Model)
-      → FreesResource (SeesQuestion basis.tier) SeesGiven SeesMade SeesReleased basis piece r old answer new → Shrinks nothing_met old new
+      → FreesResource (SeesQuestion basis.tier) SeesHeapFreed SeesMade SeesReleased basis piece r old answer new → Shrinks nothing_met old new
   frees_shrinks (Some a) (Ok u) old new h =
       let between = h.0.0 in
       let freed = freed_sees basis a.memory_type_index (piece_of a) (record old.pool { source = between }) (Ok u) new.pool h.0.2 in
@@ -315,8 +315,8 @@ module _ (basis : Basis) (r : Resource) where
   pub release_shrinks : (met : Environment) (reply : Reply) (old new : Model) → Step basis (model.FreeResource r) met reply old new → Shrinks met old new
   release_shrinks met reply old new h = subst (λ m. Shrinks m old new) (sym h.0) (frees_shrinks r.allocation h.1 old new h.3)
 
-  dead : (piece : Option Allocation) (answer : Result (Unit {0}) Refusal) (e : Refusal) (old new : Model) → error e ≡ Pool (answers.done_as answer)
-      → FreesResource (SeesQuestion basis.tier) SeesGiven SeesMade SeesReleased basis piece r old answer new → IsKept old.pool.slots old.committed r piece → ⊥
+  dead : (piece : Option Allocation) (answer : Result (Unit {0}) Refusal) (e : Refusal) (old new : Model) → error e ≡ Pool (answers.reply_of_done answer)
+      → FreesResource (SeesQuestion basis.tier) SeesHeapFreed SeesMade SeesReleased basis piece r old answer new → IsKept old.pool.slots old.committed r piece → ⊥
   dead piece (Ok u) e old new is h kept = done_error e (sym is)
   dead (Some a) (Err refusal) e old new is h kept = h.0.0 kept
   dead None (Err refusal) e old new is h kept = found (records_at old.committed r.memory_type_index) (record_of r) kept h.0

@@ -9,7 +9,7 @@ use Rattle.std.proofs.lemmas.List.Elements.{Contains-push_cases, Contains-append
 use Rattle.std.proofs.lemmas.List.Quantifiers.{position-Some}
 use Rattle.std.proofs.lemmas.List.Sorted.{IsPermutation-remove, Contains-permutation}
 use Rattle.std.proofs.lemmas.List.Sums.{fails_before_first}
-use Rattle.gpu_d3d12.specs.Committed.{Committed, records_at, place_of, is_same_record, GivesRecord}
+use Rattle.gpu_d3d12.specs.Committed.{Committed, records_at, place_of, is_same_record, ReleasesRecord}
 use Rattle.gpu_d3d12.specs.declared.committed_record.CommittedRecord.{CommittedRecord}
 
 -- what is set stands there, or there was nothing
@@ -61,7 +61,7 @@ is_itself : (r : CommittedRecord) → is_same_record r r ≡ true
 is_itself r = grind (arith, nat_tests)
 
 -- where a record goes, those of other resources stay
-pub gives_keeps : (t u : ℕ) (r q : CommittedRecord) (old new : Committed) → GivesRecord t r old new → q.resource.0 ≢ r.resource.0 → Contains (records_at old u) q → Contains (records_at new u) q
+pub gives_keeps : (t u : ℕ) (r q : CommittedRecord) (old new : Committed) → ReleasesRecord t r old new → q.resource.0 ≢ r.resource.0 → Contains (records_at old u) q → Contains (records_at new u) q
 gives_keeps t u r q old new gives apart h =
     let at = position-Some (λ (x : CommittedRecord). is_same_record x r) (records_at old t) gives.place q gives.stands in
     let other : (get_or (records_at old t) gives.place q ≡ q → ⊥) =

@@ -20,7 +20,7 @@ use Rattle.gpu_metal.specs.Allocate.{is_valid}
 use Rattle.gpu_metal.specs.Blocks.{is_same_heap}
 use Rattle.gpu_metal.specs.Source.{heap_in}
 use Rattle.gpu_metal.specs.State.{Seen, Model}
-use Rattle.gpu_metal.specs.Step.{Call, Allocate, Free, Commit, SetBudget, Budget, Capacity, LiveHeaps, Report, Step, AllocateStep, SeesQuestion, SeesGiven}
+use Rattle.gpu_metal.specs.Step.{Call, Allocate, Free, Commit, SetBudget, Budget, Capacity, LiveHeaps, Report, Step, AllocateStep, SeesQuestion, SeesHeapFreed}
 use Rattle.gpu_run.specs.MetalSession.{refused_after}
 
 -- how many questions the device of a model refused
@@ -65,12 +65,12 @@ allocate_counts : (d : AllocationCreateDesc) (valid : Bool) (met : Environment M
 allocate_counts d false met reply old new h = stays old new h.2 ∙ ap (λ m. refused_after m (refusals old)) (sym h.0)
 allocate_counts d true met reply old new h = serves_counts _ old met h.2.0 new h.2.2
 
-gone_counts : (old new : Seen) (went : Option MTLHeap) → pools.GivesBackAny SeesGiven old went new → refused_in new.history ≡ refused_in old.history
+gone_counts : (old new : Seen) (went : Option MTLHeap) → pools.GivesBackAny SeesHeapFreed old went new → refused_in new.history ≡ refused_in old.history
 gone_counts old new None h = ap (λ s. refused_in s.history) h
 gone_counts old new (Some heap) h = ap (λ s. refused_in s.history) h ∙ release_counts old.set heap old.history
 
 free_counts : (t : ℕ) (p : Piece MTLHeap) (old : Model) (answer : Result (Unit {0}) Refusal) (new : Model)
-    → pools.Frees SeesGiven is_same_heap t p old answer new → refusals new ≡ refusals old
+    → pools.Frees SeesHeapFreed is_same_heap t p old answer new → refusals new ≡ refusals old
 free_counts t p old (Ok _) new h = gone_counts old.source new.source h.1.went h.1.source
 free_counts t p old (Err e) new h = stays old new h.2
 

@@ -9,7 +9,7 @@ use Rattle.gpu_device.specs.declared.vulkan.types.DeviceMemory.{DeviceMemory}
 use Rattle.gpu_vulkan.specs.Allocate.{is_valid}
 use Rattle.gpu_vulkan.specs.Attempt.{AttemptEnvironment, Asked, Answer}
 use Rattle.gpu_vulkan.specs.Types.{is_mapped}
-use Rattle.gpu_vulkan.specs.ByteView.{AllocationId, is_same_id, ByteView, IsOutOf, TakesOut}
+use Rattle.gpu_vulkan.specs.ByteView.{AllocationId, is_same_id, ByteView, IsOutOf, SplitsRest}
 use Rattle.gpu_vulkan.specs.Live.{piece_of}
 use Rattle.gpu_vulkan.specs.Setup.{Setup}
 use Rattle.gpu_vulkan.specs.Reply as answers
@@ -34,7 +34,7 @@ as_long_as false rest start size list h = ap (option_map length) h
 as_long_as true rest start size None h = absurd h
 as_long_as true rest start size (Some xs) h = ap Some h.0
 
-taken_out : (mapped : Bool) (q : AllocationId) (start size : ℕ) (old mid new : ByteView) → ((r : AllocationId) → mid.allocation_bytes r ≡ old.allocation_bytes r) → TakesOut mapped q start size mid
+taken_out : (mapped : Bool) (q : AllocationId) (start size : ℕ) (old mid new : ByteView) → ((r : AllocationId) → mid.allocation_bytes r ≡ old.allocation_bytes r) → SplitsRest mapped q start size mid
     new → Gained mapped q size old new
 taken_out mapped q start size old mid new same t = record {
   here = as_long_as mapped (mid.unallocated_bytes q.memory_type q.slot) start size (new.allocation_bytes q) t.list;
@@ -50,18 +50,18 @@ attempt_refused : (mapped : Bool) (t : ℕ) (asked : Option Asked) (r : Refusal)
 attempt_refused mapped t None r old new h = h
 attempt_refused mapped t (Some a) r old new h = h
 
-given_same : (t u : ℕ) (p q : Piece DeviceMemory) → answers.Given t p ≡ answers.Given u q → (t ≡ u) × (p ≡ q)
+given_same : (t u : ℕ) (p q : Piece DeviceMemory) → answers.Allocated t p ≡ answers.Allocated u q → (t ≡ u) × (p ≡ q)
 given_same t u p q e = (cc, cc)
 
-given_fails : {A : Type 0} (t : ℕ) (p : Piece DeviceMemory) (r : Refusal) → answers.Given t p ≡ answers.Error r → A
+given_fails : {A : Type 0} (t : ℕ) (p : Piece DeviceMemory) (r : Refusal) → answers.Allocated t p ≡ answers.Error r → A
 given_fails t p r e = absurd (cc)
 
-fails_given : {A : Type 0} (t : ℕ) (p : Piece DeviceMemory) (r : Refusal) → answers.Error r ≡ answers.Given t p → A
+fails_given : {A : Type 0} (t : ℕ) (p : Piece DeviceMemory) (r : Refusal) → answers.Error r ≡ answers.Allocated t p → A
 fails_given t p r e = absurd (cc)
 
 module _ (setup : Setup) (d : AllocationCreateDesc) where
   -- an attempt that gives what was told
-  given_by : (u t : ℕ) (o : AttemptEnvironment) (answer : Answer) (p : Piece DeviceMemory) (old new : ModelState) → answers.Given t p ≡ reply_of u answer → AttemptStep setup u d o answer old new
+  given_by : (u t : ℕ) (o : AttemptEnvironment) (answer : Answer) (p : Piece DeviceMemory) (old new : ModelState) → answers.Allocated t p ≡ reply_of u answer → AttemptStep setup u d o answer old new
       → Gained (is_mapped setup.properties t) (id_in t p) p.size old.byte_view new.byte_view
   given_by u t o (Ok q) p old new e a =
       let same = given_same t u p q e in
@@ -72,7 +72,7 @@ module _ (setup : Setup) (d : AllocationCreateDesc) where
   given_by u t o (Err r) p old new e a = given_fails t p r e
 
   given_after : (next : Option ℕ) (t u : ℕ) (o : AttemptEnvironment) (r : Refusal) (p : Piece DeviceMemory) (old mid new : ModelState) → mid.byte_view ≡ old.byte_view → Follows setup d next o u
-      (Err r) mid (answers.Given t p) new
+      (Err r) mid (answers.Allocated t p) new
       → Gained (is_mapped setup.properties t) (id_in t p) p.size old.byte_view new.byte_view
   given_after None t u o r p old mid new same f = given_fails t p r f.1
   given_after (Some v) t u o r p old mid new same f =
@@ -80,24 +80,24 @@ module _ (setup : Setup) (d : AllocationCreateDesc) where
       subst G same (given_by v t o f.0 p mid new f.2 f.1)
 
   served_given : (u t : ℕ) (o : CallEnvironment) (answer : Answer) (p : Piece DeviceMemory) (old mid new : ModelState) → AttemptStep setup u d o.first answer old mid
-      → Follows setup d (next_by setup d answer) o.second u answer mid (answers.Given t p) new → Gained (is_mapped setup.properties t) (id_in t p) p.size old.byte_view new.byte_view
+      → Follows setup d (next_by setup d answer) o.second u answer mid (answers.Allocated t p) new → Gained (is_mapped setup.properties t) (id_in t p) p.size old.byte_view new.byte_view
   served_given u t o (Ok q) p old mid new a f =
       let G : ModelState → Type 0 = λ s. Gained (is_mapped setup.properties t) (id_in t p) p.size old.byte_view s.byte_view in
       subst G (sym f.2) (given_by u t o.first (Ok q) p old mid f.1 a)
   served_given u t o (Err r) p old mid new a f =
       given_after (next_by setup d (Err r)) t u o.second r p old mid new (attempt_refused (is_mapped setup.properties u) u o.first.asked r old.byte_view mid.byte_view a.bytes) f
 
-  found_given : (found : Option ℕ) (t : ℕ) (o : CallEnvironment) (p : Piece DeviceMemory) (old new : ModelState) → FoundStep setup d found o (answers.Given t p) old new
+  found_given : (found : Option ℕ) (t : ℕ) (o : CallEnvironment) (p : Piece DeviceMemory) (old new : ModelState) → FoundStep setup d found o (answers.Allocated t p) old new
       → Gained (is_mapped setup.properties t) (id_in t p) p.size old.byte_view new.byte_view
   found_given None t o p old new h = given_fails t p _ h.reply_is
   found_given (Some u) t o p old new h = served_given u t o h.answer p old h.mid new h.attempt h.follows
 
-  valid_given : (valid : Bool) (t : ℕ) (o : CallEnvironment) (p : Piece DeviceMemory) (old new : ModelState) → AllocateStep setup d valid o (answers.Given t p) old new
+  valid_given : (valid : Bool) (t : ℕ) (o : CallEnvironment) (p : Piece DeviceMemory) (old new : ModelState) → AllocateStep setup d valid o (answers.Allocated t p) old new
       → Gained (is_mapped setup.properties t) (id_in t p) p.size old.byte_view new.byte_view
   valid_given false t o p old new h = given_fails t p _ h.reply_is
   valid_given true t o p old new h = found_given _ t o p old new h
 
-  pub gained : (t : ℕ) (o : CallEnvironment) (p : Piece DeviceMemory) (old new : ModelState) → Step setup (Allocate d) o (answers.Given t p) old new
+  pub gained : (t : ℕ) (o : CallEnvironment) (p : Piece DeviceMemory) (old new : ModelState) → Step setup (Allocate d) o (answers.Allocated t p) old new
       → Gained (is_mapped setup.properties t) (id_in t p) p.size old.byte_view new.byte_view
   gained t o p old new h = valid_given (is_valid d) t o p old new h
 

@@ -22,7 +22,7 @@ use Rattle.gpu_vulkan.specs.declared.allocation.Allocation.{Allocation}
 use Rattle.gpu_vulkan.specs.declared.describe.AllocationCreateDesc.{AllocationCreateDesc}
 use Rattle.gpu_vulkan.proofs.EqualButBytes.{step_alike}
 use Rattle.gpu_run.specs.VulkanCommand.{Wanted, Describes, KeyCommand, Alloc, Null, Free, Rename, Write, Read, SessionCommand, Under, Report, Leaks, Capacity, SetBudget}
-use Rattle.gpu_run.specs.VulkanReply.{SessionReply, Given, Done, Bytes, Busy, Unbound, Unmapped, OutOfRange, Error}
+use Rattle.gpu_run.specs.VulkanReply.{SessionReply, Allocated, Done, Bytes, Busy, Unbound, Unmapped, OutOfRange, Error}
 use Rattle.gpu_run.specs.VulkanSession.{SessionState, SessionInvariant, shown, CommandEnvironment, Stays, Binds, ServesAlloc, ServesNull, Frees, BindsNamed, Renames, overwritten, WritesIn}
 use Rattle.gpu_run.specs.VulkanSession.{WritesOver, WritesAt, reply_to_part, reply_to_read, ReadsAt, ServesBound, ServesUnbound, ServesAt, reply_by, Asks, Serves, Runs}
 use Rattle.gpu_run.specs.VulkanLaws.{EqualButBytesKeyCommand, EqualButBytesCommand, EqualButBytesCommandEnvironment, Written, everything, written_after, EqualButBytesAnswer}
@@ -139,10 +139,10 @@ module _ (ours : ℕ → Bool) (written : Written) (setup : Setup) (s t new next
 
   -- ---- requests
 
-  given_both : (key u : ℕ) (w : Wanted) (d e : AllocationCreateDesc) (q : Piece DeviceMemory) → new.model.slots ≡ next.model.slots → Step setup (model.Allocate d) o.call (answers.Given u q) s.model
+  given_both : (key u : ℕ) (w : Wanted) (d e : AllocationCreateDesc) (q : Piece DeviceMemory) → new.model.slots ≡ next.model.slots → Step setup (model.Allocate d) o.call (answers.Allocated u q) s.model
       new.model
-      → Step setup (model.Allocate e) p.call (answers.Given u q) t.model next.model → Binds setup key w d (answers.Given u q) reply s.bound new.bound
-      → Binds setup key w e (answers.Given u q) other_reply t.bound next.bound
+      → Step setup (model.Allocate e) p.call (answers.Allocated u q) t.model next.model → Binds setup key w d (answers.Allocated u q) reply s.bound new.bound
+      → Binds setup key w e (answers.Allocated u q) other_reply t.bound next.bound
       → Next ours written (Under key (Alloc w)) reply other_reply new next
   given_both key u w d e q slots h k b c =
       let one = b.0 in
@@ -153,7 +153,7 @@ module _ (ours : ℕ → Bool) (written : Written) (setup : Setup) (s t new next
       let n = subst (λ r. Gained (is_mapped setup.properties u) r q.size t.model.byte_view next.model.byte_view) (sym place) (gained setup e u p.call q t.model next.model k) in
       let here : new.bound key ≡ Some one = ap (λ f. f key) b.3 ∙ bound_here s.bound key key (Some one) refl in
       let live : IsLive new.model.slots one = ⊎_elim (λ null. absurd (none_some q (sym null ∙ b.1.piece))) (λ z. z) (kept_new.own.live key one here) in
-      next_at (Under key (Alloc w)) (Given (shown setup w u q)) (Given (shown setup w u q)) b.2 c.2 refl
+      next_at (Under key (Alloc w)) (Allocated (shown setup w u q)) (Allocated (shown setup w u q)) b.2 c.2 refl
       (alike_given ours written setup s t new next kept kept_new alike key one two (is_mapped setup.properties u) q.size b.3 c.3 same live slots m n)
 
   failed_both : (key : ℕ) (w : Wanted) (d e : AllocationCreateDesc) (r : Refusal) → new.model.slots ≡ next.model.slots → Step setup (model.Allocate d) o.call (answers.Error r) s.model new.model
@@ -168,7 +168,7 @@ module _ (ours : ℕ → Bool) (written : Written) (setup : Setup) (s t new next
       new.model
       → Step setup (model.Allocate e) p.call y t.model next.model → Binds setup key w d x reply s.bound new.bound → Binds setup key w e y other_reply t.bound next.bound → Next ours written
       (Under key (Alloc w)) reply other_reply new next
-  binds_both key w d e (answers.Given u q) y same slots h k b c =
+  binds_both key w d e (answers.Allocated u q) y same slots h k b c =
       given_both key u w d e q slots h (subst (λ z. Step setup (model.Allocate e) p.call z t.model next.model) (sym same) k) b
       (subst (λ z. Binds setup key w e z other_reply t.bound next.bound) (sym same) c)
   binds_both key w d e (answers.Error r) y same slots h k b c =
@@ -233,7 +233,7 @@ module _ (ours : ℕ → Bool) (written : Written) (setup : Setup) (s t new next
   named_both key a b name (answers.Error r) y same found model_reply slots m n h k =
       let k2 = subst (λ z. BindsNamed key b name z other_reply t.bound next.bound) (sym model_reply) k in
       next_at (Under key (Rename name)) (Error r) (Error r) h.0 k2.0 refl (alike_kept ours written setup s t new next kept kept_new alike h.1 k2.1 slots m n)
-  named_both key a b name (answers.Given u q) y same found model_reply slots m n h k = absurd h
+  named_both key a b name (answers.Allocated u q) y same found model_reply slots m n h k = absurd h
   named_both key a b name (answers.Bytes xs) y same found model_reply slots m n h k = absurd h
   named_both key a b name (answers.Capacity z) y same found model_reply slots m n h k = absurd h
   named_both key a b name (answers.Report r) y same found model_reply slots m n h k = absurd h
@@ -379,7 +379,7 @@ module _ (ours : ℕ → Bool) (written : Written) (setup : Setup) (s t new next
   told_both (answers.Capacity n) y u v same e f = some_same u v (sym e ∙ ap reply_by same ∙ f)
   told_both (answers.Report r) y u v same e f = some_same u v (sym e ∙ ap reply_by same ∙ f)
   told_both (answers.Leaks ts) y u v same e f = some_same u v (sym e ∙ ap reply_by same ∙ f)
-  told_both (answers.Given i q) y u v same e f = absurd (none_some u e)
+  told_both (answers.Allocated i q) y u v same e f = absurd (none_some u e)
   told_both answers.Done y u v same e f = some_same u v (sym e ∙ ap reply_by same ∙ f)
   told_both (answers.Budget b) y u v same e f = absurd (none_some u e)
   told_both (answers.Bytes xs) y u v same e f = absurd (none_some u e)

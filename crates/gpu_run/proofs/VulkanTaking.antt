@@ -10,9 +10,9 @@ use Rattle.gpu_device.specs.declared.vulkan.types.DeviceMemory.{DeviceMemory}
 use Rattle.gpu_device.specs.declared.vulkan.types.MemoryTypeInfo.{MemoryTypeInfo}
 use Rattle.gpu_vulkan.specs.Allocate.{Allocates}
 use Rattle.gpu_vulkan.specs.Types.{is_mapped, mapped_by, is_host_visible}
-use Rattle.gpu_vulkan.specs.Describe.{is_own}
+use Rattle.gpu_vulkan.specs.Describe.{requests_dedicated}
 use Rattle.gpu_vulkan.specs.Lends.{number_in}
-use Rattle.gpu_vulkan.specs.Live.{piece_of, IsGiven}
+use Rattle.gpu_vulkan.specs.Live.{piece_of, IsAllocated}
 use Rattle.gpu_vulkan.specs.Setup.{Setup}
 use Rattle.gpu_vulkan.specs.Reply as answers
 use Rattle.gpu_vulkan.specs.Step as model
@@ -30,19 +30,19 @@ use Rattle.gpu_run.specs.Bindings.{bindings_of}
 use Rattle.gpu_run.proofs.VulkanServing.{serves_at}
 
 -- the model_reply of the model, where an allocation is given
-given_reply : (setup : Setup) (d : AllocationCreateDesc) (a : Allocation) (model_reply : answers.Reply) → Replies setup d (Ok a) model_reply → (t : ℕ) × (p : Piece DeviceMemory) ×
-    (model_reply ≡ answers.Given t p) × IsGiven setup t d p a
-given_reply setup d a (answers.Given t p) h = (t, p, refl, h)
-given_reply setup d a (answers.Error r) h = absurd h
-given_reply setup d a answers.Done h = absurd h
-given_reply setup d a (answers.Bytes xs) h = absurd h
-given_reply setup d a (answers.Capacity n) h = absurd h
-given_reply setup d a (answers.Report r) h = absurd h
-given_reply setup d a (answers.Leaks ts) h = absurd h
-given_reply setup d a (answers.Budget b) h = absurd h
+allocated_reply : (setup : Setup) (d : AllocationCreateDesc) (a : Allocation) (model_reply : answers.Reply) → Replies setup d (Ok a) model_reply → (t : ℕ) × (p : Piece DeviceMemory) ×
+    (model_reply ≡ answers.Allocated t p) × IsAllocated setup t d p a
+allocated_reply setup d a (answers.Allocated t p) h = (t, p, refl, h)
+allocated_reply setup d a (answers.Error r) h = absurd h
+allocated_reply setup d a answers.Done h = absurd h
+allocated_reply setup d a (answers.Bytes xs) h = absurd h
+allocated_reply setup d a (answers.Capacity n) h = absurd h
+allocated_reply setup d a (answers.Report r) h = absurd h
+allocated_reply setup d a (answers.Leaks ts) h = absurd h
+allocated_reply setup d a (answers.Budget b) h = absurd h
 
 failed_reply : (setup : Setup) (d : AllocationCreateDesc) (e : AllocationError) (model_reply : answers.Reply) → Replies setup d (Err e) model_reply → model_reply ≡ answers.Error (refusal_of e)
-failed_reply setup d e (answers.Given t p) h = absurd h
+failed_reply setup d e (answers.Allocated t p) h = absurd h
 failed_reply setup d e (answers.Error r) h = ap answers.Error (sym h)
 failed_reply setup d e answers.Done h = absurd h
 failed_reply setup d e (answers.Bytes xs) h = absurd h
@@ -56,13 +56,13 @@ mapped_is None a h = absurd h
 mapped_is (Some info) a h = h.1
 
 -- what the allocation shows is what the model shows
-shown_same : (setup : Setup) (d : AllocationCreateDesc) (w : Wanted) (t : ℕ) (p : Piece DeviceMemory) (a : Allocation) → Describes d w → IsGiven setup t d p a → shown_allocation a ≡ shown setup w t p
+shown_same : (setup : Setup) (d : AllocationCreateDesc) (w : Wanted) (t : ℕ) (p : Piece DeviceMemory) (a : Allocation) → Describes d w → IsAllocated setup t d p a → shown_allocation a ≡ shown setup w t p
 shown_same setup d w t p a wants given =
     let mapped = mapped_is (slice_get setup.properties.types t) a given.memory in
-    let own = given.dedicated ∙ ap is_own wants.scheme in
+    let own = given.dedicated ∙ ap requests_dedicated wants.scheme in
     by (a.chunk_id) refl mapped own
   where
-    by : (chunk : Option _) → a.chunk_id ≡ chunk → a.mapped ≡ is_mapped setup.properties t → a.dedicated ≡ is_own w.scheme → shown_allocation a ≡ shown setup w t p
+    by : (chunk : Option _) → a.chunk_id ≡ chunk → a.mapped ≡ is_mapped setup.properties t → a.dedicated ≡ requests_dedicated w.scheme → shown_allocation a ≡ shown setup w t p
     by None e mapped own = absurd (let f = sym (ap (λ n. piece_of (record a { chunk_id = n })) e) ∙ given.piece in cc)
     by (Some n) e mapped own =
         let is : Some (record { slot = a.memory_block_index; number = n; offset = a.offset; size = a.size; block = a.device_memory }) ≡ Some p =
@@ -103,18 +103,18 @@ module _ {D : Type 0} (g : Ghosts D) (old new : SessionValue D) (key : ℕ) (w :
 
   pub taken : (a : Allocation) (reply : replies.SessionReply) → bindings_of old.bound key ≡ None → bindings_of new.bound ≡ bind (bindings_of old.bound) key (Some a) → IsAllocateStep g d (Ok a) old.allocator
       new.allocator → Allocates g old.allocator.setup old.allocator.budgets d old.allocator.slots old.allocator.device (Ok a) new.allocator.slots new.allocator.device
-      → (new.allocator.first ≡ old.allocator.first) × (new.allocator.setup ≡ old.allocator.setup) → reply ≡ replies.Given (shown_allocation a) → IsServed g (Under key (Alloc w)) reply old new
+      → (new.allocator.first ≡ old.allocator.first) × (new.allocator.setup ≡ old.allocator.setup) → reply ≡ replies.Allocated (shown_allocation a) → IsServed g (Under key (Alloc w)) reply old new
   taken a reply none same s allocates constant is_told =
-      let is = given_reply old.allocator.setup d a s.reply s.replies in
+      let is = allocated_reply old.allocator.setup d a s.reply s.replies in
       let step = subst (λ r. IsStep g (model.Allocate d) r old.allocator new.allocator) is.2 s.step in
       record {
         environment = record { room = true; call = step.environment };
         serves = serves_at old.allocator.setup (session_of g old) (session_of g new) key (Alloc w) (record { room = true; call = step.environment }) reply None none (record {
           description = d;
           describes = wants;
-          model_reply = answers.Given is.0 is.1;
+          model_reply = answers.Allocated is.0 is.1;
           step = step.step;
-          binds = (a, is.3, is_told ∙ ap replies.Given (shown_same old.allocator.setup d w is.0 is.1 a wants is.3), same);
+          binds = (a, is.3, is_told ∙ ap replies.Allocated (shown_same old.allocator.setup d w is.0 is.1 a wants is.3), same);
         });
         count = step.count;
         latest = step.latest;

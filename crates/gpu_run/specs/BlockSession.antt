@@ -9,7 +9,7 @@ use Rattle.std.specs.Map.{lookup, remove_entry}
 use Rattle.gpu_values.specs.declared.error.AllocationError.TheVariants.{OutOfMemory}
 use Rattle.gpu_block_pieces.specs.FreeList.{Extent, fresh_free_list}
 use Rattle.gpu_block_pieces.specs.Request.{Request, request}
-use Rattle.gpu_block.specs.Block.{Block, free_list, extents_of, size_of, allocated_bytes, is_general, TakesIn, ReleasesIn, IsTakeRefusalIn, IsSoundBlock}
+use Rattle.gpu_block.specs.Block.{Block, free_list, extents_of, size_of, allocated_bytes, is_shared, TakesIn, ReleasesIn, IsAllocateRefusalIn, IsSoundBlock}
 use Rattle.gpu_values.specs.Report.{row_of}
 use Rattle.gpu_block_pieces.specs.Rows.{extent_row}
 use Rattle.gpu_run.specs.BlockCommand.{type_of_kind}
@@ -40,7 +40,7 @@ SomePiece s P = (x : Extent) × Contains (extents_of s.block) x × P x
 
 -- each bound number is a live piece's, and no two of the caller's numbers stand for one piece
 pub record OwnsPieces (s : State) : Type 0 where
-  pub general : is_general s.block ≡ true
+  pub shared : is_shared s.block ≡ true
   pub sound : IsSoundBlock s.block
   pub live : (key : ℕ) (n : NonZeroU64) → piece_at s key ≡ Some n → SomePiece s (λ x. x.number ≡ non_zero_u64_get n)
   pub apart : (j k : ℕ) (n m : NonZeroU64) → piece_at s j ≡ Some n → piece_at s k ≡ Some m → non_zero_u64_get n ≡ non_zero_u64_get m → j ≡ k
@@ -50,40 +50,40 @@ abbrev pub IsValid : Request → Type 0
 IsValid r = (0 < r.size) × IsTrue (is_power_of_two r.alignment)
 
 -- which errors a request may meet
-abbrev pub RefusesTake : Block → Request → ErrorNumber → Type 0
-RefusesTake b r E1 = IsValid r × IsTakeRefusalIn b r OutOfMemory
-RefusesTake b r E4 = IsValid r → ⊥
-RefusesTake b r E10 = IsValid r
-RefusesTake b r E2 = ⊥
-RefusesTake b r E3 = ⊥
-RefusesTake b r E5 = ⊥
-RefusesTake b r E6 = ⊥
-RefusesTake b r E7 = ⊥
-RefusesTake b r E8 = ⊥
-RefusesTake b r E9 = ⊥
-RefusesTake b r E11 = ⊥
+abbrev pub RefusesAllocate : Block → Request → ErrorNumber → Type 0
+RefusesAllocate b r E1 = IsValid r × IsAllocateRefusalIn b r OutOfMemory
+RefusesAllocate b r E4 = IsValid r → ⊥
+RefusesAllocate b r E10 = IsValid r
+RefusesAllocate b r E2 = ⊥
+RefusesAllocate b r E3 = ⊥
+RefusesAllocate b r E5 = ⊥
+RefusesAllocate b r E6 = ⊥
+RefusesAllocate b r E7 = ⊥
+RefusesAllocate b r E8 = ⊥
+RefusesAllocate b r E9 = ⊥
+RefusesAllocate b r E11 = ⊥
 
 -- a request under a number of the caller's, its reply, and the state that it leaves
-abbrev pub Taking : State → ℕ → Request → Reply → State → Type 0
-Taking old key r replies.Busy new = (piece_at old key ≢ None) × (new ≡ old)
-Taking old key r (replies.Taken offset chunk) new = (piece_at old key ≡ None) × IsValid r
+abbrev pub Allocating : State → ℕ → Request → Reply → State → Type 0
+Allocating old key r replies.Busy new = (piece_at old key ≢ None) × (new ≡ old)
+Allocating old key r (replies.Allocated offset chunk) new = (piece_at old key ≡ None) × IsValid r
     × TakesIn old.block r offset (non_zero_u64_get chunk) new.block × (new.bound ≡ insert_entry nat_cmp old.bound key chunk)
-Taking old key r (replies.Refused number) new = (piece_at old key ≡ None) × RefusesTake old.block r number × (new ≡ old)
-Taking old key r (replies.Block size) new = ⊥
-Taking old key r replies.Given new = ⊥
-Taking old key r replies.Unbound new = ⊥
-Taking old key r (replies.Report report) new = ⊥
+Allocating old key r (replies.Refused number) new = (piece_at old key ≡ None) × RefusesAllocate old.block r number × (new ≡ old)
+Allocating old key r (replies.Block size) new = ⊥
+Allocating old key r replies.Freed new = ⊥
+Allocating old key r replies.Unbound new = ⊥
+Allocating old key r (replies.Report report) new = ⊥
 
 -- a piece is given back, if the number stands for one
-abbrev pub Giving : State → ℕ → Reply → State → Type 0
-Giving old key replies.Given new = (chunk : NonZeroU64) × (piece_at old key ≡ Some chunk)
+abbrev pub Freeing : State → ℕ → Reply → State → Type 0
+Freeing old key replies.Freed new = (chunk : NonZeroU64) × (piece_at old key ≡ Some chunk)
     × ReleasesIn old.block (non_zero_u64_get chunk) new.block × (new.bound ≡ remove_entry (is_at (nat_cmp key)) old.bound)
-Giving old key replies.Unbound new = (piece_at old key ≡ None) × (new ≡ old)
-Giving old key (replies.Taken offset chunk) new = ⊥
-Giving old key (replies.Refused number) new = ⊥
-Giving old key (replies.Block size) new = ⊥
-Giving old key replies.Busy new = ⊥
-Giving old key (replies.Report report) new = ⊥
+Freeing old key replies.Unbound new = (piece_at old key ≡ None) × (new ≡ old)
+Freeing old key (replies.Allocated offset chunk) new = ⊥
+Freeing old key (replies.Refused number) new = ⊥
+Freeing old key (replies.Block size) new = ⊥
+Freeing old key replies.Busy new = ⊥
+Freeing old key (replies.Report report) new = ⊥
 
 -- the live pieces by offset, the bytes that they take with their padding, and the size of the block
 pub record Shows (s : State) (r : Report) : Type 0 where
@@ -95,15 +95,15 @@ pub record Shows (s : State) (r : Report) : Type 0 where
 abbrev pub Reporting : State → Reply → Type 0
 Reporting s (replies.Report report) = Shows s report
 Reporting s (replies.Refused number) = number ≡ E10
-Reporting s (replies.Taken offset chunk) = ⊥
+Reporting s (replies.Allocated offset chunk) = ⊥
 Reporting s (replies.Block size) = ⊥
-Reporting s replies.Given = ⊥
+Reporting s replies.Freed = ⊥
 Reporting s replies.Busy = ⊥
 Reporting s replies.Unbound = ⊥
 
 -- a command, its reply, and the state that it leaves; the block is there already
 abbrev pub Serves : State → Command → Reply → State → Type 0
 Serves old (commands.Block side min max count granularity) reply new = (reply ≡ replies.Busy) × (new ≡ old)
-Serves old (commands.Take key size alignment kind name) reply new = Taking old key (request size alignment (type_of_kind kind) (string_bytes name)) reply new
-Serves old (commands.Give key) reply new = Giving old key reply new
+Serves old (commands.Allocate key size alignment kind name) reply new = Allocating old key (request size alignment (type_of_kind kind) (string_bytes name)) reply new
+Serves old (commands.Free key) reply new = Freeing old key reply new
 Serves old commands.Report reply new = Reporting old reply × (new ≡ old)

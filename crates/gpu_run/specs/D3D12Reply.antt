@@ -8,7 +8,7 @@ use Rattle.gpu_values.specs.Report.{report_of}
 use Rattle.gpu_core.specs.declared.piece.Piece.{Piece}
 use Rattle.gpu_device.specs.declared.d3d12.types.ID3D12Heap.{ID3D12Heap}
 use Rattle.gpu_d3d12.specs.declared.question.CommittedAllocationStatistics.{CommittedAllocationStatistics}
-use Rattle.gpu_run.specs.declared.d3d12.reply.Given.{Given as GivenPiece}
+use Rattle.gpu_run.specs.declared.d3d12.reply.Allocated.{Allocated as AllocatedPiece}
 use Rattle.gpu_run.specs.declared.d3d12.reply.Made.{Made as MadeResource}
 use Rattle.gpu_run.specs.declared.d3d12.reply.Reply.{Reply}
 use Rattle.gpu_run.specs.declared.d3d12.reply.Reply.TheVariants as answered
@@ -30,7 +30,7 @@ pub record ShownResource : Type 0 where
 
 -- the reply to a command
 pub data SessionReply : Type 0 where
-  Given : (shown : Shown) → SessionReply
+  Allocated : (shown : Shown) → SessionReply
   Made : (shown : ShownResource) → SessionReply
   Done : SessionReply
   Leaks : (texts : List (List ℕ)) → SessionReply
@@ -51,7 +51,7 @@ abbrev pub shown_resource : (t : ℕ) → Option (Piece ID3D12Heap) → (number 
 shown_resource t piece number size = record { number = number; size = size; piece = option_map (shown t) piece }
 
 -- what a reply tells of a piece
-abbrev pub shown_of : GivenPiece → Shown
+abbrev pub shown_of : AllocatedPiece → Shown
 shown_of g = record { memory_type = g.memory_type; slot = g.slot; offset = g.offset; size = g.size; chunk = non_zero_u64_get g.chunk; heap = g.heap }
 
 -- what a reply tells of a resource
@@ -60,7 +60,7 @@ shown_made m = record { number = m.resource.0; size = m.size; piece = option_map
 
 -- the reply in the words of the model
 abbrev pub reply_of : Reply → SessionReply
-reply_of (answered.Given g) = Given (shown_of g)
+reply_of (answered.Allocated g) = Allocated (shown_of g)
 reply_of (answered.Made m) = Made (shown_made m)
 reply_of answered.Done = Done
 reply_of (answered.Leaks texts) = Leaks (map string_bytes texts.items)

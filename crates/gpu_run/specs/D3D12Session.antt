@@ -15,7 +15,7 @@ use Rattle.gpu_d3d12.specs.declared.question.ResourceCreateDesc.{ResourceCreateD
 use Rattle.gpu_d3d12.specs.Blocks.{Slots}
 use Rattle.gpu_d3d12.specs.Committed as lists
 use Rattle.gpu_d3d12.specs.Committed.{records_at}
-use Rattle.gpu_pool.specs.Allocation.{AreDistinct, IsGiven}
+use Rattle.gpu_pool.specs.Allocation.{AreDistinct, IsAllocated}
 use Rattle.gpu_d3d12.specs.Live.{Allocation, IsLive}
 use Rattle.gpu_pool.specs.Allocation.{IsNamed}
 use Rattle.gpu_d3d12.specs.Reply as module_replies
@@ -28,7 +28,7 @@ use Rattle.gpu_run.specs.Bindings.{Bindings, bind, AreOwn}
 use Rattle.gpu_run.specs.D3D12Command.{KeyCommand, Alloc, Free, Rename, ResourceCommand, Create, Release, SessionCommand, Under, UnderResource, Leaks, Report, Capacity, Committed, SetBudget}
 use Rattle.gpu_run.specs.D3D12Describe.{Wanted, AsksFor, AsksForResource}
 use Rattle.gpu_run.specs.D3D12Reply as replies
-use Rattle.gpu_run.specs.D3D12Reply.{SessionReply, Given, Made, Done, Busy, Unbound, Error, shown, shown_resource}
+use Rattle.gpu_run.specs.D3D12Reply.{SessionReply, Allocated, Made, Done, Busy, Unbound, Error, shown, shown_resource}
 use Rattle.gpu_run.specs.declared.d3d12.command.WantedResource.{WantedResource}
 
 -- ---- states
@@ -104,7 +104,7 @@ Stays met old new = (met ≡ nothing_met) × (new ≡ old)
 
 -- what the allocator's reply to a request binds and is answered
 abbrev pub Binds : (key : ℕ) (name : List ℕ) → answers.Reply ID3D12Heap → SessionReply → (old new : Bindings Allocation) → Type 0
-Binds key name (answers.Allocated t p) reply old new = (a : Allocation) × IsGiven t name p a × (reply ≡ Given (shown t p)) × (new ≡ bind old key (Some a))
+Binds key name (answers.Allocated t p) reply old new = (a : Allocation) × IsAllocated t name p a × (reply ≡ Allocated (shown t p)) × (new ≡ bind old key (Some a))
 Binds key name (answers.Error r) reply old new = (reply ≡ Error r) × (new ≡ old)
 Binds key name _ reply old new = ⊥
 

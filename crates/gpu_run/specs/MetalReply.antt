@@ -6,7 +6,7 @@ use Rattle.gpu_values.specs.Report as reports
 use Rattle.gpu_values.specs.Report.{report_of}
 use Rattle.gpu_core.specs.declared.piece.Piece.{Piece}
 use Rattle.gpu_device.specs.declared.metal.types.MTLHeap.{MTLHeap}
-use Rattle.gpu_run.specs.declared.metal.reply.Given.{Given as GivenPiece}
+use Rattle.gpu_run.specs.declared.metal.reply.Allocated.{Allocated as AllocatedPiece}
 use Rattle.gpu_run.specs.declared.metal.reply.Reply.{Reply}
 use Rattle.gpu_run.specs.declared.metal.reply.Reply.TheVariants as answered
 
@@ -21,7 +21,7 @@ pub record Shown : Type 0 where
 
 -- the answer to a command
 pub data SessionReply : Type 0 where
-  Given : (shown : Shown) → SessionReply
+  Allocated : (shown : Shown) → SessionReply
   Done : SessionReply
   Heaps : (heaps : List MTLHeap) → SessionReply
   Report : (report : reports.Report) → SessionReply
@@ -36,12 +36,12 @@ abbrev pub shown : (t : ℕ) → Piece MTLHeap → Shown
 shown t p = record { memory_type = t; slot = p.slot; offset = p.offset; size = p.size; chunk = non_zero_u64_get p.number; heap = p.block }
 
 -- what is shown, of the value that is handed out
-abbrev pub shown_of : GivenPiece → Shown
+abbrev pub shown_of : AllocatedPiece → Shown
 shown_of g = record { memory_type = g.memory_type; slot = g.slot; offset = g.offset; size = g.size; chunk = non_zero_u64_get g.chunk; heap = g.heap }
 
 -- the answer, of the value that is handed out
 abbrev pub reply_of : Reply → SessionReply
-reply_of (answered.Given g) = Given (shown_of g)
+reply_of (answered.Allocated g) = Allocated (shown_of g)
 reply_of answered.Done = Done
 reply_of (answered.Heaps heaps) = Heaps heaps.items
 reply_of (answered.Report report) = Report (report_of report)

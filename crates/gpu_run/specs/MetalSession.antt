@@ -7,7 +7,7 @@ use Rattle.gpu_device.specs.declared.metal.types.MTLHeap.{MTLHeap}
 use Rattle.gpu_memory_types.specs.Blocks.{BlocksWellFormed}
 use Rattle.gpu_pool.specs.Allocate.{Environment, NothingMet, NoHostMemory, Answered}
 use Rattle.gpu_pool.specs.Reply as answers
-use Rattle.gpu_pool.specs.Allocation.{AreDistinct, IsGiven}
+use Rattle.gpu_pool.specs.Allocation.{AreDistinct, IsAllocated}
 use Rattle.gpu_metal.specs.Live.{Allocation, IsLive}
 use Rattle.gpu_metal.specs.State.{Model}
 use Rattle.gpu_metal.specs.Step as model
@@ -17,7 +17,7 @@ use Rattle.gpu_run.specs.Bindings.{Bindings, bind, AreOwn}
 use Rattle.gpu_run.specs.MetalCommand.{KeyCommand, Alloc, Free, SessionCommand, Under, Heaps, Commit, Report, Capacity, SetBudget}
 use Rattle.gpu_run.specs.MetalDescribe.{Described, described, AsksFor}
 use Rattle.gpu_run.specs.MetalReply as replies
-use Rattle.gpu_run.specs.MetalReply.{SessionReply, Given, Done, Busy, Unbound, Error, shown}
+use Rattle.gpu_run.specs.MetalReply.{SessionReply, Allocated, Done, Busy, Unbound, Error, shown}
 use Rattle.gpu_run.specs.declared.metal.describe.Wanted.{Wanted}
 
 -- ---- states
@@ -57,7 +57,7 @@ Stays met old new = (met ≡ NothingMet) × (new ≡ old)
 
 -- what the allocator's reply to a request binds and is answered
 abbrev pub Binds : (key : ℕ) (name : List ℕ) → answers.Reply MTLHeap → SessionReply → (old new : Bindings Allocation) → Type 0
-Binds key name (answers.Allocated t p) reply old new = (a : Allocation) × IsGiven t name p a × (reply ≡ Given (shown t p)) × (new ≡ bind old key (Some a))
+Binds key name (answers.Allocated t p) reply old new = (a : Allocation) × IsAllocated t name p a × (reply ≡ Allocated (shown t p)) × (new ≡ bind old key (Some a))
 Binds key name (answers.Error r) reply old new = (reply ≡ Error r) × (new ≡ old)
 Binds key name _ reply old new = ⊥
 

@@ -14,7 +14,7 @@ pub record Shown : Type 0 where
   pub mapped : Bool
 
 pub data SessionReply : Type 0 where
-  Given : (shown : Shown) → SessionReply
+  Allocated : (shown : Shown) → SessionReply
   Done : SessionReply
   Bytes : (bytes : List ℕ) → SessionReply
   Report : (report : reports.Report) → SessionReply

@@ -13,13 +13,13 @@ use Rattle.gpu_vulkan.specs.declared.allocation.Allocation.{Allocation}
 use Rattle.gpu_run.specs.Bindings.{bindings_of}
 use Rattle.gpu_run.specs.VulkanReply as replies
 use Rattle.gpu_run.specs.VulkanCommand.{SessionCommand, Alloc, Null, Free, Rename, Write, Read, Under, Report, Leaks, Capacity, SetBudget}
-use Rattle.gpu_run.specs.VulkanReply.{Shown, SessionReply, Given, Done, Bytes, Busy, Unbound, Unmapped, OutOfRange, Error}
+use Rattle.gpu_run.specs.VulkanReply.{Shown, SessionReply, Allocated, Done, Bytes, Busy, Unbound, Unmapped, OutOfRange, Error}
 use Rattle.gpu_run.specs.VulkanSession.{SessionState, SessionInvariant, CommandEnvironment, Serves, Runs}
 use Rattle.gpu_run.specs.declared.vulkan.command.Command.{Command}
 use Rattle.gpu_run.specs.declared.vulkan.command.Command.TheVariants as asked
 use Rattle.gpu_run.specs.declared.vulkan.reply.Reply.{Reply}
 use Rattle.gpu_run.specs.declared.vulkan.reply.Reply.TheVariants as answered
-use Rattle.gpu_run.specs.declared.vulkan.reply.Given.{Given as GivenPiece}
+use Rattle.gpu_run.specs.declared.vulkan.reply.Allocated.{Allocated as AllocatedPiece}
 
 abbrev pub command_of : Command → SessionCommand
 command_of (asked.Alloc key requirements location linear scheme name) =
@@ -34,7 +34,7 @@ command_of asked.Leaks = Leaks
 command_of asked.Capacity = Capacity
 command_of (asked.SetBudget t budget) = SetBudget t budget
 
-abbrev pub shown_of : GivenPiece → Shown
+abbrev pub shown_of : AllocatedPiece → Shown
 shown_of g = record {
   memory_type = g.memory_type;
   slot = g.slot;
@@ -58,7 +58,7 @@ shown_allocation a = record {
 }
 
 abbrev pub reply_of : Reply → SessionReply
-reply_of (answered.Given g) = Given (shown_of g)
+reply_of (answered.Allocated g) = Allocated (shown_of g)
 reply_of answered.Done = Done
 reply_of (answered.Bytes bytes) = Bytes bytes.items
 reply_of (answered.Report report) = replies.Report (report_of report)

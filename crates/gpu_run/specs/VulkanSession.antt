@@ -6,9 +6,9 @@ use Rattle.gpu_core.specs.declared.piece.Piece.{Piece}
 use Rattle.gpu_device.specs.declared.vulkan.types.DeviceMemory.{DeviceMemory}
 use Rattle.gpu_vulkan.specs.Types.{is_mapped}
 use Rattle.gpu_memory_types.specs.Blocks.{BlocksWellFormed}
-use Rattle.gpu_vulkan.specs.Describe.{is_own}
+use Rattle.gpu_vulkan.specs.Describe.{requests_dedicated}
 use Rattle.gpu_vulkan.specs.Lends.{AreDistinct}
-use Rattle.gpu_vulkan.specs.Live.{piece_of, null_allocation, IsLive, IsGiven}
+use Rattle.gpu_vulkan.specs.Live.{piece_of, null_allocation, IsLive, IsAllocated}
 use Rattle.gpu_vulkan.specs.Rename.{IsNamed}
 use Rattle.gpu_vulkan.specs.Setup.{Setup}
 use Rattle.gpu_vulkan.specs.Reply as answers
@@ -19,7 +19,7 @@ use Rattle.gpu_vulkan.specs.declared.describe.AllocationCreateDesc.{AllocationCr
 use Rattle.gpu_run.specs.Bindings.{Bindings, bind}
 use Rattle.gpu_run.specs.VulkanCommand.{Wanted, Describes, KeyCommand, Alloc, Null, Free, Rename, Write, Read, SessionCommand, Under, Report, Leaks, Capacity, SetBudget}
 use Rattle.gpu_run.specs.VulkanReply as replies
-use Rattle.gpu_run.specs.VulkanReply.{Shown, SessionReply, Given, Done, Bytes, Busy, Unbound, Unmapped, OutOfRange, Error}
+use Rattle.gpu_run.specs.VulkanReply.{Shown, SessionReply, Allocated, Done, Bytes, Busy, Unbound, Unmapped, OutOfRange, Error}
 
 -- ---- states
 
@@ -40,7 +40,7 @@ shown setup w t p = record {
   offset = p.offset;
   size = p.size;
   number = non_zero_u64_get p.number;
-  dedicated = is_own w.scheme;
+  dedicated = requests_dedicated w.scheme;
   mapped = is_mapped setup.properties t;
 }
 
@@ -57,7 +57,7 @@ Stays o old new = MeetsNothing o.call × (new ≡ old)
 
 -- what the allocator's reply to a request binds and is answered
 abbrev pub Binds : Setup → (key : ℕ) → Wanted → AllocationCreateDesc → answers.Reply → SessionReply → (old new : Bindings Allocation) → Type 0
-Binds setup key w d (answers.Given t p) reply old new = (a : Allocation) × IsGiven setup t d p a × (reply ≡ Given (shown setup w t p)) × (new ≡ bind old key (Some a))
+Binds setup key w d (answers.Allocated t p) reply old new = (a : Allocation) × IsAllocated setup t d p a × (reply ≡ Allocated (shown setup w t p)) × (new ≡ bind old key (Some a))
 Binds setup key w d (answers.Error r) reply old new = (reply ≡ Error r) × (new ≡ old)
 Binds setup key w d _ reply old new = ⊥
 
@@ -147,7 +147,7 @@ ServesAt setup key (Some a) command o reply old new = ServesBound setup key a co
 
 -- what is answered of the allocator's reply to a call that is no one number's
 abbrev pub reply_by : answers.Reply → Option SessionReply
-reply_by (answers.Given t p) = None
+reply_by (answers.Allocated t p) = None
 reply_by (answers.Error r) = Some (Error r)
 reply_by answers.Done = Some Done
 reply_by (answers.Bytes bytes) = None

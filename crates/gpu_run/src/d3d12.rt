@@ -7,5 +7,5 @@ mod reply;
 mod session;
 
 pub use command::{Command, Memory, WantedResource};
-pub use reply::{Given, Made, Reply};
+pub use reply::{Allocated, Made, Reply};
 pub use session::Session;

@@ -23,7 +23,7 @@ pub trait Machine {
         ensures { serves self.old command.now result self.new };
 }
 
-/// Serves commands one after another, and answers a reply for each. Room for all replies is made first: where it is refused,
+/// Serves commands one after another, and answers a reply for each. PendingBlock for all replies is made first: where it is refused,
 /// the answer is `HostOutOfMemory` and nothing has run.
 pub fn run<M: Machine, L: Log>(
     alloc: Global,

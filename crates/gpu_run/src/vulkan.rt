@@ -6,5 +6,5 @@ mod reply;
 mod session;
 
 pub use command::Command;
-pub use reply::{Given, Reply};
+pub use reply::{Allocated, Reply};
 pub use session::Session;

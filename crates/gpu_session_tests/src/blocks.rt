@@ -8,7 +8,7 @@ use std::test::Fail;
 
 /// A request for `size` bytes.
 fn take_of(alloc: Global, key: u64, size: u64) -> std::result::Result<Command, AllocError> {
-    Ok(Command::Take {
+    Ok(Command::Allocate {
         key,
         size,
         alignment: 4,
@@ -26,8 +26,8 @@ fn commands(alloc: Global) -> std::result::Result<Vec<Command>, AllocError> {
     commands.push(take_of(alloc, 2, 1)?)?;
     commands.push(take_of(alloc, 4, 0)?)?;
     commands.push(Command::Report)?;
-    commands.push(Command::Give { key: 2 })?;
-    commands.push(Command::Give { key: 2 })?;
+    commands.push(Command::Free { key: 2 })?;
+    commands.push(Command::Free { key: 2 })?;
     commands.push(Command::Block {
         side: Side::Host,
         min: 1,
@@ -42,8 +42,8 @@ fn commands(alloc: Global) -> std::result::Result<Vec<Command>, AllocError> {
 fn told(reply: &Reply) -> (&'static str, u64, u64) {
     match reply {
         Reply::Block { size } => ("block", *size, 0),
-        Reply::Taken { offset, chunk } => ("taken", *offset, chunk.get()),
-        Reply::Given => ("given", 0, 0),
+        Reply::Allocated { offset, chunk } => ("taken", *offset, chunk.get()),
+        Reply::Freed => ("given", 0, 0),
         Reply::Refused(ErrorNumber::E1) => ("refused", 1, 0),
         Reply::Refused(ErrorNumber::E4) => ("refused", 4, 0),
         Reply::Refused(_) => ("refused", 0, 0),

@@ -3,7 +3,7 @@
 mod refused;
 
 use gpu_allocator::vulkan::*;
-use gpu_run::vulkan::{Command, Given, Reply, Session};
+use gpu_run::vulkan::{Command, Allocated, Reply, Session};
 use gpu_sim::SimVulkan;
 use gpu_values::{AllocationError, AllocationSizes, AllocatorDebugSettings, MemoryLocation};
 use log::sink::Discard;
@@ -179,7 +179,7 @@ fn one(
 /// Where a new allocation lies, and its number.
 fn given_at(reply: &Reply) -> Option<(u64, u64, u64)> {
     match reply {
-        Reply::Given(given) => Some((given.offset, given.size, given.chunk.get())),
+        Reply::Allocated(given) => Some((given.offset, given.size, given.chunk.get())),
         _ => None,
     }
 }
@@ -199,7 +199,7 @@ fn is_bytes(reply: &Reply, bytes: &[u8]) -> bool {
 #[derive(Clone, Copy)]
 enum Answer {
     /// The offset, size and number of a new allocation.
-    Given(u64, u64, u64),
+    Allocated(u64, u64, u64),
     Done,
     Bytes(&'static [u8]),
     Unbound,
@@ -212,7 +212,7 @@ enum Answer {
 
 fn is_answer(reply: &Reply, want: Answer) -> bool {
     match want {
-        Answer::Given(offset, size, number) => given_at(reply) == Some((offset, size, number)),
+        Answer::Allocated(offset, size, number) => given_at(reply) == Some((offset, size, number)),
         Answer::Done => is_done(reply),
         Answer::Bytes(bytes) => is_bytes(reply, bytes),
         Answer::Unbound => matches!(reply, Reply::Unbound),
@@ -244,8 +244,8 @@ fn make_calls(
 fn check_first(rt: &impl Abort, s: &mut Session<SimVulkan>, alloc: Global) -> Outcome {
     let first = one(s, alloc_of(alloc, 1, 4, "a")?, alloc)?;
     match &first {
-        Reply::Given(given) => {
-            let Given {
+        Reply::Allocated(given) => {
+            let Allocated {
                 memory_type,
                 slot,
                 offset,
@@ -264,11 +264,11 @@ fn check_first(rt: &impl Abort, s: &mut Session<SimVulkan>, alloc: Global) -> Ou
 
 /// A second piece, and a third one that has the place of the first.
 const USED_AGAIN: &[(Call, Answer)] = &[
-    (Call::Upload(2, 4, "b"), Answer::Given(4, 4, 3)),
+    (Call::Upload(2, 4, "b"), Answer::Allocated(4, 4, 3)),
     (Call::Write(1, 0, &[1, 2, 3, 4]), Answer::Done),
     (Call::Write(2, 0, &[5, 6, 7, 8]), Answer::Done),
     (Call::Free(1), Answer::Done),
-    (Call::Upload(3, 4, "c"), Answer::Given(0, 4, 2)),
+    (Call::Upload(3, 4, "c"), Answer::Allocated(0, 4, 2)),
     (Call::Read(3, 0, 4), Answer::Bytes(&[1, 2, 3, 4])),
     (Call::Write(3, 0, &[9, 9, 9, 9]), Answer::Done),
     (Call::Read(2, 1, 3), Answer::Bytes(&[6, 7, 8])),
@@ -316,7 +316,7 @@ fn each_number_out_of_place_is_told(rt: HostRuntime) -> Outcome {
 /// A request for nothing, which leaves its number free, and ranges that end past a piece.
 const SIZES: &[(Call, Answer)] = &[
     (Call::Upload(1, 0, "a"), Answer::Invalid),
-    (Call::Upload(1, 4, "a"), Answer::Given(0, 4, 2)),
+    (Call::Upload(1, 4, "a"), Answer::Allocated(0, 4, 2)),
     (Call::Write(1, 3, &[1, 2]), Answer::OutOfRange),
     (Call::Read(1, 1, 4), Answer::OutOfRange),
 ];
@@ -332,7 +332,7 @@ fn each_size_out_of_range_is_told(rt: HostRuntime) -> Outcome {
 
 /// A piece that gets another name.
 const NAMED: &[(Call, Answer)] = &[
-    (Call::Upload(7, 100, "a"), Answer::Given(0, 100, 2)),
+    (Call::Upload(7, 100, "a"), Answer::Allocated(0, 100, 2)),
     (Call::Rename(7, "b"), Answer::Done),
 ];
 

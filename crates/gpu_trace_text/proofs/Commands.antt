@@ -4,7 +4,7 @@ use Rattle.std.specs.Prelude.{codes}
 use Rattle.std.specs.Borrow.{Bor}
 use Rattle.std.specs.Fmt.{decimal}
 use Rattle.gpu_run.specs.declared.block.command.Command.{Command}
-use Rattle.gpu_run.specs.declared.block.command.Command.TheVariants.{Block, Take, Give, Report}
+use Rattle.gpu_run.specs.declared.block.command.Command.TheVariants.{Block, Allocate, Free, Report}
 use Rattle.gpu_trace_text.specs.BlockCommand.{IsPowerOfTwo, Spells}
 use Rattle.gpu_trace_text.specs.Words.{texts}
 
@@ -12,6 +12,6 @@ pub granularity_only : (arguments : List (Bor (List ℕ))) (d : Bor (List ℕ)) 
     (codes "block" ∷ texts arguments) x → ⊥
 granularity_only (a ∷ b ∷ m ∷ k ∷ e ∷ rest) d h (Block s x y z g) f = h g f.fits.3 f.fits.4 (let i = f.is in cc)
 granularity_only arguments d h (Block s x y z g) f = let i = f.is in cc
-granularity_only arguments d h (Take k n a y t) f = let i = f.is in cc
-granularity_only arguments d h (Give k) f = let i = f.is in cc
+granularity_only arguments d h (Allocate k n a y t) f = let i = f.is in cc
+granularity_only arguments d h (Free k) f = let i = f.is in cc
 granularity_only arguments d h Report f = let i = f.is in cc

@@ -58,8 +58,8 @@ by_words (w ∷ ws) = by_word w
 
 of_command : (c : block_commands.Command) → by_words (block.words c) ≡ sort_of_command c
 of_command (blocks.Block side min max count granularity) = refl
-of_command (blocks.Take key size alignment kind name) = refl
-of_command (blocks.Give key) = refl
+of_command (blocks.Allocate key size alignment kind name) = refl
+of_command (blocks.Free key) = refl
 of_command blocks.Report = refl
 
 of_setting : (s : settings.Setting) → by_words (setting.words s) ≡ sort_of_setting s
@@ -110,8 +110,8 @@ blank_sort (b ∷ bs) h = rw h (remark_word (words_of bs))
 something : (l : Line) → Says l → sort_of l ≡ says_nothing → ⊥
 something lines.Blank s e = s
 something (lines.Says (blocks.Block side min max count granularity)) s e = cc
-something (lines.Says (blocks.Take key size alignment kind name)) s e = cc
-something (lines.Says (blocks.Give key)) s e = cc
+something (lines.Says (blocks.Allocate key size alignment kind name)) s e = cc
+something (lines.Says (blocks.Free key)) s e = cc
 something (lines.Says blocks.Report) s e = cc
 something (lines.Configures (Heap size)) s e = cc
 something (lines.Configures (MemoryType flags heap)) s e = cc

@@ -7,7 +7,7 @@ use Rattle.gpu_run.specs.declared.block.command.Side.TheVariants.{Device, Host}
 use Rattle.gpu_run.specs.declared.block.command.Kind.{Kind}
 use Rattle.gpu_run.specs.declared.block.command.Kind.TheVariants.{Linear, NonLinear}
 use Rattle.gpu_run.specs.declared.block.command.Command.{Command}
-use Rattle.gpu_run.specs.declared.block.command.Command.TheVariants.{Block, Take, Give, Report}
+use Rattle.gpu_run.specs.declared.block.command.Command.TheVariants.{Block, Allocate, Free, Report}
 use Rattle.gpu_trace_text.specs.Words.{IsName}
 
 abbrev pub side_word : Side → List ℕ
@@ -20,8 +20,8 @@ kind_word NonLinear = codes "nonlinear"
 
 abbrev pub words : Command → List (List ℕ)
 words (Block side min max count granularity) = codes "block" ∷ side_word side ∷ decimal min ∷ decimal max ∷ decimal count ∷ decimal granularity ∷ []
-words (Take key size alignment kind name) = codes "take" ∷ decimal key ∷ decimal size ∷ decimal alignment ∷ kind_word kind ∷ string_bytes name ∷ []
-words (Give key) = codes "give" ∷ decimal key ∷ []
+words (Allocate key size alignment kind name) = codes "take" ∷ decimal key ∷ decimal size ∷ decimal alignment ∷ kind_word kind ∷ string_bytes name ∷ []
+words (Free key) = codes "give" ∷ decimal key ∷ []
 words Report = codes "report" ∷ []
 
 pub record IsPowerOfTwo (n : ℕ) : Type 0 where
@@ -30,8 +30,8 @@ pub record IsPowerOfTwo (n : ℕ) : Type 0 where
 -- what a command's numbers and names may be
 abbrev pub Fits : Command → Type 0
 Fits (Block side min max count granularity) = (min < 2 ^ 64) × (max < 2 ^ 64) × (count < 2 ^ 64) × (granularity < 2 ^ 64) × IsPowerOfTwo granularity
-Fits (Take key size alignment kind name) = (key < 2 ^ 64) × (size < 2 ^ 64) × (alignment < 2 ^ 64) × IsName (string_bytes name)
-Fits (Give key) = key < 2 ^ 64
+Fits (Allocate key size alignment kind name) = (key < 2 ^ 64) × (size < 2 ^ 64) × (alignment < 2 ^ 64) × IsName (string_bytes name)
+Fits (Free key) = key < 2 ^ 64
 Fits Report = Unit {0}
 
 -- these words are the command's

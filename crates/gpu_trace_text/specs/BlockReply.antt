@@ -5,7 +5,7 @@ use Rattle.std.specs.Fmt.{decimal}
 use Rattle.std.specs.Int.NonZero.{non_zero_u64_get}
 use Rattle.gpu_run.specs.ErrorNumber.{number_text}
 use Rattle.gpu_run.specs.declared.block.reply.Reply.{Reply}
-use Rattle.gpu_run.specs.declared.block.reply.Reply.TheVariants.{Block, Taken, Given, Refused, Busy, Unbound}
+use Rattle.gpu_run.specs.declared.block.reply.Reply.TheVariants.{Block, Allocated, Freed, Refused, Busy, Unbound}
 use Rattle.gpu_run.specs.declared.block.reply.Reply.TheVariants as replies
 use Rattle.gpu_run.specs.declared.block.reply.Report.{Report}
 use Rattle.gpu_values.specs.Report.{Row, row_of}
@@ -23,8 +23,8 @@ report_text r = flat_map piece_line (map row_of r.pieces.items) ++ sums_text r
 
 abbrev pub reply_text : Reply → List ℕ
 reply_text (Block size) = codes "block " ++ decimal size
-reply_text (Taken offset chunk) = codes "ok offset " ++ (decimal offset ++ (codes " chunk " ++ decimal (non_zero_u64_get chunk)))
-reply_text Given = codes "ok"
+reply_text (Allocated offset chunk) = codes "ok offset " ++ (decimal offset ++ (codes " chunk " ++ decimal (non_zero_u64_get chunk)))
+reply_text Freed = codes "ok"
 reply_text (Refused number) = codes "error " ++ number_text number
 reply_text Busy = codes "busy"
 reply_text Unbound = codes "unbound"

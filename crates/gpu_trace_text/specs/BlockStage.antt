@@ -5,13 +5,13 @@ use Rattle.gpu_values.specs.Sizes.{Sizes, only_size, with_largest, shared_block_
 use Rattle.gpu_run.specs.declared.block.command.Side.{Side}
 use Rattle.gpu_run.specs.declared.block.command.Side.TheVariants.{Device, Host}
 use Rattle.gpu_run.specs.declared.block.command.Command.{Command}
-use Rattle.gpu_run.specs.declared.block.command.Command.TheVariants.{Block, Take, Give, Report}
+use Rattle.gpu_run.specs.declared.block.command.Command.TheVariants.{Block, Allocate, Free, Report}
 use Rattle.gpu_run.specs.declared.error_number.ErrorNumber.TheVariants.{E10}
 use Rattle.gpu_run.specs.declared.block.reply.Reply.{Reply}
 use Rattle.gpu_run.specs.declared.block.reply.Reply.TheVariants as replies
 use Rattle.gpu_run.specs.BlockCommand.{is_host, type_of_kind}
 use Rattle.gpu_trace_text.specs.Sort.{Sort, opens_block, uses_block, reports}
-use Rattle.gpu_run.specs.BlockSession.{unused, Taking, Giving, Reporting}
+use Rattle.gpu_run.specs.BlockSession.{unused, Allocating, Freeing, Reporting}
 use Rattle.gpu_trace_text.specs.declared.block_stage.BlockStage.{BlockStage}
 use Rattle.gpu_trace_text.specs.declared.block_stage.BlockStage.TheVariants.{Before, Open, Closed}
 
@@ -35,15 +35,15 @@ Admits _ _ = ⊥
 abbrev pub Opening : ℕ → ℕ → Reply → BlockStage → Type 0
 Opening size granularity (replies.Block n) new = (n ≡ size) × (new ≡ Open (unused size granularity))
 Opening size granularity (replies.Refused number) new = (number ≡ E10) × (new ≡ Closed)
-Opening size granularity (replies.Taken offset chunk) new = ⊥
-Opening size granularity replies.Given new = ⊥
+Opening size granularity (replies.Allocated offset chunk) new = ⊥
+Opening size granularity replies.Freed new = ⊥
 Opening size granularity replies.Busy new = ⊥
 Opening size granularity replies.Unbound new = ⊥
 Opening size granularity (replies.Report report) new = ⊥
 
 abbrev pub Step : BlockStage → Command → Reply → BlockStage → Type 0
 Step Before (Block side min max count granularity) r new = Opening (block_size side min max count) granularity r new
-Step (Open s) (Take key size alignment kind name) r (Open t) = Taking s key (request size alignment (type_of_kind kind) (string_bytes name)) r t
-Step (Open s) (Give key) r (Open t) = Giving s key r t
+Step (Open s) (Allocate key size alignment kind name) r (Open t) = Allocating s key (request size alignment (type_of_kind kind) (string_bytes name)) r t
+Step (Open s) (Free key) r (Open t) = Freeing s key r t
 Step (Open s) Report r (Open t) = Reporting s r × (t ≡ s)
 Step old c r new = ⊥

@@ -6,7 +6,7 @@ use Rattle.std.specs.Int.NonZero.{non_zero_u64_get}
 use Rattle.gpu_values.specs.declared.report.AllocatorReport.{AllocatorReport}
 use Rattle.gpu_values.specs.declared.report.MemoryBlockReport.{MemoryBlockReport}
 use Rattle.gpu_values.specs.Report.{row_of}
-use Rattle.gpu_run.specs.declared.vulkan.reply.Given.{Given}
+use Rattle.gpu_run.specs.declared.vulkan.reply.Allocated.{Allocated}
 use Rattle.gpu_run.specs.declared.vulkan.reply.Reply as told
 use Rattle.gpu_run.specs.declared.vulkan.reply.Reply.TheVariants as replies
 use Rattle.gpu_trace_text.specs.BlockReply.{piece_line}
@@ -19,8 +19,8 @@ abbrev pub bool_text : Bool → List ℕ
 bool_text true = codes "true"
 bool_text false = codes "false"
 
-abbrev pub given_text : Given → List ℕ
-given_text g =
+abbrev pub allocated_text : Allocated → List ℕ
+allocated_text g =
     codes "ok type " ++ (decimal g.memory_type ++ (codes " slot " ++ (decimal g.slot ++ (codes " offset " ++ (decimal g.offset ++ (codes " size " ++ (decimal g.size
     ++ (codes " chunk " ++ (decimal (non_zero_u64_get g.chunk) ++ (codes " dedicated " ++ (bool_text g.dedicated ++ (codes " mapped " ++ bool_text g.mapped))))))))))))
 
@@ -42,7 +42,7 @@ abbrev pub leaks_text : List (List ℕ) → List ℕ
 leaks_text texts = flat_map leak_line texts ++ (codes "leaks " ++ decimal (length texts))
 
 abbrev pub served_text : told.Reply → List ℕ
-served_text (replies.Given g) = given_text g
+served_text (replies.Allocated g) = allocated_text g
 served_text replies.Done = codes "ok"
 served_text (replies.Bytes bytes) = hex bytes.items
 served_text (replies.Report r) = report_text r

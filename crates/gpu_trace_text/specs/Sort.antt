@@ -25,8 +25,8 @@ pub data Sort : Type 0 where
 
 abbrev pub sort_of_command : block_commands.Command → Sort
 sort_of_command (blocks.Block side min max count granularity) = opens_block
-sort_of_command (blocks.Take key size alignment kind name) = uses_block
-sort_of_command (blocks.Give key) = uses_block
+sort_of_command (blocks.Allocate key size alignment kind name) = uses_block
+sort_of_command (blocks.Free key) = uses_block
 sort_of_command blocks.Report = reports
 
 abbrev pub sort_of_setting : settings.Setting → Sort

@@ -42,18 +42,18 @@ impl BlockStage {
                     let size = block_size(*side, *min, *max, *count);
                     Some(self.open(alloc, size, *granularity))
                 }
-                Command::Take { .. } | Command::Give { .. } | Command::Report => None,
+                Command::Allocate { .. } | Command::Free { .. } | Command::Report => None,
             },
             BlockStage::Open(session) => match command {
                 Command::Block { .. } => None,
-                Command::Take {
+                Command::Allocate {
                     key,
                     size,
                     alignment,
                     kind,
                     name,
-                } => Some(session.take(*key, *size, *alignment, *kind, name.as_str())),
-                Command::Give { key } => Some(session.give(*key)),
+                } => Some(session.allocate(*key, *size, *alignment, *kind, name.as_str())),
+                Command::Free { key } => Some(session.free(*key)),
                 Command::Report => Some(session.report()),
             },
             BlockStage::Closed => None,

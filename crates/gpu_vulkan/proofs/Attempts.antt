@@ -10,9 +10,9 @@ use Rattle.gpu_device.specs.declared.vulkan.types.AllocationScheme.{AllocationSc
 use Rattle.gpu_device.specs.declared.vulkan.types.DeviceMemory.{DeviceMemory}
 use Rattle.gpu_memory_types.specs.Budgets.{Budgets}
 use Rattle.gpu_memory_types.proofs.Options.{none_some}
-use Rattle.gpu_vulkan.specs.Describe.{is_own, request_of}
+use Rattle.gpu_vulkan.specs.Describe.{requests_dedicated, request_of}
 use Rattle.gpu_vulkan.specs.Setup.{Setup}
-use Rattle.gpu_vulkan.specs.Types.{heap_size, is_mapped, kinds_told}
+use Rattle.gpu_vulkan.specs.Types.{heap_size, is_mapped, kinds_of_device}
 use Rattle.gpu_vulkan.specs.declared.describe.AllocationCreateDesc.{AllocationCreateDesc}
 use Rattle.gpu_pool.specs.Allocate as pools
 use Rattle.gpu_pool.specs.Allocate.{Environment, NothingMet, NoHostMemory, Answered, Serves}
@@ -58,12 +58,12 @@ constant_both old mid new a b = record { first = b.first ∙ a.first; setup = b.
 
 -- ---- a request of the pool
 
-module _ {D : Type 0} (g : Ghosts D) (i : ℕ) (d : AllocationCreateDesc) (old new : Pool D) (r : Request) (asks : asked r ≡ request_of d) (own : r.dedicated ≡ is_own d.allocation_scheme) where
+module _ {D : Type 0} (g : Ghosts D) (i : ℕ) (d : AllocationCreateDesc) (old new : Pool D) (r : Request) (asks : asked r ≡ request_of d) (own : r.dedicated ≡ requests_dedicated d.allocation_scheme) where
   abbrev setup : Setup
   setup = setup_of old
 
   abbrev kinds : List (Bool × ℕ)
-  kinds = kinds_told setup.properties
+  kinds = kinds_of_device setup.properties
 
   abbrev q : pools.RequestAt AllocationScheme
   q = pools.request_at i r d.allocation_scheme
@@ -135,7 +135,7 @@ begun_alike g i d here also budgets others old device result new after same alik
 
 -- a refused request leaves the slots
 served_same : (setup : Setup) (budgets : Budgets) (old : Slots) (t : ℕ) (d : AllocationCreateDesc) (met : Environment DeviceMemory) (r : Refusal) (new : Slots)
-    → Serves (kinds_told setup.properties) AnyQuestion (request_in t d) (unseen setup budgets old) met (Err r) (unseen setup budgets new) → new ≡ old
+    → Serves (kinds_of_device setup.properties) AnyQuestion (request_in t d) (unseen setup budgets old) met (Err r) (unseen setup budgets new) → new ≡ old
 served_same here budgets old t d NothingMet r new a = ap (λ (s : states.State (Unit {0}) DeviceMemory). s.slots) a.1
 served_same here budgets old t d NoHostMemory r new a = ap (λ (s : states.State (Unit {0}) DeviceMemory). s.slots) a.1
 served_same here budgets old t d (Answered size (Ok memory)) r new a = absurd a
@@ -165,7 +165,7 @@ module _ {D : Type 0} (g : Ghosts D) (mapped : Bool) (device after : D) where
 
   module _ (setup : Setup) (budgets : Budgets) (old : Slots) (t : ℕ) (d : AllocationCreateDesc) (o : AttemptEnvironment) (r : Refusal) (new : Slots) where
     served_held : (met : Environment DeviceMemory) → IsMet o met
-        → Serves (kinds_told setup.properties) AnyQuestion (request_in t d) (unseen setup budgets old) met (Err r) (unseen setup budgets new) → IsAfter g device mapped o.asked after
+        → Serves (kinds_of_device setup.properties) AnyQuestion (request_in t d) (unseen setup budgets old) met (Err r) (unseen setup budgets new) → IsAfter g device mapped o.asked after
         → g.held after ≡ g.held device
     served_held NothingMet is serves asked = unasked_held o.asked is.1 asked
     served_held NoHostMemory is serves asked = unasked_held o.asked is.1 asked

@@ -2,14 +2,14 @@
 use Rattle.std.proofs.Common.{◌≡◌, ◌≢◌, ◌∙◌, ℕ, ◌-◌, refl, sym, ap, subst, Bool, true, false, List, [], Option, Some, None, ⊎_elim}
 use Rattle.std.specs.Prelude.{if◌then◌else◌, ◌&&◌, ◌==◌}
 use Rattle.std.proofs.lemmas.Bool.{cases_eq, cases_Bool}
-use Rattle.gpu_block_pieces.proofs.Keyed.{eq_false, eq_true}
+use Rattle.gpu_block_pieces.proofs.OrderedLists.{eq_false, eq_true}
 use Rattle.gpu_block.specs.Block.{extents_of}
 use Rattle.gpu_core.specs.TypeState.{Slot}
 use Rattle.gpu_device.specs.Held.{Held, bytes_of}
 use Rattle.gpu_device.specs.declared.vulkan.types.DeviceMemory.{DeviceMemory}
 use Rattle.gpu_vulkan.specs.Blocks.{Slots}
 use Rattle.gpu_memory_types.specs.Blocks.{block_at}
-use Rattle.gpu_vulkan.specs.ByteView.{AllocationId, is_same_id, ByteView, byte_view_of, list_in, rest_in, piece_bytes, piece_of_number, byte_at, lies_in, IsOutOf, TakesOut, PutsBack, AddsBlock}
+use Rattle.gpu_vulkan.specs.ByteView.{AllocationId, is_same_id, ByteView, byte_view_of, list_in, rest_in, piece_bytes, piece_of_number, byte_at, lies_in, IsOutOf, SplitsRest, JoinsRest, AddsBlock}
 use Rattle.gpu_vulkan.specs.ByteView.{DropsBlock}
 use Rattle.gpu_vulkan.proofs.Joins.{OneMore}
 use Rattle.gpu_vulkan.proofs.Parts.{HasRoom, in_range, left_of, left_with, taken_list, no_piece, other_pieces, put_back}
@@ -81,7 +81,7 @@ rest_by t i test f old new others rest u j at =
 
 pub takes_out : (mapped : Bool) (t i n o size : ℕ) (old new : ByteView) → OthersSame t i old new → old.allocation_bytes (place t i n) ≡ None
     → IsOutOf mapped (old.unallocated_bytes t i) o size (new.allocation_bytes (place t i n)) → ((k : ℕ) → k ≢ n → new.allocation_bytes (place t i k) ≡ old.allocation_bytes (place t i k))
-    → ((at : ℕ) → new.unallocated_bytes t i at ≡ (if in_range o size at then None else old.unallocated_bytes t i at)) → TakesOut mapped (place t i n) o size old new
+    → ((at : ℕ) → new.unallocated_bytes t i at ≡ (if in_range o size at then None else old.unallocated_bytes t i at)) → SplitsRest mapped (place t i n) o size old new
 takes_out mapped t i n o size old new others fresh list lists rest = record {
   fresh = fresh;
   list = list;
@@ -91,7 +91,7 @@ takes_out mapped t i n o size old new others fresh list lists rest = record {
 
 pub puts_back : (t i n o size : ℕ) (old new : ByteView) → OthersSame t i old new → new.allocation_bytes (place t i n) ≡ None
     → ((k : ℕ) → k ≢ n → new.allocation_bytes (place t i k) ≡ old.allocation_bytes (place t i k))
-    → ((at : ℕ) → new.unallocated_bytes t i at ≡ (if in_range o size at then byte_at (old.allocation_bytes (place t i n)) (at - o) else old.unallocated_bytes t i at)) → PutsBack (place t i n) o size
+    → ((at : ℕ) → new.unallocated_bytes t i at ≡ (if in_range o size at then byte_at (old.allocation_bytes (place t i n)) (at - o) else old.unallocated_bytes t i at)) → JoinsRest (place t i n) o size
     old new
 puts_back t i n o size old new others gone lists rest = record {
   gone = gone;
@@ -139,7 +139,7 @@ module _ (held : Held) (old new : Slots) (t i : ℕ) (a b : Slot DeviceMemory) (
   others = same_blocks held held old new t i only.others (λ u j s away e. refl)
 
   -- a shared block serves: the device's bytes stay
-  pub served_byte_view : OneMore (extents_of a.block) (extents_of b.block) n o size → TakesOut mapped (place t i n) o size (byte_view_of held old) (byte_view_of held new)
+  pub served_byte_view : OneMore (extents_of a.block) (extents_of b.block) n o size → SplitsRest mapped (place t i n) o size (byte_view_of held old) (byte_view_of held new)
   served_byte_view one =
       let bytes = bytes_of held a.number.0 in
       let xs = extents_of a.block in
@@ -152,7 +152,7 @@ module _ (held : Held) (old new : Slots) (t i : ℕ) (a b : Slot DeviceMemory) (
       (λ at. rest_new at ∙ left_with bytes xs more n o size one at ∙ ap (λ r. if in_range o size at then None else r) (sym (rest_old at)))
 
   -- a piece goes and its block stays
-  pub released_byte_view : OneMore (extents_of b.block) (extents_of a.block) n o size → PutsBack (place t i n) o size (byte_view_of held old) (byte_view_of held new)
+  pub released_byte_view : OneMore (extents_of b.block) (extents_of a.block) n o size → JoinsRest (place t i n) o size (byte_view_of held old) (byte_view_of held new)
   released_byte_view one =
       let bytes = bytes_of held a.number.0 in
       let xs = extents_of b.block in
@@ -175,7 +175,7 @@ module _ (held now : Held) (old new : Slots) (t i : ℕ) (b : Slot DeviceMemory)
     (room : HasRoom mapped (bytes_of now b.number.0) o size)
     (stays : (u j : ℕ) (s : Slot DeviceMemory) → block_at old u j ≡ Some s → bytes_of now s.number.0 ≡ bytes_of held s.number.0) where
   -- a new block's piece is taken out of that block's bytes
-  pub installed_byte_view : OneMore [] (extents_of b.block) n o size → TakesOut mapped (place t i n) o size (with_new t i (bytes_of now b.number.0) (byte_view_of held old)) (byte_view_of now new)
+  pub installed_byte_view : OneMore [] (extents_of b.block) n o size → SplitsRest mapped (place t i n) o size (with_new t i (bytes_of now b.number.0) (byte_view_of held old)) (byte_view_of now new)
   installed_byte_view one =
       let bytes = bytes_of now b.number.0 in
       let more = extents_of b.block in
@@ -205,7 +205,7 @@ place_itself : (p : AllocationId) → is_same_id p p ≡ true
 place_itself p = ap (λ b. b && ((p.slot == p.slot) && (p.number == p.number))) (eq_true p.memory_type p.memory_type refl) ∙ ap (λ b. b && (p.number == p.number)) (eq_true p.slot p.slot refl) ∙
     eq_true p.number p.number refl
 
-pub with_back_puts : (p : AllocationId) (o size : ℕ) (old : ByteView) → PutsBack p o size old (with_back p o size old)
+pub with_back_puts : (p : AllocationId) (o size : ℕ) (old : ByteView) → JoinsRest p o size old (with_back p o size old)
 with_back_puts p o size old = record {
   gone = ap (λ b. if b then None else old.allocation_bytes p) (place_itself p);
   others = λ q isnt. ap (λ b. if b then None else old.allocation_bytes q) isnt;

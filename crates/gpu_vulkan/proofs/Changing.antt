@@ -14,7 +14,7 @@ use Rattle.gpu_device.proofs.Maps.{get-insert_same, get-insert_other, get-remove
 use Rattle.gpu_memory_types.proofs.Options.{none_some, some_same}
 use Rattle.gpu_pool.specs.Source.{HeldBlock, Adds, Removes, HoldsAfter}
 use Rattle.gpu_vulkan.specs.Source.{IsResult}
-use Rattle.gpu_vulkan.specs.BlockAnswer.{BlockAnswer, Declined, Granted, Mapped, NotMapped, Asks, Gives}
+use Rattle.gpu_vulkan.specs.BlockAnswer.{BlockAnswer, Declined, Granted, Mapped, NotMapped, Asks, IsResultOf}
 use Rattle.gpu_pool.specs.Source.{result_of}
 use Rattle.gpu_values.specs.declared.error.AllocationError.{AllocationError}
 use Rattle.gpu_vulkan.specs.Source.{new_block, blocks_of, HoldsFirst}
@@ -125,7 +125,7 @@ module _ {D : Type 0} (g : Ghosts D) (p : Properties) (first : Held) (old new : 
       (ap (λ (k : Held). get k number) is ∙ get-insert_same (insert held number (new_entry info)) number full)
       (λ m ne. ap (λ (k : Held). get k m) is ∙ get-insert_other (insert held number (new_entry info)) number m full ne ∙ get-insert_other held number m (new_entry info) ne)
 
-pub is_result : (result : Result DeviceMemory AllocationError) (answer : BlockAnswer) → Gives result answer → IsResult (result_of result) answer
+pub is_result : (result : Result DeviceMemory AllocationError) (answer : BlockAnswer) → IsResultOf result answer → IsResult (result_of result) answer
 is_result (Ok memory) answer is = is
 is_result (Err e) answer is = is
 

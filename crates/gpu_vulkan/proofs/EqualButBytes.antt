@@ -3,7 +3,7 @@ use Rattle.std.proofs.Common.{map, ◌≡◌, ◌∙◌, ℕ, ◌<◌, length, O
 use Rattle.std.specs.Prelude.{◌&&◌, not, if◌then◌else◌}
 use Rattle.gpu_values.specs.Refusal.{Refusal}
 use Rattle.gpu_block_pieces.specs.Leak.{leak_text}
-use Rattle.gpu_core.specs.TypeRelease.{has_several, ReleasesPiece}
+use Rattle.gpu_core.specs.TypeRelease.{has_others, ReleasesPiece}
 use Rattle.gpu_core.specs.declared.piece.Piece.{Piece}
 use Rattle.gpu_core.proofs.OneOutcome.{released_once}
 use Rattle.gpu_device.specs.declared.vulkan.event.Event.{Event}
@@ -24,17 +24,17 @@ use Rattle.gpu_vulkan.specs.Source.{IsResult}
 use Rattle.gpu_vulkan.proofs.Following.{next_below, best_below}
 use Rattle.gpu_vulkan.specs.Attempt.{AttemptEnvironment, Asked, Answer, IsMet, request_in, unseen, AnyQuestion, Allocates}
 use Rattle.gpu_vulkan.specs.BlockAnswer.{BlockAnswer, Declined, Granted, Mapped, NotMapped, answer_number, answer_refusal, question_recorded}
-use Rattle.gpu_vulkan.specs.Types.{is_mapped, kinds_told}
+use Rattle.gpu_vulkan.specs.Types.{is_mapped, kinds_of_device}
 use Rattle.gpu_vulkan.specs.Blocks.{Slots}
 use Rattle.gpu_memory_types.specs.Blocks.{slots_at, total_capacity, BlocksWellFormed}
 use Rattle.gpu_vulkan.specs.Choice.{first_type, required, best_type}
-use Rattle.gpu_vulkan.specs.Describe.{is_own, kind_of, request_of}
+use Rattle.gpu_vulkan.specs.Describe.{requests_dedicated, kind_of, request_of}
 use Rattle.gpu_vulkan.specs.Live.{piece_of, IsMapped}
 use Rattle.gpu_memory_types.specs.Leaks.{all_leaks}
 use Rattle.gpu_memory_types.specs.Reports.{whole_report}
 use Rattle.gpu_vulkan.specs.Setup.{Setup}
 use Rattle.gpu_vulkan.specs.Reply as replies
-use Rattle.gpu_vulkan.specs.Reply.{Reply, Given, Error, Done, Bytes, done_with, report_with, leaks_with}
+use Rattle.gpu_vulkan.specs.Reply.{Reply, Allocated, Error, Done, Bytes, done_with, report_with, leaks_with}
 use Rattle.gpu_vulkan.specs.Step.{ModelState, Call, Allocate, Free, Write, Rename, Report, Leaks, Read, Capacity, SetBudget, Budget}
 use Rattle.gpu_vulkan.specs.Step.{CallEnvironment, AttemptStep, reply_of, next_by, Follows, ServeStep, RefuseStep, FoundStep, AllocateStep, asked_recorded, went_recorded, FreeStep, host_met, RenameStep, IsRead, Step}
 use Rattle.gpu_vulkan.specs.declared.allocation.Allocation.{Allocation}
@@ -144,14 +144,14 @@ module _ (setup : Setup) (d e : AllocationCreateDesc) (same : EqualButBytesDescr
   same_request_in : (t : ℕ) → request_in t d ≡ request_in t e
   same_request_in t =
       let requests = same_request d e same in
-      λ j. record { memory_type = t; requested_dedicated = is_own (same.scheme j); request = requests j; extra = same.scheme j }
+      λ j. record { memory_type = t; requested_dedicated = requests_dedicated (same.scheme j); request = requests j; extra = same.scheme j }
 
   within_alike : (budgets : Budgets) (old : Slots) (t : ℕ) (o p : AttemptEnvironment) (x y : Answer) (new next : Slots) → t < length setup.properties.types
       → BlocksWellFormed setup.properties.granularity old → EqualButBytesAttemptEnvironment o p
       → IsWithinHeap setup budgets old t d o x new → IsWithinHeap setup budgets old t e p y next → (x ≡ y) × (new ≡ next)
   within_alike budgets old t o p x y new next there sound met a b =
       let k = b.allocates in
-      let kinds = kinds_told setup.properties in
+      let kinds = kinds_of_device setup.properties in
       let other : Allocates setup budgets old t d o y next = record {
         met = k.met;
         is_met = met_alike o p k.met met k.is_met;
@@ -247,7 +247,7 @@ bytes_alike x y xs ys e f h = subst (λ z. EqualButBytesReply z y) (sym e) (subs
 same_alike : (x y : Reply) → x ≡ y → EqualButBytesReply x y
 same_alike (Bytes (Some xs)) (Bytes (Some ys)) e = tt
 same_alike (Bytes (Some xs)) (Bytes None) e = e
-same_alike (Bytes (Some xs)) (Given t p) e = e
+same_alike (Bytes (Some xs)) (Allocated t p) e = e
 same_alike (Bytes (Some xs)) (Error r) e = e
 same_alike (Bytes (Some xs)) Done e = e
 same_alike (Bytes (Some xs)) (replies.Capacity n) e = e
@@ -255,7 +255,7 @@ same_alike (Bytes (Some xs)) (replies.Report r) e = e
 same_alike (Bytes (Some xs)) (replies.Leaks ts) e = e
 same_alike (Bytes (Some xs)) (replies.Budget n) e = e
 same_alike (Bytes None) y e = e
-same_alike (Given t p) y e = e
+same_alike (Allocated t p) y e = e
 same_alike (Error r) y e = e
 same_alike Done y e = e
 same_alike (replies.Capacity n) y e = e
@@ -272,8 +272,8 @@ free_history setup t (Some p) (Err r) old new twin next sound slots a b = unchan
 free_history setup t (Some p) (Ok u) old new twin next sound slots a b =
     let r = a.frees.slots in
     let s = b.frees.slots in
-    let there = subst (λ (ss : Slots). ReleasesPiece (IsTrue (has_several (slots_at ss t))) (slots_at ss t) p b.frees.went s.left) (sym slots) s.releases in
-    let went = (released_once setup.properties.granularity (IsTrue (has_several (slots_at old.slots t))) (slots_at old.slots t) p a.frees.went b.frees.went r.left s.left (sound t) r.releases there).0 in
+    let there = subst (λ (ss : Slots). ReleasesPiece (IsTrue (has_others (slots_at ss t))) (slots_at ss t) p b.frees.went s.left) (sym slots) s.releases in
+    let went = (released_once setup.properties.granularity (IsTrue (has_others (slots_at old.slots t))) (slots_at old.slots t) p a.frees.went b.frees.went r.left s.left (sound t) r.releases there).0 in
     λ h. a.recorded ∙ (λ i. went_recorded (is_mapped setup.properties t) (went i) (h i)) ∙ sym b.recorded
 
 -- ---- any call

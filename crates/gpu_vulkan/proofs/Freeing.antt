@@ -23,7 +23,7 @@ use Rattle.gpu_vulkan.specs.Types.{is_mapped}
 use Rattle.gpu_vulkan.specs.Blocks.{Slots, HoldsJustLiveBlocks, IsBlockEntry}
 use Rattle.gpu_memory_types.specs.Blocks.{slots_at, block_at, BlocksWellFormed}
 use Rattle.gpu_memory_types.specs.Held.{HasEntry}
-use Rattle.gpu_vulkan.specs.ByteView.{ByteView, byte_view_of, PutsBack}
+use Rattle.gpu_vulkan.specs.ByteView.{ByteView, byte_view_of, JoinsRest}
 use Rattle.gpu_vulkan.specs.BlockAnswer.{free_recorded}
 use Rattle.gpu_vulkan.specs.Free.{GivesBack, IsReleased}
 use Rattle.gpu_vulkan.specs.Free.{FreesPiece, Frees}
@@ -33,7 +33,7 @@ use Rattle.gpu_vulkan.specs.Setup.{Setup}
 use Rattle.gpu_pool.specs.Free as pools
 use Rattle.gpu_pool.specs.Free.{GivesBackAny}
 use Rattle.gpu_values.specs.Refusal.{Refusal, refusal_of}
-use Rattle.gpu_vulkan.specs.Source.{SourceState, GivesMemory}
+use Rattle.gpu_vulkan.specs.Source.{SourceState, GivesMemoryBack}
 use Rattle.gpu_vulkan.specs.State.{State, Pool, setup_of, IsConstant}
 use Rattle.gpu_vulkan.specs.Reply.{Done, done_with}
 use Rattle.gpu_vulkan.specs.Attempt.{unseen, AnyBlockBack}
@@ -79,7 +79,7 @@ module _ {D : Type 0} (g : Ghosts D) (setup : Setup) (first : Held) (t : ℕ) (o
     -- what is left of the bytes
     pub record Left (went : Option DeviceMemory) (held now : Held) (new : Slots) : Type 0 where
       pub mid : ByteView
-      pub back : PutsBack (id_in t p) p.offset p.size (byte_view_of held old) mid
+      pub back : JoinsRest (id_in t p) p.offset p.size (byte_view_of held old) mid
       pub drops : MayDrop t p.slot went mid (byte_view_of now new)
 
     settled_bytes : (several : Type 0) (a b : Option (Slot DeviceMemory)) (went : Option DeviceMemory) (device after : D)
@@ -174,13 +174,13 @@ module _ {D : Type 0} (g : Ghosts D) (setup : Setup) (first : Held) (t : ℕ) (o
 -- ---- from the pool's words
 
 module _ {D : Type 0} (g : Ghosts D) (old new : Pool D) where
-  back_of : (went : Option DeviceMemory) → GivesBackAny (GivesMemory g) old.source went new.source → GivesBack g old.source.device went new.source.device
+  back_of : (went : Option DeviceMemory) → GivesBackAny (GivesMemoryBack g) old.source went new.source → GivesBack g old.source.device went new.source.device
   back_of None is = ap (λ (s : SourceState D). s.device) is
   back_of (Some memory) k = record { held = k.held; history = k.history; count = k.count; latest = k.latest; constant = k.constant }
 
   module _ (a : Allocation) (p : Piece DeviceMemory) where
     abbrev FreesIt : Result (Unit {0}) Refusal → Type 0
-    FreesIt result = pools.Frees (GivesMemory g) is_same_memory a.memory_type_index p old result new
+    FreesIt result = pools.Frees (GivesMemoryBack g) is_same_memory a.memory_type_index p old result new
 
     pub piece_freed : FreesIt (Ok tt) → FreesPiece g a (Some p) old.slots old.source.device (Ok tt) new.slots new.source.device
     piece_freed f =
@@ -190,7 +190,7 @@ module _ {D : Type 0} (g : Ghosts D) (old new : Pool D) where
     pub piece_kept : (e : AllocationError) → FreesIt (Err (refusal_of e)) → FreesPiece g a (Some p) old.slots old.source.device (Err (e, a)) new.slots new.source.device
     piece_kept e f = (f.0, f.1, refl, ap (λ (s : Pool D). s.slots) f.2, ap (λ (s : Pool D). s.source.device) f.2)
 
-    source_constant : (went : Option DeviceMemory) → GivesBackAny (GivesMemory g) old.source went new.source → (new.source.first ≡ old.source.first) × (new.source.setup ≡ old.source.setup)
+    source_constant : (went : Option DeviceMemory) → GivesBackAny (GivesMemoryBack g) old.source went new.source → (new.source.first ≡ old.source.first) × (new.source.setup ≡ old.source.setup)
     source_constant None is = (ap (λ (s : SourceState D). s.first) is, ap (λ (s : SourceState D). s.setup) is)
     source_constant (Some memory) k = (ap (λ (s : SourceState D). s.first) k.state, ap (λ (s : SourceState D). s.setup) k.state)
 

@@ -13,7 +13,7 @@ use Rattle.gpu_block_pieces.specs.Changes.{with_extent, Takes, Releases}
 use Rattle.gpu_block.specs.Dedicated.{Dedicated, whole_extent, held_extents}
 use Rattle.gpu_block_pieces.specs.Laws.{IsSound}
 use Rattle.gpu_block_pieces.specs.Request.{Request}
-use Rattle.gpu_block_pieces.proofs.Keyed.{eq_false, eq_true}
+use Rattle.gpu_block_pieces.proofs.OrderedLists.{eq_false, eq_true}
 use Rattle.gpu_block_pieces.proofs.Live.{takes_new_number, piece_of, piece_held, here, there}
 use Rattle.gpu_block_pieces.proofs.Separation.{within_of, in_filter}
 use Rattle.gpu_vulkan.specs.ByteView.{piece_of_number, covers, is_covered}

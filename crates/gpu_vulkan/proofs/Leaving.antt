@@ -15,7 +15,7 @@ use Rattle.gpu_memory_types.specs.Held.{HasEntry}
 use Rattle.gpu_memory_types.specs.Types.{Types, slots_of, kinds}
 use Rattle.gpu_memory_types.proofs.Options.{none_some, some_same}
 use Rattle.gpu_memory_types.proofs.Types.{slots_past}
-use Rattle.gpu_vulkan.specs.Types.{is_host_visible, is_mapped, kinds_told}
+use Rattle.gpu_vulkan.specs.Types.{is_host_visible, is_mapped, kinds_of_device}
 use Rattle.gpu_pool.specs.Held.{HoldsJustBlocks, held_as}
 use Rattle.gpu_pool.specs.Source.{HeldBlock}
 use Rattle.gpu_pool.specs.State.{kind_at, IsSoundAt}
@@ -23,7 +23,7 @@ use Rattle.gpu_vulkan.specs.Blocks.{Slots, IsBlockEntry, HoldsJustLiveBlocks}
 use Rattle.gpu_device.specs.declared.vulkan.device.VulkanDevice.{Ghosts}
 use Rattle.gpu_pool.specs.Free.{GivesBackAll}
 use Rattle.gpu_vulkan.specs.BlockAnswer.{frees_recorded}
-use Rattle.gpu_vulkan.specs.Source.{SourceState, GivesMemory, new_block, blocks_of, HoldsFirst}
+use Rattle.gpu_vulkan.specs.Source.{SourceState, GivesMemoryBack, new_block, blocks_of, HoldsFirst}
 use Rattle.gpu_vulkan.proofs.Changing.{beside_blocks}
 
 -- ---- memory types
@@ -32,25 +32,25 @@ abbrev kind_of : (granularity : ℕ) → MemoryTypeInfo → Bool × ℕ
 kind_of granularity info = (is_host_visible info, granularity)
 
 -- what the device told of a memory type that is there
-pub kind_told : (p : Properties) (t : ℕ) → t < length p.types → kind_at (kinds_told p) t ≡ (is_mapped p t, p.granularity)
+pub kind_told : (p : Properties) (t : ℕ) → t < length p.types → kind_at (kinds_of_device p) t ≡ (is_mapped p t, p.granularity)
 kind_told p t below = by p.types t below
   where
-    by : (infos : List MemoryTypeInfo) (u : ℕ) → u < length infos → kind_at (kinds_told (record p { types = infos })) u ≡ (is_mapped (record p { types = infos }) u, p.granularity)
+    by : (infos : List MemoryTypeInfo) (u : ℕ) → u < length infos → kind_at (kinds_of_device (record p { types = infos })) u ≡ (is_mapped (record p { types = infos }) u, p.granularity)
     by [] u below = absurd (omega (arith, below))
     by (info ∷ infos) zero below = refl
     by (info ∷ infos) (suc u) below = by infos u (omega (arith, below))
 
 -- the blocks of a memory type that is there are sound
-pub sound_told : (p : Properties) (t : ℕ) → t < length p.types → (ss : Slots) → BlocksWellFormed p.granularity ss → IsSoundAt (kinds_told p) ss t
+pub sound_told : (p : Properties) (t : ℕ) → t < length p.types → (ss : Slots) → BlocksWellFormed p.granularity ss → IsSoundAt (kinds_of_device p) ss t
 sound_told p t below ss sound = subst (λ (k : Bool × ℕ). AreSound k.1 (slots_at ss t)) (sym (kind_told p t below)) (sound t)
 
 -- there are as many as the device told
-pub as_many : (p : Properties) (types : Types DeviceMemory) → kinds types ≡ kinds_told p → length (slots_of types) ≡ length p.types
+pub as_many : (p : Properties) (types : Types DeviceMemory) → kinds types ≡ kinds_of_device p → length (slots_of types) ≡ length p.types
 as_many p types same =
     length-map types (λ (t : TypeState DeviceMemory). t.slots) ∙ sym (length-map types (λ (t : TypeState DeviceMemory). (t.is_host, t.granularity))) ∙ ap (λ (ks : List (Bool × ℕ)). length ks) same
     ∙ length-map p.types (kind_of p.granularity)
 
-pub well_formed : (p : Properties) (types : Types DeviceMemory) → kinds types ≡ kinds_told p → ((t : ℕ) → IsSoundAt (kinds_told p) (slots_of types) t) → BlocksWellFormed p.granularity (slots_of types)
+pub well_formed : (p : Properties) (types : Types DeviceMemory) → kinds types ≡ kinds_of_device p → ((t : ℕ) → IsSoundAt (kinds_of_device p) (slots_of types) t) → BlocksWellFormed p.granularity (slots_of types)
 well_formed p types same sound t =
     ⊎_elim
     (λ below. subst (λ (k : Bool × ℕ). AreSound k.1 (slots_at (slots_of types) t)) (kind_told p t below) (sound t))
@@ -102,7 +102,7 @@ pub record Empties {D : Type 0} (g : Ghosts D) (old : SourceState D) (handles : 
   pub count : g.refused new.device ≡ g.refused old.device
   pub latest : g.latest new.device ≡ g.latest old.device
 
-pub empties : {D : Type 0} (g : Ghosts D) (old : SourceState D) (handles : List DeviceMemory) (new : SourceState D) → GivesBackAll (GivesMemory g) old handles new → Empties g old handles new
+pub empties : {D : Type 0} (g : Ghosts D) (old : SourceState D) (handles : List DeviceMemory) (new : SourceState D) → GivesBackAll (GivesMemoryBack g) old handles new → Empties g old handles new
 empties {D} g old [] new is =
     let device = ap (λ (s : SourceState D). s.device) is in
     record { first = ap (λ (s : SourceState D). s.first) is; history = ap g.history device; count = ap g.refused device; latest = ap g.latest device }

@@ -31,7 +31,7 @@ use Rattle.gpu_vulkan.specs.State.{State}
 use Rattle.gpu_vulkan.specs.Setup.{Setup}
 use Rattle.gpu_vulkan.specs.Reply as replies
 use Rattle.gpu_vulkan.specs.Reply.{Done, Bytes, done_with}
-use Rattle.gpu_vulkan.specs.Step.{SetBudget, Budget, done_as, model_of, id_of, IsRead, IsStep, Write, Read, Capacity, nothing_met}
+use Rattle.gpu_vulkan.specs.Step.{SetBudget, Budget, reply_of_done, model_of, id_of, IsRead, IsStep, Write, Read, Capacity, nothing_met}
 use Rattle.gpu_vulkan.specs.declared.allocation.Allocation.{Allocation}
 use Rattle.gpu_vulkan.proofs.ByteViews.{place, other_number}
 use Rattle.gpu_vulkan.proofs.Joins.{number_found, found_number, any_of, all_of}
@@ -267,7 +267,7 @@ budget_step g s t budget is = record {
   latest = refl;
 }
 
-pub done_reply : (result : Result (Unit {0}) AllocationError) → done_as result ≡ done_with (result_of result)
+pub done_reply : (result : Result (Unit {0}) AllocationError) → reply_of_done result ≡ done_with (result_of result)
 done_reply (Ok u) = refl
 done_reply (Err e) = refl
 
@@ -276,7 +276,7 @@ same_refusal (Ok u) = refl
 same_refusal (Err e) = refl
 
 pub set_step : {D : Type 0} (g : Ghosts D) (old new : State D) (t : ℕ) (budget : Option ℕ) (result : Result (Unit {0}) AllocationError) → new.device ≡ old.device → new.slots ≡ old.slots
-    → SetsBudget t budget old.budgets (refusal_in result) new.budgets → IsStep g (SetBudget t budget) (done_as result) old new
+    → SetsBudget t budget old.budgets (refusal_in result) new.budgets → IsStep g (SetBudget t budget) (reply_of_done result) old new
 set_step g old new t budget result device slots sets = record {
   environment = record { first = nothing_met; second = nothing_met };
   step = (

@@ -16,7 +16,7 @@ use Rattle.gpu_vulkan.specs.declared.describe.AllocationCreateDesc.{AllocationCr
 use Rattle.gpu_vulkan.specs.Apart.{IsInside, SharesNoByte, HasKind, KeepsPages}
 use Rattle.gpu_vulkan.specs.Blocks.{Slots}
 use Rattle.gpu_vulkan.specs.Lends.{AreDistinct, number_in}
-use Rattle.gpu_vulkan.specs.Live.{is_same_memory, IsLiveIn, piece_of, IsLive, IsGiven}
+use Rattle.gpu_vulkan.specs.Live.{is_same_memory, IsLiveIn, piece_of, IsLive, IsAllocated}
 use Rattle.gpu_vulkan.specs.Rename.{StayLive}
 use Rattle.gpu_vulkan.specs.declared.allocation.Allocation.{Allocation}
 
@@ -68,11 +68,11 @@ has : (a : Allocation) (p : Piece DeviceMemory) → piece_of a ≡ Some p → Ha
 has a p e = has_by a a.chunk_id refl p e
 
 -- an allocation begins where its piece does
-pub given_offset : (setup : Setup) (t : ℕ) (d : AllocationCreateDesc) (p : Piece DeviceMemory) (a : Allocation) → IsGiven setup t d p a → a.offset ≡ p.offset
+pub given_offset : (setup : Setup) (t : ℕ) (d : AllocationCreateDesc) (p : Piece DeviceMemory) (a : Allocation) → IsAllocated setup t d p a → a.offset ≡ p.offset
 given_offset setup t d p a is = (has a p is.piece).offset
 
 -- an allocation is live as its piece is, and as distinct
-pub given_live : (old new : Slots) (setup : Setup) (t : ℕ) (d : AllocationCreateDesc) (p : Piece DeviceMemory) (a : Allocation) → IsGiven setup t d p a → pool.IsNewlyLive is_same_memory old new t p
+pub given_live : (old new : Slots) (setup : Setup) (t : ℕ) (d : AllocationCreateDesc) (p : Piece DeviceMemory) (a : Allocation) → IsAllocated setup t d p a → pool.IsNewlyLive is_same_memory old new t p
     → IsLive new a × ((b : Allocation) → IsLive old b → AreDistinct b a)
 given_live old new setup t d p a is h =
     let k = has a p is.piece in (

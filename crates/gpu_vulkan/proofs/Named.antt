@@ -35,7 +35,7 @@ use Rattle.gpu_pool.specs.Source.{result_of}
 use Rattle.gpu_vulkan.specs.Attempt.{unseen}
 use Rattle.gpu_vulkan.specs.State.{State}
 use Rattle.gpu_vulkan.proofs.Listed.{done_reply}
-use Rattle.gpu_vulkan.specs.Step.{model_of, Rename, Report, Leaks, RenameStep, KeepsTheRest, IsStep, CallEnvironment, nothing_met, done_as, shown_as, told_as}
+use Rattle.gpu_vulkan.specs.Step.{model_of, Rename, Report, Leaks, RenameStep, KeepsTheRest, IsStep, CallEnvironment, nothing_met, reply_of_done, reply_of_report, reply_of_leaks}
 use Rattle.gpu_vulkan.specs.declared.allocation.Allocation.{Allocation}
 use Rattle.gpu_vulkan.proofs.OneStep.{byte_views_alike}
 use Rattle.gpu_memory_types.proofs.Placed.{OnlyBlock, only_block, some_below, same_place}
@@ -203,7 +203,7 @@ module _ {D : Type 0} (g : Ghosts D) (old new : State D) (device : new.device �
       (λ dead. record { host = true; step = ((record { dead = dead.0; other = dead.1; cause = dead.2 }, same_pool r.2), same_rest r.2) })
       r.0
 
-  pub rename_step : (a b : Allocation) (name : List ℕ) (result : Result (Unit {0}) AllocationError) → Renames a name old.slots result b new.slots → IsStep g (Rename a name) (done_as result) old new
+  pub rename_step : (a b : Allocation) (name : List ℕ) (result : Result (Unit {0}) AllocationError) → Renames a name old.slots result b new.slots → IsStep g (Rename a name) (reply_of_done result) old new
   rename_step a b name result r =
       let s = renaming a b (piece_of a) name result r in
       record {
@@ -215,12 +215,12 @@ module _ {D : Type 0} (g : Ghosts D) (old new : State D) (device : new.device �
 
 module _ {D : Type 0} (g : Ghosts D) (s : State D) where
   pub report_step : (result : Result AllocatorReport AllocationError) → IfOk result (λ r. report_of r ≡ whole_report s.slots) → IfErr result (λ e. e ≡ HostOutOfMemory) → IsStep g Report
-      (shown_as result) s s
+      (reply_of_report result) s s
   report_step (Ok r) told refused = record { environment = no_question true; step = ((refl, refl), Ok (report_of r), refl, told, refl); count = refl; latest = refl }
   report_step (Err e) told refused = record { environment = no_question false; step = ((refl, refl), Err (refusal_of e), refl, ap refusal_of refused, refl); count = refl; latest = refl }
 
   pub leaks_step : (result : Result (Vec (String Global) Global) AllocationError) → IfOk result (λ v. map string_bytes v.items ≡ map leak_text (all_leaks s.slots)) → IfErr result
       (λ e. e ≡ HostOutOfMemory)
-      → IsStep g Leaks (told_as result) s s
+      → IsStep g Leaks (reply_of_leaks result) s s
   leaks_step (Ok v) told refused = record { environment = no_question true; step = ((refl, refl), Ok (map string_bytes v.items), refl, told, refl); count = refl; latest = refl }
   leaks_step (Err e) told refused = record { environment = no_question false; step = ((refl, refl), Err (refusal_of e), refl, ap refusal_of refused, refl); count = refl; latest = refl }

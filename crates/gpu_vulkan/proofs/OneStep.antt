@@ -4,7 +4,7 @@ use Rattle.std.proofs.lemmas.Bool.{cases_Bool, cases_lt, eqb-true}
 use Rattle.std.proofs.lemmas.Option.{slice_get_past}
 use Rattle.std.specs.Prelude.{◌&&◌, ◌==◌}
 use Rattle.gpu_values.specs.Refusal.{Refusal}
-use Rattle.gpu_core.specs.TypeRelease.{has_several}
+use Rattle.gpu_core.specs.TypeRelease.{has_others}
 use Rattle.gpu_core.specs.declared.piece.Piece.{Piece}
 use Rattle.gpu_core.proofs.OneOutcome.{released_once}
 use Rattle.gpu_core.specs.Slots.{AreSound}
@@ -13,7 +13,7 @@ use Rattle.gpu_device.specs.declared.vulkan.types.DeviceMemory.{DeviceMemory}
 use Rattle.gpu_memory_types.specs.Budgets.{Budgets}
 use Rattle.gpu_vulkan.specs.Allocate.{Attempts, IsTooLarge, IsWithinHeap, is_valid}
 use Rattle.gpu_vulkan.specs.Attempt.{AttemptEnvironment, Asked, Answer, IsMet, request_in, unseen, AnyQuestion, AnyBlockBack}
-use Rattle.gpu_vulkan.specs.Types.{is_mapped, kinds_told}
+use Rattle.gpu_vulkan.specs.Types.{is_mapped, kinds_of_device}
 use Rattle.gpu_memory_types.proofs.Options.{none_some, some_same}
 use Rattle.gpu_pool.specs.Allocate.{Environment, NothingMet, NoHostMemory, Answered, Serves}
 use Rattle.gpu_pool.specs.State as states
@@ -27,7 +27,7 @@ use Rattle.gpu_vulkan.specs.BlockAnswer.{BlockAnswer, Declined, Granted, Mapped,
 use Rattle.gpu_vulkan.specs.Source.{IsResult}
 use Rattle.gpu_vulkan.specs.Blocks.{Slots}
 use Rattle.gpu_memory_types.specs.Blocks.{slots_at, BlocksWellFormed}
-use Rattle.gpu_vulkan.specs.ByteView.{AllocationId, is_same_id, ByteView, IsOutOf, TakesOut, PutsBack, AddsBlock, Writes}
+use Rattle.gpu_vulkan.specs.ByteView.{AllocationId, is_same_id, ByteView, IsOutOf, SplitsRest, JoinsRest, AddsBlock, Writes}
 use Rattle.gpu_vulkan.specs.Live.{is_same_memory}
 use Rattle.gpu_vulkan.specs.Live.{piece_of}
 use Rattle.gpu_vulkan.specs.Setup.{Setup}
@@ -85,7 +85,7 @@ unseen_decides old a b t size extra answer x y = refl
 module _ (setup : Setup) (budgets : Budgets) (old : Slots) (t : ℕ) (d : AllocationCreateDesc) (below : t < length setup.properties.types) (sound : BlocksWellFormed setup.properties.granularity old) where
   pub allocates_once : (o : AttemptEnvironment) (x y : Answer) (new next : Slots) → Allocates setup budgets old t d o x new → Allocates setup budgets old t d o y next → (x ≡ y) × (new ≡ next)
   allocates_once o x y new next a b =
-      let kinds = kinds_told setup.properties in
+      let kinds = kinds_of_device setup.properties in
       let q = request_in t d in
       let start = unseen setup budgets old in
       let other : Serves kinds AnyQuestion q start a.met y (unseen setup budgets next) =
@@ -153,13 +153,13 @@ lists_alike p old new next here a b q =
     (λ isnt. a q isnt ∙ sym (b q isnt))
     (cases_Bool (is_same_id p q))
 
-takes_out_once : (mapped : Bool) (p : AllocationId) (start size : ℕ) (old new next : ByteView) → TakesOut mapped p start size old new → TakesOut mapped p start size old next → new ≡ next
+takes_out_once : (mapped : Bool) (p : AllocationId) (start size : ℕ) (old new next : ByteView) → SplitsRest mapped p start size old new → SplitsRest mapped p start size old next → new ≡ next
 takes_out_once mapped p start size old new next a b =
     byte_views_alike new next
     (lists_alike p old new next (out_once mapped (old.unallocated_bytes p.memory_type p.slot) start size (new.allocation_bytes p) (next.allocation_bytes p) a.list b.list) a.others b.others)
     (λ t i at. a.unallocated_bytes t i at ∙ sym (b.unallocated_bytes t i at))
 
-puts_back_once : (p : AllocationId) (start size : ℕ) (old new next : ByteView) → PutsBack p start size old new → PutsBack p start size old next → new ≡ next
+puts_back_once : (p : AllocationId) (start size : ℕ) (old new next : ByteView) → JoinsRest p start size old new → JoinsRest p start size old next → new ≡ next
 puts_back_once p start size old new next a b =
     byte_views_alike new next (lists_alike p old new next (a.gone ∙ sym b.gone) a.others b.others) (λ t i at. a.unallocated_bytes t i at ∙ sym (b.unallocated_bytes t i at))
 
@@ -176,7 +176,7 @@ bytes_once mapped t (Some asked) (Err r) old new next a b = a ∙ sym b
 bytes_once mapped t None (Ok p) old new next a b = takes_out_once mapped (id_in t p) p.offset p.size old new next a b
 bytes_once mapped t (Some asked) (Ok p) old new next a b =
     let mids = adds_once t p.slot _ old a.0 b.0 a.1 b.1 in
-    takes_out_once mapped (id_in t p) p.offset p.size a.0 new next a.2 (subst (λ m. TakesOut mapped (id_in t p) p.offset p.size m next) (sym mids) b.2)
+    takes_out_once mapped (id_in t p) p.offset p.size a.0 new next a.2 (subst (λ m. SplitsRest mapped (id_in t p) p.offset p.size m next) (sym mids) b.2)
 
 states_alike : (a b : ModelState) → a.slots ≡ b.slots → a.budgets ≡ b.budgets → a.byte_view ≡ b.byte_view → a.history ≡ b.history → a ≡ b
 states_alike a b slots budgets byte_view history = λ i. record { slots = slots i; budgets = budgets i; byte_view = byte_view i; history = history i }
@@ -318,7 +318,7 @@ freed_rest : (setup : Setup) (t : ℕ) (p : Piece DeviceMemory) (old new next : 
 freed_rest setup t p old new next sound a b =
     let r = a.frees.slots in
     let s = b.frees.slots in
-    let once = released_once setup.properties.granularity (IsTrue (has_several (slots_at old.slots t))) (slots_at old.slots t) p a.frees.went b.frees.went r.left s.left (sound t) r.releases s.releases in
+    let once = released_once setup.properties.granularity (IsTrue (has_others (slots_at old.slots t))) (slots_at old.slots t) p a.frees.went b.frees.went r.left s.left (sound t) r.releases s.releases in
     let mids = puts_back_once (id_in t p) p.offset p.size old.byte_view a.mid b.mid a.back b.back in
     let went = once.0 in
     let other : MayDrop t p.slot a.frees.went a.mid next.byte_view = subst (λ m. MayDrop t p.slot a.frees.went m next.byte_view) (sym mids)

@@ -8,7 +8,7 @@ use Rattle.gpu_values.specs.Refusal.{Refusal, out_of_memory}
 use Rattle.gpu_core.specs.Slots.{SlotIsSound}
 use Rattle.gpu_core.specs.TypeRelease.{SlotHolds}
 use Rattle.gpu_core.specs.TypeState.{Slot}
-use Rattle.gpu_core.specs.TypeTake.{Ready, fresh_block, PreparesPiece, Installs}
+use Rattle.gpu_core.specs.TypeTake.{Pending, fresh_block, PreparesPiece, Installs}
 use Rattle.gpu_core.specs.declared.piece.Piece.{Piece}
 use Rattle.gpu_core.proofs.EmptyBlocks.{takes_holds}
 use Rattle.gpu_core.proofs.OneOutcome.{fresh_sound}
@@ -26,10 +26,10 @@ use Rattle.gpu_pool.specs.State as states
 use Rattle.gpu_vulkan.specs.Describe.{request_of}
 use Rattle.gpu_vulkan.specs.Attempt.{AttemptEnvironment, Asked, Answer, IsAfter, IsMet, request_in, unseen, AnyQuestion}
 use Rattle.gpu_vulkan.specs.BlockAnswer.{BlockAnswer, Declined, Granted, Mapped, NotMapped, Asks, answer_number}
-use Rattle.gpu_vulkan.specs.Types.{is_mapped, kinds_told}
+use Rattle.gpu_vulkan.specs.Types.{is_mapped, kinds_of_device}
 use Rattle.gpu_vulkan.specs.Blocks.{Slots, HoldsJustLiveBlocks, memory_number, IsBlockEntry}
 use Rattle.gpu_memory_types.specs.Blocks.{slots_at, block_at, BlocksWellFormed}
-use Rattle.gpu_vulkan.specs.ByteView.{ByteView, byte_view_of, TakesOut, AddsBlock}
+use Rattle.gpu_vulkan.specs.ByteView.{ByteView, byte_view_of, SplitsRest, AddsBlock}
 use Rattle.gpu_vulkan.specs.Live.{is_same_memory, IsLiveIn}
 use Rattle.gpu_vulkan.specs.Setup.{Setup}
 use Rattle.gpu_vulkan.specs.Step.{BytesAfter, id_in, answer_bytes}
@@ -42,7 +42,7 @@ use Rattle.gpu_vulkan.proofs.Joins.{OneMore, one_more_taken}
 use Rattle.gpu_vulkan.proofs.Parts.{HasRoom}
 use Rattle.gpu_memory_types.proofs.Placed.{only_block, installs_only, prepares_only}
 use Rattle.gpu_vulkan.proofs.Attempts.{refused_held, unasked_held}
-use Rattle.gpu_block_pieces.proofs.Keyed.{eq_true}
+use Rattle.gpu_block_pieces.proofs.OrderedLists.{eq_true}
 
 -- ---- room for a piece's bytes
 
@@ -83,7 +83,7 @@ module _ {D : Type 0} (g : Ghosts D) (setup : Setup) (budgets : Budgets) (d : Al
   -- a shared block serves
   served_bytes : (p : Piece DeviceMemory) (taken : List (Option (Slot DeviceMemory))) (r : _) (held : Held) → PreparesPiece (slots_at old t) r p taken
       → BlocksWellFormed setup.properties.granularity (slice_set old t taken) → HoldsJustLiveBlocks setup.properties first held (slice_set old t taken) → ((n : ℕ) → IsWhole (get held n))
-      → TakesOut mapped (id_in t p) p.offset p.size (byte_view_of held old) (byte_view_of held (slice_set old t taken))
+      → SplitsRest mapped (id_in t p) p.offset p.size (byte_view_of held old) (byte_view_of held (slice_set old t taken))
   served_bytes p taken r held s after holds whole =
       let new = slice_set old t taken in
       let b : Slot DeviceMemory = record s.slot { block = s.after } in
@@ -98,12 +98,12 @@ module _ {D : Type 0} (g : Ghosts D) (setup : Setup) (budgets : Budgets) (d : Al
       served_byte_view held old new t p.slot s.slot b s.at only refl mapped n p.offset p.size room one
 
   -- a new block's piece
-  installed_bytes : (own : Bool) (size pages : ℕ) (ready : Ready) (r : _) (m : DeviceMemory) (bytes : Option (List ℕ)) (p : Piece DeviceMemory) (x : List (Option (Slot DeviceMemory))) (held now : Held)
+  installed_bytes : (own : Bool) (size pages : ℕ) (ready : Pending) (r : _) (m : DeviceMemory) (bytes : Option (List ℕ)) (p : Piece DeviceMemory) (x : List (Option (Slot DeviceMemory))) (held now : Held)
       → TakesIn (fresh_block own size pages) r ready.offset ready.number ready.block → ready.size ≡ r.size → Installs (slots_at old t) own ready m p x
       → get held m.0 ≡ None → bytes_of now m.0 ≡ bytes → ((k : ℕ) → k ≢ m.0 → get now k ≡ get held k)
       → BlocksWellFormed setup.properties.granularity (slice_set old t x) → HoldsJustLiveBlocks setup.properties first held old → HoldsJustLiveBlocks setup.properties first now (slice_set old t x) →
       ((k : ℕ) → IsWhole (get now k))
-      → (mid : ByteView) × AddsBlock t p.slot bytes (byte_view_of held old) mid × TakesOut mapped (id_in t p) p.offset p.size mid (byte_view_of now (slice_set old t x))
+      → (mid : ByteView) × AddsBlock t p.slot bytes (byte_view_of held old) mid × SplitsRest mapped (id_in t p) p.offset p.size mid (byte_view_of now (slice_set old t x))
   installed_bytes own size pages ready r m bytes p x held now takes sized made fresh there same after before holds whole =
       let new = slice_set old t x in
       let b : Slot DeviceMemory = record { number = m; block = ready.block } in
@@ -136,7 +136,7 @@ module _ {D : Type 0} (g : Ghosts D) (setup : Setup) (budgets : Budgets) (d : Al
       only_at_none = (installs_only (slots_at old t) own ready m p x made).0
 
   -- what is left of the bytes, by how the device answered
-  granted_bytes : (own : Bool) (size pages : ℕ) (ready : Ready) (r : _) (a : Asked) (m : DeviceMemory) (p : Piece DeviceMemory) (x : List (Option (Slot DeviceMemory))) (device after : D)
+  granted_bytes : (own : Bool) (size pages : ℕ) (ready : Pending) (r : _) (a : Asked) (m : DeviceMemory) (p : Piece DeviceMemory) (x : List (Option (Slot DeviceMemory))) (device after : D)
       → TakesIn (fresh_block own size pages) r ready.offset ready.number ready.block → ready.size ≡ r.size → Installs (slots_at old t) own ready m p x
       → (b : BlockAnswer) → a.answer ≡ b → answer_number b ≡ Some m.0 → Asks g device a.info mapped b after
       → BlocksWellFormed setup.properties.granularity (slice_set old t x) → HoldsJustLiveBlocks setup.properties first (g.held device) old → HoldsJustLiveBlocks setup.properties first (g.held after)
@@ -184,7 +184,7 @@ module _ {D : Type 0} (g : Ghosts D) (setup : Setup) (budgets : Budgets) (d : Al
         (subst (λ (k : D). BytesAfter mapped t None (Ok p) (byte_view_of (g.held k) old) (byte_view_of (g.held after) (slice_set old t x))) same here))
 
     served_by : (o : AttemptEnvironment) (met : Environment DeviceMemory) (answer : Answer) → IsMet o met → IsAfter g device mapped o.asked after
-        → Serves (kinds_told setup.properties) AnyQuestion (request_in t d) (unseen setup budgets old) met answer (unseen setup budgets new) → Bytes o.asked answer
+        → Serves (kinds_of_device setup.properties) AnyQuestion (request_in t d) (unseen setup budgets old) met answer (unseen setup budgets new) → Bytes o.asked answer
     served_by o NothingMet (Ok p) is asked a = shared_bytes o.asked p a.left is.1 asked a.takes (ap (λ (s : states.State (Unit {0}) DeviceMemory). s.slots) a.state)
     served_by o NothingMet (Err e) is asked a =
         same_bytes o.asked e new (g.held device) (g.held after) (ap (λ (s : states.State (Unit {0}) DeviceMemory). s.slots) a.1) (unasked_held g mapped device after o.asked is.1 asked)

@@ -10,7 +10,7 @@ use Rattle.gpu_vulkan.specs.Blocks.{Slots}
 use Rattle.gpu_vulkan.specs.Attempt.{AttemptEnvironment, Answer, request_in, unseen, AnyQuestion}
 use Rattle.gpu_vulkan.specs.Choice.{required, first_type, best_type}
 use Rattle.gpu_vulkan.specs.Setup.{Setup}
-use Rattle.gpu_vulkan.specs.Types.{kinds_told}
+use Rattle.gpu_vulkan.specs.Types.{kinds_of_device}
 use Rattle.gpu_vulkan.specs.declared.describe.AllocationCreateDesc.{AllocationCreateDesc}
 use Rattle.gpu_vulkan.specs.declared.allocation.Allocation.{Allocation}
 use Rattle.gpu_vulkan.specs.Allocate.{Attempts, IsTooLarge, IsWithinHeap, is_valid, is_for_upload, is_short}
@@ -35,7 +35,7 @@ module _ (setup : Setup) (d : AllocationCreateDesc) where
         allocates = record {
           met = k.met;
           is_met = k.is_met;
-          serves = serves_plain (kinds_told setup.properties) AnyQuestion (request_in t d) (unseen setup budgets old) none k.met answer (unseen setup budgets new) k.serves;
+          serves = serves_plain (kinds_of_device setup.properties) AnyQuestion (request_in t d) (unseen setup budgets old) none k.met answer (unseen setup budgets new) k.serves;
         };
         asked_for = within.asked_for;
       }))

@@ -14,7 +14,7 @@ use Rattle.gpu_vulkan.specs.Attempt.{AttemptEnvironment, Answer, IsAskedFor, IsA
 use Rattle.gpu_vulkan.specs.Types.{is_mapped, heap_size}
 use Rattle.gpu_vulkan.specs.Blocks.{Slots}
 use Rattle.gpu_vulkan.specs.Choice.{required, first_type, best_type}
-use Rattle.gpu_vulkan.specs.Live.{IsGiven}
+use Rattle.gpu_vulkan.specs.Live.{IsAllocated}
 use Rattle.gpu_vulkan.specs.Setup.{Setup}
 use Rattle.gpu_vulkan.specs.declared.allocation.Allocation.{Allocation}
 use Rattle.gpu_vulkan.specs.declared.describe.AllocationCreateDesc.{AllocationCreateDesc}
@@ -40,7 +40,7 @@ Attempts setup budgets old t d o answer new = IsTooLarge setup old t d o answer 
 
 -- what the caller of an attempt gets
 abbrev pub Answers : Setup → (t : ℕ) → AllocationCreateDesc → Result Allocation AllocationError → Answer → Type 0
-Answers setup t d (Ok a) (Ok p) = IsGiven setup t d p a
+Answers setup t d (Ok a) (Ok p) = IsAllocated setup t d p a
 Answers setup t d (Ok a) (Err e) = ⊥
 Answers setup t d (Err e) (Ok p) = ⊥
 Answers setup t d (Err e) (Err r) = refusal_of e ≡ r

@@ -9,9 +9,9 @@ use Rattle.gpu_device.specs.declared.vulkan.types.MemoryAllocateInfo.{MemoryAllo
 use Rattle.gpu_memory_types.specs.Budgets.{Budgets}
 use Rattle.gpu_pool.specs.Allocate.{RequestAt, Environment, NothingMet, NoHostMemory, Answered, Serves}
 use Rattle.gpu_pool.specs.State as pools
-use Rattle.gpu_vulkan.specs.Describe.{is_own, request_of}
+use Rattle.gpu_vulkan.specs.Describe.{requests_dedicated, request_of}
 use Rattle.gpu_vulkan.specs.Setup.{Setup}
-use Rattle.gpu_vulkan.specs.Types.{is_mapped, kinds_told}
+use Rattle.gpu_vulkan.specs.Types.{is_mapped, kinds_of_device}
 use Rattle.gpu_vulkan.specs.declared.describe.AllocationCreateDesc.{AllocationCreateDesc}
 use Rattle.gpu_vulkan.specs.Blocks.{Slots}
 use Rattle.gpu_vulkan.specs.BlockAnswer.{BlockAnswer, IsAnswer, Asks}
@@ -35,7 +35,7 @@ Answer = Result (Piece DeviceMemory) Refusal
 
 -- what the t-th memory type is asked for
 abbrev pub request_in : (t : ℕ) → AllocationCreateDesc → RequestAt AllocationScheme
-request_in t d = record { memory_type = t; requested_dedicated = is_own d.allocation_scheme; request = request_of d; extra = d.allocation_scheme }
+request_in t d = record { memory_type = t; requested_dedicated = requests_dedicated d.allocation_scheme; request = request_of d; extra = d.allocation_scheme }
 
 -- the blocks and budgets as a pool whose source isn't seen
 abbrev pub unseen : Setup → Budgets → Slots → pools.State (Unit {0}) DeviceMemory
@@ -59,7 +59,7 @@ IsMet o (Answered size result) = (o.host ≡ true) × ((a : Asked) × (o.asked �
 pub record Allocates (setup : Setup) (budgets : Budgets) (old : Slots) (t : ℕ) (d : AllocationCreateDesc) (o : AttemptEnvironment) (answer : Answer) (new : Slots) : Type 0 where
   pub met : Environment DeviceMemory
   pub is_met : IsMet o met
-  pub serves : Serves (kinds_told setup.properties) AnyQuestion (request_in t d) (unseen setup budgets old) met answer (unseen setup budgets new)
+  pub serves : Serves (kinds_of_device setup.properties) AnyQuestion (request_in t d) (unseen setup budgets old) met answer (unseen setup budgets new)
 
 -- ---- over a device
 

@@ -72,14 +72,14 @@ IsOutOf true rest start size None = ⊥
 IsOutOf true rest start size (Some xs) = (length xs ≡ size) × ((k : ℕ) → k < size → slice_get xs k ≡ rest (start + k))
 
 -- a piece is given: its list is taken out of the rest as it is
-pub record TakesOut (mapped : Bool) (p : AllocationId) (start size : ℕ) (old new : ByteView) : Type 0 where
+pub record SplitsRest (mapped : Bool) (p : AllocationId) (start size : ℕ) (old new : ByteView) : Type 0 where
   pub fresh : old.allocation_bytes p ≡ None
   pub list : IsOutOf mapped (old.unallocated_bytes p.memory_type p.slot) start size (new.allocation_bytes p)
   pub others : (q : AllocationId) → is_same_id p q ≡ false → new.allocation_bytes q ≡ old.allocation_bytes q
   pub unallocated_bytes : (t i at : ℕ) → new.unallocated_bytes t i at ≡ (if lies_in p start size t i at then None else old.unallocated_bytes t i at)
 
 -- a piece goes: its list is put back into the rest
-pub record PutsBack (p : AllocationId) (start size : ℕ) (old new : ByteView) : Type 0 where
+pub record JoinsRest (p : AllocationId) (start size : ℕ) (old new : ByteView) : Type 0 where
   pub gone : new.allocation_bytes p ≡ None
   pub others : (q : AllocationId) → is_same_id p q ≡ false → new.allocation_bytes q ≡ old.allocation_bytes q
   pub unallocated_bytes : (t i at : ℕ) → new.unallocated_bytes t i at ≡ (if lies_in p start size t i at then byte_at (old.allocation_bytes p) (at - start) else old.unallocated_bytes t i at)

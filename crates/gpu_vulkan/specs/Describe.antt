@@ -11,10 +11,10 @@ abbrev pub kind_of : (linear : Bool) → AllocationType
 kind_of linear = if linear then Linear else NonLinear
 
 -- the scheme asks for memory of the allocation's own
-abbrev pub is_own : AllocationScheme → Bool
-is_own (DedicatedBuffer _) = true
-is_own (DedicatedImage _) = true
-is_own GpuAllocatorManaged = false
+abbrev pub requests_dedicated : AllocationScheme → Bool
+requests_dedicated (DedicatedBuffer _) = true
+requests_dedicated (DedicatedImage _) = true
+requests_dedicated GpuAllocatorManaged = false
 
 -- what a block sees of the description
 abbrev pub request_of : AllocationCreateDesc → Request

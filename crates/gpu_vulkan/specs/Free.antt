@@ -4,7 +4,7 @@ use Rattle.std.specs.FinMap.{remove}
 use Rattle.std.specs.List.{slice_set}
 use Rattle.std.specs.Option.{is_some}
 use Rattle.gpu_values.specs.Refusal.{refusal_of}
-use Rattle.gpu_core.specs.TypeRelease.{has_several, ReleasesPiece, IsFreeRefusal}
+use Rattle.gpu_core.specs.TypeRelease.{has_others, ReleasesPiece, IsFreeRefusal}
 use Rattle.gpu_core.specs.TypeState.{Slot, slot_at}
 use Rattle.gpu_values.specs.declared.error.AllocationError.{AllocationError}
 use Rattle.gpu_core.specs.declared.piece.Piece.{Piece}
@@ -33,7 +33,7 @@ GivesBack g old (Some memory) new = IsWithout g old memory new
 pub record IsReleased {D : Type 0} (g : Ghosts D) (t : ℕ) (p : Piece DeviceMemory) (old : Slots) (device : D) (new : Slots) (after : D) : Type 0 where
   pub went : Option DeviceMemory
   pub left : List (Option (Slot DeviceMemory))
-  pub releases : ReleasesPiece (IsTrue (has_several (slots_at old t))) (slots_at old t) p went left
+  pub releases : ReleasesPiece (IsTrue (has_others (slots_at old t))) (slots_at old t) p went left
   pub slots : new ≡ slice_set old t left
   pub gives_back : GivesBack g device went after
 

@@ -8,7 +8,7 @@ use Rattle.gpu_device.specs.declared.vulkan.types.DeviceMemory.{DeviceMemory}
 use Rattle.gpu_memory_types.specs.Live as all
 use Rattle.gpu_vulkan.specs.Types.{is_host_visible, is_mapped}
 use Rattle.gpu_vulkan.specs.Blocks.{Slots}
-use Rattle.gpu_vulkan.specs.Describe.{is_own}
+use Rattle.gpu_vulkan.specs.Describe.{requests_dedicated}
 use Rattle.gpu_vulkan.specs.Setup.{Setup}
 use Rattle.gpu_vulkan.specs.declared.allocation.Allocation.{Allocation}
 use Rattle.gpu_vulkan.specs.declared.describe.AllocationCreateDesc.{AllocationCreateDesc}
@@ -46,11 +46,11 @@ abbrev pub IsLive : Slots → Allocation → Type 0
 IsLive slots a = IsLiveIn slots a.memory_type_index (piece_of a)
 
 -- the allocation that is given for a piece of the t-th memory type
-pub record IsGiven (setup : Setup) (t : ℕ) (d : AllocationCreateDesc) (p : Piece DeviceMemory) (a : Allocation) : Type 0 where
+pub record IsAllocated (setup : Setup) (t : ℕ) (d : AllocationCreateDesc) (p : Piece DeviceMemory) (a : Allocation) : Type 0 where
   pub piece : piece_of a ≡ Some p
   pub memory_type : a.memory_type_index ≡ t
   pub memory : IsSomeAnd (slice_get setup.properties.types t) (λ info. (a.memory_properties ≡ info.property_flags) × (a.mapped ≡ is_host_visible info))
-  pub dedicated : a.dedicated ≡ is_own d.allocation_scheme
+  pub dedicated : a.dedicated ≡ requests_dedicated d.allocation_scheme
   pub name : IsSomeAnd a.name (λ s. string_bytes s ≡ d.name.now)
 
 -- the allocation is live, and lies in memory that the host can see

@@ -7,7 +7,7 @@ use Rattle.gpu_device.specs.declared.vulkan.types.DeviceMemory.{DeviceMemory}
 
 pub data Reply : Type 0 where
   -- a piece of the t-th memory type
-  Given : (t : ℕ) (piece : Piece DeviceMemory) → Reply
+  Allocated : (t : ℕ) (piece : Piece DeviceMemory) → Reply
   Error : (refusal : Refusal) → Reply
   Done : Reply
   -- an allocation's bytes, None where it has none

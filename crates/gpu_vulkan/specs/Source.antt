@@ -68,7 +68,7 @@ module _ {D : Type 0} (g : Ghosts D) where
     pub state : new ≡ record old { device = new.device }
 
   -- the memory went back, once, and nothing was asked
-  pub record GivesMemory (old : SourceState D) (memory : DeviceMemory) (new : SourceState D) : Type 0 where
+  pub record GivesMemoryBack (old : SourceState D) (memory : DeviceMemory) (new : SourceState D) : Type 0 where
     pub held : g.held new.device ≡ remove (g.held old.device) memory.0
     pub history : g.history new.device ≡ free_recorded (is_some (bytes_of (g.held old.device) memory.0)) memory (g.history old.device)
     pub count : g.refused new.device ≡ g.refused old.device

@@ -18,11 +18,11 @@ use Rattle.gpu_vulkan.specs.BlockAnswer.{BlockAnswer, Declined, Granted, Mapped,
 use Rattle.gpu_vulkan.specs.Types.{is_mapped}
 use Rattle.gpu_vulkan.specs.Blocks.{Slots}
 use Rattle.gpu_memory_types.specs.Blocks.{total_capacity}
-use Rattle.gpu_vulkan.specs.ByteView.{AllocationId, ByteView, byte_view_of, TakesOut, PutsBack, AddsBlock, DropsBlock, Writes}
+use Rattle.gpu_vulkan.specs.ByteView.{AllocationId, ByteView, byte_view_of, SplitsRest, JoinsRest, AddsBlock, DropsBlock, Writes}
 use Rattle.gpu_vulkan.specs.Choice.{best_type}
 use Rattle.gpu_vulkan.specs.Lends.{number_in}
 use Rattle.gpu_vulkan.specs.Live.{is_same_memory, IsLiveIn}
-use Rattle.gpu_vulkan.specs.Live.{piece_of, IsGiven, IsMapped}
+use Rattle.gpu_vulkan.specs.Live.{piece_of, IsAllocated, IsMapped}
 use Rattle.gpu_memory_types.specs.Budgets.{Budgets, budget_at}
 use Rattle.gpu_memory_types.specs.Leaks.{all_leaks}
 use Rattle.gpu_memory_types.specs.Reports.{whole_report}
@@ -38,7 +38,7 @@ use Rattle.gpu_pool.specs.Step.{Makes, SetsBudgetOf}
 use Rattle.gpu_memory_types.specs.Release.{IsReleaseRefusal}
 use Rattle.gpu_values.specs.Report as reports
 use Rattle.gpu_vulkan.specs.Reply as replies
-use Rattle.gpu_vulkan.specs.Reply.{Reply, Given, Error, Done, Bytes, done_with, report_with, leaks_with}
+use Rattle.gpu_vulkan.specs.Reply.{Reply, Allocated, Error, Done, Bytes, done_with, report_with, leaks_with}
 
 -- the blocks with their pieces, the budgets of memory types, the bytes, and all that the device was asked and given back, newest first
 pub record ModelState : Type 0 where
@@ -89,9 +89,9 @@ answer_bytes (NotMapped number code) = None
 -- what an attempt at the t-th memory type leaves of the bytes: a refusal leaves them, and a piece's list comes out of the rest, to which a new block's bytes are added before
 abbrev pub BytesAfter : (mapped : Bool) → (t : ℕ) → Option Asked → Answer → ByteView → ByteView → Type 0
 BytesAfter mapped t asked (Err r) old new = new ≡ old
-BytesAfter mapped t None (Ok p) old new = TakesOut mapped (id_in t p) p.offset p.size old new
+BytesAfter mapped t None (Ok p) old new = SplitsRest mapped (id_in t p) p.offset p.size old new
 BytesAfter mapped t (Some a) (Ok p) old new =
-    (mid : ByteView) × AddsBlock t p.slot (answer_bytes a.answer) old mid × TakesOut mapped (id_in t p) p.offset p.size mid new
+    (mid : ByteView) × AddsBlock t p.slot (answer_bytes a.answer) old mid × SplitsRest mapped (id_in t p) p.offset p.size mid new
 
 -- what the history has more after an attempt: its question, where it asked one
 abbrev pub asked_recorded : Option Asked → List Event → List Event
@@ -105,7 +105,7 @@ pub record AttemptStep (setup : Setup) (t : ℕ) (d : AllocationCreateDesc) (o :
   pub recorded : new.history ≡ asked_recorded o.asked old.history
 
 abbrev pub reply_of : (t : ℕ) → Answer → Reply
-reply_of t (Ok p) = Given t p
+reply_of t (Ok p) = Allocated t p
 reply_of t (Err r) = Error r
 
 -- the memory type of the second attempt, where there is one
@@ -158,7 +158,7 @@ pub record FreedStep (setup : Setup) (t : ℕ) (p : Piece DeviceMemory) (old new
   pub live : IsLiveIn old.slots t (Some p)
   pub frees : FreesPiece AnyBlockBack t p (pool_in setup old) (pool_in setup new)
   pub mid : ByteView
-  pub back : PutsBack (id_in t p) p.offset p.size old.byte_view mid
+  pub back : JoinsRest (id_in t p) p.offset p.size old.byte_view mid
   pub drops : MayDrop t p.slot frees.went mid new.byte_view
   pub recorded : new.history ≡ went_recorded (is_mapped setup.properties t) frees.went old.history
 
@@ -247,7 +247,7 @@ pub record IsStep {D : Type 0} (g : Ghosts D) (call : Call) (reply : Reply) (old
 
 -- what an allocation's caller gets is what the model replies
 abbrev pub Replies : Setup → AllocationCreateDesc → Result Allocation AllocationError → Reply → Type 0
-Replies setup d (Ok a) (Given t p) = IsGiven setup t d p a
+Replies setup d (Ok a) (Allocated t p) = IsAllocated setup t d p a
 Replies setup d (Err e) (Error r) = refusal_of e ≡ r
 Replies setup d _ _ = ⊥
 
@@ -260,14 +260,14 @@ abbrev pub freed_as : Result (Unit {0}) (AllocationError × Allocation) → Repl
 freed_as (Ok _) = Done
 freed_as (Err e) = Error (refusal_of e.0)
 
-abbrev pub done_as : Result (Unit {0}) AllocationError → Reply
-done_as (Ok _) = Done
-done_as (Err e) = Error (refusal_of e)
+abbrev pub reply_of_done : Result (Unit {0}) AllocationError → Reply
+reply_of_done (Ok _) = Done
+reply_of_done (Err e) = Error (refusal_of e)
 
-abbrev pub shown_as : Result AllocatorReport AllocationError → Reply
-shown_as (Ok r) = replies.Report (report_of r)
-shown_as (Err e) = Error (refusal_of e)
+abbrev pub reply_of_report : Result AllocatorReport AllocationError → Reply
+reply_of_report (Ok r) = replies.Report (report_of r)
+reply_of_report (Err e) = Error (refusal_of e)
 
-abbrev pub told_as : Result (Vec (String Global) Global) AllocationError → Reply
-told_as (Ok v) = replies.Leaks (map string_bytes v.items)
-told_as (Err e) = Error (refusal_of e)
+abbrev pub reply_of_leaks : Result (Vec (String Global) Global) AllocationError → Reply
+reply_of_leaks (Ok v) = replies.Leaks (map string_bytes v.items)
+reply_of_leaks (Err e) = Error (refusal_of e)

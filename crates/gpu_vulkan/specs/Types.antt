@@ -17,8 +17,8 @@ abbrev pub is_mapped : Properties → (t : ℕ) → Bool
 is_mapped p t = mapped_by (slice_get p.types t)
 
 -- of each type, whether the host can map it, and its page size
-abbrev pub kinds_told : Properties → List (Bool × ℕ)
-kinds_told p = map (λ info. (is_host_visible info, p.granularity)) p.types
+abbrev pub kinds_of_device : Properties → List (Bool × ℕ)
+kinds_of_device p = map (λ info. (is_host_visible info, p.granularity)) p.types
 
 -- ---- heaps
 

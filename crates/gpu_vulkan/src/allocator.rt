@@ -16,11 +16,11 @@ ghost use Rattle.gpu_vulkan.specs.Lends.{AreDistinct};
 ghost use Rattle.gpu_vulkan.specs.declared.allocation.Allocation.{Allocation};
 ghost use Rattle.gpu_vulkan.specs.Reply as replies;
 ghost use Rattle.gpu_vulkan.specs.Reply.{Done, Bytes};
-ghost use Rattle.gpu_vulkan.specs.Step.{IsStep, IsAllocateStep, Free, Rename, Write, Read, Capacity, Report, Leaks, SetBudget, Budget, freed_as, done_as, shown_as, told_as};
+ghost use Rattle.gpu_vulkan.specs.Step.{IsStep, IsAllocateStep, Free, Rename, Write, Read, Capacity, Report, Leaks, SetBudget, Budget, freed_as, reply_of_done, reply_of_report, reply_of_leaks};
 ghost use Rattle.gpu_vulkan.specs.Rename.{Renames, StayLive};
 ghost use Rattle.gpu_memory_types.specs.Budgets.{budget_at, budgets};
 ghost use Rattle.gpu_memory_types.specs.Types.{slots_of, kinds};
-ghost use Rattle.gpu_vulkan.specs.Types.{kinds_told};
+ghost use Rattle.gpu_vulkan.specs.Types.{kinds_of_device};
 ghost use Rattle.gpu_values.specs.declared.error.AllocationError.TheVariants.{HostOutOfMemory};
 ghost use Rattle.std.specs.Borrow.{sem};
 ghost use Rattle.gpu_vulkan.specs.Live.{IsLive, IsMapped, bytes_at};
@@ -172,7 +172,7 @@ impl<D: VulkanDevice> Allocator<D> {
     pub fn set_budget(&mut self, memory_type: usize, budget: Option<u64>) -> Result<()>
         ensures budgets { SetsBudgetAt self.old.slots memory_type budget self.old.budgets result self.new.budgets }
         ensures others { self.new ≡ record self.old { budgets = self.new.budgets } }
-        ensures step { IsStep D.VulkanDevice (SetBudget memory_type budget) (done_as result) self.old self.new }
+        ensures step { IsStep D.VulkanDevice (SetBudget memory_type budget) (reply_of_done result) self.old self.new }
     {
         self.pool.set_budget(memory_type, budget)
     }
@@ -189,7 +189,7 @@ impl<D: VulkanDevice> Allocator<D> {
     pub fn memory_types(&self) -> &MemoryTypes<DeviceMemory>
         ensures slots { slots_of result.now ≡ self.now.slots }
         ensures budgets { budgets result.now ≡ self.now.budgets }
-        ensures kinds { kinds result.now ≡ kinds_told self.now.setup.properties }
+        ensures kinds { kinds result.now ≡ kinds_of_device self.now.setup.properties }
     {
         self.pool.memory_types()
     }
@@ -346,13 +346,13 @@ impl<D: VulkanDevice> Allocator<D> {
         }
     }
 
-    /// Gives an allocation another name, and with it the record that reports and leaks show. A null allocation has no record.
+    /// IsResultOf an allocation another name, and with it the record that reports and leaks show. A null allocation has no record.
     /// `Internal` where the allocation is neither null nor live, else `HostOutOfMemory` where the host refused memory; then
     /// both names are as they were.
     pub fn rename_allocation(&mut self, allocation: &mut Allocation, name: &str) -> Result<()>
         // the allocation and its record get the name, or neither does; a null one has no record
         ensures renames { Renames allocation.old name.now self.old.slots result allocation.new self.new.slots }
-        ensures step { IsStep D.VulkanDevice (Rename allocation.old name.now) (done_as result) self.old self.new }
+        ensures step { IsStep D.VulkanDevice (Rename allocation.old name.now) (reply_of_done result) self.old self.new }
         ensures live { StayLive self.old.slots self.new.slots }
         ensures constant { (self.new.device ≡ self.old.device) × (self.new.first ≡ self.old.first) × (self.new.setup ≡ self.old.setup) × (self.new.budgets ≡ self.old.budgets) }
     {
@@ -362,7 +362,7 @@ impl<D: VulkanDevice> Allocator<D> {
     /// What is allocated: the live blocks and pieces by memory type, then by slot, pieces by offset, and the sums of both.
     /// The only refusal is `HostOutOfMemory`.
     pub fn generate_report(&self) -> Result<AllocatorReport>
-        ensures step { IsStep D.VulkanDevice Report (shown_as result) self.now self.now }
+        ensures step { IsStep D.VulkanDevice Report (reply_of_report result) self.now self.now }
         ensures reports { Reports self.now.slots result }
     {
         self.pool.report(self.alloc)
@@ -371,7 +371,7 @@ impl<D: VulkanDevice> Allocator<D> {
     /// The texts of all live pieces by memory type, then by slot, then in order of offset. The only refusal is
     /// `HostOutOfMemory`.
     pub fn leak_texts(&self) -> Result<Vec<String>>
-        ensures step { IsStep D.VulkanDevice Leaks (told_as result) self.now self.now }
+        ensures step { IsStep D.VulkanDevice Leaks (reply_of_leaks result) self.now self.now }
         ensures texts { TextsLeaks self.now.slots result }
     {
         self.pool.leak_texts(self.alloc)
@@ -382,7 +382,7 @@ impl<D: VulkanDevice> Allocator<D> {
         log_leaks(log, level, self.pool.memory_types());
     }
 
-    /// Gives every block back, and returns the device, which then holds what it held when it was handed in. What is still
+    /// IsResultOf every block back, and returns the device, which then holds what it held when it was handed in. What is still
     /// live is logged first, as warnings, where the settings ask for it; its memory goes all the same. It is never refused.
     pub fn destroy<L: Log>(self, log: &L) -> D
         ensures held { D.held result ≡ D.held self.first }

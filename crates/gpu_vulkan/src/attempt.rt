@@ -7,14 +7,14 @@ ghost use Rattle.gpu_memory_types.specs.Blocks.{BlocksWellFormed};
 ghost use Rattle.gpu_vulkan.specs.Allocate.{IsAttempt, IsServed, next_type};
 ghost use Rattle.gpu_vulkan.specs.Blocks.{HoldsJustLiveBlocks};
 ghost use Rattle.gpu_vulkan.specs.Lends.{AreDistinct};
-ghost use Rattle.gpu_vulkan.specs.Live.{IsGiven, IsLive};
+ghost use Rattle.gpu_vulkan.specs.Live.{IsAllocated, IsLive};
 ghost use Rattle.gpu_vulkan.specs.Rename.{StayLive};
 ghost use Rattle.gpu_vulkan.specs.State.{setup_of, IsConstant};
 ghost use Rattle.gpu_vulkan.specs.declared.allocation.Allocation.{Allocation};
 
 use crate::source::VulkanBlocks;
 use crate::{
-    Allocation, AllocationCreateDesc, Setup, first_type, is_mapped, is_own, request_of,
+    Allocation, AllocationCreateDesc, Setup, first_type, is_mapped, requests_dedicated, request_of,
     required_flags,
 };
 use gpu_device::vulkan::{DeviceMemory, VulkanDevice};
@@ -32,7 +32,7 @@ fn given(
     name: String,
 ) -> Allocation
     requires { index < length setup.now.properties.types }
-    ensures { string_bytes name ≡ desc.now.name.now → IsGiven setup.now index desc.now piece result }
+    ensures { string_bytes name ≡ desc.now.name.now → IsAllocated setup.now index desc.now piece result }
 {
     let info = setup.memory_types()[index];
     Allocation {
@@ -44,7 +44,7 @@ fn given(
         device_memory: piece.block,
         memory_properties: info.property_flags,
         mapped: is_mapped(&info),
-        dedicated: is_own(desc.allocation_scheme),
+        dedicated: requests_dedicated(desc.allocation_scheme),
         name: Some(name),
     }
 }

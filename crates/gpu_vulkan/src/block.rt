@@ -6,7 +6,7 @@ ghost use Rattle.std.specs.Option.{is_some};
 ghost use Rattle.gpu_values.specs.Refusal.{refusal_of};
 ghost use Rattle.gpu_device.specs.Held.{IsUnmapped, size_of, bytes_of, mapped_with, raised};
 ghost use Rattle.gpu_device.specs.declared.vulkan.event.Event.TheVariants.{AskedMapping, Freed};
-ghost use Rattle.gpu_vulkan.specs.BlockAnswer.{BlockAnswer, Asks, Gives, memory_refusal, map_refusal, mapping_answer, free_recorded};
+ghost use Rattle.gpu_vulkan.specs.BlockAnswer.{BlockAnswer, Asks, IsResultOf, memory_refusal, map_refusal, mapping_answer, free_recorded};
 
 use gpu_device::vulkan::{DeviceMemory, MemoryAllocateInfo, VulkanDevice};
 use gpu_values::{AllocationError, Fault, Result};
@@ -79,7 +79,7 @@ pub fn allocate_block_memory<D: VulkanDevice>(
     info: &MemoryAllocateInfo,
     mapped: bool,
 ) -> Result<DeviceMemory>
-    ensures { (answer : BlockAnswer) × Asks D.VulkanDevice device.old info.now mapped answer device.new × Gives result answer }
+    ensures { (answer : BlockAnswer) × Asks D.VulkanDevice device.old info.now mapped answer device.new × IsResultOf result answer }
 {
     match device.allocate_memory(info) {
         Err(code) => Err(refusal_of_memory(code)),

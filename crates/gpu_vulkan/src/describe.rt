@@ -1,7 +1,7 @@
 //! What an allocator and an allocation are made from.
 
 ghost use Rattle.std.specs.Prelude.{◌≡◌};
-ghost use Rattle.gpu_vulkan.specs.Describe.{kind_of, is_own, request_of};
+ghost use Rattle.gpu_vulkan.specs.Describe.{kind_of, requests_dedicated, request_of};
 ghost use Rattle.gpu_core.specs.TypeTake.{asked};
 
 use gpu_device::vulkan::{AllocationScheme, MemoryRequirements, PhysicalDevice};
@@ -50,8 +50,8 @@ pub fn kind_of(linear: bool) -> AllocationType
 }
 
 /// Whether a scheme asks for memory of its own.
-pub fn is_own(scheme: AllocationScheme) -> bool
-    ensures { result ≡ is_own scheme }
+pub fn requests_dedicated(scheme: AllocationScheme) -> bool
+    ensures { result ≡ requests_dedicated scheme }
 {
     match scheme {
         AllocationScheme::DedicatedBuffer(_) | AllocationScheme::DedicatedImage(_) => true,
@@ -62,13 +62,13 @@ pub fn is_own(scheme: AllocationScheme) -> bool
 /// What a memory type is asked for.
 pub fn request_of<'a>(desc: &AllocationCreateDesc<'a>) -> Request<'a>
     ensures asks { asked result ≡ request_of desc.now }
-    ensures own { result.dedicated ≡ is_own desc.now.allocation_scheme }
+    ensures own { result.dedicated ≡ requests_dedicated desc.now.allocation_scheme }
 {
     Request {
         size: desc.requirements.size,
         alignment: desc.requirements.alignment,
         kind: kind_of(desc.linear),
-        dedicated: is_own(desc.allocation_scheme),
+        dedicated: requests_dedicated(desc.allocation_scheme),
         name: desc.name,
     }
 }

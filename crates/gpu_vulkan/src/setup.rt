@@ -10,7 +10,7 @@ ghost use Rattle.gpu_vulkan.specs.Types.{heap_size};
 ghost use Rattle.gpu_vulkan.specs.Types.{is_host_visible};
 ghost use Rattle.gpu_memory_types.specs.Budgets.{budgets};
 ghost use Rattle.gpu_memory_types.specs.Types.{slots_of, kinds, MemoryTypesInvariant};
-ghost use Rattle.gpu_vulkan.specs.Types.{kinds_told};
+ghost use Rattle.gpu_vulkan.specs.Types.{kinds_of_device};
 
 use gpu_core::MemoryType;
 use gpu_device::vulkan::{
@@ -216,7 +216,7 @@ pub fn parts_of<D: VulkanDevice>(
       device_address = settings.buffer_device_address;
     }) }
     ensures valid { OnOk result (IsValid (D.properties device.now)) }
-    ensures kinds { IfOk result (λ parts. kinds parts.1 ≡ kinds_told (D.properties device.now)) }
+    ensures kinds { IfOk result (λ parts. kinds parts.1 ≡ kinds_of_device (D.properties device.now)) }
     ensures empty { IfOk result (λ parts. All (λ slots. slots ≡ []) (slots_of parts.1)) }
     ensures unbounded { IfOk result (λ parts. All (λ b. b ≡ None) (budgets parts.1)) }
     ensures kept { IfOk result (λ parts. MemoryTypesInvariant parts.1) }

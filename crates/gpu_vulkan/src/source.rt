@@ -4,8 +4,8 @@ ghost use Rattle.std.specs.Prelude.{◌≡◌, ℕ, List, IsSome, Some, None};
 ghost use Rattle.std.specs.Borrow.{sem};
 ghost use Rattle.gpu_device.specs.Held.{range_of};
 ghost use Rattle.gpu_vulkan.specs.Setup.{IsValid};
-ghost use Rattle.gpu_vulkan.specs.Types.{kinds_told};
-ghost use Rattle.gpu_vulkan.specs.Source.{AsksBlock, GivesMemory, HoldsFirst, blocks_of, one_number};
+ghost use Rattle.gpu_vulkan.specs.Types.{kinds_of_device};
+ghost use Rattle.gpu_vulkan.specs.Source.{AsksBlock, GivesMemoryBack, HoldsFirst, blocks_of, one_number};
 
 use crate::Setup;
 use crate::block::{allocate_block_memory, free_block_memory};
@@ -44,13 +44,13 @@ impl<D: VulkanDevice> BlockSource for VulkanBlocks<D> {
 
     ghost number = { λ memory. memory.0 };
 
-    ghost kinds = { λ s. kinds_told s.setup.properties };
+    ghost kinds = { λ s. kinds_of_device s.setup.properties };
 
     ghost held = { λ s. blocks_of (D.held s.first) (D.held s.device) };
 
     ghost asks = { AsksBlock D.VulkanDevice };
 
-    ghost gives_back = { GivesMemory D.VulkanDevice };
+    ghost gives_back = { GivesMemoryBack D.VulkanDevice };
 
     fn ask(
         &mut self,

@@ -130,7 +130,7 @@ module _ {X : Type 0} where
   reads_free_at n i rs at e k h r = record { from = e; read = r; ring = k; place = omega arith; whole = omega arith; within = h }
 
   -- the rings rs have become new, and hold the entries xs around a free place in ring k
-  pub record Around (n k : ℕ) (new : List (List X)) (xs : List X) : Type 0 where
+  pub record Neighbours (n k : ℕ) (new : List (List X)) (xs : List X) : Type 0 where
     pub entries : joined new ≡ xs
     pub rings : new ≡ filled_around 255 k n (joined new)
 
@@ -139,7 +139,7 @@ module _ {X : Type 0} where
     pub rings : new ≡ filled 255 n (joined new)
 
   pub take_out_at : (n i : ℕ) (rs : List (List X)) (at new : List X) → rs ≡ filled 255 n (joined rs) → i < length (joined rs) → at ≡ get_or rs (i / 256) at
-      → new ≡ remove at (i % 256) → Around n (i / 256) (set rs (i / 256) new) (remove (joined rs) i)
+      → new ≡ remove at (i % 256) → Neighbours n (i / 256) (set rs (i / 256) new) (remove (joined rs) i)
   take_out_at n i rs at new e h r m =
       let few : length (joined rs) ≤ 256 * n = few_in 255 n rs e in
       let less : length (remove (joined rs) i) < 256 * n = omega (arith, length-remove (joined rs) i h) in
@@ -172,7 +172,7 @@ module _ {X : Type 0} where
   taken_back n m was rs new e h f a =
       grown n n was new e (omega arith) (a ∙ (ap (λ l. take n l) f ∙ fewer_rings 255 n m (joined was) h))
 
-  pub moved : (n k g : ℕ) (was new : List (List X)) → k < n → g < n → was ≡ filled_around 255 k n (joined was) → new ≡ filled_around 255 g n (joined was) → Around n g new (joined was)
+  pub moved : (n k g : ℕ) (was new : List (List X)) → k < n → g < n → was ≡ filled_around 255 k n (joined was) → new ≡ filled_around 255 g n (joined was) → Neighbours n g new (joined was)
   moved n k g was new h i e f =
       let same = ap joined f ∙ joined-filled_around 255 g n (joined was) i (few_in_around 255 k n was h e) in
       record { entries = same; rings = f ∙ ap (λ l. filled_around 255 g n l) (sym same) }

@@ -4,7 +4,7 @@ ghost use Rattle.std.specs.Prelude.{◌≡◌};
 ghost use Rattle.gpu_block_chunks.specs.Chain.{node_of};
 ghost use Rattle.gpu_block_chunks.specs.Nodes.{node_value, link_number};
 
-use super::Beside;
+use super::Neighbour;
 use crate::chunk::Chunk;
 use crate::name::Name;
 
@@ -26,7 +26,7 @@ pub struct LinkedChunk {
 impl LinkedChunk {
     /// The chunk of that name, where it stands there and these are beside it.
     pub fn new(
-        here: Beside,
+        here: Neighbour,
         offset: u64,
         name: Name,
         prev: Option<Link>,

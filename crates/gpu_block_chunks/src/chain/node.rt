@@ -161,7 +161,7 @@ pub fn join_next(nodes: &mut Nodes, left: Link, right: Link, cost: &mut Cost)
     ensures counted { LooksUpBetween 2 3 cost.old cost.new }
 {
     cost.look_up();
-    let gone = nodes.take_out(right);
+    let gone = nodes.remove(right);
     lengthen(nodes, left, gone.chunk.size, gone.next, cost);
     set_prev_of(nodes, gone.next, Some(left), cost);
 }

@@ -122,7 +122,7 @@ impl Nodes {
     }
 
     /// Takes the chunk that a link leads to out of its slot.
-    pub fn take_out(&mut self, link: Link) -> LinkedChunk
+    pub fn remove(&mut self, link: Link) -> LinkedChunk
         requires { Reaches self.old (Some link) }
         ensures node { held_at self.old link.number ≡ Some (node_value result) }
         ensures links { Leads self.old result.prev × Leads self.old result.next }

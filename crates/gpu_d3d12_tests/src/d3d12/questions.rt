@@ -2,7 +2,7 @@
 
 use super::*;
 use gpu_d3d12::{
-    ResourceCreateDesc, ResourceQuestion, ResourceStateOrBarrierLayout, ResourceType,
+    ResourceCreateDesc, CreateCall, ResourceStateOrBarrierLayout, ResourceType,
     allocation_info_of, create_committed, create_placed,
 };
 use gpu_device::d3d12::{
@@ -60,7 +60,7 @@ fn text_of(alloc: Global, made: Result<ID3D12Resource>) -> std::result::Result<S
 
 /// A placed resource, of whose formats the device is told.
 fn placed_as_asked(rt: &impl Abort, device: &mut SimD3D12, plain: &ResourceCreateDesc) -> Outcome {
-    let with = ResourceQuestion::InLayoutWithFormats(1);
+    let with = CreateCall::InLayoutWithFormats(1);
     match create_placed(device, with, plain, ID3D12Heap(9), 65536) {
         Ok(resource) => assert!(rt; resource == ID3D12Resource(1)),
         Err(_) => return Err(Fail::from("a resource was refused")),
@@ -76,7 +76,7 @@ fn committed_as_asked(
     device: &mut SimD3D12,
     plain: &ResourceCreateDesc,
 ) -> Outcome {
-    let without = ResourceQuestion::InLayout(1);
+    let without = CreateCall::InLayout(1);
     let buffers = HeapFlags(0xc0);
     match create_committed(device, without, plain, &PROPERTIES, buffers) {
         Ok(resource) => assert!(rt; resource == ID3D12Resource(2)),
@@ -111,7 +111,7 @@ fn check_placed(
 ) -> Outcome {
     let placed = create_placed(
         device,
-        ResourceQuestion::InState(1),
+        CreateCall::InState(1),
         plain,
         ID3D12Heap(9),
         0,
@@ -129,7 +129,7 @@ fn check_committed(
     plain: &ResourceCreateDesc,
     told: &str,
 ) -> Outcome {
-    let state = ResourceQuestion::InState(1);
+    let state = CreateCall::InState(1);
     let committed = create_committed(device, state, plain, &PROPERTIES, HeapFlags(0));
     let text = text_of(alloc, committed)?;
     assert!(rt; text.as_str() == told);

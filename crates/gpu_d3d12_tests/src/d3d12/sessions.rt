@@ -66,7 +66,7 @@ fn commands(alloc: Global) -> std::result::Result<Vec<Command>, AllocError> {
 /// A letter for what a reply says.
 fn letter(reply: &Reply) -> char {
     match reply {
-        Reply::Given(_) => 'g',
+        Reply::Allocated(_) => 'g',
         Reply::Made(_) => 'm',
         Reply::Done => 'd',
         Reply::Leaks(_) => 'l',

@@ -28,7 +28,7 @@ fn commands(alloc: Global) -> std::result::Result<Vec<Command>, AllocError> {
 /// The first letter of what a reply says.
 fn letter(reply: &Reply) -> char {
     match reply {
-        Reply::Given(_) => 'g',
+        Reply::Allocated(_) => 'g',
         Reply::Done => 'd',
         Reply::Heaps(_) => 'h',
         Reply::Report(_) => 'r',

@@ -30,14 +30,14 @@ pub enum Command {
         count: u64,
         granularity: u64,
     },
-    Take {
+    Allocate {
         key: u64,
         size: u64,
         alignment: u64,
         kind: Kind,
         name: String,
     },
-    Give {
+    Free {
         key: u64,
     },
     Report,

@@ -10,9 +10,9 @@ pub enum Reply {
     /// The block was made.
     Block { size: u64 },
     /// The piece lies at `offset`, under the block's number `chunk`.
-    Taken { offset: u64, chunk: NonZeroU64 },
+    Allocated { offset: u64, chunk: NonZeroU64 },
     /// The piece was given back.
-    Given,
+    Freed,
     Refused(ErrorNumber),
     /// The caller's number stands for a piece already.
     Busy,

@@ -5,9 +5,9 @@ ghost use Rattle.std.specs.Ordering.{nat_cmp};
 ghost use Rattle.std.specs.Int.{is_power_of_two};
 ghost use Rattle.std.specs.BTreeMap.{get};
 ghost use Rattle.gpu_block_pieces.specs.Request.{request};
-ghost use Rattle.gpu_block.specs.Block.{is_general, HasPages, IsSoundBlock};
+ghost use Rattle.gpu_block.specs.Block.{is_shared, HasPages, IsSoundBlock};
 ghost use Rattle.gpu_block.specs.SubAllocator.{block_of};
-ghost use Rattle.gpu_run.specs.BlockSession.{Taking};
+ghost use Rattle.gpu_run.specs.BlockSession.{Allocating};
 
 use crate::{ErrorNumber, Machine, number_of};
 use crate::block::{Command, Kind, Reply, Report};
@@ -66,14 +66,14 @@ impl Machine for BlockSession {
     fn serve<L: Log>(&mut self, _log: &L, command: &Command) -> Reply {
         match command {
             Command::Block { .. } => Reply::Busy,
-            Command::Take {
+            Command::Allocate {
                 key,
                 size,
                 alignment,
                 kind,
                 name,
-            } => self.take(*key, *size, *alignment, *kind, name.as_str()),
-            Command::Give { key } => self.give(*key),
+            } => self.allocate(*key, *size, *alignment, *kind, name.as_str()),
+            Command::Free { key } => self.free(*key),
             Command::Report => self.report(),
         }
     }
@@ -87,7 +87,7 @@ impl BlockSession {
     ghost use Rattle.gpu_block_pieces.specs.Request.{request};
     ghost use Rattle.gpu_values.specs.declared.error.AllocationError.TheVariants.{HostOutOfMemory};
     ghost use Rattle.gpu_run.specs.BlockCommand.{type_of_kind};
-    ghost use Rattle.gpu_run.specs.BlockSession.{unused, Taking, Giving, Reporting, Serves};
+    ghost use Rattle.gpu_run.specs.BlockSession.{unused, Allocating, Freeing, Reporting, Serves};
     ghost use Rattle.gpu_run.specs.Run.{IsRun};
 
     /// A block of `size` bytes without pieces. The only refusal is `HostOutOfMemory`.
@@ -106,8 +106,8 @@ impl BlockSession {
     }
 
     /// Takes a piece under the caller's number.
-    pub fn take(&mut self, key: u64, size: u64, alignment: u64, kind: Kind, name: &str) -> Reply
-        ensures { Taking self.old key (request size alignment (type_of_kind kind) name.now) result self.new }
+    pub fn allocate(&mut self, key: u64, size: u64, alignment: u64, kind: Kind, name: &str) -> Reply
+        ensures { Allocating self.old key (request size alignment (type_of_kind kind) name.now) result self.new }
     {
         if self.bound.contains_key(&key) {
             return Reply::Busy;
@@ -121,17 +121,17 @@ impl BlockSession {
             kind: kind.allocation_type(),
             granularity: self.granularity,
         };
-        take_unbound(&mut self.block, &mut self.bound, key, wanted, name)
+        allocate_unbound(&mut self.block, &mut self.bound, key, wanted, name)
     }
 
     /// Gives back the piece that the caller's number stands for. It takes no memory.
-    pub fn give(&mut self, key: u64) -> Reply
-        ensures { Giving self.old key result self.new }
+    pub fn free(&mut self, key: u64) -> Reply
+        ensures { Freeing self.old key result self.new }
     {
         match self.bound.remove(&key) {
             Some(chunk) => {
                 self.block.free(Some(chunk)).unwrap();
-                Reply::Given
+                Reply::Freed
             }
             None => Reply::Unbound,
         }
@@ -151,7 +151,7 @@ impl BlockSession {
         self.granularity
     }
 
-    /// Serves commands one after another, and answers a reply for each. Room for all replies is made first: where it is refused,
+    /// Serves commands one after another, and answers a reply for each. PendingBlock for all replies is made first: where it is refused,
     /// the answer is `HostOutOfMemory` and nothing has run.
     pub fn run<L: Log>(
         &mut self,
@@ -182,8 +182,8 @@ impl BlockSession {
     }
 }
 
-/// Takes a piece, and binds the key, which stands for none, to it. Room for the key is made first.
-fn take_unbound(
+/// Takes a piece, and binds the key, which stands for none, to it. PendingBlock for the key is made first.
+fn allocate_unbound(
     block: &mut SubAllocator,
     bound: &mut BTreeMap<u64, NonZeroU64>,
     key: u64,
@@ -194,9 +194,9 @@ fn take_unbound(
     requires aligned { IsTrue (is_power_of_two wanted.alignment) }
     requires piece { wanted.kind ≢ AllocationType.Free }
     requires paged { HasPages (block_of block.old) wanted.granularity }
-    requires general { is_general (block_of block.old) ≡ true }
+    requires shared { is_shared (block_of block.old) ≡ true }
     requires unbound { get nat_cmp bound.old key ≡ None }
-    ensures taking { Taking (record { block = block_of block.old; bound = bound.old.entries }) key
+    ensures taking { Allocating (record { block = block_of block.old; bound = bound.old.entries }) key
         (request wanted.size wanted.alignment wanted.kind name.now) result
         (record { block = block_of block.new; bound = bound.new.entries }) }
     ensures sound { IsSoundBlock (block_of block.old) → IsSoundBlock (block_of block.new) }
@@ -215,7 +215,7 @@ fn take_unbound(
             match block.allocate(size, alignment, kind, granularity, name) {
                 Ok((offset, chunk)) => {
                     place.insert(chunk);
-                    Reply::Taken { offset, chunk }
+                    Reply::Allocated { offset, chunk }
                 }
                 Err(error) => Reply::Refused(number_of(&error)),
             }

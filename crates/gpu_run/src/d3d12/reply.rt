@@ -7,7 +7,7 @@ use std::num::NonZeroU64;
 
 /// What is told of a piece. Offset and size are bytes.
 #[derive(Clone, Copy, Debug, PartialEq, Eq)]
-pub struct Given {
+pub struct Allocated {
     pub memory_type: usize,
     pub slot: usize,
     pub offset: u64,
@@ -26,15 +26,15 @@ pub struct Made {
     /// In bytes, as the device tells it.
     pub size: u64,
     /// The piece that it is placed in; `None` where it is committed.
-    pub piece: Option<Given>,
+    pub piece: Option<Allocated>,
 }
 
-/// The reply to a command. `Given`, `Made`, `Done` of `Rename`, `Leaks` and `Report` may in their place be
+/// The reply to a command. `Allocated`, `Made`, `Done` of `Rename`, `Leaks` and `Report` may in their place be
 /// `Error(HostOutOfMemory)`; then the command changed nothing but what the device counts of questions that it was asked before.
 #[derive(Drop)]
 pub enum Reply {
     /// The number stands for a new allocation.
-    Given(Given),
+    Allocated(Allocated),
     /// The number stands for a new resource.
     Made(Made),
     Done,

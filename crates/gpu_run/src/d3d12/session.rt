@@ -21,7 +21,7 @@ ghost use Rattle.gpu_run.specs.declared.d3d12.command.WantedResource.{WantedReso
 
 use crate::d3d12::command::{Command, WantedResource};
 use crate::d3d12::describe::{describe, resource_type};
-use crate::d3d12::reply::{Given, Made, Reply};
+use crate::d3d12::reply::{Allocated, Made, Reply};
 use gpu_d3d12::{
     Allocation, AllocationCreateDesc, Allocator, ID3D12DeviceVersion, Resource, ResourceCreateDesc,
 };
@@ -86,7 +86,7 @@ impl<D: D3D12Device> Session<D> {
         }
     }
 
-    /// Serves commands one after another, and answers a reply for each. Room for all replies is made first: where it is
+    /// Serves commands one after another, and answers a reply for each. PendingBlock for all replies is made first: where it is
     /// refused, the answer is `HostOutOfMemory` and nothing has run. Any later want of memory is the reply of its command,
     /// which changed nothing but what the device counts of questions that it was asked before.
     pub fn run<L: Log>(&mut self, log: &L, commands: &[Command]) -> Result<Vec<Reply>>
@@ -186,7 +186,7 @@ impl<D: D3D12Device> Session<D> {
         }
     }
 
-    /// Room for the number is made before the allocator is asked.
+    /// PendingBlock for the number is made before the allocator is asked.
     fn allocate<L: Log>(&mut self, log: &L, key: u64, desc: &AllocationCreateDesc) -> Reply
         ensures { (w : Wanted) → AsksFor w desc.now → IsAnswered D.D3D12Device (Under key (Alloc w)) (reply_of result) self.old self.new }
     {
@@ -199,9 +199,9 @@ impl<D: D3D12Device> Session<D> {
         match self.allocator.allocate(log, desc) {
             Err(error) => Reply::Error(error),
             Ok(allocation) => {
-                let given = given(&allocation);
+                let given = allocated(&allocation);
                 bind(&mut self.bound, key, allocation);
-                Reply::Given(given)
+                Reply::Allocated(given)
             }
         }
     }
@@ -230,7 +230,7 @@ impl<D: D3D12Device> Session<D> {
         }
     }
 
-    /// Room for the number is made before the allocator is asked.
+    /// PendingBlock for the number is made before the allocator is asked.
     fn create<L: Log>(&mut self, log: &L, key: u64, desc: &ResourceCreateDesc) -> Reply
         ensures { (w : WantedResource) → AsksForResource w desc.now
             → IsAnswered D.D3D12Device (UnderResource key (Create w)) (reply_of result) self.old self.new }
@@ -305,13 +305,13 @@ impl<D: D3D12Device> Session<D> {
 }
 
 /// What is told of a piece.
-fn given(allocation: &Allocation) -> Given
+fn allocated(allocation: &Allocation) -> Allocated
     ensures { shown_of result ≡ shown allocation.now.memory_type_index (piece_of allocation.now) }
 {
     let Some(chunk) = allocation.chunk_id() else {
         unreachable!()
     };
-    Given {
+    Allocated {
         memory_type: allocation.memory_type_index(),
         slot: allocation.memory_block_index(),
         offset: allocation.offset(),
@@ -332,7 +332,7 @@ fn made(resource: &Resource) -> Made
         size: resource.size(),
         piece: match resource.allocation() {
             None => None,
-            Some(allocation) => Some(given(allocation)),
+            Some(allocation) => Some(allocated(allocation)),
         },
     }
 }

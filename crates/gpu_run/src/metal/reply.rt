@@ -6,7 +6,7 @@ use std::num::NonZeroU64;
 
 /// What is told of a new allocation. Offset and size are bytes.
 #[derive(Clone, Copy, Debug, PartialEq, Eq)]
-pub struct Given {
+pub struct Allocated {
     pub memory_type: usize,
     pub slot: usize,
     pub offset: u64,
@@ -17,12 +17,12 @@ pub struct Given {
     pub heap: MTLHeap,
 }
 
-/// The reply to a command. `Given`, `Heaps` and `Report` may in their place be `Error(HostOutOfMemory)`; then the command changed
+/// The reply to a command. `Allocated`, `Heaps` and `Report` may in their place be `Error(HostOutOfMemory)`; then the command changed
 /// nothing but what the device counts of questions that it was asked before.
 #[derive(Drop)]
 pub enum Reply {
     /// The number stands for a new allocation.
-    Given(Given),
+    Allocated(Allocated),
     Done,
     /// The heaps of the live blocks by memory type, then by slot.
     Heaps(Vec<MTLHeap>),

@@ -16,7 +16,7 @@ ghost use Rattle.gpu_pool.specs.Allocation.{piece_of};
 
 use crate::metal::command::Command;
 use crate::metal::describe::{Wanted, describe};
-use crate::metal::reply::{Given, Reply};
+use crate::metal::reply::{Allocated, Reply};
 use gpu_device::metal::MetalDevice;
 use gpu_metal::{Allocation, Allocator};
 use crate::{Machine, bind};
@@ -74,7 +74,7 @@ impl<D: MetalDevice> Session<D> {
         }
     }
 
-    /// Serves commands one after another, and answers a reply for each. Room for all replies is made first: where it is
+    /// Serves commands one after another, and answers a reply for each. PendingBlock for all replies is made first: where it is
     /// refused, the answer is `HostOutOfMemory` and nothing has run. Any later want of memory is the reply of its command,
     /// which changed nothing but what the device counts of questions that it was asked before.
     pub fn run<L: Log>(&mut self, log: &L, commands: &[Command]) -> Result<Vec<Reply>>
@@ -180,7 +180,7 @@ impl<D: MetalDevice> Session<D> {
         }
     }
 
-    /// Room for the number is made before the allocator is asked.
+    /// PendingBlock for the number is made before the allocator is asked.
     fn allocate<L: Log>(&mut self, log: &L, key: u64, wanted: Wanted, name: &str) -> Reply
         ensures { IsAnswered D.MetalDevice (Under key (Alloc wanted name.now)) (reply_of result) self.old self.new }
     {
@@ -197,7 +197,7 @@ impl<D: MetalDevice> Session<D> {
         match self.allocator.allocate(log, &desc) {
             Err(error) => Reply::Error(error),
             Ok(allocation) => {
-                let given = given(&allocation);
+                let given = allocated(&allocation);
                 bind(&mut self.bound, key, allocation);
                 given
             }
@@ -258,13 +258,13 @@ impl<D: MetalDevice> Session<D> {
 }
 
 /// What is told of a new allocation.
-fn given(allocation: &Allocation) -> Reply
-    ensures { reply_of result ≡ replies.Given (shown allocation.now.memory_type_index (piece_of allocation.now)) }
+fn allocated(allocation: &Allocation) -> Reply
+    ensures { reply_of result ≡ replies.Allocated (shown allocation.now.memory_type_index (piece_of allocation.now)) }
 {
     let Some(chunk) = allocation.chunk_id() else {
         unreachable!()
     };
-    Reply::Given(Given {
+    Reply::Allocated(Allocated {
         memory_type: allocation.memory_type_index(),
         slot: allocation.memory_block_index(),
         offset: allocation.offset(),

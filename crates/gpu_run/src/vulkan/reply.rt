@@ -5,7 +5,7 @@ use std::num::NonZeroU64;
 
 /// What is told of a new allocation. Offset and size are bytes.
 #[derive(Clone, Copy, Debug, PartialEq, Eq)]
-pub struct Given {
+pub struct Allocated {
     pub memory_type: usize,
     pub slot: usize,
     pub offset: u64,
@@ -24,7 +24,7 @@ pub struct Given {
 #[derive(Drop)]
 pub enum Reply {
     /// The number stands for a new allocation.
-    Given(Given),
+    Allocated(Allocated),
     Done,
     /// The bytes that were read.
     Bytes(Vec<u8>),

@@ -11,7 +11,7 @@ ghost use Rattle.gpu_run.specs.VulkanCommand.{Wanted, Describes, Alloc, Null, Fr
 ghost use Rattle.gpu_run.specs.VulkanSession.{IsOwn, SessionInvariant, overwritten};
 ghost use Rattle.gpu_run.specs.VulkanServed.{session_of, command_of, reply_of, shown_allocation, IsServed, IsRun, ServesEach};
 
-use crate::vulkan::{Command, Given, Reply};
+use crate::vulkan::{Command, Allocated, Reply};
 use gpu_device::vulkan::VulkanDevice;
 use crate::{Machine, bind};
 use gpu_values::{AllocationError, Result};
@@ -69,7 +69,7 @@ impl<D: VulkanDevice> Session<D> {
         }
     }
 
-    /// Serves commands one after another, and answers a reply for each. Room for all replies is made first: where it is
+    /// Serves commands one after another, and answers a reply for each. PendingBlock for all replies is made first: where it is
     /// refused, the answer is `HostOutOfMemory` and nothing has run. Any later want of memory is the reply of its command,
     /// which changed nothing but what the device counts of questions that it was asked before.
     pub fn run<L: Log>(&mut self, log: &L, commands: &[Command]) -> Result<Vec<Reply>>
@@ -151,10 +151,10 @@ impl<D: VulkanDevice> Session<D> {
                     linear: *linear,
                     allocation_scheme: *scheme,
                 };
-                self.take(log, *key, &desc)
+                self.allocate(log, *key, &desc)
             }
-            Command::Null { key } => self.take_null(*key),
-            Command::Free { key } => self.give_back(log, *key),
+            Command::Null { key } => self.bind_null(*key),
+            Command::Free { key } => self.free(log, *key),
             Command::Rename { key, name } => self.rename(*key, name.as_str()),
             Command::Write { key, at, bytes } => self.write(*key, *at, bytes),
             Command::Read { key, at, size } => self.read(*key, *at, *size),
@@ -168,8 +168,8 @@ impl<D: VulkanDevice> Session<D> {
         }
     }
 
-    /// Room for the number is made before the allocator is asked.
-    fn take<L: Log>(&mut self, log: &L, key: u64, desc: &AllocationCreateDesc) -> Reply
+    /// PendingBlock for the number is made before the allocator is asked.
+    fn allocate<L: Log>(&mut self, log: &L, key: u64, desc: &AllocationCreateDesc) -> Reply
         ensures { (w : Wanted) → Describes desc.now w
             → IsServed D.VulkanDevice (Under key (Alloc w)) (reply_of result) self.old self.new }
     {
@@ -182,14 +182,14 @@ impl<D: VulkanDevice> Session<D> {
         match self.allocator.allocate(log, desc) {
             Err(error) => Reply::Error(error),
             Ok(allocation) => {
-                let given = given(&allocation);
+                let given = allocated(&allocation);
                 bind(&mut self.bound, key, allocation);
                 given
             }
         }
     }
 
-    fn take_null(&mut self, key: u64) -> Reply
+    fn bind_null(&mut self, key: u64) -> Reply
         ensures { IsServed D.VulkanDevice (Under key Null) (reply_of result) self.old self.new }
     {
         if self.bound.contains_key(&key) {
@@ -202,7 +202,7 @@ impl<D: VulkanDevice> Session<D> {
         Reply::Done
     }
 
-    fn give_back<L: Log>(&mut self, log: &L, key: u64) -> Reply
+    fn free<L: Log>(&mut self, log: &L, key: u64) -> Reply
         ensures { IsServed D.VulkanDevice (Under key Free) (reply_of result) self.old self.new }
     {
         match self.bound.remove(&key) {
@@ -305,14 +305,14 @@ fn put(target: &mut [u8], at: usize, bytes: &[u8])
 }
 
 /// What is told of a new allocation.
-fn given(allocation: &Allocation) -> Reply
+fn allocated(allocation: &Allocation) -> Reply
     requires { allocation.now.chunk_id ≢ None }
-    ensures { reply_of result ≡ replies.Given (shown_allocation allocation.now) }
+    ensures { reply_of result ≡ replies.Allocated (shown_allocation allocation.now) }
 {
     let Some(chunk) = allocation.chunk_id() else {
         unreachable!()
     };
-    Reply::Given(Given {
+    Reply::Allocated(Allocated {
         memory_type: allocation.memory_type_index(),
         slot: allocation.memory_block_index(),
         offset: allocation.offset(),

@@ -65,7 +65,7 @@ fn block(arguments: &[&str]) -> Option<Command>
     })
 }
 
-fn take(alloc: Global, arguments: &[&str]) -> Result<Option<Command>, AllocError>
+fn allocate(alloc: Global, arguments: &[&str]) -> Result<Option<Command>, AllocError>
     ensures { IfOk result (λ found. Says (codes "take" ∷ texts arguments.now) found) }
 {
     let [key, size, alignment, kind, name] = arguments else {
@@ -86,7 +86,7 @@ fn take(alloc: Global, arguments: &[&str]) -> Result<Option<Command>, AllocError
     let Some(name) = name_of(alloc, name)? else {
         return Ok(None);
     };
-    Ok(Some(Command::Take {
+    Ok(Some(Command::Allocate {
         key,
         size,
         alignment,
@@ -95,14 +95,14 @@ fn take(alloc: Global, arguments: &[&str]) -> Result<Option<Command>, AllocError
     }))
 }
 
-fn give(arguments: &[&str]) -> Option<Command>
+fn free(arguments: &[&str]) -> Option<Command>
     ensures { Says (codes "give" ∷ texts arguments.now) result }
 {
     let [key] = arguments else {
         return None;
     };
     let key = number(key)?;
-    Some(Command::Give { key })
+    Some(Command::Free { key })
 }
 
 fn report(arguments: &[&str]) -> Option<Command>
@@ -124,7 +124,7 @@ pub fn command_of(
 {
     match verb {
         "block" => Ok(block(arguments)),
-        "take" => take(alloc, arguments),
+        "take" => allocate(alloc, arguments),
         "give" => Ok(give(arguments)),
         "report" => Ok(report(arguments)),
         _ => Ok(None),

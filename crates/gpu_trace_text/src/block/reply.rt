@@ -47,11 +47,11 @@ pub fn write_reply<W: fmt::Write>(reply: &Reply, f: &mut fmt::Formatter<W>) -> f
 {
     match reply {
         Reply::Block { size } => write!(f, "block {size}"),
-        Reply::Taken { offset, chunk } => {
+        Reply::Allocated { offset, chunk } => {
             let chunk = chunk.get();
             write!(f, "ok offset {offset} chunk {chunk}")
         }
-        Reply::Given => write!(f, "ok"),
+        Reply::Freed => write!(f, "ok"),
         Reply::Refused(number) => write!(f, "error {number}"),
         Reply::Busy => write!(f, "busy"),
         Reply::Unbound => write!(f, "unbound"),

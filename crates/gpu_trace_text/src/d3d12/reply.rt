@@ -2,12 +2,12 @@
 
 ghost use Rattle.std.specs.Prelude.{◌≡◌, Some};
 ghost use Rattle.std.specs.Fmt.{DisplaysOnOk};
-ghost use Rattle.gpu_trace_text.specs.D3D12Reply.{given_text, place_text, made_text, statistics_text, type_text, page_text, pool_text, content_text};
+ghost use Rattle.gpu_trace_text.specs.D3D12Reply.{allocated_text, place_text, made_text, statistics_text, type_text, page_text, pool_text, content_text};
 ghost use Rattle.gpu_trace_text.specs.D3D12Reply.{heap_text, formats_text, clear_text, initial_text, asked_text, served_text};
 
 use gpu_run::{ErrorNumber, number_of};
 use gpu_d3d12::{CommittedAllocationStatistics, ResourceStateOrBarrierLayout};
-use gpu_run::d3d12::{Given, Made, Reply as Told};
+use gpu_run::d3d12::{Allocated, Made, Reply as Told};
 use gpu_device::d3d12::{ClearValue, CpuPageProperty, HeapContent, HeapDesc, HeapType, MemoryPool};
 use crate::device::reply::{write_leaks, write_report};
 use std::fmt;
@@ -34,10 +34,10 @@ pub enum Reply {
     Held(u64),
 }
 
-fn write_given<W: fmt::Write>(given: &Given, f: &mut fmt::Formatter<W>) -> fmt::Result
-    ensures { DisplaysOnOk W.write_str_gives f.old result (Some (given_text given.now)) f.new }
+fn write_allocated<W: fmt::Write>(given: &Allocated, f: &mut fmt::Formatter<W>) -> fmt::Result
+    ensures { DisplaysOnOk W.write_str_gives f.old result (Some (allocated_text given.now)) f.new }
 {
-    let Given {
+    let Allocated {
         memory_type,
         slot,
         offset,
@@ -55,13 +55,13 @@ fn write_given<W: fmt::Write>(given: &Given, f: &mut fmt::Formatter<W>) -> fmt::
 }
 
 /// Where a placed resource lies.
-fn write_place<W: fmt::Write>(piece: &Option<Given>, f: &mut fmt::Formatter<W>) -> fmt::Result
+fn write_place<W: fmt::Write>(piece: &Option<Allocated>, f: &mut fmt::Formatter<W>) -> fmt::Result
     ensures { DisplaysOnOk W.write_str_gives f.old result (Some (place_text piece.now)) f.new }
 {
     match piece {
         None => Ok(()),
         Some(given) => {
-            let Given {
+            let Allocated {
                 memory_type,
                 slot,
                 offset,
@@ -224,7 +224,7 @@ fn write_told<W: fmt::Write>(told: &Told, f: &mut fmt::Formatter<W>) -> fmt::Res
     ensures { DisplaysOnOk W.write_str_gives f.old result (Some (served_text told.now)) f.new }
 {
     match told {
-        Told::Given(given) => write_given(given, f),
+        Told::Allocated(given) => write_allocated(given, f),
         Told::Made(made) => write_made(made, f),
         Told::Done => write!(f, "ok"),
         Told::Leaks(texts) => write_leaks(texts, f),

@@ -6,10 +6,10 @@ ghost use Rattle.std.specs.Fmt.{DisplaysOnOk};
 ghost use Rattle.gpu_values.specs.Report.{row_of};
 ghost use Rattle.gpu_trace_text.specs.BlockReply.{piece_line};
 ghost use Rattle.gpu_trace_text.specs.Hex.{hex, hex_byte, hex_digit};
-ghost use Rattle.gpu_trace_text.specs.DeviceReply.{bool_text, given_text, block_line, leak_line, leaks_text, report_text, served_text};
+ghost use Rattle.gpu_trace_text.specs.DeviceReply.{bool_text, allocated_text, block_line, leak_line, leaks_text, report_text, served_text};
 
 use crate::block::reply::write_pieces;
-use gpu_run::vulkan::{Given, Reply as Told};
+use gpu_run::vulkan::{Allocated, Reply as Told};
 use gpu_run::{ErrorNumber, number_of};
 use gpu_values::{AllocatorReport, MemoryBlockReport};
 use std::fmt;
@@ -33,10 +33,10 @@ fn word_of(value: bool) -> &'static str
     if value { "true" } else { "false" }
 }
 
-fn write_given<W: fmt::Write>(given: &Given, f: &mut fmt::Formatter<W>) -> fmt::Result
-    ensures { DisplaysOnOk W.write_str_gives f.old result (Some (given_text given.now)) f.new }
+fn write_allocated<W: fmt::Write>(given: &Allocated, f: &mut fmt::Formatter<W>) -> fmt::Result
+    ensures { DisplaysOnOk W.write_str_gives f.old result (Some (allocated_text given.now)) f.new }
 {
-    let Given {
+    let Allocated {
         memory_type,
         slot,
         offset,
@@ -153,7 +153,7 @@ fn write_told<W: fmt::Write>(told: &Told, f: &mut fmt::Formatter<W>) -> fmt::Res
     ensures { DisplaysOnOk W.write_str_gives f.old result (Some (served_text told.now)) f.new }
 {
     match told {
-        Told::Given(given) => write_given(given, f),
+        Told::Allocated(given) => write_allocated(given, f),
         Told::Done => write!(f, "ok"),
         Told::Bytes(bytes) => write_bytes(bytes, f),
         Told::Report(report) => write_report(report, f),

@@ -3,11 +3,11 @@
 ghost use Rattle.std.specs.Prelude.{◌≡◌, Some};
 ghost use Rattle.std.specs.Fmt.{DisplaysOnOk};
 ghost use Rattle.gpu_trace_text.specs.MetalCommand.{mode_word};
-ghost use Rattle.gpu_trace_text.specs.MetalReply.{given_text, heap_line, heaps_text, number_word, listed_text, cache_text, asked_text, served_text};
+ghost use Rattle.gpu_trace_text.specs.MetalReply.{allocated_text, heap_line, heaps_text, number_word, listed_text, cache_text, asked_text, served_text};
 
 use gpu_run::{ErrorNumber, number_of};
 use gpu_device::metal::{CpuCacheMode, HeapDescriptor, MTLHeap, StorageMode};
-use gpu_run::metal::{Given, Reply as Told};
+use gpu_run::metal::{Allocated, Reply as Told};
 use crate::device::reply::write_report;
 use std::fmt;
 
@@ -38,10 +38,10 @@ pub enum Reply {
     },
 }
 
-fn write_given<W: fmt::Write>(given: &Given, f: &mut fmt::Formatter<W>) -> fmt::Result
-    ensures { DisplaysOnOk W.write_str_gives f.old result (Some (given_text given.now)) f.new }
+fn write_allocated<W: fmt::Write>(given: &Allocated, f: &mut fmt::Formatter<W>) -> fmt::Result
+    ensures { DisplaysOnOk W.write_str_gives f.old result (Some (allocated_text given.now)) f.new }
 {
-    let Given {
+    let Allocated {
         memory_type,
         slot,
         offset,
@@ -138,7 +138,7 @@ fn write_told<W: fmt::Write>(told: &Told, f: &mut fmt::Formatter<W>) -> fmt::Res
     ensures { DisplaysOnOk W.write_str_gives f.old result (Some (served_text told.now)) f.new }
 {
     match told {
-        Told::Given(given) => write_given(given, f),
+        Told::Allocated(given) => write_allocated(given, f),
         Told::Done => write!(f, "ok"),
         Told::Heaps(heaps) => write_heaps(heaps, f),
         Told::Report(report) => write_report(report, f),

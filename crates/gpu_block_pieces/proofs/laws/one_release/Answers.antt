@@ -1,4 +1,4 @@
-use Rattle.gpu_block_pieces.proofs.Determined.{releases_once}
+use Rattle.gpu_block_pieces.proofs.OneOutcome.{releases_once}
 use Rattle.gpu_block_pieces.proofs.laws.one_release.Goals as goal
 
 pub returns : goal.returns

@@ -2,7 +2,7 @@ use Rattle.std.specs.Prelude.{IsSomeAnd}
 use Rattle.std.proofs.Common.{◌≡◌, ◌∙◌, refl, ap, subst, arith, Ok, Err, ℕ, slice_get}
 use Rattle.gpu_vulkan.specs.Setup.{Setup}
 use Rattle.gpu_vulkan.specs.Types.{heap_size, is_host_visible}
-use Rattle.gpu_vulkan.specs.Live.{IsGiven}
+use Rattle.gpu_vulkan.specs.Live.{IsAllocated}
 use Rattle.gpu_vulkan.specs.Source.{SourceState}
 use Rattle.gpu_vulkan.specs.State.{setup_of}
 use Rattle.gpu_vulkan.specs.declared.allocation.Allocation.{Allocation}
@@ -32,14 +32,14 @@ returns-in-Err-clause-attempts g c =
 abbrev IsOfType : Setup → (t : ℕ) → Allocation → Type 0
 IsOfType s t a = IsSomeAnd (slice_get s.properties.types t) (λ info. (a.memory_properties ≡ info.property_flags) × (a.mapped ≡ is_host_visible info))
 
-given : (g : _) (c : After-given g) → IsGiven (setup_of c.args.pool.now) c.args.index c.args.desc.now c.in-Ok-allocate.piece c.given.result
+given : (g : _) (c : After-given g) → IsAllocated (setup_of c.args.pool.now) c.args.index c.args.desc.now c.in-Ok-allocate.piece c.given.result
 given g c =
     let a = c.args in
     let kept = constant g.D.VulkanDevice a.index a.desc.now a.pool.now c.allocate.new.self c.request_of.result c.request_of.ensures.asks c.request_of.ensures.own (Ok c.in-Ok-allocate.piece)
     c.in-Ok-allocate.ensures.allocates in
     let is = c.given.ensures c.in-Ok.ensures.ok in
     let lent = c.setup-in-Ok-allocate.ensures.lent ∙ ap (λ (s : SourceState g.row.D.Denot). s.setup) c.source-in-Ok-allocate.ensures.lent in
-    subst (λ (s : Setup). IsGiven s a.index a.desc.now c.in-Ok-allocate.piece c.given.result) kept.setup
+    subst (λ (s : Setup). IsAllocated s a.index a.desc.now c.in-Ok-allocate.piece c.given.result) kept.setup
     (record {
       piece = is.piece;
       memory_type = is.memory_type;

@@ -1,7 +1,7 @@
 use Rattle.std.proofs.Common.{◌∙◌, sym, ap, subst, length}
 use Rattle.gpu_memory_types.specs.Blocks.{BlocksWellFormed}
 use Rattle.gpu_pool.specs.State.{IsSoundAt}
-use Rattle.gpu_vulkan.specs.Types.{kinds_told}
+use Rattle.gpu_vulkan.specs.Types.{kinds_of_device}
 use Rattle.gpu_vulkan.specs.Blocks.{Slots}
 use Rattle.gpu_vulkan.specs.Source.{SourceState, HoldsFirst}
 use Rattle.gpu_vulkan.proofs.Leaving.{as_many, well_formed, just_live}
@@ -18,7 +18,7 @@ returns-clause-sound g c =
     let p = c.args.pool.now.source.setup.properties in
     subst (λ (ss : Slots). BlocksWellFormed p.granularity ss) e.slots
     (well_formed p c.memory_types.result.now e.kinds
-    (λ t. subst (λ (ss : Slots). IsSoundAt (kinds_told p) ss t) (sym e.slots) (c.pieces_are_apart.ensures.sound t)))
+    (λ t. subst (λ (ss : Slots). IsSoundAt (kinds_of_device p) ss t) (sym e.slots) (c.pieces_are_apart.ensures.sound t)))
 
 pub returns-clause-holds : goal.returns-clause-holds
 returns-clause-holds g c =

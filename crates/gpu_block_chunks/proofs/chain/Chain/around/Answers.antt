@@ -1,7 +1,7 @@
 use Rattle.std.proofs.Common.{arith, ap, sym}
 use Rattle.gpu_block_chunks.specs.Chain.{Linked}
 use Rattle.gpu_block_chunks.proofs.Links.{prev_held}
-use Rattle.gpu_block_chunks.proofs.Neighbours.{next_held}
+use Rattle.gpu_block_chunks.proofs.NextTo.{next_held}
 use Rattle.gpu_block_chunks.proofs.Slots.{linked_some}
 use Rattle.gpu_block_chunks.proofs.Listing.{none_held, is_around, sides}
 use Rattle.gpu_block_chunks.specs.Nodes.{held_at, node_value}

@@ -4,7 +4,7 @@ use Rattle.gpu_block_chunks.specs.Chain.{Linked, cut_node, walk, first_after, Ha
 use Rattle.gpu_block_chunks.specs.Nodes.{held_at, link_number}
 use Rattle.gpu_block_chunks.proofs.Links.{prev_held}
 use Rattle.gpu_block_chunks.proofs.Splits.{split_ready, split_needs, still_held, split_chain_at, split_walk}
-use Rattle.gpu_block_chunks.proofs.Neighbours.{unlinked, still_among}
+use Rattle.gpu_block_chunks.proofs.NextTo.{unlinked, still_among}
 use Rattle.gpu_block_chunks.proofs.Listing.{can_split, apart_of, split_listed}
 use Rattle.gpu_block_chunks.proofs.chain.Chain.split_front.Goals as goal
 

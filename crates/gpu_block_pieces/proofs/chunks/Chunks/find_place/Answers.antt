@@ -3,7 +3,7 @@ use Rattle.gpu_block_chunks.specs.declared.chunk.Chunk.{Chunk}
 use Rattle.gpu_block_pieces.specs.Chunks.{NoneFits}
 use Rattle.gpu_block_pieces.specs.Indexed.{LaidChunks, IsChosen, Spends}
 use Rattle.gpu_block_pieces.proofs.Indexing.{placed_all}
-use Rattle.gpu_block_pieces.proofs.Choosing.{found_chosen}
+use Rattle.gpu_block_pieces.proofs.FirstFitIsBest.{found_chosen}
 use Rattle.gpu_block_pieces.proofs.Spending.{spends}
 use Rattle.gpu_block_pieces.proofs.chunks.Chunks.find_place.Goals as goal
 

@@ -2,7 +2,7 @@ use Rattle.std.proofs.Common.{◌∙◌, ap}
 use Rattle.std.specs.List.{list_any}
 use Rattle.gpu_block_pieces.specs.Chunks.{is_gap_by}
 use Rattle.gpu_block_pieces.specs.Indexed.{LaidChunks}
-use Rattle.gpu_block_pieces.proofs.Holding.{no_gap_of, gap_of_chunk}
+use Rattle.gpu_block_pieces.proofs.FoundByChunkId.{no_gap_of, gap_of_chunk}
 use Rattle.gpu_block_pieces.proofs.chunks.Chunks.has_gap.Goals as goal
 
 pub returns-in-Some-clause-gap : goal.returns-in-Some-clause-gap

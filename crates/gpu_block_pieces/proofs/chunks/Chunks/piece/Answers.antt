@@ -2,7 +2,7 @@ use Rattle.std.proofs.Common.{ap, sym, subst, List}
 use Rattle.gpu_block_chunks.specs.declared.chunk.Chunk.{Chunk}
 use Rattle.gpu_block_pieces.specs.Chunks.{HoldsNumber}
 use Rattle.gpu_block_pieces.specs.Indexed.{LaidChunks}
-use Rattle.gpu_block_pieces.proofs.Holding.{not_held}
+use Rattle.gpu_block_pieces.proofs.FoundByChunkId.{not_held}
 use Rattle.gpu_block_pieces.proofs.chunks.Chunks.piece.Goals as goal
 
 pub returns-then-is_free-clause-piece : goal.returns-then-is_free-clause-piece

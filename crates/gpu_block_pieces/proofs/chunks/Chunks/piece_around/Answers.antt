@@ -2,7 +2,7 @@ use Rattle.std.proofs.Common.{ap, sym, subst, List}
 use Rattle.gpu_block_chunks.specs.declared.chunk.Chunk.{Chunk}
 use Rattle.gpu_block_pieces.specs.Chunks.{HoldsNumber}
 use Rattle.gpu_block_pieces.specs.Indexed.{LaidChunks}
-use Rattle.gpu_block_pieces.proofs.Holding.{around_not_held}
+use Rattle.gpu_block_pieces.proofs.FoundByChunkId.{around_not_held}
 use Rattle.gpu_block_pieces.proofs.chunks.Chunks.piece_around.Goals as goal
 
 pub returns-then-is_free-clause-piece : goal.returns-then-is_free-clause-piece

@@ -1,7 +1,7 @@
 use Rattle.std.proofs.Common.{ap, sym, subst, List, arith}
 use Rattle.gpu_block_chunks.specs.declared.chunk.Chunk.{Chunk}
 use Rattle.gpu_block_pieces.specs.Indexed.{LaidChunks, IsPieceAt}
-use Rattle.gpu_block_pieces.proofs.Holding.{piece_counted}
+use Rattle.gpu_block_pieces.proofs.FoundByChunkId.{piece_counted}
 use Rattle.gpu_block_pieces.proofs.chunks.Chunks.release.Goals as goal
 
 pub overflow_sub-self : goal.overflow_sub-self

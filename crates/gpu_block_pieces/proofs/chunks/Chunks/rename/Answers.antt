@@ -3,7 +3,7 @@ use Rattle.gpu_block_chunks.specs.declared.chunk.Chunk.{Chunk}
 use Rattle.gpu_block_pieces.specs.Chunks.{HoldsNumber, IsNamedAt}
 use Rattle.gpu_block_chunks.specs.Chain.{HasNumber}
 use Rattle.gpu_block_pieces.specs.Indexed.{LaidChunks, IsPieceOf}
-use Rattle.gpu_block_pieces.proofs.Holding.{named_listed, named_live, named_at}
+use Rattle.gpu_block_pieces.proofs.FoundByChunkId.{named_listed, named_live, named_at}
 use Rattle.gpu_block_pieces.proofs.chunks.Chunks.rename.Goals as goal
 
 pub fill-requires : goal.fill-requires

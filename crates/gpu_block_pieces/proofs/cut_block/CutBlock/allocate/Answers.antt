@@ -7,7 +7,7 @@ use Rattle.gpu_block_pieces.specs.Request.{request}
 use Rattle.gpu_values.specs.declared.error.AllocationError.TheVariants.{OutOfMemory}
 use Rattle.gpu_block_pieces.specs.Chunks.{free_list_of}
 use Rattle.gpu_block_pieces.proofs.Placing.{view_at, no_place_none, no_place_counter, has_place, host_refusal, rest_taken_are, whole_taken_are, rest_takes, whole_takes, some_number}
-use Rattle.gpu_block_pieces.proofs.Keeping.{law_at, Stepped, stepped, granularity_of}
+use Rattle.gpu_block_pieces.proofs.StaysSeparated.{law_at, Stepped, stepped, granularity_of}
 use Rattle.std.specs.Prelude.{IsTrue}
 use Rattle.std.specs.Int.{is_power_of_two}
 use Rattle.gpu_block_pieces.proofs.Sound.{sound_block}
@@ -21,7 +21,7 @@ use Rattle.gpu_cost.specs.declared.cost.Cost.{Cost}
 use Rattle.gpu_block_pieces.specs.Search.{IsSearch}
 use Rattle.gpu_block_pieces.proofs.Amounts.{bytes_of, taken_bytes, room_for}
 use Rattle.gpu_block_pieces.proofs.Costing.{Taking, searched, nothing_taken, not_taken, place_taken}
-use Rattle.gpu_block_pieces.proofs.Holding.{chosen_fits, fresh_number, rest_of_chunk, no_rest_of_chunk}
+use Rattle.gpu_block_pieces.proofs.FoundByChunkId.{chosen_fits, fresh_number, rest_of_chunk, no_rest_of_chunk}
 use Rattle.gpu_block_pieces.proofs.cut_block.CutBlock.allocate.Goals as goal
 use Rattle.gpu_block_pieces.proofs.cut_block.CutBlock.allocate.Goals.{In-Some, In_ok-number, After-find_place, After-leaves_rest-rest, In_default, then-rest-2, else-rest-2}
 use Rattle.gpu_block_pieces.proofs.cut_block.CutBlock.allocate.Goals.{else-rest-via-then-rest+else-self, else-rest-via-else-rest}
@@ -69,7 +69,7 @@ returns-then-self-clause-cause c =
 
 abbrev Steps : In_ok-number → ℕ → ℕ → Type 0
 Steps c n after = Stepped c.args.self.now (request c.args.size c.args.alignment c.args.kind c.args.name.now) c.in-Some.found.offset n c.self.inside.chunks.size c.self.inside.granularity after
-    c.take.new.self.items
+    c.allocate.new.self.items
 
 the_rest : (c : In_ok-number) (n : ℕ) → n ≡ c.in_ok-number.number → c.leaves_rest-rest.result ≡ true → Steps c n (c.self.inside.counter + 1)
 the_rest c n e is =
@@ -83,10 +83,10 @@ the_rest c n e is =
       | else-rest-via-else-rest v ↦ absurd (false≢true (sym v.if-rest.false ∙ is))
     ] in
     stepped c.args.self.now (request c.args.size c.args.alignment c.args.kind c.args.name.now) c.in-Some.found.offset n c.in_ok-number.number i.chunks.size i.granularity c.args.granularity i.counter
-    (i.counter + 1) i.chunks.items c.take.new.self.items c.self.view_is c.requires.paged e c.self.invariant.0 c.requires.sized c.self.invariant.1 c.self.invariant.2
-    (rest_taken_are i.chunks.items c.take.new.self.items i.chunks.size i.counter w f c.in_ok-text.text c.in_ok-number.number c.self.invariant.1 c.requires.sized c.requires.piece h.best
+    (i.counter + 1) i.chunks.items c.allocate.new.self.items c.self.view_is c.requires.paged e c.self.invariant.0 c.requires.sized c.self.invariant.1 c.self.invariant.2
+    (rest_taken_are i.chunks.items c.allocate.new.self.items i.chunks.size i.counter w f c.in_ok-text.text c.in_ok-number.number c.self.invariant.1 c.requires.sized c.requires.piece h.best
     (c.in_ok-number.ensures.taken h) rest)
-    (rest_takes i.chunks.items c.take.new.self.items i.chunks.size i.counter w f c.in_ok-text.text c.in_ok-number.number c.self.invariant.1 c.requires.sized c.requires.piece h.best
+    (rest_takes i.chunks.items c.allocate.new.self.items i.chunks.size i.counter w f c.in_ok-text.text c.in_ok-number.number c.self.invariant.1 c.requires.sized c.requires.piece h.best
     (c.in_ok-number.ensures.taken h) rest c.args.name.now c.in_ok-text.ensures.text left)
 
 the_whole : (c : In_ok-number) (n : ℕ) → n ≡ c.in_ok-number.number → c.leaves_rest-rest.result ≡ false → Steps c n c.self.inside.counter
@@ -97,19 +97,19 @@ the_whole c n e is =
     let f = chosen_at i.chunks.items w c.in-Some.found h in
     let whole = no_rest_of_chunk i.chunks.items w c.in-Some.found c.leaves_rest-rest.result h is c.leaves_rest-rest.ensures.1 in
     stepped c.args.self.now (request c.args.size c.args.alignment c.args.kind c.args.name.now) c.in-Some.found.offset n c.in_ok-number.number i.chunks.size i.granularity c.args.granularity i.counter
-    i.counter i.chunks.items c.take.new.self.items c.self.view_is c.requires.paged e c.self.invariant.0 c.requires.sized c.self.invariant.1 c.self.invariant.2
-    (whole_taken_are i.chunks.items c.take.new.self.items i.chunks.size i.counter w f c.in_ok-text.text c.in_ok-number.number c.self.invariant.1 c.requires.sized c.requires.piece h.best
+    i.counter i.chunks.items c.allocate.new.self.items c.self.view_is c.requires.paged e c.self.invariant.0 c.requires.sized c.self.invariant.1 c.self.invariant.2
+    (whole_taken_are i.chunks.items c.allocate.new.self.items i.chunks.size i.counter w f c.in_ok-text.text c.in_ok-number.number c.self.invariant.1 c.requires.sized c.requires.piece h.best
     (c.in_ok-number.ensures.taken h) whole)
-    (whole_takes i.chunks.items c.take.new.self.items i.chunks.size i.counter w f c.in_ok-text.text c.in_ok-number.number c.self.invariant.1 c.requires.sized c.requires.piece h.best
+    (whole_takes i.chunks.items c.allocate.new.self.items i.chunks.size i.counter w f c.in_ok-text.text c.in_ok-number.number c.self.invariant.1 c.requires.sized c.requires.piece h.best
     (c.in_ok-number.ensures.taken h) whole c.args.name.now c.in_ok-text.ensures.text)
 
 -- what the pieces take then
-the_bytes : (c : In_ok-number) → bytes_of c.take.new.self.items ≡ bytes_of c.self.inside.chunks.items + (c.in-Some.found.offset + c.args.size - c.in-Some.found.gap.start)
+the_bytes : (c : In_ok-number) → bytes_of c.allocate.new.self.items ≡ bytes_of c.self.inside.chunks.items + (c.in-Some.found.offset + c.args.size - c.in-Some.found.gap.start)
 the_bytes c =
     let i = c.self.inside in
     let w : Wanted = record { size = c.args.size; alignment = c.args.alignment; kind = c.args.kind; granularity = c.args.granularity } in
     let h = c.in-Some.ensures.found in
-    taken_bytes i.chunks.items c.take.new.self.items w c.in-Some.found i.counter c.in_ok-number.number c.in_ok-text.text h c.requires.piece (c.in_ok-number.ensures.taken h)
+    taken_bytes i.chunks.items c.allocate.new.self.items w c.in-Some.found i.counter c.in_ok-number.number c.in_ok-text.text h c.requires.piece (c.in_ok-number.ensures.taken h)
 
 pub overflow_add-self : goal.overflow_add-self
 overflow_add-self c =
@@ -143,7 +143,7 @@ pub non_zero-requires : goal.non_zero-requires
 non_zero-requires c =
     let at = (goal.at.non_zero-requires c).After-find_place in
     let h = c.in-Some.ensures.found in
-    some_number c.self.inside.chunks.items c.take.new.self.items c.self.inside.chunks.size c.self.inside.counter (asked at) (the_found ((goal.at.non_zero-requires c).In-Some)) c.in_ok-text.text
+    some_number c.self.inside.chunks.items c.allocate.new.self.items c.self.inside.chunks.size c.self.inside.counter (asked at) (the_found ((goal.at.non_zero-requires c).In-Some)) c.in_ok-text.text
     c.in_ok-number.number c.self.invariant.1 c.requires.sized c.requires.piece h.best (c.in_ok-number.ensures.taken h)
 
 pub returns-clause-took : goal.returns-clause-took
@@ -160,16 +160,16 @@ returns-clause-sound c =
     let i = c.self.inside in
     elim c.if-rest-2.branch [
       | then-rest-2 w ↦ rw (w.self-is, c.in_ok-number.ensures.size)
-          (sound_block c.take.new.self.items i.chunks.size i.granularity (i.counter + 1) (the_rest at c.in_ok-number.number refl w.if-rest-2.true).are)
+          (sound_block c.allocate.new.self.items i.chunks.size i.granularity (i.counter + 1) (the_rest at c.in_ok-number.number refl w.if-rest-2.true).are)
       | else-rest-2 w ↦ rw (w.self-is, c.in_ok-number.ensures.size)
-          (sound_block c.take.new.self.items i.chunks.size i.granularity i.counter (the_whole at c.in_ok-number.number refl w.if-rest-2.false).are)
+          (sound_block c.allocate.new.self.items i.chunks.size i.granularity i.counter (the_whole at c.in_ok-number.number refl w.if-rest-2.false).are)
     ]
 
 pub returns-clause-covered : goal.returns-clause-covered
 returns-clause-covered c =
     let at = (goal.at.returns-clause-covered c).In_ok-number in
     let i = c.self.inside in
-    let ds = c.take.new.self.items in
+    let ds = c.allocate.new.self.items in
     elim c.if-rest-2.branch [
       | then-rest-2 w ↦ rw (w.self-is, c.in_ok-number.ensures.size)
           (sound_covered (free_list_of i.chunks.size i.granularity (i.counter + 1) ds)
@@ -260,12 +260,12 @@ returns-in_err-text-clause-cost c =
 pub returns-in_err-number-clause-cost : goal.returns-in_err-number-clause-cost
 returns-in_err-number-clause-cost c =
     let at = (goal.at.returns-in_err-number-clause-cost c).After-find_place in
-    searched_at at c.take.new.cost (nothing_taken (asked at) _ _ _ c.in_err-number.ensures.none)
+    searched_at at c.allocate.new.cost (nothing_taken (asked at) _ _ _ c.in_err-number.ensures.none)
 
 pub returns-clause-cost : goal.returns-clause-cost
 returns-clause-cost c =
     let at = (goal.at.returns-clause-cost c).After-find_place in
-    searched_at at c.take.new.cost (place_taken (asked at) c.find_place.result c.in-Some.found _ _ c.in-Some.is c.in_ok-number.ensures.front c.in_ok-number.ensures.whole)
+    searched_at at c.allocate.new.cost (place_taken (asked at) c.find_place.result c.in-Some.found _ _ c.in-Some.is c.in_ok-number.ensures.front c.in_ok-number.ensures.whole)
 
 -- ---- the order of the lists
 
@@ -275,7 +275,7 @@ returns-clause-ordered c =
     let i = c.self.inside in
     elim c.if-rest-2.branch [
       | then-rest-2 w ↦ rw (w.self-is, c.in_ok-number.ensures.size)
-          (ordered_block c.take.new.self.items i.chunks.size i.granularity (i.counter + 1) (the_rest at c.in_ok-number.number refl w.if-rest-2.true).are)
+          (ordered_block c.allocate.new.self.items i.chunks.size i.granularity (i.counter + 1) (the_rest at c.in_ok-number.number refl w.if-rest-2.true).are)
       | else-rest-2 w ↦ rw (w.self-is, c.in_ok-number.ensures.size)
-          (ordered_block c.take.new.self.items i.chunks.size i.granularity i.counter (the_whole at c.in_ok-number.number refl w.if-rest-2.false).are)
+          (ordered_block c.allocate.new.self.items i.chunks.size i.granularity i.counter (the_whole at c.in_ok-number.number refl w.if-rest-2.false).are)
     ]

@@ -8,7 +8,7 @@ use Rattle.gpu_block_pieces.proofs.Separation.{releases_separated}
 use Rattle.gpu_block_pieces.proofs.Sound.{sound_block}
 use Rattle.gpu_block_pieces.proofs.Ordered.{ordered_block}
 use Rattle.gpu_block_pieces.proofs.Covering.{sound_covered}
-use Rattle.gpu_block_pieces.proofs.Holding.{released_there}
+use Rattle.gpu_block_pieces.proofs.FoundByChunkId.{released_there}
 use Rattle.gpu_block_pieces.proofs.Amounts.{bytes_of, released_bytes}
 use Rattle.gpu_block_pieces.proofs.cut_block.CutBlock.free.Goals as goal
 use Rattle.gpu_block_pieces.proofs.cut_block.CutBlock.free.Goals.{After-release}

@@ -4,7 +4,7 @@ use Rattle.gpu_block_pieces.specs.FreeList.{FreeList, FindsPlace}
 use Rattle.gpu_block_pieces.specs.Chunks.{HoldsNumber}
 use Rattle.gpu_block_chunks.specs.Chain.{StandsAt}
 use Rattle.gpu_block_pieces.proofs.Releasing.{none_live}
-use Rattle.gpu_block_pieces.proofs.Holding.{PlaceShown, place_shown}
+use Rattle.gpu_block_pieces.proofs.FoundByChunkId.{PlaceShown, place_shown}
 use Rattle.gpu_block_pieces.proofs.cut_block.CutBlock.place_of.Goals as goal
 use Rattle.gpu_block_pieces.proofs.cut_block.CutBlock.place_of.Goals.{In-Some}
 

@@ -11,7 +11,7 @@ use Rattle.gpu_block_pieces.proofs.Numbered.{rename_none, rename_live, rename_ho
 use Rattle.gpu_block_pieces.proofs.Renaming.{Renamed, renamed, renames_separated}
 use Rattle.gpu_block_chunks.specs.Chain.{StandsAt}
 use Rattle.gpu_block_pieces.proofs.Amounts.{bytes_of, named_bytes}
-use Rattle.gpu_block_pieces.proofs.Holding.{held_at}
+use Rattle.gpu_block_pieces.proofs.FoundByChunkId.{held_at}
 use Rattle.gpu_block_pieces.proofs.cut_block.CutBlock.rename.Goals as goal
 use Rattle.gpu_block_pieces.proofs.cut_block.CutBlock.rename.Goals.{After-rename}
 

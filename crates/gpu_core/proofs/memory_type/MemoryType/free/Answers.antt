@@ -3,19 +3,19 @@ use Rattle.std.proofs.Common.{◌-◌, subst, sym, rules}
 use Rattle.gpu_core.specs.TypeState.{slot_at, KeepsOneEmptyAtMost}
 use Rattle.gpu_core.specs.TypeRelease.{SlotHolds}
 use Rattle.gpu_core.specs.TypeInvariant.{AreKept}
-use Rattle.gpu_core.specs.Slots.{AreSound, gone_number, gone_size, gone_shared}
+use Rattle.gpu_core.specs.Slots.{AreSound, released_handle, released_size, released_shared}
 use Rattle.gpu_core.proofs.Slotted.{on_err}
 use Rattle.gpu_core.proofs.Dead.{free_dead}
 use Rattle.gpu_core.proofs.Kept.{freed_kept}
 use Rattle.gpu_core.proofs.memory_type.MemoryType.free.Goals.{In_ok-free, then-gone, else-gone}
 use Rattle.gpu_core.proofs.memory_type.MemoryType.free.Goals as goal
 
-kept : (g : _) (c : In_ok-free g) → AreKept c.self.inside.granularity c.free.new.self.slots (c.self.inside.capacity - gone_size c.in_ok-free.field-0)
-    (c.self.inside.general - gone_shared c.in_ok-free.field-0)
+kept : (g : _) (c : In_ok-free g) → AreKept c.self.inside.granularity c.free.new.self.slots (c.self.inside.capacity - released_size c.in_ok-free.field-0)
+    (c.self.inside.shared - released_shared c.in_ok-free.field-0)
 kept g c =
     let i = c.self.inside in
     let went = c.in_ok-free in
-    freed_kept i.granularity i.slots.slots i.capacity i.general c.args.piece.now (gone_number went.field-0) c.free.new.self.slots (gone_size went.field-0) (gone_shared went.field-0) c.self.invariant
+    freed_kept i.granularity i.slots.slots i.capacity i.shared c.args.piece.now (released_handle went.field-0) c.free.new.self.slots (released_size went.field-0) (released_shared went.field-0) c.self.invariant
     (c.free.ensures.kept i.granularity c.self.invariant.sound) went.ensures.released went.ensures.size went.ensures.shared
 
 pub invariant_of-self-in-None : goal.invariant_of-self-in-None

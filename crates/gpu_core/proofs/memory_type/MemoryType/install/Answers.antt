@@ -1,6 +1,6 @@
 use Rattle.std.proofs.Common.{◌≡◌, ℕ, ◌+◌, not, cond, List, Option, subst, sym, ap, ◌∙◌, refl, arith}
 use Rattle.gpu_block.specs.SubAllocator.{block_of}
-use Rattle.gpu_block.specs.Block.{Block, is_general, size_of}
+use Rattle.gpu_block.specs.Block.{Block, is_shared, size_of}
 use Rattle.gpu_core.specs.TypeState.{Slot, capacity_of, KeepsOneEmptyAtMost}
 use Rattle.gpu_core.specs.TypeTake.{with_block}
 use Rattle.gpu_core.specs.TypeInvariant.{AreKept}
@@ -11,7 +11,7 @@ use Rattle.gpu_core.proofs.memory_type.MemoryType.install.Goals as goal
 use Rattle.gpu_core.proofs.memory_type.MemoryType.install.Goals.{After-put-slot, then-not-dedicated, else-not-dedicated}
 
 kept_with : (g : _) (c : After-put-slot g) (shared : ℕ) → cond (not c.args.need.dedicated) 1 0 ≡ shared → AreKept c.self.inside.granularity c.put-slot.new.self.slots
-    (c.self.inside.capacity + c.args.need.size) (c.self.inside.general + shared)
+    (c.self.inside.capacity + c.args.need.size) (c.self.inside.shared + shared)
 kept_with g c shared counts =
     let i = c.self.inside in
     let ready = c.requires.ready in
@@ -19,17 +19,17 @@ kept_with g c shared counts =
     let same : block ≡ c.args.need.room.block = ap (λ r. r.block) c.room.view_is in
     let put = c.put-slot.ensures in
     let s : Slot g.row.H.Denot = record { number = c.args.number; block = block } in
-    installed_kept i.granularity i.slots.slots i.capacity i.general c.args.need.dedicated s c.put-slot.new.self.slots c.args.need.size shared c.self.invariant
+    installed_kept i.granularity i.slots.slots i.capacity i.shared c.args.need.dedicated s c.put-slot.new.self.slots c.args.need.size shared c.self.invariant
     (rw same (rw (ap (λ t. t.granularity) c.self.view_is) ready.pages, ready.sound, ready.separated))
     (rw same (holds_some c.args.need.room.block c.args.need.room.number c.args.need.room.offset c.args.need.room.size ready.holds)) (put.slots ∙ ap (λ k. with_block i.slots.slots k s) put.slot)
-    (ap size_of same ∙ ready.size_is) (ap (λ b. cond (is_general b) 1 0) same ∙ (ap (λ b. cond b 1 0) ready.kind ∙ counts))
+    (ap size_of same ∙ ready.size_is) (ap (λ b. cond (is_shared b) 1 0) same ∙ (ap (λ b. cond b 1 0) ready.kind ∙ counts))
 
 pub overflow_add-self-then-not-dedicated : goal.overflow_add-self-then-not-dedicated
 overflow_add-self-then-not-dedicated g c =
     let at = (goal.at.overflow_add-self-then-not-dedicated g c).After-put-slot in
     let kept = kept_with g at 1 (rw c.if-not-dedicated.true refl) in
     let le = count_le c.put-slot.new.self.slots in
-    let n = kept.general_is in
+    let n = kept.shared_is in
     let b = c.put-slot.ensures.length in
     omega arith
 

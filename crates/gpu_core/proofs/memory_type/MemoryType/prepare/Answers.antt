@@ -4,7 +4,7 @@ use Rattle.std.specs.Prelude.{IsNone}
 use Rattle.gpu_values.specs.Sizes.{shared_block_size}
 use Rattle.gpu_block.specs.Block.{TakesIn}
 use Rattle.gpu_core.specs.TypeState.{capacity_of}
-use Rattle.gpu_core.specs.TypeTake.{asked, fresh_block, PreparesPiece, NoneServes, NeedsBlock, has_own_block, next_shared_size}
+use Rattle.gpu_core.specs.TypeTake.{asked, fresh_block, PreparesPiece, NoneServes, NeedsBlock, has_dedicated_block, next_shared_size}
 use Rattle.gpu_core.specs.TypeInvariant.{AreKept}
 use Rattle.gpu_core.proofs.Needs.{none_of, fresh_taken}
 use Rattle.gpu_core.proofs.Kept.{prepared_kept, same_kept}
@@ -13,29 +13,29 @@ use Rattle.gpu_core.proofs.memory_type.MemoryType.prepare.Goals.{After-reserve, 
 use Rattle.gpu_core.proofs.memory_type.MemoryType.prepare.Goals.{else-dedicated}
 
 inside_kept : (g : _) (c : After-reserve g) → AreKept c.if-not-dedicated.self-inside.granularity c.if-not-dedicated.self-inside.slots.slots c.if-not-dedicated.self-inside.capacity
-    c.if-not-dedicated.self-inside.general
+    c.if-not-dedicated.self-inside.shared
 inside_kept g c =
     let i = c.self.inside in
     elim c.if-not-dedicated.branch [
       | then-not-dedicated+in_ok-piece+in_default w ↦
           (let none : IsNone w.in_ok-piece.field-0 = none_of w.in_ok-piece.field-0 w.in_default.not-Some in
           let same = w.in_ok-piece.ensures.none none in
-          subst (λ x. AreKept x.granularity x.slots.slots x.capacity x.general) (sym w.self-inside-is)
-          (same_kept i.granularity i.slots.slots i.capacity i.general w.take.new.self.slots c.self.invariant same.1))
-      | else-not-dedicated w ↦ subst (λ x. AreKept x.granularity x.slots.slots x.capacity x.general) (sym w.self-inside-is) c.self.invariant
+          subst (λ x. AreKept x.granularity x.slots.slots x.capacity x.shared) (sym w.self-inside-is)
+          (same_kept i.granularity i.slots.slots i.capacity i.shared w.allocate.new.self.slots c.self.invariant same.1))
+      | else-not-dedicated w ↦ subst (λ x. AreKept x.granularity x.slots.slots x.capacity x.shared) (sym w.self-inside-is) c.self.invariant
     ]
 
 reserved_kept : (g : _) (c : After-reserve g) → AreKept c.if-not-dedicated.self-inside.granularity c.reserve.new.self.slots c.if-not-dedicated.self-inside.capacity
-    c.if-not-dedicated.self-inside.general
+    c.if-not-dedicated.self-inside.shared
 reserved_kept g c =
     let x = c.if-not-dedicated.self-inside in
-    same_kept x.granularity x.slots.slots x.capacity x.general c.reserve.new.self.slots (inside_kept g c) c.reserve.ensures.slots
+    same_kept x.granularity x.slots.slots x.capacity x.shared c.reserve.new.self.slots (inside_kept g c) c.reserve.ensures.slots
 
-taken_kept : (g : _) (c : In-Some g) → AreKept c.self.inside.granularity c.take.new.self.slots c.self.inside.capacity c.self.inside.general
+taken_kept : (g : _) (c : In-Some g) → AreKept c.self.inside.granularity c.allocate.new.self.slots c.self.inside.capacity c.self.inside.shared
 taken_kept g c =
     let i = c.self.inside in
-    let took : PreparesPiece i.slots.slots (asked c.args.request.now) c.in-Some.piece c.take.new.self.slots = rw c.in-Some.is at c.in_ok-piece.ensures.took in
-    prepared_kept i.granularity i.slots.slots i.capacity i.general (asked c.args.request.now) c.in-Some.piece c.take.new.self.slots c.self.invariant c.take.ensures.kept took
+    let took : PreparesPiece i.slots.slots (asked c.args.request.now) c.in-Some.piece c.allocate.new.self.slots = rw c.in-Some.is at c.in_ok-piece.ensures.took in
+    prepared_kept i.granularity i.slots.slots i.capacity i.shared (asked c.args.request.now) c.in-Some.piece c.allocate.new.self.slots c.self.invariant c.allocate.ensures.kept took
 
 pub invariant_of-self-in-Some : goal.invariant_of-self-in-Some
 invariant_of-self-in-Some g c = taken_kept g ((goal.at.invariant_of-self-in-Some g c).In-Some)
@@ -79,9 +79,9 @@ inside_same g c =
 
 next_is : (g : _) (c : After-reserve g) → c.memblock_size-next.result ≡ next_shared_size c.args.self.now c.args.sizes.now
 next_is g c =
-    c.memblock_size-next.ensures.size ∙ (ap (shared_block_size c.args.sizes.now c.self.inside.is_host) c.self.invariant.general_is ∙ ap (λ t. next_shared_size t c.args.sizes.now) c.self.view_is)
+    c.memblock_size-next.ensures.size ∙ (ap (shared_block_size c.args.sizes.now c.self.inside.is_host) c.self.invariant.shared_is ∙ ap (λ t. next_shared_size t c.args.sizes.now) c.self.view_is)
 
-kind_is : (g : _) (c : After-reserve g) → c.if-request.dedicated ≡ has_own_block c.args.self.now c.args.sizes.now c.args.request.now.dedicated c.args.request.now.size
+kind_is : (g : _) (c : After-reserve g) → c.if-request.dedicated ≡ has_dedicated_block c.args.self.now c.args.sizes.now c.args.request.now.dedicated c.args.request.now.size
 kind_is g c =
     let above : Bool = nat_lt (next_shared_size c.args.self.now c.args.sizes.now) c.args.request.now.size in
     elim c.if-request.branch [

@@ -10,14 +10,14 @@ use Rattle.gpu_core.proofs.Needs.{host_error}
 use Rattle.gpu_core.proofs.memory_type.MemoryType.rename.Goals as goal
 use Rattle.gpu_core.proofs.memory_type.MemoryType.rename.Goals.{After-rename}
 
-kept : (g : _) (c : After-rename g) → AreKept c.self.inside.granularity c.rename.new.self.slots c.self.inside.capacity c.self.inside.general
+kept : (g : _) (c : After-rename g) → AreKept c.self.inside.granularity c.rename.new.self.slots c.self.inside.capacity c.self.inside.shared
 kept g c =
     let i = c.self.inside in
     let before = i.slots.slots in
     let after = c.rename.new.self.slots in
     either_way c.rename.result _ _ (on_ok c.rename.result _ _ c.rename.ensures.renamed
-    (renamed_kept i.granularity before i.capacity i.general c.args.piece.now c.args.name.now after c.self.invariant (c.rename.ensures.kept i.granularity c.self.invariant.sound)))
-    c.rename.ensures.refused (same_kept i.granularity before i.capacity i.general after c.self.invariant)
+    (renamed_kept i.granularity before i.capacity i.shared c.args.piece.now c.args.name.now after c.self.invariant (c.rename.ensures.kept i.granularity c.self.invariant.sound)))
+    c.rename.ensures.refused (same_kept i.granularity before i.capacity i.shared after c.self.invariant)
 
 pub invariant_of-self : goal.invariant_of-self
 invariant_of-self g c = kept g ((goal.at.invariant_of-self g c).After-rename)

@@ -4,8 +4,8 @@ use Rattle.gpu_d3d12.specs.DeviceVersion.{device_of}
 use Rattle.gpu_d3d12.specs.HeapAnswer.{IsWithoutHeap}
 use Rattle.gpu_pool.specs.Source.{Removes}
 use Rattle.gpu_d3d12.specs.Journal.{events}
-use Rattle.gpu_d3d12.specs.Source.{SourceState, GivesHeap, source_blocks}
-use Rattle.gpu_d3d12.proofs.Asking.{new, gives_heap, removes_block, gone_holds}
+use Rattle.gpu_d3d12.specs.Source.{SourceState, GivesHeapBack, source_blocks}
+use Rattle.gpu_d3d12.proofs.Asking.{new, gives_heap_back, removes_block, gone_holds}
 use Rattle.gpu_d3d12.proofs.source.D3D12BlocksBlockSource.give_back.Goals as goal
 use Rattle.gpu_d3d12.proofs.source.D3D12BlocksBlockSource.give_back.Goals.{After-release_block_heap}
 
@@ -29,8 +29,8 @@ returns-clause-given g c =
     let V = g.D.D3D12Device in
     let later = (goal.at.returns-clause-given g c).After-release_block_heap in
     let after = c.release_block_heap.new.device in
-    subst (λ (s : SourceState g.row.D.Denot). GivesHeap V s c.args.handle (new V (was g later) after)) c.self.view_is
-    (gives_heap V (was g later) c.args.handle (some g later) c.self.invariant after (went g later))
+    subst (λ (s : SourceState g.row.D.Denot). GivesHeapBack V s c.args.handle (new V (was g later) after)) c.self.view_is
+    (gives_heap_back V (was g later) c.args.handle (some g later) c.self.invariant after (went g later))
 
 pub returns-clause-removed : goal.returns-clause-removed
 returns-clause-removed g c =

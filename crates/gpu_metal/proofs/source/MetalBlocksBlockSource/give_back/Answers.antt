@@ -3,7 +3,7 @@ use Rattle.std.proofs.Common.{◌∙◌, refl, sym, subst}
 use Rattle.gpu_pool.specs.Source.{Removes}
 use Rattle.gpu_metal.specs.Source.{blocks_of}
 use Rattle.gpu_metal.specs.Source.{SourceState}
-use Rattle.gpu_metal.specs.Source.{GivesHeap}
+use Rattle.gpu_metal.specs.Source.{GivesHeapBack}
 use Rattle.gpu_metal.proofs.Changing.{heap_removes, heap_goes, heap_leaves}
 use Rattle.gpu_metal.proofs.source.MetalBlocksBlockSource.give_back.Goals as goal
 use Rattle.gpu_metal.proofs.source.MetalBlocksBlockSource.give_back.Goals.{After-release_block_heap}
@@ -38,10 +38,10 @@ returns-clause-given g c =
     let later = (goal.at.returns-clause-given g c).After-release_block_heap in
     let i = c.self.inside in
     let after = c.release_block_heap.new.device in
-    let here : GivesHeap V (record { device = i.device; first = i.first.value; set = i.set }) c.args.handle (record { device = after; first = i.first.value; set = i.set }) =
+    let here : GivesHeapBack V (record { device = i.device; first = i.first.value; set = i.set }) c.args.handle (record { device = after; first = i.first.value; set = i.set }) =
     record {
       gives = c.release_block_heap.ensures;
       residency = heap_leaves i.set (V.held i.first.value) (V.held i.device) (V.held after) c.args.handle (some g later) c.release_block_heap.ensures.held_is c.self.invariant.1;
       state = refl;
     } in
-    subst (λ (s : SourceState g.row.D.Denot). GivesHeap V s c.args.handle (record { device = after; first = i.first.value; set = i.set })) c.self.view_is here
+    subst (λ (s : SourceState g.row.D.Denot). GivesHeapBack V s c.args.handle (record { device = after; first = i.first.value; set = i.set })) c.self.view_is here

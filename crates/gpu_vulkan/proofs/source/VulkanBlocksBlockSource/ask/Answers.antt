@@ -1,7 +1,7 @@
 use Rattle.std.proofs.Common.{◌∙◌, ◌<◌, refl, sym, subst, length, arith, Bool, ℕ}
 use Rattle.std.proofs.lemmas.List.{length-map}
 use Rattle.gpu_pool.specs.Source.{HoldsAfter, result_of}
-use Rattle.gpu_vulkan.specs.Types.{is_mapped, is_host_visible, kinds_told}
+use Rattle.gpu_vulkan.specs.Types.{is_mapped, is_host_visible, kinds_of_device}
 use Rattle.gpu_vulkan.specs.Source.{AsksBlock, IsResult, question}
 use Rattle.gpu_vulkan.specs.BlockAnswer.{BlockAnswer, Asks}
 use Rattle.gpu_vulkan.specs.Source.{SourceState, blocks_of}
@@ -12,8 +12,8 @@ use Rattle.gpu_vulkan.proofs.source.VulkanBlocksBlockSource.ask.Goals.{After-all
 pub overflow_cast-info : goal.overflow_cast-info
 overflow_cast-info g c =
     let i = c.self.inside in
-    let there : c.args.memory_type < length (kinds_told i.setup.properties) =
-    subst (λ (s : SourceState g.row.D.Denot). c.args.memory_type < length (kinds_told s.setup.properties)) (sym c.self.view_is) c.requires in
+    let there : c.args.memory_type < length (kinds_of_device i.setup.properties) =
+    subst (λ (s : SourceState g.row.D.Denot). c.args.memory_type < length (kinds_of_device s.setup.properties)) (sym c.self.view_is) c.requires in
     let long = length-map {B = Bool × ℕ} i.setup.properties.types (λ info. (is_host_visible info, i.setup.properties.granularity)) in
     let few = c.self.invariant.2.few in
     omega (arith, there, long, few)
@@ -21,8 +21,8 @@ overflow_cast-info g c =
 below : (g : _) (c : After-allocate_block_memory g) → c.args.memory_type < length c.self.inside.setup.properties.types
 below g c =
     let i = c.self.inside in
-    let there : c.args.memory_type < length (kinds_told i.setup.properties) =
-    subst (λ (s : SourceState g.row.D.Denot). c.args.memory_type < length (kinds_told s.setup.properties)) (sym c.self.view_is) c.requires in
+    let there : c.args.memory_type < length (kinds_of_device i.setup.properties) =
+    subst (λ (s : SourceState g.row.D.Denot). c.args.memory_type < length (kinds_of_device s.setup.properties)) (sym c.self.view_is) c.requires in
     let long = length-map {B = Bool × ℕ} i.setup.properties.types (λ info. (is_host_visible info, i.setup.properties.granularity)) in
     omega (arith, there, long)
 

@@ -1,5 +1,0 @@
-use Rattle.gpu_block.proofs.Blocks.{take_once_in}
-use Rattle.gpu_block.proofs.laws.one_take_in.Goals as goal
-
-pub returns : goal.returns
-returns c = take_once_in

@@ -1,5 +1,0 @@
-use Rattle.gpu_block_pieces.proofs.Determined.{takes_or_none}
-use Rattle.gpu_block_pieces.proofs.laws.takes_or_refuses.Goals as goal
-
-pub returns : goal.returns
-returns c = λ old r o n new t h. takes_or_none old r o n new t h

@@ -1,0 +1,203 @@
+//! The changes of the chunks of a block: each is one of the chain, and beside it one of the index.
+
+ghost use Rattle.std.specs.Prelude.{◌≡◌, ◌≢◌, ◌+◌, ◌-◌, ◌<◌, ◌≤◌, length, ◌++◌, ◌∷◌, List, IsTrue, ◌↔◌};
+ghost use Rattle.gpu_block_chunks.specs.declared.chunk.Chunk.{Chunk};
+ghost use Rattle.gpu_cost.specs.Cost.{LooksUp, LooksUpBetween};
+ghost use Rattle.gpu_block_pieces.specs.Chunks.{last_kind, extents_of};
+ghost use Rattle.gpu_block_chunks.specs.Chain.{HasNumber, HasNoNumber, IsSplit, IsFilled, IsReleased};
+ghost use Rattle.gpu_block_pieces.specs.Indexed.{IsListed, IsGapOf, gap_between, kind_or, Forgets, beside_kind, IsGapBeside, MayForget, IsPut, IsJoined, first_of, IsPieceAt};
+ghost use Rattle.gpu_block_gaps.specs.declared.index.Gap.{Gap};
+ghost use Rattle.gpu_block_gaps.specs.Index.{HasNoKey};
+
+use crate::search::Found;
+use gpu_block_chunks::{Neighbours, Neighbour, Chain, Name, is_free};
+use gpu_block_gaps::{Gap, GapIndex};
+use gpu_cost::Cost;
+use gpu_values::AllocationType;
+
+/// Gives the front of the found gap to a piece. There is room for it, so no memory is taken.
+pub fn allocate_front(
+    chain: &mut Chain,
+    index: &mut GapIndex,
+    found: Found,
+    taken: u64,
+    kind: AllocationType,
+    number: u64,
+    name: Name,
+    cost: &mut Cost,
+)
+    requires listed { IsListed chain.old.chunks index.old.gaps }
+    requires gap { IsGapOf chain.old.chunks found.gap }
+    requires some { 0 < taken }
+    requires shorter { taken < found.gap.length }
+    requires piece { kind ≢ AllocationType.Free }
+    requires fresh { HasNoNumber chain.old.chunks number }
+    requires room { (0 < chain.old.room) × (length index.old.gaps ≤ index.old.room) }
+    ensures chunks { IsSplit chain.old.chunks found.gap.number taken number found.offset kind name chain.new.chunks }
+    ensures listed { IsListed chain.new.chunks index.new.gaps }
+    ensures live { length (extents_of chain.new.chunks) ≡ length (extents_of chain.old.chunks) + 1 }
+    ensures size { (chain.new.size ≡ chain.old.size) × (index.new.room ≡ index.old.room) }
+    ensures counted { LooksUpBetween 3 4 cost.old cost.new }
+{
+    chain.laid_out();
+    let gap = found.gap;
+    chain.split_front(gap.number, number, taken, found.offset, kind, name, cost);
+    index.in_order();
+    let rest = Gap {
+        length: gap.length - taken,
+        start: gap.start + taken,
+        number: gap.number,
+        before: kind,
+        after: gap.after,
+    };
+    index.replace(gap.length, gap.start, Some(found.place), rest);
+}
+
+/// Gives the whole found gap to a piece. It takes no memory.
+pub fn allocate_whole(
+    chain: &mut Chain,
+    index: &mut GapIndex,
+    found: Found,
+    kind: AllocationType,
+    name: Name,
+    cost: &mut Cost,
+)
+    requires listed { IsListed chain.old.chunks index.old.gaps }
+    requires gap { IsGapOf chain.old.chunks found.gap }
+    requires piece { kind ≢ AllocationType.Free }
+    ensures chunks { IsFilled chain.old.chunks found.gap.number found.offset kind name chain.new.chunks }
+    ensures listed { IsListed chain.new.chunks index.new.gaps }
+    ensures live { length (extents_of chain.new.chunks) ≡ length (extents_of chain.old.chunks) + 1 }
+    ensures size { (chain.new.size ≡ chain.old.size) × (index.new.room ≡ index.old.room) }
+    ensures counted { LooksUp 1 cost.old cost.new }
+{
+    chain.laid_out();
+    let gap = found.gap;
+    index.remove(gap.length, gap.start, Some(found.place));
+    chain.fill(gap.number, found.offset, kind, name, cost);
+}
+
+/// Takes the gap beside a chunk out of the index, if what stands there is one.
+fn forget(index: &mut GapIndex, beside: Option<Neighbour>)
+    requires there { MayForget beside index.old.gaps }
+    ensures gaps { Forgets beside index.old.gaps index.new.gaps }
+    ensures room { index.new.room ≡ index.old.room }
+{
+    if let Some(beside) = beside {
+        if is_free(beside.kind) {
+            index.remove(beside.size, beside.start, None);
+        }
+    }
+}
+
+/// Whether what stands there is a gap.
+fn is_gap(beside: Option<Neighbour>) -> bool
+    ensures { IsTrue result ↔ IsGapBeside beside }
+{
+    match beside {
+        Some(beside) => is_free(beside.kind),
+        None => false,
+    }
+}
+
+/// Puts a gap into the index, in the place of what stands beside it if that is one.
+fn put(index: &mut GapIndex, beside: Option<Neighbour>, gap: Gap)
+    requires there { MayForget beside index.old.gaps }
+    requires fresh { (rest : List Gap) → Forgets beside index.old.gaps rest → HasNoKey rest gap.length gap.start }
+    requires room { (rest : List Gap) → Forgets beside index.old.gaps rest → length rest < index.old.room }
+    ensures gaps { IsPut beside gap index.old.gaps index.new.gaps }
+    ensures room { index.new.room ≡ index.old.room }
+{
+    match beside {
+        Some(beside) => {
+            if is_free(beside.kind) {
+                index.replace(beside.size, beside.start, None, gap);
+            } else {
+                index.insert(gap);
+            }
+        }
+        None => index.insert(gap),
+    }
+}
+
+/// Puts a gap into the index, in the place of the gaps on both sides of it.
+fn put_joined(index: &mut GapIndex, around: Neighbours, gap: Gap)
+    requires before { MayForget around.before index.old.gaps }
+    requires after { (one : List Gap) → Forgets around.before index.old.gaps one → MayForget around.after one }
+    requires fresh { (one two : List Gap) → Forgets around.before index.old.gaps one → Forgets around.after one two → HasNoKey two gap.length gap.start }
+    requires room { (one two : List Gap) → Forgets around.before index.old.gaps one → Forgets around.after one two → length two < index.old.room }
+    ensures gaps { IsJoined around.before around.after gap index.old.gaps index.new.gaps }
+    ensures room { index.new.room ≡ index.old.room }
+{
+    if is_gap(around.after) {
+        forget(index, around.before);
+        put(index, around.after, gap);
+    } else {
+        put(index, around.before, gap);
+    }
+}
+
+/// The kind of what stands there, and `Free` at an end of the block.
+fn kind_of(beside: Option<Neighbour>) -> AllocationType
+    ensures { result ≡ beside_kind beside }
+{
+    match beside {
+        Some(beside) => beside.kind,
+        None => AllocationType::Free,
+    }
+}
+
+/// The entry of the free chunk of that number.
+fn gap_at(chain: &Chain, number: u64, cost: &mut Cost) -> Gap
+    requires there { HasNumber chain.now.chunks number }
+    ensures gap { (front : List Chunk) (c : Chunk) (back : List Chunk) → chain.now.chunks ≡ front ++ c ∷ back → c.number ≡ number
+        → result ≡ gap_between (last_kind AllocationType.Free front) c (kind_or back AllocationType.Free) }
+    ensures counted { LooksUpBetween 1 3 cost.old cost.new }
+{
+    chain.laid_out();
+    let Some(around) = chain.around(number, cost) else {
+        unreachable!();
+    };
+    Gap {
+        length: around.here.size,
+        start: around.here.start,
+        number: around.here.number,
+        before: kind_of(around.before),
+        after: kind_of(around.after),
+    }
+}
+
+/// The number of the gap that the chunk becomes: that of the gap before it, if there is one.
+fn first_number(around: Neighbours) -> u64
+    ensures { result ≡ first_of around.before around.here.number }
+{
+    match around.before {
+        Some(beside) => {
+            if is_free(beside.kind) {
+                beside.number
+            } else {
+                around.here.number
+            }
+        }
+        None => around.here.number,
+    }
+}
+
+/// Frees a piece, and joins it with the gaps beside it. It takes no memory.
+pub fn release(chain: &mut Chain, index: &mut GapIndex, around: Neighbours, cost: &mut Cost)
+    requires listed { IsListed chain.old.chunks index.old.gaps }
+    requires piece { IsPieceAt chain.old.chunks around }
+    requires room { length (extents_of chain.old.chunks) + 1 ≤ index.old.room }
+    ensures chunks { IsReleased chain.old.chunks around.here.number chain.new.chunks }
+    ensures listed { IsListed chain.new.chunks index.new.gaps }
+    ensures live { length (extents_of chain.new.chunks) + 1 ≡ length (extents_of chain.old.chunks) }
+    ensures size { (chain.new.size ≡ chain.old.size) × (index.new.room ≡ index.old.room) }
+    ensures counted { LooksUpBetween 5 15 cost.old cost.new }
+{
+    chain.laid_out();
+    chain.release(around.here.number, cost);
+    chain.laid_out();
+    index.in_order();
+    let gap = gap_at(chain, first_number(around), cost);
+    put_joined(index, around, gap);
+}
