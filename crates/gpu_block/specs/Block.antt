@@ -13,7 +13,7 @@ use Rattle.gpu_values.specs.Refusal.{Refusal, refusal_of}
 use Rattle.gpu_block_pieces.specs.BlockRefusal.{IsAllocateRefusal, release_refusal, IsRenameRefusal}
 use Rattle.gpu_block.specs.Dedicated.{Dedicated, held_extents, IsWhole, DedicatedTakes, IsDedicatedAllocateRefusal, DedicatedReleases, IsDedicatedReleaseRefusal, DedicatedRenames}
 use Rattle.gpu_block.specs.Dedicated.{IsDedicatedRenameRefusal}
-use Rattle.gpu_block_pieces.specs.Laws.{IsSound, IsInOrder, IsPageSeparated, IsLongEnough, IsForNumbers, IsCovered}
+use Rattle.gpu_block_pieces.specs.Laws.{IsSound, IsInOrder, IsPageSeparated, IsLongEnough, IsForChunkIds, IsCovered}
 
 -- either form
 pub data Block : Type 0 where
@@ -31,8 +31,8 @@ size_of (free_list b) = b.size
 size_of (dedicated b) = b.size
 
 -- the block has a live piece of that number, offset and size
-abbrev pub HoldsPiece : Block → (number offset size : ℕ) → Type 0
-HoldsPiece b number offset size = (x : Extent) × Contains (extents_of b) x × (x.number ≡ number) × (x.offset ≡ offset) × (x.end ≡ offset + size)
+abbrev pub HoldsPiece : Block → (chunk_id offset size : ℕ) → Type 0
+HoldsPiece b chunk_id offset size = (x : Extent) × Contains (extents_of b) x × (x.chunk_id ≡ chunk_id) × (x.offset ≡ offset) × (x.end ≡ offset + size)
 
 -- the bytes of the live pieces, padding included
 abbrev pub allocated_bytes : Block → ℕ
@@ -51,25 +51,25 @@ HasPages (dedicated b) granularity = Unit {0}
 -- ---- the changes: a block stays one of its form
 
 -- what a take leaves
-abbrev pub TakesIn : Block → Request → (offset number : ℕ) → Block → Type 0
-TakesIn (free_list old) r offset number (free_list new) = Takes old r offset number new
-TakesIn (free_list old) r offset number (dedicated new) = ⊥
-TakesIn (dedicated old) r offset number (free_list new) = ⊥
-TakesIn (dedicated old) r offset number (dedicated new) = DedicatedTakes old r offset number new
+abbrev pub TakesIn : Block → Request → (offset chunk_id : ℕ) → Block → Type 0
+TakesIn (free_list old) r offset chunk_id (free_list new) = Takes old r offset chunk_id new
+TakesIn (free_list old) r offset chunk_id (dedicated new) = ⊥
+TakesIn (dedicated old) r offset chunk_id (free_list new) = ⊥
+TakesIn (dedicated old) r offset chunk_id (dedicated new) = DedicatedTakes old r offset chunk_id new
 
 -- what a release leaves
 abbrev pub ReleasesIn : Block → ℕ → Block → Type 0
-ReleasesIn (free_list old) number (free_list new) = Releases old number new
-ReleasesIn (free_list old) number (dedicated new) = ⊥
-ReleasesIn (dedicated old) number (free_list new) = ⊥
-ReleasesIn (dedicated old) number (dedicated new) = DedicatedReleases old number new
+ReleasesIn (free_list old) chunk_id (free_list new) = Releases old chunk_id new
+ReleasesIn (free_list old) chunk_id (dedicated new) = ⊥
+ReleasesIn (dedicated old) chunk_id (free_list new) = ⊥
+ReleasesIn (dedicated old) chunk_id (dedicated new) = DedicatedReleases old chunk_id new
 
 -- what a new name leaves
 abbrev pub RenamesIn : Block → ℕ → List ℕ → Block → Type 0
-RenamesIn (free_list old) number name (free_list new) = Renames old number name new
-RenamesIn (free_list old) number name (dedicated new) = ⊥
-RenamesIn (dedicated old) number name (free_list new) = ⊥
-RenamesIn (dedicated old) number name (dedicated new) = DedicatedRenames old number name new
+RenamesIn (free_list old) chunk_id name (free_list new) = Renames old chunk_id name new
+RenamesIn (free_list old) chunk_id name (dedicated new) = ⊥
+RenamesIn (dedicated old) chunk_id name (free_list new) = ⊥
+RenamesIn (dedicated old) chunk_id name (dedicated new) = DedicatedRenames old chunk_id name new
 
 -- ---- why a call is refused
 
@@ -86,7 +86,7 @@ IsAllocateRefusalIn (dedicated b) r e = IsDedicatedAllocateRefusal b r (refusal_
 -- why a release is refused
 abbrev pub IsReleaseRefusalIn : Block → Option NonZeroU64 → Refusal → Type 0
 IsReleaseRefusalIn (free_list b) id refusal =
-    (refusal ≡ release_refusal id) × IfSome id (λ n. SomeExtent b (λ x. x.number ≡ non_zero_u64_get n) → ⊥)
+    (refusal ≡ release_refusal id) × IfSome id (λ n. SomeExtent b (λ x. x.chunk_id ≡ non_zero_u64_get n) → ⊥)
 IsReleaseRefusalIn (dedicated b) id refusal = IsDedicatedReleaseRefusal b id refusal
 
 -- why a new name is refused
@@ -118,7 +118,7 @@ IsCoveredBlock (dedicated b) = Unit {0}
 
 -- in a free list a gap that is long enough is refused for want of numbers or of host memory alone
 abbrev pub IsFitLaw : Block → Request → AllocationError → Type 0
-IsFitLaw (free_list b) r e = (s t : ℕ) → IsGap b s t → IsLongEnough b r s t → IsForNumbers b e
+IsFitLaw (free_list b) r e = (s t : ℕ) → IsGap b s t → IsLongEnough b r s t → IsForChunkIds b e
 IsFitLaw (dedicated b) r e = Unit {0}
 
 -- a search of a free list; a dedicated block is not searched

@@ -22,16 +22,16 @@ held_extents b = option_to_list b.piece
 
 -- the piece is the whole block, with number 1
 abbrev pub whole_extent : Request → Extent
-whole_extent r = record { start = 0; offset = 0; end = r.size; kind = r.kind; number = 1; name = r.name }
+whole_extent r = record { start = 0; offset = 0; end = r.size; kind = r.kind; chunk_id = 1; name = r.name }
 
 -- a piece is the whole block
 abbrev pub IsWhole : Dedicated → Type 0
-IsWhole b = IfSome b.piece (λ x. (x.start ≡ 0) × (x.offset ≡ 0) × (x.end ≡ b.size) × (x.number ≡ 1))
+IsWhole b = IfSome b.piece (λ x. (x.start ≡ 0) × (x.offset ≡ 0) × (x.end ≡ b.size) × (x.chunk_id ≡ 1))
 
 -- the request took the block, which was empty and of its size
-abbrev pub DedicatedTakes : Dedicated → Request → (offset number : ℕ) → Dedicated → Type 0
-DedicatedTakes old r offset number new =
-    (old.piece ≡ None) × (r.size ≡ old.size) × (offset ≡ 0) × (number ≡ 1) × (new ≡ record { size = old.size; piece = Some (whole_extent r) })
+abbrev pub DedicatedTakes : Dedicated → Request → (offset chunk_id : ℕ) → Dedicated → Type 0
+DedicatedTakes old r offset chunk_id new =
+    (old.piece ≡ None) × (r.size ≡ old.size) × (offset ≡ 0) × (chunk_id ≡ 1) × (new ≡ record { size = old.size; piece = Some (whole_extent r) })
 
 -- why a take is refused: the block is taken, or it is of another size, or the host's memory was refused
 abbrev pub IsDedicatedAllocateRefusal : Dedicated → Request → Refusal → Type 0
@@ -42,7 +42,7 @@ IsDedicatedAllocateRefusal b r refusal =
 
 -- the piece went
 abbrev pub DedicatedReleases : Dedicated → ℕ → Dedicated → Type 0
-DedicatedReleases old number new = IsSome old.piece × (number ≡ 1) × (new ≡ empty_dedicated old.size)
+DedicatedReleases old chunk_id new = IsSome old.piece × (chunk_id ≡ 1) × (new ≡ empty_dedicated old.size)
 
 -- a piece with another name
 abbrev pub renamed : List ℕ → Extent → Extent
@@ -50,8 +50,8 @@ renamed name x = record x { name = name }
 
 -- the piece has another name
 abbrev pub DedicatedRenames : Dedicated → ℕ → List ℕ → Dedicated → Type 0
-DedicatedRenames old number name new =
-    IsSome old.piece × (number ≡ 1) × (new ≡ record old { piece = option_map (renamed name) old.piece })
+DedicatedRenames old chunk_id name new =
+    IsSome old.piece × (chunk_id ≡ 1) × (new ≡ record old { piece = option_map (renamed name) old.piece })
 
 -- why a number names no piece of the block: it is missing or not 1, or else nothing is held, which `freed` says
 abbrev pub IsNotHeld : Dedicated → Option NonZeroU64 → List ℕ → Refusal → Type 0

@@ -89,7 +89,7 @@ impl DedicatedBlockAllocator {
             size,
             offset: 0,
             kind,
-            number: 1,
+            chunk_id: 1,
             name,
         });
         Ok((0, NonZeroU64::MIN))
@@ -143,11 +143,11 @@ impl DedicatedBlockAllocator {
     }
 
     /// The offset and the size in bytes of the piece, if one is held and that is its number.
-    pub(crate) fn place_of(&self, number: NonZeroU64) -> Option<(u64, u64)>
-        ensures { FindsPlace (held_extents self.now) (non_zero_u64_get number) result }
+    pub(crate) fn place_of(&self, chunk_id: NonZeroU64) -> Option<(u64, u64)>
+        ensures { FindsPlace (held_extents self.now) (non_zero_u64_get chunk_id) result }
     {
         match &self.piece {
-            Some(chunk) if number.get() == 1 => Some((0, chunk.size)),
+            Some(chunk) if chunk_id.get() == 1 => Some((0, chunk.size)),
             _ => None,
         }
     }
@@ -185,7 +185,7 @@ fn first(chunk_id: Option<NonZeroU64>) -> Result<()>
     ensures other { OnErr result (IfSome chunk_id (λ n. non_zero_u64_get n ≢ 1)) }
 {
     match chunk_id {
-        Some(number) if number.get() == 1 => Ok(()),
+        Some(chunk_id) if chunk_id.get() == 1 => Ok(()),
         _ => Err(internal_fault("Chunk ID must be 1.")),
     }
 }

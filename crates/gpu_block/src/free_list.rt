@@ -48,7 +48,7 @@ impl FreeListAllocator {
     ghost use Rattle.gpu_block_pieces.specs.Search.{IsSearch};
     ghost use Rattle.gpu_block_pieces.specs.Changes.{Takes, Releases, Renames};
     ghost use Rattle.gpu_block_pieces.specs.BlockRefusal.{IsAllocateRefusal, release_refusal, IsRenameRefusal};
-    ghost use Rattle.gpu_block_pieces.specs.Laws.{IsSound, IsInOrder, IsPageSeparated, IsLongEnough, IsForNumbers, IsCovered};
+    ghost use Rattle.gpu_block_pieces.specs.Laws.{IsSound, IsInOrder, IsPageSeparated, IsLongEnough, IsForChunkIds, IsCovered};
 
     /// Takes the best place for `size` bytes, and answers the piece's offset in bytes and its number. `OutOfMemory` where
     /// there is no place, else `HostOutOfMemory` where the host refused memory; a refusal leaves the block as it was.
@@ -79,7 +79,7 @@ impl FreeListAllocator {
         ensures covered { OnOk result (IsCovered self.new.block) }
         ensures law { IfErr result (λ e. (s t : ℕ) → IsGap self.old.block s t
             → IsLongEnough self.old.block (request size alignment kind name.now) s t
-            → IsForNumbers self.old.block e) }
+            → IsForChunkIds self.old.block e) }
         // what the search for the place cost, and its taking
         ensures cost { IsSearch self.old.block (request size alignment kind name.now) self.old.cost self.new.cost }
     {
@@ -94,7 +94,7 @@ impl FreeListAllocator {
             (IsSomeAnd chunk_id (λ n. Releases self.old.block (non_zero_u64_get n) self.new.block)) }
         ensures cause { IfErr result (λ e. refusal_of e ≡ release_refusal chunk_id) }
         ensures not_live { OnErr result
-            (IfSome chunk_id (λ n. SomeExtent self.old.block (λ x. x.number ≡ non_zero_u64_get n) → ⊥)) }
+            (IfSome chunk_id (λ n. SomeExtent self.old.block (λ x. x.chunk_id ≡ non_zero_u64_get n) → ⊥)) }
         ensures refused { OnErr result (self.new.block ≡ self.old.block) }
         ensures pages { self.new.block.granularity ≡ self.old.block.granularity }
         ensures sound { OnOk result (IsSound self.new.block) }

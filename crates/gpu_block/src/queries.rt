@@ -86,10 +86,10 @@ impl FreeListAllocator {
     }
 
     /// The offset and the size in bytes of the live piece with that number.
-    pub(crate) fn place_of(&self, number: NonZeroU64) -> Option<(u64, u64)>
-        ensures { FindsPlace self.now.block.extents (non_zero_u64_get number) result }
+    pub(crate) fn place_of(&self, chunk_id: NonZeroU64) -> Option<(u64, u64)>
+        ensures { FindsPlace self.now.block.extents (non_zero_u64_get chunk_id) result }
     {
-        self.pieces.place_of(number, &mut Cost::begin(&Reading))
+        self.pieces.place_of(chunk_id, &mut Cost::begin(&Reading))
     }
 
     /// The live pieces in order of offset, each with its own offset and size. The only refusal is `HostOutOfMemory`.

@@ -196,12 +196,12 @@ impl SubAllocator {
     }
 
     /// The offset and the size in bytes of the live piece with that number; `None` where there is none.
-    pub fn place_of(&self, number: NonZeroU64) -> Option<(u64, u64)>
-        ensures { FindsPlace (extents_of (block_of self.now)) (non_zero_u64_get number) result }
+    pub fn place_of(&self, chunk_id: NonZeroU64) -> Option<(u64, u64)>
+        ensures { FindsPlace (extents_of (block_of self.now)) (non_zero_u64_get chunk_id) result }
     {
         match self {
-            SubAllocator::FreeList(list) => list.place_of(number),
-            SubAllocator::Dedicated(block) => block.place_of(number),
+            SubAllocator::FreeList(list) => list.place_of(chunk_id),
+            SubAllocator::Dedicated(block) => block.place_of(chunk_id),
         }
     }
 

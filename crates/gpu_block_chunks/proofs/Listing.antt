@@ -10,8 +10,8 @@ use Rattle.gpu_block_chunks.specs.declared.chain.Neighbour.{Neighbour}
 use Rattle.gpu_values.specs.declared.allocation_type.AllocationType.{AllocationType}
 use Rattle.gpu_values.specs.declared.allocation_type.AllocationType.TheVariants.{Free, Linear, NonLinear}
 use Rattle.gpu_block_chunks.specs.ChunkList.{filled_chunk, cut_chunk, join_kinds, join_back, join_front, AreDistinct}
-use Rattle.gpu_block_chunks.specs.Chain.{Name, first_or, last_or, node_of, Held, Apart, Distinct, Numbered, Among, IsChain, chunks_in, StandsAt, HasNumber, HasNoNumber, AreNeighbours, IsChunkAt}
-use Rattle.gpu_block_chunks.specs.Chain.{IsLonger, IsSplit, IsFilled, IsReleased, from_number, beside, beside_of, last_beside, first_beside, longer, right_chunk, right_rest, glue_left}
+use Rattle.gpu_block_chunks.specs.Chain.{Name, first_or, last_or, node_of, Held, Apart, Distinct, Numbered, Among, IsChain, chunks_in, StandsAt, HasChunkId, HasNoChunkId, AreNeighbours, IsChunkAt}
+use Rattle.gpu_block_chunks.specs.Chain.{IsLonger, IsSplit, IsFilled, IsReleased, from_chunk_id, beside, beside_of, last_beside, first_beside, longer, right_chunk, right_rest, glue_left}
 use Rattle.gpu_block_chunks.specs.Chain.{is_free_kind, front_piece, ChangesAt, used_node, JoinsRight, JoinsLeft, walk}
 use Rattle.gpu_block_chunks.proofs.Links.{stands_from, same_test, apart_test, apart_front, held_front, held_back, apart_from_none}
 use Rattle.gpu_block_chunks.proofs.Parts.{All-parts}
@@ -25,19 +25,19 @@ pub chunks_append : (xs ys : List (ℕ × Chunk)) → chunks_in (xs ++ ys) ≡ c
 chunks_append [] ys = refl
 chunks_append (x ∷ xs) ys = ap (λ (cs : List Chunk). x.1 ∷ cs) (chunks_append xs ys)
 
-pub among_of : (ps : List (ℕ × Chunk)) (front back : List Chunk) (c : Chunk) → chunks_in ps ≡ front ++ c ∷ back → Numbered ps → Among c.number c ps
+pub among_of : (ps : List (ℕ × Chunk)) (front back : List Chunk) (c : Chunk) → chunks_in ps ≡ front ++ c ∷ back → Numbered ps → Among c.chunk_id c ps
 among_of [] [] back c e n = cc
 among_of [] (f ∷ fs) back c e n = cc
 among_of (p ∷ ps) [] back c e n =
     let q = cons_parts p.1 c (chunks_in ps) back e in
-    inl (sym n.0 ∙ ap (λ (d : Chunk). d.number) q.0, q.0)
+    inl (sym n.0 ∙ ap (λ (d : Chunk). d.chunk_id) q.0, q.0)
 among_of (p ∷ ps) (f ∷ fs) back c e n =
     inr (among_of ps fs back c (cons_parts p.1 f (chunks_in ps) (fs ++ c ∷ back) e).1 n.1)
 
 pub among_stands : (ps : List (ℕ × Chunk)) (cs : List Chunk) (k : ℕ) (c : Chunk) → chunks_in ps ≡ cs → Numbered ps → StandsAt cs k c → Among k c ps
 among_stands ps cs k c e n s = subst (λ (q : ℕ). Among q c ps) s.numbered (among_of ps s.front s.back c (e ∙ s.split) n)
 
-pub numbered_at : (front : List (ℕ × Chunk)) (k : ℕ) (c : Chunk) (back : List (ℕ × Chunk)) → Numbered (front ++ (k, c) ∷ back) → c.number ≡ k
+pub numbered_at : (front : List (ℕ × Chunk)) (k : ℕ) (c : Chunk) (back : List (ℕ × Chunk)) → Numbered (front ++ (k, c) ∷ back) → c.chunk_id ≡ k
 numbered_at [] k c back h = h.0
 numbered_at (x ∷ xs) k c back h = numbered_at xs k c back h.1
 
@@ -53,14 +53,14 @@ stands_of ps front back cs k c p e n = record {
   numbered = numbered_at front k c back (subst (λ (xs : List (ℕ × Chunk)). Numbered xs) p n);
 }
 
-pub none_of : (k : ℕ) (ps : List (ℕ × Chunk)) → Apart k ps → Numbered ps → HasNoNumber (chunks_in ps) k
-none_of k [] h n = All-nil (λ (c : Chunk). c.number ≢ k)
-none_of k (x ∷ xs) h n = All-cons (λ (c : Chunk). c.number ≢ k) x.1 (chunks_in xs) (λ (e : (x.1).number ≡ k). h.0 (sym e ∙ n.0)) (none_of k xs h.1 n.1)
+pub none_of : (k : ℕ) (ps : List (ℕ × Chunk)) → Apart k ps → Numbered ps → HasNoChunkId (chunks_in ps) k
+none_of k [] h n = All-nil (λ (c : Chunk). c.chunk_id ≢ k)
+none_of k (x ∷ xs) h n = All-cons (λ (c : Chunk). c.chunk_id ≢ k) x.1 (chunks_in xs) (λ (e : (x.1).chunk_id ≡ k). h.0 (sym e ∙ n.0)) (none_of k xs h.1 n.1)
 
-pub apart_of : (k : ℕ) (ps : List (ℕ × Chunk)) → HasNoNumber (chunks_in ps) k → Numbered ps → Apart k ps
+pub apart_of : (k : ℕ) (ps : List (ℕ × Chunk)) → HasNoChunkId (chunks_in ps) k → Numbered ps → Apart k ps
 apart_of k [] h n = tt
 apart_of k (x ∷ xs) h n =
-    ((λ (e : k ≡ x.0). All-head (λ (c : Chunk). c.number ≢ k) x.1 (chunks_in xs) h (n.0 ∙ sym e)), apart_of k xs (All-tail (λ (c : Chunk). c.number ≢ k) x.1 (chunks_in xs) h) n.1)
+    ((λ (e : k ≡ x.0). All-head (λ (c : Chunk). c.chunk_id ≢ k) x.1 (chunks_in xs) h (n.0 ∙ sym e)), apart_of k xs (All-tail (λ (c : Chunk). c.chunk_id ≢ k) x.1 (chunks_in xs) h) n.1)
 
 -- ---- what is beside a chunk
 
@@ -118,24 +118,24 @@ module _ (f : ℕ → Option Node) where
 
 -- ---- the list from a number on
 
-from_split : (k : ℕ) (front : List (ℕ × Chunk)) (c : Chunk) (back : List Chunk) → Apart k front → Numbered front → c.number ≡ k → from_number (Some k) (chunks_in front ++ c ∷ back) ≡ c ∷ back
+from_split : (k : ℕ) (front : List (ℕ × Chunk)) (c : Chunk) (back : List Chunk) → Apart k front → Numbered front → c.chunk_id ≡ k → from_chunk_id (Some k) (chunks_in front ++ c ∷ back) ≡ c ∷ back
 from_split k [] c back a n e =
-    let t : (c.number == k) ≡ true = ap (λ (q : ℕ). q == k) e ∙ same_test k in
-    ap (λ (b : Bool). cond b (c ∷ back) (from_number (Some k) back)) t
+    let t : (c.chunk_id == k) ≡ true = ap (λ (q : ℕ). q == k) e ∙ same_test k in
+    ap (λ (b : Bool). cond b (c ∷ back) (from_chunk_id (Some k) back)) t
 from_split k (x ∷ xs) c back a n e =
-    let t : ((x.1).number == k) ≡ false = apart_test (x.1).number k (λ (q : (x.1).number ≡ k). a.0 (sym q ∙ n.0)) in
-    ap (λ (b : Bool). cond b (x.1 ∷ (chunks_in xs ++ c ∷ back)) (from_number (Some k) (chunks_in xs ++ c ∷ back))) t ∙ from_split k xs c back a.1 n.1 e
+    let t : ((x.1).chunk_id == k) ≡ false = apart_test (x.1).chunk_id k (λ (q : (x.1).chunk_id ≡ k). a.0 (sym q ∙ n.0)) in
+    ap (λ (b : Bool). cond b (x.1 ∷ (chunks_in xs ++ c ∷ back)) (from_chunk_id (Some k) (chunks_in xs ++ c ∷ back))) t ∙ from_split k xs c back a.1 n.1 e
 
 -- from the first number of the rest on, the rest is met
-from_rest : (front back : List (ℕ × Chunk)) → Distinct (front ++ back) → Numbered (front ++ back) → from_number (first_or back None) (chunks_in (front ++ back)) ≡ chunks_in back
+from_rest : (front back : List (ℕ × Chunk)) → Distinct (front ++ back) → Numbered (front ++ back) → from_chunk_id (first_or back None) (chunks_in (front ++ back)) ≡ chunks_in back
 from_rest front [] d n = refl
 from_rest front (y ∷ ys) d n =
-    ap (from_number (Some y.0)) (chunks_append front (y ∷ ys))
+    ap (from_chunk_id (Some y.0)) (chunks_append front (y ∷ ys))
     ∙ from_split y.0 front y.1 (chunks_in ys) (apart_front front y.0 y.1 ys d) (numbered_front front (y ∷ ys) n) (numbered_at front y.0 y.1 ys n)
 
-pub from_first : (f : ℕ → Option Node) (first size : ℕ) (ps : List (ℕ × Chunk)) (cs : List Chunk) → IsChain f first size ps → chunks_in ps ≡ cs → from_number (Some first) cs ≡ cs
+pub from_first : (f : ℕ → Option Node) (first size : ℕ) (ps : List (ℕ × Chunk)) (cs : List Chunk) → IsChain f first size ps → chunks_in ps ≡ cs → from_chunk_id (Some first) cs ≡ cs
 from_first f first size ps cs chain e =
-    subst (λ (xs : List Chunk). from_number (Some first) xs ≡ xs) e (ap (λ (o : Option ℕ). from_number o (chunks_in ps)) (sym chain.starts) ∙ from_rest [] ps chain.distinct chain.numbered)
+    subst (λ (xs : List Chunk). from_chunk_id (Some first) xs ≡ xs) e (ap (λ (o : Option ℕ). from_chunk_id o (chunks_in ps)) (sym chain.starts) ∙ from_rest [] ps chain.distinct chain.numbered)
 
 pub chunk_at : (f : ℕ → Option Node) (first size : ℕ) (ps : List (ℕ × Chunk)) (cs : List Chunk) → IsChain f first size ps → chunks_in ps ≡ cs → (k : ℕ) (n : Node) → f k ≡ Some n
     → IsChunkAt cs k n.chunk n.next
@@ -149,31 +149,31 @@ chunk_at f first size ps cs chain e k n at =
     let next : n.next ≡ first_or s.back None = cc in
     let whole : cs ≡ chunks_in (s.front ++ (k, n.chunk) ∷ s.back) = sym e ∙ ap chunks_in s.is in
     let assoc = append_assoc s.front ((k, n.chunk) ∷ []) s.back in
-    let here : from_number (Some k) cs ≡ n.chunk ∷ chunks_in s.back =
-    ap (from_number (Some k)) whole ∙ from_rest s.front ((k, n.chunk) ∷ s.back) d m in
-    let later : from_number n.next cs ≡ chunks_in s.back =
-    ap (λ (o : Option ℕ). from_number o cs) next ∙ ap (from_number (first_or s.back None)) (whole ∙ ap chunks_in (sym assoc))
+    let here : from_chunk_id (Some k) cs ≡ n.chunk ∷ chunks_in s.back =
+    ap (from_chunk_id (Some k)) whole ∙ from_rest s.front ((k, n.chunk) ∷ s.back) d m in
+    let later : from_chunk_id n.next cs ≡ chunks_in s.back =
+    ap (λ (o : Option ℕ). from_chunk_id o cs) next ∙ ap (from_chunk_id (first_or s.back None)) (whole ∙ ap chunks_in (sym assoc))
     ∙ from_rest (s.front ++ (k, n.chunk) ∷ []) s.back (subst (λ (ys : List (ℕ × Chunk)). Distinct ys) (sym assoc) d) (subst (λ (ys : List (ℕ × Chunk)). Numbered ys) (sym assoc) m) in
     record {
       at = stands_of ps s.front s.back cs k n.chunk s.is e chain.numbered;
       from = here ∙ ap (λ (xs : List Chunk). n.chunk ∷ xs) (sym later);
     }
 
-pub none_held : (f : ℕ → Option Node) (first size : ℕ) (ps : List (ℕ × Chunk)) (cs : List Chunk) → IsChain f first size ps → chunks_in ps ≡ cs → (k : ℕ) → f k ≡ None → HasNoNumber cs k
+pub none_held : (f : ℕ → Option Node) (first size : ℕ) (ps : List (ℕ × Chunk)) (cs : List Chunk) → IsChain f first size ps → chunks_in ps ≡ cs → (k : ℕ) → f k ≡ None → HasNoChunkId cs k
 none_held f first size ps cs chain e k none =
-    subst (λ (xs : List Chunk). HasNoNumber xs k) e (none_of k ps (apart_from_none f k None ps None none chain.held) chain.numbered)
+    subst (λ (xs : List Chunk). HasNoChunkId xs k) e (none_of k ps (apart_from_none f k None ps None none chain.held) chain.numbered)
 
 -- ---- the changes
 
 pub can_split : (ps : List (ℕ × Chunk)) (cs : List Chunk) (k taken : ℕ) → chunks_in ps ≡ cs → Numbered ps → IsLonger cs k taken → CanSplit ps k taken
 can_split ps cs k taken e n l = record { chunk = l.chunk; among = among_stands ps cs k l.chunk e n l.at; longer = l.longer }
 
-pub split_listed : (ps qs : List (ℕ × Chunk)) (cs : List Chunk) (k taken number offset : ℕ) (kind : AllocationType) (name : Name) → chunks_in ps ≡ cs → Numbered ps
-    → IsCut ps k taken number offset kind name qs → IsSplit cs k taken number offset kind name (chunks_in qs)
-split_listed ps qs cs k taken number offset kind name e n c = record {
+pub split_listed : (ps qs : List (ℕ × Chunk)) (cs : List Chunk) (k taken chunk_id offset : ℕ) (kind : AllocationType) (name : Name) → chunks_in ps ≡ cs → Numbered ps
+    → IsCut ps k taken chunk_id offset kind name qs → IsSplit cs k taken chunk_id offset kind name (chunks_in qs)
+split_listed ps qs cs k taken chunk_id offset kind name e n c = record {
   chunk = c.chunk;
   at = stands_of ps c.front c.back cs k c.chunk c.was e n;
-  is = ap chunks_in c.is ∙ chunks_append c.front ((number, front_piece c.chunk taken offset kind number name) ∷ (k, cut_chunk c.chunk taken) ∷ c.back);
+  is = ap chunks_in c.is ∙ chunks_append c.front ((chunk_id, front_piece c.chunk taken offset kind chunk_id name) ∷ (k, cut_chunk c.chunk taken) ∷ c.back);
 }
 
 pub fill_listed : (ps qs front back : List (ℕ × Chunk)) (cs : List Chunk) (c : Chunk) (k offset : ℕ) (kind : AllocationType) (name : Name) → chunks_in ps ≡ cs → Numbered ps
@@ -216,17 +216,17 @@ release_listed ps qs front back cs c k e n was is = record {
 -- ---- what the chain's methods use
 
 module _ (f : ℕ → Option Node) (first size : ℕ) (ps : List (ℕ × Chunk)) (cs : List Chunk) (chain : IsChain f first size ps) (shown : chunks_in ps ≡ cs) where
-  pub open_at : (k : ℕ) → HasNumber cs k → Opened f first size ps k
+  pub open_at : (k : ℕ) → HasChunkId cs k → Opened f first size ps k
   open_at k has = opened f first size ps k has.0 chain (among_stands ps cs k has.0 shown chain.numbered has.1)
 
-  pub filled : (g : ℕ → Option Node) (k offset : ℕ) (kind : AllocationType) (name : Name) → HasNumber cs k → ChangesAt k (used_node offset kind name) f g
+  pub filled : (g : ℕ → Option Node) (k offset : ℕ) (kind : AllocationType) (name : Name) → HasChunkId cs k → ChangesAt k (used_node offset kind name) f g
       → IsChain g first size (walk size g (Some first)) × IsFilled cs k offset kind name (chunks_in (walk size g (Some first)))
   filled g k offset kind name has change =
       let o = open_at k has in
       let d = fill_done f g first size ps k offset kind name o change in
       (d.0, fill_listed ps (walk size g (Some first)) o.front o.back cs o.chunk k offset kind name shown chain.numbered o.was d.1)
 
-  pub released : (f1 f2 f3 : ℕ → Option Node) (k start : ℕ) → HasNumber cs k → ((n : Node) → f k ≡ Some n → start ≡ (n.chunk).start)
+  pub released : (f1 f2 f3 : ℕ → Option Node) (k start : ℕ) → HasChunkId cs k → ((n : Node) → f k ≡ Some n → start ≡ (n.chunk).start)
       → ChangesAt k (used_node start Free []) f f1 → JoinsRight k f1 f2 → JoinsLeft k f2 f3
       → IsChain f3 first size (walk size f3 (Some first)) × IsReleased cs k (chunks_in (walk size f3 (Some first)))
   released f1 f2 f3 k start has ends change right left =
@@ -235,11 +235,11 @@ module _ (f : ℕ → Option Node) (first size : ℕ) (ps : List (ℕ × Chunk))
       (d.0, release_listed ps (walk size f3 (Some first)) o.front o.back cs o.chunk k shown chain.numbered o.was d.1)
 
 -- a number that no chunk has: nothing is met
-pub from_none : (k : ℕ) (cs : List Chunk) → HasNoNumber cs k → from_number (Some k) cs ≡ []
+pub from_none : (k : ℕ) (cs : List Chunk) → HasNoChunkId cs k → from_chunk_id (Some k) cs ≡ []
 from_none k [] h = refl
 from_none k (c ∷ cs) h =
-    let t : (c.number == k) ≡ false = apart_test c.number k (All-head (λ (d : Chunk). d.number ≢ k) c cs h) in
-    ap (λ (b : Bool). cond b (c ∷ cs) (from_number (Some k) cs)) t ∙ from_none k cs (All-tail (λ (d : Chunk). d.number ≢ k) c cs h)
+    let t : (c.chunk_id == k) ≡ false = apart_test c.chunk_id k (All-head (λ (d : Chunk). d.chunk_id ≢ k) c cs h) in
+    ap (λ (b : Bool). cond b (c ∷ cs) (from_chunk_id (Some k) cs)) t ∙ from_none k cs (All-tail (λ (d : Chunk). d.chunk_id ≢ k) c cs h)
 
 pub empty_of : (xs : List Chunk) → length xs ≡ 0 → xs ≡ []
 empty_of [] h = refl
@@ -250,7 +250,7 @@ empty_of (x ∷ xs) h = absurd (omega arith)
 distinct_of : (ps : List (ℕ × Chunk)) → Distinct ps → Numbered ps → AreDistinct (chunks_in ps)
 distinct_of [] d n = tt
 distinct_of (x ∷ xs) d n =
-    (subst (λ (k : ℕ). HasNoNumber (chunks_in xs) k) (sym n.0) (none_of x.0 xs d.0 n.1), distinct_of xs d.1 n.1)
+    (subst (λ (k : ℕ). HasNoChunkId (chunks_in xs) k) (sym n.0) (none_of x.0 xs d.0 n.1), distinct_of xs d.1 n.1)
 
 pub distinct_listed : (f : ℕ → Option Node) (first size : ℕ) (ps : List (ℕ × Chunk)) (cs : List Chunk) → IsChain f first size ps → chunks_in ps ≡ cs → AreDistinct cs
 distinct_listed f first size ps cs chain e = subst (λ (xs : List Chunk). AreDistinct xs) e (distinct_of ps chain.distinct chain.numbered)
@@ -261,23 +261,23 @@ pub record SameSplit (front : List Chunk) (c : Chunk) (back other : List Chunk) 
   pub backs : back ≡ rest
 
 pub one_split : (front : List Chunk) (c : Chunk) (back other : List Chunk) (d : Chunk) (rest : List Chunk) → front ++ c ∷ back ≡ other ++ d ∷ rest → AreDistinct (front ++ c ∷ back)
-    → c.number ≡ d.number → SameSplit front c back other d rest
+    → c.chunk_id ≡ d.chunk_id → SameSplit front c back other d rest
 one_split [] c back [] d rest e w n =
     let p = cons_parts c d back rest e in
     record { fronts = refl; chunks = p.0; backs = p.1 }
 one_split [] c back (y ∷ ys) d rest e w n =
     let p = cons_parts c y back (ys ++ d ∷ rest) e in
-    let all : HasNoNumber (ys ++ d ∷ rest) c.number = subst (λ (xs : List Chunk). HasNoNumber xs c.number) p.1 w.0 in
-    absurd (All-head (λ (x : Chunk). x.number ≢ c.number) d rest (All-parts (λ (x : Chunk). x.number ≢ c.number) ys (d ∷ rest) all).1 (sym n))
+    let all : HasNoChunkId (ys ++ d ∷ rest) c.chunk_id = subst (λ (xs : List Chunk). HasNoChunkId xs c.chunk_id) p.1 w.0 in
+    absurd (All-head (λ (x : Chunk). x.chunk_id ≢ c.chunk_id) d rest (All-parts (λ (x : Chunk). x.chunk_id ≢ c.chunk_id) ys (d ∷ rest) all).1 (sym n))
 one_split (x ∷ xs) c back [] d rest e w n =
     let p = cons_parts x d (xs ++ c ∷ back) rest e in
-    absurd (All-head (λ (y : Chunk). y.number ≢ x.number) c back (All-parts (λ (y : Chunk). y.number ≢ x.number) xs (c ∷ back) w.0).1 (n ∙ ap (λ (y : Chunk). y.number) (sym p.0)))
+    absurd (All-head (λ (y : Chunk). y.chunk_id ≢ x.chunk_id) c back (All-parts (λ (y : Chunk). y.chunk_id ≢ x.chunk_id) xs (c ∷ back) w.0).1 (n ∙ ap (λ (y : Chunk). y.chunk_id) (sym p.0)))
 one_split (x ∷ xs) c back (y ∷ ys) d rest e w n =
     let p = cons_parts x y (xs ++ c ∷ back) (ys ++ d ∷ rest) e in
     let r = one_split xs c back ys d rest p.1 w.1 n in
     record { fronts = ap (λ (h : Chunk). h ∷ xs) p.0 ∙ ap (λ (hs : List Chunk). y ∷ hs) r.fronts; chunks = r.chunks; backs = r.backs }
 
 -- the chunk that stands there is the one between front and back
-pub stands_once : (cs front back : List Chunk) (c d : Chunk) (k : ℕ) → AreDistinct cs → (s : StandsAt cs k d) → cs ≡ front ++ c ∷ back → c.number ≡ k → SameSplit front c back s.front d s.back
+pub stands_once : (cs front back : List Chunk) (c d : Chunk) (k : ℕ) → AreDistinct cs → (s : StandsAt cs k d) → cs ≡ front ++ c ∷ back → c.chunk_id ≡ k → SameSplit front c back s.front d s.back
 stands_once cs front back c d k w s p n =
     one_split front c back s.front d s.back (sym p ∙ s.split) (subst (λ (xs : List Chunk). AreDistinct xs) p w) (n ∙ sym s.numbered)

@@ -21,33 +21,33 @@ module _ (f : ℕ → Option Node) where
       subst (λ (o : Option ℕ). IfSome o (λ p. IsSome (f p))) (sym next) (first_held (Some k) s.back None back.1 (search rules))
 
   -- a number that no chunk has is held nowhere, and nothing is linked to it
-  none_from : (number : ℕ) (o : Option Node) → f number ≡ o → ((n : Node) → f number ≡ Some n → ⊥) → f number ≡ None
-  none_from number None e never = e
-  none_from number (Some n) e never = absurd (never n e)
+  none_from : (chunk_id : ℕ) (o : Option Node) → f chunk_id ≡ o → ((n : Node) → f chunk_id ≡ Some n → ⊥) → f chunk_id ≡ None
+  none_from chunk_id None e never = e
+  none_from chunk_id (Some n) e never = absurd (never n e)
 
-  not_linked : (number : ℕ) → f number ≡ None → (o : Option ℕ) → IfSome o (λ p. IsSome (f p)) → o ≢ Some number
-  not_linked number none o h =
-      λ (e : o ≡ Some number).
-      let s : IsSome (f number) = subst (λ (p : Option ℕ). IfSome p (λ j. IsSome (f j))) e h in
+  not_linked : (chunk_id : ℕ) → f chunk_id ≡ None → (o : Option ℕ) → IfSome o (λ p. IsSome (f p)) → o ≢ Some chunk_id
+  not_linked chunk_id none o h =
+      λ (e : o ≡ Some chunk_id).
+      let s : IsSome (f chunk_id) = subst (λ (p : Option ℕ). IfSome p (λ j. IsSome (f j))) e h in
       let none_some : IsSome {T = Node} None = subst (λ (p : Option Node). IsSome p) none s in
       false≢true none_some
 
-  pub unlinked : (first size : ℕ) (cs : List (ℕ × Chunk)) → IsChain f first size cs → (number : ℕ) → Apart number cs → IsUnlinked number f
-  unlinked first size cs chain number apart =
-      let none = none_from number (f number) refl (λ n e. apart_among number number n.chunk cs apart (chain.every number n e) refl) in
+  pub unlinked : (first size : ℕ) (cs : List (ℕ × Chunk)) → IsChain f first size cs → (chunk_id : ℕ) → Apart chunk_id cs → IsUnlinked chunk_id f
+  unlinked first size cs chain chunk_id apart =
+      let none = none_from chunk_id (f chunk_id) refl (λ n e. apart_among chunk_id chunk_id n.chunk cs apart (chain.every chunk_id n e) refl) in
       record {
         none = none;
-        apart = λ q n e. (not_linked number none n.prev (prev_held f first size cs chain q n e), not_linked number none n.next (next_held first size cs chain q n e));
+        apart = λ q n e. (not_linked chunk_id none n.prev (prev_held f first size cs chain q n e), not_linked chunk_id none n.next (next_held first size cs chain q n e));
       }
 
-  unlinked_apart : (number k : ℕ) → IsUnlinked number f → IsSome (f k) → number ≡ k → ⊥
-  unlinked_apart number k un some is =
+  unlinked_apart : (chunk_id k : ℕ) → IsUnlinked chunk_id f → IsSome (f k) → chunk_id ≡ k → ⊥
+  unlinked_apart chunk_id k un some is =
       let none_some : IsSome {T = Node} None = subst (λ (o : Option Node). IsSome o) (ap f (sym is) ∙ un.none) some in
       false≢true none_some
 
   -- what is held under another number stays, where one is put under a new number
-  pub put_apart : (g : ℕ → Option Node) (number k : ℕ) (o : Option Node) → IsUnlinked number f → IsSome (f k) → SetsAt number o f g → g k ≡ f k
-  put_apart g number k o un some sets = sets k ∙ ap (λ (b : Bool). cond b o (f k)) (apart_test number k (unlinked_apart number k un some))
+  pub put_apart : (g : ℕ → Option Node) (chunk_id k : ℕ) (o : Option Node) → IsUnlinked chunk_id f → IsSome (f k) → SetsAt chunk_id o f g → g k ≡ f k
+  put_apart g chunk_id k o un some sets = sets k ∙ ap (λ (b : Bool). cond b o (f k)) (apart_test chunk_id k (unlinked_apart chunk_id k un some))
 
-  pub still_among : (P : Node → Type 0) (g : ℕ → Option Node) (number k : ℕ) (o : Option Node) → IsUnlinked number f → IsSome (f k) → SetsAt number o f g → IsSomeAnd (f k) P → IsSomeAnd (g k) P
-  still_among P g number k o un some sets h = subst (λ (x : Option Node). IsSomeAnd x P) (sym (put_apart g number k o un some sets)) h
+  pub still_among : (P : Node → Type 0) (g : ℕ → Option Node) (chunk_id k : ℕ) (o : Option Node) → IsUnlinked chunk_id f → IsSome (f k) → SetsAt chunk_id o f g → IsSomeAnd (f k) P → IsSomeAnd (g k) P
+  still_among P g chunk_id k o un some sets h = subst (λ (x : Option Node). IsSomeAnd x P) (sym (put_apart g chunk_id k o un some sets)) h

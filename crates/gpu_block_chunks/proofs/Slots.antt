@@ -9,7 +9,7 @@ use Rattle.std.proofs.lemmas.List.Sums.{sum_by-set}
 use Rattle.gpu_block_chunks.specs.declared.chain.link.Link.{Link}
 use Rattle.gpu_block_chunks.specs.declared.chain.link.LinkedChunk.{LinkedChunk}
 use Rattle.gpu_block_chunks.specs.Chain.{Node, ChangesAt, IsUnlinked}
-use Rattle.gpu_block_chunks.specs.Nodes.{Slotted, AreSound, LeadsIn, Leads, Reaches, slot_in, stored_in, held_at, node_value, link_number}
+use Rattle.gpu_block_chunks.specs.Nodes.{Slotted, AreSound, LeadsIn, Leads, Reaches, slot_in, stored_in, held_at, node_value, link_chunk_id}
 use Rattle.gpu_block_chunks.proofs.Links.{same_test, apart_test}
 
 -- ---- where a link leads to
@@ -18,27 +18,27 @@ found_in : (slots : List (ℕ × ℕ)) (chunks : List (Option LinkedChunk)) (k s
 found_in slots chunks k s None e there leads = absurd (false≢true there)
 found_in slots chunks k s (Some t) e there leads = e ∙ ap (λ (u : ℕ). Some u) (sym (leads t e))
 
-pub found : (v : Slotted) (at : Link) → Reaches v (Some at) → slot_in v.slots at.number ≡ Some at.slot
-found v at r = found_in v.slots v.chunks at.number at.slot (slot_in v.slots at.number) refl r.1 r.0
+pub found : (v : Slotted) (at : Link) → Reaches v (Some at) → slot_in v.slots at.chunk_id ≡ Some at.slot
+found v at r = found_in v.slots v.chunks at.chunk_id at.slot (slot_in v.slots at.chunk_id) refl r.1 r.0
 
 pub some_and : (P : Node → Type 0) → (o : Option Node) → IsSomeAnd o P → IsSome o
 some_and P None h = absurd h
 some_and P (Some n) h = refl
 
-same_number : (o : Option LinkedChunk) (k q : ℕ) → IsSomeAnd o (λ n. (n.chunk).number ≡ k) → IsSomeAnd o (λ n. (n.chunk).number ≡ q) → k ≡ q
-same_number None k q a b = absurd a
-same_number (Some n) k q a b = sym a ∙ b
+same_chunk_id : (o : Option LinkedChunk) (k q : ℕ) → IsSomeAnd o (λ n. (n.chunk).chunk_id ≡ k) → IsSomeAnd o (λ n. (n.chunk).chunk_id ≡ q) → k ≡ q
+same_chunk_id None k q a b = absurd a
+same_chunk_id (Some n) k q a b = sym a ∙ b
 
-pub linked_some : (link : Option Link) → is_some (link_number link) ≡ is_some link
+pub linked_some : (link : Option Link) → is_some (link_chunk_id link) ≡ is_some link
 linked_some None = refl
 linked_some (Some l) = refl
 
 -- two numbers have two slots
 one_number : (slots : List (ℕ × ℕ)) (chunks : List (Option LinkedChunk)) → AreSound slots chunks → (k q s : ℕ) → slot_in slots k ≡ Some s → slot_in slots q ≡ Some s → k ≡ q
-one_number slots chunks sound k q s at_k at_q = same_number (stored_in chunks (Some s)) k q (sound.numbered k s at_k) (sound.numbered q s at_q)
+one_number slots chunks sound k q s at_k at_q = same_chunk_id (stored_in chunks (Some s)) k q (sound.numbered k s at_k) (sound.numbered q s at_q)
 
 -- a number that nothing is held under has no slot
-none_there : (o : Option LinkedChunk) (k : ℕ) → IsSomeAnd o (λ x. (x.chunk).number ≡ k) → option_map node_value o ≡ None → ⊥
+none_there : (o : Option LinkedChunk) (k : ℕ) → IsSomeAnd o (λ x. (x.chunk).chunk_id ≡ k) → option_map node_value o ≡ None → ⊥
 none_there None k h none = h
 none_there (Some x) k h none = cc
 
@@ -53,14 +53,14 @@ slotless w v is sound k none = no_slot w.slots w.chunks sound k (slot_in w.slots
 -- ---- one slot is written
 module _ (slots : List (ℕ × ℕ)) (old new : List (Option LinkedChunk)) (sound : AreSound slots old) (k s : ℕ) (at : slot_in slots k ≡ Some s)
     (n m : LinkedChunk) (was : get_or old s None ≡ Some n) (here : get_or new s None ≡ Some m) (others : (t : ℕ) → t ≢ s → get_or new t None ≡ get_or old t None) where
-  write_numbered : (m.chunk).number ≡ (n.chunk).number → (q t : ℕ) → slot_in slots q ≡ Some t → IsSomeAnd (get_or new t None) (λ x. (x.chunk).number ≡ q)
+  write_numbered : (m.chunk).chunk_id ≡ (n.chunk).chunk_id → (q t : ℕ) → slot_in slots q ≡ Some t → IsSomeAnd (get_or new t None) (λ x. (x.chunk).chunk_id ≡ q)
   write_numbered same q t e =
       elim (cases_eq t s) [
         | inl is ↦
-            let a : IsSomeAnd (get_or old t None) (λ x. (x.chunk).number ≡ q) = sound.numbered q t e in
-            let b : IsSomeAnd (Some n) (λ x. (x.chunk).number ≡ q) = subst (λ (o : Option LinkedChunk). IsSomeAnd o (λ x. (x.chunk).number ≡ q)) (ap (λ (u : ℕ). get_or old u None) is ∙ was) a in
-            subst (λ (o : Option LinkedChunk). IsSomeAnd o (λ x. (x.chunk).number ≡ q)) (sym (ap (λ (u : ℕ). get_or new u None) is ∙ here)) (same ∙ b)
-        | inr ne ↦ subst (λ (o : Option LinkedChunk). IsSomeAnd o (λ x. (x.chunk).number ≡ q)) (sym (others t ne)) (sound.numbered q t e)
+            let a : IsSomeAnd (get_or old t None) (λ x. (x.chunk).chunk_id ≡ q) = sound.numbered q t e in
+            let b : IsSomeAnd (Some n) (λ x. (x.chunk).chunk_id ≡ q) = subst (λ (o : Option LinkedChunk). IsSomeAnd o (λ x. (x.chunk).chunk_id ≡ q)) (ap (λ (u : ℕ). get_or old u None) is ∙ was) a in
+            subst (λ (o : Option LinkedChunk). IsSomeAnd o (λ x. (x.chunk).chunk_id ≡ q)) (sym (ap (λ (u : ℕ). get_or new u None) is ∙ here)) (same ∙ b)
+        | inr ne ↦ subst (λ (o : Option LinkedChunk). IsSomeAnd o (λ x. (x.chunk).chunk_id ≡ q)) (sym (others t ne)) (sound.numbered q t e)
       ]
 
   -- what stands in a slot afterwards stood there before, or was written
@@ -73,7 +73,7 @@ module _ (slots : List (ℕ × ℕ)) (old new : List (Option LinkedChunk)) (soun
         | inr ne ↦ keeps q x (ap (λ (o : Option ℕ). stored_in old o) e ∙ sym (others t ne) ∙ f)
       ]
 
-  pub write_sound : count_by is_some new ≡ count_by is_some old → (m.chunk).number ≡ (n.chunk).number → LeadsIn slots m.prev → LeadsIn slots m.next → AreSound slots new
+  pub write_sound : count_by is_some new ≡ count_by is_some old → (m.chunk).chunk_id ≡ (n.chunk).chunk_id → LeadsIn slots m.prev → LeadsIn slots m.next → AreSound slots new
   write_sound count same prev next =
       record {
         numbered = write_numbered same;
@@ -107,7 +107,7 @@ set_count xs i n m within was =
 
 -- the same, for a write through a link
 module _ (w v : Slotted) (is : w ≡ v) (sound : AreSound w.slots w.chunks) (at : Link) (reaches : Reaches v (Some at)) where
-  pub reached : slot_in w.slots at.number ≡ Some at.slot
+  pub reached : slot_in w.slots at.chunk_id ≡ Some at.slot
   reached = found w at (subst (λ (u : Slotted). Reaches u (Some at)) (sym is) reaches)
 
   pub given : (link : Option Link) → Leads v link → LeadsIn w.slots link
@@ -116,25 +116,25 @@ module _ (w v : Slotted) (is : w ≡ v) (sound : AreSound w.slots w.chunks) (at 
   module _ (n : LinkedChunk) (was : Some n ≡ get_or w.chunks at.slot None) where
     -- the links that it had lead right
     pub prev_kept : LeadsIn w.slots n.prev
-    prev_kept = sound.prev at.number n (ap (λ (o : Option ℕ). stored_in w.chunks o) reached ∙ sym was)
+    prev_kept = sound.prev at.chunk_id n (ap (λ (o : Option ℕ). stored_in w.chunks o) reached ∙ sym was)
 
     pub next_kept : LeadsIn w.slots n.next
-    next_kept = sound.next at.number n (ap (λ (o : Option ℕ). stored_in w.chunks o) reached ∙ sym was)
+    next_kept = sound.next at.chunk_id n (ap (λ (o : Option ℕ). stored_in w.chunks o) reached ∙ sym was)
 
     within : at.slot < length w.chunks
     within = grind (arith, get_or_past)
 
-    pub set_sound : (m : LinkedChunk) → (m.chunk).number ≡ (n.chunk).number → LeadsIn w.slots m.prev → LeadsIn w.slots m.next → AreSound w.slots (set w.chunks at.slot (Some m))
+    pub set_sound : (m : LinkedChunk) → (m.chunk).chunk_id ≡ (n.chunk).chunk_id → LeadsIn w.slots m.prev → LeadsIn w.slots m.next → AreSound w.slots (set w.chunks at.slot (Some m))
     set_sound m =
-        write_sound w.slots w.chunks (set w.chunks at.slot (Some m)) sound at.number at.slot reached n m (sym was)
+        write_sound w.slots w.chunks (set w.chunks at.slot (Some m)) sound at.chunk_id at.slot reached n m (sym was)
         (get_or-set_same w.chunks at.slot (Some m) None within) (λ t ne. get_or-set_other w.chunks at.slot t (Some m) None ne)
         (set_count w.chunks at.slot n m within (sym was))
 
     pub set_changes : (m : LinkedChunk) (change : Node → Node) → node_value m ≡ change (node_value n)
-        → ChangesAt at.number change (held_at v) (λ q. option_map node_value (stored_in (set w.chunks at.slot (Some m)) (slot_in w.slots q)))
+        → ChangesAt at.chunk_id change (held_at v) (λ q. option_map node_value (stored_in (set w.chunks at.slot (Some m)) (slot_in w.slots q)))
     set_changes m change makes =
-        subst (λ (u : Slotted). ChangesAt at.number change (held_at u) (λ q. option_map node_value (stored_in (set w.chunks at.slot (Some m)) (slot_in w.slots q)))) is
-        (write_changes w.slots w.chunks (set w.chunks at.slot (Some m)) sound at.number at.slot reached n m (sym was)
+        subst (λ (u : Slotted). ChangesAt at.chunk_id change (held_at u) (λ q. option_map node_value (stored_in (set w.chunks at.slot (Some m)) (slot_in w.slots q)))) is
+        (write_changes w.slots w.chunks (set w.chunks at.slot (Some m)) sound at.chunk_id at.slot reached n m (sym was)
         (get_or-set_same w.chunks at.slot (Some m) None within) (λ t ne. get_or-set_other w.chunks at.slot t (Some m) None ne) change makes)
 
 -- ---- a chunk is put into a slot that is empty
@@ -149,7 +149,7 @@ module _ (slots slots2 : List (ℕ × ℕ)) (old new : List (Option LinkedChunk)
 
   -- no number had the slot
   unshared : (q t : ℕ) → slot_in slots q ≡ Some t → t ≢ s
-  unshared q t e = λ (is : t ≡ s). subst (λ (o : Option LinkedChunk). IsSomeAnd o (λ x. (x.chunk).number ≡ q)) (ap (λ (u : ℕ). get_or old u None) is ∙ vacant) (sound.numbered q t e)
+  unshared q t e = λ (is : t ≡ s). subst (λ (o : Option LinkedChunk). IsSomeAnd o (λ x. (x.chunk).chunk_id ≡ q)) (ap (λ (u : ℕ). get_or old u None) is ∙ vacant) (sound.numbered q t e)
 
   put_same : (q : ℕ) (o : Option ℕ) → slot_in slots q ≡ o → stored_in new o ≡ stored_in old o
   put_same q None e = refl
@@ -165,12 +165,12 @@ module _ (slots slots2 : List (ℕ × ℕ)) (old new : List (Option LinkedChunk)
         | inr ne ↦ rw (apart_test k q ne) (ap (λ (o : Option LinkedChunk). option_map node_value o) (put_stored q ne))
       ]
 
-  leads_more : (l : Option Link) → link_number l ≢ Some k → LeadsIn slots l → LeadsIn slots2 l
+  leads_more : (l : Option Link) → link_chunk_id l ≢ Some k → LeadsIn slots l → LeadsIn slots2 l
   leads_more None ne h = tt
-  leads_more (Some l) ne h = λ t e. h t (sym (put_other l.number (λ (is : k ≡ l.number). ne (ap (λ (j : ℕ). Some j) (sym is)))) ∙ e)
+  leads_more (Some l) ne h = λ t e. h t (sym (put_other l.chunk_id (λ (is : k ≡ l.chunk_id). ne (ap (λ (j : ℕ). Some j) (sym is)))) ∙ e)
 
   put_links : (link : LinkedChunk → Option Link) → LeadsIn slots2 (link m) → ((q : ℕ) (x : LinkedChunk) → stored_in old (slot_in slots q) ≡ Some x → LeadsIn slots (link x))
-      → ((q : ℕ) (x : LinkedChunk) → stored_in old (slot_in slots q) ≡ Some x → link_number (link x) ≢ Some k)
+      → ((q : ℕ) (x : LinkedChunk) → stored_in old (slot_in slots q) ≡ Some x → link_chunk_id (link x) ≢ Some k)
       → (q : ℕ) (x : LinkedChunk) → stored_in new (slot_in slots2 q) ≡ Some x → LeadsIn slots2 (link x)
   put_links link mine keeps apart q x f =
       elim (cases_eq k q) [
@@ -180,15 +180,15 @@ module _ (slots slots2 : List (ℕ × ℕ)) (old new : List (Option LinkedChunk)
         | inr ne ↦ let g = sym (put_stored q ne) ∙ f in leads_more (link x) (apart q x g) (keeps q x g)
       ]
 
-  put_numbered : (m.chunk).number ≡ k → (q t : ℕ) → slot_in slots2 q ≡ Some t → IsSomeAnd (get_or new t None) (λ x. (x.chunk).number ≡ q)
+  put_numbered : (m.chunk).chunk_id ≡ k → (q t : ℕ) → slot_in slots2 q ≡ Some t → IsSomeAnd (get_or new t None) (λ x. (x.chunk).chunk_id ≡ q)
   put_numbered same q t e =
       elim (cases_eq k q) [
         | inl is ↦
             let w : Some s ≡ Some t = sym (put_at q is) ∙ e in let v : s ≡ t = cc in
-            subst (λ (o : Option LinkedChunk). IsSomeAnd o (λ x. (x.chunk).number ≡ q)) (sym (ap (λ (u : ℕ). get_or new u None) (sym v) ∙ here)) (same ∙ is)
+            subst (λ (o : Option LinkedChunk). IsSomeAnd o (λ x. (x.chunk).chunk_id ≡ q)) (sym (ap (λ (u : ℕ). get_or new u None) (sym v) ∙ here)) (same ∙ is)
         | inr ne ↦
             let g = sym (put_other q ne) ∙ e in
-            subst (λ (o : Option LinkedChunk). IsSomeAnd o (λ x. (x.chunk).number ≡ q)) (sym (others t (unshared q t g))) (sound.numbered q t g)
+            subst (λ (o : Option LinkedChunk). IsSomeAnd o (λ x. (x.chunk).chunk_id ≡ q)) (sym (others t (unshared q t g))) (sound.numbered q t g)
       ]
 
   node_is : (q : ℕ) (x : LinkedChunk) → stored_in old (slot_in slots q) ≡ Some x → option_map node_value (stored_in old (slot_in slots q)) ≡ Some (node_value x)
@@ -201,16 +201,16 @@ module _ (slots slots2 : List (ℕ × ℕ)) (old new : List (Option LinkedChunk)
       let no : IsSome {T = Node} None = subst (λ (o : Option Node). IsSome o) (ap (λ (i : ℕ). option_map node_value (stored_in old (slot_in slots i))) is ∙ none) h in
       false≢true no
 
-  pub put_sound : (length slots2 ≡ length slots + 1) → (count_by is_some new ≡ count_by is_some old + 1) → (m.chunk).number ≡ k
+  pub put_sound : (length slots2 ≡ length slots + 1) → (count_by is_some new ≡ count_by is_some old + 1) → (m.chunk).chunk_id ≡ k
       → IsUnlinked k (λ q. option_map node_value (stored_in old (slot_in slots q)))
-      → LeadsIn slots m.prev × IfSome (link_number m.prev) (λ j. IsSome (option_map node_value (stored_in old (slot_in slots j))))
-      → LeadsIn slots m.next × IfSome (link_number m.next) (λ j. IsSome (option_map node_value (stored_in old (slot_in slots j)))) → AreSound slots2 new
+      → LeadsIn slots m.prev × IfSome (link_chunk_id m.prev) (λ j. IsSome (option_map node_value (stored_in old (slot_in slots j))))
+      → LeadsIn slots m.next × IfSome (link_chunk_id m.next) (λ j. IsSome (option_map node_value (stored_in old (slot_in slots j)))) → AreSound slots2 new
   put_sound more count same un prev next =
       record {
         numbered = put_numbered same;
         counted = let was = sound.counted in omega (arith, more, count, was);
-        prev = put_links (λ x. x.prev) (leads_more m.prev (reached_apart (link_number m.prev) prev.1 un.none) prev.0) sound.prev (λ q x f. (un.apart q (node_value x) (node_is q x f)).0);
-        next = put_links (λ x. x.next) (leads_more m.next (reached_apart (link_number m.next) next.1 un.none) next.0) sound.next (λ q x f. (un.apart q (node_value x) (node_is q x f)).1);
+        prev = put_links (λ x. x.prev) (leads_more m.prev (reached_apart (link_chunk_id m.prev) prev.1 un.none) prev.0) sound.prev (λ q x f. (un.apart q (node_value x) (node_is q x f)).0);
+        next = put_links (λ x. x.next) (leads_more m.next (reached_apart (link_chunk_id m.next) next.1 un.none) next.0) sound.next (λ q x f. (un.apart q (node_value x) (node_is q x f)).1);
       }
 
 -- ---- a chunk is taken out of its slot
@@ -249,7 +249,7 @@ module _ (slots slots2 : List (ℕ × ℕ)) (old new : List (Option LinkedChunk)
 
   leads_less : (l : Option Link) → LeadsIn slots l → LeadsIn slots2 l
   leads_less None h = tt
-  leads_less (Some l) h = λ t e. h t (still_in l.number t e).1
+  leads_less (Some l) h = λ t e. h t (still_in l.chunk_id t e).1
 
   out_links : (link : LinkedChunk → Option Link) → ((q : ℕ) (x : LinkedChunk) → stored_in old (slot_in slots q) ≡ Some x → LeadsIn slots (link x))
       → (q : ℕ) (x : LinkedChunk) → stored_in new (slot_in slots2 q) ≡ Some x → LeadsIn slots2 (link x)
@@ -259,10 +259,10 @@ module _ (slots slots2 : List (ℕ × ℕ)) (old new : List (Option LinkedChunk)
         | inr ne ↦ leads_less (link x) (keeps q x (sym (out_stored q ne) ∙ f))
       ]
 
-  out_numbered : (q t : ℕ) → slot_in slots2 q ≡ Some t → IsSomeAnd (get_or new t None) (λ x. (x.chunk).number ≡ q)
+  out_numbered : (q t : ℕ) → slot_in slots2 q ≡ Some t → IsSomeAnd (get_or new t None) (λ x. (x.chunk).chunk_id ≡ q)
   out_numbered q t e =
       let w = still_in q t e in
-      subst (λ (o : Option LinkedChunk). IsSomeAnd o (λ x. (x.chunk).number ≡ q)) (sym (others t (unshared_out q t w.0 w.1))) (sound.numbered q t w.1)
+      subst (λ (o : Option LinkedChunk). IsSomeAnd o (λ x. (x.chunk).chunk_id ≡ q)) (sym (others t (unshared_out q t w.0 w.1))) (sound.numbered q t w.1)
 
   pub out_sound : (length slots2 + 1 ≡ length slots) → (count_by is_some new + 1 ≡ count_by is_some old) → AreSound slots2 new
   out_sound less count =

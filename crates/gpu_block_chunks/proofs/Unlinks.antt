@@ -269,16 +269,16 @@ module _ (f f1 : ℕ → Option Node) (first size : ℕ) (ds : List (ℕ × Chun
         )
 
 -- ---- a fresh block
-pub fresh_chain : (f g : ℕ → Option Node) (size : ℕ) (c : Chunk) → ((q : ℕ) → f q ≡ None) → SetsAt 1 (Some (node_of c None None)) f g → 0 < size → c.start ≡ 0 → c.size ≡ size → c.number ≡ 1
+pub fresh_chain : (f g : ℕ → Option Node) (size : ℕ) (c : Chunk) → ((q : ℕ) → f q ≡ None) → SetsAt 1 (Some (node_of c None None)) f g → 0 < size → c.start ≡ 0 → c.size ≡ size → c.chunk_id ≡ 1
     → IsChain g 1 size (walk size g (Some 1)) × (walk size g (Some 1) ≡ (1, c) ∷ [])
-fresh_chain f g size c none sets pos start len number =
+fresh_chain f g size c none sets pos start len chunk_id =
     let at : g 1 ≡ Some (node_of c None None) = sets 1 ∙ ap (λ (b : Bool). cond b (Some (node_of c None None)) (f 1)) (same_test 1) in
     let chain : IsChain g 1 size ((1, c) ∷ []) = record {
       held = (at, tt);
       starts = refl;
       covers = (start, omega arith, omega arith);
       distinct = (tt, tt);
-      numbered = (number, tt);
+      numbered = (chunk_id, tt);
       every = λ q n e. ⊎_elim
           (λ (is : 1 ≡ q).
           let s : Some n ≡ Some (node_of c None None) = sym e ∙ ap g (sym is) ∙ at in

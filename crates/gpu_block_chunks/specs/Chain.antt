@@ -22,21 +22,21 @@ pub record Linked : Type 0 where
 -- ---- what a call changes or tells of the list
 
 -- the chunk of that number stands between front and back
-pub record StandsAt (cs : List Chunk) (number : ℕ) (c : Chunk) : Type 0 where
+pub record StandsAt (cs : List Chunk) (chunk_id : ℕ) (c : Chunk) : Type 0 where
   pub front : List Chunk
   pub back : List Chunk
   pub split : cs ≡ front ++ c ∷ back
-  pub numbered : c.number ≡ number
+  pub numbered : c.chunk_id ≡ chunk_id
 
 -- some chunk has the number
-abbrev pub HasNumber : List Chunk → ℕ → Type 0
-HasNumber cs number = (c : Chunk) × StandsAt cs number c
+abbrev pub HasChunkId : List Chunk → ℕ → Type 0
+HasChunkId cs chunk_id = (c : Chunk) × StandsAt cs chunk_id c
 
-abbrev pub HasNoNumber : List Chunk → ℕ → Type 0
-HasNoNumber cs number = All (λ c. c.number ≢ number) cs
+abbrev pub HasNoChunkId : List Chunk → ℕ → Type 0
+HasNoChunkId cs chunk_id = All (λ c. c.chunk_id ≢ chunk_id) cs
 
 abbrev pub beside : Chunk → Neighbour
-beside c = record { start = c.start; size = c.size; kind = c.kind; number = c.number }
+beside c = record { start = c.start; size = c.size; kind = c.kind; chunk_id = c.chunk_id }
 
 abbrev pub last_beside : Option Neighbour → List Chunk → Option Neighbour
 last_beside before [] = before
@@ -47,9 +47,9 @@ first_beside [] = None
 first_beside (c ∷ cs) = Some (beside c)
 
 -- the chunk of that number, and what stands beside it
-pub record AreNeighbours (cs : List Chunk) (number : ℕ) (a : Neighbours) : Type 0 where
+pub record AreNeighbours (cs : List Chunk) (chunk_id : ℕ) (a : Neighbours) : Type 0 where
   pub chunk : Chunk
-  pub at : StandsAt cs number chunk
+  pub at : StandsAt cs chunk_id chunk
   pub here : a.here ≡ beside chunk
   pub before : a.before ≡ last_beside None at.front
   pub after : a.after ≡ first_beside at.back
@@ -60,41 +60,41 @@ neighbours None = 0
 neighbours (Some a) = (if is_some a.before then 1 else 0) + (if is_some a.after then 1 else 0)
 
 -- the chunks from that number on; none without a number
-abbrev pub from_number : Option ℕ → List Chunk → List Chunk
-from_number None cs = []
-from_number (Some k) [] = []
-from_number (Some k) (c ∷ cs) = cond (c.number == k) (c ∷ cs) (from_number (Some k) cs)
+abbrev pub from_chunk_id : Option ℕ → List Chunk → List Chunk
+from_chunk_id None cs = []
+from_chunk_id (Some k) [] = []
+from_chunk_id (Some k) (c ∷ cs) = cond (c.chunk_id == k) (c ∷ cs) (from_chunk_id (Some k) cs)
 
 -- those of a chain, if there is one
 abbrev pub walked : Option (Bor Linked) → Option ℕ → List Chunk
 walked None at = []
-walked (Some chain) at = from_number at (chain.now).chunks
+walked (Some chain) at = from_chunk_id at (chain.now).chunks
 
 -- the chunk of that number, and the number of the next one
-pub record IsChunkAt (cs : List Chunk) (number : ℕ) (c : Chunk) (next : Option ℕ) : Type 0 where
-  pub at : StandsAt cs number c
-  pub from : from_number (Some number) cs ≡ c ∷ from_number next cs
+pub record IsChunkAt (cs : List Chunk) (chunk_id : ℕ) (c : Chunk) (next : Option ℕ) : Type 0 where
+  pub at : StandsAt cs chunk_id c
+  pub from : from_chunk_id (Some chunk_id) cs ≡ c ∷ from_chunk_id next cs
 
 -- the chunk of that number is longer than `taken`
-pub record IsLonger (cs : List Chunk) (number taken : ℕ) : Type 0 where
+pub record IsLonger (cs : List Chunk) (chunk_id taken : ℕ) : Type 0 where
   pub chunk : Chunk
-  pub at : StandsAt cs number chunk
+  pub at : StandsAt cs chunk_id chunk
   pub longer : taken < chunk.size
 
 -- a block that is one free chunk, with number 1
 abbrev pub IsFresh : List Chunk → ℕ → Type 0
-IsFresh cs size = (name : Name) × (cs ≡ record { start = 0; size = size; offset = 0; kind = Free; number = 1; name = name } ∷ [])
+IsFresh cs size = (name : Name) × (cs ≡ record { start = 0; size = size; offset = 0; kind = Free; chunk_id = 1; name = name } ∷ [])
 
 -- a piece of that size, offset, kind, number and name at the front of a chunk
 abbrev pub front_piece : Chunk → (taken offset : ℕ) → AllocationType → ℕ → Name → Chunk
-front_piece c taken offset kind number name =
-    record { start = c.start; size = taken; offset = offset; kind = kind; number = number; name = name }
+front_piece c taken offset kind chunk_id name =
+    record { start = c.start; size = taken; offset = offset; kind = kind; chunk_id = chunk_id; name = name }
 
 -- the chunk of number k gave its front to a piece
-pub record IsSplit (old : List Chunk) (k taken number offset : ℕ) (kind : AllocationType) (name : Name) (new : List Chunk) : Type 0 where
+pub record IsSplit (old : List Chunk) (k taken chunk_id offset : ℕ) (kind : AllocationType) (name : Name) (new : List Chunk) : Type 0 where
   pub chunk : Chunk
   pub at : StandsAt old k chunk
-  pub is : new ≡ at.front ++ front_piece chunk taken offset kind number name ∷ cut_chunk chunk taken ∷ at.back
+  pub is : new ≡ at.front ++ front_piece chunk taken offset kind chunk_id name ∷ cut_chunk chunk taken ∷ at.back
 
 -- the chunk of number k is in another use
 pub record IsFilled (old : List Chunk) (k offset : ℕ) (kind : AllocationType) (name : Name) (new : List Chunk) : Type 0 where
@@ -141,7 +141,7 @@ chunks_in (x ∷ xs) = x.1 ∷ chunks_in xs
 -- each chunk has the number that it is held under
 abbrev pub Numbered : List (ℕ × Chunk) → Type 0
 Numbered [] = Unit {0}
-Numbered (x ∷ xs) = ((x.1).number ≡ x.0) × Numbered xs
+Numbered (x ∷ xs) = ((x.1).chunk_id ≡ x.0) × Numbered xs
 
 -- no chunk of the list has the number
 abbrev pub Apart : ℕ → List (ℕ × Chunk) → Type 0
@@ -185,8 +185,8 @@ walk (suc most) f (Some k) = met (f k) k (walk most f)
 
 -- the first number, after one was put behind `prev`
 abbrev pub first_after : Option ℕ → ℕ → ℕ → ℕ
-first_after None number first = number
-first_after (Some p) number first = first
+first_after None chunk_id first = chunk_id
+first_after (Some p) chunk_id first = first
 
 abbrev pub longer : Chunk → ℕ → Chunk
 longer c more = record c { size = c.size + more }

@@ -17,7 +17,7 @@ Covers (c ∷ cs) from to = (c.start ≡ from) × (0 < c.size) × Covers cs (fro
 -- no two chunks have one number
 abbrev pub AreDistinct : List Chunk → Type 0
 AreDistinct [] = Unit {0}
-AreDistinct (c ∷ cs) = All (λ d. d.number ≢ c.number) cs × AreDistinct cs
+AreDistinct (c ∷ cs) = All (λ d. d.chunk_id ≢ c.chunk_id) cs × AreDistinct cs
 
 -- what a chunk is without its front, and in another use
 abbrev pub cut_chunk : Chunk → ℕ → Chunk

@@ -12,13 +12,13 @@ pub record Slotted : Type 0 where
   pub chunks : List (Option LinkedChunk)
   pub room : ℕ
 
-abbrev pub link_number : Option Link → Option ℕ
-link_number None = None
-link_number (Some link) = Some link.number
+abbrev pub link_chunk_id : Option Link → Option ℕ
+link_chunk_id None = None
+link_chunk_id (Some link) = Some link.chunk_id
 
 -- a chunk with the numbers of the ones beside it, and not their slots
 abbrev pub node_value : LinkedChunk → Node
-node_value n = record { chunk = n.chunk; prev = link_number n.prev; next = link_number n.next }
+node_value n = record { chunk = n.chunk; prev = link_chunk_id n.prev; next = link_chunk_id n.next }
 
 -- the slot of a number
 abbrev pub slot_in : List (ℕ × ℕ) → ℕ → Option ℕ
@@ -44,14 +44,14 @@ room_of nodes = nodes.room
 -- where the chunk that a link names is held, it stands in the link's slot
 abbrev pub LeadsIn : List (ℕ × ℕ) → Option Link → Type 0
 LeadsIn slots None = Unit {0}
-LeadsIn slots (Some link) = (s : ℕ) → slot_in slots link.number ≡ Some s → link.slot ≡ s
+LeadsIn slots (Some link) = (s : ℕ) → slot_in slots link.chunk_id ≡ Some s → link.slot ≡ s
 
 abbrev pub Leads : Slotted → Option Link → Type 0
 Leads nodes link = LeadsIn nodes.slots link
 
 -- the chunk that a link names is held, and stands in the link's slot
 abbrev pub Reaches : Slotted → Option Link → Type 0
-Reaches nodes link = Leads nodes link × IfSome (link_number link) (λ k. IsSome (held_at nodes k))
+Reaches nodes link = Leads nodes link × IfSome (link_chunk_id link) (λ k. IsSome (held_at nodes k))
 
 -- each link that led right still does
 abbrev pub KeepsLinks : Slotted → Slotted → Type 0
@@ -63,7 +63,7 @@ KeepsReached old new = (link : Option Link) → Reaches old link → Leads new l
 
 -- each number's slot has its chunk, no slot is taken beside these, and the links of a chunk lead right
 pub record AreSound (slots : List (ℕ × ℕ)) (chunks : List (Option LinkedChunk)) : Type 0 where
-  pub numbered : (k s : ℕ) → slot_in slots k ≡ Some s → IsSomeAnd (stored_in chunks (Some s)) (λ n. (n.chunk).number ≡ k)
+  pub numbered : (k s : ℕ) → slot_in slots k ≡ Some s → IsSomeAnd (stored_in chunks (Some s)) (λ n. (n.chunk).chunk_id ≡ k)
   pub counted : count_by is_some chunks ≡ length slots
   pub prev : (k : ℕ) (n : LinkedChunk) → stored_in chunks (slot_in slots k) ≡ Some n → LeadsIn slots n.prev
   pub next : (k : ℕ) (n : LinkedChunk) → stored_in chunks (slot_in slots k) ≡ Some n → LeadsIn slots n.next

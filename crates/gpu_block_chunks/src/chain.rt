@@ -3,9 +3,9 @@
 ghost use Rattle.std.specs.Prelude.{◌≡◌, ◌+◌, ◌-◌, ◌^◌, ◌<◌, ◌≤◌, is_some, if◌then◌else◌, IfSome, IfOk, OnOk, IsOk, MatchOption, Some, None};
 ghost use Rattle.std.specs.Option.{option_copied, option_map};
 ghost use Rattle.gpu_cost.specs.Cost.{LooksUp, LooksUpBetween};
-ghost use Rattle.gpu_block_chunks.specs.Nodes.{held_at, node_value, link_number, Leads, Reaches};
+ghost use Rattle.gpu_block_chunks.specs.Nodes.{held_at, node_value, link_chunk_id, Leads, Reaches};
 ghost use Rattle.gpu_block_chunks.specs.ChunkList.{Covers, AreDistinct};
-ghost use Rattle.gpu_block_chunks.specs.Chain.{HasNumber, HasNoNumber, AreNeighbours, neighbours, IsSplit, IsFilled, IsReleased, from_number, beside, beside_of, first_after, IsChunkAt, IsFresh, IsLonger};
+ghost use Rattle.gpu_block_chunks.specs.Chain.{HasChunkId, HasNoChunkId, AreNeighbours, neighbours, IsSplit, IsFilled, IsReleased, from_chunk_id, beside, beside_of, first_after, IsChunkAt, IsFresh, IsLonger};
 
 mod link;
 mod node;
@@ -16,7 +16,7 @@ use crate::chunk::Chunk;
 use crate::name::Name;
 use gpu_cost::Cost;
 use gpu_values::AllocationType;
-use link::{Link, LinkedChunk, number_of};
+use link::{Link, LinkedChunk, chunk_id_of};
 use node::{cut_front, ends_of, join_left, join_right, linked_at, set_next_of, set_use};
 use nodes::Nodes;
 use std::alloc::{AllocError, Global};
@@ -28,7 +28,7 @@ pub struct Neighbour {
     pub start: u64,
     pub size: u64,
     pub kind: AllocationType,
-    pub number: u64,
+    pub chunk_id: u64,
 }
 
 /// A chunk, and what stands before and behind it.
@@ -64,13 +64,13 @@ impl Model for Chain {
 }
 
 /// The one way to read a chunk by its number.
-fn node_at<'a>(nodes: &'a Nodes, number: u64, cost: &mut Cost) -> Option<&'a LinkedChunk>
-    ensures value { option_map node_value (option_copied result) ≡ held_at nodes.now number }
+fn node_at<'a>(nodes: &'a Nodes, chunk_id: u64, cost: &mut Cost) -> Option<&'a LinkedChunk>
+    ensures value { option_map node_value (option_copied result) ≡ held_at nodes.now chunk_id }
     ensures links { IfSome result (λ n. Leads nodes.now n.now.prev × Leads nodes.now n.now.next) }
     ensures counted { LooksUp 1 cost.old cost.new }
 {
     cost.look_up();
-    nodes.get(number)
+    nodes.get(chunk_id)
 }
 
 fn short(chunk: &Chunk) -> Neighbour
@@ -80,14 +80,14 @@ fn short(chunk: &Chunk) -> Neighbour
         start: chunk.start,
         size: chunk.size,
         kind: chunk.kind,
-        number: chunk.number,
+        chunk_id: chunk.chunk_id,
     }
 }
 
 /// The chunk that a link leads to, if it is one.
 fn beside_at(nodes: &Nodes, link: Option<Link>, cost: &mut Cost) -> Option<Neighbour>
     requires { Reaches nodes.now link }
-    ensures value { result ≡ beside_of (held_at nodes.now) (link_number link) }
+    ensures value { result ≡ beside_of (held_at nodes.now) (link_chunk_id link) }
     ensures counted { LooksUp (if is_some link then 1 else 0) cost.old cost.new }
 {
     let link = link?;
@@ -95,12 +95,12 @@ fn beside_at(nodes: &Nodes, link: Option<Link>, cost: &mut Cost) -> Option<Neigh
 }
 
 /// The number of the first chunk, after one was put behind `prev`.
-fn first_of(prev: Option<u64>, number: u64, first: u64) -> u64
-    ensures { result ≡ first_after prev number first }
+fn first_of(prev: Option<u64>, chunk_id: u64, first: u64) -> u64
+    ensures { result ≡ first_after prev chunk_id first }
 {
     match prev {
         Some(_) => first,
-        None => number,
+        None => chunk_id,
     }
 }
 
@@ -115,7 +115,7 @@ impl Chain {
             start: 0,
             size,
             kind: AllocationType::Free,
-            number: 1,
+            chunk_id: 1,
         };
         nodes.put(1, LinkedChunk::new(here, 0, Name::empty(), None, None));
         Ok(Chain {
@@ -145,30 +145,30 @@ impl Chain {
 
     /// The number of the chunk at the block's start.
     pub(crate) fn first(&self) -> u64
-        ensures { from_number (Some result) self.now.chunks ≡ self.now.chunks }
+        ensures { from_chunk_id (Some result) self.now.chunks ≡ self.now.chunks }
     {
         self.first
     }
 
     /// The chunk of that number, and the number of the next one.
-    pub fn chunk(&self, number: u64, cost: &mut Cost) -> Option<(&Chunk, Option<u64>)>
-        ensures value { MatchOption result (HasNoNumber self.now.chunks number) (λ p. IsChunkAt self.now.chunks number p.0.now p.1) }
+    pub fn chunk(&self, chunk_id: u64, cost: &mut Cost) -> Option<(&Chunk, Option<u64>)>
+        ensures value { MatchOption result (HasNoChunkId self.now.chunks chunk_id) (λ p. IsChunkAt self.now.chunks chunk_id p.0.now p.1) }
         ensures counted { LooksUp 1 cost.old cost.new }
     {
         // a read, so that the proof has the invariant
         let _size = self.size;
-        let node = node_at(&self.nodes, number, cost)?;
-        Some((&node.chunk, number_of(node.next)))
+        let node = node_at(&self.nodes, chunk_id, cost)?;
+        Some((&node.chunk, chunk_id_of(node.next)))
     }
 
     /// The chunk of that number, and what stands beside it.
-    pub fn around(&self, number: u64, cost: &mut Cost) -> Option<Neighbours>
-        ensures value { MatchOption result (HasNoNumber self.now.chunks number) (λ a. AreNeighbours self.now.chunks number a) }
+    pub fn around(&self, chunk_id: u64, cost: &mut Cost) -> Option<Neighbours>
+        ensures value { MatchOption result (HasNoChunkId self.now.chunks chunk_id) (λ a. AreNeighbours self.now.chunks chunk_id a) }
         ensures counted { LooksUp (1 + neighbours result) cost.old cost.new }
     {
         // a read, so that the proof has the invariant
         let _size = self.size;
-        let node = node_at(&self.nodes, number, cost)?;
+        let node = node_at(&self.nodes, chunk_id, cost)?;
         let before = beside_at(&self.nodes, node.prev, cost);
         let after = beside_at(&self.nodes, node.next, cost);
         Some(Neighbours {
@@ -194,7 +194,7 @@ impl Chain {
     /// Cuts a piece off the front of a chunk, under a new number. There is room for it, so no memory is taken.
     pub fn split_front(
         &mut self,
-        number: u64,
+        chunk_id: u64,
         new: u64,
         taken: u64,
         offset: u64,
@@ -202,23 +202,23 @@ impl Chain {
         name: Name,
         cost: &mut Cost,
     )
-        requires longer { IsLonger self.old.chunks number taken }
+        requires longer { IsLonger self.old.chunks chunk_id taken }
         requires positive { 0 < taken }
-        requires fresh { HasNoNumber self.old.chunks new }
+        requires fresh { HasNoChunkId self.old.chunks new }
         requires room { 0 < self.old.room }
-        ensures chunks { IsSplit self.old.chunks number taken new offset kind name self.new.chunks }
+        ensures chunks { IsSplit self.old.chunks chunk_id taken new offset kind name self.new.chunks }
         ensures size { self.new.size ≡ self.old.size }
         ensures counted { LooksUpBetween 3 4 cost.old cost.new }
     {
         // a read, so that the proof has the invariant
         let _size = self.size;
-        let rest = self.nodes.link_to(number);
+        let rest = self.nodes.link_to(chunk_id);
         let ends = ends_of(&self.nodes, rest, cost);
         let here = Neighbour {
             start: ends.start,
             size: taken,
             kind,
-            number: new,
+            chunk_id: new,
         };
         cost.look_up();
         let piece = self.nodes.put(
@@ -227,39 +227,39 @@ impl Chain {
         );
         cut_front(&mut self.nodes, rest, taken, Some(piece), cost);
         set_next_of(&mut self.nodes, ends.prev, Some(piece), cost);
-        self.first = first_of(number_of(ends.prev), new, self.first);
+        self.first = first_of(chunk_id_of(ends.prev), new, self.first);
     }
 
     /// Gives a chunk another offset, kind and name. It takes no memory.
     pub fn fill(
         &mut self,
-        number: u64,
+        chunk_id: u64,
         offset: u64,
         kind: AllocationType,
         name: Name,
         cost: &mut Cost,
     )
-        requires there { HasNumber self.old.chunks number }
-        ensures chunks { IsFilled self.old.chunks number offset kind name self.new.chunks }
+        requires there { HasChunkId self.old.chunks chunk_id }
+        ensures chunks { IsFilled self.old.chunks chunk_id offset kind name self.new.chunks }
         ensures size { self.new.size ≡ self.old.size }
         ensures counted { LooksUp 1 cost.old cost.new }
     {
-        let at = self.nodes.link_to(number);
+        let at = self.nodes.link_to(chunk_id);
         set_use(&mut self.nodes, at, offset, kind, name, cost);
         // a read, so that the proof has the invariant
         let _size = self.size;
     }
 
     /// Frees a chunk, and joins it with the free chunks beside it. It takes no memory.
-    pub fn release(&mut self, number: u64, cost: &mut Cost)
-        requires there { HasNumber self.old.chunks number }
-        ensures chunks { IsReleased self.old.chunks number self.new.chunks }
+    pub fn release(&mut self, chunk_id: u64, cost: &mut Cost)
+        requires there { HasChunkId self.old.chunks chunk_id }
+        ensures chunks { IsReleased self.old.chunks chunk_id self.new.chunks }
         ensures size { self.new.size ≡ self.old.size }
         ensures counted { LooksUpBetween 4 12 cost.old cost.new }
     {
         // a read, so that the proof has the invariant
         let _size = self.size;
-        let at = self.nodes.link_to(number);
+        let at = self.nodes.link_to(chunk_id);
         let start = ends_of(&self.nodes, at, cost).start;
         set_use(
             &mut self.nodes,

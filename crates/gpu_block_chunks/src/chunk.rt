@@ -13,7 +13,7 @@ pub struct Chunk {
     /// Where the piece begins: what lies before it in the chunk is padding.
     pub offset: u64,
     pub kind: AllocationType,
-    pub number: u64,
+    pub chunk_id: u64,
     pub name: Name,
 }
 

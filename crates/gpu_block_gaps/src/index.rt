@@ -16,7 +16,7 @@ use tiered_vec::TieredVec;
 pub struct Gap {
     pub length: u64,
     pub start: u64,
-    pub number: u64,
+    pub chunk_id: u64,
     pub before: AllocationType,
     pub after: AllocationType,
 }

@@ -14,7 +14,7 @@ use Rattle.gpu_block_gaps.specs.declared.index.Gap.{Gap}
 use Rattle.std.proofs.lemmas.Bool.{cases_lt}
 use Rattle.gpu_block_pieces.specs.declared.place.Wanted.{Wanted}
 use Rattle.gpu_block_pieces.specs.declared.search.Found.{Found}
-use Rattle.gpu_block_pieces.specs.Chunks.{HoldsNumber, IsNamedAt, IsTaken, extent, extents_of, named_chunk, piece_of}
+use Rattle.gpu_block_pieces.specs.Chunks.{HoldsChunkId, IsNamedAt, IsTaken, extent, extents_of, named_chunk, piece_of}
 use Rattle.gpu_block_pieces.specs.Indexed.{IsPieceAt, IsChosen, chosen_at}
 use Rattle.gpu_block_pieces.proofs.Tiling.{around}
 use Rattle.gpu_block_pieces.proofs.Edits.{join_kinds-free, join_kinds-live}
@@ -97,11 +97,11 @@ bytes-front (a ∷ b ∷ front) c back f =
     let three = bytes-cons a (b ∷ front) in
     omega arith
 
-pub released_bytes : (cs ds : List Chunk) (a : Neighbours) → AreDistinct cs → IsPieceAt cs a → IsReleased cs a.here.number ds → bytes_of cs ≡ a.here.size + bytes_of ds
+pub released_bytes : (cs ds : List Chunk) (a : Neighbours) → AreDistinct cs → IsPieceAt cs a → IsReleased cs a.here.chunk_id ds → bytes_of cs ≡ a.here.size + bytes_of ds
 released_bytes cs ds a w p r =
     let at = p.around.at in
     let chunk = p.around.chunk in
-    let s = stands_once cs at.front at.back chunk r.chunk a.here.number w r.at at.split at.numbered in
+    let s = stands_once cs at.front at.back chunk r.chunk a.here.chunk_id w r.at at.split at.numbered in
     let gap = filled_chunk r.chunk r.chunk.start Free [] in
     let j = joined gap r.at.back tt in
     let live : IsFree r.chunk.kind → ⊥ = λ f. p.live (subst (λ (b : Neighbour). IsFree b.kind) (sym p.around.here) (subst (λ (x : Chunk). IsFree x.kind) (sym s.chunks) f)) in
@@ -118,9 +118,9 @@ not_free Free ne f = ne refl
 not_free Linear ne f = f
 not_free NonLinear ne f = f
 
-pub taken_bytes : (cs ds : List Chunk) (w : Wanted) (f : Found) (counter number : ℕ) (name : List ℕ) → (h : IsChosen cs w f) → w.kind ≢ Free → IsTaken cs (chosen_at cs w f h) w counter name number ds
+pub taken_bytes : (cs ds : List Chunk) (w : Wanted) (f : Found) (counter chunk_id : ℕ) (name : List ℕ) → (h : IsChosen cs w f) → w.kind ≢ Free → IsTaken cs (chosen_at cs w f h) w counter name chunk_id ds
     → bytes_of ds ≡ bytes_of cs + (f.offset + w.size - f.gap.start)
-taken_bytes cs ds w f counter number name h kind taken =
+taken_bytes cs ds w f counter chunk_id name h kind taken =
     let fits = h.best.fits in
     let c = fits.chunk in
     let from = taken fits.front c fits.back fits.split fits.index in
@@ -155,6 +155,6 @@ room_for cs size w f h covers =
 
 -- ---- a new name
 
-pub named_bytes : (cs ds : List Chunk) (number i : ℕ) (name : List ℕ) → HoldsNumber cs number i → IsNamedAt cs i name ds → bytes_of ds ≡ bytes_of cs
-named_bytes cs ds number i name h named =
+pub named_bytes : (cs ds : List Chunk) (chunk_id i : ℕ) (name : List ℕ) → HoldsChunkId cs chunk_id i → IsNamedAt cs i name ds → bytes_of ds ≡ bytes_of cs
+named_bytes cs ds chunk_id i name h named =
     bytes-mid ds h.front h.back (named_chunk h.chunk name) (named h.front h.chunk h.back h.split h.index) h.live ∙ sym (bytes-mid cs h.front h.back h.chunk h.split h.live)

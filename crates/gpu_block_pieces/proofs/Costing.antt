@@ -144,9 +144,9 @@ module _ (cs : List Chunk) (size k counter : ℕ) (w : Wanted) (text : List ℕ)
   counted : (p : ℕ × ℕ → Bool) → count_by (λ g. p (span g)) (gaps_between Free cs Free) ≡ count_by p (gap_spans v)
   counted p = sym (count_map p (gaps_between Free cs Free)) ∙ ap (count_by p) (sym spans)
 
-  how_many : length (gaps_between Free cs Free) ≡ length v.gap_numbers
+  how_many : length (gaps_between Free cs Free) ≡ length v.gap_chunk_ids
   how_many =
-      sym (length-map (gaps_between Free cs Free) span) ∙ (ap length (sym spans) ∙ length-map v.gap_numbers (λ g. (gap_end v.size v.extents g.0 - g.0, g.0)))
+      sym (length-map (gaps_between Free cs Free) span) ∙ (ap length (sym spans) ∙ length-map v.gap_chunk_ids (λ g. (gap_end v.size v.extents g.0 - g.0, g.0)))
 
   best_is : (f : Found) → IsChosen cs w f → (s e o : ℕ) → IsBestFit v r s e o → (f.gap.start ≡ s) × (f.gap.length ≡ e - s)
   best_is f h s e o q =

@@ -12,7 +12,7 @@ use Rattle.gpu_block_pieces.specs.FreeList.{Extent, FreeList, IsGap}
 use Rattle.gpu_block_pieces.specs.Request.{Request}
 use Rattle.gpu_block_pieces.specs.Place.{page, Fits, IsOffsetIn, OtherEnds}
 use Rattle.gpu_block_pieces.specs.BlockRefusal.{IsAllocateRefusal}
-use Rattle.gpu_block_pieces.specs.Laws.{IsSound, IsLongEnough, IsForNumbers}
+use Rattle.gpu_block_pieces.specs.Laws.{IsSound, IsLongEnough, IsForChunkIds}
 use Rattle.gpu_block_pieces.proofs.Pages.{next_up, first_here, first_next, offset_some}
 use Rattle.gpu_block_pieces.proofs.Separation.{same_or_not, within_of}
 
@@ -143,7 +143,7 @@ fit_law b r s e sound pg pa some gap long =
     ]
 
 pub law_of_refusal : (b : FreeList) (r : Request) (s e : ℕ) (err : AllocationError) → IsSound b → IsPowerOfTwo b.granularity → IsPowerOfTwo r.alignment → 0 < r.size → IsGap b s e → IsLongEnough b r s
-    e → IsAllocateRefusal b r err → IsForNumbers b err
+    e → IsAllocateRefusal b r err → IsForChunkIds b err
 law_of_refusal b r s e errors.OutOfMemory sound pg pa some gap long h =
     let f = fit_law b r s e sound pg pa some gap long in
     elim h [ inl none ↦ absurd (none s e f.0 f.1) | inr w ↦ w.5 ]

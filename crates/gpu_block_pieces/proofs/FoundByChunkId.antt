@@ -15,8 +15,8 @@ use Rattle.gpu_block_pieces.specs.declared.search.Found.{Found}
 use Rattle.gpu_values.specs.declared.allocation_type.AllocationType.{AllocationType}
 use Rattle.gpu_values.specs.declared.allocation_type.AllocationType.TheVariants.{Free, Linear, NonLinear}
 use Rattle.gpu_block_chunks.specs.ChunkList.{IsFree, Covers, AreDistinct, join_front, join_back, filled_chunk, cut_chunk}
-use Rattle.gpu_block_pieces.specs.Chunks.{NoneTouch, HoldsNumber, IsNamedAt, IsReleasedAt, IsTaken, AreChunks, IsChunk, is_gap_by, extents_of, extent, named_chunk}
-use Rattle.gpu_block_chunks.specs.Chain.{Name, StandsAt, HasNoNumber, IsSplit, IsFilled, IsReleased, AreNeighbours, front_piece}
+use Rattle.gpu_block_pieces.specs.Chunks.{NoneTouch, HoldsChunkId, IsNamedAt, IsReleasedAt, IsTaken, AreChunks, IsChunk, is_gap_by, extents_of, extent, named_chunk}
+use Rattle.gpu_block_chunks.specs.Chain.{Name, StandsAt, HasNoChunkId, IsSplit, IsFilled, IsReleased, AreNeighbours, front_piece}
 use Rattle.gpu_block_pieces.specs.Indexed.{IsListed, IsGapOf, IsChosen, chosen_at, IsPieceAt, IsPieceOf, gaps_between}
 use Rattle.gpu_block_pieces.proofs.Numbers.{one_at}
 use Rattle.gpu_block_pieces.proofs.Placing.{not_rest}
@@ -31,29 +31,29 @@ use Rattle.gpu_block_chunks.proofs.Listing.{stands_once}
 use Rattle.gpu_block_pieces.proofs.Indexing.{gaps_live, same_to}
 
 -- a free chunk has the number, so no piece has
-pub not_held : (cs : List Chunk) (c : Chunk) (k : ℕ) → AreDistinct cs → StandsAt cs k c → IsFree c.kind → (i : ℕ) → HoldsNumber cs k i → ⊥
+pub not_held : (cs : List Chunk) (c : Chunk) (k : ℕ) → AreDistinct cs → StandsAt cs k c → IsFree c.kind → (i : ℕ) → HoldsChunkId cs k i → ⊥
 not_held cs c k w at f i h =
     let s = stands_once cs h.front h.back h.chunk c k w at h.split h.numbered in
     h.live (subst (λ (x : Chunk). IsFree x.kind) (sym s.chunks) f)
 
-pub around_not_held : (cs : List Chunk) (a : Neighbours) (k : ℕ) → AreDistinct cs → AreNeighbours cs k a → IsFree a.here.kind → (i : ℕ) → HoldsNumber cs k i → ⊥
+pub around_not_held : (cs : List Chunk) (a : Neighbours) (k : ℕ) → AreDistinct cs → AreNeighbours cs k a → IsFree a.here.kind → (i : ℕ) → HoldsChunkId cs k i → ⊥
 around_not_held cs a k w m f = not_held cs m.chunk k w m.at (subst (λ (b : Neighbour). IsFree b.kind) m.here f)
 
-none_gap : (k : AllocationType) (n : ℕ) (c : Chunk) → c.number ≢ n → is_gap_by k n c ≡ false
-none_gap Free n c ne = apart_test c.number n ne
+none_gap : (k : AllocationType) (n : ℕ) (c : Chunk) → c.chunk_id ≢ n → is_gap_by k n c ≡ false
+none_gap Free n c ne = apart_test c.chunk_id n ne
 none_gap Linear n c ne = refl
 none_gap NonLinear n c ne = refl
 
-none_any : (cs : List Chunk) (n : ℕ) → HasNoNumber cs n → list_any (λ c. is_gap_by c.kind n c) cs ≡ false
+none_any : (cs : List Chunk) (n : ℕ) → HasNoChunkId cs n → list_any (λ c. is_gap_by c.kind n c) cs ≡ false
 none_any [] n h = refl
 none_any (c ∷ cs) n h =
-    ap (λ (b : Bool). b || list_any (λ x. is_gap_by x.kind n x) cs) (none_gap c.kind n c (All-head (λ (x : Chunk). x.number ≢ n) c cs h)) ∙ none_any cs n
-    (All-tail (λ (x : Chunk). x.number ≢ n) c cs h)
+    ap (λ (b : Bool). b || list_any (λ x. is_gap_by x.kind n x) cs) (none_gap c.kind n c (All-head (λ (x : Chunk). x.chunk_id ≢ n) c cs h)) ∙ none_any cs n
+    (All-tail (λ (x : Chunk). x.chunk_id ≢ n) c cs h)
 
-pub no_gap_of : (cs : List Chunk) (n : ℕ) → HasNoNumber cs n → false ≡ list_any (λ c. is_gap_by c.kind n c) cs
+pub no_gap_of : (cs : List Chunk) (n : ℕ) → HasNoChunkId cs n → false ≡ list_any (λ c. is_gap_by c.kind n c) cs
 no_gap_of cs n h = sym (none_any cs n h)
 
-told_by : (b : Bool) (k : AllocationType) (n : ℕ) (c : Chunk) → c.number ≡ n → (IsTrue b → IsFree k) → (IsFree k → IsTrue b) → b ≡ is_gap_by k n c
+told_by : (b : Bool) (k : AllocationType) (n : ℕ) (c : Chunk) → c.chunk_id ≡ n → (IsTrue b → IsFree k) → (IsFree k → IsTrue b) → b ≡ is_gap_by k n c
 told_by true Free n c e p q = sym (ap (λ (m : ℕ). m == n) e ∙ same_test n)
 told_by true Linear n c e p q = absurd (p refl)
 told_by true NonLinear n c e p q = absurd (p refl)
@@ -65,14 +65,14 @@ or_false : (b : Bool) → (b || false) ≡ b
 or_false true = refl
 or_false false = refl
 
-apart_at : (front : List Chunk) (c : Chunk) (back : List Chunk) → AreDistinct (front ++ c ∷ back) → HasNoNumber front c.number × HasNoNumber back c.number
+apart_at : (front : List Chunk) (c : Chunk) (back : List Chunk) → AreDistinct (front ++ c ∷ back) → HasNoChunkId front c.chunk_id × HasNoChunkId back c.chunk_id
 apart_at front c back w = let r = one_at front back c w in (r.0, r.1)
 
 pub gap_of_chunk : (cs : List Chunk) (c : Chunk) (n : ℕ) (b : Bool) → AreDistinct cs → StandsAt cs n c → IsTrue b ↔ IsFree c.kind → b ≡ list_any (λ x. is_gap_by x.kind n x) cs
 gap_of_chunk cs c n b w at told =
     let r = apart_at at.front c at.back (subst (λ (xs : List Chunk). AreDistinct xs) at.split w) in
-    let f = none_any at.front n (subst (λ (k : ℕ). HasNoNumber at.front k) at.numbered r.0) in
-    let l = none_any at.back n (subst (λ (k : ℕ). HasNoNumber at.back k) at.numbered r.1) in
+    let f = none_any at.front n (subst (λ (k : ℕ). HasNoChunkId at.front k) at.numbered r.0) in
+    let l = none_any at.back n (subst (λ (k : ℕ). HasNoChunkId at.back k) at.numbered r.1) in
     told_by b c.kind n c at.numbered told.0 told.1
     ∙ sym (ap (λ (xs : List Chunk). list_any (λ x. is_gap_by x.kind n x) xs) at.split ∙ (list_any-append (λ x. is_gap_by x.kind n x) at.front (c ∷ at.back)
     ∙ (ap (λ (q : Bool). q || (is_gap_by c.kind n c || list_any (λ x. is_gap_by x.kind n x) at.back)) f
@@ -123,10 +123,10 @@ module _ (cs ds : List Chunk) (k offset : ℕ) (kind : AllocationType) (name : N
       let z' = length-append (extents_of p.at.front) (extent named ∷ extents_of p.at.back) in
       omega arith
 
-  pub named_at : (i : ℕ) → HoldsNumber cs k i → IsNamedAt cs i name ds
+  pub named_at : (i : ℕ) → HoldsChunkId cs k i → IsNamedAt cs i name ds
   named_at i h = λ front c back q len.
       let r = same_parts cs front back h.front h.back c h.chunk q h.split (len ∙ sym h.index) in
-      let s = stands_once cs front back c p.chunk k w p.at q (ap (λ (x : Chunk). x.number) r.middle ∙ h.numbered) in
+      let s = stands_once cs front back c p.chunk k w p.at q (ap (λ (x : Chunk). x.chunk_id) r.middle ∙ h.numbered) in
       named_is ∙ (ap (λ (xs : List Chunk). xs ++ named ∷ p.at.back) (sym s.fronts) ∙
       (ap (λ (x : Chunk). front ++ named_chunk x name ∷ p.at.back) (sym s.chunks) ∙ ap (λ (xs : List Chunk). front ++ named_chunk c name ∷ xs) (sym s.backs)))
 
@@ -152,21 +152,21 @@ chosen_fits cs w f size covers lt h =
     record { low = omega arith; high = omega arith; ends = omega arith }
 
 module _ (cs ds : List Chunk) (w : Wanted) (f : Found) (counter : ℕ) (name : Name) (distinct : AreDistinct cs) where
-  number_at : (h : IsChosen cs w f) (front back : List Chunk) (c : Chunk) → cs ≡ front ++ c ∷ back → length front ≡ h.index → (c.number ≡ f.gap.number) × (f.gap.start ≡ c.start) ×
+  chunk_id_at : (h : IsChosen cs w f) (front back : List Chunk) (c : Chunk) → cs ≡ front ++ c ∷ back → length front ≡ h.index → (c.chunk_id ≡ f.gap.chunk_id) × (f.gap.start ≡ c.start) ×
       (f.gap.length ≡ c.size)
-  number_at h front back c p len =
+  chunk_id_at h front back c p len =
       let b = h.best.fits in
       let r = same_parts cs front back b.front b.back c b.chunk p b.split (len ∙ sym b.index) in (
-        ap (λ (x : Chunk). x.number) r.middle ∙ sym (ap (λ (x : Gap). x.number) h.gap),
+        ap (λ (x : Chunk). x.chunk_id) r.middle ∙ sym (ap (λ (x : Gap). x.chunk_id) h.gap),
         ap (λ (x : Gap). x.start) h.gap ∙ ap (λ (x : Chunk). x.start) (sym r.middle),
         ap (λ (x : Gap). x.length) h.gap ∙ ap (λ (x : Chunk). x.size) (sym r.middle),
       )
 
-  pub front_taken : (taken : ℕ) → taken ≡ f.offset + w.size - f.gap.start → taken < f.gap.length → f.gap.start ≤ f.offset → IsSplit cs f.gap.number taken counter f.offset w.kind name ds →
+  pub front_taken : (taken : ℕ) → taken ≡ f.offset + w.size - f.gap.start → taken < f.gap.length → f.gap.start ≤ f.offset → IsSplit cs f.gap.chunk_id taken counter f.offset w.kind name ds →
       (h : IsChosen cs w f) → IsTaken cs (chosen_at cs w f h) w counter name counter ds
   front_taken taken et lt low split h = λ front c back p len.
-      let n = number_at h front back c p len in
-      let s = stands_once cs front back c split.chunk f.gap.number distinct split.at p n.0 in
+      let n = chunk_id_at h front back c p len in
+      let s = stands_once cs front back c split.chunk f.gap.chunk_id distinct split.at p n.0 in
       let t : taken ≡ f.offset + w.size - c.start = et ∙ ap (λ (m : ℕ). f.offset + w.size - m) n.1 in
       let is : ds ≡ front ++ front_piece c taken f.offset w.kind counter name ∷ cut_chunk c taken ∷ back =
       split.is ∙ (ap (λ (xs : List Chunk). xs ++ front_piece split.chunk taken f.offset w.kind counter name ∷ cut_chunk split.chunk taken ∷ split.at.back) (sym s.fronts)
@@ -178,11 +178,11 @@ module _ (cs ds : List Chunk) (w : Wanted) (f : Found) (counter : ℕ) (name : N
         whole = λ ge. absurd (omega arith);
       }
 
-  pub whole_taken : f.gap.length ≤ f.offset + w.size - f.gap.start → 0 < f.gap.length → IsFilled cs f.gap.number f.offset w.kind name ds → (h : IsChosen cs w f) → IsTaken cs (chosen_at cs w f h) w
-      counter name f.gap.number ds
+  pub whole_taken : f.gap.length ≤ f.offset + w.size - f.gap.start → 0 < f.gap.length → IsFilled cs f.gap.chunk_id f.offset w.kind name ds → (h : IsChosen cs w f) → IsTaken cs (chosen_at cs w f h) w
+      counter name f.gap.chunk_id ds
   whole_taken ge pos filled h = λ front c back p len.
-      let n = number_at h front back c p len in
-      let s = stands_once cs front back c filled.chunk f.gap.number distinct filled.at p n.0 in
+      let n = chunk_id_at h front back c p len in
+      let s = stands_once cs front back c filled.chunk f.gap.chunk_id distinct filled.at p n.0 in
       let is : ds ≡ front ++ filled_chunk c f.offset w.kind name ∷ back =
       filled.is ∙ (ap (λ (xs : List Chunk). xs ++ filled_chunk filled.chunk f.offset w.kind name ∷ filled.at.back) (sym s.fronts)
       ∙ (ap (λ (x : Chunk). front ++ filled_chunk x f.offset w.kind name ∷ filled.at.back) (sym s.chunks)
@@ -197,10 +197,10 @@ module _ (cs ds : List Chunk) (w : Wanted) (f : Found) (counter : ℕ) (name : N
 
 pub record ReleasedThere (cs ds : List Chunk) (n : ℕ) : Type 0 where
   pub index : ℕ
-  pub held : HoldsNumber cs n index
+  pub held : HoldsChunkId cs n index
   pub released : IsReleasedAt cs index ds
 
-pub released_there : (cs ds : List Chunk) (a : Neighbours) (n : ℕ) → AreDistinct cs → a.here.number ≡ n → IsPieceAt cs a → IsReleased cs a.here.number ds → ReleasedThere cs ds n
+pub released_there : (cs ds : List Chunk) (a : Neighbours) (n : ℕ) → AreDistinct cs → a.here.chunk_id ≡ n → IsPieceAt cs a → IsReleased cs a.here.chunk_id ds → ReleasedThere cs ds n
 released_there cs ds a n w e p r =
     let at = p.around.at in
     let chunk = p.around.chunk in
@@ -217,17 +217,17 @@ released_there cs ds a n w e p r =
       };
       released = λ front c back q len.
           let m = same_parts cs front back at.front at.back c chunk q at.split len in
-          let s = stands_once cs front back c r.chunk a.here.number w r.at q (ap (λ (x : Chunk). x.number) m.middle ∙ at.numbered) in
+          let s = stands_once cs front back c r.chunk a.here.chunk_id w r.at q (ap (λ (x : Chunk). x.chunk_id) m.middle ∙ at.numbered) in
           r.is ∙ (ap (λ (xs : List Chunk). join_front xs (join_back (filled_chunk r.chunk r.chunk.start Free []) r.at.back)) (sym s.fronts)
           ∙ (ap (λ (x : Chunk). join_front front (join_back (filled_chunk x x.start Free []) r.at.back)) (sym s.chunks)
           ∙ ap (λ (xs : List Chunk). join_front front (join_back (filled_chunk c c.start Free []) xs)) (sym s.backs)));
     }
 
-pub held_at : (cs : List Chunk) (c : Chunk) (n : ℕ) → (IsFree c.kind → ⊥) → (s : StandsAt cs n c) → HoldsNumber cs n (length s.front)
+pub held_at : (cs : List Chunk) (c : Chunk) (n : ℕ) → (IsFree c.kind → ⊥) → (s : StandsAt cs n c) → HoldsChunkId cs n (length s.front)
 held_at cs c n live s = record { front = s.front; chunk = c; back = s.back; split = s.split; index = refl; live = live; numbered = s.numbered }
 
-pub fresh_number : (counter : ℕ) (cs : List Chunk) → All (IsChunk counter) cs → HasNoNumber cs counter
-fresh_number counter cs h = All-weaker (IsChunk counter) (λ c. c.number ≢ counter) (λ c q. (let g = q.given in λ e. absurd (omega arith))) cs h
+pub fresh_chunk_id : (counter : ℕ) (cs : List Chunk) → All (IsChunk counter) cs → HasNoChunkId cs counter
+fresh_chunk_id counter cs h = All-weaker (IsChunk counter) (λ c. c.chunk_id ≢ counter) (λ c q. (let g = q.given in λ e. absurd (omega arith))) cs h
 
 pub laid_from : (cs : List Chunk) (size counter : ℕ) → size < 2 ^ 64 → AreChunks cs size counter → (from : ℕ) × (to : ℕ) × (to < 2 ^ 64) × Covers cs from to
 laid_from cs size counter lt h = (0, size, lt, h.covers)
@@ -245,7 +245,7 @@ no_rest_of_chunk cs w f b h e told =
 
 -- the place that a live piece shows
 pub record PlaceShown (cs : List Chunk) (c : Chunk) (n : ℕ) : Type 0 where
-  pub found : (x : Extent) × Contains (extents_of cs) x × (x.number ≡ n) × (x.offset ≡ c.offset) × (x.end ≡ c.offset + (c.start + c.size - c.offset))
+  pub found : (x : Extent) × Contains (extents_of cs) x × (x.chunk_id ≡ n) × (x.offset ≡ c.offset) × (x.end ≡ c.offset + (c.start + c.size - c.offset))
   pub fits : c.start + c.size < 2 ^ 64
   pub inside : c.offset ≤ c.start + c.size
 

@@ -234,25 +234,25 @@ both true b h = (refl, h)
 both false b h = cc
 
 abbrev is_gap : Gap → Gap → Bool
-is_gap g x = (g.length == x.length) && ((g.start == x.start) && ((g.number == x.number) && (same_kind g.before x.before && same_kind g.after x.after)))
+is_gap g x = (g.length == x.length) && ((g.start == x.start) && ((g.chunk_id == x.chunk_id) && (same_kind g.before x.before && same_kind g.after x.after)))
 
 eq_is : (a b : ℕ) → (a == b) ≡ true → a ≡ b
 eq_is a b h = grind (arith, nat_tests)
 
 is_gap_self : (g : Gap) → is_gap g g ≡ true
-is_gap_self g = rw (same_test g.length, same_test g.start, same_test g.number, same_kind_self g.before) (same_kind_self g.after)
+is_gap_self g = rw (same_test g.length, same_test g.start, same_test g.chunk_id, same_kind_self g.before) (same_kind_self g.after)
 
 is_gap_is : (g x : Gap) → is_gap g x ≡ true → g ≡ x
 is_gap_is g x h =
-    let p = both (g.length == x.length) ((g.start == x.start) && ((g.number == x.number) && (same_kind g.before x.before && same_kind g.after x.after))) h in
-    let q = both (g.start == x.start) ((g.number == x.number) && (same_kind g.before x.before && same_kind g.after x.after)) p.1 in
-    let r = both (g.number == x.number) (same_kind g.before x.before && same_kind g.after x.after) q.1 in
+    let p = both (g.length == x.length) ((g.start == x.start) && ((g.chunk_id == x.chunk_id) && (same_kind g.before x.before && same_kind g.after x.after))) h in
+    let q = both (g.start == x.start) ((g.chunk_id == x.chunk_id) && (same_kind g.before x.before && same_kind g.after x.after)) p.1 in
+    let r = both (g.chunk_id == x.chunk_id) (same_kind g.before x.before && same_kind g.after x.after) q.1 in
     let s = both (same_kind g.before x.before) (same_kind g.after x.after) r.1 in
     ap (λ (n : ℕ). record g { length = n }) (eq_is g.length x.length p.0)
-    ∙ ap (λ (n : ℕ). record { length = x.length; start = n; number = g.number; before = g.before; after = g.after }) (eq_is g.start x.start q.0)
-    ∙ ap (λ (n : ℕ). record { length = x.length; start = x.start; number = n; before = g.before; after = g.after }) (eq_is g.number x.number r.0)
-    ∙ ap (λ (k : AllocationType). record { length = x.length; start = x.start; number = x.number; before = k; after = g.after }) (same_kind_is g.before x.before s.0)
-    ∙ ap (λ (k : AllocationType). record { length = x.length; start = x.start; number = x.number; before = x.before; after = k }) (same_kind_is g.after x.after s.1)
+    ∙ ap (λ (n : ℕ). record { length = x.length; start = n; chunk_id = g.chunk_id; before = g.before; after = g.after }) (eq_is g.start x.start q.0)
+    ∙ ap (λ (n : ℕ). record { length = x.length; start = x.start; chunk_id = n; before = g.before; after = g.after }) (eq_is g.chunk_id x.chunk_id r.0)
+    ∙ ap (λ (k : AllocationType). record { length = x.length; start = x.start; chunk_id = x.chunk_id; before = k; after = g.after }) (same_kind_is g.before x.before s.0)
+    ∙ ap (λ (k : AllocationType). record { length = x.length; start = x.start; chunk_id = x.chunk_id; before = x.before; after = k }) (same_kind_is g.after x.after s.1)
 
 abbrev weight : Gap → Gap → ℕ
 weight g x = cond (is_gap g x) 1 0

@@ -44,7 +44,7 @@ filter_keeps p (y ∷ ys) =
 -- ---- a take
 
 abbrev pub piece_of : (old : FreeList) (r : Request) (o n : ℕ) (new : FreeList) → Takes old r o n new → Extent
-piece_of old r o n new t = record { start = t.start; offset = o; end = o + r.size; kind = r.kind; number = n; name = r.name }
+piece_of old r o n new t = record { start = t.start; offset = o; end = o + r.size; kind = r.kind; chunk_id = n; name = r.name }
 
 pub takes_keeps : (old : FreeList) (r : Request) (o n : ℕ) (new : FreeList) → Takes old r o n new → (x : Extent) → Contains old.extents x → Contains new.extents x
 takes_keeps old r o n new t x h =
@@ -54,11 +54,11 @@ takes_keeps old r o n new t x h =
 pub piece_held : (old : FreeList) (r : Request) (o n : ℕ) (new : FreeList) → (t : Takes old r o n new) → Contains new.extents (piece_of old r o n new t)
 piece_held old r o n new t = subst (λ (ys : List Extent). Contains ys (piece_of old r o n new t)) (sym t.extent) (placed_added (λ y. y.start) (piece_of old r o n new t) old.extents)
 
-pub takes_adds : (old : FreeList) (r : Request) (o n : ℕ) (new : FreeList) → Takes old r o n new → SomeExtent new (λ x. x.number ≡ n)
+pub takes_adds : (old : FreeList) (r : Request) (o n : ℕ) (new : FreeList) → Takes old r o n new → SomeExtent new (λ x. x.chunk_id ≡ n)
 takes_adds old r o n new t = (piece_of old r o n new t, piece_held old r o n new t, refl)
 
-pub takes_new_number : (old : FreeList) (r : Request) (o n : ℕ) (new : FreeList) → IsSound old → IsSound new → Takes old r o n new → SomeExtent old (λ x. x.number ≡ n) → ⊥
-takes_new_number old r o n new before after t w =
+pub takes_new_chunk_id : (old : FreeList) (r : Request) (o n : ℕ) (new : FreeList) → IsSound old → IsSound new → Takes old r o n new → SomeExtent old (λ x. x.chunk_id ≡ n) → ⊥
+takes_new_chunk_id old r o n new before after t w =
     let x = w.0 in
     let same : x ≡ piece_of old r o n new t = after.one_number x (piece_of old r o n new t) (takes_keeps old r o n new t x w.1) (piece_held old r o n new t) w.2 in
     let start : x.start ≡ t.start = ap (λ y. y.start) same in
@@ -72,14 +72,14 @@ takes_new_number old r o n new before after t w =
 
 -- ---- a release
 
-pub releases_keeps : (old : FreeList) (n : ℕ) (new : FreeList) → IsSound old → Releases old n new → (x : Extent) → Contains old.extents x → x.number ≢ n → Contains new.extents x
+pub releases_keeps : (old : FreeList) (n : ℕ) (new : FreeList) → IsSound old → Releases old n new → (x : Extent) → Contains old.extents x → x.chunk_id ≢ n → Contains new.extents x
 releases_keeps old n new sound t x h ne =
     let p : Extent → Bool = λ y. not (eqb y.start t.gone.start) in
     let in_x = within_of old x sound h in let x0 = in_x.0 in let x1 = in_x.1 in
     let in_gone = within_of old t.gone sound t.held in let g0 = in_gone.0 in let g1 = in_gone.1 in
     let elsewhere : x.start ≢ t.gone.start = λ e.
     elim (sound.apart x t.gone h t.held) [
-      | inl same ↦ ne (ap (λ y. y.number) same ∙ t.numbered)
+      | inl same ↦ ne (ap (λ y. y.chunk_id) same ∙ t.numbered)
       | inr sides ↦ elim sides [ inl before ↦ omega arith | inr behind ↦ omega arith ]
     ] in
     subst (λ (ys : List Extent). Contains ys x) (sym t.extents)

@@ -17,7 +17,7 @@ use Rattle.gpu_block_pieces.proofs.Indexing.{gap_of_member, member_at, same_memb
 -- ---- of the chunks
 
 abbrev no_gap : Gap
-no_gap = record { length = 0; start = 0; number = 0; before = Free; after = Free }
+no_gap = record { length = 0; start = 0; chunk_id = 0; before = Free; after = Free }
 
 pub longest_of : (cs : List Chunk) (gs : List Gap) (n : ℕ) → HasSame gs (gaps_between Free cs Free)
     → ((k : ℕ) (d : Gap) → k < length gs → (get_or gs k d).length ≤ n) → (0 < n → HasLength gs n) → IsLongestOf cs n

@@ -11,7 +11,7 @@ use Rattle.gpu_values.specs.declared.allocation_type.AllocationType.{AllocationT
 use Rattle.gpu_values.specs.declared.allocation_type.AllocationType.TheVariants.{Free, Linear, NonLinear}
 use Rattle.gpu_block_chunks.specs.ChunkList.{IsFree, Covers, AreDistinct, filled_chunk, joined_chunk, join_back, join_front}
 use Rattle.gpu_block_pieces.specs.Chunks.{NotBothFree, NoneTouch, last_kind, extents_of, extent}
-use Rattle.gpu_block_chunks.specs.Chain.{HasNumber, IsReleased, beside, last_beside, first_beside}
+use Rattle.gpu_block_chunks.specs.Chain.{HasChunkId, IsReleased, beside, last_beside, first_beside}
 use Rattle.gpu_block_gaps.specs.Index.{Before, HasKeyAt, HasNoKey, IsRemoved, IsInserted}
 use Rattle.gpu_block_pieces.specs.Indexed.{gap_between, kind_or, gap_first, gaps_between, HasSame, IsListed, IsPieceAt, Forgets, ForgetsBy, IsGapBeside, MayForget, MayForgetBy, first_of, first_by}
 use Rattle.gpu_block_pieces.proofs.Tiling.{around, last_kind-push}
@@ -98,7 +98,7 @@ pub record LeftSide (front : List Chunk) (k : AllocationType) : Type 0 where
   pub gaps : gaps_between Free front k ≡ gaps_between Free outer Free ++ gone
   pub joins : (x : Chunk) (ys : List Chunk) → join_front front (x ∷ ys) ≡ outer ++ joined x ∷ ys
   pub free : (x : Chunk) → IsFree x.kind → IsFree (joined x).kind
-  pub number : (x : Chunk) → (joined x).number ≡ first_of (last_beside None front) x.number
+  pub chunk_id : (x : Chunk) → (joined x).chunk_id ≡ first_of (last_beside None front) x.chunk_id
   pub shown : extents_of front ≡ extents_of outer
   pub touch : NoneTouch Linear outer
   pub last : NotBothFree (last_kind Linear outer) Free
@@ -134,7 +134,7 @@ module _ (k : AllocationType) (fs : List Chunk) (l : Chunk) (touch : NoneTouch L
             (λ (gs : List Gap). gaps_between Free fs Free ++ gs) (first_free l.kind g [] f));
         joins = λ x ys. join_front-push fs l x ys ∙ ap (λ (zs : List Chunk). fs ++ zs) (join_kinds-free l.kind l x ys f);
         free = λ x h. f;
-        number = λ x. sym (ap (λ (o : Option Neighbour). first_of o x.number) (last_beside-push None fs l) ∙ first_by_free l.kind l.number x.number f);
+        chunk_id = λ x. sym (ap (λ (o : Option Neighbour). first_of o x.chunk_id) (last_beside-push None fs l) ∙ first_by_free l.kind l.chunk_id x.chunk_id f);
         shown = extents-append fs (l ∷ []) ∙ (ap (λ xs. extents_of fs ++ xs) (extents-free l [] f) ∙ append-nil (extents_of fs));
         touch = t.before;
         last = last;
@@ -151,7 +151,7 @@ module _ (k : AllocationType) (fs : List Chunk) (l : Chunk) (touch : NoneTouch L
         gaps = after_same Free Linear (fs ++ l ∷ []) k Free last ∙ sym (append-nil (gaps_between Free (fs ++ l ∷ []) Free));
         joins = λ x ys. join_front-push fs l x ys ∙ (ap (λ (zs : List Chunk). fs ++ zs) (join_kinds-live l.kind l x ys live) ∙ sym (append_assoc fs (l ∷ []) (x ∷ ys)));
         free = λ x h. h;
-        number = λ x. sym (ap (λ (o : Option Neighbour). first_of o x.number) (last_beside-push None fs l) ∙ first_by_live l.kind l.number x.number live);
+        chunk_id = λ x. sym (ap (λ (o : Option Neighbour). first_of o x.chunk_id) (last_beside-push None fs l) ∙ first_by_live l.kind l.chunk_id x.chunk_id live);
         shown = refl;
         touch = touch;
         last = last;
@@ -166,7 +166,7 @@ left_of_none k = record {
   gaps = refl;
   joins = λ x ys. refl;
   free = λ x h. h;
-  number = λ x. refl;
+  chunk_id = λ x. refl;
   shown = refl;
   touch = tt;
   last = tt;
@@ -192,7 +192,7 @@ pub record RightSide (back : List Chunk) (k : AllocationType) : Type 0 where
   pub gaps : gaps_between k back Free ≡ gone ++ gaps_between Free rest Free
   pub joins : (x : Chunk) → join_back x back ≡ joined x ∷ rest
   pub free : (x : Chunk) → IsFree x.kind → IsFree (joined x).kind
-  pub number : (x : Chunk) → (joined x).number ≡ x.number
+  pub chunk_id : (x : Chunk) → (joined x).chunk_id ≡ x.chunk_id
   pub shown : extents_of back ≡ extents_of rest
   pub touch : NoneTouch Free rest
 
@@ -205,7 +205,7 @@ right_side k [] touch = record {
   gaps = refl;
   joins = λ x. refl;
   free = λ x h. h;
-  number = λ x. refl;
+  chunk_id = λ x. refl;
   shown = refl;
   touch = tt;
 }
@@ -220,7 +220,7 @@ right_side k (r ∷ bs) touch = elim (free_or_live r.kind) [
         gaps = first_free r.kind g (gaps_between r.kind bs Free) f ∙ ap (λ (q : AllocationType). g ∷ gaps_between q bs Free) (free_is r.kind f);
         joins = λ x. join_kinds-free r.kind x r bs f;
         free = λ x h. h;
-        number = λ x. refl;
+        chunk_id = λ x. refl;
         shown = extents-free r bs f;
         touch = subst (λ (q : AllocationType). NoneTouch q bs) (free_is r.kind f) touch.1;
       }
@@ -232,7 +232,7 @@ right_side k (r ∷ bs) touch = elim (free_or_live r.kind) [
     gaps = before_same k Free (r ∷ bs) Free (live_after Free r.kind l);
     joins = λ x. join_kinds-live r.kind x r bs l;
     free = λ x h. h;
-    number = λ x. refl;
+    chunk_id = λ x. refl;
     shown = refl;
     touch = (live_after Free r.kind l, touch.1);
   }
@@ -240,7 +240,7 @@ right_side k (r ∷ bs) touch = elim (free_or_live r.kind) [
 
 -- ---- the whole release
 
-module _ (cs ds : List Chunk) (gs : List Gap) (a : Neighbours) (listed : IsListed cs gs) (piece : IsPieceAt cs a) (distinct : AreDistinct cs) (released : IsReleased cs a.here.number ds) where
+module _ (cs ds : List Chunk) (gs : List Gap) (a : Neighbours) (listed : IsListed cs gs) (piece : IsPieceAt cs a) (distinct : AreDistinct cs) (released : IsReleased cs a.here.chunk_id ds) where
   abbrev pub front : List Chunk
   front = piece.around.at.front
 
@@ -270,7 +270,7 @@ module _ (cs ds : List Chunk) (gs : List Gap) (a : Neighbours) (listed : IsListe
 
   released_is : ds ≡ join_front front (join_back freed back)
   released_is =
-      let s = stands_once cs front back chunk released.chunk a.here.number distinct released.at piece.around.at.split piece.around.at.numbered in
+      let s = stands_once cs front back chunk released.chunk a.here.chunk_id distinct released.at piece.around.at.split piece.around.at.numbered in
       released.is ∙ (ap (λ (xs : List Chunk). join_front xs (join_back (filled_chunk released.chunk released.chunk.start Free []) released.at.back)) (sym s.fronts)
       ∙ (ap (λ (x : Chunk). join_front front (join_back (filled_chunk x x.start Free []) released.at.back)) (sym s.chunks)
       ∙ ap (λ (xs : List Chunk). join_front front (join_back freed xs)) (sym s.backs)))
@@ -281,14 +281,14 @@ module _ (cs ds : List Chunk) (gs : List Gap) (a : Neighbours) (listed : IsListe
   pub gap_free : IsFree gap.kind
   gap_free = left.free (right.joined freed) (right.free freed tt)
 
-  pub gap_number : gap.number ≡ first_of a.before a.here.number
-  gap_number =
-      left.number (right.joined freed)
-      ∙ (ap (λ (n : ℕ). first_of (last_beside None front) n) (right.number freed ∙ piece.around.at.numbered)
-      ∙ ap (λ (o : Option Neighbour). first_of o a.here.number) (sym piece.around.before))
+  pub gap_chunk_id : gap.chunk_id ≡ first_of a.before a.here.chunk_id
+  gap_chunk_id =
+      left.chunk_id (right.joined freed)
+      ∙ (ap (λ (n : ℕ). first_of (last_beside None front) n) (right.chunk_id freed ∙ piece.around.at.numbered)
+      ∙ ap (λ (o : Option Neighbour). first_of o a.here.chunk_id) (sym piece.around.before))
 
-  pub gap_there : HasNumber ds (first_of a.before a.here.number)
-  gap_there = (gap, record { front = left.outer; back = right.rest; split = gap_split; numbered = gap_number })
+  pub gap_there : HasChunkId ds (first_of a.before a.here.chunk_id)
+  gap_there = (gap, record { front = left.outer; back = right.rest; split = gap_split; numbered = gap_chunk_id })
 
   abbrev low : List Gap
   low = gaps_between Free left.outer Free

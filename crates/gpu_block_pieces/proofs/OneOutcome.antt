@@ -26,35 +26,35 @@ chosen_once b r s s' e e' o o' c d =
     let n = other.between.begins.least o c.fits.between.begins.begins in
     record { starts = places.0; ends = places.1; offsets = omega arith }
 
-pub same_block : (b b' : FreeList) → b.size ≡ b'.size → b.granularity ≡ b'.granularity → b.counter ≡ b'.counter → b.extents ≡ b'.extents → b.gap_numbers ≡ b'.gap_numbers → b ≡ b'
-same_block b b' p q r s t = λ i. record { size = p i; granularity = q i; counter = r i; extents = s i; gap_numbers = t i }
+pub same_block : (b b' : FreeList) → b.size ≡ b'.size → b.granularity ≡ b'.granularity → b.counter ≡ b'.counter → b.extents ≡ b'.extents → b.gap_chunk_ids ≡ b'.gap_chunk_ids → b ≡ b'
+same_block b b' p q r s t = λ i. record { size = p i; granularity = q i; counter = r i; extents = s i; gap_chunk_ids = t i }
 
 pub record SameTake (o o' n n' : ℕ) (new new' : FreeList) : Type 0 where
   pub offsets : o ≡ o'
   pub numbers : n ≡ n'
   pub blocks : new ≡ new'
 
-pub takes_once : (old : FreeList) (r : Request) (o o' n n' : ℕ) (new new' : FreeList) → ((s k k' : ℕ) → Contains old.gap_numbers (s, k) → Contains old.gap_numbers (s, k') → k ≡ k') → Takes old r o n
+pub takes_once : (old : FreeList) (r : Request) (o o' n n' : ℕ) (new new' : FreeList) → ((s k k' : ℕ) → Contains old.gap_chunk_ids (s, k) → Contains old.gap_chunk_ids (s, k') → k ≡ k') → Takes old r o n
     new → Takes old r o' n' new' → SameTake o o' n n' new new'
 takes_once old r o o' n n' new new' once t u =
     let c = chosen_once old r t.start u.start t.end u.end o o' t.chosen u.chosen in
     let cs = c.starts in let ce = c.ends in let co = c.offsets in
     let in' = t.chosen.fits.between.inside in
     let ext : Extent → List Extent = λ x. with_extent x old.extents in
-    let done : n ≡ n' → new.counter ≡ new'.counter → new.gap_numbers ≡ new'.gap_numbers → SameTake o o' n n' new new' =
+    let done : n ≡ n' → new.counter ≡ new'.counter → new.gap_chunk_ids ≡ new'.gap_chunk_ids → SameTake o o' n n' new new' =
     λ hn hc hg. record {
       offsets = co;
       numbers = hn;
       blocks = same_block new new' (t.same.0 ∙ sym u.same.0) (t.same.1 ∙ sym u.same.1) hc
-          (t.extent ∙ ((λ i. ext (record { start = cs i; offset = co i; end = co i + r.size; kind = r.kind; number = hn i; name = r.name })) ∙ sym u.extent)) hg;
+          (t.extent ∙ ((λ i. ext (record { start = cs i; offset = co i; end = co i + r.size; kind = r.kind; chunk_id = hn i; name = r.name })) ∙ sym u.extent)) hg;
     } in
     elim (cases_lt (o + r.size) t.end) [
       | inl lt ↦
           let a = t.rest lt in let b = u.rest (omega arith) in
-          done (a.0 ∙ sym b.0) (a.1 ∙ sym b.1) (a.2 ∙ ((λ i. moved_gap (cs i) (co i + r.size) old.gap_numbers) ∙ sym b.2))
+          done (a.0 ∙ sym b.0) (a.1 ∙ sym b.1) (a.2 ∙ ((λ i. moved_gap (cs i) (co i + r.size) old.gap_chunk_ids) ∙ sym b.2))
       | inr ge ↦
           let a = t.no_rest (omega arith) in let b = u.no_rest (omega arith) in
-          done (once t.start n n' a.0 (subst (λ k. Contains old.gap_numbers (k, n')) (sym cs) b.0)) (a.1 ∙ sym b.1) (a.2 ∙ ((λ i. without_gap (cs i) old.gap_numbers) ∙ sym b.2))
+          done (once t.start n n' a.0 (subst (λ k. Contains old.gap_chunk_ids (k, n')) (sym cs) b.0)) (a.1 ∙ sym b.1) (a.2 ∙ ((λ i. without_gap (cs i) old.gap_chunk_ids) ∙ sym b.2))
     ]
 
 -- a request that takes has a place
@@ -85,15 +85,15 @@ pub releases_once : (old : FreeList) (n : ℕ) (new new' : FreeList) → IsSound
 releases_once old n new new' sound t u =
     let same : t.gone ≡ u.gone = sound.one_number t.gone u.gone t.held u.held (t.numbered ∙ sym u.numbered) in
     let start : t.gone.start ≡ u.gone.start = ap (λ x. x.start) same in
-    let done : new.gap_numbers ≡ new'.gap_numbers → new ≡ new' = λ gaps.
+    let done : new.gap_chunk_ids ≡ new'.gap_chunk_ids → new ≡ new' = λ gaps.
     same_block new new' (t.same.0 ∙ sym u.same.0) (t.same.1 ∙ sym u.same.1) (t.same.2 ∙ sym u.same.2) (t.extents ∙ (ap (λ x. without_extent x.start old.extents) same ∙ sym u.extents)) gaps in
     elim t.numbers [
       | inl a ↦ elim u.numbers [
-        | inl b ↦ done (a.2 ∙ (ap (λ x. without_gap x.end old.gap_numbers) same ∙ sym b.2))
+        | inl b ↦ done (a.2 ∙ (ap (λ x. without_gap x.end old.gap_chunk_ids) same ∙ sym b.2))
         | inr b ↦ absurd (b.0 a.0 (subst (λ k. IsGap old a.0 k) start a.1))
       ]
       | inr a ↦ elim u.numbers [
         | inl b ↦ absurd (a.0 b.0 (subst (λ k. IsGap old b.0 k) (sym start) b.1))
-        | inr b ↦ done (a.1 ∙ (ap (λ x. with_gap x.start n (without_gap x.end old.gap_numbers)) same ∙ sym b.1))
+        | inr b ↦ done (a.1 ∙ (ap (λ x. with_gap x.start n (without_gap x.end old.gap_chunk_ids)) same ∙ sym b.1))
       ]
     ]

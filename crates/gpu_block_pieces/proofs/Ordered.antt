@@ -43,16 +43,16 @@ gaps_ordered (c ∷ cs) from to h =
     let rest = gaps_ordered cs (from + c.size) to h.2 in
     let s : c.start ≡ from = h.0 in
     let pos : 0 < c.size = h.1 in
-    let above = All-weaker (GapIn (from + c.size) to) (Earlier (c.start, c.number)) (λ x q. let a = q.0 in omega arith) (gaps_of cs) (gaps_in cs (from + c.size) to h.2) in
+    let above = All-weaker (GapIn (from + c.size) to) (Earlier (c.start, c.chunk_id)) (λ x q. let a = q.0 in omega arith) (gaps_of cs) (gaps_in cs (from + c.size) to h.2) in
     elim (free_or_live c.kind) [
-      | inl f ↦ subst (λ (xs : List (ℕ × ℕ)). AllPairs Earlier xs) (sym (gaps-free c cs f)) (AllPairs-cons Earlier (c.start, c.number) (gaps_of cs) above rest)
+      | inl f ↦ subst (λ (xs : List (ℕ × ℕ)). AllPairs Earlier xs) (sym (gaps-free c cs f)) (AllPairs-cons Earlier (c.start, c.chunk_id) (gaps_of cs) above rest)
       | inr l ↦ subst (λ (xs : List (ℕ × ℕ)). AllPairs Earlier xs) (sym (gaps-live c cs l)) rest
     ]
 
-contains_gap : (cs front back : List Chunk) (c : Chunk) → cs ≡ front ++ c ∷ back → IsFree c.kind → Contains (gaps_of cs) (c.start, c.number)
+contains_gap : (cs front back : List Chunk) (c : Chunk) → cs ≡ front ++ c ∷ back → IsFree c.kind → Contains (gaps_of cs) (c.start, c.chunk_id)
 contains_gap cs front back c p free =
-    subst (λ (gs : List (ℕ × ℕ)). Contains gs (c.start, c.number)) (sym (ap gaps_of p ∙ (gaps-append front (c ∷ back) ∙ ap (λ gs. gaps_of front ++ gs) (gaps-free c back free))))
-    (contains_mid (gaps_of front) (gaps_of back) (c.start, c.number))
+    subst (λ (gs : List (ℕ × ℕ)). Contains gs (c.start, c.chunk_id)) (sym (ap gaps_of p ∙ (gaps-append front (c ∷ back) ∙ ap (λ gs. gaps_of front ++ gs) (gaps-free c back free))))
+    (contains_mid (gaps_of front) (gaps_of back) (c.start, c.chunk_id))
 
 -- each free chunk is one gap of the index
 gaps_counted : (b : AllocationType) (cs : List Chunk) (a : AllocationType) → length (gaps_between b cs a) ≡ length (gaps_of cs)
@@ -78,7 +78,7 @@ ordered_block cs size g counter are = record {
   gaps = gaps_ordered cs 0 size are.covers;
   each_gap = λ s e gap.
       let f = chunk_of_gap cs size g counter s e are.covers are.none_touch gap in
-      (f.chunk.number, subst (λ (n : ℕ). Contains (gaps_of cs) (n, f.chunk.number)) f.starts (contains_gap cs f.front f.back f.chunk f.split f.free));
+      (f.chunk.chunk_id, subst (λ (n : ℕ). Contains (gaps_of cs) (n, f.chunk.chunk_id)) f.starts (contains_gap cs f.front f.back f.chunk f.split f.free));
   only_gaps = λ s k has.
       let m = gap_member cs (s, k) has in (
         m.chunk.start + m.chunk.size,
@@ -91,13 +91,13 @@ ordered_block cs size g counter are = record {
 -- those of a block that is one gap
 fresh_are : (cs : List Chunk) (size counter : ℕ) → 0 < size → 2 ≤ counter → IsFresh cs size → AreChunks cs size counter
 fresh_are cs size counter some two fresh =
-    let c : Chunk = record { start = 0; size = size; offset = 0; kind = Free; number = 1; name = fresh.0 } in
+    let c : Chunk = record { start = 0; size = size; offset = 0; kind = Free; chunk_id = 1; name = fresh.0 } in
     let is : IsChunk counter c = record { after = omega arith; before = omega arith; positive = omega arith; given = omega arith } in
     subst (λ (xs : List Chunk). AreChunks xs size counter) (sym fresh.1) (record {
       covers = (refl, some, omega arith);
       none_touch = (tt, tt);
       each = All-cons (IsChunk counter) c [] is (All-nil (IsChunk counter));
-      distinct = (All-nil (λ (d : Chunk). d.number ≢ 1), tt);
+      distinct = (All-nil (λ (d : Chunk). d.chunk_id ≢ 1), tt);
     })
 
 pub fresh_ordered : (cs : List Chunk) (size n g counter : ℕ) → 0 < size → 2 ≤ counter → n ≡ size → IsFresh cs size → IsInOrder (free_list_of n g counter cs)

@@ -32,9 +32,9 @@ are_at cs ds size counter e h = subst (λ (xs : List Chunk). AreChunks xs size c
 pub laid_out : (cs : List Chunk) (size counter : ℕ) → size < 2 ^ 64 → AreChunks cs size counter → IsLaidOut cs
 laid_out cs size counter lt h = (size, lt, h.covers)
 
-module _ (cs new : List Chunk) (size counter : ℕ) (w : Wanted) (f : FoundAt) (name : List ℕ) (number : ℕ) (are : AreChunks cs size counter) (pos : 0 < w.size) (piece : w.kind ≢ Free)
-    (best : IsBestOf cs w (length cs) f) (taken : IsTaken cs f w counter name number new) where
-  the_taken : TakenFrom best.fits.front best.fits.chunk best.fits.back f w counter name number new
+module _ (cs new : List Chunk) (size counter : ℕ) (w : Wanted) (f : FoundAt) (name : List ℕ) (chunk_id : ℕ) (are : AreChunks cs size counter) (pos : 0 < w.size) (piece : w.kind ≢ Free)
+    (best : IsBestOf cs w (length cs) f) (taken : IsTaken cs f w counter name chunk_id new) where
+  the_taken : TakenFrom best.fits.front best.fits.chunk best.fits.back f w counter name chunk_id new
   the_taken = taken best.fits.front best.fits.chunk best.fits.back best.fits.split best.fits.index
 
   parts : AreChunks (best.fits.front ++ best.fits.chunk ∷ best.fits.back) size counter
@@ -51,7 +51,7 @@ module _ (cs new : List Chunk) (size counter : ℕ) (w : Wanted) (f : FoundAt) (
 
   -- the extent that the piece shows
   abbrev pub shown : List ℕ → ℕ → ℕ → Extent
-  shown text end n = record { start = best.fits.chunk.start; offset = f.offset; end = end; kind = w.kind; number = n; name = text }
+  shown text end n = record { start = best.fits.chunk.start; offset = f.offset; end = end; kind = w.kind; chunk_id = n; name = text }
 
   abbrev rest_piece : Chunk
   rest_piece = piece_of best.fits.chunk f w counter name
@@ -59,7 +59,7 @@ module _ (cs new : List Chunk) (size counter : ℕ) (w : Wanted) (f : FoundAt) (
   abbrev whole_piece : Chunk
   whole_piece = filled_chunk best.fits.chunk f.offset w.kind name
 
-  pub some_number : 0 < number
+  pub some_number : 0 < chunk_id
   some_number =
       let g = (each_of counter best.fits.front best.fits.chunk best.fits.back parts.each).at.positive in
       let n = counted in
@@ -78,7 +78,7 @@ module _ (cs new : List Chunk) (size counter : ℕ) (w : Wanted) (f : FoundAt) (
         are_at _ new size (counter + 1) (sym (the_taken.rest rest).1)
         (rest_are size counter best.fits.front best.fits.back best.fits.chunk rest_piece parts best.fits.free (piece_live w.kind piece) refl (omega arith) (omega arith) rest_chunk refl)
 
-    pub rest_takes : (text : List ℕ) → name ≡ text → counter < 2 ^ 64 - 1 → Takes (free_list_of size w.granularity counter cs) (request w.size w.alignment w.kind text) f.offset number
+    pub rest_takes : (text : List ℕ) → name ≡ text → counter < 2 ^ 64 - 1 → Takes (free_list_of size w.granularity counter cs) (request w.size w.alignment w.kind text) f.offset chunk_id
         (free_list_of size w.granularity (counter + 1) new)
     rest_takes text e left =
         let l = low in let h = high in
@@ -117,7 +117,7 @@ module _ (cs new : List Chunk) (size counter : ℕ) (w : Wanted) (f : FoundAt) (
         are_at _ new size counter (sym (the_taken.whole whole).1)
         (whole_are size counter best.fits.front best.fits.back best.fits.chunk whole_piece parts best.fits.free (piece_live w.kind piece) refl refl whole_chunk refl)
 
-    pub whole_takes : (text : List ℕ) → name ≡ text → Takes (free_list_of size w.granularity counter cs) (request w.size w.alignment w.kind text) f.offset number
+    pub whole_takes : (text : List ℕ) → name ≡ text → Takes (free_list_of size w.granularity counter cs) (request w.size w.alignment w.kind text) f.offset chunk_id
         (free_list_of size w.granularity counter new)
     whole_takes text e =
         let l = low in let h = high in
@@ -131,12 +131,12 @@ module _ (cs new : List Chunk) (size counter : ℕ) (w : Wanted) (f : FoundAt) (
           start = fs.chunk.start;
           end = fs.chunk.start + fs.chunk.size;
           chosen = chosen_of_best cs size counter w text are.covers are.none_touch piece f best;
-          extent = ap extents_of t.1 ∙ (xs ∙ (ap (λ ys. with_extent (shown (name) (fs.chunk.start + fs.chunk.size) fs.chunk.number) (extents_of ys)) (sym fs.split)
-              ∙ (ap (λ k. with_extent (shown (name) k fs.chunk.number) (extents_of cs)) end ∙
-              (ap (λ k. with_extent (shown k (f.offset + w.size) fs.chunk.number) (extents_of cs)) e ∙ ap (λ k. with_extent (shown text (f.offset + w.size) k) (extents_of cs)) (sym t.0)))));
+          extent = ap extents_of t.1 ∙ (xs ∙ (ap (λ ys. with_extent (shown (name) (fs.chunk.start + fs.chunk.size) fs.chunk.chunk_id) (extents_of ys)) (sym fs.split)
+              ∙ (ap (λ k. with_extent (shown (name) k fs.chunk.chunk_id) (extents_of cs)) end ∙
+              (ap (λ k. with_extent (shown k (f.offset + w.size) fs.chunk.chunk_id) (extents_of cs)) e ∙ ap (λ k. with_extent (shown text (f.offset + w.size) k) (extents_of cs)) (sym t.0)))));
           rest = λ q. absurd (omega arith);
           no_rest = λ _. (
-            subst (λ k. Contains (gaps_of cs) (fs.chunk.start, k)) (sym t.0) (subst (λ (ys : List Chunk). Contains (gaps_of ys) (fs.chunk.start, fs.chunk.number)) (sym fs.split) ns),
+            subst (λ k. Contains (gaps_of cs) (fs.chunk.start, k)) (sym t.0) (subst (λ (ys : List Chunk). Contains (gaps_of ys) (fs.chunk.start, fs.chunk.chunk_id)) (sym fs.split) ns),
             refl,
             ap gaps_of t.1 ∙ (gs ∙ ap (λ ys. without_gap fs.chunk.start (gaps_of ys)) (sym fs.split)),
           );
@@ -166,11 +166,11 @@ no_place_counter cs size counter w v text f are piece e b rest last =
       ap (λ x. x.counter) (sym e) ∙ last,
     )
 
-pub Takes-at : (size g k counter after : ℕ) (cs new : List Chunk) (v : FreeList) (r : Request) (o n number : ℕ) → free_list_of size g counter cs ≡ v → k ≡ v.granularity → n ≡ number → Takes
-    (free_list_of size k counter cs) r o number (free_list_of size k after new) → Takes v r o n (free_list_of size g after new)
-Takes-at size g k counter after cs new v r o n number e h m t =
+pub Takes-at : (size g k counter after : ℕ) (cs new : List Chunk) (v : FreeList) (r : Request) (o n chunk_id : ℕ) → free_list_of size g counter cs ≡ v → k ≡ v.granularity → n ≡ chunk_id → Takes
+    (free_list_of size k counter cs) r o chunk_id (free_list_of size k after new) → Takes v r o n (free_list_of size g after new)
+Takes-at size g k counter after cs new v r o n chunk_id e h m t =
     let same : k ≡ g = h ∙ sym (ap (λ b. b.granularity) e) in
-    let one : Takes v r o number (free_list_of size k after new) = subst (λ b. Takes b r o number (free_list_of size k after new)) (view_at size g counter cs v e k h) t in
+    let one : Takes v r o chunk_id (free_list_of size k after new) = subst (λ b. Takes b r o chunk_id (free_list_of size k after new)) (view_at size g counter cs v e k h) t in
     let two : Takes v r o n (free_list_of size k after new) = subst (λ i. Takes v r o i (free_list_of size k after new)) (sym m) one in
     subst (λ i. Takes v r o n (free_list_of size i after new)) same two
 

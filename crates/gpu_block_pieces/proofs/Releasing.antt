@@ -9,8 +9,8 @@ use Rattle.gpu_values.specs.declared.allocation_type.AllocationType.TheVariants.
 use Rattle.gpu_block_pieces.specs.FreeList.{Extent, IsGap, SomeExtent}
 use Rattle.gpu_block_pieces.specs.Changes.{with_gap, without_gap, without_extent, Releases}
 use Rattle.gpu_block_chunks.specs.ChunkList.{IsFree, Covers, filled_chunk, joined_chunk, join_back, join_front, AreDistinct}
-use Rattle.gpu_block_pieces.specs.Chunks.{NotBothFree, NoneTouch, last_kind, AreChunks, IsChunk, extent, extents_of, gaps_of, free_list_of, HoldsNumber, IsReleasedAt}
-use Rattle.gpu_block_pieces.proofs.Numbers.{Not, distinct_less, same_number, same_distinct, joined_number, joined_distinct}
+use Rattle.gpu_block_pieces.specs.Chunks.{NotBothFree, NoneTouch, last_kind, AreChunks, IsChunk, extent, extents_of, gaps_of, free_list_of, HoldsChunkId, IsReleasedAt}
+use Rattle.gpu_block_pieces.proofs.Numbers.{Not, distinct_less, same_chunk_id, same_distinct, joined_chunk_id, joined_distinct}
 use Rattle.gpu_block_pieces.proofs.Tiling.{Neighbours, around, Covers-join, last_kind-push}
 use Rattle.gpu_block_pieces.proofs.Edits.{join_front-push, join_kinds-free, join_kinds-live}
 use Rattle.gpu_block_pieces.proofs.Views.{free_or_live, extents-free, gaps-free, gaps-live, extents-append, gaps-append, extents-split, contains_chunk, member_of}
@@ -32,7 +32,7 @@ pub record Behind (counter size : ℕ) (c : Chunk) (back : List Chunk) : Type 0 
   pub rest : List Chunk
   pub is : join_back (freed c) back ≡ gap ∷ rest
   pub start : gap.start ≡ c.start
-  pub number : gap.number ≡ c.number
+  pub chunk_id : gap.chunk_id ≡ c.chunk_id
   pub offset : gap.offset ≡ c.start
   pub free : IsFree gap.kind
   pub longer : c.size ≤ gap.size
@@ -51,7 +51,7 @@ behind counter size c [] covers touch each =
       rest = [];
       is = refl;
       start = refl;
-      number = refl;
+      chunk_id = refl;
       offset = refl;
       free = tt;
       longer = omega arith;
@@ -60,7 +60,7 @@ behind counter size c [] covers touch each =
       each = each;
       extents = refl;
       gaps = refl;
-      carry = same_number c (freed c) [] refl;
+      carry = same_chunk_id c (freed c) [] refl;
       distinct = same_distinct c (freed c) [] refl;
     }
 behind counter size c (b ∷ bs) covers touch each =
@@ -76,7 +76,7 @@ behind counter size c (b ∷ bs) covers touch each =
             rest = bs;
             is = join_kinds-free b.kind (freed c) b bs f;
             start = refl;
-            number = refl;
+            chunk_id = refl;
             offset = refl;
             free = tt;
             longer = omega arith;
@@ -84,9 +84,9 @@ behind counter size c (b ∷ bs) covers touch each =
             touch = subst (λ k. NoneTouch k bs) (is_free_kind b.kind f) touch.1;
             each = All-tail (IsChunk counter) b bs each;
             extents = sym (extents-free b bs f);
-            gaps = sym (ap (without_gap (c.start + c.size)) (gaps-free b bs f) ∙ kept_mid (λ p. p.0) (c.start + c.size) (b.start, b.number) [] (gaps_of bs) at (All-nil (λ p. p.0 ≢ c.start + c.size))
+            gaps = sym (ap (without_gap (c.start + c.size)) (gaps-free b bs f) ∙ kept_mid (λ p. p.0) (c.start + c.size) (b.start, b.chunk_id) [] (gaps_of bs) at (All-nil (λ p. p.0 ≢ c.start + c.size))
                 high);
-            carry = λ k h. joined_number (freed c) b bs k (same_number c (freed c) (b ∷ bs) refl k h);
+            carry = λ k h. joined_chunk_id (freed c) b bs k (same_chunk_id c (freed c) (b ∷ bs) refl k h);
             distinct = λ h. joined_distinct (freed c) b bs (same_distinct c (freed c) (b ∷ bs) refl h);
           }
       | inr l ↦
@@ -95,7 +95,7 @@ behind counter size c (b ∷ bs) covers touch each =
             rest = b ∷ bs;
             is = join_kinds-live b.kind (freed c) b bs l;
             start = refl;
-            number = refl;
+            chunk_id = refl;
             offset = refl;
             free = tt;
             longer = omega arith;
@@ -104,7 +104,7 @@ behind counter size c (b ∷ bs) covers touch each =
             each = each;
             extents = refl;
             gaps = gaps-live b bs l ∙ sym (ap (without_gap (c.start + c.size)) (gaps-live b bs l) ∙ kept_all (λ p. p.0) (c.start + c.size) (gaps_of bs) high);
-            carry = same_number c (freed c) (b ∷ bs) refl;
+            carry = same_chunk_id c (freed c) (b ∷ bs) refl;
             distinct = same_distinct c (freed c) (b ∷ bs) refl;
           }
     ]
@@ -145,21 +145,21 @@ module _ (size g counter : ℕ) (cs front back : List Chunk) (c : Chunk) (split 
       ap (without_gap (c.start + c.size)) lists ∙ (filter-append (λ p. not (eqb p.0 (c.start + c.size))) (gaps_of front) (gaps_of back) ∙
       (ap (λ ys. ys ++ without_gap (c.start + c.size) (gaps_of back)) (kept_all (λ p. p.0) (c.start + c.size) (gaps_of front) low) ∙ ap (λ ys. gaps_of front ++ ys) (sym the_behind.gaps)))
 
-  with_old : with_gap c.start c.number (without_gap (c.start + c.size) (gaps_of cs)) ≡ gaps_of front ++ (c.start, c.number) ∷ gaps_of the_behind.rest
+  with_old : with_gap c.start c.chunk_id (without_gap (c.start + c.size) (gaps_of cs)) ≡ gaps_of front ++ (c.start, c.chunk_id) ∷ gaps_of the_behind.rest
   with_old =
       let r = the_around in
       let pos = r.nonempty in
       let b = the_behind in
       let more = b.longer in
-      ap (with_gap c.start c.number) old_gaps ∙
-      placed-mid (λ p. p.0) (c.start, c.number) (gaps_of front) (gaps_of b.rest)
+      ap (with_gap c.start c.chunk_id) old_gaps ∙
+      placed-mid (λ p. p.0) (c.start, c.chunk_id) (gaps_of front) (gaps_of b.rest)
       (All-weaker (GapIn 0 c.start) (λ p. p.0 < c.start) (λ p q. q.1) (gaps_of front) (gaps_in front 0 c.start r.before))
       (All-weaker (GapIn (c.start + b.gap.size) size) (λ p. c.start ≤ p.0) (λ p q. (let l = q.0 in omega arith)) (gaps_of b.rest) (gaps_in b.rest (c.start + b.gap.size) size b.covers))
 
   gap_chunk : IsChunk counter the_behind.gap
   gap_chunk =
       let b = the_behind in
-      let s = b.start in let n = b.number in let o = b.offset in let z = b.longer in
+      let s = b.start in let n = b.chunk_id in let o = b.offset in let z = b.longer in
       let at = the_each.at in
       let p = at.positive in let q = at.given in
       let pos = the_around.nonempty in
@@ -190,11 +190,11 @@ module _ (size g counter : ℕ) (cs front back : List Chunk) (c : Chunk) (split 
         let b = the_behind in
         ap extents_of is ∙ (extents-append front (b.gap ∷ b.rest) ∙ (ap (λ ys. extents_of front ++ ys) (extents-free b.gap b.rest b.free ∙ b.extents) ∙ sym old_extents))
 
-    pub alone_gaps : gaps_of new ≡ with_gap c.start c.number (without_gap (c.start + c.size) (gaps_of cs))
+    pub alone_gaps : gaps_of new ≡ with_gap c.start c.chunk_id (without_gap (c.start + c.size) (gaps_of cs))
     alone_gaps =
         let b = the_behind in
         ap gaps_of is ∙ (gaps-append front (b.gap ∷ b.rest) ∙
-        (ap (λ ys. gaps_of front ++ ys) (gaps-free b.gap b.rest b.free ∙ (ap (λ k. (k, b.gap.number) ∷ gaps_of b.rest) b.start ∙ ap (λ k. (c.start, k) ∷ gaps_of b.rest) b.number)) ∙ sym
+        (ap (λ ys. gaps_of front ++ ys) (gaps-free b.gap b.rest b.free ∙ (ap (λ k. (k, b.gap.chunk_id) ∷ gaps_of b.rest) b.start ∙ ap (λ k. (c.start, k) ∷ gaps_of b.rest) b.chunk_id)) ∙ sym
         with_old))
 
   -- ---- a free chunk stands before it
@@ -223,8 +223,8 @@ module _ (size g counter : ℕ) (cs front back : List Chunk) (c : Chunk) (split 
           each = All-append (IsChunk counter) before (joined_chunk l b.gap ∷ b.rest) left_each.before
               (All-cons (IsChunk counter) (joined_chunk l b.gap) b.rest (record { after = x; before = omega arith; positive = at.positive; given = at.given }) b.each);
           distinct = distinct_less before (l ∷ c ∷ back) (joined_chunk l b.gap ∷ b.rest)
-              (λ k h. joined_number l b.gap b.rest k (All-cons (Not k) l (b.gap ∷ b.rest) (All-head (Not k) l (c ∷ back) h) (b.carry k (All-tail (Not k) l (c ∷ back) h))))
-              (λ h. joined_distinct l b.gap b.rest (b.carry l.number h.0, b.distinct h.1))
+              (λ k h. joined_chunk_id l b.gap b.rest k (All-cons (Not k) l (b.gap ∷ b.rest) (All-head (Not k) l (c ∷ back) h) (b.carry k (All-tail (Not k) l (c ∷ back) h))))
+              (λ h. joined_distinct l b.gap b.rest (b.carry l.chunk_id h.0, b.distinct h.1))
               (subst (λ (xs : List Chunk). AreDistinct xs) (ap (λ ys. ys ++ c ∷ back) fronts ∙ append_assoc before (l ∷ []) (c ∷ back)) parts.distinct);
         })
 
@@ -239,15 +239,15 @@ module _ (size g counter : ℕ) (cs front back : List Chunk) (c : Chunk) (split 
     pub joined_gaps : gaps_of new ≡ without_gap (c.start + c.size) (gaps_of cs)
     joined_gaps =
         let b = the_behind in
-        let lone : gaps_of front ≡ gaps_of before ++ (l.start, l.number) ∷ [] = ap gaps_of fronts ∙ (gaps-append before (l ∷ []) ∙ ap (λ ys. gaps_of before ++ ys) (gaps-free l [] free)) in
+        let lone : gaps_of front ≡ gaps_of before ++ (l.start, l.chunk_id) ∷ [] = ap gaps_of fronts ∙ (gaps-append before (l ∷ []) ∙ ap (λ ys. gaps_of before ++ ys) (gaps-free l [] free)) in
         ap gaps_of is ∙ (gaps-append before (joined_chunk l b.gap ∷ b.rest) ∙ (ap (λ ys. gaps_of before ++ ys) (gaps-free (joined_chunk l b.gap) b.rest free) ∙
-        (sym (append_assoc (gaps_of before) ((l.start, l.number) ∷ []) (gaps_of b.rest)) ∙ (ap (λ ys. ys ++ gaps_of b.rest) (sym lone) ∙ sym old_gaps))))
+        (sym (append_assoc (gaps_of before) ((l.start, l.chunk_id) ∷ []) (gaps_of b.rest)) ∙ (ap (λ ys. ys ++ gaps_of b.rest) (sym lone) ∙ sym old_gaps))))
 
 -- ---- the release
 
-pub record Released (size g counter : ℕ) (cs new : List Chunk) (number : ℕ) : Type 0 where
+pub record Released (size g counter : ℕ) (cs new : List Chunk) (chunk_id : ℕ) : Type 0 where
   pub are : AreChunks new size counter
-  pub releases : Releases (free_list_of size g counter cs) number (free_list_of size g counter new)
+  pub releases : Releases (free_list_of size g counter cs) chunk_id (free_list_of size g counter new)
 
 -- no gap ends at the start of a chunk behind a piece
 no_gap_behind : (size g counter : ℕ) (cs before back : List Chunk) (l c : Chunk) → cs ≡ before ++ l ∷ c ∷ back → (IsFree l.kind → ⊥) → 0 < l.size → l.start + l.size ≡ c.start → (s : ℕ) → IsGap
@@ -257,10 +257,10 @@ no_gap_behind size g counter cs before back l c split live pos end s gap =
     let m = All-contains (λ (y : Extent). (y.end ≤ s) ⊎ (c.start ≤ y.start)) (extents_of cs) (extent l) gap.meets_none (contains_chunk cs before (c ∷ back) l split live) in
     elim m [ inl a ↦ omega arith | inr a ↦ omega arith ]
 
-released_alone : (size g counter : ℕ) (cs front back : List Chunk) (c : Chunk) (split : cs ≡ front ++ c ∷ back) (are : AreChunks cs size counter) (live : IsFree c.kind → ⊥) (number : ℕ) → c.number ≡
-    number → (new : List Chunk) → NotBothFree (last_kind Linear front) Free → new ≡ front ++ (the_behind size g counter cs front back c split are live).gap ∷
-    (the_behind size g counter cs front back c split are live).rest → ((s : ℕ) → IsGap (free_list_of size g counter cs) s c.start → ⊥) → Released size g counter cs new number
-released_alone size g counter cs front back c split are live number num new alone is none =
+released_alone : (size g counter : ℕ) (cs front back : List Chunk) (c : Chunk) (split : cs ≡ front ++ c ∷ back) (are : AreChunks cs size counter) (live : IsFree c.kind → ⊥) (chunk_id : ℕ) → c.chunk_id ≡
+    chunk_id → (new : List Chunk) → NotBothFree (last_kind Linear front) Free → new ≡ front ++ (the_behind size g counter cs front back c split are live).gap ∷
+    (the_behind size g counter cs front back c split are live).rest → ((s : ℕ) → IsGap (free_list_of size g counter cs) s c.start → ⊥) → Released size g counter cs new chunk_id
+released_alone size g counter cs front back c split are live chunk_id num new alone is none =
     record {
       are = alone_are size g counter cs front back c split are live alone new is;
       releases = record {
@@ -273,13 +273,13 @@ released_alone size g counter cs front back c split are live number num new alon
       };
     }
 
-pub released : (size g counter : ℕ) (cs front back : List Chunk) (c : Chunk) (split : cs ≡ front ++ c ∷ back) (are : AreChunks cs size counter) (live : IsFree c.kind → ⊥) (number : ℕ) → c.number ≡
-    number → (new : List Chunk) → new ≡ join_front front (join_back (freed c) back) → Released size g counter cs new number
-released size g counter cs [] back c split are live number num new is =
+pub released : (size g counter : ℕ) (cs front back : List Chunk) (c : Chunk) (split : cs ≡ front ++ c ∷ back) (are : AreChunks cs size counter) (live : IsFree c.kind → ⊥) (chunk_id : ℕ) → c.chunk_id ≡
+    chunk_id → (new : List Chunk) → new ≡ join_front front (join_back (freed c) back) → Released size g counter cs new chunk_id
+released size g counter cs [] back c split are live chunk_id num new is =
     let b = the_behind size g counter cs [] back c split are live in
     let zero_start : 0 ≡ c.start = (the_around size g counter cs [] back c split are live).before in
-    released_alone size g counter cs [] back c split are live number num new tt (is ∙ b.is) (λ s gap. (let m = gap.nonempty in omega arith))
-released size g counter cs (f ∷ fs) back c split are live number num new is =
+    released_alone size g counter cs [] back c split are live chunk_id num new tt (is ∙ b.is) (λ s gap. (let m = gap.nonempty in omega arith))
+released size g counter cs (f ∷ fs) back c split are live chunk_id num new is =
     let b = the_behind size g counter cs (f ∷ fs) back c split are live in
     let left = left_of cs size f fs c back (placed_at cs size (f ∷ fs) c back split are.covers are.none_touch) in
     let l = left.chunk in
@@ -306,17 +306,17 @@ released size g counter cs (f ∷ fs) back c split are live number num new is =
           let at : new ≡ left.before ++ l ∷ b.gap ∷ b.rest = kinds ∙ ap (λ ys. left.before ++ ys) (join_kinds-live l.kind l b.gap b.rest alive) in
           let fronts : new ≡ (f ∷ fs) ++ b.gap ∷ b.rest = at ∙ (sym (append_assoc left.before (l ∷ []) (b.gap ∷ b.rest)) ∙ ap (λ ys. ys ++ b.gap ∷ b.rest) (sym left.is)) in
           let last : last_kind Linear (f ∷ fs) ≡ l.kind = ap (last_kind Linear) left.is ∙ last_kind-push Linear left.before l in
-          released_alone size g counter cs (f ∷ fs) back c split are live number num new (subst (λ k. NotBothFree k Free) (sym last) (live_before l.kind Free alive)) fronts
+          released_alone size g counter cs (f ∷ fs) back c split are live chunk_id num new (subst (λ k. NotBothFree k Free) (sym last) (live_before l.kind Free alive)) fronts
           (no_gap_behind size g counter cs left.before back l c left.split alive pos left.ends)
     ]
 
 -- ---- by the number
 
-pub released_at : (size g counter : ℕ) (cs new : List Chunk) (i number : ℕ) → AreChunks cs size counter → HoldsNumber cs number i → IsReleasedAt cs i new → Released size g counter cs new number
-released_at size g counter cs new i number are h rel =
-    released size g counter cs h.front h.back h.chunk h.split are h.live number h.numbered new (rel h.front h.chunk h.back h.split h.index)
+pub released_at : (size g counter : ℕ) (cs new : List Chunk) (i chunk_id : ℕ) → AreChunks cs size counter → HoldsChunkId cs chunk_id i → IsReleasedAt cs i new → Released size g counter cs new chunk_id
+released_at size g counter cs new i chunk_id are h rel =
+    released size g counter cs h.front h.back h.chunk h.split are h.live chunk_id h.numbered new (rel h.front h.chunk h.back h.split h.index)
 
-pub none_live : (size g counter : ℕ) (cs : List Chunk) (number : ℕ) → ((k : ℕ) → HoldsNumber cs number k → ⊥) → SomeExtent (free_list_of size g counter cs) (λ x. x.number ≡ number) → ⊥
-none_live size g counter cs number none w =
+pub none_live : (size g counter : ℕ) (cs : List Chunk) (chunk_id : ℕ) → ((k : ℕ) → HoldsChunkId cs chunk_id k → ⊥) → SomeExtent (free_list_of size g counter cs) (λ x. x.chunk_id ≡ chunk_id) → ⊥
+none_live size g counter cs chunk_id none w =
     let m = member_of cs w.0 w.1 in
-    none (length m.front) (record { front = m.front; chunk = m.chunk; back = m.back; split = m.split; index = refl; live = m.live; numbered = ap (λ y. y.number) (sym m.same) ∙ w.2 })
+    none (length m.front) (record { front = m.front; chunk = m.chunk; back = m.back; split = m.split; index = refl; live = m.live; numbered = ap (λ y. y.chunk_id) (sym m.same) ∙ w.2 })

@@ -7,30 +7,30 @@ use Rattle.gpu_values.specs.declared.allocation_type.AllocationType.TheVariants.
 use Rattle.gpu_block_pieces.specs.FreeList.{Extent, FreeList}
 use Rattle.gpu_block_pieces.specs.Changes.{with_name, Renames}
 use Rattle.gpu_block_pieces.specs.Laws.{IsPageSeparated}
-use Rattle.gpu_block_pieces.specs.Chunks.{AreChunks, IsChunk, extent, extents_of, gaps_of, free_list_of, named_chunk, HoldsNumber, IsNamedAt}
+use Rattle.gpu_block_pieces.specs.Chunks.{AreChunks, IsChunk, extent, extents_of, gaps_of, free_list_of, named_chunk, HoldsChunkId, IsNamedAt}
 use Rattle.gpu_block_pieces.proofs.Edits.{Covers-like}
 use Rattle.gpu_block_pieces.proofs.Views.{free_or_live, extents-free, extents-live, extents-split, gaps-live, gaps-append, contains_chunk}
 use Rattle.gpu_block_pieces.proofs.Takings.{touching, touch_join, each_of}
-use Rattle.gpu_block_pieces.proofs.Numbers.{Not, one_at, distinct_less, same_number, same_distinct}
+use Rattle.gpu_block_pieces.proofs.Numbers.{Not, one_at, distinct_less, same_chunk_id, same_distinct}
 use Rattle.gpu_block_pieces.proofs.OrderedLists.{changed_mid}
 
-numbers_shown : (k : ℕ) (cs : List Chunk) → All (Not k) cs → All (λ (x : Extent). x.number ≢ k) (extents_of cs)
-numbers_shown k [] h = All-nil (λ (x : Extent). x.number ≢ k)
+numbers_shown : (k : ℕ) (cs : List Chunk) → All (Not k) cs → All (λ (x : Extent). x.chunk_id ≢ k) (extents_of cs)
+numbers_shown k [] h = All-nil (λ (x : Extent). x.chunk_id ≢ k)
 numbers_shown k (c ∷ cs) h =
     let rest = numbers_shown k cs (All-tail (Not k) c cs h) in
     elim (free_or_live c.kind) [
-      | inl f ↦ subst (λ (xs : List Extent). All (λ (x : Extent). x.number ≢ k) xs) (sym (extents-free c cs f)) rest
-      | inr l ↦ subst (λ (xs : List Extent). All (λ (x : Extent). x.number ≢ k) xs) (sym (extents-live c cs l))
-          (All-cons (λ (x : Extent). x.number ≢ k) (extent c) (extents_of cs) (All-head (Not k) c cs h) rest)
+      | inl f ↦ subst (λ (xs : List Extent). All (λ (x : Extent). x.chunk_id ≢ k) xs) (sym (extents-free c cs f)) rest
+      | inr l ↦ subst (λ (xs : List Extent). All (λ (x : Extent). x.chunk_id ≢ k) xs) (sym (extents-live c cs l))
+          (All-cons (λ (x : Extent). x.chunk_id ≢ k) (extent c) (extents_of cs) (All-head (Not k) c cs h) rest)
     ]
 
-pub record Renamed (size g counter : ℕ) (cs new : List Chunk) (number : ℕ) (text : List ℕ) : Type 0 where
+pub record Renamed (size g counter : ℕ) (cs new : List Chunk) (chunk_id : ℕ) (text : List ℕ) : Type 0 where
   pub are : AreChunks new size counter
-  pub renames : Renames (free_list_of size g counter cs) number text (free_list_of size g counter new)
+  pub renames : Renames (free_list_of size g counter cs) chunk_id text (free_list_of size g counter new)
 
-pub renamed : (size g counter : ℕ) (cs new : List Chunk) (i number : ℕ) (name : List ℕ) (text : List ℕ) → name ≡ text → AreChunks cs size counter → HoldsNumber cs number i → IsNamedAt cs i name new →
-    Renamed size g counter cs new number text
-renamed size g counter cs new i number name text et are h named =
+pub renamed : (size g counter : ℕ) (cs new : List Chunk) (i chunk_id : ℕ) (name : List ℕ) (text : List ℕ) → name ≡ text → AreChunks cs size counter → HoldsChunkId cs chunk_id i → IsNamedAt cs i name new →
+    Renamed size g counter cs new chunk_id text
+renamed size g counter cs new i chunk_id name text et are h named =
     let f = h.front in let c = h.chunk in let b = h.back in
     let d = named_chunk c name in
     let is = named f c b h.split h.index in
@@ -41,19 +41,19 @@ renamed size g counter cs new i number name text et are h named =
     let here : Extent → Extent = λ x. record x { name = text } in
     let old_list : extents_of cs ≡ extents_of f ++ extent c ∷ extents_of b = ap extents_of h.split ∙ extents-split f b c h.live in
     let new_list : extents_of new ≡ extents_of f ++ extent d ∷ extents_of b = ap extents_of is ∙ extents-split f b d h.live in
-    let mapped = changed_mid (λ (x : Extent). x.number) c.number here (extent c) (extents_of f) (extents_of b) refl (numbers_shown c.number f one.0) (numbers_shown c.number b one.1) in
+    let mapped = changed_mid (λ (x : Extent). x.chunk_id) c.chunk_id here (extent c) (extents_of f) (extents_of b) refl (numbers_shown c.chunk_id f one.0) (numbers_shown c.chunk_id b one.1) in
     record {
       are = subst (λ (xs : List Chunk). AreChunks xs size counter) (sym is) (record {
         covers = Covers-like f b c d 0 size refl refl parts.covers;
         none_touch = touch_join Linear f d b (record { before = t.before; at = t.at; after = t.after });
         each = All-append (IsChunk counter) f (d ∷ b) e.before
             (All-cons (IsChunk counter) d b (record { after = e.at.after; before = e.at.before; positive = e.at.positive; given = e.at.given }) e.after);
-        distinct = distinct_less f (c ∷ b) (d ∷ b) (same_number c d b refl) (same_distinct c d b refl) parts.distinct;
+        distinct = distinct_less f (c ∷ b) (d ∷ b) (same_chunk_id c d b refl) (same_distinct c d b refl) parts.distinct;
       });
       renames = record {
         held = (extent c, contains_chunk cs f b c h.split h.live, h.numbered);
         extents = new_list ∙ (ap (λ k. extents_of f ++ record (extent c) { name = k } ∷ extents_of b) et ∙
-            (sym mapped ∙ (ap (λ ys. map (with_name c.number text) ys) (sym old_list) ∙ ap (λ k. map (with_name k text) (extents_of cs)) h.numbered)));
+            (sym mapped ∙ (ap (λ ys. map (with_name c.chunk_id text) ys) (sym old_list) ∙ ap (λ k. map (with_name k text) (extents_of cs)) h.numbered)));
         same = (
           refl,
           refl,
@@ -78,11 +78,11 @@ shown_by : (xs : List Extent) (r : Bool) (text : List ℕ) (x : Extent) → Cont
 shown_by xs true text x h = record { from = x; held = h; kind = refl; start = refl; end = refl; offset = refl }
 shown_by xs false text x h = record { from = x; held = h; kind = refl; start = refl; end = refl; offset = refl }
 
-shown_of : (xs : List Extent) (number : ℕ) (text : List ℕ) (x : Extent) → Contains (map (with_name number text) xs) x → Shown xs x
-shown_of xs number text x h =
-    All-contains (Shown xs) (map (with_name number text) xs) x
-    (All-map (Shown xs) (with_name number text) xs
-    (All-weaker (Contains xs) (λ y. Shown xs (with_name number text y)) (λ y q. shown_by xs (eqb y.number number) text y q) xs (All-contains_itself xs))) h
+shown_of : (xs : List Extent) (chunk_id : ℕ) (text : List ℕ) (x : Extent) → Contains (map (with_name chunk_id text) xs) x → Shown xs x
+shown_of xs chunk_id text x h =
+    All-contains (Shown xs) (map (with_name chunk_id text) xs) x
+    (All-map (Shown xs) (with_name chunk_id text) xs
+    (All-weaker (Contains xs) (λ y. Shown xs (with_name chunk_id text y)) (λ y q. shown_by xs (eqb y.chunk_id chunk_id) text y q) xs (All-contains_itself xs))) h
 
 pub renames_separated : (old : FreeList) (n : ℕ) (text : List ℕ) (new : FreeList) → IsPageSeparated old → Renames old n text new → IsPageSeparated new
 renames_separated old n text new apart t = λ x y hx hy ne le.

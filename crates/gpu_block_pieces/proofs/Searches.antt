@@ -48,7 +48,7 @@ one_more_past gs w i g at fails before k o d lt fits = ⊎_elim
 pub counts_short : (gs : List Gap) (n i : ℕ) → i ≤ length gs → ((k : ℕ) (d : Gap) → k < i → (get_or gs k d).length < n) → count_by (is_long n) (take i gs) ≡ 0
 counts_short gs n zero le short = refl
 counts_short gs n (suc i) le short =
-    let d : Gap = record { length = 0; start = 0; number = 0; before = Free; after = Free } in
+    let d : Gap = record { length = 0; start = 0; chunk_id = 0; before = Free; after = Free } in
     let here = short i d (omega arith) in
     let off : is_long n (get_or gs i d) ≡ false = grind (arith, nat_tests) in
     let e = count_by_more_no (is_long n) gs i d (omega arith) off in

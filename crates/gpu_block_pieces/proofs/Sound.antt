@@ -29,10 +29,10 @@ pub record GapMember (cs : List Chunk) (p : ℕ × ℕ) : Type 0 where
   pub split : cs ≡ front ++ chunk ∷ back
   pub free : IsFree chunk.kind
   pub start : p.0 ≡ chunk.start
-  pub number : p.1 ≡ chunk.number
+  pub chunk_id : p.1 ≡ chunk.chunk_id
 
 GapMember-more : (c : Chunk) (cs : List Chunk) (p : ℕ × ℕ) → GapMember cs p → GapMember (c ∷ cs) p
-GapMember-more c cs p m = record { front = c ∷ m.front; chunk = m.chunk; back = m.back; split = ap (λ ys. c ∷ ys) m.split; free = m.free; start = m.start; number = m.number }
+GapMember-more c cs p m = record { front = c ∷ m.front; chunk = m.chunk; back = m.back; split = ap (λ ys. c ∷ ys) m.split; free = m.free; start = m.start; chunk_id = m.chunk_id }
 
 all_gap_members : (cs : List Chunk) → All (GapMember cs) (gaps_of cs)
 all_gap_members [] = All-nil (GapMember [])
@@ -40,7 +40,7 @@ all_gap_members (c ∷ cs) =
     let rest : All (GapMember (c ∷ cs)) (gaps_of cs) = All-weaker (GapMember cs) (GapMember (c ∷ cs)) (GapMember-more c cs) (gaps_of cs) (all_gap_members cs) in
     elim (free_or_live c.kind) [
       | inl f ↦ subst (λ (xs : List (ℕ × ℕ)). All (GapMember (c ∷ cs)) xs) (sym (gaps-free c cs f))
-          (All-cons (GapMember (c ∷ cs)) (c.start, c.number) (gaps_of cs) (record { front = []; chunk = c; back = cs; split = refl; free = f; start = refl; number = refl }) rest)
+          (All-cons (GapMember (c ∷ cs)) (c.start, c.chunk_id) (gaps_of cs) (record { front = []; chunk = c; back = cs; split = refl; free = f; start = refl; chunk_id = refl }) rest)
       | inr l ↦ subst (λ (xs : List (ℕ × ℕ)). All (GapMember (c ∷ cs)) xs) (sym (gaps-live c cs l)) rest
     ]
 
@@ -48,15 +48,15 @@ pub gap_member : (cs : List Chunk) (p : ℕ × ℕ) → Contains (gaps_of cs) p 
 gap_member cs p h = All-contains (GapMember cs) (gaps_of cs) p (all_gap_members cs) h
 
 -- two chunks of one number are one
-same_chunk : (cs front back f b : List Chunk) (c d : Chunk) → AreDistinct cs → cs ≡ front ++ c ∷ back → cs ≡ f ++ d ∷ b → c.number ≡ d.number → c ≡ d
+same_chunk : (cs front back f b : List Chunk) (c d : Chunk) → AreDistinct cs → cs ≡ front ++ c ∷ back → cs ≡ f ++ d ∷ b → c.chunk_id ≡ d.chunk_id → c ≡ d
 same_chunk cs front back f b c d h p q e =
     let one = one_at front back c (subst (λ (xs : List Chunk). AreDistinct xs) p h) in
     let in' : Contains (front ++ c ∷ back) d = subst (λ (xs : List Chunk). Contains xs d) (sym q ∙ p) (contains_mid f b d) in
     elim (Contains-append_cases front (c ∷ back) d in') [
-      | inl l ↦ absurd (All-contains (Not c.number) front d one.0 l (sym e))
+      | inl l ↦ absurd (All-contains (Not c.chunk_id) front d one.0 l (sym e))
       | inr r ↦ elim (Contains-append_cases (c ∷ []) back d r) [
         | inl here ↦ (let z : here.0 ≡ 0 = (let l = here.1 in omega arith) in subst (λ k. get_or (c ∷ []) k d ≡ d) z here.2)
-        | inr l ↦ absurd (All-contains (Not c.number) back d one.1 l (sym e))
+        | inr l ↦ absurd (All-contains (Not c.chunk_id) back d one.1 l (sym e))
       ]
     ]
 
@@ -79,8 +79,8 @@ sound_block cs size g counter are =
       one_number = λ x y hx hy e.
           let m = member_of cs x hx in
           let n = member_of cs y hy in
-          let ex : x.number ≡ m.chunk.number = ap (λ k. k.number) m.same in
-          let ey : y.number ≡ n.chunk.number = ap (λ k. k.number) n.same in
+          let ex : x.chunk_id ≡ m.chunk.chunk_id = ap (λ k. k.chunk_id) m.same in
+          let ey : y.chunk_id ≡ n.chunk.chunk_id = ap (λ k. k.chunk_id) n.same in
           m.same ∙ (ap extent (same_chunk cs m.front m.back n.front n.back m.chunk n.chunk are.distinct m.split n.split (sym ex ∙ (e ∙ ey))) ∙ sym n.same);
       one_gap = λ s k k' hk hk'.
           let m = gap_member cs (s, k) hk in
@@ -90,7 +90,7 @@ sound_block cs size g counter are =
           let np = (around n.front n.chunk n.back 0 size (subst (λ (xs : List Chunk). Covers xs 0 size) n.split are.covers)).nonempty in
           elim (order_in cs size m.front m.back n.front n.back m.chunk n.chunk are.covers m.split n.split) [
             | earlier l o ↦ absurd (omega arith)
-            | same u v ↦ m.number ∙ (ap (λ c. c.number) v ∙ sym n.number)
+            | same u v ↦ m.chunk_id ∙ (ap (λ c. c.chunk_id) v ∙ sym n.chunk_id)
             | later l o ↦ absurd (omega arith)
           ];
     }

@@ -12,7 +12,7 @@ use Rattle.gpu_block_pieces.specs.Chunks.{NotBothFree, NoneTouch, last_kind, Are
 use Rattle.gpu_block_pieces.proofs.Tiling.{Neighbours, around, Covers-le}
 use Rattle.gpu_block_pieces.proofs.Edits.{Covers-cut, Covers-like}
 use Rattle.gpu_block_pieces.proofs.Views.{free_or_live, extents-free, extents-live, gaps-free, gaps-live, extents-append, gaps-append, extents-split, contains_mid}
-use Rattle.gpu_block_pieces.proofs.Numbers.{distinct_cut, distinct_less, same_number, same_distinct}
+use Rattle.gpu_block_pieces.proofs.Numbers.{distinct_cut, distinct_less, same_chunk_id, same_distinct}
 use Rattle.gpu_block_chunks.proofs.Parts.{All-parts}
 use Rattle.gpu_block_pieces.proofs.OrderedLists.{placed-mid, kept_mid, changed_mid}
 
@@ -44,7 +44,7 @@ gaps_in (c ∷ cs) from to h =
     let pos : 0 < c.size = h.1 in
     let rest = All-weaker (GapIn (from + c.size) to) (GapIn from to) (λ x q. (omega arith, q.1)) (gaps_of cs) (gaps_in cs (from + c.size) to h.2) in
     elim (free_or_live c.kind) [
-      | inl f ↦ subst (λ (xs : List (ℕ × ℕ)). All (GapIn from to) xs) (sym (gaps-free c cs f)) (All-cons (GapIn from to) (c.start, c.number) (gaps_of cs) (omega arith, omega arith) rest)
+      | inl f ↦ subst (λ (xs : List (ℕ × ℕ)). All (GapIn from to) xs) (sym (gaps-free c cs f)) (All-cons (GapIn from to) (c.start, c.chunk_id) (gaps_of cs) (omega arith, omega arith) rest)
       | inr l ↦ subst (λ (xs : List (ℕ × ℕ)). All (GapIn from to) xs) (sym (gaps-live c cs l)) rest
     ]
 
@@ -119,7 +119,7 @@ module _ (size counter : ℕ) (front back : List Chunk) (c piece : Chunk) (are :
       let pos = take_around.nonempty in
       All-weaker (GapIn (c.start + c.size) size) (λ p. p.0 ≢ c.start) (λ p q. (let l = q.0 in λ e. absurd (omega arith))) (gaps_of back) (gaps_in back (c.start + c.size) size take_around.after)
 
-  pub old_gaps : gaps_of (front ++ c ∷ back) ≡ gaps_of front ++ (c.start, c.number) ∷ gaps_of back
+  pub old_gaps : gaps_of (front ++ c ∷ back) ≡ gaps_of front ++ (c.start, c.chunk_id) ∷ gaps_of back
   old_gaps = gaps-append front (c ∷ back) ∙ ap (λ ys. gaps_of front ++ ys) (gaps-free c back free)
 
   pub old_extents : extents_of (front ++ c ∷ back) ≡ extents_of front ++ extents_of back
@@ -131,7 +131,7 @@ module _ (size counter : ℕ) (front back : List Chunk) (c piece : Chunk) (are :
       ap (with_extent (extent piece)) old_extents ∙ placed-mid (λ y. y.start) (extent piece) (extents_of front) (extents_of back) (low_extents (extent piece) starts)
       (high_extents (extent piece) starts)
 
-  module _ (pos : 0 < piece.size) (shorter : piece.size < c.size) (chunk : IsChunk (counter + 1) piece) (numbered : piece.number ≡ counter) where
+  module _ (pos : 0 < piece.size) (shorter : piece.size < c.size) (chunk : IsChunk (counter + 1) piece) (numbered : piece.chunk_id ≡ counter) where
     pub rest_are : AreChunks (front ++ piece ∷ cut_chunk c piece.size ∷ back) size (counter + 1)
     rest_are =
         let t = touching Linear front c back are.none_touch in
@@ -154,15 +154,15 @@ module _ (size counter : ℕ) (front back : List Chunk) (c piece : Chunk) (are :
 
     pub rest_gaps : gaps_of (front ++ piece ∷ cut_chunk c piece.size ∷ back) ≡ moved_gap c.start (c.start + piece.size) (gaps_of (front ++ c ∷ back))
     rest_gaps =
-        let new : gaps_of (front ++ piece ∷ cut_chunk c piece.size ∷ back) ≡ gaps_of front ++ (c.start + piece.size, c.number) ∷ gaps_of back =
+        let new : gaps_of (front ++ piece ∷ cut_chunk c piece.size ∷ back) ≡ gaps_of front ++ (c.start + piece.size, c.chunk_id) ∷ gaps_of back =
         gaps-append front (piece ∷ cut_chunk c piece.size ∷ back) ∙ ap (λ ys. gaps_of front ++ ys)
         (gaps-live piece (cut_chunk c piece.size ∷ back) live ∙ gaps-free (cut_chunk c piece.size) back free) in
-        new ∙ sym (ap (moved_gap c.start (c.start + piece.size)) old_gaps ∙ changed_mid (λ p. p.0) c.start (λ p. (c.start + piece.size, p.1)) (c.start, c.number) (gaps_of front) (gaps_of back) refl
+        new ∙ sym (ap (moved_gap c.start (c.start + piece.size)) old_gaps ∙ changed_mid (λ p. p.0) c.start (λ p. (c.start + piece.size, p.1)) (c.start, c.chunk_id) (gaps_of front) (gaps_of back) refl
         low_gaps high_gaps)
 
   -- ---- a take of the whole chunk
 
-  module _ (same_size : piece.size ≡ c.size) (chunk : IsChunk counter piece) (numbered : piece.number ≡ c.number) where
+  module _ (same_size : piece.size ≡ c.size) (chunk : IsChunk counter piece) (numbered : piece.chunk_id ≡ c.chunk_id) where
     pub whole_are : AreChunks (front ++ piece ∷ back) size counter
     whole_are =
         let t = touching Linear front c back are.none_touch in
@@ -172,7 +172,7 @@ module _ (size counter : ℕ) (front back : List Chunk) (c piece : Chunk) (are :
           none_touch = touch_join Linear front piece back
               (record { before = t.before; at = live_after (last_kind Linear front) piece.kind live; after = after_live piece.kind back c.kind live t.after });
           each = All-append (IsChunk counter) front (piece ∷ back) e.before (All-cons (IsChunk counter) piece back chunk e.after);
-          distinct = distinct_less front (c ∷ back) (piece ∷ back) (same_number c piece back numbered) (same_distinct c piece back numbered) are.distinct;
+          distinct = distinct_less front (c ∷ back) (piece ∷ back) (same_chunk_id c piece back numbered) (same_distinct c piece back numbered) are.distinct;
         }
 
     pub whole_extents : extents_of (front ++ piece ∷ back) ≡ with_extent (extent piece) (extents_of (front ++ c ∷ back))
@@ -181,7 +181,7 @@ module _ (size counter : ℕ) (front back : List Chunk) (c piece : Chunk) (are :
     pub whole_gaps : gaps_of (front ++ piece ∷ back) ≡ without_gap c.start (gaps_of (front ++ c ∷ back))
     whole_gaps =
         let new : gaps_of (front ++ piece ∷ back) ≡ gaps_of front ++ gaps_of back = gaps-append front (piece ∷ back) ∙ ap (λ ys. gaps_of front ++ ys) (gaps-live piece back live) in
-        new ∙ sym (ap (without_gap c.start) old_gaps ∙ kept_mid (λ p. p.0) c.start (c.start, c.number) (gaps_of front) (gaps_of back) refl low_gaps high_gaps)
+        new ∙ sym (ap (without_gap c.start) old_gaps ∙ kept_mid (λ p. p.0) c.start (c.start, c.chunk_id) (gaps_of front) (gaps_of back) refl low_gaps high_gaps)
 
-    pub whole_number : Contains (gaps_of (front ++ c ∷ back)) (c.start, c.number)
-    whole_number = subst (λ (xs : List (ℕ × ℕ)). Contains xs (c.start, c.number)) (sym old_gaps) (contains_mid (gaps_of front) (gaps_of back) (c.start, c.number))
+    pub whole_number : Contains (gaps_of (front ++ c ∷ back)) (c.start, c.chunk_id)
+    whole_number = subst (λ (xs : List (ℕ × ℕ)). Contains xs (c.start, c.chunk_id)) (sym old_gaps) (contains_mid (gaps_of front) (gaps_of back) (c.start, c.chunk_id))

@@ -11,7 +11,7 @@ use Rattle.gpu_values.specs.declared.allocation_type.AllocationType.{AllocationT
 use Rattle.gpu_values.specs.declared.allocation_type.AllocationType.TheVariants.{Free, Linear}
 use Rattle.gpu_block_chunks.specs.ChunkList.{IsFree, Covers, AreDistinct, cut_chunk, filled_chunk}
 use Rattle.gpu_block_pieces.specs.Chunks.{NotBothFree, NoneTouch, last_kind, extents_of, extent}
-use Rattle.gpu_block_chunks.specs.Chain.{Name, HasNumber, HasNoNumber, AreNeighbours, IsLonger, IsSplit, IsFilled, front_piece, beside, last_beside, first_beside}
+use Rattle.gpu_block_chunks.specs.Chain.{Name, HasChunkId, HasNoChunkId, AreNeighbours, IsLonger, IsSplit, IsFilled, front_piece, beside, last_beside, first_beside}
 use Rattle.gpu_block_gaps.specs.Index.{Before, HasKeyAt, HasNoKey, IsRemoved, IsInserted}
 use Rattle.gpu_block_pieces.specs.Indexed.{gap_between, kind_or, gaps_between, HasSame, IsListed, IsGapOf, beside_kind}
 use Rattle.gpu_block_pieces.proofs.Views.{extents-free, extents-append, extents-split}
@@ -33,13 +33,13 @@ first_beside_kind [] = refl
 first_beside_kind (x ∷ xs) = refl
 
 pub gap_here : (cs front back : List Chunk) (c : Chunk) (k : ℕ) (a : Neighbours) (before after : AllocationType) → AreDistinct cs → AreNeighbours cs k a → before ≡ beside_kind a.before → after ≡ beside_kind
-    a.after → cs ≡ front ++ c ∷ back → c.number ≡ k
-    → record { length = a.here.size; start = a.here.start; number = a.here.number; before = before; after = after } ≡ gap_between (last_kind Free front) c (kind_or back Free)
+    a.after → cs ≡ front ++ c ∷ back → c.chunk_id ≡ k
+    → record { length = a.here.size; start = a.here.start; chunk_id = a.here.chunk_id; before = before; after = after } ≡ gap_between (last_kind Free front) c (kind_or back Free)
 gap_here cs front back c k a before after w m eb ea p n =
     let s = stands_once cs front back c m.chunk k w m.at p n in
     let b : before ≡ last_kind Free front = eb ∙ ap beside_kind m.before ∙ last_beside_kind None m.at.front ∙ ap (last_kind Free) (sym s.fronts) in
     let f : after ≡ kind_or back Free = ea ∙ ap beside_kind m.after ∙ first_beside_kind m.at.back ∙ ap (λ (xs : List Chunk). kind_or xs Free) (sym s.backs) in
-    ap (λ (h : Neighbour). record { length = h.size; start = h.start; number = h.number; before = before; after = after }) m.here
+    ap (λ (h : Neighbour). record { length = h.size; start = h.start; chunk_id = h.chunk_id; before = before; after = after }) m.here
     ∙ ap (λ (x : AllocationType). gap_between x m.chunk after) b
     ∙ ap (λ (x : AllocationType). gap_between (last_kind Free front) m.chunk x) f
     ∙ ap (λ (x : Chunk). gap_between (last_kind Free front) x (kind_or back Free)) (sym s.chunks)
@@ -50,16 +50,16 @@ piece_kind k h f = h (free_is k f)
 -- ---- a gap that is in the index
 
 module _ (cs : List Chunk) (gs : List Gap) (g : Gap) (listed : IsListed cs gs) (m : IsGapOf cs g) where
-  pub gap_number : m.chunk.number ≡ g.number
-  gap_number = ap (λ (x : Gap). x.number) (sym m.is)
+  pub gap_chunk_id : m.chunk.chunk_id ≡ g.chunk_id
+  gap_chunk_id = ap (λ (x : Gap). x.chunk_id) (sym m.is)
 
-  pub gap_has : HasNumber cs g.number
-  gap_has = (m.chunk, record { front = m.front; back = m.back; split = m.split; numbered = gap_number })
+  pub gap_has : HasChunkId cs g.chunk_id
+  gap_has = (m.chunk, record { front = m.front; back = m.back; split = m.split; numbered = gap_chunk_id })
 
-  pub gap_longer : (taken : ℕ) → taken < g.length → IsLonger cs g.number taken
+  pub gap_longer : (taken : ℕ) → taken < g.length → IsLonger cs g.chunk_id taken
   gap_longer taken lt =
       let e : g.length ≡ m.chunk.size = ap (λ (x : Gap). x.length) m.is in
-      record { chunk = m.chunk; at = record { front = m.front; back = m.back; split = m.split; numbered = gap_number }; longer = omega arith }
+      record { chunk = m.chunk; at = record { front = m.front; back = m.back; split = m.split; numbered = gap_chunk_id }; longer = omega arith }
 
   pub gap_held : Contains gs g
   gap_held =
@@ -99,26 +99,26 @@ module _ (cs : List Chunk) (gs : List Gap) (g : Gap) (listed : IsListed cs gs) (
 
   -- ---- its front is taken
 
-  module _ (ds : List Chunk) (taken number offset : ℕ) (kind : AllocationType) (name : Name) (distinct : AreDistinct cs) (live : kind ≡ Free → ⊥)
-      (split : IsSplit cs g.number taken number offset kind name ds) where
+  module _ (ds : List Chunk) (taken chunk_id offset : ℕ) (kind : AllocationType) (name : Name) (distinct : AreDistinct cs) (live : kind ≡ Free → ⊥)
+      (split : IsSplit cs g.chunk_id taken chunk_id offset kind name ds) where
     abbrev piece : Chunk
-    piece = front_piece m.chunk taken offset kind number name
+    piece = front_piece m.chunk taken offset kind chunk_id name
 
     abbrev rest : Chunk
     rest = cut_chunk m.chunk taken
 
     abbrev rest_gap : Gap
-    rest_gap = record { length = g.length - taken; start = g.start + taken; number = g.number; before = kind; after = g.after }
+    rest_gap = record { length = g.length - taken; start = g.start + taken; chunk_id = g.chunk_id; before = kind; after = g.after }
 
     front_is : ds ≡ m.front ++ piece ∷ rest ∷ m.back
     front_is =
-        let s = stands_once cs m.front m.back m.chunk split.chunk g.number distinct split.at m.split gap_number in
-        split.is ∙ (ap (λ (xs : List Chunk). xs ++ front_piece split.chunk taken offset kind number name ∷ cut_chunk split.chunk taken ∷ split.at.back) (sym s.fronts)
-        ∙ (ap (λ (x : Chunk). m.front ++ front_piece x taken offset kind number name ∷ cut_chunk x taken ∷ split.at.back) (sym s.chunks)
+        let s = stands_once cs m.front m.back m.chunk split.chunk g.chunk_id distinct split.at m.split gap_chunk_id in
+        split.is ∙ (ap (λ (xs : List Chunk). xs ++ front_piece split.chunk taken offset kind chunk_id name ∷ cut_chunk split.chunk taken ∷ split.at.back) (sym s.fronts)
+        ∙ (ap (λ (x : Chunk). m.front ++ front_piece x taken offset kind chunk_id name ∷ cut_chunk x taken ∷ split.at.back) (sym s.chunks)
         ∙ ap (λ (xs : List Chunk). m.front ++ piece ∷ rest ∷ xs) (sym s.backs)))
 
     rest_is : gap_between kind rest (kind_or m.back Free) ≡ rest_gap
-    rest_is = ap (λ (x : Gap). record { length = x.length - taken; start = x.start + taken; number = x.number; before = kind; after = x.after }) (sym m.is)
+    rest_is = ap (λ (x : Gap). record { length = x.length - taken; start = x.start + taken; chunk_id = x.chunk_id; before = kind; after = x.after }) (sym m.is)
 
     front_gaps : gaps_between Free ds Free ≡ low ++ rest_gap ∷ high
     front_gaps =
@@ -156,13 +156,13 @@ module _ (cs : List Chunk) (gs : List Gap) (g : Gap) (listed : IsListed cs gs) (
 
   -- ---- the whole of it is taken
 
-  module _ (ds : List Chunk) (offset : ℕ) (kind : AllocationType) (name : Name) (distinct : AreDistinct cs) (live : kind ≡ Free → ⊥) (filled : IsFilled cs g.number offset kind name ds) where
+  module _ (ds : List Chunk) (offset : ℕ) (kind : AllocationType) (name : Name) (distinct : AreDistinct cs) (live : kind ≡ Free → ⊥) (filled : IsFilled cs g.chunk_id offset kind name ds) where
     abbrev whole : Chunk
     whole = filled_chunk m.chunk offset kind name
 
     whole_is : ds ≡ m.front ++ whole ∷ m.back
     whole_is =
-        let s = stands_once cs m.front m.back m.chunk filled.chunk g.number distinct filled.at m.split gap_number in
+        let s = stands_once cs m.front m.back m.chunk filled.chunk g.chunk_id distinct filled.at m.split gap_chunk_id in
         filled.is ∙ (ap (λ (xs : List Chunk). xs ++ filled_chunk filled.chunk offset kind name ∷ filled.at.back) (sym s.fronts)
         ∙ (ap (λ (x : Chunk). m.front ++ filled_chunk x offset kind name ∷ filled.at.back) (sym s.chunks)
         ∙ ap (λ (xs : List Chunk). m.front ++ whole ∷ xs) (sym s.backs)))
@@ -194,8 +194,8 @@ module _ (cs : List Chunk) (gs : List Gap) (g : Gap) (listed : IsListed cs gs) (
 
 -- ---- a number that no chunk has
 
-pub none_stands : (cs : List Chunk) (k : ℕ) → HasNoNumber cs k → HasNumber cs k → ⊥
+pub none_stands : (cs : List Chunk) (k : ℕ) → HasNoChunkId cs k → HasChunkId cs k → ⊥
 none_stands cs k none has =
     let s = has.1 in
-    let all = All-parts (λ (c : Chunk). c.number ≢ k) s.front (has.0 ∷ s.back) (subst (λ (xs : List Chunk). HasNoNumber xs k) s.split none) in
-    All-head (λ (c : Chunk). c.number ≢ k) has.0 s.back all.1 s.numbered
+    let all = All-parts (λ (c : Chunk). c.chunk_id ≢ k) s.front (has.0 ∷ s.back) (subst (λ (xs : List Chunk). HasNoChunkId xs k) s.split none) in
+    All-head (λ (c : Chunk). c.chunk_id ≢ k) has.0 s.back all.1 s.numbered

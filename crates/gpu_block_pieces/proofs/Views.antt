@@ -27,7 +27,7 @@ extent_by-live Free c h = absurd (h tt)
 extent_by-live Linear c h = refl
 extent_by-live NonLinear c h = refl
 
-gap_by-free : (k : AllocationType) (c : Chunk) → IsFree k → gap_by k c ≡ Some (c.start, c.number)
+gap_by-free : (k : AllocationType) (c : Chunk) → IsFree k → gap_by k c ≡ Some (c.start, c.chunk_id)
 gap_by-free Free c h = refl
 gap_by-free Linear c h = absurd h
 gap_by-free NonLinear c h = absurd h
@@ -43,7 +43,7 @@ extents-free c cs h = ap (λ o. cons_option o (extents_of cs)) (extent_by-free c
 pub extents-live : (c : Chunk) (cs : List Chunk) → (IsFree c.kind → ⊥) → extents_of (c ∷ cs) ≡ extent c ∷ extents_of cs
 extents-live c cs h = ap (λ o. cons_option o (extents_of cs)) (extent_by-live c.kind c h)
 
-pub gaps-free : (c : Chunk) (cs : List Chunk) → IsFree c.kind → gaps_of (c ∷ cs) ≡ (c.start, c.number) ∷ gaps_of cs
+pub gaps-free : (c : Chunk) (cs : List Chunk) → IsFree c.kind → gaps_of (c ∷ cs) ≡ (c.start, c.chunk_id) ∷ gaps_of cs
 gaps-free c cs h = ap (λ o. cons_option o (gaps_of cs)) (gap_by-free c.kind c h)
 
 pub gaps-live : (c : Chunk) (cs : List Chunk) → (IsFree c.kind → ⊥) → gaps_of (c ∷ cs) ≡ gaps_of cs

@@ -5,7 +5,7 @@ use Rattle.std.specs.declared.num.NonZeroU64.{NonZeroU64}
 use Rattle.gpu_values.specs.declared.error.AllocationError.{AllocationError}
 use Rattle.gpu_values.specs.declared.error.AllocationError.TheVariants as errors
 use Rattle.gpu_values.specs.Refusal.{Refusal, internal, host_out_of_memory}
-use Rattle.gpu_block_pieces.specs.FreeList.{FreeList, SomeExtent, has_gap_number}
+use Rattle.gpu_block_pieces.specs.FreeList.{FreeList, SomeExtent, has_gap_chunk_id}
 use Rattle.gpu_block_pieces.specs.Request.{Request}
 use Rattle.gpu_block_pieces.specs.Place.{HasNoPlace}
 
@@ -31,11 +31,11 @@ release_refusal (Some _) = internal (codes "Attempting to free chunk that is not
 -- why no piece of that number is renamed: a gap has it, or nothing has it
 abbrev pub rename_fault : FreeList → ℕ → Refusal
 rename_fault b n =
-    internal (if has_gap_number b n then codes "Attempting to rename a freed allocation." else codes "Attempting to rename chunk that is not in chunk list.") None
+    internal (if has_gap_chunk_id b n then codes "Attempting to rename a freed allocation." else codes "Attempting to rename chunk that is not in chunk list.") None
 
 -- why a new name is refused: the number is missing, or it is no live piece's, or it is one's and the host's memory was refused
 abbrev pub IsRenameRefusal : FreeList → Option NonZeroU64 → Refusal → Type 0
 IsRenameRefusal b None refusal = refusal ≡ internal (codes "Chunk ID must be a valid value.") None
 IsRenameRefusal b (Some n) refusal =
-    ((SomeExtent b (λ x. x.number ≡ non_zero_u64_get n) → ⊥) × (refusal ≡ rename_fault b (non_zero_u64_get n)))
-    ⊎ (SomeExtent b (λ x. x.number ≡ non_zero_u64_get n) × (refusal ≡ host_out_of_memory))
+    ((SomeExtent b (λ x. x.chunk_id ≡ non_zero_u64_get n) → ⊥) × (refusal ≡ rename_fault b (non_zero_u64_get n)))
+    ⊎ (SomeExtent b (λ x. x.chunk_id ≡ non_zero_u64_get n) × (refusal ≡ host_out_of_memory))

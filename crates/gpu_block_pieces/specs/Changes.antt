@@ -17,7 +17,7 @@ without_extent start xs = filter (λ y. not (y.start == start)) xs
 
 -- the numbers of the gaps with one more gap, with one less, and with one that begins elsewhere
 abbrev pub with_gap : ℕ → ℕ → List (ℕ × ℕ) → List (ℕ × ℕ)
-with_gap start number gaps = placed (λ g. g.0) (start, number) gaps
+with_gap start chunk_id gaps = placed (λ g. g.0) (start, chunk_id) gaps
 
 abbrev pub without_gap : ℕ → List (ℕ × ℕ) → List (ℕ × ℕ)
 without_gap start gaps = filter (λ g. not (g.0 == start)) gaps
@@ -26,31 +26,31 @@ abbrev pub moved_gap : ℕ → ℕ → List (ℕ × ℕ) → List (ℕ × ℕ)
 moved_gap start to gaps = map (λ g. if g.0 == start then (to, g.1) else g) gaps
 
 -- the request took [start, offset + size) of the best gap: with a rest, the piece has a new number and the rest keeps the gap's
-pub record Takes (old : FreeList) (r : Request) (offset number : ℕ) (new : FreeList) : Type 0 where
+pub record Takes (old : FreeList) (r : Request) (offset chunk_id : ℕ) (new : FreeList) : Type 0 where
   pub start : ℕ
   pub end : ℕ
   pub chosen : IsBestFit old r start end offset
-  pub extent : let x : Extent = record { start = start; offset = offset; end = offset + r.size; kind = r.kind; number = number; name = r.name } in new.extents ≡ with_extent x old.extents
-  pub rest : offset + r.size < end → (number ≡ old.counter) × (new.counter ≡ old.counter + 1) × (new.gap_numbers ≡ moved_gap start (offset + r.size) old.gap_numbers) × (old.counter < 2 ^ 64 - 1)
-  pub no_rest : offset + r.size ≡ end → Contains old.gap_numbers (start, number) × (new.counter ≡ old.counter) × (new.gap_numbers ≡ without_gap start old.gap_numbers)
+  pub extent : let x : Extent = record { start = start; offset = offset; end = offset + r.size; kind = r.kind; chunk_id = chunk_id; name = r.name } in new.extents ≡ with_extent x old.extents
+  pub rest : offset + r.size < end → (chunk_id ≡ old.counter) × (new.counter ≡ old.counter + 1) × (new.gap_chunk_ids ≡ moved_gap start (offset + r.size) old.gap_chunk_ids) × (old.counter < 2 ^ 64 - 1)
+  pub no_rest : offset + r.size ≡ end → Contains old.gap_chunk_ids (start, chunk_id) × (new.counter ≡ old.counter) × (new.gap_chunk_ids ≡ without_gap start old.gap_chunk_ids)
   pub same : (new.size ≡ old.size) × (new.granularity ≡ old.granularity)
 
 -- the extent of that number went, and its place joined the gaps on both sides: the number stays that of a gap which ended at its start, and else is the extent's
-pub record Releases (old : FreeList) (number : ℕ) (new : FreeList) : Type 0 where
+pub record Releases (old : FreeList) (chunk_id : ℕ) (new : FreeList) : Type 0 where
   pub gone : Extent
   pub held : Contains old.extents gone
-  pub numbered : gone.number ≡ number
+  pub numbered : gone.chunk_id ≡ chunk_id
   pub extents : new.extents ≡ without_extent gone.start old.extents
-  pub numbers : ((s : ℕ) × IsGap old s gone.start × (new.gap_numbers ≡ without_gap gone.end old.gap_numbers)) ⊎
-      (((s : ℕ) → IsGap old s gone.start → ⊥) × (new.gap_numbers ≡ with_gap gone.start number (without_gap gone.end old.gap_numbers)))
+  pub numbers : ((s : ℕ) × IsGap old s gone.start × (new.gap_chunk_ids ≡ without_gap gone.end old.gap_chunk_ids)) ⊎
+      (((s : ℕ) → IsGap old s gone.start → ⊥) × (new.gap_chunk_ids ≡ with_gap gone.start chunk_id (without_gap gone.end old.gap_chunk_ids)))
   pub same : (new.size ≡ old.size) × (new.granularity ≡ old.granularity) × (new.counter ≡ old.counter)
 
 -- the extent with the name, if it has the number
 abbrev pub with_name : ℕ → List ℕ → Extent → Extent
-with_name number name x = if x.number == number then record x { name = name } else x
+with_name chunk_id name x = if x.chunk_id == chunk_id then record x { name = name } else x
 
 -- the extent of that number has another name
-pub record Renames (old : FreeList) (number : ℕ) (name : List ℕ) (new : FreeList) : Type 0 where
-  pub held : SomeExtent old (λ x. x.number ≡ number)
-  pub extents : new.extents ≡ map (with_name number name) old.extents
-  pub same : (new.size ≡ old.size) × (new.granularity ≡ old.granularity) × (new.counter ≡ old.counter) × (new.gap_numbers ≡ old.gap_numbers)
+pub record Renames (old : FreeList) (chunk_id : ℕ) (name : List ℕ) (new : FreeList) : Type 0 where
+  pub held : SomeExtent old (λ x. x.chunk_id ≡ chunk_id)
+  pub extents : new.extents ≡ map (with_name chunk_id name) old.extents
+  pub same : (new.size ≡ old.size) × (new.granularity ≡ old.granularity) × (new.counter ≡ old.counter) × (new.gap_chunk_ids ≡ old.gap_chunk_ids)

@@ -10,7 +10,7 @@ use Rattle.gpu_block_pieces.specs.FreeList.{Extent, FreeList}
 use Rattle.gpu_block_pieces.specs.Place.{FitsBetween}
 
 abbrev pub extent : Chunk → Extent
-extent c = record { start = c.start; offset = c.offset; end = c.start + c.size; kind = c.kind; number = c.number; name = c.name }
+extent c = record { start = c.start; offset = c.offset; end = c.start + c.size; kind = c.kind; chunk_id = c.chunk_id; name = c.name }
 
 abbrev pub extent_by : AllocationType → Chunk → Option Extent
 extent_by Free c = None
@@ -18,7 +18,7 @@ extent_by Linear c = Some (extent c)
 extent_by NonLinear c = Some (extent c)
 
 abbrev pub gap_by : AllocationType → Chunk → Option (ℕ × ℕ)
-gap_by Free c = Some (c.start, c.number)
+gap_by Free c = Some (c.start, c.chunk_id)
 gap_by Linear c = None
 gap_by NonLinear c = None
 
@@ -29,7 +29,7 @@ abbrev pub gaps_of : List Chunk → List (ℕ × ℕ)
 gaps_of cs = filter_map (λ c. gap_by c.kind c) cs
 
 abbrev pub free_list_of : ℕ → ℕ → ℕ → List Chunk → FreeList
-free_list_of size granularity counter cs = record { size = size; granularity = granularity; counter = counter; extents = extents_of cs; gap_numbers = gaps_of cs }
+free_list_of size granularity counter cs = record { size = size; granularity = granularity; counter = counter; extents = extents_of cs; gap_chunk_ids = gaps_of cs }
 
 abbrev pub NotBothFree : AllocationType → AllocationType → Type 0
 NotBothFree Free Free = ⊥
@@ -47,14 +47,14 @@ NoneTouch before (c ∷ cs) = NotBothFree before c.kind × NoneTouch c.kind cs
 pub record IsChunk (counter : ℕ) (c : Chunk) : Type 0 where
   pub after : c.start ≤ c.offset
   pub before : c.offset < c.start + c.size
-  pub positive : 0 < c.number
-  pub given : c.number < counter
+  pub positive : 0 < c.chunk_id
+  pub given : c.chunk_id < counter
 
 -- the chunk is a whole block of that size, and its piece
 pub record IsWholeChunk (size : ℕ) (c : Chunk) : Type 0 where
   pub starts : (c.start ≡ 0) × (c.offset ≡ 0)
   pub whole : c.size ≡ size
-  pub first : c.number ≡ 1
+  pub first : c.chunk_id ≡ 1
   pub live : IsFree c.kind → ⊥
 
 pub record AreChunks (cs : List Chunk) (size counter : ℕ) : Type 0 where
@@ -121,21 +121,21 @@ IsLaidOut cs = (size : ℕ) × (size < 2 ^ 64) × Covers cs 0 size
 
 -- the chunk is a gap with that number
 abbrev pub is_gap_by : AllocationType → ℕ → Chunk → Bool
-is_gap_by Free number c = c.number == number
-is_gap_by Linear number c = false
-is_gap_by NonLinear number c = false
+is_gap_by Free chunk_id c = c.chunk_id == chunk_id
+is_gap_by Linear chunk_id c = false
+is_gap_by NonLinear chunk_id c = false
 
 -- ---- the changes
 
 -- the i-th chunk is the piece with that number
-pub record HoldsNumber (cs : List Chunk) (number i : ℕ) : Type 0 where
+pub record HoldsChunkId (cs : List Chunk) (chunk_id i : ℕ) : Type 0 where
   pub front : List Chunk
   pub chunk : Chunk
   pub back : List Chunk
   pub split : cs ≡ front ++ chunk ∷ back
   pub index : length front ≡ i
   pub live : IsFree chunk.kind → ⊥
-  pub numbered : chunk.number ≡ number
+  pub numbered : chunk.chunk_id ≡ chunk_id
 
 abbrev pub named_chunk : Chunk → List ℕ → Chunk
 named_chunk c name = record c { name = name }
@@ -150,13 +150,13 @@ IsReleasedAt old i new =
     new ≡ join_front front (join_back (filled_chunk c c.start Free []) back)
 
 abbrev pub piece_of : Chunk → FoundAt → Wanted → ℕ → List ℕ → Chunk
-piece_of c f w number name = record { start = c.start; size = f.offset + w.size - c.start; offset = f.offset; kind = w.kind; number = number; name = name }
+piece_of c f w chunk_id name = record { start = c.start; size = f.offset + w.size - c.start; offset = f.offset; kind = w.kind; chunk_id = chunk_id; name = name }
 
 -- the chunk c between front and back was given to the piece, or its front was
-pub record TakenFrom (front : List Chunk) (c : Chunk) (back : List Chunk) (f : FoundAt) (w : Wanted) (counter : ℕ) (name : List ℕ) (number : ℕ) (new : List Chunk) : Type 0 where
-  pub rest : f.offset + w.size < c.start + c.size → (number ≡ counter) × (new ≡ front ++ piece_of c f w counter name ∷ cut_chunk c (f.offset + w.size - c.start) ∷ back)
-  pub whole : c.start + c.size ≤ f.offset + w.size → (number ≡ c.number) × (new ≡ front ++ filled_chunk c f.offset w.kind name ∷ back)
+pub record TakenFrom (front : List Chunk) (c : Chunk) (back : List Chunk) (f : FoundAt) (w : Wanted) (counter : ℕ) (name : List ℕ) (chunk_id : ℕ) (new : List Chunk) : Type 0 where
+  pub rest : f.offset + w.size < c.start + c.size → (chunk_id ≡ counter) × (new ≡ front ++ piece_of c f w counter name ∷ cut_chunk c (f.offset + w.size - c.start) ∷ back)
+  pub whole : c.start + c.size ≤ f.offset + w.size → (chunk_id ≡ c.chunk_id) × (new ≡ front ++ filled_chunk c f.offset w.kind name ∷ back)
 
 abbrev pub IsTaken : List Chunk → FoundAt → Wanted → ℕ → List ℕ → ℕ → List Chunk → Type 0
-IsTaken old f w counter name number new =
-    (front : List Chunk) (c : Chunk) (back : List Chunk) → old ≡ front ++ c ∷ back → length front ≡ f.index → TakenFrom front c back f w counter name number new
+IsTaken old f w counter name chunk_id new =
+    (front : List Chunk) (c : Chunk) (back : List Chunk) → old ≡ front ++ c ∷ back → length front ≡ f.index → TakenFrom front c back f w counter name chunk_id new

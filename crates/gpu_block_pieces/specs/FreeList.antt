@@ -10,7 +10,7 @@ pub record Extent : Type 0 where
   pub offset : ℕ
   pub end : ℕ
   pub kind : AllocationType
-  pub number : ℕ
+  pub chunk_id : ℕ
   pub name : List ℕ
 
 -- the extents stand in the order of their starts; `gap_numbers` has each gap's start and its number, in the same order
@@ -19,7 +19,7 @@ pub record FreeList : Type 0 where
   pub granularity : ℕ
   pub counter : ℕ
   pub extents : List Extent
-  pub gap_numbers : List (ℕ × ℕ)
+  pub gap_chunk_ids : List (ℕ × ℕ)
 
 -- a block, and what its searches cost so far
 pub record Counted : Type 0 where
@@ -29,7 +29,7 @@ pub record Counted : Type 0 where
 -- a block without pieces is one gap, with number 1
 abbrev pub fresh_free_list : ℕ → ℕ → ℕ → FreeList
 fresh_free_list size granularity counter =
-    record { size = size; granularity = granularity; counter = counter; extents = []; gap_numbers = (0, 1) ∷ [] }
+    record { size = size; granularity = granularity; counter = counter; extents = []; gap_chunk_ids = (0, 1) ∷ [] }
 
 abbrev pub SomeExtent : FreeList → (Extent → Type 0) → Type 0
 SomeExtent b P = (x : Extent) × Contains b.extents x × P x
@@ -52,10 +52,10 @@ abbrev pub extent_bytes : List Extent → ℕ
 extent_bytes xs = sum_by (λ x. x.end - x.start) xs
 
 -- a gap has the number
-abbrev pub has_gap_number : FreeList → ℕ → Bool
-has_gap_number b n = list_any (λ g. g.1 == n) b.gap_numbers
+abbrev pub has_gap_chunk_id : FreeList → ℕ → Bool
+has_gap_chunk_id b n = list_any (λ g. g.1 == n) b.gap_chunk_ids
 
 -- the offset and the size of the piece of that number among the extents, if there is one
 abbrev pub FindsPlace : List Extent → ℕ → Option (ℕ × ℕ) → Type 0
-FindsPlace xs number None = (x : Extent) → Contains xs x → x.number ≡ number → ⊥
-FindsPlace xs number (Some p) = (x : Extent) × Contains xs x × (x.number ≡ number) × (x.offset ≡ p.0) × (x.end ≡ p.0 + p.1)
+FindsPlace xs chunk_id None = (x : Extent) → Contains xs x → x.chunk_id ≡ chunk_id → ⊥
+FindsPlace xs chunk_id (Some p) = (x : Extent) × Contains xs x × (x.chunk_id ≡ chunk_id) × (x.offset ≡ p.0) × (x.end ≡ p.0 + p.1)

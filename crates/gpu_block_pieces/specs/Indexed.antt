@@ -19,7 +19,7 @@ use Rattle.gpu_block_gaps.specs.Index.{IsRemoved, IsInserted, HasKeyAt}
 
 -- the entry of a free chunk that stands between these kinds
 abbrev pub gap_between : AllocationType → Chunk → AllocationType → Gap
-gap_between before c after = record { length = c.size; start = c.start; number = c.number; before = before; after = after }
+gap_between before c after = record { length = c.size; start = c.start; chunk_id = c.chunk_id; before = before; after = after }
 
 -- the kind of the first chunk, or else what follows the list
 abbrev pub kind_or : List Chunk → AllocationType → AllocationType
@@ -154,23 +154,23 @@ beside_kind (Some b) = b.kind
 
 -- the number of the gap that a chunk becomes: that of the gap before it, if there is one
 abbrev pub first_by : AllocationType → ℕ → ℕ → ℕ
-first_by Free before number = before
-first_by Linear before number = number
-first_by NonLinear before number = number
+first_by Free before chunk_id = before
+first_by Linear before chunk_id = chunk_id
+first_by NonLinear before chunk_id = chunk_id
 
 abbrev pub first_of : Option Neighbour → ℕ → ℕ
-first_of None number = number
-first_of (Some b) number = first_by b.kind b.number number
+first_of None chunk_id = chunk_id
+first_of (Some b) chunk_id = first_by b.kind b.chunk_id chunk_id
 
 -- the chunk is a piece, and stands so in the list
 pub record IsPieceAt (cs : List Chunk) (a : Neighbours) : Type 0 where
-  pub around : AreNeighbours cs (a.here).number a
+  pub around : AreNeighbours cs (a.here).chunk_id a
   pub live : IsFree (a.here).kind → ⊥
 
 -- the piece of that number has that offset and kind
-pub record IsPieceOf (cs : List Chunk) (number offset : ℕ) (kind : AllocationType) : Type 0 where
+pub record IsPieceOf (cs : List Chunk) (chunk_id offset : ℕ) (kind : AllocationType) : Type 0 where
   pub chunk : Chunk
-  pub at : StandsAt cs number chunk
+  pub at : StandsAt cs chunk_id chunk
   pub live : IsFree chunk.kind → ⊥
   pub offset_is : offset ≡ chunk.offset
   pub kind_is : kind ≡ chunk.kind

@@ -11,16 +11,16 @@ use Rattle.gpu_block_pieces.specs.Place.{page}
 pub record IsSound (b : FreeList) : Type 0 where
   pub within : All (λ x. (x.start ≤ x.offset) × (x.offset < x.end) × (x.end ≤ b.size)) b.extents
   pub apart : (x y : Extent) → Contains b.extents x → Contains b.extents y → (x ≡ y) ⊎ ((x.end ≤ y.start) ⊎ (y.end ≤ x.start))
-  pub one_number : (x y : Extent) → Contains b.extents x → Contains b.extents y → x.number ≡ y.number → x ≡ y
-  pub one_gap : (s k k' : ℕ) → Contains b.gap_numbers (s, k) → Contains b.gap_numbers (s, k') → k ≡ k'
+  pub one_number : (x y : Extent) → Contains b.extents x → Contains b.extents y → x.chunk_id ≡ y.chunk_id → x ≡ y
+  pub one_gap : (s k k' : ℕ) → Contains b.gap_chunk_ids (s, k) → Contains b.gap_chunk_ids (s, k') → k ≡ k'
 
 -- the lists stand in order of start: an extent ends before the next one begins, and the numbered gaps are all gaps and no more; there is at most one more of them than there are live pieces
 pub record ListOrder (b : FreeList) : Type 0 where
   pub extents : AllPairs (λ x y. x.end ≤ y.start) b.extents
-  pub gaps : AllPairs (λ g h. g.0 < h.0) b.gap_numbers
-  pub each_gap : (s e : ℕ) → IsGap b s e → (k : ℕ) × Contains b.gap_numbers (s, k)
-  pub only_gaps : (s k : ℕ) → Contains b.gap_numbers (s, k) → (e : ℕ) × IsGap b s e
-  pub count : length b.gap_numbers ≤ length b.extents + 1
+  pub gaps : AllPairs (λ g h. g.0 < h.0) b.gap_chunk_ids
+  pub each_gap : (s e : ℕ) → IsGap b s e → (k : ℕ) × Contains b.gap_chunk_ids (s, k)
+  pub only_gaps : (s k : ℕ) → Contains b.gap_chunk_ids (s, k) → (e : ℕ) × IsGap b s e
+  pub count : length b.gap_chunk_ids ≤ length b.extents + 1
 
 unfoldable pub IsInOrder : FreeList → Type 0
 IsInOrder b = ListOrder b
@@ -35,18 +35,18 @@ abbrev pub IsLongEnough : FreeList → Request → ℕ → ℕ → Type 0
 IsLongEnough b r start end = r.size + max r.alignment b.granularity + b.granularity ≤ (end - start) + 2
 
 -- a refusal where a gap is long enough: the numbers are used up, or the host's memory is
-abbrev pub IsForNumbers : FreeList → AllocationError → Type 0
-IsForNumbers b errors.OutOfMemory = b.counter ≡ 2 ^ 64 - 1
-IsForNumbers b errors.HostOutOfMemory = Unit {0}
-IsForNumbers b (errors.FailedToMap _) = ⊥
-IsForNumbers b errors.NoCompatibleMemoryTypeFound = ⊥
-IsForNumbers b errors.InvalidAllocationCreateDesc = ⊥
-IsForNumbers b (errors.InvalidAllocatorCreateDesc _) = ⊥
-IsForNumbers b (errors.Internal _) = ⊥
-IsForNumbers b errors.BarrierLayoutNeedsDevice10 = ⊥
-IsForNumbers b errors.CastableFormatsRequiresEnhancedBarriers = ⊥
-IsForNumbers b errors.CastableFormatsRequiresAtLeastDevice12 = ⊥
-IsForNumbers b errors.BudgetExceeded = ⊥
+abbrev pub IsForChunkIds : FreeList → AllocationError → Type 0
+IsForChunkIds b errors.OutOfMemory = b.counter ≡ 2 ^ 64 - 1
+IsForChunkIds b errors.HostOutOfMemory = Unit {0}
+IsForChunkIds b (errors.FailedToMap _) = ⊥
+IsForChunkIds b errors.NoCompatibleMemoryTypeFound = ⊥
+IsForChunkIds b errors.InvalidAllocationCreateDesc = ⊥
+IsForChunkIds b (errors.InvalidAllocatorCreateDesc _) = ⊥
+IsForChunkIds b (errors.Internal _) = ⊥
+IsForChunkIds b errors.BarrierLayoutNeedsDevice10 = ⊥
+IsForChunkIds b errors.CastableFormatsRequiresEnhancedBarriers = ⊥
+IsForChunkIds b errors.CastableFormatsRequiresAtLeastDevice12 = ⊥
+IsForChunkIds b errors.BudgetExceeded = ⊥
 
 -- extents and gaps cover the block: each place lies in one, no two of them share a place, and no two gaps touch
 pub record IsCovered (b : FreeList) : Type 0 where

@@ -26,8 +26,8 @@ kind_name Linear = codes "Linear"
 kind_name NonLinear = codes "NonLinear"
 
 -- the lines of a piece
-abbrev pub number_line : Extent → List ℕ
-number_line x = codes "    chunk: {\n        chunk_id: " ++ (decimal x.number ++ codes ",\n")
+abbrev pub chunk_id_line : Extent → List ℕ
+chunk_id_line x = codes "    chunk: {\n        chunk_id: " ++ (decimal x.chunk_id ++ codes ",\n")
 
 abbrev pub size_line : Extent → List ℕ
 size_line x = codes "        size: 0x" ++ (digits 16 false (x.end - x.start) ++ codes ",\n")
@@ -43,7 +43,7 @@ name_line x = codes "        name: " ++ (x.name ++ codes "\n    }\n")
 
 -- of a piece in a free list, and of a dedicated block's
 abbrev pub chunk_text : Extent → List ℕ
-chunk_text x = number_line x ++ (size_line x ++ (start_line x ++ (kind_line x ++ name_line x)))
+chunk_text x = chunk_id_line x ++ (size_line x ++ (start_line x ++ (kind_line x ++ name_line x)))
 
 abbrev pub dedicated_text : Extent → List ℕ
 dedicated_text x = codes "    dedicated allocation: {\n" ++ (size_line x ++ name_line x)

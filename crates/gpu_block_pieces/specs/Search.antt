@@ -13,7 +13,7 @@ gap_end size (x ∷ xs) start = if nat_le start x.start then x.start else gap_en
 
 -- length and start of each gap
 abbrev pub gap_spans : FreeList → List (ℕ × ℕ)
-gap_spans b = map (λ g. (gap_end b.size b.extents g.0 - g.0, g.0)) b.gap_numbers
+gap_spans b = map (λ g. (gap_end b.size b.extents g.0 - g.0, g.0)) b.gap_chunk_ids
 
 -- the gap is long enough for n bytes
 abbrev pub is_long_span : ℕ → ℕ × ℕ → Bool
@@ -27,8 +27,8 @@ is_tried_span n start end s = is_long_span n s && (nat_lt s.0 (end - start) || (
 -- length and start, and for all of them where none fits. To take the place, at most four chunks are looked up, at most one where no rest is left, and none where no gap fits
 pub record IsSearch (b : FreeList) (r : Request) (old new : Counts) : Type 0 where
   pub rises : old.comparisons ≤ new.comparisons
-  pub compared_from : old.comparisons + digits (length b.gap_numbers) ≤ new.comparisons + 1
-  pub compared_to : new.comparisons ≤ old.comparisons + digits (length b.gap_numbers)
+  pub compared_from : old.comparisons + digits (length b.gap_chunk_ids) ≤ new.comparisons + 1
+  pub compared_to : new.comparisons ≤ old.comparisons + digits (length b.gap_chunk_ids)
   pub chosen : (start end offset : ℕ) → IsBestFit b r start end offset → new.tests ≡ old.tests + count_by (is_tried_span r.size start end) (gap_spans b)
   pub none : ((start end offset : ℕ) → Fits b r start end offset → ⊥) → (new.tests ≡ old.tests + count_by (is_long_span r.size) (gap_spans b)) × (new.lookups ≡ old.lookups)
   pub lookups : (old.lookups ≤ new.lookups) × (new.lookups ≤ old.lookups + 4)

@@ -5,8 +5,8 @@ ghost use Rattle.std.specs.List.{list_any};
 ghost use Rattle.std.specs.Int.{is_power_of_two};
 ghost use Rattle.gpu_cost.specs.Cost.{LooksUp, LooksUpBetween, Tests};
 ghost use Rattle.gpu_block_chunks.specs.ChunkList.{IsFree};
-ghost use Rattle.gpu_block_pieces.specs.Chunks.{NoneFits, IsTaken, IsNamedAt, HoldsNumber, extents_of, is_gap_by};
-ghost use Rattle.gpu_block_chunks.specs.Chain.{IsFresh, HasNoNumber, StandsAt, IsReleased};
+ghost use Rattle.gpu_block_pieces.specs.Chunks.{NoneFits, IsTaken, IsNamedAt, HoldsChunkId, extents_of, is_gap_by};
+ghost use Rattle.gpu_block_chunks.specs.Chain.{IsFresh, HasNoChunkId, StandsAt, IsReleased};
 ghost use Rattle.gpu_block_pieces.specs.Indexed.{IsChosen, chosen_at, Spends, IsPieceAt, IsPieceOf, IsLongestOf};
 
 use crate::update::{release, allocate_front, allocate_whole};
@@ -49,7 +49,7 @@ impl Chunks {
         index.insert(Gap {
             length: size,
             start: 0,
-            number: 1,
+            chunk_id: 1,
             before: AllocationType::Free,
             after: AllocationType::Free,
         });
@@ -106,9 +106,9 @@ impl Chunks {
         requires chosen { IsChosen self.old.items wanted found }
         requires sized { 0 < wanted.size }
         requires piece { wanted.kind ≢ AllocationType.Free }
-        requires fresh { HasNoNumber self.old.items counter }
-        ensures taken { IfOk result (λ number. (h : IsChosen self.old.items wanted found)
-            → IsTaken self.old.items (chosen_at self.old.items wanted found h) wanted counter name number self.new.items) }
+        requires fresh { HasNoChunkId self.old.items counter }
+        ensures taken { IfOk result (λ chunk_id. (h : IsChosen self.old.items wanted found)
+            → IsTaken self.old.items (chosen_at self.old.items wanted found h) wanted counter name chunk_id self.new.items) }
         ensures refused { OnErr result (self.new.items ≡ self.old.items) }
         ensures size { self.new.size ≡ self.old.size }
         // three or four look-ups where a rest is left, and one where none is
@@ -143,19 +143,19 @@ impl Chunks {
             name,
             cost,
         );
-        Ok(found.gap.number)
+        Ok(found.gap.chunk_id)
     }
 
     /// The live piece of that number, and what stands beside it.
-    pub fn piece_around(&self, number: u64, cost: &mut Cost) -> Option<Neighbours>
+    pub fn piece_around(&self, chunk_id: u64, cost: &mut Cost) -> Option<Neighbours>
         ensures piece { MatchOption result
-            ((k : ℕ) → HoldsNumber self.now.items number k → ⊥) (λ a. (a.here.number ≡ number) × IsPieceAt self.now.items a) }
+            ((k : ℕ) → HoldsChunkId self.now.items chunk_id k → ⊥) (λ a. (a.here.chunk_id ≡ chunk_id) × IsPieceAt self.now.items a) }
         ensures counted { LooksUpBetween 1 3 cost.old cost.new }
     {
         // a read, so that the proof has the invariant
         let _live = self.live;
         self.chain.laid_out();
-        let around = self.chain.around(number, cost)?;
+        let around = self.chain.around(chunk_id, cost)?;
         if is_free(around.here.kind) {
             return None;
         }
@@ -165,7 +165,7 @@ impl Chunks {
     /// Frees a live piece, and joins its place with the gaps beside it. It takes no memory.
     pub fn release(&mut self, around: Neighbours, cost: &mut Cost)
         requires piece { IsPieceAt self.old.items around }
-        ensures released { IsReleased self.old.items around.here.number self.new.items }
+        ensures released { IsReleased self.old.items around.here.chunk_id self.new.items }
         ensures size { self.new.size ≡ self.old.size }
         ensures counted { LooksUpBetween 5 15 cost.old cost.new }
     {
@@ -176,15 +176,15 @@ impl Chunks {
     }
 
     /// The live piece of that number.
-    pub fn piece(&self, number: u64, cost: &mut Cost) -> Option<&Chunk>
+    pub fn piece(&self, chunk_id: u64, cost: &mut Cost) -> Option<&Chunk>
         ensures counted { LooksUp 1 cost.old cost.new }
         ensures piece { MatchOption result
-            ((k : ℕ) → HoldsNumber self.now.items number k → ⊥) (λ c. (IsFree c.now.kind → ⊥) × StandsAt self.now.items number c.now) }
+            ((k : ℕ) → HoldsChunkId self.now.items chunk_id k → ⊥) (λ c. (IsFree c.now.kind → ⊥) × StandsAt self.now.items chunk_id c.now) }
     {
         // a read, so that the proof has the invariant
         let _live = self.live;
         self.chain.laid_out();
-        let (chunk, _) = self.chain.chunk(number, cost)?;
+        let (chunk, _) = self.chain.chunk(chunk_id, cost)?;
         if is_free(chunk.kind) {
             return None;
         }
@@ -192,13 +192,13 @@ impl Chunks {
     }
 
     /// Whether a gap has that number.
-    pub fn has_gap(&self, number: u64, cost: &mut Cost) -> bool
-        ensures gap { result ≡ list_any (λ c. is_gap_by c.kind number c) self.now.items }
+    pub fn has_gap(&self, chunk_id: u64, cost: &mut Cost) -> bool
+        ensures gap { result ≡ list_any (λ c. is_gap_by c.kind chunk_id c) self.now.items }
         ensures counted { LooksUp 1 cost.old cost.new }
     {
         // a read, so that the proof has the invariant
         self.chain.laid_out();
-        match self.chain.chunk(number, cost) {
+        match self.chain.chunk(chunk_id, cost) {
             Some((chunk, _)) => is_free(chunk.kind),
             None => false,
         }
@@ -207,21 +207,21 @@ impl Chunks {
     /// Gives the live piece of that number another name.
     pub fn rename(
         &mut self,
-        number: u64,
+        chunk_id: u64,
         offset: u64,
         kind: AllocationType,
         text: Name,
         cost: &mut Cost,
     )
-        requires piece { IsPieceOf self.old.items number offset kind }
-        ensures named { (i : ℕ) → HoldsNumber self.old.items number i → IsNamedAt self.old.items i text self.new.items }
+        requires piece { IsPieceOf self.old.items chunk_id offset kind }
+        ensures named { (i : ℕ) → HoldsChunkId self.old.items chunk_id i → IsNamedAt self.old.items i text self.new.items }
         ensures size { self.new.size ≡ self.old.size }
         ensures counted { LooksUp 1 cost.old cost.new }
     {
         // two reads, so that the proof has the invariant
         self.chain.laid_out();
         let _live = self.live;
-        self.chain.fill(number, offset, kind, text, cost);
+        self.chain.fill(chunk_id, offset, kind, text, cost);
     }
 
     /// All chunks, from the block's start on.

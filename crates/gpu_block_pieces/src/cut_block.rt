@@ -57,7 +57,7 @@ impl CutBlock {
     ghost use Rattle.gpu_block_pieces.specs.Changes.{Takes, Releases, Renames};
     ghost use Rattle.gpu_block_pieces.specs.BlockRefusal.{IsAllocateRefusal, release_refusal, IsRenameRefusal};
     ghost use Rattle.gpu_block_pieces.specs.Chunks.{IsChunk, extents_of};
-    ghost use Rattle.gpu_block_pieces.specs.Laws.{IsSound, IsInOrder, IsPageSeparated, IsLongEnough, IsForNumbers, IsCovered};
+    ghost use Rattle.gpu_block_pieces.specs.Laws.{IsSound, IsInOrder, IsPageSeparated, IsLongEnough, IsForChunkIds, IsCovered};
 
     /// A block of `size` bytes without pieces: one gap with number 1. `counter` is the next new number, and `granularity`
     /// the page size in bytes. The only refusal is `HostOutOfMemory`.
@@ -109,7 +109,7 @@ impl CutBlock {
         ensures covered { OnOk result (IsCovered self.new) }
         ensures law { IfErr result (λ e. (s t : ℕ) → IsGap self.old s t
             → IsLongEnough self.old (request size alignment kind name.now) s t
-            → IsForNumbers self.old e) }
+            → IsForChunkIds self.old e) }
         // what the search for the place cost, and its taking
         ensures cost { IsSearch self.old (request size alignment kind name.now) (counts_of cost.old) (counts_of cost.new) }
     {
@@ -127,12 +127,12 @@ impl CutBlock {
             return Err(AllocationError::OutOfMemory);
         }
         let text = Name::new(self.alloc, name)?;
-        let number = self.chunks.allocate(found, wanted, self.counter, text, cost)?;
+        let chunk_id = self.chunks.allocate(found, wanted, self.counter, text, cost)?;
         self.allocated += found.offset + size - found.gap.start;
         if rest {
             self.counter += 1;
         }
-        Ok((found.offset, non_zero(number)))
+        Ok((found.offset, non_zero(chunk_id)))
     }
 
     /// Gives a live piece back; its place joins the gaps beside it. It takes no memory. `Internal` where the number is
@@ -142,7 +142,7 @@ impl CutBlock {
             (IsSomeAnd chunk_id (λ n. Releases self.old (non_zero_u64_get n) self.new)) }
         ensures cause { IfErr result (λ e. refusal_of e ≡ release_refusal chunk_id) }
         ensures not_live { OnErr result
-            (IfSome chunk_id (λ n. SomeExtent self.old (λ x. x.number ≡ non_zero_u64_get n) → ⊥)) }
+            (IfSome chunk_id (λ n. SomeExtent self.old (λ x. x.chunk_id ≡ non_zero_u64_get n) → ⊥)) }
         ensures refused { OnErr result (self.new ≡ self.old) }
         ensures pages { self.new.granularity ≡ self.old.granularity }
         ensures sound { OnOk result (IsSound self.new) }
@@ -151,10 +151,10 @@ impl CutBlock {
         ensures covered { OnOk result (IsCovered self.new) }
         ensures cost { LooksUpBetween 0 18 cost.old cost.new }
     {
-        let Some(number) = chunk_id else {
+        let Some(id) = chunk_id else {
             return Err(internal_fault("Chunk ID must be a valid value."));
         };
-        let Some(around) = self.chunks.piece_around(number.get(), cost) else {
+        let Some(around) = self.chunks.piece_around(id.get(), cost) else {
             return Err(internal_fault("Attempting to free chunk that is not in chunk list."));
         };
         self.chunks.release(around, cost);
@@ -181,11 +181,11 @@ impl CutBlock {
         ensures covered { OnOk result (IsCovered self.new) }
         ensures cost { LooksUpBetween 0 2 cost.old cost.new }
     {
-        let Some(number) = chunk_id else {
+        let Some(id) = chunk_id else {
             return Err(internal_fault("Chunk ID must be a valid value."));
         };
-        let Some(piece) = self.chunks.piece(number.get(), cost) else {
-            if self.chunks.has_gap(number.get(), cost) {
+        let Some(piece) = self.chunks.piece(id.get(), cost) else {
+            if self.chunks.has_gap(id.get(), cost) {
                 return Err(internal_fault("Attempting to rename a freed allocation."));
             }
             return Err(internal_fault("Attempting to rename chunk that is not in chunk list."));
@@ -193,16 +193,16 @@ impl CutBlock {
         let offset = piece.offset;
         let kind = piece.kind;
         let text = Name::new(self.alloc, name)?;
-        self.chunks.rename(number.get(), offset, kind, text, cost);
+        self.chunks.rename(id.get(), offset, kind, text, cost);
         Ok(())
     }
 
     /// The offset and the size in bytes of the live piece with that number.
-    pub fn place_of(&self, number: NonZeroU64, cost: &mut Cost) -> Option<(u64, u64)>
-        ensures place { FindsPlace self.now.extents (non_zero_u64_get number) result }
+    pub fn place_of(&self, chunk_id: NonZeroU64, cost: &mut Cost) -> Option<(u64, u64)>
+        ensures place { FindsPlace self.now.extents (non_zero_u64_get chunk_id) result }
         ensures cost { LooksUp 1 cost.old cost.new }
     {
-        match self.chunks.piece(number.get(), cost) {
+        match self.chunks.piece(chunk_id.get(), cost) {
             Some(piece) => Some((piece.offset, piece.start + piece.size - piece.offset)),
             None => None,
         }

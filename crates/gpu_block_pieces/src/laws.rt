@@ -41,15 +41,15 @@ pub fn allocate_adds_one_piece()
     ensures keeps { (old : FreeList) (r : Request) (o n : ℕ) (new : FreeList) → Takes old r o n new
         → (x : Extent) → Contains old.extents x → Contains new.extents x }
     ensures adds { (old : FreeList) (r : Request) (o n : ℕ) (new : FreeList) → Takes old r o n new
-        → SomeExtent new (λ x. x.number ≡ n) }
-    ensures number { (old : FreeList) (r : Request) (o n : ℕ) (new : FreeList) → IsSound old → IsSound new
-        → Takes old r o n new → SomeExtent old (λ x. x.number ≡ n) → ⊥ }
+        → SomeExtent new (λ x. x.chunk_id ≡ n) }
+    ensures chunk_id { (old : FreeList) (r : Request) (o n : ℕ) (new : FreeList) → IsSound old → IsSound new
+        → Takes old r o n new → SomeExtent old (λ x. x.chunk_id ≡ n) → ⊥ }
 {}
 
 /// A release keeps every live piece but the one of its number.
 pub fn release_keeps_the_others()
     ensures { (old : FreeList) (n : ℕ) (new : FreeList) → IsSound old → Releases old n new
-        → (x : Extent) → Contains old.extents x → x.number ≢ n → Contains new.extents x }
+        → (x : Extent) → Contains old.extents x → x.chunk_id ≢ n → Contains new.extents x }
 {}
 
 /// The extents and gaps of a sound block cover it exactly, and no two gaps touch.

@@ -5,7 +5,7 @@ ghost use Rattle.gpu_values.specs.declared.error.AllocationError.TheVariants.{Ho
 ghost use Rattle.std.specs.Fmt.{DisplaysOnOk};
 ghost use Rattle.std.specs.Iterator.{YieldsFirst, item_count};
 ghost use Rattle.gpu_block_pieces.specs.Chunks.{extent, extents_of};
-ghost use Rattle.gpu_block_pieces.specs.Leak.{leak_text, block_lines, piece_text, chunk_text, dedicated_text, number_line, size_line, start_line, kind_line, name_line, kind_name};
+ghost use Rattle.gpu_block_pieces.specs.Leak.{leak_text, block_lines, piece_text, chunk_text, dedicated_text, chunk_id_line, size_line, start_line, kind_line, name_line, kind_name};
 
 use crate::pieces::first_piece;
 use gpu_block_chunks::{Chunk, Walk};
@@ -104,11 +104,11 @@ fn kind_name(kind: AllocationType) -> &'static str
     }
 }
 
-fn write_number<W: fmt::Write>(chunk: &Chunk, f: &mut fmt::Formatter<W>) -> fmt::Result
-    ensures { DisplaysOnOk W.write_str_gives f.old result (Some (number_line (extent chunk.now))) f.new }
+fn write_chunk_id<W: fmt::Write>(chunk: &Chunk, f: &mut fmt::Formatter<W>) -> fmt::Result
+    ensures { DisplaysOnOk W.write_str_gives f.old result (Some (chunk_id_line (extent chunk.now))) f.new }
 {
-    let number = chunk.number;
-    write!(f, "    chunk: {{\n        chunk_id: {number},\n")
+    let chunk_id = chunk.chunk_id;
+    write!(f, "    chunk: {{\n        chunk_id: {chunk_id},\n")
 }
 
 fn write_size<W: fmt::Write>(chunk: &Chunk, f: &mut fmt::Formatter<W>) -> fmt::Result
@@ -142,7 +142,7 @@ fn write_name<W: fmt::Write>(chunk: &Chunk, f: &mut fmt::Formatter<W>) -> fmt::R
 fn write_chunk<W: fmt::Write>(chunk: &Chunk, f: &mut fmt::Formatter<W>) -> fmt::Result
     ensures { DisplaysOnOk W.write_str_gives f.old result (Some (chunk_text (extent chunk.now))) f.new }
 {
-    write_number(chunk, f)?;
+    write_chunk_id(chunk, f)?;
     write_size(chunk, f)?;
     write_start(chunk, f)?;
     write_kind(chunk, f)?;

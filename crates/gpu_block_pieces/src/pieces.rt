@@ -31,10 +31,10 @@ impl<'a> Model for LivePiece<'a> {
 
 impl<'a> LivePiece<'a> {
     /// Its number in the block.
-    pub fn number(&self) -> u64
-        ensures { result ≡ self.now.number }
+    pub fn chunk_id(&self) -> u64
+        ensures { result ≡ self.now.chunk_id }
     {
-        self.chunk.number
+        self.chunk.chunk_id
     }
 
     /// Where its padding begins, or its own bytes where it has none.

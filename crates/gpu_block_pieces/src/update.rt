@@ -4,7 +4,7 @@ ghost use Rattle.std.specs.Prelude.{◌≡◌, ◌≢◌, ◌+◌, ◌-◌, ◌<
 ghost use Rattle.gpu_block_chunks.specs.declared.chunk.Chunk.{Chunk};
 ghost use Rattle.gpu_cost.specs.Cost.{LooksUp, LooksUpBetween};
 ghost use Rattle.gpu_block_pieces.specs.Chunks.{last_kind, extents_of};
-ghost use Rattle.gpu_block_chunks.specs.Chain.{HasNumber, HasNoNumber, IsSplit, IsFilled, IsReleased};
+ghost use Rattle.gpu_block_chunks.specs.Chain.{HasChunkId, HasNoChunkId, IsSplit, IsFilled, IsReleased};
 ghost use Rattle.gpu_block_pieces.specs.Indexed.{IsListed, IsGapOf, gap_between, kind_or, Forgets, beside_kind, IsGapBeside, MayForget, IsPut, IsJoined, first_of, IsPieceAt};
 ghost use Rattle.gpu_block_gaps.specs.declared.index.Gap.{Gap};
 ghost use Rattle.gpu_block_gaps.specs.Index.{HasNoKey};
@@ -22,7 +22,7 @@ pub fn allocate_front(
     found: Found,
     taken: u64,
     kind: AllocationType,
-    number: u64,
+    chunk_id: u64,
     name: Name,
     cost: &mut Cost,
 )
@@ -31,9 +31,9 @@ pub fn allocate_front(
     requires some { 0 < taken }
     requires shorter { taken < found.gap.length }
     requires piece { kind ≢ AllocationType.Free }
-    requires fresh { HasNoNumber chain.old.chunks number }
+    requires fresh { HasNoChunkId chain.old.chunks chunk_id }
     requires room { (0 < chain.old.room) × (length index.old.gaps ≤ index.old.room) }
-    ensures chunks { IsSplit chain.old.chunks found.gap.number taken number found.offset kind name chain.new.chunks }
+    ensures chunks { IsSplit chain.old.chunks found.gap.chunk_id taken chunk_id found.offset kind name chain.new.chunks }
     ensures listed { IsListed chain.new.chunks index.new.gaps }
     ensures live { length (extents_of chain.new.chunks) ≡ length (extents_of chain.old.chunks) + 1 }
     ensures size { (chain.new.size ≡ chain.old.size) × (index.new.room ≡ index.old.room) }
@@ -41,12 +41,12 @@ pub fn allocate_front(
 {
     chain.laid_out();
     let gap = found.gap;
-    chain.split_front(gap.number, number, taken, found.offset, kind, name, cost);
+    chain.split_front(gap.chunk_id, chunk_id, taken, found.offset, kind, name, cost);
     index.in_order();
     let rest = Gap {
         length: gap.length - taken,
         start: gap.start + taken,
-        number: gap.number,
+        chunk_id: gap.chunk_id,
         before: kind,
         after: gap.after,
     };
@@ -65,7 +65,7 @@ pub fn allocate_whole(
     requires listed { IsListed chain.old.chunks index.old.gaps }
     requires gap { IsGapOf chain.old.chunks found.gap }
     requires piece { kind ≢ AllocationType.Free }
-    ensures chunks { IsFilled chain.old.chunks found.gap.number found.offset kind name chain.new.chunks }
+    ensures chunks { IsFilled chain.old.chunks found.gap.chunk_id found.offset kind name chain.new.chunks }
     ensures listed { IsListed chain.new.chunks index.new.gaps }
     ensures live { length (extents_of chain.new.chunks) ≡ length (extents_of chain.old.chunks) + 1 }
     ensures size { (chain.new.size ≡ chain.old.size) × (index.new.room ≡ index.old.room) }
@@ -74,7 +74,7 @@ pub fn allocate_whole(
     chain.laid_out();
     let gap = found.gap;
     index.remove(gap.length, gap.start, Some(found.place));
-    chain.fill(gap.number, found.offset, kind, name, cost);
+    chain.fill(gap.chunk_id, found.offset, kind, name, cost);
 }
 
 /// Takes the gap beside a chunk out of the index, if what stands there is one.
@@ -148,38 +148,38 @@ fn kind_of(beside: Option<Neighbour>) -> AllocationType
 }
 
 /// The entry of the free chunk of that number.
-fn gap_at(chain: &Chain, number: u64, cost: &mut Cost) -> Gap
-    requires there { HasNumber chain.now.chunks number }
-    ensures gap { (front : List Chunk) (c : Chunk) (back : List Chunk) → chain.now.chunks ≡ front ++ c ∷ back → c.number ≡ number
+fn gap_at(chain: &Chain, chunk_id: u64, cost: &mut Cost) -> Gap
+    requires there { HasChunkId chain.now.chunks chunk_id }
+    ensures gap { (front : List Chunk) (c : Chunk) (back : List Chunk) → chain.now.chunks ≡ front ++ c ∷ back → c.chunk_id ≡ chunk_id
         → result ≡ gap_between (last_kind AllocationType.Free front) c (kind_or back AllocationType.Free) }
     ensures counted { LooksUpBetween 1 3 cost.old cost.new }
 {
     chain.laid_out();
-    let Some(around) = chain.around(number, cost) else {
+    let Some(around) = chain.around(chunk_id, cost) else {
         unreachable!();
     };
     Gap {
         length: around.here.size,
         start: around.here.start,
-        number: around.here.number,
+        chunk_id: around.here.chunk_id,
         before: kind_of(around.before),
         after: kind_of(around.after),
     }
 }
 
 /// The number of the gap that the chunk becomes: that of the gap before it, if there is one.
-fn first_number(around: Neighbours) -> u64
-    ensures { result ≡ first_of around.before around.here.number }
+fn first_chunk_id(around: Neighbours) -> u64
+    ensures { result ≡ first_of around.before around.here.chunk_id }
 {
     match around.before {
         Some(beside) => {
             if is_free(beside.kind) {
-                beside.number
+                beside.chunk_id
             } else {
-                around.here.number
+                around.here.chunk_id
             }
         }
-        None => around.here.number,
+        None => around.here.chunk_id,
     }
 }
 
@@ -188,16 +188,16 @@ pub fn release(chain: &mut Chain, index: &mut GapIndex, around: Neighbours, cost
     requires listed { IsListed chain.old.chunks index.old.gaps }
     requires piece { IsPieceAt chain.old.chunks around }
     requires room { length (extents_of chain.old.chunks) + 1 ≤ index.old.room }
-    ensures chunks { IsReleased chain.old.chunks around.here.number chain.new.chunks }
+    ensures chunks { IsReleased chain.old.chunks around.here.chunk_id chain.new.chunks }
     ensures listed { IsListed chain.new.chunks index.new.gaps }
     ensures live { length (extents_of chain.new.chunks) + 1 ≡ length (extents_of chain.old.chunks) }
     ensures size { (chain.new.size ≡ chain.old.size) × (index.new.room ≡ index.old.room) }
     ensures counted { LooksUpBetween 5 15 cost.old cost.new }
 {
     chain.laid_out();
-    chain.release(around.here.number, cost);
+    chain.release(around.here.chunk_id, cost);
     chain.laid_out();
     index.in_order();
-    let gap = gap_at(chain, first_number(around), cost);
+    let gap = gap_at(chain, first_chunk_id(around), cost);
     put_joined(index, around, gap);
 }

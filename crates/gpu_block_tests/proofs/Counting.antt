@@ -13,9 +13,9 @@ unfolding digits
 digits_two = refl
 
 pub one_test : (x y : Extent) (n : ℕ) → x.start ≡ 100 → y.start ≡ 160 → n ≡ 40
-    → count_by (is_tried_span n 110 160) (gap_spans (record { size = 4194304; granularity = 1; counter = 6; extents = x ∷ y ∷ []; gap_numbers = (0, 2) ∷ (110, 4) ∷ (170, 1) ∷ [] })) ≡ 1
+    → count_by (is_tried_span n 110 160) (gap_spans (record { size = 4194304; granularity = 1; counter = 6; extents = x ∷ y ∷ []; gap_chunk_ids = (0, 2) ∷ (110, 4) ∷ (170, 1) ∷ [] })) ≡ 1
 one_test x y n ex ey en = rw (ex, ey, en) refl
 
 pub two_tests : (x y : Extent) (n : ℕ) → x.start ≡ 16 → y.start ≡ 1088 → n ≡ 16
-    → count_by (is_tried_span n 2064 4194304) (gap_spans (record { size = 4194304; granularity = 1024; counter = 5; extents = x ∷ y ∷ []; gap_numbers = (0, 2) ∷ (2064, 1) ∷ [] })) ≡ 2
+    → count_by (is_tried_span n 2064 4194304) (gap_spans (record { size = 4194304; granularity = 1024; counter = 5; extents = x ∷ y ∷ []; gap_chunk_ids = (0, 2) ∷ (2064, 1) ∷ [] })) ≡ 2
 two_tests x y n ex ey en = rw (ex, ey, en) refl

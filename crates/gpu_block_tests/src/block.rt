@@ -97,7 +97,7 @@ fn allocate(rt: &impl Abort, block: &mut SubAllocator, asked: Request) -> Result
 }
 
 /// 0 stands for no number.
-fn free(block: &mut SubAllocator, number: u64) -> Result<()>
+fn free(block: &mut SubAllocator, chunk_id: u64) -> Result<()>
     ensures { (g : ℕ) → HasPages (block_of block.old) g → HasPages (block_of block.new) g }
 {
     block.free(NonZeroU64::new(number))

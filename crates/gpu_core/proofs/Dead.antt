@@ -14,9 +14,9 @@ use Rattle.gpu_core.specs.Slots.{SlotIsSound}
 use Rattle.gpu_core.specs.declared.piece.Piece.{Piece}
 use Rattle.gpu_core.proofs.Found.{only_one}
 
-first_number : (o : Option Extent) (size : ℕ) (x : Extent) → IfSome o (λ y. (y.start ≡ 0) × (y.offset ≡ 0) × (y.end ≡ size) × (y.number ≡ 1)) → Contains (option_to_list o) x → x.number ≡ 1
-first_number None size x whole h = (let l = h.1 in absurd (omega arith))
-first_number (Some z) size x whole h = ap (λ y. y.number) (only_one (Some z) x z h (0, omega arith, refl)) ∙ whole.3
+first_chunk_id : (o : Option Extent) (size : ℕ) (x : Extent) → IfSome o (λ y. (y.start ≡ 0) × (y.offset ≡ 0) × (y.end ≡ size) × (y.number ≡ 1)) → Contains (option_to_list o) x → x.number ≡ 1
+first_chunk_id None size x whole h = (let l = h.1 in absurd (omega arith))
+first_chunk_id (Some z) size x whole h = ap (λ y. y.number) (only_one (Some z) x z h (0, omega arith, refl)) ∙ whole.3
 
 none_held : (o : Option Extent) (x : Extent) → o ≡ None → Contains (option_to_list o) x → ⊥
 none_held None x e h = (let l = h.1 in omega arith)
@@ -26,7 +26,7 @@ not_held : (b : Dedicated) (n : NonZeroU64) (freed : List ℕ) (refusal : Refusa
     non_zero_u64_get n → ⊥
 not_held b n freed refusal x whole h at e =
     elim h [
-      | inl other ↦ other.0 (sym e ∙ first_number b.piece b.size x whole at)
+      | inl other ↦ other.0 (sym e ∙ first_chunk_id b.piece b.size x whole at)
       | inr empty ↦ none_held b.piece x empty.1 at
     ]
 

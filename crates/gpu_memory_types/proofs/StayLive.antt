@@ -13,7 +13,7 @@ use Rattle.gpu_core.specs.declared.piece.Piece.{Piece}
 use Rattle.gpu_core.proofs.EmptyBlocks.{takes_holds, holds_some}
 use Rattle.gpu_core.proofs.Found.{only_one}
 use Rattle.gpu_core.proofs.Slotted.{set_only}
-use Rattle.gpu_block_pieces.proofs.Live.{takes_keeps, takes_new_number, releases_keeps}
+use Rattle.gpu_block_pieces.proofs.Live.{takes_keeps, takes_new_chunk_id, releases_keeps}
 use Rattle.gpu_memory_types.specs.Blocks.{Slots, slots_at, block_at}
 use Rattle.gpu_memory_types.specs.Live.{IsLiveIn}
 use Rattle.gpu_memory_types.proofs.Placed.{OnlyBlock, only_block, installs_only, prepares_only, some_below, same_place}
@@ -28,7 +28,7 @@ taken_keeps (dedicated old) r o n new shared t k off size h = cc
 -- the number of a piece that is taken is no other live piece's
 taken_number : (old : Block) (r : Request) (o n : ℕ) (new : Block) → is_shared old ≡ true → IsSoundBlock old → IsSoundBlock new → TakesIn old r o n new
     → (k off size : ℕ) → HoldsPiece old k off size → k ≡ n → ⊥
-taken_number (free_list old) r o n (free_list new) shared before after t k off size h e = takes_new_number old r o n new before after t (h.0, h.1, h.2 ∙ e)
+taken_number (free_list old) r o n (free_list new) shared before after t k off size h e = takes_new_chunk_id old r o n new before after t (h.0, h.1, h.2 ∙ e)
 taken_number (free_list old) r o n (dedicated new) shared before after t k off size h e = t
 taken_number (dedicated old) r o n new shared before after t k off size h e = cc
 

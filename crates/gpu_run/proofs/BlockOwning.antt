@@ -14,7 +14,7 @@ use Rattle.std.proofs.lemmas.Bool.{false≢true}
 use Rattle.gpu_block_pieces.specs.FreeList.{Extent}
 use Rattle.gpu_block_pieces.specs.Request.{Request}
 use Rattle.gpu_block.specs.Block.{Block, free_list, dedicated, extents_of, size_of, is_shared, TakesIn, ReleasesIn, IsSoundBlock}
-use Rattle.gpu_block_pieces.proofs.Live.{takes_keeps, takes_adds, takes_new_number, releases_keeps}
+use Rattle.gpu_block_pieces.proofs.Live.{takes_keeps, takes_adds, takes_new_chunk_id, releases_keeps}
 use Rattle.gpu_run.specs.BlockSession.{State, piece_at, Allocating, OwnsPieces}
 use Rattle.gpu_run.specs.declared.block.reply.Reply.{Reply}
 use Rattle.gpu_run.specs.declared.block.reply.Reply.TheVariants as replies
@@ -91,7 +91,7 @@ adds_in (dedicated old) r o n new is t = absurd (false≢true is)
 
 new_number_in : (old : Block) (r : Request) (o n : ℕ) (new : Block) → is_shared old ≡ true → IsSoundBlock old → IsSoundBlock new → TakesIn old r o n new → (x : Extent) → Contains (extents_of old) x
     → x.number ≡ n → ⊥
-new_number_in (free_list old) r o n (free_list new) is before after t x h e = takes_new_number old r o n new before after t (x, h, e)
+new_number_in (free_list old) r o n (free_list new) is before after t x h e = takes_new_chunk_id old r o n new before after t (x, h, e)
 new_number_in (free_list old) r o n (dedicated new) is before after t x h e = t
 new_number_in (dedicated old) r o n new is before after t x h e = false≢true is
 

@@ -54,8 +54,8 @@ both_true : (a b : Bool) → (a && b) ≡ true → a ≡ true
 both_true true b h = refl
 both_true false b h = absurd (let f = h in cc)
 
-same_number : (a b : CommittedRecord) → is_same_record a b ≡ true → a.resource.0 ≡ b.resource.0
-same_number a b h = let e = both_true (a.resource.0 == b.resource.0) (a.size == b.size) h in grind (arith, nat_tests, e)
+same_chunk_id : (a b : CommittedRecord) → is_same_record a b ≡ true → a.resource.0 ≡ b.resource.0
+same_chunk_id a b h = let e = both_true (a.resource.0 == b.resource.0) (a.size == b.size) h in grind (arith, nat_tests, e)
 
 is_itself : (r : CommittedRecord) → is_same_record r r ≡ true
 is_itself r = grind (arith, nat_tests)
@@ -65,7 +65,7 @@ pub gives_keeps : (t u : ℕ) (r q : CommittedRecord) (old new : Committed) → 
 gives_keeps t u r q old new gives apart h =
     let at = position-Some (λ (x : CommittedRecord). is_same_record x r) (records_at old t) gives.place q gives.stands in
     let other : (get_or (records_at old t) gives.place q ≡ q → ⊥) =
-    λ same. apart (ap (λ (x : CommittedRecord). x.resource.0) (sym same) ∙ same_number _ r at.1) in
+    λ same. apart (ap (λ (x : CommittedRecord). x.resource.0) (sym same) ∙ same_chunk_id _ r at.1) in
     subst (λ c. Contains (records_at c u) q) (sym gives.records)
     (kept_set old t u (remove (records_at old t) gives.place) q (λ same was. contains_removed (records_at old t) gives.place q at.0 other was) h)
 

@@ -14,7 +14,7 @@ use Rattle.gpu_block.specs.Dedicated.{Dedicated, whole_extent, held_extents}
 use Rattle.gpu_block_pieces.specs.Laws.{IsSound}
 use Rattle.gpu_block_pieces.specs.Request.{Request}
 use Rattle.gpu_block_pieces.proofs.OrderedLists.{eq_false, eq_true}
-use Rattle.gpu_block_pieces.proofs.Live.{takes_new_number, piece_of, piece_held, here, there}
+use Rattle.gpu_block_pieces.proofs.Live.{takes_new_chunk_id, piece_of, piece_held, here, there}
 use Rattle.gpu_block_pieces.proofs.Separation.{within_of, in_filter}
 use Rattle.gpu_vulkan.specs.ByteView.{piece_of_number, covers, is_covered}
 
@@ -172,7 +172,7 @@ joins_taken old r o n new before after t =
     let held = piece_held old r o n new t in record {
       there = number_found new.extents x (all_of new.extents (λ y. y.number ≡ x.number → y ≡ x) (λ y h e. after.one_number y x h held e)) held;
       others = λ k ne. ap (λ (xs : List Extent). piece_of_number xs k) t.extent ∙ placed_number x old.extents k ne;
-      fresh = number_missing old.extents n (all_of old.extents (λ y. y.number ≢ n) (λ y h e. takes_new_number old r o n new before after t (y, h, e)));
+      fresh = number_missing old.extents n (all_of old.extents (λ y. y.number ≢ n) (λ y h e. takes_new_chunk_id old r o n new before after t (y, h, e)));
       free = λ at is. none_of (λ y. covers y at) old.extents (λ y h.
           let w = within_of old y before h in
           let c = covers_range x at is in

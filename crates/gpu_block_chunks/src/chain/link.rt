@@ -2,7 +2,7 @@
 
 ghost use Rattle.std.specs.Prelude.{◌≡◌};
 ghost use Rattle.gpu_block_chunks.specs.Chain.{node_of};
-ghost use Rattle.gpu_block_chunks.specs.Nodes.{node_value, link_number};
+ghost use Rattle.gpu_block_chunks.specs.Nodes.{node_value, link_chunk_id};
 
 use super::Neighbour;
 use crate::chunk::Chunk;
@@ -11,7 +11,7 @@ use crate::name::Name;
 /// Where a chunk is found: its number, and the slot that it stands in.
 #[derive(Clone, Copy)]
 pub struct Link {
-    pub number: u64,
+    pub chunk_id: u64,
     pub slot: usize,
 }
 
@@ -34,15 +34,15 @@ impl LinkedChunk {
     ) -> LinkedChunk
         ensures links { (result.prev ≡ prev) × (result.next ≡ next) }
         ensures value { node_value result ≡ node_of
-            (record { start = here.start; size = here.size; offset = offset; kind = here.kind; number = here.number; name = name })
-            (link_number prev) (link_number next) }
+            (record { start = here.start; size = here.size; offset = offset; kind = here.kind; chunk_id = here.chunk_id; name = name })
+            (link_chunk_id prev) (link_chunk_id next) }
     {
         let chunk = Chunk {
             start: here.start,
             size: here.size,
             offset,
             kind: here.kind,
-            number: here.number,
+            chunk_id: here.chunk_id,
             name,
         };
         LinkedChunk { chunk, prev, next }
@@ -50,8 +50,8 @@ impl LinkedChunk {
 }
 
 /// The number of the chunk that a link leads to, if there is one.
-pub fn number_of(link: Option<Link>) -> Option<u64>
-    ensures { result ≡ link_number link }
+pub fn chunk_id_of(link: Option<Link>) -> Option<u64>
+    ensures { result ≡ link_chunk_id link }
 {
-    link.map(|link| link.number)
+    link.map(|link| link.chunk_id)
 }

@@ -2,7 +2,7 @@
 
 ghost use Rattle.std.specs.Prelude.{◌≡◌, ◌+◌, ◌-◌, ◌^◌, ◌<◌, ◌≤◌, is_some, if◌then◌else◌, IsSome, IsSomeAnd, IfSome, Some};
 ghost use Rattle.gpu_cost.specs.Cost.{LooksUp, LooksUpBetween};
-ghost use Rattle.gpu_block_chunks.specs.Nodes.{held_at, room_of, node_value, link_number, Leads, Reaches, KeepsLinks};
+ghost use Rattle.gpu_block_chunks.specs.Nodes.{held_at, room_of, node_value, link_chunk_id, Leads, Reaches, KeepsLinks};
 ghost use Rattle.gpu_block_chunks.specs.Chain.{Node, CanJoin, JoinsNext, JoinsRight, JoinsLeft, LinkedAt, is_free_kind};
 ghost use Rattle.gpu_block_chunks.specs.Chain.{ChangesAt, ChangesAtOpt, with_next, with_prev, cut_node, joined_node, used_node};
 
@@ -15,7 +15,7 @@ use gpu_values::AllocationType;
 /// The one way to read a chunk that a link leads to.
 pub fn linked_at<'a>(nodes: &'a Nodes, at: Link, cost: &mut Cost) -> &'a LinkedChunk
     requires { Reaches nodes.now (Some at) }
-    ensures value { held_at nodes.now at.number ≡ Some (node_value result.now) }
+    ensures value { held_at nodes.now at.chunk_id ≡ Some (node_value result.now) }
     ensures links { Leads nodes.now result.now.prev × Leads nodes.now result.now.next }
     ensures counted { LooksUp 1 cost.old cost.new }
 {
@@ -27,7 +27,7 @@ pub fn linked_at<'a>(nodes: &'a Nodes, at: Link, cost: &mut Cost) -> &'a LinkedC
 pub fn set_next(nodes: &mut Nodes, at: Link, next: Option<Link>, cost: &mut Cost)
     requires there { Reaches nodes.old (Some at) }
     requires next { Leads nodes.old next }
-    ensures changes { ChangesAt at.number (with_next (link_number next)) (held_at nodes.old) (held_at nodes.new) }
+    ensures changes { ChangesAt at.chunk_id (with_next (link_chunk_id next)) (held_at nodes.old) (held_at nodes.new) }
     ensures slots { nodes.new.slots ≡ nodes.old.slots }
     ensures room { room_of nodes.new ≡ room_of nodes.old }
     ensures counted { LooksUp 1 cost.old cost.new }
@@ -43,7 +43,7 @@ pub fn set_next(nodes: &mut Nodes, at: Link, next: Option<Link>, cost: &mut Cost
 pub fn set_prev(nodes: &mut Nodes, at: Link, prev: Option<Link>, cost: &mut Cost)
     requires there { Reaches nodes.old (Some at) }
     requires prev { Leads nodes.old prev }
-    ensures changes { ChangesAt at.number (with_prev (link_number prev)) (held_at nodes.old) (held_at nodes.new) }
+    ensures changes { ChangesAt at.chunk_id (with_prev (link_chunk_id prev)) (held_at nodes.old) (held_at nodes.new) }
     ensures slots { nodes.new.slots ≡ nodes.old.slots }
     ensures room { room_of nodes.new ≡ room_of nodes.old }
     ensures counted { LooksUp 1 cost.old cost.new }
@@ -57,10 +57,10 @@ pub fn set_prev(nodes: &mut Nodes, at: Link, prev: Option<Link>, cost: &mut Cost
 
 /// Takes that much off a chunk's front.
 pub fn cut_front(nodes: &mut Nodes, at: Link, taken: u64, prev: Option<Link>, cost: &mut Cost)
-    requires longer { IsSomeAnd (held_at nodes.old at.number) (λ n. (taken < (n.chunk).size) × ((n.chunk).start + (n.chunk).size < 2 ^ 64)) }
+    requires longer { IsSomeAnd (held_at nodes.old at.chunk_id) (λ n. (taken < (n.chunk).size) × ((n.chunk).start + (n.chunk).size < 2 ^ 64)) }
     requires leads { Leads nodes.old (Some at) }
     requires prev { Leads nodes.old prev }
-    ensures changes { ChangesAt at.number (cut_node taken (link_number prev)) (held_at nodes.old) (held_at nodes.new) }
+    ensures changes { ChangesAt at.chunk_id (cut_node taken (link_chunk_id prev)) (held_at nodes.old) (held_at nodes.new) }
     ensures slots { nodes.new.slots ≡ nodes.old.slots }
     ensures room { room_of nodes.new ≡ room_of nodes.old }
     ensures counted { LooksUp 1 cost.old cost.new }
@@ -81,10 +81,10 @@ pub fn cut_front(nodes: &mut Nodes, at: Link, taken: u64, prev: Option<Link>, co
 
 /// Makes a chunk longer.
 pub fn lengthen(nodes: &mut Nodes, at: Link, more: u64, next: Option<Link>, cost: &mut Cost)
-    requires fits { IsSomeAnd (held_at nodes.old at.number) (λ n. (n.chunk).size + more < 2 ^ 64) }
+    requires fits { IsSomeAnd (held_at nodes.old at.chunk_id) (λ n. (n.chunk).size + more < 2 ^ 64) }
     requires leads { Leads nodes.old (Some at) }
     requires next { Leads nodes.old next }
-    ensures changes { ChangesAt at.number (joined_node more (link_number next)) (held_at nodes.old) (held_at nodes.new) }
+    ensures changes { ChangesAt at.chunk_id (joined_node more (link_chunk_id next)) (held_at nodes.old) (held_at nodes.new) }
     ensures slots { nodes.new.slots ≡ nodes.old.slots }
     ensures room { room_of nodes.new ≡ room_of nodes.old }
     ensures counted { LooksUp 1 cost.old cost.new }
@@ -103,7 +103,7 @@ pub fn lengthen(nodes: &mut Nodes, at: Link, more: u64, next: Option<Link>, cost
 pub fn set_next_of(nodes: &mut Nodes, at: Option<Link>, next: Option<Link>, cost: &mut Cost)
     requires there { Reaches nodes.old at }
     requires next { Leads nodes.old next }
-    ensures changes { ChangesAtOpt (link_number at) (with_next (link_number next)) (held_at nodes.old) (held_at nodes.new) }
+    ensures changes { ChangesAtOpt (link_chunk_id at) (with_next (link_chunk_id next)) (held_at nodes.old) (held_at nodes.new) }
     ensures slots { nodes.new.slots ≡ nodes.old.slots }
     ensures room { room_of nodes.new ≡ room_of nodes.old }
     ensures counted { LooksUp (if is_some at then 1 else 0) cost.old cost.new }
@@ -117,7 +117,7 @@ pub fn set_next_of(nodes: &mut Nodes, at: Option<Link>, next: Option<Link>, cost
 pub fn set_prev_of(nodes: &mut Nodes, at: Option<Link>, prev: Option<Link>, cost: &mut Cost)
     requires there { Reaches nodes.old at }
     requires prev { Leads nodes.old prev }
-    ensures changes { ChangesAtOpt (link_number at) (with_prev (link_number prev)) (held_at nodes.old) (held_at nodes.new) }
+    ensures changes { ChangesAtOpt (link_chunk_id at) (with_prev (link_chunk_id prev)) (held_at nodes.old) (held_at nodes.new) }
     ensures slots { nodes.new.slots ≡ nodes.old.slots }
     ensures room { room_of nodes.new ≡ room_of nodes.old }
     ensures counted { LooksUp (if is_some at then 1 else 0) cost.old cost.new }
@@ -138,8 +138,8 @@ pub struct Ends {
 /// Where the chunk that a link leads to stands.
 pub fn ends_of(nodes: &Nodes, at: Link, cost: &mut Cost) -> Ends
     requires { Reaches nodes.now (Some at) }
-    ensures ends { (n : Node) → held_at nodes.now at.number ≡ Some n →
-        (result.start ≡ (n.chunk).start) × (link_number result.prev ≡ n.prev) × (link_number result.next ≡ n.next) }
+    ensures ends { (n : Node) → held_at nodes.now at.chunk_id ≡ Some n →
+        (result.start ≡ (n.chunk).start) × (link_chunk_id result.prev ≡ n.prev) × (link_chunk_id result.next ≡ n.next) }
     ensures links { Leads nodes.now result.prev × Leads nodes.now result.next }
     ensures counted { LooksUp 1 cost.old cost.new }
 {
@@ -153,9 +153,9 @@ pub fn ends_of(nodes: &Nodes, at: Link, cost: &mut Cost) -> Ends
 
 /// Makes one chunk of two neighbours. It takes no memory.
 pub fn join_next(nodes: &mut Nodes, left: Link, right: Link, cost: &mut Cost)
-    requires joins { CanJoin (held_at nodes.old) left.number right.number }
+    requires joins { CanJoin (held_at nodes.old) left.chunk_id right.chunk_id }
     requires leads { Leads nodes.old (Some left) × Leads nodes.old (Some right) }
-    ensures joins { JoinsNext left.number right.number (held_at nodes.old) (held_at nodes.new) }
+    ensures joins { JoinsNext left.chunk_id right.chunk_id (held_at nodes.old) (held_at nodes.new) }
     ensures kept { KeepsLinks nodes.old nodes.new }
     ensures room { room_of nodes.old ≤ room_of nodes.new }
     ensures counted { LooksUpBetween 2 3 cost.old cost.new }
@@ -176,7 +176,7 @@ pub fn set_use(
     cost: &mut Cost,
 )
     requires { Reaches nodes.old (Some at) }
-    ensures changes { ChangesAt at.number (used_node offset kind name) (held_at nodes.old) (held_at nodes.new) }
+    ensures changes { ChangesAt at.chunk_id (used_node offset kind name) (held_at nodes.old) (held_at nodes.new) }
     ensures slots { nodes.new.slots ≡ nodes.old.slots }
     ensures room { room_of nodes.new ≡ room_of nodes.old }
     ensures counted { LooksUp 1 cost.old cost.new }
@@ -195,7 +195,7 @@ pub fn set_use(
 /// Whether the chunk that a link leads to is free.
 pub fn is_free_at(nodes: &Nodes, at: Link, cost: &mut Cost) -> bool
     requires { Reaches nodes.now (Some at) }
-    ensures free { (n : Node) → held_at nodes.now at.number ≡ Some n → result ≡ is_free_kind (n.chunk).kind }
+    ensures free { (n : Node) → held_at nodes.now at.chunk_id ≡ Some n → result ≡ is_free_kind (n.chunk).kind }
     ensures counted { LooksUp 1 cost.old cost.new }
 {
     match linked_at(nodes, at, cost).chunk.kind {
@@ -206,9 +206,9 @@ pub fn is_free_at(nodes: &Nodes, at: Link, cost: &mut Cost) -> bool
 
 /// Joins a chunk with the next one, if that is free.
 pub fn join_right(nodes: &mut Nodes, at: Link, cost: &mut Cost)
-    requires linked { LinkedAt (held_at nodes.old) at.number }
+    requires linked { LinkedAt (held_at nodes.old) at.chunk_id }
     requires leads { Leads nodes.old (Some at) }
-    ensures joins { JoinsRight at.number (held_at nodes.old) (held_at nodes.new) }
+    ensures joins { JoinsRight at.chunk_id (held_at nodes.old) (held_at nodes.new) }
     ensures kept { KeepsLinks nodes.old nodes.new }
     ensures room { room_of nodes.old ≤ room_of nodes.new }
     ensures counted { LooksUpBetween 1 5 cost.old cost.new }
@@ -223,9 +223,9 @@ pub fn join_right(nodes: &mut Nodes, at: Link, cost: &mut Cost)
 
 /// Joins a chunk with the one before it, if that is free.
 pub fn join_left(nodes: &mut Nodes, at: Link, cost: &mut Cost)
-    requires linked { LinkedAt (held_at nodes.old) at.number }
+    requires linked { LinkedAt (held_at nodes.old) at.chunk_id }
     requires leads { Leads nodes.old (Some at) }
-    ensures joins { JoinsLeft at.number (held_at nodes.old) (held_at nodes.new) }
+    ensures joins { JoinsLeft at.chunk_id (held_at nodes.old) (held_at nodes.new) }
     ensures room { room_of nodes.old ≤ room_of nodes.new }
     ensures counted { LooksUpBetween 1 5 cost.old cost.new }
 {

@@ -47,23 +47,23 @@ impl Nodes {
     }
 
     /// The chunk of a number.
-    pub fn get(&self, number: u64) -> Option<&LinkedChunk>
-        ensures value { option_map node_value (option_copied result) ≡ held_at self.now number }
+    pub fn get(&self, chunk_id: u64) -> Option<&LinkedChunk>
+        ensures value { option_map node_value (option_copied result) ≡ held_at self.now chunk_id }
         ensures links { IfSome result (λ n. Leads self.now n.now.prev × Leads self.now n.now.next) }
     {
-        let slot = self.slots.get(&number)?;
+        let slot = self.slots.get(&chunk_id)?;
         self.chunks.get(*slot)
     }
 
     /// Where the chunk of a number is found.
-    pub fn link_to(&self, number: u64) -> Link
-        requires { IsSome (held_at self.now number) }
-        ensures number { result.number ≡ number }
+    pub fn link_to(&self, chunk_id: u64) -> Link
+        requires { IsSome (held_at self.now chunk_id) }
+        ensures chunk_id { result.chunk_id ≡ chunk_id }
         ensures leads { Leads self.now (Some result) }
     {
-        match self.slots.get(&number) {
+        match self.slots.get(&chunk_id) {
             Some(slot) => Link {
-                number,
+                chunk_id,
                 slot: *slot,
             },
             None => unreachable!(),
@@ -73,7 +73,7 @@ impl Nodes {
     /// The chunk that a link leads to.
     pub fn linked(&self, link: Link) -> &LinkedChunk
         requires { Reaches self.now (Some link) }
-        ensures value { held_at self.now link.number ≡ Some (node_value result.now) }
+        ensures value { held_at self.now link.chunk_id ≡ Some (node_value result.now) }
         ensures links { Leads self.now result.now.prev × Leads self.now result.now.next }
     {
         // a read, so that the proof has the invariant
@@ -103,20 +103,20 @@ impl Nodes {
     }
 
     /// Puts a chunk under its number, which no other has. There is room for it, so no memory is taken.
-    pub fn put(&mut self, number: u64, chunk: LinkedChunk) -> Link
+    pub fn put(&mut self, chunk_id: u64, chunk: LinkedChunk) -> Link
         requires room { 0 < room_of self.old }
-        requires numbered { (chunk.chunk).number ≡ number }
-        requires unlinked { IsUnlinked number (held_at self.old) }
+        requires numbered { (chunk.chunk).chunk_id ≡ chunk_id }
+        requires unlinked { IsUnlinked chunk_id (held_at self.old) }
         requires prev { Reaches self.old chunk.prev }
         requires next { Reaches self.old chunk.next }
-        ensures sets { SetsAt number (Some (node_value chunk)) (held_at self.old) (held_at self.new) }
-        ensures link { (result.number ≡ number) × Leads self.new (Some result) }
+        ensures sets { SetsAt chunk_id (Some (node_value chunk)) (held_at self.old) (held_at self.new) }
+        ensures link { (result.chunk_id ≡ chunk_id) × Leads self.new (Some result) }
         ensures links { KeepsReached self.old self.new }
         ensures room { room_of self.old ≤ room_of self.new + 1 }
     {
         let slot = self.chunks.insert_reserved(chunk);
-        match self.slots.insert(number, slot) {
-            Ok(_) => Link { number, slot },
+        match self.slots.insert(chunk_id, slot) {
+            Ok(_) => Link { chunk_id, slot },
             Err(_) => unreachable!(),
         }
     }
@@ -124,13 +124,13 @@ impl Nodes {
     /// Takes the chunk that a link leads to out of its slot.
     pub fn remove(&mut self, link: Link) -> LinkedChunk
         requires { Reaches self.old (Some link) }
-        ensures node { held_at self.old link.number ≡ Some (node_value result) }
+        ensures node { held_at self.old link.chunk_id ≡ Some (node_value result) }
         ensures links { Leads self.old result.prev × Leads self.old result.next }
-        ensures sets { SetsAt link.number None (held_at self.old) (held_at self.new) }
+        ensures sets { SetsAt link.chunk_id None (held_at self.old) (held_at self.new) }
         ensures kept { KeepsLinks self.old self.new }
         ensures room { room_of self.old ≤ room_of self.new }
     {
-        let _ = self.slots.remove(&link.number);
+        let _ = self.slots.remove(&link.chunk_id);
         self.chunks.remove(link.slot)
     }
 }

@@ -42,7 +42,7 @@ fn linear(rt: &impl Abort, block: &mut FreeListAllocator, size: u64, want: Optio
     take(rt, block, (size, 1), AllocationType::Linear, 1, want)
 }
 
-fn give(rt: &impl Abort, block: &mut FreeListAllocator, number: u64)
+fn give(rt: &impl Abort, block: &mut FreeListAllocator, chunk_id: u64)
     ensures { block.new.block.granularity ≡ block.old.block.granularity }
 {
     assert!(rt; block.free(NonZeroU64::new(number)).is_ok());
@@ -52,7 +52,7 @@ fn refuse(
     rt: &impl Abort,
     alloc: Global,
     block: &mut FreeListAllocator,
-    number: u64,
+    chunk_id: u64,
     want: &str,
 ) -> Result<()>
     ensures { block.new.block.granularity ≡ block.old.block.granularity }

@@ -69,7 +69,7 @@ fn check_leaks_behind(
     rt: &impl Abort,
     alloc: Global,
     block: &mut SubAllocator,
-    number: u64,
+    chunk_id: u64,
     want: &[&str],
 ) -> Result<()> {
     free(block, number)?;

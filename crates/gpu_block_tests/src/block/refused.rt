@@ -84,7 +84,7 @@ fn rename(
     block: &mut SubAllocator,
     refusals: &mut Refusals,
     alloc: Global,
-    number: u64,
+    chunk_id: u64,
     name: &str,
 ) -> Result<()>
     ensures { (g : ℕ) → HasPages (block_of block.old) g → HasPages (block_of block.new) g }

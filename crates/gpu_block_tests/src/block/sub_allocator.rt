@@ -65,14 +65,14 @@ fn image(size: u64, granularity: u64, name: &str) -> Request<'_>
 }
 
 /// 0 stands for no number.
-fn rename(block: &mut SubAllocator, number: u64, name: &str) -> Result<()>
+fn rename(block: &mut SubAllocator, chunk_id: u64, name: &str) -> Result<()>
     ensures { (g : ℕ) → HasPages (block_of block.old) g → HasPages (block_of block.new) g }
 {
     block.rename_allocation(NonZeroU64::new(number), name)
 }
 
 /// 0 stands for no number.
-fn place(block: &SubAllocator, number: u64) -> Option<(u64, u64)> {
+fn place(block: &SubAllocator, chunk_id: u64) -> Option<(u64, u64)> {
     block.place_of(NonZeroU64::new(number)?)
 }
 

@@ -33,7 +33,7 @@ fn small_buffer(
 }
 
 /// The number of the first live piece in slot 0 of the memory type at `index`, where there is one.
-fn first_number(a: &Allocator<SimMetal>, index: usize) -> Option<u64> {
+fn first_chunk_id(a: &Allocator<SimMetal>, index: usize) -> Option<u64> {
     let mut pieces = a.memory_types().memory_type(index)?.pieces(0)?;
     let first = pieces.next()?;
     Some(first.number())
@@ -43,8 +43,8 @@ fn first_number(a: &Allocator<SimMetal>, index: usize) -> Option<u64> {
 /// residency set, which are committed then.
 fn check_both(rt: &impl Abort, a: &mut Allocator<SimMetal>, large: MTLHeap, small: MTLHeap) {
     check_live(rt, a, &[large, small]);
-    assert!(rt; first_number(a, 0) == Some(1));
-    assert!(rt; first_number(a, 1) == Some(2));
+    assert!(rt; first_chunk_id(a, 0) == Some(1));
+    assert!(rt; first_chunk_id(a, 1) == Some(2));
     if let Some(set) = set_of(a) {
         check_heaps(rt, a.device().members(set), &[large, small]);
         check_heaps(rt, a.device().committed_members(set), &[]);
@@ -56,8 +56,8 @@ fn check_both(rt: &impl Abort, a: &mut Allocator<SimMetal>, large: MTLHeap, smal
 /// Looks that the small one's heap is left, where a residency set has both committed still.
 fn check_small(rt: &impl Abort, a: &Allocator<SimMetal>, large: MTLHeap, small: MTLHeap) {
     check_live(rt, a, &[small]);
-    assert!(rt; first_number(a, 0).is_none());
-    assert!(rt; first_number(a, 1) == Some(2));
+    assert!(rt; first_chunk_id(a, 0).is_none());
+    assert!(rt; first_chunk_id(a, 1) == Some(2));
     if let Some(set) = set_of(a) {
         check_heaps(rt, a.device().members(set), &[small]);
         check_heaps(rt, a.device().committed_members(set), &[large, small]);

@@ -1,15 +1,15 @@
 use Rattle.std.proofs.Common.{◌≡◌, ◌∙◌, sym, subst, ℕ}
 use Rattle.gpu_block_gaps.specs.declared.index.Gap.{Gap}
-use Rattle.gpu_block_chunks.specs.Chain.{HasNumber}
+use Rattle.gpu_block_chunks.specs.Chain.{HasChunkId}
 use Rattle.gpu_block_gaps.specs.Index.{HasNoKey}
-use Rattle.gpu_block_pieces.proofs.Merges.{forgets_ordered, may_before, may_after, gap, gap_split, gap_number, gap_there, entry, no_entry, room_left, release_listed, release_live}
+use Rattle.gpu_block_pieces.proofs.Merges.{forgets_ordered, may_before, may_after, gap, gap_split, gap_chunk_id, gap_there, entry, no_entry, room_left, release_listed, release_live}
 use Rattle.gpu_block_pieces.proofs.update.release.Goals as goal
 use Rattle.gpu_block_pieces.proofs.update.release.Goals.{After-gap_at-gap}
 
 pub gap_at-gap-requires : goal.gap_at-gap-requires
 gap_at-gap-requires c =
     let h = gap_there c.args.chain.now.chunks c.release.new.self.chunks c.args.index.now.gaps c.args.around c.requires.listed c.requires.piece c.laid_out.ensures.distinct c.release.ensures.chunks in
-    record { there = subst (λ (n : ℕ). HasNumber c.release.new.self.chunks n) (sym c.first_number.ensures) h }
+    record { there = subst (λ (n : ℕ). HasChunkId c.release.new.self.chunks n) (sym c.first_chunk_id.ensures) h }
 
 -- the entry that goes in
 entry_is : (c : After-gap_at-gap) → c.gap_at-gap.result ≡ entry c.args.chain.now.chunks c.release.new.self.chunks c.args.index.now.gaps c.args.around c.requires.listed c.requires.piece
@@ -18,8 +18,8 @@ entry_is c =
     c.gap_at-gap.ensures.gap _ (gap c.args.chain.now.chunks c.release.new.self.chunks c.args.index.now.gaps c.args.around c.requires.listed c.requires.piece c.laid_out.ensures.distinct
     c.release.ensures.chunks) _
     (gap_split c.args.chain.now.chunks c.release.new.self.chunks c.args.index.now.gaps c.args.around c.requires.listed c.requires.piece c.laid_out.ensures.distinct c.release.ensures.chunks)
-    (gap_number c.args.chain.now.chunks c.release.new.self.chunks c.args.index.now.gaps c.args.around c.requires.listed c.requires.piece c.laid_out.ensures.distinct c.release.ensures.chunks ∙ sym
-    c.first_number.ensures)
+    (gap_chunk_id c.args.chain.now.chunks c.release.new.self.chunks c.args.index.now.gaps c.args.around c.requires.listed c.requires.piece c.laid_out.ensures.distinct c.release.ensures.chunks ∙ sym
+    c.first_chunk_id.ensures)
 
 pub put_joined-requires-clause-before : goal.put_joined-requires-clause-before
 put_joined-requires-clause-before c = may_before c.args.chain.now.chunks c.release.new.self.chunks c.args.index.now.gaps c.args.around c.requires.listed c.requires.piece c.laid_out.ensures.distinct

@@ -7,9 +7,9 @@ use Rattle.gpu_block_chunks.proofs.chain.Chain.chunk.Goals as goal
 pub returns-in_err-node-clause-value : goal.returns-in_err-node-clause-value
 returns-in_err-node-clause-value c =
     rw c.from_residual.ensures (none_held (held_at c.self.inside.nodes) c.self.inside.first c.self.inside.size _ c.args.self.now.chunks c.self.invariant
-    (ap (λ (v : Linked). v.chunks) c.self.view_is) c.args.number (sym c.in_err-node.ensures.value))
+    (ap (λ (v : Linked). v.chunks) c.self.view_is) c.args.chunk_id (sym c.in_err-node.ensures.value))
 
 pub returns-clause-value : goal.returns-clause-value
 returns-clause-value c =
-    rw c.number_of.ensures (chunk_at (held_at c.self.inside.nodes) c.self.inside.first c.self.inside.size _ c.args.self.now.chunks c.self.invariant
-    (ap (λ (v : Linked). v.chunks) c.self.view_is) c.args.number (node_value c.in_ok-node.node.now) (sym c.in_ok-node.ensures.value))
+    rw c.chunk_id_of.ensures (chunk_at (held_at c.self.inside.nodes) c.self.inside.first c.self.inside.size _ c.args.self.now.chunks c.self.invariant
+    (ap (λ (v : Linked). v.chunks) c.self.view_is) c.args.chunk_id (node_value c.in_ok-node.node.now) (sym c.in_ok-node.ensures.value))

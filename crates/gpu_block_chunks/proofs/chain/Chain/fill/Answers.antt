@@ -7,27 +7,27 @@ use Rattle.gpu_block_chunks.proofs.chain.Chain.fill.Goals as goal
 
 pub link_to-at-requires : goal.link_to-at-requires
 link_to-at-requires c =
-    opened_has (held_at c.self.inside.nodes) c.self.inside.first c.self.inside.size _ c.args.number
+    opened_has (held_at c.self.inside.nodes) c.self.inside.first c.self.inside.size _ c.args.chunk_id
     (open_at (held_at c.self.inside.nodes) c.self.inside.first c.self.inside.size _ c.args.self.now.chunks c.self.invariant (ap (λ (v : Linked). v.chunks) c.self.view_is)
-    c.args.number c.requires.there)
+    c.args.chunk_id c.requires.there)
 
 pub set_use-requires : goal.set_use-requires
 set_use-requires c = (
   c.link_to-at.ensures.leads,
-  rw c.link_to-at.ensures.number
-      (opened_has (held_at c.self.inside.nodes) c.self.inside.first c.self.inside.size _ c.args.number
+  rw c.link_to-at.ensures.chunk_id
+      (opened_has (held_at c.self.inside.nodes) c.self.inside.first c.self.inside.size _ c.args.chunk_id
       (open_at (held_at c.self.inside.nodes) c.self.inside.first c.self.inside.size _ c.args.self.now.chunks c.self.invariant (ap (λ (v : Linked). v.chunks) c.self.view_is)
-      c.args.number c.requires.there)),
+      c.args.chunk_id c.requires.there)),
 )
 
 pub invariant_of-self : goal.invariant_of-self
 invariant_of-self c =
     (filled (held_at c.self.inside.nodes) c.self.inside.first c.self.inside.size _ c.args.self.now.chunks c.self.invariant (ap (λ (v : Linked). v.chunks) c.self.view_is)
-    (held_at c.set_use.new.nodes) c.args.number c.args.offset c.args.kind c.args.name
-    c.requires.there (rw c.link_to-at.ensures.number at c.set_use.ensures.changes)).0
+    (held_at c.set_use.new.nodes) c.args.chunk_id c.args.offset c.args.kind c.args.name
+    c.requires.there (rw c.link_to-at.ensures.chunk_id at c.set_use.ensures.changes)).0
 
 pub returns-clause-chunks : goal.returns-clause-chunks
 returns-clause-chunks c =
     (filled (held_at c.self.inside.nodes) c.self.inside.first c.self.inside.size _ c.args.self.now.chunks c.self.invariant (ap (λ (v : Linked). v.chunks) c.self.view_is)
-    (held_at c.set_use.new.nodes) c.args.number c.args.offset c.args.kind c.args.name
-    c.requires.there (rw c.link_to-at.ensures.number at c.set_use.ensures.changes)).1
+    (held_at c.set_use.new.nodes) c.args.chunk_id c.args.offset c.args.kind c.args.name
+    c.requires.there (rw c.link_to-at.ensures.chunk_id at c.set_use.ensures.changes)).1

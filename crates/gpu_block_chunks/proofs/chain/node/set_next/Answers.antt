@@ -1,6 +1,6 @@
 use Rattle.std.proofs.Common.{refl}
 use Rattle.gpu_block_chunks.specs.Chain.{with_next}
-use Rattle.gpu_block_chunks.specs.Nodes.{link_number}
+use Rattle.gpu_block_chunks.specs.Nodes.{link_chunk_id}
 use Rattle.gpu_block_chunks.proofs.Slots.{set_sound, set_changes, prev_kept, given}
 use Rattle.gpu_block_chunks.proofs.chain.node.set_next.Goals as goal
 
@@ -12,4 +12,4 @@ invariant_of-nodes c =
 
 pub returns-clause-changes : goal.returns-clause-changes
 returns-clause-changes c =
-    set_changes _ _ c.nodes.view_is c.nodes.invariant c.args.at c.requires.there c.in-Some.linked.now c.in-Some.ensures.value _ (with_next (link_number c.args.next)) refl
+    set_changes _ _ c.nodes.view_is c.nodes.invariant c.args.at c.requires.there c.in-Some.linked.now c.in-Some.ensures.value _ (with_next (link_chunk_id c.args.next)) refl

@@ -1,6 +1,6 @@
 use Rattle.std.proofs.Common.{refl}
 use Rattle.gpu_block_chunks.specs.Chain.{with_prev}
-use Rattle.gpu_block_chunks.specs.Nodes.{link_number}
+use Rattle.gpu_block_chunks.specs.Nodes.{link_chunk_id}
 use Rattle.gpu_block_chunks.proofs.Slots.{set_sound, set_changes, next_kept, given}
 use Rattle.gpu_block_chunks.proofs.chain.node.set_prev.Goals as goal
 
@@ -12,4 +12,4 @@ invariant_of-nodes c =
 
 pub returns-clause-changes : goal.returns-clause-changes
 returns-clause-changes c =
-    set_changes _ _ c.nodes.view_is c.nodes.invariant c.args.at c.requires.there c.in-Some.linked.now c.in-Some.ensures.value _ (with_prev (link_number c.args.prev)) refl
+    set_changes _ _ c.nodes.view_is c.nodes.invariant c.args.at c.requires.there c.in-Some.linked.now c.in-Some.ensures.value _ (with_prev (link_chunk_id c.args.prev)) refl

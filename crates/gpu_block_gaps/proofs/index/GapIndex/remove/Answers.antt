@@ -8,7 +8,7 @@ use Rattle.gpu_values.specs.declared.allocation_type.AllocationType.TheVariants.
 use Rattle.gpu_block_gaps.proofs.index.GapIndex.remove.Goals as goal
 
 abbrev none : Gap
-none = record { length = 0; start = 0; number = 0; before = Free; after = Free }
+none = record { length = 0; start = 0; chunk_id = 0; before = Free; after = Free }
 
 pub remove-requires : goal.remove-requires
 remove-requires c =

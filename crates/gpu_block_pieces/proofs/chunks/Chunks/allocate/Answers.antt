@@ -42,7 +42,7 @@ returns-then-taken-found-clause-taken c =
     let f = chosen_fits c.self.inside.chain.chunks c.args.wanted c.args.found c.self.inside.chain.size c.laid_out.ensures.covers c.laid_out.ensures.bounded h in
     front_taken c.args.self.now.items c.allocate_front.new.chain.chunks c.args.wanted c.args.found c.args.counter c.args.name (subst (λ (xs : List Chunk). AreDistinct xs) v c.laid_out.ensures.distinct)
     (c.args.found.offset + c.args.wanted.size - c.args.found.gap.start) refl c.if-taken-found.true f.low
-    (subst (λ (xs : List Chunk). IsSplit xs c.args.found.gap.number (c.args.found.offset + c.args.wanted.size - c.args.found.gap.start) c.args.counter c.args.found.offset c.args.wanted.kind
+    (subst (λ (xs : List Chunk). IsSplit xs c.args.found.gap.chunk_id (c.args.found.offset + c.args.wanted.size - c.args.found.gap.start) c.args.counter c.args.found.offset c.args.wanted.kind
     c.args.name c.allocate_front.new.chain.chunks) (c.in_ok-make_room.ensures.chain.0 ∙ v) c.allocate_front.ensures.chunks)
 
 pub returns-clause-taken : goal.returns-clause-taken
@@ -53,5 +53,5 @@ returns-clause-taken c =
     let some = c.requires.sized in
     whole_taken c.args.self.now.items c.allocate_whole.new.chain.chunks c.args.wanted c.args.found c.args.counter c.args.name (subst (λ (xs : List Chunk). AreDistinct xs) v c.laid_out.ensures.distinct)
     (omega (arith, c.if-taken-found.false)) (omega (arith, f.low, f.high))
-    (subst (λ (xs : List Chunk). IsFilled xs c.args.found.gap.number c.args.found.offset c.args.wanted.kind c.args.name c.allocate_whole.new.chain.chunks) (c.in_ok-make_room.ensures.chain.0 ∙ v)
+    (subst (λ (xs : List Chunk). IsFilled xs c.args.found.gap.chunk_id c.args.found.offset c.args.wanted.kind c.args.name c.allocate_whole.new.chain.chunks) (c.in_ok-make_room.ensures.chain.0 ∙ v)
     c.allocate_whole.ensures.chunks)

@@ -7,9 +7,9 @@ use Rattle.gpu_block_pieces.proofs.chunks.Chunks.has_gap.Goals as goal
 
 pub returns-in-Some-clause-gap : goal.returns-in-Some-clause-gap
 returns-in-Some-clause-gap c =
-    gap_of_chunk c.self.inside.chain.chunks c.in-Some.chunk.now c.args.number c.is_free.result c.laid_out.ensures.distinct c.in-Some.ensures.value.at c.is_free.ensures
-    ∙ ap (λ (v : LaidChunks). list_any (λ x. is_gap_by x.kind c.args.number x) v.items) c.self.view_is
+    gap_of_chunk c.self.inside.chain.chunks c.in-Some.chunk.now c.args.chunk_id c.is_free.result c.laid_out.ensures.distinct c.in-Some.ensures.value.at c.is_free.ensures
+    ∙ ap (λ (v : LaidChunks). list_any (λ x. is_gap_by x.kind c.args.chunk_id x) v.items) c.self.view_is
 
 pub returns-in-None-clause-gap : goal.returns-in-None-clause-gap
 returns-in-None-clause-gap c =
-    no_gap_of c.self.inside.chain.chunks c.args.number c.in-None.ensures.value ∙ ap (λ (v : LaidChunks). list_any (λ x. is_gap_by x.kind c.args.number x) v.items) c.self.view_is
+    no_gap_of c.self.inside.chain.chunks c.args.chunk_id c.in-None.ensures.value ∙ ap (λ (v : LaidChunks). list_any (λ x. is_gap_by x.kind c.args.chunk_id x) v.items) c.self.view_is

@@ -21,9 +21,9 @@ use Rattle.gpu_cost.specs.declared.cost.Cost.{Cost}
 use Rattle.gpu_block_pieces.specs.Search.{IsSearch}
 use Rattle.gpu_block_pieces.proofs.Amounts.{bytes_of, taken_bytes, room_for}
 use Rattle.gpu_block_pieces.proofs.Costing.{Taking, searched, nothing_taken, not_taken, place_taken}
-use Rattle.gpu_block_pieces.proofs.FoundByChunkId.{chosen_fits, fresh_number, rest_of_chunk, no_rest_of_chunk}
+use Rattle.gpu_block_pieces.proofs.FoundByChunkId.{chosen_fits, fresh_chunk_id, rest_of_chunk, no_rest_of_chunk}
 use Rattle.gpu_block_pieces.proofs.cut_block.CutBlock.allocate.Goals as goal
-use Rattle.gpu_block_pieces.proofs.cut_block.CutBlock.allocate.Goals.{In-Some, In_ok-number, After-find_place, After-leaves_rest-rest, In_default, then-rest-2, else-rest-2}
+use Rattle.gpu_block_pieces.proofs.cut_block.CutBlock.allocate.Goals.{In-Some, In_ok-chunk_id, After-find_place, After-leaves_rest-rest, In_default, then-rest-2, else-rest-2}
 use Rattle.gpu_block_pieces.proofs.cut_block.CutBlock.allocate.Goals.{else-rest-via-then-rest+else-self, else-rest-via-else-rest}
 
 -- what is asked, and of whom
@@ -67,11 +67,11 @@ returns-then-self-clause-cause c =
 
 -- ---- the two outcomes
 
-abbrev Steps : In_ok-number → ℕ → ℕ → Type 0
+abbrev Steps : In_ok-chunk_id → ℕ → ℕ → Type 0
 Steps c n after = Stepped c.args.self.now (request c.args.size c.args.alignment c.args.kind c.args.name.now) c.in-Some.found.offset n c.self.inside.chunks.size c.self.inside.granularity after
     c.allocate.new.self.items
 
-the_rest : (c : In_ok-number) (n : ℕ) → n ≡ c.in_ok-number.number → c.leaves_rest-rest.result ≡ true → Steps c n (c.self.inside.counter + 1)
+the_rest : (c : In_ok-chunk_id) (n : ℕ) → n ≡ c.in_ok-chunk_id.chunk_id → c.leaves_rest-rest.result ≡ true → Steps c n (c.self.inside.counter + 1)
 the_rest c n e is =
     let i = c.self.inside in
     let w : Wanted = record { size = c.args.size; alignment = c.args.alignment; kind = c.args.kind; granularity = c.args.granularity } in
@@ -82,34 +82,34 @@ the_rest c n e is =
       | else-rest-via-then-rest+else-self v ↦ (let ne = v.if-self.false in omega arith)
       | else-rest-via-else-rest v ↦ absurd (false≢true (sym v.if-rest.false ∙ is))
     ] in
-    stepped c.args.self.now (request c.args.size c.args.alignment c.args.kind c.args.name.now) c.in-Some.found.offset n c.in_ok-number.number i.chunks.size i.granularity c.args.granularity i.counter
+    stepped c.args.self.now (request c.args.size c.args.alignment c.args.kind c.args.name.now) c.in-Some.found.offset n c.in_ok-chunk_id.chunk_id i.chunks.size i.granularity c.args.granularity i.counter
     (i.counter + 1) i.chunks.items c.allocate.new.self.items c.self.view_is c.requires.paged e c.self.invariant.0 c.requires.sized c.self.invariant.1 c.self.invariant.2
-    (rest_taken_are i.chunks.items c.allocate.new.self.items i.chunks.size i.counter w f c.in_ok-text.text c.in_ok-number.number c.self.invariant.1 c.requires.sized c.requires.piece h.best
-    (c.in_ok-number.ensures.taken h) rest)
-    (rest_takes i.chunks.items c.allocate.new.self.items i.chunks.size i.counter w f c.in_ok-text.text c.in_ok-number.number c.self.invariant.1 c.requires.sized c.requires.piece h.best
-    (c.in_ok-number.ensures.taken h) rest c.args.name.now c.in_ok-text.ensures.text left)
+    (rest_taken_are i.chunks.items c.allocate.new.self.items i.chunks.size i.counter w f c.in_ok-text.text c.in_ok-chunk_id.chunk_id c.self.invariant.1 c.requires.sized c.requires.piece h.best
+    (c.in_ok-chunk_id.ensures.taken h) rest)
+    (rest_takes i.chunks.items c.allocate.new.self.items i.chunks.size i.counter w f c.in_ok-text.text c.in_ok-chunk_id.chunk_id c.self.invariant.1 c.requires.sized c.requires.piece h.best
+    (c.in_ok-chunk_id.ensures.taken h) rest c.args.name.now c.in_ok-text.ensures.text left)
 
-the_whole : (c : In_ok-number) (n : ℕ) → n ≡ c.in_ok-number.number → c.leaves_rest-rest.result ≡ false → Steps c n c.self.inside.counter
+the_whole : (c : In_ok-chunk_id) (n : ℕ) → n ≡ c.in_ok-chunk_id.chunk_id → c.leaves_rest-rest.result ≡ false → Steps c n c.self.inside.counter
 the_whole c n e is =
     let i = c.self.inside in
     let w : Wanted = record { size = c.args.size; alignment = c.args.alignment; kind = c.args.kind; granularity = c.args.granularity } in
     let h = c.in-Some.ensures.found in
     let f = chosen_at i.chunks.items w c.in-Some.found h in
     let whole = no_rest_of_chunk i.chunks.items w c.in-Some.found c.leaves_rest-rest.result h is c.leaves_rest-rest.ensures.1 in
-    stepped c.args.self.now (request c.args.size c.args.alignment c.args.kind c.args.name.now) c.in-Some.found.offset n c.in_ok-number.number i.chunks.size i.granularity c.args.granularity i.counter
+    stepped c.args.self.now (request c.args.size c.args.alignment c.args.kind c.args.name.now) c.in-Some.found.offset n c.in_ok-chunk_id.chunk_id i.chunks.size i.granularity c.args.granularity i.counter
     i.counter i.chunks.items c.allocate.new.self.items c.self.view_is c.requires.paged e c.self.invariant.0 c.requires.sized c.self.invariant.1 c.self.invariant.2
-    (whole_taken_are i.chunks.items c.allocate.new.self.items i.chunks.size i.counter w f c.in_ok-text.text c.in_ok-number.number c.self.invariant.1 c.requires.sized c.requires.piece h.best
-    (c.in_ok-number.ensures.taken h) whole)
-    (whole_takes i.chunks.items c.allocate.new.self.items i.chunks.size i.counter w f c.in_ok-text.text c.in_ok-number.number c.self.invariant.1 c.requires.sized c.requires.piece h.best
-    (c.in_ok-number.ensures.taken h) whole c.args.name.now c.in_ok-text.ensures.text)
+    (whole_taken_are i.chunks.items c.allocate.new.self.items i.chunks.size i.counter w f c.in_ok-text.text c.in_ok-chunk_id.chunk_id c.self.invariant.1 c.requires.sized c.requires.piece h.best
+    (c.in_ok-chunk_id.ensures.taken h) whole)
+    (whole_takes i.chunks.items c.allocate.new.self.items i.chunks.size i.counter w f c.in_ok-text.text c.in_ok-chunk_id.chunk_id c.self.invariant.1 c.requires.sized c.requires.piece h.best
+    (c.in_ok-chunk_id.ensures.taken h) whole c.args.name.now c.in_ok-text.ensures.text)
 
 -- what the pieces take then
-the_bytes : (c : In_ok-number) → bytes_of c.allocate.new.self.items ≡ bytes_of c.self.inside.chunks.items + (c.in-Some.found.offset + c.args.size - c.in-Some.found.gap.start)
+the_bytes : (c : In_ok-chunk_id) → bytes_of c.allocate.new.self.items ≡ bytes_of c.self.inside.chunks.items + (c.in-Some.found.offset + c.args.size - c.in-Some.found.gap.start)
 the_bytes c =
     let i = c.self.inside in
     let w : Wanted = record { size = c.args.size; alignment = c.args.alignment; kind = c.args.kind; granularity = c.args.granularity } in
     let h = c.in-Some.ensures.found in
-    taken_bytes i.chunks.items c.allocate.new.self.items w c.in-Some.found i.counter c.in_ok-number.number c.in_ok-text.text h c.requires.piece (c.in_ok-number.ensures.taken h)
+    taken_bytes i.chunks.items c.allocate.new.self.items w c.in-Some.found i.counter c.in_ok-chunk_id.chunk_id c.in_ok-text.text h c.requires.piece (c.in_ok-chunk_id.ensures.taken h)
 
 pub overflow_add-self : goal.overflow_add-self
 overflow_add-self c =
@@ -127,64 +127,64 @@ overflow_add-self-2 c =
 
 pub invariant_of-self-then-rest-2 : goal.invariant_of-self-then-rest-2
 invariant_of-self-then-rest-2 c =
-    let s = the_rest ((goal.at.invariant_of-self-then-rest-2 c).In_ok-number) c.in_ok-number.number refl c.if-rest-2.true in
-    let b = the_bytes ((goal.at.invariant_of-self-then-rest-2 c).In_ok-number) in
+    let s = the_rest ((goal.at.invariant_of-self-then-rest-2 c).In_ok-chunk_id) c.in_ok-chunk_id.chunk_id refl c.if-rest-2.true in
+    let b = the_bytes ((goal.at.invariant_of-self-then-rest-2 c).In_ok-chunk_id) in
     let held = c.self.invariant.4 in
-    rw c.in_ok-number.ensures.size (c.self.invariant.0, s.are, s.separated, c.self.invariant.3, omega arith)
+    rw c.in_ok-chunk_id.ensures.size (c.self.invariant.0, s.are, s.separated, c.self.invariant.3, omega arith)
 
 pub invariant_of-self-else-rest-2 : goal.invariant_of-self-else-rest-2
 invariant_of-self-else-rest-2 c =
-    let s = the_whole ((goal.at.invariant_of-self-else-rest-2 c).In_ok-number) c.in_ok-number.number refl c.if-rest-2.false in
-    let b = the_bytes ((goal.at.invariant_of-self-else-rest-2 c).In_ok-number) in
+    let s = the_whole ((goal.at.invariant_of-self-else-rest-2 c).In_ok-chunk_id) c.in_ok-chunk_id.chunk_id refl c.if-rest-2.false in
+    let b = the_bytes ((goal.at.invariant_of-self-else-rest-2 c).In_ok-chunk_id) in
     let held = c.self.invariant.4 in
-    rw c.in_ok-number.ensures.size (c.self.invariant.0, s.are, s.separated, c.self.invariant.3, omega arith)
+    rw c.in_ok-chunk_id.ensures.size (c.self.invariant.0, s.are, s.separated, c.self.invariant.3, omega arith)
 
 pub non_zero-requires : goal.non_zero-requires
 non_zero-requires c =
     let at = (goal.at.non_zero-requires c).After-find_place in
     let h = c.in-Some.ensures.found in
     some_number c.self.inside.chunks.items c.allocate.new.self.items c.self.inside.chunks.size c.self.inside.counter (asked at) (the_found ((goal.at.non_zero-requires c).In-Some)) c.in_ok-text.text
-    c.in_ok-number.number c.self.invariant.1 c.requires.sized c.requires.piece h.best (c.in_ok-number.ensures.taken h)
+    c.in_ok-chunk_id.chunk_id c.self.invariant.1 c.requires.sized c.requires.piece h.best (c.in_ok-chunk_id.ensures.taken h)
 
 pub returns-clause-took : goal.returns-clause-took
 returns-clause-took c =
-    let at = (goal.at.returns-clause-took c).In_ok-number in
+    let at = (goal.at.returns-clause-took c).In_ok-chunk_id in
     elim c.if-rest-2.branch [
-      | then-rest-2 w ↦ rw (w.self-is, c.in_ok-number.ensures.size) (the_rest at _ c.non_zero.ensures w.if-rest-2.true).takes
-      | else-rest-2 w ↦ rw (w.self-is, c.in_ok-number.ensures.size) (the_whole at _ c.non_zero.ensures w.if-rest-2.false).takes
+      | then-rest-2 w ↦ rw (w.self-is, c.in_ok-chunk_id.ensures.size) (the_rest at _ c.non_zero.ensures w.if-rest-2.true).takes
+      | else-rest-2 w ↦ rw (w.self-is, c.in_ok-chunk_id.ensures.size) (the_whole at _ c.non_zero.ensures w.if-rest-2.false).takes
     ]
 
 pub returns-clause-sound : goal.returns-clause-sound
 returns-clause-sound c =
-    let at = (goal.at.returns-clause-sound c).In_ok-number in
+    let at = (goal.at.returns-clause-sound c).In_ok-chunk_id in
     let i = c.self.inside in
     elim c.if-rest-2.branch [
-      | then-rest-2 w ↦ rw (w.self-is, c.in_ok-number.ensures.size)
-          (sound_block c.allocate.new.self.items i.chunks.size i.granularity (i.counter + 1) (the_rest at c.in_ok-number.number refl w.if-rest-2.true).are)
-      | else-rest-2 w ↦ rw (w.self-is, c.in_ok-number.ensures.size)
-          (sound_block c.allocate.new.self.items i.chunks.size i.granularity i.counter (the_whole at c.in_ok-number.number refl w.if-rest-2.false).are)
+      | then-rest-2 w ↦ rw (w.self-is, c.in_ok-chunk_id.ensures.size)
+          (sound_block c.allocate.new.self.items i.chunks.size i.granularity (i.counter + 1) (the_rest at c.in_ok-chunk_id.chunk_id refl w.if-rest-2.true).are)
+      | else-rest-2 w ↦ rw (w.self-is, c.in_ok-chunk_id.ensures.size)
+          (sound_block c.allocate.new.self.items i.chunks.size i.granularity i.counter (the_whole at c.in_ok-chunk_id.chunk_id refl w.if-rest-2.false).are)
     ]
 
 pub returns-clause-covered : goal.returns-clause-covered
 returns-clause-covered c =
-    let at = (goal.at.returns-clause-covered c).In_ok-number in
+    let at = (goal.at.returns-clause-covered c).In_ok-chunk_id in
     let i = c.self.inside in
     let ds = c.allocate.new.self.items in
     elim c.if-rest-2.branch [
-      | then-rest-2 w ↦ rw (w.self-is, c.in_ok-number.ensures.size)
+      | then-rest-2 w ↦ rw (w.self-is, c.in_ok-chunk_id.ensures.size)
           (sound_covered (free_list_of i.chunks.size i.granularity (i.counter + 1) ds)
-          (sound_block ds i.chunks.size i.granularity (i.counter + 1) (the_rest at c.in_ok-number.number refl w.if-rest-2.true).are))
-      | else-rest-2 w ↦ rw (w.self-is, c.in_ok-number.ensures.size)
+          (sound_block ds i.chunks.size i.granularity (i.counter + 1) (the_rest at c.in_ok-chunk_id.chunk_id refl w.if-rest-2.true).are))
+      | else-rest-2 w ↦ rw (w.self-is, c.in_ok-chunk_id.ensures.size)
           (sound_covered (free_list_of i.chunks.size i.granularity i.counter ds)
-          (sound_block ds i.chunks.size i.granularity i.counter (the_whole at c.in_ok-number.number refl w.if-rest-2.false).are))
+          (sound_block ds i.chunks.size i.granularity i.counter (the_whole at c.in_ok-chunk_id.chunk_id refl w.if-rest-2.false).are))
     ]
 
 pub returns-clause-separated : goal.returns-clause-separated
 returns-clause-separated c =
-    let at = (goal.at.returns-clause-separated c).In_ok-number in
+    let at = (goal.at.returns-clause-separated c).In_ok-chunk_id in
     elim c.if-rest-2.branch [
-      | then-rest-2 w ↦ rw w.self-is (the_rest at c.in_ok-number.number refl w.if-rest-2.true).separated
-      | else-rest-2 w ↦ rw w.self-is (the_whole at c.in_ok-number.number refl w.if-rest-2.false).separated
+      | then-rest-2 w ↦ rw w.self-is (the_rest at c.in_ok-chunk_id.chunk_id refl w.if-rest-2.true).separated
+      | else-rest-2 w ↦ rw w.self-is (the_whole at c.in_ok-chunk_id.chunk_id refl w.if-rest-2.false).separated
     ]
 
 pub find_place-requires-clause-aligned : goal.find_place-requires-clause-aligned
@@ -211,12 +211,12 @@ returns-in_err-text-clause-cause c =
       | else-rest-via-else-rest v ↦ absurd (false≢true (sym v.if-rest.false ∙ is))
     ]))
 
-pub returns-in_err-number-clause-cause : goal.returns-in_err-number-clause-cause
-returns-in_err-number-clause-cause c =
-    let at = (goal.at.returns-in_err-number-clause-cause c).After-find_place in
+pub returns-in_err-chunk_id-clause-cause : goal.returns-in_err-chunk_id-clause-cause
+returns-in_err-chunk_id-clause-cause c =
+    let at = (goal.at.returns-in_err-chunk_id-clause-cause c).After-find_place in
     let i = c.self.inside in
     let h = c.in-Some.ensures.found in
-    host_refusal c.from_residual-in_err-number.result c.args.self.now (the_request at) c.from_residual-in_err-number.ensures.1
+    host_refusal c.from_residual-in_err-chunk_id.result c.args.self.now (the_request at) c.from_residual-in_err-chunk_id.ensures.1
     (has_place i.chunks.items i.chunks.size i.counter (asked at) c.args.self.now c.args.name.now (chosen_at i.chunks.items (asked at) c.in-Some.found h) c.self.invariant.1 c.requires.piece
     (the_view at) h.best (λ lt.
     let is = c.leaves_rest-rest.ensures.1 (subst (λ (g : Gap). c.in-Some.found.offset + c.args.size < g.start + g.length) (sym h.gap) lt) in
@@ -231,8 +231,8 @@ leaves_rest-rest-requires c =
     let f = chosen_fits c.self.inside.chunks.items w c.in-Some.found c.self.inside.chunks.size c.self.invariant.1.covers c.self.invariant.3 c.in-Some.ensures.found in
     (omega (arith, f.high, f.ends), f.ends)
 
-pub take-requires-clause-fresh : goal.take-requires-clause-fresh
-take-requires-clause-fresh c = fresh_number c.self.inside.counter c.self.inside.chunks.items c.self.invariant.1.each
+pub allocate-requires-clause-fresh : goal.allocate-requires-clause-fresh
+allocate-requires-clause-fresh c = fresh_chunk_id c.self.inside.counter c.self.inside.chunks.items c.self.invariant.1.each
 
 -- ---- what the search and the taking cost
 
@@ -257,25 +257,25 @@ returns-in_err-text-clause-cost c =
     let at = (goal.at.returns-in_err-text-clause-cost c).After-find_place in
     searched_at at _ (not_taken (asked at) _ _)
 
-pub returns-in_err-number-clause-cost : goal.returns-in_err-number-clause-cost
-returns-in_err-number-clause-cost c =
-    let at = (goal.at.returns-in_err-number-clause-cost c).After-find_place in
-    searched_at at c.allocate.new.cost (nothing_taken (asked at) _ _ _ c.in_err-number.ensures.none)
+pub returns-in_err-chunk_id-clause-cost : goal.returns-in_err-chunk_id-clause-cost
+returns-in_err-chunk_id-clause-cost c =
+    let at = (goal.at.returns-in_err-chunk_id-clause-cost c).After-find_place in
+    searched_at at c.allocate.new.cost (nothing_taken (asked at) _ _ _ c.in_err-chunk_id.ensures.none)
 
 pub returns-clause-cost : goal.returns-clause-cost
 returns-clause-cost c =
     let at = (goal.at.returns-clause-cost c).After-find_place in
-    searched_at at c.allocate.new.cost (place_taken (asked at) c.find_place.result c.in-Some.found _ _ c.in-Some.is c.in_ok-number.ensures.front c.in_ok-number.ensures.whole)
+    searched_at at c.allocate.new.cost (place_taken (asked at) c.find_place.result c.in-Some.found _ _ c.in-Some.is c.in_ok-chunk_id.ensures.front c.in_ok-chunk_id.ensures.whole)
 
 -- ---- the order of the lists
 
 pub returns-clause-ordered : goal.returns-clause-ordered
 returns-clause-ordered c =
-    let at = (goal.at.returns-clause-ordered c).In_ok-number in
+    let at = (goal.at.returns-clause-ordered c).In_ok-chunk_id in
     let i = c.self.inside in
     elim c.if-rest-2.branch [
-      | then-rest-2 w ↦ rw (w.self-is, c.in_ok-number.ensures.size)
-          (ordered_block c.allocate.new.self.items i.chunks.size i.granularity (i.counter + 1) (the_rest at c.in_ok-number.number refl w.if-rest-2.true).are)
-      | else-rest-2 w ↦ rw (w.self-is, c.in_ok-number.ensures.size)
-          (ordered_block c.allocate.new.self.items i.chunks.size i.granularity i.counter (the_whole at c.in_ok-number.number refl w.if-rest-2.false).are)
+      | then-rest-2 w ↦ rw (w.self-is, c.in_ok-chunk_id.ensures.size)
+          (ordered_block c.allocate.new.self.items i.chunks.size i.granularity (i.counter + 1) (the_rest at c.in_ok-chunk_id.chunk_id refl w.if-rest-2.true).are)
+      | else-rest-2 w ↦ rw (w.self-is, c.in_ok-chunk_id.ensures.size)
+          (ordered_block c.allocate.new.self.items i.chunks.size i.granularity i.counter (the_whole at c.in_ok-chunk_id.chunk_id refl w.if-rest-2.false).are)
     ]

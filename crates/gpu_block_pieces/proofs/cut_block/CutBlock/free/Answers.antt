@@ -2,7 +2,7 @@ use Rattle.std.proofs.Common.{◌≡◌, ◌∙◌, ◌+◌, ℕ, sym, subst, ar
 use Rattle.std.specs.Int.NonZero.{non_zero_u64_get}
 use Rattle.gpu_block_pieces.specs.FreeList.{FreeList, SomeExtent}
 use Rattle.gpu_block_pieces.specs.Changes.{Releases}
-use Rattle.gpu_block_pieces.specs.Chunks.{HoldsNumber, free_list_of}
+use Rattle.gpu_block_pieces.specs.Chunks.{HoldsChunkId, free_list_of}
 use Rattle.gpu_block_pieces.proofs.Releasing.{Released, released_at, none_live}
 use Rattle.gpu_block_pieces.proofs.Separation.{releases_separated}
 use Rattle.gpu_block_pieces.proofs.Sound.{sound_block}
@@ -15,22 +15,22 @@ use Rattle.gpu_block_pieces.proofs.cut_block.CutBlock.free.Goals.{After-release}
 use Rattle.std.specs.Prelude.{IfSome, IsSomeAnd}
 
 the_release : (c : After-release) → Released c.self.inside.chunks.size c.self.inside.granularity c.self.inside.counter c.self.inside.chunks.items c.release.new.self.items
-    (non_zero_u64_get c.in-Some.number)
+    (non_zero_u64_get c.in-Some.id)
 the_release c =
     let e = c.in-Some-piece_around.ensures.piece in
-    let r = released_there c.self.inside.chunks.items c.release.new.self.items c.in-Some-piece_around.around (non_zero_u64_get c.in-Some.number) c.self.invariant.1.distinct
+    let r = released_there c.self.inside.chunks.items c.release.new.self.items c.in-Some-piece_around.around (non_zero_u64_get c.in-Some.id) c.self.invariant.1.distinct
     (e.0 ∙ c.get.ensures.value) e.1 c.release.ensures.released in
-    released_at c.self.inside.chunks.size c.self.inside.granularity c.self.inside.counter c.self.inside.chunks.items c.release.new.self.items r.index (non_zero_u64_get c.in-Some.number)
+    released_at c.self.inside.chunks.size c.self.inside.granularity c.self.inside.counter c.self.inside.chunks.items c.release.new.self.items r.index (non_zero_u64_get c.in-Some.id)
     c.self.invariant.1 r.held r.released
 
 pub returns-in_default-piece_around-clause-not_live : goal.returns-in_default-piece_around-clause-not_live
 returns-in_default-piece_around-clause-not_live c =
     let i = c.self.inside in
-    let none : (k : ℕ) → HoldsNumber i.chunks.items (non_zero_u64_get c.in-Some.number) k → ⊥ =
-    λ k h. c.in_default-piece_around.ensures.piece k (subst (λ n. HoldsNumber i.chunks.items n k) (sym c.get.ensures.value) h) in
-    subst (λ o. IfSome o (λ n. SomeExtent c.args.self.now (λ x. x.number ≡ non_zero_u64_get n) → ⊥)) (sym c.in-Some.is)
-    (subst (λ (b : FreeList). SomeExtent b (λ x. x.number ≡ non_zero_u64_get c.in-Some.number) → ⊥) c.self.view_is
-    (none_live i.chunks.size i.granularity i.counter i.chunks.items (non_zero_u64_get c.in-Some.number) none))
+    let none : (k : ℕ) → HoldsChunkId i.chunks.items (non_zero_u64_get c.in-Some.id) k → ⊥ =
+    λ k h. c.in_default-piece_around.ensures.piece k (subst (λ n. HoldsChunkId i.chunks.items n k) (sym c.get.ensures.value) h) in
+    subst (λ o. IfSome o (λ n. SomeExtent c.args.self.now (λ x. x.chunk_id ≡ non_zero_u64_get n) → ⊥)) (sym c.in-Some.is)
+    (subst (λ (b : FreeList). SomeExtent b (λ x. x.chunk_id ≡ non_zero_u64_get c.in-Some.id) → ⊥) c.self.view_is
+    (none_live i.chunks.size i.granularity i.counter i.chunks.items (non_zero_u64_get c.in-Some.id) none))
 
 the_bytes : (c : After-release) → bytes_of c.self.inside.chunks.items ≡ c.in-Some-piece_around.around.here.size + bytes_of c.release.new.self.items
 the_bytes c =
@@ -52,7 +52,7 @@ invariant_of-self c =
     rw c.release.ensures.size (
       c.self.invariant.0,
       r.are,
-      releases_separated (free_list_of i.chunks.size i.granularity i.counter i.chunks.items) (non_zero_u64_get c.in-Some.number)
+      releases_separated (free_list_of i.chunks.size i.granularity i.counter i.chunks.items) (non_zero_u64_get c.in-Some.id)
           (free_list_of i.chunks.size i.granularity i.counter c.release.new.self.items) c.self.invariant.2 r.releases,
       c.self.invariant.3,
       omega arith,
@@ -63,14 +63,14 @@ returns-clause-freed c =
     let i = c.self.inside in
     let new = free_list_of i.chunks.size i.granularity i.counter c.release.new.self.items in
     rw c.release.ensures.size (subst (λ o. IsSomeAnd o (λ n. Releases c.args.self.now (non_zero_u64_get n) new)) (sym c.in-Some.is)
-    (subst (λ b. Releases b (non_zero_u64_get c.in-Some.number) new) c.self.view_is (the_release ((goal.at.returns-clause-freed c).After-release)).releases))
+    (subst (λ b. Releases b (non_zero_u64_get c.in-Some.id) new) c.self.view_is (the_release ((goal.at.returns-clause-freed c).After-release)).releases))
 
 pub returns-clause-sound : goal.returns-clause-sound
 returns-clause-sound c = rw c.release.ensures.size
     (sound_block c.release.new.self.items c.self.inside.chunks.size c.self.inside.granularity c.self.inside.counter (the_release ((goal.at.returns-clause-sound c).After-release)).are)
 
 pub returns-clause-separated : goal.returns-clause-separated
-returns-clause-separated c = releases_separated (free_list_of c.self.inside.chunks.size c.self.inside.granularity c.self.inside.counter c.self.inside.chunks.items) (non_zero_u64_get c.in-Some.number)
+returns-clause-separated c = releases_separated (free_list_of c.self.inside.chunks.size c.self.inside.granularity c.self.inside.counter c.self.inside.chunks.items) (non_zero_u64_get c.in-Some.id)
     (free_list_of c.self.inside.chunks.size c.self.inside.granularity c.self.inside.counter c.release.new.self.items) c.self.invariant.2
     (the_release ((goal.at.returns-clause-separated c).After-release)).releases
 

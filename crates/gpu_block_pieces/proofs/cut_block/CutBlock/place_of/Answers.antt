@@ -1,17 +1,17 @@
 use Rattle.std.proofs.Common.{◌+◌, ◌-◌, sym, subst, arith, Some, None}
 use Rattle.std.specs.Int.NonZero.{non_zero_u64_get}
 use Rattle.gpu_block_pieces.specs.FreeList.{FreeList, FindsPlace}
-use Rattle.gpu_block_pieces.specs.Chunks.{HoldsNumber}
+use Rattle.gpu_block_pieces.specs.Chunks.{HoldsChunkId}
 use Rattle.gpu_block_chunks.specs.Chain.{StandsAt}
 use Rattle.gpu_block_pieces.proofs.Releasing.{none_live}
 use Rattle.gpu_block_pieces.proofs.FoundByChunkId.{PlaceShown, place_shown}
 use Rattle.gpu_block_pieces.proofs.cut_block.CutBlock.place_of.Goals as goal
 use Rattle.gpu_block_pieces.proofs.cut_block.CutBlock.place_of.Goals.{In-Some}
 
-shown : (c : In-Some) → PlaceShown c.self.inside.chunks.items c.in-Some.piece.now (non_zero_u64_get c.args.number)
+shown : (c : In-Some) → PlaceShown c.self.inside.chunks.items c.in-Some.piece.now (non_zero_u64_get c.args.chunk_id)
 shown c =
     let e = c.in-Some.ensures.piece in
-    place_shown c.self.inside.chunks.items c.self.inside.chunks.size c.self.inside.counter c.in-Some.piece.now (non_zero_u64_get c.args.number) c.self.invariant.1 c.self.invariant.3 e.0
+    place_shown c.self.inside.chunks.items c.self.inside.chunks.size c.self.inside.counter c.in-Some.piece.now (non_zero_u64_get c.args.chunk_id) c.self.invariant.1 c.self.invariant.3 e.0
     (subst (λ n. StandsAt c.self.inside.chunks.items n c.in-Some.piece.now) c.get.ensures.value e.1)
 
 pub overflow_add-result : goal.overflow_add-result
@@ -22,11 +22,11 @@ overflow_sub-result c = let f = (shown c).inside in omega arith
 
 pub returns-in-Some-clause-place : goal.returns-in-Some-clause-place
 returns-in-Some-clause-place c =
-    subst (λ (b : FreeList). FindsPlace b.extents (non_zero_u64_get c.args.number)
+    subst (λ (b : FreeList). FindsPlace b.extents (non_zero_u64_get c.args.chunk_id)
     (Some (c.in-Some.piece.now.offset, c.in-Some.piece.now.start + c.in-Some.piece.now.size - c.in-Some.piece.now.offset))) c.self.view_is (shown c).found
 
 pub returns-in-None-clause-place : goal.returns-in-None-clause-place
 returns-in-None-clause-place c =
-    subst (λ (b : FreeList). FindsPlace b.extents (non_zero_u64_get c.args.number) None) c.self.view_is
-    (λ x held is. none_live 0 1 0 c.self.inside.chunks.items (non_zero_u64_get c.args.number)
-    (λ k h. c.in-None.ensures.piece k (subst (λ n. HoldsNumber c.self.inside.chunks.items n k) (sym c.get.ensures.value) h)) (x, held, is))
+    subst (λ (b : FreeList). FindsPlace b.extents (non_zero_u64_get c.args.chunk_id) None) c.self.view_is
+    (λ x held is. none_live 0 1 0 c.self.inside.chunks.items (non_zero_u64_get c.args.chunk_id)
+    (λ k h. c.in-None.ensures.piece k (subst (λ n. HoldsChunkId c.self.inside.chunks.items n k) (sym c.get.ensures.value) h)) (x, held, is))

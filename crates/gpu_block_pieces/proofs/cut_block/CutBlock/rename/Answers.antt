@@ -2,7 +2,7 @@ use Rattle.std.proofs.Common.{◌≡◌, length, refl, sym, ◌∙◌, subst, tr
 use Rattle.std.specs.Prelude.{IsSomeAnd}
 use Rattle.std.specs.Int.NonZero.{non_zero_u64_get}
 use Rattle.gpu_block_pieces.specs.Changes.{Renames}
-use Rattle.gpu_block_pieces.specs.Chunks.{HoldsNumber, free_list_of}
+use Rattle.gpu_block_pieces.specs.Chunks.{HoldsChunkId, free_list_of}
 use Rattle.gpu_values.specs.Refusal.{host_out_of_memory}
 use Rattle.gpu_block_pieces.proofs.Sound.{sound_block}
 use Rattle.gpu_block_pieces.proofs.Ordered.{ordered_block}
@@ -16,19 +16,19 @@ use Rattle.gpu_block_pieces.proofs.cut_block.CutBlock.rename.Goals as goal
 use Rattle.gpu_block_pieces.proofs.cut_block.CutBlock.rename.Goals.{After-rename}
 
 the_rename : (c : After-rename) → Renamed c.self.inside.chunks.size c.self.inside.granularity c.self.inside.counter c.self.inside.chunks.items c.rename.new.self.items
-    (non_zero_u64_get c.in-Some.number) c.args.name.now
+    (non_zero_u64_get c.in-Some.id) c.args.name.now
 the_rename c =
     let e = c.in-Some-piece.ensures.piece in
     let h = held_at c.self.inside.chunks.items c.in-Some-piece.piece.now c.get.result e.0 e.1 in
-    renamed c.self.inside.chunks.size c.self.inside.granularity c.self.inside.counter c.self.inside.chunks.items c.rename.new.self.items (length e.1.front) (non_zero_u64_get c.in-Some.number)
+    renamed c.self.inside.chunks.size c.self.inside.granularity c.self.inside.counter c.self.inside.chunks.items c.rename.new.self.items (length e.1.front) (non_zero_u64_get c.in-Some.id)
     c.in_ok-text.text c.args.name.now c.in_ok-text.ensures.text c.self.invariant.1
-    (subst (λ n. HoldsNumber c.self.inside.chunks.items n (length e.1.front)) c.get.ensures.value h)
-    (c.rename.ensures.named (length e.1.front) (subst (λ n. HoldsNumber c.self.inside.chunks.items n (length e.1.front)) (c.get.ensures.value ∙ sym c.get-2.ensures.value) h))
+    (subst (λ n. HoldsChunkId c.self.inside.chunks.items n (length e.1.front)) c.get.ensures.value h)
+    (c.rename.ensures.named (length e.1.front) (subst (λ n. HoldsChunkId c.self.inside.chunks.items n (length e.1.front)) (c.get.ensures.value ∙ sym c.get-2.ensures.value) h))
 
 the_bytes : (c : After-rename) → bytes_of c.rename.new.self.items ≡ bytes_of c.self.inside.chunks.items
 the_bytes c =
     let e = c.in-Some-piece.ensures.piece in
-    let h = subst (λ n. HoldsNumber c.self.inside.chunks.items n (length e.1.front)) (c.get.ensures.value ∙ sym c.get-2.ensures.value)
+    let h = subst (λ n. HoldsChunkId c.self.inside.chunks.items n (length e.1.front)) (c.get.ensures.value ∙ sym c.get-2.ensures.value)
     (held_at c.self.inside.chunks.items c.in-Some-piece.piece.now c.get.result e.0 e.1) in
     named_bytes c.self.inside.chunks.items c.rename.new.self.items c.get-2.result (length e.1.front) c.in_ok-text.text h (c.rename.ensures.named (length e.1.front) h)
 
@@ -41,7 +41,7 @@ invariant_of-self c =
     rw c.rename.ensures.size (
       c.self.invariant.0,
       r.are,
-      renames_separated (free_list_of i.chunks.size i.granularity i.counter i.chunks.items) (non_zero_u64_get c.in-Some.number) c.args.name.now
+      renames_separated (free_list_of i.chunks.size i.granularity i.counter i.chunks.items) (non_zero_u64_get c.in-Some.id) c.args.name.now
           (free_list_of i.chunks.size i.granularity i.counter c.rename.new.self.items) c.self.invariant.2 r.renames,
       c.self.invariant.3,
       held ∙ sym b,
@@ -52,7 +52,7 @@ returns-clause-renamed c =
     let i = c.self.inside in
     let new = free_list_of i.chunks.size i.granularity i.counter c.rename.new.self.items in
     rw c.rename.ensures.size (subst (λ o. IsSomeAnd o (λ n. Renames c.args.self.now (non_zero_u64_get n) c.args.name.now new)) (sym c.in-Some.is)
-    (subst (λ b. Renames b (non_zero_u64_get c.in-Some.number) c.args.name.now new) c.self.view_is (the_rename c).renames))
+    (subst (λ b. Renames b (non_zero_u64_get c.in-Some.id) c.args.name.now new) c.self.view_is (the_rename c).renames))
 
 pub returns-clause-sound : goal.returns-clause-sound
 returns-clause-sound c =
@@ -63,7 +63,7 @@ pub returns-clause-separated : goal.returns-clause-separated
 returns-clause-separated c =
     let at = (goal.at.returns-clause-separated c).After-rename in
     let i = c.self.inside in
-    renames_separated (free_list_of i.chunks.size i.granularity i.counter i.chunks.items) (non_zero_u64_get c.in-Some.number) c.args.name.now
+    renames_separated (free_list_of i.chunks.size i.granularity i.counter i.chunks.items) (non_zero_u64_get c.in-Some.id) c.args.name.now
     (free_list_of i.chunks.size i.granularity i.counter c.rename.new.self.items) c.self.invariant.2 (the_rename at).renames
 
 -- ---- the refusals
@@ -71,8 +71,8 @@ returns-clause-separated c =
 pub returns-then-has_gap-clause-cause : goal.returns-then-has_gap-clause-cause
 returns-then-has_gap-clause-cause c =
     let i = c.self.inside in
-    let n = non_zero_u64_get c.in-Some.number in
-    rename_none c.args.self.now c.args.chunk_id c.in-Some.number _ true c.in-Some.is
+    let n = non_zero_u64_get c.in-Some.id in
+    rename_none c.args.self.now c.args.chunk_id c.in-Some.id _ true c.in-Some.is
     (none_in_view i.chunks.size i.granularity i.counter i.chunks.items i.chunks.items c.args.self.now n c.get.result c.self.view_is refl c.get.ensures.value c.in_default-piece.ensures.piece)
     (gap_told i.chunks.size i.granularity i.counter i.chunks.items i.chunks.items c.args.self.now n c.get-in_default-piece.result c.has_gap.result c.self.view_is refl
     c.get-in_default-piece.ensures.value c.has_gap.ensures.gap ∙ c.if-has_gap.true)
@@ -81,8 +81,8 @@ returns-then-has_gap-clause-cause c =
 pub returns-in_default-piece-clause-cause : goal.returns-in_default-piece-clause-cause
 returns-in_default-piece-clause-cause c =
     let i = c.self.inside in
-    let n = non_zero_u64_get c.in-Some.number in
-    rename_none c.args.self.now c.args.chunk_id c.in-Some.number _ false c.in-Some.is
+    let n = non_zero_u64_get c.in-Some.id in
+    rename_none c.args.self.now c.args.chunk_id c.in-Some.id _ false c.in-Some.is
     (none_in_view i.chunks.size i.granularity i.counter i.chunks.items i.chunks.items c.args.self.now n c.get.result c.self.view_is refl c.get.ensures.value c.in_default-piece.ensures.piece)
     (gap_told i.chunks.size i.granularity i.counter i.chunks.items i.chunks.items c.args.self.now n c.get-in_default-piece.result c.has_gap.result c.self.view_is refl
     c.get-in_default-piece.ensures.value c.has_gap.ensures.gap ∙ c.if-has_gap.false)
@@ -91,11 +91,11 @@ returns-in_default-piece-clause-cause c =
 pub returns-in_err-text-clause-cause : goal.returns-in_err-text-clause-cause
 returns-in_err-text-clause-cause c =
     let i = c.self.inside in
-    let n = non_zero_u64_get c.in-Some.number in
+    let n = non_zero_u64_get c.in-Some.id in
     let e = c.in-Some-piece.ensures.piece in
-    let h = subst (λ k. HoldsNumber i.chunks.items k (length e.1.front)) c.get.ensures.value (held_at i.chunks.items c.in-Some-piece.piece.now c.get.result e.0 e.1) in
+    let h = subst (λ k. HoldsChunkId i.chunks.items k (length e.1.front)) c.get.ensures.value (held_at i.chunks.items c.in-Some-piece.piece.now c.get.result e.0 e.1) in
     rename_host c.from_residual.result c.args.self.now c.args.chunk_id c.from_residual.ensures.1
-    (rename_live c.args.self.now c.args.chunk_id c.in-Some.number host_out_of_memory c.in-Some.is
+    (rename_live c.args.self.now c.args.chunk_id c.in-Some.id host_out_of_memory c.in-Some.is
     (live_in_view i.chunks.size i.granularity i.counter i.chunks.items c.args.self.now n (length e.1.front) c.self.view_is h) refl)
 
 pub returns-clause-covered : goal.returns-clause-covered
