@@ -14,15 +14,15 @@ use Rattle.gpu_core.specs.Slots.{SlotIsSound}
 use Rattle.gpu_core.specs.declared.piece.Piece.{Piece}
 use Rattle.gpu_core.proofs.Found.{only_one}
 
-first_chunk_id : (o : Option Extent) (size : ℕ) (x : Extent) → IfSome o (λ y. (y.start ≡ 0) × (y.offset ≡ 0) × (y.end ≡ size) × (y.number ≡ 1)) → Contains (option_to_list o) x → x.number ≡ 1
+first_chunk_id : (o : Option Extent) (size : ℕ) (x : Extent) → IfSome o (λ y. (y.start ≡ 0) × (y.offset ≡ 0) × (y.end ≡ size) × (y.chunk_id ≡ 1)) → Contains (option_to_list o) x → x.chunk_id ≡ 1
 first_chunk_id None size x whole h = (let l = h.1 in absurd (omega arith))
-first_chunk_id (Some z) size x whole h = ap (λ y. y.number) (only_one (Some z) x z h (0, omega arith, refl)) ∙ whole.3
+first_chunk_id (Some z) size x whole h = ap (λ y. y.chunk_id) (only_one (Some z) x z h (0, omega arith, refl)) ∙ whole.3
 
 none_held : (o : Option Extent) (x : Extent) → o ≡ None → Contains (option_to_list o) x → ⊥
 none_held None x e h = (let l = h.1 in omega arith)
 none_held (Some z) x e h = absurd (cc)
 
-not_held : (b : Dedicated) (n : NonZeroU64) (freed : List ℕ) (refusal : Refusal) (x : Extent) → IsWhole b → IsNotHeld b (Some n) freed refusal → Contains (option_to_list b.piece) x → x.number ≡
+not_held : (b : Dedicated) (n : NonZeroU64) (freed : List ℕ) (refusal : Refusal) (x : Extent) → IsWhole b → IsNotHeld b (Some n) freed refusal → Contains (option_to_list b.piece) x → x.chunk_id ≡
     non_zero_u64_get n → ⊥
 not_held b n freed refusal x whole h at e =
     elim h [
@@ -51,7 +51,7 @@ pub free_dead : {H : Type 0} (eq : H → H → Bool) (p : Piece H) (g : ℕ) (s 
 free_dead eq p g None refusal sound h live = live
 free_dead eq p g (Some s) refusal sound h live =
     elim h [
-      | inl block ↦ release_refused s.block p.number refusal p.offset p.size sound.1 block live.1
+      | inl block ↦ release_refused s.block p.chunk_id refusal p.offset p.size sound.1 block live.1
       | inr other ↦ other.0 live
     ]
 
@@ -60,6 +60,6 @@ pub name_dead : {H : Type 0} (eq : H → H → Bool) (p : Piece H) (g : ℕ) (s 
 name_dead eq p g None refusal sound h host live = live
 name_dead eq p g (Some s) refusal sound h host live =
     elim h [
-      | inl block ↦ rename_refused s.block p.number refusal p.offset p.size sound.1 block host live.1
+      | inl block ↦ rename_refused s.block p.chunk_id refusal p.offset p.size sound.1 block host live.1
       | inr other ↦ other.0 live
     ]

@@ -132,9 +132,9 @@ one_empty_set slots i old s new kept at e none =
 pub prepared_empty : {H : Type 0} (slots : List (Option (Slot H))) (r : Request) (p : Piece H) (new : List (Option (Slot H))) → KeepsOneEmptyAtMost slots → PreparesPiece slots r p new →
     KeepsOneEmptyAtMost new
 prepared_empty {H = H} slots r p new kept t =
-    let after : Slot H = record { number = t.slot.number; block = t.after } in
+    let after : Slot H = record { handle = t.slot.handle; block = t.after } in
     one_empty_set slots p.slot t.slot (Some after) new kept t.at t.slots
-    (holds_some t.after (non_zero_u64_get p.number) p.offset r.size (takes_holds t.slot.block r p.offset (non_zero_u64_get p.number) t.after t.takes))
+    (holds_some t.after (non_zero_u64_get p.chunk_id) p.offset r.size (takes_holds t.slot.block r p.offset (non_zero_u64_get p.chunk_id) t.after t.takes))
 
 renamed_slot : {H : Type 0} (slots : List (Option (Slot H))) (i n : ℕ) (name : List ℕ) (s q : Option (Slot H)) (new : List (Option (Slot H))) → KeepsOneEmptyAtMost slots → slot_at slots i ≡ s →
     SlotRenames n name s q → new ≡ slice_set slots i q → KeepsOneEmptyAtMost new
@@ -146,7 +146,7 @@ renamed_slot slots i n name (Some s) (Some q) new kept at t e =
 pub renamed_empty : {H : Type 0} (slots : List (Option (Slot H))) (p : Piece H) (name : List ℕ) (new : List (Option (Slot H))) → KeepsOneEmptyAtMost slots → RenamesPiece slots p name new →
     KeepsOneEmptyAtMost new
 renamed_empty slots p name new kept t =
-    renamed_slot slots p.slot (non_zero_u64_get p.number) name (slot_at slots p.slot) t.slot new kept refl t.renames t.slots
+    renamed_slot slots p.slot (non_zero_u64_get p.chunk_id) name (slot_at slots p.slot) t.slot new kept refl t.renames t.slots
 
 -- an emptied block that stays is the only shared one
 module _ {H : Type 0} (slots : List (Option (Slot H))) (i n : ℕ) (several : Type 0) (s q : Slot H) (kept : KeepsOneEmptyAtMost slots) (sound : IsSoundBlock s.block) (at : slot_at slots i ≡ Some s)
@@ -177,4 +177,4 @@ freed_slot g slots several i n (Some s) went (Some q) new kept sound counts at t
 pub freed_empty : {H : Type 0} (g : ℕ) (slots : List (Option (Slot H))) (several : Type 0) (p : Piece H) (went : Option H) (new : List (Option (Slot H))) → AreSound g slots → KeepsOneEmptyAtMost
     slots → (2 ≤ shared_count slots → several) → ReleasesPiece several slots p went new → KeepsOneEmptyAtMost new
 freed_empty g slots several p went new sound kept counts t =
-    freed_slot g slots several p.slot (non_zero_u64_get p.number) (slot_at slots p.slot) went t.slot new kept (sound p.slot) counts refl t.releases t.slots
+    freed_slot g slots several p.slot (non_zero_u64_get p.chunk_id) (slot_at slots p.slot) went t.slot new kept (sound p.slot) counts refl t.releases t.slots

@@ -22,12 +22,12 @@ only_one (Some z) x y h k =
     All-contains (λ w. w ≡ z) (z ∷ []) x all h ∙ sym (All-contains (λ w. w ≡ z) (z ∷ []) y all k)
 
 -- a number is one live piece's
-pub one_in : (b : Block) (x y : Extent) → IsSoundBlock b → Contains (extents_of b) x → Contains (extents_of b) y → x.number ≡ y.number → x ≡ y
+pub one_in : (b : Block) (x y : Extent) → IsSoundBlock b → Contains (extents_of b) x → Contains (extents_of b) y → x.chunk_id ≡ y.chunk_id → x ≡ y
 one_in (free_list b) x y sound h k e = sound.one_number x y h k e
 one_in (dedicated b) x y sound h k e = only_one b.piece x y h k
 
 -- another place under the number is another record
-pub other_place : {H : Type 0} (eq : H → H → Bool) (p : Piece H) (s : Slot H) (offset size : ℕ) → IsSoundBlock s.block → HoldsPiece s.block (non_zero_u64_get p.number) offset size →
+pub other_place : {H : Type 0} (eq : H → H → Bool) (p : Piece H) (s : Slot H) (offset size : ℕ) → IsSoundBlock s.block → HoldsPiece s.block (non_zero_u64_get p.chunk_id) offset size →
     (offset ≢ p.offset) ⊎ (size ≢ p.size) → SlotHolds eq p (Some s) → ⊥
 other_place eq p s offset size sound x differ h =
     let y = h.1 in
@@ -36,21 +36,21 @@ other_place eq p s offset size sound x differ h =
     let e : offset + size ≡ p.offset + p.size = sym x.4 ∙ (ap (λ z. z.end) same ∙ y.4) in
     elim differ [ inl ne ↦ ne o | inr ne ↦ ne (omega arith) ]
 
-held_in : (o : Option Extent) (size n : ℕ) → IfSome o (λ x. (x.start ≡ 0) × (x.offset ≡ 0) × (x.end ≡ size) × (x.number ≡ 1)) → IsSome o → n ≡ 1 →
-    ((x : Extent) → Contains (option_to_list o) x → x.number ≡ n → ⊥) → ⊥
+held_in : (o : Option Extent) (size n : ℕ) → IfSome o (λ x. (x.start ≡ 0) × (x.offset ≡ 0) × (x.end ≡ size) × (x.chunk_id ≡ 1)) → IsSome o → n ≡ 1 →
+    ((x : Extent) → Contains (option_to_list o) x → x.chunk_id ≡ n → ⊥) → ⊥
 held_in None size n whole some one none = false≢true some
 held_in (Some z) size n whole some one none = none z (0, omega arith, refl) (whole.3 ∙ sym one)
 
-pub dedicated_held : (d : Dedicated) (n : ℕ) → IsWhole d → IsSome d.piece → n ≡ 1 → ((x : Extent) → Contains (held_extents d) x → x.number ≡ n → ⊥) → ⊥
+pub dedicated_held : (d : Dedicated) (n : ℕ) → IsWhole d → IsSome d.piece → n ≡ 1 → ((x : Extent) → Contains (held_extents d) x → x.chunk_id ≡ n → ⊥) → ⊥
 dedicated_held d n whole some one none = held_in d.piece d.size n whole some one none
 
-released_held : (b : Block) (n : ℕ) (after : Block) → IsSoundBlock b → ReleasesIn b n after → ((x : Extent) → Contains (extents_of b) x → x.number ≡ n → ⊥) → ⊥
+released_held : (b : Block) (n : ℕ) (after : Block) → IsSoundBlock b → ReleasesIn b n after → ((x : Extent) → Contains (extents_of b) x → x.chunk_id ≡ n → ⊥) → ⊥
 released_held (free_list b) n (free_list after) sound t none = none t.gone t.held t.numbered
 released_held (free_list b) n (dedicated after) sound t none = t
 released_held (dedicated b) n (free_list after) sound t none = t
 released_held (dedicated b) n (dedicated after) sound t none = dedicated_held b n sound t.0 t.1 none
 
-renamed_held : (b : Block) (n : ℕ) (name : List ℕ) (after : Block) → IsSoundBlock b → RenamesIn b n name after → ((x : Extent) → Contains (extents_of b) x → x.number ≡ n → ⊥) → ⊥
+renamed_held : (b : Block) (n : ℕ) (name : List ℕ) (after : Block) → IsSoundBlock b → RenamesIn b n name after → ((x : Extent) → Contains (extents_of b) x → x.chunk_id ≡ n → ⊥) → ⊥
 renamed_held (free_list b) n name (free_list after) sound t none = none t.held.0 t.held.1 t.held.2
 renamed_held (free_list b) n name (dedicated after) sound t none = t
 renamed_held (dedicated b) n name (free_list after) sound t none = t
@@ -58,16 +58,16 @@ renamed_held (dedicated b) n name (dedicated after) sound t none = dedicated_hel
 
 -- what succeeds under a number that was looked for, and not found to be another's, was the piece's own
 pub released_live : {H : Type 0} (eq : H → H → Bool) (p : Piece H) (s : Slot H) (f : Finding) (after : Block) → Finds eq p s f → (f ≡ findings.Other → ⊥) → IsSoundBlock s.block → ReleasesIn s.block
-    (non_zero_u64_get p.number) after → SlotHolds eq p (Some s)
+    (non_zero_u64_get p.chunk_id) after → SlotHolds eq p (Some s)
 released_live eq p s findings.Piece after h other sound t = h
 released_live eq p s findings.Other after h other sound t = absurd (other refl)
-released_live eq p s findings.Nothing after h other sound t = absurd (released_held s.block (non_zero_u64_get p.number) after sound t h)
+released_live eq p s findings.Nothing after h other sound t = absurd (released_held s.block (non_zero_u64_get p.chunk_id) after sound t h)
 
 pub renamed_live : {H : Type 0} (eq : H → H → Bool) (p : Piece H) (s : Slot H) (f : Finding) (name : List ℕ) (after : Block) → Finds eq p s f → (f ≡ findings.Other → ⊥) → IsSoundBlock s.block →
-    RenamesIn s.block (non_zero_u64_get p.number) name after → SlotHolds eq p (Some s)
+    RenamesIn s.block (non_zero_u64_get p.chunk_id) name after → SlotHolds eq p (Some s)
 renamed_live eq p s findings.Piece name after h other sound t = h
 renamed_live eq p s findings.Other name after h other sound t = absurd (other refl)
-renamed_live eq p s findings.Nothing name after h other sound t = absurd (renamed_held s.block (non_zero_u64_get p.number) name after sound t h)
+renamed_live eq p s findings.Nothing name after h other sound t = absurd (renamed_held s.block (non_zero_u64_get p.chunk_id) name after sound t h)
 
 -- a look that doesn't find the piece
 pub not_found : {H : Type 0} (eq : H → H → Bool) (p : Piece H) (s : Slot H) (f : Finding) → Finds eq p s f → (f ≡ findings.Piece → ⊥) → SlotHolds eq p (Some s) → ⊥

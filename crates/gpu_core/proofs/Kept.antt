@@ -39,8 +39,8 @@ sum_same f slots i s new at same =
 pub prepared_kept : {H : Type 0} (g : ℕ) (slots : List (Option (Slot H))) (capacity shared : ℕ) (r : Request) (p : Piece H) (new : List (Option (Slot H))) → AreKept g slots capacity shared →
     AreSound g new → PreparesPiece slots r p new → AreKept g new capacity shared
 prepared_kept {H = H} g slots capacity shared r p new kept sound t =
-    let same = takes_same t.slot.block r p.offset (non_zero_u64_get p.number) t.after t.takes in
-    let after : Slot H = record { number = t.slot.number; block = t.after } in
+    let same = takes_same t.slot.block r p.offset (non_zero_u64_get p.chunk_id) t.after t.takes in
+    let after : Slot H = record { handle = t.slot.handle; block = t.after } in
     record {
       pages = kept.pages;
       sound = sound;
@@ -54,10 +54,10 @@ pub same_kept : {H : Type 0} (g : ℕ) (slots : List (Option (Slot H))) (capacit
     shared
 same_kept g slots capacity shared new kept e = subst (λ xs. AreKept g xs capacity shared) (sym e) kept
 
-pub freed_kept : {H : Type 0} (g : ℕ) (slots : List (Option (Slot H))) (capacity shared : ℕ) (p : Piece H) (went : Option H) (new : List (Option (Slot H))) (size shared : ℕ) → AreKept g slots
-    capacity shared → AreSound g new → ReleasesPiece (IsTrue (nat_lt 1 shared)) slots p went new → capacity_of new + size ≡ capacity_of slots → shared_count new + shared ≡ shared_count slots →
-    AreKept g new (capacity - size) (shared - shared)
-freed_kept g slots capacity shared p went new size shared kept sound t c s =
+pub freed_kept : {H : Type 0} (g : ℕ) (slots : List (Option (Slot H))) (capacity shared : ℕ) (p : Piece H) (went : Option H) (new : List (Option (Slot H))) (size more : ℕ) → AreKept g slots
+    capacity shared → AreSound g new → ReleasesPiece (IsTrue (nat_lt 1 shared)) slots p went new → capacity_of new + size ≡ capacity_of slots → shared_count new + more ≡ shared_count slots →
+    AreKept g new (capacity - size) (shared - more)
+freed_kept g slots capacity shared p went new size more kept sound t c s =
     let cap = kept.capacity_is in
     let gen = kept.shared_is in
     record {
@@ -85,7 +85,7 @@ renamed_slots g slots capacity shared i n name (Some s) (Some q) new kept sound 
 pub renamed_kept : {H : Type 0} (g : ℕ) (slots : List (Option (Slot H))) (capacity shared : ℕ) (p : Piece H) (name : List ℕ) (new : List (Option (Slot H))) → AreKept g slots capacity shared →
     AreSound g new → RenamesPiece slots p name new → AreKept g new capacity shared
 renamed_kept g slots capacity shared p name new kept sound t =
-    renamed_slots g slots capacity shared p.slot (non_zero_u64_get p.number) name (slot_at slots p.slot) t.slot new kept sound (renamed_empty slots p name new kept.empty t) refl t.renames t.slots
+    renamed_slots g slots capacity shared p.slot (non_zero_u64_get p.chunk_id) name (slot_at slots p.slot) t.slot new kept sound (renamed_empty slots p name new kept.empty t) refl t.renames t.slots
 
 -- ---- a new block
 
@@ -106,10 +106,10 @@ pub installed_capacity : {H : Type 0} (slots : List (Option (Slot H))) (is_dedic
     size_of s.block
 installed_capacity slots is_dedicated s = put_sum slot_size slots (new_slot is_dedicated slots) s refl (is_new_slot is_dedicated slots)
 
-pub installed_kept : {H : Type 0} (g : ℕ) (slots : List (Option (Slot H))) (capacity shared : ℕ) (is_dedicated : Bool) (s : Slot H) (new : List (Option (Slot H))) (size shared : ℕ) → AreKept g slots
-    capacity shared → SlotIsSound g (Some s) → (extents_of s.block ≡ [] → ⊥) → new ≡ with_block slots (new_slot is_dedicated slots) s → size_of s.block ≡ size → shared_in (Some s) ≡ shared → AreKept
-    g new (capacity + size) (shared + shared)
-installed_kept g slots capacity shared is_dedicated s new size shared kept here holds e sized counted =
+pub installed_kept : {H : Type 0} (g : ℕ) (slots : List (Option (Slot H))) (capacity shared : ℕ) (is_dedicated : Bool) (s : Slot H) (new : List (Option (Slot H))) (size more : ℕ) → AreKept g slots
+    capacity shared → SlotIsSound g (Some s) → (extents_of s.block ≡ [] → ⊥) → new ≡ with_block slots (new_slot is_dedicated slots) s → size_of s.block ≡ size → shared_in (Some s) ≡ more → AreKept
+    g new (capacity + size) (shared + more)
+installed_kept g slots capacity shared is_dedicated s new size more kept here holds e sized counted =
     let at = is_new_slot is_dedicated slots in
     let i = new_slot is_dedicated slots in
     let c = put_sum slot_size slots i s refl at in

@@ -38,7 +38,7 @@ none_from slots r n pos above here i le =
     ]
 
 pub prepares : {H : Type 0} (slots : List (Option (Slot H))) (r : Request) (p : Piece H) (old new : Option (Slot H)) (after : List (Option (Slot H))) → slot_at slots p.slot ≡ old → SlotTakes old r
-    p.offset (non_zero_u64_get p.number) p.block new → p.size ≡ r.size → ((i : ℕ) → p.slot < i → CannotServe r (slot_at slots i)) → after ≡ slice_set slots p.slot new → PreparesPiece slots r p after
+    p.offset (non_zero_u64_get p.chunk_id) p.handle new → p.size ≡ r.size → ((i : ℕ) → p.slot < i → CannotServe r (slot_at slots i)) → after ≡ slice_set slots p.slot new → PreparesPiece slots r p after
 prepares slots r p None new after at t size above e = absurd t
 prepares slots r p (Some s) None after at t size above e = absurd t
 prepares slots r p (Some s) (Some q) after at t size above e =
@@ -49,9 +49,9 @@ prepares slots r p (Some s) (Some q) after at t size above e =
       shared = t.0;
       takes = t.3;
       highest = above;
-      number = t.1;
+      handle = t.1;
       size = size;
-      slots = e ∙ ap (λ n. slice_set slots p.slot (Some (record { number = n; block = q.block }))) t.2;
+      slots = e ∙ ap (λ n. slice_set slots p.slot (Some (record { handle = n; block = q.block }))) t.2;
     }
 
 pub on_err : {V E : Type 0} (r : Result V E) (P : Type 0) → P → OnErr r P

@@ -25,7 +25,7 @@ internal_host text e = absurd (cc)
 not_held_host : (b : Dedicated) (n : NonZeroU64) (freed : List ℕ) → IsNotHeld b (Some n) freed host_out_of_memory → ⊥
 not_held_host b n freed h = elim h [ inl other ↦ internal_host _ (sym other.1) | inr empty ↦ internal_host _ (sym empty.2) ]
 
-host_held : (b : Block) (n : NonZeroU64) → IsSoundBlock b → IsRenameRefusalIn b (Some n) host_out_of_memory → ((x : Extent) → Contains (extents_of b) x → x.number ≡ non_zero_u64_get n → ⊥) → ⊥
+host_held : (b : Block) (n : NonZeroU64) → IsSoundBlock b → IsRenameRefusalIn b (Some n) host_out_of_memory → ((x : Extent) → Contains (extents_of b) x → x.chunk_id ≡ non_zero_u64_get n → ⊥) → ⊥
 host_held (free_list b) n sound h none =
     elim h [ inl other ↦ fault_host b (non_zero_u64_get n) (sym other.1) | inr some ↦ none some.0.0 some.0.1 some.0.2 ]
 host_held (dedicated b) n sound h none =
@@ -36,8 +36,8 @@ host_held (dedicated b) n sound h none =
 
 -- a new name for want of host memory was refused to a live piece
 pub starved_live : {H : Type 0} (eq : H → H → Bool) (p : Piece H) (s : Slot H) (f : Finding) (refusal : Refusal) → Finds eq p s f → (f ≡ findings.Other → ⊥) → IsSoundBlock s.block → IsRenameRefusalIn
-    s.block (Some p.number) refusal → refusal ≡ host_out_of_memory → SlotHolds eq p (Some s)
+    s.block (Some p.chunk_id) refusal → refusal ≡ host_out_of_memory → SlotHolds eq p (Some s)
 starved_live eq p s findings.Piece refusal h other sound cause e = h
 starved_live eq p s findings.Other refusal h other sound cause e = absurd (other refl)
 starved_live eq p s findings.Nothing refusal h other sound cause e =
-    absurd (host_held s.block p.number sound (subst (IsRenameRefusalIn s.block (Some p.number)) e cause) h)
+    absurd (host_held s.block p.chunk_id sound (subst (IsRenameRefusalIn s.block (Some p.chunk_id)) e cause) h)

@@ -16,7 +16,7 @@ use Rattle.gpu_core.specs.declared.piece.Piece.{Piece}
 use Rattle.std.specs.Int.NonZero.{non_zero_u64_get}
 
 abbrev pub slot_of : {H : Type 0} → LiveBlock H → Slot H
-slot_of b = record { number = b.number; block = block_of b.sub }
+slot_of b = record { handle = b.handle; block = block_of b.sub }
 
 abbrev pub slots_of : {H : Type 0} → List (Option (LiveBlock H)) → List (Option (Slot H))
 slots_of slots = map (option_map slot_of) slots
@@ -49,11 +49,11 @@ abbrev pub AreSound : {H : Type 0} → ℕ → List (Option (Slot H)) → Type 0
 AreSound granularity slots = (i : ℕ) → SlotIsSound granularity (slot_at slots i)
 
 -- a piece was taken of a shared block
-abbrev pub SlotTakes : {H : Type 0} → Option (Slot H) → Request → (offset number : ℕ) → H → Option (Slot H) → Type 0
-SlotTakes (Some old) r offset number device (Some new) =
-    (is_shared old.block ≡ true) × (device ≡ old.number) × (new.number ≡ old.number) × TakesIn old.block r offset number new.block
-SlotTakes None r offset number device new = ⊥
-SlotTakes (Some old) r offset number device None = ⊥
+abbrev pub SlotTakes : {H : Type 0} → Option (Slot H) → Request → (offset chunk_id : ℕ) → H → Option (Slot H) → Type 0
+SlotTakes (Some old) r offset chunk_id device (Some new) =
+    (is_shared old.block ≡ true) × (device ≡ old.handle) × (new.handle ≡ old.handle) × TakesIn old.block r offset chunk_id new.block
+SlotTakes None r offset chunk_id device new = ⊥
+SlotTakes (Some old) r offset chunk_id device None = ⊥
 
 -- the i-th slot is empty
 pub record IsEmptyAt {H : Type 0} (slots : List (Option (Slot H))) (i : ℕ) : Type 0 where
@@ -63,20 +63,20 @@ pub record IsEmptyAt {H : Type 0} (slots : List (Option (Slot H))) (i : ℕ) : T
 -- what a look for a piece finds: its record, another one under its number, or nothing under that
 abbrev pub Finds : {H : Type 0} → (H → H → Bool) → Piece H → Slot H → Finding → Type 0
 Finds eq p s findings.Piece = SlotHolds eq p (Some s)
-Finds eq p s findings.Other = (SlotHolds eq p (Some s) → ⊥) × ((x : Extent) × Contains (extents_of s.block) x × (x.number ≡ non_zero_u64_get p.number))
-Finds eq p s findings.Nothing = (x : Extent) → Contains (extents_of s.block) x → x.number ≡ non_zero_u64_get p.number → ⊥
+Finds eq p s findings.Other = (SlotHolds eq p (Some s) → ⊥) × ((x : Extent) × Contains (extents_of s.block) x × (x.chunk_id ≡ non_zero_u64_get p.chunk_id))
+Finds eq p s findings.Nothing = (x : Extent) → Contains (extents_of s.block) x → x.chunk_id ≡ non_zero_u64_get p.chunk_id → ⊥
 
 -- a slot's block stays, or goes where it is empty and dedicated or one of several shared ones
 abbrev pub Settles : {H : Type 0} → (several : Type 0) → Option (Slot H) → Option H → Option (Slot H) → Type 0
 Settles several (Some old) went (Some new) = (went ≡ None) × (new ≡ old) × (Goes several old.block → ⊥)
-Settles several (Some old) went None = (went ≡ Some old.number) × Goes several old.block
+Settles several (Some old) went None = (went ≡ Some old.handle) × Goes several old.block
 Settles several None went None = went ≡ None
 Settles several None went (Some new) = ⊥
 
 -- of a block that went, if one did: the device's number of it, the bytes that went with it, and 1 where it was shared
 abbrev pub released_handle : {H : Type 0} → Option (ReleasedBlock H) → Option H
 released_handle None = None
-released_handle (Some went) = Some went.number
+released_handle (Some went) = Some went.handle
 
 abbrev pub released_size : {H : Type 0} → Option (ReleasedBlock H) → ℕ
 released_size None = 0

@@ -16,11 +16,11 @@ pub record CanInstall {H : Type 0} (t : TypeState H) (size : ℕ) (is_dedicated 
   pub pages : HasPages ready.block t.granularity
   pub sound : IsSoundBlock ready.block
   pub separated : HasPagesApart ready.block
-  pub holds : HoldsPiece ready.block ready.number ready.offset ready.size
+  pub holds : HoldsPiece ready.block ready.chunk_id ready.offset ready.size
 
 -- what a request comes to: a piece of a shared block, or a new block, which the type can take; then the slots are as before
 abbrev pub IsPrepared : {H : Type 0} → (old : TypeState H) → Sizes → type_requests.Request → Prepared H → (new : TypeState H) → Type 0
-IsPrepared old sizes r (prepared.Placed p) new =
+IsPrepared old sizes r (prepared.Taken p) new =
     (has_dedicated_block old sizes r.dedicated r.size ≡ false) × PreparesPiece old.slots (asked r) p new.slots
 IsPrepared old sizes r (prepared.NeedBlock need) new =
     NeedsBlock old sizes r.dedicated (asked r) need.size need.dedicated need.room × CanInstall new need.size need.dedicated need.room × (new.slots ≡ old.slots)

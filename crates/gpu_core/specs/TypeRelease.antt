@@ -11,7 +11,7 @@ use Rattle.gpu_core.specs.declared.piece.Piece.{Piece}
 -- a slot's block has the piece, whole; the device's numbers are compared as their type compares them
 abbrev pub SlotHolds : {H : Type 0} → (H → H → Bool) → Piece H → Option (Slot H) → Type 0
 SlotHolds eq p None = ⊥
-SlotHolds eq p (Some s) = (eq s.number p.block ≡ true) × HoldsPiece s.block (non_zero_u64_get p.number) p.offset p.size
+SlotHolds eq p (Some s) = (eq s.handle p.handle ≡ true) × HoldsPiece s.block (non_zero_u64_get p.chunk_id) p.offset p.size
 
 abbrev pub IsLive : {H : Type 0} → (H → H → Bool) → List (Option (Slot H)) → Piece H → Type 0
 IsLive eq slots p = SlotHolds eq p (slot_at slots p.slot)
@@ -20,18 +20,18 @@ IsLive eq slots p = SlotHolds eq p (slot_at slots p.slot)
 abbrev pub IsOther : {H : Type 0} → (H → H → Bool) → Piece H → Slot H → Refusal → Type 0
 IsOther eq p s refusal =
     (SlotHolds eq p (Some s) → ⊥)
-    × ((x : Extent) × Contains (extents_of s.block) x × (x.number ≡ non_zero_u64_get p.number))
+    × ((x : Extent) × Contains (extents_of s.block) x × (x.chunk_id ≡ non_zero_u64_get p.chunk_id))
     × (refusal ≡ internal (codes "Allocation does not belong to this allocator.") None)
 
 -- why a piece isn't given back: its slot has no block; else the block refuses its number; else the record is another one
 abbrev pub IsFreeRefusal : {H : Type 0} → (H → H → Bool) → Piece H → Option (Slot H) → Refusal → Type 0
 IsFreeRefusal eq p None refusal = refusal ≡ internal (codes "Memory block must be Some.") None
-IsFreeRefusal eq p (Some s) refusal = IsReleaseRefusalIn s.block (Some p.number) refusal ⊎ IsOther eq p s refusal
+IsFreeRefusal eq p (Some s) refusal = IsReleaseRefusalIn s.block (Some p.chunk_id) refusal ⊎ IsOther eq p s refusal
 
 -- why a piece isn't named: the same, or host memory was refused
 abbrev pub IsNameRefusal : {H : Type 0} → (H → H → Bool) → Piece H → Option (Slot H) → Refusal → Type 0
 IsNameRefusal eq p None refusal = refusal ≡ internal (codes "Memory block must be Some.") None
-IsNameRefusal eq p (Some s) refusal = IsRenameRefusalIn s.block (Some p.number) refusal ⊎ IsOther eq p s refusal
+IsNameRefusal eq p (Some s) refusal = IsRenameRefusalIn s.block (Some p.chunk_id) refusal ⊎ IsOther eq p s refusal
 
 -- the type has more than one shared block
 abbrev pub has_others : {H : Type 0} → List (Option (Slot H)) → Bool
@@ -43,23 +43,23 @@ Goes several after = (extents_of after ≡ []) × ((is_shared after ≡ false) �
 
 -- a slot after the release of a piece: its block stays, or it is empty and the block's number is named
 abbrev pub SlotReleases : {H : Type 0} → (several : Type 0) → ℕ → Option (Slot H) → Option H → Option (Slot H) → Type 0
-SlotReleases several number (Some old) went (Some new) = (went ≡ None) × (new.number ≡ old.number) × ReleasesIn old.block number new.block × (Goes several new.block → ⊥)
-SlotReleases several number (Some old) went None = (went ≡ Some old.number) × ((after : Block) × ReleasesIn old.block number after × Goes several after)
-SlotReleases several number None went new = ⊥
+SlotReleases several chunk_id (Some old) went (Some new) = (went ≡ None) × (new.handle ≡ old.handle) × ReleasesIn old.block chunk_id new.block × (Goes several new.block → ⊥)
+SlotReleases several chunk_id (Some old) went None = (went ≡ Some old.handle) × ((after : Block) × ReleasesIn old.block chunk_id after × Goes several after)
+SlotReleases several chunk_id None went new = ⊥
 
 -- the piece went, and its block with it where that is emptied and goes; no other slot changes
 pub record ReleasesPiece {H : Type 0} (several : Type 0) (old : List (Option (Slot H))) (p : Piece H) (gone : Option H) (new : List (Option (Slot H))) : Type 0 where
   pub slot : Option (Slot H)
-  pub releases : SlotReleases several (non_zero_u64_get p.number) (slot_at old p.slot) gone slot
+  pub releases : SlotReleases several (non_zero_u64_get p.chunk_id) (slot_at old p.slot) gone slot
   pub slots : new ≡ slice_set old p.slot slot
 
 abbrev pub SlotRenames : {H : Type 0} → ℕ → List ℕ → Option (Slot H) → Option (Slot H) → Type 0
-SlotRenames number name (Some old) (Some new) = (new.number ≡ old.number) × RenamesIn old.block number name new.block
-SlotRenames number name (Some old) None = ⊥
-SlotRenames number name None new = ⊥
+SlotRenames chunk_id name (Some old) (Some new) = (new.handle ≡ old.handle) × RenamesIn old.block chunk_id name new.block
+SlotRenames chunk_id name (Some old) None = ⊥
+SlotRenames chunk_id name None new = ⊥
 
 -- the piece has another name, and nothing else changes
 pub record RenamesPiece {H : Type 0} (old : List (Option (Slot H))) (p : Piece H) (name : List ℕ) (new : List (Option (Slot H))) : Type 0 where
   pub slot : Option (Slot H)
-  pub renames : SlotRenames (non_zero_u64_get p.number) name (slot_at old p.slot) slot
+  pub renames : SlotRenames (non_zero_u64_get p.chunk_id) name (slot_at old p.slot) slot
   pub slots : new ≡ slice_set old p.slot slot

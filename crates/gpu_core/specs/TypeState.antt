@@ -6,7 +6,7 @@ use Rattle.gpu_block.specs.Block.{Block, free_list, dedicated, extents_of, size_
 
 -- a live block: the device's number of it, and its pieces
 pub record Slot (H : Type 0) : Type 0 where
-  pub number : H
+  pub handle : H
   pub block : Block
 
 -- a memory type; `room` is the number of slots that there is host memory for, `budget` the bound of the sum of its blocks' sizes, where it has one
@@ -53,7 +53,7 @@ slot_at slots i = slice_index_or slots i None
 -- the device's number of a slot's block
 abbrev pub block_number : {H : Type 0} → Option (Slot H) → Option H
 block_number None = None
-block_number (Some s) = Some s.number
+block_number (Some s) = Some s.handle
 
 abbrev pub is_empty_slot : {H : Type 0} → Option (Slot H) → Bool
 is_empty_slot None = true

@@ -41,9 +41,9 @@ pub record PreparesPiece {H : Type 0} (old : List (Option (Slot H))) (r : Reques
   pub after : Block
   pub at : slot_at old p.slot ≡ Some slot
   pub shared : is_shared slot.block ≡ true
-  pub takes : TakesIn slot.block r p.offset (non_zero_u64_get p.number) after
+  pub takes : TakesIn slot.block r p.offset (non_zero_u64_get p.chunk_id) after
   pub highest : (i : ℕ) → p.slot < i → CannotServe r (slot_at old i)
-  pub number : p.block ≡ slot.number
+  pub handle : p.handle ≡ slot.handle
   pub size : p.size ≡ r.size
   pub slots : new ≡ slice_set old p.slot (Some (record slot { block = after }))
 
@@ -59,7 +59,7 @@ fresh_block false size granularity = free_list (fresh_free_list size granularity
 pub record Pending : Type 0 where
   pub block : Block
   pub offset : ℕ
-  pub number : ℕ
+  pub chunk_id : ℕ
   pub size : ℕ
 
 -- which block a request needs; the piece begins at its start
@@ -67,7 +67,7 @@ pub record NeedsBlock {H : Type 0} (t : TypeState H) (sizes : Sizes) (requests_d
   pub kind : is_dedicated ≡ has_dedicated_block t sizes requests_dedicated r.size
   pub size_is : size ≡ cond is_dedicated r.size (next_shared_size t sizes)
   pub none : is_dedicated ≡ false → NoneServes t.slots r
-  pub takes : TakesIn (fresh_block is_dedicated size t.granularity) r ready.offset ready.number ready.block
+  pub takes : TakesIn (fresh_block is_dedicated size t.granularity) r ready.offset ready.chunk_id ready.block
   pub piece : ready.size ≡ r.size
   pub begins : ready.offset ≡ 0
 
@@ -83,7 +83,7 @@ abbrev pub with_block : {H : Type 0} → List (Option (Slot H)) → ℕ → Slot
 with_block slots i s = cond (nat_lt i (length slots)) (slice_set slots i (Some s)) (slots ++ Some s ∷ [])
 
 -- the new block stands in its slot, and the piece is the one taken in it
-pub record Installs {H : Type 0} (old : List (Option (Slot H))) (is_dedicated : Bool) (ready : Pending) (number : H) (p : Piece H) (new : List (Option (Slot H))) : Type 0 where
+pub record Installs {H : Type 0} (old : List (Option (Slot H))) (is_dedicated : Bool) (ready : Pending) (handle : H) (p : Piece H) (new : List (Option (Slot H))) : Type 0 where
   pub slot : p.slot ≡ new_slot is_dedicated old
-  pub piece : (p.offset ≡ ready.offset) × (non_zero_u64_get p.number ≡ ready.number) × (p.size ≡ ready.size) × (p.block ≡ number)
-  pub slots : new ≡ with_block old (new_slot is_dedicated old) (record { number = number; block = ready.block })
+  pub piece : (p.offset ≡ ready.offset) × (non_zero_u64_get p.chunk_id ≡ ready.chunk_id) × (p.size ≡ ready.size) × (p.handle ≡ handle)
+  pub slots : new ≡ with_block old (new_slot is_dedicated old) (record { handle = handle; block = ready.block })

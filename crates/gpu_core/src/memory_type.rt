@@ -138,10 +138,10 @@ impl<H: Copy + Eq> MemoryType<H> {
     /// Puts in the block that `prepare` asked for, under the device's number of it, and answers the piece in it. It
     /// takes no memory and can't be refused. Its caller sees to it that there is room for the block, as `prepare` leaves it, and
     /// that the sum of all blocks' sizes stays in 64 bits.
-    pub fn install(&mut self, need: NeedBlock, number: H) -> Piece<H>
+    pub fn install(&mut self, need: NeedBlock, handle: H) -> Piece<H>
         requires ready { CanInstall self.old need.size need.dedicated need.room }
         requires sum { capacity_of self.old.slots + need.size < 2 ^ 64 }
-        ensures installed { Installs self.old.slots need.dedicated need.room number result self.new.slots }
+        ensures installed { Installs self.old.slots need.dedicated need.room handle result self.new.slots }
         ensures capacity { capacity_of self.new.slots ≡ capacity_of self.old.slots + need.size }
         ensures kind { (self.new.is_host ≡ self.old.is_host) × (self.new.granularity ≡ self.old.granularity) }
         ensures budget { self.new.budget ≡ self.old.budget }
@@ -154,7 +154,7 @@ impl<H: Copy + Eq> MemoryType<H> {
             room,
         } = need;
         let block = LiveBlock {
-            number,
+            handle,
             sub: room.sub,
         };
         let slot = self.slots.put(block, dedicated);
@@ -164,10 +164,10 @@ impl<H: Copy + Eq> MemoryType<H> {
         }
         Piece {
             slot,
-            number: room.number,
+            chunk_id: room.chunk_id,
             offset: room.offset,
             size: room.size,
-            block: number,
+            handle,
         }
     }
 
@@ -195,7 +195,7 @@ impl<H: Copy + Eq> MemoryType<H> {
                 if gone.is_shared {
                     self.shared -= 1;
                 }
-                Ok(Some(gone.number))
+                Ok(Some(gone.handle))
             }
         }
     }
@@ -283,7 +283,7 @@ impl<H: Copy + Eq> MemoryType<H> {
         ensures { result ≡ block_number (slot_at self.now.slots slot) }
     {
         match self.slots.as_slice().get(slot) {
-            Some(Some(block)) => Some(block.number),
+            Some(Some(block)) => Some(block.handle),
             _ => None,
         }
     }

@@ -19,7 +19,7 @@ use std::num::NonZeroU64;
 #[derive(Drop)]
 pub struct PendingBlock {
     pub(crate) sub: SubAllocator,
-    pub(crate) number: NonZeroU64,
+    pub(crate) chunk_id: NonZeroU64,
     pub(crate) offset: u64,
     pub(crate) size: u64,
 }
@@ -31,7 +31,7 @@ impl Model for PendingBlock {
 
     ghost Value = { Pending };
 
-    ghost view = { λ r. record { block = block_of r.sub; offset = r.offset; number = non_zero_u64_get r.number; size = r.size } };
+    ghost view = { λ r. record { block = block_of r.sub; offset = r.offset; chunk_id = non_zero_u64_get r.chunk_id; size = r.size } };
 }
 
 /// The block that a request needs: ask the device for `size` bytes, and then call `install`.
@@ -75,10 +75,10 @@ pub fn make_pending(
     requires exact { IsTrue is_dedicated → size ≡ request.now.size }
     requires fits { request.now.size ≤ size }
     ensures takes { IfOk result
-        (λ r. TakesIn (fresh_block is_dedicated size granularity) (asked request.now) r.offset r.number r.block) }
+        (λ r. TakesIn (fresh_block is_dedicated size granularity) (asked request.now) r.offset r.chunk_id r.block) }
     ensures piece { IfOk result (λ r. r.size ≡ request.now.size) }
     ensures begins { IfOk result (λ r. r.offset ≡ 0) }
-    ensures holds { IfOk result (λ r. HoldsPiece r.block r.number r.offset r.size) }
+    ensures holds { IfOk result (λ r. HoldsPiece r.block r.chunk_id r.offset r.size) }
     ensures sound { IfOk result (λ r. IsSoundBlock r.block) }
     ensures pages { IfOk result (λ r. HasPages r.block granularity) }
     ensures separated { IfOk result (λ r. HasPagesApart r.block) }
@@ -92,9 +92,9 @@ pub fn make_pending(
         granularity,
         request.name,
     ) {
-        Ok((offset, number)) => Ok(PendingBlock {
+        Ok((offset, chunk_id)) => Ok(PendingBlock {
             sub,
-            number,
+            chunk_id,
             offset,
             size: request.size,
         }),

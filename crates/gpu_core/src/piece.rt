@@ -23,8 +23,8 @@ pub struct Request<'a> {
 #[derive(Clone, Copy, Debug, PartialEq, Eq)]
 pub struct Piece<H> {
     pub slot: usize,
-    pub number: NonZeroU64,
+    pub chunk_id: NonZeroU64,
     pub offset: u64,
     pub size: u64,
-    pub block: H,
+    pub handle: H,
 }

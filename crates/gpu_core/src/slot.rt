@@ -21,7 +21,7 @@ use std::num::NonZeroU64;
 /// A live block: the device's number of it, and its pieces.
 #[derive(Drop)]
 pub struct LiveBlock<H> {
-    pub number: H,
+    pub handle: H,
     pub sub: SubAllocator,
 }
 
@@ -29,8 +29,8 @@ pub struct LiveBlock<H> {
 #[derive(Drop)]
 pub struct Placed<H> {
     pub offset: u64,
-    pub number: NonZeroU64,
-    pub block: H,
+    pub chunk_id: NonZeroU64,
+    pub handle: H,
 }
 
 /// The bytes up to which a slot may serve requests: those of its shared block's longest gap, and 0 where it has none.
@@ -55,7 +55,7 @@ pub fn allocate_in<H: Copy>(
     requires piece { request.now.kind ≢ AllocationType.Free }
     requires sound { SlotIsSound granularity (option_map slot_of slot.old) }
     ensures took { IfOk result (λ o. IfSome o (λ t. SlotTakes (option_map slot_of slot.old) (asked request.now)
-        t.offset (non_zero_u64_get t.number) t.block (option_map slot_of slot.new))) }
+        t.offset (non_zero_u64_get t.chunk_id) t.handle (option_map slot_of slot.new))) }
     ensures none { IfOk result (λ o. IsNone o → CannotServe (asked request.now) (option_map slot_of slot.old)
         × (option_map slot_of slot.new ≡ option_map slot_of slot.old)) }
     ensures cause { IfErr result (λ e. e ≡ HostOutOfMemory) }
@@ -72,10 +72,10 @@ pub fn allocate_in<H: Copy>(
                 ..
             } = *request;
             match block.sub.allocate(size, alignment, kind, granularity, name) {
-                Ok((offset, number)) => Ok(Some(Placed {
+                Ok((offset, chunk_id)) => Ok(Some(Placed {
                     offset,
-                    number,
-                    block: block.number,
+                    chunk_id,
+                    handle: block.handle,
                 })),
                 Err(AllocationError::OutOfMemory) => Ok(None),
                 Err(error) => Err(error),
@@ -101,13 +101,13 @@ pub fn find<H: Copy + Eq>(block: &LiveBlock<H>, piece: &Piece<H>) -> Finding
     requires { IsSoundBlock (block_of block.now.sub) }
     ensures { Finds H.eq piece.now (slot_of block.now) result }
 {
-    let Some((offset, size)) = block.sub.place_of(piece.number) else {
+    let Some((offset, size)) = block.sub.place_of(piece.chunk_id) else {
         return Finding::Nothing;
     };
     if offset != piece.offset || size != piece.size {
         return Finding::Other;
     }
-    if block.number == piece.block {
+    if block.handle == piece.handle {
         Finding::Piece
     } else {
         Finding::Other
@@ -117,7 +117,7 @@ pub fn find<H: Copy + Eq>(block: &LiveBlock<H>, piece: &Piece<H>) -> Finding
 /// A block that went: the device's number of it, its size in bytes, and whether it was shared.
 #[derive(Drop)]
 pub struct ReleasedBlock<H> {
-    pub number: H,
+    pub handle: H,
     pub size: u64,
     pub is_shared: bool,
 }
@@ -132,7 +132,7 @@ fn settle<H: Copy>(slot: &mut Option<LiveBlock<H>>, several: bool) -> Option<Rel
         let is_shared = block.sub.supports_general_allocations();
         if block.sub.is_empty() && (several || !is_shared) {
             let gone = ReleasedBlock {
-                number: block.number,
+                handle: block.handle,
                 size: block.sub.size(),
                 is_shared,
             };
@@ -146,18 +146,18 @@ fn settle<H: Copy>(slot: &mut Option<LiveBlock<H>>, several: bool) -> Option<Rel
 /// Gives a piece back to its block. It takes no memory; a refusal leaves the block as it was.
 fn free_piece<H: Copy + Eq>(block: &mut LiveBlock<H>, piece: &Piece<H>) -> Result<()>
     requires { IsSoundBlock (block_of block.old.sub) }
-    ensures released { OnOk result (ReleasesIn (block_of block.old.sub) (non_zero_u64_get piece.now.number) (block_of block.new.sub)) }
+    ensures released { OnOk result (ReleasesIn (block_of block.old.sub) (non_zero_u64_get piece.now.chunk_id) (block_of block.new.sub)) }
     ensures live { OnOk result (SlotHolds H.eq piece.now (Some (slot_of block.old))) }
     ensures cause { IfErr result (λ e. IsFreeRefusal H.eq piece.now (Some (slot_of block.old)) (refusal_of e)) }
     ensures refused { OnErr result (slot_of block.new ≡ slot_of block.old) }
-    ensures number { block.new.number ≡ block.old.number }
+    ensures handle { block.new.handle ≡ block.old.handle }
     ensures pages { (g : ℕ) → HasPages (block_of block.old.sub) g → HasPages (block_of block.new.sub) g }
     ensures sound { IsSoundBlock (block_of block.new.sub) }
     ensures separated { OnOk result (HasPagesApart (block_of block.new.sub)) }
 {
     match find(block, piece) {
         Finding::Other => Err(internal_fault("Allocation does not belong to this allocator.")),
-        _ => block.sub.free(Some(piece.number)),
+        _ => block.sub.free(Some(piece.chunk_id)),
     }
 }
 
@@ -168,7 +168,7 @@ pub fn release<H: Copy + Eq>(
     several: bool,
 ) -> Result<Option<ReleasedBlock<H>>>
     requires { (g : ℕ) × SlotIsSound g (option_map slot_of slot.old) }
-    ensures released { IfOk result (λ went. SlotReleases (IsTrue several) (non_zero_u64_get piece.now.number)
+    ensures released { IfOk result (λ went. SlotReleases (IsTrue several) (non_zero_u64_get piece.now.chunk_id)
         (option_map slot_of slot.old) (released_handle went) (option_map slot_of slot.new)) }
     ensures live { OnOk result (SlotHolds H.eq piece.now (option_map slot_of slot.old)) }
     ensures size { IfOk result (λ went. slot_size (option_map slot_of slot.new) + released_size went ≡ slot_size (option_map slot_of slot.old)) }
@@ -193,7 +193,7 @@ pub fn rename<H: Copy + Eq>(
     name: &str,
 ) -> Result<()>
     requires { (g : ℕ) × SlotIsSound g (option_map slot_of slot.old) }
-    ensures renamed { OnOk result (SlotRenames (non_zero_u64_get piece.now.number) name.now
+    ensures renamed { OnOk result (SlotRenames (non_zero_u64_get piece.now.chunk_id) name.now
         (option_map slot_of slot.old) (option_map slot_of slot.new)) }
     ensures live { OnOk result (SlotHolds H.eq piece.now (option_map slot_of slot.old)) }
     ensures starved { IfErr result (λ e. e ≡ HostOutOfMemory → SlotHolds H.eq piece.now (option_map slot_of slot.old)) }
@@ -205,7 +205,7 @@ pub fn rename<H: Copy + Eq>(
         None => Err(internal_fault("Memory block must be Some.")),
         Some(block) => match find(block, piece) {
             Finding::Other => Err(internal_fault("Allocation does not belong to this allocator.")),
-            _ => block.sub.rename_allocation(Some(piece.number), name),
+            _ => block.sub.rename_allocation(Some(piece.chunk_id), name),
         },
     }
 }

@@ -190,10 +190,10 @@ fn allocate_shared<H: Copy>(
             Some(taken) => {
                 return Ok(Some(Piece {
                     slot: below,
-                    number: taken.number,
+                    chunk_id: taken.chunk_id,
                     offset: taken.offset,
                     size: request.size,
-                    block: taken.block,
+                    handle: taken.handle,
                 }));
             }
         }

@@ -45,8 +45,8 @@ pub fn one_block_needed<H: Copy + Eq>()
     ensures needs { (t : TypeState H) (sizes : Sizes) (own : Bool) (r : Request) (size other : ℕ) (is_dedicated kind : Bool) (ready next : Pending)
         → NeedsBlock t sizes own r size is_dedicated ready → NeedsBlock t sizes own r other kind next
         → (size ≡ other) × (is_dedicated ≡ kind) × (ready ≡ next) }
-    ensures installs { (old : List (Option (Slot H))) (is_dedicated : Bool) (ready : Pending) (number : H) (p q : Piece H) (new next : List (Option (Slot H)))
-        → Installs old is_dedicated ready number p new → Installs old is_dedicated ready number q next → (p ≡ q) × (new ≡ next) }
+    ensures installs { (old : List (Option (Slot H))) (is_dedicated : Bool) (ready : Pending) (chunk_id : H) (p q : Piece H) (new next : List (Option (Slot H)))
+        → Installs old is_dedicated ready chunk_id p new → Installs old is_dedicated ready chunk_id q next → (p ≡ q) × (new ≡ next) }
 {}
 
 /// A release of a piece has one outcome, and so have a new name, and each refusal of one but want of host memory.

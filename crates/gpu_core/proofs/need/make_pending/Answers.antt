@@ -6,12 +6,12 @@ use Rattle.gpu_core.proofs.need.make_pending.Goals as goal
 
 pub returns-in-Ok-clause-begins : goal.returns-in-Ok-clause-begins
 returns-in-Ok-clause-begins c =
-    fresh_begins c.args.is_dedicated c.args.size c.args.granularity (asked c.args.request.now) c.in-Ok.offset c.in-Ok.number.value (block_of c.allocate.new.self) c.requires.sized c.requires.fits
+    fresh_begins c.args.is_dedicated c.args.size c.args.granularity (asked c.args.request.now) c.in-Ok.offset c.in-Ok.chunk_id.value (block_of c.allocate.new.self) c.requires.sized c.requires.fits
     (rw c.in_ok-sub.ensures.fresh at c.in-Ok.ensures.took)
 
 pub returns-in-Ok-clause-holds : goal.returns-in-Ok-clause-holds
 returns-in-Ok-clause-holds c =
-    takes_holds (block_of c.in_ok-sub.sub) (asked c.args.request.now) c.in-Ok.offset c.in-Ok.number.value (block_of c.allocate.new.self) c.in-Ok.ensures.took
+    takes_holds (block_of c.in_ok-sub.sub) (asked c.args.request.now) c.in-Ok.offset c.in-Ok.chunk_id.value (block_of c.allocate.new.self) c.in-Ok.ensures.took
 
 pub returns-in-Err-clause-cause : goal.returns-in-Err-clause-cause
 returns-in-Err-clause-cause c =

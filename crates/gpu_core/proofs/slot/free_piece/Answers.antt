@@ -12,8 +12,8 @@ returns-in_default g c =
       live = on_ok c.free.result _ _ c.free.ensures.freed
           (λ t. released_live g.H.PartialEq.eq c.args.piece.now (slot_of c.args.block.now) c.find.result (block_of c.free.new.self) c.find.ensures c.in_default.not-Other c.requires t);
       cause = if_error c.free.result _ _ c.free.ensures.cause (λ e h. inl h);
-      refused = on_error c.free.result _ _ c.free.ensures.refused (λ e. ap (λ (b : Block). record { number = c.args.block.now.number; block = b }) e);
-      number = refl;
+      refused = on_error c.free.result _ _ c.free.ensures.refused (λ e. ap (λ (b : Block). record { handle = c.args.block.now.handle; block = b }) e);
+      handle = refl;
       pages = c.free.ensures.pages;
       sound = either_way c.free.result _ _ c.free.ensures.sound c.free.ensures.refused (λ e. subst IsSoundBlock (sym e) c.requires);
       separated = c.free.ensures.separated;

@@ -24,6 +24,6 @@ returns-in_default g c =
           (λ e h host. starved_live g.H.PartialEq.eq c.args.piece.now (slot_of c.in-Some.block) c.find.result (refusal_of e) c.find.ensures c.in_default.not-Other sound h (ap refusal_of host)));
       cause = rw c.in-Some.is (if_error c.rename_allocation.result _ _ c.rename_allocation.ensures.cause (λ e h. inl h));
       refused = rw c.in-Some.is (on_error c.rename_allocation.result _ _ c.rename_allocation.ensures.refused
-          (λ e. ap (λ (b : Block). Some (record { number = c.in-Some.block.number; block = b })) e));
+          (λ e. ap (λ (b : Block). Some (record { handle = c.in-Some.block.handle; block = b })) e));
       kept = rw c.in-Some.is (λ n s. (c.rename_allocation.ensures.pages n s.0, after, separated));
     }

@@ -18,10 +18,10 @@ kept_with g c shared counts =
     let block : Block = block_of c.room.inside.sub in
     let same : block ≡ c.args.need.room.block = ap (λ r. r.block) c.room.view_is in
     let put = c.put-slot.ensures in
-    let s : Slot g.row.H.Denot = record { number = c.args.number; block = block } in
+    let s : Slot g.row.H.Denot = record { handle = c.args.handle; block = block } in
     installed_kept i.granularity i.slots.slots i.capacity i.shared c.args.need.dedicated s c.put-slot.new.self.slots c.args.need.size shared c.self.invariant
     (rw same (rw (ap (λ t. t.granularity) c.self.view_is) ready.pages, ready.sound, ready.separated))
-    (rw same (holds_some c.args.need.room.block c.args.need.room.number c.args.need.room.offset c.args.need.room.size ready.holds)) (put.slots ∙ ap (λ k. with_block i.slots.slots k s) put.slot)
+    (rw same (holds_some c.args.need.room.block c.args.need.room.chunk_id c.args.need.room.offset c.args.need.room.size ready.holds)) (put.slots ∙ ap (λ k. with_block i.slots.slots k s) put.slot)
     (ap size_of same ∙ ready.size_is) (ap (λ b. cond (is_shared b) 1 0) same ∙ (ap (λ b. cond b 1 0) ready.kind ∙ counts))
 
 pub overflow_add-self-then-not-dedicated : goal.overflow_add-self-then-not-dedicated

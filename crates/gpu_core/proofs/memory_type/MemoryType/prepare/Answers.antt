@@ -100,14 +100,14 @@ returns-clause-prepared g c =
       | then-dedicated w ↦ w.size-is ∙ sym (ap (λ b. cond b c.args.request.now.size (next_shared_size c.args.self.now c.args.sizes.now)) w.if-dedicated.true)
       | else-dedicated w ↦ w.size-is ∙ (next_is g at ∙ sym (ap (λ b. cond b c.args.request.now.size (next_shared_size c.args.self.now c.args.sizes.now)) w.if-dedicated.false))
     ] in
-    let taken = fresh_taken c.if-request.dedicated c.if-dedicated.size c.if-not-dedicated.self-inside.granularity (asked c.args.request.now) c.in_ok-room.room.offset c.in_ok-room.room.number
+    let taken = fresh_taken c.if-request.dedicated c.if-dedicated.size c.if-not-dedicated.self-inside.granularity (asked c.args.request.now) c.in_ok-room.room.offset c.in_ok-room.room.chunk_id
     c.in_ok-room.room.block c.in_ok-room.ensures.takes in
     let needs : NeedsBlock c.args.self.now c.args.sizes.now c.args.request.now.dedicated (asked c.args.request.now) c.if-dedicated.size c.if-request.dedicated c.in_ok-room.room =
     record {
       kind = kind_is g at;
       size_is = size;
       none = λ h. subst (λ xs. NoneServes xs (asked c.args.request.now)) seen (same.2 h);
-      takes = subst (λ n. TakesIn (fresh_block c.if-request.dedicated c.if-dedicated.size n) (asked c.args.request.now) c.in_ok-room.room.offset c.in_ok-room.room.number c.in_ok-room.room.block)
+      takes = subst (λ n. TakesIn (fresh_block c.if-request.dedicated c.if-dedicated.size n) (asked c.args.request.now) c.in_ok-room.room.offset c.in_ok-room.room.chunk_id c.in_ok-room.room.block)
           pages c.in_ok-room.ensures.takes;
       piece = c.in_ok-room.ensures.piece;
       begins = c.in_ok-room.ensures.begins;
