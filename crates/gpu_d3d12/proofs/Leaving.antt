@@ -68,9 +68,9 @@ pub just_live : (tier : ResourceHeapTier) (first held : Held) (slots : Slots) �
 just_live tier first held slots h k = record {
   blocks = λ t i s at.
       let is = k.blocks t i s at in
-      subst (HasEntry (IsBlockEntry tier) t s.block) (sym (held_heap tier first held h s.number.0 t (size_of s.block) is).1) (entry_is tier first held h s.number.0 t (size_of s.block) is);
+      subst (HasEntry (IsBlockEntry tier) t s.block) (sym (held_heap tier first held h s.handle.0 t (size_of s.block) is).1) (entry_is tier first held h s.handle.0 t (size_of s.block) is);
   one_block = k.one_block;
-  new = λ t i s at. beside_block first held s.number.0 (subst IsSome (sym (k.blocks t i s at)) refl);
+  new = λ t i s at. beside_block first held s.handle.0 (subst IsSome (sym (k.blocks t i s at)) refl);
   others = λ n none. sym (beside_other first held n (k.others n none));
 }
 
@@ -89,8 +89,8 @@ pub live_in_heap : (tier : ResourceHeapTier) (aside held : Held) (slots : Slots)
 live_in_heap tier aside held slots k a live inside =
     let t = a.memory_type_index in
     let f = found is_same_heap slots t (piece_of a) live in
-    let heap = held_sized tier t f.s (get held f.s.number.0) (k.blocks t a.memory_block_index f.s f.at) in
-    let number = eqb-true f.s.number.0 a.heap.0 f.number in
+    let heap = held_sized tier t f.s (get held f.s.handle.0) (k.blocks t a.memory_block_index f.s f.at) in
+    let number = eqb-true f.s.handle.0 a.heap.0 f.handle in
     let ends : a.offset + a.size ≤ size_of f.s.block = subst (λ o. EndsInside o (a.offset + a.size)) f.at inside in
     let same = heap.2 in
     record { desc = heap.0; heap = ap (get held) (sym number) ∙ heap.1; inside = omega (arith, ends, same) }

@@ -138,7 +138,7 @@ module _ {S : Type 0} (asks : S → ℕ → ℕ → Unit {0} → Result ID3D12He
   pub record AsksInPiece (d : ResourceCreateDesc) (question : CreateCall) (t : ℕ) (p : Piece ID3D12Heap) (answer : ResourceAnswer) (reply : Reply) (old new : pools.State S ID3D12Heap) : Type 0 where
     pub sound : (t : ℕ) → IsSoundAt (kinds_of_device basis.tier) old.slots t
     pub between : S
-    pub asked : makes d old.source question (InHeap p.block p.offset) (entries.Placed p.block.0 p.offset (size_made basis question d)) answer between
+    pub asked : makes d old.source question (InHeap p.handle p.offset) (entries.Placed p.handle.0 p.offset (size_made basis question d)) answer between
     pub reply_is : reply ≡ made_reply t (Some p) (info_of basis d).size_in_bytes (number_or_refusal placed_texts answer)
     pub ends : EndsBy t p (number_or_refusal placed_texts answer) (record old { source = between }) new
 

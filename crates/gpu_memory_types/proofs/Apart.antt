@@ -21,7 +21,7 @@ use Rattle.gpu_memory_types.proofs.Options.{some_same}
 
 -- ---- one block
 
-whole_end : (o : Option Extent) (size : ℕ) (x : Extent) → IfSome o (λ y. (y.start ≡ 0) × (y.offset ≡ 0) × (y.end ≡ size) × (y.number ≡ 1)) → Contains (option_to_list o) x → x.end ≡ size
+whole_end : (o : Option Extent) (size : ℕ) (x : Extent) → IfSome o (λ y. (y.start ≡ 0) × (y.offset ≡ 0) × (y.end ≡ size) × (y.chunk_id ≡ 1)) → Contains (option_to_list o) x → x.end ≡ size
 whole_end None size x whole h = (let l = h.1 in absurd (omega (arith, l)))
 whole_end (Some z) size x whole h = ap (λ (y : Extent). y.end) (only_one (Some z) x z h (0, omega arith, refl)) ∙ whole.2
 
@@ -62,10 +62,10 @@ kinds_apart g (free_list b) pages sound apart x y hx hy ne before =
 pub record Found {H : Type 0} (eq : H → H → Bool) (ss : Slots H) (t : ℕ) (p : Piece H) : Type 0 where
   pub s : Slot H
   pub at : block_at ss t p.slot ≡ Some s
-  pub number : eq s.number p.block ≡ true
+  pub handle : eq s.handle p.handle ≡ true
   pub x : Extent
   pub held : Contains (extents_of s.block) x
-  pub numbered : x.number ≡ non_zero_u64_get p.number
+  pub numbered : x.chunk_id ≡ non_zero_u64_get p.chunk_id
   pub begins : x.offset ≡ p.offset
   pub ends : x.end ≡ p.offset + p.size
 
@@ -74,7 +74,7 @@ found_in eq ss t p None at live = absurd live
 found_in eq ss t p (Some s) at live = record {
   s = s;
   at = at;
-  number = live.0;
+  handle = live.0;
   x = live.1.0;
   held = live.1.1;
   numbered = live.1.2;
@@ -99,14 +99,14 @@ module _ {H : Type 0} (eq : H → H → Bool) (granularity : ℕ) (ss : Slots H)
   one_block : (p q : Piece H) (f : Found eq ss t p) (g : Found eq ss t q) → p.slot ≡ q.slot → f.s ≡ g.s
   one_block p q f g slot = some_same f.s g.s (sym f.at ∙ (ap (block_at ss t) slot ∙ g.at))
 
-  in_one_slot : (p q : Piece H) → IsLiveIn eq ss t (Some p) → IsLiveIn eq ss t (Some q) → p.slot ≡ q.slot → non_zero_u64_get p.number ≢ non_zero_u64_get q.number
+  in_one_slot : (p q : Piece H) → IsLiveIn eq ss t (Some p) → IsLiveIn eq ss t (Some q) → p.slot ≡ q.slot → non_zero_u64_get p.chunk_id ≢ non_zero_u64_get q.chunk_id
       → (p.offset + p.size ≤ q.offset) ⊎ (q.offset + q.size ≤ p.offset)
   in_one_slot p q live_p live_q slot differ =
       let f = found eq ss t p live_p in
       let g = found eq ss t q live_q in
       let y_in : Contains (extents_of f.s.block) g.x = subst (λ (s : Slot H). Contains (extents_of s.block) g.x) (sym (one_block p q f g slot)) g.held in
       ⊎_elim
-      (λ alike. absurd (differ (sym f.numbered ∙ ap (λ (z : Extent). z.number) alike ∙ g.numbered)))
+      (λ alike. absurd (differ (sym f.numbered ∙ ap (λ (z : Extent). z.chunk_id) alike ∙ g.numbered)))
       (λ apart. ⊎_elim
       (λ below. inl (omega (arith, below, f.ends, g.begins)))
       (λ above. inr (omega (arith, above, g.ends, f.begins)))

@@ -75,11 +75,11 @@ module _ {H : Type 0} (types : Types H) (i : ℕ) (old new : TypeState H) (at : 
   }
   renamed eq p name (Err e) live h = tt
 
-  pub installed : (is_dedicated : Bool) (ready : Pending) (number : H) (p : Piece H) → Installs old.slots is_dedicated ready number p new.slots
-      → InstallsAt i (slots_of types) is_dedicated ready number p (slots_of (slice_set types i new))
-  installed is_dedicated ready number p h = record {
+  pub installed : (is_dedicated : Bool) (ready : Pending) (handle : H) (p : Piece H) → Installs old.slots is_dedicated ready handle p new.slots
+      → InstallsAt i (slots_of types) is_dedicated ready handle p (slots_of (slice_set types i new))
+  installed is_dedicated ready handle p h = record {
     left = new.slots;
-    installs = subst (λ (ss : List (Option (Slot H))). Installs ss is_dedicated ready number p new.slots) here h;
+    installs = subst (λ (ss : List (Option (Slot H))). Installs ss is_dedicated ready handle p new.slots) here h;
     slots = slots_set types i new;
   }
 

@@ -15,4 +15,4 @@ is_held IsEntry t b (Some e) entry none = none_some e (sym none)
 pub not_a_block : {H E : Type 0} (number_of : H → ℕ) (IsEntry : (t size : ℕ) → E → Type 0) (first held : FinMap nat_cmp E) (ss : Slots H) (n : ℕ)
     → HoldsBlocks number_of IsEntry first held ss → get held n ≡ None → IsNoBlock number_of ss n
 not_a_block number_of IsEntry first held ss n h none t i s at is =
-    is_held IsEntry t s.block (get held (number_of s.number)) (h.blocks t i s at) (ap (get held) is ∙ none)
+    is_held IsEntry t s.block (get held (number_of s.handle)) (h.blocks t i s at) (ap (get held) is ∙ none)

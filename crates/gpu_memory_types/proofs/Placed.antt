@@ -48,11 +48,11 @@ empty_slot true old i e = lowest_found old i e
 empty_slot false old i e = highest_empty_found old i e
 
 -- a new block stands in a slot that had none
-pub installs_only : {H : Type 0} (old : List (Option (Slot H))) (own : Bool) (ready : Pending) (number : H) (p : Piece H) (new : List (Option (Slot H)))
-    → Installs old own ready number p new
-    → (slot_at old p.slot ≡ None) × OnlyAt old p.slot (Some (record { number = number; block = ready.block })) new
-installs_only {H} old own ready number p new h =
-    let s : Slot H = record { number = number; block = ready.block } in
+pub installs_only : {H : Type 0} (old : List (Option (Slot H))) (own : Bool) (ready : Pending) (handle : H) (p : Piece H) (new : List (Option (Slot H)))
+    → Installs old own ready handle p new
+    → (slot_at old p.slot ≡ None) × OnlyAt old p.slot (Some (record { handle = handle; block = ready.block })) new
+installs_only {H} old own ready handle p new h =
+    let s : Slot H = record { handle = handle; block = ready.block } in
     let made = made_only old (cond own (lowest_empty old) (highest_empty old)) s (empty_slot own old) in
     subst (λ i. (slot_at old i ≡ None) × OnlyAt old i (Some s) new) (sym h.slot)
     (made.0, subst (OnlyAt old (new_slot own old) (Some s)) (sym h.slots) made.1)

@@ -32,9 +32,9 @@ taken_number (free_list old) r o n (free_list new) shared before after t k off s
 taken_number (free_list old) r o n (dedicated new) shared before after t k off size h e = t
 taken_number (dedicated old) r o n new shared before after t k off size h e = cc
 
-held_one : (o : Option Extent) (size : ℕ) → IfSome o (λ x. (x.start ≡ 0) × (x.offset ≡ 0) × (x.end ≡ size) × (x.number ≡ 1)) → (x : Extent) → Contains (option_to_list o) x → x.number ≡ 1
+held_one : (o : Option Extent) (size : ℕ) → IfSome o (λ x. (x.start ≡ 0) × (x.offset ≡ 0) × (x.end ≡ size) × (x.chunk_id ≡ 1)) → (x : Extent) → Contains (option_to_list o) x → x.chunk_id ≡ 1
 held_one None size whole x h = let l = h.1 in absurd (omega (arith, l))
-held_one (Some y) size whole x h = ap (λ (z : Extent). z.number) (only_one (Some y) x y h (0, omega arith, refl)) ∙ whole.3
+held_one (Some y) size whole x h = ap (λ (z : Extent). z.chunk_id) (only_one (Some y) x y h (0, omega arith, refl)) ∙ whole.3
 
 released_keeps : (old : Block) (n : ℕ) (new : Block) → IsSoundBlock old → ReleasesIn old n new → (k off size : ℕ) → k ≢ n → HoldsPiece old k off size → HoldsPiece new k off size
 released_keeps (free_list old) n (free_list new) sound t k off size ne h = (h.0, releases_keeps old n new sound t h.0 h.1 (λ e. ne (sym h.2 ∙ e)), h.2, h.3, h.4)
@@ -61,9 +61,9 @@ module _ {H : Type 0} (eq : H → H → Bool) (old new : Slots H) (t i : ℕ) (s
 
 -- a piece of a block that stands in its slot is live
 pub live_at : {H : Type 0} (eq : H → H → Bool) (same : (h : H) → eq h h ≡ true) (ss : Slots H) (t : ℕ) (p : Piece H) (b : Slot H)
-    → block_at ss t p.slot ≡ Some b → b.number ≡ p.block → HoldsPiece b.block (non_zero_u64_get p.number) p.offset p.size → IsLiveIn eq ss t (Some p)
+    → block_at ss t p.slot ≡ Some b → b.handle ≡ p.handle → HoldsPiece b.block (non_zero_u64_get p.chunk_id) p.offset p.size → IsLiveIn eq ss t (Some p)
 live_at eq same ss t p b at number holds =
-    subst (SlotHolds eq p) (sym at) (subst (λ n. eq b.number n ≡ true) number (same b.number), holds)
+    subst (SlotHolds eq p) (sym at) (subst (λ n. eq b.handle n ≡ true) number (same b.handle), holds)
 
 -- ---- a request
 
@@ -71,7 +71,7 @@ live_at eq same ss t p b at number holds =
 pub record IsNewPiece {H : Type 0} (eq : H → H → Bool) (t : ℕ) (old new : Slots H) (p : Piece H) : Type 0 where
   pub keeps : (u : ℕ) (q : Piece H) → IsLiveIn eq old u (Some q) → IsLiveIn eq new u (Some q)
   pub live : IsLiveIn eq new t (Some p)
-  pub other : (u : ℕ) (q : Piece H) → IsLiveIn eq old u (Some q) → u ≡ t → q.slot ≡ p.slot → non_zero_u64_get q.number ≢ non_zero_u64_get p.number
+  pub other : (u : ℕ) (q : Piece H) → IsLiveIn eq old u (Some q) → u ≡ t → q.slot ≡ p.slot → non_zero_u64_get q.chunk_id ≢ non_zero_u64_get p.chunk_id
 
 module _ {H : Type 0} (eq : H → H → Bool) (same : (h : H) → eq h h ≡ true) (granularity t : ℕ) (r : Request) (old : Slots H) (below : t < length old) (sound : AreSound granularity (slots_at old t)) where
   pub served_keeps : (p : Piece H) (taken : List (Option (Slot H))) → PreparesPiece (slots_at old t) r p taken → AreSound granularity (slots_at (slice_set old t taken) t)
@@ -79,33 +79,33 @@ module _ {H : Type 0} (eq : H → H → Bool) (same : (h : H) → eq h h ≡ tru
   served_keeps p taken s after =
       let new = slice_set old t taken in
       let b : Slot H = record s.slot { block = s.after } in
-      let n = non_zero_u64_get p.number in
+      let n = non_zero_u64_get p.chunk_id in
       let only = only_block old t p.slot (Some b) taken below (prepares_only (slots_at old t) r p taken s) in
       let holds_piece : HoldsPiece s.after n p.offset p.size = subst (HoldsPiece s.after n p.offset) (sym s.size) (takes_holds s.slot.block r p.offset n s.after s.takes) in
-      let live = live_at eq same new t p b only.at (sym s.number) holds_piece in
+      let live = live_at eq same new t p b only.at (sym s.handle) holds_piece in
       let held : (z : Piece H) → SlotHolds eq z (block_at old t p.slot) → SlotHolds eq z (Some s.slot) = λ z h. subst (SlotHolds eq z) s.at h in
       record {
         keeps = λ u z was. keeps_by eq old new t p.slot (Some b) only u z
-            (λ h type slot. ((held z h).0, taken_keeps s.slot.block r p.offset n s.after s.shared s.takes (non_zero_u64_get z.number) z.offset z.size (held z h).1)) was;
+            (λ h type slot. ((held z h).0, taken_keeps s.slot.block r p.offset n s.after s.shared s.takes (non_zero_u64_get z.chunk_id) z.offset z.size (held z h).1)) was;
         live = live;
         other = λ u z was type slot number.
             let here : SlotHolds eq z (block_at old t p.slot) =
             subst (λ j. SlotHolds eq z (block_at old t j)) slot (subst (λ v. SlotHolds eq z (block_at old v z.slot)) type was) in
             taken_number s.slot.block r p.offset n s.after s.shared (sound_slot granularity old t p.slot s.slot sound s.at) (sound_slot granularity new t p.slot b after only.at) s.takes
-            (non_zero_u64_get z.number) z.offset z.size (held z here).1 number;
+            (non_zero_u64_get z.chunk_id) z.offset z.size (held z here).1 number;
       }
 
   pub installed_keeps : (own : Bool) (size : ℕ) (ready : Pending) (n : H) (p : Piece H) (x : List (Option (Slot H)))
-      → TakesIn (fresh_block own size granularity) r ready.offset ready.number ready.block → ready.size ≡ r.size → Installs (slots_at old t) own ready n p x
+      → TakesIn (fresh_block own size granularity) r ready.offset ready.chunk_id ready.block → ready.size ≡ r.size → Installs (slots_at old t) own ready n p x
       → IsNewPiece eq t old (slice_set old t x) p
   installed_keeps own size ready n p x takes sized made =
       let new = slice_set old t x in
-      let b : Slot H = record { number = n; block = ready.block } in
-      let k = non_zero_u64_get p.number in
+      let b : Slot H = record { handle = n; block = ready.block } in
+      let k = non_zero_u64_get p.chunk_id in
       let only_at = installs_only (slots_at old t) own ready n p x made in
       let only = only_block old t p.slot (Some b) x below only_at.1 in
       let none : block_at old t p.slot ≡ None = only_at.0 in
-      let taken : HoldsPiece ready.block ready.number ready.offset r.size = takes_holds (fresh_block own size granularity) r ready.offset ready.number ready.block takes in
+      let taken : HoldsPiece ready.block ready.chunk_id ready.offset r.size = takes_holds (fresh_block own size granularity) r ready.offset ready.chunk_id ready.block takes in
       let long : p.size ≡ r.size = made.piece.2 ∙ sized in
       let at_number : HoldsPiece ready.block k ready.offset r.size = subst (λ m. HoldsPiece ready.block m ready.offset r.size) (sym made.piece.1) taken in
       let at_offset : HoldsPiece ready.block k p.offset r.size = subst (λ o. HoldsPiece ready.block k o r.size) (sym made.piece.0) at_number in
@@ -123,10 +123,10 @@ module _ {H : Type 0} (eq : H → H → Bool) (same : (h : H) → eq h h ≡ tru
 
 module _ {H : Type 0} (eq : H → H → Bool) (granularity t : ℕ) (old : Slots H) (below : t < length old) (sound : AreSound granularity (slots_at old t)) (p : Piece H) where
   abbrev n : ℕ
-  n = non_zero_u64_get p.number
+  n = non_zero_u64_get p.chunk_id
 
   left_by : (several : Type 0) (a b : Option (Slot H)) (went : Option H) → block_at old t p.slot ≡ a → SlotReleases several n a went b
-      → (u : ℕ) (z : Piece H) → (u ≡ t → z.slot ≡ p.slot → non_zero_u64_get z.number ≡ n → ⊥) → IsLiveIn eq old u (Some z) → IsLiveIn eq (slice_set old t (slice_set (slots_at old t) p.slot b)) u
+      → (u : ℕ) (z : Piece H) → (u ≡ t → z.slot ≡ p.slot → non_zero_u64_get z.chunk_id ≡ n → ⊥) → IsLiveIn eq old u (Some z) → IsLiveIn eq (slice_set old t (slice_set (slots_at old t) p.slot b)) u
       (Some z)
   left_by several None b went at rel u z other live = absurd rel
   left_by several (Some a) (Some b) went at rel u z other live =
@@ -136,8 +136,8 @@ module _ {H : Type 0} (eq : H → H → Bool) (granularity t : ℕ) (old : Slots
       keeps_by eq old new t p.slot (Some b) only u z
       (λ h type slot.
       let here : SlotHolds eq z (Some a) = subst (SlotHolds eq z) at h in
-      let kept = released_keeps a.block n b.block (sound_slot granularity old t p.slot a sound at) rel.2 (non_zero_u64_get z.number) z.offset z.size (λ e. other type slot e) here.1 in
-      (subst (λ (m : H). eq m z.block ≡ true) (sym rel.1) here.0, kept))
+      let kept = released_keeps a.block n b.block (sound_slot granularity old t p.slot a sound at) rel.2 (non_zero_u64_get z.chunk_id) z.offset z.size (λ e. other type slot e) here.1 in
+      (subst (λ (m : H). eq m z.handle ≡ true) (sym rel.1) here.0, kept))
       live
   left_by several (Some a) None went at rel u z other live =
       let slots = slots_at old t in
@@ -146,13 +146,13 @@ module _ {H : Type 0} (eq : H → H → Bool) (granularity t : ℕ) (old : Slots
       keeps_by eq old new t p.slot None only u z
       (λ h type slot.
       let here : SlotHolds eq z (Some a) = subst (SlotHolds eq z) at h in
-      let left = released_keeps a.block n rel.1.0 (sound_slot granularity old t p.slot a sound at) rel.1.1 (non_zero_u64_get z.number) z.offset z.size (λ e. other type slot e) here.1 in
-      holds_some rel.1.0 (non_zero_u64_get z.number) z.offset z.size left rel.1.2.0)
+      let left = released_keeps a.block n rel.1.0 (sound_slot granularity old t p.slot a sound at) rel.1.1 (non_zero_u64_get z.chunk_id) z.offset z.size (λ e. other type slot e) here.1 in
+      holds_some rel.1.0 (non_zero_u64_get z.chunk_id) z.offset z.size left rel.1.2.0)
       live
 
   -- a release leaves every other live piece live
   pub released_keeps_others : (several : Type 0) (went : Option H) (left : List (Option (Slot H))) → ReleasesPiece several (slots_at old t) p went left
-      → (u : ℕ) (z : Piece H) → (u ≡ t → z.slot ≡ p.slot → non_zero_u64_get z.number ≡ n → ⊥) → IsLiveIn eq old u (Some z) → IsLiveIn eq (slice_set old t left) u (Some z)
+      → (u : ℕ) (z : Piece H) → (u ≡ t → z.slot ≡ p.slot → non_zero_u64_get z.chunk_id ≡ n → ⊥) → IsLiveIn eq old u (Some z) → IsLiveIn eq (slice_set old t left) u (Some z)
   released_keeps_others several went left r u z other live =
       subst (λ (x : List (Option (Slot H))). IsLiveIn eq (slice_set old t x) u (Some z)) (sym r.slots)
       (left_by several (slot_at (slots_at old t) p.slot) r.slot went refl r.releases u z other live)

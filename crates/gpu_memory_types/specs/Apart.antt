@@ -20,7 +20,7 @@ IsInside slots t p = EndsInside (block_at slots t p.slot) (p.offset + p.size)
 
 -- two pieces are of different memory types, in different slots, or under different numbers
 abbrev pub AreDistinct : {H : Type 0} → (t : ℕ) → Piece H → (u : ℕ) → Piece H → Type 0
-AreDistinct t p u q = t ≡ u → p.slot ≡ q.slot → non_zero_u64_get p.number ≡ non_zero_u64_get q.number → ⊥
+AreDistinct t p u q = t ≡ u → p.slot ≡ q.slot → non_zero_u64_get p.chunk_id ≡ non_zero_u64_get q.chunk_id → ⊥
 
 -- two pieces lie in different blocks, or one ends before the other begins
 abbrev pub SharesNoByte : {H : Type 0} → (t : ℕ) → Piece H → (u : ℕ) → Piece H → Type 0
@@ -32,7 +32,7 @@ pieces_in (Some s) = extents_of s.block
 
 -- the piece is of the kind
 abbrev pub HasKind : {H : Type 0} → Slots H → (t : ℕ) → Piece H → AllocationType → Type 0
-HasKind slots t p kind = (x : Extent) × Contains (pieces_in (block_at slots t p.slot)) x × (x.number ≡ non_zero_u64_get p.number) × (x.kind ≡ kind)
+HasKind slots t p kind = (x : Extent) × Contains (pieces_in (block_at slots t p.slot)) x × (x.chunk_id ≡ non_zero_u64_get p.chunk_id) × (x.kind ≡ kind)
 
 -- of two pieces of different kinds in one block, the earlier one's last byte lies on a page before that of the later one's first
 abbrev pub KeepsPages : {H : Type 0} → (granularity : ℕ) → Slots H → (t : ℕ) → (p q : Piece H) → Type 0

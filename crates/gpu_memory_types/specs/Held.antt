@@ -14,11 +14,11 @@ HasEntry IsEntry t b (Some e) = IsEntry t (size_of b) e
 
 -- no live block has the number
 abbrev pub IsNoBlock : {H : Type 0} → (number_of : H → ℕ) → Slots H → ℕ → Type 0
-IsNoBlock {H} number_of slots number = (t i : ℕ) (s : Slot H) → block_at slots t i ≡ Some s → number_of s.number ≢ number
+IsNoBlock {H} number_of slots number = (t i : ℕ) (s : Slot H) → block_at slots t i ≡ Some s → number_of s.handle ≢ number
 
 -- the device holds what it held at first, and just the live blocks: each block has its entry, no two blocks share one, and none was held at first
 pub record HoldsBlocks {H E : Type 0} (number_of : H → ℕ) (IsEntry : (t size : ℕ) → E → Type 0) (first held : FinMap nat_cmp E) (slots : Slots H) : Type 0 where
-  pub blocks : (t i : ℕ) (s : Slot H) → block_at slots t i ≡ Some s → HasEntry IsEntry t s.block (get held (number_of s.number))
-  pub one_block : (t i u j : ℕ) (s r : Slot H) → block_at slots t i ≡ Some s → block_at slots u j ≡ Some r → number_of s.number ≡ number_of r.number → (t ≡ u) × (i ≡ j)
-  pub new : (t i : ℕ) (s : Slot H) → block_at slots t i ≡ Some s → get first (number_of s.number) ≡ None
+  pub blocks : (t i : ℕ) (s : Slot H) → block_at slots t i ≡ Some s → HasEntry IsEntry t s.block (get held (number_of s.handle))
+  pub one_block : (t i u j : ℕ) (s r : Slot H) → block_at slots t i ≡ Some s → block_at slots u j ≡ Some r → number_of s.handle ≡ number_of r.handle → (t ≡ u) × (i ≡ j)
+  pub new : (t i : ℕ) (s : Slot H) → block_at slots t i ≡ Some s → get first (number_of s.handle) ≡ None
   pub others : (number : ℕ) → IsNoBlock number_of slots number → get held number ≡ get first number

@@ -42,7 +42,7 @@ abbrev pub IsPrepareRefusal : {H : Type 0} → (t : ℕ) → Types H → Sizes �
 IsPrepareRefusal t types sizes r refusal = (refusal ≡ host_out_of_memory) ⊎ NeedsTooMuch t types sizes r refusal
 
 -- a new block of the t-th memory type stands in its slot, and the piece is the one taken in it
-pub record InstallsAt {H : Type 0} (t : ℕ) (old : Slots H) (is_dedicated : Bool) (ready : Pending) (number : H) (p : Piece H) (new : Slots H) : Type 0 where
+pub record InstallsAt {H : Type 0} (t : ℕ) (old : Slots H) (is_dedicated : Bool) (ready : Pending) (handle : H) (p : Piece H) (new : Slots H) : Type 0 where
   pub left : List (Option (Slot H))
-  pub installs : Installs (slots_at old t) is_dedicated ready number p left
+  pub installs : Installs (slots_at old t) is_dedicated ready handle p left
   pub slots : new ≡ slice_set old t left

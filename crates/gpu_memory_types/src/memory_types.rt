@@ -191,17 +191,17 @@ impl<H: Copy + Eq> MemoryTypes<H> {
 
     /// Puts in the block that `prepare` asked for, under the device's number of it, and answers the piece in it. It
     /// takes no memory and can't be refused.
-    pub fn install(&mut self, index: usize, need: NeedBlock, number: H) -> Piece<H>
+    pub fn install(&mut self, index: usize, need: NeedBlock, handle: H) -> Piece<H>
         requires there { index < length self.old }
         requires ready { CanInstall (type_of self.old index) need.size need.dedicated need.room }
         requires sum { total_capacity (slots_of self.old) + need.size < 2 ^ 64 }
-        ensures installed { InstallsAt index (slots_of self.old) need.dedicated need.room number result (slots_of self.new) }
+        ensures installed { InstallsAt index (slots_of self.old) need.dedicated need.room handle result (slots_of self.new) }
         ensures others { (t : ℕ) → t ≢ index → type_of self.new t ≡ type_of self.old t }
         ensures kinds { kinds self.new ≡ kinds self.old }
         ensures budgets { budgets self.new ≡ budgets self.old }
         ensures kept { MemoryTypesInvariant self.new }
     {
-        self.types[index].install(need, number)
+        self.types[index].install(need, handle)
     }
 
     /// Gives a piece of the memory type at `index` back, and names the block that went with it, if one did. It takes no

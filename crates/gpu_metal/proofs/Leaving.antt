@@ -138,10 +138,10 @@ no_set : (t : ℕ) (s : Slot MTLHeap) (members committed : List MTLHeap) → Has
 no_set t s members committed is = none_and (location_at t) (λ l. Set members committed ≡ Heap (heap_descriptor l) (size_of s.block)) (λ l e. heap_no_set (heap_descriptor l) (size_of s.block) members committed e) is
 
 module _ (first held : Held) (slots : Slots) (k : HoldsJustBlocks (λ heap. heap.0) (blocks_of first held) slots) where
-  entry_at : (t i : ℕ) (s : Slot MTLHeap) → block_at slots t i ≡ Some s → (get first s.number.0 ≡ None) × HasEntry IsBlockEntry t s.block (get held s.number.0)
+  entry_at : (t i : ℕ) (s : Slot MTLHeap) → block_at slots t i ≡ Some s → (get first s.handle.0 ≡ None) × HasEntry IsBlockEntry t s.block (get held s.handle.0)
   entry_at t i s at =
-      let e = entry_by (get first s.number.0) (get held s.number.0) t (size_of s.block) (k.blocks t i s at) in
-      (e.0, has_entry t s (get held s.number.0) e.1)
+      let e = entry_by (get first s.handle.0) (get held s.handle.0) t (size_of s.block) (k.blocks t i s at) in
+      (e.0, has_entry t s (get held s.handle.0) e.1)
 
   -- without a set
   pub holds_alone : HoldsFirst None first held → HoldsBlocks heap_number IsBlockEntry first held slots
@@ -163,7 +163,7 @@ module _ (first held : Held) (slots : Slots) (k : HoldsJustBlocks (λ heap. heap
     start = insert first set.0 own
 
     -- a live block isn't the set
-    apart : (t i : ℕ) (s : Slot MTLHeap) → block_at slots t i ≡ Some s → s.number.0 ≢ set.0
+    apart : (t i : ℕ) (s : Slot MTLHeap) → block_at slots t i ≡ Some s → s.handle.0 ≢ set.0
     apart t i s at same =
         let e = entry_at t i s at in
         no_set t s r.members r.committed (subst (HasEntry IsBlockEntry t s.block) (ap (get held) same ∙ r.at) e.1)
@@ -172,7 +172,7 @@ module _ (first held : Held) (slots : Slots) (k : HoldsJustBlocks (λ heap. heap
     holds_with_set = record {
       blocks = λ t i s at. (entry_at t i s at).1;
       one_block = k.one_block;
-      new = λ t i s at. get-insert_other first set.0 s.number.0 own (apart t i s at) ∙ (entry_at t i s at).0;
+      new = λ t i s at. get-insert_other first set.0 s.handle.0 own (apart t i s at) ∙ (entry_at t i s at).0;
       others = λ n none.
           ⊎_elim
           (λ same. ap (get held) same ∙ r.at ∙ sym (get-insert_same first set.0 own) ∙ ap (get start) (sym same))

@@ -12,14 +12,14 @@ same_heap : (x y : MTLHeap) → x.0 ≡ y.0 → x ≡ y
 same_heap x y e = ap (λ n. record { 0 = n }) e
 
 abbrev IsIn : List (Option (Slot MTLHeap)) → ℕ → Type 0
-IsIn ss n = (i : ℕ) × (s : Slot MTLHeap) × (slot_at ss i ≡ Some s) × (s.number.0 ≡ n)
+IsIn ss n = (i : ℕ) × (s : Slot MTLHeap) × (slot_at ss i ≡ Some s) × (s.handle.0 ≡ n)
 
-none_first : (ss : List (Option (Slot MTLHeap))) (n i : ℕ) (s : Slot MTLHeap) → slot_at (None ∷ ss) i ≡ Some s → s.number.0 ≡ n → IsIn ss n
+none_first : (ss : List (Option (Slot MTLHeap))) (n i : ℕ) (s : Slot MTLHeap) → slot_at (None ∷ ss) i ≡ Some s → s.handle.0 ≡ n → IsIn ss n
 none_first ss n zero s at is = absurd (none_some s at)
 none_first ss n (suc i) s at is = (i, s, at, is)
 
-not_first : (a : Slot MTLHeap) (ss : List (Option (Slot MTLHeap))) (n i : ℕ) (s : Slot MTLHeap) → (n ≡ a.number.0 → ⊥) → slot_at (Some a ∷ ss) i ≡ Some s → s.number.0 ≡ n → IsIn ss n
-not_first a ss n zero s ne at is = absurd (ne (sym is ∙ ap (λ (x : Slot MTLHeap). x.number.0) (sym (some_same a s at))))
+not_first : (a : Slot MTLHeap) (ss : List (Option (Slot MTLHeap))) (n i : ℕ) (s : Slot MTLHeap) → (n ≡ a.handle.0 → ⊥) → slot_at (Some a ∷ ss) i ≡ Some s → s.handle.0 ≡ n → IsIn ss n
+not_first a ss n zero s ne at is = absurd (ne (sym is ∙ ap (λ (x : Slot MTLHeap). x.handle.0) (sym (some_same a s at))))
 not_first a ss n (suc i) s ne at is = (i, s, at, is)
 
 slots_cases : (ss : List (Option (Slot MTLHeap))) (n : ℕ) → IsIn ss n ⊎ (IsIn ss n → ⊥)
@@ -36,7 +36,7 @@ slots_cases (Some a ∷ ss) n =
     (λ f. inl (suc f.0, f.1, f.2, f.3))
     (λ out. inr (λ f. out (not_first a ss n f.0 f.1 ne f.2 f.3)))
     (slots_cases ss n))
-    (cases_eq n a.number.0)
+    (cases_eq n a.handle.0)
 
 -- a live block has the number
 abbrev pub IsBlockNumber : Slots → ℕ → Type 0
@@ -58,4 +58,4 @@ number_cases (x ∷ ss) n =
     (slots_cases x n)
 
 pub number_heap : (ss : Slots) (heap : MTLHeap) → IsBlockNumber ss heap.0 → IsBlockHeap ss heap
-number_heap ss heap f = (f.0, f.1.0, f.1.1, f.1.2, same_heap f.1.1.number heap f.1.3)
+number_heap ss heap f = (f.0, f.1.0, f.1.1, f.1.2, same_heap f.1.1.handle heap f.1.3)

@@ -11,14 +11,14 @@ use Rattle.gpu_pool.specs.Source.{HeldBlocks}
 
 module _ {H : Type 0} (eq : H → H → Bool) (number : H → ℕ) (alike : (a b : H) → eq a b ≡ true → number a ≡ number b) (held : HeldBlocks) (ss : Slots H) (h : HoldsJustBlocks number held ss)
     (pages : ℕ → ℕ) (sound : (t : ℕ) → AreSound (pages t) (slots_at ss t)) where
-  pub live_apart : (t : ℕ) (p : Piece H) (u : ℕ) (q : Piece H) → IsLive eq ss t p → IsLive eq ss u q → AreDistinct t p u q → (number p.block ≢ number q.block) ⊎ AreBytesApart p q
+  pub live_apart : (t : ℕ) (p : Piece H) (u : ℕ) (q : Piece H) → IsLive eq ss t p → IsLive eq ss u q → AreDistinct t p u q → (number p.handle ≢ number q.handle) ⊎ AreBytesApart p q
   live_apart t p u q live_p live_q other =
       let f = found eq ss t p live_p in
       let k = found eq ss u q live_q in
       ⊎_elim
       (λ (away : t ≡ u → p.slot ≡ q.slot → ⊥).
       inl (λ same.
-      let numbers : number f.s.number ≡ number k.s.number = alike f.s.number p.block f.number ∙ same ∙ sym (alike k.s.number q.block k.number) in
+      let numbers : number f.s.handle ≡ number k.s.handle = alike f.s.handle p.handle f.handle ∙ same ∙ sym (alike k.s.handle q.handle k.handle) in
       let place = h.one_block t p.slot u q.slot f.s k.s f.at k.at numbers in
       away place.0 place.1))
       (λ apart. inr apart)

@@ -24,7 +24,7 @@ module _ {H : Type 0} (number : H → ℕ) where
 
   -- no two blocks in these slots have one number
   abbrev OnePlace : List (Option (Slot H)) → Type 0
-  OnePlace ss = (i j : ℕ) (s r : Slot H) → slot_at ss i ≡ Some s → slot_at ss j ≡ Some r → number s.number ≡ number r.number → i ≡ j
+  OnePlace ss = (i j : ℕ) (s r : Slot H) → slot_at ss i ≡ Some s → slot_at ss j ≡ Some r → number s.handle ≡ number r.handle → i ≡ j
 
   slots_differ : (ss : List (Option (Slot H))) → OnePlace ss → NumbersDiffer (handles_in ss)
   slots_differ [] one = tt
@@ -38,7 +38,7 @@ module _ {H : Type 0} (number : H → ℕ) where
   )
 
   abbrev OneBlock : Slots H → Type 0
-  OneBlock ss = (t i u j : ℕ) (s r : Slot H) → block_at ss t i ≡ Some s → block_at ss u j ≡ Some r → number s.number ≡ number r.number → (t ≡ u) × (i ≡ j)
+  OneBlock ss = (t i u j : ℕ) (s r : Slot H) → block_at ss t i ≡ Some s → block_at ss u j ≡ Some r → number s.handle ≡ number r.handle → (t ≡ u) × (i ≡ j)
 
   all_differ : (ss : Slots H) → OneBlock ss → NumbersDiffer (all_handles ss)
   all_differ [] one = tt
@@ -79,4 +79,4 @@ module _ {H : Type 0} (number : H → ℕ) where
       let b = listed_block slots k within in
       subst (λ (x : H). IsSome (held (number x))) b.4 (subst IsSome (sym (h.blocks b.0 b.1 b.2 b.3)) refl))
       (all_differ slots h.one_block)
-      (λ n none. h.others n (λ t i s at. none s.number (block_listed slots t i s at)))
+      (λ n none. h.others n (λ t i s at. none s.handle (block_listed slots t i s at)))

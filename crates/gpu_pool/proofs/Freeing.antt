@@ -33,7 +33,7 @@ module _ {S H X : Type 0} (g : Ghosts S H X) (eq : H → H → Bool) (t : ℕ) (
     slot_released : (several : Type 0) (n i : ℕ) (a b : Option (Slot H)) (went : Option H) → slot_at here i ≡ a → SlotReleases several n a went b → GivesBackAny (GivesBackOf g) old went new
         → HoldsJustBlocks g.number (g.held old) slots → HoldsJustBlocks g.number (g.held new) (slice_set slots t (slice_set here i b))
     slot_released several n i None b went at rel is h = absurd rel
-    slot_released several n i (Some a) None None at rel is h = absurd (none_some a.number rel.0)
+    slot_released several n i (Some a) None None at rel is h = absurd (none_some a.handle rel.0)
     slot_released several n i (Some a) (Some b) (Some m) at rel is h = absurd (none_some m (sym rel.0))
     slot_released several n i (Some a) (Some b) None at rel is h =
         let after = slice_set slots t (slice_set here i (Some b)) in
@@ -41,7 +41,7 @@ module _ {S H X : Type 0} (g : Ghosts S H X) (eq : H → H → Bool) (t : ℕ) (
         (changed_holds g.number (g.held old) slots after t i a b at
         (only_block slots t i (Some b) (slice_set here i (Some b)) below (set_only here i (Some b) (some_below here i a at))) rel.1 (releases_size a.block n b.block rel.2) h)
     slot_released several n i (Some a) None (Some m) at rel is h =
-        let gone : Removes (g.held old) (g.number a.number) (g.held new) = subst (λ k. Removes (g.held old) (g.number k) (g.held new)) (some_same m a.number rel.0) is.held in
+        let gone : Removes (g.held old) (g.number a.handle) (g.held new) = subst (λ k. Removes (g.held old) (g.number k) (g.held new)) (some_same m a.handle rel.0) is.held in
         removed_holds g.number (g.held old) (g.held new) slots (slice_set slots t (slice_set here i None)) t i a at
         (only_block slots t i None (slice_set here i None) below (set_only here i None (some_below here i a at))) gone h
 

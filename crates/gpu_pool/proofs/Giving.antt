@@ -12,5 +12,5 @@ given_live {H} eq old new t name p a is h = (
   subst (λ u. live.IsLive eq new u (piece_of a)) (sym is.memory_type) (subst (λ (q : Piece H). live.IsLive eq new t q) (sym is.piece) h.0),
   λ b was types slots numbers.
       h.1 b.memory_type_index (piece_of b) was (types ∙ is.memory_type) (slots ∙ ap (λ (q : Piece H). q.slot) is.piece)
-      (numbers ∙ ap (λ (q : Piece H). non_zero_u64_get q.number) is.piece),
+      (numbers ∙ ap (λ (q : Piece H). non_zero_u64_get q.chunk_id) is.piece),
 )

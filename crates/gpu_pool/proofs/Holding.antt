@@ -13,24 +13,24 @@ use Rattle.gpu_pool.specs.Held.{held_as, HoldsJustBlocks}
 
 -- a block of the same number and size stands in a block's place
 module _ {H : Type 0} (number : H → ℕ) (held : HeldBlocks) (old new : Slots H) (t i : ℕ) (a b : Slot H) (at : block_at old t i ≡ Some a) (only : OnlyBlock old t i (Some b) new)
-    (same : b.number ≡ a.number) (size : size_of b.block ≡ size_of a.block) (h : HoldsJustBlocks number held old) where
-  before : (u j : ℕ) (s : Slot H) → block_at new u j ≡ Some s → (r : Slot H) × (block_at old u j ≡ Some r) × (s.number ≡ r.number) × (size_of s.block ≡ size_of r.block)
+    (same : b.handle ≡ a.handle) (size : size_of b.block ≡ size_of a.block) (h : HoldsJustBlocks number held old) where
+  before : (u j : ℕ) (s : Slot H) → block_at new u j ≡ Some s → (r : Slot H) × (block_at old u j ≡ Some r) × (s.handle ≡ r.handle) × (size_of s.block ≡ size_of r.block)
   before u j s found =
       ⊎_elim
       (λ here.
       let there : block_at new t i ≡ Some s = ap (λ k. block_at new k i) (sym here.0) ∙ ap (block_at new u) (sym here.1) ∙ found in
       let is : b ≡ s = some_same b s (sym only.at ∙ there) in
-      (a, ap (λ k. block_at old k j) here.0 ∙ ap (block_at old t) here.1 ∙ at, sym (ap (λ (x : Slot H). x.number) is) ∙ same, sym (ap (λ (x : Slot H). size_of x.block) is) ∙ size))
+      (a, ap (λ k. block_at old k j) here.0 ∙ ap (block_at old t) here.1 ∙ at, sym (ap (λ (x : Slot H). x.handle) is) ∙ same, sym (ap (λ (x : Slot H). size_of x.block) is) ∙ size))
       (λ away. (s, sym (only.others u j away) ∙ found, refl, refl))
       (same_place u t j i)
 
-  after : (u j : ℕ) (r : Slot H) → block_at old u j ≡ Some r → (s : Slot H) × (block_at new u j ≡ Some s) × (s.number ≡ r.number)
+  after : (u j : ℕ) (r : Slot H) → block_at old u j ≡ Some r → (s : Slot H) × (block_at new u j ≡ Some s) × (s.handle ≡ r.handle)
   after u j r found =
       ⊎_elim
       (λ here.
       let there : block_at old t i ≡ Some r = ap (λ k. block_at old k i) (sym here.0) ∙ ap (block_at old u) (sym here.1) ∙ found in
       let is : a ≡ r = some_same a r (sym at ∙ there) in
-      (b, ap (λ k. block_at new k j) here.0 ∙ ap (block_at new t) here.1 ∙ only.at, same ∙ ap (λ (x : Slot H). x.number) is))
+      (b, ap (λ k. block_at new k j) here.0 ∙ ap (block_at new t) here.1 ∙ only.at, same ∙ ap (λ (x : Slot H). x.handle) is))
       (λ away. (r, only.others u j away ∙ found, refl))
       (same_place u t j i)
 
@@ -48,7 +48,7 @@ module _ {H : Type 0} (number : H → ℕ) (held : HeldBlocks) (old new : Slots 
 
 -- a block more
 module _ {H : Type 0} (number : H → ℕ) (held now : HeldBlocks) (old new : Slots H) (t i : ℕ) (b : Slot H) (empty : block_at old t i ≡ None) (only : OnlyBlock old t i (Some b) new)
-    (adds : Adds held (number b.number) (held_as t b) now) (h : HoldsJustBlocks number held old) where
+    (adds : Adds held (number b.handle) (held_as t b) now) (h : HoldsJustBlocks number held old) where
   origin : (u j : ℕ) (s : Slot H) → block_at new u j ≡ Some s → ((u ≡ t) × (j ≡ i) × (s ≡ b)) ⊎ (block_at old u j ≡ Some s)
   origin u j s found =
       ⊎_elim
@@ -59,7 +59,7 @@ module _ {H : Type 0} (number : H → ℕ) (held now : HeldBlocks) (old new : Sl
       (same_place u t j i)
 
   -- no live block has the new number
-  none : IsNoBlock number old (number b.number)
+  none : IsNoBlock number old (number b.handle)
   none u j s at is = none_some (held_as u s) (sym adds.was_free ∙ ap held (sym is) ∙ h.blocks u j s at)
 
   stays : (u j : ℕ) (r : Slot H) → block_at old u j ≡ Some r → block_at new u j ≡ Some r
@@ -73,17 +73,17 @@ module _ {H : Type 0} (number : H → ℕ) (held now : HeldBlocks) (old new : Sl
   added_holds = record {
     blocks = λ u j s found.
         ⊎_elim
-        (λ is. ap (λ (x : Slot H). now (number x.number)) is.2 ∙ adds.held ∙ (λ k. Some (held_as (sym is.0 k) (sym is.2 k))))
-        (λ was. adds.others (number s.number) (none u j s was) ∙ h.blocks u j s was)
+        (λ is. ap (λ (x : Slot H). now (number x.handle)) is.2 ∙ adds.held ∙ (λ k. Some (held_as (sym is.0 k) (sym is.2 k))))
+        (λ was. adds.others (number s.handle) (none u j s was) ∙ h.blocks u j s was)
         (origin u j s found);
     one_block = λ u j v k s r found there alike.
         ⊎_elim
         (λ x. ⊎_elim
         (λ y. (x.0 ∙ sym y.0, x.1 ∙ sym y.1))
-        (λ was. absurd (none v k r was (sym alike ∙ ap (λ (z : Slot H). number z.number) x.2)))
+        (λ was. absurd (none v k r was (sym alike ∙ ap (λ (z : Slot H). number z.handle) x.2)))
         (origin v k r there))
         (λ was. ⊎_elim
-        (λ y. absurd (none u j s was (alike ∙ ap (λ (z : Slot H). number z.number) y.2)))
+        (λ y. absurd (none u j s was (alike ∙ ap (λ (z : Slot H). number z.handle) y.2)))
         (λ also. h.one_block u j v k s r was also alike)
         (origin v k r there))
         (origin u j s found);
@@ -92,8 +92,8 @@ module _ {H : Type 0} (number : H → ℕ) (held now : HeldBlocks) (old new : Sl
 
 -- a block less
 module _ {H : Type 0} (number : H → ℕ) (held now : HeldBlocks) (old new : Slots H) (t i : ℕ) (a : Slot H) (at : block_at old t i ≡ Some a) (only : OnlyBlock old t i None new)
-    (went : Removes held (number a.number) now) (h : HoldsJustBlocks number held old) where
-  left : (u j : ℕ) (s : Slot H) → block_at new u j ≡ Some s → (block_at old u j ≡ Some s) × (number s.number ≢ number a.number)
+    (went : Removes held (number a.handle) now) (h : HoldsJustBlocks number held old) where
+  left : (u j : ℕ) (s : Slot H) → block_at new u j ≡ Some s → (block_at old u j ≡ Some s) × (number s.handle ≢ number a.handle)
   left u j s found =
       ⊎_elim
       (λ here. absurd (none_some s (sym only.at ∙ (ap (λ k. block_at new k i) (sym here.0) ∙ ap (block_at new u) (sym here.1) ∙ found))))
@@ -104,7 +104,7 @@ module _ {H : Type 0} (number : H → ℕ) (held now : HeldBlocks) (old new : Sl
 
   pub removed_holds : HoldsJustBlocks number now new
   removed_holds = record {
-    blocks = λ u j s found. let was = left u j s found in went.others (number s.number) was.1 ∙ h.blocks u j s was.0;
+    blocks = λ u j s found. let was = left u j s found in went.others (number s.handle) was.1 ∙ h.blocks u j s was.0;
     one_block = λ u j v k s r found there alike. h.one_block u j v k s r (left u j s found).0 (left v k r there).0 alike;
     others = λ n out.
         ⊎_elim
@@ -113,10 +113,10 @@ module _ {H : Type 0} (number : H → ℕ) (held now : HeldBlocks) (old new : Sl
         ⊎_elim
         (λ here.
         let there : block_at old t i ≡ Some r = ap (λ k. block_at old k i) (sym here.0) ∙ ap (block_at old u) (sym here.1) ∙ found in
-        ne (sym is ∙ ap (λ (z : Slot H). number z.number) (sym (some_same a r (sym at ∙ there)))))
+        ne (sym is ∙ ap (λ (z : Slot H). number z.handle) (sym (some_same a r (sym at ∙ there)))))
         (λ away. out u j r (only.others u j away ∙ found) is)
         (same_place u t j i)))
-        (cases_eq n (number a.number));
+        (cases_eq n (number a.handle));
   }
 
 -- what is held changes by no number
@@ -124,7 +124,7 @@ pub same_holds : {H : Type 0} (number : H → ℕ) (held now : HeldBlocks) (slot
 same_holds {H} number held now slots new same alike h =
     subst (λ (ss : Slots H). HoldsJustBlocks number now ss) (sym same)
     (record {
-      blocks = λ t i s at. alike (number s.number) ∙ h.blocks t i s at;
+      blocks = λ t i s at. alike (number s.handle) ∙ h.blocks t i s at;
       one_block = h.one_block;
       others = λ n none. alike n ∙ h.others n none;
     })

@@ -22,13 +22,13 @@ past_slots (s ∷ ss) (suc i) past = past_slots ss i (omega (arith, past))
 pub skip_slot : {H : Type 0} (ss : List (Option (Slot H))) (i : ℕ) → block_number (slot_at ss i) ≡ None → handles_in (drop i ss) ≡ handles_in (drop (i + 1) ss)
 skip_slot [] i none = ap handles_in (nothing_left i) ∙ sym (ap handles_in (nothing_left (i + 1)))
 skip_slot (None ∷ ss) zero none = refl
-skip_slot (Some s ∷ ss) zero none = absurd (none_some s.number (sym none))
+skip_slot (Some s ∷ ss) zero none = absurd (none_some s.handle (sym none))
 skip_slot (s ∷ ss) (suc i) none = skip_slot ss i none ∙ sym (ap (λ k. handles_in (drop k (s ∷ ss))) (later i))
 
 pub take_slot : {H : Type 0} (ss : List (Option (Slot H))) (i : ℕ) (handle : H) → block_number (slot_at ss i) ≡ Some handle → handles_in (drop i ss) ≡ handle ∷ handles_in (drop (i + 1) ss)
 take_slot [] i handle is = absurd (none_some handle is)
 take_slot (None ∷ ss) zero handle is = absurd (none_some handle is)
-take_slot {H} (Some s ∷ ss) zero handle is = ap (λ (h : H). h ∷ handles_in ss) (some_same s.number handle is)
+take_slot {H} (Some s ∷ ss) zero handle is = ap (λ (h : H). h ∷ handles_in ss) (some_same s.handle handle is)
 take_slot (s ∷ ss) (suc i) handle is = take_slot ss i handle is ∙ sym (ap (λ k. handle ∷ handles_in (drop k (s ∷ ss))) (later i))
 
 -- ---- among all memory types
@@ -74,26 +74,26 @@ in_either (z ∷ xs) ys x h =
     (λ later. ⊎_elim (λ l. inl (inr l)) (λ r. inr r) (in_either xs ys x later))
     h
 
-in_slots : {H : Type 0} (ss : List (Option (Slot H))) (i : ℕ) (s : Slot H) → slot_at ss i ≡ Some s → In (handles_in ss) s.number
+in_slots : {H : Type 0} (ss : List (Option (Slot H))) (i : ℕ) (s : Slot H) → slot_at ss i ≡ Some s → In (handles_in ss) s.handle
 in_slots [] i s at = absurd (none_some s at)
 in_slots (None ∷ ss) zero s at = absurd (none_some s at)
 in_slots (None ∷ ss) (suc i) s at = in_slots ss i s at
-in_slots {H} (Some a ∷ ss) zero s at = inl (ap (λ (x : Slot H). x.number) (some_same a s at))
+in_slots {H} (Some a ∷ ss) zero s at = inl (ap (λ (x : Slot H). x.handle) (some_same a s at))
 in_slots (Some a ∷ ss) (suc i) s at = inr (in_slots ss i s at)
 
 -- each live block's handle is listed
-pub block_listed : {H : Type 0} (ss : Slots H) (t i : ℕ) (s : Slot H) → block_at ss t i ≡ Some s → In (all_handles ss) s.number
+pub block_listed : {H : Type 0} (ss : Slots H) (t i : ℕ) (s : Slot H) → block_at ss t i ≡ Some s → In (all_handles ss) s.handle
 block_listed [] t i s at = absurd (none_some s at)
-block_listed (x ∷ ss) zero i s at = in_left (handles_in x) (all_handles ss) s.number (in_slots x i s at)
-block_listed (x ∷ ss) (suc t) i s at = in_right (handles_in x) (all_handles ss) s.number (block_listed ss t i s at)
+block_listed (x ∷ ss) zero i s at = in_left (handles_in x) (all_handles ss) s.handle (in_slots x i s at)
+block_listed (x ∷ ss) (suc t) i s at = in_right (handles_in x) (all_handles ss) s.handle (block_listed ss t i s at)
 
-pub slot_of : {H : Type 0} (ss : List (Option (Slot H))) (handle : H) → In (handles_in ss) handle → (i : ℕ) × (s : Slot H) × (slot_at ss i ≡ Some s) × (s.number ≡ handle)
+pub slot_of : {H : Type 0} (ss : List (Option (Slot H))) (handle : H) → In (handles_in ss) handle → (i : ℕ) × (s : Slot H) × (slot_at ss i ≡ Some s) × (s.handle ≡ handle)
 slot_of [] handle h = absurd h
 slot_of (None ∷ ss) handle h = let f = slot_of ss handle h in (suc f.0, f.1, f.2, f.3)
 slot_of (Some a ∷ ss) handle h = ⊎_elim (λ e. (0, a, refl, e)) (λ later. let f = slot_of ss handle later in (suc f.0, f.1, f.2, f.3)) h
 
 -- a handle that is listed is a live block's
-pub listed_block : {H : Type 0} (ss : Slots H) (handle : H) → In (all_handles ss) handle → (t : ℕ) × (i : ℕ) × (s : Slot H) × (block_at ss t i ≡ Some s) × (s.number ≡ handle)
+pub listed_block : {H : Type 0} (ss : Slots H) (handle : H) → In (all_handles ss) handle → (t : ℕ) × (i : ℕ) × (s : Slot H) × (block_at ss t i ≡ Some s) × (s.handle ≡ handle)
 listed_block [] handle h = absurd h
 listed_block (x ∷ ss) handle h =
     ⊎_elim

@@ -36,7 +36,7 @@ contains_map f xs x h = All-contains (λ z. Contains (map f xs) (f z)) xs x (map
 
 -- an extent is as it was beside its name
 abbrev IsAlike : Extent → Extent → Type 0
-IsAlike x y = (y.number ≡ x.number) × (y.offset ≡ x.offset) × (y.end ≡ x.end)
+IsAlike x y = (y.chunk_id ≡ x.chunk_id) × (y.offset ≡ x.offset) × (y.end ≡ x.end)
 
 alike : (b : Bool) (name : List ℕ) (x : Extent) → IsAlike x (if b then record x { name = name } else x)
 alike true name x = (refl, refl, refl)
@@ -50,7 +50,7 @@ held_named name (Some z) x h = contains_map (renamed name) (z ∷ []) x h
 named_holds : (old : Block) (n : ℕ) (name : List ℕ) (new : Block) → RenamesIn old n name new → (m o size : ℕ) → HoldsPiece old m o size → HoldsPiece new m o size
 named_holds (free_list a) n name (free_list b) r m o size h =
     let x : Extent = h.0 in
-    let same : IsAlike x (with_name n name x) = alike (x.number == n) name x in (
+    let same : IsAlike x (with_name n name x) = alike (x.chunk_id == n) name x in (
       with_name n name x,
       subst (λ (xs : List Extent). Contains xs (with_name n name x)) (sym r.extents) (contains_map (with_name n name) a.extents x h.1),
       same.0 ∙ h.2,
@@ -72,7 +72,7 @@ module _ {H : Type 0} (eq : H → H → Bool) where
   slot_holds n name None b p r live = absurd live
   slot_holds n name (Some a) None p r live = absurd r
   slot_holds n name (Some a) (Some b) p r live =
-      (ap (λ (k : H). eq k p.block) r.0 ∙ live.0, named_holds a.block n name b.block r.1 (non_zero_u64_get p.number) p.offset p.size live.1)
+      (ap (λ (k : H). eq k p.handle) r.0 ∙ live.0, named_holds a.block n name b.block r.1 (non_zero_u64_get p.chunk_id) p.offset p.size live.1)
 
   -- of the slots of one memory type
   slots_hold : (slots : List (Option (Slot H))) (i n : ℕ) (name : List ℕ) (b : Option (Slot H)) (p : Piece H) → i < length slots

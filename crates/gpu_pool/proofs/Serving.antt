@@ -98,7 +98,7 @@ module _ {S H X : Type 0} (g : Ghosts S H X) (kinds : List (Bool × ℕ)) (q : R
   allocates_holds below NoHostMemory (Err e) new a h = same new a.1 h
   allocates_holds below (Answered size (Ok handle)) (Ok p) new a h =
       let n = a.needs in
-      let b : Slot H = record { number = handle; block = n.pending.block } in
+      let b : Slot H = record { handle = handle; block = n.pending.block } in
       let only = installs_only (slots_at old.slots u) n.is_dedicated n.pending handle p a.left a.installs in
       let sized : size_of n.pending.block ≡ size = takes_size _ _ _ _ _ n.needs.takes ∙ fresh_size n.is_dedicated size (kind_at kinds u).1 in
       let adds : Adds (g.held old.source) (g.number handle) (held_as u b) (g.held new.source) =

@@ -14,7 +14,7 @@ use Rattle.gpu_pool.specs.declared.allocation.Allocation.{Allocation}
 
 -- the piece that an allocation stands for
 abbrev pub piece_of : {H : Type 0} → Allocation H → Piece H
-piece_of a = record { slot = a.memory_block_index; number = a.number; offset = a.offset; size = a.size; block = a.heap }
+piece_of a = record { slot = a.memory_block_index; chunk_id = a.chunk_id; offset = a.offset; size = a.size; handle = a.heap }
 
 -- the allocation that is given for a piece of the t-th memory type
 pub record IsAllocated {H : Type 0} (t : ℕ) (name : List ℕ) (p : Piece H) (a : Allocation H) : Type 0 where

@@ -7,7 +7,7 @@ use Rattle.gpu_memory_types.specs.Blocks.{Slots, slots_at}
 abbrev pub handles_in : {H : Type 0} → List (Option (Slot H)) → List H
 handles_in [] = []
 handles_in (None ∷ ss) = handles_in ss
-handles_in (Some s ∷ ss) = s.number ∷ handles_in ss
+handles_in (Some s ∷ ss) = s.handle ∷ handles_in ss
 
 -- of all live blocks by memory type, then by slot
 abbrev pub all_handles : {H : Type 0} → Slots H → List H

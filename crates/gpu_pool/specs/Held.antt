@@ -12,8 +12,8 @@ held_as t s = record { memory_type = t; size = size_of s.block }
 
 -- the source holds just the live blocks: each under its own number, with its memory type and size, and nothing under any other number
 pub record HoldsJustBlocks {H : Type 0} (number : H → ℕ) (held : HeldBlocks) (slots : Slots H) : Type 0 where
-  pub blocks : (t i : ℕ) (s : Slot H) → block_at slots t i ≡ Some s → held (number s.number) ≡ Some (held_as t s)
-  pub one_block : (t i u j : ℕ) (s r : Slot H) → block_at slots t i ≡ Some s → block_at slots u j ≡ Some r → number s.number ≡ number r.number → (t ≡ u) × (i ≡ j)
+  pub blocks : (t i : ℕ) (s : Slot H) → block_at slots t i ≡ Some s → held (number s.handle) ≡ Some (held_as t s)
+  pub one_block : (t i u j : ℕ) (s r : Slot H) → block_at slots t i ≡ Some s → block_at slots u j ≡ Some r → number s.handle ≡ number r.handle → (t ≡ u) × (i ≡ j)
   pub others : (n : ℕ) → IsNoBlock number slots n → held n ≡ None
 
 -- the source holds just the blocks of these handles, so that each can go back, one after another

@@ -10,7 +10,7 @@ use std::num::NonZeroU64;
 /// `free`; one that is let go otherwise stays live until `destroy`.
 #[derive(Debug, Drop)]
 pub struct Allocation<H> {
-    pub(crate) number: NonZeroU64,
+    pub(crate) chunk_id: NonZeroU64,
     pub(crate) offset: u64,
     pub(crate) size: u64,
     pub(crate) memory_block_index: usize,
@@ -24,12 +24,12 @@ pub(crate) fn allocation_of<H>(index: usize, piece: Piece<H>, name: String) -> A
     ensures { IsAllocated index (string_bytes name) piece result }
 {
     Allocation {
-        number: piece.number,
+        chunk_id: piece.chunk_id,
         offset: piece.offset,
         size: piece.size,
         memory_block_index: piece.slot,
         memory_type_index: index,
-        heap: piece.block,
+        heap: piece.handle,
         name,
     }
 }
@@ -37,9 +37,9 @@ pub(crate) fn allocation_of<H>(index: usize, piece: Piece<H>, name: String) -> A
 impl<H: Copy> Allocation<H> {
     /// The number of the piece in its block. It is always there.
     pub fn chunk_id(&self) -> Option<NonZeroU64>
-        ensures { result ≡ Some self.now.number }
+        ensures { result ≡ Some self.now.chunk_id }
     {
-        Some(self.number)
+        Some(self.chunk_id)
     }
 
     /// The heap that it lies in.
@@ -97,10 +97,10 @@ impl<H: Copy> Allocation<H> {
     {
         Piece {
             slot: self.memory_block_index,
-            number: self.number,
+            chunk_id: self.chunk_id,
             offset: self.offset,
             size: self.size,
-            block: self.heap,
+            handle: self.heap,
         }
     }
 }

@@ -208,7 +208,7 @@ impl<S: BlockSource> Pool<S> {
         ensures inside { (t : ℕ) (p : Piece S.Handle) → IsLive S.Handle.eq self.now.slots t p → IsInside self.now.slots t p }
         ensures apart { (t : ℕ) (p : Piece S.Handle) (u : ℕ) (q : Piece S.Handle)
             → IsLive S.Handle.eq self.now.slots t p → IsLive S.Handle.eq self.now.slots u q → AreDistinct t p u q
-            → (S.number p.block ≢ S.number q.block) ⊎ AreBytesApart p q }
+            → (S.number p.handle ≢ S.number q.handle) ⊎ AreBytesApart p q }
         ensures pages { (t : ℕ) (p q : Piece S.Handle) → IsLive S.Handle.eq self.now.slots t p
             → IsLive S.Handle.eq self.now.slots t q → KeepsPages (kind_at (S.kinds self.now.source) t).1 self.now.slots t p q }
     {

@@ -35,7 +35,7 @@ kind-quoted Linear = refl
 kind-quoted NonLinear = refl
 
 names-then : (x : Extent) (rest : List ℕ)
-    → piece_names_json x ++ rest ≡ codes "{\"kind\":\"" ++ (kind_word x.kind ++ (codes "\",\"name\":" ++ (quoted x.name ++ (codes ",\"number\":" ++ (decimal x.number ++ rest)))))
+    → piece_names_json x ++ rest ≡ codes "{\"kind\":\"" ++ (kind_word x.kind ++ (codes "\",\"name\":" ++ (quoted x.name ++ (codes ",\"number\":" ++ (decimal x.chunk_id ++ rest)))))
 unfolding piece_names_json
 names-then x rest =
     ap (λ (l : List ℕ). codes "{\"kind\":\"" ++ l)
@@ -46,7 +46,7 @@ text-piece : (x : Extent) → text_of (piece_value x) [] ≡ piece_json x
 unfolding piece_json piece_place_json escape_byte
 text-piece x =
     let kind : List ℕ = kind_word x.kind in
-    let tail : List ℕ = codes ",\"number\":" ++ (decimal x.number ++ piece_place_json x) in
+    let tail : List ℕ = codes ",\"number\":" ++ (decimal x.chunk_id ++ piece_place_json x) in
     ap (λ (l : List ℕ). codes "{\"kind\":" ++ (l ++ (codes ",\"name\":" ++ (json_quoted x.name ++ tail)))) (kind-quoted x.kind)
     ∙ ap (λ (l : List ℕ). codes "{\"kind\":\"" ++ l) (append_assoc kind (34 ∷ []) _)
     ∙ ap (λ (l : List ℕ). codes "{\"kind\":\"" ++ (kind ++ (codes "\",\"name\":" ++ (l ++ tail)))) (same-quoted x.name)
@@ -110,7 +110,7 @@ numbers-piece x h =
     let end : Fits x.end = h.3 in
     let own : IsNumber (decimal (x.offset - x.start)) × (IsNumber (decimal (x.end - x.offset)) × Unit {0}) =
     (IsNumber-decimal (x.offset - x.start) (omega arith), (IsNumber-decimal (x.end - x.offset) (omega arith), tt)) in
-    (tt, (tt, (IsNumber-decimal x.number h.0, (IsNumber-decimal x.offset (omega arith), own))))
+    (tt, (tt, (IsNumber-decimal x.chunk_id h.0, (IsNumber-decimal x.offset (omega arith), own))))
 
 numbers-gap : (g : ℕ × ℕ) → GapFits g → HasNumbers (gap_value g)
 numbers-gap g h =

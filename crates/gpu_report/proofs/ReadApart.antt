@@ -126,13 +126,13 @@ same-piece x y p q e =
     let name : x.name ≡ y.name = same-string _ _ (ap (at_name (codes "name")) e) in
     let x-ordered : (x.start ≤ x.offset) × (x.offset ≤ x.end) × Fits x.end = (p.1, p.2, p.3) in
     let y-ordered : (y.start ≤ y.offset) × (y.offset ≤ y.end) × Fits y.end = (q.1, q.2, q.3) in
-    let number : x.number ≡ y.number = same-number _ _ p.0 q.0 (ap (at_name (codes "number")) e) in
+    let number : x.chunk_id ≡ y.chunk_id = same-number _ _ p.0 q.0 (ap (at_name (codes "number")) e) in
     let offset : x.offset ≡ y.offset = same-number _ _ (omega (arith, x-ordered)) (omega (arith, y-ordered)) (ap (at_name (codes "offset")) e) in
     let padding : x.offset - x.start ≡ y.offset - y.start = same-number _ _ (omega (arith, x-ordered)) (omega (arith, y-ordered)) (ap (at_name (codes "padding")) e) in
     let size : x.end - x.offset ≡ y.end - y.offset = same-number _ _ (omega (arith, x-ordered)) (omega (arith, y-ordered)) (ap (at_name (codes "size")) e) in
     let start : x.start ≡ y.start = omega (arith, x-ordered, y-ordered, offset, padding) in
     let end : x.end ≡ y.end = omega (arith, x-ordered, y-ordered, offset, size) in
-    λ i. record { start = start i; offset = offset i; end = end i; kind = kind i; number = number i; name = name i }
+    λ i. record { start = start i; offset = offset i; end = end i; kind = kind i; chunk_id = number i; name = name i }
 
 same-block-view : (v w : BlockView) → BlockFits v → BlockFits w → block_value v ≡ block_value w → printed v ≡ printed w
 same-block-view v w p q e =

@@ -20,7 +20,7 @@ kind_word NonLinear = codes "nonlinear"
 
 -- a piece: its kind, name and number, where its own bytes begin, its padding before them, and how many they are
 unfoldable pub piece_names_json : Extent → List ℕ
-piece_names_json x = codes "{\"kind\":\"" ++ (kind_word x.kind ++ (codes "\",\"name\":" ++ (quoted x.name ++ (codes ",\"number\":" ++ decimal x.number))))
+piece_names_json x = codes "{\"kind\":\"" ++ (kind_word x.kind ++ (codes "\",\"name\":" ++ (quoted x.name ++ (codes ",\"number\":" ++ decimal x.chunk_id))))
 
 unfoldable pub piece_place_json : Extent → List ℕ
 piece_place_json x =

@@ -16,7 +16,7 @@ piece_value x =
     object_of (
     (codes "kind", string (kind_word x.kind))
     ∷ (codes "name", string x.name)
-    ∷ (codes "number", number_of x.number)
+    ∷ (codes "number", number_of x.chunk_id)
     ∷ (codes "offset", number_of x.offset)
     ∷ (codes "padding", number_of (x.offset - x.start))
     ∷ (codes "size", number_of (x.end - x.offset))

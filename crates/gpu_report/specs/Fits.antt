@@ -29,7 +29,7 @@ pub record ReportFits (r : Report) : Type 0 where
 -- ---- blocks
 
 abbrev pub PieceFits : Extent → Type 0
-PieceFits x = Fits x.number × (x.start ≤ x.offset) × (x.offset ≤ x.end) × Fits x.end
+PieceFits x = Fits x.chunk_id × (x.start ≤ x.offset) × (x.offset ≤ x.end) × Fits x.end
 
 abbrev pub GapFits : ℕ × ℕ → Type 0
 GapFits g = Fits g.0 × Fits g.1

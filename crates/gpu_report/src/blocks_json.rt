@@ -29,7 +29,7 @@ fn write_piece_names<W: fmt::Write>(piece: &LivePiece<'_>, f: &mut fmt::Formatte
     ensures { DisplaysOnOk W.write_str_gives f.old result (Some (piece_names_json piece.now)) f.new }
 {
     let kind = word_of(piece.kind());
-    let number = piece.number();
+    let number = piece.chunk_id();
     write!(f, "{{\"kind\":\"{kind}\",\"name\":")?;
     write_quoted(piece.name(), f)?;
     write!(f, ",\"number\":{number}")

@@ -50,10 +50,10 @@ pub fn report_fits(report: &AllocatorReport)
 }
 
 fn numbers_fit(pieces: Pieces<'_>)
-    ensures { All (λ x. Fits x.number) pieces.entry }
+    ensures { All (λ x. Fits x.chunk_id) pieces.entry }
 {
     for piece in pieces {
-        let _number = piece.number();
+        let _number = piece.chunk_id();
     }
 }
 

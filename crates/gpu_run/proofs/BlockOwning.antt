@@ -84,13 +84,13 @@ keeps_in (free_list old) r o n (free_list new) is t x h = takes_keeps old r o n 
 keeps_in (free_list old) r o n (dedicated new) is t x h = absurd t
 keeps_in (dedicated old) r o n new is t x h = absurd (false≢true is)
 
-adds_in : (old : Block) (r : Request) (o n : ℕ) (new : Block) → is_shared old ≡ true → TakesIn old r o n new → (x : Extent) × Contains (extents_of new) x × (x.number ≡ n)
+adds_in : (old : Block) (r : Request) (o n : ℕ) (new : Block) → is_shared old ≡ true → TakesIn old r o n new → (x : Extent) × Contains (extents_of new) x × (x.chunk_id ≡ n)
 adds_in (free_list old) r o n (free_list new) is t = takes_adds old r o n new t
 adds_in (free_list old) r o n (dedicated new) is t = absurd t
 adds_in (dedicated old) r o n new is t = absurd (false≢true is)
 
 new_number_in : (old : Block) (r : Request) (o n : ℕ) (new : Block) → is_shared old ≡ true → IsSoundBlock old → IsSoundBlock new → TakesIn old r o n new → (x : Extent) → Contains (extents_of old) x
-    → x.number ≡ n → ⊥
+    → x.chunk_id ≡ n → ⊥
 new_number_in (free_list old) r o n (free_list new) is before after t x h e = takes_new_chunk_id old r o n new before after t (x, h, e)
 new_number_in (free_list old) r o n (dedicated new) is before after t x h e = t
 new_number_in (dedicated old) r o n new is before after t x h e = false≢true is
@@ -100,7 +100,7 @@ stays_general (free_list old) r o n (free_list new) is t = refl
 stays_general (free_list old) r o n (dedicated new) is t = absurd t
 stays_general (dedicated old) r o n new is t = absurd (false≢true is)
 
-others_in : (old : Block) (n : ℕ) (new : Block) → is_shared old ≡ true → IsSoundBlock old → ReleasesIn old n new → (x : Extent) → Contains (extents_of old) x → x.number ≢ n → Contains
+others_in : (old : Block) (n : ℕ) (new : Block) → is_shared old ≡ true → IsSoundBlock old → ReleasesIn old n new → (x : Extent) → Contains (extents_of old) x → x.chunk_id ≢ n → Contains
     (extents_of new) x
 others_in (free_list old) n (free_list new) is sound t x h ne = releases_keeps old n new sound t x h ne
 others_in (free_list old) n (dedicated new) is sound t x h ne = absurd t
@@ -125,7 +125,7 @@ owns_released old key n block bound own is t sound set =
       live = λ q m e.
           let b = before q m e in
           let x = own.live q m b.1 in
-          let other : x.0.number ≢ non_zero_u64_get n = λ same. b.0 (own.apart q key m n b.1 is (sym x.2 ∙ same)) in
+          let other : x.0.chunk_id ≢ non_zero_u64_get n = λ same. b.0 (own.apart q key m n b.1 is (sym x.2 ∙ same)) in
           (x.0, others_in old.block (non_zero_u64_get n) block own.shared own.sound t x.0 x.1 other, x.2);
       apart = λ j k m m' e f same. own.apart j k m m' (before j m e).1 (before k m' f).1 same;
     }
@@ -136,7 +136,7 @@ pub owns_taken : (old : State) (key : ℕ) (r : Request) (o : ℕ) (n : NonZeroU
 owns_taken old key r o n block bound own t sound set =
     let before : (q : ℕ) (m : NonZeroU64) → lookup (is_at (nat_cmp q)) bound ≡ Some m → ((q ≡ key) × (m ≡ n)) ⊎ (piece_at old q ≡ Some m) =
     λ q m e. set_at (is_at (nat_cmp key) q) key q m n (piece_at old q) (lookup (is_at (nat_cmp q)) bound) (set q) (at_key key q) e in
-    let none : (x : Extent) → Contains (extents_of old.block) x → x.number ≡ non_zero_u64_get n → ⊥ = new_number_in old.block r o (non_zero_u64_get n) block own.shared own.sound sound t in
+    let none : (x : Extent) → Contains (extents_of old.block) x → x.chunk_id ≡ non_zero_u64_get n → ⊥ = new_number_in old.block r o (non_zero_u64_get n) block own.shared own.sound sound t in
     record {
       shared = stays_general old.block r o (non_zero_u64_get n) block own.shared t;
       sound = sound;

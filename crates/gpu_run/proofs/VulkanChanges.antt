@@ -138,7 +138,7 @@ place_by : (a : Allocation) (chunk : Option NonZeroU64) (p : Piece DeviceMemory)
 place_by a None p e is = absurd (let f = sym (ap (λ n. piece_of (record a { chunk_id = n })) e) ∙ is in cc)
 place_by a (Some n) p e is =
     let there : piece_of (record a { chunk_id = Some n }) ≡ Some p = sym (ap (λ c. piece_of (record a { chunk_id = c })) e) ∙ is in
-    let q : Piece DeviceMemory = record { slot = a.memory_block_index; number = n; offset = a.offset; size = a.size; block = a.device_memory } in
+    let q : Piece DeviceMemory = record { slot = a.memory_block_index; chunk_id = n; offset = a.offset; size = a.size; handle = a.device_memory } in
     let same : q ≡ p = (let f : Some q ≡ Some p = there in cc) in
     ap (λ c. id_of (record a { chunk_id = c })) e ∙ ap (id_in a.memory_type_index) same
 

@@ -59,19 +59,19 @@ both_true false b e = cc
 
 pub same_place : (p q : AllocationId) → is_same_id p q ≡ true → p ≡ q
 same_place p q e =
-    let a = both_true (p.memory_type == q.memory_type) ((p.slot == q.slot) && (p.number == q.number)) e in
-    let b = both_true (p.slot == q.slot) (p.number == q.number) a.1 in
+    let a = both_true (p.memory_type == q.memory_type) ((p.slot == q.slot) && (p.chunk_id == q.chunk_id)) e in
+    let b = both_true (p.slot == q.slot) (p.chunk_id == q.chunk_id) a.1 in
     let types = eqb-true p.memory_type q.memory_type a.0 in
     let slots = eqb-true p.slot q.slot b.0 in
-    let numbers = eqb-true p.number q.number b.1 in
-    λ i. record { memory_type = types i; slot = slots i; number = numbers i }
+    let numbers = eqb-true p.chunk_id q.chunk_id b.1 in
+    λ i. record { memory_type = types i; slot = slots i; chunk_id = numbers i }
 
 -- different pieces have different places
 pub other_place : (a b : Allocation) → AreDistinct a b → is_same_id (id_of a) (id_of b) ≡ false
 other_place a b other = ⊎_elim
     (λ same.
     let e = same_place (id_of a) (id_of b) same in
-    absurd (other (ap (λ p. p.memory_type) e) (ap (λ p. p.slot) e) (ap (λ p. p.number) e)))
+    absurd (other (ap (λ p. p.memory_type) e) (ap (λ p. p.slot) e) (ap (λ p. p.chunk_id) e)))
     (λ apart. apart)
     (cases_Bool (is_same_id (id_of a) (id_of b)))
 

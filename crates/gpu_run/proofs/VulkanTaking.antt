@@ -65,16 +65,16 @@ shown_same setup d w t p a wants given =
     by : (chunk : Option _) → a.chunk_id ≡ chunk → a.mapped ≡ is_mapped setup.properties t → a.dedicated ≡ requests_dedicated w.scheme → shown_allocation a ≡ shown setup w t p
     by None e mapped own = absurd (let f = sym (ap (λ n. piece_of (record a { chunk_id = n })) e) ∙ given.piece in cc)
     by (Some n) e mapped own =
-        let is : Some (record { slot = a.memory_block_index; number = n; offset = a.offset; size = a.size; block = a.device_memory }) ≡ Some p =
+        let is : Some (record { slot = a.memory_block_index; chunk_id = n; offset = a.offset; size = a.size; handle = a.device_memory }) ≡ Some p =
         sym (ap (λ n. piece_of (record a { chunk_id = n })) e) ∙ given.piece in
-        let same : record { slot = a.memory_block_index; number = n; offset = a.offset; size = a.size; block = a.device_memory } ≡ p = cc in
-        let number : number_in a.chunk_id ≡ non_zero_u64_get p.number = ap number_in e ∙ ap (λ q. non_zero_u64_get q.number) same in
+        let same : record { slot = a.memory_block_index; chunk_id = n; offset = a.offset; size = a.size; handle = a.device_memory } ≡ p = cc in
+        let number : number_in a.chunk_id ≡ non_zero_u64_get p.chunk_id = ap number_in e ∙ ap (λ q. non_zero_u64_get q.chunk_id) same in
         λ i. record {
           memory_type = given.memory_type i;
           slot = (same i).slot;
           offset = (same i).offset;
           size = (same i).size;
-          number = number i;
+          chunk_id = number i;
           dedicated = own i;
           mapped = mapped i;
         }

@@ -42,7 +42,7 @@ SomePiece s P = (x : Extent) × Contains (extents_of s.block) x × P x
 pub record OwnsPieces (s : State) : Type 0 where
   pub shared : is_shared s.block ≡ true
   pub sound : IsSoundBlock s.block
-  pub live : (key : ℕ) (n : NonZeroU64) → piece_at s key ≡ Some n → SomePiece s (λ x. x.number ≡ non_zero_u64_get n)
+  pub live : (key : ℕ) (n : NonZeroU64) → piece_at s key ≡ Some n → SomePiece s (λ x. x.chunk_id ≡ non_zero_u64_get n)
   pub apart : (j k : ℕ) (n m : NonZeroU64) → piece_at s j ≡ Some n → piece_at s k ≡ Some m → non_zero_u64_get n ≡ non_zero_u64_get m → j ≡ k
 
 -- what may be asked of a block

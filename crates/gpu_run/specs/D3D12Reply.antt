@@ -44,7 +44,7 @@ pub data SessionReply : Type 0 where
 
 -- what is shown of a piece of the t-th memory type
 abbrev pub shown : (t : ℕ) → Piece ID3D12Heap → Shown
-shown t p = record { memory_type = t; slot = p.slot; offset = p.offset; size = p.size; chunk = non_zero_u64_get p.number; heap = p.block }
+shown t p = record { memory_type = t; slot = p.slot; offset = p.offset; size = p.size; chunk = non_zero_u64_get p.chunk_id; heap = p.handle }
 
 -- what is shown of a resource of the t-th memory type, of this number and size, in this piece where it is placed
 abbrev pub shown_resource : (t : ℕ) → Option (Piece ID3D12Heap) → (number size : ℕ) → ShownResource

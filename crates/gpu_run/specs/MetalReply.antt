@@ -33,7 +33,7 @@ pub data SessionReply : Type 0 where
 
 -- what is shown of a piece of the t-th memory type
 abbrev pub shown : (t : ℕ) → Piece MTLHeap → Shown
-shown t p = record { memory_type = t; slot = p.slot; offset = p.offset; size = p.size; chunk = non_zero_u64_get p.number; heap = p.block }
+shown t p = record { memory_type = t; slot = p.slot; offset = p.offset; size = p.size; chunk = non_zero_u64_get p.chunk_id; heap = p.handle }
 
 -- what is shown, of the value that is handed out
 abbrev pub shown_of : AllocatedPiece → Shown

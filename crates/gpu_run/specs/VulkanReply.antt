@@ -9,7 +9,7 @@ pub record Shown : Type 0 where
   pub slot : ℕ
   pub offset : ℕ
   pub size : ℕ
-  pub number : ℕ
+  pub chunk_id : ℕ
   pub dedicated : Bool
   pub mapped : Bool
 

@@ -40,7 +40,7 @@ shown_of g = record {
   slot = g.slot;
   offset = g.offset;
   size = g.size;
-  number = non_zero_u64_get g.chunk;
+  chunk_id = non_zero_u64_get g.chunk;
   dedicated = g.dedicated;
   mapped = g.mapped;
 }
@@ -52,7 +52,7 @@ shown_allocation a = record {
   slot = a.memory_block_index;
   offset = a.offset;
   size = a.size;
-  number = number_in a.chunk_id;
+  chunk_id = number_in a.chunk_id;
   dedicated = a.dedicated;
   mapped = a.mapped;
 }

@@ -39,7 +39,7 @@ shown setup w t p = record {
   slot = p.slot;
   offset = p.offset;
   size = p.size;
-  number = non_zero_u64_get p.number;
+  chunk_id = non_zero_u64_get p.chunk_id;
   dedicated = requests_dedicated w.scheme;
   mapped = is_mapped setup.properties t;
 }

@@ -16,7 +16,7 @@ use Rattle.gpu_vulkan.proofs.Parts.{HasRoom, in_range, left_of, left_with, taken
 use Rattle.gpu_memory_types.proofs.Placed.{OnlyBlock, same_place}
 
 abbrev pub place : (t i n : ℕ) → AllocationId
-place t i n = record { memory_type = t; slot = i; number = n }
+place t i n = record { memory_type = t; slot = i; chunk_id = n }
 
 -- ---- tests of places
 
@@ -33,11 +33,11 @@ not_both t i u j ne =
     (λ apart. ap (λ x. x && (i == j)) (eq_false t u apart))
     (cases_eq t u)
 
-pub same_as : (q : AllocationId) (t i : ℕ) → q.memory_type ≡ t → q.slot ≡ i → place t i q.number ≡ q
+pub same_as : (q : AllocationId) (t i : ℕ) → q.memory_type ≡ t → q.slot ≡ i → place t i q.chunk_id ≡ q
 same_as q t i a b =
     let e = sym a in
     let f = sym b in
-    λ l. record { memory_type = e l; slot = f l; number = q.number }
+    λ l. record { memory_type = e l; slot = f l; chunk_id = q.chunk_id }
 
 -- where a place is another one of the same block, its number is another one
 pub other_number : (t i n k : ℕ) → is_same_id (place t i n) (place t i k) ≡ false → k ≢ n
@@ -61,10 +61,10 @@ lists_but : (t i n : ℕ) (old new : ByteView) → OthersSame t i old new → ((
 lists_but t i n old new others lists q isnt =
     ⊎_elim
     (λ here.
-    let q_is : place t i q.number ≡ q = same_as q t i here.0 here.1 in
-    let ne = other_number t i n q.number (ap (is_same_id (place t i n)) q_is ∙ isnt) in
-    subst (λ r. new.allocation_bytes r ≡ old.allocation_bytes r) q_is (lists q.number ne))
-    (λ away. (others q.memory_type q.slot away).allocation_bytes q.number)
+    let q_is : place t i q.chunk_id ≡ q = same_as q t i here.0 here.1 in
+    let ne = other_number t i n q.chunk_id (ap (is_same_id (place t i n)) q_is ∙ isnt) in
+    subst (λ r. new.allocation_bytes r ≡ old.allocation_bytes r) q_is (lists q.chunk_id ne))
+    (λ away. (others q.memory_type q.slot away).allocation_bytes q.chunk_id)
     (same_place q.memory_type t q.slot i)
 
 rest_by : (t i : ℕ) (test : ℕ → Bool) (f : ℕ → Option ℕ) (old new : ByteView) → OthersSame t i old new →
@@ -103,7 +103,7 @@ puts_back t i n o size old new others gone lists rest = record {
 
 -- blocks that stay where they are with the same bytes
 pub same_blocks : (held now : Held) (old new : Slots) (t i : ℕ) → ((u j : ℕ) → (u ≡ t → j ≡ i → ⊥) → block_at new u j ≡ block_at old u j)
-    → ((u j : ℕ) (s : Slot DeviceMemory) → (u ≡ t → j ≡ i → ⊥) → block_at old u j ≡ Some s → bytes_of now s.number.0 ≡ bytes_of held s.number.0)
+    → ((u j : ℕ) (s : Slot DeviceMemory) → (u ≡ t → j ≡ i → ⊥) → block_at old u j ≡ Some s → bytes_of now s.handle.0 ≡ bytes_of held s.handle.0)
     → OthersSame t i (byte_view_of held old) (byte_view_of now new)
 same_blocks held now old new t i stay bytes u j away = record {
   allocation_bytes = λ k. ap (λ o. list_in now o k) (stay u j away) ∙ same_list (block_at old u j) refl k;
@@ -119,20 +119,20 @@ same_blocks held now old new t i stay bytes u j away = record {
     same_rest (Some s) e at = ap (λ b. left_of b (extents_of s.block) at) (bytes u j s away e)
 
 module _ (held : Held) (old new : Slots) (t i : ℕ) (a b : Slot DeviceMemory) (at_old : block_at old t i ≡ Some a) (only : OnlyBlock old t i (Some b) new) (number : b.number ≡ a.number)
-    (mapped : Bool) (n o size : ℕ) (room : HasRoom mapped (bytes_of held a.number.0) o size) where
-  bytes_is : bytes_of held b.number.0 ≡ bytes_of held a.number.0
+    (mapped : Bool) (n o size : ℕ) (room : HasRoom mapped (bytes_of held a.handle.0) o size) where
+  bytes_is : bytes_of held b.handle.0 ≡ bytes_of held a.handle.0
   bytes_is = ap (λ (m : DeviceMemory). bytes_of held m.0) number
 
-  list_old : (k : ℕ) → list_in held (block_at old t i) k ≡ piece_bytes (bytes_of held a.number.0) (piece_of_number (extents_of a.block) k)
+  list_old : (k : ℕ) → list_in held (block_at old t i) k ≡ piece_bytes (bytes_of held a.handle.0) (piece_of_number (extents_of a.block) k)
   list_old k = ap (λ s. list_in held s k) at_old
 
-  list_new : (k : ℕ) → list_in held (block_at new t i) k ≡ piece_bytes (bytes_of held a.number.0) (piece_of_number (extents_of b.block) k)
+  list_new : (k : ℕ) → list_in held (block_at new t i) k ≡ piece_bytes (bytes_of held a.handle.0) (piece_of_number (extents_of b.block) k)
   list_new k = ap (λ s. list_in held s k) only.at ∙ ap (λ x. piece_bytes x (piece_of_number (extents_of b.block) k)) bytes_is
 
-  rest_old : (at : ℕ) → rest_in held (block_at old t i) at ≡ left_of (bytes_of held a.number.0) (extents_of a.block) at
+  rest_old : (at : ℕ) → rest_in held (block_at old t i) at ≡ left_of (bytes_of held a.handle.0) (extents_of a.block) at
   rest_old at = ap (λ s. rest_in held s at) at_old
 
-  rest_new : (at : ℕ) → rest_in held (block_at new t i) at ≡ left_of (bytes_of held a.number.0) (extents_of b.block) at
+  rest_new : (at : ℕ) → rest_in held (block_at new t i) at ≡ left_of (bytes_of held a.handle.0) (extents_of b.block) at
   rest_new at = ap (λ s. rest_in held s at) only.at ∙ ap (λ x. left_of x (extents_of b.block) at) bytes_is
 
   others : OthersSame t i (byte_view_of held old) (byte_view_of held new)
@@ -141,7 +141,7 @@ module _ (held : Held) (old new : Slots) (t i : ℕ) (a b : Slot DeviceMemory) (
   -- a shared block serves: the device's bytes stay
   pub served_byte_view : OneMore (extents_of a.block) (extents_of b.block) n o size → SplitsRest mapped (place t i n) o size (byte_view_of held old) (byte_view_of held new)
   served_byte_view one =
-      let bytes = bytes_of held a.number.0 in
+      let bytes = bytes_of held a.handle.0 in
       let xs = extents_of a.block in
       let more = extents_of b.block in
       takes_out mapped t i n o size (byte_view_of held old) (byte_view_of held new) others
@@ -154,7 +154,7 @@ module _ (held : Held) (old new : Slots) (t i : ℕ) (a b : Slot DeviceMemory) (
   -- a piece goes and its block stays
   pub released_byte_view : OneMore (extents_of b.block) (extents_of a.block) n o size → JoinsRest (place t i n) o size (byte_view_of held old) (byte_view_of held new)
   released_byte_view one =
-      let bytes = bytes_of held a.number.0 in
+      let bytes = bytes_of held a.handle.0 in
       let xs = extents_of b.block in
       let more = extents_of a.block in
       puts_back t i n o size (byte_view_of held old) (byte_view_of held new) others
@@ -172,12 +172,12 @@ pub with_new_adds : (t i : ℕ) (bytes : Option (List ℕ)) (old : ByteView) →
 with_new_adds t i bytes old = record { allocation_bytes = λ q. refl; unallocated_bytes = λ u j at. refl }
 
 module _ (held now : Held) (old new : Slots) (t i : ℕ) (b : Slot DeviceMemory) (none : block_at old t i ≡ None) (only : OnlyBlock old t i (Some b) new) (mapped : Bool) (n o size : ℕ)
-    (room : HasRoom mapped (bytes_of now b.number.0) o size)
-    (stays : (u j : ℕ) (s : Slot DeviceMemory) → block_at old u j ≡ Some s → bytes_of now s.number.0 ≡ bytes_of held s.number.0) where
+    (room : HasRoom mapped (bytes_of now b.handle.0) o size)
+    (stays : (u j : ℕ) (s : Slot DeviceMemory) → block_at old u j ≡ Some s → bytes_of now s.handle.0 ≡ bytes_of held s.handle.0) where
   -- a new block's piece is taken out of that block's bytes
-  pub installed_byte_view : OneMore [] (extents_of b.block) n o size → SplitsRest mapped (place t i n) o size (with_new t i (bytes_of now b.number.0) (byte_view_of held old)) (byte_view_of now new)
+  pub installed_byte_view : OneMore [] (extents_of b.block) n o size → SplitsRest mapped (place t i n) o size (with_new t i (bytes_of now b.handle.0) (byte_view_of held old)) (byte_view_of now new)
   installed_byte_view one =
-      let bytes = bytes_of now b.number.0 in
+      let bytes = bytes_of now b.handle.0 in
       let more = extents_of b.block in
       let mid = with_new t i bytes (byte_view_of held old) in
       let same = same_blocks held now old new t i only.others (λ u j s away e. stays u j s e) in
@@ -202,8 +202,8 @@ with_back p o size old = record {
 }
 
 place_itself : (p : AllocationId) → is_same_id p p ≡ true
-place_itself p = ap (λ b. b && ((p.slot == p.slot) && (p.number == p.number))) (eq_true p.memory_type p.memory_type refl) ∙ ap (λ b. b && (p.number == p.number)) (eq_true p.slot p.slot refl) ∙
-    eq_true p.number p.number refl
+place_itself p = ap (λ b. b && ((p.slot == p.slot) && (p.chunk_id == p.chunk_id))) (eq_true p.memory_type p.memory_type refl) ∙ ap (λ b. b && (p.chunk_id == p.chunk_id)) (eq_true p.slot p.slot refl) ∙
+    eq_true p.chunk_id p.chunk_id refl
 
 pub with_back_puts : (p : AllocationId) (o size : ℕ) (old : ByteView) → JoinsRest p o size old (with_back p o size old)
 with_back_puts p o size old = record {
@@ -213,11 +213,11 @@ with_back_puts p o size old = record {
 }
 
 module _ (held now : Held) (old new : Slots) (t i : ℕ) (a : Slot DeviceMemory) (at_old : block_at old t i ≡ Some a) (only : OnlyBlock old t i None new) (n o size : ℕ)
-    (stays : (u j : ℕ) (s : Slot DeviceMemory) → (u ≡ t → j ≡ i → ⊥) → block_at old u j ≡ Some s → bytes_of now s.number.0 ≡ bytes_of held s.number.0) where
+    (stays : (u j : ℕ) (s : Slot DeviceMemory) → (u ≡ t → j ≡ i → ⊥) → block_at old u j ≡ Some s → bytes_of now s.handle.0 ≡ bytes_of held s.handle.0) where
   -- the last piece of a block goes, and the block with it
   pub dropped_byte_view : OneMore [] (extents_of a.block) n o size → DropsBlock t i (with_back (place t i n) o size (byte_view_of held old)) (byte_view_of now new)
   dropped_byte_view one =
-      let bytes = bytes_of held a.number.0 in
+      let bytes = bytes_of held a.handle.0 in
       let more = extents_of a.block in
       let before = byte_view_of held old in
       let mid = with_back (place t i n) o size before in
@@ -232,11 +232,11 @@ module _ (held now : Held) (old new : Slots) (t i : ℕ) (a : Slot DeviceMemory)
         allocation_bytes = λ q.
             ⊎_elim
             (λ here.
-            let q_is : place t i q.number ≡ q = same_as q t i here.0 here.1 in
-            subst (λ r. list_in now (block_at new r.memory_type r.slot) r.number ≡ mid.allocation_bytes r) q_is (ap (λ s. list_in now s q.number) only.at ∙ sym (here_none q.number)))
+            let q_is : place t i q.chunk_id ≡ q = same_as q t i here.0 here.1 in
+            subst (λ r. list_in now (block_at new r.memory_type r.slot) r.chunk_id ≡ mid.allocation_bytes r) q_is (ap (λ s. list_in now s q.chunk_id) only.at ∙ sym (here_none q.chunk_id)))
             (λ away.
             let isnt : is_same_id (place t i n) q ≡ false = apart_place t i n q away in
-            (same q.memory_type q.slot away).allocation_bytes q.number ∙ sym (ap (λ b. if b then None else before.allocation_bytes q) isnt))
+            (same q.memory_type q.slot away).allocation_bytes q.chunk_id ∙ sym (ap (λ b. if b then None else before.allocation_bytes q) isnt))
             (same_place q.memory_type t q.slot i);
         unallocated_bytes = λ u j at.
             ⊎_elim
@@ -253,6 +253,6 @@ module _ (held now : Held) (old new : Slots) (t i : ℕ) (a : Slot DeviceMemory)
       apart_place : (t i n : ℕ) (q : AllocationId) → (q.memory_type ≡ t → q.slot ≡ i → ⊥) → is_same_id (place t i n) q ≡ false
       apart_place t i n q away =
           ⊎_elim
-          (λ e. ap (λ b. b && ((i == q.slot) && (n == q.number))) (eq_true t q.memory_type e) ∙ ap (λ b. b && (n == q.number)) (eq_false i q.slot (λ f. away (sym e) (sym f))))
-          (λ ne. ap (λ b. b && ((i == q.slot) && (n == q.number))) (eq_false t q.memory_type ne))
+          (λ e. ap (λ b. b && ((i == q.slot) && (n == q.chunk_id))) (eq_true t q.memory_type e) ∙ ap (λ b. b && (n == q.chunk_id)) (eq_false i q.slot (λ f. away (sym e) (sym f))))
+          (λ ne. ap (λ b. b && ((i == q.slot) && (n == q.chunk_id))) (eq_false t q.memory_type ne))
           (cases_eq t q.memory_type)

@@ -48,12 +48,12 @@ use Rattle.gpu_vulkan.proofs.Stepping.{live_room}
 use Rattle.gpu_memory_types.proofs.Options.{none_some, some_same}
 
 -- the piece that goes is the one that is held
-goes_as_held : (a : Block) (n o size : ℕ) (after : Block) → IsSoundBlock a → ReleasesIn a n after → (y : Extent) → Contains (extents_of a) y → y.number ≡ n → y.offset ≡ o → y.end ≡ o + size
+goes_as_held : (a : Block) (n o size : ℕ) (after : Block) → IsSoundBlock a → ReleasesIn a n after → (y : Extent) → Contains (extents_of a) y → y.chunk_id ≡ n → y.offset ≡ o → y.end ≡ o + size
     → OneMore (extents_of after) (extents_of a) n o size
 goes_as_held a n o size after sound rel y held numbered begins ends =
     let gone = one_more_released a n after sound rel in
     let x = gone.0 in
-    let found = found_number (extents_of a) x.number x gone.1.there in
+    let found = found_number (extents_of a) x.chunk_id x gone.1.there in
     let same : x ≡ y = one_in a x y sound found.0 held (gone.2 ∙ sym numbered) in
     record {
       x = x;
@@ -66,7 +66,7 @@ goes_as_held a n o size after sound rel y held numbered begins ends =
 module _ {D : Type 0} (g : Ghosts D) (setup : Setup) (first : Held) (t : ℕ) (old : Slots) (below : t < length old) (sound : BlocksWellFormed setup.properties.granularity old) (p : Piece DeviceMemory)
   where
     abbrev n : ℕ
-    n = non_zero_u64_get p.number
+    n = non_zero_u64_get p.chunk_id
 
     abbrev one_less : Block → Slot DeviceMemory → Type 0
     one_less after a = OneMore (extents_of after) (extents_of a.block) n p.offset p.size
@@ -87,7 +87,7 @@ module _ {D : Type 0} (g : Ghosts D) (setup : Setup) (first : Held) (t : ℕ) (o
         → HoldsJustLiveBlocks setup.properties first (g.held device) old → ((m : ℕ) → IsWhole (get (g.held device) m))
         → Left went (g.held device) (g.held after) (slice_set old t (slice_set (slots_at old t) p.slot b))
     settled_bytes several None b went device after at rel back live h whole = absurd rel
-    settled_bytes several (Some a) None None device after at rel back live h whole = absurd (none_some a.number rel.0)
+    settled_bytes several (Some a) None None device after at rel back live h whole = absurd (none_some a.handle rel.0)
     settled_bytes several (Some a) (Some b) (Some m) device after at rel back live h whole = absurd (none_some m (sym rel.0))
     settled_bytes several (Some a) (Some b) None device after at rel back live h whole =
         let held = g.held device in
@@ -96,8 +96,8 @@ module _ {D : Type 0} (g : Ghosts D) (setup : Setup) (first : Held) (t : ℕ) (o
         let inside = some_below slots p.slot a at in
         let only = only_block old t p.slot (Some b) (slice_set slots p.slot (Some b)) below (set_only slots p.slot (Some b) inside) in
         let is_live : IsLiveIn old t (Some p) = subst (SlotHolds is_same_memory p) (sym at) live in
-        let room : HasRoom (is_mapped setup.properties t) (bytes_of held a.number.0) p.offset p.size =
-        subst (λ k. HasRoom (is_mapped setup.properties t) (bytes_of held k) p.offset p.size) (sym (eqb-true a.number.0 p.block.0 live.0)) (live_room setup first held old sound h whole t p is_live)
+        let room : HasRoom (is_mapped setup.properties t) (bytes_of held a.handle.0) p.offset p.size =
+        subst (λ k. HasRoom (is_mapped setup.properties t) (bytes_of held k) p.offset p.size) (sym (eqb-true a.handle.0 p.handle.0 live.0)) (live_room setup first held old sound h whole t p is_live)
         in
         record {
           mid = byte_view_of held new;
@@ -112,21 +112,21 @@ module _ {D : Type 0} (g : Ghosts D) (setup : Setup) (first : Held) (t : ℕ) (o
         let only = only_block old t p.slot None (slice_set slots p.slot None) below (set_only slots p.slot None inside) in
         let emptied : extents_of rel.1.0 ≡ [] = rel.1.2.0 in
         let one : OneMore [] (extents_of a.block) n p.offset p.size = subst (λ (xs : List Extent). OneMore xs (extents_of a.block) n p.offset p.size) emptied (one_from a rel.1.0 at live rel.1.1) in
-        let same : m ≡ a.number = some_same m a.number rel.0 in
+        let same : m ≡ a.handle = some_same m a.handle rel.0 in
         record {
           mid = with_back (id_in t p) p.offset p.size (byte_view_of held old);
           back = with_back_puts (id_in t p) p.offset p.size (byte_view_of held old);
           drops = dropped_byte_view held (g.held after) old new t p.slot a at only n p.offset p.size
               (λ u j s away found.
-              ap (λ (k : Held). bytes_of k s.number.0) back.held
-              ∙ ap entry_bytes (get-remove_other held m.0 s.number.0 (λ e. let place = h.one_block u j t p.slot s a found at (e ∙ ap (λ (k : DeviceMemory). k.0) same) in away place.0 place.1)))
+              ap (λ (k : Held). bytes_of k s.handle.0) back.held
+              ∙ ap entry_bytes (get-remove_other held m.0 s.handle.0 (λ e. let place = h.one_block u j t p.slot s a found at (e ∙ ap (λ (k : DeviceMemory). k.0) same) in away place.0 place.1)))
               one;
         }
 
     -- the memory of a block is mapped where its type is
     mapped_as : (a : Slot DeviceMemory) (held : Held) → block_at old t p.slot ≡ Some a → HoldsJustLiveBlocks setup.properties first held old
-        → is_some (bytes_of held a.number.0) ≡ is_mapped setup.properties t
-    mapped_as a held at h = by (get held a.number.0) (h.blocks t p.slot a at)
+        → is_some (bytes_of held a.handle.0) ≡ is_mapped setup.properties t
+    mapped_as a held at h = by (get held a.handle.0) (h.blocks t p.slot a at)
       where
         by : (e : Option Entry) → HasEntry (IsBlockEntry setup.properties) t a.block e → is_some (entry_bytes e) ≡ is_mapped setup.properties t
         by None has = absurd has
@@ -141,7 +141,7 @@ module _ {D : Type 0} (g : Ghosts D) (setup : Setup) (first : Held) (t : ℕ) (o
     settled_recorded several (Some a) (Some b) (Some m) device after at rel back h = absurd (none_some m (sym rel.0))
     settled_recorded several (Some a) None (Some m) device after at rel back h =
         let held = g.held device in
-        let same : m ≡ a.number = some_same m a.number rel.0 in
+        let same : m ≡ a.handle = some_same m a.handle rel.0 in
         let mapped = ap (λ (k : DeviceMemory). is_some (bytes_of held k.0)) same ∙ mapped_as a held at h in
         back.history ∙ ap (λ mapped. free_recorded mapped m (g.history device)) mapped
 

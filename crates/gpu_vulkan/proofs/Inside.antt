@@ -42,30 +42,30 @@ no_entry_range p t b None mapped entry = refl
 no_entry_range p t b (Some e) mapped entry = no_bytes e.bytes (entry.2 ∙ mapped)
 
 module _ (p : Properties) (first held : Held) (ss : Slots) (sound : BlocksWellFormed p.granularity ss) (h : HoldsJustLiveBlocks p first held ss) (t : ℕ) (piece : Piece DeviceMemory) where
-  number_is : (s : Slot DeviceMemory) → is_same_memory s.number piece.block ≡ true → s.number.0 ≡ piece.block.0
-  number_is s same = eqb-true s.number.0 piece.block.0 same
+  number_is : (s : Slot DeviceMemory) → is_same_memory s.handle piece.handle ≡ true → s.handle.0 ≡ piece.handle.0
+  number_is s same = eqb-true s.handle.0 piece.handle.0 same
 
   inside : (x : Option (Slot DeviceMemory)) → slot_at (slots_at ss t) piece.slot ≡ x → ((n : ℕ) → IsWhole (get held n)) → is_mapped p t ≡ true → SlotHolds is_same_memory piece x
-      → HasRange (bytes_of held piece.block.0) piece.offset piece.size
+      → HasRange (bytes_of held piece.handle.0) piece.offset piece.size
   inside None at whole mapped live = absurd live
   inside (Some s) at whole mapped live =
       let b = s.block in
       let sound_here : SlotIsSound p.granularity (Some s) = subst (SlotIsSound p.granularity) at (sound t piece.slot) in
       let fits = extent_inside b live.1.0 sound_here.1 live.1.1 in
       subst (λ n. HasRange (bytes_of held n) piece.offset piece.size) (number_is s live.0)
-      (entry_range p t b (get held s.number.0) piece.offset piece.size mapped (h.blocks t piece.slot s at) (whole s.number.0) (omega (arith, fits, live.1.4)))
+      (entry_range p t b (get held s.handle.0) piece.offset piece.size mapped (h.blocks t piece.slot s at) (whole s.handle.0) (omega (arith, fits, live.1.4)))
 
   -- a live piece's range is there where its memory is mapped
-  pub live_range : ((n : ℕ) → IsWhole (get held n)) → is_mapped p t ≡ true → IsLiveIn ss t (Some piece) → HasRange (bytes_of held piece.block.0) piece.offset piece.size
+  pub live_range : ((n : ℕ) → IsWhole (get held n)) → is_mapped p t ≡ true → IsLiveIn ss t (Some piece) → HasRange (bytes_of held piece.handle.0) piece.offset piece.size
   live_range whole mapped live = inside (slot_at (slots_at ss t) piece.slot) refl whole mapped live
 
-  unmapped : (x : Option (Slot DeviceMemory)) → slot_at (slots_at ss t) piece.slot ≡ x → is_mapped p t ≡ false → SlotHolds is_same_memory piece x → bytes_of held piece.block.0 ≡ None
+  unmapped : (x : Option (Slot DeviceMemory)) → slot_at (slots_at ss t) piece.slot ≡ x → is_mapped p t ≡ false → SlotHolds is_same_memory piece x → bytes_of held piece.handle.0 ≡ None
   unmapped None at mapped live = absurd live
   unmapped (Some s) at mapped live =
-      subst (λ n. bytes_of held n ≡ None) (number_is s live.0) (no_entry_range p t s.block (get held s.number.0) mapped (h.blocks t piece.slot s at))
+      subst (λ n. bytes_of held n ≡ None) (number_is s live.0) (no_entry_range p t s.block (get held s.handle.0) mapped (h.blocks t piece.slot s at))
 
   -- and has no bytes where it isn't
-  pub live_unmapped : is_mapped p t ≡ false → IsLiveIn ss t (Some piece) → bytes_of held piece.block.0 ≡ None
+  pub live_unmapped : is_mapped p t ≡ false → IsLiveIn ss t (Some piece) → bytes_of held piece.handle.0 ≡ None
   live_unmapped mapped live = unmapped (slot_at (slots_at ss t) piece.slot) refl mapped live
 
 false_true : false ≡ true → ⊥
@@ -88,7 +88,7 @@ no_range None o l e = refl
 no_range (Some xs) o l e = cc
 
 abbrev pub piece_with : Allocation → Option NonZeroU64 → Option (Piece DeviceMemory)
-piece_with a chunk = option_map (λ n. record { slot = a.memory_block_index; number = n; offset = a.offset; size = a.size; block = a.device_memory }) chunk
+piece_with a chunk = option_map (λ n. record { slot = a.memory_block_index; chunk_id = n; offset = a.offset; size = a.size; handle = a.device_memory }) chunk
 
 module _ (p : Properties) (first held : Held) (ss : Slots) (sound : BlocksWellFormed p.granularity ss) (h : HoldsJustLiveBlocks p first held ss) (whole : (n : ℕ) → IsWhole (get held n))
     (a : Allocation) where
@@ -97,13 +97,13 @@ module _ (p : Properties) (first held : Held) (ss : Slots) (sound : BlocksWellFo
       → (IsSome r → IsMapped p ss a) × (IsMapped p ss a → IsSome r)
   range_told None m mapped chunk live r told = absurd live
   range_told (Some n) true mapped chunk live r told =
-      let piece : Piece DeviceMemory = record { slot = a.memory_block_index; number = n; offset = a.offset; size = a.size; block = a.device_memory } in
+      let piece : Piece DeviceMemory = record { slot = a.memory_block_index; chunk_id = n; offset = a.offset; size = a.size; handle = a.device_memory } in
       let there = live_range p first held ss sound h a.memory_type_index piece whole mapped live in (
         λ some. (subst (λ c. IsLiveIn ss a.memory_type_index (piece_with a c)) (sym chunk) live, mapped),
         λ _. some_copied r (subst (λ o. IsSome o) (sym told) (range_from (bytes_of held a.device_memory.0) a.offset a.size there)),
       )
   range_told (Some n) false mapped chunk live r told =
-      let piece : Piece DeviceMemory = record { slot = a.memory_block_index; number = n; offset = a.offset; size = a.size; block = a.device_memory } in
+      let piece : Piece DeviceMemory = record { slot = a.memory_block_index; chunk_id = n; offset = a.offset; size = a.size; handle = a.device_memory } in
       let none = live_unmapped p first held ss sound h a.memory_type_index piece mapped live in (
         λ some. absurd (none_copied r (told ∙ no_range (bytes_of held a.device_memory.0) a.offset a.size none) some),
         λ both. absurd (false_true (sym mapped ∙ both.1)),

@@ -20,9 +20,9 @@ use Rattle.gpu_vulkan.specs.ByteView.{piece_of_number, covers, is_covered}
 
 -- `more` has the piece x beside those of xs
 pub record Joins (x : Extent) (xs more : List Extent) : Type 0 where
-  pub there : piece_of_number more x.number ≡ Some x
-  pub others : (k : ℕ) → k ≢ x.number → piece_of_number more k ≡ piece_of_number xs k
-  pub fresh : piece_of_number xs x.number ≡ None
+  pub there : piece_of_number more x.chunk_id ≡ Some x
+  pub others : (k : ℕ) → k ≢ x.chunk_id → piece_of_number more k ≡ piece_of_number xs k
+  pub fresh : piece_of_number xs x.chunk_id ≡ None
   pub free : (at : ℕ) → covers x at ≡ true → is_covered xs at ≡ false
   pub covered : (at : ℕ) → covers x at ≡ true → is_covered more at ≡ true
   pub kept : (at : ℕ) → covers x at ≡ false → is_covered more at ≡ is_covered xs at
@@ -47,31 +47,31 @@ split_cons : {X : Type 0} (y : X) (ys : List X) (x : X) → Contains (y ∷ ys) 
 split_cons y ys x h = All-contains (λ z. (z ≡ y) ⊎ Contains ys z) (y ∷ ys) x
     (All-cons (λ z. (z ≡ y) ⊎ Contains ys z) y ys (inl refl) (All-weaker (Contains ys) (λ z. (z ≡ y) ⊎ Contains ys z) (λ z q. inr q) ys (All-contains_itself ys))) h
 
-pub found_number : (xs : List Extent) (k : ℕ) (x : Extent) → piece_of_number xs k ≡ Some x → Contains xs x × (x.number ≡ k)
+pub found_number : (xs : List Extent) (k : ℕ) (x : Extent) → piece_of_number xs k ≡ Some x → Contains xs x × (x.chunk_id ≡ k)
 found_number [] k x e = cc
 found_number (y ∷ ys) k x e =
     ⊎_elim
     (λ is. let same = some_is y x (sym (ap (λ b. cond b (Some y) (piece_of_number ys k)) is) ∙ e) in
-    (subst (λ z. Contains (y ∷ ys) z) same (here y ys), ap (λ (z : Extent). z.number) (sym same) ∙ eqb-true y.number k is))
+    (subst (λ z. Contains (y ∷ ys) z) same (here y ys), ap (λ (z : Extent). z.chunk_id) (sym same) ∙ eqb-true y.chunk_id k is))
     (λ isnt. let rest = found_number ys k x (sym (ap (λ b. cond b (Some y) (piece_of_number ys k)) isnt) ∙ e) in (there y x ys rest.0, rest.1))
-    (cases_Bool (y.number == k))
+    (cases_Bool (y.chunk_id == k))
 
-pub number_found : (xs : List Extent) (x : Extent) → All (λ (y : Extent). y.number ≡ x.number → y ≡ x) xs → Contains xs x → piece_of_number xs x.number ≡ Some x
+pub number_found : (xs : List Extent) (x : Extent) → All (λ (y : Extent). y.chunk_id ≡ x.chunk_id → y ≡ x) xs → Contains xs x → piece_of_number xs x.chunk_id ≡ Some x
 number_found [] x one h = let l = h.1 in absurd (omega arith)
 number_found (y ∷ ys) x one h =
-    let P : Extent → Type 0 = λ z. z.number ≡ x.number → z ≡ x in
+    let P : Extent → Type 0 = λ z. z.chunk_id ≡ x.chunk_id → z ≡ x in
     ⊎_elim
-    (λ is. ap (λ b. cond b (Some y) (piece_of_number ys x.number)) is ∙ ap Some (All-head P y ys one (eqb-true y.number x.number is)))
+    (λ is. ap (λ b. cond b (Some y) (piece_of_number ys x.chunk_id)) is ∙ ap Some (All-head P y ys one (eqb-true y.chunk_id x.chunk_id is)))
     (λ isnt.
-    let tail : Contains ys x = ⊎_elim (λ same. absurd (false_true (sym isnt ∙ eq_true y.number x.number (ap (λ (z : Extent). z.number) (sym same))))) (λ rest. rest) (split_cons y ys x h) in
-    ap (λ b. cond b (Some y) (piece_of_number ys x.number)) isnt ∙ number_found ys x (All-tail P y ys one) tail)
-    (cases_Bool (y.number == x.number))
+    let tail : Contains ys x = ⊎_elim (λ same. absurd (false_true (sym isnt ∙ eq_true y.chunk_id x.chunk_id (ap (λ (z : Extent). z.chunk_id) (sym same))))) (λ rest. rest) (split_cons y ys x h) in
+    ap (λ b. cond b (Some y) (piece_of_number ys x.chunk_id)) isnt ∙ number_found ys x (All-tail P y ys one) tail)
+    (cases_Bool (y.chunk_id == x.chunk_id))
 
-number_missing : (xs : List Extent) (k : ℕ) → All (λ (y : Extent). y.number ≢ k) xs → piece_of_number xs k ≡ None
+number_missing : (xs : List Extent) (k : ℕ) → All (λ (y : Extent). y.chunk_id ≢ k) xs → piece_of_number xs k ≡ None
 number_missing [] k none = refl
 number_missing (y ∷ ys) k none =
-    let P : Extent → Type 0 = λ z. z.number ≢ k in
-    ap (λ b. cond b (Some y) (piece_of_number ys k)) (eq_false y.number k (All-head P y ys none)) ∙ number_missing ys k (All-tail P y ys none)
+    let P : Extent → Type 0 = λ z. z.chunk_id ≢ k in
+    ap (λ b. cond b (Some y) (piece_of_number ys k)) (eq_false y.chunk_id k (All-head P y ys none)) ∙ number_missing ys k (All-tail P y ys none)
 
 -- ---- which bytes lie in a piece
 
@@ -96,12 +96,12 @@ below_or_above x at (inr high) = grind (arith, nat_tests)
 
 -- ---- a piece placed among others
 
-placed_number : (x : Extent) (xs : List Extent) (k : ℕ) → k ≢ x.number → piece_of_number (with_extent x xs) k ≡ piece_of_number xs k
-placed_number x [] k ne = ap (λ b. cond b (Some x) None) (eq_false x.number k (λ e. ne (sym e)))
+placed_number : (x : Extent) (xs : List Extent) (k : ℕ) → k ≢ x.chunk_id → piece_of_number (with_extent x xs) k ≡ piece_of_number xs k
+placed_number x [] k ne = ap (λ b. cond b (Some x) None) (eq_false x.chunk_id k (λ e. ne (sym e)))
 placed_number x (y ∷ ys) k ne =
     elim (ltb y.start x.start) as (λ b. piece_of_number (cond b (y ∷ with_extent x ys) (x ∷ y ∷ ys)) k ≡ piece_of_number (y ∷ ys) k) [
-      | true ↦ ap (λ o. cond (y.number == k) (Some y) o) (placed_number x ys k ne)
-      | false ↦ ap (λ b. cond b (Some x) (piece_of_number (y ∷ ys) k)) (eq_false x.number k (λ e. ne (sym e)))
+      | true ↦ ap (λ o. cond (y.chunk_id == k) (Some y) o) (placed_number x ys k ne)
+      | false ↦ ap (λ b. cond b (Some x) (piece_of_number (y ∷ ys) k)) (eq_false x.chunk_id k (λ e. ne (sym e)))
     ]
 
 placed_covered : (x : Extent) (xs : List Extent) (at : ℕ) → covers x at ≡ false → is_covered (with_extent x xs) at ≡ is_covered xs at
@@ -115,15 +115,15 @@ placed_covered x (y ∷ ys) at out =
 -- ---- a piece that is left out
 
 module _ (p : Extent → Bool) (gone : Extent) where
-  left_number : (xs : List Extent) (k : ℕ) → k ≢ gone.number → All (λ y. (p y ≡ true) ⊎ (y ≡ gone)) xs → piece_of_number xs k ≡ piece_of_number (filter p xs) k
+  left_number : (xs : List Extent) (k : ℕ) → k ≢ gone.chunk_id → All (λ y. (p y ≡ true) ⊎ (y ≡ gone)) xs → piece_of_number xs k ≡ piece_of_number (filter p xs) k
   left_number [] k ne all = refl
   left_number (y ∷ ys) k ne all =
       let P : Extent → Type 0 = λ z. (p z ≡ true) ⊎ (z ≡ gone) in
       let rest = left_number ys k ne (All-tail P y ys all) in
       let dropped : y ≡ gone → piece_of_number (y ∷ ys) k ≡ piece_of_number ys k = λ same. ap (λ b. cond b (Some y) (piece_of_number ys k))
-      (eq_false y.number k (λ e. ne (sym e ∙ ap (λ (z : Extent). z.number) same))) in
+      (eq_false y.chunk_id k (λ e. ne (sym e ∙ ap (λ (z : Extent). z.chunk_id) same))) in
       ⊎_elim
-      (λ stays. ap (λ o. cond (y.number == k) (Some y) o) rest ∙ sym (ap (λ b. piece_of_number (cond b (y ∷ filter p ys) (filter p ys)) k) stays))
+      (λ stays. ap (λ o. cond (y.chunk_id == k) (Some y) o) rest ∙ sym (ap (λ b. piece_of_number (cond b (y ∷ filter p ys) (filter p ys)) k) stays))
       (λ goes.
       let here_gone : (p y ≡ true) ⊎ (y ≡ gone) = All-head P y ys all in
       ⊎_elim
@@ -158,8 +158,8 @@ filtered_passes p (y ∷ ys) =
 
 joins_one : (x : Extent) → Joins x [] (x ∷ [])
 joins_one x = record {
-  there = ap (λ b. cond b (Some x) None) (eq_true x.number x.number refl);
-  others = λ k ne. ap (λ b. cond b (Some x) None) (eq_false x.number k (λ e. ne (sym e)));
+  there = ap (λ b. cond b (Some x) None) (eq_true x.chunk_id x.chunk_id refl);
+  others = λ k ne. ap (λ b. cond b (Some x) None) (eq_false x.chunk_id k (λ e. ne (sym e)));
   fresh = refl;
   free = λ at is. refl;
   covered = λ at is. ap (λ b. b || false) is;
@@ -170,9 +170,9 @@ pub joins_taken : (old : FreeList) (r : Request) (o n : ℕ) (new : FreeList) �
 joins_taken old r o n new before after t =
     let x = piece_of old r o n new t in
     let held = piece_held old r o n new t in record {
-      there = number_found new.extents x (all_of new.extents (λ y. y.number ≡ x.number → y ≡ x) (λ y h e. after.one_number y x h held e)) held;
+      there = number_found new.extents x (all_of new.extents (λ y. y.chunk_id ≡ x.chunk_id → y ≡ x) (λ y h e. after.one_number y x h held e)) held;
       others = λ k ne. ap (λ (xs : List Extent). piece_of_number xs k) t.extent ∙ placed_number x old.extents k ne;
-      fresh = number_missing old.extents n (all_of old.extents (λ y. y.number ≢ n) (λ y h e. takes_new_chunk_id old r o n new before after t (y, h, e)));
+      fresh = number_missing old.extents n (all_of old.extents (λ y. y.chunk_id ≢ n) (λ y h e. takes_new_chunk_id old r o n new before after t (y, h, e)));
       free = λ at is. none_of (λ y. covers y at) old.extents (λ y h.
           let w = within_of old y before h in
           let c = covers_range x at is in
@@ -204,10 +204,10 @@ joins_released old n new sound t =
           (sym (ap not (eq_true y.start x.start (ap (λ (z : Extent). z.start) same))) ∙ All-contains (λ z. p z ≡ true) (filter p old.extents) y (filtered_passes p old.extents) h),
     ) in
     record {
-      there = number_found old.extents x (all_of old.extents (λ y. y.number ≡ x.number → y ≡ x) (λ y h e. sound.one_number y x h t.held e)) t.held;
+      there = number_found old.extents x (all_of old.extents (λ y. y.chunk_id ≡ x.chunk_id → y ≡ x) (λ y h e. sound.one_number y x h t.held e)) t.held;
       others = λ k ne. left_number p x old.extents k ne stays_or_is ∙ ap (λ (xs : List Extent). piece_of_number xs k) (sym t.extents);
-      fresh = ap (λ (xs : List Extent). piece_of_number xs x.number) t.extents ∙ number_missing (filter p old.extents) x.number
-          (all_of (filter p old.extents) (λ y. y.number ≢ x.number) (λ y h e. (left y h).1 (sound.one_number y x (left y h).0 t.held e)));
+      fresh = ap (λ (xs : List Extent). piece_of_number xs x.chunk_id) t.extents ∙ number_missing (filter p old.extents) x.chunk_id
+          (all_of (filter p old.extents) (λ y. y.chunk_id ≢ x.chunk_id) (λ y h e. (left y h).1 (sound.one_number y x (left y h).0 t.held e)));
       free = λ at is. ap (λ (xs : List Extent). is_covered xs at) t.extents ∙ none_of (λ y. covers y at) (filter p old.extents) (λ y h.
           let there = left y h in
           let wy = within_of old y sound there.0 in
@@ -225,7 +225,7 @@ joins_released old n new sound t =
 pub record OneMore (xs more : List Extent) (number offset size : ℕ) : Type 0 where
   pub x : Extent
   pub joins : Joins x xs more
-  pub numbered : x.number ≡ number
+  pub numbered : x.chunk_id ≡ number
   pub begins : x.offset ≡ offset
   pub ends : x.end ≡ offset + size
 
@@ -243,11 +243,11 @@ one_more_taken (dedicated old) r o n (dedicated new) before after t = record {
   ends = (let e = t.2 in omega (arith, e));
 }
 
-released_whole : (o : Option Extent) (n size : ℕ) → IsSome o → n ≡ 1 → IfSome o (λ x. (x.start ≡ 0) × (x.offset ≡ 0) × (x.end ≡ size) × (x.number ≡ 1)) → (x : Extent) × (o ≡ Some x) × (x.number ≡ n)
+released_whole : (o : Option Extent) (n size : ℕ) → IsSome o → n ≡ 1 → IfSome o (λ x. (x.start ≡ 0) × (x.offset ≡ 0) × (x.end ≡ size) × (x.chunk_id ≡ 1)) → (x : Extent) × (o ≡ Some x) × (x.chunk_id ≡ n)
 released_whole None n size some one whole = absurd (false_true some)
 released_whole (Some x) n size some one whole = (x, refl, whole.3 ∙ sym one)
 
-pub one_more_released : (old : Block) (n : ℕ) (new : Block) → IsSoundBlock old → ReleasesIn old n new → (x : Extent) × Joins x (extents_of new) (extents_of old) × (x.number ≡ n)
+pub one_more_released : (old : Block) (n : ℕ) (new : Block) → IsSoundBlock old → ReleasesIn old n new → (x : Extent) × Joins x (extents_of new) (extents_of old) × (x.chunk_id ≡ n)
 one_more_released (free_list old) n (free_list new) sound t = (t.gone, joins_released old n new sound t, t.numbered)
 one_more_released (free_list old) n (dedicated new) sound t = absurd t
 one_more_released (dedicated old) n (free_list new) sound t = absurd t

@@ -63,16 +63,16 @@ well_formed p types same sound t =
 -- ---- blocks as the device's entries
 
 module _ (p : Properties) (first held : Held) (slots : Slots) (h : HoldsFirst p first held) (k : HoldsJustBlocks (λ memory. memory.0) (blocks_of first held) slots) where
-  entry_at : (t i : ℕ) (s : Slot DeviceMemory) → block_at slots t i ≡ Some s → (get first s.number.0 ≡ None) × HasEntry (IsBlockEntry p) t s.block (get held s.number.0)
-  entry_at t i s at = by (get first s.number.0) refl (get held s.number.0) refl (k.blocks t i s at)
+  entry_at : (t i : ℕ) (s : Slot DeviceMemory) → block_at slots t i ≡ Some s → (get first s.handle.0 ≡ None) × HasEntry (IsBlockEntry p) t s.block (get held s.handle.0)
+  entry_at t i s at = by (get first s.handle.0) refl (get held s.handle.0) refl (k.blocks t i s at)
     where
-      by : (x : Option Entry) → get first s.number.0 ≡ x → (y : Option Entry) → get held s.number.0 ≡ y → new_block x y ≡ Some (held_as t s)
-          → (get first s.number.0 ≡ None) × HasEntry (IsBlockEntry p) t s.block (get held s.number.0)
+      by : (x : Option Entry) → get first s.handle.0 ≡ x → (y : Option Entry) → get held s.handle.0 ≡ y → new_block x y ≡ Some (held_as t s)
+          → (get first s.handle.0 ≡ None) × HasEntry (IsBlockEntry p) t s.block (get held s.handle.0)
       by None is None at e = absurd (none_some (held_as t s) e)
       by None is (Some x) at e =
           let same : record { memory_type = x.memory_type_index; size = x.size } ≡ held_as t s = some_same _ (held_as t s) e in
           let type = ap (λ (b : HeldBlock). b.memory_type) same in
-          (is, subst (HasEntry (IsBlockEntry p) t s.block) (sym at) (ap (λ (b : HeldBlock). b.size) same, type, h.came s.number.0 x is at ∙ ap (is_mapped p) type))
+          (is, subst (HasEntry (IsBlockEntry p) t s.block) (sym at) (ap (λ (b : HeldBlock). b.size) same, type, h.came s.handle.0 x is at ∙ ap (is_mapped p) type))
       by (Some x) is y at e = absurd (none_some (held_as t s) e)
 
   -- what a source and a pool say is what the allocator says of its device
@@ -86,8 +86,8 @@ module _ (p : Properties) (first held : Held) (slots : Slots) (h : HoldsFirst p 
 
 -- the memory of a live block is a block of the source
 pub is_block : (p : Properties) (first held : Held) (slots : Slots) → HoldsJustLiveBlocks p first held slots → (t i : ℕ) (s : Slot DeviceMemory) → block_at slots t i ≡ Some s
-    → IsSome (blocks_of first held s.number.0)
-is_block p first held slots h t i s at = subst (λ x. IsSome (new_block x (get held s.number.0))) (sym (h.new t i s at)) (by (get held s.number.0) (h.blocks t i s at))
+    → IsSome (blocks_of first held s.handle.0)
+is_block p first held slots h t i s at = subst (λ x. IsSome (new_block x (get held s.handle.0))) (sym (h.new t i s at)) (by (get held s.handle.0) (h.blocks t i s at))
   where
     by : (y : Option Entry) → HasEntry (IsBlockEntry p) t s.block y → IsSome (new_block None y)
     by None has = absurd has

@@ -41,7 +41,7 @@ use Rattle.gpu_memory_types.proofs.Apart.{extents_apart}
 use Rattle.gpu_vulkan.proofs.Writing.{Stands, stands, allocation_range, own_written}
 
 -- a piece ends behind its offset
-whole_offset : (o : Option Extent) (size : ℕ) (y : Extent) → IfSome o (λ z. (z.start ≡ 0) × (z.offset ≡ 0) × (z.end ≡ size) × (z.number ≡ 1)) → Contains (option_to_list o) y → y.offset ≡ 0
+whole_offset : (o : Option Extent) (size : ℕ) (y : Extent) → IfSome o (λ z. (z.start ≡ 0) × (z.offset ≡ 0) × (z.end ≡ size) × (z.chunk_id ≡ 1)) → Contains (option_to_list o) y → y.offset ≡ 0
 whole_offset None size y whole k = let l = k.1 in absurd (omega (arith, l))
 whole_offset (Some z) size y whole k = ap (λ (e : Extent). e.offset) (only_one (Some z) y z k (0, omega arith, refl)) ∙ whole.1
 
@@ -60,15 +60,15 @@ module _ (setup : Setup) (first held : Held) (ss : Slots) (sound : BlocksWellFor
       let f = x.found in
       let here : block_at ss a.memory_type_index a.memory_block_index ≡ Some f.s = ap (block_at ss a.memory_type_index) (sym x.slot) ∙ f.at in
       let b = sound_at f.s a.memory_type_index a.memory_block_index here in
-      let one : piece_of_number (extents_of f.s.block) f.x.number ≡ Some f.x =
-      number_found (extents_of f.s.block) f.x (all_of (extents_of f.s.block) (λ (y : Extent). y.number ≡ f.x.number → y ≡ f.x) (λ y k e. one_in f.s.block y f.x b k f.held e)) f.held in
-      let number : number_in a.chunk_id ≡ f.x.number = sym x.number ∙ sym f.numbered in
+      let one : piece_of_number (extents_of f.s.block) f.x.chunk_id ≡ Some f.x =
+      number_found (extents_of f.s.block) f.x (all_of (extents_of f.s.block) (λ (y : Extent). y.chunk_id ≡ f.x.chunk_id → y ≡ f.x) (λ y k e. one_in f.s.block y f.x b k f.held e)) f.held in
+      let number : number_in a.chunk_id ≡ f.x.chunk_id = sym x.chunk_id ∙ sym f.numbered in
       let begins : f.x.offset ≡ a.offset = f.begins ∙ x.offset in
       let long : f.x.end - f.x.offset ≡ a.size = omega (arith, f.begins, f.ends, x.size) in
-      let memory : f.s.number.0 ≡ a.device_memory.0 = f.number ∙ ap (λ (m : DeviceMemory). m.0) x.block in
+      let memory : f.s.handle.0 ≡ a.device_memory.0 = f.handle ∙ ap (λ (m : DeviceMemory). m.0) x.block in
       ap (λ o. list_in now o (number_in a.chunk_id)) here
-      ∙ ap (λ k. piece_bytes (bytes_of now f.s.number.0) (piece_of_number (extents_of f.s.block) k)) number
-      ∙ ap (piece_bytes (bytes_of now f.s.number.0)) one
+      ∙ ap (λ k. piece_bytes (bytes_of now f.s.handle.0) (piece_of_number (extents_of f.s.block) k)) number
+      ∙ ap (piece_bytes (bytes_of now f.s.handle.0)) one
       ∙ (λ i. range_in (begins i) (long i) (bytes_of now (memory i)))
 
   pub list_of_live : IsLive ss a → (byte_view_of held ss).allocation_bytes (id_of a) ≡ bytes_at held a
@@ -83,24 +83,24 @@ module _ (setup : Setup) (first held : Held) (ss : Slots) (sound : BlocksWellFor
     abbrev x : Stands ss a
     x = stands ss a live.0
 
-    memory_is : x.found.s.number.0 ≡ a.device_memory.0
-    memory_is = x.found.number ∙ ap (λ (m : DeviceMemory). m.0) x.block
+    memory_is : x.found.s.handle.0 ≡ a.device_memory.0
+    memory_is = x.found.handle ∙ ap (λ (m : DeviceMemory). m.0) x.block
 
     has : HasRange (bytes_of held a.device_memory.0) a.offset (length ws)
     has = subst (λ k. HasRange (bytes_of held a.device_memory.0) a.offset k) (sym long) (allocation_range setup.properties first held ss sound h whole a live)
 
     -- a block whose number is the allocation's memory is the allocation's block
-    own_block : (t i : ℕ) (s : Slot DeviceMemory) → block_at ss t i ≡ Some s → s.number.0 ≡ a.device_memory.0 → (t ≡ a.memory_type_index) × (i ≡ a.memory_block_index) × (s ≡ x.found.s)
+    own_block : (t i : ℕ) (s : Slot DeviceMemory) → block_at ss t i ≡ Some s → s.handle.0 ≡ a.device_memory.0 → (t ≡ a.memory_type_index) × (i ≡ a.memory_block_index) × (s ≡ x.found.s)
     own_block t i s at is =
         let both = h.one_block t i a.memory_type_index x.piece.slot s x.found.s at x.found.at (is ∙ sym memory_is) in
         (both.0, both.1 ∙ x.slot, some_same s x.found.s (sym at ∙ (ap (λ u. block_at ss u i) both.0 ∙ ap (block_at ss a.memory_type_index) both.1) ∙ x.found.at))
 
     other_list : (t i k : ℕ) (s : Slot DeviceMemory) → block_at ss t i ≡ Some s → is_same_id (id_of a) (place t i k) ≡ false → (o : Option Extent) → piece_of_number (extents_of s.block) k ≡ o
-        → piece_bytes (bytes_of now s.number.0) o ≡ piece_bytes (bytes_of held s.number.0) o
+        → piece_bytes (bytes_of now s.handle.0) o ≡ piece_bytes (bytes_of held s.handle.0) o
     other_list t i k s at isnt None found = refl
     other_list t i k s at isnt (Some y) found =
         let held_y = found_number (extents_of s.block) k y found in
-        range_elsewhere held a.device_memory.0 a.offset ws s.number.0 y.offset (y.end - y.offset) has
+        range_elsewhere held a.device_memory.0 a.offset ws s.handle.0 y.offset (y.end - y.offset) has
         (⊎_elim
         (λ is.
         let own = own_block t i s at is in
@@ -108,7 +108,7 @@ module _ (setup : Setup) (first held : Held) (ss : Slots) (sound : BlocksWellFor
         let b = sound_at x.found.s t i (at ∙ ap Some own.2) in
         let forward = offset_below x.found.s.block y b y_in in
         let differ : y ≡ x.found.x → ⊥ = λ same.
-        let number : k ≡ number_in a.chunk_id = sym held_y.1 ∙ ap (λ (z : Extent). z.number) same ∙ x.found.numbered ∙ x.number in
+        let number : k ≡ number_in a.chunk_id = sym held_y.1 ∙ ap (λ (z : Extent). z.chunk_id) same ∙ x.found.numbered ∙ x.chunk_id in
         other_number a.memory_type_index a.memory_block_index (number_in a.chunk_id) k
         (ap (is_same_id (id_of a)) (λ l. place (sym own.0 l) (sym own.1 l) k) ∙ isnt) number in
         inr (⊎_elim
@@ -119,7 +119,7 @@ module _ (setup : Setup) (first held : Held) (ss : Slots) (sound : BlocksWellFor
         apart)
         (extents_apart x.found.s.block y x.found.x b y_in x.found.held)))
         (λ ne. inl ne)
-        (cases_eq s.number.0 a.device_memory.0))
+        (cases_eq s.handle.0 a.device_memory.0))
 
     other_lists : (t i k : ℕ) (o : Option (Slot DeviceMemory)) → block_at ss t i ≡ o → is_same_id (id_of a) (place t i k) ≡ false → list_in now o k ≡ list_in held o k
     other_lists t i k None at isnt = refl
@@ -155,8 +155,8 @@ module _ (setup : Setup) (first held : Held) (ss : Slots) (sound : BlocksWellFor
         within_covers : (z : Extent) (k : ℕ) → z.offset ≤ k → k < z.end → covers z k ≡ true
         within_covers z k low high = grind (arith, nat_tests)
 
-    same_byte : (t i at : ℕ) (s : Slot DeviceMemory) → block_at ss t i ≡ Some s → is_covered (extents_of s.block) at ≡ false → byte_at (bytes_of now s.number.0) at ≡ byte_at
-        (bytes_of held s.number.0) at
+    same_byte : (t i at : ℕ) (s : Slot DeviceMemory) → block_at ss t i ≡ Some s → is_covered (extents_of s.block) at ≡ false → byte_at (bytes_of now s.handle.0) at ≡ byte_at
+        (bytes_of held s.handle.0) at
     same_byte t i at s here out =
         ⊎_elim
         (λ is.
@@ -166,23 +166,23 @@ module _ (setup : Setup) (first held : Held) (ss : Slots) (sound : BlocksWellFor
         ∙ ap (λ o. byte_at o at) (bytes_there held a.device_memory.0 a.offset ws)
         ∙ byte_in (bytes_of held a.device_memory.0) at has (out_of_piece at out_here)
         ∙ ap (λ k. byte_at (bytes_of held k) at) (sym is))
-        (λ ne. ap (λ o. byte_at o at) (bytes_elsewhere held a.device_memory.0 a.offset ws s.number.0 ne))
-        (cases_eq s.number.0 a.device_memory.0)
+        (λ ne. ap (λ o. byte_at o at) (bytes_elsewhere held a.device_memory.0 a.offset ws s.handle.0 ne))
+        (cases_eq s.handle.0 a.device_memory.0)
 
     same_rest : (t i at : ℕ) (o : Option (Slot DeviceMemory)) → block_at ss t i ≡ o → rest_in now o at ≡ rest_in held o at
     same_rest t i at None here = refl
     same_rest t i at (Some s) here =
         ⊎_elim
-        (λ is. ap (λ b. if b then None else byte_at (bytes_of now s.number.0) at) is ∙ sym (ap (λ b. if b then None else byte_at (bytes_of held s.number.0) at) is))
+        (λ is. ap (λ b. if b then None else byte_at (bytes_of now s.handle.0) at) is ∙ sym (ap (λ b. if b then None else byte_at (bytes_of held s.handle.0) at) is))
         (λ isnt.
-        ap (λ b. if b then None else byte_at (bytes_of now s.number.0) at) isnt ∙ same_byte t i at s here isnt ∙ sym (ap (λ b. if b then None else byte_at (bytes_of held s.number.0) at) isnt))
+        ap (λ b. if b then None else byte_at (bytes_of now s.handle.0) at) isnt ∙ same_byte t i at s here isnt ∙ sym (ap (λ b. if b then None else byte_at (bytes_of held s.handle.0) at) isnt))
         (cases_Bool (is_covered (extents_of s.block) at))
 
     pub writes_list : (xs : List ℕ) → bytes_at held a ≡ Some xs → Writes (id_of a) ws (byte_view_of held ss) (byte_view_of now ss)
     writes_list xs was = record {
       was = (xs, list_for held x ∙ was, long ∙ sym (length_of_range (bytes_of held a.device_memory.0) a.offset a.size xs was));
       list = list_for now x ∙ own_written setup.properties first held ss sound h whole a ws live long;
-      others = λ q isnt. other_lists q.memory_type q.slot q.number (block_at ss q.memory_type q.slot) refl isnt;
+      others = λ q isnt. other_lists q.memory_type q.slot q.chunk_id (block_at ss q.memory_type q.slot) refl isnt;
       unallocated_bytes = λ t i at. same_rest t i at (block_at ss t i) refl;
     }
 

@@ -22,11 +22,11 @@ use Rattle.gpu_vulkan.specs.declared.allocation.Allocation.{Allocation}
 
 -- the piece under a number
 abbrev pub piece_under : Allocation → NonZeroU64 → Piece DeviceMemory
-piece_under a n = record { slot = a.memory_block_index; number = n; offset = a.offset; size = a.size; block = a.device_memory }
+piece_under a n = record { slot = a.memory_block_index; chunk_id = n; offset = a.offset; size = a.size; handle = a.device_memory }
 
 -- a live allocation isn't null, and its piece is live
 pub record LivesAs (ss : Slots) (a : Allocation) : Type 0 where
-  pub number : NonZeroU64
+  pub chunk_id : NonZeroU64
   pub is : a.chunk_id ≡ Some number
   pub live : pool.IsLive is_same_memory ss a.memory_type_index (piece_under a number)
 
@@ -42,7 +42,7 @@ is_live ss a n is live = subst (λ o. IsLiveIn ss a.memory_type_index (option_ma
 
 -- allocations stay live as their pieces do
 pub stays : (old new : Slots) → pool.StayLive is_same_memory old new → StayLive old new
-stays old new keeps a live = let l = lives_as old a live in is_live new a l.number l.is (keeps a.memory_type_index (piece_under a l.number) l.live)
+stays old new keeps a live = let l = lives_as old a live in is_live new a l.chunk_id l.is (keeps a.memory_type_index (piece_under a l.chunk_id) l.live)
 
 distinct_pieces : (a b : Allocation) (n m : NonZeroU64) → a.chunk_id ≡ Some n → b.chunk_id ≡ Some m → AreDistinct a b
     → pieces.AreDistinct a.memory_type_index (piece_under a n) b.memory_type_index (piece_under b m)
@@ -51,7 +51,7 @@ distinct_pieces a b n m is also other types slots numbers = other types slots (a
 -- what an allocation that stands for a piece has of it
 record Has (a : Allocation) (p : Piece DeviceMemory) : Type 0 where
   pub slot : a.memory_block_index ≡ p.slot
-  pub number : number_in a.chunk_id ≡ non_zero_u64_get p.number
+  pub chunk_id : number_in a.chunk_id ≡ non_zero_u64_get p.chunk_id
   pub offset : a.offset ≡ p.offset
 
 has_by : (a : Allocation) (chunk : Option NonZeroU64) → a.chunk_id ≡ chunk → (p : Piece DeviceMemory) → option_map (piece_under a) chunk ≡ Some p → Has a p
@@ -60,7 +60,7 @@ has_by a (Some n) is p e =
     let same : piece_under a n ≡ p = some_same (piece_under a n) p e in
     record {
       slot = ap (λ (z : Piece DeviceMemory). z.slot) same;
-      number = ap number_in is ∙ ap (λ (z : Piece DeviceMemory). non_zero_u64_get z.number) same;
+      chunk_id = ap number_in is ∙ ap (λ (z : Piece DeviceMemory). non_zero_u64_get z.chunk_id) same;
       offset = ap (λ (z : Piece DeviceMemory). z.offset) same;
     }
 
@@ -79,7 +79,7 @@ given_live old new setup t d p a is h =
       subst (λ (o : Option (Piece DeviceMemory)). IsLiveIn new a.memory_type_index o) (sym is.piece) (subst (λ u. pool.IsLive is_same_memory new u p) (sym is.memory_type) h.0),
       λ b was types slots numbers.
           let l = lives_as old b was in
-          h.1 b.memory_type_index (piece_under b l.number) l.live (types ∙ is.memory_type) (slots ∙ k.slot) (sym (ap number_in l.is) ∙ numbers ∙ k.number),
+          h.1 b.memory_type_index (piece_under b l.chunk_id) l.live (types ∙ is.memory_type) (slots ∙ k.slot) (sym (ap number_in l.is) ∙ numbers ∙ k.chunk_id),
     )
 
 -- a free of its piece leaves every other live allocation live
@@ -89,21 +89,21 @@ pub others_stay : (old new : Slots) (a : Allocation) (p : Piece DeviceMemory) �
 others_stay old new a p is keeps b live other =
     let l = lives_as old b live in
     let h = has a p is in
-    is_live new b l.number l.is
-    (keeps b.memory_type_index (piece_under b l.number) l.live (λ types slots numbers. other types (slots ∙ sym h.slot) (ap number_in l.is ∙ numbers ∙ sym h.number)))
+    is_live new b l.chunk_id l.is
+    (keeps b.memory_type_index (piece_under b l.chunk_id) l.live (λ types slots numbers. other types (slots ∙ sym h.slot) (ap number_in l.is ∙ numbers ∙ sym h.number)))
 
 -- ---- all live allocations
 
 module _ (ss : Slots) where
   pub all_inside : ((t : ℕ) (p : Piece DeviceMemory) → pool.IsLive is_same_memory ss t p → pieces.IsInside ss t p) → (a : Allocation) → IsLive ss a → IsInside ss a
-  all_inside inside a live = let l = lives_as ss a live in inside a.memory_type_index (piece_under a l.number) l.live
+  all_inside inside a live = let l = lives_as ss a live in inside a.memory_type_index (piece_under a l.chunk_id) l.live
 
   pub all_apart : ((t : ℕ) (p : Piece DeviceMemory) (u : ℕ) (q : Piece DeviceMemory) → pool.IsLive is_same_memory ss t p → pool.IsLive is_same_memory ss u q → pieces.AreDistinct t p u q
-      → (p.block.0 ≢ q.block.0) ⊎ AreBytesApart p q) → (a b : Allocation) → IsLive ss a → IsLive ss b → AreDistinct a b → SharesNoByte a b
+      → (p.handle.0 ≢ q.handle.0) ⊎ AreBytesApart p q) → (a b : Allocation) → IsLive ss a → IsLive ss b → AreDistinct a b → SharesNoByte a b
   all_apart apart a b live_a live_b other =
       let l = lives_as ss a live_a in
       let k = lives_as ss b live_b in
-      apart a.memory_type_index (piece_under a l.number) b.memory_type_index (piece_under b k.number) l.live k.live (distinct_pieces a b l.number k.number l.is k.is other)
+      apart a.memory_type_index (piece_under a l.chunk_id) b.memory_type_index (piece_under b k.chunk_id) l.live k.live (distinct_pieces a b l.chunk_id k.chunk_id l.is k.is other)
 
   has_kind : (a : Allocation) (n : NonZeroU64) → a.chunk_id ≡ Some n → (k : AllocationType) → HasKind ss a k → pieces.HasKind ss a.memory_type_index (piece_under a n) k
   has_kind a n is k h = (h.0, h.1, h.2 ∙ ap number_in is, h.3)
@@ -114,11 +114,11 @@ module _ (ss : Slots) where
   all_pages granularity a b pages live_a live_b types slots j k has_j has_k =
       let l = lives_as ss a live_a in
       let m = lives_as ss b live_b in
-      let p = piece_under a l.number in
-      let q = piece_under b m.number in
-      pages p q l.live (subst (λ t. pool.IsLive is_same_memory ss t q) (sym types) m.live) slots j k (has_kind a l.number l.is j has_j)
-      (subst (λ t. pieces.HasKind ss t q k) (sym types) (has_kind b m.number m.is k has_k))
+      let p = piece_under a l.chunk_id in
+      let q = piece_under b m.chunk_id in
+      pages p q l.live (subst (λ t. pool.IsLive is_same_memory ss t q) (sym types) m.live) slots j k (has_kind a l.chunk_id l.is j has_j)
+      (subst (λ t. pieces.HasKind ss t q k) (sym types) (has_kind b m.chunk_id m.is k has_k))
 
 -- the memory type of a live allocation is there
 pub type_there : (ss : Slots) (a : Allocation) → IsLive ss a → a.memory_type_index < length ss
-type_there ss a live = let l = lives_as ss a live in type_below is_same_memory ss a.memory_type_index (piece_under a l.number) l.live
+type_there ss a live = let l = lives_as ss a live in type_below is_same_memory ss a.memory_type_index (piece_under a l.chunk_id) l.live

@@ -43,7 +43,7 @@ use Rattle.gpu_pool.proofs.Freeing.{type_below}
 
 -- ---- a name is no part of a piece's bytes
 
-name_kept : (b : Bool) (x : Extent) (name : List ℕ) → (let y : Extent = if b then record x { name = name } else x in (y.offset ≡ x.offset) × (y.end ≡ x.end) × (y.number ≡ x.number))
+name_kept : (b : Bool) (x : Extent) (name : List ℕ) → (let y : Extent = if b then record x { name = name } else x in (y.offset ≡ x.offset) × (y.end ≡ x.end) × (y.chunk_id ≡ x.chunk_id))
 name_kept true x name = (refl, refl, refl)
 name_kept false x name = (refl, refl, refl)
 
@@ -67,8 +67,8 @@ module _ (n : ℕ) (name : List ℕ) where
   abbrev f : Extent → Extent
   f x = with_name n name x
 
-  kept : (x : Extent) → ((f x).offset ≡ x.offset) × ((f x).end ≡ x.end) × ((f x).number ≡ x.number)
-  kept x = name_kept (x.number == n) x name
+  kept : (x : Extent) → ((f x).offset ≡ x.offset) × ((f x).end ≡ x.end) × ((f x).chunk_id ≡ x.chunk_id)
+  kept x = name_kept (x.chunk_id == n) x name
 
   found_by : (x : Extent) (k : ℕ) (b : Bool) (rest more : Option Extent) → IsAlike more rest → IsAlike (if b then Some (f x) else more) (if b then Some x else rest)
   found_by x k true rest more h = ((kept x).0, (kept x).1)
@@ -78,7 +78,7 @@ module _ (n : ℕ) (name : List ℕ) where
   named_number [] k = tt
   named_number (x ∷ xs) k =
       subst (λ m. IsAlike (if m == k then Some (f x) else piece_of_number (map f xs) k) (piece_of_number (x ∷ xs) k)) (sym (kept x).2)
-      (found_by x k (x.number == k) (piece_of_number xs k) (piece_of_number (map f xs) k) (named_number xs k))
+      (found_by x k (x.chunk_id == k) (piece_of_number xs k) (piece_of_number (map f xs) k) (named_number xs k))
 
   named_covered : (xs : List Extent) (at : ℕ) → is_covered (map f xs) at ≡ is_covered xs at
   named_covered [] at = refl
@@ -90,7 +90,7 @@ module _ (n : ℕ) (name : List ℕ) where
 
 one_number : (o : Option Extent) (name : List ℕ) (k : ℕ) → IsAlike (piece_of_number (option_to_list (option_map (renamed name) o)) k) (piece_of_number (option_to_list o) k)
 one_number None name k = tt
-one_number (Some x) name k = alike_if (x.number == k)
+one_number (Some x) name k = alike_if (x.chunk_id == k)
   where
     alike_if : (b : Bool) → IsAlike (if b then Some (renamed name x) else None) (if b then Some x else None)
     alike_if true = (refl, refl)
@@ -119,14 +119,14 @@ slot_list held n name None b r k = absurd r
 slot_list held n name (Some a) None r k = absurd r
 slot_list held n name (Some a) (Some b) r k =
     ap (λ (m : DeviceMemory). piece_bytes (bytes_of held m.0) (piece_of_number (extents_of b.block) k)) r.0
-    ∙ alike_bytes (bytes_of held a.number.0) (piece_of_number (extents_of b.block) k) (piece_of_number (extents_of a.block) k) (block_number_alike a.block n name b.block r.1 k)
+    ∙ alike_bytes (bytes_of held a.handle.0) (piece_of_number (extents_of b.block) k) (piece_of_number (extents_of a.block) k) (block_number_alike a.block n name b.block r.1 k)
 
 slot_rest : (held : Held) (n : ℕ) (name : List ℕ) (a b : Option (Slot DeviceMemory)) → SlotRenames n name a b → (at : ℕ) → rest_in held b at ≡ rest_in held a at
 slot_rest held n name None b r at = absurd r
 slot_rest held n name (Some a) None r at = absurd r
 slot_rest held n name (Some a) (Some b) r at =
     ap (λ (m : DeviceMemory). if is_covered (extents_of b.block) at then None else byte_at (bytes_of held m.0) at) r.0
-    ∙ ap (λ c. if c then None else byte_at (bytes_of held a.number.0) at) (block_covered_alike a.block n name b.block r.1 at)
+    ∙ ap (λ c. if c then None else byte_at (bytes_of held a.handle.0) at) (block_covered_alike a.block n name b.block r.1 at)
 
 slot_there : (n : ℕ) (name : List ℕ) (slots : List (Option (Slot DeviceMemory))) (i : ℕ) (a b : Option (Slot DeviceMemory)) → slot_at slots i ≡ a → SlotRenames n name a b → i < length slots
 slot_there n name slots i None b at r = absurd r
@@ -135,7 +135,7 @@ slot_there n name slots i (Some a) b at r = some_below slots i a at
 -- a new name leaves every byte where it was
 pub renamed_byte_view : (held : Held) (t : ℕ) (p : Piece DeviceMemory) (name : List ℕ) (old new : Slots) → IsRenamed is_same_memory t p name old new → byte_view_of held new ≡ byte_view_of held old
 renamed_byte_view held t p name old new r =
-    let n = non_zero_u64_get p.number in
+    let n = non_zero_u64_get p.chunk_id in
     let slots = slots_at old t in
     let b = r.renames.slot in
     let inside = slot_there n name slots p.slot (slot_at slots p.slot) b refl r.renames.renames in
@@ -148,9 +148,9 @@ renamed_byte_view held t p name old new r =
     (λ here.
     let type = here.0 in
     let slot = here.1 in
-    (λ i. list_in held (block_at new (type i) (slot i)) q.number) ∙ ap (λ s. list_in held s q.number) only.at
-    ∙ slot_list held n name (block_at old t p.slot) b r.renames.renames q.number ∙ sym (λ i. list_in held (block_at old (type i) (slot i)) q.number))
-    (λ away. ap (λ s. list_in held s q.number) (only.others q.memory_type q.slot away))
+    (λ i. list_in held (block_at new (type i) (slot i)) q.chunk_id) ∙ ap (λ s. list_in held s q.chunk_id) only.at
+    ∙ slot_list held n name (block_at old t p.slot) b r.renames.renames q.chunk_id ∙ sym (λ i. list_in held (block_at old (type i) (slot i)) q.chunk_id))
+    (λ away. ap (λ s. list_in held s q.chunk_id) (only.others q.memory_type q.slot away))
     (same_place q.memory_type t q.slot p.slot))
     (λ u j at.
     ⊎_elim

@@ -137,11 +137,11 @@ both_true false b e = cc
 
 place_same : (p q : AllocationId) → is_same_id p q ≡ true → p ≡ q
 place_same p q e =
-    let a = both_true (p.memory_type == q.memory_type) ((p.slot == q.slot) && (p.number == q.number)) e in
-    let b = both_true (p.slot == q.slot) (p.number == q.number) a.1 in
+    let a = both_true (p.memory_type == q.memory_type) ((p.slot == q.slot) && (p.chunk_id == q.chunk_id)) e in
+    let b = both_true (p.slot == q.slot) (p.chunk_id == q.chunk_id) a.1 in
     let types = eqb-true p.memory_type q.memory_type a.0 in
     let slots = eqb-true p.slot q.slot b.0 in
-    let numbers = eqb-true p.number q.number b.1 in
+    let numbers = eqb-true p.chunk_id q.chunk_id b.1 in
     λ i. record { memory_type = types i; slot = slots i; number = numbers i }
 
 lists_alike : (p : AllocationId) (old new next : ByteView) → new.allocation_bytes p ≡ next.allocation_bytes p →

@@ -53,17 +53,17 @@ room_by false mapped is bytes o size range none = subst (λ c. HasRoom c bytes o
 -- a live piece has room in its block's bytes
 pub live_room : (setup : Setup) (first held : Held) (ss : Slots) → BlocksWellFormed setup.properties.granularity ss → HoldsJustLiveBlocks setup.properties first held ss →
     ((n : ℕ) → IsWhole (get held n))
-    → (t : ℕ) (p : Piece DeviceMemory) → IsLiveIn ss t (Some p) → HasRoom (is_mapped setup.properties t) (bytes_of held p.block.0) p.offset p.size
+    → (t : ℕ) (p : Piece DeviceMemory) → IsLiveIn ss t (Some p) → HasRoom (is_mapped setup.properties t) (bytes_of held p.handle.0) p.offset p.size
 live_room setup first held ss sound h whole t p live =
-    room_by (is_mapped setup.properties t) (is_mapped setup.properties t) refl (bytes_of held p.block.0) p.offset p.size
+    room_by (is_mapped setup.properties t) (is_mapped setup.properties t) refl (bytes_of held p.handle.0) p.offset p.size
     (λ mapped. live_range setup.properties first held ss sound h t p whole mapped live)
     (λ unmapped. live_unmapped setup.properties first held ss sound h t p unmapped live)
 
 -- a piece of a block that stands in its slot is live
-pub live_at : (ss : Slots) (t : ℕ) (p : Piece DeviceMemory) (b : Slot DeviceMemory) → block_at ss t p.slot ≡ Some b → b.number ≡ p.block → HoldsPiece b.block (non_zero_u64_get p.number) p.offset
+pub live_at : (ss : Slots) (t : ℕ) (p : Piece DeviceMemory) (b : Slot DeviceMemory) → block_at ss t p.slot ≡ Some b → b.number ≡ p.handle → HoldsPiece b.block (non_zero_u64_get p.chunk_id) p.offset
     p.size → IsLiveIn ss t (Some p)
 live_at ss t p b at number holds =
-    subst (SlotHolds is_same_memory p) (sym at) (eq_true b.number.0 p.block.0 (ap (λ (m : DeviceMemory). m.0) number), holds)
+    subst (SlotHolds is_same_memory p) (sym at) (eq_true b.handle.0 p.handle.0 (ap (λ (m : DeviceMemory). m.0) number), holds)
 
 sound_at : (setup : Setup) (ss : Slots) (t i : ℕ) (b : Slot DeviceMemory) → BlocksWellFormed setup.properties.granularity ss → block_at ss t i ≡ Some b → IsSoundBlock b.block
 sound_at setup ss t i b sound at = (subst (SlotIsSound setup.properties.granularity) at (sound t i)).1
@@ -87,19 +87,19 @@ module _ {D : Type 0} (g : Ghosts D) (setup : Setup) (budgets : Budgets) (d : Al
   served_bytes p taken r held s after holds whole =
       let new = slice_set old t taken in
       let b : Slot DeviceMemory = record s.slot { block = s.after } in
-      let n = non_zero_u64_get p.number in
+      let n = non_zero_u64_get p.chunk_id in
       let only = only_block old t p.slot (Some b) taken below (prepares_only (slots_at old t) r p taken s) in
       let holds_piece : HoldsPiece s.after n p.offset p.size = subst (HoldsPiece s.after n p.offset) (sym s.size) (takes_holds s.slot.block r p.offset n s.after s.takes) in
-      let live = live_at new t p b only.at (sym s.number) holds_piece in
-      let room : HasRoom mapped (bytes_of held s.slot.number.0) p.offset p.size =
-      subst (λ (m : DeviceMemory). HasRoom mapped (bytes_of held m.0) p.offset p.size) s.number (live_room setup first held new after holds whole t p live) in
+      let live = live_at new t p b only.at (sym s.handle) holds_piece in
+      let room : HasRoom mapped (bytes_of held s.slot.handle.0) p.offset p.size =
+      subst (λ (m : DeviceMemory). HasRoom mapped (bytes_of held m.0) p.offset p.size) s.handle (live_room setup first held new after holds whole t p live) in
       let one = same_size (extents_of s.slot.block) (extents_of s.after) n p.offset r.size p.size (sym s.size)
       (one_more_taken s.slot.block r p.offset n s.after (sound_at setup old t p.slot s.slot sound s.at) (sound_at setup new t p.slot b after only.at) s.takes) in
       served_byte_view held old new t p.slot s.slot b s.at only refl mapped n p.offset p.size room one
 
   -- a new block's piece
   installed_bytes : (own : Bool) (size pages : ℕ) (ready : Pending) (r : _) (m : DeviceMemory) (bytes : Option (List ℕ)) (p : Piece DeviceMemory) (x : List (Option (Slot DeviceMemory))) (held now : Held)
-      → TakesIn (fresh_block own size pages) r ready.offset ready.number ready.block → ready.size ≡ r.size → Installs (slots_at old t) own ready m p x
+      → TakesIn (fresh_block own size pages) r ready.offset ready.chunk_id ready.block → ready.size ≡ r.size → Installs (slots_at old t) own ready m p x
       → get held m.0 ≡ None → bytes_of now m.0 ≡ bytes → ((k : ℕ) → k ≢ m.0 → get now k ≡ get held k)
       → BlocksWellFormed setup.properties.granularity (slice_set old t x) → HoldsJustLiveBlocks setup.properties first held old → HoldsJustLiveBlocks setup.properties first now (slice_set old t x) →
       ((k : ℕ) → IsWhole (get now k))
@@ -107,11 +107,11 @@ module _ {D : Type 0} (g : Ghosts D) (setup : Setup) (budgets : Budgets) (d : Al
   installed_bytes own size pages ready r m bytes p x held now takes sized made fresh there same after before holds whole =
       let new = slice_set old t x in
       let b : Slot DeviceMemory = record { number = m; block = ready.block } in
-      let k = non_zero_u64_get p.number in
+      let k = non_zero_u64_get p.chunk_id in
       let only_at = installs_only (slots_at old t) own ready m p x made in
       let only = only_block old t p.slot (Some b) x below only_at.1 in
       let none = not_a_block memory_number (IsBlockEntry setup.properties) first held old m.0 before fresh in
-      let taken : HoldsPiece ready.block ready.number ready.offset r.size = takes_holds (fresh_block own size pages) r ready.offset ready.number ready.block takes in
+      let taken : HoldsPiece ready.block ready.chunk_id ready.offset r.size = takes_holds (fresh_block own size pages) r ready.offset ready.chunk_id ready.block takes in
       let long : p.size ≡ r.size = made.piece.2 ∙ sized in
       let holds_piece : HoldsPiece ready.block k p.offset p.size =
       subst (HoldsPiece ready.block k p.offset) (sym long)
@@ -119,17 +119,17 @@ module _ {D : Type 0} (g : Ghosts D) (setup : Setup) (budgets : Budgets) (d : Al
       let live = live_at new t p b only.at (sym made.piece.3) holds_piece in
       let room : HasRoom mapped (bytes_of now m.0) p.offset p.size =
       subst (λ (k : DeviceMemory). HasRoom mapped (bytes_of now k.0) p.offset p.size) made.piece.3 (live_room setup first now new after holds whole t p live) in
-      let fresh_one : OneMore (extents_of (fresh_block own size pages)) (extents_of ready.block) ready.number ready.offset r.size =
-      one_more_taken (fresh_block own size pages) r ready.offset ready.number ready.block (fresh_sound own size pages)
+      let fresh_one : OneMore (extents_of (fresh_block own size pages)) (extents_of ready.block) ready.chunk_id ready.offset r.size =
+      one_more_taken (fresh_block own size pages) r ready.offset ready.chunk_id ready.block (fresh_sound own size pages)
       (sound_at setup new t p.slot b after only.at) takes in
       let one : OneMore [] (extents_of ready.block) k p.offset p.size =
       subst (OneMore [] (extents_of ready.block) k p.offset) (sym long)
       (subst (λ o. OneMore [] (extents_of ready.block) k o r.size) (sym made.piece.0)
       (subst (λ k. OneMore [] (extents_of ready.block) k ready.offset r.size) (sym made.piece.1)
-      (subst (λ (xs : List Extent). OneMore xs (extents_of ready.block) ready.number ready.offset r.size) (fresh_extents own size pages) fresh_one))) in (
+      (subst (λ (xs : List Extent). OneMore xs (extents_of ready.block) ready.chunk_id ready.offset r.size) (fresh_extents own size pages) fresh_one))) in (
         with_new t p.slot (bytes_of now m.0) (byte_view_of held old),
         subst (λ o. AddsBlock t p.slot o (byte_view_of held old) (with_new t p.slot (bytes_of now m.0) (byte_view_of held old))) there (with_new_adds t p.slot (bytes_of now m.0) (byte_view_of held old)),
-        installed_byte_view held now old new t p.slot b only_at_none only mapped k p.offset p.size room (λ u j s at. ap entry_bytes (same s.number.0 (none u j s at))) one,
+        installed_byte_view held now old new t p.slot b only_at_none only mapped k p.offset p.size room (λ u j s at. ap entry_bytes (same s.handle.0 (none u j s at))) one,
       )
     where
       only_at_none : block_at old t p.slot ≡ None
@@ -137,7 +137,7 @@ module _ {D : Type 0} (g : Ghosts D) (setup : Setup) (budgets : Budgets) (d : Al
 
   -- what is left of the bytes, by how the device answered
   granted_bytes : (own : Bool) (size pages : ℕ) (ready : Pending) (r : _) (a : Asked) (m : DeviceMemory) (p : Piece DeviceMemory) (x : List (Option (Slot DeviceMemory))) (device after : D)
-      → TakesIn (fresh_block own size pages) r ready.offset ready.number ready.block → ready.size ≡ r.size → Installs (slots_at old t) own ready m p x
+      → TakesIn (fresh_block own size pages) r ready.offset ready.chunk_id ready.block → ready.size ≡ r.size → Installs (slots_at old t) own ready m p x
       → (b : BlockAnswer) → a.answer ≡ b → answer_number b ≡ Some m.0 → Asks g device a.info mapped b after
       → BlocksWellFormed setup.properties.granularity (slice_set old t x) → HoldsJustLiveBlocks setup.properties first (g.held device) old → HoldsJustLiveBlocks setup.properties first (g.held after)
       (slice_set old t x) → ((k : ℕ) → IsWhole (get (g.held after) k))

@@ -27,10 +27,10 @@ use Rattle.gpu_vulkan.proofs.Inside.{live_range, piece_with}
 pub record Found (ss : Slots) (t : ℕ) (p : Piece DeviceMemory) : Type 0 where
   pub s : Slot DeviceMemory
   pub at : block_at ss t p.slot ≡ Some s
-  pub number : s.number.0 ≡ p.block.0
+  pub handle : s.handle.0 ≡ p.handle.0
   pub x : Extent
   pub held : Contains (extents_of s.block) x
-  pub numbered : x.number ≡ non_zero_u64_get p.number
+  pub numbered : x.chunk_id ≡ non_zero_u64_get p.chunk_id
   pub begins : x.offset ≡ p.offset
   pub ends : x.end ≡ p.offset + p.size
 
@@ -39,7 +39,7 @@ found_in ss t p None at live = absurd live
 found_in ss t p (Some s) at live = record {
   s = s;
   at = at;
-  number = eqb-true s.number.0 p.block.0 live.0;
+  handle = eqb-true s.handle.0 p.handle.0 live.0;
   x = live.1.0;
   held = live.1.1;
   numbered = live.1.2;
@@ -54,20 +54,20 @@ pub record Stands (ss : Slots) (a : Allocation) : Type 0 where
   pub piece : Piece DeviceMemory
   pub found : Found ss a.memory_type_index piece
   pub slot : piece.slot ≡ a.memory_block_index
-  pub number : non_zero_u64_get piece.number ≡ number_in a.chunk_id
+  pub chunk_id : non_zero_u64_get piece.chunk_id ≡ number_in a.chunk_id
   pub offset : piece.offset ≡ a.offset
   pub size : piece.size ≡ a.size
-  pub block : piece.block ≡ a.device_memory
+  pub block : piece.handle ≡ a.device_memory
 
 stands_for : (ss : Slots) (a : Allocation) (chunk : Option NonZeroU64) → a.chunk_id ≡ chunk → IsLiveIn ss a.memory_type_index (piece_with a chunk) → Stands ss a
 stands_for ss a None is live = absurd live
 stands_for ss a (Some n) is live =
-    let p : Piece DeviceMemory = record { slot = a.memory_block_index; number = n; offset = a.offset; size = a.size; block = a.device_memory } in
+    let p : Piece DeviceMemory = record { slot = a.memory_block_index; chunk_id = n; offset = a.offset; size = a.size; handle = a.device_memory } in
     record {
       piece = p;
       found = found_in ss a.memory_type_index p (slot_at (slots_at ss a.memory_type_index) p.slot) refl live;
       slot = refl;
-      number = sym (ap number_in is);
+      chunk_id = sym (ap number_in is);
       offset = refl;
       size = refl;
       block = refl;
@@ -81,7 +81,7 @@ module _ (p : Properties) (first held : Held) (ss : Slots) (sound : BlocksWellFo
       → HasRange (bytes_of held a.device_memory.0) a.offset a.size
   range_for whole a None live mapped = absurd live
   range_for whole a (Some n) live mapped =
-      live_range p first held ss sound h a.memory_type_index (record { slot = a.memory_block_index; number = n; offset = a.offset; size = a.size; block = a.device_memory }) whole mapped live
+      live_range p first held ss sound h a.memory_type_index (record { slot = a.memory_block_index; chunk_id = n; offset = a.offset; size = a.size; handle = a.device_memory }) whole mapped live
 
   pub allocation_range : ((n : ℕ) → IsWhole (get held n)) → (a : Allocation) → IsMapped p ss a → HasRange (bytes_of held a.device_memory.0) a.offset a.size
   allocation_range whole a live = range_for whole a a.chunk_id live.0 live.1

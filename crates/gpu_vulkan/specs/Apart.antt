@@ -20,7 +20,7 @@ SharesNoByte a b = (a.device_memory.0 ≢ b.device_memory.0) ⊎ ((a.offset + a.
 -- the allocation's piece is of the kind
 abbrev pub HasKind : Slots → Allocation → AllocationType → Type 0
 HasKind slots a kind =
-    (x : Extent) × Contains (pieces_in (block_at slots a.memory_type_index a.memory_block_index)) x × (x.number ≡ number_in a.chunk_id) × (x.kind ≡ kind)
+    (x : Extent) × Contains (pieces_in (block_at slots a.memory_type_index a.memory_block_index)) x × (x.chunk_id ≡ number_in a.chunk_id) × (x.kind ≡ kind)
 
 -- of two allocations of different kinds in one block, the earlier one's last byte lies on a page before that of the later one's first
 abbrev pub KeepsPages : (granularity : ℕ) → Slots → Allocation → Allocation → Type 0

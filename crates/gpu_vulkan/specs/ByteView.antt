@@ -13,10 +13,10 @@ use Rattle.gpu_memory_types.specs.Blocks.{block_at}
 pub record AllocationId : Type 0 where
   pub memory_type : ℕ
   pub slot : ℕ
-  pub number : ℕ
+  pub chunk_id : ℕ
 
 abbrev pub is_same_id : AllocationId → AllocationId → Bool
-is_same_id p q = (p.memory_type == q.memory_type) && ((p.slot == q.slot) && (p.number == q.number))
+is_same_id p q = (p.memory_type == q.memory_type) && ((p.slot == q.slot) && (p.chunk_id == q.chunk_id))
 
 -- the list of each live piece in mapped memory, and the bytes of each mapped block at which no live piece lies
 pub record ByteView : Type 0 where
@@ -27,7 +27,7 @@ pub record ByteView : Type 0 where
 
 -- the live piece of a number
 abbrev pub piece_of_number : List Extent → ℕ → Option Extent
-piece_of_number xs number = find (λ x. x.number == number) xs
+piece_of_number xs number = find (λ x. x.chunk_id == number) xs
 
 -- the byte lies in the piece; its padding is no part of it
 abbrev pub covers : Extent → ℕ → Bool
@@ -47,15 +47,15 @@ piece_bytes bytes (Some x) = range_in x.offset (x.end - x.offset) bytes
 
 abbrev pub list_in : Held → Option (Slot DeviceMemory) → (number : ℕ) → Option (List ℕ)
 list_in held None number = None
-list_in held (Some s) number = piece_bytes (bytes_of held s.number.0) (piece_of_number (extents_of s.block) number)
+list_in held (Some s) number = piece_bytes (bytes_of held s.handle.0) (piece_of_number (extents_of s.block) number)
 
 abbrev pub rest_in : Held → Option (Slot DeviceMemory) → (at : ℕ) → Option ℕ
 rest_in held None at = None
-rest_in held (Some s) at = if is_covered (extents_of s.block) at then None else byte_at (bytes_of held s.number.0) at
+rest_in held (Some s) at = if is_covered (extents_of s.block) at then None else byte_at (bytes_of held s.handle.0) at
 
 abbrev pub byte_view_of : Held → Slots → ByteView
 byte_view_of held slots = record {
-  allocation_bytes = λ p. list_in held (block_at slots p.memory_type p.slot) p.number;
+  allocation_bytes = λ p. list_in held (block_at slots p.memory_type p.slot) p.chunk_id;
   unallocated_bytes = λ t i at. rest_in held (block_at slots t i) at;
 }
 

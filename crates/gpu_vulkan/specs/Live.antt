@@ -39,7 +39,7 @@ IsLiveIn slots t p = all.IsLiveIn is_same_memory slots t p
 -- the piece that an allocation stands for, None where it is null
 abbrev pub piece_of : Allocation → Option (Piece DeviceMemory)
 piece_of a =
-    option_map (λ n. record { slot = a.memory_block_index; number = n; offset = a.offset; size = a.size; block = a.device_memory }) a.chunk_id
+    option_map (λ n. record { slot = a.memory_block_index; chunk_id = n; offset = a.offset; size = a.size; handle = a.device_memory }) a.chunk_id
 
 -- the allocator has a record with the allocation's type, slot, number, offset, size and memory
 abbrev pub IsLive : Slots → Allocation → Type 0

@@ -77,7 +77,7 @@ MeetsNothing o = (o.first ≡ nothing_met) × (o.second ≡ nothing_met)
 -- ---- an allocation
 
 abbrev pub id_in : (t : ℕ) → Piece DeviceMemory → AllocationId
-id_in t p = record { memory_type = t; slot = p.slot; number = non_zero_u64_get p.number }
+id_in t p = record { memory_type = t; slot = p.slot; chunk_id = non_zero_u64_get p.chunk_id }
 
 -- the bytes of the new block, where it is mapped
 abbrev pub answer_bytes : BlockAnswer → Option (List ℕ)

@@ -36,12 +36,12 @@ fn given(
 {
     let info = setup.memory_types()[index];
     Allocation {
-        chunk_id: Some(piece.number),
+        chunk_id: Some(piece.chunk_id),
         offset: piece.offset,
         size: piece.size,
         memory_block_index: piece.slot,
         memory_type_index: index,
-        device_memory: piece.block,
+        device_memory: piece.handle,
         memory_properties: info.property_flags,
         mapped: is_mapped(&info),
         dedicated: requests_dedicated(desc.allocation_scheme),

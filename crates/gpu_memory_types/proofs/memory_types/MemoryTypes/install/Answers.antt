@@ -39,7 +39,7 @@ pub returns-clause-installed : goal.returns-clause-installed
 returns-clause-installed g c =
     let at = old_at g ((goal.at.returns-clause-installed g c).After-index_mut) in
     rw (← c.self.view_is)
-    (installed c.self.inside.types.items c.args.index c.index_mut.result.now c.install.new.self at c.args.need.dedicated c.args.need.room c.args.number c.install.result c.install.ensures.installed)
+    (installed c.self.inside.types.items c.args.index c.index_mut.result.now c.install.new.self at c.args.need.dedicated c.args.need.room c.args.handle c.install.result c.install.ensures.installed)
 
 pub returns-clause-budgets : goal.returns-clause-budgets
 returns-clause-budgets g c =
