@@ -76,7 +76,7 @@ impl Blocks {
         Ok(())
     }
 
-    /// Gives every other piece back, and of the lowest block all but the first one.
+    /// Frees every other piece, and of the lowest block all but the first one.
     fn open(&mut self, pieces: &[Piece<u64>]) -> Result<()> {
         for (place, piece) in pieces.iter().enumerate() {
             if place % 2 == 1 || (piece.slot == 0 && place > 0) {

@@ -53,7 +53,7 @@ impl Field {
         })
     }
 
-    /// Takes a piece, and tells its number; nothing where it is refused.
+    /// Allocates a piece, and tells its number; nothing where it is refused.
     pub fn take(&mut self, asked: Asked) -> Option<NonZeroU64>
         requires { asked.kind ≢ AllocationType.Free }
     {
@@ -80,7 +80,7 @@ impl Field {
         }
     }
 
-    /// Gives a piece back.
+    /// Frees a piece.
     pub fn give_back(&mut self, number: Option<NonZeroU64>) {
         if self.block.free(number).is_err() {
             self.tally.refused = self.tally.refused.wrapping_add(1);

@@ -116,7 +116,7 @@ abbrev pub IsCoveredBlock : Block → Type 0
 IsCoveredBlock (free_list b) = IsCovered b
 IsCoveredBlock (dedicated b) = Unit {0}
 
--- in a free list a gap that is long enough is refused for want of numbers or of host memory alone
+-- in a free list a gap that is long enough is refused for lack of numbers or of host memory alone
 abbrev pub IsFitLaw : Block → Request → AllocationError → Type 0
 IsFitLaw (free_list b) r e = (s t : ℕ) → IsGap b s t → IsLongEnough b r s t → IsForChunkIds b e
 IsFitLaw (dedicated b) r e = Unit {0}

@@ -64,7 +64,7 @@ IsNotHeld b (Some n) freed refusal =
 abbrev pub IsDedicatedReleaseRefusal : Dedicated → Option NonZeroU64 → Refusal → Type 0
 IsDedicatedReleaseRefusal b id refusal = IsNotHeld b id (codes "Attempting to free a freed allocation.") refusal
 
--- a new name is also refused for want of host memory, where the number is the piece's
+-- a new name is also refused for lack of host memory, where the number is the piece's
 abbrev pub IsDedicatedRenameRefusal : Dedicated → Option NonZeroU64 → Refusal → Type 0
 IsDedicatedRenameRefusal b id refusal =
     IsNotHeld b id (codes "Attempting to rename a freed allocation.") refusal

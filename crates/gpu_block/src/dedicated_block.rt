@@ -60,7 +60,7 @@ impl DedicatedBlockAllocator {
         }
     }
 
-    /// Takes the whole block, and answers offset 0 and number 1. `OutOfMemory` where it is taken, else `Internal` where `size`
+    /// Allocates the whole block, and returns offset 0 and chunk id 1. `OutOfMemory` where it is taken, else `Internal` where `size`
     /// (bytes) isn't the block's, else `HostOutOfMemory` where the host refused memory for the name; a refusal leaves the block
     /// as it was. `kind` isn't `Free`.
     pub fn allocate(
@@ -95,7 +95,7 @@ impl DedicatedBlockAllocator {
         Ok((0, NonZeroU64::MIN))
     }
 
-    /// Gives the piece back. It takes no memory. `Internal` where the number is missing or isn't 1, or no piece is held; then
+    /// Frees the piece. It takes no memory. `Internal` where the number is missing or isn't 1, or no piece is held; then
     /// nothing changes.
     pub fn free(&mut self, chunk_id: Option<NonZeroU64>) -> Result<()>
         ensures freed { OnOk result
@@ -112,7 +112,7 @@ impl DedicatedBlockAllocator {
         Ok(())
     }
 
-    /// Gives the piece another name. `Internal` where the number is missing or isn't 1, or no piece is held, else
+    /// Renames the piece. `Internal` where the number is missing or isn't 1, or no piece is held, else
     /// `HostOutOfMemory` where the host refused memory; a refusal leaves the block as it was.
     pub fn rename_allocation(&mut self, chunk_id: Option<NonZeroU64>, name: &str) -> Result<()>
         ensures renamed { OnOk result

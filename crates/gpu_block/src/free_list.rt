@@ -4,7 +4,9 @@ ghost use Rattle.std.specs.Prelude.{◌≡◌, ◌≢◌, ◌<◌, ◌≤◌, �
 ghost use Rattle.std.specs.Int.{is_power_of_two};
 ghost use Rattle.std.specs.Int.NonZero.{non_zero_u64_get};
 ghost use Rattle.gpu_values.specs.Refusal.{refusal_of};
+ghost use Rattle.gpu_values.specs.declared.error.AllocationError.TheVariants.{HostOutOfMemory};
 
+use crate::queries::with_new_counter;
 use gpu_block_pieces::CutBlock;
 use gpu_cost::Cost;
 use gpu_values::{AllocationType, Result};
@@ -42,7 +44,7 @@ impl Model for FreeListAllocator {
 }
 
 impl FreeListAllocator {
-    ghost use Rattle.gpu_block_pieces.specs.FreeList.{SomeExtent, IsGap, extent_bytes};
+    ghost use Rattle.gpu_block_pieces.specs.FreeList.{SomeExtent, IsGap, extent_bytes, fresh_free_list};
     ghost use Rattle.gpu_block_pieces.specs.Request.{Request, request};
     ghost use Rattle.gpu_cost.specs.Cost.{Rises};
     ghost use Rattle.gpu_block_pieces.specs.Search.{IsSearch};
@@ -50,7 +52,35 @@ impl FreeListAllocator {
     ghost use Rattle.gpu_block_pieces.specs.BlockRefusal.{IsAllocateRefusal, release_refusal, IsRenameRefusal};
     ghost use Rattle.gpu_block_pieces.specs.Laws.{IsSound, IsInOrder, IsPageSeparated, IsLongEnough, IsForChunkIds, IsCovered};
 
-    /// Takes the best place for `size` bytes, and answers the piece's offset in bytes and its number. `OutOfMemory` where
+    /// A block of `size` bytes without pieces: one gap with number 1, and 2 is the next new number. `size` isn't 0.
+    /// `granularity` is the page size in bytes, a power of two: Vulkan's bufferImageGranularity, elsewhere 1. The only refusal
+    /// is `HostOutOfMemory`.
+    pub fn new(alloc: Global, size: u64, granularity: u64) -> Result<Self>
+        requires sized { 0 < size }
+        requires paged { IsTrue (is_power_of_two granularity) }
+        ensures fresh { IfOk result (λ b. b.block ≡ fresh_free_list size granularity 2) }
+        ensures sound { IfOk result (λ b. IsSound b.block) }
+        ensures ordered { IfOk result (λ b. IsInOrder b.block) }
+        ensures cause { IfErr result (λ e. e ≡ HostOutOfMemory) }
+    {
+        Self::with_counter(alloc, size, granularity, 2)
+    }
+
+    /// The same with another first new number, 2 or more, for tests of the last one.
+    pub fn with_counter(alloc: Global, size: u64, granularity: u64, counter: u64) -> Result<Self>
+        requires sized { 0 < size }
+        requires paged { IsTrue (is_power_of_two granularity) }
+        requires counted { 2 ≤ counter }
+        ensures fresh { IfOk result (λ b. b.block ≡ fresh_free_list size granularity counter) }
+        ensures sound { IfOk result (λ b. IsSound b.block) }
+        ensures ordered { IfOk result (λ b. IsInOrder b.block) }
+        ensures cause { IfErr result (λ e. e ≡ HostOutOfMemory) }
+    {
+        let pieces = CutBlock::new(alloc, size, granularity, counter)?;
+        Ok(with_new_counter(alloc, pieces))
+    }
+
+    /// Allocates `size` bytes at their best fit, and returns the piece's offset in bytes and its chunk id. `OutOfMemory` where
     /// there is no place, else `HostOutOfMemory` where the host refused memory; a refusal leaves the block as it was.
     /// What the piece's `free` will need is taken here. Callers hand in a size that isn't 0, an alignment in bytes that is a
     /// power of two, a kind that isn't `Free`, and the granularity that the block was made with.
@@ -87,7 +117,7 @@ impl FreeListAllocator {
             .allocate(size, alignment, kind, granularity, name, &mut self.cost)
     }
 
-    /// Gives a live piece back; its place joins the gaps beside it. It takes no memory. `Internal` where the number is
+    /// Frees a live piece; its place joins the gaps beside it. It takes no memory. `Internal` where the number is
     /// missing or is no live piece's, and then the block stays as it was.
     pub fn free(&mut self, chunk_id: Option<NonZeroU64>) -> Result<()>
         ensures freed { OnOk result
@@ -106,7 +136,7 @@ impl FreeListAllocator {
         self.pieces.free(chunk_id, &mut self.cost)
     }
 
-    /// Gives a live piece another name. `Internal` where the number is missing, a gap's or nobody's, else
+    /// Renames a live piece. `Internal` where the number is missing, a gap's or nobody's, else
     /// `HostOutOfMemory` where the host refused memory; a refusal leaves the block as it was.
     pub fn rename_allocation(&mut self, chunk_id: Option<NonZeroU64>, name: &str) -> Result<()>
         ensures renamed { OnOk result

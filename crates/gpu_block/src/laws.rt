@@ -6,8 +6,8 @@ ghost use Rattle.gpu_block.specs.Block.{Block, TakesIn, ReleasesIn, RenamesIn, I
 ghost use Rattle.gpu_block_pieces.specs.Request.{Request};
 
 pub use gpu_block_pieces::laws::{
-    empty_block_has_place, extents_and_gaps_cover, kinds_share_no_page, long_gap_fits, one_release,
-    one_allocate, release_keeps_the_others, allocate_adds_one_piece, allocates_or_refuses,
+    allocate_adds_one_piece, allocates_or_refuses, empty_block_has_place, extents_and_gaps_cover,
+    kinds_share_no_page, long_gap_fits, one_allocate, one_release, release_keeps_the_others,
 };
 pub use gpu_values::laws::one_bytes_text;
 
@@ -17,7 +17,7 @@ pub fn one_allocate_in()
         → TakesIn old r o n new → TakesIn old r p m next → (o ≡ p) × (n ≡ m) × (new ≡ next) }
 {}
 
-/// A take in a block and a refusal for want of a place exclude each other.
+/// A take in a block and a refusal for lack of a place exclude each other.
 pub fn allocates_or_refuses_in()
     ensures { (old : Block) (r : Request) (o n : ℕ) (new : Block) → TakesIn old r o n new
         → IsAllocateRefusalIn old r OutOfMemory → ⊥ }

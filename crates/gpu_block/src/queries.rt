@@ -1,8 +1,7 @@
-//! Where counters are made: one for a new block, and one for each call that changes nothing, whose look-ups are told to
-//! nobody. Calls that change a block are in other modules, and count in the block's own counter.
+//! Where counters are made: one for a new block, and one for each call that changes nothing, whose look-ups nobody sees.
+//! Calls that change a block are in other modules, and count in the block's own counter.
 
 ghost use Rattle.std.specs.Prelude.{◌≡◌, ◌↔◌, ◌<◌, ◌≤◌, IfOk, IfErr, IsTrue, [], map, true, false};
-ghost use Rattle.std.specs.Int.{is_power_of_two};
 ghost use Rattle.std.specs.Int.NonZero.{non_zero_u64_get};
 ghost use Rattle.gpu_values.specs.declared.error.AllocationError.TheVariants.{HostOutOfMemory};
 ghost use Rattle.gpu_values.specs.Report.{row_of};
@@ -23,43 +22,22 @@ struct Reading;
 
 impl BeginsCount for Reading {}
 
+/// A block with a counter of its own.
+pub(crate) fn with_new_counter(alloc: Global, pieces: CutBlock) -> FreeListAllocator
+    ensures { result.block ≡ pieces }
+{
+    FreeListAllocator {
+        alloc,
+        pieces,
+        cost: Cost::begin(&Reading),
+    }
+}
+
 impl FreeListAllocator {
-    ghost use Rattle.gpu_block_pieces.specs.FreeList.{FindsPlace, fresh_free_list};
-    ghost use Rattle.gpu_block_pieces.specs.Laws.{IsSound, IsInOrder};
+    ghost use Rattle.gpu_block_pieces.specs.FreeList.{FindsPlace};
     ghost use Rattle.gpu_block_pieces.specs.Place.{HasNoPlace};
     ghost use Rattle.gpu_block_pieces.specs.Request.{Request};
     ghost use Rattle.gpu_block_pieces.specs.Pieces.{gaps_between, longest};
-
-    /// A block of `size` bytes without pieces: one gap with number 1, and 2 is the next new number. `size` isn't 0.
-    /// `granularity` is the page size in bytes, a power of two: Vulkan's bufferImageGranularity, elsewhere 1. The only refusal
-    /// is `HostOutOfMemory`.
-    pub fn new(alloc: Global, size: u64, granularity: u64) -> Result<Self>
-        requires sized { 0 < size }
-        requires paged { IsTrue (is_power_of_two granularity) }
-        ensures fresh { IfOk result (λ b. b.block ≡ fresh_free_list size granularity 2) }
-        ensures sound { IfOk result (λ b. IsSound b.block) }
-        ensures ordered { IfOk result (λ b. IsInOrder b.block) }
-        ensures cause { IfErr result (λ e. e ≡ HostOutOfMemory) }
-    {
-        Self::with_counter(alloc, size, granularity, 2)
-    }
-
-    /// The same with another first new number, 2 or more, for tests of the last one.
-    pub fn with_counter(alloc: Global, size: u64, granularity: u64, counter: u64) -> Result<Self>
-        requires sized { 0 < size }
-        requires paged { IsTrue (is_power_of_two granularity) }
-        requires counted { 2 ≤ counter }
-        ensures fresh { IfOk result (λ b. b.block ≡ fresh_free_list size granularity counter) }
-        ensures sound { IfOk result (λ b. IsSound b.block) }
-        ensures ordered { IfOk result (λ b. IsInOrder b.block) }
-        ensures cause { IfErr result (λ e. e ≡ HostOutOfMemory) }
-    {
-        Ok(FreeListAllocator {
-            alloc,
-            pieces: CutBlock::new(alloc, size, granularity, counter)?,
-            cost: Cost::begin(&Reading),
-        })
-    }
 
     /// The size of the block in bytes.
     pub(crate) fn size(&self) -> u64

@@ -31,7 +31,7 @@ impl SubAllocator {
     ghost use Rattle.gpu_block.specs.BlockViews.{gaps_in, statistics_of, leaks_of};
     ghost use Rattle.gpu_block.specs.Block.{extents_of, size_of, allocated_bytes, is_shared, HasPages, TakesIn, HasNoPlaceIn, IsAllocateRefusalIn, ReleasesIn, IsReleaseRefusalIn, RenamesIn, IsRenameRefusalIn, IsSoundBlock, IsOrderedBlock, HasPagesApart, IsCoveredBlock, IsFitLaw, IsSearchIn, CountsRise};
 
-    /// Takes a place for `size` bytes, and answers the piece's offset in bytes and its number. A free list takes the least place
+    /// Allocates `size` bytes, and returns the piece's offset in bytes and its chunk id. A free list takes the least place
     /// in the shortest gap that fits, and refuses by `OutOfMemory` where there is none. A dedicated block takes a piece of
     /// its own size alone: `OutOfMemory` where it is taken, else `Internal` on another size. `HostOutOfMemory` comes
     /// only where there is a place. A refusal leaves the block as it was. Callers hand in a size that isn't 0, an alignment in
@@ -70,7 +70,7 @@ impl SubAllocator {
         }
     }
 
-    /// Gives a live piece back. It takes no memory. `Internal` where the number is missing or is no live piece's, and
+    /// Frees a live piece. It takes no memory. `Internal` where the number is missing or is no live piece's, and
     /// then the block stays as it was.
     #[tactic(auto, unfolding(crate::specs::Block::CountsRise))]
     pub fn free(&mut self, chunk_id: Option<NonZeroU64>) -> Result<()>
@@ -91,7 +91,7 @@ impl SubAllocator {
         }
     }
 
-    /// Gives a live piece another name. `Internal` where the number is missing or is no live piece's, else
+    /// Renames a live piece. `Internal` where the number is missing or is no live piece's, else
     /// `HostOutOfMemory` where the host refused memory; a refusal leaves the block as it was.
     #[tactic(auto, unfolding(crate::specs::Block::CountsRise))]
     pub fn rename_allocation(&mut self, chunk_id: Option<NonZeroU64>, name: &str) -> Result<()>

@@ -6,7 +6,7 @@ mod chunk;
 mod name;
 mod walk;
 
-pub use chain::{Neighbours, Neighbour, Chain};
+pub use chain::{Chain, Neighbour, Neighbours};
 pub use chunk::{Chunk, is_free};
 pub use name::Name;
 pub use walk::Walk;

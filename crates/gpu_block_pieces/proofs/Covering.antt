@@ -9,7 +9,7 @@ use Rattle.gpu_block_pieces.proofs.Live.{here, there}
 use Rattle.gpu_block_pieces.proofs.Separation.{within_of}
 
 -- the widest room round a place that no extent of the list holds
-record PendingBlock (p size : ℕ) (xs : List Extent) : Type 0 where
+record Room (p size : ℕ) (xs : List Extent) : Type 0 where
   start : ℕ
   end : ℕ
   low : start ≤ p
@@ -29,7 +29,7 @@ still_or : (x : Extent) (xs : List Extent) (Q : Type 0) (P : Extent → Type 0) 
 still_or x xs Q P w = elim w [ inl q ↦ inl q | inr v ↦ inr (still x xs P v) ]
 
 -- the room ends at x, or does not reach it
-up_to : (p size : ℕ) (x : Extent) (xs : List Extent) → PendingBlock p size xs → p < x.start → PendingBlock p size (x ∷ xs)
+up_to : (p size : ℕ) (x : Extent) (xs : List Extent) → Room p size xs → p < x.start → Room p size (x ∷ xs)
 up_to p size x xs r before =
     let s = r.start in let e = r.end in
     let inside = r.inside in
@@ -59,7 +59,7 @@ up_to p size x xs r before =
     ]
 
 -- the room starts at x's end, or above it
-from_end : (p size : ℕ) (x : Extent) (xs : List Extent) → PendingBlock p size xs → x.end ≤ p → PendingBlock p size (x ∷ xs)
+from_end : (p size : ℕ) (x : Extent) (xs : List Extent) → Room p size xs → x.end ≤ p → Room p size (x ∷ xs)
 from_end p size x xs r behind =
     let s = r.start in let e = r.end in
     elim (cases_lt s x.end) [
@@ -86,7 +86,7 @@ from_end p size x xs r behind =
       }
     ]
 
-held_or_room : (p size : ℕ) (xs : List Extent) → p < size → Held p xs ⊎ PendingBlock p size xs
+held_or_room : (p size : ℕ) (xs : List Extent) → p < size → Held p xs ⊎ Room p size xs
 held_or_room p size [] lt =
     inr (record {
       start = 0;

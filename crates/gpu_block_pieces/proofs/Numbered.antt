@@ -34,7 +34,7 @@ rename_none b id n refusal t is none gap e =
     subst (λ o. IsRenameRefusal b o refusal) (sym is)
     (inl (none, e ∙ ap (λ u. internal (cond u (codes "Attempting to rename a freed allocation.") (codes "Attempting to rename chunk that is not in chunk list.")) None) (sym gap)))
 
--- a live piece's new name is refused for want of host memory alone
+-- a live piece's new name is refused for lack of host memory alone
 pub rename_live : (b : FreeList) (id : Option NonZeroU64) (n : NonZeroU64) (refusal : Refusal) → id ≡ Some n → SomeExtent b (λ x. x.chunk_id ≡ non_zero_u64_get n) → refusal ≡ host_out_of_memory →
     IsRenameRefusal b id refusal
 rename_live b id n refusal is live e = subst (λ o. IsRenameRefusal b o refusal) (sym is) (inr (live, e))

@@ -185,7 +185,7 @@ has_place cs size counter w v text f are piece e b left =
     (chosen_of_best cs size counter w text are.covers are.none_touch piece f b))
     (λ lt. subst (λ (x : FreeList). x.counter < 2 ^ 64 - 1) e (left lt))
 
--- want of host memory is the cause only where there is a place
+-- lack of host memory is the cause only where there is a place
 pub host_refusal : {V : Type 0} (res : Result V AllocationError) (v : FreeList) (r : Request) → IsErrAnd res (λ e. e ≡ HostOutOfMemory) → (HasNoPlace v r → ⊥) → IfErr res (λ e. IsAllocateRefusal v r e)
 host_refusal (Ok x) v r e h = tt
 host_refusal (Err x) v r e h = subst (λ x. IsAllocateRefusal v r x) (sym e) h

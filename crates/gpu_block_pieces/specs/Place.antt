@@ -1,10 +1,10 @@
--- Where a request is placed in a block: the least place in the shortest gap that fits.
+-- Best fit: a request is placed at the least place in the shortest gap that fits, and at no place that the page rule forbids.
 use Rattle.std.specs.Prelude.{◌≡◌, ◌≢◌, ℕ, ◌+◌, ◌-◌, ◌/◌, ◌%◌, ◌^◌, ◌<◌, ◌≤◌, ◌⊎◌}
 use Rattle.gpu_values.specs.declared.allocation_type.AllocationType.{AllocationType}
 use Rattle.gpu_block_pieces.specs.FreeList.{FreeList, SomeExtent, IsGap}
 use Rattle.gpu_block_pieces.specs.Request.{Request}
 
--- the page that a place lies on: Vulkan's bufferImageGranularity keeps linear and other pieces on pages of their own
+-- the page rule, and the page that a place lies on: Vulkan's bufferImageGranularity keeps linear and other pieces on pages of their own
 abbrev pub page : ℕ → ℕ → ℕ
 page granularity place = place / granularity
 
@@ -19,9 +19,11 @@ pub record IsOffsetIn (granularity alignment : ℕ) (Other : Type 0) (start offs
   pub begins : MayBegin granularity alignment Other start offset
   pub least : (o : ℕ) → MayBegin granularity alignment Other start o → offset ≤ o
 
+-- a piece of the other kind ends at a place
 abbrev pub OtherEnds : FreeList → AllocationType → ℕ → Type 0
 OtherEnds b kind place = SomeExtent b (λ x. (x.kind ≢ kind) × (x.end ≡ place))
 
+-- a piece of the other kind starts at a place
 abbrev pub OtherStarts : FreeList → AllocationType → ℕ → Type 0
 OtherStarts b kind place = SomeExtent b (λ x. (x.kind ≢ kind) × (x.start ≡ place))
 
@@ -36,7 +38,7 @@ pub record Fits (b : FreeList) (r : Request) (start end offset : ℕ) : Type 0 w
   pub gap : IsGap b start end
   pub between : FitsBetween b.granularity r.alignment r.size (OtherEnds b r.kind start) (OtherStarts b r.kind end) start end offset
 
--- the shortest gap in which the request fits, and of equal ones the lowest
+-- the best fit: the shortest gap in which the request fits, and of equal ones the lowest
 pub record IsBestFit (b : FreeList) (r : Request) (start end offset : ℕ) : Type 0 where
   pub fits : Fits b r start end offset
   pub best : (s e o : ℕ) → Fits b r s e o → (end - start < e - s) ⊎ ((end - start ≡ e - s) × (start ≤ s))

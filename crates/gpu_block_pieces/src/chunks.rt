@@ -9,10 +9,10 @@ ghost use Rattle.gpu_block_pieces.specs.Chunks.{NoneFits, IsTaken, IsNamedAt, Ho
 ghost use Rattle.gpu_block_chunks.specs.Chain.{IsFresh, HasNoChunkId, StandsAt, IsReleased};
 ghost use Rattle.gpu_block_pieces.specs.Indexed.{IsChosen, chosen_at, Spends, IsPieceAt, IsPieceOf, IsLongestOf};
 
-use crate::update::{release, allocate_front, allocate_whole};
 use crate::place::Wanted;
 use crate::search::{Found, find};
-use gpu_block_chunks::{Neighbours, Chain, Chunk, Name, Walk, is_free};
+use crate::update::{allocate_front, allocate_whole, release};
+use gpu_block_chunks::{Chain, Chunk, Name, Neighbours, Walk, is_free};
 use gpu_block_gaps::{Gap, GapIndex};
 use gpu_cost::Cost;
 use gpu_values::AllocationType;
@@ -93,7 +93,7 @@ impl Chunks {
         self.index.longest(cost)
     }
 
-    /// Gives the found gap, or its front, to a piece, and tells the piece's number. All memory is taken first, also for what
+    /// Puts a piece into the found gap, or its front, and returns its chunk id. All memory is taken first, also for what
     /// the piece's release will need.
     pub fn allocate(
         &mut self,
@@ -204,7 +204,7 @@ impl Chunks {
         }
     }
 
-    /// Gives the live piece of that number another name.
+    /// Renames the live piece with that chunk id.
     pub fn rename(
         &mut self,
         chunk_id: u64,

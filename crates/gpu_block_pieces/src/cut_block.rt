@@ -80,7 +80,7 @@ impl CutBlock {
         })
     }
 
-    /// Takes the best place for `size` bytes, and answers the piece's offset in bytes and its number. `OutOfMemory` where
+    /// Allocates `size` bytes at their best fit, and returns the piece's offset in bytes and its chunk id. `OutOfMemory` where
     /// there is no place, else `HostOutOfMemory` where the host refused memory; a refusal leaves the block as it was.
     /// What the piece's `free` will need is taken here.
     pub fn allocate(
@@ -127,7 +127,9 @@ impl CutBlock {
             return Err(AllocationError::OutOfMemory);
         }
         let text = Name::new(self.alloc, name)?;
-        let chunk_id = self.chunks.allocate(found, wanted, self.counter, text, cost)?;
+        let chunk_id = self
+            .chunks
+            .allocate(found, wanted, self.counter, text, cost)?;
         self.allocated += found.offset + size - found.gap.start;
         if rest {
             self.counter += 1;
@@ -135,7 +137,7 @@ impl CutBlock {
         Ok((found.offset, non_zero(chunk_id)))
     }
 
-    /// Gives a live piece back; its place joins the gaps beside it. It takes no memory. `Internal` where the number is
+    /// Frees a live piece; its place joins the gaps beside it. It takes no memory. `Internal` where the number is
     /// missing or is no live piece's, and then the block stays as it was.
     pub fn free(&mut self, chunk_id: Option<NonZeroU64>, cost: &mut Cost) -> Result<()>
         ensures freed { OnOk result
@@ -162,7 +164,7 @@ impl CutBlock {
         Ok(())
     }
 
-    /// Gives a live piece another name. `Internal` where the number is missing, a gap's or not there, else
+    /// Renames a live piece. `Internal` where the number is missing, a gap's or not there, else
     /// `HostOutOfMemory` where the host refused memory; a refusal leaves the block as it was.
     pub fn rename(
         &mut self,

@@ -14,7 +14,7 @@ pub fn one_allocate()
         → Takes old r o n new → Takes old r p m next → (o ≡ p) × (n ≡ m) × (new ≡ next) }
 {}
 
-/// A take and a refusal for want of a place exclude each other.
+/// A take and a refusal for lack of a place exclude each other.
 pub fn allocates_or_refuses()
     ensures { (old : FreeList) (r : Request) (o n : ℕ) (new : FreeList) → Takes old r o n new → HasNoPlace old r → ⊥ }
 {}

@@ -157,11 +157,7 @@ fn write_dedicated<W: fmt::Write>(chunk: &Chunk, f: &mut fmt::Formatter<W>) -> f
     write_name(chunk, f)
 }
 
-fn write_piece<W: fmt::Write>(
-    shared: bool,
-    chunk: &Chunk,
-    f: &mut fmt::Formatter<W>,
-) -> fmt::Result
+fn write_piece<W: fmt::Write>(shared: bool, chunk: &Chunk, f: &mut fmt::Formatter<W>) -> fmt::Result
     ensures { DisplaysOnOk W.write_str_gives f.old result (Some (piece_text shared (extent chunk.now))) f.new }
 {
     if shared {

@@ -4,7 +4,6 @@
 
 mod chunks;
 mod cut_block;
-mod update;
 mod gaps;
 pub mod laws;
 mod leaks;
@@ -12,6 +11,7 @@ mod pieces;
 mod place;
 mod rows;
 mod search;
+mod update;
 
 pub use cut_block::CutBlock;
 pub use gaps::Gaps;

@@ -31,7 +31,7 @@ fn place_in(gap: Gap, wanted: Wanted) -> Option<u64>
     place_between(gap.start, gap.length, gap.before, gap.after, wanted)
 }
 
-/// The first gap of the index in which the request fits.
+/// The best fit: the first gap of the index, which is in order of length and then of start, in which the request fits.
 pub fn find(index: &GapIndex, wanted: Wanted, cost: &mut Cost) -> Option<Found>
     requires placed { ArePlaced index.now.gaps }
     requires sized { 0 < wanted.size }

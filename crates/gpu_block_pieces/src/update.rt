@@ -10,12 +10,12 @@ ghost use Rattle.gpu_block_gaps.specs.declared.index.Gap.{Gap};
 ghost use Rattle.gpu_block_gaps.specs.Index.{HasNoKey};
 
 use crate::search::Found;
-use gpu_block_chunks::{Neighbours, Neighbour, Chain, Name, is_free};
+use gpu_block_chunks::{Chain, Name, Neighbour, Neighbours, is_free};
 use gpu_block_gaps::{Gap, GapIndex};
 use gpu_cost::Cost;
 use gpu_values::AllocationType;
 
-/// Gives the front of the found gap to a piece. There is room for it, so no memory is taken.
+/// Puts a piece into the front of the found gap. There is room for it, so no memory is taken.
 pub fn allocate_front(
     chain: &mut Chain,
     index: &mut GapIndex,
@@ -41,7 +41,15 @@ pub fn allocate_front(
 {
     chain.laid_out();
     let gap = found.gap;
-    chain.split_front(gap.chunk_id, chunk_id, taken, found.offset, kind, name, cost);
+    chain.split_front(
+        gap.chunk_id,
+        chunk_id,
+        taken,
+        found.offset,
+        kind,
+        name,
+        cost,
+    );
     index.in_order();
     let rest = Gap {
         length: gap.length - taken,
@@ -53,7 +61,7 @@ pub fn allocate_front(
     index.replace(gap.length, gap.start, Some(found.place), rest);
 }
 
-/// Gives the whole found gap to a piece. It takes no memory.
+/// Puts a piece into the whole found gap. It takes no memory.
 pub fn allocate_whole(
     chain: &mut Chain,
     index: &mut GapIndex,

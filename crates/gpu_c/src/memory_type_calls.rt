@@ -54,7 +54,7 @@ pub extern "C" fn pilhangko_raw_memory_type_create(
     }
 }
 
-/// Takes a piece of a block that is there, or tells which block is needed and awaits it, with all host memory for it at hand.
+/// Allocates a piece of a block that is there, or tells which block is needed and awaits it, with all host memory for it at hand.
 /// `AWAITS_BLOCK` where one is awaited, else `INVALID` where the request is none that is served, else `HOST_OUT_OF_MEMORY` where the host
 /// refused memory, else, where a block is needed, `OUT_OF_MEMORY` where the sum of the blocks' sizes would pass 2^64 - 1, else
 /// `BUDGET_EXCEEDED` where it would pass the budget.
@@ -136,7 +136,7 @@ pub extern "C" fn pilhangko_raw_memory_type_abandon(
     }
 }
 
-/// Gives a live piece back, and tells the block that goes with it, if one does: its memory goes back to the driver. It takes no host
+/// Frees a live piece, and tells the block that goes with it, if one does: its memory goes back to the driver. It takes no host
 /// memory. `AWAITS_BLOCK` where a block is awaited, else `NOT_LIVE`.
 #[unsafe(no_mangle)]
 pub extern "C" fn pilhangko_raw_memory_type_free(
@@ -162,7 +162,7 @@ pub extern "C" fn pilhangko_raw_memory_type_free(
     }
 }
 
-/// Gives a live piece another name. `AWAITS_BLOCK` where a block is awaited, else `INVALID` where the name isn't UTF-8, else `NOT_LIVE`,
+/// Renames a live piece. `AWAITS_BLOCK` where a block is awaited, else `INVALID` where the name isn't UTF-8, else `NOT_LIVE`,
 /// else `HOST_OUT_OF_MEMORY`.
 #[unsafe(no_mangle)]
 pub extern "C" fn pilhangko_raw_memory_type_rename(

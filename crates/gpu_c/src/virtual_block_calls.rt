@@ -67,7 +67,7 @@ pub extern "C" fn pilhangko_raw_virtual_block_create(
     create(block, alloc, size, granularity)
 }
 
-/// Takes the least place for the request in the shortest gap that it fits in. `INVALID` where the request is none that is served,
+/// Allocates the least place for the request in the shortest gap that it fits in. `INVALID` where the request is none that is served,
 /// else `OUT_OF_MEMORY` where no gap has a place, else `HOST_OUT_OF_MEMORY` where the host refused memory.
 #[unsafe(no_mangle)]
 pub extern "C" fn pilhangko_raw_virtual_block_allocate(
@@ -99,7 +99,7 @@ pub extern "C" fn pilhangko_raw_virtual_block_allocate(
     }
 }
 
-/// Gives a live piece back; its place joins the gaps beside it. It takes no host memory. `NOT_LIVE` where no live piece has that number
+/// Frees a live piece; its place joins the gaps beside it. It takes no host memory. `NOT_LIVE` where no live piece has that number
 /// and offset.
 #[unsafe(no_mangle)]
 pub extern "C" fn pilhangko_raw_virtual_block_free(
@@ -123,7 +123,7 @@ pub extern "C" fn pilhangko_raw_virtual_block_free(
     }
 }
 
-/// Gives a live piece another name. `INVALID` where the name isn't UTF-8, else `NOT_LIVE`, else `HOST_OUT_OF_MEMORY`.
+/// Renames a live piece. `INVALID` where the name isn't UTF-8, else `NOT_LIVE`, else `HOST_OUT_OF_MEMORY`.
 #[unsafe(no_mangle)]
 pub extern "C" fn pilhangko_raw_virtual_block_rename(
     block: &mut VirtualBlockHandle,
@@ -150,7 +150,7 @@ pub extern "C" fn pilhangko_raw_virtual_block_rename(
     }
 }
 
-/// Gives all pieces back: the block is as create made it. `HOST_OUT_OF_MEMORY` where the host refused memory for that.
+/// Frees all pieces: the block is as create made it. `HOST_OUT_OF_MEMORY` where the host refused memory for that.
 #[unsafe(no_mangle)]
 pub extern "C" fn pilhangko_raw_virtual_block_clear(
     block: &mut VirtualBlockHandle,

@@ -122,7 +122,7 @@ abbrev pub PreparesBy : Bool → AwaitingState → MemoryRequest → List ℕ �
 PreparesBy false old r name answer new = (answer.block_size ≡ 0) × (answer.dedicated ≡ false) × TakesPiece old r name answer.piece new
 PreparesBy true old r name answer new = (answer.piece ≡ no_memory_piece) × Awaits old r name answer.block_size answer.dedicated new
 
--- what a request that is served comes to
+-- what a request that is served results in
 pub record Prepares (old : AwaitingState) (r : MemoryRequest) (name : List ℕ) (answer : MemoryPrepared) (new : AwaitingState) : Type 0 where
   pub idle : old.awaited ≡ None
   pub served : IsServed r.size r.alignment r.kind name

@@ -44,7 +44,7 @@ pub record IsWellFormed (b : Block) : Type 0 where
   pub separated : HasPagesApart b
   pub covered : IsCoveredBlock b
 
--- a request that is served has been refused for that cause: it has no place, or host memory was refused. Where a gap is long enough for it whatever its neighbours are, want of a place is never the
+-- a request that is served has been refused for that cause: it has no place, or host memory was refused. Where a gap is long enough for it whatever its neighbours are, lack of a place is never the
 -- cause while the block has numbers
 pub record IsRefusedFor (b : Block) (r : VirtualRequest) (name : List ℕ) (e : AllocationError) : Type 0 where
   pub served : IsServed r.size r.alignment r.kind name

@@ -11,9 +11,15 @@ ghost use Rattle.gpu_c_blocks.specs.MemoryType.{AwaitingState, fresh_memory_type
 ghost use Rattle.gpu_c_blocks.specs.Visit.{told_view, piece_in_from, ShowsName};
 ghost use Rattle.gpu_c_blocks.specs.declared.status.TheConstants.{OK, OUT_OF_MEMORY, INVALID, NOT_LIVE, HOST_OUT_OF_MEMORY, BUDGET_EXCEEDED, AWAITS_BLOCK, AWAITS_NO_BLOCK};
 
-use crate::memory_type_values::{MemoryBlock, MemoryBlockStatistics, MemoryPiece, MemoryPrepared, MemoryRequest, MemoryStatistics, MemoryTypeSettings};
+use crate::memory_type_values::{
+    MemoryBlock, MemoryBlockStatistics, MemoryPiece, MemoryPrepared, MemoryRequest,
+    MemoryStatistics, MemoryTypeSettings,
+};
 use crate::request::served;
-use crate::status::{AWAITS_BLOCK, AWAITS_NO_BLOCK, BUDGET_EXCEEDED, HOST_OUT_OF_MEMORY, INVALID, NOT_LIVE, OK, OUT_OF_MEMORY};
+use crate::status::{
+    AWAITS_BLOCK, AWAITS_NO_BLOCK, BUDGET_EXCEEDED, HOST_OUT_OF_MEMORY, INVALID, NOT_LIVE, OK,
+    OUT_OF_MEMORY,
+};
 use crate::virtual_block_values::PieceView;
 use crate::visit::{first_from, name_from, no_piece};
 use gpu_core::{MemoryType, NeedBlock, Piece, Prepared, Request};
@@ -131,7 +137,7 @@ impl AwaitingType {
         }
     }
 
-    /// Takes a piece of a block that is there, or says which block is needed and awaits it.
+    /// Allocates a piece of a block that is there, or says which block is needed and awaits it.
     pub fn prepare(
         &mut self,
         request: &MemoryRequest,
@@ -212,7 +218,7 @@ impl AwaitingType {
         }
     }
 
-    /// Gives a piece back, and tells the block that goes with it, if one does.
+    /// Frees a piece, and tells the block that goes with it, if one does.
     pub fn free(&mut self, piece: &MemoryPiece, gone: &mut MemoryBlock) -> u32
         ensures freed { result ≡ status.ok → FreesPiece self.old piece.now gone.new self.new }
         ensures awaits_block { (result ≡ status.awaits_block) ↔ IsSome self.old.awaited }
@@ -236,7 +242,7 @@ impl AwaitingType {
         }
     }
 
-    /// Gives a piece another name.
+    /// Renames a piece.
     pub fn rename(&mut self, piece: &MemoryPiece, name: &[u8]) -> u32
         ensures renamed { result ≡ status.ok → IsUtf8 name.now × NamesMemory self.old piece.now name.now self.new }
         ensures awaits_block { (result ≡ status.awaits_block) ↔ IsSome self.old.awaited }

@@ -53,7 +53,7 @@ pub struct MemoryPiece {
     pub block: u64,
 }
 
-/// What a request comes to: a piece, or the block that is needed for it.
+/// What a request results in: a piece, or the block that is needed for it.
 #[repr(C)]
 #[derive(Drop)]
 pub struct MemoryPrepared {

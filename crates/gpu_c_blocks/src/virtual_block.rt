@@ -56,7 +56,7 @@ impl VirtualBlock {
         }
     }
 
-    /// Takes a piece.
+    /// Allocates a piece.
     pub fn allocate(
         &mut self,
         wanted: &VirtualRequest,
@@ -104,7 +104,7 @@ impl VirtualBlock {
         }
     }
 
-    /// Gives a piece back.
+    /// Frees a piece.
     pub fn free(&mut self, piece: &VirtualPiece) -> u32
         ensures freed { result ≡ status.ok → Frees self.old piece.now self.new }
         ensures not_live { (result ≡ status.not_live) ↔ (IsLivePiece self.old piece.now → ⊥) }
@@ -120,7 +120,7 @@ impl VirtualBlock {
         }
     }
 
-    /// Gives a piece another name.
+    /// Renames a piece.
     pub fn rename(&mut self, piece: &VirtualPiece, name: &[u8]) -> u32
         ensures renamed { result ≡ status.ok → IsUtf8 name.now × NamesPiece self.old piece.now name.now self.new }
         ensures invalid { (result ≡ status.invalid) ↔ (IsUtf8 name.now → ⊥) }
@@ -141,7 +141,7 @@ impl VirtualBlock {
         }
     }
 
-    /// Gives all pieces back.
+    /// Frees all pieces.
     pub fn clear(&mut self, alloc: Global) -> u32
         ensures emptied { result ≡ status.ok → self.new ≡ cleared self.old }
         ensures statuses { IsOneOf result (status.ok ∷ status.host_out_of_memory ∷ []) }

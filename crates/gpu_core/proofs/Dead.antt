@@ -1,4 +1,4 @@
--- A refused release, and a refused new name that isn't for want of host memory, say that the piece isn't live.
+-- A refused release, and a refused new name that isn't for lack of host memory, say that the piece isn't live.
 use Rattle.std.proofs.Common.{◌≡◌, ℕ, Bool, refl, sym, ◌∙◌, ap, inl, inr, arith, Option, Some, None, List}
 use Rattle.std.specs.Prelude.{Contains, IfSome}
 use Rattle.std.specs.Option.{option_to_list}

@@ -1,4 +1,4 @@
--- A new name that is refused for want of host memory was asked of a live piece.
+-- A new name that is refused for lack of host memory was asked of a live piece.
 use Rattle.std.proofs.Common.{◌≡◌, ℕ, Bool, refl, sym, subst, inl, inr, Some, None, List}
 use Rattle.std.specs.Prelude.{Contains}
 use Rattle.std.specs.Int.NonZero.{non_zero_u64_get}
@@ -34,7 +34,7 @@ host_held (dedicated b) n sound h none =
       | inr some ↦ dedicated_held b (non_zero_u64_get n) sound some.0 some.1 none
     ]
 
--- a new name for want of host memory was refused to a live piece
+-- a new name for lack of host memory was refused to a live piece
 pub starved_live : {H : Type 0} (eq : H → H → Bool) (p : Piece H) (s : Slot H) (f : Finding) (refusal : Refusal) → Finds eq p s f → (f ≡ findings.Other → ⊥) → IsSoundBlock s.block → IsRenameRefusalIn
     s.block (Some p.chunk_id) refusal → refusal ≡ host_out_of_memory → SlotHolds eq p (Some s)
 starved_live eq p s findings.Piece refusal h other sound cause e = h

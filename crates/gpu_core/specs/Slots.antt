@@ -73,7 +73,7 @@ Settles several (Some old) went None = (went ≡ Some old.handle) × Goes severa
 Settles several None went None = went ≡ None
 Settles several None went (Some new) = ⊥
 
--- of a block that went, if one did: the device's number of it, the bytes that went with it, and 1 where it was shared
+-- of a block that went, if one did: the driver's handle of it, the bytes that went with it, and 1 where it was shared
 abbrev pub released_handle : {H : Type 0} → Option (ReleasedBlock H) → Option H
 released_handle None = None
 released_handle (Some went) = Some went.handle

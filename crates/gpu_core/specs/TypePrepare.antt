@@ -18,7 +18,7 @@ pub record CanInstall {H : Type 0} (t : TypeState H) (size : ℕ) (is_dedicated 
   pub separated : HasPagesApart ready.block
   pub holds : HoldsPiece ready.block ready.chunk_id ready.offset ready.size
 
--- what a request comes to: a piece of a shared block, or a new block, which the type can take; then the slots are as before
+-- what a request results in: a piece of a shared block, or a new block, which the type can take; then the slots are as before
 abbrev pub IsPrepared : {H : Type 0} → (old : TypeState H) → Sizes → type_requests.Request → Prepared H → (new : TypeState H) → Type 0
 IsPrepared old sizes r (prepared.Taken p) new =
     (has_dedicated_block old sizes r.dedicated r.size ≡ false) × PreparesPiece old.slots (asked r) p new.slots

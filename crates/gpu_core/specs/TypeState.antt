@@ -4,7 +4,7 @@ use Rattle.std.specs.List.{slice_index_or, position}
 use Rattle.gpu_block_pieces.specs.FreeList.{IsGap}
 use Rattle.gpu_block.specs.Block.{Block, free_list, dedicated, extents_of, size_of, is_shared}
 
--- a live block: the device's number of it, and its pieces
+-- a live block: the driver's handle of it, and its pieces
 pub record Slot (H : Type 0) : Type 0 where
   pub handle : H
   pub block : Block

@@ -1,4 +1,4 @@
--- What a request comes to in a memory type: a piece of a shared block, or the need of a new block.
+-- What a request leads to in a memory type: a piece of a shared block, or the need of a new block.
 use Rattle.std.specs.Prelude.{◌≡◌, ℕ, ◌<◌, ◌||◌, ◌++◌, nat_lt, Bool, true, false, List, [], ◌∷◌, length, Option, Some, None, cond}
 use Rattle.std.specs.List.{slice_set}
 use Rattle.std.specs.Option.{unwrap_or, is_some}

@@ -25,7 +25,7 @@ pub use memory_type::{MemoryType, Prepared};
 pub use need::{NeedBlock, PendingBlock};
 pub use piece::{Piece, Request};
 pub use report::add_slots;
-pub use slot::{Finding, ReleasedBlock, LiveBlock, find};
+pub use slot::{Finding, LiveBlock, ReleasedBlock, find};
 pub use slots::Slots;
 pub use statistics::count_slots;
 pub use type_leaks::TypeLeaks;

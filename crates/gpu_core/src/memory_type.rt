@@ -6,16 +6,14 @@ ghost use Rattle.gpu_values.specs.declared.error.AllocationError.TheVariants.{Ho
 ghost use Rattle.gpu_values.specs.Refusal.{refusal_of};
 
 use crate::need::{NeedBlock, make_pending};
+use crate::{Finding, LiveBlock, Piece, Request, Slots, TypeLeaks, add_slots, count_slots, find};
 use gpu_block::SubAllocator;
 use gpu_block_pieces::{BlockStatistics, Leaks, Pieces};
-use crate::{
-    Finding, LiveBlock, Piece, Request, Slots, TypeLeaks, add_slots, count_slots, find,
-};
 use gpu_values::{AllocationSizes, AllocationType, AllocatorReport, Result};
 use std::alloc::Global;
 use std::marker::Model;
 
-/// What a request comes to.
+/// What a request results in.
 #[derive(Drop)]
 pub enum Prepared<H> {
     /// A shared block has served it.
@@ -101,7 +99,7 @@ impl<H: Copy + Eq> MemoryType<H> {
         }
     }
 
-    /// Takes a piece of the highest shared block that has a place; else says which new block is needed, with all host
+    /// Allocates a piece of the highest shared block that has a place; else says which new block is needed, with all host
     /// memory for it at hand. That is one of the piece's own where the request wants it or is above the next shared block's
     /// size. The only refusal is `HostOutOfMemory`, and leaves the slots as they were. The budget isn't looked at
     /// (`fits_budget`).
@@ -135,7 +133,7 @@ impl<H: Copy + Eq> MemoryType<H> {
         }))
     }
 
-    /// Puts in the block that `prepare` asked for, under the device's number of it, and answers the piece in it. It
+    /// Puts in the block that `prepare` asked for, under the driver's handle of it, and answers the piece in it. It
     /// takes no memory and can't be refused. Its caller sees to it that there is room for the block, as `prepare` leaves it, and
     /// that the sum of all blocks' sizes stays in 64 bits.
     pub fn install(&mut self, need: NeedBlock, handle: H) -> Piece<H>
@@ -171,7 +169,7 @@ impl<H: Copy + Eq> MemoryType<H> {
         }
     }
 
-    /// Gives a piece back, and names the block that went with it, if one did: a dedicated block goes, and so does an
+    /// Frees a piece, and names the block that went with it, if one did: a dedicated block goes, and so does an
     /// emptied shared one where another shared one is live. It takes no memory. `Internal` where the piece isn't live, and then
     /// nothing changes.
     pub fn free(&mut self, piece: &Piece<H>) -> Result<Option<H>>
@@ -200,7 +198,7 @@ impl<H: Copy + Eq> MemoryType<H> {
         }
     }
 
-    /// Gives a piece another name. `Internal` where the piece isn't live, else `HostOutOfMemory` where the host refused
+    /// Renames a piece. `Internal` where the piece isn't live, else `HostOutOfMemory` where the host refused
     /// memory; then nothing changes.
     pub fn rename(&mut self, piece: &Piece<H>, name: &str) -> Result<()>
         ensures renamed { OnOk result (RenamesPiece self.old.slots piece.now name.now self.new.slots) }

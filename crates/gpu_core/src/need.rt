@@ -8,8 +8,8 @@ ghost use Rattle.gpu_block.specs.Block.{TakesIn, HoldsPiece, HasPages, IsSoundBl
 ghost use Rattle.gpu_core.specs.TypeTake.{fresh_block, asked};
 ghost use Rattle.gpu_values.specs.declared.error.AllocationError.TheVariants.{HostOutOfMemory};
 
-use gpu_block::{DedicatedBlockAllocator, FreeListAllocator, SubAllocator};
 use crate::Request;
+use gpu_block::{DedicatedBlockAllocator, FreeListAllocator, SubAllocator};
 use gpu_values::{AllocationType, Result};
 use std::alloc::Global;
 use std::marker::Model;

@@ -18,7 +18,7 @@ use gpu_block::SubAllocator;
 use gpu_values::{AllocationError, AllocationType, Result, internal_fault};
 use std::num::NonZeroU64;
 
-/// A live block: the device's number of it, and its pieces.
+/// A live block: the driver's handle of it, and its pieces.
 #[derive(Drop)]
 pub struct LiveBlock<H> {
     pub handle: H,
@@ -43,7 +43,7 @@ pub fn longest_in<H>(slot: &Option<LiveBlock<H>>) -> u64
     }
 }
 
-/// Takes a piece of a shared block, or answers `None` where the slot can't serve the request. The only refusal is
+/// Allocates a piece of a shared block, or answers `None` where the slot can't serve the request. The only refusal is
 /// `HostOutOfMemory`.
 pub fn allocate_in<H: Copy>(
     slot: &mut Option<LiveBlock<H>>,
@@ -114,7 +114,7 @@ pub fn find<H: Copy + Eq>(block: &LiveBlock<H>, piece: &Piece<H>) -> Finding
     }
 }
 
-/// A block that went: the device's number of it, its size in bytes, and whether it was shared.
+/// A block that went: the driver's handle of it, its size in bytes, and whether it was shared.
 #[derive(Drop)]
 pub struct ReleasedBlock<H> {
     pub handle: H,
@@ -143,7 +143,7 @@ fn settle<H: Copy>(slot: &mut Option<LiveBlock<H>>, several: bool) -> Option<Rel
     None
 }
 
-/// Gives a piece back to its block. It takes no memory; a refusal leaves the block as it was.
+/// Frees a piece of its block. It takes no memory; a refusal leaves the block as it was.
 fn free_piece<H: Copy + Eq>(block: &mut LiveBlock<H>, piece: &Piece<H>) -> Result<()>
     requires { IsSoundBlock (block_of block.old.sub) }
     ensures released { OnOk result (ReleasesIn (block_of block.old.sub) (non_zero_u64_get piece.now.chunk_id) (block_of block.new.sub)) }
@@ -161,7 +161,7 @@ fn free_piece<H: Copy + Eq>(block: &mut LiveBlock<H>, piece: &Piece<H>) -> Resul
     }
 }
 
-/// Gives a piece back. It takes no memory; a refusal leaves the slot as it was.
+/// Frees a piece. It takes no memory; a refusal leaves the slot as it was.
 pub fn release<H: Copy + Eq>(
     slot: &mut Option<LiveBlock<H>>,
     piece: &Piece<H>,
@@ -186,7 +186,7 @@ pub fn release<H: Copy + Eq>(
     }
 }
 
-/// Gives a piece another name. A refusal leaves the slot as it was.
+/// Renames a piece. A refusal leaves the slot as it was.
 pub fn rename<H: Copy + Eq>(
     slot: &mut Option<LiveBlock<H>>,
     piece: &Piece<H>,

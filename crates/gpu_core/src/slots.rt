@@ -12,7 +12,7 @@ ghost use Rattle.gpu_core.specs.TypeTake.{asked, PreparesPiece, NoneServes, new_
 ghost use Rattle.gpu_core.specs.Slots.{slot_of, slots_of, AreSound, AreBounded, OthersAreBounded, IsEmptyAt, released_handle, released_size, released_shared};
 
 use crate::longest::Longest;
-use crate::slot::{ReleasedBlock, LiveBlock, longest_in, release, rename, allocate_in};
+use crate::slot::{LiveBlock, ReleasedBlock, allocate_in, longest_in, release, rename};
 use crate::{Piece, Request};
 use gpu_values::{AllocationType, Result, internal_fault};
 use std::alloc::Global;
@@ -62,7 +62,7 @@ impl<H: Copy + Eq> Slots<H> {
         &self.blocks
     }
 
-    /// Takes a piece of the highest shared block that has a place, or answers `None` where none has. The only refusal is
+    /// Allocates a piece of the highest shared block that has a place, or answers `None` where none has. The only refusal is
     /// `HostOutOfMemory`.
     pub fn allocate(&mut self, request: &Request, granularity: u64) -> Result<Option<Piece<H>>>
         requires sized { 0 < request.now.size }
@@ -114,7 +114,7 @@ impl<H: Copy + Eq> Slots<H> {
         slot
     }
 
-    /// Gives a piece back. It takes no memory; a refusal changes nothing.
+    /// Frees a piece. It takes no memory; a refusal changes nothing.
     pub fn free(&mut self, piece: &Piece<H>, several: bool) -> Result<Option<ReleasedBlock<H>>>
         requires { (g : ℕ) × AreSound g self.old.slots }
         ensures released { IfOk result (λ went.
@@ -132,7 +132,7 @@ impl<H: Copy + Eq> Slots<H> {
         Ok(gone)
     }
 
-    /// Gives a piece another name. A refusal changes nothing.
+    /// Renames a piece. A refusal changes nothing.
     pub fn rename(&mut self, piece: &Piece<H>, name: &str) -> Result<()>
         requires { (g : ℕ) × AreSound g self.old.slots }
         ensures renamed { OnOk result (RenamesPiece self.old.slots piece.now name.now self.new.slots) }
@@ -159,7 +159,7 @@ fn measure<H>(longest: &mut Longest, slots: &[Option<LiveBlock<H>>], slot: usize
     longest.set(slot, longest_in(&slots[slot]));
 }
 
-/// Takes a piece of the highest shared block that has a place, or answers `None` where none has. Only blocks with a gap that is
+/// Allocates a piece of the highest shared block that has a place, or answers `None` where none has. Only blocks with a gap that is
 /// long enough are asked. The only refusal is `HostOutOfMemory`.
 fn allocate_shared<H: Copy>(
     slots: &mut Vec<Option<LiveBlock<H>>>,
@@ -268,7 +268,7 @@ fn put_block<H: Drop>(
     }
 }
 
-/// Gives a piece back. It takes no memory; a refusal changes nothing.
+/// Frees a piece. It takes no memory; a refusal changes nothing.
 fn free_in<H: Copy + Eq>(
     slots: &mut Vec<Option<LiveBlock<H>>>,
     piece: &Piece<H>,
@@ -293,7 +293,7 @@ fn free_in<H: Copy + Eq>(
     release(slot, piece, several)
 }
 
-/// Gives a piece another name. A refusal changes nothing.
+/// Renames a piece. A refusal changes nothing.
 fn rename_in<H: Copy + Eq>(
     slots: &mut Vec<Option<LiveBlock<H>>>,
     piece: &Piece<H>,

@@ -49,7 +49,7 @@ pub fn one_block_needed<H: Copy + Eq>()
         → Installs old is_dedicated ready chunk_id p new → Installs old is_dedicated ready chunk_id q next → (p ≡ q) × (new ≡ next) }
 {}
 
-/// A release of a piece has one outcome, and so have a new name, and each refusal of one but want of host memory.
+/// A release of a piece has one outcome, and so have a new name, and each refusal of one but lack of host memory.
 pub fn one_piece_released<H: Copy + Eq>()
     ensures releases { (g : ℕ) (several : Bool) (old : List (Option (Slot H))) (p : Piece H) (went gone : Option H) (new next : List (Option (Slot H)))
         → AreSound g old → ReleasesPiece (IsTrue several) old p went new → ReleasesPiece (IsTrue several) old p gone next → (went ≡ gone) × (new ≡ next) }

@@ -73,8 +73,8 @@ module _ {D : Type 0} (g : Ghosts D) (d : ResourceCreateDesc) (question : Create
   abbrev p : AllocationCreateDesc
   p = piece_desc d (info_of basis d)
 
-  abbrev IsAllocated : Result Allocation AllocationError → Type 0
-  IsAllocated result = allocations.AllocatesBy g p (is_valid p) old result mid
+  abbrev DidAllocate : Result Allocation AllocationError → Type 0
+  DidAllocate result = allocations.AllocatesBy g p (is_valid p) old result mid
 
   abbrev IsSound : Type 0
   IsSound = (t : ℕ) → IsSoundAt (kinds_of_device old.source.tier) mid.slots t
@@ -83,7 +83,7 @@ module _ {D : Type 0} (g : Ghosts D) (d : ResourceCreateDesc) (question : Create
   Places met reply new = Place (AsksBlock g) (GivesHeapBack g) (MakesResource g) (ReleasesResource g) basis d question met reply old new
 
   -- no piece was allocated, so the device isn't asked
-  pub not_allocated : (e : AllocationError) → IsAllocated (Err e) → IsPlacedOver g d question old (Err e) mid
+  pub not_allocated : (e : AllocationError) → DidAllocate (Err e) → IsPlacedOver g d question old (Err e) mid
   not_allocated e a =
       let t = attempted g p (is_valid p) old (Err e) mid a in
       let is = refused_as p e t.allocated t.replies in
@@ -99,7 +99,7 @@ module _ {D : Type 0} (g : Ghosts D) (d : ResourceCreateDesc) (question : Create
         replies = refl;
       }
 
-  module _ (a : Allocation) (sound : IsSound) (allocates : IsAllocated (Ok a)) (between : SourceState D) (answer : ResourceAnswer)
+  module _ (a : Allocation) (sound : IsSound) (allocates : DidAllocate (Ok a)) (between : SourceState D) (answer : ResourceAnswer)
       (asked : MakesResource g d mid.source question (InHeap a.heap a.offset) (entries.Placed a.heap.0 a.offset (made_size (g.properties (device_of mid.source.device)) question d.resource_desc.now d.castable_formats.now)) answer between) where
     abbrev made_as : Reply
     made_as = made_reply a.memory_type_index (Some (piece_of a)) size (number_or_refusal placed_texts answer)

@@ -96,7 +96,7 @@ fits_true rs size below = lt-ltb (total_size rs + size) (2 ^ 64) below
 fits_false : (rs : List CommittedRecord) (size : ℕ) → 2 ^ 64 ≤ total_size rs + size → fits rs size ≡ false
 fits_false rs size above = cases_false (total_size rs + size) (2 ^ 64) above
 
--- a refusal, as what an answer comes to
+-- a refusal, as what an answer results in
 pub refused_reply : (texts : Texts) (answer : ResourceAnswer) (r : Refusal) → resource_refusal texts answer ≡ Some r → (Err r ≡ number_or_refusal texts answer) × (resource_number answer ≡ None)
 refused_reply texts (Granted n) r is = absurd (none_some r is)
 refused_reply texts (Declined code reason) r is = (ap Err (sym (some_same _ _ is)), refl)

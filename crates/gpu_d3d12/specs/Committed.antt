@@ -1,4 +1,4 @@
--- Committed resources, by memory type, and what asking for one more and giving one back comes to.
+-- Committed resources, by memory type, and what asking for one more and giving one back results in.
 use Rattle.std.specs.Prelude.{◌≡◌, ℕ, ◌+◌, ◌^◌, ◌<◌, ◌==◌, ◌&&◌, Bool, true, false, nat_lt, List, [], ◌∷◌, ◌++◌, length, slice_get, Option, Some, None, Result, Ok, Err, codes}
 use Rattle.std.specs.List.{sum_by, slice_set, slice_index_or, position, remove}
 use Rattle.std.specs.Option.{option_map}
@@ -64,7 +64,7 @@ abbrev pub with_record : List CommittedRecord → (size : ℕ) → Option ℕ �
 with_record records size None = records
 with_record records size (Some number) = records ++ record { resource = record { 0 = number }; size = size } ∷ []
 
--- what a committed resource of this size comes to: first its sum decides, then host memory, then the device
+-- what a committed resource of this size results in: first its sum decides, then host memory, then the device
 abbrev pub CommitsBy : (fits host : Bool) → List CommittedRecord → (size : ℕ) → Option ResourceAnswer → Result ℕ Refusal → List CommittedRecord → Type 0
 CommitsBy false host old size answer reply new = (host ≡ true) × (answer ≡ None) × (reply ≡ Err out_of_memory) × (new ≡ old)
 CommitsBy true false old size answer reply new = (answer ≡ None) × (reply ≡ Err host_out_of_memory) × (new ≡ old)

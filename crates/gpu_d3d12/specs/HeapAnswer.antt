@@ -42,7 +42,7 @@ pub record AsksHeap {D : Type 0} (g : Ghosts D) (old : D) (desc : HeapDesc) (ans
   pub latest_memory : g.latest_memory new ≡ g.latest_memory old
   pub constant : g.properties new ≡ g.properties old
 
--- why a heap is refused with a code: for want of memory (`E_OUTOFMEMORY`, 0x8007000e), or for another cause
+-- why a heap is refused with a code: for lack of memory (`E_OUTOFMEMORY`, 0x8007000e), or for another cause
 abbrev pub code_refusal : ℤ → Refusal
 code_refusal code = cond (int_eq code (neg_ℤ (pos 2147024882))) out_of_memory (internal (codes "ID3D12Device::CreateHeap failed") (Some code))
 

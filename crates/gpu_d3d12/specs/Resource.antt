@@ -1,4 +1,4 @@
--- A resource, as its owner holds it, and what asking for one comes to.
+-- A resource, as its owner holds it, and what asking for one results in.
 use Rattle.std.specs.Prelude.{◌≡◌, ℕ, ◌+◌, ◌≤◌, ◌%◌, Option, Some, None, Result, Ok, Err}
 use Rattle.std.specs.FinMap.{get}
 use Rattle.gpu_device.specs.declared.d3d12.types.HeapDesc.{HeapDesc}

@@ -28,7 +28,7 @@ pub data ResourceAnswer : Type 0 where
   -- there was no error, and no resource
   Null : ResourceAnswer
 
--- what the device's answer comes to, where it tells this reason
+-- what the device's answer results in, where it tells this reason
 abbrev pub answer_of : Result (Option ID3D12Resource) ℤ → (reason : ℤ) → ResourceAnswer
 answer_of (Ok (Some resource)) reason = Granted resource.0
 answer_of (Ok None) reason = Null

@@ -29,14 +29,14 @@ ghost use Rattle.gpu_d3d12.specs.Step.{Free, Rename, Capacity, Report, Leaks, Fr
 ghost use Rattle.gpu_d3d12.specs.declared.resource.Resource.{Resource};
 
 use crate::allocate::allocate_piece;
+use crate::create_resource::{make_committed, make_placed};
 use crate::free_resource::free_resource;
 use crate::logging::{log_allocate, log_free, log_last_leaks, log_leaks};
-use crate::create_resource::{make_committed, make_placed};
 use crate::source::D3D12Blocks;
 use crate::{
     Allocation, AllocationCreateDesc, AllocatorCreateDesc, CommittedAllocationStatistics,
-    CommittedResources, ID3D12DeviceVersion, CommittedMemory, Resource, ResourceCreateDesc, ResourceType,
-    parts_of, question_for,
+    CommittedMemory, CommittedResources, ID3D12DeviceVersion, Resource, ResourceCreateDesc,
+    ResourceType, parts_of, question_for,
 };
 use gpu_device::d3d12::{D3D12Device, ID3D12Heap};
 use gpu_memory_types::MemoryTypes;
@@ -85,7 +85,7 @@ impl<D: D3D12Device> Allocator<D> {
         ensures beside { IfOk result (λ a. beside_of D.D3D12Device a ≡ D.held (device_of desc.device)) }
         ensures journal { IfOk result (λ a. a.journal ≡ []) }
         ensures refused { IfErr result (λ e. e.1 ≡ desc.device) }
-        // the device's tier can't be told, else want of host memory: nothing else refuses
+        // the device's tier can't be told, else lack of host memory: nothing else refuses
         ensures cause { IfErr result (λ e. refusal_of e.0 ≡ unwrap_or (setup_fault (D.properties (device_of desc.device))) host_out_of_memory) }
     {
         let AllocatorCreateDesc {
@@ -113,7 +113,7 @@ impl<D: D3D12Device> Allocator<D> {
     /// - `HostOutOfMemory`: the host refused memory for the name, the record or the block's own lists;
     /// - `OutOfMemory`: a new block would carry the sum of all blocks' sizes past `u64::MAX`;
     /// - `BudgetExceeded`: a new block would carry its memory type past its budget (`set_budget`);
-    /// - `OutOfMemory` or `Internal`: the device refused the heap for want of memory (`E_OUTOFMEMORY`), or for another cause,
+    /// - `OutOfMemory` or `Internal`: the device refused the heap for lack of memory (`E_OUTOFMEMORY`), or for another cause,
     ///   or gave null.
     ///
     /// A refusal leaves every block as it was, and the device holds what it held.
@@ -237,7 +237,7 @@ impl<D: D3D12Device> Allocator<D> {
     /// - a placed one: each error of `allocate`;
     /// - a committed one: `OutOfMemory` where the sizes of its memory type's committed resources would sum up past `u64::MAX`,
     ///   else `HostOutOfMemory` where the host refused memory for its record;
-    /// - `Internal`: the device refused the resource, for want of memory too, or gave null. The code is the device's, or the
+    /// - `Internal`: the device refused the resource, for lack of memory too, or gave null. The code is the device's, or the
     ///   reason for which it was removed.
     ///
     /// A refusal leaves what is live as it was, and the device holds no new resource. One thing may stay: where the device

@@ -12,7 +12,7 @@ ghost use Rattle.gpu_d3d12.specs.Journal.{with_made, with_released, number_in};
 ghost use Rattle.gpu_d3d12.specs.Source.{MakesResource, ReleasesResource, source_blocks};
 
 use crate::source::D3D12Blocks;
-use crate::{CommittedAllocationStatistics, CommittedRecord, ResourceCreateDesc, CreateCall};
+use crate::{CommittedAllocationStatistics, CommittedRecord, CreateCall, ResourceCreateDesc};
 use gpu_device::d3d12::{D3D12Device, HeapFlags, HeapProperties, ID3D12Resource};
 use gpu_values::{AllocationError, Result, internal_fault};
 use std::alloc::{AllocError, Global};

@@ -14,8 +14,8 @@ use crate::allocate::allocate_piece;
 use crate::logging::log_allocate;
 use crate::source::D3D12Blocks;
 use crate::{
-    Allocation, AllocationCreateDesc, CommittedResources, CommittedMemory, Resource, ResourceCreateDesc,
-    CreateCall, allocation_info_of, type_for,
+    Allocation, AllocationCreateDesc, CommittedMemory, CommittedResources, CreateCall, Resource,
+    ResourceCreateDesc, allocation_info_of, type_for,
 };
 use gpu_device::d3d12::{D3D12Device, ID3D12Resource, ResourceAllocationInfo};
 use gpu_pool::Pool;

@@ -6,8 +6,8 @@ ghost use Rattle.gpu_d3d12.specs.Category.{category_of};
 ghost use Rattle.gpu_d3d12.specs.Describe.{request_of};
 
 use crate::{ID3D12DeviceVersion, ResourceCategory};
-use gpu_device::d3d12::{D3D12Device, ResourceDesc};
 use gpu_core::Request;
+use gpu_device::d3d12::{D3D12Device, ResourceDesc};
 use gpu_values::{AllocationSizes, AllocationType, AllocatorDebugSettings, MemoryLocation};
 
 /// What an allocator is made from. It owns the device until `destroy` gives it back.

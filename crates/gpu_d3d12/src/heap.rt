@@ -15,7 +15,7 @@ use gpu_values::{AllocationError, Fault, MemoryLocation, Result, internal_fault}
 /// (`D3D12_DEFAULT_MSAA_RESOURCE_PLACEMENT_ALIGNMENT`).
 const HEAP_ALIGNMENT: u64 = 4_194_304;
 
-/// Direct3D's code for want of memory (`E_OUTOFMEMORY`, 0x8007000e).
+/// Direct3D's code for lack of memory (`E_OUTOFMEMORY`, 0x8007000e).
 const OUT_OF_MEMORY: i32 = -2_147_024_882;
 
 /// Heap properties on a system with one GPU.

@@ -6,6 +6,7 @@ mod allocator;
 mod category;
 mod committed;
 mod committed_record;
+mod create_resource;
 mod describe;
 mod device_version;
 mod free_resource;
@@ -13,7 +14,6 @@ mod heap;
 mod journal;
 pub mod laws;
 mod logging;
-mod create_resource;
 mod memory_kind;
 mod question;
 mod resource;
@@ -23,7 +23,7 @@ mod source;
 
 pub use allocator::Allocator;
 pub use category::ResourceCategory;
-use committed::{CommittedResources, CommittedMemory};
+use committed::{CommittedMemory, CommittedResources};
 use committed_record::CommittedRecord;
 use describe::request_of;
 pub use describe::{AllocationCreateDesc, AllocatorCreateDesc};
@@ -33,8 +33,8 @@ use heap::{create_block_heap, heap_desc, release_block_heap};
 pub use memory_kind::type_for;
 use memory_kind::{MemoryKind, kind_at, type_count};
 pub use question::{
-    CommittedAllocationStatistics, ResourceCreateDesc, CreateCall,
-    ResourceStateOrBarrierLayout, ResourceType, allocation_info_of, question_for,
+    CommittedAllocationStatistics, CreateCall, ResourceCreateDesc, ResourceStateOrBarrierLayout,
+    ResourceType, allocation_info_of, question_for,
 };
 pub use resource::Resource;
 pub use resource_answer::{create_committed, create_placed};

@@ -8,7 +8,7 @@ use gpu_device::d3d12::ID3D12Resource;
 use gpu_values::MemoryLocation;
 
 /// A buffer or a texture: in a piece of a heap, or in memory of its own. Give it back by the allocator's `free_resource`. One
-/// that is let go otherwise stays with the device, and its memory with it.
+/// that is dropped otherwise stays with the device, and its memory with it.
 #[derive(Debug, Drop)]
 pub struct Resource {
     pub(crate) resource: ID3D12Resource,

@@ -8,7 +8,7 @@ ghost use Rattle.gpu_d3d12.specs.Question.{made_size};
 ghost use Rattle.gpu_d3d12.specs.ResourceAnswer.{ResourceAnswer, AsksResource, Makes, answer_of, code_refusal, texts_of, committed_texts, placed_texts};
 
 use crate::question::desc1_of;
-use crate::{ResourceCreateDesc, CreateCall};
+use crate::{CreateCall, ResourceCreateDesc};
 use gpu_device::d3d12::{D3D12Device, HeapFlags, HeapProperties, ID3D12Heap, ID3D12Resource};
 use gpu_values::{AllocationError, Fault, Result, internal_fault};
 

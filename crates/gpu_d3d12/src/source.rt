@@ -12,7 +12,7 @@ ghost use Rattle.gpu_d3d12.specs.Source.{AsksBlock, GivesHeapBack, MakesResource
 
 use crate::journal::{Journal, ResourceEvent};
 use crate::{
-    ID3D12DeviceVersion, CommittedMemory, ResourceCreateDesc, CreateCall, create_block_heap,
+    CommittedMemory, CreateCall, ID3D12DeviceVersion, ResourceCreateDesc, create_block_heap,
     create_committed, create_placed, heap_desc, kind_at, release_block_heap,
 };
 use gpu_device::d3d12::{D3D12Device, ID3D12Heap, ID3D12Resource, ResourceHeapTier};

@@ -138,7 +138,7 @@ module _ {H : Type 0} (types : Types H) (i : ℕ) (old new : TypeState H) (at : 
     limits_cause sizes r (Ok p) prepared h why = tt
     limits_cause sizes r (Err e) prepared h why = inr (too_much sizes r prepared (refusal_of e) h why)
 
-  -- a refusal that isn't for want of host memory comes to pieces alone that aren't live
+  -- a refusal that isn't for lack of host memory concerns pieces alone that aren't live
   pub named_cause : (eq : H → H → Bool) (p : Piece H) (r : Result (Unit {0}) AllocationError) → IfErr r (λ e. e ≢ errors.HostOutOfMemory → IsLive eq old.slots p → ⊥)
       → IfErr r (λ e. e ≡ errors.HostOutOfMemory → IsLive eq old.slots p) → IfErr r (λ e. IsNameRefusal eq p (slot_at old.slots p.slot) (refusal_of e))
       → IfErr r (λ e. IsNotNamed eq (slots_at (slots_of types) i) p (refusal_of e))

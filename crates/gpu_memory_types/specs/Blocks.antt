@@ -4,7 +4,7 @@ use Rattle.std.specs.List.{sum_by, slice_index_or}
 use Rattle.gpu_core.specs.TypeState.{Slot, slot_at, capacity_of}
 use Rattle.gpu_core.specs.Slots.{AreSound}
 
--- the slots of each memory type, where H is the device's number of a block
+-- the slots of each memory type, where H is the driver's handle of a block
 abbrev pub Slots : (H : Type 0) → Type 0
 Slots H = List (List (Option (Slot H)))
 

@@ -1,4 +1,4 @@
--- What giving a piece of one memory type back comes to.
+-- What freeing a piece of one memory type results in.
 use Rattle.std.specs.Prelude.{◌≡◌, ℕ, Bool, List, Option, IsTrue}
 use Rattle.std.specs.List.{slice_set}
 use Rattle.gpu_values.specs.Refusal.{Refusal}

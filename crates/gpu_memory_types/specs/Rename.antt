@@ -1,4 +1,4 @@
--- What giving a piece another name comes to.
+-- What renaming a piece results in.
 use Rattle.std.specs.Prelude.{◌≡◌, ◌≢◌, ℕ, ◌⊎◌, Bool, List, Option}
 use Rattle.std.specs.List.{slice_set}
 use Rattle.gpu_values.specs.Refusal.{Refusal, host_out_of_memory}

@@ -1,4 +1,4 @@
--- What a request comes to at one memory type among all.
+-- What a request results in at one memory type among all.
 use Rattle.std.specs.Prelude.{◌≡◌, ℕ, ◌⊎◌, Bool, List, Option, Some, None}
 use Rattle.std.specs.List.{slice_set}
 use Rattle.gpu_values.specs.Refusal.{Refusal, host_out_of_memory}

@@ -13,7 +13,9 @@ use crate::capacity::total_capacity;
 use crate::leaks::{AllLeaks, all_leaks, texts_of};
 use crate::report::report_of;
 use gpu_core::{MemoryType, NeedBlock, Piece, Prepared, Request};
-use gpu_values::{AllocationError, AllocationSizes, AllocationType, AllocatorReport, Fault, Result};
+use gpu_values::{
+    AllocationError, AllocationSizes, AllocationType, AllocatorReport, Fault, Result,
+};
 use std::alloc::Global;
 use std::marker::Model;
 
@@ -161,7 +163,7 @@ impl<H: Copy + Eq> MemoryTypes<H> {
         }
     }
 
-    /// Takes a piece of the memory type at `index`, which is there, or says which new block is needed for it, as
+    /// Allocates a piece of the memory type at `index`, which is there, or says which new block is needed for it, as
     /// `MemoryType::prepare` does; no device is asked. `HostOutOfMemory` where the host refused memory; `OutOfMemory` where a new block would carry the sum of all
     /// blocks' sizes past `u64::MAX`, else `BudgetExceeded` where it would carry that of its memory type past its budget;
     /// a refusal leaves the slots as they were.
@@ -189,7 +191,7 @@ impl<H: Copy + Eq> MemoryTypes<H> {
         within_limits(used, memory_type, prepared)
     }
 
-    /// Puts in the block that `prepare` asked for, under the device's number of it, and answers the piece in it. It
+    /// Puts in the block that `prepare` asked for, under the driver's handle of it, and answers the piece in it. It
     /// takes no memory and can't be refused.
     pub fn install(&mut self, index: usize, need: NeedBlock, handle: H) -> Piece<H>
         requires there { index < length self.old }
@@ -204,7 +206,7 @@ impl<H: Copy + Eq> MemoryTypes<H> {
         self.types[index].install(need, handle)
     }
 
-    /// Gives a piece of the memory type at `index` back, and names the block that went with it, if one did. It takes no
+    /// Frees a piece of the memory type at `index`, and names the block that went with it, if one did. It takes no
     /// memory. `Internal` where the piece isn't live, and then nothing changes.
     pub fn free(&mut self, index: usize, piece: &Piece<H>) -> Result<Option<H>>
         ensures released { IfOk result (λ went. ReleasesAt index piece.now (slots_of self.old) went (slots_of self.new)) }
@@ -223,7 +225,7 @@ impl<H: Copy + Eq> MemoryTypes<H> {
         self.types[index].free(piece)
     }
 
-    /// Gives a piece of the memory type at `index` another name. `Internal` where the piece isn't live, else
+    /// Renames a piece of the memory type at `index`. `Internal` where the piece isn't live, else
     /// `HostOutOfMemory` where the host refused memory; then nothing changes.
     pub fn rename(&mut self, index: usize, piece: &Piece<H>, name: &str) -> Result<()>
         ensures renamed { OnOk result (IsRenamed H.eq index piece.now name.now (slots_of self.old) (slots_of self.new)) }

@@ -93,7 +93,7 @@ impl<D: MetalDevice> Allocator<D> {
     /// - `HostOutOfMemory`: the host refused memory for the name, the record or the block's own lists;
     /// - `OutOfMemory`: a new block would carry the sum of all blocks' sizes past `u64::MAX`;
     /// - `BudgetExceeded`: a new block would carry its memory type past its budget (`set_budget`);
-    /// - `Internal`: the device refused the heap, for want of memory too. Metal tells no cause.
+    /// - `Internal`: the device refused the heap, for lack of memory too. Metal tells no cause.
     ///
     /// A refusal leaves every block as it was, and the device holds what it held.
     pub fn allocate<L: Log>(&mut self, log: &L, desc: &AllocationCreateDesc) -> Result<Allocation>

@@ -5,8 +5,8 @@ ghost use Rattle.gpu_values.specs.Refusal.{refusal_of};
 ghost use Rattle.gpu_core.specs.TypeTake.{asked};
 ghost use Rattle.gpu_metal.specs.Describe.{buffer_storage_mode, IsTextureLocation, IsUnknownMode, request_of};
 
-use gpu_device::metal::{MetalDevice, StorageMode, TextureDescriptor};
 use gpu_core::Request;
+use gpu_device::metal::{MetalDevice, StorageMode, TextureDescriptor};
 use gpu_values::{
     AllocationError, AllocationSizes, AllocationType, AllocatorDebugSettings, Fault,
     MemoryLocation, Result,

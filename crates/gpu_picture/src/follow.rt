@@ -17,8 +17,11 @@ use gpu_run::d3d12::Reply as D3D12Reply;
 use gpu_run::metal::Reply as MetalReply;
 use gpu_run::vulkan::Reply as VulkanReply;
 use gpu_timeline::{Sample, TimelineSvg, Usage, usage_of};
-use gpu_trace_text::{AnyReply, AnyTrace, BlockStage, Outcome, Replayed, Reply, Stage, Trace, TraceError, d3d12, metal, replay_from};
 use gpu_trace_text::device::reply as device;
+use gpu_trace_text::{
+    AnyReply, AnyTrace, BlockStage, Outcome, Replayed, Reply, Stage, Trace, TraceError, d3d12,
+    metal, replay_from,
+};
 use log::Log;
 use std::alloc::{AllocError, Global};
 use std::io;

@@ -9,9 +9,9 @@ use draw::{Form, draw};
 use follow::{Followed, draw_over_time, follow_trace};
 use gpu_trace_text::{AnyTrace, Replayed, Trace, TraceError, replay_trace};
 use log::sink::Discard;
-use std::{env, io};
 use std::io::{BufWriter, Write};
 use std::process::ExitCode;
+use std::{env, io};
 
 /// What is to be written.
 #[derive(Clone, Copy)]

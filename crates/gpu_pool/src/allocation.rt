@@ -7,7 +7,7 @@ use gpu_core::Piece;
 use std::num::NonZeroU64;
 
 /// A piece of a heap: bytes `offset..offset + size` of `heap`. Place a resource there. Give it back by the allocator's
-/// `free`; one that is let go otherwise stays live until `destroy`.
+/// `free`; one that is dropped otherwise stays live until `destroy`.
 #[derive(Debug, Drop)]
 pub struct Allocation<H> {
     pub(crate) chunk_id: NonZeroU64,

@@ -12,8 +12,8 @@ ghost use Rattle.gpu_pool.specs.Live.{IsLive};
 
 use crate::BlockSource;
 use crate::handles::all_handles;
-use gpu_memory_types::MemoryTypes;
 use gpu_core::Piece;
+use gpu_memory_types::MemoryTypes;
 use gpu_values::Result;
 
 /// Frees a piece of the memory type at `index`, and gives its block back where that goes. It takes no memory.

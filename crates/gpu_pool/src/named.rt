@@ -75,7 +75,7 @@ impl<S: BlockSource> Pool<S> {
         self.is_live(allocation.memory_type_index, &allocation.piece())
     }
 
-    /// Gives an allocation another name, and the record of its piece with it. `Internal` where it isn't live, else
+    /// Renames an allocation, and the record of its piece with it. `Internal` where it isn't live, else
     /// `HostOutOfMemory` where the host refused memory; a refusal changes nothing.
     pub fn rename_named(
         &mut self,

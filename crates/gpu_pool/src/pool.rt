@@ -26,8 +26,8 @@ use crate::BlockSource;
 use crate::allocate::attempt;
 use crate::free::{free_piece, give_back_all};
 use crate::handles::{Handles, all_handles};
-use gpu_memory_types::{AllLeaks, MemoryTypes};
 use gpu_core::{Piece, Request};
+use gpu_memory_types::{AllLeaks, MemoryTypes};
 use gpu_values::{AllocationSizes, AllocationType, AllocatorReport, Result};
 use std::alloc::Global;
 use std::marker::Model;
@@ -112,7 +112,7 @@ impl<S: BlockSource> Pool<S> {
         free_piece(&mut self.source, &mut self.types, index, piece)
     }
 
-    /// Gives a piece of the memory type at `index` another name. `Internal` where the piece isn't live, else
+    /// Renames a piece of the memory type at `index`. `Internal` where the piece isn't live, else
     /// `HostOutOfMemory`; then nothing changes.
     pub fn rename(&mut self, index: usize, piece: &Piece<S::Handle>, name: &str) -> Result<()>
         ensures renames { Renames S.Handle.eq index piece.now name.now self.old (result_of result) self.new }

@@ -1,4 +1,4 @@
--- What a request for a resource under a free number comes to.
+-- What a request for a resource under a free number results in.
 use Rattle.std.proofs.Common.{◌≡◌, ◌∙◌, ℕ, Option, Some, None, Ok, Err, true, refl, sym, ap, subst}
 use Rattle.std.specs.Option.{option_map}
 use Rattle.gpu_values.specs.Refusal.{refusal_of}

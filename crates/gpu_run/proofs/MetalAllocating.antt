@@ -1,4 +1,4 @@
--- What a request under a free number comes to.
+-- What a request under a free number results in.
 use Rattle.std.proofs.Common.{◌≡◌, ◌∙◌, ℕ, List, Some, None, Result, Ok, Err, true, refl, sym, ap, subst}
 use Rattle.gpu_values.specs.Refusal.{Refusal, refusal_of}
 use Rattle.gpu_values.specs.declared.error.AllocationError.{AllocationError}

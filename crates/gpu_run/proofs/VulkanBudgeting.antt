@@ -1,4 +1,4 @@
--- What a new budget comes to.
+-- What a new budget results in.
 use Rattle.std.proofs.Common.{◌≡◌, ℕ, Option, Some, true, ap}
 use Rattle.gpu_device.specs.declared.vulkan.device.VulkanDevice.{Ghosts}
 use Rattle.gpu_vulkan.specs.State.{State}

@@ -1,4 +1,4 @@
--- What a new name under a number comes to.
+-- What a new name under a number results in.
 use Rattle.std.proofs.Common.{◌≡◌, ◌∙◌, ℕ, List, Option, Some, None, Ok, Err, true, sym, ap}
 use Rattle.gpu_values.specs.Refusal.{refusal_of}
 use Rattle.gpu_core.specs.declared.piece.Piece.{Piece}

@@ -1,4 +1,4 @@
--- What an allocation under a free number comes to.
+-- What an allocation under a free number results in.
 use Rattle.std.proofs.Common.{◌≡◌, ◌∙◌, ℕ, Option, Some, None, Ok, Err, true, refl, sym, ap, subst}
 use Rattle.std.specs.Prelude.{IsSomeAnd, slice_get}
 use Rattle.std.specs.Int.NonZero.{non_zero_u64_get}

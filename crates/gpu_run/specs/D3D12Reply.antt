@@ -22,7 +22,7 @@ pub record Shown : Type 0 where
   pub chunk : ℕ
   pub heap : ID3D12Heap
 
--- what is shown of a new resource: the device's number of it, its size, and its piece where it is placed
+-- what is shown of a new resource: the driver's handle of it, its size, and its piece where it is placed
 pub record ShownResource : Type 0 where
   pub number : ℕ
   pub size : ℕ

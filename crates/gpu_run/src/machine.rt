@@ -18,12 +18,12 @@ pub trait Machine {
     // From a state, the command may be answered so, and leaves this state.
     ghost serves: { Self → Self.Command → Self.Reply → Self → Type 0 };
 
-    /// Serves one command. What it wants of memory and isn't given is its reply.
+    /// Serves one command. What it lacks of memory is its reply.
     fn serve<L: Log>(&mut self, log: &L, command: &Self::Command) -> Self::Reply
         ensures { serves self.old command.now result self.new };
 }
 
-/// Serves commands one after another, and answers a reply for each. PendingBlock for all replies is made first: where it is refused,
+/// Serves commands one after another, and answers a reply for each. Room for all replies is made first: where it is refused,
 /// the answer is `HostOutOfMemory` and nothing has run.
 pub fn run<M: Machine, L: Log>(
     alloc: Global,

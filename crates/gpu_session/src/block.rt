@@ -1,4 +1,3 @@
 //! Sessions of one block.
 
-pub use gpu_run::block::BlockSession as Session;
-pub use gpu_run::block::{Command, Kind, Reply, Report, Side};
+pub use gpu_run::block::{BlockSession as Session, Command, Kind, Reply, Report, Side};

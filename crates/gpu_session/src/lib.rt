@@ -6,9 +6,9 @@ pub mod d3d12;
 pub mod metal;
 pub mod vulkan;
 
-pub use gpu_run::vulkan::{Command, Allocated, Reply};
+pub use gpu_run::vulkan::{Allocated, Command, Reply, Session, laws};
 pub use gpu_run::{Machine, run};
-pub use gpu_trace_text::{BlockStage, Configuration, Stage};
-pub use gpu_trace_text::{AnyReply, AnyTrace, replay_trace, run_trace};
-pub use gpu_trace_text::{Outcome, Replayed, Trace, TraceError};
-pub use gpu_run::vulkan::{Session, laws};
+pub use gpu_trace_text::{
+    AnyReply, AnyTrace, BlockStage, Configuration, Outcome, Replayed, Stage, Trace, TraceError,
+    replay_trace, run_trace,
+};

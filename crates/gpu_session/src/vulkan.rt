@@ -1,4 +1,3 @@
 //! Sessions over the Vulkan allocator.
 
-pub use gpu_run::vulkan::{Command, Allocated, Reply};
-pub use gpu_run::vulkan::{Session, laws};
+pub use gpu_run::vulkan::{Allocated, Command, Reply, Session, laws};

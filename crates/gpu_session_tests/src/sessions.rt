@@ -3,7 +3,7 @@
 mod refused;
 
 use gpu_allocator::vulkan::*;
-use gpu_run::vulkan::{Command, Allocated, Reply, Session};
+use gpu_run::vulkan::{Allocated, Command, Reply, Session};
 use gpu_sim::SimVulkan;
 use gpu_values::{AllocationError, AllocationSizes, AllocatorDebugSettings, MemoryLocation};
 use log::sink::Discard;

@@ -54,7 +54,7 @@ impl<T: Drop> Numbers<T> {
         self.slots[index].take()
     }
 
-    /// Puts an item under a number; it is let go where the number was not given out.
+    /// Puts an item under a number; it is dropped where the number was not given out.
     pub fn put(&mut self, number: u64, item: T)
         ensures { self.new.slots.items ≡ with_item_at self.old.slots.items number (Some item) }
     {

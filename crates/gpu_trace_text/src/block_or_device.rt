@@ -3,8 +3,8 @@
 ghost use Rattle.std.specs.Prelude.{IfOk};
 ghost use Rattle.gpu_trace_text.specs.BlockOrDevice.{Serves};
 
-use crate::{Outcome, Reply, Trace, read};
 use crate::stage::Stage;
+use crate::{Outcome, Reply, Trace, read};
 use log::Log;
 use std::alloc::{AllocError, Global};
 use std::io;

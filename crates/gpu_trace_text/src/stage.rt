@@ -6,16 +6,15 @@ ghost use Rattle.gpu_run.specs.VulkanServed.{command_of};
 ghost use Rattle.gpu_trace_text.specs.Stage.{IsSound, Begins, Does, MatchServed, Ended, FitsLine};
 ghost use Rattle.gpu_trace_text.specs.declared.block_stage.BlockStage.TheVariants as block_stages;
 
-use crate::{Line, Outcome, Reply};
 use crate::block_stage::BlockStage;
 use crate::configuration::Configuration;
 use crate::device::reply as device;
 use crate::device::setting::Setting;
+use crate::{Line, Outcome, Reply};
 use gpu_device::vulkan::PhysicalDevice;
 use gpu_run::block::Command;
 use gpu_run::number_of;
-use gpu_run::vulkan::Command as Ask;
-use gpu_run::vulkan::Session;
+use gpu_run::vulkan::{Command as Ask, Session};
 use gpu_sim::SimVulkan;
 use gpu_values::AllocatorDebugSettings;
 use gpu_vulkan::{Allocator, AllocatorCreateDesc};

@@ -118,10 +118,10 @@ same_blocks held now old new t i stay bytes u j away = record {
     same_rest None e at = refl
     same_rest (Some s) e at = ap (λ b. left_of b (extents_of s.block) at) (bytes u j s away e)
 
-module _ (held : Held) (old new : Slots) (t i : ℕ) (a b : Slot DeviceMemory) (at_old : block_at old t i ≡ Some a) (only : OnlyBlock old t i (Some b) new) (number : b.number ≡ a.number)
+module _ (held : Held) (old new : Slots) (t i : ℕ) (a b : Slot DeviceMemory) (at_old : block_at old t i ≡ Some a) (only : OnlyBlock old t i (Some b) new) (handles : b.handle ≡ a.handle)
     (mapped : Bool) (n o size : ℕ) (room : HasRoom mapped (bytes_of held a.handle.0) o size) where
   bytes_is : bytes_of held b.handle.0 ≡ bytes_of held a.handle.0
-  bytes_is = ap (λ (m : DeviceMemory). bytes_of held m.0) number
+  bytes_is = ap (λ (m : DeviceMemory). bytes_of held m.0) handles
 
   list_old : (k : ℕ) → list_in held (block_at old t i) k ≡ piece_bytes (bytes_of held a.handle.0) (piece_of_number (extents_of a.block) k)
   list_old k = ap (λ s. list_in held s k) at_old

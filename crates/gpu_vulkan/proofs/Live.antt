@@ -27,12 +27,12 @@ piece_under a n = record { slot = a.memory_block_index; chunk_id = n; offset = a
 -- a live allocation isn't null, and its piece is live
 pub record LivesAs (ss : Slots) (a : Allocation) : Type 0 where
   pub chunk_id : NonZeroU64
-  pub is : a.chunk_id ≡ Some number
-  pub live : pool.IsLive is_same_memory ss a.memory_type_index (piece_under a number)
+  pub is : a.chunk_id ≡ Some chunk_id
+  pub live : pool.IsLive is_same_memory ss a.memory_type_index (piece_under a chunk_id)
 
 lives_by : (ss : Slots) (a : Allocation) (o : Option NonZeroU64) → a.chunk_id ≡ o → IsLiveIn ss a.memory_type_index (option_map (piece_under a) o) → LivesAs ss a
 lives_by ss a None is live = absurd live
-lives_by ss a (Some n) is live = record { number = n; is = is; live = live }
+lives_by ss a (Some n) is live = record { chunk_id = n; is = is; live = live }
 
 pub lives_as : (ss : Slots) (a : Allocation) → IsLive ss a → LivesAs ss a
 lives_as ss a live = lives_by ss a a.chunk_id refl live
@@ -90,7 +90,7 @@ others_stay old new a p is keeps b live other =
     let l = lives_as old b live in
     let h = has a p is in
     is_live new b l.chunk_id l.is
-    (keeps b.memory_type_index (piece_under b l.chunk_id) l.live (λ types slots numbers. other types (slots ∙ sym h.slot) (ap number_in l.is ∙ numbers ∙ sym h.number)))
+    (keeps b.memory_type_index (piece_under b l.chunk_id) l.live (λ types slots numbers. other types (slots ∙ sym h.slot) (ap number_in l.is ∙ numbers ∙ sym h.chunk_id)))
 
 -- ---- all live allocations
 

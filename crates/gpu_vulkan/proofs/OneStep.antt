@@ -142,7 +142,7 @@ place_same p q e =
     let types = eqb-true p.memory_type q.memory_type a.0 in
     let slots = eqb-true p.slot q.slot b.0 in
     let numbers = eqb-true p.chunk_id q.chunk_id b.1 in
-    λ i. record { memory_type = types i; slot = slots i; number = numbers i }
+    λ i. record { memory_type = types i; slot = slots i; chunk_id = numbers i }
 
 lists_alike : (p : AllocationId) (old new next : ByteView) → new.allocation_bytes p ≡ next.allocation_bytes p →
     ((q : AllocationId) → is_same_id p q ≡ false → new.allocation_bytes q ≡ old.allocation_bytes q) → ((q : AllocationId) → is_same_id p q ≡ false → next.allocation_bytes q ≡ old.allocation_bytes q)

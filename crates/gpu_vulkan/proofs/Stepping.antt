@@ -60,7 +60,7 @@ live_room setup first held ss sound h whole t p live =
     (λ unmapped. live_unmapped setup.properties first held ss sound h t p unmapped live)
 
 -- a piece of a block that stands in its slot is live
-pub live_at : (ss : Slots) (t : ℕ) (p : Piece DeviceMemory) (b : Slot DeviceMemory) → block_at ss t p.slot ≡ Some b → b.number ≡ p.handle → HoldsPiece b.block (non_zero_u64_get p.chunk_id) p.offset
+pub live_at : (ss : Slots) (t : ℕ) (p : Piece DeviceMemory) (b : Slot DeviceMemory) → block_at ss t p.slot ≡ Some b → b.handle ≡ p.handle → HoldsPiece b.block (non_zero_u64_get p.chunk_id) p.offset
     p.size → IsLiveIn ss t (Some p)
 live_at ss t p b at number holds =
     subst (SlotHolds is_same_memory p) (sym at) (eq_true b.handle.0 p.handle.0 (ap (λ (m : DeviceMemory). m.0) number), holds)
@@ -106,7 +106,7 @@ module _ {D : Type 0} (g : Ghosts D) (setup : Setup) (budgets : Budgets) (d : Al
       → (mid : ByteView) × AddsBlock t p.slot bytes (byte_view_of held old) mid × SplitsRest mapped (id_in t p) p.offset p.size mid (byte_view_of now (slice_set old t x))
   installed_bytes own size pages ready r m bytes p x held now takes sized made fresh there same after before holds whole =
       let new = slice_set old t x in
-      let b : Slot DeviceMemory = record { number = m; block = ready.block } in
+      let b : Slot DeviceMemory = record { handle = m; block = ready.block } in
       let k = non_zero_u64_get p.chunk_id in
       let only_at = installs_only (slots_at old t) own ready m p x made in
       let only = only_block old t p.slot (Some b) x below only_at.1 in

@@ -1,4 +1,4 @@
--- An allocation: which memory types are asked, and what each attempt comes to.
+-- An allocation: which memory types are asked, and what each attempt results in.
 use Rattle.std.specs.Prelude.{◌≡◌, ℕ, ◌<◌, ◌≤◌, ◌⊎◌, ◌==◌, ◌&&◌, not, Bool, true, false, if◌then◌else◌, Option, Some, None, Result, Ok, Err}
 use Rattle.std.specs.Int.{is_power_of_two}
 use Rattle.gpu_values.specs.Refusal.{Refusal, refusal_of, refusal_in, out_of_memory, failed_to_map, no_compatible_memory_type_found, invalid_allocation_create_desc, invalid_allocator_create_desc}
@@ -115,7 +115,7 @@ abbrev pub IsFound : {D : Type 0} → Ghosts D → Setup → Budgets → Allocat
 IsFound g setup budgets d None old device result new after = IsRefused no_compatible_memory_type_found old device result new after
 IsFound g setup budgets d (Some t) old device result new after = IsServed g setup budgets t d old device result new after
 
--- what an allocation comes to, where the description is valid or isn't
+-- what an allocation results in, where the description is valid or isn't
 abbrev pub AllocatesBy : {D : Type 0} → Ghosts D → Setup → Budgets → AllocationCreateDesc → (valid : Bool) → Slots → D → Result Allocation AllocationError → Slots → D → Type 0
 AllocatesBy g setup budgets d false old device result new after = IsRefused invalid_allocation_create_desc old device result new after
 AllocatesBy g setup budgets d true old device result new after =

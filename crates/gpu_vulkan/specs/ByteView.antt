@@ -78,7 +78,7 @@ pub record SplitsRest (mapped : Bool) (p : AllocationId) (start size : ℕ) (old
   pub others : (q : AllocationId) → is_same_id p q ≡ false → new.allocation_bytes q ≡ old.allocation_bytes q
   pub unallocated_bytes : (t i at : ℕ) → new.unallocated_bytes t i at ≡ (if lies_in p start size t i at then None else old.unallocated_bytes t i at)
 
--- a piece goes: its list is put back into the rest
+-- a piece goes: its list joins the rest
 pub record JoinsRest (p : AllocationId) (start size : ℕ) (old new : ByteView) : Type 0 where
   pub gone : new.allocation_bytes p ≡ None
   pub others : (q : AllocationId) → is_same_id p q ≡ false → new.allocation_bytes q ≡ old.allocation_bytes q

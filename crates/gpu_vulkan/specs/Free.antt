@@ -1,4 +1,4 @@
--- What giving an allocation back comes to.
+-- What freeing an allocation results in.
 use Rattle.std.specs.Prelude.{◌≡◌, ℕ, List, IsTrue, Option, Some, None, Result, Ok, Err}
 use Rattle.std.specs.FinMap.{remove}
 use Rattle.std.specs.List.{slice_set}

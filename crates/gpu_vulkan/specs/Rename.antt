@@ -1,4 +1,4 @@
--- What giving an allocation another name comes to.
+-- What renaming an allocation results in.
 use Rattle.std.specs.Prelude.{◌≡◌, ℕ, List, IsSomeAnd, string_bytes, Option, Some, None, Result, Ok, Err}
 use Rattle.gpu_values.specs.Refusal.{refusal_of, host_out_of_memory}
 use Rattle.gpu_values.specs.declared.error.AllocationError.{AllocationError}

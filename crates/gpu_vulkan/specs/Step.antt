@@ -194,7 +194,7 @@ RenameStep setup t (Some p) name host answer old new =
 -- ---- bytes
 
 abbrev pub id_of : Allocation → AllocationId
-id_of a = record { memory_type = a.memory_type_index; slot = a.memory_block_index; number = number_in a.chunk_id }
+id_of a = record { memory_type = a.memory_type_index; slot = a.memory_block_index; chunk_id = number_in a.chunk_id }
 
 pub record WriteStep (setup : Setup) (a : Allocation) (bytes : List ℕ) (old new : ModelState) : Type 0 where
   pub live : IsMapped setup.properties old.slots a

@@ -2,12 +2,12 @@
 
 ghost use Rattle.std.specs.Prelude.{◌≡◌, Some, None, IsTrue, ◌↔◌};
 
-use gpu_device::vulkan::{DeviceMemory, MemoryPropertyFlags};
 use gpu_core::Piece;
+use gpu_device::vulkan::{DeviceMemory, MemoryPropertyFlags};
 use std::num::NonZeroU64;
 
 /// A piece of device memory: bytes `offset..offset + size` of `memory`. Bind a buffer or image to it there. Give it
-/// back by the allocator's `free`; one that is let go otherwise stays live until `destroy`. A null allocation,
+/// back by the allocator's `free`; one that is dropped otherwise stays live until `destroy`. A null allocation,
 /// `Allocation::default()`, is no piece.
 #[derive(Debug, Drop)]
 pub struct Allocation {
@@ -102,12 +102,12 @@ impl Allocation {
     {
         match self.chunk_id {
             None => None,
-            Some(number) => Some(Piece {
+            Some(chunk_id) => Some(Piece {
                 slot: self.memory_block_index,
-                number,
+                chunk_id,
                 offset: self.offset,
                 size: self.size,
-                block: self.device_memory,
+                handle: self.device_memory,
             }),
         }
     }

@@ -80,7 +80,7 @@ impl<D: VulkanDevice> Allocator<D> {
         ensures budgets { IfOk result (λ a. All (λ b. b ≡ None) a.budgets) }
         ensures valid { OnOk result (setup_fault desc.physical_device.0 (D.properties desc.device) ≡ None) }
         ensures refused { IfErr result (λ e. e.1 ≡ desc.device) }
-        // the first fault that holds, else want of host memory: nothing else refuses
+        // the first fault that holds, else lack of host memory: nothing else refuses
         ensures cause { IfErr result (λ e. refusal_of e.0 ≡ unwrap_or (setup_fault desc.physical_device.0 (D.properties desc.device)) host_out_of_memory) }
     {
         let AllocatorCreateDesc {
@@ -133,7 +133,7 @@ impl<D: VulkanDevice> Allocator<D> {
     /// at the first of `memory_type_bits` with HOST_VISIBLE and HOST_COHERENT, and that answer counts. A refusal leaves every
     /// block as it was, and the device holds what it held.
     pub fn allocate<L: Log>(&mut self, log: &L, desc: &AllocationCreateDesc) -> Result<Allocation>
-        // which memory types are asked, one after another, what each attempt comes to, and what the device then holds
+        // which memory types are asked, one after another, what each attempt results in, and what the device then holds
         ensures allocates { Allocates D.VulkanDevice self.old.setup self.old.budgets desc.now self.old.slots self.old.device result self.new.slots self.new.device }
         ensures constant { (self.new.first ≡ self.old.first) × (self.new.setup ≡ self.old.setup) × (self.new.budgets ≡ self.old.budgets) }
         ensures step { IsAllocateStep D.VulkanDevice desc.now result self.old self.new }
@@ -300,7 +300,7 @@ impl<D: VulkanDevice> Allocator<D> {
         &mut self,
         allocation: &Allocation,
     ) -> Option<MappedAllocationSlab<'_>>
-        // once the slab's bytes are let go, what they then hold stands at the allocation's place; at None nothing has changed
+        // once the slab's bytes are dropped, what they then hold stands at the allocation's place; at None nothing has changed
         ensures* lends { sem 𝓛 (lends_slab_if D.row D.VulkanDevice self.entry allocation.now result) }
         ensures mapped { IsSome result ↔ IsMapped self.old.setup.properties self.old.slots allocation.now }
         ensures value { IfSome result (λ s. bytes_at (D.held self.old.device) allocation.now ≡ Some s.bytes.now) }

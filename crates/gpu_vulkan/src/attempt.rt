@@ -14,12 +14,12 @@ ghost use Rattle.gpu_vulkan.specs.declared.allocation.Allocation.{Allocation};
 
 use crate::source::VulkanBlocks;
 use crate::{
-    Allocation, AllocationCreateDesc, Setup, first_type, is_mapped, requests_dedicated, request_of,
+    Allocation, AllocationCreateDesc, Setup, first_type, is_mapped, request_of, requests_dedicated,
     required_flags,
 };
+use gpu_core::Piece;
 use gpu_device::vulkan::{DeviceMemory, VulkanDevice};
 use gpu_pool::Pool;
-use gpu_core::Piece;
 use gpu_values::{AllocationError, MemoryLocation, Result};
 use std::alloc::{AllocError, Global};
 

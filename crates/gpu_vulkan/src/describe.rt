@@ -4,8 +4,8 @@ ghost use Rattle.std.specs.Prelude.{◌≡◌};
 ghost use Rattle.gpu_vulkan.specs.Describe.{kind_of, requests_dedicated, request_of};
 ghost use Rattle.gpu_core.specs.TypeTake.{asked};
 
-use gpu_device::vulkan::{AllocationScheme, MemoryRequirements, PhysicalDevice};
 use gpu_core::Request;
+use gpu_device::vulkan::{AllocationScheme, MemoryRequirements, PhysicalDevice};
 use gpu_values::{AllocationSizes, AllocationType, AllocatorDebugSettings, MemoryLocation};
 
 /// What an allocation is asked for. Sizes and alignments are bytes.

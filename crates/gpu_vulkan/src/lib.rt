@@ -18,6 +18,6 @@ pub use allocation::Allocation;
 pub use allocator::Allocator;
 use choice::{best_type, first_type, required_flags};
 pub use describe::{AllocationCreateDesc, AllocatorCreateDesc};
-use describe::{requests_dedicated, request_of};
+use describe::{request_of, requests_dedicated};
 use setup::{Settings, Setup, fault_of, is_mapped, parts_of};
 pub use slab::MappedAllocationSlab;

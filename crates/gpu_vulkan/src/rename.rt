@@ -10,9 +10,9 @@ ghost use Rattle.gpu_vulkan.specs.Rename.{Renames, StayLive};
 
 use crate::Allocation;
 use crate::source::VulkanBlocks;
+use gpu_core::Piece;
 use gpu_device::vulkan::{DeviceMemory, VulkanDevice};
 use gpu_pool::Pool;
-use gpu_core::Piece;
 use gpu_values::Result;
 use std::alloc::Global;
 

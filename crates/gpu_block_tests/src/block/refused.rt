@@ -45,7 +45,7 @@ impl Refusals {
     }
 }
 
-/// Takes a piece; where the host refused memory nothing has changed, and it is asked for once more.
+/// Allocates a piece; where the host refused memory nothing has changed, and it is asked for once more.
 fn take(
     rt: &impl Abort,
     block: &mut SubAllocator,

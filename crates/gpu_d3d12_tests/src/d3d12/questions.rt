@@ -2,8 +2,8 @@
 
 use super::*;
 use gpu_d3d12::{
-    ResourceCreateDesc, CreateCall, ResourceStateOrBarrierLayout, ResourceType,
-    allocation_info_of, create_committed, create_placed,
+    CreateCall, ResourceCreateDesc, ResourceStateOrBarrierLayout, ResourceType, allocation_info_of,
+    create_committed, create_placed,
 };
 use gpu_device::d3d12::{
     ClearValue, CpuPageProperty, D3D12Device, HeapFlags, HeapProperties, HeapType, ID3D12Heap,
@@ -109,13 +109,7 @@ fn check_placed(
     plain: &ResourceCreateDesc,
     told: &str,
 ) -> Outcome {
-    let placed = create_placed(
-        device,
-        CreateCall::InState(1),
-        plain,
-        ID3D12Heap(9),
-        0,
-    );
+    let placed = create_placed(device, CreateCall::InState(1), plain, ID3D12Heap(9), 0);
     let text = text_of(alloc, placed)?;
     assert!(rt; text.as_str() == told);
     Ok(())

@@ -2,8 +2,8 @@
 
 use super::resources::IN_STATE;
 use super::*;
-use gpu_run::d3d12::{Command, Memory, Reply, Session, WantedResource};
 use gpu_device::d3d12::{CpuPageProperty, HeapFlags, HeapProperties, HeapType, MemoryPool};
+use gpu_run::d3d12::{Command, Memory, Reply, Session, WantedResource};
 
 /// The properties of a committed resource in the GPU's memory.
 const PROPERTIES: HeapProperties = HeapProperties {

@@ -1,4 +1,4 @@
-//! What the words of the device's laws come to, each the contract of a function that does nothing.
+//! What the words of the device's laws mean, each the contract of a function that does nothing.
 
 ghost use Rattle.std.specs.Prelude.{◌≡◌, ◌≢◌, ℕ, Some, None};
 ghost use Rattle.std.specs.FinMap.{get, insert, remove};

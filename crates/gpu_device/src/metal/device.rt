@@ -60,7 +60,7 @@ pub trait MetalDevice {
         ensures { result ≡ refused self.now };
 
     /// Asks for a heap of so many bytes (`MTLDevice.makeHeap`), and makes room for it in every residency set. `None` is a
-    /// refusal, by the device or for want of host memory.
+    /// refusal, by the device or for lack of host memory.
     fn new_heap(&mut self, desc: &HeapDescriptor, size: u64, label: &str) -> Option<MTLHeap>
         ensures number { IsNew (held self.old) (granted_heap result) }
         ensures holds { held self.new ≡ with_granted (held self.old) (granted_heap result) (Heap desc.now size) }

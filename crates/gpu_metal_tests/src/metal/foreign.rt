@@ -28,7 +28,7 @@ struct Row {
 
 const GPU: MemoryLocation = MemoryLocation::GpuOnly;
 
-/// Neighbour pieces of 512 bytes with number 2 at 0, and of 256 bytes with number 3 at 512, in slot 0 of memory type 0, in the
+/// Beside pieces of 512 bytes with number 2 at 0, and of 256 bytes with number 3 at 512, in slot 0 of memory type 0, in the
 /// device's heap 1.
 const ROWS: &[Row] = &[
     // the heap

@@ -9,8 +9,8 @@ ghost use Rattle.gpu_block.specs.Block.{is_shared, HasPages, IsSoundBlock};
 ghost use Rattle.gpu_block.specs.SubAllocator.{block_of};
 ghost use Rattle.gpu_run.specs.BlockSession.{Allocating};
 
-use crate::{ErrorNumber, Machine, number_of};
 use crate::block::{Command, Kind, Reply, Report};
+use crate::{ErrorNumber, Machine, number_of};
 use gpu_block::{FreeListAllocator, SubAllocator};
 use gpu_values::AllocationType;
 use log::Log;
@@ -105,7 +105,7 @@ impl BlockSession {
         })
     }
 
-    /// Takes a piece under the caller's number.
+    /// Allocates a piece under the caller's number.
     pub fn allocate(&mut self, key: u64, size: u64, alignment: u64, kind: Kind, name: &str) -> Reply
         ensures { Allocating self.old key (request size alignment (type_of_kind kind) name.now) result self.new }
     {
@@ -151,7 +151,7 @@ impl BlockSession {
         self.granularity
     }
 
-    /// Serves commands one after another, and answers a reply for each. PendingBlock for all replies is made first: where it is refused,
+    /// Serves commands one after another, and answers a reply for each. Room for all replies is made first: where it is refused,
     /// the answer is `HostOutOfMemory` and nothing has run.
     pub fn run<L: Log>(
         &mut self,
@@ -182,7 +182,7 @@ impl BlockSession {
     }
 }
 
-/// Takes a piece, and binds the key, which stands for none, to it. PendingBlock for the key is made first.
+/// Allocates a piece, and binds the key, which stands for none, to it. Room for the key is made first.
 fn allocate_unbound(
     block: &mut SubAllocator,
     bound: &mut BTreeMap<u64, NonZeroU64>,

@@ -51,7 +51,7 @@ pub enum Command {
     Free {
         key: u64,
     },
-    /// Gives the allocation another name.
+    /// Renames the allocation.
     Rename {
         key: u64,
         name: String,

@@ -22,11 +22,11 @@ ghost use Rattle.gpu_run.specs.declared.d3d12.command.WantedResource.{WantedReso
 use crate::d3d12::command::{Command, WantedResource};
 use crate::d3d12::describe::{describe, resource_type};
 use crate::d3d12::reply::{Allocated, Made, Reply};
+use crate::{Machine, bind};
 use gpu_d3d12::{
     Allocation, AllocationCreateDesc, Allocator, ID3D12DeviceVersion, Resource, ResourceCreateDesc,
 };
 use gpu_device::d3d12::D3D12Device;
-use crate::{Machine, bind};
 use gpu_values::{AllocationError, Result};
 use log::Log;
 use std::alloc::Global;
@@ -86,8 +86,8 @@ impl<D: D3D12Device> Session<D> {
         }
     }
 
-    /// Serves commands one after another, and answers a reply for each. PendingBlock for all replies is made first: where it is
-    /// refused, the answer is `HostOutOfMemory` and nothing has run. Any later want of memory is the reply of its command,
+    /// Serves commands one after another, and answers a reply for each. Room for all replies is made first: where it is
+    /// refused, the answer is `HostOutOfMemory` and nothing has run. Any later lack of memory is the reply of its command,
     /// which changed nothing but what the device counts of questions that it was asked before.
     pub fn run<L: Log>(&mut self, log: &L, commands: &[Command]) -> Result<Vec<Reply>>
         ensures run { IfOk result (λ replies. IsRun (ServesCommand D.D3D12Device) commands.now replies.items self.old self.new) }
@@ -186,7 +186,7 @@ impl<D: D3D12Device> Session<D> {
         }
     }
 
-    /// PendingBlock for the number is made before the allocator is asked.
+    /// Room for the number is made before the allocator is asked.
     fn allocate<L: Log>(&mut self, log: &L, key: u64, desc: &AllocationCreateDesc) -> Reply
         ensures { (w : Wanted) → AsksFor w desc.now → IsAnswered D.D3D12Device (Under key (Alloc w)) (reply_of result) self.old self.new }
     {
@@ -230,7 +230,7 @@ impl<D: D3D12Device> Session<D> {
         }
     }
 
-    /// PendingBlock for the number is made before the allocator is asked.
+    /// Room for the number is made before the allocator is asked.
     fn create<L: Log>(&mut self, log: &L, key: u64, desc: &ResourceCreateDesc) -> Reply
         ensures { (w : WantedResource) → AsksForResource w desc.now
             → IsAnswered D.D3D12Device (UnderResource key (Create w)) (reply_of result) self.old self.new }

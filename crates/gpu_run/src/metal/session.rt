@@ -17,9 +17,9 @@ ghost use Rattle.gpu_pool.specs.Allocation.{piece_of};
 use crate::metal::command::Command;
 use crate::metal::describe::{Wanted, describe};
 use crate::metal::reply::{Allocated, Reply};
+use crate::{Machine, bind};
 use gpu_device::metal::MetalDevice;
 use gpu_metal::{Allocation, Allocator};
-use crate::{Machine, bind};
 use gpu_values::{AllocationError, Result};
 use log::Log;
 use std::alloc::Global;
@@ -74,8 +74,8 @@ impl<D: MetalDevice> Session<D> {
         }
     }
 
-    /// Serves commands one after another, and answers a reply for each. PendingBlock for all replies is made first: where it is
-    /// refused, the answer is `HostOutOfMemory` and nothing has run. Any later want of memory is the reply of its command,
+    /// Serves commands one after another, and answers a reply for each. Room for all replies is made first: where it is
+    /// refused, the answer is `HostOutOfMemory` and nothing has run. Any later lack of memory is the reply of its command,
     /// which changed nothing but what the device counts of questions that it was asked before.
     pub fn run<L: Log>(&mut self, log: &L, commands: &[Command]) -> Result<Vec<Reply>>
         ensures run { IfOk result (λ replies. IsRun (ServesCommand D.MetalDevice) commands.now replies.items self.old self.new) }
@@ -180,7 +180,7 @@ impl<D: MetalDevice> Session<D> {
         }
     }
 
-    /// PendingBlock for the number is made before the allocator is asked.
+    /// Room for the number is made before the allocator is asked.
     fn allocate<L: Log>(&mut self, log: &L, key: u64, wanted: Wanted, name: &str) -> Reply
         ensures { IsAnswered D.MetalDevice (Under key (Alloc wanted name.now)) (reply_of result) self.old self.new }
     {

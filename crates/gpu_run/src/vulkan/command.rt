@@ -20,11 +20,11 @@ pub enum Command {
     Null {
         key: u64,
     },
-    /// Gives the allocation back; the number is free again.
+    /// Frees the allocation; the number is free again.
     Free {
         key: u64,
     },
-    /// Gives the allocation another name.
+    /// Renames the allocation.
     Rename {
         key: u64,
         name: String,

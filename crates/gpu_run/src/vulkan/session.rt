@@ -11,9 +11,9 @@ ghost use Rattle.gpu_run.specs.VulkanCommand.{Wanted, Describes, Alloc, Null, Fr
 ghost use Rattle.gpu_run.specs.VulkanSession.{IsOwn, SessionInvariant, overwritten};
 ghost use Rattle.gpu_run.specs.VulkanServed.{session_of, command_of, reply_of, shown_allocation, IsServed, IsRun, ServesEach};
 
-use crate::vulkan::{Command, Allocated, Reply};
-use gpu_device::vulkan::VulkanDevice;
+use crate::vulkan::{Allocated, Command, Reply};
 use crate::{Machine, bind};
+use gpu_device::vulkan::VulkanDevice;
 use gpu_values::{AllocationError, Result};
 use gpu_vulkan::{Allocation, AllocationCreateDesc, Allocator};
 use log::Log;
@@ -69,8 +69,8 @@ impl<D: VulkanDevice> Session<D> {
         }
     }
 
-    /// Serves commands one after another, and answers a reply for each. PendingBlock for all replies is made first: where it is
-    /// refused, the answer is `HostOutOfMemory` and nothing has run. Any later want of memory is the reply of its command,
+    /// Serves commands one after another, and answers a reply for each. Room for all replies is made first: where it is
+    /// refused, the answer is `HostOutOfMemory` and nothing has run. Any later lack of memory is the reply of its command,
     /// which changed nothing but what the device counts of questions that it was asked before.
     pub fn run<L: Log>(&mut self, log: &L, commands: &[Command]) -> Result<Vec<Reply>>
         ensures run { IfOk result (λ replies. IsRun D.VulkanDevice (map command_of commands.now) (map reply_of replies.items)
@@ -130,7 +130,7 @@ impl<D: VulkanDevice> Session<D> {
         allocator.destroy(log)
     }
 
-    /// Serves one command. For want of memory it answers `Error(HostOutOfMemory)`, and then the command changed nothing but
+    /// Serves one command. For lack of memory it answers `Error(HostOutOfMemory)`, and then the command changed nothing but
     /// what the device counts of questions that it was asked before.
     pub fn serve<L: Log>(&mut self, log: &L, command: &Command) -> Reply
         ensures { IsServed D.VulkanDevice (command_of command.now) (reply_of result) self.old self.new }
@@ -168,7 +168,7 @@ impl<D: VulkanDevice> Session<D> {
         }
     }
 
-    /// PendingBlock for the number is made before the allocator is asked.
+    /// Room for the number is made before the allocator is asked.
     fn allocate<L: Log>(&mut self, log: &L, key: u64, desc: &AllocationCreateDesc) -> Reply
         ensures { (w : Wanted) → Describes desc.now w
             → IsServed D.VulkanDevice (Under key (Alloc w)) (reply_of result) self.old self.new }

@@ -6,9 +6,9 @@ ghost use Rattle.gpu_trace_text.specs.Words.{texts};
 ghost use Rattle.gpu_trace_text.specs.D3D12Command.{Says};
 
 use crate::d3d12::resource::{category_of, wanted_of};
-use gpu_run::d3d12::Command;
 use crate::device::ask::{budget_of, location_of};
 use crate::words::{name_of, number};
+use gpu_run::d3d12::Command;
 use std::alloc::{AllocError, Global};
 
 fn alloc(alloc: Global, arguments: &[&str]) -> Result<Option<Command>, AllocError>

@@ -7,12 +7,12 @@ ghost use Rattle.gpu_sim_d3d12.specs.Simulation.{properties_of, held_of, plan_of
 ghost use Rattle.gpu_trace_text.specs.D3D12Configuration.{nothing_configured, configured_by, tier_by, plan_by, version_by, sizes_by, by_version};
 
 use crate::d3d12::setting::{Setting, Version};
+use crate::device::setting;
+use crate::device::setting::sizes_of;
 use gpu_d3d12::ID3D12DeviceVersion;
 use gpu_device::d3d12::ResourceHeapTier;
 use gpu_sim_base::Refusal;
 use gpu_sim_d3d12::SimD3D12;
-use crate::device::setting;
-use crate::device::setting::sizes_of;
 use gpu_values::AllocationSizes;
 use std::alloc::{AllocError, Global};
 use std::marker::Model;

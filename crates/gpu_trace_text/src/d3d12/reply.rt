@@ -5,11 +5,11 @@ ghost use Rattle.std.specs.Fmt.{DisplaysOnOk};
 ghost use Rattle.gpu_trace_text.specs.D3D12Reply.{allocated_text, place_text, made_text, statistics_text, type_text, page_text, pool_text, content_text};
 ghost use Rattle.gpu_trace_text.specs.D3D12Reply.{heap_text, formats_text, clear_text, initial_text, asked_text, served_text};
 
-use gpu_run::{ErrorNumber, number_of};
-use gpu_d3d12::{CommittedAllocationStatistics, ResourceStateOrBarrierLayout};
-use gpu_run::d3d12::{Allocated, Made, Reply as Told};
-use gpu_device::d3d12::{ClearValue, CpuPageProperty, HeapContent, HeapDesc, HeapType, MemoryPool};
 use crate::device::reply::{write_leaks, write_report};
+use gpu_d3d12::{CommittedAllocationStatistics, ResourceStateOrBarrierLayout};
+use gpu_device::d3d12::{ClearValue, CpuPageProperty, HeapContent, HeapDesc, HeapType, MemoryPool};
+use gpu_run::d3d12::{Allocated, Made, Reply as Told};
+use gpu_run::{ErrorNumber, number_of};
 use std::fmt;
 
 /// The answer to a line of a DirectX 12 trace.

@@ -15,11 +15,11 @@ ghost use Rattle.gpu_trace_text.specs.D3D12Resource.{category_word, place_word, 
 ghost use Rattle.gpu_trace_text.specs.D3D12Resource.{FitsInitial, FitsFormats, FitsClear, FitsMemory, SpellsDesc, SaysWanted};
 
 use crate::d3d12::numbers::numbers_of;
-use gpu_d3d12::{ResourceCategory, ResourceStateOrBarrierLayout, heap_properties};
-use gpu_run::d3d12::{Memory, WantedResource};
-use gpu_device::d3d12::{ClearValue, Format, HeapFlags, ResourceDesc, ResourceDimension};
 use crate::device::ask::location_of;
 use crate::words::{name_of, number, small_number};
+use gpu_d3d12::{ResourceCategory, ResourceStateOrBarrierLayout, heap_properties};
+use gpu_device::d3d12::{ClearValue, Format, HeapFlags, ResourceDesc, ResourceDimension};
+use gpu_run::d3d12::{Memory, WantedResource};
 use gpu_values::MemoryLocation;
 use std::alloc::{AllocError, Global};
 

@@ -5,10 +5,10 @@ ghost use Rattle.gpu_trace_text.specs.Words.{texts};
 ghost use Rattle.gpu_trace_text.specs.D3D12Setting.{version_word, Says};
 ghost use Rattle.gpu_trace_text.specs.declared.d3d12.setting.Version.{Version};
 
-use gpu_device::d3d12::ResourceHeapTier;
 use crate::device::setting;
 use crate::device::setting::setting_of;
 use crate::words::code;
+use gpu_device::d3d12::ResourceHeapTier;
 use std::alloc::{AllocError, Global};
 
 /// The newest interface that the device has.

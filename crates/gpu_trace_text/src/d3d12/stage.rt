@@ -3,15 +3,15 @@
 ghost use Rattle.std.specs.Prelude.{IfOk};
 ghost use Rattle.gpu_trace_text.specs.D3D12Stage.{Begins, Does, MatchDone};
 
-use crate::{Outcome, Trace};
 use crate::d3d12::configuration::Configuration;
 use crate::d3d12::line::{Line, read};
 use crate::d3d12::looking::asked;
 use crate::d3d12::reply::Reply;
 use crate::d3d12::setting::Setting;
+use crate::{Outcome, Trace};
 use gpu_d3d12::{Allocator, AllocatorCreateDesc};
-use gpu_run::{Machine, number_of};
 use gpu_run::d3d12::{Command, Session};
+use gpu_run::{Machine, number_of};
 use gpu_sim_d3d12::SimD3D12;
 use gpu_values::AllocatorDebugSettings;
 use log::Log;

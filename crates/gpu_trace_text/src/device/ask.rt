@@ -10,8 +10,8 @@ ghost use Rattle.gpu_trace_text.specs.Ask.{location_word, linear_word, scheme_wo
 
 use crate::hex;
 use crate::words::{name_of, number, small_number};
-use gpu_run::vulkan::Command;
 use gpu_device::vulkan::{AllocationScheme, Buffer, Image, MemoryRequirements};
+use gpu_run::vulkan::Command;
 use gpu_values::MemoryLocation;
 use std::alloc::{AllocError, Global};
 

@@ -8,10 +8,10 @@ ghost use Rattle.gpu_trace_text.specs.Ask.{location_word};
 ghost use Rattle.gpu_trace_text.specs.Words.{texts};
 ghost use Rattle.gpu_trace_text.specs.MetalCommand.{mode_word, FitsMode, Says};
 
-use gpu_device::metal::{StorageMode, TextureDescriptor};
-use gpu_run::metal::Command;
 use crate::device::ask::{budget_of, location_of};
 use crate::words::{name_of, number, small_number};
+use gpu_device::metal::{StorageMode, TextureDescriptor};
+use gpu_run::metal::Command;
 use gpu_values::MemoryLocation;
 use std::alloc::{AllocError, Global};
 

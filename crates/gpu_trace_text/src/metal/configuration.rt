@@ -5,11 +5,11 @@ ghost use Rattle.std.specs.FinMap.{empty};
 ghost use Rattle.gpu_sim_metal.specs.Simulation.{held_of, plan_of, history_of, refused_of};
 ghost use Rattle.gpu_trace_text.specs.MetalConfiguration.{nothing_configured, configured_by, plan_by, sizes_by, wants_set};
 
+use crate::device::setting;
+use crate::device::setting::sizes_of;
 use crate::metal::setting::Setting;
 use gpu_sim_base::Refusal;
 use gpu_sim_metal::SimMetal;
-use crate::device::setting;
-use crate::device::setting::sizes_of;
 use gpu_values::AllocationSizes;
 use std::alloc::{AllocError, Global};
 use std::marker::Model;

@@ -4,11 +4,11 @@ ghost use Rattle.std.specs.Prelude.{◌≡◌, ◌∷◌, IfOk};
 ghost use Rattle.gpu_trace_text.specs.Words.{texts, words_of};
 ghost use Rattle.gpu_trace_text.specs.MetalLine.{Means, Reads, ReadsAlone};
 
+use crate::ascii;
 use crate::metal::command::said_command;
 use crate::metal::setting::{Setting, said_setting};
-use gpu_run::metal::Command;
-use crate::ascii;
 use crate::words::words;
+use gpu_run::metal::Command;
 use std::alloc::{AllocError, Global};
 
 /// What is looked up of the device, beside the session.

@@ -5,10 +5,10 @@ ghost use Rattle.std.specs.Fmt.{DisplaysOnOk};
 ghost use Rattle.gpu_trace_text.specs.MetalCommand.{mode_word};
 ghost use Rattle.gpu_trace_text.specs.MetalReply.{allocated_text, heap_line, heaps_text, number_word, listed_text, cache_text, asked_text, served_text};
 
-use gpu_run::{ErrorNumber, number_of};
+use crate::device::reply::write_report;
 use gpu_device::metal::{CpuCacheMode, HeapDescriptor, MTLHeap, StorageMode};
 use gpu_run::metal::{Allocated, Reply as Told};
-use crate::device::reply::write_report;
+use gpu_run::{ErrorNumber, number_of};
 use std::fmt;
 
 /// The answer to a line of a Metal trace.

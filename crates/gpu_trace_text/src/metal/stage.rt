@@ -4,16 +4,16 @@ ghost use Rattle.std.specs.Prelude.{◌≡◌, IfOk};
 ghost use Rattle.gpu_sim_metal.specs.Simulation.{held_of};
 ghost use Rattle.gpu_trace_text.specs.MetalStage.{Begins, Does, MatchDone, count_in};
 
-use crate::{Outcome, Trace};
 use crate::metal::configuration::Configuration;
 use crate::metal::line::{Line, read};
 use crate::metal::looking::look;
 use crate::metal::reply::Reply;
 use crate::metal::setting::Setting;
+use crate::{Outcome, Trace};
 use gpu_device::metal::MTLResidencySet;
 use gpu_metal::{Allocator, AllocatorCreateDesc};
-use gpu_run::{Machine, number_of};
 use gpu_run::metal::{Command, Session};
+use gpu_run::{Machine, number_of};
 use gpu_sim_metal::SimMetal;
 use gpu_values::AllocatorDebugSettings;
 use log::Log;

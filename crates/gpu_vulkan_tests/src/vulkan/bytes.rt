@@ -116,7 +116,7 @@ fn check_not_lent(rt: &impl Abort, a: &mut Allocator<SimVulkan>, other: &Allocat
     assert!(rt; a.try_as_mapped_slab(other).is_none());
 }
 
-/// Asks for bytes that aren't lent, and then for those of a live allocation, which are let go as they are.
+/// Asks for bytes that aren't lent, and then for those of a live allocation, which are dropped as they are.
 fn ask_for_bytes(
     rt: &impl Abort,
     a: &mut Allocator<SimVulkan>,

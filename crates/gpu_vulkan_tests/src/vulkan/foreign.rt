@@ -24,7 +24,7 @@ const GAP: &str = "Attempting to rename a freed allocation.";
 /// What the other allocator does, and the last that it gives is the foreign one. Sizes are in bytes.
 #[derive(Clone, Copy)]
 enum Step {
-    /// Takes a piece of a memory type.
+    /// Allocates a piece of a memory type.
     Take(u64, usize),
     /// Takes a block of its own of the first memory type.
     Own(u64),
@@ -39,7 +39,7 @@ struct Row {
     named: &'static str,
 }
 
-/// Neighbour pieces of 512 bytes with number 2 at 0, and of 256 bytes with number 3 at 512, in slot 0 of memory type 0, in the
+/// Beside pieces of 512 bytes with number 2 at 0, and of 256 bytes with number 3 at 512, in slot 0 of memory type 0, in the
 /// device's memory 1.
 const ROWS: &[Row] = &[
     // the device's memory

@@ -23,7 +23,7 @@ fn is_want_of_memory(error: &AllocationError) -> bool {
     }
 }
 
-/// Takes a piece; where the host refused memory nothing has changed, and it is asked for once more.
+/// Allocates a piece; where the host refused memory nothing has changed, and it is asked for once more.
 fn take_again(
     rt: &impl Abort,
     a: &mut Allocator<SimVulkan>,
@@ -99,7 +99,7 @@ fn shown_again(
     Ok(text)
 }
 
-/// Gives an allocation another name; where the host refused memory nothing has changed, and it is given once more.
+/// Renames an allocation; where the host refused memory nothing has changed, and it is given once more.
 fn rename_again(
     rt: &impl Abort,
     alloc: Global,

@@ -37,7 +37,7 @@ pub fn report_of(a: &Allocator<SimVulkan>) -> std::result::Result<AllocatorRepor
     }
 }
 
-/// Gives an allocation that is live or null another name.
+/// Renames an allocation that is live or null.
 pub fn rename(a: &mut Allocator<SimVulkan>, allocation: &mut Allocation, name: &str) -> Outcome {
     match a.rename_allocation(allocation, name) {
         Ok(()) => Ok(()),

@@ -11,7 +11,7 @@ returns-then-code-eq-OUT_OF_DEVICE_MEMORY c =
     let is : c.args.code ≡ negsuc 1 = sym (to_z-of_z c.ranges.code) ∙ ap (to_z w32) c.if-code-eq-OUT_OF_DEVICE_MEMORY.true in
     sym (ap memory_refusal is)
 
--- a code that isn't Vulkan's for want of device memory
+-- a code that isn't Vulkan's for lack of device memory
 other_refusal : (code : ℤ) (b : Bool) → int_eq code (negsuc 1) ≡ b → (code ≡ negsuc 1 → ⊥) → memory_refusal code ≡ internal (codes "Unexpected error in vkAllocateMemory") (Some code)
 other_refusal code true e ne = absurd (ne ((Decides-int_eq code (negsuc 1)).0 e))
 other_refusal code false e ne = ap (λ b. cond b out_of_memory (internal (codes "Unexpected error in vkAllocateMemory") (Some code))) e

@@ -28,7 +28,7 @@ use denote.Memory.{lone, mem, cell_at, part_of}
 use denote.RattleType.{RattleType, Valss}
 use denote.Ref.{MutRef, mut_vals, mut_Tells, at_last}
 use denote.Signature.{plain, mut_ref_to, named_lft}
-use denote.Slice.{MutSlice, PendingBlock, room, slice_val, mut_slice_vals}
+use denote.Slice.{MutSlice, Room, room, slice_val, mut_slice_vals}
 use denote.Steps.{nothing, opens, closes, peeks}
 use denote.Through.{renamed}
 use denote.Triple.Walked.{Stays, walk_of, stay_dropped, Goes-spent_ref, ends_at}
@@ -100,7 +100,7 @@ module _ {M : Type 1} {𝓤 : Ura M} (𝓛 : Logic 𝓤) (κ κ' : Lft) (x : Mut
   abbrev LentSlice : Share → GName → SProp 𝓤
   LentSlice q γ' = sep 𝓤 (sem 𝓛 ((MutSlice (named 0) κ u8).own_val (renamed h γ') (mut_slice_vals h))) (sep 𝓤 (A.lft κ q) (sem 𝓛 (follows S (Array u8 0) x.ghost_name γ' (with_bytes x.now))))
 
-  lends_bytes : Incl κ κ' → PendingBlock u8 n → (q : Share)
+  lends_bytes : Incl κ κ' → Room u8 n → (q : Share)
       → ent 𝓤 (sep 𝓤 (A.obs x.ghost_name (S.coded.code x.now)) (sep 𝓤 (A.bor κ (Body (mem S) x.ref_ptr.0 x.ref_ptr.1 x.ghost_name)) (A.lft κ q))) (H.⇛ (ex 𝓤 (LentSlice q)))
   lends_bytes inc rm q =
       qed 𝓛 (‵ (fobs x.ghost_name (S.coded.code x.now)) ∷ ‵ (fbor κ (Body (mem S) x.ref_ptr.0 x.ref_ptr.1 x.ghost_name)) ∷ ‵ (flft κ q) ∷ []) ∵ updating ! $
@@ -126,7 +126,7 @@ as_mut_slice_spec 𝓤 𝓛 𝓜 𝓡 wired =
     enter ! _ _ _ _ _ $ alloc_all ! (λ l. pass_all ! refl ((tt, tt), tt) $
     fsplit3 ! $ move ! (1 ∷ 2 ∷ 3 ∷ []) $ opens ! tt R b o (λ us.
     move ! (1 ∷ []) $ peeks ! R _ (shows 𝓛 R) v us (λ is.
-    let rm : PendingBlock u8 (length s.now) = is.1.1.0.0.1 in
+    let rm : Room u8 (length s.now) = is.1.1.0.0.1 in
     let value : us ≡ word s ∷ [] = (lowers (record { mir = named 1; lft = κ₁ })).val_is v us is in
     let τ : Ty = lone (slab.the_row (record { mir = erased; lft = κ₁ })).mir in
     let Cell : List Val → Item 𝓤 = λ (ws : List Val). ‵ (cell_at full_share R.mir ws b o) in
