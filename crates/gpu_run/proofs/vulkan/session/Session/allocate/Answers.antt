@@ -70,6 +70,6 @@ returns-in-Ok g c =
     let new : SessionValue g.row.D.Denot = record { allocator = c.allocate.new.self; bound = c.bind.new.bound.entries } in
     let none = none_bound (lookup (nat_eq c.args.key) s.bound) c.contains_key.result c.contains_key.ensures c.if-contains_key.false in
     let is = bound_after s.bound c.reserve.new.self.entries new.bound c.args.key (Some c.in-Ok.allocation) (c.reserve.ensures.entries.2) c.bind.ensures in
-    λ w d. subst (λ x. IsServed V (Under c.args.key (Alloc w)) (reply_of c.given-given.result) x new) c.self.view_is
-    (taken V s new c.args.key w c.args.desc.now d c.in-Ok.allocation (reply_of c.given-given.result) none is c.in-Ok.ensures.step c.in-Ok.ensures.allocates
-    (c.allocate.ensures.constant.0, c.allocate.ensures.constant.1) c.given-given.ensures)
+    λ w d. subst (λ x. IsServed V (Under c.args.key (Alloc w)) (reply_of c.allocated-given.result) x new) c.self.view_is
+    (taken V s new c.args.key w c.args.desc.now d c.in-Ok.allocation (reply_of c.allocated-given.result) none is c.in-Ok.ensures.step c.in-Ok.ensures.allocates
+    (c.allocate.ensures.constant.0, c.allocate.ensures.constant.1) c.allocated-given.ensures)
