@@ -86,21 +86,21 @@ fn allocate(rt: &impl Abort, block: &mut SubAllocator, asked: Request) -> Result
 {
     assert!(rt; asked.size > 0);
     assert!(rt; asked.alignment.is_power_of_two());
-    let (offset, number) = block.allocate(
+    let (offset, chunk_id) = block.allocate(
         asked.size,
         asked.alignment,
         asked.kind,
         asked.granularity,
         asked.name,
     )?;
-    Ok((offset, number.get()))
+    Ok((offset, chunk_id.get()))
 }
 
 /// 0 stands for no number.
 fn free(block: &mut SubAllocator, chunk_id: u64) -> Result<()>
     ensures { (g : ℕ) → HasPages (block_of block.old) g → HasPages (block_of block.new) g }
 {
-    block.free(NonZeroU64::new(number))
+    block.free(NonZeroU64::new(chunk_id))
 }
 
 fn report_text(block: &SubAllocator, alloc: Global) -> Result<String> {

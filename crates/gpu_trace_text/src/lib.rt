@@ -4,6 +4,7 @@
 
 mod any;
 mod block;
+mod block_or_device;
 mod block_stage;
 mod configuration;
 pub mod d3d12;

@@ -26,7 +26,7 @@ fn take(
     assert!(rt; size > 0);
     assert!(rt; alignment.is_power_of_two());
     let got = match block.allocate(size, alignment, kind, granularity, "a") {
-        Ok((offset, number)) => Some((offset, number.get())),
+        Ok((offset, chunk_id)) => Some((offset, chunk_id.get())),
         Err(error) => {
             assert!(rt; matches!(error, AllocationError::OutOfMemory));
             None
@@ -45,7 +45,7 @@ fn linear(rt: &impl Abort, block: &mut FreeListAllocator, size: u64, want: Optio
 fn give(rt: &impl Abort, block: &mut FreeListAllocator, chunk_id: u64)
     ensures { block.new.block.granularity ≡ block.old.block.granularity }
 {
-    assert!(rt; block.free(NonZeroU64::new(number)).is_ok());
+    assert!(rt; block.free(NonZeroU64::new(chunk_id)).is_ok());
 }
 
 fn refuse(
@@ -57,8 +57,8 @@ fn refuse(
 ) -> Result<()>
     ensures { block.new.block.granularity ≡ block.old.block.granularity }
 {
-    match block.free(NonZeroU64::new(number)) {
-        Ok(()) => assert!(rt; false, "{number} was given back"),
+    match block.free(NonZeroU64::new(chunk_id)) {
+        Ok(()) => assert!(rt; false, "{chunk_id} was given back"),
         Err(error) => check_text(rt, alloc, &error, want)?,
     }
     Ok(())

@@ -72,7 +72,7 @@ fn check_leaks_behind(
     chunk_id: u64,
     want: &[&str],
 ) -> Result<()> {
-    free(block, number)?;
+    free(block, chunk_id)?;
     check_leaks(rt, alloc, block, (0, 0), want)
 }
 

@@ -90,11 +90,11 @@ fn rename(
     ensures { (g : ℕ) → HasPages (block_of block.old) g → HasPages (block_of block.new) g }
 {
     let before = shown(block, alloc, refusals)?;
-    let answer = block.rename_allocation(NonZeroU64::new(number), name);
+    let answer = block.rename_allocation(NonZeroU64::new(chunk_id), name);
     if refusals.is_one(&answer) {
         let after = shown(block, alloc, refusals)?;
         check_shown(rt, after.as_str(), before.as_str());
-        return block.rename_allocation(NonZeroU64::new(number), name);
+        return block.rename_allocation(NonZeroU64::new(chunk_id), name);
     }
     answer
 }
@@ -154,11 +154,11 @@ fn many(rt: &impl Abort, b: &mut SubAllocator, refusals: &mut Refusals) -> Resul
     requires { HasPages (block_of b.old) 1 }
 {
     for place in 0..40u64 {
-        let (offset, number) = take(rt, b, refusals, wanted(16, "piece"))?;
-        assert!(rt; (offset, number) == (place.saturating_mul(16), place.saturating_add(2)));
+        let (offset, chunk_id) = take(rt, b, refusals, wanted(16, "piece"))?;
+        assert!(rt; (offset, chunk_id) == (place.saturating_mul(16), place.saturating_add(2)));
     }
-    for number in 2..42u64 {
-        free(b, number)?;
+    for chunk_id in 2..42u64 {
+        free(b, chunk_id)?;
     }
     assert!(rt; b.is_empty());
     Ok(())

@@ -68,12 +68,12 @@ fn image(size: u64, granularity: u64, name: &str) -> Request<'_>
 fn rename(block: &mut SubAllocator, chunk_id: u64, name: &str) -> Result<()>
     ensures { (g : ℕ) → HasPages (block_of block.old) g → HasPages (block_of block.new) g }
 {
-    block.rename_allocation(NonZeroU64::new(number), name)
+    block.rename_allocation(NonZeroU64::new(chunk_id), name)
 }
 
 /// 0 stands for no number.
 fn place(block: &SubAllocator, chunk_id: u64) -> Option<(u64, u64)> {
-    block.place_of(NonZeroU64::new(number)?)
+    block.place_of(NonZeroU64::new(chunk_id)?)
 }
 
 fn check_refused<V: Drop>(
@@ -92,7 +92,7 @@ fn check_refused<V: Drop>(
 /// Makes a call that only looks, and compares its answer.
 fn look(rt: &impl Abort, alloc: Global, block: &SubAllocator, call: Call) -> Result<()> {
     match call {
-        Finds(number, want) => assert!(rt; place(block, number) == want, "number {number}"),
+        Finds(chunk_id, want) => assert!(rt; place(block, chunk_id) == want, "chunk id {chunk_id}"),
         Reports(want) => check_report(rt, alloc, block, want)?,
         Allocated(want) => {
             assert!(rt; block.allocated() == want);
@@ -136,11 +136,11 @@ fn make_call(
             let got = allocate(rt, block, linear(size, 1, granularity, name));
             check_refused(rt, alloc, got, want)
         }
-        Frees(number) => free(block, number),
-        FreesNothing(number, want) => check_refused(rt, alloc, free(block, number), want),
-        Renames(number, name) => rename(block, number, name),
-        RenamesNothing(number, want) => {
-            check_refused(rt, alloc, rename(block, number, "x"), want)
+        Frees(chunk_id) => free(block, chunk_id),
+        FreesNothing(chunk_id, want) => check_refused(rt, alloc, free(block, chunk_id), want),
+        Renames(chunk_id, name) => rename(block, chunk_id, name),
+        RenamesNothing(chunk_id, want) => {
+            check_refused(rt, alloc, rename(block, chunk_id, "x"), want)
         }
         _ => look(rt, alloc, block, call),
     }

@@ -36,7 +36,7 @@ fn small_buffer(
 fn first_chunk_id(a: &Allocator<SimMetal>, index: usize) -> Option<u64> {
     let mut pieces = a.memory_types().memory_type(index)?.pieces(0)?;
     let first = pieces.next()?;
-    Some(first.number())
+    Some(first.chunk_id())
 }
 
 /// Looks that both heaps are listed in order, the large one of memory type 0 and the small one of memory type 1, and those of a

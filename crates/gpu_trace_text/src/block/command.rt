@@ -125,7 +125,7 @@ pub fn command_of(
     match verb {
         "block" => Ok(block(arguments)),
         "take" => allocate(alloc, arguments),
-        "give" => Ok(give(arguments)),
+        "give" => Ok(free(arguments)),
         "report" => Ok(report(arguments)),
         _ => Ok(None),
     }
