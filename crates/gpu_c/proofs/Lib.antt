@@ -1,2 +1,6 @@
+mod RawBoxValues
+mod Owned
+mod VirtualBlockLaws
+mod MemoryTypeLaws
 mod VirtualBlockHandleWords
 mod MemoryTypeHandleWords

@@ -2,7 +2,15 @@
 //! behind its handle. `include/pilhangko.h` declares the exports.
 #![tactic(auto)]
 
+mod memory_type;
 mod memory_type_calls;
 mod memory_type_handle;
+mod memory_type_values;
+mod raw_box;
+mod request;
+mod status;
+mod virtual_block;
 mod virtual_block_calls;
 mod virtual_block_handle;
+mod virtual_block_values;
+mod visit;

@@ -7,19 +7,21 @@ ghost use Rattle.std.specs.Int.{is_power_of_two};
 ghost use Rattle.gpu_core.specs.TypeState.{slot_at, block_number};
 ghost use Rattle.gpu_core.specs.TypeReport.{pieces_in, statistics_in};
 ghost use Rattle.gpu_c.specs.Handle.{Changes};
-ghost use Rattle.gpu_c_blocks.specs.Status as status;
-ghost use Rattle.gpu_c_blocks.specs.Request.{IsServed};
-ghost use Rattle.gpu_c_blocks.specs.Status.{IsOneOf};
-ghost use Rattle.gpu_c_blocks.specs.MemoryType.{fresh_memory_type, told_block, number_if, IsLiveIn, Prepares, IsIdleAndServed, IsTooLarge, IsPastBudget, InstallsAwaited, Abandons, FreesPiece, NamesMemory, statistics_of, told_counts};
-ghost use Rattle.gpu_c_blocks.specs.Visit.{told_view, piece_in_from, ShowsName};
-ghost use Rattle.gpu_c_blocks.specs.declared.status.TheConstants.{OK, OUT_OF_MEMORY, INVALID, NOT_LIVE, HOST_OUT_OF_MEMORY, BUDGET_EXCEEDED, NO_HANDLE, IN_USE, AWAITS_BLOCK, AWAITS_NO_BLOCK};
+ghost use Rattle.gpu_c.specs.Status as status;
+ghost use Rattle.gpu_c.specs.Request.{IsServed};
+ghost use Rattle.gpu_c.specs.Status.{IsOneOf};
+ghost use Rattle.gpu_c.specs.MemoryType.{fresh_memory_type, told_block, number_if, IsLiveIn, Prepares, IsIdleAndServed, IsTooLarge, IsPastBudget, InstallsAwaited, Abandons, FreesPiece, NamesMemory, statistics_of, told_counts};
+ghost use Rattle.gpu_c.specs.Visit.{told_view, piece_in_from, ShowsName};
+ghost use Rattle.gpu_c.specs.declared.status.TheConstants.{OK, OUT_OF_MEMORY, INVALID, NOT_LIVE, HOST_OUT_OF_MEMORY, BUDGET_EXCEEDED, NO_HANDLE, IN_USE, AWAITS_BLOCK, AWAITS_NO_BLOCK};
 
+use crate::memory_type::AwaitingType;
 use crate::memory_type_handle::MemoryTypeHandle;
-use gpu_c_blocks::status::{HOST_OUT_OF_MEMORY, IN_USE, INVALID, NO_HANDLE, OK};
-use gpu_c_blocks::{
-    AwaitingType, MemoryBlock, MemoryBlockStatistics, MemoryPiece, MemoryPrepared, MemoryRequest,
-    MemoryStatistics, MemoryTypeSettings, PieceView,
+use crate::memory_type_values::{
+    MemoryBlock, MemoryBlockStatistics, MemoryPiece, MemoryPrepared, MemoryRequest,
+    MemoryStatistics, MemoryTypeSettings,
 };
+use crate::status::{HOST_OUT_OF_MEMORY, IN_USE, INVALID, NO_HANDLE, OK};
+use crate::virtual_block_values::PieceView;
 use std::alloc::Global;
 
 /// Makes a memory type without blocks in an empty handle. `IN_USE` where the handle isn't empty, else `INVALID` where the page size is

@@ -1,10 +1,10 @@
 //! What a C program holds of a memory type: one pointer, which is null where nothing lies behind it.
 
 ghost use Rattle.std.specs.Prelude.{◌≡◌, Option, Some, None, MatchOption};
-ghost use Rattle.gpu_c_blocks.specs.MemoryType.{AwaitingState};
+ghost use Rattle.gpu_c.specs.MemoryType.{AwaitingState};
 
-use gpu_c_blocks::AwaitingType;
-use gpu_c_box::RawBox;
+use crate::memory_type::AwaitingType;
+use crate::raw_box::RawBox;
 use std::alloc::Global;
 use std::marker::Model;
 
@@ -17,8 +17,8 @@ pub struct MemoryTypeHandle {
 }
 
 impl Model for MemoryTypeHandle {
-    ghost use Rattle.gpu_c_box.specs.Owned.{handle_owns};
-    ghost use Rattle.gpu_c_blocks.specs.contracts.memory_type.AwaitingType.{the_row};
+    ghost use Rattle.gpu_c.specs.Owned.{handle_owns};
+    ghost use Rattle.gpu_c.specs.contracts.memory_type.AwaitingType.{the_row};
 
     ghost also_owns = { λ h. handle_owns the_row h.at h.value };
 }

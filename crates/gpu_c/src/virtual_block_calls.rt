@@ -5,16 +5,17 @@ ghost use Rattle.std.specs.Prelude.{◌≡◌, ◌≢◌, ◌↔◌, [], ◌∷�
 ghost use Rattle.gpu_values.specs.declared.error.AllocationError.TheVariants.{OutOfMemory, HostOutOfMemory};
 ghost use Rattle.gpu_block.specs.Block.{extents_of};
 ghost use Rattle.gpu_c.specs.Handle.{Changes};
-ghost use Rattle.gpu_c_blocks.specs.Status as status;
-ghost use Rattle.gpu_c_blocks.specs.Request.{IsServed};
-ghost use Rattle.gpu_c_blocks.specs.Status.{IsOneOf};
-ghost use Rattle.gpu_c_blocks.specs.VirtualBlock.{CanCreate, fresh_virtual_block, IsLivePiece, IsRefusedFor, Allocates, Frees, NamesPiece, cleared, counts_of};
-ghost use Rattle.gpu_c_blocks.specs.Visit.{told_view, piece_from, ShowsName};
-ghost use Rattle.gpu_c_blocks.specs.declared.status.TheConstants.{OK, OUT_OF_MEMORY, INVALID, NOT_LIVE, HOST_OUT_OF_MEMORY, NO_HANDLE, IN_USE};
+ghost use Rattle.gpu_c.specs.Status as status;
+ghost use Rattle.gpu_c.specs.Request.{IsServed};
+ghost use Rattle.gpu_c.specs.Status.{IsOneOf};
+ghost use Rattle.gpu_c.specs.VirtualBlock.{CanCreate, fresh_virtual_block, IsLivePiece, IsRefusedFor, Allocates, Frees, NamesPiece, cleared, counts_of};
+ghost use Rattle.gpu_c.specs.Visit.{told_view, piece_from, ShowsName};
+ghost use Rattle.gpu_c.specs.declared.status.TheConstants.{OK, OUT_OF_MEMORY, INVALID, NOT_LIVE, HOST_OUT_OF_MEMORY, NO_HANDLE, IN_USE};
 
+use crate::status::{HOST_OUT_OF_MEMORY, IN_USE, INVALID, NO_HANDLE, OK};
+use crate::virtual_block::VirtualBlock;
 use crate::virtual_block_handle::VirtualBlockHandle;
-use gpu_c_blocks::status::{HOST_OUT_OF_MEMORY, IN_USE, INVALID, NO_HANDLE, OK};
-use gpu_c_blocks::{PieceView, VirtualBlock, VirtualPiece, VirtualRequest, VirtualStatistics};
+use crate::virtual_block_values::{PieceView, VirtualPiece, VirtualRequest, VirtualStatistics};
 use std::alloc::Global;
 
 /// A new block in an empty handle.

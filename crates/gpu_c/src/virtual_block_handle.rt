@@ -3,8 +3,8 @@
 ghost use Rattle.std.specs.Prelude.{◌≡◌, Option, Some, None, MatchOption};
 ghost use Rattle.gpu_block.specs.Block.{Block};
 
-use gpu_c_blocks::VirtualBlock;
-use gpu_c_box::RawBox;
+use crate::raw_box::RawBox;
+use crate::virtual_block::VirtualBlock;
 use std::alloc::Global;
 use std::marker::Model;
 
@@ -17,8 +17,8 @@ pub struct VirtualBlockHandle {
 }
 
 impl Model for VirtualBlockHandle {
-    ghost use Rattle.gpu_c_box.specs.Owned.{handle_owns};
-    ghost use Rattle.gpu_c_blocks.specs.contracts.virtual_block.VirtualBlock.{the_row};
+    ghost use Rattle.gpu_c.specs.Owned.{handle_owns};
+    ghost use Rattle.gpu_c.specs.contracts.virtual_block.VirtualBlock.{the_row};
 
     ghost also_owns = { λ h. handle_owns the_row h.at h.value };
 }

@@ -28,8 +28,8 @@ use Rattle.std.specs.contracts.impls.GlobalAllocator.TheImpl.{ghosts}
 use Rattle.std.specs.declared.option.Option.TheVariants.{None, Some}
 use Rattle.std.proofs.ResultValues.{and_tt}
 use Rattle.std.proofs.raw_atomic.Walks.{proved_at, leaves}
-use Rattle.gpu_c_box.proofs.Values.{both, RawBox, raw_box_good, raw_box_in}
-use Rattle.gpu_c_box.proofs.Owned.{by_cases}
+use Rattle.gpu_c.proofs.RawBoxValues.{both, RawBox, raw_box_good, raw_box_in}
+use Rattle.gpu_c.proofs.Owned.{by_cases}
 use Rattle.gpu_c.proofs.MemoryTypeHandleWords.{Behind, Hand, word}
 use Rattle.gpu_c.proofs.memory_type_handle.MemoryTypeHandle.TheLaws.{lowers}
 use Rattle.gpu_c.specs.contracts.memory_type_handle.MemoryTypeHandle.into_raw_box as f

@@ -24,7 +24,7 @@ use Rattle.std.specs.declared.alloc.Global.{Global}
 use Rattle.std.specs.Box.Ownership.{box_owns}
 use Rattle.std.specs.declared.option.Option.TheVariants.{Some}
 use Rattle.std.proofs.raw_atomic.Walks.{proved_at, leaves}
-use Rattle.gpu_c_box.proofs.Values.{both, RawBox, raw_box_good, raw_box_out}
+use Rattle.gpu_c.proofs.RawBoxValues.{both, RawBox, raw_box_good, raw_box_out}
 use Rattle.gpu_c.proofs.VirtualBlockHandleWords.{Behind, Hand, word, Data, data_made}
 use Rattle.gpu_c.specs.contracts.virtual_block_handle.VirtualBlockHandle.of as f
 use Rattle.gpu_c.proofs.virtual_block_handle.VirtualBlockHandle.of.Statement.{statement}

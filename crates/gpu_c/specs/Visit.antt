@@ -1,0 +1,44 @@
+-- What a visit shows of a block's pieces.
+use Rattle.std.specs.Prelude.{◌≡◌, ℕ, true, false, List, Option, Some, None, nat_le, [], ◌++◌, length, min, take, drop}
+use Rattle.std.specs.List.{find}
+use Rattle.gpu_values.specs.declared.allocation_type.AllocationType.{AllocationType}
+use Rattle.gpu_values.specs.declared.allocation_type.AllocationType.TheVariants.{Free, Linear, NonLinear}
+use Rattle.gpu_block_pieces.specs.FreeList.{Extent}
+use Rattle.gpu_c.specs.Request.{linear, non_linear}
+use Rattle.gpu_c.specs.declared.virtual_block_values.PieceView.{PieceView}
+
+-- the number of a kind
+abbrev pub kind_number : AllocationType → ℕ
+kind_number Free = 0
+kind_number Linear = linear
+kind_number NonLinear = non_linear
+
+abbrev pub told_view : Option Extent → PieceView
+told_view None = record { exists = false; number = 0; start = 0; offset = 0; end = 0; kind = 0 }
+told_view (Some x) = record { exists = true; number = x.number; start = x.start; offset = x.offset; end = x.end; kind = kind_number x.kind }
+
+-- the first of the pieces whose own bytes begin at that place or behind it
+abbrev pub piece_from : ℕ → List Extent → Option Extent
+piece_from from xs = find (λ x. nat_le from x.offset) xs
+
+-- the same in a block that may not be there
+abbrev pub piece_in_from : ℕ → Option (List Extent) → Option Extent
+piece_in_from from None = None
+piece_in_from from (Some xs) = piece_from from xs
+
+-- the name of a piece that may not be there
+abbrev pub name_of : Option Extent → List ℕ
+name_of None = []
+name_of (Some x) = x.name
+
+-- how many bytes of a text a buffer has room for
+abbrev pub room_for : List ℕ → List ℕ → ℕ
+room_for text buffer = min (length text) (length buffer)
+
+-- the buffer with as much of the text as there is room for
+abbrev pub copied_into : List ℕ → List ℕ → List ℕ
+copied_into text buffer = take (room_for text buffer) text ++ drop (room_for text buffer) buffer
+
+-- a name was copied into a buffer, and its whole length told
+abbrev pub ShowsName : Option Extent → (old new : List ℕ) → (whole : ℕ) → Type 0
+ShowsName piece old new whole = (new ≡ copied_into (name_of piece) old) × (whole ≡ length (name_of piece))

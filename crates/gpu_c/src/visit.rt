@@ -1,0 +1,82 @@
+//! Visits of a block's pieces, in order of offset.
+
+ghost use Rattle.std.specs.Prelude.{◌≡◌, None, Some, length};
+ghost use Rattle.gpu_c.specs.Visit.{kind_number, told_view, piece_from, name_of, copied_into};
+
+use crate::request::{LINEAR, NON_LINEAR};
+use crate::virtual_block_values::PieceView;
+use gpu_block_pieces::{LivePiece, Pieces};
+use gpu_values::AllocationType;
+
+fn kind_number(kind: AllocationType) -> u32
+    ensures { result ≡ kind_number kind }
+{
+    match kind {
+        AllocationType::Free => 0,
+        AllocationType::Linear => LINEAR,
+        AllocationType::NonLinear => NON_LINEAR,
+    }
+}
+
+fn view_of(piece: &LivePiece) -> PieceView
+    ensures { result ≡ told_view (Some piece.now) }
+{
+    PieceView {
+        exists: true,
+        number: piece.number(),
+        start: piece.start(),
+        offset: piece.offset(),
+        end: piece.end(),
+        kind: kind_number(piece.kind()),
+    }
+}
+
+/// No piece.
+pub fn no_piece() -> PieceView
+    ensures { result ≡ told_view None }
+{
+    PieceView {
+        exists: false,
+        number: 0,
+        start: 0,
+        offset: 0,
+        end: 0,
+        kind: 0,
+    }
+}
+
+/// The first piece whose own bytes begin at `from` or behind it.
+pub fn first_from(pieces: Pieces<'_>, from: u64) -> PieceView
+    ensures { result ≡ told_view (piece_from from pieces.entry) }
+{
+    for piece in pieces {
+        if from <= piece.offset() {
+            return view_of(&piece);
+        }
+    }
+    no_piece()
+}
+
+/// Copies as much of a text as there is room for, and answers its whole length.
+fn copy_text(text: &str, buffer: &mut [u8]) -> usize
+    ensures whole { result ≡ length text.now }
+    ensures copied { buffer.new ≡ copied_into text.now buffer.old }
+{
+    let count = text.len().min(buffer.len());
+    buffer[..count].copy_from_slice(&text.as_bytes()[..count]);
+    text.len()
+}
+
+/// Copies the name of the first piece whose own bytes begin at `from` or behind it, as much as there is room for, and answers its whole
+/// length; 0 where there is no such piece.
+pub fn name_from(pieces: Pieces<'_>, from: u64, buffer: &mut [u8]) -> usize
+    ensures whole { result ≡ length (name_of (piece_from from pieces.entry)) }
+    ensures copied { buffer.new ≡ copied_into (name_of (piece_from from pieces.entry)) buffer.old }
+{
+    for piece in pieces {
+        if from <= piece.offset() {
+            return copy_text(piece.name(), buffer);
+        }
+    }
+    0
+}
