@@ -12,7 +12,7 @@ use Rattle.gpu_core.specs.TypeRelease.{SlotHolds, IsLive, has_several, ReleasesP
 use Rattle.gpu_core.specs.declared.piece.Piece.{Piece}
 use Rattle.gpu_core.specs.declared.need.NeedBlock.{NeedBlock}
 use Rattle.gpu_c.specs.Request.{kind_named}
-use Rattle.gpu_c.specs.MemoryType.{AwaitingState, state_of, type_of, told_piece, told_block, SlotHasPiece, IsLiveIn, asked_of_type, TakesPiece, AwaitsNeeded, Awaits, InstallsBy, InstallsAwaited}
+use Rattle.gpu_c.specs.MemoryType.{AwaitingState, state_of, type_of, memory_piece, memory_block, SlotHasPiece, IsLiveIn, asked_of_type, AllocatesPiece, AwaitsNeeded, Awaits, InstallsBy, InstallsAwaited}
 use Rattle.gpu_c.specs.MemoryType.{FreesPiece, NamesMemory}
 use Rattle.gpu_c.specs.declared.memory_type_values.MemoryRequest.{MemoryRequest}
 use Rattle.gpu_c.specs.declared.memory_type_values.MemoryPiece.{MemoryPiece}
@@ -31,40 +31,40 @@ changed t t' sizes a a' b s e = λ i. record { is_host = s.kind.0 i; granularity
 
 -- ---- pieces
 
-pub slot_has : (p : Piece ℕ) (s : Option (Slot ℕ)) → SlotHolds nat_eq p s → SlotHasPiece (told_piece p) s
+pub slot_has : (p : Piece ℕ) (s : Option (Slot ℕ)) → SlotHolds nat_eq p s → SlotHasPiece (memory_piece p) s
 slot_has p None h = absurd h
 slot_has p (Some s) h = (eqb-true s.number p.block h.0, h.1)
 
--- a live piece, as it is told
-pub live_told : (t : TypeState ℕ) (sizes : Sizes) (a : Option NeedBlock) (p : Piece ℕ) → IsLive nat_eq t.slots p → IsLiveIn (state_of t sizes a) (told_piece p)
-live_told t sizes a p h = (p.number.ok, slot_has p (slot_at t.slots p.slot) h)
+-- a live piece, as C sees it
+pub live_memory_piece : (t : TypeState ℕ) (sizes : Sizes) (a : Option NeedBlock) (p : Piece ℕ) → IsLive nat_eq t.slots p → IsLiveIn (state_of t sizes a) (memory_piece p)
+live_memory_piece t sizes a p h = (p.number.ok, slot_has p (slot_at t.slots p.slot) h)
 
 -- ---- install, free, rename
 
-pub installs_awaited : (old : AwaitingState) (t t' : TypeState ℕ) (sizes : Sizes) (a a' : Option NeedBlock) (need : NeedBlock) (number : ℕ) (p : Piece ℕ) (answer : MemoryPiece)
-    → state_of t sizes a ≡ old → a ≡ Some need → a' ≡ None → answer ≡ told_piece p → Installs t.slots need.dedicated need.room number p t'.slots → capacity_of t'.slots ≡ capacity_of t.slots +
+pub installs_awaited : (old : AwaitingState) (t t' : TypeState ℕ) (sizes : Sizes) (a a' : Option NeedBlock) (need : NeedBlock) (number : ℕ) (p : Piece ℕ) (out : MemoryPiece)
+    → state_of t sizes a ≡ old → a ≡ Some need → a' ≡ None → out ≡ memory_piece p → Installs t.slots need.dedicated need.room number p t'.slots → capacity_of t'.slots ≡ capacity_of t.slots +
     need.size → Stays t t'
-    → InstallsAwaited old number answer (state_of t' sizes a')
-installs_awaited old t t' sizes a a' need number p answer view awaited done told installs capacity stays =
-    subst (λ (s : AwaitingState). InstallsAwaited s number answer (state_of t' sizes a')) view
-    (subst (λ (b : Option NeedBlock). InstallsBy b (state_of t sizes a) number answer (state_of t' sizes a')) (sym awaited)
-    (record { piece = p; told = told; installs = installs; capacity = capacity; formed = record { sound = stays.sound; empty = stays.empty }; same = changed t t' sizes a a' None stays done }))
+    → InstallsAwaited old number out (state_of t' sizes a')
+installs_awaited old t t' sizes a a' need number p out view awaited done reported installs capacity stays =
+    subst (λ (s : AwaitingState). InstallsAwaited s number out (state_of t' sizes a')) view
+    (subst (λ (b : Option NeedBlock). InstallsBy b (state_of t sizes a) number out (state_of t' sizes a')) (sym awaited)
+    (record { piece = p; reported = reported; installs = installs; capacity = capacity; formed = record { sound = stays.sound; empty = stays.empty }; same = changed t t' sizes a a' None stays done }))
 
 pub frees_piece : (old : AwaitingState) (t t' : TypeState ℕ) (sizes : Sizes) (a : Option NeedBlock) (p : Piece ℕ) (cp : MemoryPiece) (went : Option ℕ) (gone : MemoryBlock)
-    → state_of t sizes a ≡ old → a ≡ None → told_piece p ≡ cp → IsLive nat_eq t.slots p → ReleasesPiece (IsTrue (has_several t.slots)) t.slots p went t'.slots → gone ≡ told_block went → capacity_of
+    → state_of t sizes a ≡ old → a ≡ None → memory_piece p ≡ cp → IsLive nat_eq t.slots p → ReleasesPiece (IsTrue (has_several t.slots)) t.slots p went t'.slots → gone ≡ memory_block went → capacity_of
     t'.slots ≤ capacity_of t.slots → Stays t t'
     → FreesPiece old cp gone (state_of t' sizes a)
-frees_piece old t t' sizes a p cp went gone view idle told live releases tells capacity stays =
+frees_piece old t t' sizes a p cp went gone view idle named live releases reported capacity stays =
     subst (λ (s : AwaitingState). FreesPiece s cp gone (state_of t' sizes a)) view
-    (subst (λ (q : MemoryPiece). FreesPiece (state_of t sizes a) q gone (state_of t' sizes a)) told
+    (subst (λ (q : MemoryPiece). FreesPiece (state_of t sizes a) q gone (state_of t' sizes a)) named
     (record {
       idle = idle;
-      live = live_told t sizes a p live;
+      live = live_memory_piece t sizes a p live;
       piece = p;
-      told = refl;
+      named = refl;
       went = went;
       releases = releases;
-      told_gone = tells;
+      reported = reported;
       capacity = capacity;
       formed = record
           { sound = stays.sound; empty = stays.empty };
@@ -72,16 +72,16 @@ frees_piece old t t' sizes a p cp went gone view idle told live releases tells c
     }))
 
 pub names_memory : (old : AwaitingState) (t t' : TypeState ℕ) (sizes : Sizes) (a : Option NeedBlock) (p : Piece ℕ) (cp : MemoryPiece) (name : List ℕ)
-    → state_of t sizes a ≡ old → a ≡ None → told_piece p ≡ cp → IsLive nat_eq t.slots p → RenamesPiece t.slots p name t'.slots → capacity_of t'.slots ≡ capacity_of t.slots → Stays t t'
+    → state_of t sizes a ≡ old → a ≡ None → memory_piece p ≡ cp → IsLive nat_eq t.slots p → RenamesPiece t.slots p name t'.slots → capacity_of t'.slots ≡ capacity_of t.slots → Stays t t'
     → NamesMemory old cp name (state_of t' sizes a)
-names_memory old t t' sizes a p cp name view idle told live renames capacity stays =
+names_memory old t t' sizes a p cp name view idle named live renames capacity stays =
     subst (λ (s : AwaitingState). NamesMemory s cp name (state_of t' sizes a)) view
-    (subst (λ (q : MemoryPiece). NamesMemory (state_of t sizes a) q name (state_of t' sizes a)) told
+    (subst (λ (q : MemoryPiece). NamesMemory (state_of t sizes a) q name (state_of t' sizes a)) named
     (record {
       idle = idle;
-      live = live_told t sizes a p live;
+      live = live_memory_piece t sizes a p live;
       piece = p;
-      told = refl;
+      named = refl;
       renames = renames;
       capacity = capacity;
       formed = record { sound = stays.sound; empty = stays.empty };
@@ -99,15 +99,15 @@ same_request r name name' kind k n = λ i. record { size = r.size; alignment = r
 pub is_idle : (old : AwaitingState) (t : TypeState ℕ) (sizes : Sizes) (a : Option NeedBlock) → state_of t sizes a ≡ old → a ≡ None → old.awaited ≡ None
 is_idle old t sizes a view idle = ap (λ (s : AwaitingState). s.awaited) (sym view) ∙ idle
 
-pub takes_piece : (old : AwaitingState) (t t' : TypeState ℕ) (sizes : Sizes) (a : Option NeedBlock) (r : MemoryRequest) (name : List ℕ) (s : Request) (p : Piece ℕ) (answer : MemoryPiece)
-    → state_of t sizes a ≡ old → s ≡ asked_of_type r name → answer ≡ told_piece p → has_own_block t sizes r.dedicated r.size ≡ false → PreparesPiece t.slots s p t'.slots → capacity_of t'.slots ≡
+pub allocates_piece : (old : AwaitingState) (t t' : TypeState ℕ) (sizes : Sizes) (a : Option NeedBlock) (r : MemoryRequest) (name : List ℕ) (s : Request) (p : Piece ℕ) (out : MemoryPiece)
+    → state_of t sizes a ≡ old → s ≡ asked_of_type r name → out ≡ memory_piece p → has_own_block t sizes r.dedicated r.size ≡ false → PreparesPiece t.slots s p t'.slots → capacity_of t'.slots ≡
     capacity_of t.slots → Stays t t'
-    → TakesPiece old r name answer (state_of t' sizes a)
-takes_piece old t t' sizes a r name s p answer view same told shared takes capacity stays =
-    subst (λ (z : AwaitingState). TakesPiece z r name answer (state_of t' sizes a)) view
+    → AllocatesPiece old r name out (state_of t' sizes a)
+allocates_piece old t t' sizes a r name s p out view same reported shared takes capacity stays =
+    subst (λ (z : AwaitingState). AllocatesPiece z r name out (state_of t' sizes a)) view
     (record {
       piece = p;
-      told = told;
+      reported = reported;
       shared = shared;
       takes = subst (λ (q : Request). PreparesPiece t.slots q p t'.slots) same takes;
       capacity = capacity;

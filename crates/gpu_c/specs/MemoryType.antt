@@ -34,7 +34,7 @@ pub record AwaitingState : Type 0 where
 abbrev pub state_of : TypeState ℕ → Sizes → Option NeedBlock → AwaitingState
 state_of t sizes awaited = record { is_host = t.is_host; granularity = t.granularity; slots = t.slots; budget = t.budget; sizes = sizes; awaited = awaited }
 
--- the memory type of a state; how much host memory its slots have is not told
+-- the memory type of a state; how much host memory its slots have does not count
 abbrev pub type_of : AwaitingState → TypeState ℕ
 type_of s = record { is_host = s.is_host; granularity = s.granularity; slots = s.slots; room = 0; budget = s.budget }
 
@@ -45,8 +45,9 @@ CanAwait t (Some need) = CanInstall t need.size need.dedicated need.room × (cap
 
 -- ---- made from settings
 
-abbrev pub sizes_told : MemoryTypeSettings → Sizes
-sizes_told s = record {
+-- the sizes of blocks that the settings ask for
+abbrev pub sizes_of : MemoryTypeSettings → Sizes
+sizes_of s = record {
   device = with_largest (only_size s.device_block_size) s.largest_device_block_size;
   host = with_largest (only_size s.host_block_size) s.largest_host_block_size;
 }
@@ -57,12 +58,13 @@ number_if exists n = cond exists (Some n) None
 
 -- no blocks, none awaited
 abbrev pub fresh_memory_type : MemoryTypeSettings → AwaitingState
-fresh_memory_type s = record { is_host = s.is_host; granularity = s.granularity; slots = []; budget = number_if s.has_budget s.budget; sizes = sizes_told s; awaited = None }
+fresh_memory_type s = record { is_host = s.is_host; granularity = s.granularity; slots = []; budget = number_if s.has_budget s.budget; sizes = sizes_of s; awaited = None }
 
 -- ---- pieces as C sees them
 
-abbrev pub told_piece : Piece ℕ → MemoryPiece
-told_piece p = record { slot = p.slot; number = non_zero_u64_get p.number; offset = p.offset; size = p.size; block = p.block }
+-- a piece as C sees it
+abbrev pub memory_piece : Piece ℕ → MemoryPiece
+memory_piece p = record { slot = p.slot; number = non_zero_u64_get p.number; offset = p.offset; size = p.size; block = p.block }
 
 -- the slot's block has the piece, whole
 abbrev pub SlotHasPiece : MemoryPiece → Option (Slot ℕ) → Type 0
@@ -88,9 +90,9 @@ abbrev pub wants_own : AwaitingState → MemoryRequest → Bool
 wants_own s r = has_own_block (type_of s) s.sizes r.dedicated r.size
 
 -- a shared block has the piece; nothing else changes
-pub record TakesPiece (old : AwaitingState) (r : MemoryRequest) (name : List ℕ) (answer : MemoryPiece) (new : AwaitingState) : Type 0 where
+pub record AllocatesPiece (old : AwaitingState) (r : MemoryRequest) (name : List ℕ) (out : MemoryPiece) (new : AwaitingState) : Type 0 where
   pub piece : Piece ℕ
-  pub told : answer ≡ told_piece piece
+  pub reported : out ≡ memory_piece piece
   pub shared : wants_own old r ≡ false
   pub takes : PreparesPiece old.slots (asked_of_type r name) piece new.slots
   pub capacity : capacity_of new.slots ≡ capacity_of old.slots
@@ -114,19 +116,19 @@ pub record Awaits (old : AwaitingState) (r : MemoryRequest) (name : List ℕ) (s
   pub in_budget : fits_budget old.budget (capacity_of old.slots + size) ≡ true
   pub same : new ≡ record old { awaited = new.awaited }
 
--- what is told where there is no piece
+-- what is reported where there is no piece
 abbrev pub no_memory_piece : MemoryPiece
 no_memory_piece = record { slot = 0; number = 0; offset = 0; size = 0; block = 0 }
 
 abbrev pub PreparesBy : Bool → AwaitingState → MemoryRequest → List ℕ → MemoryPrepared → AwaitingState → Type 0
-PreparesBy false old r name answer new = (answer.block_size ≡ 0) × (answer.dedicated ≡ false) × TakesPiece old r name answer.piece new
-PreparesBy true old r name answer new = (answer.piece ≡ no_memory_piece) × Awaits old r name answer.block_size answer.dedicated new
+PreparesBy false old r name out new = (out.block_size ≡ 0) × (out.dedicated ≡ false) × AllocatesPiece old r name out.piece new
+PreparesBy true old r name out new = (out.piece ≡ no_memory_piece) × Awaits old r name out.block_size out.dedicated new
 
--- what a request that is served comes to
-pub record Prepares (old : AwaitingState) (r : MemoryRequest) (name : List ℕ) (answer : MemoryPrepared) (new : AwaitingState) : Type 0 where
+-- what a request that is served results in
+pub record Prepares (old : AwaitingState) (r : MemoryRequest) (name : List ℕ) (out : MemoryPrepared) (new : AwaitingState) : Type 0 where
   pub idle : old.awaited ≡ None
   pub served : IsServed r.size r.alignment r.kind name
-  pub prepares : PreparesBy answer.needs_block old r name answer new
+  pub prepares : PreparesBy out.needs_block old r name out new
 
 -- nothing is awaited, and the request is one that is served
 abbrev pub IsIdleAndServed : AwaitingState → MemoryRequest → List ℕ → Type 0
@@ -149,41 +151,39 @@ pub record IsPastBudget (s : AwaitingState) (r : MemoryRequest) (name : List ℕ
 
 -- ---- install, free, rename
 
--- the block that was awaited stands in its slot under the driver's handle, the piece in it is told, and nothing is awaited
-pub record InstallsNeeded (old : AwaitingState) (need : NeedBlock) (number : ℕ) (answer : MemoryPiece) (new : AwaitingState) : Type 0 where
+-- the block that was awaited stands in its slot under the driver's handle, the piece in it is reported, and nothing is awaited
+pub record InstallsNeeded (old : AwaitingState) (need : NeedBlock) (number : ℕ) (out : MemoryPiece) (new : AwaitingState) : Type 0 where
   pub piece : Piece ℕ
-  pub told : answer ≡ told_piece piece
+  pub reported : out ≡ memory_piece piece
   pub installs : Installs old.slots need.dedicated need.room number piece new.slots
   pub capacity : capacity_of new.slots ≡ capacity_of old.slots + need.size
   pub formed : AreWellFormed new
   pub same : new ≡ record old { slots = new.slots; awaited = None }
 
 abbrev pub InstallsBy : Option NeedBlock → AwaitingState → ℕ → MemoryPiece → AwaitingState → Type 0
-InstallsBy None old number answer new = ⊥
-InstallsBy (Some need) old number answer new = InstallsNeeded old need number answer new
+InstallsBy None old number out new = ⊥
+InstallsBy (Some need) old number out new = InstallsNeeded old need number out new
 
 abbrev pub InstallsAwaited : AwaitingState → ℕ → MemoryPiece → AwaitingState → Type 0
-InstallsAwaited old number answer new = InstallsBy old.awaited old number answer new
+InstallsAwaited old number out new = InstallsBy old.awaited old number out new
 
 -- the block that was awaited is forgotten
 abbrev pub Abandons : AwaitingState → AwaitingState → Type 0
 Abandons old new = IsSome old.awaited × (new ≡ record old { awaited = None })
 
-abbrev pub block_told : MemoryBlock → Option ℕ
-block_told b = number_if b.exists b.block
+-- a block as C sees it, or none
+abbrev pub memory_block : Option ℕ → MemoryBlock
+memory_block block = record { exists = is_some block; block = unwrap_or block 0 }
 
-abbrev pub told_block : Option ℕ → MemoryBlock
-told_block block = record { exists = is_some block; block = unwrap_or block 0 }
-
--- the piece went, and the block that is told with it
+-- the piece is freed, and the block that goes with it is reported
 pub record FreesPiece (old : AwaitingState) (p : MemoryPiece) (gone : MemoryBlock) (new : AwaitingState) : Type 0 where
   pub idle : old.awaited ≡ None
   pub live : IsLiveIn old p
   pub piece : Piece ℕ
-  pub told : told_piece piece ≡ p
+  pub named : memory_piece piece ≡ p
   pub went : Option ℕ
   pub releases : ReleasesPiece (IsTrue (has_several old.slots)) old.slots piece went new.slots
-  pub told_gone : gone ≡ told_block went
+  pub reported : gone ≡ memory_block went
   pub capacity : capacity_of new.slots ≤ capacity_of old.slots
   pub formed : AreWellFormed new
   pub same : new ≡ record old { slots = new.slots }
@@ -193,7 +193,7 @@ pub record NamesMemory (old : AwaitingState) (p : MemoryPiece) (name : List ℕ)
   pub idle : old.awaited ≡ None
   pub live : IsLiveIn old p
   pub piece : Piece ℕ
-  pub told : told_piece piece ≡ p
+  pub named : memory_piece piece ≡ p
   pub renames : RenamesPiece old.slots piece name new.slots
   pub capacity : capacity_of new.slots ≡ capacity_of old.slots
   pub formed : AreWellFormed new
@@ -212,6 +212,6 @@ statistics_of s = record {
 }
 
 -- what is counted of a block, or none
-abbrev pub told_counts : Option BlockStatistics → MemoryBlockStatistics
-told_counts None = record { exists = false; pieces = 0; piece_bytes = 0; gaps = 0; longest_gap = 0 }
-told_counts (Some b) = record { exists = true; pieces = b.pieces; piece_bytes = b.piece_bytes; gaps = b.gaps; longest_gap = b.longest_gap }
+abbrev pub block_counts : Option BlockStatistics → MemoryBlockStatistics
+block_counts None = record { exists = false; pieces = 0; piece_bytes = 0; gaps = 0; longest_gap = 0 }
+block_counts (Some b) = record { exists = true; pieces = b.pieces; piece_bytes = b.piece_bytes; gaps = b.gaps; longest_gap = b.longest_gap }

@@ -3,7 +3,7 @@ use Rattle.std.specs.Prelude.{◌≡◌, ◌⊎◌, ℕ, List, [], ◌∷◌}
 use Rattle.gpu_values.specs.declared.error.AllocationError.{AllocationError}
 use Rattle.gpu_values.specs.declared.error.AllocationError.TheVariants as errors
 
--- ---- what calls answer: 1 to 11 are the numbers of the library's errors, from 100 on a handle is in the wrong state
+-- ---- what calls out: 1 to 11 are the numbers of the library's errors, from 100 on a handle is in the wrong state
 
 -- the call did what it says
 abbrev pub ok : ℕ
@@ -45,7 +45,7 @@ awaits_block = 102
 abbrev pub awaits_no_block : ℕ
 awaits_no_block = 103
 
--- blocks and memory types answer no other error than the first five; Internal is theirs for a piece that isn't live
+-- blocks and memory types out no other error than the first five; Internal is theirs for a piece that isn't live
 abbrev pub status_of : AllocationError → ℕ
 status_of errors.OutOfMemory = out_of_memory
 status_of errors.HostOutOfMemory = host_out_of_memory
@@ -59,7 +59,7 @@ status_of errors.BarrierLayoutNeedsDevice10 = not_live
 status_of errors.CastableFormatsRequiresEnhancedBarriers = not_live
 status_of errors.CastableFormatsRequiresAtLeastDevice12 = not_live
 
--- a call answers no other status than these
+-- a call returns no other status than these
 abbrev pub IsOneOf : ℕ → List ℕ → Type 0
 IsOneOf status [] = ⊥
 IsOneOf status (s ∷ statuses) = (status ≡ s) ⊎ IsOneOf status statuses

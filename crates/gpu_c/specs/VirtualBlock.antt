@@ -44,21 +44,21 @@ pub record IsWellFormed (b : Block) : Type 0 where
   pub separated : HasPagesApart b
   pub covered : IsCoveredBlock b
 
--- a request that is served has been refused for that cause: it has no place, or host memory was refused. Where a gap is long enough for it whatever its neighbours are, want of a place is never the
+-- a request that is served has been refused for that cause: it has no place, or host memory was refused. Where a gap is long enough for it whatever its neighbours are, lack of a place is never the
 -- cause while the block has numbers
 pub record IsRefusedFor (b : Block) (r : VirtualRequest) (name : List ℕ) (e : AllocationError) : Type 0 where
   pub served : IsServed r.size r.alignment r.kind name
   pub cause : IsTakeRefusalIn b (asked r name) e
   pub law : IsFitLaw b (asked r name) e
 
--- the piece was taken
+-- the piece was allocated
 pub record Allocates (old : Block) (r : VirtualRequest) (name : List ℕ) (piece : VirtualPiece) (new : Block) : Type 0 where
   pub served : IsServed r.size r.alignment r.kind name
   pub takes : TakesIn old (asked r name) piece.offset piece.number new
   pub numbered : 0 < piece.number
   pub formed : IsWellFormed new
 
--- the piece went
+-- the piece was freed
 pub record Frees (old : Block) (piece : VirtualPiece) (new : Block) : Type 0 where
   pub live : IsLivePiece old piece
   pub releases : ReleasesIn old piece.number new

@@ -13,9 +13,10 @@ kind_number Free = 0
 kind_number Linear = linear
 kind_number NonLinear = non_linear
 
-abbrev pub told_view : Option Extent → PieceView
-told_view None = record { exists = false; number = 0; start = 0; offset = 0; end = 0; kind = 0 }
-told_view (Some x) = record { exists = true; number = x.number; start = x.start; offset = x.offset; end = x.end; kind = kind_number x.kind }
+-- a piece as C sees it, or none
+abbrev pub piece_view : Option Extent → PieceView
+piece_view None = record { exists = false; number = 0; start = 0; offset = 0; end = 0; kind = 0 }
+piece_view (Some x) = record { exists = true; number = x.number; start = x.start; offset = x.offset; end = x.end; kind = kind_number x.kind }
 
 -- the first of the pieces whose own bytes begin at that place or behind it
 abbrev pub piece_from : ℕ → List Extent → Option Extent
@@ -39,6 +40,6 @@ room_for text buffer = min (length text) (length buffer)
 abbrev pub copied_into : List ℕ → List ℕ → List ℕ
 copied_into text buffer = take (room_for text buffer) text ++ drop (room_for text buffer) buffer
 
--- a name was copied into a buffer, and its whole length told
+-- a name was copied into a buffer, and its whole length reported
 abbrev pub ShowsName : Option Extent → (old new : List ℕ) → (whole : ℕ) → Type 0
 ShowsName piece old new whole = (new ≡ copied_into (name_of piece) old) × (whole ≡ length (name_of piece))

@@ -1,4 +1,4 @@
-//! The allocator for C: each export tests what it is told, calls the library, and says the library's clauses again over what lies
+//! The allocator for C: each export tests what it is passed, calls the library, and says the library's clauses again over what lies
 //! behind its handle. `include/pilhangko.h` declares the exports.
 #![tactic(auto)]
 

@@ -7,8 +7,8 @@ ghost use Rattle.gpu_core.specs.TypeReport.{pieces_in, statistics_in};
 ghost use Rattle.gpu_c.specs.Status as status;
 ghost use Rattle.gpu_c.specs.Request.{IsServed};
 ghost use Rattle.gpu_c.specs.Status.{IsOneOf};
-ghost use Rattle.gpu_c.specs.MemoryType.{AwaitingState, fresh_memory_type, told_piece, no_memory_piece, told_block, number_if, IsLiveIn, Prepares, IsIdleAndServed, IsTooLarge, IsPastBudget, InstallsAwaited, Abandons, FreesPiece, NamesMemory, statistics_of, sizes_told, told_counts};
-ghost use Rattle.gpu_c.specs.Visit.{told_view, piece_in_from, ShowsName};
+ghost use Rattle.gpu_c.specs.MemoryType.{AwaitingState, fresh_memory_type, memory_piece, no_memory_piece, memory_block, number_if, IsLiveIn, Prepares, IsIdleAndServed, IsTooLarge, IsPastBudget, InstallsAwaited, Abandons, FreesPiece, NamesMemory, statistics_of, sizes_of, block_counts};
+ghost use Rattle.gpu_c.specs.Visit.{piece_view, piece_in_from, ShowsName};
 ghost use Rattle.gpu_c.specs.declared.status.TheConstants.{OK, OUT_OF_MEMORY, INVALID, NOT_LIVE, HOST_OUT_OF_MEMORY, BUDGET_EXCEEDED, AWAITS_BLOCK, AWAITS_NO_BLOCK};
 
 use crate::memory_type_values::{
@@ -31,7 +31,7 @@ use std::num::NonZeroU64;
 /// A memory type whose blocks have the driver's handles for numbers, and the block that is awaited from the driver.
 #[derive(Drop)]
 pub struct AwaitingType {
-    types: MemoryType<u64>,
+    memory_type: MemoryType<u64>,
     sizes: AllocationSizes,
     awaited: Option<NeedBlock>,
 }
@@ -41,13 +41,13 @@ impl Model for AwaitingType {
 
     ghost Value = { AwaitingState };
 
-    ghost view = { λ t. state_of t.types t.sizes t.awaited };
+    ghost view = { λ t. state_of t.memory_type t.sizes t.awaited };
 
-    ghost invariant = { λ t. CanAwait t.types t.awaited };
+    ghost invariant = { λ t. CanAwait t.memory_type t.awaited };
 }
 
 fn sizes_of(settings: &MemoryTypeSettings) -> AllocationSizes
-    ensures { result ≡ sizes_told settings.now }
+    ensures { result ≡ sizes_of settings.now }
 {
     AllocationSizes::new(settings.device_block_size, settings.host_block_size)
         .with_max_device_memblock_size(settings.largest_device_block_size)
@@ -61,8 +61,8 @@ fn number_if(exists: bool, number: u64) -> Option<u64>
     if exists { Some(number) } else { None }
 }
 
-fn told(piece: &Piece<u64>) -> MemoryPiece
-    ensures { result ≡ told_piece piece.now }
+fn memory_piece(piece: &Piece<u64>) -> MemoryPiece
+    ensures { result ≡ memory_piece piece.now }
 {
     MemoryPiece {
         slot: piece.slot,
@@ -74,8 +74,8 @@ fn told(piece: &Piece<u64>) -> MemoryPiece
 }
 
 /// The piece that a caller names; `None` where its number is 0.
-fn heard(piece: &MemoryPiece) -> Option<Piece<u64>>
-    ensures { MatchOption result (piece.now.number ≡ 0) (λ p. told_piece p ≡ piece.now) }
+fn named_piece(piece: &MemoryPiece) -> Option<Piece<u64>>
+    ensures { MatchOption result (piece.now.number ≡ 0) (λ p. memory_piece p ≡ piece.now) }
 {
     match NonZeroU64::new(piece.number) {
         None => None,
@@ -89,8 +89,8 @@ fn heard(piece: &MemoryPiece) -> Option<Piece<u64>>
     }
 }
 
-fn told_block(block: Option<u64>) -> MemoryBlock
-    ensures { result ≡ told_block block }
+fn memory_block(block: Option<u64>) -> MemoryBlock
+    ensures { result ≡ memory_block block }
 {
     match block {
         None => MemoryBlock {
@@ -106,16 +106,16 @@ fn told_block(block: Option<u64>) -> MemoryBlock
 
 /// Whether a new block of `size` bytes may be asked for: the sum of the blocks' sizes stays in 64 bits, else `OUT_OF_MEMORY`, and
 /// within the budget, else `BUDGET_EXCEEDED`.
-fn growth_status(types: &MemoryType<u64>, size: u64) -> u32
-    ensures within { result ≡ status.ok → (capacity_of types.now.slots + size < 2 ^ 64) × (fits_budget types.now.budget (capacity_of types.now.slots + size) ≡ true) }
-    ensures out_of_memory { result ≡ status.out_of_memory → 2 ^ 64 ≤ capacity_of types.now.slots + size }
-    ensures past_budget { result ≡ status.budget_exceeded → (capacity_of types.now.slots + size < 2 ^ 64) × (fits_budget types.now.budget (capacity_of types.now.slots + size) ≡ false) }
+fn growth_status(memory_type: &MemoryType<u64>, size: u64) -> u32
+    ensures within { result ≡ status.ok → (capacity_of memory_type.now.slots + size < 2 ^ 64) × (fits_budget memory_type.now.budget (capacity_of memory_type.now.slots + size) ≡ true) }
+    ensures out_of_memory { result ≡ status.out_of_memory → 2 ^ 64 ≤ capacity_of memory_type.now.slots + size }
+    ensures past_budget { result ≡ status.budget_exceeded → (capacity_of memory_type.now.slots + size < 2 ^ 64) × (fits_budget memory_type.now.budget (capacity_of memory_type.now.slots + size) ≡ false) }
     ensures statuses { IsOneOf result (status.ok ∷ status.out_of_memory ∷ status.budget_exceeded ∷ []) }
 {
-    if types.capacity().checked_add(size).is_none() {
+    if memory_type.capacity().checked_add(size).is_none() {
         return OUT_OF_MEMORY;
     }
-    if types.fits_budget(size) {
+    if memory_type.fits_budget(size) {
         OK
     } else {
         BUDGET_EXCEEDED
@@ -128,16 +128,16 @@ impl AwaitingType {
         requires { IsTrue (is_power_of_two settings.now.granularity) }
         ensures { result ≡ fresh_memory_type settings.now }
     {
-        let mut types = MemoryType::new(alloc, settings.is_host, settings.granularity);
-        types.set_budget(number_if(settings.has_budget, settings.budget));
+        let mut memory_type = MemoryType::new(alloc, settings.is_host, settings.granularity);
+        memory_type.set_budget(number_if(settings.has_budget, settings.budget));
         AwaitingType {
-            types,
+            memory_type,
             sizes: sizes_of(settings),
             awaited: None,
         }
     }
 
-    /// Takes a piece of a block that is there, or says which block is needed and awaits it.
+    /// Allocates a piece in a block that is there, or says which block is needed and awaits it.
     pub fn prepare(
         &mut self,
         request: &MemoryRequest,
@@ -167,19 +167,19 @@ impl AwaitingType {
             dedicated: request.dedicated,
             name,
         };
-        match self.types.prepare(&asked, &self.sizes) {
+        match self.memory_type.prepare(&asked, &self.sizes) {
             Err(_) => HOST_OUT_OF_MEMORY,
             Ok(Prepared::Taken(piece)) => {
                 *prepared = MemoryPrepared {
                     needs_block: false,
                     dedicated: false,
                     block_size: 0,
-                    piece: told(&piece),
+                    piece: memory_piece(&piece),
                 };
                 OK
             }
             Ok(Prepared::NeedBlock(need)) => {
-                let status = growth_status(&self.types, need.size);
+                let status = growth_status(&self.memory_type, need.size);
                 if status == OK {
                     *prepared = needed(&need);
                     await_block(&mut self.awaited, need);
@@ -189,7 +189,7 @@ impl AwaitingType {
         }
     }
 
-    /// Puts in the block that is awaited, under the driver's handle of it, and tells the piece in it.
+    /// Puts in the block that is awaited, under the driver's handle of it, and reports the piece in it.
     pub fn install(&mut self, block: u64, piece: &mut MemoryPiece) -> u32
         ensures installed { result ≡ status.ok → InstallsAwaited self.old block piece.new self.new }
         ensures awaits_no_block { (result ≡ status.awaits_no_block) ↔ (self.old.awaited ≡ None) }
@@ -199,7 +199,7 @@ impl AwaitingType {
         match self.awaited.take() {
             None => AWAITS_NO_BLOCK,
             Some(need) => {
-                *piece = told(&self.types.install(need, block));
+                *piece = memory_piece(&self.memory_type.install(need, block));
                 OK
             }
         }
@@ -218,7 +218,7 @@ impl AwaitingType {
         }
     }
 
-    /// Gives a piece back, and tells the block that goes with it, if one does.
+    /// Frees a piece, and reports the block that goes with it, if one does.
     pub fn free(&mut self, piece: &MemoryPiece, gone: &mut MemoryBlock) -> u32
         ensures freed { result ≡ status.ok → FreesPiece self.old piece.now gone.new self.new }
         ensures awaits_block { (result ≡ status.awaits_block) ↔ IsSome self.old.awaited }
@@ -230,19 +230,19 @@ impl AwaitingType {
             Some(_) => return AWAITS_BLOCK,
             None => {}
         }
-        match heard(piece) {
+        match named_piece(piece) {
             None => NOT_LIVE,
-            Some(piece) => match self.types.free(&piece) {
+            Some(piece) => match self.memory_type.free(&piece) {
                 Err(_) => NOT_LIVE,
                 Ok(block) => {
-                    *gone = told_block(block);
+                    *gone = memory_block(block);
                     OK
                 }
             },
         }
     }
 
-    /// Gives a piece another name.
+    /// Renames a piece.
     pub fn rename(&mut self, piece: &MemoryPiece, name: &[u8]) -> u32
         ensures renamed { result ≡ status.ok → IsUtf8 name.now × NamesMemory self.old piece.now name.now self.new }
         ensures awaits_block { (result ≡ status.awaits_block) ↔ IsSome self.old.awaited }
@@ -259,13 +259,13 @@ impl AwaitingType {
         let Ok(name) = str::from_utf8(name) else {
             return INVALID;
         };
-        match heard(piece) {
+        match named_piece(piece) {
             None => NOT_LIVE,
             Some(piece) => {
-                if !self.types.is_live(&piece) {
+                if !self.memory_type.is_live(&piece) {
                     return NOT_LIVE;
                 }
-                match self.types.rename(&piece, name) {
+                match self.memory_type.rename(&piece, name) {
                     Err(_) => HOST_OUT_OF_MEMORY,
                     Ok(_) => OK,
                 }
@@ -277,9 +277,9 @@ impl AwaitingType {
     pub fn is_live(&self, piece: &MemoryPiece) -> bool
         ensures { IsTrue result ↔ IsLiveIn self.now piece.now }
     {
-        match heard(piece) {
+        match named_piece(piece) {
             None => false,
-            Some(piece) => self.types.is_live(&piece),
+            Some(piece) => self.memory_type.is_live(&piece),
         }
     }
 
@@ -293,7 +293,7 @@ impl AwaitingType {
         match &self.awaited {
             Some(_) => AWAITS_BLOCK,
             None => {
-                self.types.set_budget(number_if(has_budget, bytes));
+                self.memory_type.set_budget(number_if(has_budget, bytes));
                 OK
             }
         }
@@ -301,16 +301,16 @@ impl AwaitingType {
 
     /// The block in a slot, if one is there.
     pub fn block(&self, slot: usize) -> MemoryBlock
-        ensures { result ≡ told_block (block_number (slot_at self.now.slots slot)) }
+        ensures { result ≡ memory_block (block_number (slot_at self.now.slots slot)) }
     {
-        told_block(self.types.block(slot))
+        memory_block(self.memory_type.block(slot))
     }
 
     /// What is counted of the block in a slot.
     pub fn block_statistics(&self, slot: usize) -> MemoryBlockStatistics
-        ensures { result ≡ told_counts (statistics_in (slot_at self.now.slots slot)) }
+        ensures { result ≡ block_counts (statistics_in (slot_at self.now.slots slot)) }
     {
-        match self.types.statistics(slot) {
+        match self.memory_type.statistics(slot) {
             None => MemoryBlockStatistics {
                 exists: false,
                 pieces: 0,
@@ -330,19 +330,19 @@ impl AwaitingType {
 
     /// The first piece of the block in a slot whose own bytes begin at `from` or behind it.
     pub fn next_piece(&self, slot: usize, from: u64) -> PieceView
-        ensures { result ≡ told_view (piece_in_from from (pieces_in (slot_at self.now.slots slot))) }
+        ensures { result ≡ piece_view (piece_in_from from (pieces_in (slot_at self.now.slots slot))) }
     {
-        match self.types.pieces(slot) {
+        match self.memory_type.pieces(slot) {
             None => no_piece(),
             Some(pieces) => first_from(pieces, from),
         }
     }
 
-    /// Copies the name of the piece that `next_piece` shows, as much as there is room for, and answers its whole length.
+    /// Copies the name of the piece that `next_piece` shows, as much as there is room for, and returns its whole length.
     pub fn piece_name(&self, slot: usize, from: u64, name: &mut [u8]) -> usize
         ensures { ShowsName (piece_in_from from (pieces_in (slot_at self.now.slots slot))) name.old name.new result }
     {
-        match self.types.pieces(slot) {
+        match self.memory_type.pieces(slot) {
             None => 0,
             Some(pieces) => name_from(pieces, from, name),
         }
@@ -352,11 +352,11 @@ impl AwaitingType {
     pub fn statistics(&self) -> MemoryStatistics
         ensures { result ≡ statistics_of self.now }
     {
-        let budget = self.types.budget();
+        let budget = self.memory_type.budget();
         MemoryStatistics {
-            capacity: self.types.capacity(),
-            slots: self.types.slots(),
-            shared_blocks: self.types.active_general_blocks(),
+            capacity: self.memory_type.capacity(),
+            slots: self.memory_type.slots(),
+            shared_blocks: self.memory_type.active_general_blocks(),
             has_budget: budget.is_some(),
             budget: budget.unwrap_or(0),
             awaits_block: self.awaited.is_some(),

@@ -8,11 +8,11 @@ use crate::raw_box::RawBox;
 use std::alloc::Global;
 use std::marker::Model;
 
-/// A memory type, or null: what `Box::into_raw` gave. C holds it by value, lends it to each call, and never copies it.
+/// A memory type, or null: what `Box::into_raw` returned. C holds it by value, lends it to each call, and never copies it.
 #[repr(C)]
 #[derive(Drop)]
 pub struct MemoryTypeHandle {
-    at: *mut u8,
+    opaque: *mut u8,
     pub ghost value: { Option AwaitingState },
 }
 
@@ -20,7 +20,7 @@ impl Model for MemoryTypeHandle {
     ghost use Rattle.gpu_c.specs.Owned.{handle_owns};
     ghost use Rattle.gpu_c.specs.contracts.memory_type.AwaitingType.{the_row};
 
-    ghost also_owns = { λ h. handle_owns the_row h.at h.value };
+    ghost also_owns = { λ h. handle_owns the_row h.opaque h.value };
 }
 
 impl MemoryTypeHandle {
@@ -29,7 +29,7 @@ impl MemoryTypeHandle {
         ensures { result.value ≡ None }
     {
         MemoryTypeHandle {
-            at: std::ptr::null_mut(),
+            opaque: std::ptr::null_mut(),
         }
     }
 
@@ -37,18 +37,20 @@ impl MemoryTypeHandle {
         ensures { result.value ≡ Some value.value }
     {
         let RawBox { at, alloc: _ } = value;
-        MemoryTypeHandle { at: at as *mut u8 }
+        MemoryTypeHandle {
+            opaque: at as *mut u8,
+        }
     }
 
     fn into_raw_box(self, alloc: Global) -> Option<RawBox<AwaitingType, Global>>
         ensures { MatchOption result (self.value ≡ None) (λ b. self.value ≡ Some b.value) }
     {
-        let MemoryTypeHandle { at } = self;
-        if at.is_null() {
+        let MemoryTypeHandle { opaque } = self;
+        if opaque.is_null() {
             None
         } else {
             Some(RawBox {
-                at: at as *mut AwaitingType,
+                at: opaque as *mut AwaitingType,
                 alloc,
             })
         }

@@ -53,11 +53,11 @@ pub struct MemoryPiece {
     pub block: u64,
 }
 
-/// What a request comes to: a piece, or the block that is needed for it.
+/// What a request results in: a piece, or the block that is needed for it.
 #[repr(C)]
 #[derive(Drop)]
 pub struct MemoryPrepared {
-    /// Whether a block is needed; then `piece` is all zeros, and install tells it.
+    /// Whether a block is needed; then `piece` is all zeros, and install reports it.
     pub needs_block: bool,
     /// Whether the block that is needed is the piece's own.
     pub dedicated: bool,

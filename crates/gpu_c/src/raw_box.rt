@@ -8,7 +8,7 @@ use std::marker::Model;
 
 /// A box taken apart: where its value lies, and the allocator that its memory goes back to. Contracts see the value.
 pub struct RawBox<T, A: Allocator> {
-    /// Where the value lies: what `Box::into_raw` gives.
+    /// Where the value lies: what `Box::into_raw` returns.
     pub at: *mut T,
     /// What the value's memory goes back to.
     pub alloc: A,

@@ -8,7 +8,7 @@ ghost use Rattle.gpu_c.specs.Status as status;
 ghost use Rattle.gpu_c.specs.Request.{IsServed};
 ghost use Rattle.gpu_c.specs.Status.{IsOneOf};
 ghost use Rattle.gpu_c.specs.VirtualBlock.{CanCreate, fresh_virtual_block, IsLivePiece, IsRefusedFor, Allocates, Frees, NamesPiece, cleared, counts_of};
-ghost use Rattle.gpu_c.specs.Visit.{told_view, piece_from, ShowsName};
+ghost use Rattle.gpu_c.specs.Visit.{piece_view, piece_from, ShowsName};
 ghost use Rattle.gpu_c.specs.declared.status.TheConstants.{OK, OUT_OF_MEMORY, INVALID, NOT_LIVE, HOST_OUT_OF_MEMORY};
 
 use crate::request::served;
@@ -56,14 +56,14 @@ impl VirtualBlock {
         }
     }
 
-    /// Takes a piece.
+    /// Allocates a piece.
     pub fn allocate(
         &mut self,
         wanted: &VirtualRequest,
         name: &[u8],
         piece: &mut VirtualPiece,
     ) -> u32
-        ensures took { result ≡ status.ok → Allocates self.old wanted.now name.now piece.new self.new }
+        ensures allocated { result ≡ status.ok → Allocates self.old wanted.now name.now piece.new self.new }
         ensures invalid { (result ≡ status.invalid) ↔ (IsServed wanted.now.size wanted.now.alignment wanted.now.kind name.now → ⊥) }
         ensures out_of_memory { result ≡ status.out_of_memory → IsRefusedFor self.old wanted.now name.now OutOfMemory }
         ensures host_out_of_memory { result ≡ status.host_out_of_memory → IsRefusedFor self.old wanted.now name.now HostOutOfMemory }
@@ -104,7 +104,7 @@ impl VirtualBlock {
         }
     }
 
-    /// Gives a piece back.
+    /// Frees a piece.
     pub fn free(&mut self, piece: &VirtualPiece) -> u32
         ensures freed { result ≡ status.ok → Frees self.old piece.now self.new }
         ensures not_live { (result ≡ status.not_live) ↔ (IsLivePiece self.old piece.now → ⊥) }
@@ -120,7 +120,7 @@ impl VirtualBlock {
         }
     }
 
-    /// Gives a piece another name.
+    /// Renames a piece.
     pub fn rename(&mut self, piece: &VirtualPiece, name: &[u8]) -> u32
         ensures renamed { result ≡ status.ok → IsUtf8 name.now × NamesPiece self.old piece.now name.now self.new }
         ensures invalid { (result ≡ status.invalid) ↔ (IsUtf8 name.now → ⊥) }
@@ -141,7 +141,7 @@ impl VirtualBlock {
         }
     }
 
-    /// Gives all pieces back.
+    /// Frees all pieces.
     pub fn clear(&mut self, alloc: Global) -> u32
         ensures emptied { result ≡ status.ok → self.new ≡ cleared self.old }
         ensures statuses { IsOneOf result (status.ok ∷ status.host_out_of_memory ∷ []) }
@@ -172,12 +172,12 @@ impl VirtualBlock {
 
     /// The first piece whose own bytes begin at `from` or behind it.
     pub fn next_piece(&self, from: u64) -> PieceView
-        ensures { result ≡ told_view (piece_from from (extents_of self.now)) }
+        ensures { result ≡ piece_view (piece_from from (extents_of self.now)) }
     {
         first_from(self.sub.pieces(), from)
     }
 
-    /// Copies the name of the piece that `next_piece` shows, as much as there is room for, and answers its whole length.
+    /// Copies the name of the piece that `next_piece` shows, as much as there is room for, and returns its whole length.
     pub fn piece_name(&self, from: u64, name: &mut [u8]) -> usize
         ensures { ShowsName (piece_from from (extents_of self.now)) name.old name.new result }
     {

@@ -1,4 +1,4 @@
-//! Virtual blocks for C. A handle begins zeroed; create fills it and destroy leaves it zeroed. Each call on an empty handle answers
+//! Virtual blocks for C. A handle begins zeroed; create fills it and destroy leaves it zeroed. Each call on an empty handle returns
 //! `NO_HANDLE`, and any status but `OK` leaves everything as it was.
 
 ghost use Rattle.std.specs.Prelude.{◌≡◌, ◌≢◌, ◌↔◌, [], ◌∷◌, Some, None, IsSomeAnd, IsUtf8};
@@ -9,7 +9,7 @@ ghost use Rattle.gpu_c.specs.Status as status;
 ghost use Rattle.gpu_c.specs.Request.{IsServed};
 ghost use Rattle.gpu_c.specs.Status.{IsOneOf};
 ghost use Rattle.gpu_c.specs.VirtualBlock.{CanCreate, fresh_virtual_block, IsLivePiece, IsRefusedFor, Allocates, Frees, NamesPiece, cleared, counts_of};
-ghost use Rattle.gpu_c.specs.Visit.{told_view, piece_from, ShowsName};
+ghost use Rattle.gpu_c.specs.Visit.{piece_view, piece_from, ShowsName};
 ghost use Rattle.gpu_c.specs.declared.status.TheConstants.{OK, OUT_OF_MEMORY, INVALID, NOT_LIVE, HOST_OUT_OF_MEMORY, NO_HANDLE, IN_USE};
 
 use crate::status::{HOST_OUT_OF_MEMORY, IN_USE, INVALID, NO_HANDLE, OK};
@@ -68,7 +68,7 @@ pub extern "C" fn pilhangko_raw_virtual_block_create(
     create(block, alloc, size, granularity)
 }
 
-/// Takes the least place for the request in the shortest gap that it fits in. `INVALID` where the request is none that is served,
+/// Allocates the least place for the request in the shortest gap that it fits in. `INVALID` where the request is none that is served,
 /// else `OUT_OF_MEMORY` where no gap has a place, else `HOST_OUT_OF_MEMORY` where the host refused memory.
 #[unsafe(no_mangle)]
 pub extern "C" fn pilhangko_raw_virtual_block_allocate(
@@ -78,7 +78,7 @@ pub extern "C" fn pilhangko_raw_virtual_block_allocate(
     name: &[u8],
     piece: &mut VirtualPiece,
 ) -> u32
-    ensures took { result ≡ status.ok → Changes block.old.value block.new.value
+    ensures allocated { result ≡ status.ok → Changes block.old.value block.new.value
         (λ old new. Allocates old request.now name.now piece.new new) }
     ensures no_handle { (result ≡ status.no_handle) ↔ (block.old.value ≡ None) }
     ensures invalid { (result ≡ status.invalid) ↔ IsSomeAnd block.old.value
@@ -100,7 +100,7 @@ pub extern "C" fn pilhangko_raw_virtual_block_allocate(
     }
 }
 
-/// Gives a live piece back; its place joins the gaps beside it. It takes no host memory. `NOT_LIVE` where no live piece has that number
+/// Frees a live piece; its place joins the gaps beside it. It takes no host memory. `NOT_LIVE` where no live piece has that number
 /// and offset.
 #[unsafe(no_mangle)]
 pub extern "C" fn pilhangko_raw_virtual_block_free(
@@ -124,7 +124,7 @@ pub extern "C" fn pilhangko_raw_virtual_block_free(
     }
 }
 
-/// Gives a live piece another name. `INVALID` where the name isn't UTF-8, else `NOT_LIVE`, else `HOST_OUT_OF_MEMORY`.
+/// Renames a live piece. `INVALID` where the name isn't UTF-8, else `NOT_LIVE`, else `HOST_OUT_OF_MEMORY`.
 #[unsafe(no_mangle)]
 pub extern "C" fn pilhangko_raw_virtual_block_rename(
     block: &mut VirtualBlockHandle,
@@ -151,7 +151,7 @@ pub extern "C" fn pilhangko_raw_virtual_block_rename(
     }
 }
 
-/// Gives all pieces back: the block is as create made it. `HOST_OUT_OF_MEMORY` where the host refused memory for that.
+/// Frees all pieces: the block is as create made it. `HOST_OUT_OF_MEMORY` where the host refused memory for that.
 #[unsafe(no_mangle)]
 pub extern "C" fn pilhangko_raw_virtual_block_clear(
     block: &mut VirtualBlockHandle,
@@ -179,7 +179,7 @@ pub extern "C" fn pilhangko_raw_virtual_block_statistics(
     alloc: Global,
     statistics: &mut VirtualStatistics,
 ) -> u32
-    ensures told { result ≡ status.ok → IsSomeAnd block.old.value (λ b. statistics.new ≡ counts_of b) }
+    ensures reported { result ≡ status.ok → IsSomeAnd block.old.value (λ b. statistics.new ≡ counts_of b) }
     ensures no_handle { (result ≡ status.no_handle) ↔ (block.old.value ≡ None) }
     ensures statuses { IsOneOf result (status.ok ∷ status.no_handle ∷ []) }
     ensures same { block.new.value ≡ block.old.value }
@@ -203,7 +203,7 @@ pub extern "C" fn pilhangko_raw_virtual_block_next_piece(
     from: u64,
     piece: &mut PieceView,
 ) -> u32
-    ensures told { result ≡ status.ok → IsSomeAnd block.old.value (λ b. piece.new ≡ told_view (piece_from from (extents_of b))) }
+    ensures reported { result ≡ status.ok → IsSomeAnd block.old.value (λ b. piece.new ≡ piece_view (piece_from from (extents_of b))) }
     ensures no_handle { (result ≡ status.no_handle) ↔ (block.old.value ≡ None) }
     ensures statuses { IsOneOf result (status.ok ∷ status.no_handle ∷ []) }
     ensures same { block.new.value ≡ block.old.value }
@@ -219,7 +219,7 @@ pub extern "C" fn pilhangko_raw_virtual_block_next_piece(
     }
 }
 
-/// The name of the piece that the visit shows from there: copies as many bytes of it as there is room for, and tells how many it has, 0
+/// The name of the piece that the visit shows from there: copies as many bytes of it as there is room for, and reports how many it has, 0
 /// where there is no piece.
 #[unsafe(no_mangle)]
 pub extern "C" fn pilhangko_raw_virtual_block_piece_name(
@@ -229,7 +229,7 @@ pub extern "C" fn pilhangko_raw_virtual_block_piece_name(
     name: &mut [u8],
     whole: &mut usize,
 ) -> u32
-    ensures told { result ≡ status.ok → IsSomeAnd block.old.value (λ b. ShowsName (piece_from from (extents_of b)) name.old name.new whole.new) }
+    ensures reported { result ≡ status.ok → IsSomeAnd block.old.value (λ b. ShowsName (piece_from from (extents_of b)) name.old name.new whole.new) }
     ensures no_handle { (result ≡ status.no_handle) ↔ (block.old.value ≡ None) }
     ensures statuses { IsOneOf result (status.ok ∷ status.no_handle ∷ []) }
     ensures same { block.new.value ≡ block.old.value }

@@ -1,7 +1,7 @@
 //! Visits of a block's pieces, in order of offset.
 
 ghost use Rattle.std.specs.Prelude.{◌≡◌, None, Some, length};
-ghost use Rattle.gpu_c.specs.Visit.{kind_number, told_view, piece_from, name_of, copied_into};
+ghost use Rattle.gpu_c.specs.Visit.{kind_number, piece_view, piece_from, name_of, copied_into};
 
 use crate::request::{LINEAR, NON_LINEAR};
 use crate::virtual_block_values::PieceView;
@@ -19,7 +19,7 @@ fn kind_number(kind: AllocationType) -> u32
 }
 
 fn view_of(piece: &LivePiece) -> PieceView
-    ensures { result ≡ told_view (Some piece.now) }
+    ensures { result ≡ piece_view (Some piece.now) }
 {
     PieceView {
         exists: true,
@@ -33,7 +33,7 @@ fn view_of(piece: &LivePiece) -> PieceView
 
 /// No piece.
 pub fn no_piece() -> PieceView
-    ensures { result ≡ told_view None }
+    ensures { result ≡ piece_view None }
 {
     PieceView {
         exists: false,
@@ -47,7 +47,7 @@ pub fn no_piece() -> PieceView
 
 /// The first piece whose own bytes begin at `from` or behind it.
 pub fn first_from(pieces: Pieces<'_>, from: u64) -> PieceView
-    ensures { result ≡ told_view (piece_from from pieces.entry) }
+    ensures { result ≡ piece_view (piece_from from pieces.entry) }
 {
     for piece in pieces {
         if from <= piece.offset() {
@@ -57,7 +57,7 @@ pub fn first_from(pieces: Pieces<'_>, from: u64) -> PieceView
     no_piece()
 }
 
-/// Copies as much of a text as there is room for, and answers its whole length.
+/// Copies as much of a text as there is room for, and returns its whole length.
 fn copy_text(text: &str, buffer: &mut [u8]) -> usize
     ensures whole { result ≡ length text.now }
     ensures copied { buffer.new ≡ copied_into text.now buffer.old }
@@ -67,7 +67,7 @@ fn copy_text(text: &str, buffer: &mut [u8]) -> usize
     text.len()
 }
 
-/// Copies the name of the first piece whose own bytes begin at `from` or behind it, as much as there is room for, and answers its whole
+/// Copies the name of the first piece whose own bytes begin at `from` or behind it, as much as there is room for, and returns its whole
 /// length; 0 where there is no such piece.
 pub fn name_from(pieces: Pieces<'_>, from: u64, buffer: &mut [u8]) -> usize
     ensures whole { result ≡ length (name_of (piece_from from pieces.entry)) }

@@ -10,9 +10,9 @@ returns-after-rename-clause-renamed c ok =
       | in-Err w ↦ absurd (omega (arith, w.result-is, ok))
       | in-Ok-rename w ↦ (
         c.in-Ok.ensures.cases.1,
-        names_memory c.args.self.now c.self.inside.types c.rename.new.self c.self.inside.sizes c.self.inside.awaited c.in-Some-heard.piece c.args.piece.now c.args.name.now
-            c.self.view_is c.in-None.is c.in-Some-heard.ensures w.in-Ok-rename.ensures.live
-            (subst (λ (name : List ℕ). RenamesPiece c.self.inside.types.slots c.in-Some-heard.piece name c.rename.new.self.slots) c.in-Ok.ensures.cases.0 w.in-Ok-rename.ensures.renamed)
+        names_memory c.args.self.now c.self.inside.memory_type c.rename.new.self c.self.inside.sizes c.self.inside.awaited c.in-Some-named_piece.piece c.args.piece.now c.args.name.now
+            c.self.view_is c.in-None.is c.in-Some-named_piece.ensures w.in-Ok-rename.ensures.live
+            (subst (λ (name : List ℕ). RenamesPiece c.self.inside.memory_type.slots c.in-Some-named_piece.piece name c.rename.new.self.slots) c.in-Ok.ensures.cases.0 w.in-Ok-rename.ensures.renamed)
             w.in-Ok-rename.ensures.capacity (record {
               kind = w.in-Ok-rename.ensures.kind;
               budget = w.in-Ok-rename.ensures.budget;

@@ -50,7 +50,7 @@ into_raw_box_spec 𝓤 𝓛 𝓜 𝓡 wired =
     ! $ move ! (1 ∷ []) $ fsplit ! $
     rewrite ! 0 (λ (us : List Val). ‵ (Z.own_val a us)) h.1 refl $ move ! (2 ∷ []) $
     -- [what the handle owns; the allocator; nothing; the tokens; the `requires`]
-    by_cases Behind a ! d.at d.value
+    by_cases Behind a ! d.opaque d.value
     (λ is none. let w : Val = word null_ptr in let out : Val = live 0 vnil in
     suffices ! (Run (w ∷ h.0 ∷ [])) (subst (λ (us : List Val). ent 𝓤 (Run (w ∷ h.0 ∷ [])) (Run us)) (sym (λ i. (told ∙ ap (λ (p : Ptr). word p ∷ []) is) i ++ (h.1 i ++ [])))
     (id⊢ 𝓤 (Run (w ∷ h.0 ∷ [])))) $
