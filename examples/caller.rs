@@ -4,7 +4,7 @@ use std::ffi::c_void;
 
 #[repr(C)]
 struct Handle {
-    at: *mut c_void,
+    opaque: *mut c_void,
 }
 
 #[repr(C)]
@@ -23,7 +23,7 @@ struct Piece {
 
 const OK: u32 = 0;
 const NOT_LIVE: u32 = 6;
-const LINEAR: u32 = 1;
+const KIND_LINEAR: u32 = 1;
 
 extern "C" {
     fn pilhangko_raw_virtual_block_create(block: *mut Handle, size: u64, page_size: u64) -> u32;
@@ -42,7 +42,7 @@ struct VirtualBlock(Handle);
 
 impl VirtualBlock {
     fn new(size: u64, page_size: u64) -> Result<VirtualBlock, u32> {
-        let mut block = VirtualBlock(Handle { at: std::ptr::null_mut() });
+        let mut block = VirtualBlock(Handle { opaque: std::ptr::null_mut() });
         match unsafe { pilhangko_raw_virtual_block_create(&mut block.0, size, page_size) } {
             OK => Ok(block),
             status => Err(status),
@@ -50,7 +50,7 @@ impl VirtualBlock {
     }
 
     fn allocate(&mut self, size: u64, alignment: u64, name: &str) -> Result<Piece, u32> {
-        let request = Request { size, alignment, kind: LINEAR };
+        let request = Request { size, alignment, kind: KIND_LINEAR };
         let mut piece = Piece::default();
         let status = unsafe {
             pilhangko_raw_virtual_block_allocate(&mut self.0, &request, name.as_ptr(), name.len(), &mut piece)

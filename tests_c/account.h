@@ -1,6 +1,6 @@
 /* A plain account of one block: a row of pieces and gaps, searched from the front on. It knows nothing of the library but the rules:
  * a piece lies at the least place of the shortest gap that it fits in, of equal gaps in the first; pieces of different kinds share no
- * page; a piece that leaves a rest has a new number, one that fills its gap the gap's; a piece that is given back leaves its number to
+ * page; a piece that leaves a rest has a new number, one that fills its gap the gap's; a piece that is freed leaves its number to
  * the gap, unless a gap before it has one. */
 #ifndef ACCOUNT_H
 #define ACCOUNT_H
@@ -44,7 +44,7 @@ static inline bool account_fits(const struct account *a, size_t at, uint64_t siz
     return true;
 }
 
-static inline bool account_take(
+static inline bool account_allocate(
     struct account *a, uint64_t size, uint64_t alignment, uint32_t kind, const char *name, uint64_t *offset, uint64_t *number) {
     size_t best = a->count;
     uint64_t best_offset = 0, place;

@@ -1,7 +1,7 @@
 /* Virtual blocks: rows whose places were worked out by hand, and each status of each call. */
 #include "test.h"
 
-static void takes(pilhangko_virtual_block *block, uint64_t size, uint64_t alignment, uint32_t kind, uint64_t offset, uint64_t number,
+static void allocates(pilhangko_virtual_block *block, uint64_t size, uint64_t alignment, uint32_t kind, uint64_t offset, uint64_t number,
     pilhangko_virtual_piece *piece) {
     pilhangko_virtual_request request = {size, alignment, kind};
     IS(pilhangko_virtual_block_allocate(block, &request, "piece", piece), PILHANGKO_OK);
@@ -9,7 +9,7 @@ static void takes(pilhangko_virtual_block *block, uint64_t size, uint64_t alignm
     CHECK(piece->number == number);
 }
 
-static void has(pilhangko_virtual_block *block, size_t pieces) {
+static void has(const pilhangko_virtual_block *block, size_t pieces) {
     size_t count = 77;
     IS(pilhangko_virtual_block_leak_count(block, &count), PILHANGKO_OK);
     CHECK(count == pieces);
@@ -20,18 +20,18 @@ static void places(void) {
     pilhangko_virtual_block block = {0};
     pilhangko_virtual_piece a, b, c, d, e, f;
     IS(pilhangko_virtual_block_create(&block, 1000, 1), PILHANGKO_OK);
-    takes(&block, 100, 1, PILHANGKO_KIND_LINEAR, 0, 2, &a);
-    takes(&block, 50, 1, PILHANGKO_KIND_LINEAR, 100, 3, &b);
-    takes(&block, 100, 1, PILHANGKO_KIND_NON_LINEAR, 150, 4, &c);
-    takes(&block, 60, 64, PILHANGKO_KIND_LINEAR, 256, 5, &d); /* padding from 250 to 256 */
+    allocates(&block, 100, 1, PILHANGKO_KIND_LINEAR, 0, 2, &a);
+    allocates(&block, 50, 1, PILHANGKO_KIND_LINEAR, 100, 3, &b);
+    allocates(&block, 100, 1, PILHANGKO_KIND_NON_LINEAR, 150, 4, &c);
+    allocates(&block, 60, 64, PILHANGKO_KIND_LINEAR, 256, 5, &d); /* padding from 250 to 256 */
     has(&block, 4);
     IS(pilhangko_virtual_block_free(&block, &b), PILHANGKO_OK);
     IS(pilhangko_virtual_block_free(&block, &b), PILHANGKO_NOT_LIVE);
-    takes(&block, 40, 1, PILHANGKO_KIND_LINEAR, 100, 6, &e); /* the gap of 50, not the rest of the block */
-    takes(&block, 10, 1, PILHANGKO_KIND_LINEAR, 140, 3, &f); /* fills it: the gap's number */
+    allocates(&block, 40, 1, PILHANGKO_KIND_LINEAR, 100, 6, &e); /* the gap of 50, not the rest of the block */
+    allocates(&block, 10, 1, PILHANGKO_KIND_LINEAR, 140, 3, &f); /* fills it: the gap's number */
     IS(pilhangko_virtual_block_free(&block, &a), PILHANGKO_OK);
     IS(pilhangko_virtual_block_free(&block, &e), PILHANGKO_OK); /* joins the gap before it: [0, 140) */
-    takes(&block, 140, 1, PILHANGKO_KIND_LINEAR, 0, 2, &a);
+    allocates(&block, 140, 1, PILHANGKO_KIND_LINEAR, 0, 2, &a);
     IS(pilhangko_virtual_block_free(&block, &e), PILHANGKO_NOT_LIVE);
     has(&block, 4);
     IS(pilhangko_virtual_block_destroy(&block), PILHANGKO_OK);
@@ -42,9 +42,9 @@ static void pages(void) {
     pilhangko_virtual_block block = {0};
     pilhangko_virtual_piece a, b, c;
     IS(pilhangko_virtual_block_create(&block, 256, 64), PILHANGKO_OK);
-    takes(&block, 10, 1, PILHANGKO_KIND_LINEAR, 0, 2, &a);
-    takes(&block, 10, 1, PILHANGKO_KIND_LINEAR, 10, 3, &b);
-    takes(&block, 10, 1, PILHANGKO_KIND_NON_LINEAR, 64, 4, &c);
+    allocates(&block, 10, 1, PILHANGKO_KIND_LINEAR, 0, 2, &a);
+    allocates(&block, 10, 1, PILHANGKO_KIND_LINEAR, 10, 3, &b);
+    allocates(&block, 10, 1, PILHANGKO_KIND_NON_LINEAR, 64, 4, &c);
     IS(pilhangko_virtual_block_destroy(&block), PILHANGKO_OK);
 }
 
@@ -55,9 +55,9 @@ static void readings(void) {
     pilhangko_virtual_statistics s;
     pilhangko_piece_view view;
     IS(pilhangko_virtual_block_create(&block, 1000, 64), PILHANGKO_OK);
-    takes(&block, 10, 1, PILHANGKO_KIND_LINEAR, 0, 2, &pieces[0]);
-    takes(&block, 10, 1, PILHANGKO_KIND_NON_LINEAR, 64, 3, &pieces[1]);  /* [10, 74): 54 bytes of padding */
-    takes(&block, 10, 16, PILHANGKO_KIND_NON_LINEAR, 80, 4, &pieces[2]); /* [74, 90): 6 */
+    allocates(&block, 10, 1, PILHANGKO_KIND_LINEAR, 0, 2, &pieces[0]);
+    allocates(&block, 10, 1, PILHANGKO_KIND_NON_LINEAR, 64, 3, &pieces[1]);  /* [10, 74): 54 bytes of padding */
+    allocates(&block, 10, 16, PILHANGKO_KIND_NON_LINEAR, 80, 4, &pieces[2]); /* [74, 90): 6 */
     IS(pilhangko_virtual_block_statistics(&block, &s), PILHANGKO_OK);
     CHECK(s.size == 1000 && s.pieces == 3 && s.piece_bytes == 90 && s.gaps == 1 && s.longest_gap == 910);
     IS(pilhangko_virtual_block_free(&block, &pieces[0]), PILHANGKO_OK);
@@ -120,7 +120,7 @@ static void allocate_statuses(void) {
 
 static void handle_statuses(void) {
     pilhangko_virtual_block block = {0};
-    pilhangko_virtual_piece piece = {0, 2}, taken;
+    pilhangko_virtual_piece piece = {0, 2}, allocated;
     size_t count = 5;
     IS(pilhangko_virtual_block_free(&block, &piece), PILHANGKO_NO_HANDLE);
     IS(pilhangko_virtual_block_rename(&block, &piece, "a"), PILHANGKO_NO_HANDLE);
@@ -133,7 +133,7 @@ static void handle_statuses(void) {
     IS(pilhangko_virtual_block_create(&block, 100, 48), PILHANGKO_INVALID);
     IS(pilhangko_virtual_block_destroy(&block), PILHANGKO_NO_HANDLE);
     IS(pilhangko_virtual_block_create(&block, UINT64_MAX, UINT64_C(1) << 63), PILHANGKO_OK);
-    takes(&block, UINT64_MAX, 1, PILHANGKO_KIND_LINEAR, 0, 1, &taken);
+    allocates(&block, UINT64_MAX, 1, PILHANGKO_KIND_LINEAR, 0, 1, &allocated);
     IS(pilhangko_virtual_block_create(&block, 100, 1), PILHANGKO_IN_USE);
     IS(pilhangko_virtual_block_create(&block, 0, 0), PILHANGKO_IN_USE);
     has(&block, 1);
@@ -145,7 +145,7 @@ static void piece_statuses(void) {
     pilhangko_virtual_block block = {0};
     pilhangko_virtual_piece a, b;
     IS(pilhangko_virtual_block_create(&block, 100, 1), PILHANGKO_OK);
-    takes(&block, 10, 1, PILHANGKO_KIND_LINEAR, 0, 2, &a);
+    allocates(&block, 10, 1, PILHANGKO_KIND_LINEAR, 0, 2, &a);
     pilhangko_virtual_piece wrong[] = {{0, 0}, {1, 2}, {0, 3}, {0, 1}, {10, 1}, {UINT64_MAX, UINT64_MAX}};
     for (size_t i = 0; i < sizeof wrong / sizeof wrong[0]; i++) {
         IS(pilhangko_virtual_block_free(&block, &wrong[i]), PILHANGKO_NOT_LIVE);
@@ -156,11 +156,11 @@ static void piece_statuses(void) {
     IS(pilhangko_virtual_block_rename(&block, &a, "another name"), PILHANGKO_OK);
     IS(pilhangko_virtual_block_rename(&block, &a, NULL), PILHANGKO_OK);
     has(&block, 1);
-    takes(&block, 10, 1, PILHANGKO_KIND_NON_LINEAR, 10, 3, &b);
+    allocates(&block, 10, 1, PILHANGKO_KIND_NON_LINEAR, 10, 3, &b);
     IS(pilhangko_virtual_block_clear(&block), PILHANGKO_OK);
     has(&block, 0);
     IS(pilhangko_virtual_block_free(&block, &a), PILHANGKO_NOT_LIVE);
-    takes(&block, 100, 1, PILHANGKO_KIND_LINEAR, 0, 1, &b);
+    allocates(&block, 100, 1, PILHANGKO_KIND_LINEAR, 0, 1, &b);
     IS(pilhangko_virtual_block_destroy(&block), PILHANGKO_OK);
 }
 
@@ -192,6 +192,21 @@ static void null_pointers(void) {
     IS(pilhangko_virtual_block_destroy(NULL), PILHANGKO_NULL_POINTER);
 }
 
+/* each status has a name and a text of its own */
+static void status_words(void) {
+    const pilhangko_status statuses[] = {PILHANGKO_OK, PILHANGKO_OUT_OF_MEMORY, PILHANGKO_INVALID, PILHANGKO_NOT_LIVE,
+        PILHANGKO_HOST_OUT_OF_MEMORY, PILHANGKO_BUDGET_EXCEEDED, PILHANGKO_NO_HANDLE, PILHANGKO_IN_USE, PILHANGKO_AWAITS_BLOCK,
+        PILHANGKO_AWAITS_NO_BLOCK, PILHANGKO_NULL_POINTER, 2};
+    const size_t count = sizeof statuses / sizeof statuses[0];
+    for (size_t i = 0; i < count; i++)
+        for (size_t j = 0; j < i; j++) {
+            CHECK(strcmp(pilhangko_status_name(statuses[i]), pilhangko_status_name(statuses[j])) != 0);
+            CHECK(strcmp(pilhangko_status_text(statuses[i]), pilhangko_status_text(statuses[j])) != 0);
+        }
+    CHECK(!strcmp(pilhangko_status_name(PILHANGKO_BUDGET_EXCEEDED), "PILHANGKO_BUDGET_EXCEEDED"));
+    CHECK(!strcmp(pilhangko_status_name(2), "unknown status") && !strcmp(pilhangko_status_text(2), "unknown status"));
+}
+
 int main(void) {
     places();
     pages();
@@ -200,5 +215,6 @@ int main(void) {
     handle_statuses();
     piece_statuses();
     null_pointers();
+    status_words();
     return 0;
 }
