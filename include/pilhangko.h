@@ -229,6 +229,8 @@ PILHANGKO_NODISCARD PILHANGKO_API pilhangko_status PILHANGKO_CALL pilhangko_raw_
     const pilhangko_virtual_block *block, pilhangko_virtual_statistics *statistics);
 PILHANGKO_NODISCARD PILHANGKO_API pilhangko_status PILHANGKO_CALL pilhangko_raw_virtual_block_next_piece(
     const pilhangko_virtual_block *block, uint64_t from, pilhangko_piece_view *piece);
+PILHANGKO_NODISCARD PILHANGKO_API pilhangko_status PILHANGKO_CALL pilhangko_raw_virtual_block_pieces(
+    const pilhangko_virtual_block *block, uint64_t from, pilhangko_piece_view *pieces, size_t room, size_t *count);
 PILHANGKO_NODISCARD PILHANGKO_API pilhangko_status PILHANGKO_CALL pilhangko_raw_virtual_block_piece_name(
     const pilhangko_virtual_block *block, uint64_t from, char *name, size_t name_room, size_t *name_length);
 PILHANGKO_API pilhangko_status PILHANGKO_CALL pilhangko_raw_virtual_block_destroy(pilhangko_virtual_block *block);
@@ -255,6 +257,8 @@ PILHANGKO_NODISCARD PILHANGKO_API pilhangko_status PILHANGKO_CALL pilhangko_raw_
     const pilhangko_memory_type *type, size_t slot, pilhangko_memory_block_statistics *statistics);
 PILHANGKO_NODISCARD PILHANGKO_API pilhangko_status PILHANGKO_CALL pilhangko_raw_memory_type_next_piece(
     const pilhangko_memory_type *type, size_t slot, uint64_t from, pilhangko_piece_view *piece);
+PILHANGKO_NODISCARD PILHANGKO_API pilhangko_status PILHANGKO_CALL pilhangko_raw_memory_type_pieces(
+    const pilhangko_memory_type *type, size_t slot, uint64_t from, pilhangko_piece_view *pieces, size_t room, size_t *count);
 PILHANGKO_NODISCARD PILHANGKO_API pilhangko_status PILHANGKO_CALL pilhangko_raw_memory_type_piece_name(
     const pilhangko_memory_type *type, size_t slot, uint64_t from, char *name, size_t name_room, size_t *name_length);
 PILHANGKO_NODISCARD PILHANGKO_API pilhangko_status PILHANGKO_CALL pilhangko_raw_memory_type_statistics(
@@ -366,12 +370,25 @@ PILHANGKO_NODISCARD static inline pilhangko_status pilhangko_virtual_block_leak_
 }
 
 /* The first live piece whose own bytes begin at `from` or behind it. A visit of all pieces in order of offset begins at 0 and goes on at
- * the last one's offset + 1, until none exists; the block may change in between.
+ * the last one's offset + 1, until none exists; the block may change in between. Each step goes over the pieces before it: where there are
+ * many, `pieces` visits them all in linear time.
  * NO_HANDLE. */
 PILHANGKO_NODISCARD static inline pilhangko_status pilhangko_virtual_block_next_piece(
     const pilhangko_virtual_block *block, uint64_t from, pilhangko_piece_view *piece) {
     if (!block || !piece) return PILHANGKO_NULL_POINTER;
     return pilhangko_raw_virtual_block_next_piece(block, from, piece);
+}
+
+/* All live pieces whose own bytes begin at `from` or behind it, in order of offset, as far as the array has room; count is how many it
+ * shows, and less than room where none is left. From 0 on and with room for as many as statistics counts, one call visits them all in
+ * linear time. In parts a visit goes on at the last one's offset + 1, and each part goes over the pieces before it once. What stands in
+ * the array behind them stays. Where room is 0, pieces may be NULL.
+ * NO_HANDLE. */
+PILHANGKO_NODISCARD static inline pilhangko_status pilhangko_virtual_block_pieces(
+    const pilhangko_virtual_block *block, uint64_t from, pilhangko_piece_view *pieces, size_t room, size_t *count) {
+    pilhangko_piece_view none;
+    if (!block || (!pieces && room) || !count) return PILHANGKO_NULL_POINTER;
+    return pilhangko_raw_virtual_block_pieces(block, from, pieces ? pieces : &none, room, count);
 }
 
 /* The name of the piece that next_piece shows from there: copies as many of its bytes as there is room for, and reports how many it has,
@@ -483,6 +500,16 @@ PILHANGKO_NODISCARD static inline pilhangko_status pilhangko_memory_type_next_pi
     const pilhangko_memory_type *type, size_t slot, uint64_t from, pilhangko_piece_view *piece) {
     if (!type || !piece) return PILHANGKO_NULL_POINTER;
     return pilhangko_raw_memory_type_next_piece(type, slot, from, piece);
+}
+
+/* All live pieces of the block in a slot whose own bytes begin at `from` or behind it, as with a virtual block; none where the slot has no
+ * block. block_statistics counts them.
+ * NO_HANDLE. */
+PILHANGKO_NODISCARD static inline pilhangko_status pilhangko_memory_type_pieces(
+    const pilhangko_memory_type *type, size_t slot, uint64_t from, pilhangko_piece_view *pieces, size_t room, size_t *count) {
+    pilhangko_piece_view none;
+    if (!type || (!pieces && room) || !count) return PILHANGKO_NULL_POINTER;
+    return pilhangko_raw_memory_type_pieces(type, slot, from, pieces ? pieces : &none, room, count);
 }
 
 /* The name of the piece that next_piece shows from there, as with a virtual block.

@@ -131,6 +131,15 @@ static inline void account_shows(const struct account *a, uint64_t from, const p
     CHECK(!view->exists && view->number == 0 && view->start == 0 && view->offset == 0 && view->end == 0 && view->kind == 0);
 }
 
+/* The views of all pieces from a place on, in an array with that much room, are the account's; each view's number was UINT64_MAX. */
+static inline void account_shows_all(const struct account *a, uint64_t from, const pilhangko_piece_view *views, size_t room, size_t count) {
+    size_t shown = 0;
+    for (size_t i = 0; i < a->count && shown < room; i++)
+        if (a->chunks[i].kind && a->chunks[i].offset >= from) account_shows(a, a->chunks[i].offset, &views[shown++]);
+    CHECK(count == shown);
+    for (size_t i = shown; i < room; i++) CHECK(views[i].number == UINT64_MAX);
+}
+
 /* The name of the first piece from a place on, copied into `room` bytes, is the account's; `bytes` was filled with '?'. */
 static inline void account_names(const struct account *a, uint64_t from, const char *bytes, size_t room, size_t length) {
     const char *name = "";

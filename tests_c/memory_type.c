@@ -91,6 +91,14 @@ static void blocks_come_and_go(void) {
           view.kind == PILHANGKO_KIND_LINEAR);
     IS(pilhangko_memory_type_next_piece(&type, 0, 101, &view), PILHANGKO_OK);
     CHECK(!view.exists);
+    pilhangko_piece_view views[3] = {{.number = 77}, {.number = 77}, {.number = 77}};
+    size_t shown = 9;
+    IS(pilhangko_memory_type_pieces(&type, 0, 0, views, 1, &shown), PILHANGKO_OK);
+    CHECK(shown == 1 && views[0].exists && views[0].offset == 0 && views[1].number == 77);
+    IS(pilhangko_memory_type_pieces(&type, 0, 1, views, 3, &shown), PILHANGKO_OK);
+    CHECK(shown == 1 && views[0].number == 3 && views[0].offset == 100 && views[1].number == 77);
+    IS(pilhangko_memory_type_pieces(&type, 9, 0, views, 3, &shown), PILHANGKO_OK);
+    CHECK(shown == 0 && views[0].number == 3);
     IS(pilhangko_memory_type_next_piece(&type, 9, 0, &view), PILHANGKO_OK);
     CHECK(!view.exists);
     char bytes[8] = "???????";
@@ -262,6 +270,7 @@ static void unmade_memory_type(void) {
     IS(pilhangko_memory_type_statistics(&type, &to.statistics), PILHANGKO_NO_HANDLE);
     IS(pilhangko_memory_type_block_statistics(&type, 0, &to.counted), PILHANGKO_NO_HANDLE);
     IS(pilhangko_memory_type_next_piece(&type, 0, 0, &to.view), PILHANGKO_NO_HANDLE);
+    IS(pilhangko_memory_type_pieces(&type, 0, 0, &to.view, 1, &to.length), PILHANGKO_NO_HANDLE);
     IS(pilhangko_memory_type_piece_name(&type, 0, 0, NULL, 0, &to.length), PILHANGKO_NO_HANDLE);
     IS(pilhangko_memory_type_destroy(&type), PILHANGKO_NO_HANDLE);
 }
@@ -315,6 +324,9 @@ static void null_pointers(void) {
     IS(pilhangko_memory_type_block_statistics(&type, 0, NULL), PILHANGKO_NULL_POINTER);
     IS(pilhangko_memory_type_next_piece(NULL, 0, 0, &to.view), PILHANGKO_NULL_POINTER);
     IS(pilhangko_memory_type_next_piece(&type, 0, 0, NULL), PILHANGKO_NULL_POINTER);
+    IS(pilhangko_memory_type_pieces(NULL, 0, 0, &to.view, 1, &to.length), PILHANGKO_NULL_POINTER);
+    IS(pilhangko_memory_type_pieces(&type, 0, 0, NULL, 1, &to.length), PILHANGKO_NULL_POINTER);
+    IS(pilhangko_memory_type_pieces(&type, 0, 0, &to.view, 1, NULL), PILHANGKO_NULL_POINTER);
     IS(pilhangko_memory_type_piece_name(NULL, 0, 0, NULL, 0, &to.length), PILHANGKO_NULL_POINTER);
     IS(pilhangko_memory_type_piece_name(&type, 0, 0, NULL, 1, &to.length), PILHANGKO_NULL_POINTER);
     IS(pilhangko_memory_type_piece_name(&type, 0, 0, NULL, 0, NULL), PILHANGKO_NULL_POINTER);

@@ -164,16 +164,22 @@ static void look(void) {
     uint64_t from = random_below(9 * MB);
     pilhangko_piece_view view;
     IS(pilhangko_memory_type_next_piece(&type, i, from, &view), PILHANGKO_OK);
+    pilhangko_piece_view views[20];
+    size_t view_room = random_below(21), shown;
+    for (size_t j = 0; j < 20; j++) views[j].number = UINT64_MAX;
+    IS(pilhangko_memory_type_pieces(&type, i, from, views, view_room, &shown), PILHANGKO_OK);
     if (block.exists) {
         pilhangko_virtual_statistics same = {slots[i].account.size, counted.pieces, counted.piece_bytes, counted.gaps, counted.longest_gap};
         account_same(&slots[i].account, &same);
         account_shows(&slots[i].account, from, &view);
+        account_shows_all(&slots[i].account, from, views, view_room, shown);
         char bytes[16];
         size_t room = random_below(sizeof bytes + 1), length;
         memset(bytes, '?', sizeof bytes);
         IS(pilhangko_memory_type_piece_name(&type, i, from, bytes, room, &length), PILHANGKO_OK);
         account_names(&slots[i].account, from, bytes, room, length);
     } else {
+        CHECK(shown == 0 && (!view_room || views[0].number == UINT64_MAX));
         CHECK(!view.exists && view.number == 0 && counted.pieces == 0 && counted.piece_bytes == 0 && counted.gaps == 0 &&
               counted.longest_gap == 0);
     }

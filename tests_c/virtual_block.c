@@ -1,6 +1,8 @@
 /* Virtual blocks: rows whose places were worked out by hand, and each status of each call. */
 #include "test.h"
 
+#define MANY ((size_t)400000)
+
 static void allocates(pilhangko_virtual_block *block, uint64_t size, uint64_t alignment, uint32_t kind, uint64_t offset, uint64_t number,
     pilhangko_virtual_piece *piece) {
     pilhangko_virtual_request request = {size, alignment, kind};
@@ -74,6 +76,18 @@ static void readings(void) {
     CHECK(seen == 2 && view.number == 0 && view.start == 0 && view.offset == 0 && view.end == 0 && view.kind == 0);
     IS(pilhangko_virtual_block_next_piece(&block, UINT64_MAX, &view), PILHANGKO_OK);
     CHECK(!view.exists);
+    pilhangko_piece_view views[3] = {{.number = 77}, {.number = 77}, {.number = 77}};
+    size_t shown = 9;
+    IS(pilhangko_virtual_block_pieces(&block, 0, views, 3, &shown), PILHANGKO_OK);
+    CHECK(shown == 2 && views[0].number == pieces[1].number && views[1].number == pieces[2].number && views[2].number == 77);
+    CHECK(views[1].exists && views[1].start == 74 && views[1].offset == 80 && views[1].end == 90);
+    CHECK(views[1].kind == PILHANGKO_KIND_NON_LINEAR);
+    IS(pilhangko_virtual_block_pieces(&block, 65, &views[2], 1, &shown), PILHANGKO_OK);
+    CHECK(shown == 1 && views[2].number == pieces[2].number);
+    IS(pilhangko_virtual_block_pieces(&block, 81, views, 3, &shown), PILHANGKO_OK);
+    CHECK(shown == 0 && views[0].number == pieces[1].number);
+    IS(pilhangko_virtual_block_pieces(&block, 0, NULL, 0, &shown), PILHANGKO_OK);
+    CHECK(shown == 0);
     char bytes[8] = "???????";
     size_t length = 9;
     IS(pilhangko_virtual_block_rename(&block, &pieces[2], "name"), PILHANGKO_OK);
@@ -92,7 +106,22 @@ static void readings(void) {
     view.number = 4;
     IS(pilhangko_virtual_block_statistics(&block, &s), PILHANGKO_NO_HANDLE);
     IS(pilhangko_virtual_block_next_piece(&block, 0, &view), PILHANGKO_NO_HANDLE);
-    CHECK(s.size == 3 && view.number == 4);
+    IS(pilhangko_virtual_block_pieces(&block, 0, &view, 1, &shown), PILHANGKO_NO_HANDLE);
+    CHECK(s.size == 3 && view.number == 4 && shown == 0);
+}
+
+/* a visit of many pieces by one call, which would take minutes if each step began at the front */
+static void visit_of_many(void) {
+    static pilhangko_piece_view views[MANY + 1];
+    pilhangko_virtual_block block = {0};
+    pilhangko_virtual_piece piece;
+    size_t shown;
+    IS(pilhangko_virtual_block_create(&block, 2 * MANY, 1), PILHANGKO_OK);
+    for (size_t i = 0; i < MANY; i++) allocates(&block, 2, 1, PILHANGKO_KIND_LINEAR, 2 * i, i + 1 < MANY ? i + 2 : 1, &piece);
+    IS(pilhangko_virtual_block_pieces(&block, 0, views, MANY + 1, &shown), PILHANGKO_OK);
+    CHECK(shown == MANY && !views[MANY].exists);
+    for (size_t i = 0; i < MANY; i++) CHECK(views[i].offset == 2 * i && views[i].number == (i + 1 < MANY ? i + 2 : 1));
+    IS(pilhangko_virtual_block_destroy(&block), PILHANGKO_OK);
 }
 
 static void allocate_statuses(void) {
@@ -186,6 +215,9 @@ static void null_pointers(void) {
     IS(pilhangko_virtual_block_statistics(&block, NULL), PILHANGKO_NULL_POINTER);
     IS(pilhangko_virtual_block_next_piece(NULL, 0, &view), PILHANGKO_NULL_POINTER);
     IS(pilhangko_virtual_block_next_piece(&block, 0, NULL), PILHANGKO_NULL_POINTER);
+    IS(pilhangko_virtual_block_pieces(NULL, 0, &view, 1, &count), PILHANGKO_NULL_POINTER);
+    IS(pilhangko_virtual_block_pieces(&block, 0, NULL, 1, &count), PILHANGKO_NULL_POINTER);
+    IS(pilhangko_virtual_block_pieces(&block, 0, &view, 1, NULL), PILHANGKO_NULL_POINTER);
     IS(pilhangko_virtual_block_piece_name(NULL, 0, NULL, 0, &count), PILHANGKO_NULL_POINTER);
     IS(pilhangko_virtual_block_piece_name(&block, 0, NULL, 1, &count), PILHANGKO_NULL_POINTER);
     IS(pilhangko_virtual_block_piece_name(&block, 0, NULL, 0, NULL), PILHANGKO_NULL_POINTER);
@@ -211,6 +243,7 @@ int main(void) {
     places();
     pages();
     readings();
+    visit_of_many();
     allocate_statuses();
     handle_statuses();
     piece_statuses();

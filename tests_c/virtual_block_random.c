@@ -88,6 +88,11 @@ static void step(void) {
     account_same(&account, &statistics);
     IS(pilhangko_virtual_block_next_piece(&block, from, &view), PILHANGKO_OK);
     account_shows(&account, from, &view);
+    pilhangko_piece_view views[40];
+    size_t view_room = random_below(41), shown;
+    for (size_t i = 0; i < 40; i++) views[i].number = UINT64_MAX;
+    IS(pilhangko_virtual_block_pieces(&block, from, view_room ? views : NULL, view_room, &shown), PILHANGKO_OK);
+    account_shows_all(&account, from, views, view_room, shown);
     char bytes[80];
     size_t room = random_below(sizeof bytes + 1), length;
     memset(bytes, '?', sizeof bytes);

@@ -1,5 +1,6 @@
 mod RawBoxValues
 mod Owned
+mod Filling
 mod VirtualBlockLaws
 mod MemoryTypeLaws
 mod VirtualBlockHandleWords

@@ -1,6 +1,6 @@
 -- What a visit shows of a block's pieces.
-use Rattle.std.specs.Prelude.{◌≡◌, ℕ, true, false, List, Option, Some, None, nat_le, [], ◌++◌, length, min, take, drop}
-use Rattle.std.specs.List.{find}
+use Rattle.std.specs.Prelude.{◌≡◌, ℕ, true, false, List, Option, Some, None, nat_le, [], ◌++◌, length, map, min, take, drop}
+use Rattle.std.specs.List.{find, filter}
 use Rattle.gpu_values.specs.declared.allocation_type.AllocationType.{AllocationType}
 use Rattle.gpu_values.specs.declared.allocation_type.AllocationType.TheVariants.{Free, Linear, NonLinear}
 use Rattle.gpu_block_pieces.specs.FreeList.{Extent}
@@ -27,19 +27,36 @@ abbrev pub piece_in_from : ℕ → Option (List Extent) → Option Extent
 piece_in_from from None = None
 piece_in_from from (Some xs) = piece_from from xs
 
+-- the pieces whose own bytes begin at that place or behind it, in order of offset
+abbrev pub pieces_from : ℕ → List Extent → List Extent
+pieces_from from xs = filter (λ x. nat_le from x.offset) xs
+
+-- the same in a block that may not be there
+abbrev pub pieces_in_from : ℕ → Option (List Extent) → List Extent
+pieces_in_from from None = []
+pieces_in_from from (Some xs) = pieces_from from xs
+
+-- the pieces as C sees them
+abbrev pub piece_views : List Extent → List PieceView
+piece_views xs = map (λ x. piece_view (Some x)) xs
+
 -- the name of a piece that may not be there
 abbrev pub name_of : Option Extent → List ℕ
 name_of None = []
 name_of (Some x) = x.name
 
--- how many bytes of a text a buffer has room for
-abbrev pub room_for : List ℕ → List ℕ → ℕ
-room_for text buffer = min (length text) (length buffer)
+-- how many of the values a buffer has room for
+abbrev pub room_for : {A : Type 0} → List A → List A → ℕ
+room_for values buffer = min (length values) (length buffer)
 
--- the buffer with as much of the text as there is room for
-abbrev pub copied_into : List ℕ → List ℕ → List ℕ
-copied_into text buffer = take (room_for text buffer) text ++ drop (room_for text buffer) buffer
+-- the buffer with as many of the values as it has room for, and behind them what it held before
+abbrev pub copied_into : {A : Type 0} → List A → List A → List A
+copied_into values buffer = take (room_for values buffer) values ++ drop (room_for values buffer) buffer
 
 -- a name was copied into a buffer, and its whole length reported
 abbrev pub ShowsName : Option Extent → (old new : List ℕ) → (whole : ℕ) → Type 0
 ShowsName piece old new whole = (new ≡ copied_into (name_of piece) old) × (whole ≡ length (name_of piece))
+
+-- an array was filled with the pieces, as far as it has room, and reported is how many of them it shows
+abbrev pub ShowsPieces : List Extent → (old new : List PieceView) → (count : ℕ) → Type 0
+ShowsPieces xs old new count = (new ≡ copied_into (piece_views xs) old) × (count ≡ room_for (piece_views xs) old)

@@ -8,7 +8,7 @@ ghost use Rattle.gpu_c.specs.Status as status;
 ghost use Rattle.gpu_c.specs.Request.{IsServed};
 ghost use Rattle.gpu_c.specs.Status.{IsOneOf};
 ghost use Rattle.gpu_c.specs.MemoryType.{AwaitingState, fresh_memory_type, memory_piece, no_memory_piece, memory_block, number_if, IsLiveIn, Prepares, IsIdleAndServed, IsTooLarge, IsPastBudget, InstallsAwaited, Abandons, FreesPiece, NamesMemory, statistics_of, sizes_of, block_counts};
-ghost use Rattle.gpu_c.specs.Visit.{piece_view, piece_in_from, ShowsName};
+ghost use Rattle.gpu_c.specs.Visit.{piece_view, piece_in_from, pieces_in_from, ShowsPieces, ShowsName};
 ghost use Rattle.gpu_c.specs.declared.status.TheConstants.{OK, OUT_OF_MEMORY, INVALID, NOT_LIVE, HOST_OUT_OF_MEMORY, BUDGET_EXCEEDED, AWAITS_BLOCK, AWAITS_NO_BLOCK};
 
 use crate::memory_type_values::{
@@ -21,7 +21,7 @@ use crate::status::{
     OUT_OF_MEMORY,
 };
 use crate::virtual_block_values::PieceView;
-use crate::visit::{first_from, name_from, no_piece};
+use crate::visit::{fill_from, first_from, name_from, no_piece};
 use gpu_core::{MemoryType, NeedBlock, Piece, Prepared, Request};
 use gpu_values::AllocationSizes;
 use std::alloc::Global;
@@ -335,6 +335,17 @@ impl AwaitingType {
         match self.memory_type.pieces(slot) {
             None => no_piece(),
             Some(pieces) => first_from(pieces, from),
+        }
+    }
+
+    /// Fills an array with the pieces of the block in a slot whose own bytes begin at `from` or behind it, as far as it has room, and
+    /// returns how many it shows.
+    pub fn pieces(&self, slot: usize, from: u64, views: &mut [PieceView]) -> usize
+        ensures { ShowsPieces (pieces_in_from from (pieces_in (slot_at self.now.slots slot))) views.old views.new result }
+    {
+        match self.memory_type.pieces(slot) {
+            None => 0,
+            Some(pieces) => fill_from(pieces, from, views),
         }
     }
 

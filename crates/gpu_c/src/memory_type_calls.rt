@@ -11,7 +11,7 @@ ghost use Rattle.gpu_c.specs.Status as status;
 ghost use Rattle.gpu_c.specs.Request.{IsServed};
 ghost use Rattle.gpu_c.specs.Status.{IsOneOf};
 ghost use Rattle.gpu_c.specs.MemoryType.{fresh_memory_type, memory_block, number_if, IsLiveIn, Prepares, IsIdleAndServed, IsTooLarge, IsPastBudget, InstallsAwaited, Abandons, FreesPiece, NamesMemory, statistics_of, block_counts};
-ghost use Rattle.gpu_c.specs.Visit.{piece_view, piece_in_from, ShowsName};
+ghost use Rattle.gpu_c.specs.Visit.{piece_view, piece_in_from, pieces_in_from, ShowsPieces, ShowsName};
 ghost use Rattle.gpu_c.specs.declared.status.TheConstants.{OK, OUT_OF_MEMORY, INVALID, NOT_LIVE, HOST_OUT_OF_MEMORY, BUDGET_EXCEEDED, NO_HANDLE, IN_USE, AWAITS_BLOCK, AWAITS_NO_BLOCK};
 
 use crate::memory_type::AwaitingType;
@@ -314,6 +314,34 @@ pub extern "C" fn pilhangko_raw_memory_type_next_piece(
         None => NO_HANDLE,
         Some(kept) => {
             *piece = kept.next_piece(slot, from);
+            memory_type.put(kept);
+            OK
+        }
+    }
+}
+
+/// Fills an array with the live pieces of the block in a slot whose own bytes begin at `from` or behind it, in order of offset and as far
+/// as it has room, and reports how many it shows: with an array for all of a block's pieces, one call visits them all, each once.
+#[unsafe(no_mangle)]
+pub extern "C" fn pilhangko_raw_memory_type_pieces(
+    memory_type: &mut MemoryTypeHandle,
+    alloc: Global,
+    slot: usize,
+    from: u64,
+    pieces: &mut [PieceView],
+    count: &mut usize,
+) -> u32
+    ensures reported { result ≡ status.ok → IsSomeAnd memory_type.old.value
+        (λ t. ShowsPieces (pieces_in_from from (pieces_in (slot_at t.slots slot))) pieces.old pieces.new count.new) }
+    ensures no_handle { (result ≡ status.no_handle) ↔ (memory_type.old.value ≡ None) }
+    ensures statuses { IsOneOf result (status.ok ∷ status.no_handle ∷ []) }
+    ensures same { memory_type.new.value ≡ memory_type.old.value }
+    ensures refused { result ≢ status.ok → (pieces.new ≡ pieces.old) × (count.new ≡ count.old) }
+{
+    match memory_type.take(alloc) {
+        None => NO_HANDLE,
+        Some(kept) => {
+            *count = kept.pieces(slot, from, pieces);
             memory_type.put(kept);
             OK
         }

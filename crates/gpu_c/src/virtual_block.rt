@@ -8,13 +8,13 @@ ghost use Rattle.gpu_c.specs.Status as status;
 ghost use Rattle.gpu_c.specs.Request.{IsServed};
 ghost use Rattle.gpu_c.specs.Status.{IsOneOf};
 ghost use Rattle.gpu_c.specs.VirtualBlock.{CanCreate, fresh_virtual_block, IsLivePiece, IsRefusedFor, Allocates, Frees, NamesPiece, cleared, counts_of};
-ghost use Rattle.gpu_c.specs.Visit.{piece_view, piece_from, ShowsName};
+ghost use Rattle.gpu_c.specs.Visit.{piece_view, piece_from, pieces_from, ShowsPieces, ShowsName};
 ghost use Rattle.gpu_c.specs.declared.status.TheConstants.{OK, OUT_OF_MEMORY, INVALID, NOT_LIVE, HOST_OUT_OF_MEMORY};
 
 use crate::request::served;
 use crate::status::{HOST_OUT_OF_MEMORY, INVALID, NOT_LIVE, OK, status_of};
 use crate::virtual_block_values::{PieceView, VirtualPiece, VirtualRequest, VirtualStatistics};
-use crate::visit::{first_from, name_from};
+use crate::visit::{fill_from, first_from, name_from};
 use gpu_block::{FreeListAllocator, SubAllocator};
 use gpu_values::Result;
 use std::alloc::Global;
@@ -175,6 +175,13 @@ impl VirtualBlock {
         ensures { result ≡ piece_view (piece_from from (extents_of self.now)) }
     {
         first_from(self.sub.pieces(), from)
+    }
+
+    /// Fills an array with the pieces whose own bytes begin at `from` or behind it, as far as it has room, and returns how many it shows.
+    pub fn pieces(&self, from: u64, views: &mut [PieceView]) -> usize
+        ensures { ShowsPieces (pieces_from from (extents_of self.now)) views.old views.new result }
+    {
+        fill_from(self.sub.pieces(), from, views)
     }
 
     /// Copies the name of the piece that `next_piece` shows, as much as there is room for, and returns its whole length.

@@ -9,7 +9,7 @@ ghost use Rattle.gpu_c.specs.Status as status;
 ghost use Rattle.gpu_c.specs.Request.{IsServed};
 ghost use Rattle.gpu_c.specs.Status.{IsOneOf};
 ghost use Rattle.gpu_c.specs.VirtualBlock.{CanCreate, fresh_virtual_block, IsLivePiece, IsRefusedFor, Allocates, Frees, NamesPiece, cleared, counts_of};
-ghost use Rattle.gpu_c.specs.Visit.{piece_view, piece_from, ShowsName};
+ghost use Rattle.gpu_c.specs.Visit.{piece_view, piece_from, pieces_from, ShowsPieces, ShowsName};
 ghost use Rattle.gpu_c.specs.declared.status.TheConstants.{OK, OUT_OF_MEMORY, INVALID, NOT_LIVE, HOST_OUT_OF_MEMORY, NO_HANDLE, IN_USE};
 
 use crate::status::{HOST_OUT_OF_MEMORY, IN_USE, INVALID, NO_HANDLE, OK};
@@ -213,6 +213,32 @@ pub extern "C" fn pilhangko_raw_virtual_block_next_piece(
         None => NO_HANDLE,
         Some(kept) => {
             *piece = kept.next_piece(from);
+            block.put(kept);
+            OK
+        }
+    }
+}
+
+/// Fills an array with the live pieces whose own bytes begin at `from` or behind it, in order of offset and as far as it has room, and
+/// reports how many it shows: with an array for all pieces, one call visits them all, each once.
+#[unsafe(no_mangle)]
+pub extern "C" fn pilhangko_raw_virtual_block_pieces(
+    block: &mut VirtualBlockHandle,
+    alloc: Global,
+    from: u64,
+    pieces: &mut [PieceView],
+    count: &mut usize,
+) -> u32
+    ensures reported { result ≡ status.ok → IsSomeAnd block.old.value (λ b. ShowsPieces (pieces_from from (extents_of b)) pieces.old pieces.new count.new) }
+    ensures no_handle { (result ≡ status.no_handle) ↔ (block.old.value ≡ None) }
+    ensures statuses { IsOneOf result (status.ok ∷ status.no_handle ∷ []) }
+    ensures same { block.new.value ≡ block.old.value }
+    ensures refused { result ≢ status.ok → (pieces.new ≡ pieces.old) × (count.new ≡ count.old) }
+{
+    match block.take(alloc) {
+        None => NO_HANDLE,
+        Some(kept) => {
+            *count = kept.pieces(from, pieces);
             block.put(kept);
             OK
         }

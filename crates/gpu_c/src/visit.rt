@@ -1,7 +1,7 @@
 //! Visits of a block's pieces, in order of offset.
 
 ghost use Rattle.std.specs.Prelude.{◌≡◌, None, Some, length};
-ghost use Rattle.gpu_c.specs.Visit.{kind_number, piece_view, piece_from, name_of, copied_into};
+ghost use Rattle.gpu_c.specs.Visit.{kind_number, piece_view, piece_from, pieces_from, ShowsPieces, name_of, copied_into};
 
 use crate::request::{LINEAR, NON_LINEAR};
 use crate::virtual_block_values::PieceView;
@@ -55,6 +55,23 @@ pub fn first_from(pieces: Pieces<'_>, from: u64) -> PieceView
         }
     }
     no_piece()
+}
+
+/// Fills an array with the pieces whose own bytes begin at `from` or behind it, as far as it has room, and returns how many it shows.
+pub fn fill_from(pieces: Pieces<'_>, from: u64, views: &mut [PieceView]) -> usize
+    ensures { ShowsPieces (pieces_from from pieces.entry) views.old views.new result }
+{
+    let mut count = 0;
+    for piece in pieces {
+        if count == views.len() {
+            return count;
+        }
+        if from <= piece.offset() {
+            views[count] = view_of(&piece);
+            count += 1;
+        }
+    }
+    count
 }
 
 /// Copies as much of a text as there is room for, and returns its whole length.
