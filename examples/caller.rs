@@ -1,5 +1,5 @@
-// A virtual block from Rust: the archive's symbols, declared, and a guard that owns the handle. A handle may not be copied and stays on its
-// thread; a raw pointer in it makes the guard neither `Send` nor `Sync`.
+// A virtual block from Rust: the archive's symbols, declared, and a guard that owns the handle. A handle may not be copied, and is given to
+// one call at a time, on any thread: the guard is `Send` and not `Sync`.
 use std::ffi::c_void;
 
 #[repr(C)]
@@ -40,6 +40,9 @@ extern "C" {
 
 struct VirtualBlock(Handle);
 
+// SAFETY: what lies behind a handle may go to another thread, and the guard owns its handle alone.
+unsafe impl Send for VirtualBlock {}
+
 impl VirtualBlock {
     fn new(size: u64, page_size: u64) -> Result<VirtualBlock, u32> {
         let mut block = VirtualBlock(Handle { opaque: std::ptr::null_mut() });
@@ -77,7 +80,12 @@ fn main() -> Result<(), u32> {
     let first = block.allocate(100, 1, "first")?;
     let second = block.allocate(100, 64, "")?;
     println!("first at {}, second at {}", first.offset, second.offset);
-    block.free(first)?;
+    // the guard goes to another thread, which frees the first piece, and comes back
+    let worker = std::thread::spawn(move || {
+        let mut block = block;
+        block.free(first).map(|()| block)
+    });
+    let mut block = worker.join().expect("the worker doesn't panic")?;
     assert_eq!(block.free(first), Err(NOT_LIVE));
     Ok(())
 }

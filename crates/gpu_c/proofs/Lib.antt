@@ -5,3 +5,5 @@ mod VirtualBlockLaws
 mod MemoryTypeLaws
 mod VirtualBlockHandleWords
 mod MemoryTypeHandleWords
+mod Crosses
+mod HandleCrosses

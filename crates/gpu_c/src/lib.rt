@@ -8,6 +8,7 @@ mod memory_type_handle;
 mod memory_type_values;
 mod raw_box;
 mod request;
+mod sending;
 mod status;
 mod virtual_block;
 mod virtual_block_calls;

@@ -6,7 +6,7 @@ ghost use Rattle.gpu_c.specs.MemoryType.{AwaitingState};
 use crate::memory_type::AwaitingType;
 use crate::raw_box::RawBox;
 use std::alloc::Global;
-use std::marker::Model;
+use std::marker::{Model, Send};
 
 /// A memory type, or null: what `Box::into_raw` returned. C holds it by value, lends it to each call, and never copies it.
 #[repr(C)]
@@ -22,6 +22,9 @@ impl Model for MemoryTypeHandle {
 
     ghost also_owns = { λ h. handle_owns the_row h.opaque h.value };
 }
+
+// What lies behind it may go to another thread, and so may the right to free it.
+unsafe impl Send for MemoryTypeHandle {}
 
 impl MemoryTypeHandle {
     /// A handle with nothing behind it.
