@@ -233,6 +233,8 @@ PILHANGKO_NODISCARD PILHANGKO_API pilhangko_status PILHANGKO_CALL pilhangko_raw_
     const pilhangko_virtual_block *block, uint64_t from, pilhangko_piece_view *pieces, size_t room, size_t *count);
 PILHANGKO_NODISCARD PILHANGKO_API pilhangko_status PILHANGKO_CALL pilhangko_raw_virtual_block_piece_name(
     const pilhangko_virtual_block *block, uint64_t from, char *name, size_t name_room, size_t *name_length);
+PILHANGKO_NODISCARD PILHANGKO_API pilhangko_status PILHANGKO_CALL pilhangko_raw_virtual_block_piece_names(
+    const pilhangko_virtual_block *block, uint64_t from, size_t *lengths, size_t room, char *names, size_t names_room, size_t *count);
 PILHANGKO_API pilhangko_status PILHANGKO_CALL pilhangko_raw_virtual_block_destroy(pilhangko_virtual_block *block);
 
 PILHANGKO_NODISCARD PILHANGKO_API pilhangko_status PILHANGKO_CALL pilhangko_raw_memory_type_create(
@@ -261,6 +263,8 @@ PILHANGKO_NODISCARD PILHANGKO_API pilhangko_status PILHANGKO_CALL pilhangko_raw_
     const pilhangko_memory_type *type, size_t slot, uint64_t from, pilhangko_piece_view *pieces, size_t room, size_t *count);
 PILHANGKO_NODISCARD PILHANGKO_API pilhangko_status PILHANGKO_CALL pilhangko_raw_memory_type_piece_name(
     const pilhangko_memory_type *type, size_t slot, uint64_t from, char *name, size_t name_room, size_t *name_length);
+PILHANGKO_NODISCARD PILHANGKO_API pilhangko_status PILHANGKO_CALL pilhangko_raw_memory_type_piece_names(const pilhangko_memory_type *type,
+    size_t slot, uint64_t from, size_t *lengths, size_t room, char *names, size_t names_room, size_t *count);
 PILHANGKO_NODISCARD PILHANGKO_API pilhangko_status PILHANGKO_CALL pilhangko_raw_memory_type_statistics(
     const pilhangko_memory_type *type, pilhangko_memory_statistics *statistics);
 PILHANGKO_API pilhangko_status PILHANGKO_CALL pilhangko_raw_memory_type_destroy(pilhangko_memory_type *type);
@@ -402,6 +406,19 @@ PILHANGKO_NODISCARD static inline pilhangko_status pilhangko_virtual_block_piece
     return pilhangko_raw_virtual_block_piece_name(block, from, name ? name : &none, name_room, name_length);
 }
 
+/* The names of the pieces that `pieces` shows from there with that room, in linear time too: lengths has the length of each one's name,
+ * names has their bytes one after another, with no 0 between or behind them, as far as names_room, and count is how many there are. Where
+ * the lengths sum up to more than names_room, names are cut, maybe within a character. Where a room is 0, its pointer may be NULL.
+ * NO_HANDLE. */
+PILHANGKO_NODISCARD static inline pilhangko_status pilhangko_virtual_block_piece_names(
+    const pilhangko_virtual_block *block, uint64_t from, size_t *lengths, size_t room, char *names, size_t names_room, size_t *count) {
+    size_t no_length;
+    char no_name;
+    if (!block || (!lengths && room) || (!names && names_room) || !count) return PILHANGKO_NULL_POINTER;
+    return pilhangko_raw_virtual_block_piece_names(
+        block, from, lengths ? lengths : &no_length, room, names ? names : &no_name, names_room, count);
+}
+
 /* Ends a block, with all its pieces, and leaves the handle empty.
  * NO_HANDLE. */
 static inline pilhangko_status pilhangko_virtual_block_destroy(pilhangko_virtual_block *block) {
@@ -519,6 +536,17 @@ PILHANGKO_NODISCARD static inline pilhangko_status pilhangko_memory_type_piece_n
     char none;
     if (!type || (!name && name_room) || !name_length) return PILHANGKO_NULL_POINTER;
     return pilhangko_raw_memory_type_piece_name(type, slot, from, name ? name : &none, name_room, name_length);
+}
+
+/* The names of the pieces of the block in a slot, as with a virtual block.
+ * NO_HANDLE. */
+PILHANGKO_NODISCARD static inline pilhangko_status pilhangko_memory_type_piece_names(const pilhangko_memory_type *type, size_t slot,
+    uint64_t from, size_t *lengths, size_t room, char *names, size_t names_room, size_t *count) {
+    size_t no_length;
+    char no_name;
+    if (!type || (!lengths && room) || (!names && names_room) || !count) return PILHANGKO_NULL_POINTER;
+    return pilhangko_raw_memory_type_piece_names(
+        type, slot, from, lengths ? lengths : &no_length, room, names ? names : &no_name, names_room, count);
 }
 
 /* What is counted of a memory type.

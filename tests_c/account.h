@@ -152,4 +152,20 @@ static inline void account_names(const struct account *a, uint64_t from, const c
     CHECK(length == strlen(name) && memcmp(bytes, name, copied) == 0);
     for (size_t i = copied; i < room; i++) CHECK(bytes[i] == '?');
 }
+
+/* The names of all pieces from a place on, as many as there are lengths for and as far as there is room, are the account's; the lengths
+ * were SIZE_MAX, and the bytes '?'. */
+static inline void account_names_all(const struct account *a, uint64_t from, const size_t *lengths, size_t room, const char *bytes,
+    size_t bytes_room, size_t count) {
+    size_t shown = 0, filled = 0;
+    for (size_t i = 0; i < a->count && shown < room; i++) {
+        if (!a->chunks[i].kind || a->chunks[i].offset < from) continue;
+        size_t length = strlen(a->chunks[i].name), copied = length < bytes_room - filled ? length : bytes_room - filled;
+        CHECK(lengths[shown++] == length && memcmp(bytes + filled, a->chunks[i].name, copied) == 0);
+        filled += copied;
+    }
+    CHECK(count == shown);
+    for (size_t i = shown; i < room; i++) CHECK(lengths[i] == SIZE_MAX);
+    for (size_t i = filled; i < bytes_room; i++) CHECK(bytes[i] == '?');
+}
 #endif

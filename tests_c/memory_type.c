@@ -105,6 +105,12 @@ static void blocks_come_and_go(void) {
     size_t length;
     IS(pilhangko_memory_type_piece_name(&type, 0, 0, bytes, 7, &length), PILHANGKO_OK);
     CHECK(length == 5 && !strcmp(bytes, "block??"));
+    size_t lengths[2] = {77, 77};
+    char names[8] = "???????";
+    IS(pilhangko_memory_type_piece_names(&type, 0, 0, lengths, 2, names, 7, &shown), PILHANGKO_OK);
+    CHECK(shown == 2 && lengths[0] == 5 && lengths[1] == 0 && !strcmp(names, "block??"));
+    IS(pilhangko_memory_type_piece_names(&type, 9, 0, lengths, 2, names, 7, &shown), PILHANGKO_OK);
+    CHECK(shown == 0 && lengths[0] == 5);
     IS(pilhangko_memory_type_piece_name(&type, 9, 0, bytes, 7, &length), PILHANGKO_OK);
     CHECK(length == 0 && !strcmp(bytes, "block??"));
     frees(&type, &d, true, 1003); /* a piece's own block goes */
@@ -271,6 +277,7 @@ static void unmade_memory_type(void) {
     IS(pilhangko_memory_type_block_statistics(&type, 0, &to.counted), PILHANGKO_NO_HANDLE);
     IS(pilhangko_memory_type_next_piece(&type, 0, 0, &to.view), PILHANGKO_NO_HANDLE);
     IS(pilhangko_memory_type_pieces(&type, 0, 0, &to.view, 1, &to.length), PILHANGKO_NO_HANDLE);
+    IS(pilhangko_memory_type_piece_names(&type, 0, 0, NULL, 0, NULL, 0, &to.length), PILHANGKO_NO_HANDLE);
     IS(pilhangko_memory_type_piece_name(&type, 0, 0, NULL, 0, &to.length), PILHANGKO_NO_HANDLE);
     IS(pilhangko_memory_type_destroy(&type), PILHANGKO_NO_HANDLE);
 }
@@ -327,6 +334,10 @@ static void null_pointers(void) {
     IS(pilhangko_memory_type_pieces(NULL, 0, 0, &to.view, 1, &to.length), PILHANGKO_NULL_POINTER);
     IS(pilhangko_memory_type_pieces(&type, 0, 0, NULL, 1, &to.length), PILHANGKO_NULL_POINTER);
     IS(pilhangko_memory_type_pieces(&type, 0, 0, &to.view, 1, NULL), PILHANGKO_NULL_POINTER);
+    IS(pilhangko_memory_type_piece_names(NULL, 0, 0, NULL, 0, NULL, 0, &to.length), PILHANGKO_NULL_POINTER);
+    IS(pilhangko_memory_type_piece_names(&type, 0, 0, NULL, 1, NULL, 0, &to.length), PILHANGKO_NULL_POINTER);
+    IS(pilhangko_memory_type_piece_names(&type, 0, 0, NULL, 0, NULL, 1, &to.length), PILHANGKO_NULL_POINTER);
+    IS(pilhangko_memory_type_piece_names(&type, 0, 0, NULL, 0, NULL, 0, NULL), PILHANGKO_NULL_POINTER);
     IS(pilhangko_memory_type_piece_name(NULL, 0, 0, NULL, 0, &to.length), PILHANGKO_NULL_POINTER);
     IS(pilhangko_memory_type_piece_name(&type, 0, 0, NULL, 1, &to.length), PILHANGKO_NULL_POINTER);
     IS(pilhangko_memory_type_piece_name(&type, 0, 0, NULL, 0, NULL), PILHANGKO_NULL_POINTER);

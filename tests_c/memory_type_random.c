@@ -168,18 +168,24 @@ static void look(void) {
     size_t view_room = random_below(21), shown;
     for (size_t j = 0; j < 20; j++) views[j].number = UINT64_MAX;
     IS(pilhangko_memory_type_pieces(&type, i, from, views, view_room, &shown), PILHANGKO_OK);
+    char all[100];
+    size_t lengths[20], named, all_room = random_below(sizeof all + 1);
+    memset(all, '?', sizeof all);
+    memset(lengths, 0xff, sizeof lengths);
+    IS(pilhangko_memory_type_piece_names(&type, i, from, lengths, view_room, all, all_room, &named), PILHANGKO_OK);
     if (block.exists) {
         pilhangko_virtual_statistics same = {slots[i].account.size, counted.pieces, counted.piece_bytes, counted.gaps, counted.longest_gap};
         account_same(&slots[i].account, &same);
         account_shows(&slots[i].account, from, &view);
         account_shows_all(&slots[i].account, from, views, view_room, shown);
+        account_names_all(&slots[i].account, from, lengths, view_room, all, all_room, named);
         char bytes[16];
         size_t room = random_below(sizeof bytes + 1), length;
         memset(bytes, '?', sizeof bytes);
         IS(pilhangko_memory_type_piece_name(&type, i, from, bytes, room, &length), PILHANGKO_OK);
         account_names(&slots[i].account, from, bytes, room, length);
     } else {
-        CHECK(shown == 0 && (!view_room || views[0].number == UINT64_MAX));
+        CHECK(shown == 0 && named == 0 && (!view_room || (views[0].number == UINT64_MAX && lengths[0] == SIZE_MAX)));
         CHECK(!view.exists && view.number == 0 && counted.pieces == 0 && counted.piece_bytes == 0 && counted.gaps == 0 &&
               counted.longest_gap == 0);
     }

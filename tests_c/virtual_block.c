@@ -99,6 +99,16 @@ static void readings(void) {
     CHECK(length == 0 && !strcmp(bytes, "pime???"));
     IS(pilhangko_virtual_block_piece_name(&block, 0, NULL, 0, &length), PILHANGKO_OK);
     CHECK(length == 5);
+    size_t lengths[3] = {77, 77, 77};
+    char names[12] = "???????????";
+    IS(pilhangko_virtual_block_piece_names(&block, 0, lengths, 3, names, 11, &shown), PILHANGKO_OK);
+    CHECK(shown == 2 && lengths[0] == 5 && lengths[1] == 4 && lengths[2] == 77 && !strcmp(names, "piecename??"));
+    IS(pilhangko_virtual_block_piece_names(&block, 65, lengths, 1, names, 2, &shown), PILHANGKO_OK);
+    CHECK(shown == 1 && lengths[0] == 4 && lengths[1] == 4 && !strcmp(names, "naecename??"));
+    IS(pilhangko_virtual_block_piece_names(&block, 0, lengths, 1, names, 11, &shown), PILHANGKO_OK);
+    CHECK(shown == 1 && lengths[0] == 5 && !strcmp(names, "piecename??"));
+    IS(pilhangko_virtual_block_piece_names(&block, 0, NULL, 0, NULL, 0, &shown), PILHANGKO_OK);
+    CHECK(shown == 0);
     IS(pilhangko_virtual_block_destroy(&block), PILHANGKO_OK);
     IS(pilhangko_virtual_block_piece_name(&block, 0, bytes, 7, &length), PILHANGKO_NO_HANDLE);
     CHECK(length == 5 && !strcmp(bytes, "pime???"));
@@ -107,6 +117,7 @@ static void readings(void) {
     IS(pilhangko_virtual_block_statistics(&block, &s), PILHANGKO_NO_HANDLE);
     IS(pilhangko_virtual_block_next_piece(&block, 0, &view), PILHANGKO_NO_HANDLE);
     IS(pilhangko_virtual_block_pieces(&block, 0, &view, 1, &shown), PILHANGKO_NO_HANDLE);
+    IS(pilhangko_virtual_block_piece_names(&block, 0, lengths, 3, names, 11, &shown), PILHANGKO_NO_HANDLE);
     CHECK(s.size == 3 && view.number == 4 && shown == 0);
 }
 
@@ -218,6 +229,10 @@ static void null_pointers(void) {
     IS(pilhangko_virtual_block_pieces(NULL, 0, &view, 1, &count), PILHANGKO_NULL_POINTER);
     IS(pilhangko_virtual_block_pieces(&block, 0, NULL, 1, &count), PILHANGKO_NULL_POINTER);
     IS(pilhangko_virtual_block_pieces(&block, 0, &view, 1, NULL), PILHANGKO_NULL_POINTER);
+    IS(pilhangko_virtual_block_piece_names(NULL, 0, NULL, 0, NULL, 0, &count), PILHANGKO_NULL_POINTER);
+    IS(pilhangko_virtual_block_piece_names(&block, 0, NULL, 1, NULL, 0, &count), PILHANGKO_NULL_POINTER);
+    IS(pilhangko_virtual_block_piece_names(&block, 0, NULL, 0, NULL, 1, &count), PILHANGKO_NULL_POINTER);
+    IS(pilhangko_virtual_block_piece_names(&block, 0, NULL, 0, NULL, 0, NULL), PILHANGKO_NULL_POINTER);
     IS(pilhangko_virtual_block_piece_name(NULL, 0, NULL, 0, &count), PILHANGKO_NULL_POINTER);
     IS(pilhangko_virtual_block_piece_name(&block, 0, NULL, 1, &count), PILHANGKO_NULL_POINTER);
     IS(pilhangko_virtual_block_piece_name(&block, 0, NULL, 0, NULL), PILHANGKO_NULL_POINTER);

@@ -98,6 +98,12 @@ static void step(void) {
     memset(bytes, '?', sizeof bytes);
     IS(pilhangko_virtual_block_piece_name(&block, from, room ? bytes : NULL, room, &length), PILHANGKO_OK);
     account_names(&account, from, bytes, room, length);
+    char all[400];
+    size_t lengths[40], all_room = random_below(sizeof all + 1);
+    memset(all, '?', sizeof all);
+    memset(lengths, 0xff, sizeof lengths);
+    IS(pilhangko_virtual_block_piece_names(&block, from, lengths, view_room, all_room ? all : NULL, all_room, &shown), PILHANGKO_OK);
+    account_names_all(&account, from, lengths, view_room, all, all_room, shown);
 }
 
 int main(void) {

@@ -1,8 +1,8 @@
 -- An array that is filled from its front on: what stands in it, and what is still to come.
-use Rattle.std.proofs.Common.{◌≡◌, ℕ, ◌+◌, ◌≤◌, ◌<◌, List, [], ◌∷◌, ◌++◌, length, slice_set, Some, min, take, drop, true, false, nat_le, Bool, cond, refl, sym, ap, subst, ◌∙◌, arith, append_assoc, length-append}
+use Rattle.std.proofs.Common.{◌≡◌, ℕ, ◌+◌, ◌-◌, ◌≤◌, ◌<◌, List, [], ◌∷◌, ◌++◌, length, slice_set, Some, min, take, drop, true, false, nat_le, Bool, cond, refl, sym, ap, subst, ◌∙◌, arith, append_assoc, length-append}
 use Rattle.std.proofs.Math.Nat.{suc-min-suc}
 use Rattle.std.proofs.lemmas.Bool.Decides.{nat_tests}
-use Rattle.std.proofs.lemmas.List.{set_at}
+use Rattle.std.proofs.lemmas.List.{set_at, take_at, drop_at, length-take-le, length-drop}
 use Rattle.gpu_block_pieces.specs.FreeList.{Extent}
 use Rattle.gpu_c.specs.Visit.{room_for, copied_into, pieces_from, piece_view, piece_views}
 use Rattle.gpu_c.specs.declared.virtual_block_values.PieceView.{PieceView}
@@ -63,6 +63,40 @@ module _ {A : Type 0} where
 
   pub fills_next : (all old todo now : List A) (count : ℕ) (x : A) → Fills all old (x ∷ todo) now count → count < length now → Fills all old todo (slice_set now count x) (count + 1)
   fills_next all old todo now count x f l = next_by all old todo now f.done f.rest count x f.split f.counted f.whole f.rooms l
+
+  copied_append : (s todo rest : List A) → copied_into (s ++ todo) rest ≡ take (room_for s rest) s ++ copied_into todo (drop (room_for s rest) rest)
+  copied_append [] todo rest = let e : min 0 (length rest) ≡ 0 = omega arith in
+      subst (λ (k : ℕ). copied_into todo rest ≡ take k [] ++ copied_into todo (drop k rest)) (sym e) refl
+  copied_append (x ∷ s) todo [] = let e : min (length (x ∷ s)) 0 ≡ 0 = omega arith in
+      subst (λ (k : ℕ). copied_into (x ∷ s ++ todo) [] ≡ take k (x ∷ s) ++ copied_into todo (drop k [])) (sym e) (copied_full (x ∷ s ++ todo) ∙ sym (copied_full todo))
+  copied_append (x ∷ s) todo (b ∷ rest) =
+      copied_cons x b (s ++ todo) rest ∙ subst (λ (k : ℕ). x ∷ copied_into (s ++ todo) rest ≡ take k (x ∷ s) ++ copied_into todo (drop k (b ∷ rest)))
+      (sym (suc-min-suc (length s) (length rest))) (ap (λ (ys : List A). x ∷ ys) (copied_append s todo rest))
+
+  append_by : (all old s todo done rest : List A) (count : ℕ) → length done ≡ count → copied_into all old ≡ done ++ copied_into (s ++ todo) rest
+      → room_for all old ≡ count + room_for (s ++ todo) rest → Fills all old todo (done ++ copied_into s rest) (count + room_for s rest)
+  append_by all old s todo done rest count counted whole rooms =
+      let k : ℕ = room_for s rest in
+      let n : length (take k s) ≡ k = length-take-le k s (omega arith) in
+      let d : length (drop k rest) ≡ length rest - k = length-drop k rest in
+      let m : length (s ++ todo) ≡ length s + length todo = length-append s todo in record {
+        done = done ++ take k s;
+        rest = drop k rest;
+        split = sym (append_assoc done (take k s) (drop k rest));
+        counted = length-append done (take k s) ∙ omega (arith, counted, n);
+        whole = whole ∙ ap (λ (r : List A). done ++ r) (copied_append s todo rest) ∙ sym (append_assoc done (take k s) (copied_into todo (drop k rest)));
+        rooms = omega (arith, rooms, m, d);
+      }
+
+  -- several values more are put in, as far as there is room
+  pub fills_append : (all old s todo now : List A) (count : ℕ) → Fills all old (s ++ todo) now count
+      → Fills all old todo (take count now ++ copied_into s (drop count now)) (count + room_for s (drop count now))
+  fills_append all old s todo now count f =
+      let t : take count now ≡ f.done = ap (take count) f.split ∙ take_at f.done f.rest count f.counted in
+      let d : drop count now ≡ f.rest = ap (drop count) f.split ∙ drop_at f.done f.rest count f.counted in
+      subst (λ (r : List A). Fills all old todo (take count now ++ copied_into s r) (count + room_for s r)) (sym d)
+      (subst (λ (h : List A). Fills all old todo (h ++ copied_into s f.rest) (count + room_for s f.rest)) (sym t)
+      (append_by all old s todo f.done f.rest count f.counted f.whole f.rooms))
 
 le_is : (a b : ℕ) → a ≤ b → nat_le a b ≡ true
 le_is a b l = grind (arith, nat_tests)

@@ -1,6 +1,7 @@
 mod RawBoxValues
 mod Owned
 mod Filling
+mod FillingNames
 mod VirtualBlockLaws
 mod MemoryTypeLaws
 mod VirtualBlockHandleWords

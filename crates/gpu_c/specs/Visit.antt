@@ -1,6 +1,6 @@
 -- What a visit shows of a block's pieces.
 use Rattle.std.specs.Prelude.{◌≡◌, ℕ, true, false, List, Option, Some, None, nat_le, [], ◌++◌, length, map, min, take, drop}
-use Rattle.std.specs.List.{find, filter}
+use Rattle.std.specs.List.{find, filter, concat}
 use Rattle.gpu_values.specs.declared.allocation_type.AllocationType.{AllocationType}
 use Rattle.gpu_values.specs.declared.allocation_type.AllocationType.TheVariants.{Free, Linear, NonLinear}
 use Rattle.gpu_block_pieces.specs.FreeList.{Extent}
@@ -53,6 +53,10 @@ room_for values buffer = min (length values) (length buffer)
 abbrev pub copied_into : {A : Type 0} → List A → List A → List A
 copied_into values buffer = take (room_for values buffer) values ++ drop (room_for values buffer) buffer
 
+-- the names of pieces
+abbrev pub names_of : List Extent → List (List ℕ)
+names_of xs = map (λ x. x.name) xs
+
 -- a name was copied into a buffer, and its whole length reported
 abbrev pub ShowsName : Option Extent → (old new : List ℕ) → (whole : ℕ) → Type 0
 ShowsName piece old new whole = (new ≡ copied_into (name_of piece) old) × (whole ≡ length (name_of piece))
@@ -60,3 +64,10 @@ ShowsName piece old new whole = (new ≡ copied_into (name_of piece) old) × (wh
 -- an array was filled with the pieces, as far as it has room, and reported is how many of them it shows
 abbrev pub ShowsPieces : List Extent → (old new : List PieceView) → (count : ℕ) → Type 0
 ShowsPieces xs old new count = (new ≡ copied_into (piece_views xs) old) × (count ≡ room_for (piece_views xs) old)
+
+-- an array was filled with the lengths of the pieces' names, as far as it has room, a buffer with these names one after another, as
+-- far as it has room, and reported is how many lengths there are
+pub record ShowsNames (xs : List Extent) (old_lengths new_lengths old_names new_names : List ℕ) (count : ℕ) : Type 0 where
+  pub lengths : new_lengths ≡ copied_into (map length (names_of xs)) old_lengths
+  pub names : new_names ≡ copied_into (concat (take (length old_lengths) (names_of xs))) old_names
+  pub counted : count ≡ room_for (map length (names_of xs)) old_lengths

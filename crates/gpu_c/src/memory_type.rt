@@ -8,7 +8,7 @@ ghost use Rattle.gpu_c.specs.Status as status;
 ghost use Rattle.gpu_c.specs.Request.{IsServed};
 ghost use Rattle.gpu_c.specs.Status.{IsOneOf};
 ghost use Rattle.gpu_c.specs.MemoryType.{AwaitingState, fresh_memory_type, memory_piece, no_memory_piece, memory_block, number_if, IsLiveIn, Prepares, IsIdleAndServed, IsTooLarge, IsPastBudget, InstallsAwaited, Abandons, FreesPiece, NamesMemory, statistics_of, sizes_of, block_counts};
-ghost use Rattle.gpu_c.specs.Visit.{piece_view, piece_in_from, pieces_in_from, ShowsPieces, ShowsName};
+ghost use Rattle.gpu_c.specs.Visit.{piece_view, piece_in_from, pieces_in_from, ShowsPieces, ShowsNames, ShowsName};
 ghost use Rattle.gpu_c.specs.declared.status.TheConstants.{OK, OUT_OF_MEMORY, INVALID, NOT_LIVE, HOST_OUT_OF_MEMORY, BUDGET_EXCEEDED, AWAITS_BLOCK, AWAITS_NO_BLOCK};
 
 use crate::memory_type_values::{
@@ -21,7 +21,7 @@ use crate::status::{
     OUT_OF_MEMORY,
 };
 use crate::virtual_block_values::PieceView;
-use crate::visit::{fill_from, first_from, name_from, no_piece};
+use crate::visit::{fill_from, first_from, name_from, names_from, no_piece};
 use gpu_core::{MemoryType, NeedBlock, Piece, Prepared, Request};
 use gpu_values::AllocationSizes;
 use std::alloc::Global;
@@ -356,6 +356,23 @@ impl AwaitingType {
         match self.memory_type.pieces(slot) {
             None => 0,
             Some(pieces) => name_from(pieces, from, name),
+        }
+    }
+
+    /// Fills an array with the lengths of the names of the pieces that `pieces` shows, and a buffer with these names one after another, as
+    /// far as each has room; returns how many lengths there are.
+    pub fn piece_names(
+        &self,
+        slot: usize,
+        from: u64,
+        lengths: &mut [usize],
+        names: &mut [u8],
+    ) -> usize
+        ensures { ShowsNames (pieces_in_from from (pieces_in (slot_at self.now.slots slot))) lengths.old lengths.new names.old names.new result }
+    {
+        match self.memory_type.pieces(slot) {
+            None => 0,
+            Some(pieces) => names_from(pieces, from, lengths, names),
         }
     }
 

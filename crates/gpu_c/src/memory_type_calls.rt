@@ -11,7 +11,7 @@ ghost use Rattle.gpu_c.specs.Status as status;
 ghost use Rattle.gpu_c.specs.Request.{IsServed};
 ghost use Rattle.gpu_c.specs.Status.{IsOneOf};
 ghost use Rattle.gpu_c.specs.MemoryType.{fresh_memory_type, memory_block, number_if, IsLiveIn, Prepares, IsIdleAndServed, IsTooLarge, IsPastBudget, InstallsAwaited, Abandons, FreesPiece, NamesMemory, statistics_of, block_counts};
-ghost use Rattle.gpu_c.specs.Visit.{piece_view, piece_in_from, pieces_in_from, ShowsPieces, ShowsName};
+ghost use Rattle.gpu_c.specs.Visit.{piece_view, piece_in_from, pieces_in_from, ShowsPieces, ShowsNames, ShowsName};
 ghost use Rattle.gpu_c.specs.declared.status.TheConstants.{OK, OUT_OF_MEMORY, INVALID, NOT_LIVE, HOST_OUT_OF_MEMORY, BUDGET_EXCEEDED, NO_HANDLE, IN_USE, AWAITS_BLOCK, AWAITS_NO_BLOCK};
 
 use crate::memory_type::AwaitingType;
@@ -370,6 +370,35 @@ pub extern "C" fn pilhangko_raw_memory_type_piece_name(
         None => NO_HANDLE,
         Some(kept) => {
             *whole = kept.piece_name(slot, from, name);
+            memory_type.put(kept);
+            OK
+        }
+    }
+}
+
+/// The names of the live pieces that `pieces` shows of the block in a slot: fills an array with their lengths and a buffer with the names one after another,
+/// as far as each has room, and reports how many lengths there are.
+#[unsafe(no_mangle)]
+pub extern "C" fn pilhangko_raw_memory_type_piece_names(
+    memory_type: &mut MemoryTypeHandle,
+    alloc: Global,
+    slot: usize,
+    from: u64,
+    lengths: &mut [usize],
+    names: &mut [u8],
+    count: &mut usize,
+) -> u32
+    ensures reported { result ≡ status.ok → IsSomeAnd memory_type.old.value
+        (λ t. ShowsNames (pieces_in_from from (pieces_in (slot_at t.slots slot))) lengths.old lengths.new names.old names.new count.new) }
+    ensures no_handle { (result ≡ status.no_handle) ↔ (memory_type.old.value ≡ None) }
+    ensures statuses { IsOneOf result (status.ok ∷ status.no_handle ∷ []) }
+    ensures same { memory_type.new.value ≡ memory_type.old.value }
+    ensures refused { result ≢ status.ok → (lengths.new ≡ lengths.old) × (names.new ≡ names.old) × (count.new ≡ count.old) }
+{
+    match memory_type.take(alloc) {
+        None => NO_HANDLE,
+        Some(kept) => {
+            *count = kept.piece_names(slot, from, lengths, names);
             memory_type.put(kept);
             OK
         }

@@ -8,13 +8,13 @@ ghost use Rattle.gpu_c.specs.Status as status;
 ghost use Rattle.gpu_c.specs.Request.{IsServed};
 ghost use Rattle.gpu_c.specs.Status.{IsOneOf};
 ghost use Rattle.gpu_c.specs.VirtualBlock.{CanCreate, fresh_virtual_block, IsLivePiece, IsRefusedFor, Allocates, Frees, NamesPiece, cleared, counts_of};
-ghost use Rattle.gpu_c.specs.Visit.{piece_view, piece_from, pieces_from, ShowsPieces, ShowsName};
+ghost use Rattle.gpu_c.specs.Visit.{piece_view, piece_from, pieces_from, ShowsPieces, ShowsNames, ShowsName};
 ghost use Rattle.gpu_c.specs.declared.status.TheConstants.{OK, OUT_OF_MEMORY, INVALID, NOT_LIVE, HOST_OUT_OF_MEMORY};
 
 use crate::request::served;
 use crate::status::{HOST_OUT_OF_MEMORY, INVALID, NOT_LIVE, OK, status_of};
 use crate::virtual_block_values::{PieceView, VirtualPiece, VirtualRequest, VirtualStatistics};
-use crate::visit::{fill_from, first_from, name_from};
+use crate::visit::{fill_from, first_from, name_from, names_from};
 use gpu_block::{FreeListAllocator, SubAllocator};
 use gpu_values::Result;
 use std::alloc::Global;
@@ -189,5 +189,13 @@ impl VirtualBlock {
         ensures { ShowsName (piece_from from (extents_of self.now)) name.old name.new result }
     {
         name_from(self.sub.pieces(), from, name)
+    }
+
+    /// Fills an array with the lengths of the names of the pieces that `pieces` shows, and a buffer with these names one after another, as
+    /// far as each has room; returns how many lengths there are.
+    pub fn piece_names(&self, from: u64, lengths: &mut [usize], names: &mut [u8]) -> usize
+        ensures { ShowsNames (pieces_from from (extents_of self.now)) lengths.old lengths.new names.old names.new result }
+    {
+        names_from(self.sub.pieces(), from, lengths, names)
     }
 }

@@ -9,7 +9,7 @@ ghost use Rattle.gpu_c.specs.Status as status;
 ghost use Rattle.gpu_c.specs.Request.{IsServed};
 ghost use Rattle.gpu_c.specs.Status.{IsOneOf};
 ghost use Rattle.gpu_c.specs.VirtualBlock.{CanCreate, fresh_virtual_block, IsLivePiece, IsRefusedFor, Allocates, Frees, NamesPiece, cleared, counts_of};
-ghost use Rattle.gpu_c.specs.Visit.{piece_view, piece_from, pieces_from, ShowsPieces, ShowsName};
+ghost use Rattle.gpu_c.specs.Visit.{piece_view, piece_from, pieces_from, ShowsPieces, ShowsNames, ShowsName};
 ghost use Rattle.gpu_c.specs.declared.status.TheConstants.{OK, OUT_OF_MEMORY, INVALID, NOT_LIVE, HOST_OUT_OF_MEMORY, NO_HANDLE, IN_USE};
 
 use crate::status::{HOST_OUT_OF_MEMORY, IN_USE, INVALID, NO_HANDLE, OK};
@@ -265,6 +265,34 @@ pub extern "C" fn pilhangko_raw_virtual_block_piece_name(
         None => NO_HANDLE,
         Some(kept) => {
             *whole = kept.piece_name(from, name);
+            block.put(kept);
+            OK
+        }
+    }
+}
+
+/// The names of the live pieces that `pieces` shows: fills an array with their lengths and a buffer with the names one after another,
+/// as far as each has room, and reports how many lengths there are.
+#[unsafe(no_mangle)]
+pub extern "C" fn pilhangko_raw_virtual_block_piece_names(
+    block: &mut VirtualBlockHandle,
+    alloc: Global,
+    from: u64,
+    lengths: &mut [usize],
+    names: &mut [u8],
+    count: &mut usize,
+) -> u32
+    ensures reported { result ≡ status.ok → IsSomeAnd block.old.value
+        (λ b. ShowsNames (pieces_from from (extents_of b)) lengths.old lengths.new names.old names.new count.new) }
+    ensures no_handle { (result ≡ status.no_handle) ↔ (block.old.value ≡ None) }
+    ensures statuses { IsOneOf result (status.ok ∷ status.no_handle ∷ []) }
+    ensures same { block.new.value ≡ block.old.value }
+    ensures refused { result ≢ status.ok → (lengths.new ≡ lengths.old) × (names.new ≡ names.old) × (count.new ≡ count.old) }
+{
+    match block.take(alloc) {
+        None => NO_HANDLE,
+        Some(kept) => {
+            *count = kept.piece_names(from, lengths, names);
             block.put(kept);
             OK
         }

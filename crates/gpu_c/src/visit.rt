@@ -1,7 +1,7 @@
 //! Visits of a block's pieces, in order of offset.
 
-ghost use Rattle.std.specs.Prelude.{◌≡◌, None, Some, length};
-ghost use Rattle.gpu_c.specs.Visit.{kind_number, piece_view, piece_from, pieces_from, ShowsPieces, name_of, copied_into};
+ghost use Rattle.std.specs.Prelude.{◌≡◌, ◌+◌, ◌≤◌, ◌++◌, None, Some, length, take, drop};
+ghost use Rattle.gpu_c.specs.Visit.{kind_number, piece_view, piece_from, pieces_from, ShowsPieces, ShowsNames, name_of, room_for, copied_into};
 
 use crate::request::{LINEAR, NON_LINEAR};
 use crate::virtual_block_values::PieceView;
@@ -96,4 +96,36 @@ pub fn name_from(pieces: Pieces<'_>, from: u64, buffer: &mut [u8]) -> usize
         }
     }
     0
+}
+
+/// Copies as much of a text behind the bytes that a buffer is filled with as there is room for, and returns how many it is filled with then.
+fn append_text(text: &str, buffer: &mut [u8], filled: usize) -> usize
+    requires { filled ≤ length buffer.old }
+    ensures filled { result ≡ filled + room_for text.now (drop filled buffer.old) }
+    ensures copied { buffer.new ≡ take filled buffer.old ++ copied_into text.now (drop filled buffer.old) }
+{
+    let count = text.len().min(buffer.len() - filled);
+    let _whole = copy_text(text, &mut buffer[filled..]);
+    filled + count
+}
+
+/// Fills an array with the lengths of the names of the pieces whose own bytes begin at `from` or behind it, as far as it has room, and a
+/// buffer with these names one after another, as far as it has room; returns how many lengths there are.
+pub fn names_from(pieces: Pieces<'_>, from: u64, lengths: &mut [usize], names: &mut [u8]) -> usize
+    ensures { ShowsNames (pieces_from from pieces.entry) lengths.old lengths.new names.old names.new result }
+{
+    let mut count = 0;
+    let mut filled = 0;
+    for piece in pieces {
+        if count == lengths.len() {
+            return count;
+        }
+        if from <= piece.offset() {
+            let name = piece.name();
+            lengths[count] = name.len();
+            count += 1;
+            filled = append_text(name, names, filled);
+        }
+    }
+    count
 }
