@@ -339,7 +339,7 @@ PILHANGKO_NODISCARD static inline pilhangko_status pilhangko_virtual_block_free(
     return pilhangko_raw_virtual_block_free(block, piece);
 }
 
-/* Gives a live piece another name.
+/* Renames a live piece.
  * NO_HANDLE. INVALID: the name. NOT_LIVE. HOST_OUT_OF_MEMORY. */
 PILHANGKO_NODISCARD static inline pilhangko_status pilhangko_virtual_block_rename(
     pilhangko_virtual_block *block, const pilhangko_virtual_piece *piece, const char *name) {
@@ -384,9 +384,9 @@ PILHANGKO_NODISCARD static inline pilhangko_status pilhangko_virtual_block_next_
 }
 
 /* All live pieces whose own bytes begin at `from` or behind it, in order of offset, as far as the array has room; count is how many it
- * shows, and less than room where none is left. From 0 on and with room for as many as statistics counts, one call visits them all in
- * linear time. In parts a visit goes on at the last one's offset + 1, and each part goes over the pieces before it once. What stands in
- * the array behind them stays. Where room is 0, pieces may be NULL.
+ * shows, and where that is less than room, none is left. From 0 on and with room for as many as statistics counts, one call visits them
+ * all in linear time. In parts a visit goes on at the last one's offset + 1, and each part goes over the pieces before it once more. What
+ * stands in the array behind them stays. Where room is 0, pieces may be NULL.
  * NO_HANDLE. */
 PILHANGKO_NODISCARD static inline pilhangko_status pilhangko_virtual_block_pieces(
     const pilhangko_virtual_block *block, uint64_t from, pilhangko_piece_view *pieces, size_t room, size_t *count) {
@@ -470,7 +470,7 @@ PILHANGKO_NODISCARD static inline pilhangko_status pilhangko_memory_type_free(
     return pilhangko_raw_memory_type_free(type, piece, gone);
 }
 
-/* Gives a live piece another name.
+/* Renames a live piece.
  * NO_HANDLE. AWAITS_BLOCK. INVALID: the name. NOT_LIVE. HOST_OUT_OF_MEMORY. */
 PILHANGKO_NODISCARD static inline pilhangko_status pilhangko_memory_type_rename(
     pilhangko_memory_type *type, const pilhangko_memory_piece *piece, const char *name) {
