@@ -1,10 +1,10 @@
 -- An array and a buffer that are filled with the lengths of names and with the names.
-use Rattle.std.proofs.Common.{◌≡◌, ℕ, suc, ◌+◌, ◌-◌, ◌<◌, ◌≤◌, List, [], ◌∷◌, ◌++◌, length, map, slice_set, take, drop, refl, sym, ap, subst, ◌∙◌, arith}
+use Rattle.std.proofs.Common.{◌≡◌, ℕ, suc, ◌+◌, ◌-◌, ◌<◌, List, [], ◌∷◌, ◌++◌, length, map, slice_set, take, drop, refl, sym, ap, subst, ◌∙◌, arith}
 use Rattle.std.specs.List.{concat}
 use Rattle.std.proofs.lemmas.List.{take_all}
 use Rattle.gpu_block_pieces.specs.FreeList.{Extent}
-use Rattle.gpu_c.specs.Visit.{room_for, copied_into, names_of, pieces_from, ShowsNames}
-use Rattle.gpu_c.proofs.Filling.{Fills, fills_begin, fills_next, fills_append, fills_within, fills_full, fills_end, pieces_here, pieces_before}
+use Rattle.gpu_c.specs.Visit.{room_for, copied_into, names_of, ShowsNames}
+use Rattle.gpu_c.proofs.Filling.{Fills, fills_begin, fills_next, fills_append, fills_full, fills_end}
 
 -- the texts of as many names
 abbrev pub texts : ℕ → List Extent → List ℕ

@@ -1,5 +1,4 @@
 -- What a handle owns names no thread's token where the value's type names none.
-use Rattle.std.proofs.Common.{ℕ}
 use base.Shift.{Keyless}
 use mir.Raw.{raw}
 use denote.RattleType.{RattleType}
