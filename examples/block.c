@@ -1,4 +1,4 @@
-/* A staging buffer: uploads are placed in one 64 MB buffer of the program's own, and given back once the GPU has read them. The library
+/* A staging buffer: uploads are placed in one 64 MB buffer of the program's own, and freed once the GPU has read them. The library
  * says where each lies; the bytes are the program's. */
 #include "pilhangko.h"
 #include <stdio.h>
@@ -19,12 +19,12 @@ int main(void) {
     }
     printf("vertices at %llu, texture at %llu\n", (unsigned long long)vertices.offset, (unsigned long long)texture.offset);
     /* .. memcpy to these offsets, record the copies, wait for the GPU .. */
-    pilhangko_virtual_block_free(&staging, &vertices);
-    pilhangko_virtual_block_free(&staging, &texture);
+    status = pilhangko_virtual_block_free(&staging, &vertices);
+    if (status == PILHANGKO_OK) status = pilhangko_virtual_block_free(&staging, &texture);
 
     size_t leaks = 0;
-    pilhangko_virtual_block_leak_count(&staging, &leaks);
-    printf("%zu leaks\n", leaks);
+    if (status == PILHANGKO_OK) status = pilhangko_virtual_block_leak_count(&staging, &leaks);
+    printf("%s, %zu leaks\n", pilhangko_status_name(status), leaks);
     pilhangko_virtual_block_destroy(&staging);
-    return leaks != 0;
+    return status != PILHANGKO_OK || leaks != 0;
 }

@@ -1,10 +1,10 @@
-// A virtual block from Rust: the archive's symbols, declared, and a guard that owns the handle. A handle may not be copied and stays on its
-// thread; a raw pointer in it makes the guard neither `Send` nor `Sync`.
+// A virtual block from Rust: the archive's symbols, declared, and a guard that owns the handle. A handle may not be copied, and is given to
+// one call at a time, on any thread: the guard is `Send` and not `Sync`.
 use std::ffi::c_void;
 
 #[repr(C)]
 struct Handle {
-    at: *mut c_void,
+    opaque: *mut c_void,
 }
 
 #[repr(C)]
@@ -23,7 +23,7 @@ struct Piece {
 
 const OK: u32 = 0;
 const NOT_LIVE: u32 = 6;
-const LINEAR: u32 = 1;
+const KIND_LINEAR: u32 = 1;
 
 extern "C" {
     fn pilhangko_raw_virtual_block_create(block: *mut Handle, size: u64, page_size: u64) -> u32;
@@ -40,9 +40,12 @@ extern "C" {
 
 struct VirtualBlock(Handle);
 
+// SAFETY: what lies behind a handle may go to another thread, and the guard owns its handle alone.
+unsafe impl Send for VirtualBlock {}
+
 impl VirtualBlock {
     fn new(size: u64, page_size: u64) -> Result<VirtualBlock, u32> {
-        let mut block = VirtualBlock(Handle { at: std::ptr::null_mut() });
+        let mut block = VirtualBlock(Handle { opaque: std::ptr::null_mut() });
         match unsafe { pilhangko_raw_virtual_block_create(&mut block.0, size, page_size) } {
             OK => Ok(block),
             status => Err(status),
@@ -50,7 +53,7 @@ impl VirtualBlock {
     }
 
     fn allocate(&mut self, size: u64, alignment: u64, name: &str) -> Result<Piece, u32> {
-        let request = Request { size, alignment, kind: LINEAR };
+        let request = Request { size, alignment, kind: KIND_LINEAR };
         let mut piece = Piece::default();
         let status = unsafe {
             pilhangko_raw_virtual_block_allocate(&mut self.0, &request, name.as_ptr(), name.len(), &mut piece)
@@ -77,7 +80,12 @@ fn main() -> Result<(), u32> {
     let first = block.allocate(100, 1, "first")?;
     let second = block.allocate(100, 64, "")?;
     println!("first at {}, second at {}", first.offset, second.offset);
-    block.free(first)?;
+    // the guard goes to another thread, which frees the first piece, and comes back
+    let worker = std::thread::spawn(move || {
+        let mut block = block;
+        block.free(first).map(|()| block)
+    });
+    let mut block = worker.join().expect("the worker doesn't panic")?;
     assert_eq!(block.free(first), Err(NOT_LIVE));
     Ok(())
 }

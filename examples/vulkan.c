@@ -1,5 +1,5 @@
 /* 1,000 real buffers and images on a Vulkan device, placed by Pilhangko: the library says where each lies and which block is needed, and
- * this program asks the driver. Each is written through the mapping, read back, and given back in random order. Exit 0 where every byte
+ * this program asks the driver. Each is written through the mapping, read back, and freed in random order. Exit 0 where every byte
  * held, nothing is left and the validation layer, where it is installed, had nothing to say. */
 #include "pilhangko.h"
 #include <stdio.h>
@@ -65,7 +65,7 @@ static uint64_t random_below(uint64_t n) {
 
 /* ---- the device ---- */
 
-static VKAPI_ATTR VkBool32 VKAPI_CALL told(VkDebugUtilsMessageSeverityFlagBitsEXT severity, VkDebugUtilsMessageTypeFlagsEXT kind,
+static VKAPI_ATTR VkBool32 VKAPI_CALL reported(VkDebugUtilsMessageSeverityFlagBitsEXT severity, VkDebugUtilsMessageTypeFlagsEXT kind,
     const VkDebugUtilsMessengerCallbackDataEXT *data, void *user) {
     (void)severity, (void)kind, (void)user;
     messages++;
@@ -90,7 +90,7 @@ static bool has_validation(void) {
 static void make_instance(bool validates) {
     const char *extension = VK_EXT_DEBUG_UTILS_EXTENSION_NAME;
     VkDebugUtilsMessengerCreateInfoEXT listens = {
-        .sType = VK_STRUCTURE_TYPE_DEBUG_UTILS_MESSENGER_CREATE_INFO_EXT, .pfnUserCallback = told};
+        .sType = VK_STRUCTURE_TYPE_DEBUG_UTILS_MESSENGER_CREATE_INFO_EXT, .pfnUserCallback = reported};
     listens.messageSeverity = VK_DEBUG_UTILS_MESSAGE_SEVERITY_WARNING_BIT_EXT | VK_DEBUG_UTILS_MESSAGE_SEVERITY_ERROR_BIT_EXT;
     listens.messageType = VK_DEBUG_UTILS_MESSAGE_TYPE_VALIDATION_BIT_EXT;
     VkApplicationInfo application = {.sType = VK_STRUCTURE_TYPE_APPLICATION_INFO, .apiVersion = VK_API_VERSION_1_1};
@@ -153,7 +153,7 @@ static struct block *block_of(uint64_t handle) {
     return (struct block *)(uintptr_t)handle;
 }
 
-static void give_back(uint64_t handle) {
+static void free_block(uint64_t handle) {
     struct block *block = block_of(handle);
     vkUnmapMemory(device, block->memory);
     vkFreeMemory(device, block->memory, NULL);
@@ -245,7 +245,7 @@ static void drop(unsigned i) {
     if (r->buffer) vkDestroyBuffer(device, r->buffer, NULL);
     else vkDestroyImage(device, r->image, NULL);
     PILHANGKO(pilhangko_memory_type_free(&memory_types[r->type], &r->piece, &gone));
-    if (gone.exists) give_back(gone.block);
+    if (gone.exists) free_block(gone.block);
     if (pilhangko_memory_type_free(&memory_types[r->type], &r->piece, &gone) != PILHANGKO_NOT_LIVE)
         fail("a second free was served", (long)i);
 }
@@ -272,7 +272,7 @@ static void end_memory_types(void) {
         for (size_t slot = 0; slot < statistics.slots; slot++) { /* the one shared block that a type keeps */
             pilhangko_memory_block block;
             PILHANGKO(pilhangko_memory_type_block(&memory_types[type], slot, &block));
-            if (block.exists) give_back(block.block);
+            if (block.exists) free_block(block.block);
         }
         PILHANGKO(pilhangko_memory_type_destroy(&memory_types[type]));
     }
@@ -311,7 +311,7 @@ int main(void) {
     shuffle(order);
     for (unsigned i = 0; i < RESOURCES; i++) drop(order[i]);
     end_memory_types();
-    if (live_blocks) fail("blocks that were not given back", (long)live_blocks);
+    if (live_blocks) fail("blocks that were not freed", (long)live_blocks);
     end_device();
     printf("%u blocks made, %u of them a piece's own, %u live at most; %u validation messages\n", made_blocks, own_blocks, most_blocks,
         messages);

@@ -6,21 +6,26 @@
  * Handles. A pilhangko_virtual_block or a pilhangko_memory_type is one pointer that the caller keeps and the library owns. The caller
  * upholds:
  *   - It begins zeroed, as in `pilhangko_virtual_block block = {0};`, and is empty then. create fills it, destroy leaves it empty. Each
- *     other call on an empty handle answers PILHANGKO_NO_HANDLE, so a call after destroy and a second destroy are refused.
+ *     other call on an empty handle returns PILHANGKO_NO_HANDLE, so a call after destroy and a second destroy are refused.
  *   - It is never copied, and its field is never written or read. (To move it, copy it and never use the old one again.)
- *   - It is given to one call at a time, on the thread that made it. Different handles share nothing: threads with handles of their
- *     own need no lock.
+ *   - It is given to one call at a time, on any thread: it may go from thread to thread, and back. Calls of one handle on different
+ *     threads are ordered by a lock, by a thread's start or join, or by a sequentially consistent atomic. Different handles share nothing:
+ *     threads with handles of their own need no lock. The program's malloc, realloc and free have to be callable from each of these
+ *     threads, also for a block that another one allocated, as a C library's are.
  *   - It is not used in a signal handler, nor in the forked child of a process with threads.
  * A handle that is never destroyed leaks its host memory.
  *
- * Pointers. The calls here test each pointer for NULL and answer PILHANGKO_NULL_POINTER. What a call writes to may not overlap with
+ * const. A call on a `const` handle changes nothing that lies behind it. It still needs the handle to itself, since it takes the value out
+ * and puts it back: two such calls may not overlap either, and a handle is never itself defined const.
+ *
+ * Pointers. The calls here test each pointer for NULL and return PILHANGKO_NULL_POINTER. What a call writes to may not overlap with
  * anything else that the call is given. `bool`s are 0 or 1.
  *
  * Values. Sizes, offsets and alignments are in bytes. Sizes, alignments, kinds, names and pieces may be anything: each call tests them.
  * A name is UTF-8 text that ends in a 0, or NULL for none; the library keeps a copy.
  *
- * Statuses. Each call answers PILHANGKO_OK, or says why not. Where several causes hold, the one that is listed first at the call is
- * answered. Any status but PILHANGKO_OK leaves everything as it was, out parameters too.
+ * Statuses. Each call returns PILHANGKO_OK, or says why not. Where several causes hold, the one that is listed first at the call is
+ * returned. Any status but PILHANGKO_OK leaves everything as it was, out parameters too.
  */
 #ifndef PILHANGKO_H
 #define PILHANGKO_H
@@ -42,14 +47,31 @@
 #define PILHANGKO_CALL
 #endif
 
+/* Before each call whose status shall be looked at, which is each but destroy: the compiler warns where it is dropped. Define it before
+ * this header, as nothing, to be warned of none. */
+#ifndef PILHANGKO_NODISCARD
+#if defined(__cplusplus) && __cplusplus >= 201703L || defined(__STDC_VERSION__) && __STDC_VERSION__ >= 202311L
+#define PILHANGKO_NODISCARD [[nodiscard]]
+#elif defined(__GNUC__)
+#define PILHANGKO_NODISCARD __attribute__((warn_unused_result))
+#else
+#define PILHANGKO_NODISCARD
+#endif
+#endif
+
 #ifdef __cplusplus
 extern "C" {
 #endif
 
-/* 1 to 11 are the library's errors by their numbers in traces (docs/TRACE.md); those that are missing can't come from these calls. From 100 on
- * stand what a handle is, from 200 on what the caller passed. */
+/* What a call returns. pilhangko_status_name and pilhangko_status_text have each one's name and one line of text.
+ *
+ * 1 to 11 are the allocator's errors by the numbers that they have everywhere in this project. Those that are missing need a device, and
+ * no call here has one: 2 (memory can't be mapped), 3 (no memory type suits), 5 (a device's description is invalid) and 7 to 9 (resources
+ * of DirectX 12). 12 to 99 are kept for further errors. From 100 on the handle is in another state than the call needs, from 200 on the
+ * header's own test of what it was passed has failed. */
 typedef uint32_t pilhangko_status;
 enum {
+    /* The call did what it says. */
     PILHANGKO_OK = 0,
     /* No gap has a place for the request; or the sum of a memory type's block sizes would pass 2^64 - 1. */
     PILHANGKO_OUT_OF_MEMORY = 1,
@@ -69,7 +91,7 @@ enum {
     PILHANGKO_AWAITS_BLOCK = 102,
     /* No block is awaited, so there is none to install or to abandon. */
     PILHANGKO_AWAITS_NO_BLOCK = 103,
-    /* A pointer is NULL that may not be. Only the calls of this header answer it, before they call the archive. */
+    /* A pointer is NULL that may not be. Only the calls of this header return it, before they call the archive. */
     PILHANGKO_NULL_POINTER = 200
 };
 
@@ -94,8 +116,8 @@ typedef struct pilhangko_virtual_request {
     uint32_t kind;
 } pilhangko_virtual_request;
 
-/* A piece: where it begins in the block, and its number there, which is never 0. A piece that was given back is refused
- * (PILHANGKO_NOT_LIVE) until its number and its offset come again: a piece that is taken later at the same place can have both. */
+/* A piece: where it begins in the block, and its number there, which is never 0. A piece that was freed is refused
+ * (PILHANGKO_NOT_LIVE) until its number and its offset come again: a piece that is allocated later at the same place can have both. */
 typedef struct pilhangko_virtual_piece {
     uint64_t offset;
     uint64_t number;
@@ -149,7 +171,7 @@ typedef struct pilhangko_memory_request {
 } pilhangko_memory_request;
 
 /* A piece: the slot of its block, its number there (never 0), where it begins in the block, its size, and the driver's handle of the block.
- * A piece that was given back is refused (PILHANGKO_NOT_LIVE) until a piece comes that is the same in all five. */
+ * A piece that was freed is refused (PILHANGKO_NOT_LIVE) until a piece comes that is the same in all five. */
 typedef struct pilhangko_memory_piece {
     size_t slot;
     uint64_t number;
@@ -158,8 +180,8 @@ typedef struct pilhangko_memory_piece {
     uint64_t block;
 } pilhangko_memory_piece;
 
-/* What a request comes to. Where needs_block, ask the driver for block_size bytes, and then call install or abandon; dedicated says that
- * the block will be the piece's own, and piece is all zeros. Else the piece is taken, and block_size is 0. */
+/* What a request results in. Where needs_block, ask the driver for block_size bytes, and then call install or abandon; dedicated says that
+ * the block will be the piece's own, and piece is all zeros. Else the piece is allocated, and block_size is 0. */
 typedef struct pilhangko_memory_prepared {
     bool needs_block;
     bool dedicated;
@@ -193,56 +215,94 @@ typedef struct pilhangko_memory_block_statistics {
 
 /* ---- The archive's symbols, for callers in other languages. No pointer may be NULL, also not of a name with length 0. ---- */
 
-PILHANGKO_API pilhangko_status PILHANGKO_CALL pilhangko_raw_virtual_block_create(pilhangko_virtual_block *block, uint64_t size, uint64_t page_size);
-PILHANGKO_API pilhangko_status PILHANGKO_CALL pilhangko_raw_virtual_block_allocate(pilhangko_virtual_block *block, const pilhangko_virtual_request *request,
-    const char *name, size_t name_length, pilhangko_virtual_piece *piece);
-PILHANGKO_API pilhangko_status PILHANGKO_CALL pilhangko_raw_virtual_block_free(pilhangko_virtual_block *block, const pilhangko_virtual_piece *piece);
-PILHANGKO_API pilhangko_status PILHANGKO_CALL pilhangko_raw_virtual_block_rename(
+PILHANGKO_NODISCARD PILHANGKO_API pilhangko_status PILHANGKO_CALL pilhangko_raw_virtual_block_create(
+    pilhangko_virtual_block *block, uint64_t size, uint64_t page_size);
+PILHANGKO_NODISCARD PILHANGKO_API pilhangko_status PILHANGKO_CALL pilhangko_raw_virtual_block_allocate(
+    pilhangko_virtual_block *block, const pilhangko_virtual_request *request, const char *name, size_t name_length,
+    pilhangko_virtual_piece *piece);
+PILHANGKO_NODISCARD PILHANGKO_API pilhangko_status PILHANGKO_CALL pilhangko_raw_virtual_block_free(
+    pilhangko_virtual_block *block, const pilhangko_virtual_piece *piece);
+PILHANGKO_NODISCARD PILHANGKO_API pilhangko_status PILHANGKO_CALL pilhangko_raw_virtual_block_rename(
     pilhangko_virtual_block *block, const pilhangko_virtual_piece *piece, const char *name, size_t name_length);
-PILHANGKO_API pilhangko_status PILHANGKO_CALL pilhangko_raw_virtual_block_clear(pilhangko_virtual_block *block);
-PILHANGKO_API pilhangko_status PILHANGKO_CALL pilhangko_raw_virtual_block_statistics(pilhangko_virtual_block *block, pilhangko_virtual_statistics *statistics);
-PILHANGKO_API pilhangko_status PILHANGKO_CALL pilhangko_raw_virtual_block_next_piece(pilhangko_virtual_block *block, uint64_t from, pilhangko_piece_view *piece);
-PILHANGKO_API pilhangko_status PILHANGKO_CALL pilhangko_raw_virtual_block_piece_name(
-    pilhangko_virtual_block *block, uint64_t from, char *name, size_t name_room, size_t *name_length);
+PILHANGKO_NODISCARD PILHANGKO_API pilhangko_status PILHANGKO_CALL pilhangko_raw_virtual_block_clear(pilhangko_virtual_block *block);
+PILHANGKO_NODISCARD PILHANGKO_API pilhangko_status PILHANGKO_CALL pilhangko_raw_virtual_block_statistics(
+    const pilhangko_virtual_block *block, pilhangko_virtual_statistics *statistics);
+PILHANGKO_NODISCARD PILHANGKO_API pilhangko_status PILHANGKO_CALL pilhangko_raw_virtual_block_next_piece(
+    const pilhangko_virtual_block *block, uint64_t from, pilhangko_piece_view *piece);
+PILHANGKO_NODISCARD PILHANGKO_API pilhangko_status PILHANGKO_CALL pilhangko_raw_virtual_block_pieces(
+    const pilhangko_virtual_block *block, uint64_t from, pilhangko_piece_view *pieces, size_t room, size_t *count);
+PILHANGKO_NODISCARD PILHANGKO_API pilhangko_status PILHANGKO_CALL pilhangko_raw_virtual_block_piece_name(
+    const pilhangko_virtual_block *block, uint64_t from, char *name, size_t name_room, size_t *name_length);
+PILHANGKO_NODISCARD PILHANGKO_API pilhangko_status PILHANGKO_CALL pilhangko_raw_virtual_block_piece_names(
+    const pilhangko_virtual_block *block, uint64_t from, size_t *lengths, size_t room, char *names, size_t names_room, size_t *count);
 PILHANGKO_API pilhangko_status PILHANGKO_CALL pilhangko_raw_virtual_block_destroy(pilhangko_virtual_block *block);
 
-PILHANGKO_API pilhangko_status PILHANGKO_CALL pilhangko_raw_memory_type_create(pilhangko_memory_type *type, const pilhangko_memory_type_settings *settings);
-PILHANGKO_API pilhangko_status PILHANGKO_CALL pilhangko_raw_memory_type_prepare(pilhangko_memory_type *type, const pilhangko_memory_request *request, const char *name,
-    size_t name_length, pilhangko_memory_prepared *prepared);
-PILHANGKO_API pilhangko_status PILHANGKO_CALL pilhangko_raw_memory_type_install(pilhangko_memory_type *type, uint64_t block, pilhangko_memory_piece *piece);
-PILHANGKO_API pilhangko_status PILHANGKO_CALL pilhangko_raw_memory_type_abandon(pilhangko_memory_type *type);
-PILHANGKO_API pilhangko_status PILHANGKO_CALL pilhangko_raw_memory_type_free(
+PILHANGKO_NODISCARD PILHANGKO_API pilhangko_status PILHANGKO_CALL pilhangko_raw_memory_type_create(
+    pilhangko_memory_type *type, const pilhangko_memory_type_settings *settings);
+PILHANGKO_NODISCARD PILHANGKO_API pilhangko_status PILHANGKO_CALL pilhangko_raw_memory_type_prepare(
+    pilhangko_memory_type *type, const pilhangko_memory_request *request, const char *name, size_t name_length,
+    pilhangko_memory_prepared *prepared);
+PILHANGKO_NODISCARD PILHANGKO_API pilhangko_status PILHANGKO_CALL pilhangko_raw_memory_type_install(
+    pilhangko_memory_type *type, uint64_t block, pilhangko_memory_piece *piece);
+PILHANGKO_NODISCARD PILHANGKO_API pilhangko_status PILHANGKO_CALL pilhangko_raw_memory_type_abandon(pilhangko_memory_type *type);
+PILHANGKO_NODISCARD PILHANGKO_API pilhangko_status PILHANGKO_CALL pilhangko_raw_memory_type_free(
     pilhangko_memory_type *type, const pilhangko_memory_piece *piece, pilhangko_memory_block *gone);
-PILHANGKO_API pilhangko_status PILHANGKO_CALL pilhangko_raw_memory_type_rename(
+PILHANGKO_NODISCARD PILHANGKO_API pilhangko_status PILHANGKO_CALL pilhangko_raw_memory_type_rename(
     pilhangko_memory_type *type, const pilhangko_memory_piece *piece, const char *name, size_t name_length);
-PILHANGKO_API pilhangko_status PILHANGKO_CALL pilhangko_raw_memory_type_is_live(pilhangko_memory_type *type, const pilhangko_memory_piece *piece, bool *is_live);
-PILHANGKO_API pilhangko_status PILHANGKO_CALL pilhangko_raw_memory_type_set_budget(pilhangko_memory_type *type, bool has_budget, uint64_t bytes);
-PILHANGKO_API pilhangko_status PILHANGKO_CALL pilhangko_raw_memory_type_block(pilhangko_memory_type *type, size_t slot, pilhangko_memory_block *block);
-PILHANGKO_API pilhangko_status PILHANGKO_CALL pilhangko_raw_memory_type_block_statistics(
-    pilhangko_memory_type *type, size_t slot, pilhangko_memory_block_statistics *statistics);
-PILHANGKO_API pilhangko_status PILHANGKO_CALL pilhangko_raw_memory_type_next_piece(
-    pilhangko_memory_type *type, size_t slot, uint64_t from, pilhangko_piece_view *piece);
-PILHANGKO_API pilhangko_status PILHANGKO_CALL pilhangko_raw_memory_type_piece_name(
-    pilhangko_memory_type *type, size_t slot, uint64_t from, char *name, size_t name_room, size_t *name_length);
-PILHANGKO_API pilhangko_status PILHANGKO_CALL pilhangko_raw_memory_type_statistics(pilhangko_memory_type *type, pilhangko_memory_statistics *statistics);
+PILHANGKO_NODISCARD PILHANGKO_API pilhangko_status PILHANGKO_CALL pilhangko_raw_memory_type_is_live(
+    const pilhangko_memory_type *type, const pilhangko_memory_piece *piece, bool *is_live);
+PILHANGKO_NODISCARD PILHANGKO_API pilhangko_status PILHANGKO_CALL pilhangko_raw_memory_type_set_budget(
+    pilhangko_memory_type *type, bool has_budget, uint64_t bytes);
+PILHANGKO_NODISCARD PILHANGKO_API pilhangko_status PILHANGKO_CALL pilhangko_raw_memory_type_block(
+    const pilhangko_memory_type *type, size_t slot, pilhangko_memory_block *block);
+PILHANGKO_NODISCARD PILHANGKO_API pilhangko_status PILHANGKO_CALL pilhangko_raw_memory_type_block_statistics(
+    const pilhangko_memory_type *type, size_t slot, pilhangko_memory_block_statistics *statistics);
+PILHANGKO_NODISCARD PILHANGKO_API pilhangko_status PILHANGKO_CALL pilhangko_raw_memory_type_next_piece(
+    const pilhangko_memory_type *type, size_t slot, uint64_t from, pilhangko_piece_view *piece);
+PILHANGKO_NODISCARD PILHANGKO_API pilhangko_status PILHANGKO_CALL pilhangko_raw_memory_type_pieces(
+    const pilhangko_memory_type *type, size_t slot, uint64_t from, pilhangko_piece_view *pieces, size_t room, size_t *count);
+PILHANGKO_NODISCARD PILHANGKO_API pilhangko_status PILHANGKO_CALL pilhangko_raw_memory_type_piece_name(
+    const pilhangko_memory_type *type, size_t slot, uint64_t from, char *name, size_t name_room, size_t *name_length);
+PILHANGKO_NODISCARD PILHANGKO_API pilhangko_status PILHANGKO_CALL pilhangko_raw_memory_type_piece_names(const pilhangko_memory_type *type,
+    size_t slot, uint64_t from, size_t *lengths, size_t room, char *names, size_t names_room, size_t *count);
+PILHANGKO_NODISCARD PILHANGKO_API pilhangko_status PILHANGKO_CALL pilhangko_raw_memory_type_statistics(
+    const pilhangko_memory_type *type, pilhangko_memory_statistics *statistics);
 PILHANGKO_API pilhangko_status PILHANGKO_CALL pilhangko_raw_memory_type_destroy(pilhangko_memory_type *type);
 
 /* ---- The calls ---- */
 
-/* A status in words. */
+/* A status by its name. */
+static inline const char *pilhangko_status_name(pilhangko_status status) {
+    switch (status) {
+    case PILHANGKO_OK: return "PILHANGKO_OK";
+    case PILHANGKO_OUT_OF_MEMORY: return "PILHANGKO_OUT_OF_MEMORY";
+    case PILHANGKO_INVALID: return "PILHANGKO_INVALID";
+    case PILHANGKO_NOT_LIVE: return "PILHANGKO_NOT_LIVE";
+    case PILHANGKO_HOST_OUT_OF_MEMORY: return "PILHANGKO_HOST_OUT_OF_MEMORY";
+    case PILHANGKO_BUDGET_EXCEEDED: return "PILHANGKO_BUDGET_EXCEEDED";
+    case PILHANGKO_NO_HANDLE: return "PILHANGKO_NO_HANDLE";
+    case PILHANGKO_IN_USE: return "PILHANGKO_IN_USE";
+    case PILHANGKO_AWAITS_BLOCK: return "PILHANGKO_AWAITS_BLOCK";
+    case PILHANGKO_AWAITS_NO_BLOCK: return "PILHANGKO_AWAITS_NO_BLOCK";
+    case PILHANGKO_NULL_POINTER: return "PILHANGKO_NULL_POINTER";
+    default: return "unknown status";
+    }
+}
+
+/* A status in one line of text. */
 static inline const char *pilhangko_status_text(pilhangko_status status) {
     switch (status) {
-    case PILHANGKO_OK: return "ok";
-    case PILHANGKO_OUT_OF_MEMORY: return "out of memory";
-    case PILHANGKO_INVALID: return "invalid request";
-    case PILHANGKO_NOT_LIVE: return "no live piece";
-    case PILHANGKO_HOST_OUT_OF_MEMORY: return "out of host memory";
-    case PILHANGKO_BUDGET_EXCEEDED: return "budget exceeded";
-    case PILHANGKO_NO_HANDLE: return "empty handle";
-    case PILHANGKO_IN_USE: return "handle in use";
-    case PILHANGKO_AWAITS_BLOCK: return "a block is awaited";
+    case PILHANGKO_OK: return "the call did what it says";
+    case PILHANGKO_OUT_OF_MEMORY: return "out of memory: no gap has a place, or the sum of the blocks' sizes would pass 64 bits";
+    case PILHANGKO_INVALID: return "invalid request: a size, an alignment, a page size, a kind or a name";
+    case PILHANGKO_NOT_LIVE: return "no live piece is the one that is named";
+    case PILHANGKO_HOST_OUT_OF_MEMORY: return "out of host memory: malloc or realloc refused";
+    case PILHANGKO_BUDGET_EXCEEDED: return "the block that is needed would pass the budget";
+    case PILHANGKO_NO_HANDLE: return "the handle is empty";
+    case PILHANGKO_IN_USE: return "the handle is in use, and create needs an empty one";
+    case PILHANGKO_AWAITS_BLOCK: return "a block is awaited: install or abandon it first";
     case PILHANGKO_AWAITS_NO_BLOCK: return "no block is awaited";
-    case PILHANGKO_NULL_POINTER: return "null pointer";
+    case PILHANGKO_NULL_POINTER: return "a pointer is NULL that may not be";
     default: return "unknown status";
     }
 }
@@ -257,52 +317,54 @@ static inline const char *pilhangko_name_bytes(const char *name) {
 
 /* Makes a block of `size` bytes, not 0, with pages of page_size bytes, a power of two, in an empty handle.
  * IN_USE: the handle isn't empty. INVALID: size or page_size. HOST_OUT_OF_MEMORY. */
-static inline pilhangko_status pilhangko_virtual_block_create(pilhangko_virtual_block *block, uint64_t size, uint64_t page_size) {
+PILHANGKO_NODISCARD static inline pilhangko_status pilhangko_virtual_block_create(
+    pilhangko_virtual_block *block, uint64_t size, uint64_t page_size) {
     if (!block) return PILHANGKO_NULL_POINTER;
     return pilhangko_raw_virtual_block_create(block, size, page_size);
 }
 
-/* Takes a piece: the least place in the shortest gap in which the request fits, and of equally short gaps in the first.
+/* Allocates a piece: the least place in the shortest gap in which the request fits, and of equally short gaps in the first.
  * NO_HANDLE. INVALID: the request or the name. OUT_OF_MEMORY: no gap has a place. HOST_OUT_OF_MEMORY. */
-static inline pilhangko_status pilhangko_virtual_block_allocate(
+PILHANGKO_NODISCARD static inline pilhangko_status pilhangko_virtual_block_allocate(
     pilhangko_virtual_block *block, const pilhangko_virtual_request *request, const char *name, pilhangko_virtual_piece *piece) {
     if (!block || !request || !piece) return PILHANGKO_NULL_POINTER;
     return pilhangko_raw_virtual_block_allocate(block, request, pilhangko_name_bytes(name), pilhangko_name_length(name), piece);
 }
 
-/* Gives a piece back; its place joins the gaps beside it. It needs no host memory.
+/* Frees a piece; its place joins the gaps beside it. It needs no host memory.
  * NO_HANDLE. NOT_LIVE: no live piece has this number and offset. */
-static inline pilhangko_status pilhangko_virtual_block_free(pilhangko_virtual_block *block, const pilhangko_virtual_piece *piece) {
+PILHANGKO_NODISCARD static inline pilhangko_status pilhangko_virtual_block_free(
+    pilhangko_virtual_block *block, const pilhangko_virtual_piece *piece) {
     if (!block || !piece) return PILHANGKO_NULL_POINTER;
     return pilhangko_raw_virtual_block_free(block, piece);
 }
 
-/* Gives a live piece another name.
+/* Renames a live piece.
  * NO_HANDLE. INVALID: the name. NOT_LIVE. HOST_OUT_OF_MEMORY. */
-static inline pilhangko_status pilhangko_virtual_block_rename(
+PILHANGKO_NODISCARD static inline pilhangko_status pilhangko_virtual_block_rename(
     pilhangko_virtual_block *block, const pilhangko_virtual_piece *piece, const char *name) {
     if (!block || !piece) return PILHANGKO_NULL_POINTER;
     return pilhangko_raw_virtual_block_rename(block, piece, pilhangko_name_bytes(name), pilhangko_name_length(name));
 }
 
-/* Gives all pieces back: the block is as create made it.
+/* Frees all pieces: the block is as create made it.
  * NO_HANDLE. HOST_OUT_OF_MEMORY: for the new, empty bookkeeping; all pieces stay. */
-static inline pilhangko_status pilhangko_virtual_block_clear(pilhangko_virtual_block *block) {
+PILHANGKO_NODISCARD static inline pilhangko_status pilhangko_virtual_block_clear(pilhangko_virtual_block *block) {
     if (!block) return PILHANGKO_NULL_POINTER;
     return pilhangko_raw_virtual_block_clear(block);
 }
 
 /* What is counted of a block: its pieces, what they take, its gaps.
  * NO_HANDLE. */
-static inline pilhangko_status pilhangko_virtual_block_statistics(
-    pilhangko_virtual_block *block, pilhangko_virtual_statistics *statistics) {
+PILHANGKO_NODISCARD static inline pilhangko_status pilhangko_virtual_block_statistics(
+    const pilhangko_virtual_block *block, pilhangko_virtual_statistics *statistics) {
     if (!block || !statistics) return PILHANGKO_NULL_POINTER;
     return pilhangko_raw_virtual_block_statistics(block, statistics);
 }
 
 /* How many pieces are live: before destroy, how many leak.
  * NO_HANDLE. */
-static inline pilhangko_status pilhangko_virtual_block_leak_count(pilhangko_virtual_block *block, size_t *count) {
+PILHANGKO_NODISCARD static inline pilhangko_status pilhangko_virtual_block_leak_count(const pilhangko_virtual_block *block, size_t *count) {
     pilhangko_virtual_statistics statistics;
     pilhangko_status status;
     if (!block || !count) return PILHANGKO_NULL_POINTER;
@@ -312,23 +374,49 @@ static inline pilhangko_status pilhangko_virtual_block_leak_count(pilhangko_virt
 }
 
 /* The first live piece whose own bytes begin at `from` or behind it. A visit of all pieces in order of offset begins at 0 and goes on at
- * the last one's offset + 1, up to the answer that none exists; the block may change in between.
+ * the last one's offset + 1, until none exists; the block may change in between. Each step goes over the pieces before it: where there are
+ * many, `pieces` visits them all in linear time.
  * NO_HANDLE. */
-static inline pilhangko_status pilhangko_virtual_block_next_piece(
-    pilhangko_virtual_block *block, uint64_t from, pilhangko_piece_view *piece) {
+PILHANGKO_NODISCARD static inline pilhangko_status pilhangko_virtual_block_next_piece(
+    const pilhangko_virtual_block *block, uint64_t from, pilhangko_piece_view *piece) {
     if (!block || !piece) return PILHANGKO_NULL_POINTER;
     return pilhangko_raw_virtual_block_next_piece(block, from, piece);
 }
 
-/* The name of the piece that next_piece shows from there: copies as many of its bytes as there is room for, and tells how many it has,
+/* All live pieces whose own bytes begin at `from` or behind it, in order of offset, as far as the array has room; count is how many it
+ * shows, and where that is less than room, none is left. From 0 on and with room for as many as statistics counts, one call visits them
+ * all in linear time. In parts a visit goes on at the last one's offset + 1, and each part goes over the pieces before it once more. What
+ * stands in the array behind them stays. Where room is 0, pieces may be NULL.
+ * NO_HANDLE. */
+PILHANGKO_NODISCARD static inline pilhangko_status pilhangko_virtual_block_pieces(
+    const pilhangko_virtual_block *block, uint64_t from, pilhangko_piece_view *pieces, size_t room, size_t *count) {
+    pilhangko_piece_view none;
+    if (!block || (!pieces && room) || !count) return PILHANGKO_NULL_POINTER;
+    return pilhangko_raw_virtual_block_pieces(block, from, pieces ? pieces : &none, room, count);
+}
+
+/* The name of the piece that next_piece shows from there: copies as many of its bytes as there is room for, and reports how many it has,
  * which can be more; 0 where there is no piece. No 0 is put behind them, and a name that is cut may end within a character. Where
  * name_room is 0, name may be NULL.
  * NO_HANDLE. */
-static inline pilhangko_status pilhangko_virtual_block_piece_name(
-    pilhangko_virtual_block *block, uint64_t from, char *name, size_t name_room, size_t *name_length) {
+PILHANGKO_NODISCARD static inline pilhangko_status pilhangko_virtual_block_piece_name(
+    const pilhangko_virtual_block *block, uint64_t from, char *name, size_t name_room, size_t *name_length) {
     char none;
     if (!block || (!name && name_room) || !name_length) return PILHANGKO_NULL_POINTER;
     return pilhangko_raw_virtual_block_piece_name(block, from, name ? name : &none, name_room, name_length);
+}
+
+/* The names of the pieces that `pieces` shows from there with that room, in linear time too: lengths has the length of each one's name,
+ * names has their bytes one after another, with no 0 between or behind them, as far as names_room, and count is how many there are. Where
+ * the lengths sum up to more than names_room, names are cut, maybe within a character. Where a room is 0, its pointer may be NULL.
+ * NO_HANDLE. */
+PILHANGKO_NODISCARD static inline pilhangko_status pilhangko_virtual_block_piece_names(
+    const pilhangko_virtual_block *block, uint64_t from, size_t *lengths, size_t room, char *names, size_t names_room, size_t *count) {
+    size_t no_length;
+    char no_name;
+    if (!block || (!lengths && room) || (!names && names_room) || !count) return PILHANGKO_NULL_POINTER;
+    return pilhangko_raw_virtual_block_piece_names(
+        block, from, lengths ? lengths : &no_length, room, names ? names : &no_name, names_room, count);
 }
 
 /* Ends a block, with all its pieces, and leaves the handle empty.
@@ -340,17 +428,18 @@ static inline pilhangko_status pilhangko_virtual_block_destroy(pilhangko_virtual
 
 /* Makes a memory type without blocks in an empty handle.
  * IN_USE: the handle isn't empty. INVALID: page_size. HOST_OUT_OF_MEMORY. */
-static inline pilhangko_status pilhangko_memory_type_create(pilhangko_memory_type *type, const pilhangko_memory_type_settings *settings) {
+PILHANGKO_NODISCARD static inline pilhangko_status pilhangko_memory_type_create(
+    pilhangko_memory_type *type, const pilhangko_memory_type_settings *settings) {
     if (!type || !settings) return PILHANGKO_NULL_POINTER;
     return pilhangko_raw_memory_type_create(type, settings);
 }
 
-/* Takes a piece of a shared block that is there, or says which block is needed and awaits it. A shared block serves where one has a place,
- * unless the request has a block of its own: it asks for one, or is larger than the next shared block would be. Of the blocks that have a
- * place the one in the highest slot serves.
+/* Allocates a piece in a shared block that is there, or says which block is needed and awaits it. A shared block serves where one has a
+ * place, unless the request has a block of its own: it asks for one, or is larger than the next shared block would be. Of the blocks that
+ * have a place the one in the highest slot serves.
  * NO_HANDLE. AWAITS_BLOCK. INVALID: the request or the name. HOST_OUT_OF_MEMORY. And where a block is needed: OUT_OF_MEMORY: the sum of the
  * blocks' sizes would pass 2^64 - 1. BUDGET_EXCEEDED: it would pass the budget. */
-static inline pilhangko_status pilhangko_memory_type_prepare(
+PILHANGKO_NODISCARD static inline pilhangko_status pilhangko_memory_type_prepare(
     pilhangko_memory_type *type, const pilhangko_memory_request *request, const char *name, pilhangko_memory_prepared *prepared) {
     if (!type || !request || !prepared) return PILHANGKO_NULL_POINTER;
     return pilhangko_raw_memory_type_prepare(type, request, pilhangko_name_bytes(name), pilhangko_name_length(name), prepared);
@@ -359,30 +448,31 @@ static inline pilhangko_status pilhangko_memory_type_prepare(
 /* Puts in the block that is awaited, under the driver's handle of it, and says where the piece is; it begins at the block's start. It needs
  * no host memory, so that a block which the driver gave is never lost. Handles of live blocks should differ.
  * NO_HANDLE. AWAITS_NO_BLOCK. */
-static inline pilhangko_status pilhangko_memory_type_install(pilhangko_memory_type *type, uint64_t block, pilhangko_memory_piece *piece) {
+PILHANGKO_NODISCARD static inline pilhangko_status pilhangko_memory_type_install(
+    pilhangko_memory_type *type, uint64_t block, pilhangko_memory_piece *piece) {
     if (!type || !piece) return PILHANGKO_NULL_POINTER;
     return pilhangko_raw_memory_type_install(type, block, piece);
 }
 
 /* Forgets the block that is awaited, where the driver refused it: nothing has changed since before prepare.
  * NO_HANDLE. AWAITS_NO_BLOCK. */
-static inline pilhangko_status pilhangko_memory_type_abandon(pilhangko_memory_type *type) {
+PILHANGKO_NODISCARD static inline pilhangko_status pilhangko_memory_type_abandon(pilhangko_memory_type *type) {
     if (!type) return PILHANGKO_NULL_POINTER;
     return pilhangko_raw_memory_type_abandon(type);
 }
 
-/* Gives a piece back. Where gone->exists, the block gone->block went with it: give its memory back to the driver. A piece's own block goes,
+/* Frees a piece. Where gone->exists, the block gone->block went with it: give its memory back to the driver. A piece's own block goes,
  * and so does a shared block without pieces where another shared one is live. It needs no host memory.
  * NO_HANDLE. AWAITS_BLOCK. NOT_LIVE. */
-static inline pilhangko_status pilhangko_memory_type_free(
+PILHANGKO_NODISCARD static inline pilhangko_status pilhangko_memory_type_free(
     pilhangko_memory_type *type, const pilhangko_memory_piece *piece, pilhangko_memory_block *gone) {
     if (!type || !piece || !gone) return PILHANGKO_NULL_POINTER;
     return pilhangko_raw_memory_type_free(type, piece, gone);
 }
 
-/* Gives a live piece another name.
+/* Renames a live piece.
  * NO_HANDLE. AWAITS_BLOCK. INVALID: the name. NOT_LIVE. HOST_OUT_OF_MEMORY. */
-static inline pilhangko_status pilhangko_memory_type_rename(
+PILHANGKO_NODISCARD static inline pilhangko_status pilhangko_memory_type_rename(
     pilhangko_memory_type *type, const pilhangko_memory_piece *piece, const char *name) {
     if (!type || !piece) return PILHANGKO_NULL_POINTER;
     return pilhangko_raw_memory_type_rename(type, piece, pilhangko_name_bytes(name), pilhangko_name_length(name));
@@ -390,30 +480,32 @@ static inline pilhangko_status pilhangko_memory_type_rename(
 
 /* Whether a piece is live.
  * NO_HANDLE. */
-static inline pilhangko_status pilhangko_memory_type_is_live(
-    pilhangko_memory_type *type, const pilhangko_memory_piece *piece, bool *is_live) {
+PILHANGKO_NODISCARD static inline pilhangko_status pilhangko_memory_type_is_live(
+    const pilhangko_memory_type *type, const pilhangko_memory_piece *piece, bool *is_live) {
     if (!type || !piece || !is_live) return PILHANGKO_NULL_POINTER;
     return pilhangko_raw_memory_type_is_live(type, piece, is_live);
 }
 
-/* Bounds the sum of the blocks' sizes, or takes the bound away. A bound below the present sum gives no block back.
+/* Bounds the sum of the blocks' sizes, or takes the bound away. A bound below the present sum frees no block.
  * NO_HANDLE. AWAITS_BLOCK. */
-static inline pilhangko_status pilhangko_memory_type_set_budget(pilhangko_memory_type *type, bool has_budget, uint64_t bytes) {
+PILHANGKO_NODISCARD static inline pilhangko_status pilhangko_memory_type_set_budget(
+    pilhangko_memory_type *type, bool has_budget, uint64_t bytes) {
     if (!type) return PILHANGKO_NULL_POINTER;
     return pilhangko_raw_memory_type_set_budget(type, has_budget, bytes);
 }
 
 /* The block in a slot, if one is there. Slots are numbered from 0 to one less than statistics' slots; behind them there is none.
  * NO_HANDLE. */
-static inline pilhangko_status pilhangko_memory_type_block(pilhangko_memory_type *type, size_t slot, pilhangko_memory_block *block) {
+PILHANGKO_NODISCARD static inline pilhangko_status pilhangko_memory_type_block(
+    const pilhangko_memory_type *type, size_t slot, pilhangko_memory_block *block) {
     if (!type || !block) return PILHANGKO_NULL_POINTER;
     return pilhangko_raw_memory_type_block(type, slot, block);
 }
 
 /* What is counted of the block in a slot.
  * NO_HANDLE. */
-static inline pilhangko_status pilhangko_memory_type_block_statistics(
-    pilhangko_memory_type *type, size_t slot, pilhangko_memory_block_statistics *statistics) {
+PILHANGKO_NODISCARD static inline pilhangko_status pilhangko_memory_type_block_statistics(
+    const pilhangko_memory_type *type, size_t slot, pilhangko_memory_block_statistics *statistics) {
     if (!type || !statistics) return PILHANGKO_NULL_POINTER;
     return pilhangko_raw_memory_type_block_statistics(type, slot, statistics);
 }
@@ -421,30 +513,52 @@ static inline pilhangko_status pilhangko_memory_type_block_statistics(
 /* The first live piece of the block in a slot whose own bytes begin at `from` or behind it; none where the slot has no block. A visit goes
  * as with a virtual block, slot by slot.
  * NO_HANDLE. */
-static inline pilhangko_status pilhangko_memory_type_next_piece(
-    pilhangko_memory_type *type, size_t slot, uint64_t from, pilhangko_piece_view *piece) {
+PILHANGKO_NODISCARD static inline pilhangko_status pilhangko_memory_type_next_piece(
+    const pilhangko_memory_type *type, size_t slot, uint64_t from, pilhangko_piece_view *piece) {
     if (!type || !piece) return PILHANGKO_NULL_POINTER;
     return pilhangko_raw_memory_type_next_piece(type, slot, from, piece);
 }
 
+/* All live pieces of the block in a slot whose own bytes begin at `from` or behind it, as with a virtual block; none where the slot has no
+ * block. block_statistics counts them.
+ * NO_HANDLE. */
+PILHANGKO_NODISCARD static inline pilhangko_status pilhangko_memory_type_pieces(
+    const pilhangko_memory_type *type, size_t slot, uint64_t from, pilhangko_piece_view *pieces, size_t room, size_t *count) {
+    pilhangko_piece_view none;
+    if (!type || (!pieces && room) || !count) return PILHANGKO_NULL_POINTER;
+    return pilhangko_raw_memory_type_pieces(type, slot, from, pieces ? pieces : &none, room, count);
+}
+
 /* The name of the piece that next_piece shows from there, as with a virtual block.
  * NO_HANDLE. */
-static inline pilhangko_status pilhangko_memory_type_piece_name(
-    pilhangko_memory_type *type, size_t slot, uint64_t from, char *name, size_t name_room, size_t *name_length) {
+PILHANGKO_NODISCARD static inline pilhangko_status pilhangko_memory_type_piece_name(
+    const pilhangko_memory_type *type, size_t slot, uint64_t from, char *name, size_t name_room, size_t *name_length) {
     char none;
     if (!type || (!name && name_room) || !name_length) return PILHANGKO_NULL_POINTER;
     return pilhangko_raw_memory_type_piece_name(type, slot, from, name ? name : &none, name_room, name_length);
 }
 
+/* The names of the pieces of the block in a slot, as with a virtual block.
+ * NO_HANDLE. */
+PILHANGKO_NODISCARD static inline pilhangko_status pilhangko_memory_type_piece_names(const pilhangko_memory_type *type, size_t slot,
+    uint64_t from, size_t *lengths, size_t room, char *names, size_t names_room, size_t *count) {
+    size_t no_length;
+    char no_name;
+    if (!type || (!lengths && room) || (!names && names_room) || !count) return PILHANGKO_NULL_POINTER;
+    return pilhangko_raw_memory_type_piece_names(
+        type, slot, from, lengths ? lengths : &no_length, room, names ? names : &no_name, names_room, count);
+}
+
 /* What is counted of a memory type.
  * NO_HANDLE. */
-static inline pilhangko_status pilhangko_memory_type_statistics(pilhangko_memory_type *type, pilhangko_memory_statistics *statistics) {
+PILHANGKO_NODISCARD static inline pilhangko_status pilhangko_memory_type_statistics(
+    const pilhangko_memory_type *type, pilhangko_memory_statistics *statistics) {
     if (!type || !statistics) return PILHANGKO_NULL_POINTER;
     return pilhangko_raw_memory_type_statistics(type, statistics);
 }
 
-/* Ends a memory type, with all its pieces, and leaves the handle empty. The blocks' memory is the caller's to give back: go over the slots
- * by pilhangko_memory_type_block first.
+/* Ends a memory type, with all its pieces, and leaves the handle empty. The blocks' memory is the caller's to give back to the
+ * driver: go over the slots by pilhangko_memory_type_block first.
  * NO_HANDLE. */
 static inline pilhangko_status pilhangko_memory_type_destroy(pilhangko_memory_type *type) {
     if (!type) return PILHANGKO_NULL_POINTER;

@@ -1,6 +1,6 @@
 /* A plain account of one block: a row of pieces and gaps, searched from the front on. It knows nothing of the library but the rules:
  * a piece lies at the least place of the shortest gap that it fits in, of equal gaps in the first; pieces of different kinds share no
- * page; a piece that leaves a rest has a new number, one that fills its gap the gap's; a piece that is given back leaves its number to
+ * page; a piece that leaves a rest has a new number, one that fills its gap the gap's; a piece that is freed leaves its number to
  * the gap, unless a gap before it has one. */
 #ifndef ACCOUNT_H
 #define ACCOUNT_H
@@ -44,7 +44,7 @@ static inline bool account_fits(const struct account *a, size_t at, uint64_t siz
     return true;
 }
 
-static inline bool account_take(
+static inline bool account_allocate(
     struct account *a, uint64_t size, uint64_t alignment, uint32_t kind, const char *name, uint64_t *offset, uint64_t *number) {
     size_t best = a->count;
     uint64_t best_offset = 0, place;
@@ -131,6 +131,15 @@ static inline void account_shows(const struct account *a, uint64_t from, const p
     CHECK(!view->exists && view->number == 0 && view->start == 0 && view->offset == 0 && view->end == 0 && view->kind == 0);
 }
 
+/* The views of all pieces from a place on, in an array with that much room, are the account's; each view's number was UINT64_MAX. */
+static inline void account_shows_all(const struct account *a, uint64_t from, const pilhangko_piece_view *views, size_t room, size_t count) {
+    size_t shown = 0;
+    for (size_t i = 0; i < a->count && shown < room; i++)
+        if (a->chunks[i].kind && a->chunks[i].offset >= from) account_shows(a, a->chunks[i].offset, &views[shown++]);
+    CHECK(count == shown);
+    for (size_t i = shown; i < room; i++) CHECK(views[i].number == UINT64_MAX);
+}
+
 /* The name of the first piece from a place on, copied into `room` bytes, is the account's; `bytes` was filled with '?'. */
 static inline void account_names(const struct account *a, uint64_t from, const char *bytes, size_t room, size_t length) {
     const char *name = "";
@@ -142,5 +151,21 @@ static inline void account_names(const struct account *a, uint64_t from, const c
     size_t copied = strlen(name) < room ? strlen(name) : room;
     CHECK(length == strlen(name) && memcmp(bytes, name, copied) == 0);
     for (size_t i = copied; i < room; i++) CHECK(bytes[i] == '?');
+}
+
+/* The names of all pieces from a place on, as many as there are lengths for and as far as there is room, are the account's; the lengths
+ * were SIZE_MAX, and the bytes '?'. */
+static inline void account_names_all(const struct account *a, uint64_t from, const size_t *lengths, size_t room, const char *bytes,
+    size_t bytes_room, size_t count) {
+    size_t shown = 0, filled = 0;
+    for (size_t i = 0; i < a->count && shown < room; i++) {
+        if (!a->chunks[i].kind || a->chunks[i].offset < from) continue;
+        size_t length = strlen(a->chunks[i].name), copied = length < bytes_room - filled ? length : bytes_room - filled;
+        CHECK(lengths[shown++] == length && memcmp(bytes + filled, a->chunks[i].name, copied) == 0);
+        filled += copied;
+    }
+    CHECK(count == shown);
+    for (size_t i = shown; i < room; i++) CHECK(lengths[i] == SIZE_MAX);
+    for (size_t i = filled; i < bytes_room; i++) CHECK(bytes[i] == '?');
 }
 #endif

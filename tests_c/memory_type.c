@@ -24,7 +24,7 @@ static void installs(
     CHECK(piece->slot == slot && piece->number == number && piece->offset == 0 && piece->size == size && piece->block == block);
 }
 
-static void takes(pilhangko_memory_type *type, uint64_t size, size_t slot, uint64_t number, uint64_t offset, uint64_t block,
+static void allocates(pilhangko_memory_type *type, uint64_t size, size_t slot, uint64_t number, uint64_t offset, uint64_t block,
     pilhangko_memory_piece *piece) {
     pilhangko_memory_request request = {size, 1, PILHANGKO_KIND_LINEAR, false};
     pilhangko_memory_prepared prepared;
@@ -45,13 +45,13 @@ static void frees(pilhangko_memory_type *type, const pilhangko_memory_piece *pie
     CHECK(!is_live);
 }
 
-static void counts(pilhangko_memory_type *type, uint64_t capacity, size_t slots, size_t shared_blocks, bool awaits_block) {
+static void counts(const pilhangko_memory_type *type, uint64_t capacity, size_t slots, size_t shared_blocks, bool awaits_block) {
     pilhangko_memory_statistics s;
     IS(pilhangko_memory_type_statistics(type, &s), PILHANGKO_OK);
     CHECK(s.capacity == capacity && s.slots == slots && s.shared_blocks == shared_blocks && s.awaits_block == awaits_block);
 }
 
-static void has_block(pilhangko_memory_type *type, size_t slot, bool exists, uint64_t block) {
+static void has_block(const pilhangko_memory_type *type, size_t slot, bool exists, uint64_t block) {
     pilhangko_memory_block b;
     IS(pilhangko_memory_type_block(type, slot, &b), PILHANGKO_OK);
     CHECK(b.exists == exists && b.block == (exists ? block : 0));
@@ -66,7 +66,7 @@ static void blocks_come_and_go(void) {
     needs(&type, 100, false, 4 * MB, false);
     counts(&type, 0, 0, 0, true);
     installs(&type, 1001, 0, 2, 100, &a);
-    takes(&type, 50, 0, 3, 100, 1001, &b);
+    allocates(&type, 50, 0, 3, 100, 1001, &b);
     needs(&type, 4 * MB, false, 8 * MB, false); /* the second shared block has twice the size */
     installs(&type, 1002, 1, 2, 4 * MB, &c);
     needs(&type, 8 * MB + 1, false, 8 * MB + 1, true); /* larger than the next shared block */
@@ -91,12 +91,26 @@ static void blocks_come_and_go(void) {
           view.kind == PILHANGKO_KIND_LINEAR);
     IS(pilhangko_memory_type_next_piece(&type, 0, 101, &view), PILHANGKO_OK);
     CHECK(!view.exists);
+    pilhangko_piece_view views[3] = {{.number = 77}, {.number = 77}, {.number = 77}};
+    size_t shown = 9;
+    IS(pilhangko_memory_type_pieces(&type, 0, 0, views, 1, &shown), PILHANGKO_OK);
+    CHECK(shown == 1 && views[0].exists && views[0].offset == 0 && views[1].number == 77);
+    IS(pilhangko_memory_type_pieces(&type, 0, 1, views, 3, &shown), PILHANGKO_OK);
+    CHECK(shown == 1 && views[0].number == 3 && views[0].offset == 100 && views[1].number == 77);
+    IS(pilhangko_memory_type_pieces(&type, 9, 0, views, 3, &shown), PILHANGKO_OK);
+    CHECK(shown == 0 && views[0].number == 3);
     IS(pilhangko_memory_type_next_piece(&type, 9, 0, &view), PILHANGKO_OK);
     CHECK(!view.exists);
     char bytes[8] = "???????";
     size_t length;
     IS(pilhangko_memory_type_piece_name(&type, 0, 0, bytes, 7, &length), PILHANGKO_OK);
     CHECK(length == 5 && !strcmp(bytes, "block??"));
+    size_t lengths[2] = {77, 77};
+    char names[8] = "???????";
+    IS(pilhangko_memory_type_piece_names(&type, 0, 0, lengths, 2, names, 7, &shown), PILHANGKO_OK);
+    CHECK(shown == 2 && lengths[0] == 5 && lengths[1] == 0 && !strcmp(names, "block??"));
+    IS(pilhangko_memory_type_piece_names(&type, 9, 0, lengths, 2, names, 7, &shown), PILHANGKO_OK);
+    CHECK(shown == 0 && lengths[0] == 5);
     IS(pilhangko_memory_type_piece_name(&type, 9, 0, bytes, 7, &length), PILHANGKO_OK);
     CHECK(length == 0 && !strcmp(bytes, "block??"));
     frees(&type, &d, true, 1003); /* a piece's own block goes */
@@ -105,7 +119,7 @@ static void blocks_come_and_go(void) {
     frees(&type, &b, true, 1001); /* the first shared block is without pieces, and another one is live */
     frees(&type, &c, false, 0);   /* the last shared block stays */
     counts(&type, 8 * MB + 10, 4, 1, false);
-    takes(&type, 7, 1, 3, 0, 1002, &a);
+    allocates(&type, 7, 1, 3, 0, 1002, &a);
     needs(&type, 8 * MB, false, 8 * MB, false);
     installs(&type, 1005, 2, 1, 8 * MB, &b); /* the highest empty slot; the piece fills its block */
     needs(&type, 1, true, 1, true);
@@ -136,24 +150,24 @@ static void budgets(void) {
     pilhangko_memory_type_settings s = settings(true);
     pilhangko_memory_request request = {100, 1, PILHANGKO_KIND_LINEAR, true}, huge = {UINT64_MAX, 1, PILHANGKO_KIND_LINEAR, false};
     pilhangko_memory_prepared prepared = {false, false, 9, {9, 9, 9, 9, 9}};
-    pilhangko_memory_statistics told;
+    pilhangko_memory_statistics statistics;
     pilhangko_memory_piece piece;
     s.has_budget = true;
     s.budget = 4 * MB;
     IS(pilhangko_memory_type_create(&type, &s), PILHANGKO_OK);
-    IS(pilhangko_memory_type_statistics(&type, &told), PILHANGKO_OK);
-    CHECK(told.has_budget && told.budget == 4 * MB);
+    IS(pilhangko_memory_type_statistics(&type, &statistics), PILHANGKO_OK);
+    CHECK(statistics.has_budget && statistics.budget == 4 * MB);
     needs(&type, 100, false, 4 * MB, false); /* just within */
     installs(&type, 1, 0, 2, 100, &piece);
     IS(pilhangko_memory_type_prepare(&type, &request, NULL, &prepared), PILHANGKO_BUDGET_EXCEEDED);
     IS(pilhangko_memory_type_prepare(&type, &huge, NULL, &prepared), PILHANGKO_OUT_OF_MEMORY); /* 2^64 + 4 MB - 1 */
     CHECK(prepared.block_size == 9 && prepared.piece.number == 9);
     counts(&type, 4 * MB, 1, 1, false);
-    IS(pilhangko_memory_type_set_budget(&type, true, 0), PILHANGKO_OK); /* gives no block back */
-    takes(&type, 100, 0, 3, 100, 1, &piece);
+    IS(pilhangko_memory_type_set_budget(&type, true, 0), PILHANGKO_OK); /* frees no block */
+    allocates(&type, 100, 0, 3, 100, 1, &piece);
     IS(pilhangko_memory_type_set_budget(&type, false, 5), PILHANGKO_OK);
-    IS(pilhangko_memory_type_statistics(&type, &told), PILHANGKO_OK);
-    CHECK(!told.has_budget && told.budget == 0);
+    IS(pilhangko_memory_type_statistics(&type, &statistics), PILHANGKO_OK);
+    CHECK(!statistics.has_budget && statistics.budget == 0);
     IS(pilhangko_memory_type_prepare(&type, &huge, NULL, &prepared), PILHANGKO_OUT_OF_MEMORY);
     needs(&type, UINT64_MAX - 4 * MB, false, UINT64_MAX - 4 * MB, true);
     installs(&type, 2, 1, 1, UINT64_MAX - 4 * MB, &piece);
@@ -191,7 +205,7 @@ static void awaited(void) {
     IS(pilhangko_memory_type_abandon(&type), PILHANGKO_OK);
     IS(pilhangko_memory_type_abandon(&type), PILHANGKO_AWAITS_NO_BLOCK);
     counts(&type, 4 * MB, 1, 1, false);
-    takes(&type, 100, 0, 3, 100, 1, &piece);
+    allocates(&type, 100, 0, 3, 100, 1, &piece);
     needs(&type, 4 * MB, false, 8 * MB, false);
     IS(pilhangko_memory_type_destroy(&type), PILHANGKO_OK); /* with a block awaited */
 }
@@ -235,11 +249,11 @@ static void request_and_piece_statuses(void) {
     IS(pilhangko_memory_type_destroy(&type), PILHANGKO_OK);
 }
 
-/* A place for each thing that a call tells. */
-struct answers {
+/* A place for each thing that a call reports. */
+struct results {
     pilhangko_memory_prepared prepared;
     pilhangko_memory_block gone;
-    pilhangko_memory_statistics told;
+    pilhangko_memory_statistics statistics;
     pilhangko_memory_block_statistics counted;
     pilhangko_piece_view view;
     size_t length;
@@ -250,7 +264,7 @@ static void unmade_memory_type(void) {
     pilhangko_memory_type type = {0};
     pilhangko_memory_request request = {100, 1, PILHANGKO_KIND_LINEAR, false};
     pilhangko_memory_piece piece = {0, 1, 0, 1, 1};
-    struct answers to;
+    struct results to;
     IS(pilhangko_memory_type_prepare(&type, &request, NULL, &to.prepared), PILHANGKO_NO_HANDLE);
     IS(pilhangko_memory_type_install(&type, 1, &piece), PILHANGKO_NO_HANDLE);
     IS(pilhangko_memory_type_abandon(&type), PILHANGKO_NO_HANDLE);
@@ -259,9 +273,11 @@ static void unmade_memory_type(void) {
     IS(pilhangko_memory_type_is_live(&type, &piece, &to.is_live), PILHANGKO_NO_HANDLE);
     IS(pilhangko_memory_type_set_budget(&type, true, 1), PILHANGKO_NO_HANDLE);
     IS(pilhangko_memory_type_block(&type, 0, &to.gone), PILHANGKO_NO_HANDLE);
-    IS(pilhangko_memory_type_statistics(&type, &to.told), PILHANGKO_NO_HANDLE);
+    IS(pilhangko_memory_type_statistics(&type, &to.statistics), PILHANGKO_NO_HANDLE);
     IS(pilhangko_memory_type_block_statistics(&type, 0, &to.counted), PILHANGKO_NO_HANDLE);
     IS(pilhangko_memory_type_next_piece(&type, 0, 0, &to.view), PILHANGKO_NO_HANDLE);
+    IS(pilhangko_memory_type_pieces(&type, 0, 0, &to.view, 1, &to.length), PILHANGKO_NO_HANDLE);
+    IS(pilhangko_memory_type_piece_names(&type, 0, 0, NULL, 0, NULL, 0, &to.length), PILHANGKO_NO_HANDLE);
     IS(pilhangko_memory_type_piece_name(&type, 0, 0, NULL, 0, &to.length), PILHANGKO_NO_HANDLE);
     IS(pilhangko_memory_type_destroy(&type), PILHANGKO_NO_HANDLE);
 }
@@ -290,7 +306,7 @@ static void null_pointers(void) {
     pilhangko_memory_type_settings s = settings(true);
     pilhangko_memory_request request = {100, 1, PILHANGKO_KIND_LINEAR, false};
     pilhangko_memory_piece piece = {0, 1, 0, 1, 1};
-    struct answers to;
+    struct results to;
     IS(pilhangko_memory_type_create(NULL, &s), PILHANGKO_NULL_POINTER);
     IS(pilhangko_memory_type_create(&type, NULL), PILHANGKO_NULL_POINTER);
     IS(pilhangko_memory_type_prepare(NULL, &request, NULL, &to.prepared), PILHANGKO_NULL_POINTER);
@@ -310,11 +326,18 @@ static void null_pointers(void) {
     IS(pilhangko_memory_type_set_budget(NULL, true, 1), PILHANGKO_NULL_POINTER);
     IS(pilhangko_memory_type_block(NULL, 0, &to.gone), PILHANGKO_NULL_POINTER);
     IS(pilhangko_memory_type_block(&type, 0, NULL), PILHANGKO_NULL_POINTER);
-    IS(pilhangko_memory_type_statistics(NULL, &to.told), PILHANGKO_NULL_POINTER);
+    IS(pilhangko_memory_type_statistics(NULL, &to.statistics), PILHANGKO_NULL_POINTER);
     IS(pilhangko_memory_type_block_statistics(NULL, 0, &to.counted), PILHANGKO_NULL_POINTER);
     IS(pilhangko_memory_type_block_statistics(&type, 0, NULL), PILHANGKO_NULL_POINTER);
     IS(pilhangko_memory_type_next_piece(NULL, 0, 0, &to.view), PILHANGKO_NULL_POINTER);
     IS(pilhangko_memory_type_next_piece(&type, 0, 0, NULL), PILHANGKO_NULL_POINTER);
+    IS(pilhangko_memory_type_pieces(NULL, 0, 0, &to.view, 1, &to.length), PILHANGKO_NULL_POINTER);
+    IS(pilhangko_memory_type_pieces(&type, 0, 0, NULL, 1, &to.length), PILHANGKO_NULL_POINTER);
+    IS(pilhangko_memory_type_pieces(&type, 0, 0, &to.view, 1, NULL), PILHANGKO_NULL_POINTER);
+    IS(pilhangko_memory_type_piece_names(NULL, 0, 0, NULL, 0, NULL, 0, &to.length), PILHANGKO_NULL_POINTER);
+    IS(pilhangko_memory_type_piece_names(&type, 0, 0, NULL, 1, NULL, 0, &to.length), PILHANGKO_NULL_POINTER);
+    IS(pilhangko_memory_type_piece_names(&type, 0, 0, NULL, 0, NULL, 1, &to.length), PILHANGKO_NULL_POINTER);
+    IS(pilhangko_memory_type_piece_names(&type, 0, 0, NULL, 0, NULL, 0, NULL), PILHANGKO_NULL_POINTER);
     IS(pilhangko_memory_type_piece_name(NULL, 0, 0, NULL, 0, &to.length), PILHANGKO_NULL_POINTER);
     IS(pilhangko_memory_type_piece_name(&type, 0, 0, NULL, 1, &to.length), PILHANGKO_NULL_POINTER);
     IS(pilhangko_memory_type_piece_name(&type, 0, 0, NULL, 0, NULL), PILHANGKO_NULL_POINTER);

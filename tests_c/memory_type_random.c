@@ -18,7 +18,7 @@ static size_t slot_count;
 static uint64_t block_size, largest_block_size, page, next_block, budget;
 static bool has_budget;
 static pilhangko_memory_piece stale[STALE];
-static unsigned taken, needed, abandoned, over_budget, freed, went, dead;
+static unsigned allocated, needed, abandoned, over_budget, freed, went, dead;
 
 static uint64_t capacity(void) {
     uint64_t sum = 0;
@@ -59,7 +59,7 @@ static void puts_in(bool dedicated, uint64_t size, const pilhangko_memory_reques
     slot->dedicated = dedicated;
     slot->block = next_block;
     account_begin(&slot->account, size, dedicated ? 1 : page);
-    CHECK(account_take(&slot->account, request->size, request->alignment, request->kind, "piece", &wanted.offset, &wanted.number));
+    CHECK(account_allocate(&slot->account, request->size, request->alignment, request->kind, "piece", &wanted.offset, &wanted.number));
     CHECK(wanted.offset == 0);
     IS(pilhangko_memory_type_install(&type, next_block, &piece), PILHANGKO_OK);
     CHECK(same_piece(&piece, &wanted));
@@ -77,13 +77,13 @@ static void prepare(void) {
     bool dedicated = request.dedicated || request.size > shared;
     for (size_t i = slot_count; !dedicated && i-- > 0;) {
         if (!slots[i].exists || slots[i].dedicated ||
-            !account_take(&slots[i].account, request.size, request.alignment, request.kind, "piece", &wanted.offset, &wanted.number))
+            !account_allocate(&slots[i].account, request.size, request.alignment, request.kind, "piece", &wanted.offset, &wanted.number))
             continue;
         wanted.slot = i;
         wanted.block = slots[i].block;
         IS(pilhangko_memory_type_prepare(&type, &request, "piece", &prepared), PILHANGKO_OK);
         CHECK(!prepared.needs_block && same_piece(&prepared.piece, &wanted));
-        taken++;
+        allocated++;
         return;
     }
     uint64_t size = dedicated ? request.size : shared;
@@ -128,7 +128,7 @@ static long live_at(const pilhangko_memory_piece *piece) {
     return (long)at;
 }
 
-static void give_back(void) {
+static void free_piece(void) {
     pilhangko_memory_piece piece = some_piece();
     pilhangko_memory_block gone = {true, 99};
     long at = live_at(&piece);
@@ -164,16 +164,28 @@ static void look(void) {
     uint64_t from = random_below(9 * MB);
     pilhangko_piece_view view;
     IS(pilhangko_memory_type_next_piece(&type, i, from, &view), PILHANGKO_OK);
+    pilhangko_piece_view views[20];
+    size_t view_room = random_below(21), shown;
+    for (size_t j = 0; j < 20; j++) views[j].number = UINT64_MAX;
+    IS(pilhangko_memory_type_pieces(&type, i, from, views, view_room, &shown), PILHANGKO_OK);
+    char all[100];
+    size_t lengths[20], named, all_room = random_below(sizeof all + 1);
+    memset(all, '?', sizeof all);
+    memset(lengths, 0xff, sizeof lengths);
+    IS(pilhangko_memory_type_piece_names(&type, i, from, lengths, view_room, all, all_room, &named), PILHANGKO_OK);
     if (block.exists) {
         pilhangko_virtual_statistics same = {slots[i].account.size, counted.pieces, counted.piece_bytes, counted.gaps, counted.longest_gap};
         account_same(&slots[i].account, &same);
         account_shows(&slots[i].account, from, &view);
+        account_shows_all(&slots[i].account, from, views, view_room, shown);
+        account_names_all(&slots[i].account, from, lengths, view_room, all, all_room, named);
         char bytes[16];
         size_t room = random_below(sizeof bytes + 1), length;
         memset(bytes, '?', sizeof bytes);
         IS(pilhangko_memory_type_piece_name(&type, i, from, bytes, room, &length), PILHANGKO_OK);
         account_names(&slots[i].account, from, bytes, room, length);
     } else {
+        CHECK(shown == 0 && named == 0 && (!view_room || (views[0].number == UINT64_MAX && lengths[0] == SIZE_MAX)));
         CHECK(!view.exists && view.number == 0 && counted.pieces == 0 && counted.piece_bytes == 0 && counted.gaps == 0 &&
               counted.longest_gap == 0);
     }
@@ -188,7 +200,7 @@ static void look(void) {
 static void step(void) {
     uint64_t what = random_below(1000);
     if (what < 480) prepare();
-    else if (what < 950) give_back();
+    else if (what < 950) free_piece();
     else if (what < 998) look();
     else {
         has_budget = random_below(2) == 0;
@@ -213,8 +225,8 @@ int main(void) {
         look();
         IS(pilhangko_memory_type_destroy(&type), PILHANGKO_OK);
     }
-    printf("100000 calls: %u pieces taken, %u blocks needed, %u abandoned, %u over budget, %u given back, %u blocks went, %u not live\n",
-        taken, needed, abandoned, over_budget, freed, went, dead);
-    CHECK(taken > 10000 && needed > 1000 && abandoned > 100 && over_budget > 100 && freed > 10000 && went > 500 && dead > 1000);
+    printf("100000 calls: %u pieces allocated, %u blocks needed, %u abandoned, %u over budget, %u freed, %u blocks went, %u not live\n",
+        allocated, needed, abandoned, over_budget, freed, went, dead);
+    CHECK(allocated > 10000 && needed > 1000 && abandoned > 100 && over_budget > 100 && freed > 10000 && went > 500 && dead > 1000);
     return 0;
 }

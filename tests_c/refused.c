@@ -1,4 +1,4 @@
-/* A run of calls with each of its requests for host memory refused in turn. The call whose request is refused answers
+/* A run of calls with each of its requests for host memory refused in turn. The call whose request is refused returns
  * PILHANGKO_HOST_OUT_OF_MEMORY and changes nothing that can be seen; the same call then succeeds. At the end no memory is held. */
 #include "refusing_heap.h"
 #include "test.h"
@@ -21,12 +21,12 @@ static unsigned refusals;
         IS(got_, PILHANGKO_OK); \
     } while (0)
 
-static bool block_has(pilhangko_virtual_block *block, size_t pieces) {
+static bool block_has(const pilhangko_virtual_block *block, size_t pieces) {
     size_t count;
     return pilhangko_virtual_block_leak_count(block, &count) == PILHANGKO_OK && count == pieces;
 }
 
-static bool type_has(pilhangko_memory_type *type, uint64_t capacity, size_t slots) {
+static bool type_has(const pilhangko_memory_type *type, uint64_t capacity, size_t slots) {
     pilhangko_memory_statistics s;
     return pilhangko_memory_type_statistics(type, &s) == PILHANGKO_OK && s.capacity == capacity && s.slots == slots && !s.awaits_block;
 }

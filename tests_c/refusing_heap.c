@@ -17,23 +17,23 @@ void rattle_dealloc(void *memory);
 static char nothing;
 
 struct tried rattle_alloc(size_t size, size_t alignment) {
-    struct tried answer = {false, &nothing};
+    struct tried result = {false, &nothing};
     void *memory = ++heap_requests == heap_refused ? NULL : malloc(size ? size : alignment);
-    if (!memory) return answer;
+    if (!memory) return result;
     heap_held++;
-    answer.succeeded = true;
-    answer.memory = memory;
-    return answer;
+    result.succeeded = true;
+    result.memory = memory;
+    return result;
 }
 
 struct tried rattle_realloc(void *memory, size_t kept, size_t size, size_t alignment) {
-    struct tried answer = {false, &nothing};
+    struct tried result = {false, &nothing};
     void *moved = ++heap_requests == heap_refused ? NULL : realloc(memory, size ? size : alignment);
     (void)kept;
-    if (!moved) return answer;
-    answer.succeeded = true;
-    answer.memory = moved;
-    return answer;
+    if (!moved) return result;
+    result.succeeded = true;
+    result.memory = moved;
+    return result;
 }
 
 void rattle_dealloc(void *memory) {

@@ -1,7 +1,9 @@
 /* Virtual blocks: rows whose places were worked out by hand, and each status of each call. */
 #include "test.h"
 
-static void takes(pilhangko_virtual_block *block, uint64_t size, uint64_t alignment, uint32_t kind, uint64_t offset, uint64_t number,
+#define MANY ((size_t)400000)
+
+static void allocates(pilhangko_virtual_block *block, uint64_t size, uint64_t alignment, uint32_t kind, uint64_t offset, uint64_t number,
     pilhangko_virtual_piece *piece) {
     pilhangko_virtual_request request = {size, alignment, kind};
     IS(pilhangko_virtual_block_allocate(block, &request, "piece", piece), PILHANGKO_OK);
@@ -9,7 +11,7 @@ static void takes(pilhangko_virtual_block *block, uint64_t size, uint64_t alignm
     CHECK(piece->number == number);
 }
 
-static void has(pilhangko_virtual_block *block, size_t pieces) {
+static void has(const pilhangko_virtual_block *block, size_t pieces) {
     size_t count = 77;
     IS(pilhangko_virtual_block_leak_count(block, &count), PILHANGKO_OK);
     CHECK(count == pieces);
@@ -20,18 +22,18 @@ static void places(void) {
     pilhangko_virtual_block block = {0};
     pilhangko_virtual_piece a, b, c, d, e, f;
     IS(pilhangko_virtual_block_create(&block, 1000, 1), PILHANGKO_OK);
-    takes(&block, 100, 1, PILHANGKO_KIND_LINEAR, 0, 2, &a);
-    takes(&block, 50, 1, PILHANGKO_KIND_LINEAR, 100, 3, &b);
-    takes(&block, 100, 1, PILHANGKO_KIND_NON_LINEAR, 150, 4, &c);
-    takes(&block, 60, 64, PILHANGKO_KIND_LINEAR, 256, 5, &d); /* padding from 250 to 256 */
+    allocates(&block, 100, 1, PILHANGKO_KIND_LINEAR, 0, 2, &a);
+    allocates(&block, 50, 1, PILHANGKO_KIND_LINEAR, 100, 3, &b);
+    allocates(&block, 100, 1, PILHANGKO_KIND_NON_LINEAR, 150, 4, &c);
+    allocates(&block, 60, 64, PILHANGKO_KIND_LINEAR, 256, 5, &d); /* padding from 250 to 256 */
     has(&block, 4);
     IS(pilhangko_virtual_block_free(&block, &b), PILHANGKO_OK);
     IS(pilhangko_virtual_block_free(&block, &b), PILHANGKO_NOT_LIVE);
-    takes(&block, 40, 1, PILHANGKO_KIND_LINEAR, 100, 6, &e); /* the gap of 50, not the rest of the block */
-    takes(&block, 10, 1, PILHANGKO_KIND_LINEAR, 140, 3, &f); /* fills it: the gap's number */
+    allocates(&block, 40, 1, PILHANGKO_KIND_LINEAR, 100, 6, &e); /* the gap of 50, not the rest of the block */
+    allocates(&block, 10, 1, PILHANGKO_KIND_LINEAR, 140, 3, &f); /* fills it: the gap's number */
     IS(pilhangko_virtual_block_free(&block, &a), PILHANGKO_OK);
     IS(pilhangko_virtual_block_free(&block, &e), PILHANGKO_OK); /* joins the gap before it: [0, 140) */
-    takes(&block, 140, 1, PILHANGKO_KIND_LINEAR, 0, 2, &a);
+    allocates(&block, 140, 1, PILHANGKO_KIND_LINEAR, 0, 2, &a);
     IS(pilhangko_virtual_block_free(&block, &e), PILHANGKO_NOT_LIVE);
     has(&block, 4);
     IS(pilhangko_virtual_block_destroy(&block), PILHANGKO_OK);
@@ -42,9 +44,9 @@ static void pages(void) {
     pilhangko_virtual_block block = {0};
     pilhangko_virtual_piece a, b, c;
     IS(pilhangko_virtual_block_create(&block, 256, 64), PILHANGKO_OK);
-    takes(&block, 10, 1, PILHANGKO_KIND_LINEAR, 0, 2, &a);
-    takes(&block, 10, 1, PILHANGKO_KIND_LINEAR, 10, 3, &b);
-    takes(&block, 10, 1, PILHANGKO_KIND_NON_LINEAR, 64, 4, &c);
+    allocates(&block, 10, 1, PILHANGKO_KIND_LINEAR, 0, 2, &a);
+    allocates(&block, 10, 1, PILHANGKO_KIND_LINEAR, 10, 3, &b);
+    allocates(&block, 10, 1, PILHANGKO_KIND_NON_LINEAR, 64, 4, &c);
     IS(pilhangko_virtual_block_destroy(&block), PILHANGKO_OK);
 }
 
@@ -55,9 +57,9 @@ static void readings(void) {
     pilhangko_virtual_statistics s;
     pilhangko_piece_view view;
     IS(pilhangko_virtual_block_create(&block, 1000, 64), PILHANGKO_OK);
-    takes(&block, 10, 1, PILHANGKO_KIND_LINEAR, 0, 2, &pieces[0]);
-    takes(&block, 10, 1, PILHANGKO_KIND_NON_LINEAR, 64, 3, &pieces[1]);  /* [10, 74): 54 bytes of padding */
-    takes(&block, 10, 16, PILHANGKO_KIND_NON_LINEAR, 80, 4, &pieces[2]); /* [74, 90): 6 */
+    allocates(&block, 10, 1, PILHANGKO_KIND_LINEAR, 0, 2, &pieces[0]);
+    allocates(&block, 10, 1, PILHANGKO_KIND_NON_LINEAR, 64, 3, &pieces[1]);  /* [10, 74): 54 bytes of padding */
+    allocates(&block, 10, 16, PILHANGKO_KIND_NON_LINEAR, 80, 4, &pieces[2]); /* [74, 90): 6 */
     IS(pilhangko_virtual_block_statistics(&block, &s), PILHANGKO_OK);
     CHECK(s.size == 1000 && s.pieces == 3 && s.piece_bytes == 90 && s.gaps == 1 && s.longest_gap == 910);
     IS(pilhangko_virtual_block_free(&block, &pieces[0]), PILHANGKO_OK);
@@ -74,6 +76,18 @@ static void readings(void) {
     CHECK(seen == 2 && view.number == 0 && view.start == 0 && view.offset == 0 && view.end == 0 && view.kind == 0);
     IS(pilhangko_virtual_block_next_piece(&block, UINT64_MAX, &view), PILHANGKO_OK);
     CHECK(!view.exists);
+    pilhangko_piece_view views[3] = {{.number = 77}, {.number = 77}, {.number = 77}};
+    size_t shown = 9;
+    IS(pilhangko_virtual_block_pieces(&block, 0, views, 3, &shown), PILHANGKO_OK);
+    CHECK(shown == 2 && views[0].number == pieces[1].number && views[1].number == pieces[2].number && views[2].number == 77);
+    CHECK(views[1].exists && views[1].start == 74 && views[1].offset == 80 && views[1].end == 90);
+    CHECK(views[1].kind == PILHANGKO_KIND_NON_LINEAR);
+    IS(pilhangko_virtual_block_pieces(&block, 65, &views[2], 1, &shown), PILHANGKO_OK);
+    CHECK(shown == 1 && views[2].number == pieces[2].number);
+    IS(pilhangko_virtual_block_pieces(&block, 81, views, 3, &shown), PILHANGKO_OK);
+    CHECK(shown == 0 && views[0].number == pieces[1].number);
+    IS(pilhangko_virtual_block_pieces(&block, 0, NULL, 0, &shown), PILHANGKO_OK);
+    CHECK(shown == 0);
     char bytes[8] = "???????";
     size_t length = 9;
     IS(pilhangko_virtual_block_rename(&block, &pieces[2], "name"), PILHANGKO_OK);
@@ -85,6 +99,16 @@ static void readings(void) {
     CHECK(length == 0 && !strcmp(bytes, "pime???"));
     IS(pilhangko_virtual_block_piece_name(&block, 0, NULL, 0, &length), PILHANGKO_OK);
     CHECK(length == 5);
+    size_t lengths[3] = {77, 77, 77};
+    char names[12] = "???????????";
+    IS(pilhangko_virtual_block_piece_names(&block, 0, lengths, 3, names, 11, &shown), PILHANGKO_OK);
+    CHECK(shown == 2 && lengths[0] == 5 && lengths[1] == 4 && lengths[2] == 77 && !strcmp(names, "piecename??"));
+    IS(pilhangko_virtual_block_piece_names(&block, 65, lengths, 1, names, 2, &shown), PILHANGKO_OK);
+    CHECK(shown == 1 && lengths[0] == 4 && lengths[1] == 4 && !strcmp(names, "naecename??"));
+    IS(pilhangko_virtual_block_piece_names(&block, 0, lengths, 1, names, 11, &shown), PILHANGKO_OK);
+    CHECK(shown == 1 && lengths[0] == 5 && !strcmp(names, "piecename??"));
+    IS(pilhangko_virtual_block_piece_names(&block, 0, NULL, 0, NULL, 0, &shown), PILHANGKO_OK);
+    CHECK(shown == 0);
     IS(pilhangko_virtual_block_destroy(&block), PILHANGKO_OK);
     IS(pilhangko_virtual_block_piece_name(&block, 0, bytes, 7, &length), PILHANGKO_NO_HANDLE);
     CHECK(length == 5 && !strcmp(bytes, "pime???"));
@@ -92,7 +116,23 @@ static void readings(void) {
     view.number = 4;
     IS(pilhangko_virtual_block_statistics(&block, &s), PILHANGKO_NO_HANDLE);
     IS(pilhangko_virtual_block_next_piece(&block, 0, &view), PILHANGKO_NO_HANDLE);
-    CHECK(s.size == 3 && view.number == 4);
+    IS(pilhangko_virtual_block_pieces(&block, 0, &view, 1, &shown), PILHANGKO_NO_HANDLE);
+    IS(pilhangko_virtual_block_piece_names(&block, 0, lengths, 3, names, 11, &shown), PILHANGKO_NO_HANDLE);
+    CHECK(s.size == 3 && view.number == 4 && shown == 0);
+}
+
+/* a visit of many pieces by one call, which would take minutes if each step began at the front */
+static void visit_of_many(void) {
+    static pilhangko_piece_view views[MANY + 1];
+    pilhangko_virtual_block block = {0};
+    pilhangko_virtual_piece piece;
+    size_t shown;
+    IS(pilhangko_virtual_block_create(&block, 2 * MANY, 1), PILHANGKO_OK);
+    for (size_t i = 0; i < MANY; i++) allocates(&block, 2, 1, PILHANGKO_KIND_LINEAR, 2 * i, i + 1 < MANY ? i + 2 : 1, &piece);
+    IS(pilhangko_virtual_block_pieces(&block, 0, views, MANY + 1, &shown), PILHANGKO_OK);
+    CHECK(shown == MANY && !views[MANY].exists);
+    for (size_t i = 0; i < MANY; i++) CHECK(views[i].offset == 2 * i && views[i].number == (i + 1 < MANY ? i + 2 : 1));
+    IS(pilhangko_virtual_block_destroy(&block), PILHANGKO_OK);
 }
 
 static void allocate_statuses(void) {
@@ -120,7 +160,7 @@ static void allocate_statuses(void) {
 
 static void handle_statuses(void) {
     pilhangko_virtual_block block = {0};
-    pilhangko_virtual_piece piece = {0, 2}, taken;
+    pilhangko_virtual_piece piece = {0, 2}, allocated;
     size_t count = 5;
     IS(pilhangko_virtual_block_free(&block, &piece), PILHANGKO_NO_HANDLE);
     IS(pilhangko_virtual_block_rename(&block, &piece, "a"), PILHANGKO_NO_HANDLE);
@@ -133,7 +173,7 @@ static void handle_statuses(void) {
     IS(pilhangko_virtual_block_create(&block, 100, 48), PILHANGKO_INVALID);
     IS(pilhangko_virtual_block_destroy(&block), PILHANGKO_NO_HANDLE);
     IS(pilhangko_virtual_block_create(&block, UINT64_MAX, UINT64_C(1) << 63), PILHANGKO_OK);
-    takes(&block, UINT64_MAX, 1, PILHANGKO_KIND_LINEAR, 0, 1, &taken);
+    allocates(&block, UINT64_MAX, 1, PILHANGKO_KIND_LINEAR, 0, 1, &allocated);
     IS(pilhangko_virtual_block_create(&block, 100, 1), PILHANGKO_IN_USE);
     IS(pilhangko_virtual_block_create(&block, 0, 0), PILHANGKO_IN_USE);
     has(&block, 1);
@@ -145,7 +185,7 @@ static void piece_statuses(void) {
     pilhangko_virtual_block block = {0};
     pilhangko_virtual_piece a, b;
     IS(pilhangko_virtual_block_create(&block, 100, 1), PILHANGKO_OK);
-    takes(&block, 10, 1, PILHANGKO_KIND_LINEAR, 0, 2, &a);
+    allocates(&block, 10, 1, PILHANGKO_KIND_LINEAR, 0, 2, &a);
     pilhangko_virtual_piece wrong[] = {{0, 0}, {1, 2}, {0, 3}, {0, 1}, {10, 1}, {UINT64_MAX, UINT64_MAX}};
     for (size_t i = 0; i < sizeof wrong / sizeof wrong[0]; i++) {
         IS(pilhangko_virtual_block_free(&block, &wrong[i]), PILHANGKO_NOT_LIVE);
@@ -156,11 +196,11 @@ static void piece_statuses(void) {
     IS(pilhangko_virtual_block_rename(&block, &a, "another name"), PILHANGKO_OK);
     IS(pilhangko_virtual_block_rename(&block, &a, NULL), PILHANGKO_OK);
     has(&block, 1);
-    takes(&block, 10, 1, PILHANGKO_KIND_NON_LINEAR, 10, 3, &b);
+    allocates(&block, 10, 1, PILHANGKO_KIND_NON_LINEAR, 10, 3, &b);
     IS(pilhangko_virtual_block_clear(&block), PILHANGKO_OK);
     has(&block, 0);
     IS(pilhangko_virtual_block_free(&block, &a), PILHANGKO_NOT_LIVE);
-    takes(&block, 100, 1, PILHANGKO_KIND_LINEAR, 0, 1, &b);
+    allocates(&block, 100, 1, PILHANGKO_KIND_LINEAR, 0, 1, &b);
     IS(pilhangko_virtual_block_destroy(&block), PILHANGKO_OK);
 }
 
@@ -186,19 +226,43 @@ static void null_pointers(void) {
     IS(pilhangko_virtual_block_statistics(&block, NULL), PILHANGKO_NULL_POINTER);
     IS(pilhangko_virtual_block_next_piece(NULL, 0, &view), PILHANGKO_NULL_POINTER);
     IS(pilhangko_virtual_block_next_piece(&block, 0, NULL), PILHANGKO_NULL_POINTER);
+    IS(pilhangko_virtual_block_pieces(NULL, 0, &view, 1, &count), PILHANGKO_NULL_POINTER);
+    IS(pilhangko_virtual_block_pieces(&block, 0, NULL, 1, &count), PILHANGKO_NULL_POINTER);
+    IS(pilhangko_virtual_block_pieces(&block, 0, &view, 1, NULL), PILHANGKO_NULL_POINTER);
+    IS(pilhangko_virtual_block_piece_names(NULL, 0, NULL, 0, NULL, 0, &count), PILHANGKO_NULL_POINTER);
+    IS(pilhangko_virtual_block_piece_names(&block, 0, NULL, 1, NULL, 0, &count), PILHANGKO_NULL_POINTER);
+    IS(pilhangko_virtual_block_piece_names(&block, 0, NULL, 0, NULL, 1, &count), PILHANGKO_NULL_POINTER);
+    IS(pilhangko_virtual_block_piece_names(&block, 0, NULL, 0, NULL, 0, NULL), PILHANGKO_NULL_POINTER);
     IS(pilhangko_virtual_block_piece_name(NULL, 0, NULL, 0, &count), PILHANGKO_NULL_POINTER);
     IS(pilhangko_virtual_block_piece_name(&block, 0, NULL, 1, &count), PILHANGKO_NULL_POINTER);
     IS(pilhangko_virtual_block_piece_name(&block, 0, NULL, 0, NULL), PILHANGKO_NULL_POINTER);
     IS(pilhangko_virtual_block_destroy(NULL), PILHANGKO_NULL_POINTER);
 }
 
+/* each status has a name and a text of its own */
+static void status_words(void) {
+    const pilhangko_status statuses[] = {PILHANGKO_OK, PILHANGKO_OUT_OF_MEMORY, PILHANGKO_INVALID, PILHANGKO_NOT_LIVE,
+        PILHANGKO_HOST_OUT_OF_MEMORY, PILHANGKO_BUDGET_EXCEEDED, PILHANGKO_NO_HANDLE, PILHANGKO_IN_USE, PILHANGKO_AWAITS_BLOCK,
+        PILHANGKO_AWAITS_NO_BLOCK, PILHANGKO_NULL_POINTER, 2};
+    const size_t count = sizeof statuses / sizeof statuses[0];
+    for (size_t i = 0; i < count; i++)
+        for (size_t j = 0; j < i; j++) {
+            CHECK(strcmp(pilhangko_status_name(statuses[i]), pilhangko_status_name(statuses[j])) != 0);
+            CHECK(strcmp(pilhangko_status_text(statuses[i]), pilhangko_status_text(statuses[j])) != 0);
+        }
+    CHECK(!strcmp(pilhangko_status_name(PILHANGKO_BUDGET_EXCEEDED), "PILHANGKO_BUDGET_EXCEEDED"));
+    CHECK(!strcmp(pilhangko_status_name(2), "unknown status") && !strcmp(pilhangko_status_text(2), "unknown status"));
+}
+
 int main(void) {
     places();
     pages();
     readings();
+    visit_of_many();
     allocate_statuses();
     handle_statuses();
     piece_statuses();
     null_pointers();
+    status_words();
     return 0;
 }

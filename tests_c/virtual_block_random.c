@@ -5,8 +5,8 @@
 
 static pilhangko_virtual_block block;
 static struct account account;
-static pilhangko_virtual_piece stale[STALE]; /* pieces that were given back, some of which are live again */
-static unsigned taken, refused, freed, dead, renamed;
+static pilhangko_virtual_piece stale[STALE]; /* pieces that were freed, some of which are live again */
+static unsigned allocated, refused, freed, dead, renamed;
 
 static const char *const names[] = {NULL, "", "vertices", "h\xc3\xa4lft", "a name of more than a few bytes, so that it lies elsewhere"};
 static const char *const bad_names[] = {"\xff", "cut \xe2\x82", "\xc0\x80"};
@@ -17,10 +17,10 @@ static void allocate(void) {
     pilhangko_virtual_piece piece;
     uint64_t offset, number;
     const char *called = names[random_below(5)];
-    if (account_take(&account, request.size, request.alignment, request.kind, called, &offset, &number)) {
+    if (account_allocate(&account, request.size, request.alignment, request.kind, called, &offset, &number)) {
         IS(pilhangko_virtual_block_allocate(&block, &request, called, &piece), PILHANGKO_OK);
         CHECK(piece.offset == offset && piece.number == number);
-        taken++;
+        allocated++;
     } else {
         IS(pilhangko_virtual_block_allocate(&block, &request, called, &piece), PILHANGKO_OUT_OF_MEMORY);
         refused++;
@@ -40,7 +40,7 @@ static pilhangko_virtual_piece some_piece(void) {
     return (pilhangko_virtual_piece){random_below(account.size), random_below(account.next_number + 2)};
 }
 
-static void give_back(void) {
+static void free_piece(void) {
     pilhangko_virtual_piece piece = some_piece();
     size_t at = piece.number ? account_find(&account, piece.offset, piece.number) : account.count;
     if (at == account.count) {
@@ -73,7 +73,7 @@ static void step(void) {
     pilhangko_virtual_statistics statistics;
     pilhangko_piece_view view;
     if (what < 500) allocate();
-    else if (what < 900) give_back();
+    else if (what < 900) free_piece();
     else if (what < 997) name();
     else if (what < 999) {
         pilhangko_virtual_request bad = {random_below(2), 3, 1};
@@ -88,11 +88,22 @@ static void step(void) {
     account_same(&account, &statistics);
     IS(pilhangko_virtual_block_next_piece(&block, from, &view), PILHANGKO_OK);
     account_shows(&account, from, &view);
+    pilhangko_piece_view views[40];
+    size_t view_room = random_below(41), shown;
+    for (size_t i = 0; i < 40; i++) views[i].number = UINT64_MAX;
+    IS(pilhangko_virtual_block_pieces(&block, from, view_room ? views : NULL, view_room, &shown), PILHANGKO_OK);
+    account_shows_all(&account, from, views, view_room, shown);
     char bytes[80];
     size_t room = random_below(sizeof bytes + 1), length;
     memset(bytes, '?', sizeof bytes);
     IS(pilhangko_virtual_block_piece_name(&block, from, room ? bytes : NULL, room, &length), PILHANGKO_OK);
     account_names(&account, from, bytes, room, length);
+    char all[400];
+    size_t lengths[40], all_room = random_below(sizeof all + 1);
+    memset(all, '?', sizeof all);
+    memset(lengths, 0xff, sizeof lengths);
+    IS(pilhangko_virtual_block_piece_names(&block, from, lengths, view_room, all_room ? all : NULL, all_room, &shown), PILHANGKO_OK);
+    account_names_all(&account, from, lengths, view_room, all, all_room, shown);
 }
 
 int main(void) {
@@ -104,7 +115,7 @@ int main(void) {
         for (unsigned i = 0; i < 25000; i++) step();
         IS(pilhangko_virtual_block_destroy(&block), PILHANGKO_OK);
     }
-    printf("100000 calls: %u pieces taken, %u refused, %u given back, %u not live, %u renamed\n", taken, refused, freed, dead, renamed);
-    CHECK(taken > 10000 && refused > 1000 && freed > 10000 && dead > 1000 && renamed > 1000);
+    printf("100000 calls: %u pieces allocated, %u refused, %u freed, %u not live, %u renamed\n", allocated, refused, freed, dead, renamed);
+    CHECK(allocated > 10000 && refused > 1000 && freed > 10000 && dead > 1000 && renamed > 1000);
     return 0;
 }

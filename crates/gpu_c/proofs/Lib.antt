@@ -1,2 +1,10 @@
+mod RawBoxValues
+mod Owned
+mod Filling
+mod FillingNames
+mod VirtualBlockLaws
+mod MemoryTypeLaws
 mod VirtualBlockHandleWords
 mod MemoryTypeHandleWords
+mod Crosses
+mod HandleCrosses

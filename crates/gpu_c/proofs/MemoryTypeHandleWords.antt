@@ -11,7 +11,7 @@ use denote.Shadow.{makes_shadow}
 use denote.Struct.Struct.{Struct}
 use denote.Struct.Owning.{shape}
 use Rattle.gpu_c.specs.contracts.memory_type_handle.MemoryTypeHandle as handle
-use Rattle.gpu_c_blocks.specs.contracts.memory_type.AwaitingType as kept
+use Rattle.gpu_c.specs.contracts.memory_type.AwaitingType as kept
 
 -- what lies behind a handle
 abbrev pub Behind : RattleType

@@ -11,7 +11,7 @@ use denote.Shadow.{makes_shadow}
 use denote.Struct.Struct.{Struct}
 use denote.Struct.Owning.{shape}
 use Rattle.gpu_c.specs.contracts.virtual_block_handle.VirtualBlockHandle as handle
-use Rattle.gpu_c_blocks.specs.contracts.virtual_block.VirtualBlock as kept
+use Rattle.gpu_c.specs.contracts.virtual_block.VirtualBlock as kept
 
 -- what lies behind a handle
 abbrev pub Behind : RattleType

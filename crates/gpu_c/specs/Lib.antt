@@ -1,1 +1,7 @@
+pub mod Status
+pub mod Request
+pub mod VirtualBlock
+pub mod Visit
+pub mod MemoryType
+pub mod Owned
 pub mod Handle

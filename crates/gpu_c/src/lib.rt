@@ -1,8 +1,17 @@
-//! The allocator for C: each export tests what it is told, calls the library, and says the library's clauses again over what lies
+//! The allocator for C: each export tests what it is passed, calls the library, and says the library's clauses again over what lies
 //! behind its handle. `include/pilhangko.h` declares the exports.
 #![tactic(auto)]
 
+mod memory_type;
 mod memory_type_calls;
 mod memory_type_handle;
+mod memory_type_values;
+mod raw_box;
+mod request;
+mod sending;
+mod status;
+mod virtual_block;
 mod virtual_block_calls;
 mod virtual_block_handle;
+mod virtual_block_values;
+mod visit;

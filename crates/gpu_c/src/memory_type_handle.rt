@@ -1,27 +1,30 @@
 //! What a C program holds of a memory type: one pointer, which is null where nothing lies behind it.
 
 ghost use Rattle.std.specs.Prelude.{◌≡◌, Option, Some, None, MatchOption};
-ghost use Rattle.gpu_c_blocks.specs.MemoryType.{AwaitingState};
+ghost use Rattle.gpu_c.specs.MemoryType.{AwaitingState};
 
-use gpu_c_blocks::AwaitingType;
-use gpu_c_box::RawBox;
+use crate::memory_type::AwaitingType;
+use crate::raw_box::RawBox;
 use std::alloc::Global;
-use std::marker::Model;
+use std::marker::{Model, Send};
 
-/// A memory type, or null: what `Box::into_raw` gave. C holds it by value, lends it to each call, and never copies it.
+/// A memory type, or null: what `Box::into_raw` returned. C holds it by value, lends it to each call, and never copies it.
 #[repr(C)]
 #[derive(Drop)]
 pub struct MemoryTypeHandle {
-    at: *mut u8,
+    opaque: *mut u8,
     pub ghost value: { Option AwaitingState },
 }
 
 impl Model for MemoryTypeHandle {
-    ghost use Rattle.gpu_c_box.specs.Owned.{handle_owns};
-    ghost use Rattle.gpu_c_blocks.specs.contracts.memory_type.AwaitingType.{the_row};
+    ghost use Rattle.gpu_c.specs.Owned.{handle_owns};
+    ghost use Rattle.gpu_c.specs.contracts.memory_type.AwaitingType.{the_row};
 
-    ghost also_owns = { λ h. handle_owns the_row h.at h.value };
+    ghost also_owns = { λ h. handle_owns the_row h.opaque h.value };
 }
+
+// What lies behind it may go to another thread, and so may the right to free it.
+unsafe impl Send for MemoryTypeHandle {}
 
 impl MemoryTypeHandle {
     /// A handle with nothing behind it.
@@ -29,7 +32,7 @@ impl MemoryTypeHandle {
         ensures { result.value ≡ None }
     {
         MemoryTypeHandle {
-            at: std::ptr::null_mut(),
+            opaque: std::ptr::null_mut(),
         }
     }
 
@@ -37,18 +40,20 @@ impl MemoryTypeHandle {
         ensures { result.value ≡ Some value.value }
     {
         let RawBox { at, alloc: _ } = value;
-        MemoryTypeHandle { at: at as *mut u8 }
+        MemoryTypeHandle {
+            opaque: at as *mut u8,
+        }
     }
 
     fn into_raw_box(self, alloc: Global) -> Option<RawBox<AwaitingType, Global>>
         ensures { MatchOption result (self.value ≡ None) (λ b. self.value ≡ Some b.value) }
     {
-        let MemoryTypeHandle { at } = self;
-        if at.is_null() {
+        let MemoryTypeHandle { opaque } = self;
+        if opaque.is_null() {
             None
         } else {
             Some(RawBox {
-                at: at as *mut AwaitingType,
+                at: opaque as *mut AwaitingType,
                 alloc,
             })
         }

@@ -1,20 +1,21 @@
-//! Virtual blocks for C. A handle begins zeroed; create fills it and destroy leaves it zeroed. Each call on an empty handle answers
+//! Virtual blocks for C. A handle begins zeroed; create fills it and destroy leaves it zeroed. Each call on an empty handle returns
 //! `NO_HANDLE`, and any status but `OK` leaves everything as it was.
 
 ghost use Rattle.std.specs.Prelude.{◌≡◌, ◌≢◌, ◌↔◌, [], ◌∷◌, Some, None, IsSomeAnd, IsUtf8};
 ghost use Rattle.gpu_values.specs.declared.error.AllocationError.TheVariants.{OutOfMemory, HostOutOfMemory};
 ghost use Rattle.gpu_block.specs.Block.{extents_of};
 ghost use Rattle.gpu_c.specs.Handle.{Changes};
-ghost use Rattle.gpu_c_blocks.specs.Status as status;
-ghost use Rattle.gpu_c_blocks.specs.Request.{IsServed};
-ghost use Rattle.gpu_c_blocks.specs.Status.{IsOneOf};
-ghost use Rattle.gpu_c_blocks.specs.VirtualBlock.{CanCreate, fresh_virtual_block, IsLivePiece, IsRefusedFor, Allocates, Frees, NamesPiece, cleared, counts_of};
-ghost use Rattle.gpu_c_blocks.specs.Visit.{told_view, piece_from, ShowsName};
-ghost use Rattle.gpu_c_blocks.specs.declared.status.TheConstants.{OK, OUT_OF_MEMORY, INVALID, NOT_LIVE, HOST_OUT_OF_MEMORY, NO_HANDLE, IN_USE};
+ghost use Rattle.gpu_c.specs.Status as status;
+ghost use Rattle.gpu_c.specs.Request.{IsServed};
+ghost use Rattle.gpu_c.specs.Status.{IsOneOf};
+ghost use Rattle.gpu_c.specs.VirtualBlock.{CanCreate, fresh_virtual_block, IsLivePiece, IsRefusedFor, Allocates, Frees, NamesPiece, cleared, counts_of};
+ghost use Rattle.gpu_c.specs.Visit.{piece_view, piece_from, pieces_from, ShowsPieces, ShowsNames, ShowsName};
+ghost use Rattle.gpu_c.specs.declared.status.TheConstants.{OK, OUT_OF_MEMORY, INVALID, NOT_LIVE, HOST_OUT_OF_MEMORY, NO_HANDLE, IN_USE};
 
+use crate::status::{HOST_OUT_OF_MEMORY, IN_USE, INVALID, NO_HANDLE, OK};
+use crate::virtual_block::VirtualBlock;
 use crate::virtual_block_handle::VirtualBlockHandle;
-use gpu_c_blocks::status::{HOST_OUT_OF_MEMORY, IN_USE, INVALID, NO_HANDLE, OK};
-use gpu_c_blocks::{PieceView, VirtualBlock, VirtualPiece, VirtualRequest, VirtualStatistics};
+use crate::virtual_block_values::{PieceView, VirtualPiece, VirtualRequest, VirtualStatistics};
 use std::alloc::Global;
 
 /// A new block in an empty handle.
@@ -77,7 +78,7 @@ pub extern "C" fn pilhangko_raw_virtual_block_allocate(
     name: &[u8],
     piece: &mut VirtualPiece,
 ) -> u32
-    ensures took { result ≡ status.ok → Changes block.old.value block.new.value
+    ensures allocated { result ≡ status.ok → Changes block.old.value block.new.value
         (λ old new. Allocates old request.now name.now piece.new new) }
     ensures no_handle { (result ≡ status.no_handle) ↔ (block.old.value ≡ None) }
     ensures invalid { (result ≡ status.invalid) ↔ IsSomeAnd block.old.value
@@ -178,7 +179,7 @@ pub extern "C" fn pilhangko_raw_virtual_block_statistics(
     alloc: Global,
     statistics: &mut VirtualStatistics,
 ) -> u32
-    ensures told { result ≡ status.ok → IsSomeAnd block.old.value (λ b. statistics.new ≡ counts_of b) }
+    ensures reported { result ≡ status.ok → IsSomeAnd block.old.value (λ b. statistics.new ≡ counts_of b) }
     ensures no_handle { (result ≡ status.no_handle) ↔ (block.old.value ≡ None) }
     ensures statuses { IsOneOf result (status.ok ∷ status.no_handle ∷ []) }
     ensures same { block.new.value ≡ block.old.value }
@@ -202,7 +203,7 @@ pub extern "C" fn pilhangko_raw_virtual_block_next_piece(
     from: u64,
     piece: &mut PieceView,
 ) -> u32
-    ensures told { result ≡ status.ok → IsSomeAnd block.old.value (λ b. piece.new ≡ told_view (piece_from from (extents_of b))) }
+    ensures reported { result ≡ status.ok → IsSomeAnd block.old.value (λ b. piece.new ≡ piece_view (piece_from from (extents_of b))) }
     ensures no_handle { (result ≡ status.no_handle) ↔ (block.old.value ≡ None) }
     ensures statuses { IsOneOf result (status.ok ∷ status.no_handle ∷ []) }
     ensures same { block.new.value ≡ block.old.value }
@@ -218,7 +219,33 @@ pub extern "C" fn pilhangko_raw_virtual_block_next_piece(
     }
 }
 
-/// The name of the piece that the visit shows from there: copies as many bytes of it as there is room for, and tells how many it has, 0
+/// Fills an array with the live pieces whose own bytes begin at `from` or behind it, in order of offset and as far as it has room, and
+/// reports how many it shows: with an array for all pieces, one call visits them all, each once.
+#[unsafe(no_mangle)]
+pub extern "C" fn pilhangko_raw_virtual_block_pieces(
+    block: &mut VirtualBlockHandle,
+    alloc: Global,
+    from: u64,
+    pieces: &mut [PieceView],
+    count: &mut usize,
+) -> u32
+    ensures reported { result ≡ status.ok → IsSomeAnd block.old.value (λ b. ShowsPieces (pieces_from from (extents_of b)) pieces.old pieces.new count.new) }
+    ensures no_handle { (result ≡ status.no_handle) ↔ (block.old.value ≡ None) }
+    ensures statuses { IsOneOf result (status.ok ∷ status.no_handle ∷ []) }
+    ensures same { block.new.value ≡ block.old.value }
+    ensures refused { result ≢ status.ok → (pieces.new ≡ pieces.old) × (count.new ≡ count.old) }
+{
+    match block.take(alloc) {
+        None => NO_HANDLE,
+        Some(kept) => {
+            *count = kept.pieces(from, pieces);
+            block.put(kept);
+            OK
+        }
+    }
+}
+
+/// The name of the piece that the visit shows from there: copies as many bytes of it as there is room for, and reports how many it has, 0
 /// where there is no piece.
 #[unsafe(no_mangle)]
 pub extern "C" fn pilhangko_raw_virtual_block_piece_name(
@@ -228,7 +255,7 @@ pub extern "C" fn pilhangko_raw_virtual_block_piece_name(
     name: &mut [u8],
     whole: &mut usize,
 ) -> u32
-    ensures told { result ≡ status.ok → IsSomeAnd block.old.value (λ b. ShowsName (piece_from from (extents_of b)) name.old name.new whole.new) }
+    ensures reported { result ≡ status.ok → IsSomeAnd block.old.value (λ b. ShowsName (piece_from from (extents_of b)) name.old name.new whole.new) }
     ensures no_handle { (result ≡ status.no_handle) ↔ (block.old.value ≡ None) }
     ensures statuses { IsOneOf result (status.ok ∷ status.no_handle ∷ []) }
     ensures same { block.new.value ≡ block.old.value }
@@ -238,6 +265,34 @@ pub extern "C" fn pilhangko_raw_virtual_block_piece_name(
         None => NO_HANDLE,
         Some(kept) => {
             *whole = kept.piece_name(from, name);
+            block.put(kept);
+            OK
+        }
+    }
+}
+
+/// The names of the live pieces that `pieces` shows: fills an array with their lengths and a buffer with the names one after another,
+/// as far as each has room, and reports how many lengths there are.
+#[unsafe(no_mangle)]
+pub extern "C" fn pilhangko_raw_virtual_block_piece_names(
+    block: &mut VirtualBlockHandle,
+    alloc: Global,
+    from: u64,
+    lengths: &mut [usize],
+    names: &mut [u8],
+    count: &mut usize,
+) -> u32
+    ensures reported { result ≡ status.ok → IsSomeAnd block.old.value
+        (λ b. ShowsNames (pieces_from from (extents_of b)) lengths.old lengths.new names.old names.new count.new) }
+    ensures no_handle { (result ≡ status.no_handle) ↔ (block.old.value ≡ None) }
+    ensures statuses { IsOneOf result (status.ok ∷ status.no_handle ∷ []) }
+    ensures same { block.new.value ≡ block.old.value }
+    ensures refused { result ≢ status.ok → (lengths.new ≡ lengths.old) × (names.new ≡ names.old) × (count.new ≡ count.old) }
+{
+    match block.take(alloc) {
+        None => NO_HANDLE,
+        Some(kept) => {
+            *count = kept.piece_names(from, lengths, names);
             block.put(kept);
             OK
         }

@@ -3,25 +3,28 @@
 ghost use Rattle.std.specs.Prelude.{◌≡◌, Option, Some, None, MatchOption};
 ghost use Rattle.gpu_block.specs.Block.{Block};
 
-use gpu_c_blocks::VirtualBlock;
-use gpu_c_box::RawBox;
+use crate::raw_box::RawBox;
+use crate::virtual_block::VirtualBlock;
 use std::alloc::Global;
-use std::marker::Model;
+use std::marker::{Model, Send};
 
-/// A virtual block, or null: what `Box::into_raw` gave. C holds it by value, lends it to each call, and never copies it.
+/// A virtual block, or null: what `Box::into_raw` returned. C holds it by value, lends it to each call, and never copies it.
 #[repr(C)]
 #[derive(Drop)]
 pub struct VirtualBlockHandle {
-    at: *mut u8,
+    opaque: *mut u8,
     pub ghost value: { Option Block },
 }
 
 impl Model for VirtualBlockHandle {
-    ghost use Rattle.gpu_c_box.specs.Owned.{handle_owns};
-    ghost use Rattle.gpu_c_blocks.specs.contracts.virtual_block.VirtualBlock.{the_row};
+    ghost use Rattle.gpu_c.specs.Owned.{handle_owns};
+    ghost use Rattle.gpu_c.specs.contracts.virtual_block.VirtualBlock.{the_row};
 
-    ghost also_owns = { λ h. handle_owns the_row h.at h.value };
+    ghost also_owns = { λ h. handle_owns the_row h.opaque h.value };
 }
+
+// What lies behind it may go to another thread, and so may the right to free it.
+unsafe impl Send for VirtualBlockHandle {}
 
 impl VirtualBlockHandle {
     /// A handle with nothing behind it.
@@ -29,7 +32,7 @@ impl VirtualBlockHandle {
         ensures { result.value ≡ None }
     {
         VirtualBlockHandle {
-            at: std::ptr::null_mut(),
+            opaque: std::ptr::null_mut(),
         }
     }
 
@@ -37,18 +40,20 @@ impl VirtualBlockHandle {
         ensures { result.value ≡ Some value.value }
     {
         let RawBox { at, alloc: _ } = value;
-        VirtualBlockHandle { at: at as *mut u8 }
+        VirtualBlockHandle {
+            opaque: at as *mut u8,
+        }
     }
 
     fn into_raw_box(self, alloc: Global) -> Option<RawBox<VirtualBlock, Global>>
         ensures { MatchOption result (self.value ≡ None) (λ b. self.value ≡ Some b.value) }
     {
-        let VirtualBlockHandle { at } = self;
-        if at.is_null() {
+        let VirtualBlockHandle { opaque } = self;
+        if opaque.is_null() {
             None
         } else {
             Some(RawBox {
-                at: at as *mut VirtualBlock,
+                at: opaque as *mut VirtualBlock,
                 alloc,
             })
         }

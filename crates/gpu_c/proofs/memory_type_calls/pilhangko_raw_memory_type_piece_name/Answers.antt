@@ -1,5 +1,5 @@
 use Rattle.std.proofs.Common.{rules}
 use Rattle.gpu_c.proofs.memory_type_calls.pilhangko_raw_memory_type_piece_name.Goals as goal
 
-pub returns-in-Some-clause-told : goal.returns-in-Some-clause-told
-returns-in-Some-clause-told c = search rules
+pub returns-in-Some-clause-reported : goal.returns-in-Some-clause-reported
+returns-in-Some-clause-reported c = search rules

@@ -28,8 +28,8 @@ use Rattle.std.specs.contracts.impls.GlobalAllocator.TheImpl.{ghosts}
 use Rattle.std.specs.declared.option.Option.TheVariants.{None, Some}
 use Rattle.std.proofs.ResultValues.{and_tt}
 use Rattle.std.proofs.raw_atomic.Walks.{proved_at, leaves}
-use Rattle.gpu_c_box.proofs.Values.{both, RawBox, raw_box_good, raw_box_in}
-use Rattle.gpu_c_box.proofs.Owned.{by_cases}
+use Rattle.gpu_c.proofs.RawBoxValues.{both, RawBox, raw_box_good, raw_box_in}
+use Rattle.gpu_c.proofs.Owned.{by_cases}
 use Rattle.gpu_c.proofs.VirtualBlockHandleWords.{Behind, Hand, word}
 use Rattle.gpu_c.proofs.virtual_block_handle.VirtualBlockHandle.TheLaws.{lowers}
 use Rattle.gpu_c.specs.contracts.virtual_block_handle.VirtualBlockHandle.into_raw_box as f
@@ -50,7 +50,7 @@ into_raw_box_spec 𝓤 𝓛 𝓜 𝓡 wired =
     ! $ move ! (1 ∷ []) $ fsplit ! $
     rewrite ! 0 (λ (us : List Val). ‵ (Z.own_val a us)) h.1 refl $ move ! (2 ∷ []) $
     -- [what the handle owns; the allocator; nothing; the tokens; the `requires`]
-    by_cases Behind a ! d.at d.value
+    by_cases Behind a ! d.opaque d.value
     (λ is none. let w : Val = word null_ptr in let out : Val = live 0 vnil in
     suffices ! (Run (w ∷ h.0 ∷ [])) (subst (λ (us : List Val). ent 𝓤 (Run (w ∷ h.0 ∷ [])) (Run us)) (sym (λ i. (told ∙ ap (λ (p : Ptr). word p ∷ []) is) i ++ (h.1 i ++ [])))
     (id⊢ 𝓤 (Run (w ∷ h.0 ∷ [])))) $

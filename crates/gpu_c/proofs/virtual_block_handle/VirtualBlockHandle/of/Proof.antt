@@ -24,7 +24,7 @@ use Rattle.std.specs.declared.alloc.Global.{Global}
 use Rattle.std.specs.Box.Ownership.{box_owns}
 use Rattle.std.specs.declared.option.Option.TheVariants.{Some}
 use Rattle.std.proofs.raw_atomic.Walks.{proved_at, leaves}
-use Rattle.gpu_c_box.proofs.Values.{both, RawBox, raw_box_good, raw_box_out}
+use Rattle.gpu_c.proofs.RawBoxValues.{both, RawBox, raw_box_good, raw_box_out}
 use Rattle.gpu_c.proofs.VirtualBlockHandleWords.{Behind, Hand, word, Data, data_made}
 use Rattle.gpu_c.specs.contracts.virtual_block_handle.VirtualBlockHandle.of as f
 use Rattle.gpu_c.proofs.virtual_block_handle.VirtualBlockHandle.of.Statement.{statement}
@@ -40,7 +40,7 @@ of_spec 𝓤 𝓛 𝓜 𝓡 wired =
     qed 𝓛 ((raw (alive 𝓛 f.signature κs qs) ⊛ ‵ (owns (types_at (f.signature).params κs) z.0.3 z.0.4)) ∷ raw ((c κs z.0.3).requires z.1) ∷ []) ∵ split ! $ move ! (1 ∷ []) $ fsplit ! $ raw_box_out
     Behind Z LZ ghosts ! v z.0.4.0 (λ b o h e ws fits.
     let w : Val = both (vptr b o) h in let typed = raw_box_good Behind Z LZ ghosts b o h fits in
-    let n : Hand.Denot = record { at = block_ptr b o; value = Some v.value } in let Told : Type 0 = n.value ≡ Some v.value in
+    let n : Hand.Denot = record { opaque = block_ptr b o; value = Some v.value } in let Told : Type 0 = n.value ≡ Some v.value in
     suffices ! (Run (w ∷ [])) (subst (λ (us : List Val). ent 𝓤 (Run (w ∷ [])) (Run us)) (sym (λ i. ws i ++ [])) (id⊢ 𝓤 (Run (w ∷ [])))) $
     enter ! 𝓣.C 𝓣.Λ fn (w ∷ []) Post $ alloc_all ! (λ l. pass_all ! refl (typed, tt) $
     sets ! (of_opd ! (get_in ! (fld ! refl (stop !)) (sub ! 0 refl (whole !)))) refl (tt, tt) $ sets ! (of_opd ! (get ! refl)) refl (tt, tt) $

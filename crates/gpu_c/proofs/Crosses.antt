@@ -1,0 +1,165 @@
+-- What lies behind the handles of the C library may go to another thread: each of its types names no thread's token.
+use denote.RattleType.{RattleType}
+use denote.Param.Send.{IsSend, sendable}
+use denote.Builtin.{bool, u64, usize}
+use Rattle.core.specs.contracts.hash.build.BuildHasherDefault as BuildHasherDefault
+use Rattle.core.specs.contracts.hash.fold.FoldHasher as FoldHasher
+use Rattle.core.specs.declared.cmp.PartialEq as eq
+use Rattle.core.specs.contracts.option.Option as Option
+use Rattle.std.proofs.Crossing as heap
+use Rattle.std.proofs.Crossing.{Vec-send, Deque-send}
+use Rattle.std.proofs.MapsCrossing.{HashMap-send}
+use Rattle.tiered_vec.specs.contracts.ring.Ring as Ring
+use Rattle.tiered_vec.specs.contracts.tiers.Tiers as Tiers
+use Rattle.tiered_vec.specs.contracts.tiered_vec.Body as Body
+use Rattle.tiered_vec.specs.contracts.tiered_vec.TieredVec as TieredVec
+use Rattle.gpu_block_gaps.specs.contracts.index.Gap as Gap
+use Rattle.gpu_block_gaps.specs.contracts.index.GapIndex as GapIndex
+use Rattle.gpu_block_chunks.specs.contracts.name.Name as Name
+use Rattle.gpu_block_chunks.specs.contracts.chunk.Chunk as Chunk
+use Rattle.gpu_block_chunks.specs.contracts.chain.link.LinkedChunk as LinkedChunk
+use Rattle.gpu_cost.specs.contracts.cost.Cost as Cost
+use Rattle.gpu_block_chunks.specs.contracts.chain.slots.Slot as Slot
+use Rattle.gpu_block_chunks.specs.contracts.chain.slots.Slots as Slots
+use Rattle.gpu_block_chunks.specs.contracts.chain.nodes.Nodes as Nodes
+use Rattle.gpu_block_chunks.specs.contracts.chain.Chain as Chain
+use Rattle.gpu_block_pieces.specs.contracts.chunks.Chunks as Chunks
+use Rattle.gpu_block_pieces.specs.contracts.cut_block.CutBlock as CutBlock
+use Rattle.gpu_block.specs.contracts.free_list.FreeListAllocator as FreeList
+use Rattle.gpu_block.specs.contracts.dedicated_block.DedicatedBlockAllocator as Dedicated
+use Rattle.gpu_block.specs.contracts.sub_allocator.SubAllocator as SubAllocator
+use Rattle.gpu_core.specs.contracts.slot.LiveBlock as Live
+use Rattle.gpu_core.specs.contracts.slots.Slots as Rows
+use Rattle.gpu_core.specs.contracts.longest.Longest as Longest
+use Rattle.gpu_core.specs.contracts.need.PendingBlock as PendingBlock
+use Rattle.gpu_core.specs.contracts.need.NeedBlock as NeedBlock
+use Rattle.gpu_core.specs.contracts.memory_type.MemoryType as MemoryType
+use Rattle.gpu_values.specs.contracts.allocation_sizes.AllocationSizes as AllocationSizes
+use Rattle.gpu_c.specs.contracts.memory_type.AwaitingType as AwaitingType
+use Rattle.gpu_c.specs.contracts.virtual_block.VirtualBlock as VirtualBlock
+
+name_send : IsSend Name.the_row
+name_send = search (sendable, Vec-send) depth 20
+
+chunk_send : IsSend (Chunk.the_field).row
+chunk_send = let n = name_send in search sendable depth 20
+
+linked_send : IsSend (LinkedChunk.the_field).row
+linked_send = let c = chunk_send in search sendable depth 20
+
+gap_send : IsSend Gap.the_row
+gap_send = search sendable depth 20
+
+module _ (T : RattleType) (s : IsSend T) where
+  ring_send : IsSend (Ring.the_row T)
+  ring_send = search (Deque-send, sendable) depth 20
+
+  tiers_send : IsSend (Tiers.the_row T)
+  tiers_send = let r = ring_send in search (sendable, Vec-send) depth 20
+
+  body_send : IsSend (Body.the_field T).row
+  body_send = let t = tiers_send in search (sendable, Vec-send) depth 20
+
+  tiered_send : IsSend (TieredVec.the_row T)
+  tiered_send = let b = body_send in search sendable depth 20
+
+index_send : IsSend GapIndex.the_row
+index_send = let t = tiered_send Gap.the_row gap_send in search sendable depth 20
+
+slot_send : IsSend (Slot.the_field).row
+slot_send = let c = linked_send in search sendable depth 20
+
+slots_send : IsSend Slots.the_row
+slots_send = let s = slot_send in search (sendable, Vec-send) depth 20
+
+pub key_send : IsSend u64
+key_send = search sendable
+
+pub place_send : IsSend usize
+place_send = search sendable
+
+builder_send : IsSend (BuildHasherDefault.the_row FoldHasher.the_row)
+builder_send = search sendable depth 20
+
+nodes_send : IsSend Nodes.the_row
+nodes_send = let s = slots_send in let k = key_send in let v = place_send in let b = builder_send in search (HashMap-send, sendable) depth 20
+
+chain_send : IsSend Chain.the_row
+chain_send = let n = nodes_send in search sendable depth 20
+
+chunks_send : IsSend Chunks.the_row
+chunks_send = let c = chain_send in let i = index_send in search sendable depth 20
+
+cut_send : IsSend CutBlock.the_row
+cut_send = let c = chunks_send in search sendable depth 20
+
+cost_send : IsSend Cost.the_row
+cost_send = search sendable depth 20
+
+list_send : IsSend FreeList.the_row
+list_send = let c = cut_send in let k = cost_send in search sendable depth 20
+
+dedicated_send : IsSend Dedicated.the_row
+dedicated_send = let c = chunk_send in search sendable depth 20
+
+pub sub_send : IsSend (SubAllocator.the_field).row
+sub_send = let l = list_send in let d = dedicated_send in search sendable depth 20
+
+pub block_send : IsSend VirtualBlock.the_row
+block_send = let s = sub_send in search sendable depth 20
+
+-- ---- a memory type
+longest_send : IsSend Longest.the_row
+longest_send = search (sendable, Vec-send) depth 20
+
+module _ (H : RattleType) (s : IsSend H) where
+  live_send : IsSend (Live.the_field H).row
+  live_send = let a = sub_send in search sendable depth 20
+
+  rows_send : IsSend (Rows.the_row H)
+  rows_send = let l = live_send in let r = longest_send in search (sendable, Vec-send) depth 20
+
+room_send : IsSend PendingBlock.the_row
+room_send = let a = sub_send in search sendable depth 20
+
+need_send : IsSend (NeedBlock.the_field).row
+need_send = let r = room_send in search sendable depth 20
+
+sizes_send : IsSend AllocationSizes.the_row
+sizes_send = search sendable depth 20
+
+bool_send : IsSend bool
+bool_send = search sendable
+
+budget_send : IsSend (Option.the_field u64).row
+budget_send = search sendable depth 20
+
+module _ (H : RattleType) (e : eq.Ghosts H.Denot) (s : IsSend H) where
+  pub type_send : IsSend (MemoryType.the_row H e)
+  type_send =
+      let r = rows_send H s in let u = key_send in let n = place_send in let b = budget_send in let g = heap.send in let i = bool_send in
+      record {
+        owned = λ d vs x. (
+          (λ vss. (
+            tt,
+            (
+              i.owned x.0.is_host vss.0,
+              (
+                u.owned x.0.granularity vss.1.0,
+                (
+                  r.owned _ vss.1.1.0,
+                  (u.owned x.0.capacity vss.1.1.1.0, (n.owned x.0.shared vss.1.1.1.1.0, (b.owned _ vss.1.1.1.1.1.0, (g.owned _ vss.1.1.1.1.1.1.0, tt)))),
+                ),
+              ),
+            ),
+          )),
+          tt,
+        );
+        leaving = λ k d w. tt;
+      }
+
+awaiting_of : ((e : eq.Ghosts u64.Denot) → IsSend (MemoryType.the_row u64 e)) → IsSend AwaitingType.the_row
+awaiting_of t = let n = need_send in let z = sizes_send in search (t, sendable) depth 20
+
+pub awaiting_send : IsSend AwaitingType.the_row
+awaiting_send = awaiting_of (λ e. type_send u64 e key_send)

@@ -1,0 +1,65 @@
+-- The statuses of the library's errors.
+use Rattle.std.specs.Prelude.{◌≡◌, ◌⊎◌, ℕ, List, [], ◌∷◌}
+use Rattle.gpu_values.specs.declared.error.AllocationError.{AllocationError}
+use Rattle.gpu_values.specs.declared.error.AllocationError.TheVariants as errors
+
+-- ---- what calls out: 1 to 11 are the numbers of the library's errors, from 100 on a handle is in the wrong state
+
+-- the call did what it says
+abbrev pub ok : ℕ
+ok = 0
+
+-- no place in the block, or a sum of blocks' sizes past 64 bits
+abbrev pub out_of_memory : ℕ
+out_of_memory = 1
+
+-- a request or a setting that nobody serves
+abbrev pub invalid : ℕ
+invalid = 4
+
+-- no live piece is the one that was named
+abbrev pub not_live : ℕ
+not_live = 6
+
+-- the host refused memory
+abbrev pub host_out_of_memory : ℕ
+host_out_of_memory = 10
+
+-- a block more would pass the budget
+abbrev pub budget_exceeded : ℕ
+budget_exceeded = 11
+
+-- the handle is empty
+abbrev pub no_handle : ℕ
+no_handle = 100
+
+-- the handle isn't empty
+abbrev pub in_use : ℕ
+in_use = 101
+
+-- a block is awaited
+abbrev pub awaits_block : ℕ
+awaits_block = 102
+
+-- no block is awaited
+abbrev pub awaits_no_block : ℕ
+awaits_no_block = 103
+
+-- blocks and memory types out no other error than the first five; Internal is theirs for a piece that isn't live
+abbrev pub status_of : AllocationError → ℕ
+status_of errors.OutOfMemory = out_of_memory
+status_of errors.HostOutOfMemory = host_out_of_memory
+status_of errors.InvalidAllocationCreateDesc = invalid
+status_of errors.BudgetExceeded = budget_exceeded
+status_of (errors.Internal _) = not_live
+status_of (errors.FailedToMap _) = not_live
+status_of errors.NoCompatibleMemoryTypeFound = not_live
+status_of (errors.InvalidAllocatorCreateDesc _) = not_live
+status_of errors.BarrierLayoutNeedsDevice10 = not_live
+status_of errors.CastableFormatsRequiresEnhancedBarriers = not_live
+status_of errors.CastableFormatsRequiresAtLeastDevice12 = not_live
+
+-- a call returns no other status than these
+abbrev pub IsOneOf : ℕ → List ℕ → Type 0
+IsOneOf status [] = ⊥
+IsOneOf status (s ∷ statuses) = (status ≡ s) ⊎ IsOneOf status statuses

@@ -1,0 +1,49 @@
+//! What the calls out. 1 to 11 are the library's errors E1 to E11; from 100 on a handle is in the wrong state.
+
+ghost use Rattle.std.specs.Prelude.{◌≡◌};
+ghost use Rattle.gpu_c.specs.Status.{status_of};
+
+use gpu_values::AllocationError;
+
+/// The call did what it says.
+pub const OK: u32 = 0;
+
+/// There is no place in the block, or the sum of the blocks' sizes would pass 2^64 - 1.
+pub const OUT_OF_MEMORY: u32 = 1;
+
+/// A size of 0, an alignment or a page size that isn't a power of two, an unknown kind, or a name that isn't UTF-8.
+pub const INVALID: u32 = 4;
+
+/// No live piece is the one that was named.
+pub const NOT_LIVE: u32 = 6;
+
+/// The host refused memory.
+pub const HOST_OUT_OF_MEMORY: u32 = 10;
+
+/// A block more would pass the budget.
+pub const BUDGET_EXCEEDED: u32 = 11;
+
+/// The handle is empty.
+pub const NO_HANDLE: u32 = 100;
+
+/// The handle isn't empty, and create takes an empty one alone.
+pub const IN_USE: u32 = 101;
+
+/// A block is awaited: install or abandon it first.
+pub const AWAITS_BLOCK: u32 = 102;
+
+/// No block is awaited, so that there is none to install or to abandon.
+pub const AWAITS_NO_BLOCK: u32 = 103;
+
+/// The status of a refusal.
+pub fn status_of(error: &AllocationError) -> u32
+    ensures { result ≡ status_of error.now }
+{
+    match error {
+        AllocationError::OutOfMemory => OUT_OF_MEMORY,
+        AllocationError::HostOutOfMemory => HOST_OUT_OF_MEMORY,
+        AllocationError::InvalidAllocationCreateDesc => INVALID,
+        AllocationError::BudgetExceeded => BUDGET_EXCEEDED,
+        _ => NOT_LIVE,
+    }
+}

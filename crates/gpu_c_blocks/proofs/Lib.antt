@@ -1,2 +1,0 @@
-mod VirtualBlockLaws
-mod MemoryTypeLaws

@@ -1,5 +1,0 @@
-use Rattle.std.proofs.Common.{rules}
-use Rattle.gpu_c_blocks.proofs.memory_type.AwaitingType.block.Goals as goal
-
-pub returns : goal.returns
-returns c = search rules

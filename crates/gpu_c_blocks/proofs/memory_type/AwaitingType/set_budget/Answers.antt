@@ -1,5 +1,0 @@
-use Rattle.std.proofs.Common.{rules}
-use Rattle.gpu_c_blocks.proofs.memory_type.AwaitingType.set_budget.Goals as goal
-
-pub returns-in-None-clause-bounded : goal.returns-in-None-clause-bounded
-returns-in-None-clause-bounded c = search rules

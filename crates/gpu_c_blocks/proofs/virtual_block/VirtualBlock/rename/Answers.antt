@@ -1,5 +1,0 @@
-use Rattle.std.proofs.Common.{rules}
-use Rattle.gpu_c_blocks.proofs.virtual_block.VirtualBlock.rename.Goals as goal
-
-pub returns-after-rename_allocation-clause-renamed : goal.returns-after-rename_allocation-clause-renamed
-returns-after-rename_allocation-clause-renamed c = search rules

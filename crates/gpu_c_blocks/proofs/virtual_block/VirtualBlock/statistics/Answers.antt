@@ -1,5 +1,0 @@
-use Rattle.std.proofs.Common.{rules}
-use Rattle.gpu_c_blocks.proofs.virtual_block.VirtualBlock.statistics.Goals as goal
-
-pub returns : goal.returns
-returns c = search rules

@@ -1,5 +1,0 @@
-pub mod Status
-pub mod Request
-pub mod VirtualBlock
-pub mod Visit
-pub mod MemoryType
