@@ -5,8 +5,8 @@ use Rattle.gpu_block.specs.Block.{HasPages}
 use Rattle.gpu_memory_types.specs.Blocks.{Slots}
 use Rattle.gpu_memory_types.specs.Types.{Types, slots_of, kinds}
 use Rattle.gpu_d3d12.specs.Setup as d3d12_setup
-use Rattle.gpu_metal.specs.Setup.{kinds_of_device}
-use Rattle.gpu_vulkan.specs.Types.{kinds_of_device}
+use Rattle.gpu_metal.specs.Setup as metal_setup
+use Rattle.gpu_vulkan.specs.Types as vulkan_types
 use Rattle.gpu_report.specs.declared.view.BlockView.{BlockView}
 use Rattle.gpu_report.specs.View.{ShownBlock, shown, shown_from}
 use Rattle.gpu_report.specs.BlocksJson.{blocks_json}
@@ -54,12 +54,12 @@ DrawsSlots {H} form slots told old new = (types : Types H) × (slots_of types �
 -- of a block trace its block, of a device trace what its allocator holds, in pages of the device's granularity
 abbrev pub DrawsVulkan : Form → vulkan.Stage → (old new : Option (List ℕ)) → Type 0
 DrawsVulkan form (Block stage) old new = DrawsBlock form stage old new
-DrawsVulkan form (Device s) old new = DrawsSlots form s.allocator.slots (kinds_of_device s.allocator.setup.properties) old new
+DrawsVulkan form (Device s) old new = DrawsSlots form s.allocator.slots (vulkan_types.kinds_of_device s.allocator.setup.properties) old new
 DrawsVulkan form _ old new = Appends old new (drawing form [])
 
 -- what a Metal trace's allocator holds, where pages don't matter
 abbrev pub DrawsMetal : Form → metal.Stage → (old new : Option (List ℕ)) → Type 0
-DrawsMetal form (metal_stages.Running s) old new = DrawsSlots form s.allocator.slots kinds_of_device old new
+DrawsMetal form (metal_stages.Running s) old new = DrawsSlots form s.allocator.slots metal_setup.kinds_of_device old new
 DrawsMetal form _ old new = Appends old new (drawing form [])
 
 -- what a DirectX 12 trace's allocator holds in its heaps, where pages don't matter
