@@ -1,4 +1,4 @@
-pub mod Halving
-pub mod Orders
-pub mod Moves
-pub mod Scans
+pub mod Rings
+pub mod Threads
+pub mod Indexing
+pub mod Surface

@@ -2,7 +2,9 @@
 #![tactic(auto)]
 
 mod index;
+mod order;
 mod scan;
+mod thread;
 
 pub use index::{Gap, GapIndex};
 pub use scan::Scan;

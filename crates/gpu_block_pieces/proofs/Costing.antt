@@ -220,11 +220,9 @@ module _ (cs : List Chunk) (size k counter : ℕ) (w : Wanted) (text : List ℕ)
       let ko = k.to in
       let sl = s.lookups in
       let sr = s.rises in
-      let cf = subst (λ (n : ℕ). old.comparisons + digits n ≤ new.comparisons + 1) how_many s.compared_from in
       let ct = subst (λ (n : ℕ). new.comparisons ≤ old.comparisons + digits n) how_many s.compared_to in
       rw (eb, ea) (record {
         rises = omega arith;
-        compared_from = omega arith;
         compared_to = omega arith;
         chosen = λ s e p best. kt ∙ t.0 s e p best;
         none = λ none. (kt ∙ t.1 none, none_of o new last h k none ∙ sl);

@@ -119,12 +119,11 @@ module _ (cs : List Chunk) (gs : List Gap) (w : Wanted) (old new : Cost) (same :
   pub spends : (o : Option Found) → MatchOption o
       (NoGapFits gs w × (new.tests ≡ old.tests + count_by (is_long w.size) gs))
       (λ f. (place : ℕ) × IsFirstFit gs w f place × (new.tests ≡ old.tests + count_by (is_long w.size) (take (place + 1) gs)))
-      → (old.comparisons ≤ new.comparisons) × (old.comparisons + digits (length gs) ≤ new.comparisons + 1) × (new.comparisons ≤ old.comparisons + digits (length gs)) → new.lookups ≡ old.lookups →
+      → (old.comparisons ≤ new.comparisons) × (new.comparisons ≤ old.comparisons + digits (length gs)) → new.lookups ≡ old.lookups →
       Spends cs w.size o old new
   spends o h c l = record {
     rises = c.0;
-    compared_from = subst (λ (n : ℕ). old.comparisons + digits n ≤ new.comparisons + 1) (same_length gs (gaps_between Free cs Free) same) c.1;
-    compared_to = subst (λ (n : ℕ). new.comparisons ≤ old.comparisons + digits n) (same_length gs (gaps_between Free cs Free) same) c.2;
+    compared_to = subst (λ (n : ℕ). new.comparisons ≤ old.comparisons + digits n) (same_length gs (gaps_between Free cs Free) same) c.1;
     tests = tests_of o h;
     lookups = l;
   }

@@ -189,7 +189,6 @@ tested n (Some f) gs = count_by (is_tried n f.gap) gs
 -- what a search for n bytes costs
 pub record Spends (cs : List Chunk) (n : ℕ) (found : Option Found) (old new : Cost) : Type 0 where
   pub rises : old.comparisons ≤ new.comparisons
-  pub compared_from : old.comparisons + digits (length (gaps_between Free cs Free)) ≤ new.comparisons + 1
   pub compared_to : new.comparisons ≤ old.comparisons + digits (length (gaps_between Free cs Free))
   pub tests : new.tests ≡ old.tests + tested n found (gaps_between Free cs Free)
   pub lookups : new.lookups ≡ old.lookups

@@ -23,11 +23,10 @@ is_long_span n s = nat_le n s.0
 abbrev pub is_tried_span : ℕ → ℕ → ℕ → ℕ × ℕ → Bool
 is_tried_span n start end s = is_long_span n s && (nat_lt s.0 (end - start) || (s.0 == end - start && nat_le s.1 start))
 
--- what finding and taking a place costs. With k gaps at most digits(k) comparisons of a length, and at least one less; a test for each gap that is long enough, up to the chosen one in the order of
+-- what finding and taking a place costs. With k gaps at most digits(k) comparisons of a length; a test for each gap that is long enough, up to the chosen one in the order of
 -- length and start, and for all of them where none fits. To take the place, at most four chunks are looked up, at most one where no rest is left, and none where no gap fits
 pub record IsSearch (b : FreeList) (r : Request) (old new : Counts) : Type 0 where
   pub rises : old.comparisons ≤ new.comparisons
-  pub compared_from : old.comparisons + digits (length b.gap_chunk_ids) ≤ new.comparisons + 1
   pub compared_to : new.comparisons ≤ old.comparisons + digits (length b.gap_chunk_ids)
   pub chosen : (start end offset : ℕ) → IsBestFit b r start end offset → new.tests ≡ old.tests + count_by (is_tried_span r.size start end) (gap_spans b)
   pub none : ((start end offset : ℕ) → Fits b r start end offset → ⊥) → (new.tests ≡ old.tests + count_by (is_long_span r.size) (gap_spans b)) × (new.lookups ≡ old.lookups)

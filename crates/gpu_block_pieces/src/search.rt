@@ -1,4 +1,4 @@
-//! The search for the chosen gap: the first that is long enough is found by halving, and from there gaps are tested in
+//! The search for the chosen gap: the first that is long enough is found by its length's class and bits, and from there gaps are tested in
 //! the index's order up to the first that fits.
 
 ghost use Rattle.std.specs.Prelude.{◌≡◌, ℕ, ◌+◌, ◌-◌, ◌<◌, ◌≤◌, length, take, MatchOption, IsTrue};
@@ -12,12 +12,11 @@ use crate::place::{Wanted, place_between};
 use gpu_block_gaps::{Gap, GapIndex};
 use gpu_cost::Cost;
 
-/// A gap that serves, the piece's offset in it, and the gap's place in the index.
+/// A gap that serves, and the piece's offset in it.
 #[derive(Clone, Copy)]
 pub struct Found {
     pub gap: Gap,
     pub offset: u64,
-    pub place: usize,
 }
 
 /// The place of the request in the gap, if it fits.
@@ -43,16 +42,13 @@ pub fn find(index: &GapIndex, wanted: Wanted, cost: &mut Cost) -> Option<Found>
         × (cost.new.tests ≡ cost.old.tests + count_by (is_long wanted.size) (take (place + 1) index.now.gaps))) }
     ensures ordered { AllPairs Before index.now.gaps }
     ensures comparisons { (cost.old.comparisons ≤ cost.new.comparisons)
-        × (cost.old.comparisons + digits (length index.now.gaps) ≤ cost.new.comparisons + 1)
         × (cost.new.comparisons ≤ cost.old.comparisons + digits (length index.now.gaps)) }
     ensures lookups { cost.new.lookups ≡ cost.old.lookups }
 {
-    let place = index.first_at_least(wanted.size, cost);
-    let mut scan = index.scan(place);
+    let mut scan = index.first_at_least(wanted.size, cost);
     while let Some(gap) = scan.next(cost) {
         if let Some(offset) = place_in(gap, wanted) {
-            let place = scan.place() - 1;
-            return Some(Found { gap, offset, place });
+            return Some(Found { gap, offset });
         }
     }
     None

@@ -10,12 +10,12 @@ ghost use Rattle.gpu_block_gaps.specs.declared.index.Gap.{Gap};
 ghost use Rattle.gpu_block_gaps.specs.Index.{HasNoKey};
 
 use crate::search::Found;
-use gpu_block_chunks::{Chain, Name, Neighbour, Neighbours, is_free};
+use gpu_block_chunks::{Neighbours, Neighbour, Chain, Name, is_free};
 use gpu_block_gaps::{Gap, GapIndex};
 use gpu_cost::Cost;
 use gpu_values::AllocationType;
 
-/// Puts a piece into the front of the found gap. There is room for it, so no memory is taken.
+/// Gives the front of the found gap to a piece. There is room for it, so no memory is taken.
 pub fn allocate_front(
     chain: &mut Chain,
     index: &mut GapIndex,
@@ -41,15 +41,7 @@ pub fn allocate_front(
 {
     chain.laid_out();
     let gap = found.gap;
-    chain.split_front(
-        gap.chunk_id,
-        chunk_id,
-        taken,
-        found.offset,
-        kind,
-        name,
-        cost,
-    );
+    chain.split_front(gap.chunk_id, chunk_id, taken, found.offset, kind, name, cost);
     index.in_order();
     let rest = Gap {
         length: gap.length - taken,
@@ -58,10 +50,10 @@ pub fn allocate_front(
         before: kind,
         after: gap.after,
     };
-    index.replace(gap.length, gap.start, Some(found.place), rest);
+    index.replace(gap.length, gap.start, rest);
 }
 
-/// Puts a piece into the whole found gap. It takes no memory.
+/// Gives the whole found gap to a piece. It takes no memory.
 pub fn allocate_whole(
     chain: &mut Chain,
     index: &mut GapIndex,
@@ -81,7 +73,7 @@ pub fn allocate_whole(
 {
     chain.laid_out();
     let gap = found.gap;
-    index.remove(gap.length, gap.start, Some(found.place));
+    index.remove(gap.length, gap.start);
     chain.fill(gap.chunk_id, found.offset, kind, name, cost);
 }
 
@@ -93,7 +85,7 @@ fn forget(index: &mut GapIndex, beside: Option<Neighbour>)
 {
     if let Some(beside) = beside {
         if is_free(beside.kind) {
-            index.remove(beside.size, beside.start, None);
+            index.remove(beside.size, beside.start);
         }
     }
 }
@@ -119,7 +111,7 @@ fn put(index: &mut GapIndex, beside: Option<Neighbour>, gap: Gap)
     match beside {
         Some(beside) => {
             if is_free(beside.kind) {
-                index.replace(beside.size, beside.start, None, gap);
+                index.replace(beside.size, beside.start, gap);
             } else {
                 index.insert(gap);
             }

@@ -4,6 +4,4 @@
 #[cfg(test)]
 mod block;
 #[cfg(test)]
-mod lists;
-#[cfg(test)]
 mod values;

@@ -20,10 +20,9 @@ digits_up_to (suc most) n = if n == 0 then 0 else digits_up_to most (n / 2) + 1
 unfoldable pub digits : ℕ → ℕ
 digits n = digits_up_to n n
 
--- n lengths were halved: a comparison for each binary digit of n, or one less, and nothing else is counted
-pub record Halves (n : ℕ) (old new : Cost) : Type 0 where
+-- at most as many lengths were compared as n has binary digits, and nothing else is counted
+pub record Compares (n : ℕ) (old new : Cost) : Type 0 where
   pub rises : old.comparisons ≤ new.comparisons
-  pub from : old.comparisons + digits n ≤ new.comparisons + 1
   pub to : new.comparisons ≤ old.comparisons + digits n
   pub tests : new.tests ≡ old.tests
   pub lookups : new.lookups ≡ old.lookups

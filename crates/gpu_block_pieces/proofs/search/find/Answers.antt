@@ -7,19 +7,19 @@ use Rattle.gpu_block_pieces.proofs.search.find.Goals as goal
 
 pub loop-gap-init : goal.loop-gap-init
 loop-gap-init c =
-    let z = counts_short c.args.index.now.gaps c.args.wanted.size c.first_at_least-place.result c.first_at_least-place.ensures.within c.first_at_least-place.ensures.below in
-    let n = c.first_at_least-place.ensures.counted in
-    let first = c.first_at_least-place.ensures in
-    rw c.scan-scan.ensures (record {
-      same = refl;
+    let z = counts_short c.args.index.now.gaps c.args.wanted.size c.first_at_least-scan.result.place c.first_at_least-scan.ensures.within c.first_at_least-scan.ensures.below in
+    let n = c.first_at_least-scan.ensures.counted in
+    let first = c.first_at_least-scan.ensures in
+    record {
+      same = first.gaps;
       within = first.within;
       past = λ k o d lt f. short_fails c.args.wanted (get_or c.args.index.now.gaps k d) o (first.below k d lt) f;
       from = first.from;
-      comparisons = (n.rises, n.from, n.to);
+      comparisons = (n.rises, n.to);
       tests = omega (arith, z, n.tests);
       lookups = n.lookups;
       ordered = first.ordered;
-    })
+    }
 
 pub loop-gap-preserved : goal.loop-gap-preserved
 loop-gap-preserved c =
@@ -35,7 +35,7 @@ loop-gap-preserved c =
       within = omega arith;
       past = rw p (one_more_past c.args.index.now.gaps c.args.wanted c.loop-gap.scan.place c.in-Some.gap at c.in_default-place_in.ensures i.past);
       from = λ k d le lt. i.from k d (omega (arith, p)) lt;
-      comparisons = (omega (arith, o.0, i.comparisons.0), omega (arith, o.0, i.comparisons.1), omega (arith, o.0, i.comparisons.2));
+      comparisons = (omega (arith, o.0, i.comparisons.0), omega (arith, o.0, i.comparisons.1));
       tests = rw p (omega (arith, i.tests));
       lookups = o.1 ∙ i.lookups;
       ordered = i.ordered;

@@ -12,7 +12,7 @@ invariant-loop-gap l = record {
   within : (l.scan).place ≤ length l.index.gaps;
   past : (k o : ℕ) (d : Gap) → k < (l.scan).place → FitsGap l.wanted (get_or l.index.gaps k d) o → ⊥;
   from : (k : ℕ) (d : Gap) → (l.scan).place ≤ k → k < length l.index.gaps → (l.wanted).size ≤ (get_or l.index.gaps k d).length;
-  comparisons : ((l.fn.cost).comparisons ≤ l.cost.comparisons) × ((l.fn.cost).comparisons + digits (length l.index.gaps) ≤ l.cost.comparisons + 1) ×
+  comparisons : ((l.fn.cost).comparisons ≤ l.cost.comparisons) ×
       (l.cost.comparisons ≤ (l.fn.cost).comparisons + digits (length l.index.gaps));
   tests : l.cost.tests ≡ (l.fn.cost).tests + count_by (is_long (l.wanted).size) (take (l.scan).place l.index.gaps);
   lookups : l.cost.lookups ≡ (l.fn.cost).lookups;

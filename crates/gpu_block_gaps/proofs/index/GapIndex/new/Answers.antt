@@ -1,5 +1,7 @@
-use Rattle.std.proofs.Common.{rules}
+use Rattle.gpu_block_gaps.specs.Ordered.{key_in}
+use Rattle.std.proofs.Common.{[]}
+use Rattle.gpu_block_gaps.proofs.Surface.{none_indexed}
 use Rattle.gpu_block_gaps.proofs.index.GapIndex.new.Goals as goal
 
-pub returns-clause-room : goal.returns-clause-room
-returns-clause-room c = search rules
+pub invariant_of-result : goal.invariant_of-result
+invariant_of-result c = none_indexed c.new.result c.new-2.result c.new.ensures.0 c.new.ensures.1 (c.new-2.ensures.trees (key_in []))

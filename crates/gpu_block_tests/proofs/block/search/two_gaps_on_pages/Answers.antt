@@ -4,7 +4,7 @@ use Rattle.gpu_block_tests.proofs.block.search.two_gaps_on_pages.Goals as goal
 
 pub returns : goal.returns
 returns c = λ x y r old new ex ey er best s. (
-  (let a : old.comparisons + 2 ≤ new.comparisons + 1 = subst (λ n. old.comparisons + n ≤ new.comparisons + 1) digits_two s.compared_from in omega (arith, a)),
+  s.rises,
   subst (λ n. new.comparisons ≤ old.comparisons + n) digits_two s.compared_to,
   s.chosen 2064 4194304 2064 best ∙ ap (λ n. old.tests + n) (two_tests x y r.size ex ey er),
 )

@@ -1,0 +1,17 @@
+pub mod Bits
+pub mod Classes
+pub mod Words
+pub mod Trees
+pub mod Shapes
+pub mod Growing
+pub mod Grown
+pub mod Laying
+pub mod Places
+pub mod Pruning
+pub mod Forests
+pub mod Planting
+pub mod Uprooting
+pub mod Rooms
+pub mod Positions
+pub mod Finding
+pub mod Ordered

@@ -1,0 +1,72 @@
+use Rattle.std.proofs.Common.{◌≡◌, ◌<◌, ◌≤◌, ◌+◌, ◌*◌, ◌^◌, ℕ, List, length, get_or, ap, subst, ◌∙◌, arith}
+use Rattle.std.specs.List.{AllPairs}
+use Rattle.std.proofs.lemmas.List.{length-map}
+use Rattle.gap_tree.specs.Order.{IsPlaceIn}
+use Rattle.gap_tree.proofs.Positions.{place_there}
+use Rattle.gpu_cost.specs.declared.cost.Cost.{Cost}
+use Rattle.gpu_cost.specs.Cost.{digits}
+use Rattle.gpu_block_gaps.specs.declared.index.Gap.{Gap}
+use Rattle.gpu_block_gaps.specs.Index.{Before, Index}
+use Rattle.gpu_block_gaps.specs.Thread.{gap_in}
+use Rattle.gpu_block_gaps.specs.Ordered.{key_in, gaps_of}
+use Rattle.gpu_block_gaps.proofs.Surface.{gaps_sorted, shorter_below, longer_from, some_gap, one_digit}
+use Rattle.gpu_block_gaps.proofs.index.GapIndex.first_at_least.Goals.{in-Nothing, in_default, After-next_from, After-new}
+use Rattle.gpu_block_gaps.proofs.index.GapIndex.first_at_least.Goals as goal
+
+pub new-requires : goal.new-requires
+new-requires c =
+    let t = c.self.inside.thread in
+    let place = place_there (key_in t.gaps) t.order c.self.invariant.1.ordered.sorted (c.args.size * 2 ^ 64 + 0) in
+    (place.0, place.1.within, c.next_from.ensures place.0 place.1)
+
+-- the place that the scan begins at
+found : (c : After-new) → (p : ℕ) × IsPlaceIn (key_in c.self.inside.thread.gaps) c.self.inside.thread.order (c.args.size * 2 ^ 64 + 0) p × (c.new.result.place ≡ p)
+found c =
+    let t = c.self.inside.thread in
+    let place = place_there (key_in t.gaps) t.order c.self.invariant.1.ordered.sorted (c.args.size * 2 ^ 64 + 0) in
+    (place.0, place.1, c.new.ensures.place place.0 place.1.within (c.next_from.ensures place.0 place.1))
+
+pub returns-clause-within : goal.returns-clause-within
+returns-clause-within c =
+    let at = found c in
+    let within = at.1.within in
+    let is = at.2 in
+    let seen = ap (λ (x : Index). length x.gaps) c.self.view_is in
+    let long = length-map c.self.inside.thread.order (gap_in c.self.inside.thread.gaps) in
+    omega arith
+
+pub returns-clause-below : goal.returns-clause-below
+returns-clause-below c =
+    let at = found c in
+    subst (λ (gs : List Gap). (k : ℕ) (d : Gap) → k < c.new.result.place → (get_or gs k d).length < c.args.size) (ap (λ (x : Index). x.gaps) c.self.view_is)
+    (λ k d lt. shorter_below c.self.inside.thread c.self.inside.forest c.self.invariant.0 c.self.invariant.1 c.args.size at.0 at.1 k d (let is = at.2 in omega arith))
+
+pub returns-clause-from : goal.returns-clause-from
+returns-clause-from c =
+    let at = found c in
+    subst (λ (gs : List Gap). (k : ℕ) (d : Gap) → c.new.result.place ≤ k → k < length gs → c.args.size ≤ (get_or gs k d).length) (ap (λ (x : Index). x.gaps) c.self.view_is)
+    (λ k d le lt. longer_from c.self.inside.thread c.self.inside.forest c.self.invariant.0 c.self.invariant.1 c.args.size at.0 at.1 k d (let is = at.2 in omega arith) lt)
+
+pub returns-clause-ordered : goal.returns-clause-ordered
+returns-clause-ordered c = subst (λ (gs : List Gap). AllPairs Before gs) (ap (λ (x : Index). x.gaps) c.self.view_is) (gaps_sorted c.self.inside.thread c.self.inside.forest c.self.invariant.0 c.self.invariant.1)
+
+pub returns-clause-counted : goal.returns-clause-counted
+returns-clause-counted c = elim c.match-near.branch [
+  | in-Nothing w ↦ (
+      let is = w.cost-is in
+      let comparisons = ap (λ (x : Cost). x.comparisons) is in
+      record { rises = omega arith; to = omega arith; tests = ap (λ (x : Cost). x.tests) is; lookups = ap (λ (x : Cost). x.lookups) is })
+  | in_default w ↦ (
+      let is = w.cost-is in
+      let comparisons = ap (λ (x : Cost). x.comparisons) is ∙ w.compare.ensures.comparisons in
+      let t = c.self.inside.thread in
+      let some = some_gap t c.self.inside.forest c.self.invariant.0 c.self.invariant.1 (c.args.size * 2 ^ 64 + 0) c.look_near-near.result (c.look_near-near.ensures c.self.invariant.0 c.self.invariant.1) w.in_default.not-Nothing in
+      let one = one_digit (length (gaps_of t)) some in
+      let seen : digits (length (gaps_of t)) ≡ digits (length c.args.self.now.gaps) = ap (λ (x : Index). digits (length x.gaps)) c.self.view_is in
+      record {
+        rises = omega arith;
+        to = omega arith;
+        tests = ap (λ (x : Cost). x.tests) is ∙ w.compare.ensures.tests;
+        lookups = ap (λ (x : Cost). x.lookups) is ∙ w.compare.ensures.lookups;
+      })
+]

@@ -1,0 +1,128 @@
+//! The gaps in the order of length and start: their thread, and the trees that find a gap's slot.
+
+ghost use Rattle.std.specs.Prelude.{◌≡◌, ◌≢◌, ℕ, ◌+◌, ◌^◌, ◌<◌, ◌≤◌, List, length, slice_index, Option, Some, vec_len, slice_set};
+ghost use Rattle.gap_tree.specs.Key.{code_of};
+ghost use Rattle.gap_tree.specs.Tree.{Tree};
+ghost use Rattle.gap_tree.specs.Forest.{IsForest, IsWide, KeepsRoom, class_in};
+ghost use Rattle.gap_tree.specs.Order.{IsPlaceIn, Gains};
+ghost use Rattle.gpu_block_gaps.specs.Index.{HasNoKey, HasKeyAt, IsInserted, IsRemoved, IsReplaced};
+ghost use Rattle.gpu_block_gaps.specs.Ordered.{code, key_in, gaps_of, AreIndexed, IsIndexed, IsNearby};
+
+use crate::index::Gap;
+use crate::thread::Thread;
+use gap_tree::{Forest, Key, Place};
+
+/// What the tree of a key's class has: nothing, the slot of that key, or a key that differs first in that bit.
+#[derive(Clone, Copy)]
+pub enum Nearby {
+    Nothing,
+    Same(u32),
+    Apart(u32),
+}
+
+fn key_of(gap: &Gap) -> Key
+    ensures { code_of result ≡ code gap.now }
+{
+    Key {
+        length: gap.length,
+        start: gap.start,
+    }
+}
+
+/// Looks for a key in the tree of its class.
+pub fn look_near(thread: &Thread, forest: &Forest, key: Key) -> Nearby
+    requires { IsIndexed thread.now forest.now }
+    ensures { (trees : List (Option Tree)) → AreIndexed thread.now forest.now trees → IsNearby (key_in thread.now.gaps) forest.now.digits trees (code_of key) result }
+{
+    thread.sound();
+    let Some(slot) = forest.near(key) else {
+        return Nearby::Nothing;
+    };
+    match key.split(key_of(&thread.gap(slot))) {
+        Some(bit) => Nearby::Apart(bit),
+        None => Nearby::Same(slot),
+    }
+}
+
+/// The slot of the first gap from a key on, 0 where there is none.
+pub fn next_from(thread: &Thread, forest: &Forest, key: Key, nearby: Nearby) -> u32
+    requires { (trees : List (Option Tree)) × AreIndexed thread.now forest.now trees × IsNearby (key_in thread.now.gaps) forest.now.digits trees (code_of key) nearby }
+    ensures { (place : ℕ) → IsPlaceIn (key_in thread.now.gaps) thread.now.order (code_of key) place → result ≡ slice_index thread.now.order place }
+{
+    match nearby {
+        Nearby::Nothing => match forest.first_later(key) {
+            Some(slot) => slot,
+            None => 0,
+        },
+        Nearby::Same(slot) => slot,
+        Nearby::Apart(bit) => match forest.place(key, bit) {
+            Place::Before(slot) => slot,
+            Place::After(slot) => thread.next(slot),
+        },
+    }
+}
+
+/// Puts a slot into the tree of its key's class.
+fn plant(forest: &mut Forest, key: Key, nearby: Nearby, slot: u32)
+    requires there { (at : ℕ → ℕ) × (trees : List (Option Tree)) × IsForest at forest.old trees × IsNearby at forest.old.digits trees (code_of key) nearby }
+    requires new { (other : ℕ) → nearby ≢ Nearby.Same other }
+    requires wide { IsWide forest.old }
+    requires spare { 0 < vec_len forest.old.spare }
+    ensures trees { (at : ℕ → ℕ) (trees : List (Option Tree)) → IsForest at forest.old trees → at slot ≡ code_of key → IsNearby at forest.old.digits trees (code_of key) nearby
+        → let class = class_in forest.old.digits (code_of key) in (new : Tree) × IsForest at forest.new (slice_set trees class (Some new)) × Gains trees class slot new }
+    ensures room { KeepsRoom forest.old forest.new }
+{
+    match nearby {
+        Nearby::Nothing => forest.insert_first(key, slot),
+        Nearby::Apart(bit) => forest.insert_beside(key, bit, slot),
+        Nearby::Same(_) => unreachable!(),
+    }
+}
+
+/// Puts a gap into a slot, into the order and into the tree of its class. There is room for it, so no memory is taken.
+pub fn put(thread: &mut Thread, forest: &mut Forest, gap: Gap)
+    requires indexed { IsIndexed thread.old forest.old }
+    requires room { length thread.old.order + 1 < length thread.old.gaps }
+    requires fresh { HasNoKey (gaps_of thread.old) gap.length gap.start }
+    ensures indexed { IsIndexed thread.new forest.new }
+    ensures gaps { IsInserted (gaps_of thread.old) gap (gaps_of thread.new) }
+    ensures room { length thread.new.gaps ≡ length thread.old.gaps }
+{
+    let key = key_of(&gap);
+    let nearby = look_near(thread, forest, key);
+    let next = next_from(thread, forest, key, nearby);
+    let slot = thread.insert(gap, next);
+    plant(forest, key, nearby, slot);
+}
+
+/// Takes the gap of that length and start out of its slot, of the order and of the tree of its class.
+pub fn take(thread: &mut Thread, forest: &mut Forest, size: u64, start: u64)
+    requires indexed { IsIndexed thread.old forest.old }
+    requires there { HasKeyAt (gaps_of thread.old) size start }
+    ensures indexed { IsIndexed thread.new forest.new }
+    ensures gaps { IsRemoved (gaps_of thread.old) size start (gaps_of thread.new) }
+    ensures room { length thread.new.gaps ≡ length thread.old.gaps }
+    ensures fewer { length thread.new.order + 1 ≡ length thread.old.order }
+{
+    thread.sound();
+    let key = Key {
+        length: size,
+        start,
+    };
+    let slot = forest.remove(key);
+    thread.remove(slot);
+}
+
+/// Puts a gap in its place, and takes the one of that length and start out. It takes no memory.
+pub fn exchange(thread: &mut Thread, forest: &mut Forest, size: u64, start: u64, gap: Gap)
+    requires indexed { IsIndexed thread.old forest.old }
+    requires there { HasKeyAt (gaps_of thread.old) size start }
+    requires fresh { (rest : List Gap) → IsRemoved (gaps_of thread.old) size start rest → HasNoKey rest gap.length gap.start }
+    ensures indexed { IsIndexed thread.new forest.new }
+    ensures gaps { IsReplaced (gaps_of thread.old) size start gap (gaps_of thread.new) }
+    ensures room { length thread.new.gaps ≡ length thread.old.gaps }
+{
+    thread.sound();
+    take(thread, forest, size, start);
+    put(thread, forest, gap);
+}

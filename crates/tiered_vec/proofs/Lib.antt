@@ -1,4 +1,0 @@
-mod Edits
-mod Dealing
-mod Steps
-mod Shifts

@@ -1,3 +1,0 @@
-pub mod Body
-pub mod Rings
-pub mod TieredVec
