@@ -1,20 +1,22 @@
 -- What lies behind the handles of the C library may go to another thread: each of its types names no thread's token.
 use denote.RattleType.{RattleType}
 use denote.Param.Send.{IsSend, sendable}
-use denote.Builtin.{bool, u64, usize}
+use denote.Builtin.{bool, u32, u64, usize}
 use Rattle.core.specs.contracts.hash.build.BuildHasherDefault as BuildHasherDefault
 use Rattle.core.specs.contracts.hash.fold.FoldHasher as FoldHasher
 use Rattle.core.specs.declared.cmp.PartialEq as eq
 use Rattle.core.specs.contracts.option.Option as Option
 use Rattle.std.proofs.Crossing as heap
-use Rattle.std.proofs.Crossing.{Vec-send, Deque-send}
+use Rattle.std.proofs.Crossing.{Vec-send}
 use Rattle.std.proofs.MapsCrossing.{HashMap-send}
-use Rattle.tiered_vec.specs.contracts.ring.Ring as Ring
-use Rattle.tiered_vec.specs.contracts.tiers.Tiers as Tiers
-use Rattle.tiered_vec.specs.contracts.tiered_vec.Body as Body
-use Rattle.tiered_vec.specs.contracts.tiered_vec.TieredVec as TieredVec
+use Rattle.gap_tree.specs.contracts.class_set.ClassSet as ClassSet
+use Rattle.gap_tree.specs.contracts.forest.Forest as Forest
+use Rattle.gap_tree.specs.contracts.tree.Fork as Fork
+use Rattle.gap_tree.specs.contracts.tree.Node as Node
 use Rattle.gpu_block_gaps.specs.contracts.index.Gap as Gap
 use Rattle.gpu_block_gaps.specs.contracts.index.GapIndex as GapIndex
+use Rattle.gpu_block_gaps.specs.contracts.thread.Record as Record
+use Rattle.gpu_block_gaps.specs.contracts.thread.Thread as Thread
 use Rattle.gpu_block_chunks.specs.contracts.name.Name as Name
 use Rattle.gpu_block_chunks.specs.contracts.chunk.Chunk as Chunk
 use Rattle.gpu_block_chunks.specs.contracts.chain.link.LinkedChunk as LinkedChunk
@@ -50,21 +52,29 @@ linked_send = let c = chunk_send in search sendable depth 20
 gap_send : IsSend Gap.the_row
 gap_send = search sendable depth 20
 
-module _ (T : RattleType) (s : IsSend T) where
-  ring_send : IsSend (Ring.the_row T)
-  ring_send = search (Deque-send, sendable) depth 20
+record_send : IsSend (Record.the_field).row
+record_send = let g = gap_send in search sendable depth 20
 
-  tiers_send : IsSend (Tiers.the_row T)
-  tiers_send = let r = ring_send in search (sendable, Vec-send) depth 20
+thread_send : IsSend Thread.the_row
+thread_send = let r = record_send in search (sendable, Vec-send) depth 20
 
-  body_send : IsSend (Body.the_field T).row
-  body_send = let t = tiers_send in search (sendable, Vec-send) depth 20
+classes_send : IsSend ClassSet.the_row
+classes_send = search (sendable, Vec-send) depth 20
 
-  tiered_send : IsSend (TieredVec.the_row T)
-  tiered_send = let b = body_send in search sendable depth 20
+node_send : IsSend (Node.the_field).row
+node_send = search sendable depth 20
+
+fork_send : IsSend (Fork.the_field).row
+fork_send = let n = node_send in search sendable depth 20
+
+root_send : IsSend (Option.the_field (Node.the_field).row).row
+root_send = let n = node_send in search sendable depth 20
+
+forest_send : IsSend (Forest.the_field).row
+forest_send = let f = fork_send in let r = root_send in let c = classes_send in search (sendable, Vec-send) depth 20
 
 index_send : IsSend GapIndex.the_row
-index_send = let t = tiered_send Gap.the_row gap_send in search sendable depth 20
+index_send = let t = thread_send in let f = forest_send in search sendable depth 20
 
 slot_send : IsSend (Slot.the_field).row
 slot_send = let c = linked_send in search sendable depth 20

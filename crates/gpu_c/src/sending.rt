@@ -1,20 +1,28 @@
 //! Each handle may go to another thread: at these calls the check derives `Send` of it, from each type that lies behind it. C calls none of
 //! them.
 
+ghost use Rattle.std.specs.Prelude.{◌≡◌};
+
 use crate::memory_type_handle::MemoryTypeHandle;
 use crate::virtual_block_handle::VirtualBlockHandle;
 
 /// What may go to another thread, as it is.
-fn sent<T: Send>(value: T) -> T {
+fn sent<T: Send>(value: T) -> T
+    ensures { result ≡ value }
+{
     value
 }
 
 /// A virtual block's handle may.
-pub fn sent_virtual_block(value: VirtualBlockHandle) -> VirtualBlockHandle {
+pub fn sent_virtual_block(value: VirtualBlockHandle) -> VirtualBlockHandle
+    ensures { result ≡ value }
+{
     sent(value)
 }
 
 /// A memory type's handle may.
-pub fn sent_memory_type(value: MemoryTypeHandle) -> MemoryTypeHandle {
+pub fn sent_memory_type(value: MemoryTypeHandle) -> MemoryTypeHandle
+    ensures { result ≡ value }
+{
     sent(value)
 }

@@ -1,5 +1,5 @@
-//! The blocks of one memory type, with no device at hand: which piece lies where, and which block is needed. Re-exports blocks and
-//! plain values.
+//! The blocks of one memory type, with no device at hand: the slots that they lie in, which of them has a place for a request, which
+//! block is needed where none has, and which goes with its last piece. Re-exports blocks and plain values.
 #![tactic(auto)]
 
 mod longest;
@@ -24,8 +24,4 @@ pub use gpu_values::{
 pub use memory_type::{MemoryType, Prepared};
 pub use need::{NeedBlock, PendingBlock};
 pub use piece::{Piece, Request};
-pub use report::add_slots;
-pub use slot::{Finding, LiveBlock, ReleasedBlock, find};
-pub use slots::Slots;
-pub use statistics::count_slots;
 pub use type_leaks::TypeLeaks;

@@ -6,7 +6,11 @@ ghost use Rattle.gpu_values.specs.declared.error.AllocationError.TheVariants.{Ho
 ghost use Rattle.gpu_values.specs.Refusal.{refusal_of};
 
 use crate::need::{NeedBlock, make_pending};
-use crate::{Finding, LiveBlock, Piece, Request, Slots, TypeLeaks, add_slots, count_slots, find};
+use crate::report::add_slots;
+use crate::slot::{Finding, LiveBlock, find};
+use crate::slots::Slots;
+use crate::statistics::count_slots;
+use crate::{Piece, Request, TypeLeaks};
 use gpu_block::SubAllocator;
 use gpu_block_pieces::{BlockStatistics, Leaks, Pieces};
 use gpu_values::{AllocationSizes, AllocationType, AllocatorReport, Result};

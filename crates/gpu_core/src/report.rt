@@ -9,7 +9,7 @@ ghost use Rattle.gpu_core.specs.TypeState.{capacity_of};
 ghost use Rattle.gpu_core.specs.TypeReport.{with_type};
 ghost use Rattle.gpu_core.specs.Slots.{slot_of, slots_of};
 
-use crate::LiveBlock;
+use crate::slot::LiveBlock;
 use gpu_values::{AllocatorReport, MemoryBlockReport, Result};
 
 /// Adds a block, its pieces and the sums of both. The only refusal is `HostOutOfMemory`.

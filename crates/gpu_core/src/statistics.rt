@@ -4,7 +4,7 @@ ghost use Rattle.std.specs.Prelude.{◌≡◌};
 ghost use Rattle.gpu_core.specs.TypeReport.{counted_with, nothing_counted};
 ghost use Rattle.gpu_core.specs.Slots.{slots_of};
 
-use crate::LiveBlock;
+use crate::slot::LiveBlock;
 use gpu_block_pieces::BlockStatistics;
 
 /// What is counted of the live blocks of all slots together.

@@ -6,7 +6,7 @@ ghost use Rattle.std.specs.Iterator.{YieldsFirst, item_count};
 ghost use Rattle.gpu_core.specs.TypeReport.{leaks_from};
 ghost use Rattle.gpu_core.specs.Slots.{slots_of};
 
-use crate::LiveBlock;
+use crate::slot::LiveBlock;
 use gpu_block_pieces::{Leak, Leaks};
 use std::marker::Model;
 

@@ -1,4 +1,4 @@
-//! What a session of one block is asked for, and what it answers.
+//! Sessions: one block that is cut into pieces, whose chunk ids are the caller's numbers, and that serves lists of commands.
 
 mod command;
 mod reply;

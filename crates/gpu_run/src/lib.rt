@@ -1,4 +1,5 @@
-//! Machines that serve one command after another, what a list of commands makes of one, and what a caller's numbers stand for.
+//! Sessions, by module: an allocator or a block that serves one command after another. What a list of commands makes of any such machine
+//! is said once, and so is what a caller's numbers stand for.
 #![tactic(auto)]
 
 mod bindings;

@@ -1,4 +1,5 @@
-//! What a session of the Vulkan allocator is asked for, and what it answers.
+//! Sessions: a Vulkan allocator whose allocations stand under the caller's own numbers, and that serves lists of commands; and the laws
+//! of their bytes.
 
 mod command;
 pub mod laws;

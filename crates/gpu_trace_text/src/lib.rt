@@ -1,5 +1,5 @@
-//! The run of a trace of any sort, from the bytes in to the bytes out: its lines one after another, each with its reply, up to the
-//! first bad one; and how far a whole trace comes.
+//! Traces of every sort: what a line says, which line may follow, how replies print, and the run from the bytes in to the bytes out,
+//! up to the first bad line; and how far a whole trace comes.
 #![tactic(auto)]
 
 mod any;
