@@ -10,7 +10,7 @@ ghost use Rattle.gpu_block_gaps.specs.declared.index.Gap.{Gap};
 ghost use Rattle.gpu_block_gaps.specs.Index.{HasNoKey};
 
 use crate::search::Found;
-use gpu_block_chunks::{Neighbours, Neighbour, Chain, Name, is_free};
+use gpu_block_chunks::{Chain, Name, Neighbour, Neighbours, is_free};
 use gpu_block_gaps::{Gap, GapIndex};
 use gpu_cost::Cost;
 use gpu_values::AllocationType;
@@ -41,7 +41,15 @@ pub fn allocate_front(
 {
     chain.laid_out();
     let gap = found.gap;
-    chain.split_front(gap.chunk_id, chunk_id, taken, found.offset, kind, name, cost);
+    chain.split_front(
+        gap.chunk_id,
+        chunk_id,
+        taken,
+        found.offset,
+        kind,
+        name,
+        cost,
+    );
     index.in_order();
     let rest = Gap {
         length: gap.length - taken,

@@ -5,6 +5,8 @@ mod chain;
 pub mod d3d12;
 mod history;
 pub mod metal;
+mod refusal;
 pub mod vulkan;
 
 pub use history::History;
+pub use refusal::Refusal;

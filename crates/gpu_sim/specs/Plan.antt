@@ -2,8 +2,8 @@
 use Rattle.std.specs.Prelude.{ℕ, ◌+◌, ◌^◌, ℤ, pos, neg_ℤ, Bool, false, nat_lt, if◌then◌else◌, List, Option, Some, None, Result, Ok, Err}
 use Rattle.gpu_device.specs.Held.{raised}
 use Rattle.gpu_device.specs.Properties.{Properties}
-use Rattle.gpu_sim_base.specs.declared.script.Refusal.{Refusal}
-use Rattle.gpu_sim_base.specs.declared.script.Refusal.TheVariants.{Code, Null}
+use Rattle.gpu_device.specs.declared.refusal.Refusal.{Refusal}
+use Rattle.gpu_device.specs.declared.refusal.Refusal.TheVariants.{Code, Null}
 use Rattle.gpu_sim_base.specs.Script.{refusal_at}
 
 pub record Plan : Type 0 where

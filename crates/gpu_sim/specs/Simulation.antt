@@ -19,8 +19,8 @@ abbrev pub plan_of : SimVulkan → Plan
 plan_of s = record {
   properties = properties_of s;
   limit = s.limit;
-  script = s.script.entries.items;
-  questions = s.script.questions;
+  script = s.journal.script.entries.items;
+  questions = s.journal.script.questions;
   issued = issued s.memories;
 }
 

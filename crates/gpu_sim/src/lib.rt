@@ -4,6 +4,7 @@
 mod memories;
 mod memory;
 mod refusal;
+mod scripted_journal;
 mod sim_vulkan;
 
 pub use gpu_sim_base::Refusal;

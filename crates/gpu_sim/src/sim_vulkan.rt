@@ -3,17 +3,20 @@
 ghost use Rattle.std.specs.Prelude.{◌≡◌, ◌≢◌, ℕ, ◌+◌, ◌^◌, ◌<◌, List, [], ◌∷◌, length, replicate, refl, Some, None, IfSome, IfOk, IfErr, OnErr, OnOk, true, false};
 ghost use Rattle.std.specs.FinMap.{empty, get, insert, remove, len as map_len};
 ghost use Rattle.gpu_device.specs.Held.{new_entry, size_of, IsUnmapped, mapped_with, unmapped, raised};
+ghost use Rattle.gpu_device.specs.VulkanHistory.{scripted};
 ghost use Rattle.gpu_device.specs.declared.vulkan.event.Event.TheVariants.{AskedMemory, AskedMapping, Unmapped, Freed};
 ghost use Rattle.gpu_sim.specs.Plan.{asked, given, planned_code, planned_answer, out_of_host_memory};
+ghost use Rattle.gpu_sim.specs.Scripted.{EndAsScripted};
 ghost use Rattle.gpu_sim.specs.Simulation.{held_of, properties_of, plan_of, history_of, refused_of, latest_of, written_sim};
 ghost use Rattle.gpu_sim.specs.SimulationLaws.{no_null as no_null_law, whole as whole_law, written_held as written_held_law};
 
 use crate::memories::Memories;
 use crate::refusal::{OUT_OF_HOST_MEMORY, answer_for_mapping, code_for_memory};
+use crate::scripted_journal::ScriptedJournal;
 use gpu_device::vulkan::{
-    DeviceMemory, Journal, MemoryAllocateInfo, MemoryHeap, MemoryTypeInfo, VulkanDevice,
+    DeviceMemory, MemoryAllocateInfo, MemoryHeap, MemoryTypeInfo, VulkanDevice,
 };
-use gpu_sim_base::{Refusal, Script};
+use gpu_sim_base::Refusal;
 use std::alloc::Global;
 
 /// A Vulkan device without a GPU: its memories have the numbers 1, 2 and so on, and bytes while they are mapped, zeros
@@ -27,9 +30,8 @@ pub struct SimVulkan {
     types: Vec<MemoryTypeInfo>,
     granularity: u64,
     limit: u64,
-    script: Script,
     memories: Memories,
-    journal: Journal,
+    journal: ScriptedJournal,
 }
 
 impl SimVulkan {
@@ -51,7 +53,7 @@ impl SimVulkan {
           questions = 0;
           issued = 0;
         } }
-        ensures history { history_of result ≡ [] }
+        ensures history { history_of result ≡ scripted refusals.items }
         ensures refused { refused_of result ≡ 0 }
         ensures latest { latest_of result ≡ None }
     {
@@ -61,9 +63,8 @@ impl SimVulkan {
             types,
             granularity,
             limit,
-            script: Script::new(refusals),
             memories: Memories::new(alloc),
-            journal: Journal::new(),
+            journal: ScriptedJournal::new(refusals),
         }
     }
 
@@ -78,7 +79,14 @@ impl SimVulkan {
     pub fn questions(&self) -> u64
         ensures { result ≡ (plan_of self.now).questions }
     {
-        self.script.questions()
+        self.journal.questions()
+    }
+
+    /// At any time each question has ended as the script says, with which the history begins. It does nothing.
+    pub fn ends_as_scripted(&self)
+        ensures { EndAsScripted (history_of self.now) }
+    {
+        self.journal.ends_as_scripted();
     }
 
     /// The latest question for memory, granted or refused.
@@ -159,7 +167,7 @@ impl VulkanDevice for SimVulkan {
         ensures plan_granted { OnOk result (plan_of self.new ≡ given (plan_of self.old)) }
         ensures plan_refused { OnErr result (plan_of self.new ≡ asked (plan_of self.old)) }
     {
-        let refusal = self.script.ask();
+        let refusal = self.journal.next_refusal();
         let answer = match code_for_memory(refusal, info.size, self.limit) {
             Some(code) => Err(code),
             None => match self.memories.add(info) {
@@ -191,7 +199,7 @@ impl VulkanDevice for SimVulkan {
         ensures null_by_plan { planned_answer (plan_of self.old) (size_of (held_of self.old) memory.0) ≡ None → result ≢ Ok false }
         ensures plan { plan_of self.new ≡ asked (plan_of self.old) }
     {
-        let refusal = self.script.ask();
+        let refusal = self.journal.next_refusal();
         let size = self.memories.size(memory.0);
         let answer = match answer_for_mapping(refusal, size) {
             Some(answer) => answer,

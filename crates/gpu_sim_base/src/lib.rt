@@ -6,6 +6,7 @@ mod numbers;
 mod script;
 mod sizes;
 
+pub use gpu_device::Refusal;
 pub use numbers::Numbers;
-pub use script::{Refusal, Script};
+pub use script::Script;
 pub use sizes::rounded_up;

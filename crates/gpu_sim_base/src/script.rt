@@ -1,17 +1,9 @@
 //! The questions that a simulated device was asked, and those that it is told to refuse.
 
 ghost use Rattle.std.specs.Prelude.{◌≡◌};
-ghost use Rattle.gpu_device.specs.Held.{raised};
-ghost use Rattle.gpu_sim_base.specs.Script.{refusal_at, next_refusal};
+ghost use Rattle.gpu_sim_base.specs.Script.{refusal_at, next_refusal, counted};
 
-/// A refusal.
-#[derive(Clone, Copy, Debug, PartialEq, Eq)]
-pub enum Refusal {
-    /// This error code.
-    Code(i32),
-    /// A null answer without an error.
-    Null,
-}
+use gpu_device::Refusal;
 
 /// How many questions came, and the refusals that the device is told to give.
 #[derive(Drop)]
@@ -39,13 +31,18 @@ impl Script {
         self.questions
     }
 
-    /// Counts a question, and gives the refusal that the script has for it.
-    pub fn ask(&mut self) -> Option<Refusal>
-        ensures refusal { result ≡ next_refusal self.old }
-        ensures counted { self.new ≡ record self.old { questions = raised self.old.questions } }
+    /// The refusal that the script has for the next question.
+    pub fn next_refusal(&self) -> Option<Refusal>
+        ensures { result ≡ next_refusal self.now }
+    {
+        refusal_at(&self.entries, self.questions.saturating_add(1))
+    }
+
+    /// Counts a question.
+    pub fn count(&mut self)
+        ensures { self.new ≡ counted self.old }
     {
         self.questions = self.questions.saturating_add(1);
-        refusal_at(&self.entries, self.questions)
     }
 }
 

@@ -1,1 +1,2 @@
 mod Releases
+mod Scripts

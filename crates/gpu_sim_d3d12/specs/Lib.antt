@@ -1,3 +1,4 @@
 pub mod Objects
+pub mod Scripted
 pub mod Simulation
 pub mod SimulationLaws

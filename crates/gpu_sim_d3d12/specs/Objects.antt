@@ -3,8 +3,8 @@ use Rattle.std.specs.Prelude.{ℕ, ◌+◌, ℤ, pos, neg_ℤ, ◌≡◌, Bool, 
 use Rattle.gpu_device.specs.D3D12.{Entry, Held}
 use Rattle.gpu_device.specs.D3D12 as device
 use Rattle.gpu_sim_base.specs.Numbers.{held_in}
-use Rattle.gpu_sim_base.specs.declared.script.Refusal.{Refusal}
-use Rattle.gpu_sim_base.specs.declared.script.Refusal.TheVariants.{Code, Null}
+use Rattle.gpu_device.specs.declared.refusal.Refusal.{Refusal}
+use Rattle.gpu_device.specs.declared.refusal.Refusal.TheVariants.{Code, Null}
 use Rattle.gpu_sim_d3d12.specs.declared.objects.Object.{Object}
 use Rattle.gpu_sim_d3d12.specs.declared.objects.Object.TheVariants.{Heap, Committed, Placed}
 use Rattle.gpu_sim_d3d12.specs.declared.objects.Objects.{Objects}

@@ -9,7 +9,7 @@ use Rattle.gpu_device.specs.Held.{raised}
 use Rattle.gpu_device.specs.declared.d3d12.types.ResourceAllocationInfo.{ResourceAllocationInfo}
 use Rattle.gpu_sim_base.specs.Script.{refusal_at}
 use Rattle.gpu_sim_base.specs.Sizes.{rounded_up}
-use Rattle.gpu_sim_base.specs.declared.script.Refusal.{Refusal}
+use Rattle.gpu_device.specs.declared.refusal.Refusal.{Refusal}
 use Rattle.gpu_sim_d3d12.specs.Objects.{held_in_objects, issued, asked}
 use Rattle.gpu_sim_d3d12.specs.declared.sim_d3d12.SimD3D12.{SimD3D12}
 
@@ -56,7 +56,7 @@ pub record Plan : Type 0 where
   pub issued : ℕ
 
 abbrev pub plan_of : SimD3D12 → Plan
-plan_of s = record { script = s.objects.script.entries.items; questions = s.objects.script.questions; issued = issued s.objects }
+plan_of s = record { script = s.journal.script.entries.items; questions = s.journal.script.questions; issued = issued s.objects }
 
 -- the refusal that the script has for the next question
 abbrev pub planned : Plan → Option Refusal

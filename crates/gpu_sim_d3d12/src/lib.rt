@@ -2,6 +2,7 @@
 #![tactic(auto)]
 
 mod objects;
+mod scripted_journal;
 mod sim_d3d12;
 
 pub use sim_d3d12::SimD3D12;

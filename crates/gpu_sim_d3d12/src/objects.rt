@@ -1,15 +1,13 @@
-//! What a simulated device holds, and the questions by which it came.
+//! What a simulated device holds.
 
 ghost use Rattle.std.specs.Prelude.{◌≡◌, ◌+◌, [], length, count_by, is_some};
 ghost use Rattle.gpu_device.specs.D3D12.{without_heap, without_resource};
 ghost use Rattle.gpu_device.specs.Granted.{IsNew, with_granted};
-ghost use Rattle.gpu_device.specs.Held.{raised};
 ghost use Rattle.gpu_sim_base.specs.Numbers.{item_at};
-ghost use Rattle.gpu_sim_base.specs.Script.{next_refusal};
 ghost use Rattle.gpu_sim_d3d12.specs.Objects.{entry_of, is_heap, held_in_objects, issued, granted, IsAnswer, asked};
 
 use gpu_device::d3d12::{HeapDesc, ID3D12Heap};
-use gpu_sim_base::{Numbers, Refusal, Script};
+use gpu_sim_base::{Numbers, Refusal};
 use std::alloc::Global;
 
 /// The host refused memory, or no number is left (`E_OUTOFMEMORY`, 0x8007000e).
@@ -29,21 +27,18 @@ pub(crate) enum Object {
     },
 }
 
-/// Heaps and resources by number, and the script by which questions for them are refused.
+/// Heaps and resources by number.
 #[derive(Drop)]
 pub(crate) struct Objects {
-    pub(crate) script: Script,
     numbers: Numbers<Object>,
 }
 
 impl Objects {
     /// Nothing is held.
-    pub(crate) fn new(alloc: Global, refusals: Vec<(u64, Refusal)>) -> Self
-        ensures script { result.script ≡ record { entries = refusals; questions = 0 } }
-        ensures none { result.numbers.slots.items ≡ [] }
+    pub(crate) fn new(alloc: Global) -> Self
+        ensures { result.numbers.slots.items ≡ [] }
     {
         Objects {
-            script: Script::new(refusals),
             numbers: Numbers::new(alloc),
         }
     }
@@ -55,16 +50,18 @@ impl Objects {
         self.numbers.count()
     }
 
-    /// Answers a question for an object: with its new number, or with the refusal of the script or of the host.
-    pub(crate) fn hold(&mut self, object: Object) -> Result<Option<u64>, i32>
-        ensures answer { IsAnswer (λ number. number) (next_refusal self.old.script) (issued self.old + 1) result }
+    /// Answers a question for an object: with the refusal, where there is one, with its new number, or with the host's refusal.
+    pub(crate) fn hold(
+        &mut self,
+        object: Object,
+        refusal: Option<Refusal>,
+    ) -> Result<Option<u64>, i32>
+        ensures answer { IsAnswer (λ number. number) refusal (issued self.old + 1) result }
         ensures number { IsNew (held_in_objects self.old) (granted result) }
         ensures holds { held_in_objects self.new ≡ with_granted (held_in_objects self.old) (granted result) (entry_of object) }
-        ensures asks { self.new.script.questions ≡ raised self.old.script.questions }
-        ensures entries { self.new.script.entries ≡ self.old.script.entries }
         ensures issues { issued self.new ≡ asked (issued self.old) (granted result) }
     {
-        match self.script.ask() {
+        match refusal {
             Some(Refusal::Code(code)) => Err(code),
             Some(Refusal::Null) => Ok(None),
             None => match self.numbers.add(object) {
@@ -78,7 +75,6 @@ impl Objects {
     pub(crate) fn release_heap(&mut self, number: u64)
         ensures held { held_in_objects self.new ≡ without_heap (held_in_objects self.old) number }
         ensures issues { issued self.new ≡ issued self.old }
-        ensures script { self.new.script ≡ self.old.script }
     {
         if self.is_heap(number) {
             self.numbers.remove(number);
@@ -89,7 +85,6 @@ impl Objects {
     pub(crate) fn release_resource(&mut self, number: u64)
         ensures held { held_in_objects self.new ≡ without_resource (held_in_objects self.old) number }
         ensures issues { issued self.new ≡ issued self.old }
-        ensures script { self.new.script ≡ self.old.script }
     {
         if !self.is_heap(number) {
             self.numbers.remove(number);

@@ -3,19 +3,21 @@
 ghost use Rattle.std.specs.Prelude.{◌≡◌, ◌+◌, [], ◌∷◌, length, refl, Some, None, option_copied, option_map};
 ghost use Rattle.std.specs.FinMap.{empty, len as map_len};
 ghost use Rattle.gpu_device.specs.D3D12.{Heap, Committed, Placed, told_size, told_size1, granted_heap, granted_resource, without_heap, without_resource};
-ghost use Rattle.gpu_device.specs.D3D12History.{request_formats, request_clear, request_memory};
+ghost use Rattle.gpu_device.specs.D3D12History.{scripted, request_formats, request_clear, request_memory};
 ghost use Rattle.gpu_device.specs.Granted.{IsNew, with_granted, counted};
 ghost use Rattle.gpu_device.specs.declared.d3d12.event.Event.TheVariants.{AskedHeap, AskedResource, ReleasedHeap, ReleasedResource};
 ghost use Rattle.gpu_device.specs.declared.d3d12.event.ResourcePlace.TheVariants.{Own, InHeap};
 ghost use Rattle.gpu_device.specs.declared.d3d12.event.ResourceShape.TheVariants.{InState, InLayout};
 ghost use Rattle.gpu_sim_d3d12.specs.Objects.{IsAnswer, entry_of};
+ghost use Rattle.gpu_sim_d3d12.specs.Scripted.{EndAsScripted};
 ghost use Rattle.gpu_sim_d3d12.specs.Simulation.{held_of, info_for, properties_of, history_of, refused_of, latest_heap_of, latest_resource_of, removal_reason_of, plan_of, planned, answered};
 ghost use Rattle.gpu_sim_d3d12.specs.SimulationLaws.{no_null as no_null_law};
 
 use crate::objects::{Object, Objects};
+use crate::scripted_journal::ScriptedJournal;
 use gpu_device::d3d12::{
     ClearValue, D3D12Device, Format, Formats, HeapDesc, HeapFlags, HeapProperties, ID3D12Heap,
-    ID3D12Resource, Journal, ResourceAllocationInfo, ResourceDesc, ResourceDesc1, ResourceHeapTier,
+    ID3D12Resource, ResourceAllocationInfo, ResourceDesc, ResourceDesc1, ResourceHeapTier,
     ResourcePlace, ResourceRequest, ResourceShape,
 };
 use gpu_sim_base::{Refusal, rounded_up};
@@ -35,7 +37,7 @@ const REMOVAL_REASON: i32 = -2005270523;
 pub struct SimD3D12 {
     tier: Result<ResourceHeapTier, i32>,
     objects: Objects,
-    journal: Journal,
+    journal: ScriptedJournal,
 }
 
 impl SimD3D12 {
@@ -50,12 +52,12 @@ impl SimD3D12 {
         ensures tier { (properties_of result).tier ≡ tier }
         ensures plan { plan_of result ≡ record { script = refusals.items; questions = 0; issued = 0 } }
         ensures refused { refused_of result ≡ 0 }
-        ensures history { history_of result ≡ [] }
+        ensures history { history_of result ≡ scripted refusals.items }
     {
         SimD3D12 {
             tier,
-            objects: Objects::new(alloc, refusals),
-            journal: Journal::new(),
+            objects: Objects::new(alloc),
+            journal: ScriptedJournal::new(refusals),
         }
     }
 
@@ -70,7 +72,14 @@ impl SimD3D12 {
     pub fn questions(&self) -> u64
         ensures { result ≡ (plan_of self.now).questions }
     {
-        self.objects.script.questions()
+        self.journal.questions()
+    }
+
+    /// At any time each question has ended as the script says, with which the history begins. It does nothing.
+    pub fn ends_as_scripted(&self)
+        ensures { EndAsScripted (history_of self.now) }
+    {
+        self.journal.ends_as_scripted();
     }
 
     /// The latest question for a heap, granted or refused.
@@ -127,7 +136,8 @@ impl SimD3D12 {
         ensures answer { IsAnswer (λ resource. resource.0) (planned (plan_of self.old)) ((plan_of self.old).issued + 1) result }
         ensures plan { plan_of self.new ≡ answered (plan_of self.old) (granted_resource result) }
     {
-        let answer = match self.objects.hold(object) {
+        let refusal = self.journal.next_refusal();
+        let answer = match self.objects.hold(object, refusal) {
             Ok(number) => Ok(number.map(ID3D12Resource)),
             Err(code) => Err(code),
         };
@@ -209,7 +219,8 @@ impl D3D12Device for SimD3D12 {
         ensures answer { IsAnswer (λ heap. heap.0) (planned (plan_of self.old)) ((plan_of self.old).issued + 1) result }
         ensures plan { plan_of self.new ≡ answered (plan_of self.old) (granted_heap result) }
     {
-        let answer = match self.objects.hold(Object::Heap(*desc)) {
+        let refusal = self.journal.next_refusal();
+        let answer = match self.objects.hold(Object::Heap(*desc), refusal) {
             Ok(number) => Ok(number.map(ID3D12Heap)),
             Err(code) => Err(code),
         };

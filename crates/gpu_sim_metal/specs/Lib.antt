@@ -1,4 +1,5 @@
 pub mod Objects
 pub mod ResidencySet
+pub mod Scripted
 pub mod Simulation
 pub mod SimulationLaws

@@ -1,5 +1,5 @@
 -- What callers see of a simulated device.
-use Rattle.std.specs.Prelude.{ℕ, ◌+◌, ◌*◌, ◌-◌, ◌^◌, ◌≡◌, min, ℤ, pos, neg_ℤ, Bool, true, false, List, length, Option, Some, None, Result, Ok, Err}
+use Rattle.std.specs.Prelude.{ℕ, ◌+◌, ◌*◌, ◌-◌, ◌^◌, ◌≡◌, min, ℤ, Bool, true, false, List, length, Option, Some, None, Result, Ok, Err}
 use Rattle.gpu_device.specs.Held.{raised}
 use Rattle.gpu_device.specs.Metal.{Properties, Held}
 use Rattle.gpu_device.specs.MetalHistory.{refused_in, latest_heap_in}
@@ -11,9 +11,9 @@ use Rattle.gpu_device.specs.declared.metal.types.SizeAndAlign.{SizeAndAlign}
 use Rattle.gpu_device.specs.declared.metal.types.TextureDescriptor.{TextureDescriptor}
 use Rattle.gpu_sim_base.specs.Script.{refusal_at}
 use Rattle.gpu_sim_base.specs.Sizes.{rounded_up}
-use Rattle.gpu_sim_base.specs.declared.script.Refusal.{Refusal}
-use Rattle.gpu_sim_base.specs.declared.script.Refusal.TheVariants.{Code, Null}
+use Rattle.gpu_device.specs.declared.refusal.Refusal.{Refusal}
 use Rattle.gpu_sim_metal.specs.Objects.{held_by}
+use Rattle.gpu_sim_metal.specs.Scripted.{code_for_set}
 use Rattle.gpu_sim_metal.specs.declared.sim_metal.SimMetal.{SimMetal}
 
 abbrev pub held_of : SimMetal → Held
@@ -59,8 +59,8 @@ pub record Plan : Type 0 where
 abbrev pub plan_of : SimMetal → Plan
 plan_of s = record {
   residency = s.residency;
-  script = s.script.entries.items;
-  questions = s.script.questions;
+  script = s.journal.script.entries.items;
+  questions = s.journal.script.questions;
   issued = length s.objects.numbers.slots.items;
 }
 
@@ -82,16 +82,6 @@ abbrev pub IsHeapAnswer : Option Refusal → ℕ → Option MTLHeap → Type 0
 IsHeapAnswer (Some refusal) next answer = answer ≡ None
 IsHeapAnswer None next None = Unit {0}
 IsHeapAnswer None next (Some heap) = heap.0 ≡ next
-
--- there are no residency sets, the host refused memory, or the answer is null
-abbrev pub no_set : ℤ
-no_set = neg_ℤ (pos 1)
-
--- the code with which a set is refused
-abbrev pub code_for_set : Option Refusal → ℤ
-code_for_set None = no_set
-code_for_set (Some Null) = no_set
-code_for_set (Some (Code code)) = code
 
 -- the answer to a question for a set: the script's refusal where it has one, and always a refusal without residency sets;
 -- else the next number, or the host's refusal

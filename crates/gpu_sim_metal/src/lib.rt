@@ -3,6 +3,7 @@
 
 mod objects;
 mod residency_set;
+mod scripted_journal;
 mod sim_metal;
 
 pub use sim_metal::SimMetal;

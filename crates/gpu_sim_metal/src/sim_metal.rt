@@ -4,16 +4,19 @@ ghost use Rattle.std.specs.Prelude.{◌≡◌, refl, ◌+◌, [], ◌∷◌, Som
 ghost use Rattle.std.specs.FinMap.{empty, len as map_len};
 ghost use Rattle.gpu_device.specs.Granted.{IsNew, with_granted, counted};
 ghost use Rattle.gpu_device.specs.Metal.{Heap, Set, IsHeap, IsSet, granted_heap, granted_set, without_heap, with_member, without_member, with_commit, members_of, committed_of};
+ghost use Rattle.gpu_device.specs.MetalHistory.{scripted};
 ghost use Rattle.gpu_device.specs.declared.metal.event.Event.TheVariants.{AskedHeap, AskedSet, ReleasedHeap, Added, Removed, Committed};
-ghost use Rattle.gpu_sim_metal.specs.Simulation.{held_of, properties_of, history_of, refused_of, latest_heap_of, plan_of, planned, answered, told_size, texture_bytes, code_for_set, IsHeapAnswer, IsSetAnswer};
+ghost use Rattle.gpu_sim_metal.specs.Scripted.{code_for_set, EndAsScripted};
+ghost use Rattle.gpu_sim_metal.specs.Simulation.{held_of, issued_after, properties_of, history_of, refused_of, latest_heap_of, plan_of, planned, answered, told_size, texture_bytes, IsHeapAnswer, IsSetAnswer};
 ghost use Rattle.gpu_sim_metal.specs.SimulationLaws.{no_null as no_null_law};
 
 use crate::objects::Objects;
+use crate::scripted_journal::ScriptedJournal;
 use gpu_device::metal::{
-    HeapDescriptor, Journal, MTLHeap, MTLResidencySet, MetalDevice, SizeAndAlign, StorageMode,
+    HeapDescriptor, MTLHeap, MTLResidencySet, MetalDevice, SizeAndAlign, StorageMode,
     TextureDescriptor,
 };
-use gpu_sim_base::{Refusal, Script, rounded_up};
+use gpu_sim_base::{Refusal, rounded_up};
 use std::alloc::Global;
 
 /// In bytes.
@@ -28,9 +31,8 @@ const NO_SET: i32 = -1;
 #[derive(Drop)]
 pub struct SimMetal {
     residency: bool,
-    script: Script,
     objects: Objects,
-    journal: Journal,
+    journal: ScriptedJournal,
 }
 
 impl SimMetal {
@@ -40,13 +42,12 @@ impl SimMetal {
         ensures held { held_of result ≡ empty }
         ensures plan { plan_of result ≡ record { residency = residency; script = refusals.items; questions = 0; issued = 0 } }
         ensures refused { refused_of result ≡ 0 }
-        ensures history { history_of result ≡ [] }
+        ensures history { history_of result ≡ scripted refusals.items }
     {
         SimMetal {
             residency,
-            script: Script::new(refusals),
             objects: Objects::new(alloc),
-            journal: Journal::new(),
+            journal: ScriptedJournal::new(refusals),
         }
     }
 
@@ -61,7 +62,14 @@ impl SimMetal {
     pub fn questions(&self) -> u64
         ensures { result ≡ (plan_of self.now).questions }
     {
-        self.script.questions()
+        self.journal.questions()
+    }
+
+    /// At any time each question has ended as the script says, with which the history begins. It does nothing.
+    pub fn ends_as_scripted(&self)
+        ensures { EndAsScripted (history_of self.now) }
+    {
+        self.journal.ends_as_scripted();
     }
 
     /// The latest question for a heap, its description and its size in bytes, granted or refused.
@@ -95,11 +103,11 @@ impl SimMetal {
     fn answer_heap(&mut self, desc: &HeapDescriptor, size: u64) -> Option<MTLHeap>
         ensures number { IsNew (held_of self.old) (granted_heap result) }
         ensures holds { held_of self.new ≡ with_granted (held_of self.old) (granted_heap result) (Heap desc.now size) }
-        ensures history { history_of self.new ≡ history_of self.old }
+        ensures journal { self.new.journal ≡ self.old.journal }
         ensures answer { IsHeapAnswer (planned (plan_of self.old)) ((plan_of self.old).issued + 1) result }
-        ensures plan { plan_of self.new ≡ answered (plan_of self.old) (granted_heap result) }
+        ensures others { (self.new.residency ≡ self.old.residency) × ((plan_of self.new).issued ≡ issued_after (plan_of self.old).issued (granted_heap result)) }
     {
-        if self.script.ask().is_some() {
+        if self.journal.next_refusal().is_some() {
             return None;
         }
         let number = self.objects.hold_heap(*desc, size).ok()?;
@@ -110,11 +118,11 @@ impl SimMetal {
     fn answer_set(&mut self) -> Result<MTLResidencySet, i32>
         ensures number { IsNew (held_of self.old) (granted_set result) }
         ensures holds { held_of self.new ≡ with_granted (held_of self.old) (granted_set result) (Set [] []) }
-        ensures history { history_of self.new ≡ history_of self.old }
+        ensures journal { self.new.journal ≡ self.old.journal }
         ensures answer { IsSetAnswer (plan_of self.old).residency (planned (plan_of self.old)) ((plan_of self.old).issued + 1) result }
-        ensures plan { plan_of self.new ≡ answered (plan_of self.old) (granted_set result) }
+        ensures others { (self.new.residency ≡ self.old.residency) × ((plan_of self.new).issued ≡ issued_after (plan_of self.old).issued (granted_set result)) }
     {
-        let refusal = self.script.ask();
+        let refusal = self.journal.next_refusal();
         if self.residency && refusal.is_none() {
             if let Ok(number) = self.objects.hold_set() {
                 return Ok(MTLResidencySet(number));

@@ -6,7 +6,7 @@ use Rattle.gpu_device.specs.declared.d3d12.types.ResourceHeapTier.{ResourceHeapT
 use Rattle.gpu_device.specs.declared.d3d12.types.ResourceHeapTier.TheVariants.{Tier2}
 use Rattle.gpu_d3d12.specs.declared.device_version.ID3D12DeviceVersion.{ID3D12DeviceVersion}
 use Rattle.gpu_d3d12.specs.declared.device_version.ID3D12DeviceVersion.TheVariants as versions
-use Rattle.gpu_sim_base.specs.declared.script.Refusal.{Refusal}
+use Rattle.gpu_device.specs.declared.refusal.Refusal.{Refusal}
 use Rattle.gpu_sim_d3d12.specs.Simulation.{Plan}
 use Rattle.gpu_trace_text.specs.Setting.{sizes_of}
 use Rattle.gpu_trace_text.specs.declared.device.setting.Setting as device

@@ -2,7 +2,7 @@
 use Rattle.std.specs.Prelude.{ℕ, Bool, true, false, List, [], ◌∷◌, ◌++◌, Option, Some, None}
 use Rattle.std.specs.Option.{unwrap_or}
 use Rattle.gpu_values.specs.Sizes.{Sizes, default_sizes}
-use Rattle.gpu_sim_base.specs.declared.script.Refusal.{Refusal}
+use Rattle.gpu_device.specs.declared.refusal.Refusal.{Refusal}
 use Rattle.gpu_sim_metal.specs.Simulation.{Plan}
 use Rattle.gpu_trace_text.specs.declared.device.setting.Setting as device
 use Rattle.gpu_trace_text.specs.declared.device.setting.Setting.TheVariants.{Heap, MemoryType, Granularity, Sizes as BlockSizes, Refuse}

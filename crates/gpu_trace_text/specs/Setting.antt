@@ -3,8 +3,8 @@ use Rattle.std.specs.Prelude.{◌≡◌, ℕ, ◌<◌, ◌^◌, List, [], ◌∷
 use Rattle.std.specs.Int.{w32}
 use Rattle.std.specs.Fmt.{decimal, signed_decimal}
 use Rattle.gpu_values.specs.Sizes.{Sizes, only_size, with_largest}
-use Rattle.gpu_sim_base.specs.declared.script.Refusal.{Refusal}
-use Rattle.gpu_sim_base.specs.declared.script.Refusal.TheVariants.{Code, Null}
+use Rattle.gpu_device.specs.declared.refusal.Refusal.{Refusal}
+use Rattle.gpu_device.specs.declared.refusal.Refusal.TheVariants.{Code, Null}
 use Rattle.gpu_trace_text.specs.declared.device.setting.Setting.{Setting}
 use Rattle.gpu_trace_text.specs.declared.device.setting.Setting.TheVariants.{Heap, MemoryType, Granularity, Sizes as BlockSizes, Refuse}
 

@@ -5,6 +5,7 @@ use crate::d3d12::types::{
     ClearValue, HeapDesc, HeapFlags, HeapProperties, ID3D12Heap, ID3D12Resource, ResourceDesc,
     ResourceDesc1,
 };
+use crate::refusal::Refusal;
 
 /// Where a resource is to lie.
 #[derive(Clone, Copy, Debug, PartialEq, Eq)]
@@ -39,6 +40,9 @@ pub struct ResourceRequest {
 /// A call that asks or gives back, and how a question ended; `Ok(None)` is a null pointer.
 #[derive(Drop)]
 pub enum Event {
+    /// The question of this number, the first being 1, is to be refused so. Only a simulated device has such entries: they are its
+    /// script, and come before all questions.
+    Scripted(u64, Refusal),
     /// `CreateHeap`, and its answer.
     AskedHeap(HeapDesc, Result<Option<ID3D12Heap>, i32>),
     /// One of the four calls for a resource, and its answer.

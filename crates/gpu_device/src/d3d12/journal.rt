@@ -1,12 +1,13 @@
 //! The history that a DirectX 12 device keeps, and what it answers of it.
 
 ghost use Rattle.std.specs.Prelude.{◌≡◌, [], ◌∷◌, option_copied};
-ghost use Rattle.gpu_device.specs.D3D12History.{refused_in, latest_heap_in, latest_resource_in};
-ghost use Rattle.gpu_device.specs.declared.d3d12.event.Event.TheVariants.{AskedHeap, AskedResource, ReleasedHeap, ReleasedResource};
+ghost use Rattle.gpu_device.specs.D3D12History.{scripted, refused_in, latest_heap_in, latest_resource_in};
+ghost use Rattle.gpu_device.specs.declared.d3d12.event.Event.TheVariants.{Scripted, AskedHeap, AskedResource, ReleasedHeap, ReleasedResource};
 
 use crate::d3d12::event::{Event, ResourceRequest};
 use crate::d3d12::types::{HeapDesc, ID3D12Heap, ID3D12Resource};
 use crate::history::History;
+use crate::refusal::Refusal;
 
 /// All that a device was asked and was given back, for contracts alone; at run time the count of refusals and the latest
 /// question of each kind. A device has one, and adds one event to it in each call that asks or gives back.
@@ -32,6 +33,27 @@ impl Journal {
             last_resource: None,
             history: History::new(),
         }
+    }
+
+    /// Nothing was asked yet, and the script has these entries: each names a question by its number, and of two at one number the first
+    /// counts.
+    pub fn with_script(entries: &[(u64, Refusal)]) -> Journal
+        ensures { result.history ≡ scripted entries.now }
+    {
+        let mut journal = Journal::new();
+        let mut left = entries.len();
+        while left > 0 {
+            left -= 1;
+            let (question, refusal) = entries[left];
+            journal.script(question, refusal);
+        }
+        journal
+    }
+
+    fn script(&mut self, question: u64, refusal: Refusal)
+        ensures { self.new.history ≡ Scripted question refusal ∷ self.old.history }
+    {
+        self.history.push(&Event::Scripted(question, refusal));
     }
 
     /// How many questions were refused. The count stays at `u64::MAX`.

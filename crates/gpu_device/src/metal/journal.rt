@@ -1,12 +1,13 @@
 //! The history that a Metal device keeps, and what it answers of it.
 
 ghost use Rattle.std.specs.Prelude.{◌≡◌, [], ◌∷◌};
-ghost use Rattle.gpu_device.specs.MetalHistory.{refused_in, latest_heap_in};
-ghost use Rattle.gpu_device.specs.declared.metal.event.Event.TheVariants.{AskedHeap, AskedSet, ReleasedHeap, Added, Removed, Committed};
+ghost use Rattle.gpu_device.specs.MetalHistory.{scripted, refused_in, latest_heap_in};
+ghost use Rattle.gpu_device.specs.declared.metal.event.Event.TheVariants.{Scripted, AskedHeap, AskedSet, ReleasedHeap, Added, Removed, Committed};
 
 use crate::history::History;
 use crate::metal::event::Event;
 use crate::metal::types::{HeapDescriptor, MTLHeap, MTLResidencySet};
+use crate::refusal::Refusal;
 
 /// All that a device was asked and was given back, for contracts alone; at run time the count of refusals and the latest
 /// question for a heap. A device has one, and adds one event to it in each call that asks, gives back or changes a set.
@@ -29,6 +30,27 @@ impl Journal {
             last_heap: None,
             history: History::new(),
         }
+    }
+
+    /// Nothing was asked yet, and the script has these entries: each names a question by its number, and of two at one number the first
+    /// counts.
+    pub fn with_script(entries: &[(u64, Refusal)]) -> Journal
+        ensures { result.history ≡ scripted entries.now }
+    {
+        let mut journal = Journal::new();
+        let mut left = entries.len();
+        while left > 0 {
+            left -= 1;
+            let (question, refusal) = entries[left];
+            journal.script(question, refusal);
+        }
+        journal
+    }
+
+    fn script(&mut self, question: u64, refusal: Refusal)
+        ensures { self.new.history ≡ Scripted question refusal ∷ self.old.history }
+    {
+        self.history.push(&Event::Scripted(question, refusal));
     }
 
     /// How many questions were refused. The count stays at `u64::MAX`.

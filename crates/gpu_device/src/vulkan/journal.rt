@@ -1,10 +1,11 @@
 //! The history that a Vulkan device keeps, and what it answers of it.
 
 ghost use Rattle.std.specs.Prelude.{◌≡◌, [], ◌∷◌};
-ghost use Rattle.gpu_device.specs.VulkanHistory.{refused_in, latest_in};
-ghost use Rattle.gpu_device.specs.declared.vulkan.event.Event.TheVariants.{AskedMemory, AskedMapping, Unmapped, Freed};
+ghost use Rattle.gpu_device.specs.VulkanHistory.{scripted, refused_in, latest_in};
+ghost use Rattle.gpu_device.specs.declared.vulkan.event.Event.TheVariants.{Scripted, AskedMemory, AskedMapping, Unmapped, Freed};
 
 use crate::history::History;
+use crate::refusal::Refusal;
 use crate::vulkan::event::Event;
 use crate::vulkan::types::{DeviceMemory, MemoryAllocateInfo};
 
@@ -29,6 +30,27 @@ impl Journal {
             last_info: None,
             history: History::new(),
         }
+    }
+
+    /// Nothing was asked yet, and the script has these entries: each names a question by its number, and of two at one number the first
+    /// counts.
+    pub fn with_script(entries: &[(u64, Refusal)]) -> Journal
+        ensures { result.history ≡ scripted entries.now }
+    {
+        let mut journal = Journal::new();
+        let mut left = entries.len();
+        while left > 0 {
+            left -= 1;
+            let (question, refusal) = entries[left];
+            journal.script(question, refusal);
+        }
+        journal
+    }
+
+    fn script(&mut self, question: u64, refusal: Refusal)
+        ensures { self.new.history ≡ Scripted question refusal ∷ self.old.history }
+    {
+        self.history.push(&Event::Scripted(question, refusal));
     }
 
     /// How many questions were refused. The count stays at `u64::MAX`.

@@ -2,7 +2,7 @@
 
 ghost use Rattle.std.specs.Prelude.{◌≡◌, ◌≢◌, ℕ, ◌<◌, ◌^◌, ◌∷◌, IfOk, MatchOption, codes};
 ghost use Rattle.std.specs.Fmt.{decimal};
-ghost use Rattle.gpu_sim_base.specs.declared.script.Refusal.{Refusal};
+ghost use Rattle.gpu_device.specs.declared.refusal.Refusal.{Refusal};
 ghost use Rattle.gpu_trace_text.specs.Words.{texts};
 ghost use Rattle.gpu_trace_text.specs.Setting.{refusal_word, FitsRefusal, Says, sizes_of};
 
