@@ -14,15 +14,15 @@ fn sent<T: Send>(value: T) -> T
 }
 
 /// A virtual block's handle may.
-pub fn sent_virtual_block(value: VirtualBlockHandle) -> VirtualBlockHandle
-    ensures { result ≡ value }
+pub fn sent_virtual_block(block: VirtualBlockHandle) -> VirtualBlockHandle
+    ensures { result ≡ block }
 {
-    sent(value)
+    sent(block)
 }
 
 /// A memory type's handle may.
-pub fn sent_memory_type(value: MemoryTypeHandle) -> MemoryTypeHandle
-    ensures { result ≡ value }
+pub fn sent_memory_type(memory: MemoryTypeHandle) -> MemoryTypeHandle
+    ensures { result ≡ memory }
 {
-    sent(value)
+    sent(memory)
 }

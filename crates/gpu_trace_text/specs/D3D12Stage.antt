@@ -7,7 +7,7 @@ use Rattle.gpu_values.specs.declared.error.AllocationError.{AllocationError}
 use Rattle.gpu_values.specs.declared.allocator_debug_settings.AllocatorDebugSettings.{AllocatorDebugSettings}
 use Rattle.gpu_run.specs.ErrorNumber.{number_of}
 use Rattle.gpu_run.specs.declared.error_number.ErrorNumber.{ErrorNumber}
-use Rattle.gpu_device.specs.D3D12History.{request_formats, request_clear, request_memory}
+use Rattle.gpu_device.specs.D3D12History.{scripted, request_formats, request_clear, request_memory}
 use Rattle.gpu_device.specs.declared.d3d12.device.D3D12Device.{Ghosts}
 use Rattle.gpu_d3d12.specs.DeviceVersion.{device_of}
 use Rattle.gpu_d3d12.specs.MemoryKinds.{memory_kinds}
@@ -16,6 +16,7 @@ use Rattle.gpu_d3d12.specs.declared.device_version.ID3D12DeviceVersion.{ID3D12De
 use Rattle.gpu_d3d12.specs.State.{beside_of}
 use Rattle.gpu_run.specs.D3D12Served.{SessionValue, ServesCommand}
 use Rattle.gpu_run.specs.declared.d3d12.command.Command.{Command}
+use Rattle.gpu_sim_d3d12.specs.Scripted.{EndAsScripted}
 use Rattle.gpu_sim_d3d12.specs.Simulation.{properties_of, held_of, history_of, refused_of, latest_heap_of, latest_resource_of, removal_reason_of, plan_of}
 use Rattle.gpu_sim_d3d12.specs.declared.sim_d3d12.SimD3D12.{SimD3D12}
 use Rattle.gpu_trace_text.specs.declared.outcome.Outcome.{Outcome}
@@ -55,7 +56,8 @@ pub record IsNewDevice (c : Configured) (d : ID3D12DeviceVersion SimD3D12) : Typ
   pub plan : plan_of (device_of d) ≡ plan_by c
   pub holds_nothing : held_of (device_of d) ≡ empty
   pub refused_nothing : refused_of (device_of d) ≡ 0
-  pub recorded_nothing : history_of (device_of d) ≡ []
+  -- the history begins with what the `refuse` lines say
+  pub recorded : history_of (device_of d) ≡ scripted c.refusals
 
 -- a session in which no number stands for anything, over a fresh allocator of that configuration
 pub record IsFresh (c : Configured) (s : SessionValue SimD3D12) : Type 0 where
@@ -93,9 +95,10 @@ Configures c None Bad new = new ≡ Configuring c
 Configures c (Some d) Nothing new = new ≡ Configuring d
 Configures c _ _ _ = ⊥
 
--- a command is served by the session, and answered
+-- a command is served by the session, and answered; each question of the device's history ended as the `refuse` lines say, with which
+-- the history begins
 abbrev pub Commands : SessionValue SimD3D12 → Command → Outcome Reply → Stage → Type 0
-Commands s command (Replied (Served reply)) (Running t) = ServesCommand simulated s command reply t
+Commands s command (Replied (Served reply)) (Running t) = ServesCommand simulated s command reply t × EndAsScripted (history_of (device_of t.allocator.device))
 Commands s command _ _ = ⊥
 
 -- what the device was asked is told, and nothing changes

@@ -6,6 +6,7 @@ use Rattle.gpu_values.specs.declared.error.AllocationError.{AllocationError}
 use Rattle.gpu_values.specs.declared.allocator_debug_settings.AllocatorDebugSettings.{AllocatorDebugSettings}
 use Rattle.gpu_run.specs.ErrorNumber.{number_of}
 use Rattle.gpu_run.specs.declared.error_number.ErrorNumber.{ErrorNumber}
+use Rattle.gpu_device.specs.MetalHistory.{scripted}
 use Rattle.gpu_device.specs.Metal.{Held}
 use Rattle.gpu_device.specs.declared.metal.device.MetalDevice.{Ghosts}
 use Rattle.gpu_device.specs.declared.metal.types.MTLHeap.{MTLHeap}
@@ -16,6 +17,7 @@ use Rattle.gpu_run.specs.declared.metal.command.Command.{Command}
 use Rattle.gpu_metal.specs.MemoryKinds.{locations}
 use Rattle.gpu_metal.specs.Residency.{MakesSet}
 use Rattle.gpu_metal.specs.Setup.{IsNotMade}
+use Rattle.gpu_sim_metal.specs.Scripted.{EndAsScripted}
 use Rattle.gpu_sim_metal.specs.Simulation.{held_of, properties_of, plan_of, history_of, refused_of, latest_heap_of}
 use Rattle.gpu_sim_metal.specs.declared.sim_metal.SimMetal.{SimMetal}
 use Rattle.gpu_trace_text.specs.declared.outcome.Outcome.{Outcome}
@@ -44,7 +46,8 @@ pub record IsNewDevice (c : Configured) (d : SimMetal) : Type 0 where
   pub plan : plan_of d ≡ plan_by c
   pub holds_nothing : held_of d ≡ empty
   pub refused_nothing : refused_of d ≡ 0
-  pub recorded_nothing : history_of d ≡ []
+  -- the history begins with what the `refuse` lines say
+  pub recorded : history_of d ≡ scripted c.refusals
 
 -- a session in which no number stands for anything, over a fresh allocator of that configuration
 pub record IsFresh (c : Configured) (s : SessionValue SimMetal) : Type 0 where
@@ -56,6 +59,7 @@ pub record IsFresh (c : Configured) (s : SessionValue SimMetal) : Type 0 where
   pub empty_types : All (λ slots. slots ≡ []) s.allocator.slots
   pub budgets : All (λ budget. budget ≡ None) s.allocator.budgets
   pub unbound : s.bound ≡ []
+  pub ended : EndAsScripted (history_of s.allocator.device)
 
 -- the allocator isn't made, by the cause that is told
 pub record IsNotBegun (c : Configured) (number : ErrorNumber) : Type 0 where
@@ -80,9 +84,10 @@ Configures c None Bad new = new ≡ Configuring c
 Configures c (Some d) Nothing new = new ≡ Configuring d
 Configures c _ _ _ = ⊥
 
--- a command is served by the session, and answered
+-- a command is served by the session, and answered; each question of the device's history ended as the `refuse` lines say, with which
+-- the history begins
 abbrev pub Commands : SessionValue SimMetal → Command → Outcome Reply → Stage → Type 0
-Commands s command (Replied (Served reply)) (Running t) = ServesCommand simulated s command reply t
+Commands s command (Replied (Served reply)) (Running t) = ServesCommand simulated s command reply t × EndAsScripted (history_of t.allocator.device)
 Commands s command _ _ = ⊥
 
 -- what is looked up is answered, and nothing changes

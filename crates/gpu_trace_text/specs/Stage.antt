@@ -5,7 +5,9 @@ use Rattle.std.specs.Option.{unwrap_or}
 use Rattle.gpu_values.specs.Refusal.{refusal_of, host_out_of_memory}
 use Rattle.gpu_values.specs.declared.error.AllocationError.{AllocationError}
 use Rattle.gpu_values.specs.declared.allocator_debug_settings.AllocatorDebugSettings.{AllocatorDebugSettings}
+use Rattle.gpu_device.specs.VulkanHistory.{scripted}
 use Rattle.gpu_device.specs.declared.vulkan.device.VulkanDevice.{Ghosts}
+use Rattle.gpu_sim.specs.Scripted.{EndAsScripted}
 use Rattle.gpu_sim.specs.Simulation.{held_of, properties_of, plan_of, history_of, refused_of, latest_of, written_sim}
 use Rattle.gpu_sim.specs.declared.sim_vulkan.SimVulkan.{SimVulkan}
 use Rattle.gpu_pool.specs.Handles.{all_handles}
@@ -43,11 +45,12 @@ simulated = record { properties = properties_of; held = held_of; history = histo
 abbrev pub silent : AllocatorDebugSettings
 silent = record { log_memory_information = false; log_leaks_on_shutdown = false; log_allocations = false; log_frees = false }
 
--- what holds of a session at any time: the blocks are sound, each number owns its piece, and the device holds what it held at
--- first and just the live blocks
+-- what holds of a session at any time: the blocks are sound, each number owns its piece, the device holds what it held at first and
+-- just the live blocks, and each question of its history ended as the `refuse` lines say, with which the history begins
 pub record IsSound (s : SessionValue SimVulkan) : Type 0 where
   pub kept : SessionInvariant s.allocator.setup (session_of simulated s)
   pub holds : HoldsJustLiveBlocks s.allocator.setup.properties (held_of s.allocator.first) (held_of s.allocator.device) s.allocator.slots
+  pub ended : EndAsScripted (history_of s.allocator.device)
 
 -- a session in which no number stands for anything, over a fresh allocator of that configuration
 pub record IsFresh (c : Configured) (s : SessionValue SimVulkan) : Type 0 where
@@ -62,7 +65,8 @@ pub record IsFresh (c : Configured) (s : SessionValue SimVulkan) : Type 0 where
   pub holds_nothing : held_of s.allocator.first ≡ empty
   pub refused_nothing : refused_of s.allocator.first ≡ 0
   pub not_asked : latest_of s.allocator.first ≡ None
-  pub recorded_nothing : history_of s.allocator.first ≡ []
+  -- the history begins with what the `refuse` lines say
+  pub recorded : history_of s.allocator.first ≡ scripted c.refusals
 
 -- the allocator is made, or refused by the named cause
 abbrev pub Begins : Configured → device_replies.Reply → Stage → Type 0

@@ -51,7 +51,7 @@ fn show_sound(session: &Session<SimVulkan>)
     ensures { IsSound session.now }
 {
     session.numbers_own_their_pieces();
-    let _ = session.device();
+    session.device().ends_as_scripted();
 }
 
 /// Makes the allocator of a device trace.

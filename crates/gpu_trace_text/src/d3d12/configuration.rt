@@ -3,6 +3,7 @@
 ghost use Rattle.std.specs.Prelude.{◌≡◌, IfOk, OnErr, Some, None, true, false, []};
 ghost use Rattle.std.specs.FinMap.{empty};
 ghost use Rattle.gpu_d3d12.specs.DeviceVersion.{device_of};
+ghost use Rattle.gpu_device.specs.D3D12History.{scripted};
 ghost use Rattle.gpu_sim_d3d12.specs.Simulation.{properties_of, held_of, plan_of, refused_of, history_of};
 ghost use Rattle.gpu_trace_text.specs.D3D12Configuration.{nothing_configured, configured_by, tier_by, plan_by, version_by, sizes_by, by_version};
 
@@ -109,7 +110,7 @@ impl Configuration {
         ensures plan { plan_of (device_of result) ≡ plan_by self }
         ensures held { held_of (device_of result) ≡ empty }
         ensures refused { refused_of (device_of result) ≡ 0 }
-        ensures history { history_of (device_of result) ≡ [] }
+        ensures history { history_of (device_of result) ≡ scripted self.refusals }
     {
         let Configuration {
             tier,

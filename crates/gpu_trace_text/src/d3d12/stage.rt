@@ -1,6 +1,9 @@
 //! How far a DirectX 12 trace has come.
 
 ghost use Rattle.std.specs.Prelude.{IfOk};
+ghost use Rattle.gpu_d3d12.specs.DeviceVersion.{device_of};
+ghost use Rattle.gpu_sim_d3d12.specs.Scripted.{EndAsScripted};
+ghost use Rattle.gpu_sim_d3d12.specs.Simulation.{history_of};
 ghost use Rattle.gpu_trace_text.specs.D3D12Stage.{Begins, Does, MatchDone};
 
 use crate::d3d12::configuration::Configuration;
@@ -96,6 +99,13 @@ fn destroy<L: Log>(log: &L, session: Session<SimD3D12>) -> (Stage, Outcome<Reply
     (Stage::Closed, Outcome::Replied(Reply::Held(count)))
 }
 
+/// Each question has ended as the `refuse` lines say. It does nothing.
+fn show_ended(session: &Session<SimD3D12>)
+    ensures { EndAsScripted (history_of (device_of session.now.allocator.device)) }
+{
+    session.device().device().ends_as_scripted();
+}
+
 /// Serves a command.
 fn serve_command<L: Log>(
     log: &L,
@@ -105,6 +115,7 @@ fn serve_command<L: Log>(
     ensures { MatchDone (Does (Stage.Running session) (Line.Asks command.now)) result }
 {
     let reply = session.serve(log, command);
+    show_ended(&session);
     (
         Stage::Running(session),
         Outcome::Replied(Reply::Served(reply)),

@@ -2,6 +2,7 @@
 
 ghost use Rattle.std.specs.Prelude.{◌≡◌, [], IfOk, OnErr, Some, None, true, false};
 ghost use Rattle.std.specs.FinMap.{empty};
+ghost use Rattle.gpu_device.specs.MetalHistory.{scripted};
 ghost use Rattle.gpu_sim_metal.specs.Simulation.{held_of, plan_of, history_of, refused_of};
 ghost use Rattle.gpu_trace_text.specs.MetalConfiguration.{nothing_configured, configured_by, plan_by, sizes_by, wants_set};
 
@@ -100,7 +101,7 @@ impl Configuration {
         ensures plan { plan_of result ≡ plan_by self }
         ensures held { held_of result ≡ empty }
         ensures refused { refused_of result ≡ 0 }
-        ensures history { history_of result ≡ [] }
+        ensures history { history_of result ≡ scripted self.refusals }
     {
         let Configuration {
             sets,

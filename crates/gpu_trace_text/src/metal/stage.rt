@@ -1,7 +1,8 @@
 //! How far a Metal trace has come.
 
 ghost use Rattle.std.specs.Prelude.{◌≡◌, IfOk};
-ghost use Rattle.gpu_sim_metal.specs.Simulation.{held_of};
+ghost use Rattle.gpu_sim_metal.specs.Scripted.{EndAsScripted};
+ghost use Rattle.gpu_sim_metal.specs.Simulation.{held_of, history_of};
 ghost use Rattle.gpu_trace_text.specs.MetalStage.{Begins, Does, MatchDone, count_in};
 
 use crate::metal::configuration::Configuration;
@@ -30,6 +31,13 @@ pub enum Stage {
     Closed,
 }
 
+/// Each question has ended as the `refuse` lines say. It does nothing.
+fn show_ended(session: &Session<SimMetal>)
+    ensures { EndAsScripted (history_of session.now.allocator.device) }
+{
+    session.device().ends_as_scripted();
+}
+
 /// Makes the allocator.
 fn make(alloc: Global, configuration: Configuration) -> (Stage, Outcome<Reply>)
     ensures { MatchDone (Begins configuration) result }
@@ -48,10 +56,11 @@ fn make(alloc: Global, configuration: Configuration) -> (Stage, Outcome<Reply>)
         create_residency_set,
     };
     match Allocator::new(alloc, desc) {
-        Ok(allocator) => (
-            Stage::Running(Session::new(alloc, allocator)),
-            Outcome::Replied(Reply::Made),
-        ),
+        Ok(allocator) => {
+            let session = Session::new(alloc, allocator);
+            show_ended(&session);
+            (Stage::Running(session), Outcome::Replied(Reply::Made))
+        }
         Err((error, _)) => (
             Stage::Closed,
             Outcome::Replied(Reply::Refused(number_of(&error))),
@@ -127,6 +136,7 @@ fn serve_command<L: Log>(
     ensures { MatchDone (Does (Stage.Running session) (Line.Asks command.now)) result }
 {
     let reply = session.serve(log, command);
+    show_ended(&session);
     (
         Stage::Running(session),
         Outcome::Replied(Reply::Served(reply)),
