@@ -7,3 +7,7 @@ pub mod Joins
 pub mod Unlinks
 pub mod NextTo
 pub mod Listing
+pub mod IdChains
+pub mod IdSlots
+pub mod IdRows
+pub mod IdGrowth

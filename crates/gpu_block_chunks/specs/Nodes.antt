@@ -1,14 +1,14 @@
--- A chain's chunks in slots, the slot of each number, and links from a chunk to the slots of the ones beside it.
-use Rattle.std.specs.Prelude.{◌≡◌, ℕ, List, Option, Some, None, is_some, IsSomeAnd, IfSome, IsSome, length, count_by, slice_index_or, nat_eq}
+-- A chain's chunks in slots, the number in each slot, and links from a chunk to the slots of the ones beside it.
+use Rattle.std.specs.Prelude.{◌≡◌, ℕ, ◌≤◌, List, Option, Some, None, IfSome, IsSome, length, slice_index_or}
 use Rattle.std.specs.Option.{option_map}
-use Rattle.std.specs.Map.{lookup}
 use Rattle.gpu_block_chunks.specs.declared.chain.link.Link.{Link}
 use Rattle.gpu_block_chunks.specs.declared.chain.link.LinkedChunk.{LinkedChunk}
 use Rattle.gpu_block_chunks.specs.Chain.{Node}
+use Rattle.gpu_block_chunks.specs.ChunkIds.{id_at, slot_of}
 
--- the slot of each number, the chunk in each slot, and for how many more chunks there is room
+-- the number and the chunk in each slot, and for how many more chunks there is room
 pub record Slotted : Type 0 where
-  pub slots : List (ℕ × ℕ)
+  pub ids : List (Option ℕ)
   pub chunks : List (Option LinkedChunk)
   pub room : ℕ
 
@@ -20,10 +20,6 @@ link_chunk_id (Some link) = Some link.chunk_id
 abbrev pub node_value : LinkedChunk → Node
 node_value n = record { chunk = n.chunk; prev = link_chunk_id n.prev; next = link_chunk_id n.next }
 
--- the slot of a number
-abbrev pub slot_in : List (ℕ × ℕ) → ℕ → Option ℕ
-slot_in slots k = lookup (nat_eq k) slots
-
 -- what stands in a slot, if there is one
 abbrev pub stored_in : List (Option LinkedChunk) → Option ℕ → Option LinkedChunk
 stored_in chunks None = None
@@ -31,7 +27,7 @@ stored_in chunks (Some s) = slice_index_or chunks s None
 
 -- the chunk of a number, with its links
 abbrev pub stored_at : Slotted → ℕ → Option LinkedChunk
-stored_at nodes k = stored_in nodes.chunks (slot_in nodes.slots k)
+stored_at nodes k = stored_in nodes.chunks (slot_of nodes.ids k)
 
 -- the node that is held under a number
 abbrev pub held_at : Slotted → ℕ → Option Node
@@ -42,12 +38,12 @@ abbrev pub room_of : Slotted → ℕ
 room_of nodes = nodes.room
 
 -- where the chunk that a link names is held, it stands in the link's slot
-abbrev pub LeadsIn : List (ℕ × ℕ) → Option Link → Type 0
-LeadsIn slots None = Unit {0}
-LeadsIn slots (Some link) = (s : ℕ) → slot_in slots link.chunk_id ≡ Some s → link.slot ≡ s
+abbrev pub LeadsIn : List (Option ℕ) → Option Link → Type 0
+LeadsIn ids None = Unit {0}
+LeadsIn ids (Some link) = (s : ℕ) → slot_of ids link.chunk_id ≡ Some s → link.slot ≡ s
 
 abbrev pub Leads : Slotted → Option Link → Type 0
-Leads nodes link = LeadsIn nodes.slots link
+Leads nodes link = LeadsIn nodes.ids link
 
 -- the chunk that a link names is held, and stands in the link's slot
 abbrev pub Reaches : Slotted → Option Link → Type 0
@@ -61,9 +57,9 @@ KeepsLinks old new = (link : Option Link) → Leads old link → Leads new link
 abbrev pub KeepsReached : Slotted → Slotted → Type 0
 KeepsReached old new = (link : Option Link) → Reaches old link → Leads new link
 
--- each number's slot has its chunk, no slot is taken beside these, and the links of a chunk lead right
-pub record AreSound (slots : List (ℕ × ℕ)) (chunks : List (Option LinkedChunk)) : Type 0 where
-  pub numbered : (k s : ℕ) → slot_in slots k ≡ Some s → IsSomeAnd (stored_in chunks (Some s)) (λ n. (n.chunk).chunk_id ≡ k)
-  pub counted : count_by is_some chunks ≡ length slots
-  pub prev : (k : ℕ) (n : LinkedChunk) → stored_in chunks (slot_in slots k) ≡ Some n → LeadsIn slots n.prev
-  pub next : (k : ℕ) (n : LinkedChunk) → stored_in chunks (slot_in slots k) ≡ Some n → LeadsIn slots n.next
+-- each slot has the number of its chunk, and the links of a chunk lead right
+pub record AreSound (ids : List (Option ℕ)) (chunks : List (Option LinkedChunk)) : Type 0 where
+  pub numbered : (s : ℕ) → id_at ids s ≡ option_map (λ n. (n.chunk).chunk_id) (slice_index_or chunks s None)
+  pub enough : length chunks ≤ length ids
+  pub prev : (k : ℕ) (n : LinkedChunk) → stored_in chunks (slot_of ids k) ≡ Some n → LeadsIn ids n.prev
+  pub next : (k : ℕ) (n : LinkedChunk) → stored_in chunks (slot_of ids k) ≡ Some n → LeadsIn ids n.next

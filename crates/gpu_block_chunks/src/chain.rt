@@ -1,4 +1,4 @@
-//! The chunks of a block, in slots that a hashed map finds by number, each linked to the slots of the ones beside it.
+//! The chunks of a block, in slots that chains of numbers find, each linked to the slots of the ones beside it.
 
 ghost use Rattle.std.specs.Prelude.{◌≡◌, ◌+◌, ◌-◌, ◌^◌, ◌<◌, ◌≤◌, is_some, if◌then◌else◌, IfSome, IfOk, OnOk, IsOk, MatchOption, Some, None};
 ghost use Rattle.std.specs.Option.{option_copied, option_map};
@@ -7,6 +7,7 @@ ghost use Rattle.gpu_block_chunks.specs.Nodes.{held_at, node_value, link_chunk_i
 ghost use Rattle.gpu_block_chunks.specs.ChunkList.{Covers, AreDistinct};
 ghost use Rattle.gpu_block_chunks.specs.Chain.{HasChunkId, HasNoChunkId, AreNeighbours, neighbours, IsSplit, IsFilled, IsReleased, from_chunk_id, beside, beside_of, first_after, IsChunkAt, IsFresh, IsLonger};
 
+mod chunk_ids;
 mod link;
 mod node;
 mod nodes;

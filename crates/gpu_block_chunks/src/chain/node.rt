@@ -28,7 +28,7 @@ pub fn set_next(nodes: &mut Nodes, at: Link, next: Option<Link>, cost: &mut Cost
     requires there { Reaches nodes.old (Some at) }
     requires next { Leads nodes.old next }
     ensures changes { ChangesAt at.chunk_id (with_next (link_chunk_id next)) (held_at nodes.old) (held_at nodes.new) }
-    ensures slots { nodes.new.slots ≡ nodes.old.slots }
+    ensures ids { nodes.new.ids ≡ nodes.old.ids }
     ensures room { room_of nodes.new ≡ room_of nodes.old }
     ensures counted { LooksUp 1 cost.old cost.new }
 {
@@ -44,7 +44,7 @@ pub fn set_prev(nodes: &mut Nodes, at: Link, prev: Option<Link>, cost: &mut Cost
     requires there { Reaches nodes.old (Some at) }
     requires prev { Leads nodes.old prev }
     ensures changes { ChangesAt at.chunk_id (with_prev (link_chunk_id prev)) (held_at nodes.old) (held_at nodes.new) }
-    ensures slots { nodes.new.slots ≡ nodes.old.slots }
+    ensures ids { nodes.new.ids ≡ nodes.old.ids }
     ensures room { room_of nodes.new ≡ room_of nodes.old }
     ensures counted { LooksUp 1 cost.old cost.new }
 {
@@ -61,7 +61,7 @@ pub fn cut_front(nodes: &mut Nodes, at: Link, taken: u64, prev: Option<Link>, co
     requires leads { Leads nodes.old (Some at) }
     requires prev { Leads nodes.old prev }
     ensures changes { ChangesAt at.chunk_id (cut_node taken (link_chunk_id prev)) (held_at nodes.old) (held_at nodes.new) }
-    ensures slots { nodes.new.slots ≡ nodes.old.slots }
+    ensures ids { nodes.new.ids ≡ nodes.old.ids }
     ensures room { room_of nodes.new ≡ room_of nodes.old }
     ensures counted { LooksUp 1 cost.old cost.new }
 {
@@ -85,7 +85,7 @@ pub fn lengthen(nodes: &mut Nodes, at: Link, more: u64, next: Option<Link>, cost
     requires leads { Leads nodes.old (Some at) }
     requires next { Leads nodes.old next }
     ensures changes { ChangesAt at.chunk_id (joined_node more (link_chunk_id next)) (held_at nodes.old) (held_at nodes.new) }
-    ensures slots { nodes.new.slots ≡ nodes.old.slots }
+    ensures ids { nodes.new.ids ≡ nodes.old.ids }
     ensures room { room_of nodes.new ≡ room_of nodes.old }
     ensures counted { LooksUp 1 cost.old cost.new }
 {
@@ -104,7 +104,7 @@ pub fn set_next_of(nodes: &mut Nodes, at: Option<Link>, next: Option<Link>, cost
     requires there { Reaches nodes.old at }
     requires next { Leads nodes.old next }
     ensures changes { ChangesAtOpt (link_chunk_id at) (with_next (link_chunk_id next)) (held_at nodes.old) (held_at nodes.new) }
-    ensures slots { nodes.new.slots ≡ nodes.old.slots }
+    ensures ids { nodes.new.ids ≡ nodes.old.ids }
     ensures room { room_of nodes.new ≡ room_of nodes.old }
     ensures counted { LooksUp (if is_some at then 1 else 0) cost.old cost.new }
 {
@@ -118,7 +118,7 @@ pub fn set_prev_of(nodes: &mut Nodes, at: Option<Link>, prev: Option<Link>, cost
     requires there { Reaches nodes.old at }
     requires prev { Leads nodes.old prev }
     ensures changes { ChangesAtOpt (link_chunk_id at) (with_prev (link_chunk_id prev)) (held_at nodes.old) (held_at nodes.new) }
-    ensures slots { nodes.new.slots ≡ nodes.old.slots }
+    ensures ids { nodes.new.ids ≡ nodes.old.ids }
     ensures room { room_of nodes.new ≡ room_of nodes.old }
     ensures counted { LooksUp (if is_some at then 1 else 0) cost.old cost.new }
 {
@@ -177,7 +177,7 @@ pub fn set_use(
 )
     requires { Reaches nodes.old (Some at) }
     ensures changes { ChangesAt at.chunk_id (used_node offset kind name) (held_at nodes.old) (held_at nodes.new) }
-    ensures slots { nodes.new.slots ≡ nodes.old.slots }
+    ensures ids { nodes.new.ids ≡ nodes.old.ids }
     ensures room { room_of nodes.new ≡ room_of nodes.old }
     ensures counted { LooksUp 1 cost.old cost.new }
 {

@@ -1,38 +1,38 @@
-//! The chunks of a chain in slots, and the slot of each number.
+//! The chunks of a chain in slots, which are found by number.
 
 ghost use Rattle.std.specs.Prelude.{◌≡◌, ℕ, ◌+◌, ◌≤◌, ◌<◌, IsSome, IfOk, OnOk, IfSome, Some, None};
 ghost use Rattle.std.specs.Option.{option_copied, option_map};
 ghost use Rattle.gpu_block_chunks.specs.Chain.{SetsAt, IsUnlinked};
 ghost use Rattle.gpu_block_chunks.specs.Nodes.{held_at, room_of, node_value, Leads, Reaches, KeepsLinks, KeepsReached};
 
+use super::chunk_ids::ChunkIds;
 use super::link::{Link, LinkedChunk};
 use super::slots::Slots;
 use std::alloc::{AllocError, Global};
-use std::collections::HashMap;
 use std::marker::Model;
 
-/// The chunks of a chain, each in a slot of its own, and the slot of each number. A chunk keeps its slot until it is taken out;
+/// The chunks of a chain, each in a slot of its own, and the number in each slot. A chunk keeps its slot until it is taken out;
 /// then the slot is the first to be used again.
 #[derive(Drop)]
 pub struct Nodes {
-    pub(super) slots: HashMap<u64, usize>,
+    pub(super) ids: ChunkIds,
     pub(super) chunks: Slots,
 }
 
 impl Model for Nodes {
-    ghost use Rattle.std.specs.Prelude.{min};
-    ghost use Rattle.std.specs.HashMap.{spare};
+    ghost use Rattle.std.specs.Prelude.{◌-◌, min, length};
     ghost use Rattle.gpu_block_chunks.specs.Nodes.{Slotted, AreSound};
+    ghost use Rattle.gpu_block_chunks.specs.Slots.{taken};
 
     ghost Value = { Slotted };
 
     ghost view = { λ n. record {
-      slots = n.slots.entries;
+      ids = n.ids;
       chunks = n.chunks.slots;
-      room = min (spare n.slots) n.chunks.room;
+      room = min (length n.ids - taken n.chunks) n.chunks.room;
     } };
 
-    ghost invariant = { λ n. AreSound n.slots.entries n.chunks.slots };
+    ghost invariant = { λ n. AreSound n.ids n.chunks.slots };
 }
 
 impl Nodes {
@@ -41,9 +41,10 @@ impl Nodes {
         ensures none { IfOk result (λ n. (k : ℕ) → held_at n k ≡ None) }
         ensures room { IfOk result (λ n. capacity ≤ room_of n) }
     {
-        let slots = HashMap::with_capacity(alloc, capacity)?;
+        let mut ids = ChunkIds::with_slots(alloc, 0)?;
+        ids.reserve_to(capacity)?;
         let chunks = Slots::with_capacity(alloc, capacity)?;
-        Ok(Nodes { slots, chunks })
+        Ok(Nodes { ids, chunks })
     }
 
     /// The chunk of a number.
@@ -51,8 +52,8 @@ impl Nodes {
         ensures value { option_map node_value (option_copied result) ≡ held_at self.now chunk_id }
         ensures links { IfSome result (λ n. Leads self.now n.now.prev × Leads self.now n.now.next) }
     {
-        let slot = self.slots.get(&chunk_id)?;
-        self.chunks.get(*slot)
+        let slot = self.ids.find(chunk_id)?;
+        self.chunks.get(slot)
     }
 
     /// Where the chunk of a number is found.
@@ -61,11 +62,8 @@ impl Nodes {
         ensures chunk_id { result.chunk_id ≡ chunk_id }
         ensures leads { Leads self.now (Some result) }
     {
-        match self.slots.get(&chunk_id) {
-            Some(slot) => Link {
-                chunk_id,
-                slot: *slot,
-            },
+        match self.ids.find(chunk_id) {
+            Some(slot) => Link { chunk_id, slot },
             None => unreachable!(),
         }
     }
@@ -77,7 +75,7 @@ impl Nodes {
         ensures links { Leads self.now result.now.prev × Leads self.now result.now.next }
     {
         // a read, so that the proof has the invariant
-        let _slots = &self.slots;
+        let _ids = &self.ids;
         match self.chunks.get(link.slot) {
             Some(chunk) => chunk,
             None => unreachable!(),
@@ -88,8 +86,8 @@ impl Nodes {
     pub fn room(&self) -> usize
         ensures { result ≡ room_of self.now }
     {
-        let slots = self.slots.capacity() - self.slots.len();
-        slots.min(self.chunks.room())
+        let ids = self.ids.slots() - self.chunks.live();
+        ids.min(self.chunks.room())
     }
 
     /// Makes room for that many more chunks. A refusal changes no chunk.
@@ -98,8 +96,8 @@ impl Nodes {
         ensures room { OnOk result (more ≤ room_of self.new) }
         ensures kept { room_of self.old ≤ room_of self.new }
     {
-        self.slots.reserve(more)?;
-        self.chunks.reserve(more)
+        self.chunks.reserve(more)?;
+        self.ids.reserve_to(self.chunks.capacity())
     }
 
     /// Puts a chunk under its number, which no other has. There is room for it, so no memory is taken.
@@ -115,10 +113,8 @@ impl Nodes {
         ensures room { room_of self.old ≤ room_of self.new + 1 }
     {
         let slot = self.chunks.insert_reserved(chunk);
-        match self.slots.insert(chunk_id, slot) {
-            Ok(_) => Link { chunk_id, slot },
-            Err(_) => unreachable!(),
-        }
+        self.ids.insert(chunk_id, slot);
+        Link { chunk_id, slot }
     }
 
     /// Takes the chunk that a link leads to out of its slot.
@@ -130,7 +126,7 @@ impl Nodes {
         ensures kept { KeepsLinks self.old self.new }
         ensures room { room_of self.old ≤ room_of self.new }
     {
-        let _ = self.slots.remove(&link.chunk_id);
+        self.ids.remove(link.chunk_id, link.slot);
         self.chunks.remove(link.slot)
     }
 }

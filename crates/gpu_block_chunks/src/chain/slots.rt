@@ -1,9 +1,9 @@
 //! Chunks in slots, and the list of the free slots.
 
-ghost use Rattle.std.specs.Prelude.{◌≡◌, ◌+◌, ◌≤◌, ◌<◌, [], IsSome, IfOk, OnOk, Some, None, option_copied};
+ghost use Rattle.std.specs.Prelude.{◌≡◌, ◌+◌, ◌≤◌, ◌<◌, [], length, IsSome, IfOk, OnOk, Some, None, option_copied};
 ghost use Rattle.std.specs.Option.{option_copied_mut};
 ghost use Rattle.std.specs.Borrow.{Lends, LendsIf, sem};
-ghost use Rattle.gpu_block_chunks.specs.Slots.{chunk_at, taken, with_chunk, ChangesSlot};
+ghost use Rattle.gpu_block_chunks.specs.Slots.{chunk_at, taken, with_chunk, ChangesSlot, IsFirst};
 ghost use Rattle.gpu_block_chunks.specs.FreeSlots.{chunk_in};
 
 use super::link::LinkedChunk;
@@ -83,6 +83,20 @@ impl Slots {
         self.slots.capacity() - self.live
     }
 
+    /// How many chunks there are.
+    pub fn live(&self) -> usize
+        ensures { result ≡ taken self.now }
+    {
+        self.live
+    }
+
+    /// How many chunks there can be without taking memory.
+    pub fn capacity(&self) -> usize
+        ensures { result ≡ taken self.now + self.now.room }
+    {
+        self.slots.capacity()
+    }
+
     /// Makes room for that many more chunks. A refusal changes no slot. Slots are long, so their room grows by a quarter, and not to the
     /// double.
     pub fn reserve(&mut self, more: usize) -> Result<(), AllocError>
@@ -134,6 +148,7 @@ impl Slots {
         ensures was_free { chunk_at self.old result ≡ None }
         ensures changes { ChangesSlot self.old self.new result (Some chunk) }
         ensures count { taken self.new ≡ taken self.old + 1 }
+        ensures first { IsFirst self.old self.new result }
         ensures room { self.new.room + 1 ≡ self.old.room }
     {
         self.live += 1;
@@ -155,6 +170,7 @@ impl Slots {
         ensures value { chunk_at self.old slot ≡ Some result }
         ensures changes { ChangesSlot self.old self.new slot None }
         ensures count { taken self.new + 1 ≡ taken self.old }
+        ensures length { length self.new.slots ≡ length self.old.slots }
         ensures room { self.new.room ≡ self.old.room + 1 }
     {
         let free = Slot::Free(self.free);

@@ -48,7 +48,7 @@ join_left-requires-clause-linked c =
 
 pub join_left-requires-clause-leads : goal.join_left-requires-clause-leads
 join_left-requires-clause-leads c =
-    c.join_right.ensures.kept (Some c.link_to-at.result) (rw c.set_use.ensures.slots c.link_to-at.ensures.leads)
+    c.join_right.ensures.kept (Some c.link_to-at.result) (rw c.set_use.ensures.ids c.link_to-at.ensures.leads)
 
 pub invariant_of-self : goal.invariant_of-self
 invariant_of-self c =

@@ -64,7 +64,7 @@ set_next_of-requires-clause-there c =
     (can_split _ c.args.self.now.chunks c.args.chunk_id c.args.taken (ap (λ (v : Linked). v.chunks) c.self.view_is) c.self.invariant.numbered c.requires.longer) in
     let e = (c.ends_of-ends.ensures.ends r.0 (rw c.link_to-rest.ensures.chunk_id r.1)).1 in
     let held = prev_held (held_at c.self.inside.nodes) c.self.inside.first c.self.inside.size _ c.self.invariant c.args.chunk_id r.0 r.1 in (
-      rw c.cut_front.ensures.slots (c.put-piece.ensures.links c.ends_of-ends.result.prev (c.ends_of-ends.ensures.links.0, rw e held)),
+      rw c.cut_front.ensures.ids (c.put-piece.ensures.links c.ends_of-ends.result.prev (c.ends_of-ends.ensures.links.0, rw e held)),
       rw e (still_held (held_at c.self.inside.nodes) (held_at c.put-piece.new.self) (held_at c.cut_front.new.nodes) c.args.chunk_id c.args.new (cut_node c.args.taken (Some c.args.new)) _
           (rw (c.new.ensures.value, c.link_to-rest.ensures.chunk_id) at c.put-piece.ensures.sets)
           (rw (c.link_to-rest.ensures.chunk_id, c.put-piece.ensures.link.0) at c.cut_front.ensures.changes) (r.0).prev held),

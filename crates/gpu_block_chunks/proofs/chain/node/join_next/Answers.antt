@@ -13,7 +13,7 @@ lengthen-requires-clause-fits c =
 
 pub set_prev_of-requires-clause-there : goal.set_prev_of-requires-clause-there
 set_prev_of-requires-clause-there c = (
-  rw c.lengthen.ensures.slots (c.remove-gone.ensures.kept c.remove-gone.result.next c.remove-gone.ensures.links.1),
+  rw c.lengthen.ensures.ids (c.remove-gone.ensures.kept c.remove-gone.result.next c.remove-gone.ensures.links.1),
   join_next_held (held_at c.args.nodes.now) (held_at c.remove-gone.new.self) (held_at c.lengthen.new.nodes) c.args.left.chunk_id c.args.right.chunk_id
       (node_value c.remove-gone.result) c.requires.joins
       c.remove-gone.ensures.node c.remove-gone.ensures.sets c.lengthen.ensures.changes,
@@ -29,4 +29,4 @@ pub lengthen-requires-clause-leads : goal.lengthen-requires-clause-leads
 lengthen-requires-clause-leads c = c.remove-gone.ensures.kept (Some c.args.left) c.requires.leads.0
 
 pub set_prev_of-requires-clause-prev : goal.set_prev_of-requires-clause-prev
-set_prev_of-requires-clause-prev c = rw c.lengthen.ensures.slots (c.remove-gone.ensures.kept (Some c.args.left) c.requires.leads.0)
+set_prev_of-requires-clause-prev c = rw c.lengthen.ensures.ids (c.remove-gone.ensures.kept (Some c.args.left) c.requires.leads.0)

@@ -1,20 +1,55 @@
-use Rattle.std.proofs.Common.{◌∙◌, rules}
-use Rattle.gpu_block_chunks.proofs.Slots.{put_sound, put_sets, slotless}
+use Rattle.std.proofs.Common.{ℕ, Option, Some, None, refl, ap, ◌∙◌}
+use Rattle.std.proofs.lemmas.Option.{slice_get-get_or}
+use Rattle.gpu_block_chunks.proofs.Slots.{put_sound, put_sets, put_keeps, put_leads, slotless, first_within, first_long, no_number}
 use Rattle.gpu_block_chunks.proofs.chain.nodes.Nodes.put.Goals as goal
+
+pub insert-requires-clause-new : goal.insert-requires-clause-new
+insert-requires-clause-new c = slotless _ _ c.self.view_is c.self.invariant c.args.chunk_id c.requires.unlinked.none
+
+pub insert-requires-clause-vacant : goal.insert-requires-clause-vacant
+insert-requires-clause-vacant c =
+    let put = c.insert_reserved-slot in
+    let within = first_within c.self.inside.ids c.self.inside.chunks put.new.self put.result c.self.invariant.enough (rw (← c.self.view_is) at c.requires.room) put.ensures.first in
+    slice_get-get_or c.self.inside.ids put.result None within
+    ∙ ap (λ (o : Option ℕ). Some o) (no_number c.self.inside.ids c.self.inside.chunks.slots put.result c.self.invariant put.ensures.was_free)
 
 pub invariant_of-self : goal.invariant_of-self
 invariant_of-self c =
-    put_sound c.self.inside.slots.entries c.insert.new.self.entries c.self.inside.chunks.slots c.insert_reserved-slot.new.self.slots c.self.invariant c.args.chunk_id
-    c.insert_reserved-slot.result c.args.chunk
-    c.in-Ok.ensures.updates.0 c.insert_reserved-slot.ensures.was_free c.insert_reserved-slot.ensures.changes.changed c.insert_reserved-slot.ensures.changes.others
-    (rw (c.in-Ok.ensures.old ∙ slotless _ _ c.self.view_is c.self.invariant c.args.chunk_id c.requires.unlinked.none) at c.in-Ok.ensures.len) c.insert_reserved-slot.ensures.count
-    c.requires.numbered (rw (← c.self.view_is) at c.requires.unlinked) (rw (← c.self.view_is) at c.requires.prev) (rw (← c.self.view_is) at c.requires.next)
+    let put = c.insert_reserved-slot in
+    let room = rw (← c.self.view_is) at c.requires.room in
+    let within = first_within c.self.inside.ids c.self.inside.chunks put.new.self put.result c.self.invariant.enough room put.ensures.first in
+    let new = slotless _ _ c.self.view_is c.self.invariant c.args.chunk_id c.requires.unlinked.none in
+    put_sound c.self.inside.ids c.insert.new.self c.self.inside.chunks.slots put.new.self.slots c.self.invariant c.args.chunk_id put.result c.args.chunk c.insert.ensures within new
+    put.ensures.was_free put.ensures.changes.changed put.ensures.changes.others
+    (first_long c.self.inside.ids c.self.inside.chunks put.new.self put.result c.self.invariant.enough room put.ensures.first) c.requires.numbered
+    (rw (← c.self.view_is) at c.requires.unlinked) (rw (← c.self.view_is) at c.requires.prev) (rw (← c.self.view_is) at c.requires.next)
 
 pub returns-clause-sets : goal.returns-clause-sets
 returns-clause-sets c =
-    rw (← c.self.view_is) (put_sets c.self.inside.slots.entries c.insert.new.self.entries c.self.inside.chunks.slots c.insert_reserved-slot.new.self.slots c.self.invariant
-    c.args.chunk_id c.insert_reserved-slot.result c.args.chunk
-    c.in-Ok.ensures.updates.0 c.insert_reserved-slot.ensures.was_free c.insert_reserved-slot.ensures.changes.changed c.insert_reserved-slot.ensures.changes.others)
+    let put = c.insert_reserved-slot in
+    let room = rw (← c.self.view_is) at c.requires.room in
+    let within = first_within c.self.inside.ids c.self.inside.chunks put.new.self put.result c.self.invariant.enough room put.ensures.first in
+    let new = slotless _ _ c.self.view_is c.self.invariant c.args.chunk_id c.requires.unlinked.none in
+    rw (← c.self.view_is) (put_sets c.self.inside.ids c.insert.new.self c.self.inside.chunks.slots put.new.self.slots c.self.invariant c.args.chunk_id put.result c.args.chunk c.insert.ensures within new
+    put.ensures.was_free put.ensures.changes.changed put.ensures.changes.others)
 
 pub returns-clause-link : goal.returns-clause-link
-returns-clause-link c = search rules
+returns-clause-link c =
+    let put = c.insert_reserved-slot in
+    let room = rw (← c.self.view_is) at c.requires.room in
+    let within = first_within c.self.inside.ids c.self.inside.chunks put.new.self put.result c.self.invariant.enough room put.ensures.first in
+    let new = slotless _ _ c.self.view_is c.self.invariant c.args.chunk_id c.requires.unlinked.none in (
+      refl,
+      put_leads c.self.inside.ids c.insert.new.self c.self.inside.chunks.slots put.new.self.slots c.self.invariant c.args.chunk_id put.result c.args.chunk c.insert.ensures within new
+          put.ensures.was_free put.ensures.changes.changed put.ensures.changes.others,
+    )
+
+pub returns-clause-links : goal.returns-clause-links
+returns-clause-links c =
+    let put = c.insert_reserved-slot in
+    let room = rw (← c.self.view_is) at c.requires.room in
+    let within = first_within c.self.inside.ids c.self.inside.chunks put.new.self put.result c.self.invariant.enough room put.ensures.first in
+    let new = slotless _ _ c.self.view_is c.self.invariant c.args.chunk_id c.requires.unlinked.none in
+    λ link reaches. put_keeps c.self.inside.ids c.insert.new.self c.self.inside.chunks.slots put.new.self.slots c.self.invariant c.args.chunk_id put.result c.args.chunk c.insert.ensures within new
+    put.ensures.was_free put.ensures.changes.changed put.ensures.changes.others (rw (← c.self.view_is) at c.requires.unlinked.none) link
+    (rw (← c.self.view_is) at reaches)

@@ -1,0 +1,82 @@
+-- Chunk ids in slots, and the chains in which they are found: each link leads to the greatest id of its chain that is left.
+use Rattle.std.specs.Prelude.{◌≡◌, ◌≢◌, ℕ, ◌+◌, ◌%◌, ◌^◌, ◌<◌, ◌≤◌, List, [], ◌∷◌, map, length, Option, Some, None, MatchOption, cond, slice_index_or}
+use Rattle.std.specs.Int.{IsPowerOfTwo}
+use Rattle.std.specs.Option.{option_map}
+use Rattle.gpu_block_chunks.specs.declared.chain.chunk_ids.Entry.{Entry}
+use Rattle.gpu_block_chunks.specs.Chain.{is_at}
+
+-- the id in a slot
+abbrev pub id_at : List (Option ℕ) → ℕ → Option ℕ
+id_at ids slot = slice_index_or ids slot None
+
+-- the slot of an id
+abbrev pub slot_of : List (Option ℕ) → ℕ → Option ℕ
+slot_of [] k = None
+slot_of (id ∷ ids) k = cond (is_at id k) (Some 0) (option_map (λ s. s + 1) (slot_of ids k))
+
+abbrev pub ids_in : List (Option Entry) → List (Option ℕ)
+ids_in entries = map (option_map (λ e. e.chunk_id)) entries
+
+abbrev pub next_of : Option Entry → Option ℕ
+next_of None = None
+next_of (Some e) = e.next
+
+-- where a head leads, or an entry does
+abbrev pub link_at : List (Option ℕ) → List (Option Entry) → ℕ → Option ℕ → Option ℕ
+link_at heads entries chain None = slice_index_or heads chain None
+link_at heads entries chain (Some slot) = next_of (slice_index_or entries slot None)
+
+-- the slot has the greatest id of which that holds
+pub record HasGreatest (ids : List (Option ℕ)) (P : ℕ → Type 0) (slot : ℕ) : Type 0 where
+  pub id : ℕ
+  pub at : id_at ids slot ≡ Some id
+  pub holds : P id
+  pub greatest : (other k : ℕ) → id_at ids other ≡ Some k → P k → k ≤ id
+
+-- the link leads to the slot with the greatest id of which that holds, if there is one
+abbrev pub LeadsTo : List (Option ℕ) → (ℕ → Type 0) → Option ℕ → Type 0
+LeadsTo ids P link = MatchOption link ((slot k : ℕ) → id_at ids slot ≡ Some k → P k → ⊥) (HasGreatest ids P)
+
+-- the slot before has an id of the chain, if there is a slot
+abbrev pub IsOf : List (Option ℕ) → ℕ → ℕ → Option ℕ → Type 0
+IsOf ids chains chain None = Unit {0}
+IsOf ids chains chain (Some slot) = (k : ℕ) × (id_at ids slot ≡ Some k) × (k % chains ≡ chain)
+
+-- the id is below that of a slot, if there is one
+abbrev pub IsBelow : List (Option ℕ) → Option ℕ → ℕ → Type 0
+IsBelow ids None k = Unit {0}
+IsBelow ids (Some slot) k = (top : ℕ) → id_at ids slot ≡ Some top → k < top
+
+-- each link leads to the next lower id of its chain, and each head to the greatest
+abbrev pub AreLinked : List (Option ℕ) → ℕ → (ℕ → Option ℕ → Option ℕ) → Type 0
+AreLinked ids chains link =
+    (chain : ℕ) (before : Option ℕ) → chain < chains → IsOf ids chains chain before
+    → LeadsTo ids (λ k. (k % chains ≡ chain) × IsBelow ids before k) (link chain before)
+
+-- the ids of the entries are distinct and linked in chains, of which there are no fewer than entries
+pub record AreChains (heads : List (Option ℕ)) (entries : List (Option Entry)) : Type 0 where
+  pub power : IsPowerOfTwo (length heads)
+  pub linked : AreLinked (ids_in entries) (length heads) (link_at heads entries)
+  pub distinct : (s t k : ℕ) → id_at (ids_in entries) s ≡ Some k → id_at (ids_in entries) t ≡ Some k → s ≡ t
+  pub enough : length entries ≤ length heads
+  pub few : length entries ≤ 2 ^ 32
+
+-- the slot has a greater id
+abbrev pub IsAbove : List (Option ℕ) → ℕ → ℕ → Type 0
+IsAbove ids slot k = (id : ℕ) × (id_at ids slot ≡ Some id) × (k < id)
+
+-- the link leads to no greater id
+abbrev pub NoneAbove : List (Option ℕ) → Option ℕ → ℕ → Type 0
+NoneAbove ids link k = (slot id : ℕ) → link ≡ Some slot → id_at ids slot ≡ Some id → id ≤ k
+
+-- the place of an id in its chain is behind that slot, or at the head
+pub record IsPlace (heads : List (Option ℕ)) (entries : List (Option Entry)) (chain k : ℕ) (before : Option ℕ) : Type 0 where
+  pub inside : IsOf (ids_in entries) (length heads) chain before
+  pub below : IsBelow (ids_in entries) before k
+  pub last : NoneAbove (ids_in entries) (link_at heads entries chain before) k
+
+-- one link changes, and no other
+pub record ChangesLink (old new : ℕ → Option ℕ → Option ℕ) (chain : ℕ) (before link : Option ℕ) : Type 0 where
+  pub changed : new chain before ≡ link
+  pub others : (other : ℕ) (slot : Option ℕ) → slot ≢ before → new other slot ≡ old other slot
+  pub heads : (other : ℕ) → other ≢ chain → new other None ≡ old other None
