@@ -1,2 +1,3 @@
 pub mod Preparing
 pub mod Alike
+pub mod Calling

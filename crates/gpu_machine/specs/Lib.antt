@@ -1,3 +1,4 @@
 pub mod Description
 pub mod State
 pub mod Begin
+pub mod Calls

@@ -6,11 +6,15 @@ ghost use Rattle.gpu_values.specs.Refusal.{refusal_of, host_out_of_memory};
 ghost use Rattle.gpu_vulkan.specs.Allocate.{next_type};
 ghost use Rattle.gpu_vulkan.specs.BlockAnswer.{memory_refusal, map_refusal};
 ghost use Rattle.gpu_vulkan.specs.Setup.{IsValid, properties_told};
+ghost use Rattle.gpu_vulkan.specs.Live.{IsLiveIn};
+ghost use Rattle.gpu_memory_types.specs.Blocks.{total_capacity};
+ghost use Rattle.gpu_memory_types.specs.Budgets.{budget_at};
+ghost use Rattle.gpu_machine.specs.Calls.{memory_back, Frees, Renames, SetsBudget};
 ghost use Rattle.gpu_machine.specs.Description.{description_of};
 ghost use Rattle.gpu_machine.specs.State.{IsServed, told_fault};
 ghost use Rattle.gpu_machine.specs.Begin.{allocated_in, question_for, Tries, Follows, Serves, Begins, Grants, Declines};
 
-use crate::answer::{Allocated, Progress, Question};
+use crate::answer::{Allocated, MemoryBack, Progress, Question};
 use crate::awaited::Awaited;
 use crate::description::Description;
 use crate::refusal::{answer_awaited, no_answer_awaited, refusal_of_mapping};
@@ -35,6 +39,20 @@ fn allocated_in(setup: &Setup, index: usize, piece: Piece<DeviceMemory>) -> Allo
         memory_type: index,
         piece,
         mapped: setup.is_mapped(index),
+    }
+}
+
+/// The memory of a block of the memory type at `index` that goes, if one does.
+fn memory_back(setup: &Setup, index: usize, went: Option<DeviceMemory>) -> Option<MemoryBack>
+    requires { index < length setup.now.properties.types }
+    ensures { result ≡ memory_back setup.now index went }
+{
+    match went {
+        None => None,
+        Some(memory) => Some(MemoryBack {
+            memory,
+            mapped: setup.is_mapped(index),
+        }),
     }
 }
 
@@ -172,6 +190,65 @@ impl Machine {
         ensures { Declines self.old (map_refusal code) result self.new }
     {
         self.declined(refusal_of_mapping(code))
+    }
+
+    /// Frees a piece of the memory type at `index`, and tells which memory goes back to the driver, where its block is left empty and
+    /// isn't the only shared one of its memory type. It takes no host memory. `Internal` where the piece isn't live, or a question
+    /// is open.
+    pub fn free(&mut self, index: usize, piece: &Piece<DeviceMemory>) -> Result<Option<MemoryBack>>
+        ensures { Frees self.old index piece.now result self.new }
+    {
+        if self.awaits_answer() {
+            return Err(answer_awaited());
+        }
+        match self.types.free(index, piece) {
+            Err(error) => Err(error),
+            Ok(went) => Ok(memory_back(&self.setup, index, went)),
+        }
+    }
+
+    /// Renames a piece of the memory type at `index`. `Internal` where the piece isn't live, or a question is open; else
+    /// `HostOutOfMemory`. Then nothing changes.
+    pub fn rename(&mut self, index: usize, piece: &Piece<DeviceMemory>, name: &str) -> Result<()>
+        ensures { Renames self.old index piece.now name.now result self.new }
+    {
+        if self.awaits_answer() {
+            return Err(answer_awaited());
+        }
+        self.types.rename(index, piece, name)
+    }
+
+    /// Whether a piece of the memory type at `index` is live.
+    pub fn is_live(&self, index: usize, piece: &Piece<DeviceMemory>) -> bool
+        ensures { IsTrue result ↔ IsLiveIn self.now.slots index (Some piece.now) }
+    {
+        self.types.is_live(index, piece)
+    }
+
+    /// Bounds the sum of the sizes of the blocks of the memory type at `index`, in bytes; `None` takes the bound away. A budget below
+    /// the present sum gives no block back. It takes no host memory. `Internal` where there is no such memory type, or a question is
+    /// open; then nothing changes.
+    pub fn set_budget(&mut self, index: usize, budget: Option<u64>) -> Result<()>
+        ensures { SetsBudget self.old index budget result self.new }
+    {
+        if self.awaits_answer() {
+            return Err(answer_awaited());
+        }
+        self.types.set_budget(index, budget)
+    }
+
+    /// The budget of the memory type at `index`, in bytes; `None` where it has none, or isn't there.
+    pub fn budget(&self, index: usize) -> Option<u64>
+        ensures { result ≡ budget_at self.now.budgets index }
+    {
+        self.types.budget(index)
+    }
+
+    /// The sum of the sizes of the live blocks, in bytes. A block that is awaited isn't one.
+    pub fn capacity(&self) -> u64
+        ensures { result ≡ total_capacity self.now.slots }
+    {
+        self.types.capacity()
     }
 
     // The block that was awaited isn't there, for this cause.
