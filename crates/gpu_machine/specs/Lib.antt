@@ -2,3 +2,4 @@ pub mod Description
 pub mod State
 pub mod Begin
 pub mod Calls
+pub mod Run

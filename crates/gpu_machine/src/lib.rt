@@ -4,6 +4,7 @@
 mod answer;
 mod awaited;
 mod description;
+pub mod laws;
 mod machine;
 mod refusal;
 mod told;
