@@ -6,6 +6,7 @@ use Rattle.gpu_values.specs.Refusal.{Refusal, invalid_allocator_create_desc}
 use Rattle.gpu_values.specs.Sizes.{Sizes}
 use Rattle.gpu_values.specs.declared.allocator_debug_settings.AllocatorDebugSettings.{AllocatorDebugSettings}
 use Rattle.gpu_device.specs.Properties.{Properties}
+use Rattle.gpu_device.specs.declared.vulkan.types.MemoryHeap.{MemoryHeap}
 use Rattle.gpu_device.specs.declared.vulkan.types.MemoryTypeInfo.{MemoryTypeInfo}
 
 -- what the device told, and what the allocator's maker chose
@@ -14,6 +15,10 @@ pub record Setup : Type 0 where
   pub sizes : Sizes
   pub debug : AllocatorDebugSettings
   pub device_address : Bool
+
+-- what a device told, taken together
+abbrev pub properties_told : List MemoryTypeInfo → List MemoryHeap → (granularity : ℕ) → Properties
+properties_told types heaps granularity = record { types = types; heaps = heaps; granularity = granularity }
 
 -- the memory type lies in a heap that isn't there
 abbrev pub lacks_heap : Properties → MemoryTypeInfo → Bool

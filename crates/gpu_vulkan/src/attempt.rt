@@ -94,7 +94,11 @@ pub fn allocate_in_type<D: VulkanDevice>(
 
 /// The memory type that is asked after a refusal: memory for uploads is then allocated where the host can write it, be it slow
 /// for the device.
-fn next_type(setup: &Setup, desc: &AllocationCreateDesc, error: &AllocationError) -> Option<usize>
+pub fn next_type(
+    setup: &Setup,
+    desc: &AllocationCreateDesc,
+    error: &AllocationError,
+) -> Option<usize>
     ensures next { result ≡ next_type setup.now desc.now (refusal_of error.now) }
     ensures there { IfSome result (λ index. index < length setup.now.properties.types) }
 {

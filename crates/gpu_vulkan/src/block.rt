@@ -15,7 +15,7 @@ use gpu_values::{AllocationError, Fault, Result};
 const OUT_OF_DEVICE_MEMORY: i32 = -2;
 
 /// Why memory was refused.
-fn refusal_of_memory(code: i32) -> AllocationError
+pub fn refusal_of_memory(code: i32) -> AllocationError
     ensures { refusal_of result ≡ memory_refusal code }
 {
     if code == OUT_OF_DEVICE_MEMORY {

@@ -16,8 +16,11 @@ mod source;
 
 pub use allocation::Allocation;
 pub use allocator::Allocator;
-use choice::{best_type, first_type, required_flags};
-pub use describe::{AllocationCreateDesc, AllocatorCreateDesc};
-use describe::{request_of, requests_dedicated};
-use setup::{Settings, Setup, fault_of, is_mapped, parts_of};
+pub use attempt::next_type;
+pub use block::refusal_of_memory;
+pub use choice::best_type;
+use choice::{first_type, required_flags};
+pub use describe::{AllocationCreateDesc, AllocatorCreateDesc, request_of, requests_dedicated};
+pub use setup::{Settings, Setup, told_parts};
+use setup::{fault_of, is_mapped, parts_of};
 pub use slab::MappedAllocationSlab;

@@ -5,7 +5,7 @@ ghost use Rattle.std.specs.List.{list_any};
 ghost use Rattle.std.specs.Option.{option_map};
 ghost use Rattle.std.specs.Int.{is_power_of_two};
 ghost use Rattle.gpu_values.specs.Refusal.{refusal_of, invalid_allocator_create_desc};
-ghost use Rattle.gpu_vulkan.specs.Setup.{lacks_heap, setup_fault, IsValid};
+ghost use Rattle.gpu_vulkan.specs.Setup.{lacks_heap, setup_fault, IsValid, properties_told};
 ghost use Rattle.gpu_vulkan.specs.Types.{heap_size};
 ghost use Rattle.gpu_vulkan.specs.Types.{is_host_visible};
 ghost use Rattle.gpu_memory_types.specs.Budgets.{budgets};
@@ -168,6 +168,13 @@ impl Setup {
         self.settings.buffer_device_address
     }
 
+    /// How large the shared blocks are.
+    pub fn sizes(&self) -> AllocationSizes
+        ensures { result ≡ self.now.sizes }
+    {
+        self.settings.sizes
+    }
+
     /// Which lines the allocator logs.
     pub fn debug(&self) -> AllocatorDebugSettings
         ensures { result ≡ self.now.debug }
@@ -202,6 +209,36 @@ pub fn is_mapped(info: &MemoryTypeInfo) -> bool
         .contains(MemoryPropertyFlags::HOST_VISIBLE)
 }
 
+/// The setup over what a device told, and its memory types.
+pub fn told_parts(
+    alloc: Global,
+    memory_types: Vec<MemoryTypeInfo>,
+    heaps: Vec<MemoryHeap>,
+    granularity: u64,
+    settings: Settings,
+) -> Result<(Setup, MemoryTypes<DeviceMemory>), AllocError>
+    requires { IsValid (properties_told memory_types.items heaps.items granularity) }
+    ensures setup { IfOk result (λ parts. parts.0 ≡ record {
+      properties = properties_told memory_types.items heaps.items granularity;
+      sizes = settings.sizes;
+      debug = settings.debug;
+      device_address = settings.buffer_device_address;
+    }) }
+    ensures kinds { IfOk result (λ parts. kinds parts.1 ≡ kinds_of_device (properties_told memory_types.items heaps.items granularity)) }
+    ensures empty { IfOk result (λ parts. All (λ slots. slots ≡ []) (slots_of parts.1)) }
+    ensures unbounded { IfOk result (λ parts. All (λ b. b ≡ None) (budgets parts.1)) }
+    ensures kept { IfOk result (λ parts. MemoryTypesInvariant parts.1) }
+{
+    let types = empty_types(alloc, &memory_types, granularity)?;
+    let setup = Setup {
+        memory_types,
+        heaps,
+        granularity,
+        settings,
+    };
+    Ok((setup, MemoryTypes::new(types)))
+}
+
 /// The setup over a device, and its memory types.
 pub fn parts_of<D: VulkanDevice>(
     alloc: Global,
@@ -224,12 +261,5 @@ pub fn parts_of<D: VulkanDevice>(
     let memory_types = memory_types_of(alloc, device)?;
     let heaps = heaps_of(alloc, device)?;
     let granularity = device.buffer_image_granularity();
-    let types = empty_types(alloc, &memory_types, granularity)?;
-    let setup = Setup {
-        memory_types,
-        heaps,
-        granularity,
-        settings,
-    };
-    Ok((setup, MemoryTypes::new(types)))
+    told_parts(alloc, memory_types, heaps, granularity, settings)
 }

@@ -1,0 +1,4 @@
+pub mod Preparing
+pub mod Alike
+pub mod Calling
+pub mod Running

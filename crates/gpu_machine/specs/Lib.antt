@@ -1,0 +1,5 @@
+pub mod Description
+pub mod State
+pub mod Begin
+pub mod Calls
+pub mod Run

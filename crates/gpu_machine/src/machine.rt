@@ -1,0 +1,332 @@
+//! The machine: blocks of device memory by memory type, and the calls that share them out.
+
+ghost use Rattle.std.specs.Prelude.{◌≡◌, ◌↔◌, [], All, Some, None, IfOk, IfErr, OnOk, IsSome, IsTrue, length, ◌<◌, true};
+ghost use Rattle.std.specs.Option.{unwrap_or};
+ghost use Rattle.gpu_values.specs.Refusal.{refusal_of, host_out_of_memory};
+ghost use Rattle.gpu_vulkan.specs.Allocate.{next_type};
+ghost use Rattle.gpu_vulkan.specs.BlockAnswer.{memory_refusal, map_refusal};
+ghost use Rattle.gpu_vulkan.specs.Setup.{IsValid, properties_told};
+ghost use Rattle.gpu_vulkan.specs.Live.{IsLiveIn};
+ghost use Rattle.gpu_memory_types.specs.Blocks.{total_capacity};
+ghost use Rattle.gpu_memory_types.specs.Budgets.{budget_at};
+ghost use Rattle.gpu_machine.specs.Calls.{memory_back, Frees, Renames, SetsBudget};
+ghost use Rattle.gpu_machine.specs.Description.{description_of};
+ghost use Rattle.gpu_machine.specs.State.{IsServed, told_fault};
+ghost use Rattle.gpu_machine.specs.Begin.{allocated_in, question_for, Tries, Follows, Serves, Begins, Grants, Declines};
+
+use crate::answer::{Allocated, MemoryBack, Progress, Question};
+use crate::awaited::Awaited;
+use crate::description::Description;
+use crate::refusal::{answer_awaited, no_answer_awaited, refusal_of_mapping};
+use crate::told::fault_of;
+use gpu_core::{Piece, Prepared};
+use gpu_device::vulkan::{DeviceMemory, MemoryAllocateInfo, MemoryHeap, MemoryTypeInfo};
+use gpu_memory_types::MemoryTypes;
+use gpu_values::{AllocationError, Result};
+use gpu_vulkan::{
+    AllocationCreateDesc, Settings, Setup, best_type, next_type, refusal_of_memory, request_of,
+    told_parts,
+};
+use std::alloc::{AllocError, Global};
+use std::marker::Model;
+
+/// A piece of the memory type at `index`, as it is told.
+fn allocated_in(setup: &Setup, index: usize, piece: Piece<DeviceMemory>) -> Allocated
+    requires { index < length setup.now.properties.types }
+    ensures { result ≡ allocated_in setup.now index piece }
+{
+    Allocated {
+        memory_type: index,
+        piece,
+        mapped: setup.is_mapped(index),
+    }
+}
+
+/// The memory of a block of the memory type at `index` that goes, if one does.
+fn memory_back(setup: &Setup, index: usize, went: Option<DeviceMemory>) -> Option<MemoryBack>
+    requires { index < length setup.now.properties.types }
+    ensures { result ≡ memory_back setup.now index went }
+{
+    match went {
+        None => None,
+        Some(memory) => Some(MemoryBack {
+            memory,
+            mapped: setup.is_mapped(index),
+        }),
+    }
+}
+
+/// What the driver is asked for a new block of `size` bytes.
+fn question_for(setup: &Setup, index: usize, desc: &AllocationCreateDesc, size: u64) -> Question
+    requires there { index < length setup.now.properties.types }
+    requires valid { IsValid setup.now.properties }
+    ensures { result ≡ question_for setup.now index desc.now size }
+{
+    Question {
+        info: MemoryAllocateInfo {
+            size,
+            memory_type_index: index as u32,
+            device_address: setup.buffer_device_address(),
+            scheme: desc.allocation_scheme,
+        },
+        mapped: setup.is_mapped(index),
+    }
+}
+
+/// The Vulkan allocator turned inside out: it calls no driver, but asks its caller for memory, and is told the answer. While a
+/// question is open, each call but the answers to it and those that only look is refused, and changes nothing.
+#[derive(Drop)]
+pub struct Machine {
+    alloc: Global,
+    setup: Setup,
+    types: MemoryTypes<DeviceMemory>,
+    awaited: Option<Awaited>,
+}
+
+impl Model for Machine {
+    ghost use Rattle.std.specs.Prelude.{◌≡◌};
+    ghost use Rattle.gpu_memory_types.specs.Types.{kinds, MemoryTypesInvariant};
+    ghost use Rattle.gpu_vulkan.specs.Types.{kinds_of_device};
+    ghost use Rattle.gpu_machine.specs.State.{State, state_of, CanAnswer};
+
+    ghost Value = { State };
+
+    ghost view = { λ m. state_of m.setup m.types m.awaited };
+
+    ghost invariant = { λ m. (kinds m.types ≡ kinds_of_device m.setup.properties) × MemoryTypesInvariant m.types × CanAnswer m.types m.awaited };
+}
+
+impl Machine {
+    /// A machine without blocks and without budgets, over a device that has these memory types and heaps, and this
+    /// `bufferImageGranularity`. The errors: `InvalidAllocatorCreateDesc` for the first that holds of a granularity that isn't
+    /// a power of two, more than 32 memory types, and a memory type in a heap that isn't there; else `HostOutOfMemory`.
+    pub fn new(
+        alloc: Global,
+        memory_types: Vec<MemoryTypeInfo>,
+        heaps: Vec<MemoryHeap>,
+        granularity: u64,
+        settings: Settings,
+    ) -> Result<Self>
+        ensures setup { IfOk result (λ m. m.setup ≡ record {
+          properties = properties_told memory_types.items heaps.items granularity;
+          sizes = settings.sizes;
+          debug = settings.debug;
+          device_address = settings.buffer_device_address;
+        }) }
+        ensures empty { IfOk result (λ m. All (λ slots. slots ≡ []) m.slots) }
+        ensures types { IfOk result (λ m. length m.slots ≡ length memory_types.items) }
+        ensures budgets { IfOk result (λ m. All (λ b. b ≡ None) m.budgets) }
+        ensures closed { IfOk result (λ m. m.awaited ≡ None) }
+        ensures valid { OnOk result (told_fault (properties_told memory_types.items heaps.items granularity) ≡ None) }
+        // the first fault that holds, else lack of host memory: nothing else refuses
+        ensures cause { IfErr result (λ e. refusal_of e ≡ unwrap_or (told_fault (properties_told memory_types.items heaps.items granularity)) host_out_of_memory) }
+    {
+        if let Some(error) = fault_of(&memory_types, &heaps, granularity) {
+            return Err(error);
+        }
+        match told_parts(alloc, memory_types, heaps, granularity, settings) {
+            Err(AllocError) => Err(AllocationError::HostOutOfMemory),
+            Ok((setup, types)) => Ok(Machine {
+                alloc,
+                setup,
+                types,
+                awaited: None,
+            }),
+        }
+    }
+
+    /// Whether a question is open.
+    pub fn awaits_answer(&self) -> bool
+        ensures { IsTrue result ↔ IsSome self.now.awaited }
+    {
+        self.awaited.is_some()
+    }
+
+    /// Begins a request. The errors are those of an allocator's `allocate`, in the same order, but for the driver's own refusals:
+    /// where a new block is needed, the answer is the question for it, and all host memory for it is at hand. `Internal` while
+    /// another question is open. A refusal changes nothing.
+    pub fn begin(&mut self, desc: &AllocationCreateDesc) -> Result<Progress>
+        ensures { Begins self.old desc.now result self.new }
+    {
+        if self.awaits_answer() {
+            return Err(answer_awaited());
+        }
+        if desc.requirements.size == 0 || !desc.requirements.alignment.is_power_of_two() {
+            return Err(AllocationError::InvalidAllocationCreateDesc);
+        }
+        let bits = desc.requirements.memory_type_bits;
+        match best_type(self.setup.memory_types(), bits, desc.location) {
+            None => Err(AllocationError::NoCompatibleMemoryTypeFound),
+            Some(index) => self.serve(desc, index),
+        }
+    }
+
+    /// The driver granted the memory that was asked for, and mapped it where it was to be mapped: it is the block that was awaited.
+    /// It takes no host memory, and isn't refused but where no question is open (`Internal`).
+    pub fn granted(&mut self, memory: DeviceMemory) -> Result<Allocated>
+        ensures { Grants self.old memory result self.new }
+    {
+        match self.awaited.take() {
+            None => Err(no_answer_awaited()),
+            Some(awaited) => {
+                let index = awaited.memory_type;
+                let piece = self.types.install(index, awaited.need, memory);
+                Ok(allocated_in(&self.setup, index, piece))
+            }
+        }
+    }
+
+    /// The driver refused the memory that was asked for, with this code. Where the request has a second attempt, that is what
+    /// counts; else the error says why.
+    pub fn refused(&mut self, code: i32) -> Result<Progress>
+        ensures { Declines self.old (memory_refusal code) result self.new }
+    {
+        self.declined(refusal_of_memory(code))
+    }
+
+    /// The driver granted the memory, but refused to map it, with this code, or gave a null pointer; the memory has gone back. Then
+    /// as with `refused`.
+    pub fn mapping_refused(&mut self, code: Option<i32>) -> Result<Progress>
+        ensures { Declines self.old (map_refusal code) result self.new }
+    {
+        self.declined(refusal_of_mapping(code))
+    }
+
+    /// Frees a piece of the memory type at `index`, and tells which memory goes back to the driver, where its block is left empty and
+    /// isn't the only shared one of its memory type. It takes no host memory. `Internal` where the piece isn't live, or a question
+    /// is open.
+    pub fn free(&mut self, index: usize, piece: &Piece<DeviceMemory>) -> Result<Option<MemoryBack>>
+        ensures { Frees self.old index piece.now result self.new }
+    {
+        if self.awaits_answer() {
+            return Err(answer_awaited());
+        }
+        match self.types.free(index, piece) {
+            Err(error) => Err(error),
+            Ok(went) => Ok(memory_back(&self.setup, index, went)),
+        }
+    }
+
+    /// Renames a piece of the memory type at `index`. `Internal` where the piece isn't live, or a question is open; else
+    /// `HostOutOfMemory`. Then nothing changes.
+    pub fn rename(&mut self, index: usize, piece: &Piece<DeviceMemory>, name: &str) -> Result<()>
+        ensures { Renames self.old index piece.now name.now result self.new }
+    {
+        if self.awaits_answer() {
+            return Err(answer_awaited());
+        }
+        self.types.rename(index, piece, name)
+    }
+
+    /// Whether a piece of the memory type at `index` is live.
+    pub fn is_live(&self, index: usize, piece: &Piece<DeviceMemory>) -> bool
+        ensures { IsTrue result ↔ IsLiveIn self.now.slots index (Some piece.now) }
+    {
+        self.types.is_live(index, piece)
+    }
+
+    /// Bounds the sum of the sizes of the blocks of the memory type at `index`, in bytes; `None` takes the bound away. A budget below
+    /// the present sum gives no block back. It takes no host memory. `Internal` where there is no such memory type, or a question is
+    /// open; then nothing changes.
+    pub fn set_budget(&mut self, index: usize, budget: Option<u64>) -> Result<()>
+        ensures { SetsBudget self.old index budget result self.new }
+    {
+        if self.awaits_answer() {
+            return Err(answer_awaited());
+        }
+        self.types.set_budget(index, budget)
+    }
+
+    /// The budget of the memory type at `index`, in bytes; `None` where it has none, or isn't there.
+    pub fn budget(&self, index: usize) -> Option<u64>
+        ensures { result ≡ budget_at self.now.budgets index }
+    {
+        self.types.budget(index)
+    }
+
+    /// The sum of the sizes of the live blocks, in bytes. A block that is awaited isn't one.
+    pub fn capacity(&self) -> u64
+        ensures { result ≡ total_capacity self.now.slots }
+    {
+        self.types.capacity()
+    }
+
+    // The block that was awaited isn't there, for this cause.
+    fn declined(&mut self, error: AllocationError) -> Result<Progress>
+        ensures { Declines self.old (refusal_of error) result self.new }
+    {
+        match self.awaited.take() {
+            None => Err(no_answer_awaited()),
+            Some(awaited) => {
+                if awaited.is_second {
+                    return Err(error);
+                }
+                let desc = awaited.description.lend();
+                self.follow(&desc, error)
+            }
+        }
+    }
+
+    // The attempts that begin at the memory type at `index`, up to the first question.
+    fn serve(&mut self, desc: &AllocationCreateDesc, index: usize) -> Result<Progress>
+        requires closed { self.old.awaited ≡ None }
+        requires served { IsServed (description_of desc.now) }
+        requires there { index < length self.old.setup.properties.types }
+        ensures { Serves self.old index desc.now result self.new }
+    {
+        match self.attempt(desc, index, false) {
+            Ok(progress) => Ok(progress),
+            Err(error) => self.follow(desc, error),
+        }
+    }
+
+    // After a refusal the second attempt, where there is one.
+    fn follow(&mut self, desc: &AllocationCreateDesc, error: AllocationError) -> Result<Progress>
+        requires closed { self.old.awaited ≡ None }
+        requires served { IsServed (description_of desc.now) }
+        ensures { Follows self.old desc.now (next_type self.old.setup desc.now (refusal_of error)) (refusal_of error) result self.new }
+    {
+        match next_type(&self.setup, desc, &error) {
+            None => Err(error),
+            Some(next) => self.attempt(desc, next, true),
+        }
+    }
+
+    // One attempt at the memory type at `index`, up to its question.
+    fn attempt(
+        &mut self,
+        desc: &AllocationCreateDesc,
+        index: usize,
+        is_second: bool,
+    ) -> Result<Progress>
+        requires closed { self.old.awaited ≡ None }
+        requires served { IsServed (description_of desc.now) }
+        requires there { index < length self.old.setup.properties.types }
+        ensures { Tries self.old index desc.now is_second result self.new }
+    {
+        if desc.requirements.size > self.setup.heap_size(index) {
+            return Err(AllocationError::OutOfMemory);
+        }
+        let need = match self
+            .types
+            .prepare(index, &request_of(desc), &self.setup.sizes())
+        {
+            Err(error) => return Err(error),
+            Ok(Prepared::Taken(piece)) => {
+                return Ok(Progress::Piece(allocated_in(&self.setup, index, piece)));
+            }
+            Ok(Prepared::NeedBlock(need)) => need,
+        };
+        let Ok(description) = Description::of(self.alloc, desc) else {
+            return Err(AllocationError::HostOutOfMemory);
+        };
+        let question = question_for(&self.setup, index, desc, need.size);
+        self.awaited = Some(Awaited {
+            description,
+            memory_type: index,
+            is_second,
+            need,
+        });
+        Ok(Progress::Question(question))
+    }
+}
