@@ -24,7 +24,7 @@ use gpu_values::{AllocationError, MemoryLocation, Result};
 use std::alloc::{AllocError, Global};
 
 /// The allocation of a piece of the memory type at `index`.
-fn given(
+fn allocation_of(
     setup: &Setup,
     desc: &AllocationCreateDesc,
     index: usize,
@@ -87,7 +87,7 @@ pub fn allocate_in_type<D: VulkanDevice>(
         Err(AllocError) => return Err(AllocationError::HostOutOfMemory),
     };
     match pool.allocate(index, &request_of(desc), desc.allocation_scheme) {
-        Ok(piece) => Ok(given(pool.source().setup(), desc, index, piece, name)),
+        Ok(piece) => Ok(allocation_of(pool.source().setup(), desc, index, piece, name)),
         Err(error) => Err(error),
     }
 }

@@ -9,7 +9,7 @@ use Rattle.gpu_vulkan.specs.declared.allocation.Allocation.{Allocation}
 use Rattle.gpu_vulkan.proofs.Attempts.{too_large, short, attempted, constant}
 use Rattle.gpu_vulkan.proofs.Live.{stays, given_live}
 use Rattle.gpu_vulkan.proofs.attempt.allocate_in_type.Goals as goal
-use Rattle.gpu_vulkan.proofs.attempt.allocate_in_type.Goals.{After-heap_size, After-given}
+use Rattle.gpu_vulkan.proofs.attempt.allocate_in_type.Goals.{After-heap_size, After-allocation_of}
 
 heap : (g : _) (c : After-heap_size g) → c.heap_size.result ≡ heap_size c.args.pool.now.source.setup.properties c.args.index
 heap g c =
@@ -32,18 +32,18 @@ returns-in-Err-clause-attempts g c =
 abbrev IsOfType : Setup → (t : ℕ) → Allocation → Type 0
 IsOfType s t a = IsSomeAnd (slice_get s.properties.types t) (λ info. (a.memory_properties ≡ info.property_flags) × (a.mapped ≡ is_host_visible info))
 
-given : (g : _) (c : After-given g) → IsAllocated (setup_of c.args.pool.now) c.args.index c.args.desc.now c.in-Ok-allocate.piece c.given.result
-given g c =
+allocation_of : (g : _) (c : After-allocation_of g) → IsAllocated (setup_of c.args.pool.now) c.args.index c.args.desc.now c.in-Ok-allocate.piece c.allocation_of.result
+allocation_of g c =
     let a = c.args in
     let kept = constant g.D.VulkanDevice a.index a.desc.now a.pool.now c.allocate.new.self c.request_of.result c.request_of.ensures.asks c.request_of.ensures.own (Ok c.in-Ok-allocate.piece)
     c.in-Ok-allocate.ensures.allocates in
-    let is = c.given.ensures c.in-Ok.ensures.ok in
+    let is = c.allocation_of.ensures c.in-Ok.ensures.ok in
     let lent = c.setup-in-Ok-allocate.ensures.lent ∙ ap (λ (s : SourceState g.row.D.Denot). s.setup) c.source-in-Ok-allocate.ensures.lent in
-    subst (λ (s : Setup). IsAllocated s a.index a.desc.now c.in-Ok-allocate.piece c.given.result) kept.setup
+    subst (λ (s : Setup). IsAllocated s a.index a.desc.now c.in-Ok-allocate.piece c.allocation_of.result) kept.setup
     (record {
       piece = is.piece;
       memory_type = is.memory_type;
-      memory = subst (λ (s : Setup). IsOfType s a.index c.given.result) lent is.memory;
+      memory = subst (λ (s : Setup). IsOfType s a.index c.allocation_of.result) lent is.memory;
       dedicated = is.dedicated;
       name = is.name;
     })
@@ -53,7 +53,7 @@ returns-in-Ok-allocate-clause-attempts g c =
     let a = c.args in
     let size = heap g (goal.at.returns-in-Ok-allocate-clause-attempts g c).After-heap_size in
     attempted g.D.VulkanDevice a.index a.desc.now a.pool.now c.allocate.new.self c.request_of.result c.request_of.ensures.asks c.request_of.ensures.own (Ok c.in-Ok-allocate.piece)
-    (Ok c.given.result) c.in-Ok-allocate.ensures.allocates (omega (arith, c.if-desc-heap_size.false, size)) (given g (goal.at.returns-in-Ok-allocate-clause-attempts g c).After-given)
+    (Ok c.allocation_of.result) c.in-Ok-allocate.ensures.allocates (omega (arith, c.if-desc-heap_size.false, size)) (allocation_of g (goal.at.returns-in-Ok-allocate-clause-attempts g c).After-allocation_of)
 
 pub returns-in-Err-allocate-clause-attempts : goal.returns-in-Err-allocate-clause-attempts
 returns-in-Err-allocate-clause-attempts g c =
@@ -68,5 +68,5 @@ returns-in-Ok-allocate-clause-keeps g c = stays c.args.pool.now.slots c.allocate
 pub returns-in-Ok-allocate-clause-live : goal.returns-in-Ok-allocate-clause-live
 returns-in-Ok-allocate-clause-live g c =
     let a = c.args in
-    given_live a.pool.now.slots c.allocate.new.self.slots (setup_of a.pool.now) a.index a.desc.now c.in-Ok-allocate.piece c.given.result
-    (given g (goal.at.returns-in-Ok-allocate-clause-live g c).After-given) c.in-Ok-allocate.ensures.live
+    given_live a.pool.now.slots c.allocate.new.self.slots (setup_of a.pool.now) a.index a.desc.now c.in-Ok-allocate.piece c.allocation_of.result
+    (allocation_of g (goal.at.returns-in-Ok-allocate-clause-live g c).After-allocation_of) c.in-Ok-allocate.ensures.live
