@@ -2,13 +2,10 @@
 use denote.RattleType.{RattleType}
 use denote.Param.Send.{IsSend, sendable}
 use denote.Builtin.{bool, u32, u64, usize}
-use Rattle.core.specs.contracts.hash.build.BuildHasherDefault as BuildHasherDefault
-use Rattle.core.specs.contracts.hash.fold.FoldHasher as FoldHasher
 use Rattle.core.specs.declared.cmp.PartialEq as eq
 use Rattle.core.specs.contracts.option.Option as Option
 use Rattle.std.proofs.Crossing as heap
 use Rattle.std.proofs.Crossing.{Vec-send}
-use Rattle.std.proofs.MapsCrossing.{HashMap-send}
 use Rattle.gap_tree.specs.contracts.class_set.ClassSet as ClassSet
 use Rattle.gap_tree.specs.contracts.forest.Forest as Forest
 use Rattle.gap_tree.specs.contracts.tree.Fork as Fork
@@ -19,6 +16,7 @@ use Rattle.gpu_block_gaps.specs.contracts.thread.Record as Record
 use Rattle.gpu_block_gaps.specs.contracts.thread.Thread as Thread
 use Rattle.gpu_block_chunks.specs.contracts.name.Name as Name
 use Rattle.gpu_block_chunks.specs.contracts.chunk.Chunk as Chunk
+use Rattle.gpu_block_chunks.specs.contracts.chain.chunk_ids.ChunkIds as ChunkIds
 use Rattle.gpu_block_chunks.specs.contracts.chain.link.LinkedChunk as LinkedChunk
 use Rattle.gpu_cost.specs.contracts.cost.Cost as Cost
 use Rattle.gpu_block_chunks.specs.contracts.chain.slots.Slot as Slot
@@ -88,11 +86,11 @@ key_send = search sendable
 pub place_send : IsSend usize
 place_send = search sendable
 
-builder_send : IsSend (BuildHasherDefault.the_row FoldHasher.the_row)
-builder_send = search sendable depth 20
+ids_send : IsSend ChunkIds.the_row
+ids_send = search (sendable, Vec-send) depth 20
 
 nodes_send : IsSend Nodes.the_row
-nodes_send = let s = slots_send in let k = key_send in let v = place_send in let b = builder_send in search (HashMap-send, sendable) depth 20
+nodes_send = let s = slots_send in let i = ids_send in search sendable depth 20
 
 chain_send : IsSend Chain.the_row
 chain_send = let n = nodes_send in search sendable depth 20
