@@ -19,3 +19,9 @@ pub fn runs_are_allocations<D: VulkanDevice>()
         → old.awaited ≡ None → Runs D.VulkanDevice questions old d device told new after → Returns old.setup d told result
         → Allocates D.VulkanDevice old.setup old.budgets d old.slots device result new.slots after × (new ≡ record old { slots = new.slots }) }
 {}
+
+/// A request asks at most two questions.
+pub fn two_questions_suffice<D: VulkanDevice>()
+    ensures { (questions : ℕ) (old new : State) (d : AllocationCreateDesc) (device after : D) (told : Result Allocated AllocationError)
+        → old.awaited ≡ None → Runs D.VulkanDevice questions old d device told new after → Runs D.VulkanDevice 2 old d device told new after }
+{}
