@@ -2,3 +2,5 @@ pub mod Preparing
 pub mod Alike
 pub mod Calling
 pub mod Running
+pub mod Freeing
+pub mod Renaming

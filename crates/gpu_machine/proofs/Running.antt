@@ -29,7 +29,7 @@ use Rattle.gpu_vulkan.specs.Step.{nothing_met}
 use Rattle.gpu_vulkan.specs.Types.{is_mapped}
 use Rattle.gpu_vulkan.specs.declared.allocation.Allocation.{Allocation}
 use Rattle.gpu_vulkan.specs.declared.describe.AllocationCreateDesc.{AllocationCreateDesc}
-use Rattle.gpu_machine.specs.Begin.{Needs, Asks, Denies, Tries, Follows, IsDenied, Serves, Finds, BeginsBy, BeginsIn, allocated_in, next_for}
+use Rattle.gpu_machine.specs.Begin.{Needs, Asks, Denies, Tries, Follows, IsDenied, Serves, Finds, BeginsBy, BeginsIn, Begins, allocated_in, next_for}
 use Rattle.gpu_machine.specs.Description.{description_of}
 use Rattle.gpu_machine.specs.Run.{HearsGrant, Hears, IsAnswered, Finishes, Runs, Returns}
 use Rattle.gpu_machine.specs.State.{State, IsRefused}
@@ -371,13 +371,115 @@ module _ {D : Type 0} (g : Ghosts D) (setup : Setup) (budgets : Budgets) (d : Al
   valid false slots device n first mid told result new after h fin returns = refused invalid_allocation_create_desc slots device n first mid told result new after h fin returns
   valid true slots device n first mid told result new after h fin returns = found _ slots device n first mid told result new after h fin returns
 
+-- a request that is begun where no question is open
+begun : (old : State) (d : AllocationCreateDesc) (first : Result Progress AllocationError) (mid : State) → old.awaited ≡ None → Begins old d first mid
+    → BeginsBy (record old { awaited = None }) d (is_valid d) first mid
+begun old d first mid closed begins =
+    let is : old ≡ record old { awaited = None } = λ i. record old { awaited = closed i } in
+    subst (λ (s : State). BeginsBy s d (is_valid d) first mid) is (subst (λ (o : Option Awaited). BeginsIn o old d first mid) closed begins)
+
 -- a request over a device is an allocation
 pub allocates : {D : Type 0} (g : Ghosts D) (n : ℕ) (old new : State) (d : AllocationCreateDesc) (device after : D) (told : Result Allocated AllocationError) (result : Result Allocation AllocationError)
     → old.awaited ≡ None → Runs g n old d device told new after → Returns old.setup d told result
     → Allocates g old.setup old.budgets d old.slots device result new.slots after × (new ≡ record old { slots = new.slots })
 allocates g n old new d device after told result closed runs returns =
     let is : record old { awaited = None } ≡ old = λ i. record old { awaited = sym closed i } in
-    let begins : BeginsBy (record old { awaited = None }) d (is_valid d) runs.first runs.mid =
-    subst (λ (s : State). BeginsBy s d (is_valid d) runs.first runs.mid) (sym is) (subst (λ (o : Option Awaited). BeginsIn o old d runs.first runs.mid) closed runs.begins) in
+    let begins = begun old d runs.first runs.mid closed runs.begins in
     let all = valid g old.setup old.budgets d (is_valid d) old.slots device n runs.first runs.mid told result new after begins runs.finishes returns in
     (all.0, all.1 ∙ ap (λ (s : State). record s { slots = new.slots }) is)
+
+-- ---- at most two questions
+
+module _ {D : Type 0} (g : Ghosts D) (setup : Setup) (budgets : Budgets) (d : AllocationCreateDesc) where
+  -- what isn't a question needs none
+  settled : (n m : ℕ) (mid : State) (device : D) (heard : Result Progress AllocationError) (e : AllocationError) (told : Result Allocated AllocationError) (new : State) (after : D) → heard ≡ Err e
+      → Finishes g n mid device heard told new after → Finishes g m mid device heard told new after
+  settled n m mid device heard e told new after is fin =
+      let end : Finishes g n mid device (Err e) told new after = subst (λ (x : Result Progress AllocationError). Finishes g n mid device x told new after) is fin in
+      subst (λ (x : Result Progress AllocationError). Finishes g m mid device x told new after) (sym is) end
+
+  had : (n m : ℕ) (mid : State) (device : D) (heard : Result Progress AllocationError) (a : Allocated) (told : Result Allocated AllocationError) (new : State) (after : D) → heard ≡ Ok (progress.Piece a)
+      → Finishes g n mid device heard told new after → Finishes g m mid device heard told new after
+  had n m mid device heard a told new after is fin =
+      let end : Finishes g n mid device (Ok (progress.Piece a)) told new after = subst (λ (x : Result Progress AllocationError). Finishes g n mid device x told new after) is fin in
+      subst (λ (x : Result Progress AllocationError). Finishes g m mid device x told new after) (sym is) end
+
+  -- after the answer to the second attempt's question
+  none_left : (slots : Slots) (t : ℕ) (first : D) (n m : ℕ) (heard : Result Progress AllocationError) (next : State) (between : D) (told : Result Allocated AllocationError) (new : State) (after : D)
+      → WasGranted g setup budgets d slots t first heard next between ⊎ WasDeclined g setup budgets d true slots t first heard next between
+      → Finishes g n next between heard told new after → Finishes g m next between heard told new after
+  none_left slots t first n m heard next between told new after h fin =
+      ⊎_elim
+      (λ (w : WasGranted g setup budgets d slots t first heard next between). had n m next between heard w.piece told new after w.is fin)
+      (λ (w : WasDeclined g setup budgets d true slots t first heard next between).
+      let e = refused_end g setup budgets d slots w.why heard next w.follows in
+      settled n m next between heard e.0 told new after e.1 fin)
+      h
+
+  -- from the second attempt on
+  one_left : (slots : Slots) (t : ℕ) (device : D) (n m : ℕ) (heard : Result Progress AllocationError) (mid : State) (told : Result Allocated AllocationError) (new : State) (after : D)
+      → Tries (at g setup budgets d slots) t d true heard mid → Finishes g n mid device heard told new after → Finishes g (suc m) mid device heard told new after
+  one_left slots t device n m (Err e) mid told new after h fin = fin
+  one_left slots t device n m (Ok (progress.Piece a)) mid told new after h fin = fin
+  one_left slots t device zero m (Ok (progress.Question q)) mid told new after h fin = absurd fin
+  one_left slots t device (suc n) m (Ok (progress.Question q)) mid told new after h fin = (
+    fin.0,
+    fin.1,
+    fin.2,
+    fin.3,
+    none_left slots t device n m fin.0 fin.1 fin.2 told new after (answered g setup budgets d true slots t q mid device fin.2 fin.0 fin.1 h fin.3) fin.4,
+  )
+
+  one_follows : (slots : Slots) (o : Option ℕ) (r : Refusal) (device : D) (n m : ℕ) (heard : Result Progress AllocationError) (mid : State) (told : Result Allocated AllocationError) (new : State) (after : D)
+      → Follows (at g setup budgets d slots) d o r heard mid → Finishes g n mid device heard told new after → Finishes g (suc m) mid device heard told new after
+  one_follows slots None r device n m heard mid told new after h fin =
+      let e = refused_end g setup budgets d slots r heard mid h in
+      settled n (suc m) mid device heard e.0 told new after e.1 fin
+  one_follows slots (Some t) r device n m heard mid told new after h fin = one_left slots t device n m heard mid told new after h fin
+
+  -- from the first attempt on
+  two_left : (slots : Slots) (t : ℕ) (device : D) (n : ℕ) (heard : Result Progress AllocationError) (mid : State) (told : Result Allocated AllocationError) (new : State) (after : D)
+      → Tries (at g setup budgets d slots) t d false heard mid → Finishes g n mid device heard told new after → Finishes g 2 mid device heard told new after
+  two_left slots t device n (Err e) mid told new after h fin = fin
+  two_left slots t device n (Ok (progress.Piece a)) mid told new after h fin = fin
+  two_left slots t device zero (Ok (progress.Question q)) mid told new after h fin = absurd fin
+  two_left slots t device (suc n) (Ok (progress.Question q)) mid told new after h fin = (
+    fin.0,
+    fin.1,
+    fin.2,
+    fin.3,
+    ⊎_elim
+        (λ (w : WasGranted g setup budgets d slots t device fin.0 fin.1 fin.2). had n 1 fin.1 fin.2 fin.0 w.piece told new after w.is fin.4)
+        (λ (w : WasDeclined g setup budgets d false slots t device fin.0 fin.1 fin.2).
+        one_follows slots (next_type setup d w.why) w.why fin.2 n 0 fin.0 fin.1 told new after w.follows fin.4)
+        (answered g setup budgets d false slots t q mid device fin.2 fin.0 fin.1 h fin.3),
+  )
+
+  two_found : (slots : Slots) (o : Option ℕ) (device : D) (n : ℕ) (heard : Result Progress AllocationError) (mid : State) (told : Result Allocated AllocationError) (new : State) (after : D)
+      → Finds (at g setup budgets d slots) d o heard mid → Finishes g n mid device heard told new after → Finishes g 2 mid device heard told new after
+  two_found slots None device n heard mid told new after h fin =
+      let e = refused_end g setup budgets d slots no_compatible_memory_type_found heard mid h in
+      settled n 2 mid device heard e.0 told new after e.1 fin
+  two_found slots (Some t) device n heard mid told new after h fin =
+      ⊎_elim
+      (λ (s : IsOk heard × Tries (at g setup budgets d slots) t d false heard mid). two_left slots t device n heard mid told new after s.1 fin)
+      (λ (s : IsDenied (at g setup budgets d slots) t d heard mid).
+      one_follows slots (next_type setup d s.refusal) s.refusal device n 1 heard mid told new after s.follows fin)
+      h
+
+  two_begun : (slots : Slots) (b : Bool) (device : D) (n : ℕ) (heard : Result Progress AllocationError) (mid : State) (told : Result Allocated AllocationError) (new : State) (after : D)
+      → BeginsBy (at g setup budgets d slots) d b heard mid → Finishes g n mid device heard told new after → Finishes g 2 mid device heard told new after
+  two_begun slots false device n heard mid told new after h fin =
+      let e = refused_end g setup budgets d slots invalid_allocation_create_desc heard mid h in
+      settled n 2 mid device heard e.0 told new after e.1 fin
+  two_begun slots true device n heard mid told new after h fin = two_found slots _ device n heard mid told new after h fin
+
+-- a request asks at most two questions
+pub asks_twice : {D : Type 0} (g : Ghosts D) (n : ℕ) (old new : State) (d : AllocationCreateDesc) (device after : D) (told : Result Allocated AllocationError)
+    → old.awaited ≡ None → Runs g n old d device told new after → Runs g 2 old d device told new after
+asks_twice g n old new d device after told closed runs = record {
+  first = runs.first;
+  mid = runs.mid;
+  begins = runs.begins;
+  finishes = two_begun g old.setup old.budgets d old.slots (is_valid d) device n runs.first runs.mid told new after (begun old d runs.first runs.mid closed runs.begins) runs.finishes;
+}

@@ -26,6 +26,10 @@ IsWithSlots old new = new ≡ record old { slots = new.slots }
 abbrev pub memory_back : Setup → (t : ℕ) → Option DeviceMemory → Option MemoryBack
 memory_back setup t went = option_map (λ memory. record { memory = memory; mapped = is_mapped setup.properties t }) went
 
+-- the memory that goes back, where some does
+abbrev pub memory_in : Option MemoryBack → Option DeviceMemory
+memory_in back = option_map (λ b. b.memory) back
+
 -- the piece went, and its block with it where that goes
 pub record FreesPiece (old : State) (t : ℕ) (p : Piece DeviceMemory) (back : Option MemoryBack) (new : State) : Type 0 where
   pub live : IsLiveIn old.slots t (Some p)

@@ -1,13 +1,23 @@
 //! Laws of the definitions, each the contract of a function that does nothing.
 
-ghost use Rattle.std.specs.Prelude.{◌≡◌, ℕ, None, Result};
+ghost use Rattle.std.specs.Prelude.{◌≡◌, ℕ, List, Option, Some, None, Result, Ok, Err};
+ghost use Rattle.gpu_values.specs.Refusal.{refusal_of};
 ghost use Rattle.gpu_values.specs.declared.error.AllocationError.{AllocationError};
+ghost use Rattle.gpu_core.specs.declared.piece.Piece.{Piece};
+ghost use Rattle.gpu_device.specs.declared.vulkan.types.DeviceMemory.{DeviceMemory};
 ghost use Rattle.gpu_vulkan.specs.Allocate.{Allocates};
+ghost use Rattle.gpu_vulkan.specs.Free as allocator_free;
+ghost use Rattle.gpu_vulkan.specs.Free.{GivesBack};
+ghost use Rattle.gpu_vulkan.specs.Live.{piece_of};
+ghost use Rattle.gpu_vulkan.specs.Rename as allocator_rename;
+ghost use Rattle.gpu_vulkan.specs.Rename.{IsNamed};
 ghost use Rattle.gpu_vulkan.specs.declared.allocation.Allocation.{Allocation};
 ghost use Rattle.gpu_vulkan.specs.declared.describe.AllocationCreateDesc.{AllocationCreateDesc};
+ghost use Rattle.gpu_machine.specs.Calls.{Frees, Renames, memory_in};
 ghost use Rattle.gpu_machine.specs.Run.{Runs, Returns};
 ghost use Rattle.gpu_machine.specs.State.{State};
 ghost use Rattle.gpu_machine.specs.declared.answer.Allocated.{Allocated};
+ghost use Rattle.gpu_machine.specs.declared.answer.MemoryBack.{MemoryBack};
 
 use gpu_device::vulkan::VulkanDevice;
 
@@ -18,4 +28,29 @@ pub fn runs_are_allocations<D: VulkanDevice>()
     ensures { (questions : ℕ) (old new : State) (d : AllocationCreateDesc) (device after : D) (told : Result Allocated AllocationError) (result : Result Allocation AllocationError)
         → old.awaited ≡ None → Runs D.VulkanDevice questions old d device told new after → Returns old.setup d told result
         → Allocates D.VulkanDevice old.setup old.budgets d old.slots device result new.slots after × (new ≡ record old { slots = new.slots }) }
+{}
+
+/// A request asks at most two questions.
+pub fn two_questions_suffice<D: VulkanDevice>()
+    ensures { (questions : ℕ) (old new : State) (d : AllocationCreateDesc) (device after : D) (told : Result Allocated AllocationError)
+        → old.awaited ≡ None → Runs D.VulkanDevice questions old d device told new after → Runs D.VulkanDevice 2 old d device told new after }
+{}
+
+/// Whoever frees a piece, and gives a device back the memory that the machine told, has freed the allocator's allocation over that device;
+/// where the machine refuses, the allocator does, for the same cause.
+pub fn frees_are_frees<D: VulkanDevice>()
+    ensures freed { (old new : State) (a : Allocation) (p : Piece DeviceMemory) (back : Option MemoryBack) (device after : D) → old.awaited ≡ None → piece_of a ≡ Some p
+        → Frees old a.memory_type_index p (Ok back) new → GivesBack D.VulkanDevice device (memory_in back) after
+        → allocator_free.Frees D.VulkanDevice a old.slots device (Ok tt) new.slots after }
+    ensures refused { (old new : State) (a : Allocation) (p : Piece DeviceMemory) (e f : AllocationError) (device : D) → old.awaited ≡ None → piece_of a ≡ Some p
+        → Frees old a.memory_type_index p (Err e) new → refusal_of f ≡ refusal_of e
+        → allocator_free.Frees D.VulkanDevice a old.slots device (Err (f, a)) new.slots device }
+{}
+
+/// Whoever renames a piece has renamed the allocator's allocation.
+pub fn renames_are_renames()
+    ensures renamed { (old new : State) (a b : Allocation) (p : Piece DeviceMemory) (name : List ℕ) → old.awaited ≡ None → piece_of a ≡ Some p → Renames old a.memory_type_index p name (Ok tt) new
+        → IsNamed a name b → allocator_rename.Renames a name old.slots (Ok tt) b new.slots }
+    ensures refused { (old new : State) (a : Allocation) (p : Piece DeviceMemory) (name : List ℕ) (e f : AllocationError) → old.awaited ≡ None → piece_of a ≡ Some p
+        → Renames old a.memory_type_index p name (Err e) new → refusal_of f ≡ refusal_of e → allocator_rename.Renames a name old.slots (Err f) a new.slots }
 {}

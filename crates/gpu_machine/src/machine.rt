@@ -8,7 +8,9 @@ ghost use Rattle.gpu_vulkan.specs.BlockAnswer.{memory_refusal, map_refusal};
 ghost use Rattle.gpu_vulkan.specs.Setup.{IsValid, properties_told};
 ghost use Rattle.gpu_vulkan.specs.Live.{IsLiveIn};
 ghost use Rattle.gpu_memory_types.specs.Blocks.{total_capacity};
-ghost use Rattle.gpu_memory_types.specs.Budgets.{budget_at};
+ghost use Rattle.gpu_memory_types.specs.Budgets.{budget_at, budgets};
+ghost use Rattle.gpu_memory_types.specs.Types.{slots_of, kinds};
+ghost use Rattle.gpu_vulkan.specs.Types.{kinds_of_device};
 ghost use Rattle.gpu_machine.specs.Calls.{memory_back, Frees, Renames, SetsBudget};
 ghost use Rattle.gpu_machine.specs.Description.{description_of};
 ghost use Rattle.gpu_machine.specs.State.{IsServed, told_fault};
@@ -249,6 +251,15 @@ impl Machine {
         ensures { result ≡ total_capacity self.now.slots }
     {
         self.types.capacity()
+    }
+
+    /// The memory types, lent to be looked at: their blocks with pieces and gaps, and what is counted of them.
+    pub fn memory_types(&self) -> &MemoryTypes<DeviceMemory>
+        ensures slots { slots_of result.now ≡ self.now.slots }
+        ensures budgets { budgets result.now ≡ self.now.budgets }
+        ensures kinds { kinds result.now ≡ kinds_of_device self.now.setup.properties }
+    {
+        &self.types
     }
 
     // The block that was awaited isn't there, for this cause.

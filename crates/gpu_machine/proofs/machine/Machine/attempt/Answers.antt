@@ -1,4 +1,4 @@
-use Rattle.std.proofs.Common.{◌∙◌, ◌<◌, sym, subst, length, arith}
+use Rattle.std.proofs.Common.{◌∙◌, ◌<◌, sym, subst, length, arith, rules}
 use Rattle.gpu_values.specs.Sizes.{Sizes}
 use Rattle.gpu_values.specs.Refusal.{refusal_of}
 use Rattle.gpu_core.specs.declared.memory_type.Prepared.TheVariants as prepared
@@ -68,3 +68,6 @@ returns c =
     asks_at a.self.now i.setup i.types i.awaited a.index a.desc.now c.request_of.result (ready ((goal.at.returns c).After-prepare)) need c.prepare.new.self
     (subst (λ (z : Sizes). PreparesAt a.index i.types z c.request_of.result (prepared.NeedBlock need) c.prepare.new.self) c.sizes.ensures h) c.in-Ok-NeedBlock.ensures.budgets
     a.is_second c.in-Ok.description c.question_for-question.result c.in-Ok.ensures c.question_for-question.ensures
+
+pub returns-then-desc-heap_size : goal.returns-then-desc-heap_size
+returns-then-desc-heap_size c = search rules
