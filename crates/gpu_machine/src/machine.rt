@@ -1,13 +1,16 @@
 //! The machine: blocks of device memory by memory type, and the calls that share them out.
 
-ghost use Rattle.std.specs.Prelude.{◌≡◌, ◌↔◌, [], All, Some, None, IfOk, IfErr, OnOk, IsSome, IsTrue, length, ◌<◌, true};
+ghost use Rattle.std.specs.Prelude.{◌≡◌, ℕ, ◌↔◌, [], All, Some, None, IfOk, IfErr, OnOk, IsSome, IsTrue, length, ◌<◌, true};
 ghost use Rattle.std.specs.Option.{unwrap_or};
 ghost use Rattle.gpu_values.specs.Refusal.{refusal_of, host_out_of_memory};
 ghost use Rattle.gpu_vulkan.specs.Allocate.{next_type};
 ghost use Rattle.gpu_vulkan.specs.BlockAnswer.{memory_refusal, map_refusal};
 ghost use Rattle.gpu_vulkan.specs.Setup.{IsValid, properties_told};
 ghost use Rattle.gpu_vulkan.specs.Live.{IsLiveIn};
-ghost use Rattle.gpu_memory_types.specs.Blocks.{total_capacity};
+ghost use Rattle.gpu_core.specs.declared.piece.Piece.{Piece};
+ghost use Rattle.gpu_device.specs.declared.vulkan.types.DeviceMemory.{DeviceMemory};
+ghost use Rattle.gpu_memory_types.specs.Apart.{IsInside, AreDistinct, SharesNoByte, KeepsPages};
+ghost use Rattle.gpu_memory_types.specs.Blocks.{total_capacity, BlocksWellFormed};
 ghost use Rattle.gpu_memory_types.specs.Budgets.{budget_at, budgets};
 ghost use Rattle.gpu_memory_types.specs.Types.{slots_of, kinds};
 ghost use Rattle.gpu_vulkan.specs.Types.{kinds_of_device};
@@ -260,6 +263,20 @@ impl Machine {
         ensures kinds { kinds result.now ≡ kinds_of_device self.now.setup.properties }
     {
         &self.types
+    }
+
+    /// What holds of live pieces at any time, for callers' proofs: all blocks are sound, each piece lies inside its block, no two share
+    /// a byte, and those of different kinds share no page (`bufferImageGranularity`). It does nothing.
+    pub fn pieces_are_apart(&self)
+        ensures types { length self.now.slots ≡ length self.now.setup.properties.types }
+        ensures sound { BlocksWellFormed self.now.setup.properties.granularity self.now.slots }
+        ensures inside { (t : ℕ) (p : Piece DeviceMemory) → IsLiveIn self.now.slots t (Some p) → IsInside self.now.slots t p }
+        ensures apart { (t : ℕ) (p : Piece DeviceMemory) (u : ℕ) (q : Piece DeviceMemory) → IsLiveIn self.now.slots t (Some p)
+            → IsLiveIn self.now.slots u (Some q) → AreDistinct t p u q → SharesNoByte t p u q }
+        ensures pages { (t : ℕ) (p q : Piece DeviceMemory) → IsLiveIn self.now.slots t (Some p)
+            → IsLiveIn self.now.slots t (Some q) → KeepsPages self.now.setup.properties.granularity self.now.slots t p q }
+    {
+        let _ = &self.types;
     }
 
     // The block that was awaited isn't there, for this cause.
