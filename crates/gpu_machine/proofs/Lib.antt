@@ -4,3 +4,4 @@ pub mod Calling
 pub mod Running
 pub mod Freeing
 pub mod Renaming
+pub mod Giving

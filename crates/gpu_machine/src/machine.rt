@@ -16,6 +16,7 @@ ghost use Rattle.gpu_memory_types.specs.Types.{slots_of, kinds};
 ghost use Rattle.gpu_vulkan.specs.Types.{kinds_of_device};
 ghost use Rattle.gpu_machine.specs.Calls.{memory_back, Frees, Renames, SetsBudget};
 ghost use Rattle.gpu_machine.specs.Description.{description_of};
+ghost use Rattle.gpu_machine.specs.Live.{StayLive, IsNewlyLive, Gives, GivesAwaited};
 ghost use Rattle.gpu_machine.specs.State.{IsServed, told_fault};
 ghost use Rattle.gpu_machine.specs.Begin.{allocated_in, question_for, Tries, Follows, Serves, Begins, Grants, Declines};
 
@@ -151,6 +152,18 @@ impl Machine {
     /// where a new block is needed, the answer is the question for it, and all host memory for it is at hand. `Internal` while
     /// another question is open. A refusal changes nothing.
     pub fn begin(&mut self, desc: &AllocationCreateDesc) -> Result<Progress>
+        ensures begins { Begins self.old desc.now result self.new }
+        ensures gives { Gives desc.now.requirements.alignment self.old.slots self.new.slots result }
+        ensures keeps { StayLive self.old.slots self.new.slots }
+    {
+        self.pieces_are_apart();
+        let result = self.start(desc);
+        self.pieces_are_apart();
+        result
+    }
+
+    // The same, without what it makes of live pieces.
+    fn start(&mut self, desc: &AllocationCreateDesc) -> Result<Progress>
         ensures { Begins self.old desc.now result self.new }
     {
         if self.awaits_answer() {
@@ -169,7 +182,9 @@ impl Machine {
     /// The driver granted the memory that was asked for, and mapped it where it was to be mapped: it is the block that was awaited.
     /// It takes no host memory, and isn't refused but where no question is open (`Internal`).
     pub fn granted(&mut self, memory: DeviceMemory) -> Result<Allocated>
-        ensures { Grants self.old memory result self.new }
+        ensures grants { Grants self.old memory result self.new }
+        ensures gives { IfOk result (λ a. IsNewlyLive self.old.slots self.new.slots a × (a.piece.offset ≡ 0)) }
+        ensures keeps { StayLive self.old.slots self.new.slots }
     {
         match self.awaited.take() {
             None => Err(no_answer_awaited()),
@@ -184,7 +199,9 @@ impl Machine {
     /// The driver refused the memory that was asked for, with this code. Where the request has a second attempt, that is what
     /// counts; else the error says why.
     pub fn refused(&mut self, code: i32) -> Result<Progress>
-        ensures { Declines self.old (memory_refusal code) result self.new }
+        ensures declines { Declines self.old (memory_refusal code) result self.new }
+        ensures gives { GivesAwaited self.old.awaited self.old.slots self.new.slots result }
+        ensures keeps { StayLive self.old.slots self.new.slots }
     {
         self.declined(refusal_of_memory(code))
     }
@@ -192,7 +209,9 @@ impl Machine {
     /// The driver granted the memory, but refused to map it, with this code, or gave a null pointer; the memory has gone back. Then
     /// as with `refused`.
     pub fn mapping_refused(&mut self, code: Option<i32>) -> Result<Progress>
-        ensures { Declines self.old (map_refusal code) result self.new }
+        ensures declines { Declines self.old (map_refusal code) result self.new }
+        ensures gives { GivesAwaited self.old.awaited self.old.slots self.new.slots result }
+        ensures keeps { StayLive self.old.slots self.new.slots }
     {
         self.declined(refusal_of_mapping(code))
     }
@@ -281,6 +300,18 @@ impl Machine {
 
     // The block that was awaited isn't there, for this cause.
     fn declined(&mut self, error: AllocationError) -> Result<Progress>
+        ensures declines { Declines self.old (refusal_of error) result self.new }
+        ensures gives { GivesAwaited self.old.awaited self.old.slots self.new.slots result }
+        ensures keeps { StayLive self.old.slots self.new.slots }
+    {
+        self.pieces_are_apart();
+        let result = self.go_on(error);
+        self.pieces_are_apart();
+        result
+    }
+
+    // The same, without what it makes of live pieces.
+    fn go_on(&mut self, error: AllocationError) -> Result<Progress>
         ensures { Declines self.old (refusal_of error) result self.new }
     {
         match self.awaited.take() {

@@ -1,4 +1,4 @@
-use Rattle.std.proofs.Common.{◌≡◌, subst, ap, length}
+use Rattle.std.proofs.Common.{◌≡◌, subst, length}
 use Rattle.gpu_memory_types.specs.Blocks.{BlocksWellFormed}
 use Rattle.gpu_memory_types.proofs.Apart.{piece_inside, pieces_apart, pieces_pages}
 use Rattle.gpu_pool.proofs.Owning.{sound_at}
