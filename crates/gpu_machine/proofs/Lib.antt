@@ -5,3 +5,4 @@ pub mod Running
 pub mod Freeing
 pub mod Renaming
 pub mod Giving
+pub mod Staying

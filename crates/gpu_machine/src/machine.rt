@@ -220,6 +220,20 @@ impl Machine {
     /// isn't the only shared one of its memory type. It takes no host memory. `Internal` where the piece isn't live, or a question
     /// is open.
     pub fn free(&mut self, index: usize, piece: &Piece<DeviceMemory>) -> Result<Option<MemoryBack>>
+        ensures frees { Frees self.old index piece.now result self.new }
+        ensures keeps { (t : ℕ) (p : Piece DeviceMemory) → IsLiveIn self.old.slots t (Some p)
+            → AreDistinct t p index piece.now → IsLiveIn self.new.slots t (Some p) }
+    {
+        self.pieces_are_apart();
+        self.free_piece(index, piece)
+    }
+
+    // The same, without what it leaves live.
+    fn free_piece(
+        &mut self,
+        index: usize,
+        piece: &Piece<DeviceMemory>,
+    ) -> Result<Option<MemoryBack>>
         ensures { Frees self.old index piece.now result self.new }
     {
         if self.awaits_answer() {
@@ -234,7 +248,8 @@ impl Machine {
     /// Renames a piece of the memory type at `index`. `Internal` where the piece isn't live, or a question is open; else
     /// `HostOutOfMemory`. Then nothing changes.
     pub fn rename(&mut self, index: usize, piece: &Piece<DeviceMemory>, name: &str) -> Result<()>
-        ensures { Renames self.old index piece.now name.now result self.new }
+        ensures renames { Renames self.old index piece.now name.now result self.new }
+        ensures keeps { StayLive self.old.slots self.new.slots }
     {
         if self.awaits_answer() {
             return Err(answer_awaited());

@@ -1,3 +1,4 @@
+use Rattle.std.proofs.Common.{rules}
 use Rattle.gpu_machine.proofs.Giving.{begun}
 use Rattle.gpu_machine.proofs.machine.Machine.begin.Goals as goal
 
@@ -14,3 +15,6 @@ returns-clause-keeps c =
     let after = c.pieces_are_apart-2.ensures in
     (begun c.args.desc.now c.args.self.now c.start-result.new.self (record { types = before.types; sound = before.sound }) (record { types = after.types; sound = after.sound })
     c.start-result.result c.start-result.ensures).1
+
+pub returns-clause-begins : goal.returns-clause-begins
+returns-clause-begins c = search rules
