@@ -4,3 +4,5 @@ pub mod Calling
 pub mod Running
 pub mod Freeing
 pub mod Renaming
+pub mod Giving
+pub mod Staying

@@ -3,7 +3,8 @@ use Rattle.std.proofs.Common.{◌≡◌, ◌∙◌, refl, sym, ap, subst, inr, �
 use Rattle.std.proofs.lemmas.List.{length-map}
 use Rattle.gpu_values.specs.Refusal.{Refusal, host_out_of_memory}
 use Rattle.gpu_core.specs.TypeState.{TypeState, Slot, capacity_of}
-use Rattle.gpu_core.specs.TypeTake.{asked, Pending, NeedsBlock, PreparesPiece, has_dedicated_block}
+use Rattle.gpu_block.specs.Block.{TakesIn}
+use Rattle.gpu_core.specs.TypeTake.{fresh_block, asked, Pending, NeedsBlock, PreparesPiece, has_dedicated_block}
 use Rattle.gpu_core.specs.declared.piece.Piece.{Piece}
 use Rattle.gpu_core.specs.declared.piece.Request.{Request}
 use Rattle.gpu_core.specs.declared.memory_type.Prepared.TheVariants as prepared
@@ -30,7 +31,7 @@ use Rattle.gpu_vulkan.specs.Types.{heap_size, kinds_of_device, is_host_visible}
 use Rattle.gpu_vulkan.specs.declared.describe.AllocationCreateDesc.{AllocationCreateDesc}
 use Rattle.gpu_machine.specs.Begin.{Needs, Denies, Asks, allocated_in, question_for}
 use Rattle.gpu_machine.specs.Description.{Description, description_of}
-use Rattle.gpu_machine.specs.State.{State, state_of, IsServed, CanAnswer}
+use Rattle.gpu_machine.specs.State.{State, state_of, IsServed, CanAnswer, HoldsRequest}
 use Rattle.gpu_machine.specs.declared.answer.Allocated.{Allocated}
 use Rattle.gpu_machine.specs.declared.answer.Question.{Question}
 use Rattle.gpu_machine.specs.declared.awaited.Awaited.{Awaited}
@@ -38,6 +39,13 @@ use Rattle.gpu_machine.specs.declared.awaited.Awaited.{Awaited}
 -- the memory types of the code are the device's
 pub type_there : (setup : Setup) (types : Types DeviceMemory) (t : ℕ) → kinds types ≡ kinds_of_device setup.properties → t < length setup.properties.types → t < length types
 type_there setup types t same there =
+    let long = length-map {B = Bool × ℕ} setup.properties.types (λ info. (is_host_visible info, setup.properties.granularity)) in
+    let own = length-map {B = Bool × ℕ} types (λ (k : TypeState DeviceMemory). (k.is_host, k.granularity)) in
+    let alike = ap (λ (ks : List (Bool × ℕ)). length ks) same in
+    omega (arith, there, long, own, alike)
+
+pub told_there : (setup : Setup) (types : Types DeviceMemory) (t : ℕ) → kinds types ≡ kinds_of_device setup.properties → t < length types → t < length setup.properties.types
+told_there setup types t same there =
     let long = length-map {B = Bool × ℕ} setup.properties.types (λ info. (is_host_visible info, setup.properties.granularity)) in
     let own = length-map {B = Bool × ℕ} types (λ (k : TypeState DeviceMemory). (k.is_host, k.granularity)) in
     let alike = ap (λ (ks : List (Bool × ℕ)). length ks) same in
@@ -222,10 +230,27 @@ module _ (now : State) (setup : Setup) (types : Types DeviceMemory) (a : Option 
           state = λ i. record { setup = setup; slots = left i; budgets = bs i; awaited = question_open is_second (is i) };
         })
 
+    -- the block's piece is the request's
+    holds_request : (is_second : Bool) (said : Description) → said ≡ description_of d → kinds mid ≡ kinds types
+        → HoldsRequest (type_of mid t).granularity (record { description = said; memory_type = t; is_second = is_second; need = need })
+    holds_request is_second said is alike =
+        let pages : (type_of types t).granularity ≡ (type_of mid t).granularity =
+        ap (λ (x : Bool × ℕ). x.1) (kind_is types t ∙ ap (λ (ks : List (Bool × ℕ)). kind_at ks t) (sym alike) ∙ sym (kind_is mid t)) in
+        let n = h.prepares.0 in
+        let sized : r.size ≡ d.requirements.size = ap (λ (q : block_requests.Request). q.size) k.asks in
+        subst (λ (x : Description). HoldsRequest (type_of mid t).granularity (record { description = x; memory_type = t; is_second = is_second; need = need })) (sym is)
+        (record {
+          takes = subst (λ (p : ℕ). TakesIn (fresh_block need.dedicated need.size p) (request_of d) need.room.offset need.room.chunk_id need.room.block) pages
+              (subst (λ (q : block_requests.Request). TakesIn (fresh_block need.dedicated need.size (type_of types t).granularity) q need.room.offset need.room.chunk_id need.room.block) k.asks n.takes);
+          size = n.piece ∙ sized;
+          begins = n.begins;
+        })
+
     pub answers_at : (is_second : Bool) (said : Description) → said ≡ description_of d → IsServed (description_of d) → kinds mid ≡ kinds types → CanAnswer mid (question_open is_second said)
     answers_at is_second said is served alike = (
       type_there setup mid t (alike ∙ k.same) k.there,
       h.prepares.1,
       room_left setup t d types inside k.same r k.asks k.wish k.within need mid h,
       subst IsServed (sym is) served,
+      holds_request is_second said is alike,
     )

@@ -3,3 +3,4 @@ pub mod State
 pub mod Begin
 pub mod Calls
 pub mod Run
+pub mod Live

@@ -1,18 +1,22 @@
 //! The machine: blocks of device memory by memory type, and the calls that share them out.
 
-ghost use Rattle.std.specs.Prelude.{◌≡◌, ◌↔◌, [], All, Some, None, IfOk, IfErr, OnOk, IsSome, IsTrue, length, ◌<◌, true};
+ghost use Rattle.std.specs.Prelude.{◌≡◌, ℕ, ◌↔◌, [], All, Some, None, IfOk, IfErr, OnOk, IsSome, IsTrue, length, ◌<◌, true};
 ghost use Rattle.std.specs.Option.{unwrap_or};
 ghost use Rattle.gpu_values.specs.Refusal.{refusal_of, host_out_of_memory};
 ghost use Rattle.gpu_vulkan.specs.Allocate.{next_type};
 ghost use Rattle.gpu_vulkan.specs.BlockAnswer.{memory_refusal, map_refusal};
 ghost use Rattle.gpu_vulkan.specs.Setup.{IsValid, properties_told};
 ghost use Rattle.gpu_vulkan.specs.Live.{IsLiveIn};
-ghost use Rattle.gpu_memory_types.specs.Blocks.{total_capacity};
+ghost use Rattle.gpu_core.specs.declared.piece.Piece.{Piece};
+ghost use Rattle.gpu_device.specs.declared.vulkan.types.DeviceMemory.{DeviceMemory};
+ghost use Rattle.gpu_memory_types.specs.Apart.{IsInside, AreDistinct, SharesNoByte, KeepsPages};
+ghost use Rattle.gpu_memory_types.specs.Blocks.{total_capacity, BlocksWellFormed};
 ghost use Rattle.gpu_memory_types.specs.Budgets.{budget_at, budgets};
 ghost use Rattle.gpu_memory_types.specs.Types.{slots_of, kinds};
 ghost use Rattle.gpu_vulkan.specs.Types.{kinds_of_device};
 ghost use Rattle.gpu_machine.specs.Calls.{memory_back, Frees, Renames, SetsBudget};
 ghost use Rattle.gpu_machine.specs.Description.{description_of};
+ghost use Rattle.gpu_machine.specs.Live.{StayLive, IsNewlyLive, Gives, GivesAwaited};
 ghost use Rattle.gpu_machine.specs.State.{IsServed, told_fault};
 ghost use Rattle.gpu_machine.specs.Begin.{allocated_in, question_for, Tries, Follows, Serves, Begins, Grants, Declines};
 
@@ -148,6 +152,18 @@ impl Machine {
     /// where a new block is needed, the answer is the question for it, and all host memory for it is at hand. `Internal` while
     /// another question is open. A refusal changes nothing.
     pub fn begin(&mut self, desc: &AllocationCreateDesc) -> Result<Progress>
+        ensures begins { Begins self.old desc.now result self.new }
+        ensures gives { Gives desc.now.requirements.alignment self.old.slots self.new.slots result }
+        ensures keeps { StayLive self.old.slots self.new.slots }
+    {
+        self.pieces_are_apart();
+        let result = self.start(desc);
+        self.pieces_are_apart();
+        result
+    }
+
+    // The same, without what it makes of live pieces.
+    fn start(&mut self, desc: &AllocationCreateDesc) -> Result<Progress>
         ensures { Begins self.old desc.now result self.new }
     {
         if self.awaits_answer() {
@@ -166,7 +182,9 @@ impl Machine {
     /// The driver granted the memory that was asked for, and mapped it where it was to be mapped: it is the block that was awaited.
     /// It takes no host memory, and isn't refused but where no question is open (`Internal`).
     pub fn granted(&mut self, memory: DeviceMemory) -> Result<Allocated>
-        ensures { Grants self.old memory result self.new }
+        ensures grants { Grants self.old memory result self.new }
+        ensures gives { IfOk result (λ a. IsNewlyLive self.old.slots self.new.slots a × (a.piece.offset ≡ 0)) }
+        ensures keeps { StayLive self.old.slots self.new.slots }
     {
         match self.awaited.take() {
             None => Err(no_answer_awaited()),
@@ -181,7 +199,9 @@ impl Machine {
     /// The driver refused the memory that was asked for, with this code. Where the request has a second attempt, that is what
     /// counts; else the error says why.
     pub fn refused(&mut self, code: i32) -> Result<Progress>
-        ensures { Declines self.old (memory_refusal code) result self.new }
+        ensures declines { Declines self.old (memory_refusal code) result self.new }
+        ensures gives { GivesAwaited self.old.awaited self.old.slots self.new.slots result }
+        ensures keeps { StayLive self.old.slots self.new.slots }
     {
         self.declined(refusal_of_memory(code))
     }
@@ -189,7 +209,9 @@ impl Machine {
     /// The driver granted the memory, but refused to map it, with this code, or gave a null pointer; the memory has gone back. Then
     /// as with `refused`.
     pub fn mapping_refused(&mut self, code: Option<i32>) -> Result<Progress>
-        ensures { Declines self.old (map_refusal code) result self.new }
+        ensures declines { Declines self.old (map_refusal code) result self.new }
+        ensures gives { GivesAwaited self.old.awaited self.old.slots self.new.slots result }
+        ensures keeps { StayLive self.old.slots self.new.slots }
     {
         self.declined(refusal_of_mapping(code))
     }
@@ -198,6 +220,20 @@ impl Machine {
     /// isn't the only shared one of its memory type. It takes no host memory. `Internal` where the piece isn't live, or a question
     /// is open.
     pub fn free(&mut self, index: usize, piece: &Piece<DeviceMemory>) -> Result<Option<MemoryBack>>
+        ensures frees { Frees self.old index piece.now result self.new }
+        ensures keeps { (t : ℕ) (p : Piece DeviceMemory) → IsLiveIn self.old.slots t (Some p)
+            → AreDistinct t p index piece.now → IsLiveIn self.new.slots t (Some p) }
+    {
+        self.pieces_are_apart();
+        self.free_piece(index, piece)
+    }
+
+    // The same, without what it leaves live.
+    fn free_piece(
+        &mut self,
+        index: usize,
+        piece: &Piece<DeviceMemory>,
+    ) -> Result<Option<MemoryBack>>
         ensures { Frees self.old index piece.now result self.new }
     {
         if self.awaits_answer() {
@@ -212,7 +248,8 @@ impl Machine {
     /// Renames a piece of the memory type at `index`. `Internal` where the piece isn't live, or a question is open; else
     /// `HostOutOfMemory`. Then nothing changes.
     pub fn rename(&mut self, index: usize, piece: &Piece<DeviceMemory>, name: &str) -> Result<()>
-        ensures { Renames self.old index piece.now name.now result self.new }
+        ensures renames { Renames self.old index piece.now name.now result self.new }
+        ensures keeps { StayLive self.old.slots self.new.slots }
     {
         if self.awaits_answer() {
             return Err(answer_awaited());
@@ -262,8 +299,34 @@ impl Machine {
         &self.types
     }
 
+    /// What holds of live pieces at any time, for callers' proofs: all blocks are sound, each piece lies inside its block, no two share
+    /// a byte, and those of different kinds share no page (`bufferImageGranularity`). It does nothing.
+    pub fn pieces_are_apart(&self)
+        ensures types { length self.now.slots ≡ length self.now.setup.properties.types }
+        ensures sound { BlocksWellFormed self.now.setup.properties.granularity self.now.slots }
+        ensures inside { (t : ℕ) (p : Piece DeviceMemory) → IsLiveIn self.now.slots t (Some p) → IsInside self.now.slots t p }
+        ensures apart { (t : ℕ) (p : Piece DeviceMemory) (u : ℕ) (q : Piece DeviceMemory) → IsLiveIn self.now.slots t (Some p)
+            → IsLiveIn self.now.slots u (Some q) → AreDistinct t p u q → SharesNoByte t p u q }
+        ensures pages { (t : ℕ) (p q : Piece DeviceMemory) → IsLiveIn self.now.slots t (Some p)
+            → IsLiveIn self.now.slots t (Some q) → KeepsPages self.now.setup.properties.granularity self.now.slots t p q }
+    {
+        let _ = &self.types;
+    }
+
     // The block that was awaited isn't there, for this cause.
     fn declined(&mut self, error: AllocationError) -> Result<Progress>
+        ensures declines { Declines self.old (refusal_of error) result self.new }
+        ensures gives { GivesAwaited self.old.awaited self.old.slots self.new.slots result }
+        ensures keeps { StayLive self.old.slots self.new.slots }
+    {
+        self.pieces_are_apart();
+        let result = self.go_on(error);
+        self.pieces_are_apart();
+        result
+    }
+
+    // The same, without what it makes of live pieces.
+    fn go_on(&mut self, error: AllocationError) -> Result<Progress>
         ensures { Declines self.old (refusal_of error) result self.new }
     {
         match self.awaited.take() {

@@ -1,10 +1,17 @@
-use Rattle.std.proofs.Common.{sym}
 use Rattle.gpu_values.specs.Refusal.{refusal_of}
-use Rattle.gpu_machine.proofs.Alike.{declined_at}
+use Rattle.gpu_machine.proofs.Giving.{declined}
 use Rattle.gpu_machine.proofs.machine.Machine.declined.Goals as goal
 
-pub returns-else-awaited : goal.returns-else-awaited
-returns-else-awaited c =
-    let i = c.self.inside in
-    declined_at c.args.self.now i.setup i.types i.awaited c.take.new.self c.in-Some.awaited c.lend-desc.result (refusal_of c.args.error) c.follow.result c.follow.new.self
-    c.self.view_is (sym c.in-Some.ensures.value) c.in-Some.ensures.after c.if-awaited.false c.lend-desc.ensures c.follow.ensures
+pub returns-clause-gives : goal.returns-clause-gives
+returns-clause-gives c =
+    let before = c.pieces_are_apart.ensures in
+    let after = c.pieces_are_apart-2.ensures in
+    (declined c.args.self.now c.go_on-result.new.self (record { types = before.types; sound = before.sound }) (record { types = after.types; sound = after.sound })
+    (refusal_of c.args.error) c.go_on-result.result c.go_on-result.ensures).0
+
+pub returns-clause-keeps : goal.returns-clause-keeps
+returns-clause-keeps c =
+    let before = c.pieces_are_apart.ensures in
+    let after = c.pieces_are_apart-2.ensures in
+    (declined c.args.self.now c.go_on-result.new.self (record { types = before.types; sound = before.sound }) (record { types = after.types; sound = after.sound })
+    (refusal_of c.args.error) c.go_on-result.result c.go_on-result.ensures).1

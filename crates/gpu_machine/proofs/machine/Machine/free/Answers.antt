@@ -1,5 +1,10 @@
-use Rattle.gpu_machine.proofs.Calling.{live_there}
+use Rattle.std.proofs.Common.{rules}
+use Rattle.gpu_machine.proofs.Staying.{freed_stay}
 use Rattle.gpu_machine.proofs.machine.Machine.free.Goals as goal
 
-pub memory_back-requires : goal.memory_back-requires
-memory_back-requires c = let i = c.self.inside in live_there i.setup i.types c.args.index c.args.piece.now c.self.invariant.0 c.in-Ok.ensures.live
+pub returns-clause-keeps : goal.returns-clause-keeps
+returns-clause-keeps c =
+    freed_stay c.args.self.now c.free_piece.new.self c.args.index c.args.piece.now c.pieces_are_apart.ensures.sound c.free_piece.result c.free_piece.ensures
+
+pub returns-clause-frees : goal.returns-clause-frees
+returns-clause-frees c = search rules
