@@ -17,6 +17,7 @@ use Rattle.gpu_block_gaps.specs.contracts.thread.Thread as Thread
 use Rattle.gpu_block_chunks.specs.contracts.name.Name as Name
 use Rattle.gpu_block_chunks.specs.contracts.chunk.Chunk as Chunk
 use Rattle.gpu_block_chunks.specs.contracts.chain.chunk_ids.ChunkIds as ChunkIds
+use Rattle.gpu_block_chunks.specs.contracts.chain.chunk_ids.Entry as Entry
 use Rattle.gpu_block_chunks.specs.contracts.chain.link.LinkedChunk as LinkedChunk
 use Rattle.gpu_cost.specs.contracts.cost.Cost as Cost
 use Rattle.gpu_block_chunks.specs.contracts.chain.slots.Slot as Slot
@@ -86,8 +87,17 @@ key_send = search sendable
 pub place_send : IsSend usize
 place_send = search sendable
 
+head_send : IsSend (Option.the_row u32)
+head_send = search sendable depth 20
+
+entry_send : IsSend Entry.the_row
+entry_send = search sendable depth 20
+
+entered_send : IsSend (Option.the_row Entry.the_row)
+entered_send = let e = entry_send in search sendable depth 20
+
 ids_send : IsSend ChunkIds.the_row
-ids_send = search (sendable, Vec-send) depth 20
+ids_send = let h = head_send in let e = entered_send in search (sendable, Vec-send) depth 20
 
 nodes_send : IsSend Nodes.the_row
 nodes_send = let s = slots_send in let i = ids_send in search sendable depth 20
