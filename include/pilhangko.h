@@ -3,7 +3,7 @@
  * It says where pieces lie; it holds no memory of a device and calls no driver. Link libgpu_c.a, and pilhangko_heap.c over the program's
  * malloc, realloc and free (docs/C.md). No call blocks, calls back or starts a thread.
  *
- * Handles. A pilhangko_virtual_block or a pilhangko_memory_type is one pointer that the caller keeps and the library owns. The caller
+ * Handles. A pilhangko_virtual_block, a pilhangko_memory_type or a pilhangko_allocator is one pointer that the caller keeps and the library owns. The caller
  * upholds:
  *   - It begins zeroed, as in `pilhangko_virtual_block block = {0};`, and is empty then. create fills it, destroy leaves it empty. Each
  *     other call on an empty handle returns PILHANGKO_NO_HANDLE, so a call after destroy and a second destroy are refused.
@@ -65,24 +65,34 @@ extern "C" {
 
 /* What a call returns. pilhangko_status_name and pilhangko_status_text have each one's name and one line of text.
  *
- * 1 to 11 are the allocator's errors by the numbers that they have everywhere in this project. Those that are missing need a device, and
- * no call here has one: 2 (memory can't be mapped), 3 (no memory type suits), 5 (a device's description is invalid) and 7 to 9 (resources
- * of DirectX 12). 12 to 99 are kept for further errors. From 100 on the handle is in another state than the call needs, from 200 on the
+ * 1 to 11 are the allocator's errors by the numbers that they have everywhere in this project; 7 to 9, of resources of DirectX 12, are
+ * missing. 12 and 13 are two causes that have the number 6 elsewhere; 14 to 99 are kept for further errors. From 100 on the handle is in another state than the call needs, from 200 on the
  * header's own test of what it was passed has failed. */
 typedef uint32_t pilhangko_status;
 enum {
     /* The call did what it says. */
     PILHANGKO_OK = 0,
-    /* No gap has a place for the request; or the sum of a memory type's block sizes would pass 2^64 - 1. */
+    /* No gap has a place for the request; or the sum of a memory type's block sizes would pass 2^64 - 1. Of an allocator: the request is
+     * larger than its heap, the driver has no memory left, or the sum of all blocks' sizes would pass 2^64 - 1. */
     PILHANGKO_OUT_OF_MEMORY = 1,
-    /* A size of 0, an alignment or a page size that is no power of two, an unknown kind, or a name that isn't UTF-8. */
+    /* The driver granted memory, but didn't map it. Of an allocator alone, as 3, 5, 12 and 13. */
+    PILHANGKO_FAILED_TO_MAP = 2,
+    /* No memory type that the request allows has what its location needs. */
+    PILHANGKO_NO_MEMORY_TYPE = 3,
+    /* A size of 0, an alignment or a page size that is no power of two, an unknown kind, location or scheme, or a name that isn't UTF-8. */
     PILHANGKO_INVALID = 4,
+    /* A page size that is no power of two, more than 32 memory types, or a memory type in a heap that isn't there. */
+    PILHANGKO_INVALID_DEVICE = 5,
     /* No live piece is the one that is named. */
     PILHANGKO_NOT_LIVE = 6,
     /* malloc or realloc refused. */
     PILHANGKO_HOST_OUT_OF_MEMORY = 10,
     /* The block that is needed would carry the sum of the memory type's block sizes past its budget. */
     PILHANGKO_BUDGET_EXCEEDED = 11,
+    /* The driver refused memory with a code that has no status of its own. */
+    PILHANGKO_DRIVER_REFUSED = 12,
+    /* No memory type has that index. */
+    PILHANGKO_NO_SUCH_TYPE = 13,
     /* The handle is empty. */
     PILHANGKO_NO_HANDLE = 100,
     /* create was given a handle that isn't empty. */
@@ -91,6 +101,10 @@ enum {
     PILHANGKO_AWAITS_BLOCK = 102,
     /* No block is awaited, so there is none to install or to abandon. */
     PILHANGKO_AWAITS_NO_BLOCK = 103,
+    /* A question is open: call granted, refused or mapping_refused first. */
+    PILHANGKO_AWAITS_ANSWER = 104,
+    /* No question is open, so there is none to answer. */
+    PILHANGKO_AWAITS_NO_ANSWER = 105,
     /* A pointer is NULL that may not be. Only the calls of this header return it, before they call the archive. */
     PILHANGKO_NULL_POINTER = 200
 };
@@ -213,6 +227,112 @@ typedef struct pilhangko_memory_block_statistics {
     uint64_t longest_gap;
 } pilhangko_memory_block_statistics;
 
+/* ---- Allocators: all memory types of a Vulkan device. It chooses the memory type, and asks its caller for memory. ---- */
+
+typedef struct pilhangko_allocator {
+    void *opaque; /* the library's own */
+} pilhangko_allocator;
+
+/* A memory type and a heap of the device, laid out as VkMemoryType and VkMemoryHeap are. */
+typedef struct pilhangko_device_memory_type {
+    uint32_t flags; /* VkMemoryPropertyFlags */
+    uint32_t heap;  /* the index of its heap */
+} pilhangko_device_memory_type;
+typedef struct pilhangko_device_heap {
+    uint64_t size;
+    uint32_t flags; /* VkMemoryHeapFlags */
+} pilhangko_device_heap;
+
+/* Sizes of blocks are as with a memory type. */
+typedef struct pilhangko_allocator_settings {
+    uint64_t page_size;         /* a power of two: bufferImageGranularity */
+    uint64_t device_block_size; /* 256 MB suit where memory is plenty */
+    uint64_t largest_device_block_size;
+    uint64_t host_block_size; /* 64 MB suit where memory is plenty */
+    uint64_t largest_host_block_size;
+    bool device_address; /* whether memory is made so that shaders may read its address: bufferDeviceAddress */
+} pilhangko_allocator_settings;
+
+/* Who reads and writes a piece. */
+enum {
+    /* Anyone: the first memory type that the request allows serves. */
+    PILHANGKO_LOCATION_UNKNOWN = 1,
+    /* The GPU: device-local memory. */
+    PILHANGKO_LOCATION_GPU_ONLY = 2,
+    /* The host writes and the GPU reads it: uploads. They have a second attempt where the device-local memory that suits best is refused. */
+    PILHANGKO_LOCATION_CPU_TO_GPU = 3,
+    /* The GPU writes and the host reads it: readback. */
+    PILHANGKO_LOCATION_GPU_TO_CPU = 4
+};
+
+/* What memory is made for. */
+enum {
+    /* Whatever the allocator puts there. */
+    PILHANGKO_SCHEME_MANAGED = 1,
+    /* One buffer alone (VkMemoryDedicatedAllocateInfo). */
+    PILHANGKO_SCHEME_BUFFER = 2,
+    /* One image alone. */
+    PILHANGKO_SCHEME_IMAGE = 3
+};
+
+typedef struct pilhangko_allocator_request {
+    uint64_t size;             /* not 0 */
+    uint64_t alignment;        /* a power of two */
+    uint32_t memory_type_bits; /* bit i says that memory type i serves */
+    uint32_t kind;             /* PILHANGKO_KIND_.. */
+    uint32_t location;         /* PILHANGKO_LOCATION_.. */
+    uint32_t scheme;           /* PILHANGKO_SCHEME_.. */
+    uint64_t resource;         /* the VkBuffer or VkImage that it is for alone; it counts where it is for one */
+} pilhangko_allocator_request;
+
+/* A piece: its memory type, whether its block is mapped, and where it lies; piece.block is the driver's memory. No call reads mapped. */
+typedef struct pilhangko_allocator_piece {
+    size_t memory_type;
+    bool mapped;
+    pilhangko_memory_piece piece;
+} pilhangko_allocator_piece;
+
+/* What the driver is to be asked for (VkMemoryAllocateInfo and what is chained to it). */
+typedef struct pilhangko_allocator_question {
+    uint64_t size;
+    uint32_t memory_type;
+    uint32_t scheme;     /* PILHANGKO_SCHEME_.. */
+    uint64_t resource;   /* the VkBuffer or VkImage that it is for alone, else 0 */
+    bool device_address; /* VK_MEMORY_ALLOCATE_DEVICE_ADDRESS_BIT */
+    bool mapped;         /* whether it is to be mapped, whole */
+} pilhangko_allocator_question;
+
+/* What a request leads to. */
+enum {
+    /* A piece is allocated. */
+    PILHANGKO_PROGRESS_PIECE = 1,
+    /* Ask the driver, and then call granted, refused or mapping_refused. */
+    PILHANGKO_PROGRESS_QUESTION = 2,
+    /* The request is refused, and over: status says why. Only refused and mapping_refused report it. */
+    PILHANGKO_PROGRESS_REFUSED = 3
+};
+
+/* kind says which member counts; the others are all zeros. */
+typedef struct pilhangko_allocator_progress {
+    uint32_t kind;           /* PILHANGKO_PROGRESS_.. */
+    pilhangko_status status; /* why the request is refused, else PILHANGKO_OK */
+    pilhangko_allocator_piece piece;
+    pilhangko_allocator_question question;
+} pilhangko_allocator_progress;
+
+/* Memory that goes back to the driver, unmapped first where it is mapped; or none (then all is 0). */
+typedef struct pilhangko_allocator_memory {
+    bool exists;
+    bool mapped;
+    uint64_t memory;
+} pilhangko_allocator_memory;
+
+/* A bound in bytes, or none (then bytes is 0). */
+typedef struct pilhangko_budget {
+    bool exists;
+    uint64_t bytes;
+} pilhangko_budget;
+
 /* ---- The archive's symbols, for callers in other languages. No pointer may be NULL, also not of a name with length 0. ---- */
 
 PILHANGKO_NODISCARD PILHANGKO_API pilhangko_status PILHANGKO_CALL pilhangko_raw_virtual_block_create(
@@ -269,6 +389,32 @@ PILHANGKO_NODISCARD PILHANGKO_API pilhangko_status PILHANGKO_CALL pilhangko_raw_
     const pilhangko_memory_type *type, pilhangko_memory_statistics *statistics);
 PILHANGKO_API pilhangko_status PILHANGKO_CALL pilhangko_raw_memory_type_destroy(pilhangko_memory_type *type);
 
+PILHANGKO_NODISCARD PILHANGKO_API pilhangko_status PILHANGKO_CALL pilhangko_raw_allocator_create(pilhangko_allocator *allocator,
+    const pilhangko_device_memory_type *types, size_t type_count, const pilhangko_device_heap *heaps, size_t heap_count,
+    const pilhangko_allocator_settings *settings);
+PILHANGKO_NODISCARD PILHANGKO_API pilhangko_status PILHANGKO_CALL pilhangko_raw_allocator_begin(
+    pilhangko_allocator *allocator, const pilhangko_allocator_request *request, const char *name, size_t name_length,
+    pilhangko_allocator_progress *progress);
+PILHANGKO_NODISCARD PILHANGKO_API pilhangko_status PILHANGKO_CALL pilhangko_raw_allocator_granted(
+    pilhangko_allocator *allocator, uint64_t memory, pilhangko_allocator_piece *piece);
+PILHANGKO_NODISCARD PILHANGKO_API pilhangko_status PILHANGKO_CALL pilhangko_raw_allocator_refused(
+    pilhangko_allocator *allocator, int32_t code, pilhangko_allocator_progress *progress);
+PILHANGKO_NODISCARD PILHANGKO_API pilhangko_status PILHANGKO_CALL pilhangko_raw_allocator_mapping_refused(
+    pilhangko_allocator *allocator, bool has_code, int32_t code, pilhangko_allocator_progress *progress);
+PILHANGKO_NODISCARD PILHANGKO_API pilhangko_status PILHANGKO_CALL pilhangko_raw_allocator_free(
+    pilhangko_allocator *allocator, const pilhangko_allocator_piece *piece, pilhangko_allocator_memory *back);
+PILHANGKO_NODISCARD PILHANGKO_API pilhangko_status PILHANGKO_CALL pilhangko_raw_allocator_rename(
+    pilhangko_allocator *allocator, const pilhangko_allocator_piece *piece, const char *name, size_t name_length);
+PILHANGKO_NODISCARD PILHANGKO_API pilhangko_status PILHANGKO_CALL pilhangko_raw_allocator_is_live(
+    const pilhangko_allocator *allocator, const pilhangko_allocator_piece *piece, bool *is_live);
+PILHANGKO_NODISCARD PILHANGKO_API pilhangko_status PILHANGKO_CALL pilhangko_raw_allocator_set_budget(
+    pilhangko_allocator *allocator, size_t memory_type, bool has_budget, uint64_t bytes);
+PILHANGKO_NODISCARD PILHANGKO_API pilhangko_status PILHANGKO_CALL pilhangko_raw_allocator_budget(
+    const pilhangko_allocator *allocator, size_t memory_type, pilhangko_budget *budget);
+PILHANGKO_NODISCARD PILHANGKO_API pilhangko_status PILHANGKO_CALL pilhangko_raw_allocator_capacity(
+    const pilhangko_allocator *allocator, uint64_t *bytes);
+PILHANGKO_API pilhangko_status PILHANGKO_CALL pilhangko_raw_allocator_destroy(pilhangko_allocator *allocator);
+
 /* ---- The calls ---- */
 
 /* A status by its name. */
@@ -276,14 +422,21 @@ static inline const char *pilhangko_status_name(pilhangko_status status) {
     switch (status) {
     case PILHANGKO_OK: return "PILHANGKO_OK";
     case PILHANGKO_OUT_OF_MEMORY: return "PILHANGKO_OUT_OF_MEMORY";
+    case PILHANGKO_FAILED_TO_MAP: return "PILHANGKO_FAILED_TO_MAP";
+    case PILHANGKO_NO_MEMORY_TYPE: return "PILHANGKO_NO_MEMORY_TYPE";
     case PILHANGKO_INVALID: return "PILHANGKO_INVALID";
+    case PILHANGKO_INVALID_DEVICE: return "PILHANGKO_INVALID_DEVICE";
     case PILHANGKO_NOT_LIVE: return "PILHANGKO_NOT_LIVE";
     case PILHANGKO_HOST_OUT_OF_MEMORY: return "PILHANGKO_HOST_OUT_OF_MEMORY";
     case PILHANGKO_BUDGET_EXCEEDED: return "PILHANGKO_BUDGET_EXCEEDED";
+    case PILHANGKO_DRIVER_REFUSED: return "PILHANGKO_DRIVER_REFUSED";
+    case PILHANGKO_NO_SUCH_TYPE: return "PILHANGKO_NO_SUCH_TYPE";
     case PILHANGKO_NO_HANDLE: return "PILHANGKO_NO_HANDLE";
     case PILHANGKO_IN_USE: return "PILHANGKO_IN_USE";
     case PILHANGKO_AWAITS_BLOCK: return "PILHANGKO_AWAITS_BLOCK";
     case PILHANGKO_AWAITS_NO_BLOCK: return "PILHANGKO_AWAITS_NO_BLOCK";
+    case PILHANGKO_AWAITS_ANSWER: return "PILHANGKO_AWAITS_ANSWER";
+    case PILHANGKO_AWAITS_NO_ANSWER: return "PILHANGKO_AWAITS_NO_ANSWER";
     case PILHANGKO_NULL_POINTER: return "PILHANGKO_NULL_POINTER";
     default: return "unknown status";
     }
@@ -294,14 +447,21 @@ static inline const char *pilhangko_status_text(pilhangko_status status) {
     switch (status) {
     case PILHANGKO_OK: return "the call did what it says";
     case PILHANGKO_OUT_OF_MEMORY: return "out of memory: no gap has a place, or the sum of the blocks' sizes would pass 64 bits";
+    case PILHANGKO_FAILED_TO_MAP: return "the driver granted memory, but didn't map it";
+    case PILHANGKO_NO_MEMORY_TYPE: return "no memory type that the request allows has what its location needs";
     case PILHANGKO_INVALID: return "invalid request: a size, an alignment, a page size, a kind or a name";
+    case PILHANGKO_INVALID_DEVICE: return "invalid device: a page size, more than 32 memory types, or a heap that isn't there";
     case PILHANGKO_NOT_LIVE: return "no live piece is the one that is named";
     case PILHANGKO_HOST_OUT_OF_MEMORY: return "out of host memory: malloc or realloc refused";
     case PILHANGKO_BUDGET_EXCEEDED: return "the block that is needed would pass the budget";
+    case PILHANGKO_DRIVER_REFUSED: return "the driver refused memory with a code that has no status of its own";
+    case PILHANGKO_NO_SUCH_TYPE: return "no memory type has that index";
     case PILHANGKO_NO_HANDLE: return "the handle is empty";
     case PILHANGKO_IN_USE: return "the handle is in use, and create needs an empty one";
     case PILHANGKO_AWAITS_BLOCK: return "a block is awaited: install or abandon it first";
     case PILHANGKO_AWAITS_NO_BLOCK: return "no block is awaited";
+    case PILHANGKO_AWAITS_ANSWER: return "a question is open: answer it first";
+    case PILHANGKO_AWAITS_NO_ANSWER: return "no question is open";
     case PILHANGKO_NULL_POINTER: return "a pointer is NULL that may not be";
     default: return "unknown status";
     }
@@ -563,6 +723,112 @@ PILHANGKO_NODISCARD static inline pilhangko_status pilhangko_memory_type_statist
 static inline pilhangko_status pilhangko_memory_type_destroy(pilhangko_memory_type *type) {
     if (!type) return PILHANGKO_NULL_POINTER;
     return pilhangko_raw_memory_type_destroy(type);
+}
+
+/* Makes an allocator without blocks in an empty handle, over a device that has these memory types and heaps. Where a count is 0, its
+ * pointer may be NULL.
+ * IN_USE: the handle isn't empty. INVALID_DEVICE. HOST_OUT_OF_MEMORY. */
+PILHANGKO_NODISCARD static inline pilhangko_status pilhangko_allocator_create(pilhangko_allocator *allocator,
+    const pilhangko_device_memory_type *types, size_t type_count, const pilhangko_device_heap *heaps, size_t heap_count,
+    const pilhangko_allocator_settings *settings) {
+    pilhangko_device_memory_type no_type = {0, 0};
+    pilhangko_device_heap no_heap = {0, 0};
+    if (!allocator || (!types && type_count) || (!heaps && heap_count) || !settings) return PILHANGKO_NULL_POINTER;
+    return pilhangko_raw_allocator_create(allocator, types ? types : &no_type, type_count, heaps ? heaps : &no_heap, heap_count, settings);
+}
+
+/* Begins a request: it leads to a piece, or to a question, which stays open until the answer is told.
+ * NO_HANDLE. AWAITS_ANSWER. INVALID: the request or the name. NO_MEMORY_TYPE. OUT_OF_MEMORY. HOST_OUT_OF_MEMORY. BUDGET_EXCEEDED. (The last
+ * three are those of the one attempt that counts: an upload's second one, where it has one.) */
+PILHANGKO_NODISCARD static inline pilhangko_status pilhangko_allocator_begin(pilhangko_allocator *allocator,
+    const pilhangko_allocator_request *request, const char *name, pilhangko_allocator_progress *progress) {
+    if (!allocator || !request || !progress) return PILHANGKO_NULL_POINTER;
+    return pilhangko_raw_allocator_begin(allocator, request, pilhangko_name_bytes(name), pilhangko_name_length(name), progress);
+}
+
+/* The driver granted the memory that was asked for, and mapped it where it was to be mapped: says where the piece is; it begins at the
+ * memory's start. It needs no host memory, so that memory which the driver gave is never lost. Memories of live blocks should differ.
+ * NO_HANDLE. AWAITS_NO_ANSWER. */
+PILHANGKO_NODISCARD static inline pilhangko_status pilhangko_allocator_granted(
+    pilhangko_allocator *allocator, uint64_t memory, pilhangko_allocator_piece *piece) {
+    if (!allocator || !piece) return PILHANGKO_NULL_POINTER;
+    return pilhangko_raw_allocator_granted(allocator, memory, piece);
+}
+
+/* The driver refused the memory, with this code (VkResult). An upload may have a second attempt: progress then is its piece or its question.
+ * Else progress is the request's refusal: OUT_OF_MEMORY for VK_ERROR_OUT_OF_DEVICE_MEMORY, DRIVER_REFUSED for another code, or what the
+ * second attempt was refused for without a question.
+ * NO_HANDLE. AWAITS_NO_ANSWER. */
+PILHANGKO_NODISCARD static inline pilhangko_status pilhangko_allocator_refused(
+    pilhangko_allocator *allocator, int32_t code, pilhangko_allocator_progress *progress) {
+    if (!allocator || !progress) return PILHANGKO_NULL_POINTER;
+    return pilhangko_raw_allocator_refused(allocator, code, progress);
+}
+
+/* The driver granted the memory, but refused to map it, with this code or, where has_code is false, by a null pointer; the caller has given
+ * the memory back. Then as with refused, and the refusal is FAILED_TO_MAP.
+ * NO_HANDLE. AWAITS_NO_ANSWER. */
+PILHANGKO_NODISCARD static inline pilhangko_status pilhangko_allocator_mapping_refused(
+    pilhangko_allocator *allocator, bool has_code, int32_t code, pilhangko_allocator_progress *progress) {
+    if (!allocator || !progress) return PILHANGKO_NULL_POINTER;
+    return pilhangko_raw_allocator_mapping_refused(allocator, has_code, code, progress);
+}
+
+/* Frees a piece. Where back->exists, the memory back->memory goes back to the driver, unmapped first where back->mapped. It needs no host
+ * memory.
+ * NO_HANDLE. AWAITS_ANSWER. NOT_LIVE. */
+PILHANGKO_NODISCARD static inline pilhangko_status pilhangko_allocator_free(
+    pilhangko_allocator *allocator, const pilhangko_allocator_piece *piece, pilhangko_allocator_memory *back) {
+    if (!allocator || !piece || !back) return PILHANGKO_NULL_POINTER;
+    return pilhangko_raw_allocator_free(allocator, piece, back);
+}
+
+/* Renames a live piece.
+ * NO_HANDLE. AWAITS_ANSWER. INVALID: the name. NOT_LIVE. HOST_OUT_OF_MEMORY. */
+PILHANGKO_NODISCARD static inline pilhangko_status pilhangko_allocator_rename(
+    pilhangko_allocator *allocator, const pilhangko_allocator_piece *piece, const char *name) {
+    if (!allocator || !piece) return PILHANGKO_NULL_POINTER;
+    return pilhangko_raw_allocator_rename(allocator, piece, pilhangko_name_bytes(name), pilhangko_name_length(name));
+}
+
+/* Whether a piece is live.
+ * NO_HANDLE. */
+PILHANGKO_NODISCARD static inline pilhangko_status pilhangko_allocator_is_live(
+    const pilhangko_allocator *allocator, const pilhangko_allocator_piece *piece, bool *is_live) {
+    if (!allocator || !piece || !is_live) return PILHANGKO_NULL_POINTER;
+    return pilhangko_raw_allocator_is_live(allocator, piece, is_live);
+}
+
+/* Bounds the sum of the sizes of a memory type's blocks, or takes the bound away. A bound below the present sum gives no block back.
+ * NO_HANDLE. AWAITS_ANSWER. NO_SUCH_TYPE. */
+PILHANGKO_NODISCARD static inline pilhangko_status pilhangko_allocator_set_budget(
+    pilhangko_allocator *allocator, size_t memory_type, bool has_budget, uint64_t bytes) {
+    if (!allocator) return PILHANGKO_NULL_POINTER;
+    return pilhangko_raw_allocator_set_budget(allocator, memory_type, has_budget, bytes);
+}
+
+/* The bound of a memory type; none where it has none, or isn't there.
+ * NO_HANDLE. */
+PILHANGKO_NODISCARD static inline pilhangko_status pilhangko_allocator_budget(
+    const pilhangko_allocator *allocator, size_t memory_type, pilhangko_budget *budget) {
+    if (!allocator || !budget) return PILHANGKO_NULL_POINTER;
+    return pilhangko_raw_allocator_budget(allocator, memory_type, budget);
+}
+
+/* The sum of the sizes of the live blocks. A block that is awaited isn't one.
+ * NO_HANDLE. */
+PILHANGKO_NODISCARD static inline pilhangko_status pilhangko_allocator_capacity(
+    const pilhangko_allocator *allocator, uint64_t *bytes) {
+    if (!allocator || !bytes) return PILHANGKO_NULL_POINTER;
+    return pilhangko_raw_allocator_capacity(allocator, bytes);
+}
+
+/* Ends an allocator, with all its pieces and the question that is open, and leaves the handle empty. The blocks' memory is the caller's to
+ * give back to the driver.
+ * NO_HANDLE. */
+static inline pilhangko_status pilhangko_allocator_destroy(pilhangko_allocator *allocator) {
+    if (!allocator) return PILHANGKO_NULL_POINTER;
+    return pilhangko_raw_allocator_destroy(allocator);
 }
 
 #ifdef __cplusplus

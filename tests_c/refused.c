@@ -82,9 +82,47 @@ static void memory_types(void) {
     IS(pilhangko_memory_type_destroy(&type), PILHANGKO_OK);
 }
 
+static bool allocator_has(const pilhangko_allocator *allocator, uint64_t capacity) {
+    uint64_t bytes;
+    return pilhangko_allocator_capacity(allocator, &bytes) == PILHANGKO_OK && bytes == capacity;
+}
+
+static void allocators(void) {
+    pilhangko_allocator allocator = {0};
+    const pilhangko_device_memory_type types[] = {{1, 0}, {6, 1}};
+    const pilhangko_device_heap heaps[] = {{1024 * MB, 1}, {512 * MB, 0}};
+    const pilhangko_allocator_settings settings = {1, 4 * MB, 0, 4 * MB, 0, false};
+    pilhangko_allocator_piece pieces[12];
+    TRIED(pilhangko_allocator_create(&allocator, types, 2, heaps, 2, &settings),
+        pilhangko_allocator_destroy(&allocator) == PILHANGKO_NO_HANDLE);
+    uint64_t capacity = 0;
+    for (unsigned i = 0; i < 12; i++) {
+        pilhangko_allocator_request request = {i % 3 ? MB : 4 * MB, 1, 3, PILHANGKO_KIND_LINEAR, 2 + i % 2, 1 + i % 4 / 3, 0};
+        pilhangko_allocator_progress progress = {.kind = 9};
+        TRIED(pilhangko_allocator_begin(&allocator, &request, "a name that takes memory of its own", &progress),
+            allocator_has(&allocator, capacity) && progress.kind == 9);
+        pieces[i] = progress.piece;
+        if (progress.kind == PILHANGKO_PROGRESS_QUESTION) {
+            long before = heap_requests;
+            IS(pilhangko_allocator_granted(&allocator, i, &pieces[i]), PILHANGKO_OK);
+            CHECK(heap_requests == before); /* granted takes no memory */
+            capacity += progress.question.size;
+        }
+    }
+    for (unsigned i = 0; i < 12; i++)
+        TRIED(pilhangko_allocator_rename(&allocator, &pieces[i], "another name that takes memory of its own"),
+            allocator_has(&allocator, capacity));
+    long before = heap_requests;
+    pilhangko_allocator_memory back;
+    for (unsigned i = 0; i < 12; i++) IS(pilhangko_allocator_free(&allocator, &pieces[i], &back), PILHANGKO_OK);
+    CHECK(heap_requests == before);
+    IS(pilhangko_allocator_destroy(&allocator), PILHANGKO_OK);
+}
+
 int main(void) {
     virtual_blocks();
     memory_types();
+    allocators();
     long ample = heap_requests;
     CHECK(refusals == 0 && heap_held == 0 && ample > 0);
     for (long n = 1; n <= ample; n++) {
@@ -93,6 +131,7 @@ int main(void) {
         unsigned before = refusals;
         virtual_blocks();
         memory_types();
+        allocators();
         CHECK(refusals == before + 1);
         CHECK(heap_held == 0);
     }

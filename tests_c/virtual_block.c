@@ -243,7 +243,8 @@ static void null_pointers(void) {
 static void status_words(void) {
     const pilhangko_status statuses[] = {PILHANGKO_OK, PILHANGKO_OUT_OF_MEMORY, PILHANGKO_INVALID, PILHANGKO_NOT_LIVE,
         PILHANGKO_HOST_OUT_OF_MEMORY, PILHANGKO_BUDGET_EXCEEDED, PILHANGKO_NO_HANDLE, PILHANGKO_IN_USE, PILHANGKO_AWAITS_BLOCK,
-        PILHANGKO_AWAITS_NO_BLOCK, PILHANGKO_NULL_POINTER, 2};
+        PILHANGKO_AWAITS_NO_BLOCK, PILHANGKO_NULL_POINTER, PILHANGKO_FAILED_TO_MAP, PILHANGKO_NO_MEMORY_TYPE, PILHANGKO_INVALID_DEVICE,
+        PILHANGKO_DRIVER_REFUSED, PILHANGKO_NO_SUCH_TYPE, PILHANGKO_AWAITS_ANSWER, PILHANGKO_AWAITS_NO_ANSWER, 7};
     const size_t count = sizeof statuses / sizeof statuses[0];
     for (size_t i = 0; i < count; i++)
         for (size_t j = 0; j < i; j++) {
@@ -251,7 +252,7 @@ static void status_words(void) {
             CHECK(strcmp(pilhangko_status_text(statuses[i]), pilhangko_status_text(statuses[j])) != 0);
         }
     CHECK(!strcmp(pilhangko_status_name(PILHANGKO_BUDGET_EXCEEDED), "PILHANGKO_BUDGET_EXCEEDED"));
-    CHECK(!strcmp(pilhangko_status_name(2), "unknown status") && !strcmp(pilhangko_status_text(2), "unknown status"));
+    CHECK(!strcmp(pilhangko_status_name(7), "unknown status") && !strcmp(pilhangko_status_text(7), "unknown status"));
 }
 
 int main(void) {

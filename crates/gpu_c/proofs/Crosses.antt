@@ -6,6 +6,9 @@ use Rattle.core.specs.declared.cmp.PartialEq as eq
 use Rattle.core.specs.contracts.option.Option as Option
 use Rattle.std.proofs.Crossing as heap
 use Rattle.std.proofs.Crossing.{Vec-send}
+use Rattle.std_alloc.specs.contracts.string.String as String
+use Rattle.std_heap.specs.contracts.Global as Heap
+use Rattle.std_heap.specs.contracts.GlobalAllocator.TheImpl.{ghosts}
 use Rattle.gap_tree.specs.contracts.class_set.ClassSet as ClassSet
 use Rattle.gap_tree.specs.contracts.forest.Forest as Forest
 use Rattle.gap_tree.specs.contracts.tree.Fork as Fork
@@ -36,6 +39,19 @@ use Rattle.gpu_core.specs.contracts.need.PendingBlock as PendingBlock
 use Rattle.gpu_core.specs.contracts.need.NeedBlock as NeedBlock
 use Rattle.gpu_core.specs.contracts.memory_type.MemoryType as MemoryType
 use Rattle.gpu_values.specs.contracts.allocation_sizes.AllocationSizes as AllocationSizes
+use Rattle.gpu_device.specs.contracts.vulkan.types.DeviceMemory as DeviceMemory
+use Rattle.gpu_device.specs.contracts.vulkan.types.DeviceMemoryPartialEq.TheImpl as memory_eq
+use Rattle.gpu_device.specs.contracts.vulkan.types.AllocationScheme as AllocationScheme
+use Rattle.gpu_device.specs.contracts.vulkan.types.MemoryRequirements as MemoryRequirements
+use Rattle.gpu_values.specs.contracts.memory_location.MemoryLocation as MemoryLocation
+use Rattle.gpu_device.specs.contracts.vulkan.types.MemoryHeap as MemoryHeap
+use Rattle.gpu_device.specs.contracts.vulkan.types.MemoryTypeInfo as MemoryTypeInfo
+use Rattle.gpu_memory_types.specs.contracts.memory_types.MemoryTypes as MemoryTypes
+use Rattle.gpu_vulkan.specs.contracts.setup.Settings as Settings
+use Rattle.gpu_vulkan.specs.contracts.setup.Setup as Setup
+use Rattle.gpu_machine.specs.contracts.awaited.Awaited as Awaited
+use Rattle.gpu_machine.specs.contracts.description.Description as Description
+use Rattle.gpu_machine.specs.contracts.machine.Machine as Machine
 use Rattle.gpu_c.specs.contracts.memory_type.AwaitingType as AwaitingType
 use Rattle.gpu_c.specs.contracts.virtual_block.VirtualBlock as VirtualBlock
 
@@ -181,3 +197,62 @@ awaiting_of t = let n = need_send in let z = sizes_send in search (t, sendable) 
 
 pub awaiting_send : IsSend AwaitingType.the_row
 awaiting_send = awaiting_of (λ e. type_send u64 e key_send)
+
+-- ---- an allocator
+infos_send : IsSend MemoryTypeInfo.the_row
+infos_send = search sendable depth 20
+
+heaps_send : IsSend MemoryHeap.the_row
+heaps_send = search sendable depth 20
+
+settings_send : IsSend (Settings.the_field).row
+settings_send = let z = sizes_send in search sendable depth 20
+
+setup_send : IsSend Setup.the_row
+setup_send = let t = infos_send in let h = heaps_send in let s = settings_send in search (sendable, Vec-send) depth 20
+
+requirements_send : IsSend MemoryRequirements.the_row
+requirements_send = search sendable depth 20
+
+location_send : IsSend MemoryLocation.the_row
+location_send = search sendable depth 20
+
+scheme_send : IsSend AllocationScheme.the_row
+scheme_send = search sendable depth 20
+
+text_send : IsSend (String.the_row Heap.the_row ghosts)
+text_send = search (sendable, Vec-send) depth 20
+
+description_send : IsSend Description.the_row
+description_send =
+    let t = text_send in let r = requirements_send in let l = location_send in let b = bool_send in let k = scheme_send in
+    record {
+      owned = λ d vs x. (
+        (λ vss. (tt, (t.owned x.0.name vss.0, (r.owned x.0.requirements vss.1.0, (l.owned x.0.location vss.1.1.0, (b.owned x.0.linear vss.1.1.1.0, (k.owned x.0.scheme vss.1.1.1.1.0, tt))))))),
+        tt,
+      );
+      leaving = λ k d w. tt;
+    }
+
+awaited_send : IsSend Awaited.the_row
+awaited_send = let d = description_send in let n = need_send in search sendable depth 20
+
+memory_send : IsSend DeviceMemory.the_row
+memory_send = search sendable depth 20
+
+awaiting_answer_send : IsSend (Option.the_row Awaited.the_row)
+awaiting_answer_send = let a = awaited_send in search sendable depth 20
+
+types_of : ((e : eq.Ghosts DeviceMemory.the_row.Denot) → IsSend (MemoryType.the_row DeviceMemory.the_row e)) → (e : eq.Ghosts DeviceMemory.the_row.Denot) → IsSend (MemoryTypes.the_row DeviceMemory.the_row e)
+types_of t e = let m = t e in search (sendable, Vec-send) depth 20
+
+machine_of : ((e : eq.Ghosts DeviceMemory.the_row.Denot) → IsSend (MemoryType.the_row DeviceMemory.the_row e)) → IsSend Machine.the_row
+machine_of t =
+    let s = setup_send in let a = awaiting_answer_send in let g = heap.send in
+    record {
+      owned = λ d vs x. ((λ vss. (tt, (g.owned _ vss.0, (s.owned x.0.setup vss.1.0, ((types_of t memory_eq.ghosts).owned x.0.types vss.1.1.0, (a.owned x.0.awaited vss.1.1.1.0, tt)))))), tt);
+      leaving = λ k d w. tt;
+    }
+
+pub machine_send : IsSend Machine.the_row
+machine_send = machine_of (λ e. type_send DeviceMemory.the_row e memory_send)

@@ -6,5 +6,8 @@ mod VirtualBlockLaws
 mod MemoryTypeLaws
 mod VirtualBlockHandleWords
 mod MemoryTypeHandleWords
+mod AllocatorLaws
+mod AllocatorRefusals
+mod AllocatorHandleWords
 mod Crosses
 mod HandleCrosses

@@ -4,4 +4,5 @@ pub mod VirtualBlock
 pub mod Visit
 pub mod MemoryType
 pub mod Owned
+pub mod Allocator
 pub mod Handle

@@ -3,7 +3,7 @@ use Rattle.std.specs.Prelude.{◌≡◌, ◌⊎◌, ℕ, List, [], ◌∷◌}
 use Rattle.gpu_values.specs.declared.error.AllocationError.{AllocationError}
 use Rattle.gpu_values.specs.declared.error.AllocationError.TheVariants as errors
 
--- ---- what calls out: 1 to 11 are the numbers of the library's errors, from 100 on a handle is in the wrong state
+-- ---- what calls out: 1 to 11 are the numbers of the library's errors, 12 and 13 split the sixth, from 100 on a handle is in the wrong state
 
 -- the call did what it says
 abbrev pub ok : ℕ
@@ -13,9 +13,21 @@ ok = 0
 abbrev pub out_of_memory : ℕ
 out_of_memory = 1
 
+-- the driver granted memory and didn't map it
+abbrev pub failed_to_map : ℕ
+failed_to_map = 2
+
+-- no memory type that the request allows is what its location needs
+abbrev pub no_memory_type : ℕ
+no_memory_type = 3
+
 -- a request or a setting that nobody serves
 abbrev pub invalid : ℕ
 invalid = 4
+
+-- what is told of a device can't be
+abbrev pub invalid_device : ℕ
+invalid_device = 5
 
 -- no live piece is the one that was named
 abbrev pub not_live : ℕ
@@ -28,6 +40,14 @@ host_out_of_memory = 10
 -- a block more would pass the budget
 abbrev pub budget_exceeded : ℕ
 budget_exceeded = 11
+
+-- the driver refused memory for a cause without a status of its own
+abbrev pub driver_refused : ℕ
+driver_refused = 12
+
+-- no memory type has that index
+abbrev pub no_such_type : ℕ
+no_such_type = 13
 
 -- the handle is empty
 abbrev pub no_handle : ℕ
@@ -44,6 +64,14 @@ awaits_block = 102
 -- no block is awaited
 abbrev pub awaits_no_block : ℕ
 awaits_no_block = 103
+
+-- a question is open
+abbrev pub awaits_answer : ℕ
+awaits_answer = 104
+
+-- no question is open
+abbrev pub awaits_no_answer : ℕ
+awaits_no_answer = 105
 
 -- blocks and memory types out no other error than the first five; Internal is theirs for a piece that isn't live
 abbrev pub status_of : AllocationError → ℕ

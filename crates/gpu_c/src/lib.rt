@@ -2,6 +2,12 @@
 //! behind its handle. `include/pilhangko.h` declares the exports.
 #![tactic(auto)]
 
+mod allocator;
+mod allocator_answer;
+mod allocator_calls;
+mod allocator_handle;
+mod allocator_request;
+mod allocator_values;
 mod memory_type;
 mod memory_type_calls;
 mod memory_type_handle;

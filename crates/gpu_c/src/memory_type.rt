@@ -55,7 +55,7 @@ fn sizes_of(settings: &MemoryTypeSettings) -> AllocationSizes
 }
 
 /// A number that counts only where there is one.
-fn number_if(exists: bool, number: u64) -> Option<u64>
+pub fn number_if(exists: bool, number: u64) -> Option<u64>
     ensures { result ≡ number_if exists number }
 {
     if exists { Some(number) } else { None }

@@ -3,6 +3,7 @@
 
 ghost use Rattle.std.specs.Prelude.{◌≡◌};
 
+use crate::allocator_handle::AllocatorHandle;
 use crate::memory_type_handle::MemoryTypeHandle;
 use crate::virtual_block_handle::VirtualBlockHandle;
 
@@ -25,4 +26,11 @@ pub fn sent_memory_type(memory: MemoryTypeHandle) -> MemoryTypeHandle
     ensures { result ≡ memory }
 {
     sent(memory)
+}
+
+/// An allocator's handle may.
+pub fn sent_allocator(allocator: AllocatorHandle) -> AllocatorHandle
+    ensures { result ≡ allocator }
+{
+    sent(allocator)
 }

@@ -1,4 +1,4 @@
-//! What the calls out. 1 to 11 are the library's errors E1 to E11; from 100 on a handle is in the wrong state.
+//! What the calls out. 1 to 11 are the library's errors E1 to E11, 12 and 13 two causes of E6; from 100 on a handle is in the wrong state.
 
 ghost use Rattle.std.specs.Prelude.{◌≡◌};
 ghost use Rattle.gpu_c.specs.Status.{status_of};
@@ -11,8 +11,17 @@ pub const OK: u32 = 0;
 /// There is no place in the block, or the sum of the blocks' sizes would pass 2^64 - 1.
 pub const OUT_OF_MEMORY: u32 = 1;
 
+/// The driver granted memory, but didn't map it.
+pub const FAILED_TO_MAP: u32 = 2;
+
+/// No memory type that the request allows has what its location needs.
+pub const NO_MEMORY_TYPE: u32 = 3;
+
 /// A size of 0, an alignment or a page size that isn't a power of two, an unknown kind, or a name that isn't UTF-8.
 pub const INVALID: u32 = 4;
+
+/// A page size that isn't a power of two, more than 32 memory types, or a memory type in a heap that isn't there.
+pub const INVALID_DEVICE: u32 = 5;
 
 /// No live piece is the one that was named.
 pub const NOT_LIVE: u32 = 6;
@@ -22,6 +31,12 @@ pub const HOST_OUT_OF_MEMORY: u32 = 10;
 
 /// A block more would pass the budget.
 pub const BUDGET_EXCEEDED: u32 = 11;
+
+/// The driver refused memory for a cause that has no status of its own.
+pub const DRIVER_REFUSED: u32 = 12;
+
+/// No memory type has that index.
+pub const NO_SUCH_TYPE: u32 = 13;
 
 /// The handle is empty.
 pub const NO_HANDLE: u32 = 100;
@@ -34,6 +49,12 @@ pub const AWAITS_BLOCK: u32 = 102;
 
 /// No block is awaited, so that there is none to install or to abandon.
 pub const AWAITS_NO_BLOCK: u32 = 103;
+
+/// A question is open: answer it first.
+pub const AWAITS_ANSWER: u32 = 104;
+
+/// No question is open, so that there is none to answer.
+pub const AWAITS_NO_ANSWER: u32 = 105;
 
 /// The status of a refusal.
 pub fn status_of(error: &AllocationError) -> u32

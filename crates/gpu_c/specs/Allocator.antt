@@ -1,0 +1,237 @@
+-- An allocator of Vulkan's memory behind a handle: what C says and is told, in the words of the machine.
+use Rattle.std.specs.Prelude.{◌≡◌, ℕ, ℤ, ◌==◌, if◌then◌else◌, Bool, true, false, List, [], length, map, All, Option, Some, None, IsSome, Result, Ok, Err}
+use Rattle.std.specs.Option.{is_some, unwrap_or}
+use Rattle.std.specs.Int.NonZero.{non_zero_u64_get}
+use Rattle.gpu_values.specs.Refusal as refusals
+use Rattle.gpu_values.specs.Refusal.{Refusal, refusal_of}
+use Rattle.gpu_values.specs.Sizes.{Sizes, only_size, with_largest}
+use Rattle.gpu_values.specs.declared.allocator_debug_settings.AllocatorDebugSettings.{AllocatorDebugSettings}
+use Rattle.gpu_values.specs.declared.error.AllocationError.{AllocationError}
+use Rattle.gpu_values.specs.declared.memory_location.MemoryLocation.{MemoryLocation}
+use Rattle.gpu_values.specs.declared.memory_location.MemoryLocation.TheVariants as locations
+use Rattle.gpu_core.specs.declared.piece.Piece.{Piece}
+use Rattle.gpu_device.specs.Properties.{Properties}
+use Rattle.gpu_device.specs.declared.vulkan.types.AllocationScheme.{AllocationScheme}
+use Rattle.gpu_device.specs.declared.vulkan.types.AllocationScheme.TheVariants as schemes
+use Rattle.gpu_device.specs.declared.vulkan.types.DeviceMemory.{DeviceMemory}
+use Rattle.gpu_device.specs.declared.vulkan.types.MemoryHeap.{MemoryHeap}
+use Rattle.gpu_device.specs.declared.vulkan.types.MemoryTypeInfo.{MemoryTypeInfo}
+use Rattle.gpu_vulkan.specs.Live as machine_live
+use Rattle.gpu_vulkan.specs.Setup.{properties_told}
+use Rattle.gpu_vulkan.specs.declared.describe.AllocationCreateDesc.{AllocationCreateDesc}
+use Rattle.gpu_machine.specs.Begin as machine_begin
+use Rattle.gpu_machine.specs.Begin.{Begins, Grants, Declines}
+use Rattle.gpu_machine.specs.Calls as machine_calls
+use Rattle.gpu_machine.specs.Calls.{Frees, Renames}
+use Rattle.gpu_machine.specs.Description.{Description, description_of}
+use Rattle.gpu_machine.specs.State.{State, told_fault}
+use Rattle.gpu_machine.specs.declared.answer.Allocated.{Allocated}
+use Rattle.gpu_machine.specs.declared.answer.MemoryBack.{MemoryBack}
+use Rattle.gpu_machine.specs.declared.answer.Progress.{Progress}
+use Rattle.gpu_machine.specs.declared.answer.Progress.TheVariants as progress
+use Rattle.gpu_machine.specs.declared.answer.Question.{Question}
+use Rattle.gpu_c.specs.MemoryType.{no_memory_piece}
+use Rattle.gpu_c.specs.Request.{IsServed, linear}
+use Rattle.gpu_c.specs.Status as status
+use Rattle.gpu_c.specs.declared.memory_type_values.MemoryPiece.{MemoryPiece}
+use Rattle.gpu_c.specs.declared.allocator_values.AllocatorBudget.{AllocatorBudget}
+use Rattle.gpu_c.specs.declared.allocator_values.AllocatorMemory.{AllocatorMemory}
+use Rattle.gpu_c.specs.declared.allocator_values.AllocatorPiece.{AllocatorPiece}
+use Rattle.gpu_c.specs.declared.allocator_values.AllocatorProgress.{AllocatorProgress}
+use Rattle.gpu_c.specs.declared.allocator_values.AllocatorQuestion.{AllocatorQuestion}
+use Rattle.gpu_c.specs.declared.allocator_values.AllocatorRequest.{AllocatorRequest}
+use Rattle.gpu_c.specs.declared.allocator_values.AllocatorSettings.{AllocatorSettings}
+use Rattle.gpu_c.specs.declared.allocator_values.DeviceHeap.{DeviceHeap}
+use Rattle.gpu_c.specs.declared.allocator_values.DeviceMemoryType.{DeviceMemoryType}
+
+-- ---- made from what is told of a device
+
+abbrev pub memory_type_told : DeviceMemoryType → MemoryTypeInfo
+memory_type_told t = record { property_flags = record { 0 = t.flags }; heap_index = t.heap }
+
+abbrev pub heap_told : DeviceHeap → MemoryHeap
+heap_told h = record { size = h.size; flags = h.flags }
+
+-- what the caller tells of its device
+abbrev pub device_told : List DeviceMemoryType → List DeviceHeap → AllocatorSettings → Properties
+device_told types heaps s = properties_told (map memory_type_told types) (map heap_told heaps) s.granularity
+
+-- the sizes of blocks that the settings ask for
+abbrev pub block_sizes : AllocatorSettings → Sizes
+block_sizes s = record {
+  device = with_largest (only_size s.device_block_size) s.largest_device_block_size;
+  host = with_largest (only_size s.host_block_size) s.largest_host_block_size;
+}
+
+-- nothing is logged
+abbrev pub no_lines : AllocatorDebugSettings
+no_lines = record { log_memory_information = false; log_leaks_on_shutdown = false; log_allocations = false; log_frees = false }
+
+-- an allocator without blocks, budgets and an open question, over the device that was told
+pub record IsFresh (types : List DeviceMemoryType) (heaps : List DeviceHeap) (s : AllocatorSettings) (new : State) : Type 0 where
+  pub setup : new.setup ≡ record { properties = device_told types heaps s; sizes = block_sizes s; debug = no_lines; device_address = s.device_address }
+  pub types_there : length new.slots ≡ length types
+  pub empty : All (λ slots. slots ≡ []) new.slots
+  pub unbounded : All (λ b. b ≡ None) new.budgets
+  pub closed : new.awaited ≡ None
+
+-- ---- statuses
+
+-- the status of a refusal; what the driver refused for a cause without an error of its own is the last one
+abbrev pub refusal_status : Refusal → ℕ
+refusal_status refusals.out_of_memory = status.out_of_memory
+refusal_status (refusals.failed_to_map text code) = status.failed_to_map
+refusal_status refusals.no_compatible_memory_type_found = status.no_memory_type
+refusal_status refusals.invalid_allocation_create_desc = status.invalid
+refusal_status (refusals.invalid_allocator_create_desc text code) = status.invalid_device
+refusal_status (refusals.internal text code) = status.driver_refused
+refusal_status refusals.barrier_layout_needs_device10 = status.driver_refused
+refusal_status refusals.castable_formats_requires_enhanced_barriers = status.driver_refused
+refusal_status refusals.castable_formats_requires_at_least_device12 = status.driver_refused
+refusal_status refusals.host_out_of_memory = status.host_out_of_memory
+refusal_status refusals.budget_exceeded = status.budget_exceeded
+
+-- ---- a request
+
+-- the location of that number
+abbrev pub location_named : ℕ → Option MemoryLocation
+location_named n =
+    if n == 1 then Some locations.Unknown else
+    (if n == 2 then Some locations.GpuOnly else
+    (if n == 3 then Some locations.CpuToGpu else
+    (if n == 4 then Some locations.GpuToCpu else None)))
+
+-- what memory is made for: whatever its owner puts there, or a buffer or an image alone
+abbrev pub scheme_named : (scheme resource : ℕ) → Option AllocationScheme
+scheme_named scheme resource =
+    if scheme == 1 then Some schemes.GpuAllocatorManaged else
+    (if scheme == 2 then Some (schemes.DedicatedBuffer (record { 0 = resource })) else
+    (if scheme == 3 then Some (schemes.DedicatedImage (record { 0 = resource })) else None))
+
+-- what C asks for, as the machine is asked; a request with a size of 0, an alignment that is no power of two, an unknown number or a name that isn't UTF-8 says nothing
+pub record Says (r : AllocatorRequest) (name : List ℕ) (k : Description) : Type 0 where
+  pub served : IsServed r.size r.alignment r.kind name
+  pub name_is : k.name ≡ name
+  pub requirements : k.requirements ≡ record { size = r.size; alignment = r.alignment; memory_type_bits = r.memory_type_bits }
+  pub linear_is : k.linear ≡ (r.kind == linear)
+  pub location : location_named r.location ≡ Some k.location
+  pub scheme : scheme_named r.scheme r.resource ≡ Some k.scheme
+
+-- the request is none that is served
+abbrev pub SaysNothing : AllocatorRequest → List ℕ → Type 0
+SaysNothing r name = (k : Description) → Says r name k → ⊥
+
+-- ---- what C is told
+
+abbrev pub piece_told : Piece DeviceMemory → MemoryPiece
+piece_told p = record { slot = p.slot; number = non_zero_u64_get p.chunk_id; offset = p.offset; size = p.size; block = p.handle.0 }
+
+abbrev pub allocated_told : Allocated → AllocatorPiece
+allocated_told a = record { memory_type = a.memory_type; mapped = a.mapped; piece = piece_told a.piece }
+
+abbrev pub no_allocator_piece : AllocatorPiece
+no_allocator_piece = record { memory_type = 0; mapped = false; piece = no_memory_piece }
+
+abbrev pub scheme_number : AllocationScheme → ℕ
+scheme_number schemes.GpuAllocatorManaged = 1
+scheme_number (schemes.DedicatedBuffer buffer) = 2
+scheme_number (schemes.DedicatedImage image) = 3
+
+-- the buffer or image that memory is for alone, else 0
+abbrev pub resource_of : AllocationScheme → ℕ
+resource_of schemes.GpuAllocatorManaged = 0
+resource_of (schemes.DedicatedBuffer buffer) = buffer.0
+resource_of (schemes.DedicatedImage image) = image.0
+
+abbrev pub question_told : Question → AllocatorQuestion
+question_told q = record {
+  size = q.info.size;
+  memory_type = q.info.memory_type_index;
+  scheme = scheme_number q.info.scheme;
+  resource = resource_of q.info.scheme;
+  device_address = q.info.device_address;
+  mapped = q.mapped;
+}
+
+abbrev pub no_question : AllocatorQuestion
+no_question = record { size = 0; memory_type = 0; scheme = 0; resource = 0; device_address = false; mapped = false }
+
+-- what a request leads to: 1 is a piece, 2 a question
+abbrev pub progress_told : Progress → AllocatorProgress
+progress_told (progress.Piece a) = record { kind = 1; status = status.ok; piece = allocated_told a; question = no_question }
+progress_told (progress.Question q) = record { kind = 2; status = status.ok; piece = no_allocator_piece; question = question_told q }
+
+-- the same once the driver has refused: 3 is the request's refusal
+abbrev pub outcome_told : Result Progress AllocationError → AllocatorProgress
+outcome_told (Ok p) = progress_told p
+outcome_told (Err e) = record { kind = 3; status = refusal_status (refusal_of e); piece = no_allocator_piece; question = no_question }
+
+-- memory that goes back, or none
+abbrev pub memory_told : Option MemoryBack → AllocatorMemory
+memory_told None = record { exists = false; mapped = false; memory = 0 }
+memory_told (Some b) = record { exists = true; mapped = b.mapped; memory = b.memory.0 }
+
+abbrev pub budget_told : Option ℕ → AllocatorBudget
+budget_told b = record { exists = is_some b; bytes = unwrap_or b 0 }
+
+-- ---- begin, and the answers
+
+-- the request is begun: it leads to a piece or to a question
+pub record IsBegun (old : State) (r : AllocatorRequest) (name : List ℕ) (out : AllocatorProgress) (new : State) : Type 0 where
+  pub idle : old.awaited ≡ None
+  pub desc : AllocationCreateDesc
+  pub says : Says r name (description_of desc)
+  pub answer : Progress
+  pub told : out ≡ progress_told answer
+  pub begins : Begins old desc (Ok answer) new
+
+-- the request says what the machine refuses, and with which status
+pub record IsDenied (s : State) (r : AllocatorRequest) (name : List ℕ) (code : ℕ) : Type 0 where
+  pub idle : s.awaited ≡ None
+  pub desc : AllocationCreateDesc
+  pub says : Says r name (description_of desc)
+  pub cause : AllocationError
+  pub code_is : code ≡ refusal_status (refusal_of cause)
+  pub begins : Begins s desc (Err cause) s
+
+-- the driver's memory is the awaited block, and the piece in it is told
+pub record IsGranted (old : State) (memory : ℕ) (out : AllocatorPiece) (new : State) : Type 0 where
+  pub awaits : IsSome old.awaited
+  pub given : Allocated
+  pub told : out ≡ allocated_told given
+  pub grants : Grants old (record { 0 = memory }) (Ok given) new
+
+-- the awaited block isn't there for this cause, and what comes of it is told
+pub record IsDeclined (old : State) (cause : Refusal) (out : AllocatorProgress) (new : State) : Type 0 where
+  pub awaits : IsSome old.awaited
+  pub answer : Result Progress AllocationError
+  pub told : out ≡ outcome_told answer
+  pub declines : Declines old cause answer new
+
+-- the driver's code, where it told one
+abbrev pub code_if : Bool → ℤ → Option ℤ
+code_if exists code = if exists then Some code else None
+
+-- ---- free, rename
+
+-- the piece that C names is live
+pub record IsLive (s : State) (p : AllocatorPiece) : Type 0 where
+  pub piece : Piece DeviceMemory
+  pub named : piece_told piece ≡ p.piece
+  pub live : machine_live.IsLiveIn s.slots p.memory_type (Some piece)
+
+-- the piece is freed, and the memory that goes back with it is told
+pub record IsFreed (old : State) (p : AllocatorPiece) (out : AllocatorMemory) (new : State) : Type 0 where
+  pub idle : old.awaited ≡ None
+  pub piece : Piece DeviceMemory
+  pub named : piece_told piece ≡ p.piece
+  pub back : Option MemoryBack
+  pub told : out ≡ memory_told back
+  pub frees : Frees old p.memory_type piece (Ok back) new
+
+-- the piece has that name
+pub record IsRenamed (old : State) (p : AllocatorPiece) (name : List ℕ) (new : State) : Type 0 where
+  pub idle : old.awaited ≡ None
+  pub piece : Piece DeviceMemory
+  pub named : piece_told piece ≡ p.piece
+  pub renames : Renames old p.memory_type piece name (Ok tt) new

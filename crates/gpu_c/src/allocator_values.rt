@@ -1,0 +1,127 @@
+//! What callers hand to allocators, and what they get. Sizes, alignments and offsets are bytes.
+
+use crate::memory_type_values::MemoryPiece;
+
+/// A memory type of the device (`VkMemoryType`, with the same layout).
+#[repr(C)]
+#[derive(Drop)]
+pub struct DeviceMemoryType {
+    /// What memory of this type is like (`VkMemoryPropertyFlags`).
+    pub flags: u32,
+    /// The heap that it lies in.
+    pub heap: u32,
+}
+
+/// A heap of the device (`VkMemoryHeap`, with the same layout).
+#[repr(C)]
+#[derive(Drop)]
+pub struct DeviceHeap {
+    /// Its size.
+    pub size: u64,
+    /// What the heap is like (`VkMemoryHeapFlags`).
+    pub flags: u32,
+}
+
+/// What an allocator is made with, beside the memory types and heaps. Sizes of blocks are as with a memory type.
+#[repr(C)]
+#[derive(Drop)]
+pub struct AllocatorSettings {
+    /// The page size, a power of two (`bufferImageGranularity`).
+    pub granularity: u64,
+    /// The size of the first shared block of the device's memory.
+    pub device_block_size: u64,
+    /// The largest size of such a block.
+    pub largest_device_block_size: u64,
+    /// The size of the first shared block of memory that the host can see.
+    pub host_block_size: u64,
+    /// The largest size of such a block.
+    pub largest_host_block_size: u64,
+    /// Whether memory is made so that shaders may read its address (`bufferDeviceAddress`).
+    pub device_address: bool,
+}
+
+/// What is asked of an allocator.
+#[repr(C)]
+#[derive(Drop)]
+pub struct AllocatorRequest {
+    /// Not 0.
+    pub size: u64,
+    /// A power of two.
+    pub alignment: u64,
+    /// Bit `i` says that memory type `i` serves.
+    pub memory_type_bits: u32,
+    /// `LINEAR` or `NON_LINEAR`.
+    pub kind: u32,
+    /// Who reads and writes it: `UNKNOWN`, `GPU_ONLY`, `CPU_TO_GPU` or `GPU_TO_CPU`.
+    pub location: u32,
+    /// `MANAGED`, `FOR_BUFFER` or `FOR_IMAGE`: the latter two have memory of their own.
+    pub scheme: u32,
+    /// The buffer or image that the memory is for alone, where it is for one.
+    pub resource: u64,
+}
+
+/// A piece of an allocator.
+#[repr(C)]
+#[derive(Drop)]
+pub struct AllocatorPiece {
+    /// The memory type that it is of.
+    pub memory_type: usize,
+    /// Whether its block is mapped, as the caller was asked to do. No call reads it.
+    pub mapped: bool,
+    /// The piece; its block is the driver's memory.
+    pub piece: MemoryPiece,
+}
+
+/// What the driver is to be asked for.
+#[repr(C)]
+#[derive(Drop)]
+pub struct AllocatorQuestion {
+    /// The size of the memory.
+    pub size: u64,
+    /// Its memory type.
+    pub memory_type: u32,
+    /// `MANAGED`, `FOR_BUFFER` or `FOR_IMAGE`.
+    pub scheme: u32,
+    /// The buffer or image that it is for alone, else 0.
+    pub resource: u64,
+    /// Whether shaders may read its address (`VK_MEMORY_ALLOCATE_DEVICE_ADDRESS_BIT`).
+    pub device_address: bool,
+    /// Whether it is to be mapped, whole.
+    pub mapped: bool,
+}
+
+/// What a request leads to: a piece, a question, or, once the driver has refused, its refusal. What isn't named by `kind` is all zeros.
+#[repr(C)]
+#[derive(Drop)]
+pub struct AllocatorProgress {
+    /// `PIECE`, `QUESTION` or `REFUSED`.
+    pub kind: u32,
+    /// Why the request is refused, else `OK`.
+    pub status: u32,
+    /// The piece that is allocated.
+    pub piece: AllocatorPiece,
+    /// What the driver is to be asked for.
+    pub question: AllocatorQuestion,
+}
+
+/// Memory that goes back to the driver, or none.
+#[repr(C)]
+#[derive(Drop)]
+pub struct AllocatorMemory {
+    /// Whether there is some; else all is 0.
+    pub exists: bool,
+    /// Whether it is mapped: then it is unmapped first.
+    pub mapped: bool,
+    /// The driver's handle of it.
+    pub memory: u64,
+}
+
+/// A bound of the sum of the blocks' sizes of a memory type, or none.
+#[repr(C)]
+#[derive(Drop)]
+pub struct AllocatorBudget {
+    /// Whether there is one; else all is 0.
+    pub exists: bool,
+    /// The bound.
+    pub bytes: u64,
+}

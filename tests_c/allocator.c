@@ -1,0 +1,384 @@
+/* Allocators: rows that were worked out by hand, and each status of each call. */
+#include "test.h"
+
+#define MB (UINT64_C(1) << 20)
+
+/* memory type 0 is the device's, 1 the host's, 2 the device's that the host can see, in a small heap */
+static const pilhangko_device_memory_type types[] = {{1, 0}, {6, 1}, {7, 2}};
+static const pilhangko_device_heap heaps[] = {{1024 * MB, 1}, {512 * MB, 0}, {16 * MB, 1}};
+
+/* on the host's side blocks of 4 MB, doubling up to 8 MB; on the device's 8 MB */
+static const pilhangko_allocator_settings settings = {64, 8 * MB, 0, 4 * MB, 8 * MB, true};
+
+static pilhangko_allocator made(void) {
+    pilhangko_allocator a = {0};
+    IS(pilhangko_allocator_create(&a, types, 3, heaps, 3, &settings), PILHANGKO_OK);
+    return a;
+}
+
+static pilhangko_allocator_request asks(uint64_t size, uint32_t bits, uint32_t location) {
+    pilhangko_allocator_request r = {size, 1, bits, PILHANGKO_KIND_LINEAR, location, PILHANGKO_SCHEME_MANAGED, 0};
+    return r;
+}
+
+static void has_no_piece(const pilhangko_allocator_piece *p) {
+    CHECK(p->memory_type == 0 && !p->mapped && p->piece.slot == 0 && p->piece.number == 0 && p->piece.offset == 0 && p->piece.size == 0 &&
+          p->piece.block == 0);
+}
+
+static void has_no_question(const pilhangko_allocator_question *q) {
+    CHECK(q->size == 0 && q->memory_type == 0 && q->scheme == 0 && q->resource == 0 && !q->device_address && !q->mapped);
+}
+
+static void is_question(const pilhangko_allocator_progress *p, uint64_t size, uint32_t type, bool mapped) {
+    CHECK(p->kind == PILHANGKO_PROGRESS_QUESTION && p->status == PILHANGKO_OK);
+    CHECK(p->question.size == size && p->question.memory_type == type && p->question.mapped == mapped && p->question.device_address);
+    has_no_piece(&p->piece);
+}
+
+static void is_refused(const pilhangko_allocator_progress *p, pilhangko_status status) {
+    CHECK(p->kind == PILHANGKO_PROGRESS_REFUSED && p->status == status);
+    has_no_piece(&p->piece);
+    has_no_question(&p->question);
+}
+
+static void is_piece(const pilhangko_allocator_piece *p, size_t type, bool mapped, size_t slot, uint64_t number, uint64_t offset,
+    uint64_t size, uint64_t memory) {
+    CHECK(p->memory_type == type && p->mapped == mapped && p->piece.slot == slot && p->piece.number == number);
+    CHECK(p->piece.offset == offset && p->piece.size == size && p->piece.block == memory);
+}
+
+static void has_capacity(const pilhangko_allocator *a, uint64_t expected) {
+    uint64_t bytes = 7;
+    IS(pilhangko_allocator_capacity(a, &bytes), PILHANGKO_OK);
+    CHECK(bytes == expected);
+}
+
+static void is_live(const pilhangko_allocator *a, const pilhangko_allocator_piece *piece, bool expected) {
+    bool live = !expected;
+    IS(pilhangko_allocator_is_live(a, piece, &live), PILHANGKO_OK);
+    CHECK(live == expected);
+}
+
+static void frees(pilhangko_allocator *a, const pilhangko_allocator_piece *piece, bool exists, bool mapped, uint64_t memory) {
+    pilhangko_allocator_memory back = {!exists, !mapped, memory + 1};
+    is_live(a, piece, true);
+    IS(pilhangko_allocator_free(a, piece, &back), PILHANGKO_OK);
+    CHECK(back.exists == exists && back.mapped == mapped && back.memory == memory);
+    is_live(a, piece, false);
+}
+
+/* ---- a driver that grants memory in order of number and refuses those that it is told to */
+
+static uint64_t last_memory;
+static int32_t next_code;
+static int32_t driver_allocates(const pilhangko_allocator_question *question, uint64_t *memory) {
+    int32_t code = next_code;
+    CHECK(question->size > 0);
+    next_code = 0;
+    if (code == 0) *memory = ++last_memory;
+    return code;
+}
+
+static pilhangko_status allocates(
+    pilhangko_allocator *allocator, const pilhangko_allocator_request *request, pilhangko_allocator_piece *piece) {
+    pilhangko_allocator_progress p;
+    pilhangko_status status = pilhangko_allocator_begin(allocator, request, "vertices", &p);
+    while (status == PILHANGKO_OK && p.kind == PILHANGKO_PROGRESS_QUESTION) {
+        uint64_t memory;
+        int32_t code = driver_allocates(&p.question, &memory);
+        if (code == 0) return pilhangko_allocator_granted(allocator, memory, piece);
+        status = pilhangko_allocator_refused(allocator, code, &p);
+    }
+    if (status == PILHANGKO_OK && p.kind == PILHANGKO_PROGRESS_PIECE) *piece = p.piece;
+    return status == PILHANGKO_OK ? p.status : status;
+}
+
+static void whole_requests(void) {
+    pilhangko_allocator a = made();
+    pilhangko_allocator_request device = asks(100, 7, PILHANGKO_LOCATION_GPU_ONLY), upload = asks(100, 7, PILHANGKO_LOCATION_CPU_TO_GPU);
+    pilhangko_allocator_piece piece;
+    last_memory = 40;
+    IS(allocates(&a, &device, &piece), PILHANGKO_OK);
+    is_piece(&piece, 0, false, 0, 2, 0, 100, 41);
+    IS(allocates(&a, &device, &piece), PILHANGKO_OK);
+    is_piece(&piece, 0, false, 0, 3, 100, 100, 41);
+    next_code = -2; /* the upload's first attempt; the second one is granted */
+    IS(allocates(&a, &upload, &piece), PILHANGKO_OK);
+    is_piece(&piece, 1, true, 0, 2, 0, 100, 42);
+    next_code = -2;
+    device.scheme = PILHANGKO_SCHEME_BUFFER;
+    IS(allocates(&a, &device, &piece), PILHANGKO_OUT_OF_MEMORY);
+    IS(pilhangko_allocator_destroy(&a), PILHANGKO_OK);
+}
+
+/* ---- rows */
+
+static void pieces_and_questions(void) {
+    pilhangko_allocator a = made();
+    pilhangko_allocator_request r = asks(100, 7, PILHANGKO_LOCATION_GPU_ONLY);
+    pilhangko_allocator_progress p = {9, 9, {9, true, {9, 9, 9, 9, 9}}, {9, 9, 9, 9, true, true}};
+    pilhangko_allocator_piece first, second, own, read;
+    has_capacity(&a, 0);
+    IS(pilhangko_allocator_begin(&a, &r, "first", &p), PILHANGKO_OK);
+    is_question(&p, 8 * MB, 0, false);
+    CHECK(p.question.scheme == PILHANGKO_SCHEME_MANAGED && p.question.resource == 0);
+    has_capacity(&a, 0); /* a block that is awaited isn't one */
+    IS(pilhangko_allocator_granted(&a, 1001, &first), PILHANGKO_OK);
+    is_piece(&first, 0, false, 0, 2, 0, 100, 1001);
+    has_capacity(&a, 8 * MB);
+    r = asks(50, 7, PILHANGKO_LOCATION_UNKNOWN); /* the first memory type that is allowed */
+    IS(pilhangko_allocator_begin(&a, &r, NULL, &p), PILHANGKO_OK);
+    CHECK(p.kind == PILHANGKO_PROGRESS_PIECE && p.status == PILHANGKO_OK);
+    is_piece(&p.piece, 0, false, 0, 3, 100, 50, 1001);
+    has_no_question(&p.question);
+    second = p.piece;
+    r = asks(10, 7, PILHANGKO_LOCATION_GPU_ONLY);
+    r.scheme = PILHANGKO_SCHEME_BUFFER;
+    r.resource = 77;
+    IS(pilhangko_allocator_begin(&a, &r, "own", &p), PILHANGKO_OK);
+    is_question(&p, 10, 0, false);
+    CHECK(p.question.scheme == PILHANGKO_SCHEME_BUFFER && p.question.resource == 77);
+    IS(pilhangko_allocator_granted(&a, 1002, &own), PILHANGKO_OK);
+    is_piece(&own, 0, false, 1, 1, 0, 10, 1002);
+    r = asks(20, 7, PILHANGKO_LOCATION_GPU_TO_CPU);
+    r.scheme = PILHANGKO_SCHEME_IMAGE;
+    r.resource = 78;
+    IS(pilhangko_allocator_begin(&a, &r, "read", &p), PILHANGKO_OK);
+    is_question(&p, 20, 1, true);
+    CHECK(p.question.scheme == PILHANGKO_SCHEME_IMAGE && p.question.resource == 78);
+    IS(pilhangko_allocator_granted(&a, 1003, &read), PILHANGKO_OK);
+    is_piece(&read, 1, true, 0, 1, 0, 20, 1003);
+    has_capacity(&a, 8 * MB + 30);
+    frees(&a, &own, true, false, 1002); /* a piece's own block goes */
+    frees(&a, &read, true, true, 1003);
+    frees(&a, &first, false, false, 0);
+    frees(&a, &second, false, false, 0); /* the last shared block stays */
+    has_capacity(&a, 8 * MB);
+    IS(pilhangko_allocator_destroy(&a), PILHANGKO_OK);
+    IS(pilhangko_allocator_destroy(&a), PILHANGKO_NO_HANDLE);
+}
+
+static void refusals_of_the_driver(void) {
+    pilhangko_allocator a = made();
+    pilhangko_allocator_request device = asks(100, 7, PILHANGKO_LOCATION_GPU_ONLY), upload = asks(100, 7, PILHANGKO_LOCATION_CPU_TO_GPU),
+                                narrow = asks(100, 4, PILHANGKO_LOCATION_CPU_TO_GPU);
+    pilhangko_allocator_progress p;
+    pilhangko_allocator_piece piece;
+    IS(pilhangko_allocator_begin(&a, &device, NULL, &p), PILHANGKO_OK);
+    IS(pilhangko_allocator_refused(&a, -2, &p), PILHANGKO_OK);
+    is_refused(&p, PILHANGKO_OUT_OF_MEMORY);
+    IS(pilhangko_allocator_refused(&a, -2, &p), PILHANGKO_AWAITS_NO_ANSWER); /* the request is over */
+    IS(pilhangko_allocator_begin(&a, &device, NULL, &p), PILHANGKO_OK);
+    IS(pilhangko_allocator_refused(&a, -1, &p), PILHANGKO_OK);
+    is_refused(&p, PILHANGKO_DRIVER_REFUSED);
+    IS(pilhangko_allocator_begin(&a, &upload, NULL, &p), PILHANGKO_OK);
+    is_question(&p, 4 * MB, 2, true);
+    IS(pilhangko_allocator_refused(&a, -2, &p), PILHANGKO_OK);
+    is_question(&p, 4 * MB, 1, true); /* the second attempt */
+    IS(pilhangko_allocator_granted(&a, 2001, &piece), PILHANGKO_OK);
+    is_piece(&piece, 1, true, 0, 2, 0, 100, 2001);
+    IS(pilhangko_allocator_begin(&a, &upload, NULL, &p), PILHANGKO_OK);
+    is_question(&p, 4 * MB, 2, true);
+    IS(pilhangko_allocator_mapping_refused(&a, true, -5, &p), PILHANGKO_OK);
+    CHECK(p.kind == PILHANGKO_PROGRESS_PIECE && p.status == PILHANGKO_OK); /* the second attempt finds a place */
+    is_piece(&p.piece, 1, true, 0, 3, 100, 100, 2001);
+    IS(pilhangko_allocator_begin(&a, &narrow, NULL, &p), PILHANGKO_OK);
+    is_question(&p, 4 * MB, 2, true);
+    IS(pilhangko_allocator_mapping_refused(&a, true, -5, &p), PILHANGKO_OK);
+    is_question(&p, 4 * MB, 2, true); /* the second attempt is at the same memory type */
+    IS(pilhangko_allocator_mapping_refused(&a, false, 0, &p), PILHANGKO_OK);
+    is_refused(&p, PILHANGKO_FAILED_TO_MAP);
+    IS(pilhangko_allocator_begin(&a, &narrow, NULL, &p), PILHANGKO_OK);
+    IS(pilhangko_allocator_mapping_refused(&a, false, 0, &p), PILHANGKO_OK);
+    IS(pilhangko_allocator_mapping_refused(&a, true, -5, &p), PILHANGKO_OK);
+    is_refused(&p, PILHANGKO_FAILED_TO_MAP);
+    has_capacity(&a, 4 * MB);
+    IS(pilhangko_allocator_destroy(&a), PILHANGKO_OK);
+}
+
+static void out_of_turn(void) {
+    pilhangko_allocator a = made();
+    pilhangko_allocator_request r = asks(100, 7, PILHANGKO_LOCATION_GPU_ONLY), own = r, bad = asks(0, 0, 0);
+    pilhangko_allocator_progress p = {9, 9, {9, true, {9, 9, 9, 9, 9}}, {9, 9, 9, 9, true, true}};
+    pilhangko_allocator_piece piece, kept = {4, true, {4, 4, 4, 4, 4}};
+    pilhangko_allocator_memory back = {true, true, 3};
+    pilhangko_budget budget;
+    own.scheme = PILHANGKO_SCHEME_IMAGE;
+    IS(pilhangko_allocator_granted(&a, 1, &kept), PILHANGKO_AWAITS_NO_ANSWER);
+    IS(pilhangko_allocator_refused(&a, -2, &p), PILHANGKO_AWAITS_NO_ANSWER);
+    IS(pilhangko_allocator_mapping_refused(&a, true, -5, &p), PILHANGKO_AWAITS_NO_ANSWER);
+    CHECK(kept.memory_type == 4 && kept.piece.number == 4 && p.kind == 9 && p.status == 9 && p.question.size == 9);
+    IS(pilhangko_allocator_begin(&a, &r, NULL, &p), PILHANGKO_OK);
+    IS(pilhangko_allocator_granted(&a, 1, &piece), PILHANGKO_OK);
+    IS(pilhangko_allocator_begin(&a, &own, NULL, &p), PILHANGKO_OK);
+    p.kind = 9;
+    IS(pilhangko_allocator_begin(&a, &r, NULL, &p), PILHANGKO_AWAITS_ANSWER);
+    IS(pilhangko_allocator_begin(&a, &bad, "\xff", &p), PILHANGKO_AWAITS_ANSWER);
+    CHECK(p.kind == 9);
+    IS(pilhangko_allocator_free(&a, &piece, &back), PILHANGKO_AWAITS_ANSWER);
+    IS(pilhangko_allocator_free(&a, &kept, &back), PILHANGKO_AWAITS_ANSWER);
+    CHECK(back.exists && back.mapped && back.memory == 3);
+    IS(pilhangko_allocator_rename(&a, &piece, "name"), PILHANGKO_AWAITS_ANSWER);
+    IS(pilhangko_allocator_rename(&a, &kept, "\xff"), PILHANGKO_AWAITS_ANSWER);
+    IS(pilhangko_allocator_set_budget(&a, 0, true, 1), PILHANGKO_AWAITS_ANSWER);
+    IS(pilhangko_allocator_set_budget(&a, 9, true, 1), PILHANGKO_AWAITS_ANSWER);
+    is_live(&a, &piece, true);
+    has_capacity(&a, 8 * MB);
+    IS(pilhangko_allocator_budget(&a, 0, &budget), PILHANGKO_OK);
+    CHECK(!budget.exists && budget.bytes == 0);
+    IS(pilhangko_allocator_granted(&a, 2, &kept), PILHANGKO_OK);
+    frees(&a, &kept, true, false, 2);
+    IS(pilhangko_allocator_begin(&a, &own, NULL, &p), PILHANGKO_OK);
+    IS(pilhangko_allocator_destroy(&a), PILHANGKO_OK); /* with a question open */
+}
+
+static void budgets(void) {
+    pilhangko_allocator a = made();
+    pilhangko_allocator_request r = asks(100, 1, PILHANGKO_LOCATION_GPU_ONLY), own = r;
+    pilhangko_allocator_progress p = {9, 9, {9, true, {9, 9, 9, 9, 9}}, {9, 9, 9, 9, true, true}};
+    pilhangko_allocator_piece piece;
+    pilhangko_budget budget = {false, 9};
+    own.scheme = PILHANGKO_SCHEME_BUFFER;
+    IS(pilhangko_allocator_set_budget(&a, 0, true, 8 * MB), PILHANGKO_OK);
+    IS(pilhangko_allocator_set_budget(&a, 3, true, 1), PILHANGKO_NO_SUCH_TYPE);
+    IS(pilhangko_allocator_set_budget(&a, SIZE_MAX, false, 1), PILHANGKO_NO_SUCH_TYPE);
+    IS(pilhangko_allocator_budget(&a, 0, &budget), PILHANGKO_OK);
+    CHECK(budget.exists && budget.bytes == 8 * MB);
+    IS(pilhangko_allocator_budget(&a, 1, &budget), PILHANGKO_OK);
+    CHECK(!budget.exists && budget.bytes == 0);
+    IS(pilhangko_allocator_budget(&a, 3, &budget), PILHANGKO_OK);
+    CHECK(!budget.exists && budget.bytes == 0);
+    IS(pilhangko_allocator_begin(&a, &r, NULL, &p), PILHANGKO_OK); /* just within */
+    IS(pilhangko_allocator_granted(&a, 1, &piece), PILHANGKO_OK);
+    p.kind = 9;
+    IS(pilhangko_allocator_begin(&a, &own, NULL, &p), PILHANGKO_BUDGET_EXCEEDED);
+    CHECK(p.kind == 9);
+    IS(pilhangko_allocator_set_budget(&a, 0, false, 5), PILHANGKO_OK);
+    IS(pilhangko_allocator_budget(&a, 0, &budget), PILHANGKO_OK);
+    CHECK(!budget.exists && budget.bytes == 0);
+    IS(pilhangko_allocator_begin(&a, &own, NULL, &p), PILHANGKO_OK);
+    IS(pilhangko_allocator_destroy(&a), PILHANGKO_OK);
+}
+
+static void devices(void) {
+    pilhangko_allocator a = {0};
+    pilhangko_allocator_settings odd = settings;
+    const pilhangko_device_memory_type astray[] = {{1, 0}, {6, 3}};
+    pilhangko_device_memory_type many[33] = {{1, 0}};
+    pilhangko_allocator_request r = asks(100, 7, PILHANGKO_LOCATION_UNKNOWN);
+    pilhangko_allocator_progress p;
+    odd.page_size = 48;
+    IS(pilhangko_allocator_create(&a, types, 3, heaps, 3, &odd), PILHANGKO_INVALID_DEVICE);
+    odd.page_size = 0;
+    IS(pilhangko_allocator_create(&a, types, 3, heaps, 3, &odd), PILHANGKO_INVALID_DEVICE);
+    IS(pilhangko_allocator_create(&a, astray, 2, heaps, 3, &settings), PILHANGKO_INVALID_DEVICE);
+    IS(pilhangko_allocator_create(&a, types, 3, heaps, 2, &settings), PILHANGKO_INVALID_DEVICE);
+    IS(pilhangko_allocator_create(&a, many, 33, heaps, 3, &settings), PILHANGKO_INVALID_DEVICE);
+    IS(pilhangko_allocator_create(&a, many, 32, heaps, 3, &settings), PILHANGKO_OK);
+    IS(pilhangko_allocator_create(&a, many, 33, heaps, 3, &settings), PILHANGKO_IN_USE);
+    IS(pilhangko_allocator_destroy(&a), PILHANGKO_OK);
+    IS(pilhangko_allocator_create(&a, NULL, 0, NULL, 0, &settings), PILHANGKO_OK);
+    IS(pilhangko_allocator_begin(&a, &r, NULL, &p), PILHANGKO_NO_MEMORY_TYPE);
+    IS(pilhangko_allocator_destroy(&a), PILHANGKO_OK);
+}
+
+static void request_and_piece_statuses(void) {
+    pilhangko_allocator a = made();
+    pilhangko_allocator_request good = asks(100, 7, PILHANGKO_LOCATION_GPU_ONLY);
+    pilhangko_allocator_progress p = {9, 9, {9, true, {9, 9, 9, 9, 9}}, {9, 9, 9, 9, true, true}};
+    pilhangko_allocator_memory back = {true, true, 3};
+    pilhangko_allocator_piece piece;
+    for (unsigned field = 0; field < 9; field++) {
+        pilhangko_allocator_request bad = good;
+        if (field == 0) bad.size = 0;
+        if (field == 1) bad.alignment = 0;
+        if (field == 2) bad.alignment = 6;
+        if (field == 3) bad.kind = 0;
+        if (field == 4) bad.kind = 3;
+        if (field == 5) bad.location = 0;
+        if (field == 6) bad.location = 5;
+        if (field == 7) bad.scheme = 0;
+        if (field == 8) bad.scheme = 4;
+        IS(pilhangko_allocator_begin(&a, &bad, NULL, &p), PILHANGKO_INVALID);
+    }
+    IS(pilhangko_allocator_begin(&a, &good, "\xfe", &p), PILHANGKO_INVALID);
+    good.memory_type_bits = 2;
+    IS(pilhangko_allocator_begin(&a, &good, NULL, &p), PILHANGKO_NO_MEMORY_TYPE);
+    good.memory_type_bits = 7;
+    good.size = 1024 * MB + 1; /* larger than its heap */
+    IS(pilhangko_allocator_begin(&a, &good, NULL, &p), PILHANGKO_OUT_OF_MEMORY);
+    CHECK(p.kind == 9 && p.status == 9 && p.piece.memory_type == 9 && p.question.size == 9);
+    good.size = 100;
+    IS(pilhangko_allocator_begin(&a, &good, NULL, &p), PILHANGKO_OK);
+    IS(pilhangko_allocator_granted(&a, 7, &piece), PILHANGKO_OK);
+    for (unsigned field = 0; field < 8; field++) {
+        pilhangko_allocator_piece wrong = piece;
+        if (field == 0) wrong.piece.slot++;
+        if (field == 1) wrong.piece.number++;
+        if (field == 2) wrong.piece.offset++;
+        if (field == 3) wrong.piece.size--;
+        if (field == 4) wrong.piece.block++;
+        if (field == 5) wrong.piece.number = 0;
+        if (field == 6) wrong.memory_type = 1;
+        if (field == 7) wrong.memory_type = SIZE_MAX;
+        is_live(&a, &wrong, false);
+        IS(pilhangko_allocator_free(&a, &wrong, &back), PILHANGKO_NOT_LIVE);
+        IS(pilhangko_allocator_rename(&a, &wrong, "name"), PILHANGKO_NOT_LIVE);
+        IS(pilhangko_allocator_rename(&a, &wrong, "\xff"), PILHANGKO_INVALID);
+    }
+    CHECK(back.exists && back.mapped && back.memory == 3);
+    IS(pilhangko_allocator_rename(&a, &piece, "\xf5"), PILHANGKO_INVALID);
+    IS(pilhangko_allocator_rename(&a, &piece, "another name"), PILHANGKO_OK);
+    piece.mapped = true; /* no call reads it */
+    frees(&a, &piece, false, false, 0);
+    IS(pilhangko_allocator_free(&a, &piece, &back), PILHANGKO_NOT_LIVE);
+    IS(pilhangko_allocator_destroy(&a), PILHANGKO_OK);
+}
+
+/* ---- empty handles, and pointers that are NULL */
+
+static void each_call(pilhangko_allocator *a, bool tells, pilhangko_status expected) {
+    pilhangko_allocator_request r = asks(100, 7, PILHANGKO_LOCATION_GPU_ONLY);
+    pilhangko_allocator_progress p;
+    pilhangko_allocator_piece piece = {0, false, {0, 1, 0, 1, 1}};
+    pilhangko_allocator_memory back;
+    pilhangko_budget budget;
+    uint64_t bytes;
+    bool live;
+    IS(pilhangko_allocator_begin(a, &r, NULL, tells ? &p : NULL), expected);
+    IS(pilhangko_allocator_granted(a, 1, tells ? &piece : NULL), expected);
+    IS(pilhangko_allocator_refused(a, -2, tells ? &p : NULL), expected);
+    IS(pilhangko_allocator_mapping_refused(a, true, -5, tells ? &p : NULL), expected);
+    IS(pilhangko_allocator_free(a, &piece, tells ? &back : NULL), expected);
+    IS(pilhangko_allocator_is_live(a, &piece, tells ? &live : NULL), expected);
+    IS(pilhangko_allocator_budget(a, 0, tells ? &budget : NULL), expected);
+    IS(pilhangko_allocator_capacity(a, tells ? &bytes : NULL), expected);
+    if (!tells) return;
+    IS(pilhangko_allocator_rename(a, &piece, NULL), expected);
+    IS(pilhangko_allocator_set_budget(a, 0, true, 1), expected);
+    IS(pilhangko_allocator_destroy(a), expected);
+}
+
+static void empty_handles_and_null(void) {
+    pilhangko_allocator a = {0};
+    each_call(&a, true, PILHANGKO_NO_HANDLE);
+    each_call(NULL, true, PILHANGKO_NULL_POINTER);
+    each_call(&a, false, PILHANGKO_NULL_POINTER);
+    IS(pilhangko_allocator_create(NULL, types, 3, heaps, 3, &settings), PILHANGKO_NULL_POINTER);
+    IS(pilhangko_allocator_create(&a, NULL, 3, heaps, 3, &settings), PILHANGKO_NULL_POINTER);
+    IS(pilhangko_allocator_create(&a, types, 3, NULL, 3, &settings), PILHANGKO_NULL_POINTER);
+    IS(pilhangko_allocator_create(&a, types, 3, heaps, 3, NULL), PILHANGKO_NULL_POINTER);
+}
+
+int main(void) {
+    whole_requests();
+    pieces_and_questions();
+    refusals_of_the_driver();
+    out_of_turn();
+    budgets();
+    devices();
+    request_and_piece_statuses();
+    empty_handles_and_null();
+    return 0;
+}
