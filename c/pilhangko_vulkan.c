@@ -1,0 +1,911 @@
+/* Pilhangko's Vulkan binding (include/pilhangko_vulkan.h): compile it with the program, as C11 or as C++11. It asks the driver what the
+ * allocator wants to know, and keeps a record of each block; the allocator decides all else. */
+#include "pilhangko_vulkan.h"
+#include <inttypes.h>
+#include <stdio.h>
+#include <stdlib.h>
+
+/* ---- records ---- */
+
+/* A block of memory that the driver gave. Its address is the number by which the allocator knows the block, so a live piece leads to it. */
+struct block {
+    VkDeviceMemory memory;
+    void *mapped; /* the whole block, as long as it lives; NULL where the host can't see it */
+    VkDeviceSize size;
+    uint32_t memory_type;
+    struct block *previous, *next;
+};
+
+/* Bytes that grow. */
+struct text {
+    char *bytes;
+    size_t length, room;
+};
+
+/* The capture: what stands before `new`, and what stands behind it. */
+struct capture {
+    uint32_t end; /* PILHANGKO_VULKAN_CAPTURE_WHOLE while it goes on; PILHANGKO_VULKAN_CAPTURE_NONE where there is none */
+    pilhangko_vulkan_write write;
+    void *user;
+    struct text device, calls;
+    uint64_t questions; /* those of the calls that were written */
+};
+
+struct binding {
+    pilhangko_allocator allocator;
+    pilhangko_vulkan_functions functions;
+    VkAllocationCallbacks callbacks;
+    bool has_callbacks;
+    VkPhysicalDevice physical_device;
+    VkDevice device;
+    uint32_t api_version;
+    bool memory_budget;
+    VkPhysicalDeviceMemoryProperties properties;
+    VkDeviceSize atom; /* nonCoherentAtomSize */
+    struct block *blocks;
+    struct block *spare; /* of no block: it is made before the driver is asked, so that nothing can fail behind a grant */
+    VkDeviceSize held[VK_MAX_MEMORY_TYPES]; /* the sum of the blocks' sizes */
+    uint64_t live;
+    struct capture capture;
+};
+
+static struct binding *binding_of(const pilhangko_vulkan *vulkan) {
+    return (struct binding *)vulkan->opaque;
+}
+
+static const VkAllocationCallbacks *callbacks_of(const struct binding *b) {
+    return b->has_callbacks ? &b->callbacks : NULL;
+}
+
+static struct block *block_of(const pilhangko_allocator_piece *piece) {
+    return (struct block *)(uintptr_t)piece->piece.block;
+}
+
+static pilhangko_vulkan_result result_of(pilhangko_status status, VkResult driver) {
+    pilhangko_vulkan_result result;
+    result.status = status;
+    result.driver = status == PILHANGKO_OK ? VK_SUCCESS : driver;
+    return result;
+}
+
+/* A result in which the driver has no part. */
+static pilhangko_vulkan_result undriven(pilhangko_status status) {
+    return result_of(status, VK_SUCCESS);
+}
+
+static bool is_power_of_two(VkDeviceSize n) {
+    return n != 0 && (n & (n - 1)) == 0;
+}
+
+/* ---- captures ---- */
+
+#define TRACE_LIMIT 1048576 /* bytes of the longest trace that gpu_trace reads */
+#define LINE_ROOM 320       /* more than the longest line */
+#define NAME_ROOM 64        /* of a name in a trace */
+#define END_ROOM 160        /* for `new`, `destroy` and the remark why a capture ends early */
+
+/* What a call asked the driver, in the trace's terms: how many questions, and which of them it refused. */
+struct asked {
+    uint64_t questions;
+    unsigned refusals;
+    struct {
+        uint64_t question;
+        bool is_null;
+        int32_t code;
+    } refused[2];    /* one for each attempt */
+    VkResult driver; /* the last refusal's code */
+};
+
+static bool makes_room(struct text *text, size_t more) {
+    size_t room = text->room ? text->room : 4096;
+    char *bytes;
+    if (text->room - text->length >= more) return true;
+    while (room - text->length < more) room *= 2;
+    bytes = (char *)realloc(text->bytes, room);
+    if (!bytes) return false;
+    text->bytes = bytes;
+    text->room = room;
+    return true;
+}
+
+/* Behind makes_room. */
+static void append(struct text *text, const char *bytes, size_t length) {
+    memcpy(text->bytes + text->length, bytes, length);
+    text->length += length;
+}
+
+static void forget_text(struct text *text) {
+    free(text->bytes);
+    memset(text, 0, sizeof *text);
+}
+
+/* Puts the lines of one call into the capture, all or none of them. */
+static void capture_lines(struct capture *c, const char *device_lines, const char *call_lines) {
+    size_t device_length = strlen(device_lines), calls_length = strlen(call_lines);
+    if (c->device.length + c->calls.length + device_length + calls_length + END_ROOM > TRACE_LIMIT) {
+        c->end = PILHANGKO_VULKAN_CAPTURE_TOO_LONG;
+    } else if (!makes_room(&c->device, device_length) || !makes_room(&c->calls, calls_length)) {
+        c->end = PILHANGKO_VULKAN_CAPTURE_NO_HOST_MEMORY;
+    } else {
+        append(&c->device, device_lines, device_length);
+        append(&c->calls, call_lines, calls_length);
+    }
+}
+
+static bool is_captured(const struct binding *b) {
+    return b->capture.end == PILHANGKO_VULKAN_CAPTURE_WHOLE;
+}
+
+/* The device's lines. Each is written by itself, so that LINE_ROOM is enough. */
+static void capture_device(struct binding *b, const pilhangko_allocator_settings *s) {
+    const VkPhysicalDeviceMemoryProperties *p = &b->properties;
+    char line[LINE_ROOM];
+    for (uint32_t i = 0; i < p->memoryHeapCount && is_captured(b); i++) {
+        snprintf(line, sizeof line, "heap %" PRIu64 "\n", (uint64_t)p->memoryHeaps[i].size);
+        capture_lines(&b->capture, line, "");
+    }
+    for (uint32_t i = 0; i < p->memoryTypeCount && is_captured(b); i++) {
+        snprintf(
+            line, sizeof line, "type %" PRIu32 " %" PRIu32 "\n", (uint32_t)p->memoryTypes[i].propertyFlags, p->memoryTypes[i].heapIndex);
+        capture_lines(&b->capture, line, "");
+    }
+    snprintf(line, sizeof line, "granularity %" PRIu64 "\nsizes %" PRIu64 " %" PRIu64 " %" PRIu64 " %" PRIu64 "\n", s->page_size,
+        s->device_block_size, s->host_block_size, s->largest_device_block_size, s->largest_host_block_size);
+    if (is_captured(b)) capture_lines(&b->capture, line, "");
+}
+
+/* A name as a trace can have it. */
+static const char *trace_name(const char *name, char *word) {
+    size_t length = 0;
+    for (; name && name[length] && length < NAME_ROOM; length++) {
+        unsigned char byte = (unsigned char)name[length];
+        word[length] = byte >= '!' && byte <= '~' ? (char)byte : '_';
+    }
+    if (length == 0) word[length++] = '_';
+    word[length] = 0;
+    return word;
+}
+
+/* By which number the trace calls a piece. A trace has room for far less than 100,000 blocks. */
+static uint64_t trace_number(const pilhangko_allocator_piece *piece) {
+    return (piece->piece.number * 100000 + piece->piece.slot) * 100 + piece->memory_type;
+}
+
+static const char *trace_location(uint32_t location) {
+    switch (location) {
+    case PILHANGKO_LOCATION_GPU_ONLY: return "GpuOnly";
+    case PILHANGKO_LOCATION_CPU_TO_GPU: return "CpuToGpu";
+    case PILHANGKO_LOCATION_GPU_TO_CPU: return "GpuToCpu";
+    default: return "Unknown";
+    }
+}
+
+static void trace_scheme(const pilhangko_allocator_request *request, char *word, size_t room) {
+    if (request->scheme == PILHANGKO_SCHEME_MANAGED) snprintf(word, room, "managed");
+    else snprintf(word, room, "%s:%" PRIu64, request->scheme == PILHANGKO_SCHEME_BUFFER ? "buffer" : "image", request->resource);
+}
+
+static void trace_refusals(const struct capture *c, const struct asked *asked, char *lines, size_t room) {
+    size_t length = 0;
+    lines[0] = 0;
+    for (unsigned i = 0; i < asked->refusals; i++) {
+        uint64_t question = c->questions + asked->refused[i].question;
+        int written = asked->refused[i].is_null
+                          ? snprintf(lines + length, room - length, "refuse %" PRIu64 " null\n", question)
+                          : snprintf(lines + length, room - length, "refuse %" PRIu64 " %" PRId32 "\n", question, asked->refused[i].code);
+        length += (size_t)written;
+    }
+}
+
+/* The call `allocate`: what it asked for, and what the driver refused. Where host memory was lacking, nothing has changed, and in a replay
+ * nothing is lacking; an invalid request may have words that no trace has. piece is NULL where the request was refused. */
+static void capture_allocation(struct binding *b, const pilhangko_allocator_request *request, const char *name, pilhangko_status status,
+    const struct asked *asked, const pilhangko_allocator_piece *piece) {
+    char lines[LINE_ROOM], refusals[LINE_ROOM], scheme[32], word[NAME_ROOM + 1];
+    if (!is_captured(b) || status == PILHANGKO_HOST_OUT_OF_MEMORY || status == PILHANGKO_INVALID) return;
+    trace_scheme(request, scheme, sizeof scheme);
+    trace_refusals(&b->capture, asked, refusals, sizeof refusals);
+    snprintf(lines, sizeof lines, "alloc %" PRIu64 " %" PRIu64 " %" PRIu64 " %" PRIu32 " %s %s %s %s\n", piece ? trace_number(piece) : 0,
+        request->size, request->alignment, request->memory_type_bits, trace_location(request->location),
+        request->kind == PILHANGKO_KIND_LINEAR ? "linear" : "nonlinear", scheme, trace_name(name, word));
+    capture_lines(&b->capture, refusals, lines);
+    b->capture.questions += asked->questions;
+}
+
+static void capture_free(struct binding *b, const pilhangko_allocator_piece *piece) {
+    char line[LINE_ROOM];
+    if (!is_captured(b)) return;
+    snprintf(line, sizeof line, "free %" PRIu64 "\n", trace_number(piece));
+    capture_lines(&b->capture, "", line);
+}
+
+static void capture_rename(struct binding *b, const pilhangko_allocator_piece *piece, const char *name) {
+    char line[LINE_ROOM], word[NAME_ROOM + 1];
+    if (!is_captured(b)) return;
+    snprintf(line, sizeof line, "rename %" PRIu64 " %s\n", trace_number(piece), trace_name(name, word));
+    capture_lines(&b->capture, "", line);
+}
+
+static void capture_budget(struct binding *b, uint32_t memory_type, bool has_budget, VkDeviceSize bytes) {
+    char line[LINE_ROOM];
+    if (!is_captured(b)) return;
+    if (has_budget) snprintf(line, sizeof line, "budget %" PRIu32 " %" PRIu64 "\n", memory_type, (uint64_t)bytes);
+    else snprintf(line, sizeof line, "budget %" PRIu32 " none\n", memory_type);
+    capture_lines(&b->capture, "", line);
+}
+
+static const char *remark_of(uint32_t end) {
+    switch (end) {
+    case PILHANGKO_VULKAN_CAPTURE_TOO_LONG: return "# the capture ends here: the next call would make the trace too long\n";
+    case PILHANGKO_VULKAN_CAPTURE_NO_HOST_MEMORY: return "# the capture ends here: no host memory for the next call\n";
+    default: return "";
+    }
+}
+
+/* Hands bytes to the caller, unless some were refused before. */
+static void write_bytes(const struct capture *c, pilhangko_vulkan_capture *told, const char *bytes, size_t length) {
+    if (told->end == PILHANGKO_VULKAN_CAPTURE_NOT_WRITTEN || length == 0) return;
+    if (c->write(c->user, bytes, length)) told->bytes += length;
+    else told->end = PILHANGKO_VULKAN_CAPTURE_NOT_WRITTEN;
+}
+
+/* Writes the capture with a last line, and forgets it. */
+static pilhangko_vulkan_capture end_capture(struct capture *c, const char *last_line) {
+    const char *remark = remark_of(c->end);
+    pilhangko_vulkan_capture told;
+    told.end = c->end;
+    told.bytes = 0;
+    if (c->end == PILHANGKO_VULKAN_CAPTURE_NONE) return told;
+    if (c->end != PILHANGKO_VULKAN_CAPTURE_WHOLE) last_line = "";
+    write_bytes(c, &told, c->device.bytes, c->device.length);
+    write_bytes(c, &told, "new\n", 4);
+    write_bytes(c, &told, c->calls.bytes, c->calls.length);
+    write_bytes(c, &told, last_line, strlen(last_line));
+    write_bytes(c, &told, remark, strlen(remark));
+    forget_text(&c->device);
+    forget_text(&c->calls);
+    c->end = PILHANGKO_VULKAN_CAPTURE_NONE;
+    return told;
+}
+
+/* ---- blocks ---- */
+
+static void link_block(struct binding *b, struct block *block) {
+    block->previous = NULL;
+    block->next = b->blocks;
+    if (b->blocks) b->blocks->previous = block;
+    b->blocks = block;
+    b->held[block->memory_type] += block->size;
+}
+
+static void unlink_block(struct binding *b, struct block *block) {
+    if (block->previous) block->previous->next = block->next;
+    else b->blocks = block->next;
+    if (block->next) block->next->previous = block->previous;
+    b->held[block->memory_type] -= block->size;
+}
+
+/* Gives a block back to the driver. Its record becomes the spare one where there is none. */
+static void give_back(struct binding *b, struct block *block) {
+    unlink_block(b, block);
+    if (block->mapped) b->functions.vkUnmapMemory(b->device, block->memory);
+    b->functions.vkFreeMemory(b->device, block->memory, callbacks_of(b));
+    if (b->spare) free(block);
+    else b->spare = block;
+}
+
+static bool has_spare(struct binding *b) {
+    if (!b->spare) b->spare = (struct block *)malloc(sizeof *b->spare);
+    return b->spare != NULL;
+}
+
+/* Whether a block has that memory: the driver may not give it twice. */
+static bool is_held(const struct binding *b, VkDeviceMemory memory) {
+    const struct block *block = b->blocks;
+    while (block && block->memory != memory) block = block->next;
+    return block != NULL;
+}
+
+/* ---- asking the driver ---- */
+
+static VkResult ask_memory(const struct binding *b, const pilhangko_allocator_question *question, VkDeviceMemory *memory) {
+    VkMemoryAllocateInfo info;
+    VkMemoryDedicatedAllocateInfo alone;
+    VkMemoryAllocateFlagsInfo flags;
+    memset(&info, 0, sizeof info);
+    info.sType = VK_STRUCTURE_TYPE_MEMORY_ALLOCATE_INFO;
+    info.allocationSize = question->size;
+    info.memoryTypeIndex = question->memory_type;
+    if (question->scheme != PILHANGKO_SCHEME_MANAGED && b->api_version >= VK_API_VERSION_1_1) {
+        memset(&alone, 0, sizeof alone);
+        alone.sType = VK_STRUCTURE_TYPE_MEMORY_DEDICATED_ALLOCATE_INFO;
+        if (question->scheme == PILHANGKO_SCHEME_BUFFER) alone.buffer = (VkBuffer)question->resource;
+        else alone.image = (VkImage)question->resource;
+        info.pNext = &alone;
+    }
+    if (question->device_address) {
+        memset(&flags, 0, sizeof flags);
+        flags.sType = VK_STRUCTURE_TYPE_MEMORY_ALLOCATE_FLAGS_INFO;
+        flags.pNext = info.pNext;
+        flags.flags = VK_MEMORY_ALLOCATE_DEVICE_ADDRESS_BIT;
+        info.pNext = &flags;
+    }
+    *memory = VK_NULL_HANDLE;
+    return b->functions.vkAllocateMemory(b->device, &info, callbacks_of(b), memory);
+}
+
+static void note_refusal(struct asked *asked, bool is_null, int32_t code, VkResult driver) {
+    asked->refused[asked->refusals].question = asked->questions;
+    asked->refused[asked->refusals].is_null = is_null;
+    asked->refused[asked->refusals].code = code;
+    asked->refusals++;
+    asked->driver = driver;
+}
+
+static pilhangko_status memory_refused(
+    struct binding *b, struct asked *asked, VkResult driver, VkDeviceMemory memory, pilhangko_allocator_progress *progress) {
+    bool is_null = driver == VK_SUCCESS && memory == VK_NULL_HANDLE;
+    int32_t code = is_null ? VK_ERROR_OUT_OF_DEVICE_MEMORY : driver == VK_SUCCESS ? VK_ERROR_UNKNOWN : driver;
+    note_refusal(asked, is_null, code, driver);
+    return pilhangko_allocator_refused(&b->allocator, code, progress);
+}
+
+static pilhangko_status mapping_refused(
+    struct binding *b, struct asked *asked, VkResult driver, VkDeviceMemory memory, pilhangko_allocator_progress *progress) {
+    bool has_code = driver != VK_SUCCESS;
+    if (!has_code) b->functions.vkUnmapMemory(b->device, memory); /* to the driver it is mapped, though nobody knows where */
+    b->functions.vkFreeMemory(b->device, memory, callbacks_of(b));
+    note_refusal(asked, !has_code, driver, driver);
+    return pilhangko_allocator_mapping_refused(&b->allocator, has_code, driver, progress);
+}
+
+/* Asks the driver the question that is open, and tells the answer. */
+static pilhangko_status ask(struct binding *b, struct asked *asked, pilhangko_allocator_progress *progress) {
+    const pilhangko_allocator_question question = progress->question;
+    struct block *block = b->spare;
+    VkDeviceMemory memory;
+    VkResult driver = ask_memory(b, &question, &memory);
+    asked->questions++;
+    if (driver != VK_SUCCESS || memory == VK_NULL_HANDLE || is_held(b, memory)) return memory_refused(b, asked, driver, memory, progress);
+    block->mapped = NULL;
+    if (question.mapped) {
+        driver = b->functions.vkMapMemory(b->device, memory, 0, VK_WHOLE_SIZE, 0, &block->mapped);
+        asked->questions++;
+        if (driver != VK_SUCCESS || !block->mapped) return mapping_refused(b, asked, driver, memory, progress);
+    }
+    block->memory = memory;
+    block->size = question.size;
+    block->memory_type = question.memory_type;
+    b->spare = NULL;
+    link_block(b, block);
+    progress->kind = PILHANGKO_PROGRESS_PIECE;
+    return pilhangko_allocator_granted(&b->allocator, (uint64_t)(uintptr_t)block, &progress->piece);
+}
+
+/* ---- memory ---- */
+
+/* Whether a memory type that the bits allow needs flushes. */
+static bool may_need_flushes(const struct binding *b, uint32_t bits) {
+    const VkMemoryPropertyFlags both = VK_MEMORY_PROPERTY_HOST_VISIBLE_BIT | VK_MEMORY_PROPERTY_HOST_COHERENT_BIT;
+    for (uint32_t i = 0; i < b->properties.memoryTypeCount; i++)
+        if ((bits >> i & 1) && (b->properties.memoryTypes[i].propertyFlags & both) == VK_MEMORY_PROPERTY_HOST_VISIBLE_BIT) return true;
+    return false;
+}
+
+/* What the allocator is asked for. */
+static pilhangko_status asks_for(const struct binding *b, const pilhangko_vulkan_request *request, pilhangko_allocator_request *asks) {
+    const bool for_buffer = request->scheme == PILHANGKO_SCHEME_BUFFER, for_image = request->scheme == PILHANGKO_SCHEME_IMAGE;
+    if ((for_buffer && request->buffer == VK_NULL_HANDLE) || (for_image && request->image == VK_NULL_HANDLE)) return PILHANGKO_INVALID;
+    asks->size = request->requirements.size;
+    asks->alignment = request->requirements.alignment;
+    asks->memory_type_bits = request->requirements.memoryTypeBits;
+    asks->kind = request->kind;
+    asks->location = request->location;
+    asks->scheme = request->scheme;
+    asks->resource = for_buffer ? (uint64_t)request->buffer : for_image ? (uint64_t)request->image : 0;
+    if (asks->alignment < b->atom && is_power_of_two(asks->alignment) && may_need_flushes(b, asks->memory_type_bits))
+        asks->alignment = b->atom;
+    return PILHANGKO_OK;
+}
+
+static void tell_allocation(const pilhangko_allocator_piece *piece, pilhangko_vulkan_allocation *allocation) {
+    allocation->memory = block_of(piece)->memory;
+    allocation->offset = piece->piece.offset;
+    allocation->size = piece->piece.size;
+    allocation->piece = *piece;
+}
+
+static pilhangko_vulkan_result allocate(
+    struct binding *b, const pilhangko_vulkan_request *request, pilhangko_vulkan_allocation *allocation) {
+    pilhangko_allocator_request asks;
+    pilhangko_allocator_progress progress;
+    struct asked asked;
+    pilhangko_status status = asks_for(b, request, &asks);
+    if (status != PILHANGKO_OK) return undriven(status);
+    if (!has_spare(b)) return undriven(PILHANGKO_HOST_OUT_OF_MEMORY);
+    memset(&asked, 0, sizeof asked);
+    status = pilhangko_allocator_begin(&b->allocator, &asks, request->name, &progress);
+    while (status == PILHANGKO_OK && progress.kind == PILHANGKO_PROGRESS_QUESTION) status = ask(b, &asked, &progress);
+    if (status == PILHANGKO_OK) status = progress.status;
+    capture_allocation(b, &asks, request->name, status, &asked, status == PILHANGKO_OK ? &progress.piece : NULL);
+    if (status != PILHANGKO_OK) return result_of(status, asked.driver);
+    tell_allocation(&progress.piece, allocation);
+    b->live++;
+    return undriven(PILHANGKO_OK);
+}
+
+static pilhangko_status free_piece(struct binding *b, const pilhangko_allocator_piece *piece) {
+    pilhangko_allocator_memory back;
+    pilhangko_status status = pilhangko_allocator_free(&b->allocator, piece, &back);
+    if (status != PILHANGKO_OK) return status;
+    b->live--;
+    capture_free(b, piece);
+    if (back.exists) give_back(b, (struct block *)(uintptr_t)back.memory);
+    return PILHANGKO_OK;
+}
+
+pilhangko_vulkan_result PILHANGKO_CALL pilhangko_vulkan_allocate(
+    pilhangko_vulkan *vulkan, const pilhangko_vulkan_request *request, pilhangko_vulkan_allocation *allocation) {
+    if (!vulkan || !request || !allocation) return undriven(PILHANGKO_NULL_POINTER);
+    if (!vulkan->opaque) return undriven(PILHANGKO_NO_HANDLE);
+    return allocate(binding_of(vulkan), request, allocation);
+}
+
+pilhangko_status PILHANGKO_CALL pilhangko_vulkan_free(pilhangko_vulkan *vulkan, const pilhangko_vulkan_allocation *allocation) {
+    if (!vulkan || !allocation) return PILHANGKO_NULL_POINTER;
+    if (!vulkan->opaque) return PILHANGKO_NO_HANDLE;
+    return free_piece(binding_of(vulkan), &allocation->piece);
+}
+
+/* Whether a piece is live: only then may its block's record be read. */
+static bool lives(const struct binding *b, const pilhangko_allocator_piece *piece) {
+    bool is_live = false;
+    return pilhangko_allocator_is_live(&b->allocator, piece, &is_live) == PILHANGKO_OK && is_live;
+}
+
+void *PILHANGKO_CALL pilhangko_vulkan_mapped(const pilhangko_vulkan *vulkan, const pilhangko_vulkan_allocation *allocation) {
+    const struct block *block;
+    if (!vulkan || !allocation || !vulkan->opaque || !lives(binding_of(vulkan), &allocation->piece)) return NULL;
+    block = block_of(&allocation->piece);
+    return block->mapped ? (char *)block->mapped + allocation->piece.piece.offset : NULL;
+}
+
+/* The range of a block that a flush of a piece's bytes is about: whole units of nonCoherentAtomSize, or up to the block's end. */
+static VkMappedMemoryRange whole_atoms(const struct block *block, VkDeviceSize atom, VkDeviceSize first, VkDeviceSize size) {
+    const VkDeviceSize begin = first & ~(atom - 1), end = first + size;
+    VkMappedMemoryRange range;
+    memset(&range, 0, sizeof range);
+    range.sType = VK_STRUCTURE_TYPE_MAPPED_MEMORY_RANGE;
+    range.memory = block->memory;
+    range.offset = begin;
+    range.size = end - begin;
+    /* up to the next unit, unless the block ends before it; the sum could pass 2^64 */
+    if (end % atom != 0) range.size += atom - end % atom < block->size - end ? atom - end % atom : block->size - end;
+    return range;
+}
+
+static pilhangko_vulkan_result flush(
+    const struct binding *b, const pilhangko_vulkan_allocation *allocation, VkDeviceSize offset, VkDeviceSize size, bool invalidates) {
+    const pilhangko_memory_piece *piece = &allocation->piece.piece;
+    const struct block *block;
+    VkMappedMemoryRange range;
+    VkResult driver;
+    if (!lives(b, &allocation->piece)) return undriven(PILHANGKO_NOT_LIVE);
+    block = block_of(&allocation->piece);
+    if (!block->mapped) return undriven(PILHANGKO_VULKAN_NOT_MAPPED);
+    if (offset > piece->size) return undriven(PILHANGKO_VULKAN_OUT_OF_RANGE);
+    if (size == VK_WHOLE_SIZE) size = piece->size - offset;
+    if (size > piece->size - offset) return undriven(PILHANGKO_VULKAN_OUT_OF_RANGE);
+    if (size == 0 || (b->properties.memoryTypes[block->memory_type].propertyFlags & VK_MEMORY_PROPERTY_HOST_COHERENT_BIT))
+        return undriven(PILHANGKO_OK);
+    range = whole_atoms(block, b->atom, piece->offset + offset, size);
+    driver = invalidates ? b->functions.vkInvalidateMappedMemoryRanges(b->device, 1, &range)
+                         : b->functions.vkFlushMappedMemoryRanges(b->device, 1, &range);
+    if (driver != VK_SUCCESS) return result_of(PILHANGKO_VULKAN_CALL_FAILED, driver);
+    return undriven(PILHANGKO_OK);
+}
+
+pilhangko_vulkan_result PILHANGKO_CALL pilhangko_vulkan_flush(
+    const pilhangko_vulkan *vulkan, const pilhangko_vulkan_allocation *allocation, VkDeviceSize offset, VkDeviceSize size) {
+    if (!vulkan || !allocation) return undriven(PILHANGKO_NULL_POINTER);
+    if (!vulkan->opaque) return undriven(PILHANGKO_NO_HANDLE);
+    return flush(binding_of(vulkan), allocation, offset, size, false);
+}
+
+pilhangko_vulkan_result PILHANGKO_CALL pilhangko_vulkan_invalidate(
+    const pilhangko_vulkan *vulkan, const pilhangko_vulkan_allocation *allocation, VkDeviceSize offset, VkDeviceSize size) {
+    if (!vulkan || !allocation) return undriven(PILHANGKO_NULL_POINTER);
+    if (!vulkan->opaque) return undriven(PILHANGKO_NO_HANDLE);
+    return flush(binding_of(vulkan), allocation, offset, size, true);
+}
+
+pilhangko_status PILHANGKO_CALL pilhangko_vulkan_rename(
+    pilhangko_vulkan *vulkan, const pilhangko_vulkan_allocation *allocation, const char *name) {
+    pilhangko_status status;
+    if (!vulkan || !allocation) return PILHANGKO_NULL_POINTER;
+    if (!vulkan->opaque) return PILHANGKO_NO_HANDLE;
+    status = pilhangko_allocator_rename(&binding_of(vulkan)->allocator, &allocation->piece, name);
+    if (status == PILHANGKO_OK) capture_rename(binding_of(vulkan), &allocation->piece, name);
+    return status;
+}
+
+pilhangko_status PILHANGKO_CALL pilhangko_vulkan_is_live(
+    const pilhangko_vulkan *vulkan, const pilhangko_vulkan_allocation *allocation, bool *is_live) {
+    if (!vulkan || !allocation || !is_live) return PILHANGKO_NULL_POINTER;
+    if (!vulkan->opaque) return PILHANGKO_NO_HANDLE;
+    return pilhangko_allocator_is_live(&binding_of(vulkan)->allocator, &allocation->piece, is_live);
+}
+
+pilhangko_status PILHANGKO_CALL pilhangko_vulkan_capacity(const pilhangko_vulkan *vulkan, VkDeviceSize *bytes) {
+    uint64_t sum;
+    pilhangko_status status;
+    if (!vulkan || !bytes) return PILHANGKO_NULL_POINTER;
+    if (!vulkan->opaque) return PILHANGKO_NO_HANDLE;
+    status = pilhangko_allocator_capacity(&binding_of(vulkan)->allocator, &sum);
+    if (status == PILHANGKO_OK) *bytes = sum;
+    return status;
+}
+
+const pilhangko_allocator *PILHANGKO_CALL pilhangko_vulkan_allocator(const pilhangko_vulkan *vulkan) {
+    return vulkan && vulkan->opaque ? &binding_of(vulkan)->allocator : NULL;
+}
+
+/* ---- buffers and images ---- */
+
+/* A buffer or an image: the other one is null. */
+struct resource {
+    bool is_image;
+    VkBuffer buffer;
+    VkImage image;
+};
+
+static void destroy_resource(const struct binding *b, const struct resource *r) {
+    if (r->is_image) b->functions.vkDestroyImage(b->device, r->image, callbacks_of(b));
+    else b->functions.vkDestroyBuffer(b->device, r->buffer, callbacks_of(b));
+}
+
+static VkResult bind_resource(const struct binding *b, const struct resource *r, const pilhangko_vulkan_allocation *a) {
+    return r->is_image ? b->functions.vkBindImageMemory(b->device, r->image, a->memory, a->offset)
+                       : b->functions.vkBindBufferMemory(b->device, r->buffer, a->memory, a->offset);
+}
+
+/* What the driver needs for it, before Vulkan 1.1. */
+static void plain_requirements(const struct binding *b, const struct resource *r, VkMemoryRequirements *needs) {
+    if (r->is_image) b->functions.vkGetImageMemoryRequirements(b->device, r->image, needs);
+    else b->functions.vkGetBufferMemoryRequirements(b->device, r->buffer, needs);
+}
+
+/* What the driver needs for it, and whether it requires or prefers memory for it alone. */
+static bool requirements_of(const struct binding *b, const struct resource *r, VkMemoryRequirements *needs) {
+    VkMemoryDedicatedRequirements alone;
+    VkMemoryRequirements2 told;
+    memset(&alone, 0, sizeof alone);
+    alone.sType = VK_STRUCTURE_TYPE_MEMORY_DEDICATED_REQUIREMENTS;
+    memset(&told, 0, sizeof told);
+    told.sType = VK_STRUCTURE_TYPE_MEMORY_REQUIREMENTS_2;
+    told.pNext = &alone;
+    if (b->api_version >= VK_API_VERSION_1_1 && r->is_image && b->functions.vkGetImageMemoryRequirements2) {
+        VkImageMemoryRequirementsInfo2 info;
+        memset(&info, 0, sizeof info);
+        info.sType = VK_STRUCTURE_TYPE_IMAGE_MEMORY_REQUIREMENTS_INFO_2;
+        info.image = r->image;
+        b->functions.vkGetImageMemoryRequirements2(b->device, &info, &told);
+    } else if (b->api_version >= VK_API_VERSION_1_1 && !r->is_image && b->functions.vkGetBufferMemoryRequirements2) {
+        VkBufferMemoryRequirementsInfo2 info;
+        memset(&info, 0, sizeof info);
+        info.sType = VK_STRUCTURE_TYPE_BUFFER_MEMORY_REQUIREMENTS_INFO_2;
+        info.buffer = r->buffer;
+        b->functions.vkGetBufferMemoryRequirements2(b->device, &info, &told);
+    } else {
+        plain_requirements(b, r, &told.memoryRequirements);
+    }
+    *needs = told.memoryRequirements;
+    return alone.requiresDedicatedAllocation || alone.prefersDedicatedAllocation;
+}
+
+/* Gives a resource memory and binds it; destroys it where that fails. */
+static pilhangko_vulkan_result place(struct binding *b, const struct resource *r, uint32_t kind,
+    const pilhangko_vulkan_placement *placement, pilhangko_vulkan_allocation *allocation) {
+    pilhangko_vulkan_request request;
+    pilhangko_vulkan_allocation made;
+    pilhangko_vulkan_result result;
+    VkResult driver;
+    bool is_dedicated;
+    memset(&request, 0, sizeof request);
+    is_dedicated = requirements_of(b, r, &request.requirements) || placement->dedicated;
+    request.location = placement->location;
+    request.kind = kind;
+    request.scheme = !is_dedicated ? PILHANGKO_SCHEME_MANAGED : r->is_image ? PILHANGKO_SCHEME_IMAGE : PILHANGKO_SCHEME_BUFFER;
+    request.buffer = r->buffer;
+    request.image = r->image;
+    request.name = placement->name;
+    result = allocate(b, &request, &made);
+    if (result.status != PILHANGKO_OK) {
+        destroy_resource(b, r);
+        return result;
+    }
+    driver = bind_resource(b, r, &made);
+    if (driver != VK_SUCCESS) {
+        destroy_resource(b, r);
+        free_piece(b, &made.piece);
+        return result_of(PILHANGKO_VULKAN_CALL_FAILED, driver);
+    }
+    *allocation = made;
+    return result;
+}
+
+pilhangko_vulkan_result PILHANGKO_CALL pilhangko_vulkan_create_buffer(pilhangko_vulkan *vulkan, const VkBufferCreateInfo *info,
+    const pilhangko_vulkan_placement *placement, VkBuffer *buffer, pilhangko_vulkan_allocation *allocation) {
+    struct resource made = {false, VK_NULL_HANDLE, VK_NULL_HANDLE};
+    struct binding *b;
+    pilhangko_vulkan_result result;
+    VkResult driver;
+    if (!vulkan || !info || !placement || !buffer || !allocation) return undriven(PILHANGKO_NULL_POINTER);
+    b = binding_of(vulkan);
+    if (!b) return undriven(PILHANGKO_NO_HANDLE);
+    if (info->flags & VK_BUFFER_CREATE_SPARSE_BINDING_BIT) return undriven(PILHANGKO_INVALID);
+    driver = b->functions.vkCreateBuffer(b->device, info, callbacks_of(b), &made.buffer);
+    if (driver != VK_SUCCESS || made.buffer == VK_NULL_HANDLE) return result_of(PILHANGKO_VULKAN_CALL_FAILED, driver);
+    result = place(b, &made, PILHANGKO_KIND_LINEAR, placement, allocation);
+    if (result.status == PILHANGKO_OK) *buffer = made.buffer;
+    return result;
+}
+
+pilhangko_vulkan_result PILHANGKO_CALL pilhangko_vulkan_create_image(pilhangko_vulkan *vulkan, const VkImageCreateInfo *info,
+    const pilhangko_vulkan_placement *placement, VkImage *image, pilhangko_vulkan_allocation *allocation) {
+    struct resource made = {true, VK_NULL_HANDLE, VK_NULL_HANDLE};
+    struct binding *b;
+    pilhangko_vulkan_result result;
+    VkResult driver;
+    if (!vulkan || !info || !placement || !image || !allocation) return undriven(PILHANGKO_NULL_POINTER);
+    b = binding_of(vulkan);
+    if (!b) return undriven(PILHANGKO_NO_HANDLE);
+    if (info->flags & (VK_IMAGE_CREATE_SPARSE_BINDING_BIT | VK_IMAGE_CREATE_DISJOINT_BIT)) return undriven(PILHANGKO_INVALID);
+    driver = b->functions.vkCreateImage(b->device, info, callbacks_of(b), &made.image);
+    if (driver != VK_SUCCESS || made.image == VK_NULL_HANDLE) return result_of(PILHANGKO_VULKAN_CALL_FAILED, driver);
+    result =
+        place(b, &made, info->tiling == VK_IMAGE_TILING_LINEAR ? PILHANGKO_KIND_LINEAR : PILHANGKO_KIND_NON_LINEAR, placement, allocation);
+    if (result.status == PILHANGKO_OK) *image = made.image;
+    return result;
+}
+
+/* The resource goes before its memory, as the driver wants it. */
+static pilhangko_status destroy_placed(struct binding *b, const struct resource *r, const pilhangko_vulkan_allocation *allocation) {
+    if (!lives(b, &allocation->piece)) return PILHANGKO_NOT_LIVE;
+    destroy_resource(b, r);
+    return free_piece(b, &allocation->piece);
+}
+
+pilhangko_status PILHANGKO_CALL pilhangko_vulkan_destroy_buffer(
+    pilhangko_vulkan *vulkan, VkBuffer buffer, const pilhangko_vulkan_allocation *allocation) {
+    struct resource gone = {false, buffer, VK_NULL_HANDLE};
+    if (!vulkan || buffer == VK_NULL_HANDLE || !allocation) return PILHANGKO_NULL_POINTER;
+    if (!vulkan->opaque) return PILHANGKO_NO_HANDLE;
+    return destroy_placed(binding_of(vulkan), &gone, allocation);
+}
+
+pilhangko_status PILHANGKO_CALL pilhangko_vulkan_destroy_image(
+    pilhangko_vulkan *vulkan, VkImage image, const pilhangko_vulkan_allocation *allocation) {
+    struct resource gone = {true, VK_NULL_HANDLE, image};
+    if (!vulkan || image == VK_NULL_HANDLE || !allocation) return PILHANGKO_NULL_POINTER;
+    if (!vulkan->opaque) return PILHANGKO_NO_HANDLE;
+    return destroy_placed(binding_of(vulkan), &gone, allocation);
+}
+
+/* ---- budgets ---- */
+
+/* What the driver tells of its heaps now. */
+static void read_budgets(const struct binding *b, VkPhysicalDeviceMemoryBudgetPropertiesEXT *budgets) {
+    VkPhysicalDeviceMemoryProperties2 properties;
+    memset(budgets, 0, sizeof *budgets);
+    budgets->sType = VK_STRUCTURE_TYPE_PHYSICAL_DEVICE_MEMORY_BUDGET_PROPERTIES_EXT;
+    memset(&properties, 0, sizeof properties);
+    properties.sType = VK_STRUCTURE_TYPE_PHYSICAL_DEVICE_MEMORY_PROPERTIES_2;
+    properties.pNext = budgets;
+    b->functions.vkGetPhysicalDeviceMemoryProperties2(b->physical_device, &properties);
+}
+
+pilhangko_status PILHANGKO_CALL pilhangko_vulkan_read_heap(const pilhangko_vulkan *vulkan, uint32_t heap, pilhangko_vulkan_heap *read) {
+    VkPhysicalDeviceMemoryBudgetPropertiesEXT budgets;
+    const struct binding *b;
+    if (!vulkan || !read) return PILHANGKO_NULL_POINTER;
+    b = binding_of(vulkan);
+    if (!b) return PILHANGKO_NO_HANDLE;
+    if (heap >= b->properties.memoryHeapCount) return PILHANGKO_VULKAN_NO_SUCH_HEAP;
+    memset(read, 0, sizeof *read);
+    read->size = b->properties.memoryHeaps[heap].size;
+    read->flags = b->properties.memoryHeaps[heap].flags;
+    for (uint32_t i = 0; i < b->properties.memoryTypeCount; i++)
+        if (b->properties.memoryTypes[i].heapIndex == heap) read->held += b->held[i];
+    read->has_budget = b->memory_budget;
+    if (!b->memory_budget) return PILHANGKO_OK;
+    read_budgets(b, &budgets);
+    read->usage = budgets.heapUsage[heap];
+    read->budget = budgets.heapBudget[heap];
+    return PILHANGKO_OK;
+}
+
+static pilhangko_status set_budget(struct binding *b, uint32_t memory_type, bool has_budget, VkDeviceSize bytes) {
+    pilhangko_status status = pilhangko_allocator_set_budget(&b->allocator, memory_type, has_budget, bytes);
+    if (status == PILHANGKO_OK) capture_budget(b, memory_type, has_budget, bytes);
+    return status;
+}
+
+pilhangko_status PILHANGKO_CALL pilhangko_vulkan_update_budgets(pilhangko_vulkan *vulkan) {
+    VkPhysicalDeviceMemoryBudgetPropertiesEXT budgets;
+    struct binding *b;
+    pilhangko_status status = PILHANGKO_OK;
+    if (!vulkan) return PILHANGKO_NULL_POINTER;
+    b = binding_of(vulkan);
+    if (!b) return PILHANGKO_NO_HANDLE;
+    if (!b->memory_budget) return PILHANGKO_VULKAN_NO_BUDGETS;
+    read_budgets(b, &budgets);
+    for (uint32_t i = 0; i < b->properties.memoryTypeCount && status == PILHANGKO_OK; i++) {
+        const uint32_t heap = b->properties.memoryTypes[i].heapIndex;
+        const VkDeviceSize usage = budgets.heapUsage[heap], budget = budgets.heapBudget[heap];
+        const VkDeviceSize left = budget > usage ? budget - usage : 0, held = b->held[i];
+        status = set_budget(b, i, true, left <= UINT64_MAX - held ? held + left : UINT64_MAX);
+    }
+    return status;
+}
+
+pilhangko_status PILHANGKO_CALL pilhangko_vulkan_set_budget(
+    pilhangko_vulkan *vulkan, uint32_t memory_type, bool has_budget, VkDeviceSize bytes) {
+    if (!vulkan) return PILHANGKO_NULL_POINTER;
+    if (!vulkan->opaque) return PILHANGKO_NO_HANDLE;
+    return set_budget(binding_of(vulkan), memory_type, has_budget, bytes);
+}
+
+pilhangko_status PILHANGKO_CALL pilhangko_vulkan_budget(const pilhangko_vulkan *vulkan, uint32_t memory_type, pilhangko_budget *budget) {
+    if (!vulkan || !budget) return PILHANGKO_NULL_POINTER;
+    if (!vulkan->opaque) return PILHANGKO_NO_HANDLE;
+    return pilhangko_allocator_budget(&binding_of(vulkan)->allocator, memory_type, budget);
+}
+
+/* ---- create and destroy ---- */
+
+static bool has_functions(const pilhangko_vulkan_functions *f) {
+    return f->vkGetPhysicalDeviceProperties && f->vkGetPhysicalDeviceMemoryProperties && f->vkAllocateMemory && f->vkFreeMemory &&
+           f->vkMapMemory && f->vkUnmapMemory && f->vkFlushMappedMemoryRanges && f->vkInvalidateMappedMemoryRanges && f->vkCreateBuffer &&
+           f->vkDestroyBuffer && f->vkGetBufferMemoryRequirements && f->vkBindBufferMemory && f->vkCreateImage && f->vkDestroyImage &&
+           f->vkGetImageMemoryRequirements && f->vkBindImageMemory;
+}
+
+#define LOAD(get, of, name) loaded.name = (PFN_##name)get(of, #name)
+#define LOAD_SINCE_1_1(get, of, name) loaded.name = (PFN_##name)get(of, api_version >= VK_API_VERSION_1_1 ? #name : #name "KHR")
+
+pilhangko_status PILHANGKO_CALL pilhangko_vulkan_load(pilhangko_vulkan_functions *functions, VkInstance instance, VkDevice device,
+    uint32_t api_version, PFN_vkGetInstanceProcAddr get_instance_proc_addr, PFN_vkGetDeviceProcAddr get_device_proc_addr) {
+    pilhangko_vulkan_functions loaded;
+    PFN_vkGetDeviceProcAddr get = get_device_proc_addr;
+    if (!functions || !instance || !device || !get_instance_proc_addr) return PILHANGKO_NULL_POINTER;
+    if (!get) get = (PFN_vkGetDeviceProcAddr)get_instance_proc_addr(instance, "vkGetDeviceProcAddr");
+    if (!get) return PILHANGKO_VULKAN_NO_FUNCTION;
+    LOAD(get_instance_proc_addr, instance, vkGetPhysicalDeviceProperties);
+    LOAD(get_instance_proc_addr, instance, vkGetPhysicalDeviceMemoryProperties);
+    LOAD(get, device, vkAllocateMemory);
+    LOAD(get, device, vkFreeMemory);
+    LOAD(get, device, vkMapMemory);
+    LOAD(get, device, vkUnmapMemory);
+    LOAD(get, device, vkFlushMappedMemoryRanges);
+    LOAD(get, device, vkInvalidateMappedMemoryRanges);
+    LOAD(get, device, vkCreateBuffer);
+    LOAD(get, device, vkDestroyBuffer);
+    LOAD(get, device, vkGetBufferMemoryRequirements);
+    LOAD(get, device, vkBindBufferMemory);
+    LOAD(get, device, vkCreateImage);
+    LOAD(get, device, vkDestroyImage);
+    LOAD(get, device, vkGetImageMemoryRequirements);
+    LOAD(get, device, vkBindImageMemory);
+    LOAD_SINCE_1_1(get, device, vkGetBufferMemoryRequirements2);
+    LOAD_SINCE_1_1(get, device, vkGetImageMemoryRequirements2);
+    LOAD_SINCE_1_1(get_instance_proc_addr, instance, vkGetPhysicalDeviceMemoryProperties2);
+    if (!has_functions(&loaded)) return PILHANGKO_VULKAN_NO_FUNCTION;
+    *functions = loaded;
+    return PILHANGKO_OK;
+}
+
+static VkDeviceSize or_else(VkDeviceSize size, VkDeviceSize otherwise) {
+    return size ? size : otherwise;
+}
+
+static pilhangko_allocator_settings allocator_settings(const pilhangko_vulkan_settings *settings, VkDeviceSize granularity) {
+    pilhangko_allocator_settings s;
+    s.page_size = granularity;
+    s.device_block_size = or_else(settings->device_block_size, UINT64_C(256) << 20);
+    s.largest_device_block_size = settings->largest_device_block_size;
+    s.host_block_size = or_else(settings->host_block_size, UINT64_C(64) << 20);
+    s.largest_host_block_size = settings->largest_host_block_size;
+    s.device_address = settings->buffer_device_address;
+    return s;
+}
+
+static pilhangko_status create_allocator(struct binding *b, const pilhangko_allocator_settings *settings) {
+    const VkPhysicalDeviceMemoryProperties *p = &b->properties;
+    pilhangko_device_memory_type types[VK_MAX_MEMORY_TYPES];
+    pilhangko_device_heap heaps[VK_MAX_MEMORY_HEAPS];
+    if (p->memoryTypeCount > VK_MAX_MEMORY_TYPES || p->memoryHeapCount > VK_MAX_MEMORY_HEAPS) return PILHANGKO_INVALID_DEVICE;
+    for (uint32_t i = 0; i < p->memoryTypeCount; i++) {
+        types[i].flags = p->memoryTypes[i].propertyFlags;
+        types[i].heap = p->memoryTypes[i].heapIndex;
+    }
+    for (uint32_t i = 0; i < p->memoryHeapCount; i++) {
+        heaps[i].size = p->memoryHeaps[i].size;
+        heaps[i].flags = p->memoryHeaps[i].flags;
+    }
+    return pilhangko_allocator_create(&b->allocator, types, p->memoryTypeCount, heaps, p->memoryHeapCount, settings);
+}
+
+static void take_settings(struct binding *b, const pilhangko_vulkan_settings *settings) {
+    memset(b, 0, sizeof *b);
+    b->functions = *settings->functions;
+    b->has_callbacks = settings->allocation_callbacks != NULL;
+    if (b->has_callbacks) b->callbacks = *settings->allocation_callbacks;
+    b->physical_device = settings->physical_device;
+    b->device = settings->device;
+    b->api_version = settings->api_version;
+    b->memory_budget = settings->memory_budget;
+    b->capture.end = settings->capture_write ? PILHANGKO_VULKAN_CAPTURE_WHOLE : PILHANGKO_VULKAN_CAPTURE_NONE;
+    b->capture.write = settings->capture_write;
+    b->capture.user = settings->capture_user;
+}
+
+/* Reads the device, and makes the allocator over it. */
+static pilhangko_status begin_binding(struct binding *b, const pilhangko_vulkan_settings *settings) {
+    VkPhysicalDeviceProperties device;
+    pilhangko_allocator_settings s;
+    pilhangko_status status;
+    take_settings(b, settings);
+    memset(&device, 0, sizeof device);
+    b->functions.vkGetPhysicalDeviceProperties(b->physical_device, &device);
+    b->functions.vkGetPhysicalDeviceMemoryProperties(b->physical_device, &b->properties);
+    b->atom = device.limits.nonCoherentAtomSize;
+    s = allocator_settings(settings, device.limits.bufferImageGranularity);
+    if (!is_power_of_two(b->atom)) return PILHANGKO_INVALID_DEVICE;
+    status = create_allocator(b, &s);
+    if (status == PILHANGKO_OK && is_captured(b)) capture_device(b, &s);
+    return status;
+}
+
+pilhangko_status PILHANGKO_CALL pilhangko_vulkan_create(pilhangko_vulkan *vulkan, const pilhangko_vulkan_settings *settings) {
+    struct binding *b;
+    pilhangko_status status;
+    if (!vulkan || !settings || !settings->physical_device || !settings->device || !settings->functions) return PILHANGKO_NULL_POINTER;
+    if (vulkan->opaque) return PILHANGKO_IN_USE;
+    if (!has_functions(settings->functions)) return PILHANGKO_VULKAN_NO_FUNCTION;
+    if (settings->memory_budget && !settings->functions->vkGetPhysicalDeviceMemoryProperties2) return PILHANGKO_VULKAN_NO_FUNCTION;
+    b = (struct binding *)malloc(sizeof *b);
+    if (!b) return PILHANGKO_HOST_OUT_OF_MEMORY;
+    status = begin_binding(b, settings);
+    if (status != PILHANGKO_OK) {
+        free(b);
+        return status;
+    }
+    vulkan->opaque = b;
+    return PILHANGKO_OK;
+}
+
+pilhangko_status PILHANGKO_CALL pilhangko_vulkan_end_capture(pilhangko_vulkan *vulkan, pilhangko_vulkan_capture *capture) {
+    if (!vulkan || !capture) return PILHANGKO_NULL_POINTER;
+    if (!vulkan->opaque) return PILHANGKO_NO_HANDLE;
+    if (binding_of(vulkan)->capture.end == PILHANGKO_VULKAN_CAPTURE_NONE) return PILHANGKO_VULKAN_NO_CAPTURE;
+    *capture = end_capture(&binding_of(vulkan)->capture, "");
+    return PILHANGKO_OK;
+}
+
+pilhangko_status PILHANGKO_CALL pilhangko_vulkan_destroy(pilhangko_vulkan *vulkan, pilhangko_vulkan_ending *ending) {
+    struct binding *b;
+    pilhangko_vulkan_ending told;
+    if (!vulkan) return PILHANGKO_NULL_POINTER;
+    b = binding_of(vulkan);
+    if (!b) return PILHANGKO_NO_HANDLE;
+    told.leaks = b->live;
+    told.capture = end_capture(&b->capture, "destroy\n");
+    while (b->blocks) give_back(b, b->blocks);
+    (void)pilhangko_allocator_destroy(&b->allocator);
+    free(b->spare);
+    free(b);
+    vulkan->opaque = NULL;
+    if (ending) *ending = told;
+    return PILHANGKO_OK;
+}
