@@ -108,9 +108,9 @@ static bool makes_room(struct text *text, size_t more) {
     return true;
 }
 
-/* Behind makes_room. */
+/* Behind makes_room. Where nothing was ever put in, there are no bytes to copy to. */
 static void append(struct text *text, const char *bytes, size_t length) {
-    memcpy(text->bytes + text->length, bytes, length);
+    if (length > 0) memcpy(text->bytes + text->length, bytes, length);
     text->length += length;
 }
 
@@ -152,6 +152,7 @@ static void capture_device(struct binding *b, const pilhangko_allocator_settings
     snprintf(line, sizeof line, "granularity %" PRIu64 "\nsizes %" PRIu64 " %" PRIu64 " %" PRIu64 " %" PRIu64 "\n", s->page_size,
         s->device_block_size, s->host_block_size, s->largest_device_block_size, s->largest_host_block_size);
     if (is_captured(b)) capture_lines(&b->capture, line, "");
+    if (!is_captured(b)) forget_text(&b->capture.device); /* half a device is none */
 }
 
 /* A name as a trace can have it. */
@@ -249,7 +250,7 @@ static void write_bytes(const struct capture *c, pilhangko_vulkan_capture *told,
     else told->end = PILHANGKO_VULKAN_CAPTURE_NOT_WRITTEN;
 }
 
-/* Writes the capture with a last line, and forgets it. */
+/* Writes the capture with a last line, and forgets it. Without a device there is only the remark. */
 static pilhangko_vulkan_capture end_capture(struct capture *c, const char *last_line) {
     const char *remark = remark_of(c->end);
     pilhangko_vulkan_capture told;
@@ -258,7 +259,7 @@ static pilhangko_vulkan_capture end_capture(struct capture *c, const char *last_
     if (c->end == PILHANGKO_VULKAN_CAPTURE_NONE) return told;
     if (c->end != PILHANGKO_VULKAN_CAPTURE_WHOLE) last_line = "";
     write_bytes(c, &told, c->device.bytes, c->device.length);
-    write_bytes(c, &told, "new\n", 4);
+    write_bytes(c, &told, "new\n", c->device.length > 0 ? 4 : 0);
     write_bytes(c, &told, c->calls.bytes, c->calls.length);
     write_bytes(c, &told, last_line, strlen(last_line));
     write_bytes(c, &told, remark, strlen(remark));

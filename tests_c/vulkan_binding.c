@@ -587,18 +587,24 @@ static bool takes_all(void *user, const char *bytes, size_t length) {
     return true;
 }
 
+static pilhangko_vulkan_settings counting_settings(size_t *written) {
+    pilhangko_vulkan_settings settings = fake_settings();
+    settings.capture_write = takes_all;
+    settings.capture_user = written;
+    *written = 0;
+    return settings;
+}
+
 /* Where the request is the capture's, the capture ends and no call fails; else one call fails, and says that host memory is lacking. */
 static void each_host_request_refused(void) {
     unsigned failed = 0, captures = 0;
     for (long request = 1;; request++) {
         pilhangko_vulkan vulkan = {0};
-        pilhangko_vulkan_settings settings = fake_settings();
+        size_t written;
+        const pilhangko_vulkan_settings settings = counting_settings(&written);
         pilhangko_vulkan_result last = {PILHANGKO_OK, VK_SUCCESS};
         pilhangko_vulkan_ending ending;
-        size_t written = 0;
         fake_begin();
-        settings.capture_write = takes_all;
-        settings.capture_user = &written;
         heap_requests = 0;
         heap_refused = request;
         pilhangko_status status = pilhangko_vulkan_create(&vulkan, &settings);
@@ -611,11 +617,12 @@ static void each_host_request_refused(void) {
         const unsigned refusals = script(&vulkan, &last);
         const bool is_over = heap_requests < request;
         IS(pilhangko_vulkan_destroy(&vulkan, &ending), PILHANGKO_OK);
+        const bool ended = ending.capture.end == PILHANGKO_VULKAN_CAPTURE_NO_HOST_MEMORY;
         CHECK(ending.leaks == 0 && fake.memory_count == 0 && fake.resource_count == 0 && heap_held == 0);
         CHECK(ending.capture.bytes == written && (refusals == 0 || last.status == PILHANGKO_HOST_OUT_OF_MEMORY));
-        CHECK(refusals + (ending.capture.end == PILHANGKO_VULKAN_CAPTURE_NO_HOST_MEMORY) == !is_over);
+        CHECK(refusals + ended == !is_over);
         failed += refusals;
-        captures += ending.capture.end == PILHANGKO_VULKAN_CAPTURE_NO_HOST_MEMORY;
+        captures += ended;
         if (is_over) break;
     }
     heap_refused = 0;
