@@ -130,7 +130,7 @@ static void make_gpu(struct gpu *gpu) {
 }
 
 /* Runs what was recorded, to its end. */
-static void run_commands(struct gpu *gpu) {
+static inline void run_commands(struct gpu *gpu) {
     const VkSubmitInfo info = {.sType = VK_STRUCTURE_TYPE_SUBMIT_INFO, .commandBufferCount = 1, .pCommandBuffers = &gpu->commands};
     VK(vkEndCommandBuffer(gpu->commands));
     VK(vkQueueSubmit(gpu->queue, 1, &info, VK_NULL_HANDLE));
