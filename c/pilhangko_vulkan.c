@@ -7,14 +7,17 @@
 
 /* ---- records ---- */
 
-/* A block of memory that the driver gave. Its address is the number by which the allocator knows the block, so a live piece leads to it. */
+/* A block of memory that the driver gave, or a spare record of none. The allocator knows a block by its index among the records and by how
+ * often the record was used: a live piece leads to its block, and one of a block that has gone is no live one. */
 struct block {
-    VkDeviceMemory memory;
-    void *mapped; /* the whole block, as long as it lives; NULL where the host can't see it */
+    VkDeviceMemory memory; /* VK_NULL_HANDLE of a spare record */
+    void *mapped;          /* the whole block, as long as it lives; NULL where the host can't see it */
     VkDeviceSize size;
     uint32_t memory_type;
-    struct block *previous, *next;
+    uint32_t uses;
+    uint32_t next_spare;
 };
+#define NO_BLOCK UINT32_MAX
 
 /* Bytes that grow. */
 struct text {
@@ -43,7 +46,8 @@ struct binding {
     VkPhysicalDeviceMemoryProperties properties;
     VkDeviceSize atom; /* nonCoherentAtomSize */
     struct block *blocks;
-    struct block *spare; /* of no block: it is made before the driver is asked, so that nothing can fail behind a grant */
+    uint32_t block_count, block_room;
+    uint32_t spare; /* a record is made before the driver is asked, so that nothing can fail behind a grant; or NO_BLOCK */
     VkDeviceSize held[VK_MAX_MEMORY_TYPES]; /* the sum of the blocks' sizes */
     uint64_t live;
     struct capture capture;
@@ -57,8 +61,9 @@ static const VkAllocationCallbacks *callbacks_of(const struct binding *b) {
     return b->has_callbacks ? &b->callbacks : NULL;
 }
 
-static struct block *block_of(const pilhangko_allocator_piece *piece) {
-    return (struct block *)(uintptr_t)piece->piece.block;
+/* The block that the allocator knows by that number. */
+static struct block *block_of(const struct binding *b, uint64_t number) {
+    return &b->blocks[number & UINT32_MAX];
 }
 
 static pilhangko_vulkan_result result_of(pilhangko_status status, VkResult driver) {
@@ -271,40 +276,51 @@ static pilhangko_vulkan_capture end_capture(struct capture *c, const char *last_
 
 /* ---- blocks ---- */
 
-static void link_block(struct binding *b, struct block *block) {
-    block->previous = NULL;
-    block->next = b->blocks;
-    if (b->blocks) b->blocks->previous = block;
-    b->blocks = block;
+/* Whether there is a spare record; makes one where there is none. */
+static bool has_spare(struct binding *b) {
+    if (b->spare != NO_BLOCK) return true;
+    if (b->block_count == b->block_room) {
+        const uint32_t room = b->block_room ? 2 * b->block_room : 16;
+        struct block *blocks = (struct block *)realloc(b->blocks, room * sizeof *blocks);
+        if (!blocks) return false;
+        b->blocks = blocks;
+        b->block_room = room;
+    }
+    b->spare = b->block_count++;
+    memset(&b->blocks[b->spare], 0, sizeof b->blocks[0]);
+    b->blocks[b->spare].next_spare = NO_BLOCK;
+    return true;
+}
+
+/* Keeps the memory in the spare record; returns its number. */
+static uint64_t keep_block(struct binding *b, VkDeviceMemory memory, void *mapped, const pilhangko_allocator_question *question) {
+    const uint32_t index = b->spare;
+    struct block *block = &b->blocks[index];
+    b->spare = block->next_spare;
+    block->memory = memory;
+    block->mapped = mapped;
+    block->size = question->size;
+    block->memory_type = question->memory_type;
+    block->uses++;
     b->held[block->memory_type] += block->size;
+    return (uint64_t)block->uses << 32 | index;
 }
 
-static void unlink_block(struct binding *b, struct block *block) {
-    if (block->previous) block->previous->next = block->next;
-    else b->blocks = block->next;
-    if (block->next) block->next->previous = block->previous;
-    b->held[block->memory_type] -= block->size;
-}
-
-/* Gives a block back to the driver. Its record becomes the spare one where there is none. */
+/* Gives a block back to the driver; its record is spare again. */
 static void give_back(struct binding *b, struct block *block) {
-    unlink_block(b, block);
     if (block->mapped) b->functions.vkUnmapMemory(b->device, block->memory);
     b->functions.vkFreeMemory(b->device, block->memory, callbacks_of(b));
-    if (b->spare) free(block);
-    else b->spare = block;
-}
-
-static bool has_spare(struct binding *b) {
-    if (!b->spare) b->spare = (struct block *)malloc(sizeof *b->spare);
-    return b->spare != NULL;
+    b->held[block->memory_type] -= block->size;
+    block->memory = VK_NULL_HANDLE;
+    block->next_spare = b->spare;
+    b->spare = (uint32_t)(block - b->blocks);
 }
 
 /* Whether a block has that memory: the driver may not give it twice. */
 static bool is_held(const struct binding *b, VkDeviceMemory memory) {
-    const struct block *block = b->blocks;
-    while (block && block->memory != memory) block = block->next;
-    return block != NULL;
+    uint32_t i = 0;
+    while (i < b->block_count && b->blocks[i].memory != memory) i++;
+    return i < b->block_count;
 }
 
 /* ---- asking the driver ---- */
@@ -363,24 +379,18 @@ static pilhangko_status mapping_refused(
 /* Asks the driver the question that is open, and tells the answer. */
 static pilhangko_status ask(struct binding *b, struct asked *asked, pilhangko_allocator_progress *progress) {
     const pilhangko_allocator_question question = progress->question;
-    struct block *block = b->spare;
+    void *mapped = NULL;
     VkDeviceMemory memory;
     VkResult driver = ask_memory(b, &question, &memory);
     asked->questions++;
     if (driver != VK_SUCCESS || memory == VK_NULL_HANDLE || is_held(b, memory)) return memory_refused(b, asked, driver, memory, progress);
-    block->mapped = NULL;
     if (question.mapped) {
-        driver = b->functions.vkMapMemory(b->device, memory, 0, VK_WHOLE_SIZE, 0, &block->mapped);
+        driver = b->functions.vkMapMemory(b->device, memory, 0, VK_WHOLE_SIZE, 0, &mapped);
         asked->questions++;
-        if (driver != VK_SUCCESS || !block->mapped) return mapping_refused(b, asked, driver, memory, progress);
+        if (driver != VK_SUCCESS || !mapped) return mapping_refused(b, asked, driver, memory, progress);
     }
-    block->memory = memory;
-    block->size = question.size;
-    block->memory_type = question.memory_type;
-    b->spare = NULL;
-    link_block(b, block);
     progress->kind = PILHANGKO_PROGRESS_PIECE;
-    return pilhangko_allocator_granted(&b->allocator, (uint64_t)(uintptr_t)block, &progress->piece);
+    return pilhangko_allocator_granted(&b->allocator, keep_block(b, memory, mapped, &question), &progress->piece);
 }
 
 /* ---- memory ---- */
@@ -409,11 +419,12 @@ static pilhangko_status asks_for(const struct binding *b, const pilhangko_vulkan
     return PILHANGKO_OK;
 }
 
-static void tell_allocation(const pilhangko_allocator_piece *piece, pilhangko_vulkan_allocation *allocation) {
-    allocation->memory = block_of(piece)->memory;
+static void tell_allocation(const struct binding *b, const pilhangko_allocator_piece *piece, pilhangko_vulkan_allocation *allocation) {
+    allocation->memory = block_of(b, piece->piece.block)->memory;
     allocation->offset = piece->piece.offset;
     allocation->size = piece->piece.size;
     allocation->piece = *piece;
+    allocation->owner = b;
 }
 
 static pilhangko_vulkan_result allocate(
@@ -430,18 +441,20 @@ static pilhangko_vulkan_result allocate(
     if (status == PILHANGKO_OK) status = progress.status;
     capture_allocation(b, &asks, request->name, status, &asked, status == PILHANGKO_OK ? &progress.piece : NULL);
     if (status != PILHANGKO_OK) return result_of(status, asked.driver);
-    tell_allocation(&progress.piece, allocation);
+    tell_allocation(b, &progress.piece, allocation);
     b->live++;
     return undriven(PILHANGKO_OK);
 }
 
-static pilhangko_status free_piece(struct binding *b, const pilhangko_allocator_piece *piece) {
+static pilhangko_status free_allocation(struct binding *b, const pilhangko_vulkan_allocation *allocation) {
     pilhangko_allocator_memory back;
-    pilhangko_status status = pilhangko_allocator_free(&b->allocator, piece, &back);
+    pilhangko_status status;
+    if (allocation->owner != b) return PILHANGKO_NOT_LIVE;
+    status = pilhangko_allocator_free(&b->allocator, &allocation->piece, &back);
     if (status != PILHANGKO_OK) return status;
     b->live--;
-    capture_free(b, piece);
-    if (back.exists) give_back(b, (struct block *)(uintptr_t)back.memory);
+    capture_free(b, &allocation->piece);
+    if (back.exists) give_back(b, block_of(b, back.memory));
     return PILHANGKO_OK;
 }
 
@@ -455,19 +468,20 @@ pilhangko_vulkan_result PILHANGKO_CALL pilhangko_vulkan_allocate(
 pilhangko_status PILHANGKO_CALL pilhangko_vulkan_free(pilhangko_vulkan *vulkan, const pilhangko_vulkan_allocation *allocation) {
     if (!vulkan || !allocation) return PILHANGKO_NULL_POINTER;
     if (!vulkan->opaque) return PILHANGKO_NO_HANDLE;
-    return free_piece(binding_of(vulkan), &allocation->piece);
+    return free_allocation(binding_of(vulkan), allocation);
 }
 
-/* Whether a piece is live: only then may its block's record be read. */
-static bool lives(const struct binding *b, const pilhangko_allocator_piece *piece) {
+/* Whether an allocation is live: only then may its block's record be read. */
+static bool lives(const struct binding *b, const pilhangko_vulkan_allocation *allocation) {
     bool is_live = false;
-    return pilhangko_allocator_is_live(&b->allocator, piece, &is_live) == PILHANGKO_OK && is_live;
+    if (allocation->owner != b) return false;
+    return pilhangko_allocator_is_live(&b->allocator, &allocation->piece, &is_live) == PILHANGKO_OK && is_live;
 }
 
 void *PILHANGKO_CALL pilhangko_vulkan_mapped(const pilhangko_vulkan *vulkan, const pilhangko_vulkan_allocation *allocation) {
     const struct block *block;
-    if (!vulkan || !allocation || !vulkan->opaque || !lives(binding_of(vulkan), &allocation->piece)) return NULL;
-    block = block_of(&allocation->piece);
+    if (!vulkan || !allocation || !vulkan->opaque || !lives(binding_of(vulkan), allocation)) return NULL;
+    block = block_of(binding_of(vulkan), allocation->piece.piece.block);
     return block->mapped ? (char *)block->mapped + allocation->piece.piece.offset : NULL;
 }
 
@@ -491,8 +505,8 @@ static pilhangko_vulkan_result flush(
     const struct block *block;
     VkMappedMemoryRange range;
     VkResult driver;
-    if (!lives(b, &allocation->piece)) return undriven(PILHANGKO_NOT_LIVE);
-    block = block_of(&allocation->piece);
+    if (!lives(b, allocation)) return undriven(PILHANGKO_NOT_LIVE);
+    block = block_of(b, piece->block);
     if (!block->mapped) return undriven(PILHANGKO_VULKAN_NOT_MAPPED);
     if (offset > piece->size) return undriven(PILHANGKO_VULKAN_OUT_OF_RANGE);
     if (size == VK_WHOLE_SIZE) size = piece->size - offset;
@@ -522,11 +536,14 @@ pilhangko_vulkan_result PILHANGKO_CALL pilhangko_vulkan_invalidate(
 
 pilhangko_status PILHANGKO_CALL pilhangko_vulkan_rename(
     pilhangko_vulkan *vulkan, const pilhangko_vulkan_allocation *allocation, const char *name) {
+    pilhangko_allocator_piece piece;
     pilhangko_status status;
     if (!vulkan || !allocation) return PILHANGKO_NULL_POINTER;
     if (!vulkan->opaque) return PILHANGKO_NO_HANDLE;
-    status = pilhangko_allocator_rename(&binding_of(vulkan)->allocator, &allocation->piece, name);
-    if (status == PILHANGKO_OK) capture_rename(binding_of(vulkan), &allocation->piece, name);
+    piece = allocation->piece;
+    if (allocation->owner != binding_of(vulkan)) piece.piece.number = 0; /* no live piece; the name is looked at first all the same */
+    status = pilhangko_allocator_rename(&binding_of(vulkan)->allocator, &piece, name);
+    if (status == PILHANGKO_OK) capture_rename(binding_of(vulkan), &piece, name);
     return status;
 }
 
@@ -534,7 +551,8 @@ pilhangko_status PILHANGKO_CALL pilhangko_vulkan_is_live(
     const pilhangko_vulkan *vulkan, const pilhangko_vulkan_allocation *allocation, bool *is_live) {
     if (!vulkan || !allocation || !is_live) return PILHANGKO_NULL_POINTER;
     if (!vulkan->opaque) return PILHANGKO_NO_HANDLE;
-    return pilhangko_allocator_is_live(&binding_of(vulkan)->allocator, &allocation->piece, is_live);
+    *is_live = lives(binding_of(vulkan), allocation);
+    return PILHANGKO_OK;
 }
 
 pilhangko_status PILHANGKO_CALL pilhangko_vulkan_capacity(const pilhangko_vulkan *vulkan, VkDeviceSize *bytes) {
@@ -628,7 +646,7 @@ static pilhangko_vulkan_result place(struct binding *b, const struct resource *r
     driver = bind_resource(b, r, &made);
     if (driver != VK_SUCCESS) {
         destroy_resource(b, r);
-        free_piece(b, &made.piece);
+        free_allocation(b, &made);
         return result_of(PILHANGKO_VULKAN_CALL_FAILED, driver);
     }
     *allocation = made;
@@ -672,9 +690,9 @@ pilhangko_vulkan_result PILHANGKO_CALL pilhangko_vulkan_create_image(pilhangko_v
 
 /* The resource goes before its memory, as the driver wants it. */
 static pilhangko_status destroy_placed(struct binding *b, const struct resource *r, const pilhangko_vulkan_allocation *allocation) {
-    if (!lives(b, &allocation->piece)) return PILHANGKO_NOT_LIVE;
+    if (!lives(b, allocation)) return PILHANGKO_NOT_LIVE;
     destroy_resource(b, r);
-    return free_piece(b, &allocation->piece);
+    return free_allocation(b, allocation);
 }
 
 pilhangko_status PILHANGKO_CALL pilhangko_vulkan_destroy_buffer(
@@ -844,6 +862,7 @@ static void take_settings(struct binding *b, const pilhangko_vulkan_settings *se
     if (b->has_callbacks) b->callbacks = *settings->allocation_callbacks;
     b->physical_device = settings->physical_device;
     b->device = settings->device;
+    b->spare = NO_BLOCK;
     b->api_version = settings->api_version;
     b->memory_budget = settings->memory_budget;
     b->capture.end = settings->capture_write ? PILHANGKO_VULKAN_CAPTURE_WHOLE : PILHANGKO_VULKAN_CAPTURE_NONE;
@@ -902,9 +921,10 @@ pilhangko_status PILHANGKO_CALL pilhangko_vulkan_destroy(pilhangko_vulkan *vulka
     if (!b) return PILHANGKO_NO_HANDLE;
     told.leaks = b->live;
     told.capture = end_capture(&b->capture, "destroy\n");
-    while (b->blocks) give_back(b, b->blocks);
+    for (uint32_t i = 0; i < b->block_count; i++)
+        if (b->blocks[i].memory != VK_NULL_HANDLE) give_back(b, &b->blocks[i]);
     (void)pilhangko_allocator_destroy(&b->allocator);
-    free(b->spare);
+    free(b->blocks);
     free(b);
     vulkan->opaque = NULL;
     if (ending) *ending = told;

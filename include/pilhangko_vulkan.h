@@ -168,13 +168,14 @@ typedef struct pilhangko_vulkan_request {
     const char *name;  /* copied; NULL for none */
 } pilhangko_vulkan_request;
 
-/* An allocation: bind at offset of memory. The calls read `piece` alone. One that was freed is refused (PILHANGKO_NOT_LIVE), as is one of
- * another binding, until a piece comes that is the same in all of `piece`. */
+/* An allocation: bind at offset of memory. The calls read `piece` and `owner` alone. One of another binding is refused
+ * (PILHANGKO_NOT_LIVE), and so is one that was freed, until a piece of the same shared block comes that is the same in all of `piece`. */
 typedef struct pilhangko_vulkan_allocation {
     VkDeviceMemory memory;
     VkDeviceSize offset;
     VkDeviceSize size;
     pilhangko_allocator_piece piece;
+    const void *owner; /* whose it is */
 } pilhangko_vulkan_allocation;
 
 /* Allocates memory. Where a memory type that the request allows needs flushes, the alignment is nonCoherentAtomSize at least, so that a

@@ -409,8 +409,9 @@ static void foreign_allocations(void) {
     const pilhangko_vulkan_request r = asks(100, 2, PILHANGKO_LOCATION_UNKNOWN);
     IS(pilhangko_vulkan_create(&other, &settings), PILHANGKO_OK);
     const pilhangko_vulkan_allocation mine = allocates(&vulkan, &r), others = allocates(&other, &r);
-    CHECK(mine.piece.piece.number == others.piece.piece.number && mine.offset == others.offset);
-    for (unsigned field = 0; field < 7; field++) {
+    CHECK(
+        mine.piece.memory_type == others.piece.memory_type && memcmp(&mine.piece.piece, &others.piece.piece, sizeof mine.piece.piece) == 0);
+    for (unsigned field = 0; field < 8; field++) {
         pilhangko_vulkan_allocation wrong = mine;
         bool live = true;
         if (field == 0) wrong = others;
@@ -420,12 +421,14 @@ static void foreign_allocations(void) {
         if (field == 4) wrong.piece.piece.size++;
         if (field == 5) wrong.piece.piece.block = 8;
         if (field == 6) wrong.piece.memory_type = 99;
+        if (field == 7) wrong.owner = NULL;
         IS(pilhangko_vulkan_is_live(&vulkan, &wrong, &live), PILHANGKO_OK);
         CHECK(!live && pilhangko_vulkan_mapped(&vulkan, &wrong) == NULL);
         IS(pilhangko_vulkan_free(&vulkan, &wrong), PILHANGKO_NOT_LIVE);
         IS(pilhangko_vulkan_flush(&vulkan, &wrong, 0, 1).status, PILHANGKO_NOT_LIVE);
         IS(pilhangko_vulkan_invalidate(&vulkan, &wrong, 0, 1).status, PILHANGKO_NOT_LIVE);
         IS(pilhangko_vulkan_rename(&vulkan, &wrong, "name"), PILHANGKO_NOT_LIVE);
+        IS(pilhangko_vulkan_rename(&vulkan, &wrong, "\xff"), PILHANGKO_INVALID);
         IS(pilhangko_vulkan_destroy_buffer(&vulkan, (VkBuffer)(uint64_t)5, &wrong), PILHANGKO_NOT_LIVE);
         IS(pilhangko_vulkan_destroy_image(&vulkan, (VkImage)(uint64_t)5, &wrong), PILHANGKO_NOT_LIVE);
     }
@@ -436,6 +439,20 @@ static void foreign_allocations(void) {
     IS(pilhangko_vulkan_free(&other, &others), PILHANGKO_OK);
     IS(pilhangko_vulkan_destroy(&other, NULL), PILHANGKO_OK);
     ends(&vulkan, 0);
+}
+
+/* An allocation of a block that has gone stays refused, also where another one has come with the same size at the same place. */
+static void gone_blocks(void) {
+    pilhangko_vulkan vulkan = made();
+    const pilhangko_vulkan_request large = asks(20 * MB, 1, PILHANGKO_LOCATION_UNKNOWN);
+    pilhangko_vulkan_allocation gone[40];
+    for (unsigned i = 0; i < 40; i++) {
+        gone[i] = allocates(&vulkan, &large);
+        for (unsigned j = 0; j < i; j++) IS(pilhangko_vulkan_free(&vulkan, &gone[j]), PILHANGKO_NOT_LIVE);
+        if (i < 39) IS(pilhangko_vulkan_free(&vulkan, &gone[i]), PILHANGKO_OK);
+    }
+    CHECK(fake.memory_count == 1);
+    ends(&vulkan, 1);
 }
 
 /* ---- the driver refuses */
@@ -753,6 +770,7 @@ int main(void) {
     invalid_requests();
     causes_without_a_question();
     foreign_allocations();
+    gone_blocks();
     driver_refusals();
     each_question_refused();
     each_host_request_refused();
