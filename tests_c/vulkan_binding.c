@@ -340,12 +340,7 @@ static void empty_handles_and_null(void) {
 static void invalid_requests(void) {
     pilhangko_vulkan vulkan = made();
     const pilhangko_vulkan_request good = asks(100, 31, PILHANGKO_LOCATION_GPU_ONLY);
-    VkBufferCreateInfo sparse = buffer_of(10);
-    VkImageCreateInfo disjoint = image_of(10, VK_IMAGE_TILING_LINEAR);
-    pilhangko_vulkan_placement astray = on_gpu;
     pilhangko_vulkan_allocation a;
-    VkBuffer buffer;
-    VkImage image;
     for (unsigned field = 0; field < 13; field++) {
         pilhangko_vulkan_request bad = good;
         if (field == 0) bad.requirements.size = 0;
@@ -364,6 +359,17 @@ static void invalid_requests(void) {
         IS(pilhangko_vulkan_allocate(&vulkan, &bad, &a).status, PILHANGKO_INVALID);
     }
     CHECK(fake.questions == 0);
+    ends(&vulkan, 0);
+}
+
+static void invalid_resources(void) {
+    pilhangko_vulkan vulkan = made();
+    VkBufferCreateInfo sparse = buffer_of(10);
+    VkImageCreateInfo disjoint = image_of(10, VK_IMAGE_TILING_LINEAR);
+    pilhangko_vulkan_placement astray = on_gpu;
+    pilhangko_vulkan_allocation a;
+    VkBuffer buffer;
+    VkImage image;
     sparse.flags = VK_BUFFER_CREATE_SPARSE_BINDING_BIT;
     IS(pilhangko_vulkan_create_buffer(&vulkan, &sparse, &on_gpu, &buffer, &a).status, PILHANGKO_INVALID);
     disjoint.flags = VK_IMAGE_CREATE_DISJOINT_BIT;
@@ -624,9 +630,7 @@ static void each_host_request_refused(void) {
         fake_begin();
         heap_requests = 0;
         heap_refused = request;
-        pilhangko_status status = pilhangko_vulkan_create(&vulkan, &settings);
-        if (status != PILHANGKO_OK) {
-            IS(status, PILHANGKO_HOST_OUT_OF_MEMORY);
+        if (pilhangko_vulkan_create(&vulkan, &settings) == PILHANGKO_HOST_OUT_OF_MEMORY) {
             CHECK(!vulkan.opaque && heap_held == 0);
             failed++;
             continue;
@@ -768,6 +772,7 @@ int main(void) {
     creations();
     empty_handles_and_null();
     invalid_requests();
+    invalid_resources();
     causes_without_a_question();
     foreign_allocations();
     gone_blocks();
