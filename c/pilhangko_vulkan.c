@@ -419,10 +419,12 @@ static pilhangko_status asks_for(const struct binding *b, const pilhangko_vulkan
     return PILHANGKO_OK;
 }
 
-static void tell_allocation(const struct binding *b, const pilhangko_allocator_piece *piece, pilhangko_vulkan_allocation *allocation) {
+static void tell_allocation(
+    const struct binding *b, const pilhangko_allocator_piece *piece, bool dedicated, pilhangko_vulkan_allocation *allocation) {
     allocation->memory = block_of(b, piece->piece.block)->memory;
     allocation->offset = piece->piece.offset;
     allocation->size = piece->piece.size;
+    allocation->dedicated = dedicated;
     allocation->piece = *piece;
     allocation->owner = b;
 }
@@ -441,7 +443,7 @@ static pilhangko_vulkan_result allocate(
     if (status == PILHANGKO_OK) status = progress.status;
     capture_allocation(b, &asks, request->name, status, &asked, status == PILHANGKO_OK ? &progress.piece : NULL);
     if (status != PILHANGKO_OK) return result_of(status, asked.driver);
-    tell_allocation(b, &progress.piece, allocation);
+    tell_allocation(b, &progress.piece, asks.scheme != PILHANGKO_SCHEME_MANAGED, allocation);
     b->live++;
     return undriven(PILHANGKO_OK);
 }

@@ -23,11 +23,11 @@ static void reply(const char *line) {
     if (replies) fprintf(replies, "%s\n", line);
 }
 
-static void reply_place(const pilhangko_vulkan_allocation *a, bool dedicated) {
+static void reply_place(const pilhangko_vulkan_allocation *a) {
     const pilhangko_memory_piece *p = &a->piece.piece;
     if (!replies) return;
     fprintf(replies, "ok type %zu slot %zu offset %llu size %llu chunk %llu dedicated %s mapped %s\n", a->piece.memory_type, p->slot,
-        (unsigned long long)p->offset, (unsigned long long)p->size, (unsigned long long)p->number, dedicated ? "true" : "false",
+        (unsigned long long)p->offset, (unsigned long long)p->size, (unsigned long long)p->number, a->dedicated ? "true" : "false",
         a->piece.mapped ? "true" : "false");
 }
 #endif

@@ -29,7 +29,7 @@ static void make_buffer(struct resource *r, VkDeviceSize bytes, uint32_t locatio
         .usage = VK_BUFFER_USAGE_TRANSFER_SRC_BIT | VK_BUFFER_USAGE_TRANSFER_DST_BIT};
     const pilhangko_vulkan_placement placement = {location, dedicated, name};
     check(pilhangko_vulkan_create_buffer(&vulkan, &info, &placement, &r->buffer, &r->allocation).status);
-    reply_place(&r->allocation, dedicated);
+    reply_place(&r->allocation);
 }
 
 static void make_image(struct resource *r, uint32_t width, uint32_t height, const char *name) {
@@ -38,7 +38,7 @@ static void make_image(struct resource *r, uint32_t width, uint32_t height, cons
         .usage = VK_IMAGE_USAGE_TRANSFER_SRC_BIT | VK_IMAGE_USAGE_TRANSFER_DST_BIT};
     const pilhangko_vulkan_placement placement = {PILHANGKO_LOCATION_GPU_ONLY, false, name};
     check(pilhangko_vulkan_create_image(&vulkan, &info, &placement, &r->image, &r->allocation).status);
-    reply_place(&r->allocation, false);
+    reply_place(&r->allocation);
     r->extent = info.extent;
     r->bytes = UINT64_C(4) * width * height;
 }

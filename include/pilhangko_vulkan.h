@@ -174,8 +174,9 @@ typedef struct pilhangko_vulkan_allocation {
     VkDeviceMemory memory;
     VkDeviceSize offset;
     VkDeviceSize size;
+    bool dedicated; /* whether the memory is for one buffer or image alone */
     pilhangko_allocator_piece piece;
-    const void *owner; /* whose it is */
+    const void *owner; /* the binding that it is of */
 } pilhangko_vulkan_allocation;
 
 /* Allocates memory. Where a memory type that the request allows needs flushes, the alignment is nonCoherentAtomSize at least, so that a

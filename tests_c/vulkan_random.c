@@ -180,7 +180,8 @@ static void allocates(void) {
     uint64_t alignment = raised(request.requirements.alignment, request.requirements.memoryTypeBits);
     pilhangko_allocator_request asks = {request.requirements.size, alignment, request.requirements.memoryTypeBits, request.kind,
         request.location, PILHANGKO_SCHEME_MANAGED, 0};
-    struct live it = {{VK_NULL_HANDLE, 1, 2, {3, false, {4, 5, 6, 7, 8}}, NULL}, VK_NULL_HANDLE, VK_NULL_HANDLE, alignment, request.kind};
+    struct live it = {
+        {VK_NULL_HANDLE, 1, 2, true, {3, false, {4, 5, 6, 7, 8}}, NULL}, VK_NULL_HANDLE, VK_NULL_HANDLE, alignment, request.kind};
     uint64_t first = fake.questions;
     struct foretold f = foretell(&asks, "", first);
     pilhangko_vulkan_result result = pilhangko_vulkan_allocate(&vulkan, &request, &it.allocation);
@@ -188,6 +189,7 @@ static void allocates(void) {
     CHECK(result.driver == f.driver && fake.questions == first + f.questions);
     if (f.status == PILHANGKO_OK) {
         meets(&it.allocation);
+        CHECK(!it.allocation.dedicated);
         reply_allocation(&it.allocation.piece, false);
         keeps(&it);
         allocated++;
@@ -269,6 +271,7 @@ static void creates(void) {
     CHECK(result.driver == f.driver && fake.questions == first + f.questions);
     if (f.status == PILHANGKO_OK) {
         meets(&it.allocation);
+        CHECK(it.allocation.dedicated == dedicated);
         reply_allocation(&it.allocation.piece, dedicated);
         keeps(&it);
         made++;
