@@ -337,7 +337,7 @@ static void ends_type(void) {
 
 static pilhangko_allocator allocator;
 static struct allocator_account account;
-static bool has_allocator;
+static bool has_allocator, has_addresses;
 
 static pilhangko_status allocator_status(bool changes, pilhangko_status status) {
     return !has_allocator ? PILHANGKO_NO_HANDLE : changes && account.awaits_answer ? PILHANGKO_AWAITS_ANSWER : status;
@@ -346,6 +346,7 @@ static pilhangko_status allocator_status(bool changes, pilhangko_status status) 
 static void begins_account(
     const pilhangko_device_memory_type *types, const pilhangko_device_heap *heaps, size_t count, const pilhangko_allocator_settings *s) {
     has_allocator = true;
+    has_addresses = s->device_address;
     account.type_count = count;
     account.awaits_answer = false;
     for (size_t i = 0; i < count; i++) {
@@ -386,7 +387,7 @@ static void is_progress(const pilhangko_allocator_progress *p, pilhangko_status 
     if (asks) {
         const uint64_t resource = account.request.scheme == PILHANGKO_SCHEME_MANAGED ? 0 : account.request.resource;
         CHECK(q->size == account.placed.block_size && q->memory_type == account.type && q->scheme == account.request.scheme);
-        CHECK(q->resource == resource && q->mapped == ((account.flags[account.type] & 2) != 0));
+        CHECK(q->resource == resource && q->mapped == ((account.flags[account.type] & 2) != 0) && q->device_address == has_addresses);
     } else {
         CHECK(q->size == 0 && q->memory_type == 0 && q->scheme == 0 && q->resource == 0 && !q->mapped && !q->device_address);
     }
