@@ -139,12 +139,10 @@ impl<D: MetalDevice> Session<D> {
                 alignment,
                 location,
                 name,
-            } => self.allocate(
-                log,
-                *key,
-                Wanted::Piece(*size, *alignment, *location),
-                name.as_str(),
-            ),
+            } => {
+                let wanted = Wanted::Piece(*size, *alignment, *location);
+                self.allocate(log, *key, wanted, name.as_str())
+            }
             Command::Buffer {
                 key,
                 length,
@@ -156,18 +154,13 @@ impl<D: MetalDevice> Session<D> {
                 size,
                 location,
                 name,
-            } => self.allocate(
-                log,
-                *key,
-                Wanted::AccelerationStructure(*size, *location),
-                name.as_str(),
-            ),
-            Command::Texture { key, texture, name } => self.allocate(
-                log,
-                *key,
-                Wanted::Texture(*texture),
-                name.as_str(),
-            ),
+            } => {
+                let wanted = Wanted::AccelerationStructure(*size, *location);
+                self.allocate(log, *key, wanted, name.as_str())
+            }
+            Command::Texture { key, texture, name } => {
+                self.allocate(log, *key, Wanted::Texture(*texture), name.as_str())
+            }
             Command::Free { key } => self.free(log, *key),
             Command::Heaps => self.heaps(),
             Command::Commit => self.commit(),
