@@ -1,13 +1,14 @@
 //! The gaps of a block in the order of length and start.
-ghost use Rattle.std.specs.Prelude.{◌≡◌, ℕ, ◌+◌, ◌<◌, ◌≤◌, List, [], length, slice_index_or, OnOk, OnErr, IsOk};
+ghost use Rattle.std.specs.Prelude.{◌≡◌, ℕ, ◌+◌, ◌^◌, ◌<◌, ◌≤◌, List, [], length, slice_index_or, OnOk, OnErr, IsOk};
 ghost use Rattle.std.specs.List.{AllPairs};
 ghost use Rattle.gpu_cost.specs.Cost.{Compares, Tests};
 ghost use Rattle.gpu_block_gaps.specs.Index.{Before, HasNoKey, HasKeyAt, IsInserted, IsRemoved, IsReplaced, HasLength};
 
+use crate::forest::Forest;
+use crate::key::Key;
 use crate::order::{Nearby, exchange, look_near, next_from, put, take};
 use crate::scan::Scan;
 use crate::thread::Thread;
-use gap_tree::{Forest, Key};
 use gpu_cost::Cost;
 use gpu_values::AllocationType;
 use std::alloc::{AllocError, Global};
@@ -15,6 +16,17 @@ use std::marker::Model;
 
 /// How many binary digits of a length its class tells, behind the first.
 const DIGITS: u32 = 4;
+
+/// For how many gaps more there is room at least, once it grows.
+const LEAST_GROWTH: usize = 4;
+
+/// For how many gaps there is room after it grew. Records are long, so that it grows by a quarter, and not to the double.
+fn grown(room: usize) -> usize
+    ensures { result + 1 < 2 ^ 32 }
+{
+    let most = u32::MAX as usize - 1;
+    most.min(room.saturating_add(LEAST_GROWTH.max(room / 4)))
+}
 
 /// A gap of a block, with what a test of it reads: the kinds of the pieces beside it, `Free` at an end of the block.
 #[derive(Clone, Copy)]
@@ -94,8 +106,9 @@ impl GapIndex {
         if count >= u32::MAX as usize {
             return Err(AllocError);
         }
-        self.forest.reserve_to(count)?;
-        self.thread.reserve_to(count)
+        let wanted = count.max(grown(self.thread.room()));
+        self.forest.reserve_to(wanted)?;
+        self.thread.reserve_to(wanted)
     }
 
     /// The gaps from the first of at least that length on, to be tested one after another.

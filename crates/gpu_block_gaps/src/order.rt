@@ -1,16 +1,18 @@
 //! The gaps in the order of length and start: their thread, and the trees that find a gap's slot.
 
 ghost use Rattle.std.specs.Prelude.{◌≡◌, ◌≢◌, ℕ, ◌+◌, ◌^◌, ◌<◌, ◌≤◌, List, length, slice_index, Option, Some, vec_len, slice_set};
-ghost use Rattle.gap_tree.specs.Key.{code_of};
-ghost use Rattle.gap_tree.specs.Tree.{Tree};
-ghost use Rattle.gap_tree.specs.Forest.{IsForest, IsWide, KeepsRoom, class_in};
-ghost use Rattle.gap_tree.specs.Order.{IsPlaceIn, Gains};
+ghost use Rattle.gpu_block_gaps.specs.Key.{code_of};
+ghost use Rattle.gpu_block_gaps.specs.Tree.{Tree};
+ghost use Rattle.gpu_block_gaps.specs.Forest.{IsForest, IsWide, KeepsRoom, class_in};
+ghost use Rattle.gpu_block_gaps.specs.Order.{IsPlaceIn, Gains};
 ghost use Rattle.gpu_block_gaps.specs.Index.{HasNoKey, HasKeyAt, IsInserted, IsRemoved, IsReplaced};
 ghost use Rattle.gpu_block_gaps.specs.Ordered.{code, key_in, gaps_of, AreIndexed, IsIndexed, IsNearby};
 
+use crate::forest::Forest;
 use crate::index::Gap;
+use crate::key::Key;
 use crate::thread::Thread;
-use gap_tree::{Forest, Key, Place};
+use crate::tree::Place;
 
 /// What the tree of a key's class has: nothing, the slot of that key, or a key that differs first in that bit.
 #[derive(Clone, Copy)]

@@ -2,7 +2,7 @@
 
 ghost use Rattle.std.specs.Prelude.{◌≡◌, ◌≢◌, ℕ, ◌+◌, ◌-◌, ◌^◌, ◌<◌, ◌≤◌, ◌∷◌, List, [], length, map, max, slice_index, slice_set, All, OnOk, OnErr, vec_len, vec_capacity};
 ghost use Rattle.std.specs.List.{AllPairs, insert, remove};
-ghost use Rattle.gap_tree.specs.Order.{IsIn};
+ghost use Rattle.gpu_block_gaps.specs.Order.{IsIn};
 ghost use Rattle.gpu_block_gaps.specs.Thread.{gap_in};
 ghost use Rattle.gpu_block_gaps.specs.Records.{next_in, prev_in, gap_of, order_of, LeadsTo, LeadsThrough, IsThread};
 
@@ -199,8 +199,9 @@ impl Thread {
     {
         let slots = count + 1;
         self.records
-            .reserve(slots.saturating_sub(self.records.len()))?;
-        self.spare.reserve(slots.saturating_sub(self.spare.len()))?;
+            .reserve_exact(slots.saturating_sub(self.records.len()))?;
+        self.spare
+            .reserve_exact(slots.saturating_sub(self.spare.len()))?;
         fill(&mut self.records, &mut self.spare, slots);
         Ok(())
     }

@@ -15,7 +15,7 @@ use gpu_block_gaps::{Gap, GapIndex};
 use gpu_cost::Cost;
 use gpu_values::AllocationType;
 
-/// Gives the front of the found gap to a piece. There is room for it, so no memory is taken.
+/// Puts a piece into the front of the found gap. There is room for it, so no memory is taken.
 pub fn allocate_front(
     chain: &mut Chain,
     index: &mut GapIndex,
@@ -61,7 +61,7 @@ pub fn allocate_front(
     index.replace(gap.length, gap.start, rest);
 }
 
-/// Gives the whole found gap to a piece. It takes no memory.
+/// Puts a piece into the whole found gap. It takes no memory.
 pub fn allocate_whole(
     chain: &mut Chain,
     index: &mut GapIndex,

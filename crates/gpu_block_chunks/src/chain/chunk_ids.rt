@@ -197,29 +197,28 @@ impl ChunkIds {
     }
 
     /// The slot of a chunk id.
-    pub fn find(&self, chunk_id: u64) -> Option<usize>
+    pub fn find(&self, chunk_id: u64) -> Option<u32>
         ensures { result ≡ slot_of self.now chunk_id }
     {
-        let slot = find(&self.heads, &self.entries, chunk_id)?;
-        Some(slot as usize)
+        find(&self.heads, &self.entries, chunk_id)
     }
 
     /// Puts a chunk id, which no slot has, into a slot without one.
-    pub fn insert(&mut self, chunk_id: u64, slot: usize)
+    pub fn insert(&mut self, chunk_id: u64, slot: u32)
         requires new { slot_of self.old chunk_id ≡ None }
         requires vacant { slice_get self.old slot ≡ Some None }
         ensures { self.new ≡ slice_set self.old slot (Some chunk_id) }
     {
-        link(&mut self.heads, &mut self.entries, chunk_id, slot as u32);
+        link(&mut self.heads, &mut self.entries, chunk_id, slot);
     }
 
     /// Takes a chunk id out of its slot.
-    pub fn remove(&mut self, chunk_id: u64, slot: usize)
+    pub fn remove(&mut self, chunk_id: u64, slot: u32)
         requires { id_at self.old slot ≡ Some chunk_id }
         ensures ids { self.new ≡ slice_set self.old slot None }
         ensures gone { slot_of self.new chunk_id ≡ None }
     {
-        unlink(&mut self.heads, &mut self.entries, chunk_id, slot as u32);
+        unlink(&mut self.heads, &mut self.entries, chunk_id, slot);
     }
 
     /// The same ids in the same slots, of which there are so many, and as many heads.
@@ -231,7 +230,7 @@ impl ChunkIds {
         let mut wide = ChunkIds::with_slots(*self.heads.allocator(), slots)?;
         for slot in 0..self.entries.len() {
             if let Some(entry) = self.entries[slot] {
-                wide.insert(entry.chunk_id, slot);
+                wide.insert(entry.chunk_id, slot as u32);
             }
         }
         Ok(wide)
@@ -241,7 +240,10 @@ impl ChunkIds {
     pub fn reserve_to(&mut self, slots: usize) -> Result<(), AllocError>
         ensures same { (more : ℕ) × (self.new ≡ self.old ++ replicate more None) }
         ensures room { OnOk result (slots ≤ length self.new) }
+        ensures few { length self.new ≤ 2 ^ 32 }
     {
+        // a read, so that the proof has the invariant
+        let _entries = &self.entries;
         if slots > MOST {
             return Err(AllocError);
         }
@@ -250,7 +252,7 @@ impl ChunkIds {
             return Ok(());
         }
         self.entries
-            .reserve(slots.saturating_sub(self.entries.len()))?;
+            .reserve_exact(slots.saturating_sub(self.entries.len()))?;
         while self.entries.len() < slots {
             self.entries.push_reserved(None);
         }

@@ -21,6 +21,9 @@ enum Slot {
     Free(Option<usize>),
 }
 
+// All but the name lies in the first 64 of its bytes.
+const _: () = prove!(size_of::<Slot>() == 96);
+
 impl Slot {
     ghost use Rattle.gpu_block_chunks.specs.contracts.chain.slots.Slot.{the_row};
     ghost use Rattle.gpu_block_chunks.specs.contracts.chain.link.LinkedChunk as chunk_type;
