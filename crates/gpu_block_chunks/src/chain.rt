@@ -61,13 +61,16 @@ impl Model for Chain {
       room = room_of s.nodes;
     } };
 
-    ghost invariant = { λ s. IsChain (held_at s.nodes) s.first s.size (walk s.size (held_at s.nodes) (Some s.first)) };
+    ghost invariant = { λ s. IsChain (held_at s.nodes) s.first s.size
+        (walk s.size (held_at s.nodes) (Some s.first)) };
 }
 
 /// The one way to read a chunk by its number.
 fn node_at<'a>(nodes: &'a Nodes, chunk_id: u64, cost: &mut Cost) -> Option<&'a LinkedChunk>
-    ensures value { option_map (node_value nodes.now.ids) (option_copied result) ≡ held_at nodes.now chunk_id }
-    ensures links { IfSome result (λ n. IsTaken nodes.now.ids n.now.prev × IsTaken nodes.now.ids n.now.next) }
+    ensures value { option_map (node_value nodes.now.ids) (option_copied result)
+        ≡ held_at nodes.now chunk_id }
+    ensures links { IfSome result (λ n. IsTaken nodes.now.ids n.now.prev
+        × IsTaken nodes.now.ids n.now.next) }
     ensures counted { LooksUp 1 cost.old cost.new }
 {
     cost.look_up();
@@ -153,7 +156,8 @@ impl Chain {
 
     /// The chunk of that number, and the number of the next one.
     pub fn chunk(&self, chunk_id: u64, cost: &mut Cost) -> Option<(&Chunk, Option<u64>)>
-        ensures value { MatchOption result (HasNoChunkId self.now.chunks chunk_id) (λ p. IsChunkAt self.now.chunks chunk_id p.0.now p.1) }
+        ensures value { MatchOption result (HasNoChunkId self.now.chunks chunk_id)
+            (λ p. IsChunkAt self.now.chunks chunk_id p.0.now p.1) }
         ensures counted { LooksUp 1 cost.old cost.new }
     {
         // a read, so that the proof has the invariant
@@ -164,7 +168,8 @@ impl Chain {
 
     /// The chunk of that number, and what stands beside it.
     pub fn around(&self, chunk_id: u64, cost: &mut Cost) -> Option<Neighbours>
-        ensures value { MatchOption result (HasNoChunkId self.now.chunks chunk_id) (λ a. AreNeighbours self.now.chunks chunk_id a) }
+        ensures value { MatchOption result (HasNoChunkId self.now.chunks chunk_id)
+            (λ a. AreNeighbours self.now.chunks chunk_id a) }
         ensures counted { LooksUp (1 + neighbours result) cost.old cost.new }
     {
         // a read, so that the proof has the invariant
@@ -207,7 +212,8 @@ impl Chain {
         requires positive { 0 < taken }
         requires fresh { HasNoChunkId self.old.chunks new }
         requires room { 0 < self.old.room }
-        ensures chunks { IsSplit self.old.chunks chunk_id taken new offset kind name self.new.chunks }
+        ensures chunks { IsSplit self.old.chunks chunk_id taken new offset kind name
+            self.new.chunks }
         ensures size { self.new.size ≡ self.old.size }
         ensures counted { LooksUpBetween 3 4 cost.old cost.new }
     {

@@ -31,7 +31,8 @@ impl Model for ClassSet {
 /// The first bit of a word from one on that is set.
 fn first_from(word: u64, from: u32) -> Option<u32>
     requires { from < 64 }
-    ensures { MatchOption result (NoneFrom (bit_of word) from) (λ k. (k < 64) × IsFirst (bit_of word) from k) }
+    ensures { MatchOption result (NoneFrom (bit_of word) from)
+        (λ k. (k < 64) × IsFirst (bit_of word) from k) }
 {
     let rest = word >> from;
     if rest == 0 {
@@ -43,7 +44,8 @@ fn first_from(word: u64, from: u32) -> Option<u32>
 /// The first bit of the words from one on that is set.
 fn next_bit(words: &[u64], from: usize) -> Option<usize>
     requires { length words.now < 2 ^ 32 }
-    ensures { MatchOption result (NoneFrom (is_in words.now) from) (IsFirst (is_in words.now) from) }
+    ensures { MatchOption result (NoneFrom (is_in words.now) from)
+        (IsFirst (is_in words.now) from) }
 {
     let start = from / WORD;
     if start >= words.len() {
@@ -123,7 +125,8 @@ impl ClassSet {
 
     /// The first number of the set from one on.
     pub fn next_from(&self, class: usize) -> Option<usize>
-        ensures { MatchOption result (NoneFrom (is_in self.now) class) (IsFirst (is_in self.now) class) }
+        ensures { MatchOption result (NoneFrom (is_in self.now) class)
+            (IsFirst (is_in self.now) class) }
     {
         let word = class / WORD;
         if word >= self.words.len() {

@@ -43,9 +43,11 @@ impl Forest {
     /// Makes a place for a root of each class. A refusal changes nothing.
     fn widen(&mut self) -> Result<(), AllocError>
         requires { self.old.digits < 24 }
-        ensures trees { (at : ℕ → ℕ) (trees : List (Option Tree)) → IsForest at self.old trees → (same : List (Option Tree)) × IsForest at self.new same × KeepsTrees trees same }
+        ensures trees { (at : ℕ → ℕ) (trees : List (Option Tree)) → IsForest at self.old trees
+            → (same : List (Option Tree)) × IsForest at self.new same × KeepsTrees trees same }
         ensures wide { OnOk result (0 < vec_len self.old.roots ⊎ IsWide self.new) }
-        ensures kept { (0 < vec_len self.old.roots → self.new ≡ self.old) × (self.new.forks ≡ self.old.forks) × (self.new.digits ≡ self.old.digits) }
+        ensures kept { (0 < vec_len self.old.roots → self.new ≡ self.old)
+            × (self.new.forks ≡ self.old.forks) × (self.new.digits ≡ self.old.digits) }
     {
         if !self.roots.is_empty() {
             return Ok(());
@@ -64,9 +66,13 @@ impl Forest {
         requires few { vec_len self.old.forks < 2 ^ 32 }
         requires forks { vec_len self.old.forks < vec_capacity self.old.forks }
         requires spare { vec_len self.old.spare < vec_capacity self.old.spare }
-        ensures trees { (at : ℕ → ℕ) (trees : List (Option Tree)) → vec_len self.old.forks < vec_capacity self.old.spare → IsForest at self.old trees → IsForest at self.new trees }
-        ensures slots { (vec_len self.new.forks ≡ vec_len self.old.forks + 1) × (vec_len self.new.spare ≡ vec_len self.old.spare + 1) }
-        ensures room { (vec_capacity self.new.forks ≡ vec_capacity self.old.forks) × (vec_capacity self.new.spare ≡ vec_capacity self.old.spare) }
+        ensures trees { (at : ℕ → ℕ) (trees : List (Option Tree))
+            → vec_len self.old.forks < vec_capacity self.old.spare → IsForest at self.old trees
+            → IsForest at self.new trees }
+        ensures slots { (vec_len self.new.forks ≡ vec_len self.old.forks + 1)
+            × (vec_len self.new.spare ≡ vec_len self.old.spare + 1) }
+        ensures room { (vec_capacity self.new.forks ≡ vec_capacity self.old.forks)
+            × (vec_capacity self.new.spare ≡ vec_capacity self.old.spare) }
         ensures others { (self.new.roots ≡ self.old.roots) × (self.new.digits ≡ self.old.digits) }
     {
         self.spare.push_reserved(self.forks.len() as u32);
@@ -81,9 +87,11 @@ impl Forest {
     pub fn reserve_to(&mut self, count: usize) -> Result<(), AllocError>
         requires forest { (at : ℕ → ℕ) × (trees : List (Option Tree)) × IsForest at self.old trees }
         requires few { count < 2 ^ 32 }
-        ensures trees { (at : ℕ → ℕ) (trees : List (Option Tree)) → IsForest at self.old trees → (same : List (Option Tree)) × IsForest at self.new same × KeepsTrees trees same }
+        ensures trees { (at : ℕ → ℕ) (trees : List (Option Tree)) → IsForest at self.old trees
+            → (same : List (Option Tree)) × IsForest at self.new same × KeepsTrees trees same }
         ensures room { OnOk result (IsWide self.new × (count ≤ vec_len self.new.forks)) }
-        ensures kept { (IsWide self.old → IsWide self.new) × (vec_len self.old.forks ≤ vec_len self.new.forks) }
+        ensures kept { (IsWide self.old → IsWide self.new)
+            × (vec_len self.old.forks ≤ vec_len self.new.forks) }
         ensures digits { self.new.digits ≡ self.old.digits }
     {
         self.widen()?;
@@ -117,8 +125,10 @@ impl Forest {
     /// The leaf to which the bits of a key lead, in the tree of its class.
     pub fn near(&self, key: Key) -> Option<u32>
         requires { (at : ℕ → ℕ) × (trees : List (Option Tree)) × IsForest at self.now trees }
-        ensures { (at : ℕ → ℕ) (trees : List (Option Tree)) → IsForest at self.now trees → let class = class_in self.now.digits (code_of key) in
-            MatchOption result (tree_at trees class ≡ None) (λ leaf. (t : Tree) × (tree_at trees class ≡ Some t) × (leaf ≡ near (code_of key) t)) }
+        ensures { (at : ℕ → ℕ) (trees : List (Option Tree)) → IsForest at self.now trees
+            → let class = class_in self.now.digits (code_of key)
+            in MatchOption result (tree_at trees class ≡ None)
+            (λ leaf. (t : Tree) × (tree_at trees class ≡ Some t) × (leaf ≡ near (code_of key) t)) }
     {
         let root = self.root(self.class(key))?;
         Some(nearest(&self.forks, root, key))
@@ -128,7 +138,8 @@ impl Forest {
     pub fn place(&self, key: Key, bit: u32) -> Place
         requires there { HasTree self.now (code_of key) }
         requires bit { bit < 128 }
-        ensures { (at : ℕ → ℕ) (trees : List (Option Tree)) (t : Tree) → IsForest at self.now trees → tree_at trees (class_in self.now.digits (code_of key)) ≡ Some t
+        ensures { (at : ℕ → ℕ) (trees : List (Option Tree)) (t : Tree) → IsForest at self.now trees
+            → tree_at trees (class_in self.now.digits (code_of key)) ≡ Some t
             → IsSplit at t (code_of key) bit → IsPlace at (code_of key) (leaves_of t) result }
     {
         match self.root(self.class(key)) {
@@ -140,8 +151,10 @@ impl Forest {
     /// The first leaf of the classes behind that of a key.
     pub fn first_later(&self, key: Key) -> Option<u32>
         requires { (at : ℕ → ℕ) × (trees : List (Option Tree)) × IsForest at self.now trees }
-        ensures { (at : ℕ → ℕ) (trees : List (Option Tree)) → IsForest at self.now trees → let class = class_in self.now.digits (code_of key) in
-            MatchOption result ((c : ℕ) → class < c → tree_at trees c ≡ None) (IsFirstLater trees class) }
+        ensures { (at : ℕ → ℕ) (trees : List (Option Tree)) → IsForest at self.now trees
+            → let class = class_in self.now.digits (code_of key)
+            in MatchOption result ((c : ℕ) → class < c → tree_at trees c ≡ None)
+            (IsFirstLater trees class) }
     {
         let class = self.classes.next_from(self.class(key) + 1)?;
         match self.root(class) {
@@ -154,8 +167,10 @@ impl Forest {
     pub fn insert_first(&mut self, key: Key, leaf: u32)
         requires forest { (at : ℕ → ℕ) × (trees : List (Option Tree)) × IsForest at self.old trees }
         requires wide { IsWide self.old }
-        ensures trees { (at : ℕ → ℕ) (trees : List (Option Tree)) → IsForest at self.old trees → at leaf ≡ code_of key → let class = class_in self.old.digits (code_of key) in
-            tree_at trees class ≡ None → IsForest at self.new (slice_set trees class (Some (tip leaf))) }
+        ensures trees { (at : ℕ → ℕ) (trees : List (Option Tree)) → IsForest at self.old trees
+            → at leaf ≡ code_of key → let class = class_in self.old.digits (code_of key)
+            in tree_at trees class ≡ None
+            → IsForest at self.new (slice_set trees class (Some (tip leaf))) }
         ensures room { KeepsRoom self.old self.new }
     {
         let class = self.class(key);
@@ -168,9 +183,12 @@ impl Forest {
         requires there { HasTree self.old (code_of key) }
         requires bit { bit < 128 }
         requires spare { 0 < vec_len self.old.spare }
-        ensures trees { (at : ℕ → ℕ) (trees : List (Option Tree)) (t : Tree) → IsForest at self.old trees → at leaf ≡ code_of key
-            → let class = class_in self.old.digits (code_of key) in tree_at trees class ≡ Some t → IsSplit at t (code_of key) bit
-            → (grows : Tree) × IsForest at self.new (slice_set trees class (Some grows)) × AddsLeaf leaf t grows }
+        ensures trees { (at : ℕ → ℕ) (trees : List (Option Tree)) (t : Tree)
+            → IsForest at self.old trees → at leaf ≡ code_of key
+            → let class = class_in self.old.digits (code_of key) in tree_at trees class ≡ Some t
+            → IsSplit at t (code_of key) bit
+            → (grows : Tree) × IsForest at self.new (slice_set trees class (Some grows))
+            × AddsLeaf leaf t grows }
         ensures room { KeepsRoom self.old self.new }
     {
         let class = self.class(key);
@@ -186,9 +204,14 @@ impl Forest {
     /// Takes the leaf to which the bits of a key lead out of the tree of its class.
     pub fn remove(&mut self, key: Key) -> u32
         requires { HasTree self.old (code_of key) }
-        ensures trees { (at : ℕ → ℕ) (trees : List (Option Tree)) (t : Tree) → IsForest at self.old trees → let class = class_in self.old.digits (code_of key) in
-            tree_at trees class ≡ Some t → (rest : Option Tree) × IsForest at self.new (slice_set trees class rest) × LosesLeaf (near (code_of key) t) t rest }
-        ensures leaf { (at : ℕ → ℕ) (trees : List (Option Tree)) (t : Tree) → IsForest at self.old trees → tree_at trees (class_in self.old.digits (code_of key)) ≡ Some t
+        ensures trees { (at : ℕ → ℕ) (trees : List (Option Tree)) (t : Tree)
+            → IsForest at self.old trees → let class = class_in self.old.digits (code_of key)
+            in tree_at trees class ≡ Some t
+            → (rest : Option Tree) × IsForest at self.new (slice_set trees class rest)
+            × LosesLeaf (near (code_of key) t) t rest }
+        ensures leaf { (at : ℕ → ℕ) (trees : List (Option Tree)) (t : Tree)
+            → IsForest at self.old trees
+            → tree_at trees (class_in self.old.digits (code_of key)) ≡ Some t
             → result ≡ near (code_of key) t }
         ensures room { KeepsRoom self.old self.new }
     {

@@ -78,7 +78,8 @@ impl GapIndex {
 
     /// The length of the longest gap, which is the last one; 0 where there is none. It counts as a test.
     pub fn longest(&self, cost: &mut Cost) -> u64
-        ensures bound { (k : ℕ) (d : Gap) → k < length self.now.gaps → (slice_index_or self.now.gaps k d).length ≤ result }
+        ensures bound { (k : ℕ) (d : Gap) → k < length self.now.gaps
+            → (slice_index_or self.now.gaps k d).length ≤ result }
         ensures reached { 0 < result → HasLength self.now.gaps result }
         ensures counted { Tests 1 cost.old cost.new }
     {
@@ -115,8 +116,10 @@ impl GapIndex {
     pub fn first_at_least(&self, size: u64, cost: &mut Cost) -> Scan<'_>
         ensures gaps { result.gaps ≡ self.now.gaps }
         ensures within { result.place ≤ length self.now.gaps }
-        ensures below { (k : ℕ) (d : Gap) → k < result.place → (slice_index_or self.now.gaps k d).length < size }
-        ensures from { (k : ℕ) (d : Gap) → result.place ≤ k → k < length self.now.gaps → size ≤ (slice_index_or self.now.gaps k d).length }
+        ensures below { (k : ℕ) (d : Gap) → k < result.place
+            → (slice_index_or self.now.gaps k d).length < size }
+        ensures from { (k : ℕ) (d : Gap) → result.place ≤ k → k < length self.now.gaps
+            → size ≤ (slice_index_or self.now.gaps k d).length }
         ensures ordered { AllPairs Before self.now.gaps }
         ensures counted { Compares (length self.now.gaps) cost.old cost.new }
     {
@@ -158,7 +161,8 @@ impl GapIndex {
     /// Puts a gap in its place, and the one of that length and start away. It takes no memory.
     pub fn replace(&mut self, size: u64, start: u64, gap: Gap)
         requires there { HasKeyAt self.old.gaps size start }
-        requires fresh { (rest : List Gap) → IsRemoved self.old.gaps size start rest → HasNoKey rest gap.length gap.start }
+        requires fresh { (rest : List Gap) → IsRemoved self.old.gaps size start rest
+            → HasNoKey rest gap.length gap.start }
         ensures gaps { IsReplaced self.old.gaps size start gap self.new.gaps }
         ensures ordered { AllPairs Before self.old.gaps }
         ensures room { self.new.room ≡ self.old.room }

@@ -29,7 +29,8 @@ impl Key {
     /// The highest bit in which two keys differ.
     pub fn split(self, other: Key) -> Option<u32>
         ensures { MatchOption result (self ≡ other)
-            (λ bit. (bit < 128) × (code_of self / 2 ^ (bit + 1) ≡ code_of other / 2 ^ (bit + 1)) × (code_of self / 2 ^ bit ≢ code_of other / 2 ^ bit)) }
+            (λ bit. (bit < 128) × (code_of self / 2 ^ (bit + 1) ≡ code_of other / 2 ^ (bit + 1))
+            × (code_of self / 2 ^ bit ≢ code_of other / 2 ^ bit)) }
     {
         if self.length != other.length {
             Some(127 - (self.length ^ other.length).leading_zeros())

@@ -47,7 +47,8 @@ impl Fork {
 
     /// The fork with another branch of the keys with the bit, or of those without it.
     fn with_branch(self, set: bool, branch: Node) -> Fork
-        ensures { result ≡ (if set then record self { one = branch } else record self { zero = branch }) }
+        ensures { result ≡ (if set then record self { one = branch }
+            else record self { zero = branch }) }
     {
         if set {
             Fork {
@@ -64,7 +65,8 @@ impl Fork {
 
     /// A fork with a leaf beside a node, along the branch of the keys with the bit or of those without it.
     fn beside(bit: u32, set: bool, node: Node, leaf: u32) -> Fork
-        ensures { result ≡ (if set then record { zero = node; one = Node.Leaf leaf; bit = bit } else record { zero = Node.Leaf leaf; one = node; bit = bit }) }
+        ensures { result ≡ (if set then record { zero = node; one = Node.Leaf leaf; bit = bit }
+            else record { zero = Node.Leaf leaf; one = node; bit = bit }) }
     {
         let leaf = Node::Leaf(leaf);
         if set {
@@ -141,8 +143,10 @@ pub fn insert(forks: &mut [Fork], node: Node, key: Key, bit: u32, leaf: u32, slo
     requires laid { (t : Tree) × Lays (slice_get forks.old) 128 node t }
     requires slot { slot < length forks.old }
     requires bit { bit < 128 }
-    ensures { (at : ℕ → ℕ) (top : ℕ) (t : Tree) → CanGrow at (slice_get forks.old) top node t (code_of key) bit slot
-        → HasGrown (slice_get forks.old) (slice_get forks.new) top result t (grown (code_of key) bit leaf slot t) slot }
+    ensures { (at : ℕ → ℕ) (top : ℕ) (t : Tree)
+        → CanGrow at (slice_get forks.old) top node t (code_of key) bit slot
+        → HasGrown (slice_get forks.old) (slice_get forks.new) top result t
+        (grown (code_of key) bit leaf slot t) slot }
 {
     if let Node::Branch(at) = node {
         let fork = fork_in(forks, at);
@@ -161,7 +165,8 @@ pub fn insert(forks: &mut [Fork], node: Node, key: Key, bit: u32, leaf: u32, slo
 pub fn place_of(forks: &[Fork], node: Node, key: Key, bit: u32) -> Place
     requires laid { (t : Tree) × Lays (slice_get forks.now) 128 node t }
     requires bit { bit < 128 }
-    ensures { (at : ℕ → ℕ) (t : Tree) → Lays (slice_get forks.now) 128 node t → IsSplit at t (code_of key) bit → IsPlace at (code_of key) (leaves_of t) result }
+    ensures { (at : ℕ → ℕ) (t : Tree) → Lays (slice_get forks.now) 128 node t
+        → IsSplit at t (code_of key) bit → IsPlace at (code_of key) (leaves_of t) result }
 {
     if let Node::Branch(at) = node {
         let fork = fork_in(forks, at);
@@ -179,9 +184,12 @@ pub fn place_of(forks: &[Fork], node: Node, key: Key, bit: u32) -> Place
 /// Takes the leaf to which the bits of a key lead out of the tree at a fork.
 pub fn remove(forks: &mut [Fork], slot: u32, key: Key) -> Cut
     requires { (t : Tree) × Lays (slice_get forks.old) 128 (Node.Branch slot) t }
-    ensures tree { (at : ℕ → ℕ) (top : ℕ) (t : Tree) → Lays (slice_get forks.old) top (Node.Branch slot) t → Sorted at t
-        → HasPruned (slice_get forks.old) (slice_get forks.new) top result.node t (code_of key) result.slot }
-    ensures leaf { (t : Tree) → Lays (slice_get forks.old) 128 (Node.Branch slot) t → result.leaf ≡ near (code_of key) t }
+    ensures tree { (at : ℕ → ℕ) (top : ℕ) (t : Tree)
+        → Lays (slice_get forks.old) top (Node.Branch slot) t → Sorted at t
+        → HasPruned (slice_get forks.old) (slice_get forks.new) top result.node t (code_of key)
+        result.slot }
+    ensures leaf { (t : Tree) → Lays (slice_get forks.old) 128 (Node.Branch slot) t
+        → result.leaf ≡ near (code_of key) t }
 {
     let fork = fork_in(forks, slot);
     let set = key.is_set(fork.bit);

@@ -80,7 +80,8 @@ fn set_follower(
 )
     requires chain { chain < length heads.old }
     requires before { IfSome before (λ s. IsSome (slice_index_or entries.old s None)) }
-    ensures links { ChangesLink (link_at heads.old entries.old) (link_at heads.new entries.new) chain before link }
+    ensures links { ChangesLink (link_at heads.old entries.old) (link_at heads.new entries.new)
+        chain before link }
     ensures ids { ids_in entries.new ≡ ids_in entries.old }
     ensures heads { length heads.new ≡ length heads.old }
 {
@@ -103,8 +104,9 @@ fn above(
     chunk_id: u64,
 ) -> Option<u32>
     requires { chain < length heads.now }
-    ensures { let link = link_at heads.now entries.now chain before in let ids = ids_in entries.now in
-        MatchOption result (NoneAbove ids link chunk_id) (λ s. (link ≡ Some s) × IsAbove ids s chunk_id) }
+    ensures { let link = link_at heads.now entries.now chain before in let ids = ids_in entries.now
+        in MatchOption result (NoneAbove ids link chunk_id)
+        (λ s. (link ≡ Some s) × IsAbove ids s chunk_id) }
 {
     let slot = follower(heads, entries, chain, before)?;
     match entry_at(entries, slot) {

@@ -32,7 +32,15 @@ impl LinkedChunk {
         next: Option<u32>,
     ) -> LinkedChunk
         ensures links { (result.prev ≡ prev) × (result.next ≡ next) }
-        ensures value { result.chunk ≡ record { start = here.start; size = here.size; offset = offset; kind = here.kind; chunk_id = here.chunk_id; name = name } }
+        ensures value { result.chunk ≡ record {
+          start = here.start;
+          size = here.size;
+          offset = offset;
+          kind = here.kind;
+          chunk_id =
+              here.chunk_id;
+          name = name;
+        } }
     {
         let chunk = Chunk {
             start: here.start,

@@ -27,7 +27,8 @@ pub fn linked_at<'a>(nodes: &'a Nodes, at: Link, cost: &mut Cost) -> &'a LinkedC
 pub fn set_next(nodes: &mut Nodes, at: Link, next: Option<Link>, cost: &mut Cost)
     requires there { Reaches nodes.old (Some at) }
     requires next { Leads nodes.old next }
-    ensures changes { ChangesAt at.chunk_id (with_next (link_chunk_id next)) (held_at nodes.old) (held_at nodes.new) }
+    ensures changes { ChangesAt at.chunk_id (with_next (link_chunk_id next)) (held_at nodes.old)
+        (held_at nodes.new) }
     ensures ids { nodes.new.ids ≡ nodes.old.ids }
     ensures room { room_of nodes.new ≡ room_of nodes.old }
     ensures counted { LooksUp 1 cost.old cost.new }
@@ -43,7 +44,8 @@ pub fn set_next(nodes: &mut Nodes, at: Link, next: Option<Link>, cost: &mut Cost
 pub fn set_prev(nodes: &mut Nodes, at: Link, prev: Option<Link>, cost: &mut Cost)
     requires there { Reaches nodes.old (Some at) }
     requires prev { Leads nodes.old prev }
-    ensures changes { ChangesAt at.chunk_id (with_prev (link_chunk_id prev)) (held_at nodes.old) (held_at nodes.new) }
+    ensures changes { ChangesAt at.chunk_id (with_prev (link_chunk_id prev)) (held_at nodes.old)
+        (held_at nodes.new) }
     ensures ids { nodes.new.ids ≡ nodes.old.ids }
     ensures room { room_of nodes.new ≡ room_of nodes.old }
     ensures counted { LooksUp 1 cost.old cost.new }
@@ -57,10 +59,12 @@ pub fn set_prev(nodes: &mut Nodes, at: Link, prev: Option<Link>, cost: &mut Cost
 
 /// Takes that much off a chunk's front.
 pub fn cut_front(nodes: &mut Nodes, at: Link, taken: u64, prev: Option<Link>, cost: &mut Cost)
-    requires longer { IsSomeAnd (held_at nodes.old at.chunk_id) (λ n. (taken < (n.chunk).size) × ((n.chunk).start + (n.chunk).size < 2 ^ 64)) }
+    requires longer { IsSomeAnd (held_at nodes.old at.chunk_id)
+        (λ n. (taken < (n.chunk).size) × ((n.chunk).start + (n.chunk).size < 2 ^ 64)) }
     requires leads { Leads nodes.old (Some at) }
     requires prev { Leads nodes.old prev }
-    ensures changes { ChangesAt at.chunk_id (cut_node taken (link_chunk_id prev)) (held_at nodes.old) (held_at nodes.new) }
+    ensures changes { ChangesAt at.chunk_id (cut_node taken (link_chunk_id prev))
+        (held_at nodes.old) (held_at nodes.new) }
     ensures ids { nodes.new.ids ≡ nodes.old.ids }
     ensures room { room_of nodes.new ≡ room_of nodes.old }
     ensures counted { LooksUp 1 cost.old cost.new }
@@ -81,10 +85,12 @@ pub fn cut_front(nodes: &mut Nodes, at: Link, taken: u64, prev: Option<Link>, co
 
 /// Makes a chunk longer.
 pub fn lengthen(nodes: &mut Nodes, at: Link, more: u64, next: Option<Link>, cost: &mut Cost)
-    requires fits { IsSomeAnd (held_at nodes.old at.chunk_id) (λ n. (n.chunk).size + more < 2 ^ 64) }
+    requires fits { IsSomeAnd (held_at nodes.old at.chunk_id)
+        (λ n. (n.chunk).size + more < 2 ^ 64) }
     requires leads { Leads nodes.old (Some at) }
     requires next { Leads nodes.old next }
-    ensures changes { ChangesAt at.chunk_id (joined_node more (link_chunk_id next)) (held_at nodes.old) (held_at nodes.new) }
+    ensures changes { ChangesAt at.chunk_id (joined_node more (link_chunk_id next))
+        (held_at nodes.old) (held_at nodes.new) }
     ensures ids { nodes.new.ids ≡ nodes.old.ids }
     ensures room { room_of nodes.new ≡ room_of nodes.old }
     ensures counted { LooksUp 1 cost.old cost.new }
@@ -103,7 +109,8 @@ pub fn lengthen(nodes: &mut Nodes, at: Link, more: u64, next: Option<Link>, cost
 pub fn set_next_of(nodes: &mut Nodes, at: Option<Link>, next: Option<Link>, cost: &mut Cost)
     requires there { Reaches nodes.old at }
     requires next { Leads nodes.old next }
-    ensures changes { ChangesAtOpt (link_chunk_id at) (with_next (link_chunk_id next)) (held_at nodes.old) (held_at nodes.new) }
+    ensures changes { ChangesAtOpt (link_chunk_id at) (with_next (link_chunk_id next))
+        (held_at nodes.old) (held_at nodes.new) }
     ensures ids { nodes.new.ids ≡ nodes.old.ids }
     ensures room { room_of nodes.new ≡ room_of nodes.old }
     ensures counted { LooksUp (if is_some at then 1 else 0) cost.old cost.new }
@@ -117,7 +124,8 @@ pub fn set_next_of(nodes: &mut Nodes, at: Option<Link>, next: Option<Link>, cost
 pub fn set_prev_of(nodes: &mut Nodes, at: Option<Link>, prev: Option<Link>, cost: &mut Cost)
     requires there { Reaches nodes.old at }
     requires prev { Leads nodes.old prev }
-    ensures changes { ChangesAtOpt (link_chunk_id at) (with_prev (link_chunk_id prev)) (held_at nodes.old) (held_at nodes.new) }
+    ensures changes { ChangesAtOpt (link_chunk_id at) (with_prev (link_chunk_id prev))
+        (held_at nodes.old) (held_at nodes.new) }
     ensures ids { nodes.new.ids ≡ nodes.old.ids }
     ensures room { room_of nodes.new ≡ room_of nodes.old }
     ensures counted { LooksUp (if is_some at then 1 else 0) cost.old cost.new }
@@ -138,8 +146,9 @@ pub struct Ends {
 /// Where the chunk that a link leads to stands.
 pub fn ends_of(nodes: &Nodes, at: Link, cost: &mut Cost) -> Ends
     requires { Reaches nodes.now (Some at) }
-    ensures ends { (n : Node) → held_at nodes.now at.chunk_id ≡ Some n →
-        (result.start ≡ (n.chunk).start) × (number_at nodes.now.ids result.prev ≡ n.prev) × (number_at nodes.now.ids result.next ≡ n.next) }
+    ensures ends { (n : Node) → held_at nodes.now at.chunk_id ≡ Some n
+        → (result.start ≡ (n.chunk).start) × (number_at nodes.now.ids result.prev ≡ n.prev)
+        × (number_at nodes.now.ids result.next ≡ n.next) }
     ensures links { IsTaken nodes.now.ids result.prev × IsTaken nodes.now.ids result.next }
     ensures counted { LooksUp 1 cost.old cost.new }
 {
@@ -178,7 +187,8 @@ pub fn set_use(
     cost: &mut Cost,
 )
     requires { Reaches nodes.old (Some at) }
-    ensures changes { ChangesAt at.chunk_id (used_node offset kind name) (held_at nodes.old) (held_at nodes.new) }
+    ensures changes { ChangesAt at.chunk_id (used_node offset kind name) (held_at nodes.old)
+        (held_at nodes.new) }
     ensures ids { nodes.new.ids ≡ nodes.old.ids }
     ensures room { room_of nodes.new ≡ room_of nodes.old }
     ensures counted { LooksUp 1 cost.old cost.new }
@@ -197,7 +207,8 @@ pub fn set_use(
 /// Whether the chunk that a link leads to is free.
 pub fn is_free_at(nodes: &Nodes, at: Link, cost: &mut Cost) -> bool
     requires { Reaches nodes.now (Some at) }
-    ensures free { (n : Node) → held_at nodes.now at.chunk_id ≡ Some n → result ≡ is_free_kind (n.chunk).kind }
+    ensures free { (n : Node) → held_at nodes.now at.chunk_id ≡ Some n
+        → result ≡ is_free_kind (n.chunk).kind }
     ensures counted { LooksUp 1 cost.old cost.new }
 {
     match linked_at(nodes, at, cost).chunk.kind {

@@ -49,8 +49,10 @@ impl Nodes {
 
     /// The chunk of a number.
     pub fn get(&self, chunk_id: u64) -> Option<&LinkedChunk>
-        ensures value { option_map (node_value self.now.ids) (option_copied result) ≡ held_at self.now chunk_id }
-        ensures links { IfSome result (λ n. IsTaken self.now.ids n.now.prev × IsTaken self.now.ids n.now.next) }
+        ensures value { option_map (node_value self.now.ids) (option_copied result)
+            ≡ held_at self.now chunk_id }
+        ensures links { IfSome result (λ n. IsTaken self.now.ids n.now.prev
+            × IsTaken self.now.ids n.now.next) }
     {
         let slot = self.ids.find(chunk_id)?;
         self.chunks.get(slot as usize)
@@ -72,7 +74,8 @@ impl Nodes {
     pub fn linked(&self, link: Link) -> &LinkedChunk
         requires { Reaches self.now (Some link) }
         ensures value { held_at self.now link.chunk_id ≡ Some (node_value self.now.ids result.now) }
-        ensures links { IsTaken self.now.ids result.now.prev × IsTaken self.now.ids result.now.next }
+        ensures links { IsTaken self.now.ids result.now.prev
+            × IsTaken self.now.ids result.now.next }
     {
         // a read, so that the proof has the invariant
         let _ids = &self.ids;
@@ -126,7 +129,8 @@ impl Nodes {
         requires unlinked { IsUnlinked chunk_id (held_at self.old) }
         requires prev { IsTaken self.old.ids chunk.prev }
         requires next { IsTaken self.old.ids chunk.next }
-        ensures sets { SetsAt chunk_id (Some (node_value self.old.ids chunk)) (held_at self.old) (held_at self.new) }
+        ensures sets { SetsAt chunk_id (Some (node_value self.old.ids chunk)) (held_at self.old)
+            (held_at self.new) }
         ensures link { (result.chunk_id ≡ chunk_id) × Leads self.new (Some result) }
         ensures links { KeepsReached self.old self.new }
         ensures room { room_of self.old ≤ room_of self.new + 1 }

@@ -127,7 +127,8 @@ impl Slots {
 
     /// The chunk in a slot, lent.
     pub fn get_mut(&mut self, slot: usize) -> Option<&mut LinkedChunk>
-        ensures* writes_back { sem 𝓛 (LendsIf the_row chunk_type.the_row self.entry result (with_chunk self.entry.now slot) self.entry.now) }
+        ensures* writes_back { sem 𝓛 (LendsIf the_row chunk_type.the_row self.entry result
+            (with_chunk self.entry.now slot) self.entry.now) }
         ensures value { option_copied_mut result ≡ chunk_at self.old slot }
     {
         if self.get(slot).is_some() {
@@ -139,7 +140,8 @@ impl Slots {
 
     fn chunk_mut(&mut self, slot: usize) -> &mut LinkedChunk
         requires { IsSome (chunk_at self.old slot) }
-        ensures* writes_back { sem 𝓛 (Lends the_row chunk_type.the_row self.entry result (with_chunk self.entry.now slot)) }
+        ensures* writes_back { sem 𝓛 (Lends the_row chunk_type.the_row self.entry result
+            (with_chunk self.entry.now slot)) }
         ensures value { chunk_at self.old slot ≡ Some result.now }
     {
         self.slots[slot].chunk_mut()

@@ -1,5 +1,5 @@
 use Rattle.std.proofs.Common.{rules}
-use Rattle.gpu_c.proofs.memory_type.AwaitingType.block_statistics.Goals as goal
+use Rattle.gpu_c.proofs.memory_type.block_counts.Goals as goal
 
 pub returns-in-None : goal.returns-in-None
 returns-in-None c = search rules
