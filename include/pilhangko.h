@@ -66,8 +66,8 @@ extern "C" {
 /* What a call returns. pilhangko_status_name and pilhangko_status_text have each one's name and one line of text.
  *
  * 1 to 11 are the allocator's errors by the numbers that they have everywhere in this project; 7 to 9, of resources of DirectX 12, are
- * missing. 12 and 13 are two causes that have the number 6 elsewhere, 14 and 15 two that have 5; 16 to 99 are kept for further errors. From 100 on the handle is in
- * another state than the call needs, from 200 on the header's own test of what it was passed has failed. */
+ * missing. 12 and 13 are two causes that have the number 6 elsewhere, 14 and 15 two that have 5; 16 to 99 are kept for further errors. From
+ * 100 on the handle is in another state than the call needs, from 200 on the header's own test of what it was passed has failed. */
 typedef uint32_t pilhangko_status;
 enum {
     /* The call did what it says. */
@@ -263,7 +263,7 @@ enum {
     PILHANGKO_LOCATION_UNKNOWN = 1,
     /* The GPU: device-local memory. */
     PILHANGKO_LOCATION_GPU_ONLY = 2,
-    /* The host writes and the GPU reads it: uploads. They have a second attempt where the device-local memory that suits best is refused. */
+    /* The host writes and the GPU reads it: uploads. They have a second attempt where the memory that suits best is refused. */
     PILHANGKO_LOCATION_CPU_TO_GPU = 3,
     /* The GPU writes and the host reads it: readback. */
     PILHANGKO_LOCATION_GPU_TO_CPU = 4
@@ -790,8 +790,8 @@ PILHANGKO_NODISCARD static inline pilhangko_status pilhangko_allocator_granted(
     return pilhangko_raw_allocator_granted(allocator, memory, piece);
 }
 
-/* The driver refused the memory, with this code (VkResult). An upload may have a second attempt: progress then is its piece or its question.
- * Else progress is the request's refusal: OUT_OF_MEMORY for VK_ERROR_OUT_OF_DEVICE_MEMORY, DRIVER_REFUSED for another code, or what the
+/* The driver refused the memory, with this code (VkResult). An upload may have a second attempt: progress then is its piece or its
+ * question. Else progress is the request's refusal: OUT_OF_MEMORY for VK_ERROR_OUT_OF_DEVICE_MEMORY, DRIVER_REFUSED for another code, or what the
  * second attempt was refused for without a question.
  * NO_HANDLE. AWAITS_NO_ANSWER. */
 PILHANGKO_NODISCARD static inline pilhangko_status pilhangko_allocator_refused(
@@ -883,8 +883,8 @@ PILHANGKO_NODISCARD static inline pilhangko_status pilhangko_allocator_block_sta
     return pilhangko_raw_allocator_block_statistics(allocator, memory_type, slot, statistics);
 }
 
-/* All live pieces of the block in a slot whose own bytes begin at `from` or behind it, in order of offset; none where the slot has no block.
- * One call with room for what block_statistics counts visits them all, in linear time.
+/* All live pieces of the block in a slot whose own bytes begin at `from` or behind it, in order of offset; none where the slot has no
+ * block. One call with room for what block_statistics counts visits them all, in linear time.
  * NO_HANDLE. */
 PILHANGKO_NODISCARD static inline pilhangko_status pilhangko_allocator_pieces(const pilhangko_allocator *allocator, size_t memory_type,
     size_t slot, uint64_t from, pilhangko_piece_view *pieces, size_t room, size_t *count) {
