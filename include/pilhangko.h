@@ -791,8 +791,8 @@ PILHANGKO_NODISCARD static inline pilhangko_status pilhangko_allocator_granted(
 }
 
 /* The driver refused the memory, with this code (VkResult). An upload may have a second attempt: progress then is its piece or its
- * question. Else progress is the request's refusal: OUT_OF_MEMORY for VK_ERROR_OUT_OF_DEVICE_MEMORY, DRIVER_REFUSED for another code, or what the
- * second attempt was refused for without a question.
+ * question. Else progress is the request's refusal: OUT_OF_MEMORY for VK_ERROR_OUT_OF_DEVICE_MEMORY, DRIVER_REFUSED for another code, or
+ * what the second attempt was refused for without a question.
  * NO_HANDLE. AWAITS_NO_ANSWER. */
 PILHANGKO_NODISCARD static inline pilhangko_status pilhangko_allocator_refused(
     pilhangko_allocator *allocator, int32_t code, pilhangko_allocator_progress *progress) {
