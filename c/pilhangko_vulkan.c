@@ -845,7 +845,8 @@ static pilhangko_status create_allocator(struct binding *b, const pilhangko_allo
     const VkPhysicalDeviceMemoryProperties *p = &b->properties;
     pilhangko_device_memory_type types[VK_MAX_MEMORY_TYPES];
     pilhangko_device_heap heaps[VK_MAX_MEMORY_HEAPS];
-    if (p->memoryTypeCount > VK_MAX_MEMORY_TYPES || p->memoryHeapCount > VK_MAX_MEMORY_HEAPS) return PILHANGKO_INVALID_DEVICE;
+    if (p->memoryTypeCount > VK_MAX_MEMORY_TYPES) return PILHANGKO_TOO_MANY_TYPES;
+    if (p->memoryHeapCount > VK_MAX_MEMORY_HEAPS) return PILHANGKO_INVALID_DEVICE;
     for (uint32_t i = 0; i < p->memoryTypeCount; i++) {
         types[i].flags = p->memoryTypes[i].propertyFlags;
         types[i].heap = p->memoryTypes[i].heapIndex;

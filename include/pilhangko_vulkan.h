@@ -121,8 +121,9 @@ typedef struct pilhangko_vulkan_settings {
 } pilhangko_vulkan_settings;
 
 /* Makes a binding without blocks in an empty handle. It asks the driver for the device's properties, and for no memory.
- * NULL_POINTER: a pointer or a handle. IN_USE: the handle isn't empty. NO_FUNCTION. HOST_OUT_OF_MEMORY. INVALID_DEVICE: what the driver
- * tells: a bufferImageGranularity or nonCoherentAtomSize that is no power of two, or memory types and heaps beyond Vulkan's bounds. */
+ * NULL_POINTER: a pointer or a handle. IN_USE: the handle isn't empty. NO_FUNCTION. HOST_OUT_OF_MEMORY. And what the driver tells:
+ * INVALID_DEVICE: a nonCoherentAtomSize or bufferImageGranularity that is no power of two, or more than 16 heaps. TOO_MANY_TYPES.
+ * NO_SUCH_HEAP. */
 PILHANGKO_NODISCARD PILHANGKO_API pilhangko_status PILHANGKO_CALL pilhangko_vulkan_create(
     pilhangko_vulkan *vulkan, const pilhangko_vulkan_settings *settings);
 
@@ -277,8 +278,9 @@ PILHANGKO_NODISCARD PILHANGKO_API pilhangko_status PILHANGKO_CALL pilhangko_vulk
 
 /* ---- What else the allocator tells ---- */
 
-/* The allocator behind the binding, for each call of pilhangko.h that takes a `const pilhangko_allocator *`: what it tells is told of the
- * binding's blocks and pieces. NULL where vulkan is NULL or empty. It lives as long as the binding; calls on both never overlap. */
+/* The allocator behind the binding, for each call of pilhangko.h that takes a `const pilhangko_allocator *`: statistics by memory type,
+ * blocks and their pieces with names, the report as JSON, and the texts of leaks. NULL where vulkan is NULL or empty. It lives as long as
+ * the binding; calls on both never overlap. */
 PILHANGKO_NODISCARD PILHANGKO_API const pilhangko_allocator *PILHANGKO_CALL pilhangko_vulkan_allocator(const pilhangko_vulkan *vulkan);
 
 /* ---- Captures ---- */

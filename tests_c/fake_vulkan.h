@@ -41,7 +41,7 @@ static struct {
     uint64_t last_handle, questions;
     struct fake_refusal refusals[2];
     uint32_t type_bits; /* what buffers and images may take */
-    uint32_t type_count;
+    uint32_t type_count, heap_count;
     VkDeviceSize atom, granularity, usage, budget;
     uint64_t flushes, invalidations;
     VkMappedMemoryRange range; /* of the latest flush or invalidation */
@@ -57,6 +57,7 @@ static inline void fake_begin(void) {
     memset(&fake, 0, sizeof fake);
     fake.type_bits = 31;
     fake.type_count = 5;
+    fake.heap_count = 3;
     fake.atom = FAKE_ATOM;
     fake.granularity = FAKE_GRANULARITY;
 }
@@ -300,7 +301,7 @@ static VKAPI_ATTR void VKAPI_CALL fake_memory_properties(VkPhysicalDevice device
     CHECK(device);
     memset(properties, 0, sizeof *properties);
     properties->memoryTypeCount = fake.type_count;
-    properties->memoryHeapCount = 3;
+    properties->memoryHeapCount = fake.heap_count;
     memcpy(properties->memoryTypes, fake_types, sizeof fake_types);
     memcpy(properties->memoryHeaps, fake_heaps, sizeof fake_heaps);
 }

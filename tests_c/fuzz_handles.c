@@ -365,14 +365,14 @@ static void creates_allocator(void) {
     const size_t count = next_byte() % (ACCOUNT_TYPES + 1), heap_count = next_byte() % 4;
     const pilhangko_allocator_settings s = {
         next_alignment(), next_number() << 8, next_number() << 8, next_number() << 8, next_number() << 8, next_byte() % 2};
-    bool is_valid = is_power(s.page_size);
+    pilhangko_status valid = is_power(s.page_size) ? PILHANGKO_OK : PILHANGKO_INVALID_DEVICE;
     for (size_t i = 0; i < 3; i++) heaps[i].size = next_byte() % 2 ? 1024 * MB : next_number() << 8, heaps[i].flags = next_byte();
     for (size_t i = 0; i < count; i++) {
         types[i].flags = next_byte();
         types[i].heap = next_byte() % 16 ? next_byte() % 3 % (heap_count ? (uint32_t)heap_count : 1) : next_byte();
-        is_valid = is_valid && types[i].heap < heap_count;
+        if (valid == PILHANGKO_OK && types[i].heap >= heap_count) valid = PILHANGKO_NO_SUCH_HEAP;
     }
-    const pilhangko_status status = has_allocator ? PILHANGKO_IN_USE : is_valid ? PILHANGKO_OK : PILHANGKO_INVALID_DEVICE;
+    const pilhangko_status status = has_allocator ? PILHANGKO_IN_USE : valid;
     IS(pilhangko_allocator_create(&allocator, types, count, heaps, heap_count, &s), status);
     if (status == PILHANGKO_OK) begins_account(types, heaps, count, &s);
 }

@@ -263,11 +263,14 @@ static void creations(void) {
     functions.vkGetPhysicalDeviceMemoryProperties2 = NULL;
     bad.memory_budget = true;
     IS(pilhangko_vulkan_create(&vulkan, &bad), PILHANGKO_VULKAN_NO_FUNCTION);
-    for (unsigned i = 0; i < 5; i++) {
+    for (unsigned i = 0; i < 7; i++) {
         fake.atom = i == 0 ? 0 : i == 1 ? 48 : 64;
         fake.granularity = i == 2 ? 0 : i == 3 ? 100 : 64;
-        fake.type_count = i == 4 ? 33 : 5;
-        IS(pilhangko_vulkan_create(&vulkan, &good), PILHANGKO_INVALID_DEVICE);
+        fake.heap_count = i == 4 ? 17 : i == 5 ? 2 : 3;
+        fake.type_count = i == 6 ? 33 : 5;
+        IS(pilhangko_vulkan_create(&vulkan, &good), i < 5    ? PILHANGKO_INVALID_DEVICE
+                                                    : i == 5 ? PILHANGKO_NO_SUCH_HEAP
+                                                             : (pilhangko_status)PILHANGKO_TOO_MANY_TYPES);
         CHECK(!vulkan.opaque && heap_held == 0);
     }
     fake.type_count = 5;
@@ -458,6 +461,30 @@ static void gone_blocks(void) {
         if (i < 39) IS(pilhangko_vulkan_free(&vulkan, &gone[i]), PILHANGKO_OK);
     }
     CHECK(fake.memory_count == 1);
+    ends(&vulkan, 1);
+}
+
+/* What the allocator behind the binding tells of its blocks and pieces. */
+static void readings(void) {
+    pilhangko_vulkan vulkan = made();
+    const pilhangko_vulkan_request r = asks(100, 2, PILHANGKO_LOCATION_UNKNOWN);
+    const pilhangko_vulkan_allocation a = allocates(&vulkan, &r), b = allocates(&vulkan, &r);
+    const pilhangko_allocator *allocator = pilhangko_vulkan_allocator(&vulkan);
+    pilhangko_type_statistics statistics;
+    pilhangko_piece_view pieces[3];
+    size_t count, length;
+    char text[400];
+    IS(pilhangko_allocator_type_statistics(allocator, 1, &statistics), PILHANGKO_OK);
+    CHECK(statistics.capacity == 4 * MB && statistics.pieces == 2 && statistics.piece_bytes == 200);
+    IS(pilhangko_allocator_pieces(allocator, 1, a.piece.piece.slot, 0, pieces, 3, &count), PILHANGKO_OK);
+    CHECK(count == 2 && pieces[0].offset == a.offset && pieces[1].offset == b.offset && pieces[1].end == b.offset + b.size);
+    IS(pilhangko_allocator_leak(allocator, 0, text, sizeof text - 1, &length), PILHANGKO_OK);
+    CHECK(length > 0 && length < sizeof text);
+    text[length] = 0;
+    CHECK(strstr(text, "leak detected") && strstr(text, "name: row"));
+    IS(pilhangko_vulkan_free(&vulkan, &a), PILHANGKO_OK);
+    IS(pilhangko_allocator_leak(allocator, 1, text, sizeof text, &length), PILHANGKO_OK);
+    CHECK(length == 0);
     ends(&vulkan, 1);
 }
 
@@ -776,6 +803,7 @@ int main(void) {
     causes_without_a_question();
     foreign_allocations();
     gone_blocks();
+    readings();
     driver_refusals();
     each_question_refused();
     each_host_request_refused();
