@@ -494,10 +494,73 @@ static void bounds_allocator(void) {
     CHECK(told.exists == bounded && told.bytes == (bounded ? account.types[at].budget : 0));
 }
 
+static void same_type_statistics(size_t at) {
+    const struct type_account *t = &account.types[at];
+    const bool is_there = has_allocator && at < account.type_count;
+    pilhangko_type_statistics s;
+    uint64_t piece_bytes = 0, longest = 0;
+    size_t pieces = 0, gaps = 0;
+    IS(pilhangko_allocator_type_statistics(&allocator, at, &s), allocator_status(false, is_there ? PILHANGKO_OK : PILHANGKO_NO_SUCH_TYPE));
+    if (!is_there) return;
+    for (size_t i = 0; i < t->slot_count; i++) {
+        const struct account *a = &t->slots[i].account;
+        for (size_t j = 0; t->slots[i].exists && j < a->count; j++) {
+            const uint64_t length = a->chunks[j].end - a->chunks[j].start;
+            pieces += a->chunks[j].kind != 0;
+            gaps += a->chunks[j].kind == 0;
+            piece_bytes += a->chunks[j].kind ? length : 0;
+            longest = !a->chunks[j].kind && length > longest ? length : longest;
+        }
+    }
+    CHECK(s.capacity == type_capacity(t) && s.slots == t->slot_count && s.shared_blocks == shared_blocks(t));
+    CHECK(s.has_budget == t->has_budget && s.budget == (t->has_budget ? t->budget : 0));
+    CHECK(s.pieces == pieces && s.piece_bytes == piece_bytes && s.gaps == gaps && s.longest_gap == longest);
+}
+
+static void same_slot(size_t at, size_t slot, uint64_t from) {
+    const bool is_there = has_allocator && at < account.type_count && slot < account.types[at].slot_count;
+    const struct slot *there = is_there && account.types[at].slots[slot].exists ? &account.types[at].slots[slot] : NULL;
+    pilhangko_allocator_memory memory;
+    pilhangko_piece_view views[6];
+    char names[40];
+    size_t lengths[6], room = next_byte() % 7, names_room = next_byte() % 41, shown, named;
+    memset(views, 0xff, sizeof views);
+    IS(pilhangko_allocator_block(&allocator, at, slot, &memory), allocator_status(false, PILHANGKO_OK));
+    IS(pilhangko_allocator_pieces(&allocator, at, slot, from, views, room, &shown), allocator_status(false, PILHANGKO_OK));
+    IS(pilhangko_allocator_piece_names(&allocator, at, slot, from, lengths, room, names, names_room, &named),
+        allocator_status(false, PILHANGKO_OK));
+    if (!has_allocator) return;
+    CHECK(memory.exists == (there != NULL) && memory.memory == (there ? there->block : 0));
+    CHECK(memory.mapped == (there && (account.flags[at] & 2)) && shown == named);
+    if (there) account_shows_all(&there->account, from, views, room, shown);
+    else CHECK(shown == 0);
+}
+
+/* A text is copied as far as there is room, and its length told whole. */
+static void same_texts(size_t index) {
+    char text[300];
+    size_t length, again, pieces = 0, room = next_byte() % sizeof text;
+    memset(text, '?', sizeof text);
+    IS(pilhangko_allocator_report(&allocator, NULL, 0, &length), allocator_status(false, PILHANGKO_OK));
+    IS(pilhangko_allocator_report(&allocator, text, room, &again), allocator_status(false, PILHANGKO_OK));
+    if (!has_allocator) return;
+    CHECK(length == again && length >= 2 && (room == 0 || text[0] == '{'));
+    for (size_t i = length < room ? length : room; i < sizeof text; i++) CHECK(text[i] == '?');
+    for (size_t i = 0; i < account.type_count; i++)
+        for (size_t j = 0; j < account.types[i].slot_count; j++)
+            if (account.types[i].slots[j].exists) pieces += account_pieces(&account.types[i].slots[j].account);
+    IS(pilhangko_allocator_leak(&allocator, index, text, room, &length), PILHANGKO_OK);
+    CHECK((length > 0) == (index < pieces));
+}
+
 static void looks_at_allocator(void) {
+    const size_t at = next_byte() % ACCOUNT_TYPES;
     uint64_t bytes = 0;
     IS(pilhangko_allocator_capacity(&allocator, &bytes), allocator_status(false, PILHANGKO_OK));
     CHECK(!has_allocator || bytes == allocator_capacity(&account));
+    same_type_statistics(at);
+    same_slot(at, next_byte() % 8, next_number());
+    if (next_byte() % 4 == 0) same_texts(next_byte());
 }
 
 static void ends_allocator(void) {
