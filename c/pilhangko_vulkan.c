@@ -7,17 +7,29 @@
 
 /* ---- records ---- */
 
-/* A block of memory that the driver gave, or a spare record of none. The allocator knows a block by its index among the records and by how
- * often the record was used: a live piece leads to its block, and one of a block that has gone is no live one. */
+/* Records of one size, which keep their indices. The spare ones are a list: each record begins with the index of the next spare one. */
+struct table {
+    char *records;
+    size_t record_size;
+    uint32_t count, room, spare;
+};
+#define NO_RECORD UINT32_MAX
+
+/* A block of memory that the driver gave. The allocator knows it by its index among the records. */
 struct block {
+    uint32_t next_spare;
+    uint32_t memory_type;
     VkDeviceMemory memory; /* VK_NULL_HANDLE of a spare record */
     void *mapped;          /* the whole block, as long as it lives; NULL where the host can't see it */
     VkDeviceSize size;
-    uint32_t memory_type;
-    uint32_t uses;
-    uint32_t next_spare;
 };
-#define NO_BLOCK UINT32_MAX
+
+/* A live allocation. Its serial number never comes again, so one that was freed is told apart from each later one. */
+struct live {
+    uint32_t next_spare;
+    uint64_t serial; /* 0 of a spare record */
+    pilhangko_allocator_piece piece;
+};
 
 /* Bytes that grow. */
 struct text {
@@ -45,11 +57,9 @@ struct binding {
     bool memory_budget;
     VkPhysicalDeviceMemoryProperties properties;
     VkDeviceSize atom; /* nonCoherentAtomSize */
-    struct block *blocks;
-    uint32_t block_count, block_room;
-    uint32_t spare; /* a record is made before the driver is asked, so that nothing can fail behind a grant; or NO_BLOCK */
+    struct table blocks, live;
     VkDeviceSize held[VK_MAX_MEMORY_TYPES]; /* the sum of the blocks' sizes */
-    uint64_t live;
+    uint64_t last_serial, live_count;
     struct capture capture;
 };
 
@@ -59,11 +69,6 @@ static struct binding *binding_of(const pilhangko_vulkan *vulkan) {
 
 static const VkAllocationCallbacks *callbacks_of(const struct binding *b) {
     return b->has_callbacks ? &b->callbacks : NULL;
-}
-
-/* The block that the allocator knows by that number. */
-static struct block *block_of(const struct binding *b, uint64_t number) {
-    return &b->blocks[number & UINT32_MAX];
 }
 
 static pilhangko_vulkan_result result_of(pilhangko_status status, VkResult driver) {
@@ -80,6 +85,51 @@ static pilhangko_vulkan_result undriven(pilhangko_status status) {
 
 static bool is_power_of_two(VkDeviceSize n) {
     return n != 0 && (n & (n - 1)) == 0;
+}
+
+/* ---- tables ---- */
+
+static void *record_of(const struct table *table, uint32_t index) {
+    return table->records + index * table->record_size;
+}
+
+static void make_spare(struct table *table, uint32_t index) {
+    memset(record_of(table, index), 0, table->record_size);
+    *(uint32_t *)record_of(table, index) = table->spare;
+    table->spare = index;
+}
+
+/* Whether there is a spare record; makes one where there is none. */
+static bool has_spare(struct table *table) {
+    if (table->spare != NO_RECORD) return true;
+    if (table->count == table->room) {
+        const uint32_t room = table->room ? 2 * table->room : 16;
+        char *records = (char *)realloc(table->records, room * table->record_size);
+        if (!records) return false;
+        table->records = records;
+        table->room = room;
+    }
+    make_spare(table, table->count++);
+    return true;
+}
+
+/* The index of a record that was spare. */
+static uint32_t take_spare(struct table *table) {
+    const uint32_t index = table->spare;
+    table->spare = *(uint32_t *)record_of(table, index);
+    return index;
+}
+
+static struct block *block_at(const struct binding *b, uint64_t index) {
+    return (struct block *)record_of(&b->blocks, (uint32_t)index);
+}
+
+/* The record of an allocation, or NULL where it isn't live or another binding's. */
+static const struct live *find(const struct binding *b, const pilhangko_vulkan_allocation *allocation) {
+    const struct live *it;
+    if (allocation->owner != b || allocation->serial == 0 || allocation->index >= b->live.count) return NULL;
+    it = (const struct live *)record_of(&b->live, allocation->index);
+    return it->serial == allocation->serial ? it : NULL;
 }
 
 /* ---- captures ---- */
@@ -172,11 +222,6 @@ static const char *trace_name(const char *name, char *word) {
     return word;
 }
 
-/* By which number the trace calls a piece. A trace has room for far less than 100,000 blocks. */
-static uint64_t trace_number(const pilhangko_allocator_piece *piece) {
-    return (piece->piece.number * 100000 + piece->piece.slot) * 100 + piece->memory_type;
-}
-
 static const char *trace_location(uint32_t location) {
     switch (location) {
     case PILHANGKO_LOCATION_GPU_ONLY: return "GpuOnly";
@@ -204,31 +249,32 @@ static void trace_refusals(const struct capture *c, const struct asked *asked, c
 }
 
 /* The call `allocate`: what it asked for, and what the driver refused. Where host memory was lacking, nothing has changed, and in a replay
- * nothing is lacking; an invalid request may have words that no trace has. piece is NULL where the request was refused. */
-static void capture_allocation(struct binding *b, const pilhangko_allocator_request *request, const char *name, pilhangko_status status,
-    const struct asked *asked, const pilhangko_allocator_piece *piece) {
+ * nothing is lacking; an invalid request may have words that no trace has. An allocation is called by its serial number; one that was
+ * refused by the next one's. */
+static void capture_allocation(
+    struct binding *b, const pilhangko_allocator_request *request, const char *name, pilhangko_status status, const struct asked *asked) {
     char lines[LINE_ROOM], refusals[LINE_ROOM], scheme[32], word[NAME_ROOM + 1];
     if (!is_captured(b) || status == PILHANGKO_HOST_OUT_OF_MEMORY || status == PILHANGKO_INVALID) return;
     trace_scheme(request, scheme, sizeof scheme);
     trace_refusals(&b->capture, asked, refusals, sizeof refusals);
-    snprintf(lines, sizeof lines, "alloc %" PRIu64 " %" PRIu64 " %" PRIu64 " %" PRIu32 " %s %s %s %s\n", piece ? trace_number(piece) : 0,
-        request->size, request->alignment, request->memory_type_bits, trace_location(request->location),
+    snprintf(lines, sizeof lines, "alloc %" PRIu64 " %" PRIu64 " %" PRIu64 " %" PRIu32 " %s %s %s %s\n", b->last_serial + 1, request->size,
+        request->alignment, request->memory_type_bits, trace_location(request->location),
         request->kind == PILHANGKO_KIND_LINEAR ? "linear" : "nonlinear", scheme, trace_name(name, word));
     capture_lines(&b->capture, refusals, lines);
     b->capture.questions += asked->questions;
 }
 
-static void capture_free(struct binding *b, const pilhangko_allocator_piece *piece) {
+static void capture_free(struct binding *b, uint64_t serial) {
     char line[LINE_ROOM];
     if (!is_captured(b)) return;
-    snprintf(line, sizeof line, "free %" PRIu64 "\n", trace_number(piece));
+    snprintf(line, sizeof line, "free %" PRIu64 "\n", serial);
     capture_lines(&b->capture, "", line);
 }
 
-static void capture_rename(struct binding *b, const pilhangko_allocator_piece *piece, const char *name) {
+static void capture_rename(struct binding *b, uint64_t serial, const char *name) {
     char line[LINE_ROOM], word[NAME_ROOM + 1];
     if (!is_captured(b)) return;
-    snprintf(line, sizeof line, "rename %" PRIu64 " %s\n", trace_number(piece), trace_name(name, word));
+    snprintf(line, sizeof line, "rename %" PRIu64 " %s\n", serial, trace_name(name, word));
     capture_lines(&b->capture, "", line);
 }
 
@@ -276,51 +322,32 @@ static pilhangko_vulkan_capture end_capture(struct capture *c, const char *last_
 
 /* ---- blocks ---- */
 
-/* Whether there is a spare record; makes one where there is none. */
-static bool has_spare(struct binding *b) {
-    if (b->spare != NO_BLOCK) return true;
-    if (b->block_count == b->block_room) {
-        const uint32_t room = b->block_room ? 2 * b->block_room : 16;
-        struct block *blocks = (struct block *)realloc(b->blocks, room * sizeof *blocks);
-        if (!blocks) return false;
-        b->blocks = blocks;
-        b->block_room = room;
-    }
-    b->spare = b->block_count++;
-    memset(&b->blocks[b->spare], 0, sizeof b->blocks[0]);
-    b->blocks[b->spare].next_spare = NO_BLOCK;
-    return true;
-}
-
-/* Keeps the memory in the spare record; returns its number. */
+/* Keeps memory in a spare record; returns its number. */
 static uint64_t keep_block(struct binding *b, VkDeviceMemory memory, void *mapped, const pilhangko_allocator_question *question) {
-    const uint32_t index = b->spare;
-    struct block *block = &b->blocks[index];
-    b->spare = block->next_spare;
+    const uint32_t index = take_spare(&b->blocks);
+    struct block *block = block_at(b, index);
+    block->memory_type = question->memory_type;
     block->memory = memory;
     block->mapped = mapped;
     block->size = question->size;
-    block->memory_type = question->memory_type;
-    block->uses++;
     b->held[block->memory_type] += block->size;
-    return (uint64_t)block->uses << 32 | index;
+    return index;
 }
 
-/* Gives a block back to the driver; its record is spare again. */
-static void give_back(struct binding *b, struct block *block) {
+/* Gives a block back to the driver. */
+static void give_back(struct binding *b, uint32_t index) {
+    const struct block *block = block_at(b, index);
     if (block->mapped) b->functions.vkUnmapMemory(b->device, block->memory);
     b->functions.vkFreeMemory(b->device, block->memory, callbacks_of(b));
     b->held[block->memory_type] -= block->size;
-    block->memory = VK_NULL_HANDLE;
-    block->next_spare = b->spare;
-    b->spare = (uint32_t)(block - b->blocks);
+    make_spare(&b->blocks, index);
 }
 
 /* Whether a block has that memory: the driver may not give it twice. */
 static bool is_held(const struct binding *b, VkDeviceMemory memory) {
     uint32_t i = 0;
-    while (i < b->block_count && b->blocks[i].memory != memory) i++;
-    return i < b->block_count;
+    while (i < b->blocks.count && block_at(b, i)->memory != memory) i++;
+    return i < b->blocks.count;
 }
 
 /* ---- asking the driver ---- */
@@ -419,14 +446,22 @@ static pilhangko_status asks_for(const struct binding *b, const pilhangko_vulkan
     return PILHANGKO_OK;
 }
 
-static void tell_allocation(
-    const struct binding *b, const pilhangko_allocator_piece *piece, bool dedicated, pilhangko_vulkan_allocation *allocation) {
-    allocation->memory = block_of(b, piece->piece.block)->memory;
+/* Keeps a piece as a live allocation, and tells it. */
+static void keep_allocation(
+    struct binding *b, const pilhangko_allocator_piece *piece, bool dedicated, pilhangko_vulkan_allocation *allocation) {
+    const uint32_t index = take_spare(&b->live);
+    struct live *it = (struct live *)record_of(&b->live, index);
+    it->serial = ++b->last_serial;
+    it->piece = *piece;
+    b->live_count++;
+    allocation->memory = block_at(b, piece->piece.block)->memory;
     allocation->offset = piece->piece.offset;
     allocation->size = piece->piece.size;
     allocation->dedicated = dedicated;
     allocation->piece = *piece;
     allocation->owner = b;
+    allocation->serial = it->serial;
+    allocation->index = index;
 }
 
 static pilhangko_vulkan_result allocate(
@@ -436,27 +471,29 @@ static pilhangko_vulkan_result allocate(
     struct asked asked;
     pilhangko_status status = asks_for(b, request, &asks);
     if (status != PILHANGKO_OK) return undriven(status);
-    if (!has_spare(b)) return undriven(PILHANGKO_HOST_OUT_OF_MEMORY);
+    /* before the driver is asked, so that nothing can fail behind its grant */
+    if (!has_spare(&b->blocks) || !has_spare(&b->live)) return undriven(PILHANGKO_HOST_OUT_OF_MEMORY);
     memset(&asked, 0, sizeof asked);
     status = pilhangko_allocator_begin(&b->allocator, &asks, request->name, &progress);
     while (status == PILHANGKO_OK && progress.kind == PILHANGKO_PROGRESS_QUESTION) status = ask(b, &asked, &progress);
     if (status == PILHANGKO_OK) status = progress.status;
-    capture_allocation(b, &asks, request->name, status, &asked, status == PILHANGKO_OK ? &progress.piece : NULL);
+    capture_allocation(b, &asks, request->name, status, &asked);
     if (status != PILHANGKO_OK) return result_of(status, asked.driver);
-    tell_allocation(b, &progress.piece, asks.scheme != PILHANGKO_SCHEME_MANAGED, allocation);
-    b->live++;
+    keep_allocation(b, &progress.piece, asks.scheme != PILHANGKO_SCHEME_MANAGED, allocation);
     return undriven(PILHANGKO_OK);
 }
 
 static pilhangko_status free_allocation(struct binding *b, const pilhangko_vulkan_allocation *allocation) {
+    const struct live *it = find(b, allocation);
     pilhangko_allocator_memory back;
     pilhangko_status status;
-    if (allocation->owner != b) return PILHANGKO_NOT_LIVE;
-    status = pilhangko_allocator_free(&b->allocator, &allocation->piece, &back);
+    if (!it) return PILHANGKO_NOT_LIVE;
+    status = pilhangko_allocator_free(&b->allocator, &it->piece, &back);
     if (status != PILHANGKO_OK) return status;
-    b->live--;
-    capture_free(b, &allocation->piece);
-    if (back.exists) give_back(b, block_of(b, back.memory));
+    capture_free(b, it->serial);
+    make_spare(&b->live, allocation->index);
+    b->live_count--;
+    if (back.exists) give_back(b, (uint32_t)back.memory);
     return PILHANGKO_OK;
 }
 
@@ -473,18 +510,14 @@ pilhangko_status PILHANGKO_CALL pilhangko_vulkan_free(pilhangko_vulkan *vulkan, 
     return free_allocation(binding_of(vulkan), allocation);
 }
 
-/* Whether an allocation is live: only then may its block's record be read. */
-static bool lives(const struct binding *b, const pilhangko_vulkan_allocation *allocation) {
-    bool is_live = false;
-    if (allocation->owner != b) return false;
-    return pilhangko_allocator_is_live(&b->allocator, &allocation->piece, &is_live) == PILHANGKO_OK && is_live;
-}
-
 void *PILHANGKO_CALL pilhangko_vulkan_mapped(const pilhangko_vulkan *vulkan, const pilhangko_vulkan_allocation *allocation) {
-    const struct block *block;
-    if (!vulkan || !allocation || !vulkan->opaque || !lives(binding_of(vulkan), allocation)) return NULL;
-    block = block_of(binding_of(vulkan), allocation->piece.piece.block);
-    return block->mapped ? (char *)block->mapped + allocation->piece.piece.offset : NULL;
+    const struct live *it;
+    char *mapped;
+    if (!vulkan || !allocation || !vulkan->opaque) return NULL;
+    it = find(binding_of(vulkan), allocation);
+    if (!it) return NULL;
+    mapped = (char *)block_at(binding_of(vulkan), it->piece.piece.block)->mapped;
+    return mapped ? mapped + it->piece.piece.offset : NULL;
 }
 
 /* The range of a block that a flush of a piece's bytes is about: whole units of nonCoherentAtomSize, or up to the block's end. */
@@ -503,12 +536,14 @@ static VkMappedMemoryRange whole_atoms(const struct block *block, VkDeviceSize a
 
 static pilhangko_vulkan_result flush(
     const struct binding *b, const pilhangko_vulkan_allocation *allocation, VkDeviceSize offset, VkDeviceSize size, bool invalidates) {
-    const pilhangko_memory_piece *piece = &allocation->piece.piece;
+    const struct live *it = find(b, allocation);
+    const pilhangko_memory_piece *piece;
     const struct block *block;
     VkMappedMemoryRange range;
     VkResult driver;
-    if (!lives(b, allocation)) return undriven(PILHANGKO_NOT_LIVE);
-    block = block_of(b, piece->block);
+    if (!it) return undriven(PILHANGKO_NOT_LIVE);
+    piece = &it->piece.piece;
+    block = block_at(b, piece->block);
     if (!block->mapped) return undriven(PILHANGKO_VULKAN_NOT_MAPPED);
     if (offset > piece->size) return undriven(PILHANGKO_VULKAN_OUT_OF_RANGE);
     if (size == VK_WHOLE_SIZE) size = piece->size - offset;
@@ -538,14 +573,15 @@ pilhangko_vulkan_result PILHANGKO_CALL pilhangko_vulkan_invalidate(
 
 pilhangko_status PILHANGKO_CALL pilhangko_vulkan_rename(
     pilhangko_vulkan *vulkan, const pilhangko_vulkan_allocation *allocation, const char *name) {
-    pilhangko_allocator_piece piece;
+    const struct live *it;
+    pilhangko_allocator_piece none;
     pilhangko_status status;
     if (!vulkan || !allocation) return PILHANGKO_NULL_POINTER;
     if (!vulkan->opaque) return PILHANGKO_NO_HANDLE;
-    piece = allocation->piece;
-    if (allocation->owner != binding_of(vulkan)) piece.piece.number = 0; /* no live piece; the name is looked at first all the same */
-    status = pilhangko_allocator_rename(&binding_of(vulkan)->allocator, &piece, name);
-    if (status == PILHANGKO_OK) capture_rename(binding_of(vulkan), &piece, name);
+    it = find(binding_of(vulkan), allocation);
+    memset(&none, 0, sizeof none); /* no live piece: the name is looked at first all the same */
+    status = pilhangko_allocator_rename(&binding_of(vulkan)->allocator, it ? &it->piece : &none, name);
+    if (status == PILHANGKO_OK) capture_rename(binding_of(vulkan), allocation->serial, name);
     return status;
 }
 
@@ -553,7 +589,7 @@ pilhangko_status PILHANGKO_CALL pilhangko_vulkan_is_live(
     const pilhangko_vulkan *vulkan, const pilhangko_vulkan_allocation *allocation, bool *is_live) {
     if (!vulkan || !allocation || !is_live) return PILHANGKO_NULL_POINTER;
     if (!vulkan->opaque) return PILHANGKO_NO_HANDLE;
-    *is_live = lives(binding_of(vulkan), allocation);
+    *is_live = find(binding_of(vulkan), allocation) != NULL;
     return PILHANGKO_OK;
 }
 
@@ -692,7 +728,7 @@ pilhangko_vulkan_result PILHANGKO_CALL pilhangko_vulkan_create_image(pilhangko_v
 
 /* The resource goes before its memory, as the driver wants it. */
 static pilhangko_status destroy_placed(struct binding *b, const struct resource *r, const pilhangko_vulkan_allocation *allocation) {
-    if (!lives(b, allocation)) return PILHANGKO_NOT_LIVE;
+    if (!find(b, allocation)) return PILHANGKO_NOT_LIVE;
     destroy_resource(b, r);
     return free_allocation(b, allocation);
 }
@@ -865,7 +901,9 @@ static void take_settings(struct binding *b, const pilhangko_vulkan_settings *se
     if (b->has_callbacks) b->callbacks = *settings->allocation_callbacks;
     b->physical_device = settings->physical_device;
     b->device = settings->device;
-    b->spare = NO_BLOCK;
+    b->blocks.record_size = sizeof(struct block);
+    b->live.record_size = sizeof(struct live);
+    b->blocks.spare = b->live.spare = NO_RECORD;
     b->api_version = settings->api_version;
     b->memory_budget = settings->memory_budget;
     b->capture.end = settings->capture_write ? PILHANGKO_VULKAN_CAPTURE_WHOLE : PILHANGKO_VULKAN_CAPTURE_NONE;
@@ -922,12 +960,13 @@ pilhangko_status PILHANGKO_CALL pilhangko_vulkan_destroy(pilhangko_vulkan *vulka
     if (!vulkan) return PILHANGKO_NULL_POINTER;
     b = binding_of(vulkan);
     if (!b) return PILHANGKO_NO_HANDLE;
-    told.leaks = b->live;
+    told.leaks = b->live_count;
     told.capture = end_capture(&b->capture, "destroy\n");
-    for (uint32_t i = 0; i < b->block_count; i++)
-        if (b->blocks[i].memory != VK_NULL_HANDLE) give_back(b, &b->blocks[i]);
+    for (uint32_t i = 0; i < b->blocks.count; i++)
+        if (block_at(b, i)->memory != VK_NULL_HANDLE) give_back(b, i);
     (void)pilhangko_allocator_destroy(&b->allocator);
-    free(b->blocks);
+    free(b->blocks.records);
+    free(b->live.records);
     free(b);
     vulkan->opaque = NULL;
     if (ending) *ending = told;

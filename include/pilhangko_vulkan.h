@@ -169,15 +169,17 @@ typedef struct pilhangko_vulkan_request {
     const char *name;  /* copied; NULL for none */
 } pilhangko_vulkan_request;
 
-/* An allocation: bind at offset of memory. The calls read `piece` and `owner` alone. One of another binding is refused
- * (PILHANGKO_NOT_LIVE), and so is one that was freed, until a piece of the same shared block comes that is the same in all of `piece`. */
+/* An allocation: bind at offset of memory. The calls read the last three fields alone. One that was freed is refused (PILHANGKO_NOT_LIVE)
+ * as long as its binding lives, and so is one of another binding. */
 typedef struct pilhangko_vulkan_allocation {
     VkDeviceMemory memory;
     VkDeviceSize offset;
     VkDeviceSize size;
     bool dedicated; /* whether the memory is for one buffer or image alone */
     pilhangko_allocator_piece piece;
-    const void *owner; /* the binding that it is of */
+    const void *owner; /* the binding */
+    uint64_t serial;   /* which of its allocations: 1, 2, .. as they were made */
+    uint32_t index;    /* the library's own */
 } pilhangko_vulkan_allocation;
 
 /* Allocates memory. Where a memory type that the request allows needs flushes, the alignment is nonCoherentAtomSize at least, so that a
@@ -287,10 +289,9 @@ PILHANGKO_NODISCARD PILHANGKO_API const pilhangko_allocator *PILHANGKO_CALL pilh
 
 /* A capture is the trace of a binding's calls from create on: `gpu_trace` replays it, and replies the same places, numbers and refusals
  * (docs/TRACE.md). It has the device and its refusals, then a line for each allocation, free, rename and bound of a memory type; destroy
- * ends it. An allocation is called by the decimal digits of its number in the block, its slot (five digits) and its memory type (two
- * digits), so 2000301 is the piece 2 of slot 3 of memory type 1; one that was refused is called 0. Bytes of a name beyond `!` to `~` are
- * written as `_`, and so is a name of no bytes; a name is cut after 64 bytes. Calls that changed nothing aren't written, but for
- * allocations that were refused for another cause than INVALID and HOST_OUT_OF_MEMORY.
+ * ends it. An allocation is called by its serial number, a refused one by the next one's. Bytes of a name beyond `!` to `~` are written as
+ * `_`, and so is a name of no bytes; a name is cut after 64 bytes. Calls that changed nothing aren't written, but for allocations that were
+ * refused for another cause than INVALID and HOST_OUT_OF_MEMORY.
  *
  * The refusals stand before the calls, so the capture is kept in host memory, at most 1 MB, and written when it ends. Where it can't go
  * on, it ends behind a whole call, its last line says why, and the binding works on. This call ends it before destroy does.

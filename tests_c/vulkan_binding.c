@@ -420,17 +420,15 @@ static void foreign_allocations(void) {
     const pilhangko_vulkan_allocation mine = allocates(&vulkan, &r), others = allocates(&other, &r);
     CHECK(
         mine.piece.memory_type == others.piece.memory_type && memcmp(&mine.piece.piece, &others.piece.piece, sizeof mine.piece.piece) == 0);
-    for (unsigned field = 0; field < 8; field++) {
+    for (unsigned field = 0; field < 6; field++) {
         pilhangko_vulkan_allocation wrong = mine;
         bool live = true;
         if (field == 0) wrong = others;
-        if (field == 1) wrong.piece.piece.slot = SIZE_MAX;
-        if (field == 2) wrong.piece.piece.number++;
-        if (field == 3) wrong.piece.piece.offset++;
-        if (field == 4) wrong.piece.piece.size++;
-        if (field == 5) wrong.piece.piece.block = 8;
-        if (field == 6) wrong.piece.memory_type = 99;
-        if (field == 7) wrong.owner = NULL;
+        if (field == 1) wrong.owner = NULL;
+        if (field == 2) wrong.serial = 0;
+        if (field == 3) wrong.serial++;
+        if (field == 4) wrong.index++; /* a record that was never used */
+        if (field == 5) wrong.index = UINT32_MAX;
         IS(pilhangko_vulkan_is_live(&vulkan, &wrong, &live), PILHANGKO_OK);
         CHECK(!live && pilhangko_vulkan_mapped(&vulkan, &wrong) == NULL);
         IS(pilhangko_vulkan_free(&vulkan, &wrong), PILHANGKO_NOT_LIVE);
@@ -441,7 +439,8 @@ static void foreign_allocations(void) {
         IS(pilhangko_vulkan_destroy_buffer(&vulkan, (VkBuffer)(uint64_t)5, &wrong), PILHANGKO_NOT_LIVE);
         IS(pilhangko_vulkan_destroy_image(&vulkan, (VkImage)(uint64_t)5, &wrong), PILHANGKO_NOT_LIVE);
     }
-    pilhangko_vulkan_allocation same = mine; /* what is there for binding alone isn't read */
+    pilhangko_vulkan_allocation same = mine; /* what else it tells isn't read */
+    memset(&same.piece, 7, sizeof same.piece);
     same.memory = VK_NULL_HANDLE;
     same.offset = same.size = 77;
     IS(pilhangko_vulkan_free(&vulkan, &same), PILHANGKO_OK);
@@ -450,18 +449,24 @@ static void foreign_allocations(void) {
     ends(&vulkan, 0);
 }
 
-/* An allocation of a block that has gone stays refused, also where another one has come with the same size at the same place. */
-static void gone_blocks(void) {
+/* An allocation that was freed stays refused, also where another one has the same piece. */
+static void stale_allocations(void) {
     pilhangko_vulkan vulkan = made();
-    const pilhangko_vulkan_request large = asks(20 * MB, 1, PILHANGKO_LOCATION_UNKNOWN);
+    const pilhangko_vulkan_request small = asks(100, 1, PILHANGKO_LOCATION_UNKNOWN), large = asks(20 * MB, 1, PILHANGKO_LOCATION_UNKNOWN);
+    const pilhangko_vulkan_allocation first = allocates(&vulkan, &small), beside = allocates(&vulkan, &small);
     pilhangko_vulkan_allocation gone[40];
-    for (unsigned i = 0; i < 40; i++) {
+    IS(pilhangko_vulkan_free(&vulkan, &first), PILHANGKO_OK);
+    const pilhangko_vulkan_allocation again = allocates(&vulkan, &small);
+    CHECK(memcmp(&again.piece, &first.piece, sizeof first.piece) == 0 && again.index == first.index && beside.offset == 100);
+    IS(pilhangko_vulkan_free(&vulkan, &first), PILHANGKO_NOT_LIVE);
+    IS(pilhangko_vulkan_free(&vulkan, &again), PILHANGKO_OK);
+    for (unsigned i = 0; i < 40; i++) { /* blocks of their own, too */
         gone[i] = allocates(&vulkan, &large);
         for (unsigned j = 0; j < i; j++) IS(pilhangko_vulkan_free(&vulkan, &gone[j]), PILHANGKO_NOT_LIVE);
         if (i < 39) IS(pilhangko_vulkan_free(&vulkan, &gone[i]), PILHANGKO_OK);
     }
-    CHECK(fake.memory_count == 1);
-    ends(&vulkan, 1);
+    CHECK(fake.memory_count == 2);
+    ends(&vulkan, 2);
 }
 
 /* What the allocator behind the binding tells of its blocks and pieces. */
@@ -732,9 +737,9 @@ static void captures_by_hand(void) {
     CHECK(written.length == 0); /* nothing before the end */
     IS(pilhangko_vulkan_end_capture(&vulkan, &capture), PILHANGKO_OK);
     CHECK(capture.end == PILHANGKO_VULKAN_CAPTURE_WHOLE && capture.bytes == written.length);
-    is_written(DEVICE_LINES "refuse 2 null\nrefuse 5 -4\nnew\nalloc 20000001 100 4 6 CpuToGpu linear managed two_words__\n"
-                            "alloc 0 10 4 1 GpuOnly linear managed row\nrename 20000001 _\nbudget 3 18446744073709551615\nbudget 3 none\n"
-                            "free 20000001\n");
+    is_written(DEVICE_LINES "refuse 2 null\nrefuse 5 -4\nnew\nalloc 1 100 4 6 CpuToGpu linear managed two_words__\n"
+                            "alloc 2 10 4 1 GpuOnly linear managed row\nrename 1 _\nbudget 3 18446744073709551615\nbudget 3 none\n"
+                            "free 1\n");
     IS(pilhangko_vulkan_end_capture(&vulkan, &capture), PILHANGKO_VULKAN_NO_CAPTURE);
     (void)allocates(&vulkan, &r);
     ends(&vulkan, 1);
@@ -749,8 +754,7 @@ static unsigned is_pairs(size_t at, size_t end) {
     unsigned lines = 0;
     for (; at < end; lines++) {
         char line[100];
-        const unsigned number = 2 + lines / 2;
-        snprintf(line, sizeof line, lines % 2 ? "free %u00000%s\n" : "alloc %u00000%s 100 4 1 GpuOnly linear managed row\n", number, "00");
+        snprintf(line, sizeof line, lines % 2 ? "free %u\n" : "alloc %u 100 4 1 GpuOnly linear managed row\n", 1 + lines / 2);
         CHECK(strlen(line) <= end - at && memcmp(written.bytes + at, line, strlen(line)) == 0);
         at += strlen(line);
     }
@@ -802,7 +806,7 @@ int main(void) {
     invalid_resources();
     causes_without_a_question();
     foreign_allocations();
-    gone_blocks();
+    stale_allocations();
     readings();
     driver_refusals();
     each_question_refused();

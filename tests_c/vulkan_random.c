@@ -6,6 +6,7 @@
 #include "refusing_heap.h"
 
 #define LIVE 300
+#define UNTOLD UINT64_MAX /* the number of a block in the account before an allocation in it has told it */
 #define STALE 64
 
 /* A live allocation, and the buffer or image that is bound to it, if one is. */
@@ -23,6 +24,7 @@ static VkDeviceMemory slot_memory[ACCOUNT_TYPES][ACCOUNT_SLOTS];
 static struct live live[LIVE];
 static size_t live_count;
 static pilhangko_vulkan_allocation stale[STALE];
+static uint64_t last_serial;
 static FILE *replies; /* what the captured calls came to, or NULL */
 static unsigned allocated, made, refused, second_attempts, freed, not_live, renamed, flushed, lines;
 
@@ -78,7 +80,7 @@ static void foretell_answer(struct foretold *f, uint64_t first) {
     if (answer == PILHANGKO_OK && (account.flags[account.type] & 2) && fake_refusal_of(first + ++f->questions))
         answer = PILHANGKO_FAILED_TO_MAP;
     if (answer == PILHANGKO_OK) {
-        account_granted(&account, 0);
+        account_granted(&account, UNTOLD);
         slot_memory[account.type][account.placed.piece.slot] = VK_NULL_HANDLE;
         return;
     }
@@ -97,18 +99,19 @@ static struct foretold foretell(const pilhangko_allocator_request *request, cons
 
 /* No other block has that number or that memory. */
 static void is_new_block(uint64_t block, VkDeviceMemory memory) {
-    CHECK(block != 0);
+    CHECK(block != UNTOLD);
     for (size_t i = 0; i < account.type_count; i++)
         for (size_t j = 0; j < account.types[i].slot_count; j++)
             CHECK(!account.types[i].slots[j].exists || (account.types[i].slots[j].block != block && slot_memory[i][j] != memory));
 }
 
-/* The allocation is the account's. It is the first to tell of a new block its number and its memory, which are 0 in the account before. */
+/* The allocation is the account's, and the next one made. It is the first to tell of a new block its number and its memory. */
 static void meets(const pilhangko_vulkan_allocation *a) {
     const pilhangko_memory_piece *p = &a->piece.piece;
     const size_t at = account.placed.piece.slot;
     struct slot *slot = &account.types[account.type].slots[at];
-    if (slot->block == 0) {
+    CHECK(a->serial == ++last_serial);
+    if (slot->block == UNTOLD) {
         is_new_block(p->block, a->memory);
         slot->block = account.placed.piece.block = p->block;
         slot_memory[account.type][at] = a->memory;
@@ -181,7 +184,7 @@ static void allocates(void) {
     pilhangko_allocator_request asks = {request.requirements.size, alignment, request.requirements.memoryTypeBits, request.kind,
         request.location, PILHANGKO_SCHEME_MANAGED, 0};
     struct live it = {
-        {VK_NULL_HANDLE, 1, 2, true, {3, false, {4, 5, 6, 7, 8}}, NULL}, VK_NULL_HANDLE, VK_NULL_HANDLE, alignment, request.kind};
+        {VK_NULL_HANDLE, 1, 2, true, {3, false, {4, 5, 6, 7, 8}}, NULL, 9, 10}, VK_NULL_HANDLE, VK_NULL_HANDLE, alignment, request.kind};
     uint64_t first = fake.questions;
     struct foretold f = foretell(&asks, "", first);
     pilhangko_vulkan_result result = pilhangko_vulkan_allocate(&vulkan, &request, &it.allocation);
@@ -195,7 +198,7 @@ static void allocates(void) {
         allocated++;
         second_attempts += account.is_second;
     } else {
-        CHECK(it.allocation.offset == 1 && it.allocation.piece.piece.number == 5);
+        CHECK(it.allocation.offset == 1 && it.allocation.piece.piece.number == 5 && it.allocation.serial == 9);
         reply_refusal(f.status);
         refused++;
     }
@@ -227,6 +230,7 @@ static void is_unbound(bool dedicated) {
     reply_allocation(&piece, dedicated);
     type_free(&account.types[account.type], &piece.piece, at);
     reply("ok");
+    last_serial++;
 }
 
 /* What the driver will make of a resource: f is what becomes of its memory. */
@@ -288,13 +292,11 @@ static pilhangko_vulkan_allocation some_allocation(void) {
     return stale[random_below(STALE)];
 }
 
-/* The index of the live allocation that has that piece: where numbers and places have come again, a stale piece is a live one. */
+/* The index of a live allocation, or the count of all: one that was freed isn't live, though its piece may have come again. */
 static size_t live_at(const pilhangko_vulkan_allocation *a) {
     size_t i = 0;
-    while (i < live_count &&
-           (live[i].allocation.piece.memory_type != a->piece.memory_type || !same_piece(&live[i].allocation.piece.piece, &a->piece.piece)))
-        i++;
-    CHECK((i < live_count) == (allocator_find(&account, &a->piece) >= 0));
+    while (i < live_count && live[i].allocation.serial != a->serial) i++;
+    CHECK(i == live_count || allocator_find(&account, &a->piece) >= 0);
     return i;
 }
 
@@ -450,7 +452,7 @@ static void begins(FILE *capture) {
     settings.buffer_device_address = settings.memory_budget = true;
     settings.capture_write = capture ? writes : NULL;
     settings.capture_user = capture;
-    live_count = 0;
+    live_count = last_serial = 0;
     memset(stale, 0, sizeof stale);
     account.type_count = 5;
     account.awaits_answer = false;
