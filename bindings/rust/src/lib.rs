@@ -1,6 +1,6 @@
 //! Pilhangko: GPU memory allocators whose code is proved, from Rust.
 //!
-//! [`vulkan`] has the allocator under the names of the crate gpu-allocator: it takes large blocks from the driver, cuts them up by best fit,
+//! [`vulkan`] has the allocator under the names of the crate gpu-allocator: it asks the driver for large blocks, cuts them up by best fit,
 //! and gives them back. [`virtual_block`] and [`memory_type`] are what it stands on, for any graphics API: one block of numbers, and the
 //! blocks of one memory type.
 //!
@@ -13,11 +13,17 @@
 
 #![deny(unsafe_op_in_unsafe_fn, missing_docs)]
 
+// the driver of the tests names the crate as its users do
+#[cfg(test)]
+extern crate self as pilhangko;
+
 mod error;
 mod heap;
 pub mod memory_type;
 mod pieces;
 mod raw;
+#[cfg(test)]
+mod refused;
 mod report;
 mod settings;
 mod sizes;

@@ -63,7 +63,9 @@ pub enum Level {
 /// let logger = Logger::new(|level, line| eprintln!("{level:?}: {line}"));
 /// ```
 #[derive(Clone)]
-pub struct Logger(Arc<dyn Fn(Level, &str) + Send + Sync>);
+pub struct Logger(Arc<Write>);
+
+type Write = dyn Fn(Level, &str) + Send + Sync;
 
 impl Logger {
     /// A logger that hands each line, without a line end behind it, to `write`.

@@ -84,8 +84,8 @@ fn next_block_number() -> u64 {
     NEXT.fetch_add(1, Ordering::Relaxed)
 }
 
-/// An allocator of a device's memory. It may go from thread to thread, and serves one call at a time (`Mutex<Allocator>`). Dropping it gives
-/// all blocks back to the driver and logs the allocations that are live still.
+/// An allocator of a device's memory. It may go from thread to thread, and serves one call at a time (`Mutex<Allocator>`). Dropping it
+/// gives all blocks back to the driver and logs the allocations that are live still.
 pub struct Allocator {
     machine: Machine,
     device: Device,
@@ -180,8 +180,8 @@ impl Allocator {
         allocation.held.as_ref().is_some_and(|held| self.machine.is_live(&held.piece))
     }
 
-    /// Bounds the sum of the sizes of a memory type's blocks in bytes, or takes the bound away. A bound below the present sum gives no block
-    /// back.
+    /// Bounds the sum of the sizes of a memory type's blocks in bytes, or takes the bound away. A bound below the present sum gives no
+    /// block back.
     ///
     /// The error: `Internal` where there is no such memory type.
     pub fn set_budget(&mut self, memory_type: usize, budget: Option<u64>) -> Result<()> {
