@@ -179,8 +179,8 @@ fn a_capture_that_is_full_replays_as_far_as_it_goes() {
     let mut replies = vec!["ok".to_owned()];
     while a.capture().is_some_and(|capture| capture.end() == CaptureEnd::Whole) {
         let it = a.allocate(&request("piece", 100, MemoryLocation::GpuOnly)).unwrap();
-        let place = "ok type 0 slot 0 offset 0 size 100 chunk 2 dedicated false mapped false";
-        replies.push(place.to_owned());
+        let chunk = it.chunk_id().unwrap();
+        replies.push(format!("ok type 0 slot 0 offset 0 size 100 chunk {chunk} dedicated false mapped false"));
         a.free(it).unwrap();
         replies.push("ok".to_owned());
     }

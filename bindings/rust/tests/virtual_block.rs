@@ -87,7 +87,8 @@ fn a_block_goes_to_another_thread_and_back() {
     let mut block = VirtualBlock::new(1000, 1).unwrap();
     let first = at(&mut block, request(100, 1, Kind::Linear), 0, 2);
     let mut block = thread::spawn(move || block.free(first).map(|()| block)).join().unwrap().unwrap();
-    at(&mut block, request(100, 1, Kind::Linear), 0, 2);
+    is_not_live(block.free(first));
+    assert_eq!(block.statistics().longest_gap, 1000);
 }
 
 /// Live pieces by offset, with end, kind and chunk id.

@@ -40,11 +40,10 @@ pub struct Account {
     pub blocks: Vec<Vec<Option<Block>>>,
 }
 
-/// What of the driver a call met with.
+/// What of the driver a call met with: the questions that it refused.
 #[derive(Debug)]
 pub struct Met {
     pub refused: Vec<(Question, Refusal)>,
-    pub questions: u64,
 }
 
 impl Account {

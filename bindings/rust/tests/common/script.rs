@@ -147,11 +147,9 @@ impl Script {
     pub fn allocate(&mut self) {
         let desc = description(&mut self.random);
         self.maybe_refuse();
-        let questions = self.driver.state().questions;
         self.driver.state().refused.clear();
         let result = self.allocator.allocate(&desc);
-        let met =
-            Met { refused: self.driver.state().refused.clone(), questions: self.driver.state().questions - questions };
+        let met = Met { refused: self.driver.state().refused.clone() };
         self.told(reply(&result));
         match result {
             Err(error) => self.account.refused(&desc, &met, &error),
