@@ -24,6 +24,11 @@ pub(crate) const PROGRESS_QUESTION: u32 = 2;
 
 /// A handle: one pointer that the caller keeps and the library owns. Each call takes what lies behind it out and returns it, also one
 /// that changes nothing, so the pointer stands in a cell, and what holds a handle is never `Sync`.
+///
+/// ```compile_fail,E0277
+/// fn is_sync<T: Sync>() {}
+/// is_sync::<pilhangko::vulkan::Allocator>();
+/// ```
 #[repr(transparent)]
 #[derive(Debug)]
 pub(crate) struct Handle(UnsafeCell<*mut c_void>);

@@ -414,6 +414,17 @@ fn what_is_asked_for_is_logged() {
 }
 
 #[test]
+fn what_may_go_to_another_thread() {
+    fn is_send<T: Send>() {}
+    fn is_sync<T: Sync>() {}
+    is_send::<Allocator>();
+    is_send::<pilhangko::VirtualBlock>();
+    is_send::<pilhangko::MemoryType>();
+    is_send::<Allocation>();
+    is_sync::<Allocation>();
+}
+
+#[test]
 fn an_allocator_and_its_allocations_go_from_thread_to_thread() {
     let driver = driver();
     let a = Mutex::new(made(&driver));

@@ -8,6 +8,7 @@ use pilhangko::vulkan::{
     MemoryRequirements,
 };
 use pilhangko::{AllocationError, AllocationSizes, MemoryLocation, Result};
+use std::collections::BTreeMap;
 
 const TYPES: [(u32, u32); 5] = [(1, 0), (6, 1), (7, 2), (14, 1), (3, 0)];
 const HEAPS: [u64; 3] = [400 * MB, 200 * MB, 24 * MB];
@@ -34,6 +35,8 @@ pub struct Script {
     pub live: Vec<Allocation>,
     pub replies: Vec<Reply>,
     pub driver: Box<FakeDriver>,
+    /// How often each outcome came: error numbers, and 0 for success.
+    pub outcomes: BTreeMap<u32, u64>,
     is_captured: bool,
 }
 
@@ -125,6 +128,7 @@ impl Script {
             live: Vec::new(),
             replies: vec!["ok".to_owned()],
             driver,
+            outcomes: BTreeMap::new(),
             is_captured,
         }
     }
@@ -151,6 +155,7 @@ impl Script {
         let result = self.allocator.allocate(&desc);
         let met = Met { refused: self.driver.state().refused.clone() };
         self.told(reply(&result));
+        *self.outcomes.entry(result.as_ref().map_or_else(AllocationError::number, |_| 0)).or_default() += 1;
         match result {
             Err(error) => self.account.refused(&desc, &met, &error),
             Ok(mut it) => {
