@@ -29,6 +29,8 @@ impl Device {
     /// The caller promises, as long as an allocator over the device or over a clone of it lives:
     /// - the `VkDevice` is live, and the functions are its own;
     /// - the memory properties are those of its physical device;
+    /// - the buffers and images that requests name (`AllocationScheme`) are live ones of the device, and bufferDeviceAddress is enabled where
+    ///   an allocator is made with it;
     /// - no one else frees, maps or unmaps memory that an allocator asked for.
     ///
     /// And of allocations from these allocators, whose mapped bytes are read and written without `unsafe`: no one touches them after their
