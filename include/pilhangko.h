@@ -3,8 +3,8 @@
  * It says where pieces lie; it holds no memory of a device and calls no driver. Link libgpu_c.a, and pilhangko_heap.c over the program's
  * malloc, realloc and free (docs/C.md). No call blocks, calls back or starts a thread.
  *
- * Handles. A pilhangko_virtual_block, a pilhangko_memory_type or a pilhangko_allocator is one pointer that the caller keeps and the library owns. The caller
- * upholds:
+ * Handles. A pilhangko_virtual_block, a pilhangko_memory_type or a pilhangko_allocator is one pointer that the caller keeps and the
+ * library owns. The caller upholds:
  *   - It begins zeroed, as in `pilhangko_virtual_block block = {0};`, and is empty then. create fills it, destroy leaves it empty. Each
  *     other call on an empty handle returns PILHANGKO_NO_HANDLE, so a call after destroy and a second destroy are refused.
  *   - It is never copied, and its field is never written or read. (To move it, copy it and never use the old one again.)
@@ -66,8 +66,8 @@ extern "C" {
 /* What a call returns. pilhangko_status_name and pilhangko_status_text have each one's name and one line of text.
  *
  * 1 to 11 are the allocator's errors by the numbers that they have everywhere in this project; 7 to 9, of resources of DirectX 12, are
- * missing. 12 and 13 are two causes that have the number 6 elsewhere; 14 to 99 are kept for further errors. From 100 on the handle is in another state than the call needs, from 200 on the
- * header's own test of what it was passed has failed. */
+ * missing. 12 and 13 are two causes that have the number 6 elsewhere, 14 and 15 two that have 5; 16 to 99 are kept for further errors. From
+ * 100 on the handle is in another state than the call needs, from 200 on the header's own test of what it was passed has failed. */
 typedef uint32_t pilhangko_status;
 enum {
     /* The call did what it says. */
@@ -81,7 +81,7 @@ enum {
     PILHANGKO_NO_MEMORY_TYPE = 3,
     /* A size of 0, an alignment or a page size that is no power of two, an unknown kind, location or scheme, or a name that isn't UTF-8. */
     PILHANGKO_INVALID = 4,
-    /* A page size that is no power of two, more than 32 memory types, or a memory type in a heap that isn't there. */
+    /* The page size of a device is no power of two. */
     PILHANGKO_INVALID_DEVICE = 5,
     /* No live piece is the one that is named. */
     PILHANGKO_NOT_LIVE = 6,
@@ -93,6 +93,10 @@ enum {
     PILHANGKO_DRIVER_REFUSED = 12,
     /* No memory type has that index. */
     PILHANGKO_NO_SUCH_TYPE = 13,
+    /* A device has more than 32 memory types. */
+    PILHANGKO_TOO_MANY_TYPES = 14,
+    /* A memory type of a device lies in a heap that isn't there. */
+    PILHANGKO_NO_SUCH_HEAP = 15,
     /* The handle is empty. */
     PILHANGKO_NO_HANDLE = 100,
     /* create was given a handle that isn't empty. */
@@ -259,7 +263,7 @@ enum {
     PILHANGKO_LOCATION_UNKNOWN = 1,
     /* The GPU: device-local memory. */
     PILHANGKO_LOCATION_GPU_ONLY = 2,
-    /* The host writes and the GPU reads it: uploads. They have a second attempt where the device-local memory that suits best is refused. */
+    /* The host writes and the GPU reads it: uploads. They have a second attempt where the memory that suits best is refused. */
     PILHANGKO_LOCATION_CPU_TO_GPU = 3,
     /* The GPU writes and the host reads it: readback. */
     PILHANGKO_LOCATION_GPU_TO_CPU = 4
@@ -326,6 +330,19 @@ typedef struct pilhangko_allocator_memory {
     bool mapped;
     uint64_t memory;
 } pilhangko_allocator_memory;
+
+/* What is counted of a memory type, and of all its blocks together. */
+typedef struct pilhangko_type_statistics {
+    uint64_t capacity;    /* the sum of the blocks' sizes */
+    size_t slots;         /* slots, the empty ones included */
+    size_t shared_blocks; /* blocks that several pieces may share */
+    bool has_budget;
+    uint64_t budget; /* 0 where there is none */
+    size_t pieces;
+    uint64_t piece_bytes; /* with the padding before them */
+    size_t gaps;
+    uint64_t longest_gap;
+} pilhangko_type_statistics;
 
 /* A bound in bytes, or none (then bytes is 0). */
 typedef struct pilhangko_budget {
@@ -413,6 +430,20 @@ PILHANGKO_NODISCARD PILHANGKO_API pilhangko_status PILHANGKO_CALL pilhangko_raw_
     const pilhangko_allocator *allocator, size_t memory_type, pilhangko_budget *budget);
 PILHANGKO_NODISCARD PILHANGKO_API pilhangko_status PILHANGKO_CALL pilhangko_raw_allocator_capacity(
     const pilhangko_allocator *allocator, uint64_t *bytes);
+PILHANGKO_NODISCARD PILHANGKO_API pilhangko_status PILHANGKO_CALL pilhangko_raw_allocator_type_statistics(
+    const pilhangko_allocator *allocator, size_t memory_type, pilhangko_type_statistics *statistics);
+PILHANGKO_NODISCARD PILHANGKO_API pilhangko_status PILHANGKO_CALL pilhangko_raw_allocator_block(
+    const pilhangko_allocator *allocator, size_t memory_type, size_t slot, pilhangko_allocator_memory *memory);
+PILHANGKO_NODISCARD PILHANGKO_API pilhangko_status PILHANGKO_CALL pilhangko_raw_allocator_block_statistics(
+    const pilhangko_allocator *allocator, size_t memory_type, size_t slot, pilhangko_memory_block_statistics *statistics);
+PILHANGKO_NODISCARD PILHANGKO_API pilhangko_status PILHANGKO_CALL pilhangko_raw_allocator_pieces(const pilhangko_allocator *allocator,
+    size_t memory_type, size_t slot, uint64_t from, pilhangko_piece_view *pieces, size_t room, size_t *count);
+PILHANGKO_NODISCARD PILHANGKO_API pilhangko_status PILHANGKO_CALL pilhangko_raw_allocator_piece_names(const pilhangko_allocator *allocator,
+    size_t memory_type, size_t slot, uint64_t from, size_t *lengths, size_t room, char *names, size_t names_room, size_t *count);
+PILHANGKO_NODISCARD PILHANGKO_API pilhangko_status PILHANGKO_CALL pilhangko_raw_allocator_report(
+    const pilhangko_allocator *allocator, char *text, size_t room, size_t *length);
+PILHANGKO_NODISCARD PILHANGKO_API pilhangko_status PILHANGKO_CALL pilhangko_raw_allocator_leak(
+    const pilhangko_allocator *allocator, size_t index, char *text, size_t room, size_t *length);
 PILHANGKO_API pilhangko_status PILHANGKO_CALL pilhangko_raw_allocator_destroy(pilhangko_allocator *allocator);
 
 /* ---- The calls ---- */
@@ -431,6 +462,8 @@ static inline const char *pilhangko_status_name(pilhangko_status status) {
     case PILHANGKO_BUDGET_EXCEEDED: return "PILHANGKO_BUDGET_EXCEEDED";
     case PILHANGKO_DRIVER_REFUSED: return "PILHANGKO_DRIVER_REFUSED";
     case PILHANGKO_NO_SUCH_TYPE: return "PILHANGKO_NO_SUCH_TYPE";
+    case PILHANGKO_TOO_MANY_TYPES: return "PILHANGKO_TOO_MANY_TYPES";
+    case PILHANGKO_NO_SUCH_HEAP: return "PILHANGKO_NO_SUCH_HEAP";
     case PILHANGKO_NO_HANDLE: return "PILHANGKO_NO_HANDLE";
     case PILHANGKO_IN_USE: return "PILHANGKO_IN_USE";
     case PILHANGKO_AWAITS_BLOCK: return "PILHANGKO_AWAITS_BLOCK";
@@ -450,12 +483,14 @@ static inline const char *pilhangko_status_text(pilhangko_status status) {
     case PILHANGKO_FAILED_TO_MAP: return "the driver granted memory, but didn't map it";
     case PILHANGKO_NO_MEMORY_TYPE: return "no memory type that the request allows has what its location needs";
     case PILHANGKO_INVALID: return "invalid request: a size, an alignment, a page size, a kind or a name";
-    case PILHANGKO_INVALID_DEVICE: return "invalid device: a page size, more than 32 memory types, or a heap that isn't there";
+    case PILHANGKO_INVALID_DEVICE: return "invalid device: the page size is no power of two";
     case PILHANGKO_NOT_LIVE: return "no live piece is the one that is named";
     case PILHANGKO_HOST_OUT_OF_MEMORY: return "out of host memory: malloc or realloc refused";
     case PILHANGKO_BUDGET_EXCEEDED: return "the block that is needed would pass the budget";
     case PILHANGKO_DRIVER_REFUSED: return "the driver refused memory with a code that has no status of its own";
     case PILHANGKO_NO_SUCH_TYPE: return "no memory type has that index";
+    case PILHANGKO_TOO_MANY_TYPES: return "invalid device: more than 32 memory types";
+    case PILHANGKO_NO_SUCH_HEAP: return "invalid device: a memory type lies in a heap that isn't there";
     case PILHANGKO_NO_HANDLE: return "the handle is empty";
     case PILHANGKO_IN_USE: return "the handle is in use, and create needs an empty one";
     case PILHANGKO_AWAITS_BLOCK: return "a block is awaited: install or abandon it first";
@@ -727,7 +762,7 @@ static inline pilhangko_status pilhangko_memory_type_destroy(pilhangko_memory_ty
 
 /* Makes an allocator without blocks in an empty handle, over a device that has these memory types and heaps. Where a count is 0, its
  * pointer may be NULL.
- * IN_USE: the handle isn't empty. INVALID_DEVICE. HOST_OUT_OF_MEMORY. */
+ * IN_USE: the handle isn't empty. INVALID_DEVICE. TOO_MANY_TYPES. NO_SUCH_HEAP. HOST_OUT_OF_MEMORY. */
 PILHANGKO_NODISCARD static inline pilhangko_status pilhangko_allocator_create(pilhangko_allocator *allocator,
     const pilhangko_device_memory_type *types, size_t type_count, const pilhangko_device_heap *heaps, size_t heap_count,
     const pilhangko_allocator_settings *settings) {
@@ -755,9 +790,9 @@ PILHANGKO_NODISCARD static inline pilhangko_status pilhangko_allocator_granted(
     return pilhangko_raw_allocator_granted(allocator, memory, piece);
 }
 
-/* The driver refused the memory, with this code (VkResult). An upload may have a second attempt: progress then is its piece or its question.
- * Else progress is the request's refusal: OUT_OF_MEMORY for VK_ERROR_OUT_OF_DEVICE_MEMORY, DRIVER_REFUSED for another code, or what the
- * second attempt was refused for without a question.
+/* The driver refused the memory, with this code (VkResult). An upload may have a second attempt: progress then is its piece or its
+ * question. Else progress is the request's refusal: OUT_OF_MEMORY for VK_ERROR_OUT_OF_DEVICE_MEMORY, DRIVER_REFUSED for another code, or
+ * what the second attempt was refused for without a question.
  * NO_HANDLE. AWAITS_NO_ANSWER. */
 PILHANGKO_NODISCARD static inline pilhangko_status pilhangko_allocator_refused(
     pilhangko_allocator *allocator, int32_t code, pilhangko_allocator_progress *progress) {
@@ -823,8 +858,74 @@ PILHANGKO_NODISCARD static inline pilhangko_status pilhangko_allocator_capacity(
     return pilhangko_raw_allocator_capacity(allocator, bytes);
 }
 
+/* What is counted of a memory type. A sum over all goes from 0 up to the first NO_SUCH_TYPE.
+ * NO_HANDLE. NO_SUCH_TYPE. */
+PILHANGKO_NODISCARD static inline pilhangko_status pilhangko_allocator_type_statistics(
+    const pilhangko_allocator *allocator, size_t memory_type, pilhangko_type_statistics *statistics) {
+    if (!allocator || !statistics) return PILHANGKO_NULL_POINTER;
+    return pilhangko_raw_allocator_type_statistics(allocator, memory_type, statistics);
+}
+
+/* The memory of the block in a slot of a memory type, if one is there. Slots are numbered from 0 to one less than type_statistics' slots;
+ * behind them there is none.
+ * NO_HANDLE. */
+PILHANGKO_NODISCARD static inline pilhangko_status pilhangko_allocator_block(
+    const pilhangko_allocator *allocator, size_t memory_type, size_t slot, pilhangko_allocator_memory *memory) {
+    if (!allocator || !memory) return PILHANGKO_NULL_POINTER;
+    return pilhangko_raw_allocator_block(allocator, memory_type, slot, memory);
+}
+
+/* What is counted of the block in a slot.
+ * NO_HANDLE. */
+PILHANGKO_NODISCARD static inline pilhangko_status pilhangko_allocator_block_statistics(
+    const pilhangko_allocator *allocator, size_t memory_type, size_t slot, pilhangko_memory_block_statistics *statistics) {
+    if (!allocator || !statistics) return PILHANGKO_NULL_POINTER;
+    return pilhangko_raw_allocator_block_statistics(allocator, memory_type, slot, statistics);
+}
+
+/* All live pieces of the block in a slot whose own bytes begin at `from` or behind it, in order of offset; none where the slot has no
+ * block. One call with room for what block_statistics counts visits them all, in linear time.
+ * NO_HANDLE. */
+PILHANGKO_NODISCARD static inline pilhangko_status pilhangko_allocator_pieces(const pilhangko_allocator *allocator, size_t memory_type,
+    size_t slot, uint64_t from, pilhangko_piece_view *pieces, size_t room, size_t *count) {
+    pilhangko_piece_view none;
+    if (!allocator || (!pieces && room) || !count) return PILHANGKO_NULL_POINTER;
+    return pilhangko_raw_allocator_pieces(allocator, memory_type, slot, from, pieces ? pieces : &none, room, count);
+}
+
+/* The names of the pieces of the block in a slot, as with a virtual block.
+ * NO_HANDLE. */
+PILHANGKO_NODISCARD static inline pilhangko_status pilhangko_allocator_piece_names(const pilhangko_allocator *allocator, size_t memory_type,
+    size_t slot, uint64_t from, size_t *lengths, size_t room, char *names, size_t names_room, size_t *count) {
+    size_t no_length;
+    char no_name;
+    if (!allocator || (!lengths && room) || (!names && names_room) || !count) return PILHANGKO_NULL_POINTER;
+    return pilhangko_raw_allocator_piece_names(
+        allocator, memory_type, slot, from, lengths ? lengths : &no_length, room, names ? names : &no_name, names_room, count);
+}
+
+/* The report of what is allocated as JSON (docs/REPORT.md): copies as many bytes of it as there is room for, with no 0 behind them, and
+ * reports how many it has. A first call without room tells how much a second one needs.
+ * NO_HANDLE. HOST_OUT_OF_MEMORY. */
+PILHANGKO_NODISCARD static inline pilhangko_status pilhangko_allocator_report(
+    const pilhangko_allocator *allocator, char *text, size_t room, size_t *length) {
+    char none;
+    if (!allocator || (!text && room) || !length) return PILHANGKO_NULL_POINTER;
+    return pilhangko_raw_allocator_report(allocator, text ? text : &none, room, length);
+}
+
+/* One live piece's text, as a leak is reported: the pieces have indices from 0, by memory type, then by slot, then in order of offset; past
+ * the last one the text is empty. Copies and reports as report does.
+ * NO_HANDLE. HOST_OUT_OF_MEMORY. */
+PILHANGKO_NODISCARD static inline pilhangko_status pilhangko_allocator_leak(
+    const pilhangko_allocator *allocator, size_t index, char *text, size_t room, size_t *length) {
+    char none;
+    if (!allocator || (!text && room) || !length) return PILHANGKO_NULL_POINTER;
+    return pilhangko_raw_allocator_leak(allocator, index, text ? text : &none, room, length);
+}
+
 /* Ends an allocator, with all its pieces and the question that is open, and leaves the handle empty. The blocks' memory is the caller's to
- * give back to the driver.
+ * give back to the driver: go over types and slots by pilhangko_allocator_block first.
  * NO_HANDLE. */
 static inline pilhangko_status pilhangko_allocator_destroy(pilhangko_allocator *allocator) {
     if (!allocator) return PILHANGKO_NULL_POINTER;

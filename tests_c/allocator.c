@@ -272,9 +272,11 @@ static void devices(void) {
     IS(pilhangko_allocator_create(&a, types, 3, heaps, 3, &odd), PILHANGKO_INVALID_DEVICE);
     odd.page_size = 0;
     IS(pilhangko_allocator_create(&a, types, 3, heaps, 3, &odd), PILHANGKO_INVALID_DEVICE);
-    IS(pilhangko_allocator_create(&a, astray, 2, heaps, 3, &settings), PILHANGKO_INVALID_DEVICE);
-    IS(pilhangko_allocator_create(&a, types, 3, heaps, 2, &settings), PILHANGKO_INVALID_DEVICE);
-    IS(pilhangko_allocator_create(&a, many, 33, heaps, 3, &settings), PILHANGKO_INVALID_DEVICE);
+    IS(pilhangko_allocator_create(&a, many, 33, heaps, 3, &odd), PILHANGKO_INVALID_DEVICE);
+    IS(pilhangko_allocator_create(&a, astray, 2, heaps, 3, &settings), PILHANGKO_NO_SUCH_HEAP);
+    IS(pilhangko_allocator_create(&a, types, 3, heaps, 2, &settings), PILHANGKO_NO_SUCH_HEAP);
+    IS(pilhangko_allocator_create(&a, many, 33, heaps, 3, &settings), PILHANGKO_TOO_MANY_TYPES);
+    IS(pilhangko_allocator_create(&a, many, 33, heaps, 0, &settings), PILHANGKO_TOO_MANY_TYPES);
     IS(pilhangko_allocator_create(&a, many, 32, heaps, 3, &settings), PILHANGKO_OK);
     IS(pilhangko_allocator_create(&a, many, 33, heaps, 3, &settings), PILHANGKO_IN_USE);
     IS(pilhangko_allocator_destroy(&a), PILHANGKO_OK);
@@ -336,6 +338,129 @@ static void request_and_piece_statuses(void) {
     IS(pilhangko_allocator_destroy(&a), PILHANGKO_OK);
 }
 
+/* ---- visits, also while a question is open */
+
+static pilhangko_allocator with_three_pieces(void) {
+    pilhangko_allocator a = made();
+    pilhangko_allocator_request r = asks(100, 7, PILHANGKO_LOCATION_GPU_ONLY);
+    pilhangko_allocator_progress p;
+    pilhangko_allocator_piece piece;
+    IS(pilhangko_allocator_begin(&a, &r, "first", &p), PILHANGKO_OK);
+    IS(pilhangko_allocator_granted(&a, 1001, &piece), PILHANGKO_OK);
+    r.alignment = 256;
+    IS(pilhangko_allocator_begin(&a, &r, "se\"cond", &p), PILHANGKO_OK);
+    is_piece(&p.piece, 0, false, 0, 3, 256, 100, 1001);
+    r.location = PILHANGKO_LOCATION_GPU_TO_CPU;
+    r.scheme = PILHANGKO_SCHEME_IMAGE;
+    IS(pilhangko_allocator_begin(&a, &r, "own", &p), PILHANGKO_OK);
+    IS(pilhangko_allocator_granted(&a, 1002, &piece), PILHANGKO_OK);
+    is_piece(&piece, 1, true, 0, 1, 0, 100, 1002);
+    return a;
+}
+
+static void counts_of_types(const pilhangko_allocator *a) {
+    pilhangko_type_statistics s = {9, 9, 9, true, 9, 9, 9, 9, 9};
+    IS(pilhangko_allocator_type_statistics(a, 3, &s), PILHANGKO_NO_SUCH_TYPE);
+    CHECK(s.capacity == 9 && s.slots == 9 && s.longest_gap == 9);
+    IS(pilhangko_allocator_type_statistics(a, 0, &s), PILHANGKO_OK);
+    CHECK(s.capacity == 8 * MB && s.slots == 1 && s.shared_blocks == 1 && s.has_budget && s.budget == 9 * MB);
+    CHECK(s.pieces == 2 && s.piece_bytes == 356 && s.gaps == 1 && s.longest_gap == 8 * MB - 356);
+    IS(pilhangko_allocator_type_statistics(a, 1, &s), PILHANGKO_OK);
+    CHECK(s.capacity == 100 && s.slots == 1 && s.shared_blocks == 0 && !s.has_budget && s.budget == 0);
+    CHECK(s.pieces == 1 && s.piece_bytes == 100 && s.gaps == 0 && s.longest_gap == 0);
+    IS(pilhangko_allocator_type_statistics(a, 2, &s), PILHANGKO_OK);
+    CHECK(s.capacity == 0 && s.slots == 0 && s.shared_blocks == 0 && s.pieces == 0 && s.piece_bytes == 0);
+}
+
+static void blocks_of_slots(const pilhangko_allocator *a) {
+    pilhangko_allocator_memory memory = {false, true, 9};
+    pilhangko_memory_block_statistics s = {false, 9, 9, 9, 9};
+    IS(pilhangko_allocator_block(a, 0, 0, &memory), PILHANGKO_OK);
+    CHECK(memory.exists && !memory.mapped && memory.memory == 1001);
+    IS(pilhangko_allocator_block(a, 1, 0, &memory), PILHANGKO_OK);
+    CHECK(memory.exists && memory.mapped && memory.memory == 1002);
+    IS(pilhangko_allocator_block(a, 1, 1, &memory), PILHANGKO_OK);
+    CHECK(!memory.exists && !memory.mapped && memory.memory == 0);
+    IS(pilhangko_allocator_block(a, SIZE_MAX, 0, &memory), PILHANGKO_OK);
+    CHECK(!memory.exists && !memory.mapped && memory.memory == 0);
+    IS(pilhangko_allocator_block_statistics(a, 0, 0, &s), PILHANGKO_OK);
+    CHECK(s.exists && s.pieces == 2 && s.piece_bytes == 356 && s.gaps == 1 && s.longest_gap == 8 * MB - 356);
+    IS(pilhangko_allocator_block_statistics(a, 3, 0, &s), PILHANGKO_OK);
+    CHECK(!s.exists && s.pieces == 0 && s.piece_bytes == 0 && s.gaps == 0 && s.longest_gap == 0);
+}
+
+static void pieces_of_slots(const pilhangko_allocator *a) {
+    pilhangko_piece_view views[3];
+    size_t count = 9, lengths[3];
+    char names[12] = "...........";
+    IS(pilhangko_allocator_pieces(a, 0, 0, 0, views, 3, &count), PILHANGKO_OK);
+    CHECK(count == 2 && views[0].exists && views[0].number == 2 && views[0].start == 0 && views[0].offset == 0 && views[0].end == 100);
+    CHECK(views[1].number == 3 && views[1].start == 100 && views[1].offset == 256 && views[1].end == 356);
+    CHECK(views[1].kind == PILHANGKO_KIND_LINEAR);
+    IS(pilhangko_allocator_pieces(a, 0, 0, 1, views, 3, &count), PILHANGKO_OK);
+    CHECK(count == 1 && views[0].number == 3);
+    IS(pilhangko_allocator_pieces(a, 0, 0, 0, NULL, 0, &count), PILHANGKO_OK);
+    CHECK(count == 0);
+    IS(pilhangko_allocator_pieces(a, 3, 0, 0, views, 3, &count), PILHANGKO_OK);
+    CHECK(count == 0);
+    IS(pilhangko_allocator_piece_names(a, 0, 0, 0, lengths, 3, names, 11, &count), PILHANGKO_OK);
+    CHECK(count == 2 && lengths[0] == 5 && lengths[1] == 7 && !strcmp(names, "firstse\"con"));
+    IS(pilhangko_allocator_piece_names(a, 1, 0, 0, lengths, 3, names, 11, &count), PILHANGKO_OK);
+    CHECK(count == 1 && lengths[0] == 3 && !strncmp(names, "ownst", 5));
+    IS(pilhangko_allocator_piece_names(a, 1, 1, 0, lengths, 3, names, 11, &count), PILHANGKO_OK);
+    CHECK(count == 0);
+}
+
+static const char report_of_three[] =
+    "{\"allocations\":[{\"name\":\"first\",\"offset\":0,\"size\":100},{\"name\":\"se\\\"cond\",\"offset\":256,\"size\":100},"
+    "{\"name\":\"own\",\"offset\":0,\"size\":100}],\"blocks\":[{\"allocations\":{\"end\":2,\"start\":0},\"size\":8388608},"
+    "{\"allocations\":{\"end\":3,\"start\":2},\"size\":100}],\"schema\":\"gpu_report.allocator\",\"total_allocated_bytes\":456,"
+    "\"total_capacity_bytes\":8388708,\"version\":1}";
+
+static const char second_leak[] = "leak detected: {\n    memory type: 0\n    memory block: 0\n    chunk: {\n        chunk_id: 3,\n"
+                                  "        size: 0x100,\n        offset: 0x64,\n        allocation_type: Linear,\n"
+                                  "        name: se\"cond\n    }\n}";
+static const char third_leak[] = "leak detected: {\n    memory type: 1\n    memory block: 0\n    dedicated allocation: {\n"
+                                 "        size: 0x64,\n        name: own\n    }\n}";
+
+static void texts(const pilhangko_allocator *a) {
+    char text[500] = {0};
+    size_t length = 9;
+    IS(pilhangko_allocator_report(a, NULL, 0, &length), PILHANGKO_OK);
+    CHECK(length == strlen(report_of_three) && length < sizeof text);
+    IS(pilhangko_allocator_report(a, text, sizeof text, &length), PILHANGKO_OK);
+    CHECK(!strcmp(text, report_of_three) && length == strlen(report_of_three));
+    memset(text, 0, sizeof text);
+    IS(pilhangko_allocator_report(a, text, 10, &length), PILHANGKO_OK);
+    CHECK(!strncmp(text, report_of_three, 10) && text[10] == 0 && length == strlen(report_of_three));
+    memset(text, 0, sizeof text);
+    IS(pilhangko_allocator_leak(a, 1, text, sizeof text, &length), PILHANGKO_OK);
+    CHECK(!strcmp(text, second_leak) && length == strlen(second_leak));
+    memset(text, 0, sizeof text);
+    IS(pilhangko_allocator_leak(a, 2, text, sizeof text, &length), PILHANGKO_OK);
+    CHECK(!strcmp(text, third_leak) && length == strlen(third_leak));
+    memset(text, 0, sizeof text);
+    IS(pilhangko_allocator_leak(a, 3, text, sizeof text, &length), PILHANGKO_OK);
+    CHECK(text[0] == 0 && length == 0);
+    IS(pilhangko_allocator_leak(a, 0, NULL, 0, &length), PILHANGKO_OK);
+    CHECK(length == strlen(second_leak) - 2 - 2); /* its offset has one digit less and its size 0x64, its name two bytes less */
+}
+
+static void visits(void) {
+    pilhangko_allocator a = with_three_pieces();
+    pilhangko_allocator_request r = asks(8 * MB, 7, PILHANGKO_LOCATION_GPU_ONLY);
+    pilhangko_allocator_progress p;
+    IS(pilhangko_allocator_set_budget(&a, 0, true, 9 * MB), PILHANGKO_OK);
+    counts_of_types(&a);
+    IS(pilhangko_allocator_set_budget(&a, 0, true, 16 * MB), PILHANGKO_OK);
+    IS(pilhangko_allocator_begin(&a, &r, "awaited", &p), PILHANGKO_OK);
+    is_question(&p, 8 * MB, 0, false);
+    blocks_of_slots(&a);
+    pieces_of_slots(&a);
+    texts(&a);
+    IS(pilhangko_allocator_destroy(&a), PILHANGKO_OK);
+}
+
 /* ---- empty handles, and pointers that are NULL */
 
 static void each_call(pilhangko_allocator *a, bool tells, pilhangko_status expected) {
@@ -344,8 +469,13 @@ static void each_call(pilhangko_allocator *a, bool tells, pilhangko_status expec
     pilhangko_allocator_piece piece = {0, false, {0, 1, 0, 1, 1}};
     pilhangko_allocator_memory back;
     pilhangko_budget budget;
+    pilhangko_type_statistics type;
+    pilhangko_memory_block_statistics block;
+    pilhangko_piece_view views[1];
     uint64_t bytes;
+    size_t count, lengths[1];
     bool live;
+    char text[1];
     IS(pilhangko_allocator_begin(a, &r, NULL, tells ? &p : NULL), expected);
     IS(pilhangko_allocator_granted(a, 1, tells ? &piece : NULL), expected);
     IS(pilhangko_allocator_refused(a, -2, tells ? &p : NULL), expected);
@@ -354,6 +484,13 @@ static void each_call(pilhangko_allocator *a, bool tells, pilhangko_status expec
     IS(pilhangko_allocator_is_live(a, &piece, tells ? &live : NULL), expected);
     IS(pilhangko_allocator_budget(a, 0, tells ? &budget : NULL), expected);
     IS(pilhangko_allocator_capacity(a, tells ? &bytes : NULL), expected);
+    IS(pilhangko_allocator_type_statistics(a, 0, tells ? &type : NULL), expected);
+    IS(pilhangko_allocator_block(a, 0, 0, tells ? &back : NULL), expected);
+    IS(pilhangko_allocator_block_statistics(a, 0, 0, tells ? &block : NULL), expected);
+    IS(pilhangko_allocator_pieces(a, 0, 0, 0, views, 1, tells ? &count : NULL), expected);
+    IS(pilhangko_allocator_piece_names(a, 0, 0, 0, lengths, 1, text, 1, tells ? &count : NULL), expected);
+    IS(pilhangko_allocator_report(a, text, 1, tells ? &count : NULL), expected);
+    IS(pilhangko_allocator_leak(a, 0, text, 1, tells ? &count : NULL), expected);
     if (!tells) return;
     IS(pilhangko_allocator_rename(a, &piece, NULL), expected);
     IS(pilhangko_allocator_set_budget(a, 0, true, 1), expected);
@@ -362,11 +499,18 @@ static void each_call(pilhangko_allocator *a, bool tells, pilhangko_status expec
 
 static void empty_handles_and_null(void) {
     pilhangko_allocator a = {0};
+    size_t count;
+    char text[1];
     each_call(&a, true, PILHANGKO_NO_HANDLE);
     each_call(NULL, true, PILHANGKO_NULL_POINTER);
     each_call(&a, false, PILHANGKO_NULL_POINTER);
     IS(pilhangko_allocator_create(NULL, types, 3, heaps, 3, &settings), PILHANGKO_NULL_POINTER);
     IS(pilhangko_allocator_create(&a, NULL, 3, heaps, 3, &settings), PILHANGKO_NULL_POINTER);
+    IS(pilhangko_allocator_pieces(&a, 0, 0, 0, NULL, 1, &count), PILHANGKO_NULL_POINTER);
+    IS(pilhangko_allocator_piece_names(&a, 0, 0, 0, NULL, 1, text, 1, &count), PILHANGKO_NULL_POINTER);
+    IS(pilhangko_allocator_piece_names(&a, 0, 0, 0, &count, 1, NULL, 1, &count), PILHANGKO_NULL_POINTER);
+    IS(pilhangko_allocator_report(&a, NULL, 1, &count), PILHANGKO_NULL_POINTER);
+    IS(pilhangko_allocator_leak(&a, 0, NULL, 1, &count), PILHANGKO_NULL_POINTER);
     IS(pilhangko_allocator_create(&a, types, 3, NULL, 3, &settings), PILHANGKO_NULL_POINTER);
     IS(pilhangko_allocator_create(&a, types, 3, heaps, 3, NULL), PILHANGKO_NULL_POINTER);
 }
@@ -379,6 +523,7 @@ int main(void) {
     budgets();
     devices();
     request_and_piece_statuses();
+    visits();
     empty_handles_and_null();
     return 0;
 }

@@ -1,6 +1,7 @@
 // Times blocks, memory types and lent bytes. What was granted and refused goes to standard output and is the same in every
 // run; what an operation took goes to standard error. With the argument `large` the runs are longer; with `hold` nothing is
-// timed, and pieces are held while tools/host_memory counts their memory.
+// timed, and pieces are held while tools/host_memory counts their memory. `lists [--runs N] [--check] [NAME]..` runs the lists of
+// operations that other allocators are timed on as well.
 #![tactic(auto)]
 
 mod blocks;
@@ -10,6 +11,7 @@ mod error;
 mod field;
 mod gaps;
 mod lent;
+mod lists;
 mod show;
 
 use crate::error::Result;
@@ -17,6 +19,7 @@ use blocks::beside_blocks;
 use cases::{Order, churn, fill_and_free, hold, report};
 use gaps::{beside_gaps, misaligned, never_fits, of_another_page, too_long};
 use lent::live_allocations;
+use lists::{check_lists, run_lists};
 use std::env;
 
 /// How long the runs are.
@@ -57,12 +60,15 @@ enum Run {
     Timed(Length),
     /// Nothing is timed: pieces are held while their memory is counted.
     Held,
+    /// The lists of operations.
+    Lists,
 }
 
 fn run_asked(rt: &HostRuntime) -> Result<Run> {
     match env::args(rt)?.nth(1) {
         Some(word) if word.as_str() == "large" => Ok(Run::Timed(LONG)),
         Some(word) if word.as_str() == "hold" => Ok(Run::Held),
+        Some(word) if word.as_str() == "lists" => Ok(Run::Lists),
         _ => Ok(Run::Timed(SHORT)),
     }
 }
@@ -112,12 +118,14 @@ fn time_all(rt: &HostRuntime, length: Length) -> Result<()> {
     refused(rt, length)?;
     beside_more_blocks(rt, length)?;
     report(rt, length.reports)?;
-    live_allocations(rt, length.reports)
+    live_allocations(rt, length.reports)?;
+    check_lists(rt)
 }
 
 fn main(rt: HostRuntime) -> Result<()> {
     match run_asked(&rt)? {
         Run::Timed(length) => time_all(&rt, length),
         Run::Held => hold(&rt),
+        Run::Lists => run_lists(&rt),
     }
 }

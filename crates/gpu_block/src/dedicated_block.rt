@@ -38,7 +38,8 @@ impl Model for DedicatedBlockAllocator {
 
     ghost view = { λ a. record { size = a.size; piece = option_map extent a.piece } };
 
-    ghost invariant = { λ a. (0 < a.size) × (a.size < 2 ^ 64) × IfSome a.piece (IsWholeChunk a.size) };
+    ghost invariant = { λ a. (0 < a.size) × (a.size < 2 ^ 64)
+        × IfSome a.piece (IsWholeChunk a.size) };
 }
 
 impl DedicatedBlockAllocator {
@@ -70,10 +71,10 @@ impl DedicatedBlockAllocator {
         name: &str,
     ) -> Result<(u64, NonZeroU64)>
         requires piece { kind ≢ AllocationType.Free }
-        ensures took { IfOk result
-            (λ p. DedicatedTakes self.old (request size 1 kind name.now) p.0 (non_zero_u64_get p.1) self.new) }
-        ensures cause { IfErr result
-            (λ e. IsDedicatedAllocateRefusal self.old (request size 1 kind name.now) (refusal_of e)) }
+        ensures took { IfOk result (λ p. DedicatedTakes self.old (request size 1 kind name.now) p.0
+            (non_zero_u64_get p.1) self.new) }
+        ensures cause { IfErr result (λ e. IsDedicatedAllocateRefusal self.old
+            (request size 1 kind name.now) (refusal_of e)) }
         ensures refused { OnErr result (self.new ≡ self.old) }
         ensures sound { OnOk result (IsWhole self.new) }
     {
@@ -100,7 +101,8 @@ impl DedicatedBlockAllocator {
     pub fn free(&mut self, chunk_id: Option<NonZeroU64>) -> Result<()>
         ensures freed { OnOk result
             (IsSomeAnd chunk_id (λ n. DedicatedReleases self.old (non_zero_u64_get n) self.new)) }
-        ensures cause { IfErr result (λ e. IsDedicatedReleaseRefusal self.old chunk_id (refusal_of e)) }
+        ensures cause { IfErr result (λ e. IsDedicatedReleaseRefusal self.old chunk_id
+            (refusal_of e)) }
         ensures refused { OnErr result (self.new ≡ self.old) }
         ensures sound { OnOk result (IsWhole self.new) }
     {
@@ -115,9 +117,10 @@ impl DedicatedBlockAllocator {
     /// Renames the piece. `Internal` where the number is missing or isn't 1, or no piece is held, else
     /// `HostOutOfMemory` where the host refused memory; a refusal leaves the block as it was.
     pub fn rename_allocation(&mut self, chunk_id: Option<NonZeroU64>, name: &str) -> Result<()>
-        ensures renamed { OnOk result
-            (IsSomeAnd chunk_id (λ n. DedicatedRenames self.old (non_zero_u64_get n) name.now self.new)) }
-        ensures cause { IfErr result (λ e. IsDedicatedRenameRefusal self.old chunk_id (refusal_of e)) }
+        ensures renamed { OnOk result (IsSomeAnd chunk_id
+            (λ n. DedicatedRenames self.old (non_zero_u64_get n) name.now self.new)) }
+        ensures cause { IfErr result (λ e. IsDedicatedRenameRefusal self.old chunk_id
+            (refusal_of e)) }
         ensures refused { OnErr result (self.new ≡ self.old) }
         ensures sound { OnOk result (IsWhole self.new) }
     {

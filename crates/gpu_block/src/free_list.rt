@@ -96,8 +96,8 @@ impl FreeListAllocator {
         requires aligned { IsTrue (is_power_of_two alignment) }
         requires piece { kind ≢ AllocationType.Free }
         requires paged { granularity ≡ self.old.block.granularity }
-        ensures took { IfOk result
-            (λ p. Takes self.old.block (request size alignment kind name.now) p.0 (non_zero_u64_get p.1) self.new.block) }
+        ensures took { IfOk result (λ p. Takes self.old.block (request size alignment kind name.now)
+            p.0 (non_zero_u64_get p.1) self.new.block) }
         ensures cause { IfErr result
             (λ e. IsAllocateRefusal self.old.block (request size alignment kind name.now) e) }
         ensures refused { OnErr result (self.new.block ≡ self.old.block) }
@@ -111,7 +111,8 @@ impl FreeListAllocator {
             → IsLongEnough self.old.block (request size alignment kind name.now) s t
             → IsForChunkIds self.old.block e) }
         // what the search for the place cost, and its taking
-        ensures cost { IsSearch self.old.block (request size alignment kind name.now) self.old.cost self.new.cost }
+        ensures cost { IsSearch self.old.block (request size alignment kind name.now) self.old.cost
+            self.new.cost }
     {
         self.pieces
             .allocate(size, alignment, kind, granularity, name, &mut self.cost)
@@ -120,11 +121,12 @@ impl FreeListAllocator {
     /// Frees a live piece; its place joins the gaps beside it. It takes no memory. `Internal` where the number is
     /// missing or is no live piece's, and then the block stays as it was.
     pub fn free(&mut self, chunk_id: Option<NonZeroU64>) -> Result<()>
-        ensures freed { OnOk result
-            (IsSomeAnd chunk_id (λ n. Releases self.old.block (non_zero_u64_get n) self.new.block)) }
+        ensures freed { OnOk result (IsSomeAnd chunk_id
+            (λ n. Releases self.old.block (non_zero_u64_get n) self.new.block)) }
         ensures cause { IfErr result (λ e. refusal_of e ≡ release_refusal chunk_id) }
         ensures not_live { OnErr result
-            (IfSome chunk_id (λ n. SomeExtent self.old.block (λ x. x.chunk_id ≡ non_zero_u64_get n) → ⊥)) }
+            (IfSome chunk_id (λ n. SomeExtent self.old.block (λ x. x.chunk_id ≡ non_zero_u64_get n)
+            → ⊥)) }
         ensures refused { OnErr result (self.new.block ≡ self.old.block) }
         ensures pages { self.new.block.granularity ≡ self.old.block.granularity }
         ensures sound { OnOk result (IsSound self.new.block) }
@@ -139,8 +141,8 @@ impl FreeListAllocator {
     /// Renames a live piece. `Internal` where the number is missing, a gap's or nobody's, else
     /// `HostOutOfMemory` where the host refused memory; a refusal leaves the block as it was.
     pub fn rename_allocation(&mut self, chunk_id: Option<NonZeroU64>, name: &str) -> Result<()>
-        ensures renamed { OnOk result
-            (IsSomeAnd chunk_id (λ n. Renames self.old.block (non_zero_u64_get n) name.now self.new.block)) }
+        ensures renamed { OnOk result (IsSomeAnd chunk_id
+            (λ n. Renames self.old.block (non_zero_u64_get n) name.now self.new.block)) }
         ensures cause { IfErr result (λ e. IsRenameRefusal self.old.block chunk_id (refusal_of e)) }
         ensures refused { OnErr result (self.new.block ≡ self.old.block) }
         ensures pages { self.new.block.granularity ≡ self.old.block.granularity }

@@ -48,7 +48,8 @@ impl FreeListAllocator {
 
     /// The bytes of the longest gap, 0 where there is none. A request of more bytes has no place. It looks at no other gap.
     pub fn longest_gap(&self) -> u64
-        ensures longest { result ≡ longest (gaps_between 0 self.now.block.extents self.now.block.size) }
+        ensures longest { result ≡ longest
+            (gaps_between 0 self.now.block.extents self.now.block.size) }
         ensures law { (r : Request) → result < r.size → HasNoPlace self.now.block r }
     {
         // a read, so that the proof has the invariant
@@ -72,7 +73,8 @@ impl FreeListAllocator {
 
     /// The live pieces in order of offset, each with its own offset and size. The only refusal is `HostOutOfMemory`.
     pub fn report_allocations(&self) -> Result<Vec<AllocationReport>>
-        ensures rows { IfOk result (λ v. map row_of v.items ≡ map extent_row self.now.block.extents) }
+        ensures rows { IfOk result (λ v. map row_of v.items
+            ≡ map extent_row self.now.block.extents) }
         ensures cause { IfErr result (λ e. e ≡ HostOutOfMemory) }
     {
         let rows = rows_of(self.alloc, self.pieces.walk(), &mut Cost::begin(&Reading))?;
@@ -107,7 +109,8 @@ impl DedicatedBlockAllocator {
 
     /// The piece, if one is held. The only refusal is `HostOutOfMemory`.
     pub fn report_allocations(&self) -> Result<Vec<AllocationReport>>
-        ensures rows { IfOk result (λ v. map row_of v.items ≡ map extent_row (held_extents self.now)) }
+        ensures rows { IfOk result (λ v. map row_of v.items
+            ≡ map extent_row (held_extents self.now)) }
         ensures cause { IfErr result (λ e. e ≡ HostOutOfMemory) }
     {
         let chunks = Walk::of_list(self.piece.as_slice());

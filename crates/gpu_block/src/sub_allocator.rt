@@ -49,10 +49,11 @@ impl SubAllocator {
         requires aligned { IsTrue (is_power_of_two alignment) }
         requires piece { kind ≢ AllocationType.Free }
         requires paged { HasPages (block_of self.old) granularity }
-        ensures took { IfOk result
-            (λ p. TakesIn (block_of self.old) (request size alignment kind name.now) p.0 (non_zero_u64_get p.1) (block_of self.new)) }
-        ensures cause { IfErr result
-            (λ e. IsAllocateRefusalIn (block_of self.old) (request size alignment kind name.now) e) }
+        ensures took { IfOk result (λ p. TakesIn (block_of self.old)
+            (request size alignment kind name.now) p.0 (non_zero_u64_get p.1)
+            (block_of self.new)) }
+        ensures cause { IfErr result (λ e. IsAllocateRefusalIn (block_of self.old)
+            (request size alignment kind name.now) e) }
         ensures refused { OnErr result (block_of self.new ≡ block_of self.old) }
         ensures pages { (g : ℕ) → HasPages (block_of self.old) g → HasPages (block_of self.new) g }
         // where the pieces lie, for all pairs of them; and a gap that is long enough is never refused
@@ -60,9 +61,11 @@ impl SubAllocator {
         ensures ordered { OnOk result (IsOrderedBlock (block_of self.new)) }
         ensures separated { OnOk result (HasPagesApart (block_of self.new)) }
         ensures covered { OnOk result (IsCoveredBlock (block_of self.new)) }
-        ensures law { IfErr result (λ e. IsFitLaw (block_of self.old) (request size alignment kind name.now) e) }
+        ensures law { IfErr result (λ e. IsFitLaw (block_of self.old)
+            (request size alignment kind name.now) e) }
         // what the search for the place cost, and its taking
-        ensures cost { IsSearchIn (block_of self.old) (request size alignment kind name.now) (cost_of self.old) (cost_of self.new) }
+        ensures cost { IsSearchIn (block_of self.old) (request size alignment kind name.now)
+            (cost_of self.old) (cost_of self.new) }
     {
         match self {
             SubAllocator::FreeList(list) => list.allocate(size, alignment, kind, granularity, name),
@@ -74,9 +77,10 @@ impl SubAllocator {
     /// then the block stays as it was.
     #[tactic(auto, unfolding(crate::specs::Block::CountsRise))]
     pub fn free(&mut self, chunk_id: Option<NonZeroU64>) -> Result<()>
-        ensures freed { OnOk result
-            (IsSomeAnd chunk_id (λ n. ReleasesIn (block_of self.old) (non_zero_u64_get n) (block_of self.new))) }
-        ensures cause { IfErr result (λ e. IsReleaseRefusalIn (block_of self.old) chunk_id (refusal_of e)) }
+        ensures freed { OnOk result (IsSomeAnd chunk_id
+            (λ n. ReleasesIn (block_of self.old) (non_zero_u64_get n) (block_of self.new))) }
+        ensures cause { IfErr result (λ e. IsReleaseRefusalIn (block_of self.old) chunk_id
+            (refusal_of e)) }
         ensures refused { OnErr result (block_of self.new ≡ block_of self.old) }
         ensures pages { (g : ℕ) → HasPages (block_of self.old) g → HasPages (block_of self.new) g }
         ensures sound { OnOk result (IsSoundBlock (block_of self.new)) }
@@ -95,9 +99,11 @@ impl SubAllocator {
     /// `HostOutOfMemory` where the host refused memory; a refusal leaves the block as it was.
     #[tactic(auto, unfolding(crate::specs::Block::CountsRise))]
     pub fn rename_allocation(&mut self, chunk_id: Option<NonZeroU64>, name: &str) -> Result<()>
-        ensures renamed { OnOk result
-            (IsSomeAnd chunk_id (λ n. RenamesIn (block_of self.old) (non_zero_u64_get n) name.now (block_of self.new))) }
-        ensures cause { IfErr result (λ e. IsRenameRefusalIn (block_of self.old) chunk_id (refusal_of e)) }
+        ensures renamed { OnOk result (IsSomeAnd chunk_id
+            (λ n. RenamesIn (block_of self.old) (non_zero_u64_get n) name.now
+            (block_of self.new))) }
+        ensures cause { IfErr result (λ e. IsRenameRefusalIn (block_of self.old) chunk_id
+            (refusal_of e)) }
         ensures refused { OnErr result (block_of self.new ≡ block_of self.old) }
         ensures pages { (g : ℕ) → HasPages (block_of self.old) g → HasPages (block_of self.new) g }
         ensures sound { OnOk result (IsSoundBlock (block_of self.new)) }
@@ -114,7 +120,8 @@ impl SubAllocator {
 
     /// The live pieces in order of offset, each with its own offset and size. The only refusal is `HostOutOfMemory`.
     pub fn report_allocations(&self) -> Result<Vec<AllocationReport>>
-        ensures rows { IfOk result (λ v. map row_of v.items ≡ map extent_row (extents_of (block_of self.now))) }
+        ensures rows { IfOk result (λ v. map row_of v.items
+            ≡ map extent_row (extents_of (block_of self.now))) }
         ensures cause { IfErr result (λ e. e ≡ HostOutOfMemory) }
     {
         match self {
@@ -135,8 +142,8 @@ impl SubAllocator {
 
     /// The texts of `leaks`, in the same order. The only refusal is `HostOutOfMemory`.
     pub fn leak_texts(&self, memory_type: usize, memory_block: usize) -> Result<Vec<String>>
-        ensures texts { IfOk result
-            (λ v. map string_bytes v.items ≡ map leak_text (leaks_of memory_type memory_block (block_of self.now))) }
+        ensures texts { IfOk result (λ v. map string_bytes v.items
+            ≡ map leak_text (leaks_of memory_type memory_block (block_of self.now))) }
         ensures cause { IfErr result (λ e. e ≡ HostOutOfMemory) }
     {
         let alloc = match self {

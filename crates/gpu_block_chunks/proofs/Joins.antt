@@ -1,13 +1,14 @@
 -- Two neighbours that become one chunk.
-use Rattle.std.proofs.Common.{◌≡◌, ℕ, ◌+◌, ◌<◌, ◌^◌, List, [], ◌∷◌, ◌++◌, Option, Some, None, IsSome, IsSomeAnd, IfSome, refl, sym, ap, ◌∙◌, subst, inl, inr, ⊎_elim, arith, rules, cond, Bool, ◌==◌}
+use Rattle.std.proofs.Common.{◌≡◌, ℕ, ◌+◌, ◌<◌, ◌^◌, List, [], ◌∷◌, ◌++◌, Option, Some, None, IsSome, IsSomeAnd, IfSome, refl, sym, ap, ◌∙◌, subst, inl, inr, ⊎_elim, arith, rules, cond, Bool, true, false, ◌==◌, ◌≢◌}
 use Rattle.std.specs.Option.{option_map}
 use Rattle.std.proofs.lemmas.Bool.{cases_eq}
 use Rattle.gpu_block_chunks.specs.declared.chunk.Chunk.{Chunk}
 use Rattle.gpu_block_chunks.specs.Chain.{Node}
-use Rattle.gpu_block_chunks.specs.Chain.{with_prev, joined_node, is_at, ChangesAt, ChangesAtOpt, SetsAt}
+use Rattle.gpu_block_chunks.specs.Chain.{with_prev, joined_node, is_at, ChangesAt, ChangesAtOpt, SetsAt, IsUnlinked}
+use Rattle.gpu_block_chunks.specs.Nodes.{IsAlone}
 use Rattle.gpu_block_chunks.specs.ChunkList.{Covers}
 use Rattle.gpu_block_chunks.specs.Chain.{first_or, last_or, node_of, Held, Apart, Distinct, Numbered, Among, IsChain, CanJoin, JoinsNext, longer, chunks_in}
-use Rattle.gpu_block_chunks.proofs.Links.{held_among, same_test, apart_test, apart_append, apart_front, held_front, held_back, held_join, stands_within}
+use Rattle.gpu_block_chunks.proofs.Links.{same_test, apart_test, apart_append, apart_front, held_front, held_back, held_join, stands_within}
 use Rattle.gpu_block_chunks.proofs.Splits.{OptApart, opt_none, opt_from, distinct_back, Same, held_same, same_from, at_opt_other, at_opt_same, kept_by, among_front, among_back, among_cases}
 use Rattle.gpu_block_chunks.proofs.Splits.{some_changed}
 
@@ -180,38 +181,27 @@ join_has f k r j =
     let hb = held_back f None j.front ((k, j.chunk) ∷ (r, j.next) ∷ j.back) None (j.linked).held in
     subst (λ (o : Option Node). IsSome o) (sym hb.1.0) (search rules)
 
-pub join_fits : (f f1 : ℕ → Option Node) (k r : ℕ) (n : Node) → CanJoin f k r → f r ≡ Some n → SetsAt r None f f1 → IsSomeAnd (f1 k) (λ m. (m.chunk).size + (n.chunk).size < 2 ^ 64)
-join_fits f f1 k r n j at c1 =
+pub join_apart : (f : ℕ → Option Node) (k r : ℕ) → CanJoin f k r → k ≢ r
+join_apart f k r j = (distinct_back j.front ((k, j.chunk) ∷ (r, j.next) ∷ j.back) (j.linked).distinct).0.0
+
+pub join_fits : (f : ℕ → Option Node) (k r : ℕ) (n : Node) → CanJoin f k r → f r ≡ Some n → IsSomeAnd (f k) (λ m. (m.chunk).size + (n.chunk).size < 2 ^ 64)
+join_fits f k r n j at =
     let hb = held_back f None j.front ((k, j.chunk) ∷ (r, j.next) ∷ j.back) None (j.linked).held in
-    let db = distinct_back j.front ((k, j.chunk) ∷ (r, j.next) ∷ j.back) (j.linked).distinct in
     let is = right_is f k r j.chunk j.next j.front j.back n (j.linked).held at in
-    let e = c1 k ∙ ap (λ (b : Bool). cond b None (f k)) (apart_test r k (λ (e : r ≡ k). db.0.0 (sym e))) ∙ hb.0 in
     let cov = covers_join k r j.chunk j.next j.back j.front 0 j.size (j.linked).covers in
     let w = stands_within j.front k (longer j.chunk (j.next).size) j.back 0 j.size cov in
     let s : (n.chunk).size ≡ (j.next).size = ap (λ (m : Node). (m.chunk).size) is in
     let fits = j.fits in
-    subst (λ (o : Option Node). IsSomeAnd o (λ m. (m.chunk).size + (n.chunk).size < 2 ^ 64)) (sym e) (omega (arith, w, s))
+    subst (λ (o : Option Node). IsSomeAnd o (λ m. (m.chunk).size + (n.chunk).size < 2 ^ 64)) (sym hb.0) (omega (arith, w, s))
 
-next_held : (f f1 f2 : ℕ → Option Node) (k r more : ℕ) (next : Option ℕ) (o : Option ℕ) → ((q : ℕ) → o ≡ Some q → IsSome (f q) × (r ≡ q → ⊥)) → SetsAt r None f f1
-    → ChangesAt k (joined_node more next) f1 f2 → IfSome o (λ p. IsSome (f2 p))
-next_held f f1 f2 k r more next None h c1 c2 = search rules
-next_held f f1 f2 k r more next (Some p) h c1 c2 =
-    let x = h p refl in
-    let e = c1 p ∙ ap (λ (b : Bool). cond b None (f p)) (apart_test r p x.1) in
-    subst (λ (o : Option Node). IsSome o) (sym (c2 p)) (some_changed (k == p) (joined_node more next) (f1 p) (subst (λ (o : Option Node). IsSome o) (sym e) x.0))
+-- what was held still is, where chunks change
+pub held_changed : (f f1 : ℕ → Option Node) (k : ℕ) (change : Node → Node) → ChangesAt k change f f1 → (o : Option ℕ) → IfSome o (λ p. IsSome (f p)) → IfSome o (λ p. IsSome (f1 p))
+held_changed f f1 k change c None h = h
+held_changed f f1 k change c (Some p) h = subst (λ (o : Option Node). IsSome o) (sym (c p)) (some_changed (k == p) change (f p) h)
 
-pub join_next_held : (f f1 f2 : ℕ → Option Node) (k r : ℕ) (n : Node) → CanJoin f k r → f r ≡ Some n → SetsAt r None f f1 → ChangesAt k (joined_node (n.chunk).size n.next) f1 f2
-    → IfSome n.next (λ p. IsSome (f2 p))
-join_next_held f f1 f2 k r n j at c1 c2 =
-    let is = right_is f k r j.chunk j.next j.front j.back n (j.linked).held at in
-    let e : n.next ≡ first_or j.back None = ap (λ (m : Node). m.next) is in
-    let hb = held_back f None j.front ((k, j.chunk) ∷ (r, j.next) ∷ j.back) None (j.linked).held in
-    let db = distinct_back j.front ((k, j.chunk) ∷ (r, j.next) ∷ j.back) (j.linked).distinct in
-    next_held f f1 f2 k r (n.chunk).size n.next n.next
-    (λ q nq. let m = first_among j.back q (sym e ∙ nq) in
-    let h = held_among f (Some r) j.back None hb.1.1 q m.0 m.1 in
-    (subst (λ (o : Option Node). IsSome o) (sym h.1) (search rules), apart_among r q m.0 j.back db.1.0 m.1))
-    c1 c2
+pub held_changed_at : (f f1 : ℕ → Option Node) (at : Option ℕ) (change : Node → Node) → ChangesAtOpt at change f f1 → (o : Option ℕ) → IfSome o (λ p. IsSome (f p)) → IfSome o (λ p. IsSome (f1 p))
+held_changed_at f f1 at change c None h = h
+held_changed_at f f1 at change c (Some p) h = subst (λ (o : Option Node). IsSome o) (sym (c p)) (some_changed (is_at at p) change (f p) h)
 
 pub joins_next : (f f1 f2 f3 : ℕ → Option Node) (k r : ℕ) (n : Node) → f r ≡ Some n → SetsAt r None f f1 → ChangesAt k (joined_node (n.chunk).size n.next) f1 f2
     → ChangesAtOpt n.next (with_prev (Some k)) f2 f3 → JoinsNext k r f f3
@@ -220,3 +210,31 @@ joins_next f f1 f2 f3 k r n at c1 c2 c3 = λ first size front c d back l.
     linked_join k r c d back f f3 front
     (joins k r c d back f f1 f2 f3 front (n.chunk).size n.next l.held l.distinct (ap (λ (m : Node). (m.chunk).size) is) (ap (λ (m : Node). m.next) is) c1 c2 c3)
     first size l
+
+-- the same, where the right one is taken out last
+commuted : (b c d : Bool) (change change2 : Node → Node) (o : Option Node)
+    → cond b None (cond d (option_map change2 (cond c (option_map change o) o)) (cond c (option_map change o) o))
+    ≡ cond d (option_map change2 (cond c (option_map change (cond b None o)) (cond b None o))) (cond c (option_map change (cond b None o)) (cond b None o))
+commuted true true true change change2 o = refl
+commuted true true false change change2 o = refl
+commuted true false true change change2 o = refl
+commuted true false false change change2 o = refl
+commuted false c d change change2 o = refl
+
+pub joins_last : (f f1 f2 f3 : ℕ → Option Node) (k r : ℕ) (n : Node) → f r ≡ Some n → ChangesAt k (joined_node (n.chunk).size n.next) f f1
+    → ChangesAtOpt n.next (with_prev (Some k)) f1 f2 → SetsAt r None f2 f3 → JoinsNext k r f f3
+joins_last f f1 f2 f3 k r n at c1 c2 c3 =
+    joins_next f (λ q. cond (r == q) None (f q)) (λ q. cond (k == q) (option_map (joined_node (n.chunk).size n.next) (cond (r == q) None (f q))) (cond (r == q) None (f q))) f3 k r n at
+    (λ q. refl) (λ q. refl)
+    (λ q.
+    c3 q ∙ ap (λ (o : Option Node). cond (r == q) None o) (c2 q ∙ ap (λ (o : Option Node). cond (is_at n.next q) (option_map (with_prev (Some k)) o) o) (c1 q))
+    ∙ commuted (r == q) (k == q) (is_at n.next q) (joined_node (n.chunk).size n.next) (with_prev (Some k)) (f q))
+
+-- then no other is linked to the right one
+pub joined_alone : (f f1 f2 : ℕ → Option Node) (k r : ℕ) (n : Node) → CanJoin f k r → f r ≡ Some n → ChangesAt k (joined_node (n.chunk).size n.next) f f1
+    → ChangesAtOpt n.next (with_prev (Some k)) f1 f2 → (list : (g : ℕ → Option Node) (first size : ℕ) (cs : List (ℕ × Chunk)) → IsChain g first size cs → g r ≡ None → IsUnlinked r g) → IsAlone r f2
+joined_alone f f1 f2 k r n j at c1 c2 unlinked = λ q m ne e.
+    let f3 : ℕ → Option Node = λ p. cond (r == p) None (f2 p) in
+    let chain = joins_last f f1 f2 f3 k r n at c1 c2 (λ p. refl) j.first j.size j.front j.chunk j.next j.back j.linked in
+    let none : f3 r ≡ None = ap (λ (b : Bool). cond b None (f2 r)) (same_test r) in
+    (unlinked f3 j.first j.size _ chain none).apart q m (ap (λ (b : Bool). cond b None (f2 q)) (apart_test r q (λ (same : r ≡ q). ne (sym same))) ∙ e)

@@ -3,7 +3,7 @@ use Rattle.std.proofs.Common.{◌≡◌, ◌≢◌, ℕ, List, [], ◌∷◌, Op
 use Rattle.std.proofs.lemmas.Bool.{false≢true}
 use Rattle.gpu_block_chunks.specs.declared.chunk.Chunk.{Chunk}
 use Rattle.gpu_block_chunks.specs.Chain.{Node, IsChain, Held, Apart, IsUnlinked, SetsAt, first_or, last_or, node_of}
-use Rattle.gpu_block_chunks.proofs.Links.{stands_from, held_back, prev_held, apart_test}
+use Rattle.gpu_block_chunks.proofs.Links.{stands_from, held_back, prev_held, apart_test, apart_from_none}
 use Rattle.gpu_block_chunks.proofs.Joins.{apart_among}
 
 module _ (f : ℕ → Option Node) where
@@ -39,6 +39,9 @@ module _ (f : ℕ → Option Node) where
         none = none;
         apart = λ q n e. (not_linked chunk_id none n.prev (prev_held f first size cs chain q n e), not_linked chunk_id none n.next (next_held first size cs chain q n e));
       }
+
+  pub unlinked_none : (first size : ℕ) (cs : List (ℕ × Chunk)) → IsChain f first size cs → (chunk_id : ℕ) → f chunk_id ≡ None → IsUnlinked chunk_id f
+  unlinked_none first size cs chain chunk_id none = unlinked first size cs chain chunk_id (apart_from_none f chunk_id None cs None none chain.held)
 
   unlinked_apart : (chunk_id k : ℕ) → IsUnlinked chunk_id f → IsSome (f k) → chunk_id ≡ k → ⊥
   unlinked_apart chunk_id k un some is =

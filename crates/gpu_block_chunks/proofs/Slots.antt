@@ -1,5 +1,5 @@
 -- Chunks in slots: what is held under each number after one slot is written, a chunk is put into a slot, or taken out of it.
-use Rattle.std.proofs.Common.{◌≡◌, ◌≢◌, ℕ, Bool, ◌-◌, ◌<◌, ◌≤◌, min, List, ◌++◌, length, get_or, set, replicate}
+use Rattle.std.proofs.Common.{◌≡◌, ◌≢◌, ℕ, Bool, ◌-◌, ◌<◌, ◌≤◌, ◌^◌, min, List, ◌++◌, length, get_or, set, replicate}
 use Rattle.std.proofs.Common.{Option, Some, None, is_some, IsSome, IsSomeAnd, IfSome, cond, ◌==◌, refl, sym, ap, ◌∙◌, subst, inl, inr, arith}
 use Rattle.std.specs.Borrow.{Bor}
 use Rattle.std.specs.Option.{option_map, option_copied}
@@ -8,154 +8,207 @@ use Rattle.std.proofs.lemmas.Option.{same_Some}
 use Rattle.std.proofs.lemmas.List.{length-append, length-set, get_or-set_same, get_or-set_other, get_or_past}
 use Rattle.gpu_block_chunks.specs.declared.chain.link.Link.{Link}
 use Rattle.gpu_block_chunks.specs.declared.chain.link.LinkedChunk.{LinkedChunk}
-use Rattle.gpu_block_chunks.specs.Chain.{Node, ChangesAt, IsUnlinked}
-use Rattle.gpu_block_chunks.specs.Nodes.{Slotted, AreSound, LeadsIn, Leads, Reaches, stored_in, held_at, node_value, link_chunk_id}
+use Rattle.gpu_block_chunks.specs.declared.chunk.Chunk.{Chunk}
+use Rattle.gpu_block_chunks.specs.Chain.{Node, ChangesAt, node_of}
+use Rattle.gpu_block_chunks.specs.Nodes.{Slotted, AreSound, IsAlone, IsTaken, LeadsIn, Leads, Reaches, stored_in, held_at, node_value, number_at, link_chunk_id, link_slot}
 use Rattle.gpu_block_chunks.specs.ChunkIds.{id_at, slot_of}
+use Rattle.gpu_block_chunks.specs.Slots.{Stored, taken, IsFirst}
 use Rattle.gpu_block_chunks.proofs.Links.{same_test, apart_test}
-use Rattle.gpu_block_chunks.proofs.IdSlots.{slot_has, slot_set, slot_out, slot_more}
+use Rattle.gpu_block_chunks.proofs.IdChains.{was, left}
+use Rattle.gpu_block_chunks.proofs.IdSlots.{slot_has, slot_none, slot_found, slot_set, slot_out, slot_more}
 use Rattle.gpu_block_chunks.proofs.IdRows.{id_within}
 use Rattle.gpu_block_chunks.proofs.IdGrowth.{get_more}
-use Rattle.gpu_block_chunks.specs.Slots.{Stored, taken, IsFirst}
-
--- ---- where a link leads to
-found_in : (slots : List (Option ℕ)) (chunks : List (Option LinkedChunk)) (k s : ℕ) (o : Option ℕ) → slot_of slots k ≡ o
-    → IsSome (option_map node_value (stored_in chunks o)) → ((t : ℕ) → slot_of slots k ≡ Some t → s ≡ t) → slot_of slots k ≡ Some s
-found_in slots chunks k s None e there leads = absurd (false≢true there)
-found_in slots chunks k s (Some t) e there leads = e ∙ ap (λ (u : ℕ). Some u) (sym (leads t e))
-
-pub found : (v : Slotted) (at : Link) → Reaches v (Some at) → slot_of v.ids at.chunk_id ≡ Some at.slot
-found v at r = found_in v.ids v.chunks at.chunk_id at.slot (slot_of v.ids at.chunk_id) refl r.1 r.0
 
 pub some_and : (P : Node → Type 0) → (o : Option Node) → IsSomeAnd o P → IsSome o
 some_and P None h = absurd h
 some_and P (Some n) h = refl
 
-same_chunk_id : (o : Option LinkedChunk) (k q : ℕ) → IsSomeAnd o (λ n. (n.chunk).chunk_id ≡ k) → IsSomeAnd o (λ n. (n.chunk).chunk_id ≡ q) → k ≡ q
-same_chunk_id None k q a b = absurd a
-same_chunk_id (Some n) k q a b = sym a ∙ b
-
 pub linked_some : (link : Option Link) → is_some (link_chunk_id link) ≡ is_some link
 linked_some None = refl
 linked_some (Some l) = refl
 
+-- ---- where a link leads to
+id_of : LinkedChunk → ℕ
+id_of n = (n.chunk).chunk_id
+
+-- the link to a slot that is taken has its number
+pub number_is : (ids : List (Option ℕ)) (link : Option Link) → LeadsIn ids link → number_at ids (link_slot link) ≡ link_chunk_id link
+number_is ids None leads = refl
+number_is ids (Some l) leads = leads
+
+pub taken_by : (ids : List (Option ℕ)) (link : Option Link) → LeadsIn ids link → IsTaken ids (link_slot link)
+taken_by ids None leads = tt
+taken_by ids (Some l) leads = subst (λ (o : Option ℕ). IsSome o) (sym leads) refl
+
+-- what stands in a slot is found under its number
+pub found_in : (ids : List (Option ℕ)) (chunks : List (Option LinkedChunk)) → AreSound ids chunks → (k s : ℕ) → id_at ids s ≡ Some k → slot_of ids k ≡ Some s
+found_in ids chunks sound k s at = slot_found ids k s at (λ t there. sound.distinct t s k there at)
+
+pub found : (v : Slotted) → AreSound v.ids v.chunks → (at : Link) → Leads v (Some at) → slot_of v.ids at.chunk_id ≡ Some at.slot
+found v sound at leads = found_in v.ids v.chunks sound at.chunk_id at.slot leads
+
 -- in the slot of a number stands its chunk
-chunk_of : (o : Option LinkedChunk) (k : ℕ) → option_map (λ n. (n.chunk).chunk_id) o ≡ Some k → IsSomeAnd o (λ n. (n.chunk).chunk_id ≡ k)
-chunk_of None k e = absurd (let no : None ≡ Some k = e in cc)
-chunk_of (Some n) k e = same_Some (n.chunk).chunk_id k e
+some_chunk : (o : Option LinkedChunk) (k : ℕ) → option_map (λ n. (n.chunk).chunk_id) o ≡ Some k → (n : LinkedChunk) × (o ≡ Some n)
+some_chunk None k e = absurd (let no : None ≡ Some k = e in cc)
+some_chunk (Some n) k e = (n, refl)
 
-has_chunk : (slots : List (Option ℕ)) (chunks : List (Option LinkedChunk)) → AreSound slots chunks → (k s : ℕ) → slot_of slots k ≡ Some s → IsSomeAnd (get_or chunks s None) (λ n. (n.chunk).chunk_id ≡ k)
-has_chunk slots chunks sound k s e = chunk_of (get_or chunks s None) k (sym (sound.numbered s) ∙ slot_has slots k s e)
+pub chunk_there : (ids : List (Option ℕ)) (chunks : List (Option LinkedChunk)) → AreSound ids chunks → (k s : ℕ) → id_at ids s ≡ Some k → (n : LinkedChunk) × (get_or chunks s None ≡ Some n)
+chunk_there ids chunks sound k s at = some_chunk (get_or chunks s None) k (sym (sound.numbered s) ∙ at)
 
--- two numbers have two slots
-one_number : (slots : List (Option ℕ)) (chunks : List (Option LinkedChunk)) → AreSound slots chunks → (k q s : ℕ) → slot_of slots k ≡ Some s → slot_of slots q ≡ Some s → k ≡ q
-one_number slots chunks sound k q s at_k at_q = same_chunk_id (stored_in chunks (Some s)) k q (has_chunk slots chunks sound k s at_k) (has_chunk slots chunks sound q s at_q)
+-- a chunk is found under its number
+pub number_of_chunk : (ids : List (Option ℕ)) (chunks : List (Option LinkedChunk)) → AreSound ids chunks → (s : ℕ) (n : LinkedChunk) → get_or chunks s None ≡ Some n → id_at ids s ≡ Some (n.chunk).chunk_id
+number_of_chunk ids chunks sound s n at = sound.numbered s ∙ ap (option_map (λ (x : LinkedChunk). (x.chunk).chunk_id)) at
+
+pub held_there : (ids : List (Option ℕ)) (chunks : List (Option LinkedChunk)) → AreSound ids chunks → (s : ℕ) (n : LinkedChunk) → get_or chunks s None ≡ Some n
+    → option_map (node_value ids) (stored_in chunks (slot_of ids (n.chunk).chunk_id)) ≡ Some (node_value ids n)
+held_there ids chunks sound s n at =
+    ap (λ (o : Option ℕ). option_map (node_value ids) (stored_in chunks o)) (found_in ids chunks sound (n.chunk).chunk_id s (number_of_chunk ids chunks sound s n at)) ∙ ap (option_map (node_value ids)) at
+
+-- a link to a slot that is taken reaches its chunk
+pub reaches_in : (w v : Slotted) → w ≡ v → AreSound w.ids w.chunks → (s : ℕ) (n : LinkedChunk) → get_or w.chunks s None ≡ Some n → Reaches v (Some (record { chunk_id = (n.chunk).chunk_id; slot = s }))
+reaches_in w v is sound s n at =
+    subst (λ (u : Slotted). Reaches u (Some (record { chunk_id = (n.chunk).chunk_id; slot = s }))) is
+    (number_of_chunk w.ids w.chunks sound s n at, subst (λ (o : Option Node). IsSome o) (sym (held_there w.ids w.chunks sound s n at)) refl)
 
 -- a number that nothing is held under has no slot
-none_there : (o : Option LinkedChunk) (k : ℕ) → IsSomeAnd o (λ x. (x.chunk).chunk_id ≡ k) → option_map node_value o ≡ None → ⊥
-none_there None k h none = h
-none_there (Some x) k h none = cc
-
-no_slot : (slots : List (Option ℕ)) (chunks : List (Option LinkedChunk)) → AreSound slots chunks → (k : ℕ) (o : Option ℕ) → slot_of slots k ≡ o
-    → option_map node_value (stored_in chunks o) ≡ None → slot_of slots k ≡ None
-no_slot slots chunks sound k None e none = e
-no_slot slots chunks sound k (Some t) e none = absurd (none_there (get_or chunks t None) k (has_chunk slots chunks sound k t e) none)
+no_slot : (ids : List (Option ℕ)) (chunks : List (Option LinkedChunk)) → AreSound ids chunks → (k : ℕ) (o : Option ℕ) → slot_of ids k ≡ o
+    → option_map (node_value ids) (stored_in chunks o) ≡ None → slot_of ids k ≡ None
+no_slot ids chunks sound k None e none = e
+no_slot ids chunks sound k (Some t) e none =
+    let there = chunk_there ids chunks sound k t (slot_has ids k t e) in
+    absurd (let no : Some (node_value ids there.0) ≡ None = ap (option_map (node_value ids)) (sym there.1) ∙ none in cc)
 
 pub slotless : (w v : Slotted) → w ≡ v → AreSound w.ids w.chunks → (k : ℕ) → held_at v k ≡ None → slot_of w.ids k ≡ None
 slotless w v is sound k none = no_slot w.ids w.chunks sound k (slot_of w.ids k) refl (subst (λ (u : Slotted). held_at u k ≡ None) (sym is) none)
 
 -- ---- one slot is written
-module _ (slots : List (Option ℕ)) (old new : List (Option LinkedChunk)) (sound : AreSound slots old) (k s : ℕ) (at : slot_of slots k ≡ Some s)
-    (n m : LinkedChunk) (was : get_or old s None ≡ Some n) (here : get_or new s None ≡ Some m) (others : (t : ℕ) → t ≢ s → get_or new t None ≡ get_or old t None) where
-  write_numbered : (m.chunk).chunk_id ≡ (n.chunk).chunk_id → (t : ℕ) → id_at slots t ≡ option_map (λ x. (x.chunk).chunk_id) (get_or new t None)
+module _ (ids : List (Option ℕ)) (old new : List (Option LinkedChunk)) (sound : AreSound ids old) (k s : ℕ) (at : slot_of ids k ≡ Some s)
+    (n m : LinkedChunk) (was_there : get_or old s None ≡ Some n) (here : get_or new s None ≡ Some m) (others : (t : ℕ) → t ≢ s → get_or new t None ≡ get_or old t None) where
+  write_numbered : (m.chunk).chunk_id ≡ (n.chunk).chunk_id → (t : ℕ) → id_at ids t ≡ option_map (λ x. (x.chunk).chunk_id) (get_or new t None)
   write_numbered same t =
-      elim (cases_eq t s) as (λ _. id_at slots t ≡ option_map (λ x. (x.chunk).chunk_id) (get_or new t None)) [
+      elim (cases_eq t s) as (λ _. id_at ids t ≡ option_map (λ x. (x.chunk).chunk_id) (get_or new t None)) [
         | inl is ↦
-            sound.numbered t ∙ ap (λ (u : ℕ). option_map (λ (x : LinkedChunk). (x.chunk).chunk_id) (get_or old u None)) is ∙ ap (option_map (λ (x : LinkedChunk). (x.chunk).chunk_id)) was
+            sound.numbered t ∙ ap (λ (u : ℕ). option_map (λ (x : LinkedChunk). (x.chunk).chunk_id) (get_or old u None)) is ∙ ap (option_map (λ (x : LinkedChunk). (x.chunk).chunk_id)) was_there
             ∙ ap (λ (k : ℕ). Some k) (sym same)
             ∙ ap (option_map (λ (x : LinkedChunk). (x.chunk).chunk_id)) (sym here) ∙ ap (λ (u : ℕ). option_map (λ (x : LinkedChunk). (x.chunk).chunk_id) (get_or new u None)) (sym is)
         | inr ne ↦ sound.numbered t ∙ ap (option_map (λ (x : LinkedChunk). (x.chunk).chunk_id)) (sym (others t ne))
       ]
 
   -- what stands in a slot afterwards stood there before, or was written
-  written : (P : LinkedChunk → Type 0) → P m → ((q : ℕ) (x : LinkedChunk) → stored_in old (slot_of slots q) ≡ Some x → P x)
-      → (q : ℕ) (x : LinkedChunk) (o : Option ℕ) → slot_of slots q ≡ o → stored_in new o ≡ Some x → P x
-  written P p keeps q x None e f = absurd (let no : None ≡ Some x = f in cc)
-  written P p keeps q x (Some t) e f =
-      elim (cases_eq t s) [
-        | inl is ↦ let w : Some m ≡ Some x = sym here ∙ ap (λ (u : ℕ). get_or new u None) (sym is) ∙ f in let v : m ≡ x = cc in subst P v p
-        | inr ne ↦ keeps q x (ap (λ (o : Option ℕ). stored_in old o) e ∙ sym (others t ne) ∙ f)
+  written : (P : LinkedChunk → Type 0) → P m → ((t : ℕ) (x : LinkedChunk) → get_or old t None ≡ Some x → P x) → (t : ℕ) (x : LinkedChunk) → get_or new t None ≡ Some x → P x
+  written P p keeps t x f =
+      elim (cases_eq t s) as (λ _. P x) [
+        | inl is ↦ subst P (same_Some m x (sym here ∙ ap (λ (u : ℕ). get_or new u None) (sym is) ∙ f)) p
+        | inr ne ↦ keeps t x (sym (others t ne) ∙ f)
       ]
 
-  pub write_sound : length new ≡ length old → (m.chunk).chunk_id ≡ (n.chunk).chunk_id → LeadsIn slots m.prev → LeadsIn slots m.next → AreSound slots new
+  pub write_sound : length new ≡ length old → (m.chunk).chunk_id ≡ (n.chunk).chunk_id → IsTaken ids m.prev → IsTaken ids m.next → AreSound ids new
   write_sound long same prev next =
       record {
         numbered = write_numbered same;
         enough = (let old_long = sound.enough in omega arith);
-        prev = λ q x f. written (λ x. LeadsIn slots x.prev) prev sound.prev q x (slot_of slots q) refl f;
-        next = λ q x f. written (λ x. LeadsIn slots x.next) next sound.next q x (slot_of slots q) refl f;
+        few = sound.few;
+        distinct = sound.distinct;
+        prev = written (λ x. IsTaken ids x.prev) prev sound.prev;
+        next = written (λ x. IsTaken ids x.next) next sound.next;
       }
 
-  untouched : (q : ℕ) → (k ≡ q → ⊥) → (o : Option ℕ) → slot_of slots q ≡ o → stored_in new o ≡ stored_in old o
+  untouched : (q : ℕ) → (k ≡ q → ⊥) → (o : Option ℕ) → slot_of ids q ≡ o → stored_in new o ≡ stored_in old o
   untouched q ne None e = refl
-  untouched q ne (Some t) e = others t (λ (is : t ≡ s). ne (one_number slots old sound k q s at (e ∙ ap (λ (u : ℕ). Some u) is)))
+  untouched q ne (Some t) e = others t (λ (is : t ≡ s). ne (same_Some k q (sym (slot_has ids k s at) ∙ ap (id_at ids) (sym is) ∙ slot_has ids q t e)))
 
-  pub write_changes : (change : Node → Node) → node_value m ≡ change (node_value n) → (q : ℕ)
-      → option_map node_value (stored_in new (slot_of slots q)) ≡ cond (k == q) (option_map change (option_map node_value (stored_in old (slot_of slots q))))
-      (option_map node_value (stored_in old (slot_of slots q)))
+  pub write_changes : (change : Node → Node) → node_value ids m ≡ change (node_value ids n) → (q : ℕ)
+      → option_map (node_value ids) (stored_in new (slot_of ids q)) ≡ cond (k == q) (option_map change (option_map (node_value ids) (stored_in old (slot_of ids q))))
+      (option_map (node_value ids) (stored_in old (slot_of ids q)))
   write_changes change makes q =
       elim (cases_eq k q) [
         | inl is ↦
-            let e : slot_of slots q ≡ Some s = ap (slot_of slots) (sym is) ∙ at in
-            rw (e, here, was, sym is, same_test k) (ap (λ (y : Node). Some y) makes)
-        | inr ne ↦ rw (apart_test k q ne) (ap (λ (o : Option LinkedChunk). option_map node_value o) (untouched q ne (slot_of slots q) refl))
+            let e : slot_of ids q ≡ Some s = ap (slot_of ids) (sym is) ∙ at in
+            rw (e, here, was_there, sym is, same_test k) (ap (λ (y : Node). Some y) makes)
+        | inr ne ↦ rw (apart_test k q ne) (ap (λ (o : Option LinkedChunk). option_map (node_value ids) o) (untouched q ne (slot_of ids q) refl))
       ]
 
 -- the same, for a write through a link
-module _ (w v : Slotted) (is : w ≡ v) (sound : AreSound w.ids w.chunks) (at : Link) (reaches : Reaches v (Some at)) where
+module _ (w v : Slotted) (is : w ≡ v) (sound : AreSound w.ids w.chunks) (at : Link) (reaches : Leads v (Some at)) where
+  pub led : id_at w.ids at.slot ≡ Some at.chunk_id
+  led = subst (λ (u : Slotted). Leads u (Some at)) (sym is) reaches
+
   pub reached : slot_of w.ids at.chunk_id ≡ Some at.slot
-  reached = found w at (subst (λ (u : Slotted). Reaches u (Some at)) (sym is) reaches)
+  reached = found w sound at led
 
-  pub given : (link : Option Link) → Leads v link → LeadsIn w.ids link
-  given link leads = subst (λ (u : Slotted). Leads u link) (sym is) leads
+  pub given : (link : Option Link) → Leads v link → IsTaken w.ids (link_slot link)
+  given link leads = taken_by w.ids link (subst (λ (u : Slotted). Leads u link) (sym is) leads)
 
-  module _ (n : LinkedChunk) (was : Some n ≡ get_or w.chunks at.slot None) where
-    -- the links that it had lead right
-    pub prev_kept : LeadsIn w.ids n.prev
-    prev_kept = sound.prev at.chunk_id n (ap (λ (o : Option ℕ). stored_in w.chunks o) reached ∙ sym was)
+  pub numbers : (link : Option Link) → Leads v link → number_at w.ids (link_slot link) ≡ link_chunk_id link
+  numbers link leads = number_is w.ids link (subst (λ (u : Slotted). Leads u link) (sym is) leads)
 
-    pub next_kept : LeadsIn w.ids n.next
-    next_kept = sound.next at.chunk_id n (ap (λ (o : Option ℕ). stored_in w.chunks o) reached ∙ sym was)
+  module _ (n : LinkedChunk) (was_there : Some n ≡ get_or w.chunks at.slot None) where
+    -- the slots that it was linked to are taken
+    pub prev_kept : IsTaken w.ids n.prev
+    prev_kept = sound.prev at.slot n (sym was_there)
+
+    pub next_kept : IsTaken w.ids n.next
+    next_kept = sound.next at.slot n (sym was_there)
+
+    -- it is what is held under the link's number
+    read_here : held_at w at.chunk_id ≡ Some (node_value w.ids n)
+    read_here = ap (λ (o : Option ℕ). option_map (node_value w.ids) (stored_in w.chunks o)) reached ∙ ap (option_map (node_value w.ids)) (sym was_there)
+
+    pub read_is : held_at v at.chunk_id ≡ Some (node_value v.ids n)
+    read_is = subst (λ (u : Slotted). held_at u at.chunk_id ≡ Some (node_value u.ids n)) is read_here
+
+    pub read_and : (P : Node → Type 0) → IsSomeAnd (held_at v at.chunk_id) P → P (node_value w.ids n)
+    read_and P h = subst (λ (o : Option Node). IsSomeAnd o P) read_here (subst (λ (u : Slotted). IsSomeAnd (held_at u at.chunk_id) P) (sym is) h)
 
     within : at.slot < length w.chunks
     within = grind (arith, get_or_past)
 
-    pub set_sound : (m : LinkedChunk) → (m.chunk).chunk_id ≡ (n.chunk).chunk_id → LeadsIn w.ids m.prev → LeadsIn w.ids m.next → AreSound w.ids (set w.chunks at.slot (Some m))
+    pub set_sound : (m : LinkedChunk) → (m.chunk).chunk_id ≡ (n.chunk).chunk_id → IsTaken w.ids m.prev → IsTaken w.ids m.next → AreSound w.ids (set w.chunks at.slot (Some m))
     set_sound m =
-        write_sound w.ids w.chunks (set w.chunks at.slot (Some m)) sound at.chunk_id at.slot reached n m (sym was)
+        write_sound w.ids w.chunks (set w.chunks at.slot (Some m)) sound at.chunk_id at.slot reached n m (sym was_there)
         (get_or-set_same w.chunks at.slot (Some m) None within) (λ t ne. get_or-set_other w.chunks at.slot t (Some m) None ne)
         (length-set w.chunks at.slot (Some m))
 
-    pub set_changes : (m : LinkedChunk) (change : Node → Node) → node_value m ≡ change (node_value n)
-        → ChangesAt at.chunk_id change (held_at v) (λ q. option_map node_value (stored_in (set w.chunks at.slot (Some m)) (slot_of w.ids q)))
+    pub set_changes : (m : LinkedChunk) (change : Node → Node) → node_value w.ids m ≡ change (node_value w.ids n)
+        → ChangesAt at.chunk_id change (held_at v) (λ q. option_map (node_value w.ids) (stored_in (set w.chunks at.slot (Some m)) (slot_of w.ids q)))
     set_changes m change makes =
-        subst (λ (u : Slotted). ChangesAt at.chunk_id change (held_at u) (λ q. option_map node_value (stored_in (set w.chunks at.slot (Some m)) (slot_of w.ids q)))) is
-        (write_changes w.ids w.chunks (set w.chunks at.slot (Some m)) sound at.chunk_id at.slot reached n m (sym was)
+        subst (λ (u : Slotted). ChangesAt at.chunk_id change (held_at u) (λ q. option_map (node_value w.ids) (stored_in (set w.chunks at.slot (Some m)) (slot_of w.ids q)))) is
+        (write_changes w.ids w.chunks (set w.chunks at.slot (Some m)) sound at.chunk_id at.slot reached n m (sym was_there)
         (get_or-set_same w.chunks at.slot (Some m) None within) (λ t ne. get_or-set_other w.chunks at.slot t (Some m) None ne) change makes)
 
 -- ---- there are more slots
-module _ (slots : List (Option ℕ)) (chunks : List (Option LinkedChunk)) (more : ℕ) where
-  leads_wider : (l : Option Link) → LeadsIn slots l → LeadsIn (slots ++ replicate more None) l
-  leads_wider None h = tt
-  leads_wider (Some l) h = λ t e. h t (sym (slot_more slots more l.chunk_id) ∙ e)
+more_taken : (ids : List (Option ℕ)) (more : ℕ) (p : Option ℕ) → number_at (ids ++ replicate more None) p ≡ number_at ids p
+more_taken ids more None = refl
+more_taken ids more (Some s) = get_more ids more s
 
-  pub more_sound : AreSound slots chunks → AreSound (slots ++ replicate more None) chunks
-  more_sound sound =
+taken_same : (ids now : List (Option ℕ)) (p : Option ℕ) → number_at now p ≡ number_at ids p → IsTaken ids p → IsTaken now p
+taken_same ids now None e taken = tt
+taken_same ids now (Some s) e taken = subst (λ (o : Option ℕ). IsSome o) (sym e) taken
+
+same_value : (ids now : List (Option ℕ)) (n : LinkedChunk) → number_at now n.prev ≡ number_at ids n.prev → number_at now n.next ≡ number_at ids n.next → node_value now n ≡ node_value ids n
+same_value ids now n prev next =
+    ap (λ (p : Option ℕ). record { chunk = n.chunk; prev = p; next = number_at now n.next }) prev ∙ ap (λ (p : Option ℕ). record { chunk = n.chunk; prev = number_at ids n.prev; next = p }) next
+
+same_values : (ids now : List (Option ℕ)) (o : Option LinkedChunk) → ((n : LinkedChunk) → o ≡ Some n → node_value now n ≡ node_value ids n) → option_map (node_value now) o ≡ option_map (node_value ids) o
+same_values ids now None same = refl
+same_values ids now (Some n) same = ap (λ (y : Node). Some y) (same n refl)
+
+module _ (ids : List (Option ℕ)) (chunks : List (Option LinkedChunk)) (more : ℕ) where
+  pub more_sound : AreSound ids chunks → length (ids ++ replicate more None) ≤ 2 ^ 32 → AreSound (ids ++ replicate more None) chunks
+  more_sound sound few =
       record {
-        numbered = λ s. get_more slots more s ∙ sound.numbered s;
-        enough = (let long = length-append slots (replicate more None) in let was = sound.enough in omega arith);
-        prev = λ q x f. leads_wider x.prev (sound.prev q x (ap (λ (o : Option ℕ). stored_in chunks o) (sym (slot_more slots more q)) ∙ f));
-        next = λ q x f. leads_wider x.next (sound.next q x (ap (λ (o : Option ℕ). stored_in chunks o) (sym (slot_more slots more q)) ∙ f));
+        numbered = λ s. get_more ids more s ∙ sound.numbered s;
+        enough = (let long = length-append ids (replicate more None) in let before = sound.enough in omega arith);
+        few = few;
+        distinct = λ s t k at_s at_t. sound.distinct s t k (sym (get_more ids more s) ∙ at_s) (sym (get_more ids more t) ∙ at_t);
+        prev = λ s x f. taken_same ids (ids ++ replicate more None) x.prev (more_taken ids more x.prev) (sound.prev s x f);
+        next = λ s x f. taken_same ids (ids ++ replicate more None) x.next (more_taken ids more x.next) (sound.next s x f);
       }
+
+  pub more_held : (k : ℕ) → option_map (node_value (ids ++ replicate more None)) (stored_in chunks (slot_of (ids ++ replicate more None) k)) ≡ option_map (node_value ids) (stored_in chunks (slot_of ids k))
+  more_held k =
+      ap (λ (o : Option ℕ). option_map (node_value (ids ++ replicate more None)) (stored_in chunks o)) (slot_more ids more k)
+      ∙ same_values ids (ids ++ replicate more None) (stored_in chunks (slot_of ids k)) (λ n e. same_value ids (ids ++ replicate more None) n (more_taken ids more n.prev) (more_taken ids more n.next))
 
 -- ---- the slot of a new chunk has no number, and there is one
 module _ (ids : List (Option ℕ)) (old new : Stored) (s : ℕ) (enough : length old.slots ≤ length ids) (room : 0 < min (length ids - taken old) old.room) where
@@ -171,166 +224,193 @@ pub no_number : (ids : List (Option ℕ)) (chunks : List (Option LinkedChunk)) (
 no_number ids chunks s sound vacant = sound.numbered s ∙ ap (option_map (λ (x : LinkedChunk). (x.chunk).chunk_id)) vacant
 
 -- ---- a chunk is put into a slot that is empty
-module _ (slots slots2 : List (Option ℕ)) (old new : List (Option LinkedChunk)) (sound : AreSound slots old) (k s : ℕ) (m : LinkedChunk)
-    (is2 : slots2 ≡ set slots s (Some k)) (within : s < length slots) (fresh : slot_of slots k ≡ None) (vacant : get_or old s None ≡ None)
+module _ (ids ids2 : List (Option ℕ)) (old new : List (Option LinkedChunk)) (sound : AreSound ids old) (k s : ℕ) (m : LinkedChunk)
+    (is2 : ids2 ≡ set ids s (Some k)) (within : s < length ids) (fresh : slot_of ids k ≡ None) (vacant : get_or old s None ≡ None)
     (here : get_or new s None ≡ Some m) (others : (t : ℕ) → t ≢ s → get_or new t None ≡ get_or old t None) where
-  put : (q : ℕ) → slot_of slots2 q ≡ cond (k == q) (Some s) (slot_of slots q)
-  put q = ap (λ (ids : List (Option ℕ)). slot_of ids q) is2 ∙ slot_set slots k s within (no_number slots old s sound vacant) fresh q
+  put : (q : ℕ) → slot_of ids2 q ≡ cond (k == q) (Some s) (slot_of ids q)
+  put q = ap (λ (row : List (Option ℕ)). slot_of row q) is2 ∙ slot_set ids k s within (no_number ids old s sound vacant) fresh q
 
-  put_at : (q : ℕ) → k ≡ q → slot_of slots2 q ≡ Some s
-  put_at q is = put q ∙ ap (λ (j : ℕ). cond (k == j) (Some s) (slot_of slots j)) (sym is) ∙ ap (λ (b : Bool). cond b (Some s) (slot_of slots k)) (same_test k)
+  put_at : (q : ℕ) → k ≡ q → slot_of ids2 q ≡ Some s
+  put_at q is = put q ∙ ap (λ (j : ℕ). cond (k == j) (Some s) (slot_of ids j)) (sym is) ∙ ap (λ (b : Bool). cond b (Some s) (slot_of ids k)) (same_test k)
 
-  put_other : (q : ℕ) → (k ≡ q → ⊥) → slot_of slots2 q ≡ slot_of slots q
-  put_other q ne = put q ∙ ap (λ (b : Bool). cond b (Some s) (slot_of slots q)) (apart_test k q ne)
+  put_other : (q : ℕ) → (k ≡ q → ⊥) → slot_of ids2 q ≡ slot_of ids q
+  put_other q ne = put q ∙ ap (λ (b : Bool). cond b (Some s) (slot_of ids q)) (apart_test k q ne)
 
-  -- no number had the slot
-  unshared : (q t : ℕ) → slot_of slots q ≡ Some t → t ≢ s
-  unshared q t e = λ (is : t ≡ s). subst (λ (o : Option LinkedChunk). IsSomeAnd o (λ x. (x.chunk).chunk_id ≡ q)) (ap (λ (u : ℕ). get_or old u None) is ∙ vacant) (has_chunk slots old sound q t e)
+  -- the slots that were taken have the numbers that they had
+  number_kept : (p : Option ℕ) → IsTaken ids p → number_at ids2 p ≡ number_at ids p
+  number_kept None taken = refl
+  number_kept (Some u) taken =
+      ap (λ (row : List (Option ℕ)). id_at row u) is2
+      ∙ get_or-set_other ids s u (Some k) None (λ (is : u ≡ s). false≢true (subst (λ (o : Option ℕ). IsSome o) (ap (id_at ids) is ∙ no_number ids old s sound vacant) taken))
 
-  put_same : (q : ℕ) (o : Option ℕ) → slot_of slots q ≡ o → stored_in new o ≡ stored_in old o
+  still_taken : (p : Option ℕ) → IsTaken ids p → IsTaken ids2 p
+  still_taken p taken = taken_same ids ids2 p (number_kept p taken) taken
+
+  put_same : (q : ℕ) (o : Option ℕ) → slot_of ids q ≡ o → stored_in new o ≡ stored_in old o
   put_same q None e = refl
-  put_same q (Some t) e = others t (unshared q t e)
+  put_same q (Some t) e =
+      others t (λ (is : t ≡ s). let no : None ≡ Some q = sym (no_number ids old s sound vacant) ∙ ap (id_at ids) (sym is) ∙ slot_has ids q t e in cc)
 
-  put_stored : (q : ℕ) → (k ≡ q → ⊥) → stored_in new (slot_of slots2 q) ≡ stored_in old (slot_of slots q)
-  put_stored q ne = ap (λ (o : Option ℕ). stored_in new o) (put_other q ne) ∙ put_same q (slot_of slots q) refl
+  value_kept : (q : ℕ) (o : Option ℕ) → slot_of ids q ≡ o → option_map (node_value ids2) (stored_in old o) ≡ option_map (node_value ids) (stored_in old o)
+  value_kept q None e = refl
+  value_kept q (Some t) e = same_values ids ids2 (get_or old t None) (λ n f. same_value ids ids2 n (number_kept n.prev (sound.prev t n f)) (number_kept n.next (sound.next t n f)))
 
-  pub put_sets : (q : ℕ) → option_map node_value (stored_in new (slot_of slots2 q)) ≡ cond (k == q) (Some (node_value m)) (option_map node_value (stored_in old (slot_of slots q)))
-  put_sets q =
-      elim (cases_eq k q) [
-        | inl is ↦ rw (put_at q is, here, sym is, same_test k) refl
-        | inr ne ↦ rw (apart_test k q ne) (ap (λ (o : Option LinkedChunk). option_map node_value o) (put_stored q ne))
+  pub put_sets : IsTaken ids m.prev → IsTaken ids m.next → (q : ℕ)
+      → option_map (node_value ids2) (stored_in new (slot_of ids2 q)) ≡ cond (k == q) (Some (node_value ids m)) (option_map (node_value ids) (stored_in old (slot_of ids q)))
+  put_sets prev next q =
+      elim (cases_eq k q) as (λ _. option_map (node_value ids2) (stored_in new (slot_of ids2 q)) ≡ cond (k == q) (Some (node_value ids m)) (option_map (node_value ids) (stored_in old (slot_of ids q)))) [
+        | inl is ↦ rw (put_at q is, here, sym is, same_test k) (ap (λ (y : Node). Some y) (same_value ids ids2 m (number_kept m.prev prev) (number_kept m.next next)))
+        | inr ne ↦
+            rw (apart_test k q ne) (ap (λ (o : Option ℕ). option_map (node_value ids2) (stored_in new o)) (put_other q ne)
+            ∙ ap (λ (o : Option LinkedChunk). option_map (node_value ids2) o) (put_same q (slot_of ids q) refl) ∙ value_kept q (slot_of ids q) refl)
       ]
 
-  leads_more : (l : Option Link) → link_chunk_id l ≢ Some k → LeadsIn slots l → LeadsIn slots2 l
-  leads_more None ne h = tt
-  leads_more (Some l) ne h = λ t e. h t (sym (put_other l.chunk_id (λ (is : k ≡ l.chunk_id). ne (ap (λ (j : ℕ). Some j) (sym is)))) ∙ e)
+  pub put_keeps : (l : Option Link) → LeadsIn ids l → LeadsIn ids2 l
+  put_keeps None leads = tt
+  put_keeps (Some l) leads = number_kept (Some l.slot) (taken_by ids (Some l) leads) ∙ leads
 
-  put_links : (link : LinkedChunk → Option Link) → LeadsIn slots2 (link m) → ((q : ℕ) (x : LinkedChunk) → stored_in old (slot_of slots q) ≡ Some x → LeadsIn slots (link x))
-      → ((q : ℕ) (x : LinkedChunk) → stored_in old (slot_of slots q) ≡ Some x → link_chunk_id (link x) ≢ Some k)
-      → (q : ℕ) (x : LinkedChunk) → stored_in new (slot_of slots2 q) ≡ Some x → LeadsIn slots2 (link x)
-  put_links link mine keeps apart q x f =
-      elim (cases_eq k q) [
-        | inl is ↦
-            let w : Some m ≡ Some x = sym here ∙ ap (λ (o : Option ℕ). stored_in new o) (sym (put_at q is)) ∙ f in let v : m ≡ x = cc in
-            subst (λ (y : LinkedChunk). LeadsIn slots2 (link y)) v mine
-        | inr ne ↦ let g = sym (put_stored q ne) ∙ f in leads_more (link x) (apart q x g) (keeps q x g)
-      ]
+  pub put_leads : id_at ids2 s ≡ Some k
+  put_leads = ap (λ (row : List (Option ℕ)). id_at row s) is2 ∙ get_or-set_same ids s (Some k) None within
 
-  put_numbered : (m.chunk).chunk_id ≡ k → (t : ℕ) → id_at slots2 t ≡ option_map (λ x. (x.chunk).chunk_id) (get_or new t None)
+  put_numbered : (m.chunk).chunk_id ≡ k → (t : ℕ) → id_at ids2 t ≡ option_map (λ x. (x.chunk).chunk_id) (get_or new t None)
   put_numbered same t =
-      elim (cases_eq t s) as (λ _. id_at slots2 t ≡ option_map (λ x. (x.chunk).chunk_id) (get_or new t None)) [
+      elim (cases_eq t s) as (λ _. id_at ids2 t ≡ option_map (λ x. (x.chunk).chunk_id) (get_or new t None)) [
         | inl is ↦
-            ap (λ (u : ℕ). id_at slots2 u) is ∙ ap (λ (ids : List (Option ℕ)). id_at ids s) is2 ∙ get_or-set_same slots s (Some k) None within ∙ ap (λ (j : ℕ). Some j) (sym same)
+            ap (id_at ids2) is ∙ put_leads ∙ ap (λ (j : ℕ). Some j) (sym same)
             ∙ ap (option_map (λ (x : LinkedChunk). (x.chunk).chunk_id)) (sym here) ∙ ap (λ (u : ℕ). option_map (λ (x : LinkedChunk). (x.chunk).chunk_id) (get_or new u None)) (sym is)
         | inr ne ↦
-            ap (λ (ids : List (Option ℕ)). id_at ids t) is2 ∙ get_or-set_other slots s t (Some k) None ne ∙ sound.numbered t
+            ap (λ (row : List (Option ℕ)). id_at row t) is2 ∙ get_or-set_other ids s t (Some k) None ne ∙ sound.numbered t
             ∙ ap (option_map (λ (x : LinkedChunk). (x.chunk).chunk_id)) (sym (others t ne))
       ]
 
-  node_is : (q : ℕ) (x : LinkedChunk) → stored_in old (slot_of slots q) ≡ Some x → option_map node_value (stored_in old (slot_of slots q)) ≡ Some (node_value x)
-  node_is q x f = ap (λ (o : Option LinkedChunk). option_map node_value o) f
+  put_distinct : (t u j : ℕ) → id_at ids2 t ≡ Some j → id_at ids2 u ≡ Some j → t ≡ u
+  put_distinct t u j at_t at_u =
+      let free = no_number ids old s sound vacant in
+      elim (was ids s k within free t j (subst (λ (row : List (Option ℕ)). id_at row t ≡ Some j) is2 at_t)) as (λ _. t ≡ u) [
+        | inl a ↦
+            elim (was ids s k within free u j (subst (λ (row : List (Option ℕ)). id_at row u ≡ Some j) is2 at_u)) as (λ _. t ≡ u) [
+              | inl b ↦ a.0 ∙ sym b.0
+              | inr b ↦ absurd (slot_none ids k fresh u (b ∙ ap (λ (v : ℕ). Some v) a.1))
+            ]
+        | inr a ↦
+            elim (was ids s k within free u j (subst (λ (row : List (Option ℕ)). id_at row u ≡ Some j) is2 at_u)) as (λ _. t ≡ u) [
+              | inl b ↦ absurd (slot_none ids k fresh t (a ∙ ap (λ (v : ℕ). Some v) b.1))
+              | inr b ↦ sound.distinct t u j a b
+            ]
+      ]
 
-  reached_apart : (l : Option ℕ) → IfSome l (λ j. IsSome (option_map node_value (stored_in old (slot_of slots j)))) → option_map node_value (stored_in old (slot_of slots k)) ≡ None → l ≢ Some k
-  reached_apart None h none = λ (e : None ≡ Some k). cc
-  reached_apart (Some j) h none = λ (e : Some j ≡ Some k).
-      let is : j ≡ k = cc in
-      let no : IsSome {T = Node} None = subst (λ (o : Option Node). IsSome o) (ap (λ (i : ℕ). option_map node_value (stored_in old (slot_of slots i))) is ∙ none) h in
-      false≢true no
+  put_taken : (link : LinkedChunk → Option ℕ) → IsTaken ids (link m) → ((t : ℕ) (x : LinkedChunk) → get_or old t None ≡ Some x → IsTaken ids (link x))
+      → (t : ℕ) (x : LinkedChunk) → get_or new t None ≡ Some x → IsTaken ids2 (link x)
+  put_taken link mine keeps t x f =
+      elim (cases_eq t s) as (λ _. IsTaken ids2 (link x)) [
+        | inl is ↦ subst (λ (y : LinkedChunk). IsTaken ids2 (link y)) (same_Some m x (sym here ∙ ap (λ (u : ℕ). get_or new u None) (sym is) ∙ f)) (still_taken (link m) mine)
+        | inr ne ↦ still_taken (link x) (keeps t x (sym (others t ne) ∙ f))
+      ]
 
-  pub put_keeps : option_map node_value (stored_in old (slot_of slots k)) ≡ None → (l : Option Link)
-      → LeadsIn slots l × IfSome (link_chunk_id l) (λ j. IsSome (option_map node_value (stored_in old (slot_of slots j)))) → LeadsIn slots2 l
-  put_keeps none l reached = leads_more l (reached_apart (link_chunk_id l) reached.1 none) reached.0
-
-  pub put_leads : (t : ℕ) → slot_of slots2 k ≡ Some t → s ≡ t
-  put_leads t e = same_Some s t (sym (put_at k refl) ∙ e)
-
-  pub put_sound : length new ≤ length slots → (m.chunk).chunk_id ≡ k
-      → IsUnlinked k (λ q. option_map node_value (stored_in old (slot_of slots q)))
-      → LeadsIn slots m.prev × IfSome (link_chunk_id m.prev) (λ j. IsSome (option_map node_value (stored_in old (slot_of slots j))))
-      → LeadsIn slots m.next × IfSome (link_chunk_id m.next) (λ j. IsSome (option_map node_value (stored_in old (slot_of slots j)))) → AreSound slots2 new
-  put_sound long same un prev next =
+  pub put_sound : length new ≤ length ids → (m.chunk).chunk_id ≡ k → IsTaken ids m.prev → IsTaken ids m.next → AreSound ids2 new
+  put_sound long same prev next =
       record {
         numbered = put_numbered same;
-        enough = (let kept = ap length is2 ∙ length-set slots s (Some k) in omega arith);
-        prev = put_links (λ x. x.prev) (leads_more m.prev (reached_apart (link_chunk_id m.prev) prev.1 un.none) prev.0) sound.prev (λ q x f. (un.apart q (node_value x) (node_is q x f)).0);
-        next = put_links (λ x. x.next) (leads_more m.next (reached_apart (link_chunk_id m.next) next.1 un.none) next.0) sound.next (λ q x f. (un.apart q (node_value x) (node_is q x f)).1);
+        enough = (let kept = ap length is2 ∙ length-set ids s (Some k) in omega arith);
+        few = (let kept = ap length is2 ∙ length-set ids s (Some k) in let before = sound.few in omega arith);
+        distinct = put_distinct;
+        prev = put_taken (λ x. x.prev) prev sound.prev;
+        next = put_taken (λ x. x.next) next sound.next;
       }
 
--- ---- a chunk is taken out of its slot
-module _ (slots slots2 : List (Option ℕ)) (old new : List (Option LinkedChunk)) (sound : AreSound slots old) (k s : ℕ) (at : slot_of slots k ≡ Some s)
-    (is2 : slots2 ≡ set slots s None) (gone : slot_of slots2 k ≡ None) (others : (t : ℕ) → t ≢ s → get_or new t None ≡ get_or old t None) where
-  out : (q : ℕ) → slot_of slots2 q ≡ cond (k == q) None (slot_of slots q)
-  out q =
-      ap (λ (ids : List (Option ℕ)). slot_of ids q) is2
-      ∙ slot_out slots k s (slot_has slots k s at) (subst (λ (ids : List (Option ℕ)). slot_of ids k ≡ None) is2 gone) q
+-- ---- a chunk is taken out of its slot, to which no other is linked
+module _ (ids ids2 : List (Option ℕ)) (old new : List (Option LinkedChunk)) (sound : AreSound ids old) (k s : ℕ) (at : id_at ids s ≡ Some k)
+    (is2 : ids2 ≡ set ids s None) (gone : slot_of ids2 k ≡ None) (empty : get_or new s None ≡ None) (others : (t : ℕ) → t ≢ s → get_or new t None ≡ get_or old t None)
+    (alone : IsAlone k (λ q. option_map (node_value ids) (stored_in old (slot_of ids q)))) where
+  out : (q : ℕ) → slot_of ids2 q ≡ cond (k == q) None (slot_of ids q)
+  out q = ap (λ (row : List (Option ℕ)). slot_of row q) is2 ∙ slot_out ids k s at (subst (λ (row : List (Option ℕ)). slot_of row k ≡ None) is2 gone) q
 
-  out_at : (q : ℕ) → k ≡ q → slot_of slots2 q ≡ None
-  out_at q is = out q ∙ ap (λ (j : ℕ). cond (k == j) None (slot_of slots j)) (sym is) ∙ ap (λ (b : Bool). cond b None (slot_of slots k)) (same_test k)
+  out_at : (q : ℕ) → k ≡ q → slot_of ids2 q ≡ None
+  out_at q is = out q ∙ ap (λ (j : ℕ). cond (k == j) None (slot_of ids j)) (sym is) ∙ ap (λ (b : Bool). cond b None (slot_of ids k)) (same_test k)
 
-  out_other : (q : ℕ) → (k ≡ q → ⊥) → slot_of slots2 q ≡ slot_of slots q
-  out_other q ne = out q ∙ ap (λ (b : Bool). cond b None (slot_of slots q)) (apart_test k q ne)
+  out_other : (q : ℕ) → (k ≡ q → ⊥) → slot_of ids2 q ≡ slot_of ids q
+  out_other q ne = out q ∙ ap (λ (b : Bool). cond b None (slot_of ids q)) (apart_test k q ne)
 
-  -- no other number had the slot
-  unshared_out : (q t : ℕ) → (k ≡ q → ⊥) → slot_of slots q ≡ Some t → t ≢ s
-  unshared_out q t ne e = λ (is : t ≡ s). ne (one_number slots old sound k q s at (e ∙ ap (λ (u : ℕ). Some u) is))
+  number_left : (p : Option ℕ) → number_at ids p ≢ Some k → number_at ids2 p ≡ number_at ids p
+  number_left None ne = refl
+  number_left (Some u) ne =
+      ap (λ (row : List (Option ℕ)). id_at row u) is2 ∙ get_or-set_other ids s u None None (λ (is : u ≡ s). ne (ap (id_at ids) is ∙ at))
 
-  out_same : (q : ℕ) → (k ≡ q → ⊥) → (o : Option ℕ) → slot_of slots q ≡ o → stored_in new o ≡ stored_in old o
+  apart : (t : ℕ) (n : LinkedChunk) → t ≢ s → get_or old t None ≡ Some n → (number_at ids n.prev ≢ Some k) × (number_at ids n.next ≢ Some k)
+  apart t n ne f =
+      let mine = number_of_chunk ids old sound t n f in
+      alone (n.chunk).chunk_id (node_value ids n) (λ (e : (n.chunk).chunk_id ≡ k). ne (sound.distinct t s k (mine ∙ ap (λ (u : ℕ). Some u) e) at)) (held_there ids old sound t n f)
+
+  out_same : (q : ℕ) → (k ≡ q → ⊥) → (o : Option ℕ) → slot_of ids q ≡ o → stored_in new o ≡ stored_in old o
   out_same q ne None e = refl
-  out_same q ne (Some t) e = others t (unshared_out q t ne e)
+  out_same q ne (Some t) e = others t (λ (is : t ≡ s). ne (same_Some k q (sym at ∙ ap (id_at ids) (sym is) ∙ slot_has ids q t e)))
 
-  out_stored : (q : ℕ) → (k ≡ q → ⊥) → stored_in new (slot_of slots2 q) ≡ stored_in old (slot_of slots q)
-  out_stored q ne = ap (λ (o : Option ℕ). stored_in new o) (out_other q ne) ∙ out_same q ne (slot_of slots q) refl
+  value_left : (q : ℕ) → (k ≡ q → ⊥) → (o : Option ℕ) → slot_of ids q ≡ o → option_map (node_value ids2) (stored_in old o) ≡ option_map (node_value ids) (stored_in old o)
+  value_left q other None e = refl
+  value_left q other (Some t) e =
+      let ne : t ≢ s = λ is. other (same_Some k q (sym at ∙ ap (id_at ids) (sym is) ∙ slot_has ids q t e)) in
+      same_values ids ids2 (get_or old t None) (λ n f. same_value ids ids2 n (number_left n.prev (apart t n ne f).0) (number_left n.next (apart t n ne f).1))
 
-  pub out_sets : (q : ℕ) → option_map node_value (stored_in new (slot_of slots2 q)) ≡ cond (k == q) None (option_map node_value (stored_in old (slot_of slots q)))
+  pub out_sets : (q : ℕ) → option_map (node_value ids2) (stored_in new (slot_of ids2 q)) ≡ cond (k == q) None (option_map (node_value ids) (stored_in old (slot_of ids q)))
   out_sets q =
-      elim (cases_eq k q) [
+      elim (cases_eq k q) as (λ _. option_map (node_value ids2) (stored_in new (slot_of ids2 q)) ≡ cond (k == q) None (option_map (node_value ids) (stored_in old (slot_of ids q)))) [
         | inl is ↦ rw (out_at q is, sym is, same_test k) refl
-        | inr ne ↦ rw (apart_test k q ne) (ap (λ (o : Option LinkedChunk). option_map node_value o) (out_stored q ne))
+        | inr ne ↦
+            rw (apart_test k q ne) (ap (λ (o : Option ℕ). option_map (node_value ids2) (stored_in new o)) (out_other q ne)
+            ∙ ap (λ (o : Option LinkedChunk). option_map (node_value ids2) o) (out_same q ne (slot_of ids q) refl) ∙ value_left q ne (slot_of ids q) refl)
       ]
 
-  still_in : (q t : ℕ) → slot_of slots2 q ≡ Some t → (k ≡ q → ⊥) × (slot_of slots q ≡ Some t)
-  still_in q t e =
-      elim (cases_eq k q) [
-        | inl is ↦ absurd (let no : None ≡ Some t = sym (out_at q is) ∙ e in cc)
-        | inr ne ↦ (ne, sym (out_other q ne) ∙ e)
-      ]
+  pub out_keeps : (l : Option Link) → LeadsIn ids l → link_chunk_id l ≢ Some k → LeadsIn ids2 l
+  out_keeps None leads ne = tt
+  out_keeps (Some l) leads ne = number_left (Some l.slot) (λ (e : id_at ids l.slot ≡ Some k). ne (sym leads ∙ e)) ∙ leads
 
-  pub leads_less : (l : Option Link) → LeadsIn slots l → LeadsIn slots2 l
-  leads_less None h = tt
-  leads_less (Some l) h = λ t e. h t (still_in l.chunk_id t e).1
-
-  out_links : (link : LinkedChunk → Option Link) → ((q : ℕ) (x : LinkedChunk) → stored_in old (slot_of slots q) ≡ Some x → LeadsIn slots (link x))
-      → (q : ℕ) (x : LinkedChunk) → stored_in new (slot_of slots2 q) ≡ Some x → LeadsIn slots2 (link x)
-  out_links link keeps q x f =
-      elim (cases_eq k q) [
-        | inl is ↦ absurd (let no : None ≡ Some x = ap (λ (o : Option ℕ). stored_in new o) (sym (out_at q is)) ∙ f in cc)
-        | inr ne ↦ leads_less (link x) (keeps q x (sym (out_stored q ne) ∙ f))
-      ]
-
-  out_numbered : get_or new s None ≡ None → (t : ℕ) → id_at slots2 t ≡ option_map (λ x. (x.chunk).chunk_id) (get_or new t None)
-  out_numbered empty t =
-      elim (cases_eq t s) as (λ _. id_at slots2 t ≡ option_map (λ x. (x.chunk).chunk_id) (get_or new t None)) [
+  out_numbered : (t : ℕ) → id_at ids2 t ≡ option_map (λ x. (x.chunk).chunk_id) (get_or new t None)
+  out_numbered t =
+      elim (cases_eq t s) as (λ _. id_at ids2 t ≡ option_map (λ x. (x.chunk).chunk_id) (get_or new t None)) [
         | inl is ↦
-            ap (λ (u : ℕ). id_at slots2 u) is ∙ ap (λ (ids : List (Option ℕ)). id_at ids s) is2 ∙ get_or-set_same slots s None None (id_within slots s k (slot_has slots k s at))
+            ap (id_at ids2) is ∙ ap (λ (row : List (Option ℕ)). id_at row s) is2 ∙ get_or-set_same ids s None None (id_within ids s k at)
             ∙ ap (option_map (λ (x : LinkedChunk). (x.chunk).chunk_id)) (sym empty) ∙ ap (λ (u : ℕ). option_map (λ (x : LinkedChunk). (x.chunk).chunk_id) (get_or new u None)) (sym is)
         | inr ne ↦
-            ap (λ (ids : List (Option ℕ)). id_at ids t) is2 ∙ get_or-set_other slots s t None None ne ∙ sound.numbered t
+            ap (λ (row : List (Option ℕ)). id_at row t) is2 ∙ get_or-set_other ids s t None None ne ∙ sound.numbered t
             ∙ ap (option_map (λ (x : LinkedChunk). (x.chunk).chunk_id)) (sym (others t ne))
       ]
 
-  pub out_sound : get_or new s None ≡ None → length new ≡ length old → AreSound slots2 new
-  out_sound empty long =
+  out_taken : (link : LinkedChunk → Option ℕ) → ((t : ℕ) (x : LinkedChunk) → t ≢ s → get_or old t None ≡ Some x → IsTaken ids (link x) × (number_at ids (link x) ≢ Some k))
+      → (t : ℕ) (x : LinkedChunk) → get_or new t None ≡ Some x → IsTaken ids2 (link x)
+  out_taken link keeps t x f =
+      elim (cases_eq t s) as (λ _. IsTaken ids2 (link x)) [
+        | inl is ↦ absurd (let no : None ≡ Some x = sym empty ∙ ap (λ (u : ℕ). get_or new u None) (sym is) ∙ f in cc)
+        | inr ne ↦ let had = keeps t x ne (sym (others t ne) ∙ f) in taken_same ids ids2 (link x) (number_left (link x) had.1) had.0
+      ]
+
+  out_distinct : (t u j : ℕ) → id_at ids2 t ≡ Some j → id_at ids2 u ≡ Some j → t ≡ u
+  out_distinct t u j at_t at_u =
+      let inside = id_within ids s k at in
+      sound.distinct t u j (left ids s k at inside t j (subst (λ (row : List (Option ℕ)). id_at row t ≡ Some j) is2 at_t)).1
+      (left ids s k at inside u j (subst (λ (row : List (Option ℕ)). id_at row u ≡ Some j) is2 at_u)).1
+
+  pub out_sound : length new ≡ length old → AreSound ids2 new
+  out_sound long =
       record {
-        numbered = out_numbered empty;
-        enough = (let kept = ap length is2 ∙ length-set slots s None in let old_long = sound.enough in omega arith);
-        prev = out_links (λ x. x.prev) sound.prev;
-        next = out_links (λ x. x.next) sound.next;
+        numbered = out_numbered;
+        enough = (let kept = ap length is2 ∙ length-set ids s None in let before = sound.enough in omega arith);
+        few = (let kept = ap length is2 ∙ length-set ids s None in let before = sound.few in omega arith);
+        distinct = out_distinct;
+        prev = out_taken (λ x. x.prev) (λ t x ne f. (sound.prev t x f, (apart t x ne f).0));
+        next = out_taken (λ x. x.next) (λ t x ne f. (sound.next t x f, (apart t x ne f).1));
       }
 
--- ---- the links of a chunk that is held
-pub links_lead : (w v : Slotted) → w ≡ v → AreSound w.ids w.chunks → (k s : ℕ) → Some s ≡ slot_of w.ids k → (o : Option (Bor LinkedChunk)) → option_copied o ≡ get_or w.chunks s None
-    → IfSome o (λ n. Leads v n.now.prev × Leads v n.now.next)
-links_lead w v is sound k s at None e = tt
-links_lead w v is sound k s at (Some r) e =
-    let f : stored_in w.chunks (slot_of w.ids k) ≡ Some r.now = ap (λ (o : Option ℕ). stored_in w.chunks o) (sym at) ∙ sym e in
-    subst (λ (u : Slotted). Leads u r.now.prev × Leads u r.now.next) is (sound.prev k r.now f, sound.next k r.now f)
+-- ---- the slots beside a chunk that is held
+pub links_lead : (w v : Slotted) → w ≡ v → AreSound w.ids w.chunks → (s : ℕ) (o : Option (Bor LinkedChunk)) → option_copied o ≡ get_or w.chunks s None
+    → IfSome o (λ n. IsTaken v.ids n.now.prev × IsTaken v.ids n.now.next)
+links_lead w v is sound s None e = tt
+links_lead w v is sound s (Some r) e =
+    subst (λ (u : Slotted). IsTaken u.ids r.now.prev × IsTaken u.ids r.now.next) is (sound.prev s r.now (sym e), sound.next s r.now (sym e))
+
+-- a new chunk, with the numbers of the ones beside it
+pub value_of_new : (ids : List (Option ℕ)) (n : LinkedChunk) (c : Chunk) (p q prev next : Option ℕ) → n.chunk ≡ c → (n.prev ≡ p) × (n.next ≡ q) → number_at ids p ≡ prev → number_at ids q ≡ next
+    → node_value ids n ≡ node_of c prev next
+value_of_new ids n c p q prev next chunk links before after =
+    ap (λ (d : Chunk). record { chunk = d; prev = number_at ids n.prev; next = number_at ids n.next }) chunk
+    ∙ ap (λ (o : Option ℕ). record { chunk = c; prev = o; next = number_at ids n.next }) (ap (number_at ids) links.0 ∙ before)
+    ∙ ap (λ (o : Option ℕ). record { chunk = c; prev = prev; next = o }) (ap (number_at ids) links.1 ∙ after)

@@ -3,7 +3,7 @@
 ghost use Rattle.std.specs.Prelude.{◌≡◌, ◌+◌, ◌-◌, ◌^◌, ◌<◌, ◌≤◌, is_some, if◌then◌else◌, IfSome, IfOk, OnOk, IsOk, MatchOption, Some, None};
 ghost use Rattle.std.specs.Option.{option_copied, option_map};
 ghost use Rattle.gpu_cost.specs.Cost.{LooksUp, LooksUpBetween};
-ghost use Rattle.gpu_block_chunks.specs.Nodes.{held_at, node_value, link_chunk_id, Leads, Reaches};
+ghost use Rattle.gpu_block_chunks.specs.Nodes.{held_at, node_value, link_chunk_id, IsTaken, Reaches};
 ghost use Rattle.gpu_block_chunks.specs.ChunkList.{Covers, AreDistinct};
 ghost use Rattle.gpu_block_chunks.specs.Chain.{HasChunkId, HasNoChunkId, AreNeighbours, neighbours, IsSplit, IsFilled, IsReleased, from_chunk_id, beside, beside_of, first_after, IsChunkAt, IsFresh, IsLonger};
 
@@ -61,13 +61,16 @@ impl Model for Chain {
       room = room_of s.nodes;
     } };
 
-    ghost invariant = { λ s. IsChain (held_at s.nodes) s.first s.size (walk s.size (held_at s.nodes) (Some s.first)) };
+    ghost invariant = { λ s. IsChain (held_at s.nodes) s.first s.size
+        (walk s.size (held_at s.nodes) (Some s.first)) };
 }
 
 /// The one way to read a chunk by its number.
 fn node_at<'a>(nodes: &'a Nodes, chunk_id: u64, cost: &mut Cost) -> Option<&'a LinkedChunk>
-    ensures value { option_map node_value (option_copied result) ≡ held_at nodes.now chunk_id }
-    ensures links { IfSome result (λ n. Leads nodes.now n.now.prev × Leads nodes.now n.now.next) }
+    ensures value { option_map (node_value nodes.now.ids) (option_copied result)
+        ≡ held_at nodes.now chunk_id }
+    ensures links { IfSome result (λ n. IsTaken nodes.now.ids n.now.prev
+        × IsTaken nodes.now.ids n.now.next) }
     ensures counted { LooksUp 1 cost.old cost.new }
 {
     cost.look_up();
@@ -153,25 +156,27 @@ impl Chain {
 
     /// The chunk of that number, and the number of the next one.
     pub fn chunk(&self, chunk_id: u64, cost: &mut Cost) -> Option<(&Chunk, Option<u64>)>
-        ensures value { MatchOption result (HasNoChunkId self.now.chunks chunk_id) (λ p. IsChunkAt self.now.chunks chunk_id p.0.now p.1) }
+        ensures value { MatchOption result (HasNoChunkId self.now.chunks chunk_id)
+            (λ p. IsChunkAt self.now.chunks chunk_id p.0.now p.1) }
         ensures counted { LooksUp 1 cost.old cost.new }
     {
         // a read, so that the proof has the invariant
         let _size = self.size;
         let node = node_at(&self.nodes, chunk_id, cost)?;
-        Some((&node.chunk, chunk_id_of(node.next)))
+        Some((&node.chunk, chunk_id_of(self.nodes.link_in(node.next))))
     }
 
     /// The chunk of that number, and what stands beside it.
     pub fn around(&self, chunk_id: u64, cost: &mut Cost) -> Option<Neighbours>
-        ensures value { MatchOption result (HasNoChunkId self.now.chunks chunk_id) (λ a. AreNeighbours self.now.chunks chunk_id a) }
+        ensures value { MatchOption result (HasNoChunkId self.now.chunks chunk_id)
+            (λ a. AreNeighbours self.now.chunks chunk_id a) }
         ensures counted { LooksUp (1 + neighbours result) cost.old cost.new }
     {
         // a read, so that the proof has the invariant
         let _size = self.size;
         let node = node_at(&self.nodes, chunk_id, cost)?;
-        let before = beside_at(&self.nodes, node.prev, cost);
-        let after = beside_at(&self.nodes, node.next, cost);
+        let before = beside_at(&self.nodes, self.nodes.link_in(node.prev), cost);
+        let after = beside_at(&self.nodes, self.nodes.link_in(node.next), cost);
         Some(Neighbours {
             here: short(&node.chunk),
             before,
@@ -207,7 +212,8 @@ impl Chain {
         requires positive { 0 < taken }
         requires fresh { HasNoChunkId self.old.chunks new }
         requires room { 0 < self.old.room }
-        ensures chunks { IsSplit self.old.chunks chunk_id taken new offset kind name self.new.chunks }
+        ensures chunks { IsSplit self.old.chunks chunk_id taken new offset kind name
+            self.new.chunks }
         ensures size { self.new.size ≡ self.old.size }
         ensures counted { LooksUpBetween 3 4 cost.old cost.new }
     {
@@ -215,6 +221,7 @@ impl Chain {
         let _size = self.size;
         let rest = self.nodes.link_to(chunk_id);
         let ends = ends_of(&self.nodes, rest, cost);
+        let prev = self.nodes.link_in(ends.prev);
         let here = Neighbour {
             start: ends.start,
             size: taken,
@@ -224,11 +231,11 @@ impl Chain {
         cost.look_up();
         let piece = self.nodes.put(
             new,
-            LinkedChunk::new(here, offset, name, ends.prev, Some(rest)),
+            LinkedChunk::new(here, offset, name, ends.prev, Some(rest.slot)),
         );
         cut_front(&mut self.nodes, rest, taken, Some(piece), cost);
-        set_next_of(&mut self.nodes, ends.prev, Some(piece), cost);
-        self.first = first_of(chunk_id_of(ends.prev), new, self.first);
+        set_next_of(&mut self.nodes, prev, Some(piece), cost);
+        self.first = first_of(chunk_id_of(prev), new, self.first);
     }
 
     /// Gives a chunk another offset, kind and name. It takes no memory.

@@ -28,7 +28,8 @@ impl Model for Short {
 impl Short {
     /// A name of at most thirty bytes.
     fn new(name: &str) -> Option<Short>
-        ensures { MatchOption result (30 < length name.now) (λ s. (length name.now ≤ 30) × (s ≡ name.now)) }
+        ensures { MatchOption result (30 < length name.now)
+            (λ s. (length name.now ≤ 30) × (s ≡ name.now)) }
     {
         let length = name.len();
         if length > SHORT {

@@ -53,7 +53,8 @@ impl<'a> Walk<'a> {
     /// The next chunk. It counts as looked up, also where it stands in a list.
     #[tactic(auto, using(crate::proofs::Listing::from_none))]
     pub fn next(&mut self, cost: &mut Cost) -> Option<&'a Chunk>
-        ensures chunk { MatchOption result ((self.old ≡ []) × (self.new ≡ [])) (λ c. self.old ≡ c.now ∷ self.new) }
+        ensures chunk { MatchOption result ((self.old ≡ []) × (self.new ≡ []))
+            (λ c. self.old ≡ c.now ∷ self.new) }
         ensures counted { LooksUpBetween (if is_some result then 1 else 0) 1 cost.old cost.new }
     {
         if let Some((chunk, rest)) = self.listed.split_first() {

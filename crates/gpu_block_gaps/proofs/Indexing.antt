@@ -3,17 +3,17 @@ use Rattle.std.proofs.Common.{◌≡◌, ◌≢◌, ℕ, suc, ◌+◌, ◌*◌, 
 use Rattle.std.specs.List.{insert, remove}
 use Rattle.std.proofs.lemmas.Option.{same_Some}
 use Rattle.std.proofs.lemmas.List.{map-append, take-map, drop-map, length-map, length-set, get_or-map, get_or-set_same, get_or-set_other}
-use Rattle.gap_tree.specs.Class.{class_count}
-use Rattle.gap_tree.specs.Tree.{Tree, HasLeaf, Sorted, IsBefore, IsAfter, leaves_of, near}
-use Rattle.gap_tree.specs.declared.forest.Forest.{Forest}
-use Rattle.gap_tree.specs.Forest.{IsForest, KeepsRoom, class_in, tree_at, IsFirstLater, LosesLeaf}
-use Rattle.gap_tree.specs.Order.{IsIn, HasIn, AreInOrder, IsPlaceIn, IsFirstUp, Gains}
-use Rattle.gap_tree.proofs.Classes.{class_within}
-use Rattle.gap_tree.proofs.Shapes.{near_has}
-use Rattle.gap_tree.proofs.Pruning.{near_finds}
-use Rattle.gap_tree.proofs.Positions.{in_insert_cases, in_removed, first_up_at, none_up_at, last_down_at}
-use Rattle.gap_tree.proofs.Finding.{up_here, down_here, same_here, up_later, none_later, length_fits}
-use Rattle.gap_tree.proofs.Ordered.{trees_rekeyed, class_kept, tree_sorted, spare_slot, order_gains, order_loses}
+use Rattle.gpu_block_gaps.specs.Class.{class_count}
+use Rattle.gpu_block_gaps.specs.Tree.{Tree, HasLeaf, Sorted, IsBefore, IsAfter, leaves_of, near}
+use Rattle.gpu_block_gaps.specs.declared.forest.Forest.{Forest}
+use Rattle.gpu_block_gaps.specs.Forest.{IsForest, KeepsRoom, class_in, tree_at, IsFirstLater, LosesLeaf}
+use Rattle.gpu_block_gaps.specs.Order.{IsIn, HasIn, AreInOrder, IsPlaceIn, IsFirstUp, Gains}
+use Rattle.gpu_block_gaps.proofs.Classes.{class_within}
+use Rattle.gpu_block_gaps.proofs.Shapes.{near_has}
+use Rattle.gpu_block_gaps.proofs.Pruning.{near_finds}
+use Rattle.gpu_block_gaps.proofs.Positions.{in_insert_cases, in_removed, first_up_at, none_up_at, last_down_at}
+use Rattle.gpu_block_gaps.proofs.Finding.{up_here, down_here, same_here, up_later, none_later, length_fits}
+use Rattle.gpu_block_gaps.proofs.Ordered.{trees_rekeyed, class_kept, tree_sorted, spare_slot, order_gains, order_loses}
 use Rattle.gpu_block_gaps.specs.declared.index.Gap.{Gap}
 use Rattle.gpu_block_gaps.specs.declared.order.Nearby.{Nearby}
 use Rattle.gpu_block_gaps.specs.declared.order.Nearby.TheVariants.{Nothing, Same, Apart}

@@ -6,11 +6,11 @@ use Rattle.std.proofs.lemmas.Bool.Decides.{nat_tests}
 use Rattle.std.proofs.lemmas.Option.{slice_get-get_or, slice_get_past}
 use Rattle.std.proofs.lemmas.List.{length-map, get_or-map, get_or_past}
 use Rattle.std.proofs.lemmas.List.Sums.{position_or_len_is}
-use Rattle.gap_tree.specs.Tree.{Tree}
-use Rattle.gap_tree.specs.declared.forest.Forest.{Forest}
-use Rattle.gap_tree.specs.Forest.{IsForest, IsWide, KeepsTrees, class_in}
-use Rattle.gap_tree.specs.Order.{IsIn, AreInOrder, IsPlaceIn}
-use Rattle.gap_tree.proofs.Ordered.{trees_rekeyed, order_kept}
+use Rattle.gpu_block_gaps.specs.Tree.{Tree}
+use Rattle.gpu_block_gaps.specs.declared.forest.Forest.{Forest}
+use Rattle.gpu_block_gaps.specs.Forest.{IsForest, IsWide, KeepsTrees, class_in}
+use Rattle.gpu_block_gaps.specs.Order.{IsIn, AreInOrder, IsPlaceIn}
+use Rattle.gpu_block_gaps.proofs.Ordered.{trees_rekeyed, order_kept}
 use Rattle.gpu_cost.specs.Cost.{digits}
 use Rattle.gpu_block_gaps.specs.declared.index.Gap.{Gap}
 use Rattle.gpu_block_gaps.specs.declared.order.Nearby.{Nearby}

@@ -6,8 +6,8 @@ use Rattle.std.proofs.lemmas.List.{map-set, set-get_or, get_or-map, get_or_defau
 use Rattle.std.proofs.lemmas.List.Edits.{length-insert, length-remove}
 use Rattle.std.proofs.lemmas.List.Elements.{All-get_or, All-from_get_or, All-push, All-weaker}
 use Rattle.std.proofs.lemmas.List.Quantifiers.{all_pairs_remove, all_pairs_push}
-use Rattle.gap_tree.specs.Order.{IsIn}
-use Rattle.gap_tree.proofs.Positions.{in_insert_cases, in_removed, all_pairs_insert}
+use Rattle.gpu_block_gaps.specs.Order.{IsIn}
+use Rattle.gpu_block_gaps.proofs.Positions.{in_insert_cases, in_removed, all_pairs_insert}
 use Rattle.gpu_block_gaps.specs.declared.index.Gap.{Gap}
 use Rattle.gpu_block_gaps.specs.declared.thread.Record.{Record}
 use Rattle.gpu_block_gaps.specs.Thread.{blank, gap_in}

@@ -1,3 +1,9 @@
+pub mod Key
+pub mod Class
+pub mod ClassSet
+pub mod Tree
+pub mod Forest
+pub mod Order
 pub mod Index
 pub mod Scan
 pub mod Thread

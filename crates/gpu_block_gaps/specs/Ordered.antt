@@ -1,9 +1,9 @@
 -- The gaps in order: a thread of their slots, and trees that find a slot by its gap's length and start.
 use Rattle.std.specs.Prelude.{◌≡◌, ℕ, ◌+◌, ◌*◌, ◌^◌, ◌<◌, ◌≤◌, List, length, map, Option, Some, None, vec_len}
-use Rattle.gap_tree.specs.Tree.{Tree, IsSplit, near}
-use Rattle.gap_tree.specs.Forest.{IsForest, IsWide, class_in, tree_at}
-use Rattle.gap_tree.specs.Order.{IsIn, AreInOrder}
-use Rattle.gap_tree.specs.declared.forest.Forest.{Forest}
+use Rattle.gpu_block_gaps.specs.Tree.{Tree, IsSplit, near}
+use Rattle.gpu_block_gaps.specs.Forest.{IsForest, IsWide, class_in, tree_at}
+use Rattle.gpu_block_gaps.specs.Order.{IsIn, AreInOrder}
+use Rattle.gpu_block_gaps.specs.declared.forest.Forest.{Forest}
 use Rattle.gpu_block_gaps.specs.declared.index.Gap.{Gap}
 use Rattle.gpu_block_gaps.specs.declared.order.Nearby.{Nearby}
 use Rattle.gpu_block_gaps.specs.declared.order.Nearby.TheVariants.{Nothing, Same, Apart}

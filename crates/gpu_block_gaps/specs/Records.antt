@@ -1,7 +1,7 @@
 -- How a thread lies in its slots.
 use Rattle.std.specs.Prelude.{◌≡◌, ◌≢◌, ℕ, zero, suc, ◌+◌, ◌-◌, ◌^◌, ◌<◌, ◌≤◌, ◌==◌, if◌then◌else◌, List, [], ◌∷◌, length, slice_index, slice_index_or, All}
 use Rattle.std.specs.List.{AllPairs}
-use Rattle.gap_tree.specs.Order.{IsIn}
+use Rattle.gpu_block_gaps.specs.Order.{IsIn}
 use Rattle.gpu_block_gaps.specs.declared.index.Gap.{Gap}
 use Rattle.gpu_block_gaps.specs.declared.thread.Record.{Record}
 use Rattle.gpu_block_gaps.specs.Thread.{blank}

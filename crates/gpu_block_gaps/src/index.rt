@@ -1,13 +1,14 @@
 //! The gaps of a block in the order of length and start.
-ghost use Rattle.std.specs.Prelude.{◌≡◌, ℕ, ◌+◌, ◌<◌, ◌≤◌, List, [], length, slice_index_or, OnOk, OnErr, IsOk};
+ghost use Rattle.std.specs.Prelude.{◌≡◌, ℕ, ◌+◌, ◌^◌, ◌<◌, ◌≤◌, List, [], length, slice_index_or, OnOk, OnErr, IsOk};
 ghost use Rattle.std.specs.List.{AllPairs};
 ghost use Rattle.gpu_cost.specs.Cost.{Compares, Tests};
 ghost use Rattle.gpu_block_gaps.specs.Index.{Before, HasNoKey, HasKeyAt, IsInserted, IsRemoved, IsReplaced, HasLength};
 
+use crate::forest::Forest;
+use crate::key::Key;
 use crate::order::{Nearby, exchange, look_near, next_from, put, take};
 use crate::scan::Scan;
 use crate::thread::Thread;
-use gap_tree::{Forest, Key};
 use gpu_cost::Cost;
 use gpu_values::AllocationType;
 use std::alloc::{AllocError, Global};
@@ -15,6 +16,17 @@ use std::marker::Model;
 
 /// How many binary digits of a length its class tells, behind the first.
 const DIGITS: u32 = 4;
+
+/// For how many gaps more there is room at least, once it grows.
+const LEAST_GROWTH: usize = 4;
+
+/// For how many gaps there is room after it grew. Records are long, so that it grows by a quarter, and not to the double.
+fn grown(room: usize) -> usize
+    ensures { result + 1 < 2 ^ 32 }
+{
+    let most = u32::MAX as usize - 1;
+    most.min(room.saturating_add(LEAST_GROWTH.max(room / 4)))
+}
 
 /// A gap of a block, with what a test of it reads: the kinds of the pieces beside it, `Free` at an end of the block.
 #[derive(Clone, Copy)]
@@ -66,7 +78,8 @@ impl GapIndex {
 
     /// The length of the longest gap, which is the last one; 0 where there is none. It counts as a test.
     pub fn longest(&self, cost: &mut Cost) -> u64
-        ensures bound { (k : ℕ) (d : Gap) → k < length self.now.gaps → (slice_index_or self.now.gaps k d).length ≤ result }
+        ensures bound { (k : ℕ) (d : Gap) → k < length self.now.gaps
+            → (slice_index_or self.now.gaps k d).length ≤ result }
         ensures reached { 0 < result → HasLength self.now.gaps result }
         ensures counted { Tests 1 cost.old cost.new }
     {
@@ -94,16 +107,19 @@ impl GapIndex {
         if count >= u32::MAX as usize {
             return Err(AllocError);
         }
-        self.forest.reserve_to(count)?;
-        self.thread.reserve_to(count)
+        let wanted = count.max(grown(self.thread.room()));
+        self.forest.reserve_to(wanted)?;
+        self.thread.reserve_to(wanted)
     }
 
     /// The gaps from the first of at least that length on, to be tested one after another.
     pub fn first_at_least(&self, size: u64, cost: &mut Cost) -> Scan<'_>
         ensures gaps { result.gaps ≡ self.now.gaps }
         ensures within { result.place ≤ length self.now.gaps }
-        ensures below { (k : ℕ) (d : Gap) → k < result.place → (slice_index_or self.now.gaps k d).length < size }
-        ensures from { (k : ℕ) (d : Gap) → result.place ≤ k → k < length self.now.gaps → size ≤ (slice_index_or self.now.gaps k d).length }
+        ensures below { (k : ℕ) (d : Gap) → k < result.place
+            → (slice_index_or self.now.gaps k d).length < size }
+        ensures from { (k : ℕ) (d : Gap) → result.place ≤ k → k < length self.now.gaps
+            → size ≤ (slice_index_or self.now.gaps k d).length }
         ensures ordered { AllPairs Before self.now.gaps }
         ensures counted { Compares (length self.now.gaps) cost.old cost.new }
     {
@@ -145,7 +161,8 @@ impl GapIndex {
     /// Puts a gap in its place, and the one of that length and start away. It takes no memory.
     pub fn replace(&mut self, size: u64, start: u64, gap: Gap)
         requires there { HasKeyAt self.old.gaps size start }
-        requires fresh { (rest : List Gap) → IsRemoved self.old.gaps size start rest → HasNoKey rest gap.length gap.start }
+        requires fresh { (rest : List Gap) → IsRemoved self.old.gaps size start rest
+            → HasNoKey rest gap.length gap.start }
         ensures gaps { IsReplaced self.old.gaps size start gap self.new.gaps }
         ensures ordered { AllPairs Before self.old.gaps }
         ensures room { self.new.room ≡ self.old.room }

@@ -1,16 +1,18 @@
 //! The gaps in the order of length and start: their thread, and the trees that find a gap's slot.
 
 ghost use Rattle.std.specs.Prelude.{◌≡◌, ◌≢◌, ℕ, ◌+◌, ◌^◌, ◌<◌, ◌≤◌, List, length, slice_index, Option, Some, vec_len, slice_set};
-ghost use Rattle.gap_tree.specs.Key.{code_of};
-ghost use Rattle.gap_tree.specs.Tree.{Tree};
-ghost use Rattle.gap_tree.specs.Forest.{IsForest, IsWide, KeepsRoom, class_in};
-ghost use Rattle.gap_tree.specs.Order.{IsPlaceIn, Gains};
+ghost use Rattle.gpu_block_gaps.specs.Key.{code_of};
+ghost use Rattle.gpu_block_gaps.specs.Tree.{Tree};
+ghost use Rattle.gpu_block_gaps.specs.Forest.{IsForest, IsWide, KeepsRoom, class_in};
+ghost use Rattle.gpu_block_gaps.specs.Order.{IsPlaceIn, Gains};
 ghost use Rattle.gpu_block_gaps.specs.Index.{HasNoKey, HasKeyAt, IsInserted, IsRemoved, IsReplaced};
 ghost use Rattle.gpu_block_gaps.specs.Ordered.{code, key_in, gaps_of, AreIndexed, IsIndexed, IsNearby};
 
+use crate::forest::Forest;
 use crate::index::Gap;
+use crate::key::Key;
 use crate::thread::Thread;
-use gap_tree::{Forest, Key, Place};
+use crate::tree::Place;
 
 /// What the tree of a key's class has: nothing, the slot of that key, or a key that differs first in that bit.
 #[derive(Clone, Copy)]
@@ -32,7 +34,8 @@ fn key_of(gap: &Gap) -> Key
 /// Looks for a key in the tree of its class.
 pub fn look_near(thread: &Thread, forest: &Forest, key: Key) -> Nearby
     requires { IsIndexed thread.now forest.now }
-    ensures { (trees : List (Option Tree)) → AreIndexed thread.now forest.now trees → IsNearby (key_in thread.now.gaps) forest.now.digits trees (code_of key) result }
+    ensures { (trees : List (Option Tree)) → AreIndexed thread.now forest.now trees
+        → IsNearby (key_in thread.now.gaps) forest.now.digits trees (code_of key) result }
 {
     thread.sound();
     let Some(slot) = forest.near(key) else {
@@ -46,8 +49,10 @@ pub fn look_near(thread: &Thread, forest: &Forest, key: Key) -> Nearby
 
 /// The slot of the first gap from a key on, 0 where there is none.
 pub fn next_from(thread: &Thread, forest: &Forest, key: Key, nearby: Nearby) -> u32
-    requires { (trees : List (Option Tree)) × AreIndexed thread.now forest.now trees × IsNearby (key_in thread.now.gaps) forest.now.digits trees (code_of key) nearby }
-    ensures { (place : ℕ) → IsPlaceIn (key_in thread.now.gaps) thread.now.order (code_of key) place → result ≡ slice_index thread.now.order place }
+    requires { (trees : List (Option Tree)) × AreIndexed thread.now forest.now trees
+        × IsNearby (key_in thread.now.gaps) forest.now.digits trees (code_of key) nearby }
+    ensures { (place : ℕ) → IsPlaceIn (key_in thread.now.gaps) thread.now.order (code_of key) place
+        → result ≡ slice_index thread.now.order place }
 {
     match nearby {
         Nearby::Nothing => match forest.first_later(key) {
@@ -64,12 +69,16 @@ pub fn next_from(thread: &Thread, forest: &Forest, key: Key, nearby: Nearby) -> 
 
 /// Puts a slot into the tree of its key's class.
 fn plant(forest: &mut Forest, key: Key, nearby: Nearby, slot: u32)
-    requires there { (at : ℕ → ℕ) × (trees : List (Option Tree)) × IsForest at forest.old trees × IsNearby at forest.old.digits trees (code_of key) nearby }
+    requires there { (at : ℕ → ℕ) × (trees : List (Option Tree)) × IsForest at forest.old trees
+        × IsNearby at forest.old.digits trees (code_of key) nearby }
     requires new { (other : ℕ) → nearby ≢ Nearby.Same other }
     requires wide { IsWide forest.old }
     requires spare { 0 < vec_len forest.old.spare }
-    ensures trees { (at : ℕ → ℕ) (trees : List (Option Tree)) → IsForest at forest.old trees → at slot ≡ code_of key → IsNearby at forest.old.digits trees (code_of key) nearby
-        → let class = class_in forest.old.digits (code_of key) in (new : Tree) × IsForest at forest.new (slice_set trees class (Some new)) × Gains trees class slot new }
+    ensures trees { (at : ℕ → ℕ) (trees : List (Option Tree)) → IsForest at forest.old trees
+        → at slot ≡ code_of key → IsNearby at forest.old.digits trees (code_of key) nearby
+        → let class = class_in forest.old.digits (code_of key)
+        in (new : Tree) × IsForest at forest.new (slice_set trees class (Some new))
+        × Gains trees class slot new }
     ensures room { KeepsRoom forest.old forest.new }
 {
     match nearby {
@@ -117,7 +126,8 @@ pub fn take(thread: &mut Thread, forest: &mut Forest, size: u64, start: u64)
 pub fn exchange(thread: &mut Thread, forest: &mut Forest, size: u64, start: u64, gap: Gap)
     requires indexed { IsIndexed thread.old forest.old }
     requires there { HasKeyAt (gaps_of thread.old) size start }
-    requires fresh { (rest : List Gap) → IsRemoved (gaps_of thread.old) size start rest → HasNoKey rest gap.length gap.start }
+    requires fresh { (rest : List Gap) → IsRemoved (gaps_of thread.old) size start rest
+        → HasNoKey rest gap.length gap.start }
     ensures indexed { IsIndexed thread.new forest.new }
     ensures gaps { IsReplaced (gaps_of thread.old) size start gap (gaps_of thread.new) }
     ensures room { length thread.new.gaps ≡ length thread.old.gaps }

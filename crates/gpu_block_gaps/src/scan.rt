@@ -24,7 +24,11 @@ impl<'a> Model for Scan<'a> {
 
     ghost Value = { Scanned };
 
-    ghost view = { λ s. record { gaps = gaps_of s.thread.now; place = place_in s.slot s.thread.now.order } };
+    ghost view = { λ s. record {
+      gaps = gaps_of s.thread.now;
+      place = place_in s.slot
+          s.thread.now.order;
+    } };
 
     ghost invariant = { λ s. StandsIn s.slot s.thread.now.order };
 }
@@ -34,7 +38,8 @@ impl<'a> Scan<'a> {
     pub(crate) fn new(thread: &'a Thread, slot: u32) -> Scan<'a>
         requires { StandsIn slot thread.now.order }
         ensures gaps { result.gaps ≡ gaps_of thread.now }
-        ensures place { (k : ℕ) → k ≤ length thread.now.order → slot ≡ slice_index thread.now.order k → result.place ≡ k }
+        ensures place { (k : ℕ) → k ≤ length thread.now.order
+            → slot ≡ slice_index thread.now.order k → result.place ≡ k }
     {
         thread.sound();
         Scan { thread, slot }
@@ -46,7 +51,8 @@ impl<'a> Scan<'a> {
         ensures gaps { self.new.gaps ≡ self.old.gaps }
         ensures place { self.new.place ≡ self.old.place + (if is_some result then 1 else 0) }
         ensures counted { cost.new.tests ≡ cost.old.tests + (if is_some result then 1 else 0) }
-        ensures others { (cost.new.comparisons ≡ cost.old.comparisons) × (cost.new.lookups ≡ cost.old.lookups) }
+        ensures others { (cost.new.comparisons ≡ cost.old.comparisons)
+            × (cost.new.lookups ≡ cost.old.lookups) }
     {
         self.thread.sound();
         if self.slot == 0 {

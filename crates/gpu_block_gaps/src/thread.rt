@@ -2,7 +2,7 @@
 
 ghost use Rattle.std.specs.Prelude.{◌≡◌, ◌≢◌, ℕ, ◌+◌, ◌-◌, ◌^◌, ◌<◌, ◌≤◌, ◌∷◌, List, [], length, map, max, slice_index, slice_set, All, OnOk, OnErr, vec_len, vec_capacity};
 ghost use Rattle.std.specs.List.{AllPairs, insert, remove};
-ghost use Rattle.gap_tree.specs.Order.{IsIn};
+ghost use Rattle.gpu_block_gaps.specs.Order.{IsIn};
 ghost use Rattle.gpu_block_gaps.specs.Thread.{gap_in};
 ghost use Rattle.gpu_block_gaps.specs.Records.{next_in, prev_in, gap_of, order_of, LeadsTo, LeadsThrough, IsThread};
 
@@ -34,7 +34,10 @@ impl Model for Thread {
 
     ghost Value = { Threaded };
 
-    ghost view = { λ s. record { order = order_of s.records.items; gaps = map gap_of s.records.items } };
+    ghost view = { λ s. record {
+      order = order_of s.records.items;
+      gaps = map gap_of s.records.items;
+    } };
 
     ghost invariant = { λ s. IsThread s.records.items s.spare.items (vec_capacity s.spare) };
 }
@@ -64,8 +67,10 @@ fn link(records: &mut [Record], slot: u32, entry: Record)
     requires slot { slot < length records.old }
     requires prev { (entry.prev < length records.old) × (entry.prev ≢ slot) }
     requires next { (entry.next < length records.old) × (entry.next ≢ slot) }
-    ensures next { LeadsThrough (next_in records.old) (next_in records.new) entry.prev slot entry.next }
-    ensures prev { LeadsThrough (prev_in records.old) (prev_in records.new) entry.next slot entry.prev }
+    ensures next { LeadsThrough (next_in records.old) (next_in records.new) entry.prev slot
+        entry.next }
+    ensures prev { LeadsThrough (prev_in records.old) (prev_in records.new) entry.next slot
+        entry.prev }
     ensures gaps { map gap_of records.new ≡ slice_set (map gap_of records.old) slot entry.gap }
 {
     records[slot as usize] = entry;
@@ -78,8 +83,10 @@ fn unlink(records: &mut [Record], slot: u32)
     requires slot { slot < length records.old }
     requires prev { prev_in records.old slot < length records.old }
     requires next { next_in records.old slot < length records.old }
-    ensures next { LeadsTo (next_in records.old) (next_in records.new) (prev_in records.old slot) (next_in records.old slot) }
-    ensures prev { LeadsTo (prev_in records.old) (prev_in records.new) (next_in records.old slot) (prev_in records.old slot) }
+    ensures next { LeadsTo (next_in records.old) (next_in records.new) (prev_in records.old slot)
+        (next_in records.old slot) }
+    ensures prev { LeadsTo (prev_in records.old) (prev_in records.new) (next_in records.old slot)
+        (prev_in records.old slot) }
     ensures gaps { map gap_of records.new ≡ map gap_of records.old }
 {
     let record = records[slot as usize];
@@ -95,9 +102,11 @@ fn add_slot(records: &mut Vec<Record>, spare: &mut Vec<u32>)
     requires spare { vec_len records.old < vec_capacity spare.old }
     ensures thread { IsThread records.new.items spare.new.items (vec_capacity spare.new) }
     ensures order { order_of records.new.items ≡ order_of records.old.items }
-    ensures gaps { (k : ℕ) → gap_in (map gap_of records.new.items) k ≡ gap_in (map gap_of records.old.items) k }
+    ensures gaps { (k : ℕ) → gap_in (map gap_of records.new.items) k
+        ≡ gap_in (map gap_of records.old.items) k }
     ensures long { vec_len records.new ≡ vec_len records.old + 1 }
-    ensures room { (vec_capacity records.new ≡ vec_capacity records.old) × (vec_capacity spare.new ≡ vec_capacity spare.old) }
+    ensures room { (vec_capacity records.new ≡ vec_capacity records.old)
+        × (vec_capacity spare.new ≡ vec_capacity spare.old) }
 {
     if !records.is_empty() {
         spare.push_reserved(records.len() as u32);
@@ -124,7 +133,8 @@ fn fill(records: &mut Vec<Record>, spare: &mut Vec<u32>, count: usize)
     requires spare { count ≤ vec_capacity spare.old }
     ensures thread { IsThread records.new.items spare.new.items (vec_capacity spare.new) }
     ensures order { order_of records.new.items ≡ order_of records.old.items }
-    ensures gaps { (k : ℕ) → gap_in (map gap_of records.new.items) k ≡ gap_in (map gap_of records.old.items) k }
+    ensures gaps { (k : ℕ) → gap_in (map gap_of records.new.items) k
+        ≡ gap_in (map gap_of records.old.items) k }
     ensures long { vec_len records.new ≡ max (vec_len records.old) count }
 {
     while records.len() < count {
@@ -145,8 +155,10 @@ impl Thread {
 
     /// Tells proofs that each slot of the order has a gap of its own; it does nothing.
     pub fn sound(&self)
-        ensures inside { (slot : ℕ) → IsIn slot self.now.order → (0 < slot) × (slot < length self.now.gaps) }
-        ensures few { (length self.now.gaps < 2 ^ 32) × (length self.now.order ≤ length self.now.gaps - 1) }
+        ensures inside { (slot : ℕ) → IsIn slot self.now.order
+            → (0 < slot) × (slot < length self.now.gaps) }
+        ensures few { (length self.now.gaps < 2 ^ 32)
+            × (length self.now.order ≤ length self.now.gaps - 1) }
         ensures distinct { AllPairs (λ a b. a ≢ b) self.now.order }
     {
         let _ = self.records.len();
@@ -169,7 +181,8 @@ impl Thread {
 
     /// The slot behind one, 0 at the end; at 0 the first one.
     pub fn next(&self, slot: u32) -> u32
-        ensures { (k : ℕ) → k ≤ length self.now.order → slot ≡ slice_index (0 ∷ self.now.order) k → result ≡ slice_index self.now.order k }
+        ensures { (k : ℕ) → k ≤ length self.now.order → slot ≡ slice_index (0 ∷ self.now.order) k
+            → result ≡ slice_index self.now.order k }
     {
         match self.records.get(slot as usize) {
             Some(record) => record.next,
@@ -179,7 +192,8 @@ impl Thread {
 
     /// The slot before one, 0 at the front; at 0 the last one.
     pub fn prev(&self, slot: u32) -> u32
-        ensures { (k : ℕ) → k ≤ length self.now.order → slot ≡ slice_index self.now.order k → result ≡ slice_index (0 ∷ self.now.order) k }
+        ensures { (k : ℕ) → k ≤ length self.now.order → slot ≡ slice_index self.now.order k
+            → result ≡ slice_index (0 ∷ self.now.order) k }
     {
         match self.records.get(slot as usize) {
             Some(record) => record.prev,
@@ -199,8 +213,9 @@ impl Thread {
     {
         let slots = count + 1;
         self.records
-            .reserve(slots.saturating_sub(self.records.len()))?;
-        self.spare.reserve(slots.saturating_sub(self.spare.len()))?;
+            .reserve_exact(slots.saturating_sub(self.records.len()))?;
+        self.spare
+            .reserve_exact(slots.saturating_sub(self.spare.len()))?;
         fill(&mut self.records, &mut self.spare, slots);
         Ok(())
     }
@@ -208,10 +223,13 @@ impl Thread {
     /// Puts a gap into a slot, and into the order before the one in the slot `next`, or at the end where that is 0.
     pub fn insert(&mut self, gap: Gap, next: u32) -> u32
         requires room { length self.old.order + 1 < length self.old.gaps }
-        requires there { (k : ℕ) × (k ≤ length self.old.order) × (next ≡ slice_index self.old.order k) }
-        ensures order { (k : ℕ) → k ≤ length self.old.order → next ≡ slice_index self.old.order k → self.new.order ≡ insert self.old.order k result }
+        requires there { (k : ℕ) × (k ≤ length self.old.order)
+            × (next ≡ slice_index self.old.order k) }
+        ensures order { (k : ℕ) → k ≤ length self.old.order → next ≡ slice_index self.old.order k
+            → self.new.order ≡ insert self.old.order k result }
         ensures gaps { self.new.gaps ≡ slice_set self.old.gaps result gap }
-        ensures slot { (0 < result) × (result < length self.old.gaps) × (IsIn result self.old.order → ⊥) }
+        ensures slot { (0 < result) × (result < length self.old.gaps)
+            × (IsIn result self.old.order → ⊥) }
     {
         let Some(slot) = self.spare.pop() else {
             unreachable!()
@@ -224,7 +242,8 @@ impl Thread {
     /// Takes the gap in a slot out.
     pub fn remove(&mut self, slot: u32)
         requires { IsIn slot self.old.order }
-        ensures order { (k : ℕ) → k < length self.old.order → slot ≡ slice_index self.old.order k → self.new.order ≡ remove self.old.order k }
+        ensures order { (k : ℕ) → k < length self.old.order → slot ≡ slice_index self.old.order k
+            → self.new.order ≡ remove self.old.order k }
         ensures gaps { self.new.gaps ≡ self.old.gaps }
     {
         unlink(&mut self.records, slot);

@@ -73,8 +73,8 @@ impl Chunks {
         requires sized { 0 < wanted.size }
         requires aligned { IsTrue (is_power_of_two wanted.alignment) }
         requires paged { IsTrue (is_power_of_two wanted.granularity) }
-        ensures found { MatchOption result
-            (NoneFits self.now.items wanted (length self.now.items)) (λ f. IsChosen self.now.items wanted f) }
+        ensures found { MatchOption result (NoneFits self.now.items wanted (length self.now.items))
+            (λ f. IsChosen self.now.items wanted f) }
         ensures cost { Spends self.now.items wanted.size result cost.old cost.new }
     {
         // a read, so that the proof has the invariant
@@ -108,12 +108,15 @@ impl Chunks {
         requires piece { wanted.kind ≢ AllocationType.Free }
         requires fresh { HasNoChunkId self.old.items counter }
         ensures taken { IfOk result (λ chunk_id. (h : IsChosen self.old.items wanted found)
-            → IsTaken self.old.items (chosen_at self.old.items wanted found h) wanted counter name chunk_id self.new.items) }
+            → IsTaken self.old.items (chosen_at self.old.items wanted found h) wanted counter name
+            chunk_id self.new.items) }
         ensures refused { OnErr result (self.new.items ≡ self.old.items) }
         ensures size { self.new.size ≡ self.old.size }
         // three or four look-ups where a rest is left, and one where none is
-        ensures front { OnOk result (found.offset + wanted.size < found.gap.start + found.gap.length → LooksUpBetween 3 4 cost.old cost.new) }
-        ensures whole { OnOk result (found.gap.start + found.gap.length ≤ found.offset + wanted.size → LooksUp 1 cost.old cost.new) }
+        ensures front { OnOk result (found.offset + wanted.size < found.gap.start + found.gap.length
+            → LooksUpBetween 3 4 cost.old cost.new) }
+        ensures whole { OnOk result (found.gap.start + found.gap.length ≤ found.offset + wanted.size
+            → LooksUp 1 cost.old cost.new) }
         ensures none { OnErr result (LooksUp 0 cost.old cost.new) }
     {
         // a read, so that the proof has the invariant
@@ -148,8 +151,8 @@ impl Chunks {
 
     /// The live piece of that number, and what stands beside it.
     pub fn piece_around(&self, chunk_id: u64, cost: &mut Cost) -> Option<Neighbours>
-        ensures piece { MatchOption result
-            ((k : ℕ) → HoldsChunkId self.now.items chunk_id k → ⊥) (λ a. (a.here.chunk_id ≡ chunk_id) × IsPieceAt self.now.items a) }
+        ensures piece { MatchOption result ((k : ℕ) → HoldsChunkId self.now.items chunk_id k → ⊥)
+            (λ a. (a.here.chunk_id ≡ chunk_id) × IsPieceAt self.now.items a) }
         ensures counted { LooksUpBetween 1 3 cost.old cost.new }
     {
         // a read, so that the proof has the invariant
@@ -178,8 +181,8 @@ impl Chunks {
     /// The live piece of that number.
     pub fn piece(&self, chunk_id: u64, cost: &mut Cost) -> Option<&Chunk>
         ensures counted { LooksUp 1 cost.old cost.new }
-        ensures piece { MatchOption result
-            ((k : ℕ) → HoldsChunkId self.now.items chunk_id k → ⊥) (λ c. (IsFree c.now.kind → ⊥) × StandsAt self.now.items chunk_id c.now) }
+        ensures piece { MatchOption result ((k : ℕ) → HoldsChunkId self.now.items chunk_id k → ⊥)
+            (λ c. (IsFree c.now.kind → ⊥) × StandsAt self.now.items chunk_id c.now) }
     {
         // a read, so that the proof has the invariant
         let _live = self.live;
@@ -214,7 +217,8 @@ impl Chunks {
         cost: &mut Cost,
     )
         requires piece { IsPieceOf self.old.items chunk_id offset kind }
-        ensures named { (i : ℕ) → HoldsChunkId self.old.items chunk_id i → IsNamedAt self.old.items i text self.new.items }
+        ensures named { (i : ℕ) → HoldsChunkId self.old.items chunk_id i
+            → IsNamedAt self.old.items i text self.new.items }
         ensures size { self.new.size ≡ self.old.size }
         ensures counted { LooksUp 1 cost.old cost.new }
     {
@@ -245,7 +249,8 @@ impl Chunks {
 fn make_room(chain: &mut Chain, index: &mut GapIndex, live: usize) -> Result<(), AllocError>
     ensures chain { (chain.new.chunks ≡ chain.old.chunks) × (chain.new.size ≡ chain.old.size) }
     ensures index { (index.new.gaps ≡ index.old.gaps) × (index.old.room ≤ index.new.room) }
-    ensures room { OnOk result ((live + 2 < 2 ^ 64) × (live + 2 ≤ index.new.room) × (0 < chain.new.room)) }
+    ensures room { OnOk result ((live + 2 < 2 ^ 64) × (live + 2 ≤ index.new.room)
+        × (0 < chain.new.room)) }
 {
     let Some(gaps) = live.checked_add(2) else {
         return Err(AllocError);

@@ -96,8 +96,8 @@ impl CutBlock {
         requires aligned { IsTrue (is_power_of_two alignment) }
         requires piece { kind ≢ AllocationType.Free }
         requires paged { granularity ≡ self.old.granularity }
-        ensures took { IfOk result
-            (λ p. Takes self.old (request size alignment kind name.now) p.0 (non_zero_u64_get p.1) self.new) }
+        ensures took { IfOk result (λ p. Takes self.old (request size alignment kind name.now) p.0
+            (non_zero_u64_get p.1) self.new) }
         ensures cause { IfErr result
             (λ e. IsAllocateRefusal self.old (request size alignment kind name.now) e) }
         ensures refused { OnErr result (self.new ≡ self.old) }
@@ -111,7 +111,8 @@ impl CutBlock {
             → IsLongEnough self.old (request size alignment kind name.now) s t
             → IsForChunkIds self.old e) }
         // what the search for the place cost, and its taking
-        ensures cost { IsSearch self.old (request size alignment kind name.now) (counts_of cost.old) (counts_of cost.new) }
+        ensures cost { IsSearch self.old (request size alignment kind name.now) (counts_of cost.old)
+            (counts_of cost.new) }
     {
         let wanted = Wanted {
             size,
@@ -144,7 +145,8 @@ impl CutBlock {
             (IsSomeAnd chunk_id (λ n. Releases self.old (non_zero_u64_get n) self.new)) }
         ensures cause { IfErr result (λ e. refusal_of e ≡ release_refusal chunk_id) }
         ensures not_live { OnErr result
-            (IfSome chunk_id (λ n. SomeExtent self.old (λ x. x.chunk_id ≡ non_zero_u64_get n) → ⊥)) }
+            (IfSome chunk_id (λ n. SomeExtent self.old (λ x. x.chunk_id ≡ non_zero_u64_get n)
+            → ⊥)) }
         ensures refused { OnErr result (self.new ≡ self.old) }
         ensures pages { self.new.granularity ≡ self.old.granularity }
         ensures sound { OnOk result (IsSound self.new) }

@@ -16,12 +16,14 @@ pub fn one_allocate()
 
 /// A take and a refusal for lack of a place exclude each other.
 pub fn allocates_or_refuses()
-    ensures { (old : FreeList) (r : Request) (o n : ℕ) (new : FreeList) → Takes old r o n new → HasNoPlace old r → ⊥ }
+    ensures { (old : FreeList) (r : Request) (o n : ℕ) (new : FreeList) → Takes old r o n new
+        → HasNoPlace old r → ⊥ }
 {}
 
 /// A release has one outcome.
 pub fn one_release()
-    ensures { (old : FreeList) (n : ℕ) (new next : FreeList) → IsSound old → Releases old n new → Releases old n next → new ≡ next }
+    ensures { (old : FreeList) (n : ℕ) (new next : FreeList) → IsSound old → Releases old n new
+        → Releases old n next → new ≡ next }
 {}
 
 /// A block without pieces has a place for every request up to its size, while it has numbers.
@@ -32,8 +34,9 @@ pub fn empty_block_has_place()
 
 /// A gap that is long enough fits.
 pub fn long_gap_fits()
-    ensures { (b : FreeList) (r : Request) (s e : ℕ) → IsSound b → IsPowerOfTwo b.granularity → IsPowerOfTwo r.alignment
-        → 0 < r.size → IsGap b s e → IsLongEnough b r s e → (o : ℕ) × Fits b r s e o }
+    ensures { (b : FreeList) (r : Request) (s e : ℕ) → IsSound b → IsPowerOfTwo b.granularity
+        → IsPowerOfTwo r.alignment → 0 < r.size → IsGap b s e → IsLongEnough b r s e
+        → (o : ℕ) × Fits b r s e o }
 {}
 
 /// A take keeps every live piece, and adds one under a number that no live piece has.
@@ -42,8 +45,8 @@ pub fn allocate_adds_one_piece()
         → (x : Extent) → Contains old.extents x → Contains new.extents x }
     ensures adds { (old : FreeList) (r : Request) (o n : ℕ) (new : FreeList) → Takes old r o n new
         → SomeExtent new (λ x. x.chunk_id ≡ n) }
-    ensures chunk_id { (old : FreeList) (r : Request) (o n : ℕ) (new : FreeList) → IsSound old → IsSound new
-        → Takes old r o n new → SomeExtent old (λ x. x.chunk_id ≡ n) → ⊥ }
+    ensures chunk_id { (old : FreeList) (r : Request) (o n : ℕ) (new : FreeList) → IsSound old
+        → IsSound new → Takes old r o n new → SomeExtent old (λ x. x.chunk_id ≡ n) → ⊥ }
 {}
 
 /// A release keeps every live piece but the one of its number.
@@ -60,6 +63,6 @@ pub fn extents_and_gaps_cover()
 /// Two live pieces of different kinds share no page, wherever in them one looks.
 pub fn kinds_share_no_page()
     ensures { (b : FreeList) → 0 < b.granularity → IsPageSeparated b → IsSound b → (x y : Extent)
-        → Contains b.extents x → Contains b.extents y → x.kind ≢ y.kind → (p q : ℕ)
-        → x.offset ≤ p → p < x.end → y.offset ≤ q → q < y.end → page b.granularity p ≢ page b.granularity q }
+        → Contains b.extents x → Contains b.extents y → x.kind ≢ y.kind → (p q : ℕ) → x.offset ≤ p
+        → p < x.end → y.offset ≤ q → q < y.end → page b.granularity p ≢ page b.granularity q }
 {}

@@ -105,42 +105,48 @@ fn kind_name(kind: AllocationType) -> &'static str
 }
 
 fn write_chunk_id<W: fmt::Write>(chunk: &Chunk, f: &mut fmt::Formatter<W>) -> fmt::Result
-    ensures { DisplaysOnOk W.write_str_gives f.old result (Some (chunk_id_line (extent chunk.now))) f.new }
+    ensures { DisplaysOnOk W.write_str_gives f.old result (Some (chunk_id_line (extent chunk.now)))
+        f.new }
 {
     let chunk_id = chunk.chunk_id;
     write!(f, "    chunk: {{\n        chunk_id: {chunk_id},\n")
 }
 
 fn write_size<W: fmt::Write>(chunk: &Chunk, f: &mut fmt::Formatter<W>) -> fmt::Result
-    ensures { DisplaysOnOk W.write_str_gives f.old result (Some (size_line (extent chunk.now))) f.new }
+    ensures { DisplaysOnOk W.write_str_gives f.old result (Some (size_line (extent chunk.now)))
+        f.new }
 {
     let size = chunk.size;
     write!(f, "        size: 0x{size:x},\n")
 }
 
 fn write_start<W: fmt::Write>(chunk: &Chunk, f: &mut fmt::Formatter<W>) -> fmt::Result
-    ensures { DisplaysOnOk W.write_str_gives f.old result (Some (start_line (extent chunk.now))) f.new }
+    ensures { DisplaysOnOk W.write_str_gives f.old result (Some (start_line (extent chunk.now)))
+        f.new }
 {
     let start = chunk.start;
     write!(f, "        offset: 0x{start:x},\n")
 }
 
 fn write_kind<W: fmt::Write>(chunk: &Chunk, f: &mut fmt::Formatter<W>) -> fmt::Result
-    ensures { DisplaysOnOk W.write_str_gives f.old result (Some (kind_line (extent chunk.now))) f.new }
+    ensures { DisplaysOnOk W.write_str_gives f.old result (Some (kind_line (extent chunk.now)))
+        f.new }
 {
     let kind = kind_name(chunk.kind);
     write!(f, "        allocation_type: {kind},\n")
 }
 
 fn write_name<W: fmt::Write>(chunk: &Chunk, f: &mut fmt::Formatter<W>) -> fmt::Result
-    ensures { DisplaysOnOk W.write_str_gives f.old result (Some (name_line (extent chunk.now))) f.new }
+    ensures { DisplaysOnOk W.write_str_gives f.old result (Some (name_line (extent chunk.now)))
+        f.new }
 {
     let name = chunk.name.as_str();
     write!(f, "        name: {name}\n    }}\n")
 }
 
 fn write_chunk<W: fmt::Write>(chunk: &Chunk, f: &mut fmt::Formatter<W>) -> fmt::Result
-    ensures { DisplaysOnOk W.write_str_gives f.old result (Some (chunk_text (extent chunk.now))) f.new }
+    ensures { DisplaysOnOk W.write_str_gives f.old result (Some (chunk_text (extent chunk.now)))
+        f.new }
 {
     write_chunk_id(chunk, f)?;
     write_size(chunk, f)?;
@@ -150,7 +156,8 @@ fn write_chunk<W: fmt::Write>(chunk: &Chunk, f: &mut fmt::Formatter<W>) -> fmt::
 }
 
 fn write_dedicated<W: fmt::Write>(chunk: &Chunk, f: &mut fmt::Formatter<W>) -> fmt::Result
-    ensures { DisplaysOnOk W.write_str_gives f.old result (Some (dedicated_text (extent chunk.now))) f.new }
+    ensures { DisplaysOnOk W.write_str_gives f.old result (Some (dedicated_text (extent chunk.now)))
+        f.new }
 {
     f.write_str("    dedicated allocation: {\n")?;
     write_size(chunk, f)?;
@@ -158,7 +165,8 @@ fn write_dedicated<W: fmt::Write>(chunk: &Chunk, f: &mut fmt::Formatter<W>) -> f
 }
 
 fn write_piece<W: fmt::Write>(shared: bool, chunk: &Chunk, f: &mut fmt::Formatter<W>) -> fmt::Result
-    ensures { DisplaysOnOk W.write_str_gives f.old result (Some (piece_text shared (extent chunk.now))) f.new }
+    ensures { DisplaysOnOk W.write_str_gives f.old result
+        (Some (piece_text shared (extent chunk.now))) f.new }
 {
     if shared {
         write_chunk(chunk, f)
@@ -172,7 +180,8 @@ fn write_block<W: fmt::Write>(
     memory_block: usize,
     f: &mut fmt::Formatter<W>,
 ) -> fmt::Result
-    ensures { DisplaysOnOk W.write_str_gives f.old result (Some (block_lines memory_type memory_block)) f.new }
+    ensures { DisplaysOnOk W.write_str_gives f.old result
+        (Some (block_lines memory_type memory_block)) f.new }
 {
     write!(
         f,

@@ -179,7 +179,8 @@ impl BlockStatistics {
 fn with_gap(counted: BlockStatistics, start: u64, end: u64) -> BlockStatistics
     requires { counted.gaps ≤ start }
     ensures gaps { result.gaps ≡ counted.gaps + length (gap_between start end) }
-    ensures longest { result.longest_gap ≡ max counted.longest_gap (longest (gap_between start end)) }
+    ensures longest { result.longest_gap
+        ≡ max counted.longest_gap (longest (gap_between start end)) }
     ensures pieces { (result.pieces ≡ counted.pieces) × (result.piece_bytes ≡ counted.piece_bytes) }
 {
     if start >= end {
@@ -195,7 +196,8 @@ fn with_gap(counted: BlockStatistics, start: u64, end: u64) -> BlockStatistics
 /// Counts the pieces of a block of `size` bytes, and its gaps.
 pub fn count_pieces(pieces: Pieces<'_>, size: u64) -> BlockStatistics
     requires { LieBetween 0 pieces size }
-    ensures pieces { (result.pieces ≡ length pieces.entry) × (result.piece_bytes ≡ extent_bytes pieces.entry) }
+    ensures pieces { (result.pieces ≡ length pieces.entry)
+        × (result.piece_bytes ≡ extent_bytes pieces.entry) }
     ensures gaps { result.gaps ≡ length (gaps_between 0 pieces.entry size) }
     ensures longest { result.longest_gap ≡ longest (gaps_between 0 pieces.entry size) }
 {

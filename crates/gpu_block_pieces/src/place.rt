@@ -95,9 +95,11 @@ pub fn place_between(
     requires aligned { IsTrue (is_power_of_two wanted.alignment) }
     requires paged { IsTrue (is_power_of_two wanted.granularity) }
     requires behind { Differ left wanted.kind → 0 < start }
-    ensures { MatchOption result
-        ((o : ℕ) → FitsBetween wanted.granularity wanted.alignment wanted.size (Differ left wanted.kind) (Differ right wanted.kind) start (start + length) o → ⊥)
-        (λ o. FitsBetween wanted.granularity wanted.alignment wanted.size (Differ left wanted.kind) (Differ right wanted.kind) start (start + length) o) }
+    ensures { MatchOption result ((o : ℕ)
+        → FitsBetween wanted.granularity wanted.alignment wanted.size (Differ left wanted.kind)
+        (Differ right wanted.kind) start (start + length) o → ⊥)
+        (λ o. FitsBetween wanted.granularity wanted.alignment wanted.size (Differ left wanted.kind)
+        (Differ right wanted.kind) start (start + length) o) }
 {
     let spare = length.checked_sub(wanted.size)?;
     let offset = offset_from(

@@ -12,7 +12,8 @@ use gpu_values::AllocationReport;
 use std::alloc::{AllocError, Global};
 
 fn row_of(alloc: Global, chunk: &Chunk, size: u64) -> Result<AllocationReport, AllocError>
-    ensures { IfOk result (λ a. row_of a ≡ record { name = chunk.now.name; offset = chunk.now.offset; size = size }) }
+    ensures { IfOk result (λ a. row_of a
+        ≡ record { name = chunk.now.name; offset = chunk.now.offset; size = size }) }
 {
     Ok(AllocationReport {
         name: String::from_str(alloc, chunk.name.as_str())?,

@@ -36,10 +36,11 @@ pub fn find(index: &GapIndex, wanted: Wanted, cost: &mut Cost) -> Option<Found>
     requires sized { 0 < wanted.size }
     requires aligned { IsTrue (is_power_of_two wanted.alignment) }
     requires paged { IsTrue (is_power_of_two wanted.granularity) }
-    ensures found { MatchOption result
-        (NoGapFits index.now.gaps wanted × (cost.new.tests ≡ cost.old.tests + count_by (is_long wanted.size) index.now.gaps))
+    ensures found { MatchOption result (NoGapFits index.now.gaps wanted
+        × (cost.new.tests ≡ cost.old.tests + count_by (is_long wanted.size) index.now.gaps))
         (λ f. (place : ℕ) × IsFirstFit index.now.gaps wanted f place
-        × (cost.new.tests ≡ cost.old.tests + count_by (is_long wanted.size) (take (place + 1) index.now.gaps))) }
+        × (cost.new.tests ≡ cost.old.tests + count_by (is_long wanted.size)
+        (take (place + 1) index.now.gaps))) }
     ensures ordered { AllPairs Before index.now.gaps }
     ensures comparisons { (cost.old.comparisons ≤ cost.new.comparisons)
         × (cost.new.comparisons ≤ cost.old.comparisons + digits (length index.now.gaps)) }

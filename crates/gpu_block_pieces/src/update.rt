@@ -15,7 +15,7 @@ use gpu_block_gaps::{Gap, GapIndex};
 use gpu_cost::Cost;
 use gpu_values::AllocationType;
 
-/// Gives the front of the found gap to a piece. There is room for it, so no memory is taken.
+/// Puts a piece into the front of the found gap. There is room for it, so no memory is taken.
 pub fn allocate_front(
     chain: &mut Chain,
     index: &mut GapIndex,
@@ -33,7 +33,8 @@ pub fn allocate_front(
     requires piece { kind ≢ AllocationType.Free }
     requires fresh { HasNoChunkId chain.old.chunks chunk_id }
     requires room { (0 < chain.old.room) × (length index.old.gaps ≤ index.old.room) }
-    ensures chunks { IsSplit chain.old.chunks found.gap.chunk_id taken chunk_id found.offset kind name chain.new.chunks }
+    ensures chunks { IsSplit chain.old.chunks found.gap.chunk_id taken chunk_id found.offset kind
+        name chain.new.chunks }
     ensures listed { IsListed chain.new.chunks index.new.gaps }
     ensures live { length (extents_of chain.new.chunks) ≡ length (extents_of chain.old.chunks) + 1 }
     ensures size { (chain.new.size ≡ chain.old.size) × (index.new.room ≡ index.old.room) }
@@ -61,7 +62,7 @@ pub fn allocate_front(
     index.replace(gap.length, gap.start, rest);
 }
 
-/// Gives the whole found gap to a piece. It takes no memory.
+/// Puts a piece into the whole found gap. It takes no memory.
 pub fn allocate_whole(
     chain: &mut Chain,
     index: &mut GapIndex,
@@ -73,7 +74,8 @@ pub fn allocate_whole(
     requires listed { IsListed chain.old.chunks index.old.gaps }
     requires gap { IsGapOf chain.old.chunks found.gap }
     requires piece { kind ≢ AllocationType.Free }
-    ensures chunks { IsFilled chain.old.chunks found.gap.chunk_id found.offset kind name chain.new.chunks }
+    ensures chunks { IsFilled chain.old.chunks found.gap.chunk_id found.offset kind name
+        chain.new.chunks }
     ensures listed { IsListed chain.new.chunks index.new.gaps }
     ensures live { length (extents_of chain.new.chunks) ≡ length (extents_of chain.old.chunks) + 1 }
     ensures size { (chain.new.size ≡ chain.old.size) × (index.new.room ≡ index.old.room) }
@@ -111,8 +113,10 @@ fn is_gap(beside: Option<Neighbour>) -> bool
 /// Puts a gap into the index, in the place of what stands beside it if that is one.
 fn put(index: &mut GapIndex, beside: Option<Neighbour>, gap: Gap)
     requires there { MayForget beside index.old.gaps }
-    requires fresh { (rest : List Gap) → Forgets beside index.old.gaps rest → HasNoKey rest gap.length gap.start }
-    requires room { (rest : List Gap) → Forgets beside index.old.gaps rest → length rest < index.old.room }
+    requires fresh { (rest : List Gap) → Forgets beside index.old.gaps rest
+        → HasNoKey rest gap.length gap.start }
+    requires room { (rest : List Gap) → Forgets beside index.old.gaps rest
+        → length rest < index.old.room }
     ensures gaps { IsPut beside gap index.old.gaps index.new.gaps }
     ensures room { index.new.room ≡ index.old.room }
 {
@@ -131,9 +135,12 @@ fn put(index: &mut GapIndex, beside: Option<Neighbour>, gap: Gap)
 /// Puts a gap into the index, in the place of the gaps on both sides of it.
 fn put_joined(index: &mut GapIndex, around: Neighbours, gap: Gap)
     requires before { MayForget around.before index.old.gaps }
-    requires after { (one : List Gap) → Forgets around.before index.old.gaps one → MayForget around.after one }
-    requires fresh { (one two : List Gap) → Forgets around.before index.old.gaps one → Forgets around.after one two → HasNoKey two gap.length gap.start }
-    requires room { (one two : List Gap) → Forgets around.before index.old.gaps one → Forgets around.after one two → length two < index.old.room }
+    requires after { (one : List Gap) → Forgets around.before index.old.gaps one
+        → MayForget around.after one }
+    requires fresh { (one two : List Gap) → Forgets around.before index.old.gaps one
+        → Forgets around.after one two → HasNoKey two gap.length gap.start }
+    requires room { (one two : List Gap) → Forgets around.before index.old.gaps one
+        → Forgets around.after one two → length two < index.old.room }
     ensures gaps { IsJoined around.before around.after gap index.old.gaps index.new.gaps }
     ensures room { index.new.room ≡ index.old.room }
 {
@@ -158,8 +165,10 @@ fn kind_of(beside: Option<Neighbour>) -> AllocationType
 /// The entry of the free chunk of that number.
 fn gap_at(chain: &Chain, chunk_id: u64, cost: &mut Cost) -> Gap
     requires there { HasChunkId chain.now.chunks chunk_id }
-    ensures gap { (front : List Chunk) (c : Chunk) (back : List Chunk) → chain.now.chunks ≡ front ++ c ∷ back → c.chunk_id ≡ chunk_id
-        → result ≡ gap_between (last_kind AllocationType.Free front) c (kind_or back AllocationType.Free) }
+    ensures gap { (front : List Chunk) (c : Chunk) (back : List Chunk)
+        → chain.now.chunks ≡ front ++ c ∷ back → c.chunk_id ≡ chunk_id
+        → result ≡ gap_between (last_kind AllocationType.Free front) c
+        (kind_or back AllocationType.Free) }
     ensures counted { LooksUpBetween 1 3 cost.old cost.new }
 {
     chain.laid_out();

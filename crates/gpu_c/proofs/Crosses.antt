@@ -9,10 +9,10 @@ use Rattle.std.proofs.Crossing.{Vec-send}
 use Rattle.std_alloc.specs.contracts.string.String as String
 use Rattle.std_heap.specs.contracts.Global as Heap
 use Rattle.std_heap.specs.contracts.GlobalAllocator.TheImpl.{ghosts}
-use Rattle.gap_tree.specs.contracts.class_set.ClassSet as ClassSet
-use Rattle.gap_tree.specs.contracts.forest.Forest as Forest
-use Rattle.gap_tree.specs.contracts.tree.Fork as Fork
-use Rattle.gap_tree.specs.contracts.tree.Node as Node
+use Rattle.gpu_block_gaps.specs.contracts.class_set.ClassSet as ClassSet
+use Rattle.gpu_block_gaps.specs.contracts.forest.Forest as Forest
+use Rattle.gpu_block_gaps.specs.contracts.tree.Fork as Fork
+use Rattle.gpu_block_gaps.specs.contracts.tree.Node as Node
 use Rattle.gpu_block_gaps.specs.contracts.index.Gap as Gap
 use Rattle.gpu_block_gaps.specs.contracts.index.GapIndex as GapIndex
 use Rattle.gpu_block_gaps.specs.contracts.thread.Record as Record

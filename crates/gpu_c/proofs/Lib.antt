@@ -11,3 +11,4 @@ mod AllocatorRefusals
 mod AllocatorHandleWords
 mod Crosses
 mod HandleCrosses
+mod AllocatorVisits

@@ -1,6 +1,8 @@
 -- An allocator of Vulkan's memory behind a handle: what C says and is told, in the words of the machine.
-use Rattle.std.specs.Prelude.{◌≡◌, ℕ, ℤ, ◌==◌, if◌then◌else◌, Bool, true, false, List, [], length, map, All, Option, Some, None, IsSome, Result, Ok, Err}
+use Rattle.std.specs.Prelude.{◌≡◌, ℕ, ℤ, ◌==◌, if◌then◌else◌, not, nat_lt, Bool, true, false, List, [], length, map, All, Option, Some, None, IsSome, Result, Ok, Err}
 use Rattle.std.specs.Option.{is_some, unwrap_or}
+use Rattle.std.specs.List.{list_any}
+use Rattle.std.specs.Int.{is_power_of_two}
 use Rattle.std.specs.Int.NonZero.{non_zero_u64_get}
 use Rattle.gpu_values.specs.Refusal as refusals
 use Rattle.gpu_values.specs.Refusal.{Refusal, refusal_of}
@@ -17,7 +19,7 @@ use Rattle.gpu_device.specs.declared.vulkan.types.DeviceMemory.{DeviceMemory}
 use Rattle.gpu_device.specs.declared.vulkan.types.MemoryHeap.{MemoryHeap}
 use Rattle.gpu_device.specs.declared.vulkan.types.MemoryTypeInfo.{MemoryTypeInfo}
 use Rattle.gpu_vulkan.specs.Live as machine_live
-use Rattle.gpu_vulkan.specs.Setup.{properties_told}
+use Rattle.gpu_vulkan.specs.Setup.{properties_told, lacks_heap}
 use Rattle.gpu_vulkan.specs.declared.describe.AllocationCreateDesc.{AllocationCreateDesc}
 use Rattle.gpu_machine.specs.Begin as machine_begin
 use Rattle.gpu_machine.specs.Begin.{Begins, Grants, Declines}
@@ -76,6 +78,13 @@ pub record IsFresh (types : List DeviceMemoryType) (heaps : List DeviceHeap) (s 
   pub closed : new.awaited ≡ None
 
 -- ---- statuses
+
+-- why no allocator is made of a device that is told, the first cause that holds; ok where there is none
+abbrev pub device_status : Properties → ℕ
+device_status p =
+    if not (is_power_of_two p.granularity) then status.invalid_device else
+    (if nat_lt 32 (length p.types) then status.too_many_types else
+    (if list_any (lacks_heap p) p.types then status.no_such_heap else status.ok))
 
 -- the status of a refusal; what the driver refused for a cause without an error of its own is the last one
 abbrev pub refusal_status : Refusal → ℕ

@@ -5,4 +5,5 @@ pub mod Visit
 pub mod MemoryType
 pub mod Owned
 pub mod Allocator
+pub mod AllocatorVisit
 pub mod Handle

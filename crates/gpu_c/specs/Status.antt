@@ -3,7 +3,7 @@ use Rattle.std.specs.Prelude.{◌≡◌, ◌⊎◌, ℕ, List, [], ◌∷◌}
 use Rattle.gpu_values.specs.declared.error.AllocationError.{AllocationError}
 use Rattle.gpu_values.specs.declared.error.AllocationError.TheVariants as errors
 
--- ---- what calls out: 1 to 11 are the numbers of the library's errors, 12 and 13 split the sixth, from 100 on a handle is in the wrong state
+-- ---- what calls out: 1 to 11 are the numbers of the library's errors, 12 and 13 split the sixth, 14 and 15 the fifth, from 100 on a handle is in the wrong state
 
 -- the call did what it says
 abbrev pub ok : ℕ
@@ -25,7 +25,7 @@ no_memory_type = 3
 abbrev pub invalid : ℕ
 invalid = 4
 
--- what is told of a device can't be
+-- a device's page size is no power of two
 abbrev pub invalid_device : ℕ
 invalid_device = 5
 
@@ -48,6 +48,14 @@ driver_refused = 12
 -- no memory type has that index
 abbrev pub no_such_type : ℕ
 no_such_type = 13
+
+-- a device has more memory types than Vulkan has bits for
+abbrev pub too_many_types : ℕ
+too_many_types = 14
+
+-- a device's memory type lies in a heap that isn't there
+abbrev pub no_such_heap : ℕ
+no_such_heap = 15
 
 -- the handle is empty
 abbrev pub no_handle : ℕ

@@ -62,12 +62,18 @@ pub fn begin(
     name: &[u8],
     progress: &mut AllocatorProgress,
 ) -> u32
-    ensures begun { result ≡ status.ok → IsBegun machine.old request.now name.now progress.new machine.new }
+    ensures begun { result ≡ status.ok → IsBegun machine.old request.now name.now progress.new
+        machine.new }
     ensures awaits_answer { (result ≡ status.awaits_answer) ↔ IsSome machine.old.awaited }
-    ensures invalid { (result ≡ status.invalid) ↔ (machine.old.awaited ≡ None) × SaysNothing request.now name.now }
-    ensures denied { result ≢ status.ok → result ≢ status.awaits_answer → result ≢ status.invalid → IsDenied machine.old request.now name.now result }
-    ensures statuses { IsOneOf result (status.ok ∷ status.awaits_answer ∷ status.invalid ∷ status.no_memory_type ∷ status.out_of_memory ∷ status.host_out_of_memory ∷ status.budget_exceeded ∷ []) }
-    ensures refused { result ≢ status.ok → (machine.new ≡ machine.old) × (progress.new ≡ progress.old) }
+    ensures invalid { (result ≡ status.invalid)
+        ↔ (machine.old.awaited ≡ None) × SaysNothing request.now name.now }
+    ensures denied { result ≢ status.ok → result ≢ status.awaits_answer → result ≢ status.invalid
+        → IsDenied machine.old request.now name.now result }
+    ensures statuses { IsOneOf result (status.ok ∷ status.awaits_answer ∷ status.invalid
+        ∷ status.no_memory_type ∷ status.out_of_memory ∷ status.host_out_of_memory
+        ∷ status.budget_exceeded ∷ []) }
+    ensures refused { result ≢ status.ok
+        → (machine.new ≡ machine.old) × (progress.new ≡ progress.old) }
 {
     if machine.awaits_answer() {
         return AWAITS_ANSWER;
@@ -102,10 +108,12 @@ pub fn granted(machine: &mut Machine, memory: u64, piece: &mut AllocatorPiece) -
 
 /// The driver refused the memory that was asked for, with this code.
 pub fn refused(machine: &mut Machine, code: i32, progress: &mut AllocatorProgress) -> u32
-    ensures declined { result ≡ status.ok → IsDeclined machine.old (memory_refusal code) progress.new machine.new }
+    ensures declined { result ≡ status.ok
+        → IsDeclined machine.old (memory_refusal code) progress.new machine.new }
     ensures awaits_no_answer { (result ≡ status.awaits_no_answer) ↔ (machine.old.awaited ≡ None) }
     ensures statuses { IsOneOf result (status.ok ∷ status.awaits_no_answer ∷ []) }
-    ensures refused { result ≢ status.ok → (machine.new ≡ machine.old) × (progress.new ≡ progress.old) }
+    ensures refused { result ≢ status.ok
+        → (machine.new ≡ machine.old) × (progress.new ≡ progress.old) }
 {
     if machine.awaits_answer() {
         *progress = outcome_told(&machine.refused(code));
@@ -122,10 +130,12 @@ pub fn mapping_refused(
     code: i32,
     progress: &mut AllocatorProgress,
 ) -> u32
-    ensures declined { result ≡ status.ok → IsDeclined machine.old (map_refusal (code_if has_code code)) progress.new machine.new }
+    ensures declined { result ≡ status.ok
+        → IsDeclined machine.old (map_refusal (code_if has_code code)) progress.new machine.new }
     ensures awaits_no_answer { (result ≡ status.awaits_no_answer) ↔ (machine.old.awaited ≡ None) }
     ensures statuses { IsOneOf result (status.ok ∷ status.awaits_no_answer ∷ []) }
-    ensures refused { result ≢ status.ok → (machine.new ≡ machine.old) × (progress.new ≡ progress.old) }
+    ensures refused { result ≢ status.ok
+        → (machine.new ≡ machine.old) × (progress.new ≡ progress.old) }
 {
     if machine.awaits_answer() {
         *progress = outcome_told(&machine.mapping_refused(code_if(has_code, code)));
@@ -139,7 +149,8 @@ pub fn mapping_refused(
 pub fn free(machine: &mut Machine, piece: &AllocatorPiece, back: &mut AllocatorMemory) -> u32
     ensures freed { result ≡ status.ok → IsFreed machine.old piece.now back.new machine.new }
     ensures awaits_answer { (result ≡ status.awaits_answer) ↔ IsSome machine.old.awaited }
-    ensures not_live { (result ≡ status.not_live) ↔ (machine.old.awaited ≡ None) × (IsLive machine.old piece.now → ⊥) }
+    ensures not_live { (result ≡ status.not_live)
+        ↔ (machine.old.awaited ≡ None) × (IsLive machine.old piece.now → ⊥) }
     ensures statuses { IsOneOf result (status.ok ∷ status.awaits_answer ∷ status.not_live ∷ []) }
     ensures refused { result ≢ status.ok → (machine.new ≡ machine.old) × (back.new ≡ back.old) }
 {
@@ -160,12 +171,17 @@ pub fn free(machine: &mut Machine, piece: &AllocatorPiece, back: &mut AllocatorM
 
 /// Renames a piece.
 pub fn rename(machine: &mut Machine, piece: &AllocatorPiece, name: &[u8]) -> u32
-    ensures renamed { result ≡ status.ok → IsUtf8 name.now × IsRenamed machine.old piece.now name.now machine.new }
+    ensures renamed { result ≡ status.ok
+        → IsUtf8 name.now × IsRenamed machine.old piece.now name.now machine.new }
     ensures awaits_answer { (result ≡ status.awaits_answer) ↔ IsSome machine.old.awaited }
-    ensures invalid { (result ≡ status.invalid) ↔ (machine.old.awaited ≡ None) × (IsUtf8 name.now → ⊥) }
-    ensures not_live { (result ≡ status.not_live) ↔ (machine.old.awaited ≡ None) × IsUtf8 name.now × (IsLive machine.old piece.now → ⊥) }
-    ensures host_out_of_memory { result ≡ status.host_out_of_memory → (machine.old.awaited ≡ None) × IsUtf8 name.now × IsLive machine.old piece.now }
-    ensures statuses { IsOneOf result (status.ok ∷ status.awaits_answer ∷ status.invalid ∷ status.not_live ∷ status.host_out_of_memory ∷ []) }
+    ensures invalid { (result ≡ status.invalid)
+        ↔ (machine.old.awaited ≡ None) × (IsUtf8 name.now → ⊥) }
+    ensures not_live { (result ≡ status.not_live)
+        ↔ (machine.old.awaited ≡ None) × IsUtf8 name.now × (IsLive machine.old piece.now → ⊥) }
+    ensures host_out_of_memory { result ≡ status.host_out_of_memory
+        → (machine.old.awaited ≡ None) × IsUtf8 name.now × IsLive machine.old piece.now }
+    ensures statuses { IsOneOf result (status.ok ∷ status.awaits_answer ∷ status.invalid
+        ∷ status.not_live ∷ status.host_out_of_memory ∷ []) }
     ensures refused { result ≢ status.ok → machine.new ≡ machine.old }
 {
     if machine.awaits_answer() {
@@ -200,10 +216,14 @@ pub fn is_live(machine: &Machine, piece: &AllocatorPiece) -> bool
 
 /// Bounds the sum of the sizes of a memory type's blocks, or takes the bound away.
 pub fn set_budget(machine: &mut Machine, memory_type: usize, has_budget: bool, bytes: u64) -> u32
-    ensures bounded { result ≡ status.ok → (machine.old.awaited ≡ None) × SetsBudget machine.old memory_type (number_if has_budget bytes) (Ok tt) machine.new }
+    ensures bounded { result ≡ status.ok
+        → (machine.old.awaited ≡ None) × SetsBudget machine.old memory_type
+        (number_if has_budget bytes) (Ok tt) machine.new }
     ensures awaits_answer { (result ≡ status.awaits_answer) ↔ IsSome machine.old.awaited }
-    ensures no_such_type { (result ≡ status.no_such_type) ↔ (machine.old.awaited ≡ None) × (length machine.old.budgets ≤ memory_type) }
-    ensures statuses { IsOneOf result (status.ok ∷ status.awaits_answer ∷ status.no_such_type ∷ []) }
+    ensures no_such_type { (result ≡ status.no_such_type)
+        ↔ (machine.old.awaited ≡ None) × (length machine.old.budgets ≤ memory_type) }
+    ensures statuses { IsOneOf result (status.ok ∷ status.awaits_answer ∷ status.no_such_type
+        ∷ []) }
     ensures refused { result ≢ status.ok → machine.new ≡ machine.old }
 {
     if machine.awaits_answer() {

@@ -12,25 +12,25 @@ ghost use Rattle.gpu_c.specs.Handle.{Changes};
 ghost use Rattle.gpu_c.specs.Status as status;
 ghost use Rattle.gpu_c.specs.Status.{IsOneOf};
 ghost use Rattle.gpu_c.specs.MemoryType.{number_if};
-ghost use Rattle.gpu_c.specs.Allocator.{device_told, IsFresh, SaysNothing, IsBegun, IsDenied, IsGranted, IsDeclined, code_if, IsLive, IsFreed, IsRenamed, budget_told};
-ghost use Rattle.gpu_c.specs.declared.status.TheConstants.{OK, OUT_OF_MEMORY, FAILED_TO_MAP, NO_MEMORY_TYPE, INVALID, INVALID_DEVICE, NOT_LIVE, HOST_OUT_OF_MEMORY, BUDGET_EXCEEDED, DRIVER_REFUSED, NO_SUCH_TYPE, NO_HANDLE, IN_USE, AWAITS_ANSWER, AWAITS_NO_ANSWER};
+ghost use Rattle.gpu_c.specs.Allocator.{device_told, device_status, IsFresh, SaysNothing, IsBegun, IsDenied, IsGranted, IsDeclined, code_if, IsLive, IsFreed, IsRenamed, budget_told};
+ghost use Rattle.gpu_c.specs.declared.status.TheConstants.{OK, OUT_OF_MEMORY, FAILED_TO_MAP, NO_MEMORY_TYPE, INVALID, INVALID_DEVICE, NOT_LIVE, HOST_OUT_OF_MEMORY, BUDGET_EXCEEDED, DRIVER_REFUSED, NO_SUCH_TYPE, TOO_MANY_TYPES, NO_SUCH_HEAP, NO_HANDLE, IN_USE, AWAITS_ANSWER, AWAITS_NO_ANSWER};
 
 use crate::allocator::{
     begin, free, fresh, granted, is_live, mapping_refused, refused, rename, set_budget,
 };
 use crate::allocator_answer::budget_told;
 use crate::allocator_handle::AllocatorHandle;
-use crate::allocator_request::has_fault;
+use crate::allocator_request::device_status;
 use crate::allocator_values::{
     AllocatorBudget, AllocatorMemory, AllocatorPiece, AllocatorProgress, AllocatorRequest,
     AllocatorSettings, DeviceHeap, DeviceMemoryType,
 };
-use crate::status::{HOST_OUT_OF_MEMORY, IN_USE, INVALID_DEVICE, NO_HANDLE, OK};
+use crate::status::{HOST_OUT_OF_MEMORY, IN_USE, NO_HANDLE, OK};
 use std::alloc::Global;
 
 /// Makes an allocator without blocks in an empty handle, over a device that has these memory types and heaps. `IN_USE` where the handle isn't
-/// empty, else `INVALID_DEVICE` where the page size is no power of two, there are more than 32 memory types, or one lies in a heap that isn't there, else
-/// `HOST_OUT_OF_MEMORY`.
+/// empty, else `INVALID_DEVICE` where the page size is no power of two, else `TOO_MANY_TYPES` where there are more than 32 memory types, else
+/// `NO_SUCH_HEAP` where one lies in a heap that isn't there, else `HOST_OUT_OF_MEMORY`.
 #[unsafe(no_mangle)]
 pub extern "C" fn pilhangko_raw_allocator_create(
     allocator: &mut AllocatorHandle,
@@ -39,22 +39,29 @@ pub extern "C" fn pilhangko_raw_allocator_create(
     heaps: &[DeviceHeap],
     settings: &AllocatorSettings,
 ) -> u32
-    ensures created { result ≡ status.ok → (allocator.old.value ≡ None) × (told_fault (device_told types.now heaps.now settings.now) ≡ None)
-        × IsSomeAnd allocator.new.value (IsFresh types.now heaps.now settings.now) }
+    ensures created { result ≡ status.ok
+        → (allocator.old.value ≡ None) × (told_fault (device_told types.now heaps.now settings.now)
+        ≡ None) × IsSomeAnd allocator.new.value (IsFresh types.now heaps.now settings.now) }
     ensures in_use { (result ≡ status.in_use) ↔ (allocator.old.value ≢ None) }
     ensures invalid_device { (result ≡ status.invalid_device) ↔ (allocator.old.value ≡ None)
-        × IsSome (told_fault (device_told types.now heaps.now settings.now)) }
+        × (device_status (device_told types.now heaps.now settings.now) ≡ status.invalid_device) }
+    ensures too_many_types { (result ≡ status.too_many_types) ↔ (allocator.old.value ≡ None)
+        × (device_status (device_told types.now heaps.now settings.now) ≡ status.too_many_types) }
+    ensures no_such_heap { (result ≡ status.no_such_heap) ↔ (allocator.old.value ≡ None)
+        × (device_status (device_told types.now heaps.now settings.now) ≡ status.no_such_heap) }
     ensures host_out_of_memory { result ≡ status.host_out_of_memory → (allocator.old.value ≡ None)
         × (told_fault (device_told types.now heaps.now settings.now) ≡ None) }
-    ensures statuses { IsOneOf result (status.ok ∷ status.in_use ∷ status.invalid_device ∷ status.host_out_of_memory ∷ []) }
+    ensures statuses { IsOneOf result (status.ok ∷ status.in_use ∷ status.invalid_device
+        ∷ status.too_many_types ∷ status.no_such_heap ∷ status.host_out_of_memory ∷ []) }
     ensures refused { result ≢ status.ok → allocator.new.value ≡ allocator.old.value }
 {
     if let Some(kept) = allocator.take(alloc) {
         allocator.put(kept);
         return IN_USE;
     }
-    if has_fault(types, heaps, settings) {
-        return INVALID_DEVICE;
+    let status = device_status(types, heaps, settings);
+    if status != OK {
+        return status;
     }
     match fresh(alloc, types, heaps, settings) {
         None => HOST_OUT_OF_MEMORY,
@@ -82,12 +89,19 @@ pub extern "C" fn pilhangko_raw_allocator_begin(
     ensures begun { result ≡ status.ok → Changes allocator.old.value allocator.new.value
         (λ old new. IsBegun old request.now name.now progress.new new) }
     ensures no_handle { (result ≡ status.no_handle) ↔ (allocator.old.value ≡ None) }
-    ensures awaits_answer { (result ≡ status.awaits_answer) ↔ IsSomeAnd allocator.old.value (λ s. IsSome s.awaited) }
-    ensures invalid { (result ≡ status.invalid) ↔ IsSomeAnd allocator.old.value (λ s. (s.awaited ≡ None) × SaysNothing request.now name.now) }
-    ensures denied { result ≢ status.ok → result ≢ status.no_handle → result ≢ status.awaits_answer → result ≢ status.invalid
-        → IsSomeAnd allocator.old.value (λ s. IsDenied s request.now name.now result) }
-    ensures statuses { IsOneOf result (status.ok ∷ status.no_handle ∷ status.awaits_answer ∷ status.invalid ∷ status.no_memory_type ∷ status.out_of_memory ∷ status.host_out_of_memory ∷ status.budget_exceeded ∷ []) }
-    ensures refused { result ≢ status.ok → (allocator.new.value ≡ allocator.old.value) × (progress.new ≡ progress.old) }
+    ensures awaits_answer { (result ≡ status.awaits_answer)
+        ↔ IsSomeAnd allocator.old.value (λ s. IsSome s.awaited) }
+    ensures invalid { (result ≡ status.invalid)
+        ↔ IsSomeAnd allocator.old.value
+        (λ s. (s.awaited ≡ None) × SaysNothing request.now name.now) }
+    ensures denied { result ≢ status.ok → result ≢ status.no_handle → result ≢ status.awaits_answer
+        → result ≢ status.invalid → IsSomeAnd allocator.old.value
+        (λ s. IsDenied s request.now name.now result) }
+    ensures statuses { IsOneOf result (status.ok ∷ status.no_handle ∷ status.awaits_answer
+        ∷ status.invalid ∷ status.no_memory_type ∷ status.out_of_memory
+        ∷ status.host_out_of_memory ∷ status.budget_exceeded ∷ []) }
+    ensures refused { result ≢ status.ok
+        → (allocator.new.value ≡ allocator.old.value) × (progress.new ≡ progress.old) }
 {
     match allocator.take(alloc) {
         None => NO_HANDLE,
@@ -108,11 +122,16 @@ pub extern "C" fn pilhangko_raw_allocator_granted(
     memory: u64,
     piece: &mut AllocatorPiece,
 ) -> u32
-    ensures granted { result ≡ status.ok → Changes allocator.old.value allocator.new.value (λ old new. IsGranted old memory piece.new new) }
+    ensures granted { result ≡ status.ok
+        → Changes allocator.old.value allocator.new.value
+        (λ old new. IsGranted old memory piece.new new) }
     ensures no_handle { (result ≡ status.no_handle) ↔ (allocator.old.value ≡ None) }
-    ensures awaits_no_answer { (result ≡ status.awaits_no_answer) ↔ IsSomeAnd allocator.old.value (λ s. s.awaited ≡ None) }
-    ensures statuses { IsOneOf result (status.ok ∷ status.no_handle ∷ status.awaits_no_answer ∷ []) }
-    ensures refused { result ≢ status.ok → (allocator.new.value ≡ allocator.old.value) × (piece.new ≡ piece.old) }
+    ensures awaits_no_answer { (result ≡ status.awaits_no_answer)
+        ↔ IsSomeAnd allocator.old.value (λ s. s.awaited ≡ None) }
+    ensures statuses { IsOneOf result (status.ok ∷ status.no_handle ∷ status.awaits_no_answer
+        ∷ []) }
+    ensures refused { result ≢ status.ok
+        → (allocator.new.value ≡ allocator.old.value) × (piece.new ≡ piece.old) }
 {
     match allocator.take(alloc) {
         None => NO_HANDLE,
@@ -136,9 +155,12 @@ pub extern "C" fn pilhangko_raw_allocator_refused(
     ensures declined { result ≡ status.ok → Changes allocator.old.value allocator.new.value
         (λ old new. IsDeclined old (memory_refusal code) progress.new new) }
     ensures no_handle { (result ≡ status.no_handle) ↔ (allocator.old.value ≡ None) }
-    ensures awaits_no_answer { (result ≡ status.awaits_no_answer) ↔ IsSomeAnd allocator.old.value (λ s. s.awaited ≡ None) }
-    ensures statuses { IsOneOf result (status.ok ∷ status.no_handle ∷ status.awaits_no_answer ∷ []) }
-    ensures refused { result ≢ status.ok → (allocator.new.value ≡ allocator.old.value) × (progress.new ≡ progress.old) }
+    ensures awaits_no_answer { (result ≡ status.awaits_no_answer)
+        ↔ IsSomeAnd allocator.old.value (λ s. s.awaited ≡ None) }
+    ensures statuses { IsOneOf result (status.ok ∷ status.no_handle ∷ status.awaits_no_answer
+        ∷ []) }
+    ensures refused { result ≢ status.ok
+        → (allocator.new.value ≡ allocator.old.value) × (progress.new ≡ progress.old) }
 {
     match allocator.take(alloc) {
         None => NO_HANDLE,
@@ -163,9 +185,12 @@ pub extern "C" fn pilhangko_raw_allocator_mapping_refused(
     ensures declined { result ≡ status.ok → Changes allocator.old.value allocator.new.value
         (λ old new. IsDeclined old (map_refusal (code_if has_code code)) progress.new new) }
     ensures no_handle { (result ≡ status.no_handle) ↔ (allocator.old.value ≡ None) }
-    ensures awaits_no_answer { (result ≡ status.awaits_no_answer) ↔ IsSomeAnd allocator.old.value (λ s. s.awaited ≡ None) }
-    ensures statuses { IsOneOf result (status.ok ∷ status.no_handle ∷ status.awaits_no_answer ∷ []) }
-    ensures refused { result ≢ status.ok → (allocator.new.value ≡ allocator.old.value) × (progress.new ≡ progress.old) }
+    ensures awaits_no_answer { (result ≡ status.awaits_no_answer)
+        ↔ IsSomeAnd allocator.old.value (λ s. s.awaited ≡ None) }
+    ensures statuses { IsOneOf result (status.ok ∷ status.no_handle ∷ status.awaits_no_answer
+        ∷ []) }
+    ensures refused { result ≢ status.ok
+        → (allocator.new.value ≡ allocator.old.value) × (progress.new ≡ progress.old) }
 {
     match allocator.take(alloc) {
         None => NO_HANDLE,
@@ -186,12 +211,17 @@ pub extern "C" fn pilhangko_raw_allocator_free(
     piece: &AllocatorPiece,
     back: &mut AllocatorMemory,
 ) -> u32
-    ensures freed { result ≡ status.ok → Changes allocator.old.value allocator.new.value (λ old new. IsFreed old piece.now back.new new) }
+    ensures freed { result ≡ status.ok → Changes allocator.old.value allocator.new.value
+        (λ old new. IsFreed old piece.now back.new new) }
     ensures no_handle { (result ≡ status.no_handle) ↔ (allocator.old.value ≡ None) }
-    ensures awaits_answer { (result ≡ status.awaits_answer) ↔ IsSomeAnd allocator.old.value (λ s. IsSome s.awaited) }
-    ensures not_live { (result ≡ status.not_live) ↔ IsSomeAnd allocator.old.value (λ s. (s.awaited ≡ None) × (IsLive s piece.now → ⊥)) }
-    ensures statuses { IsOneOf result (status.ok ∷ status.no_handle ∷ status.awaits_answer ∷ status.not_live ∷ []) }
-    ensures refused { result ≢ status.ok → (allocator.new.value ≡ allocator.old.value) × (back.new ≡ back.old) }
+    ensures awaits_answer { (result ≡ status.awaits_answer)
+        ↔ IsSomeAnd allocator.old.value (λ s. IsSome s.awaited) }
+    ensures not_live { (result ≡ status.not_live)
+        ↔ IsSomeAnd allocator.old.value (λ s. (s.awaited ≡ None) × (IsLive s piece.now → ⊥)) }
+    ensures statuses { IsOneOf result (status.ok ∷ status.no_handle ∷ status.awaits_answer
+        ∷ status.not_live ∷ []) }
+    ensures refused { result ≢ status.ok
+        → (allocator.new.value ≡ allocator.old.value) × (back.new ≡ back.old) }
 {
     match allocator.take(alloc) {
         None => NO_HANDLE,
@@ -212,15 +242,20 @@ pub extern "C" fn pilhangko_raw_allocator_rename(
     piece: &AllocatorPiece,
     name: &[u8],
 ) -> u32
-    ensures renamed { result ≡ status.ok → IsUtf8 name.now × Changes allocator.old.value allocator.new.value (λ old new. IsRenamed old piece.now name.now new) }
+    ensures renamed { result ≡ status.ok
+        → IsUtf8 name.now × Changes allocator.old.value allocator.new.value
+        (λ old new. IsRenamed old piece.now name.now new) }
     ensures no_handle { (result ≡ status.no_handle) ↔ (allocator.old.value ≡ None) }
-    ensures awaits_answer { (result ≡ status.awaits_answer) ↔ IsSomeAnd allocator.old.value (λ s. IsSome s.awaited) }
-    ensures invalid { (result ≡ status.invalid) ↔ IsSomeAnd allocator.old.value (λ s. (s.awaited ≡ None) × (IsUtf8 name.now → ⊥)) }
+    ensures awaits_answer { (result ≡ status.awaits_answer)
+        ↔ IsSomeAnd allocator.old.value (λ s. IsSome s.awaited) }
+    ensures invalid { (result ≡ status.invalid)
+        ↔ IsSomeAnd allocator.old.value (λ s. (s.awaited ≡ None) × (IsUtf8 name.now → ⊥)) }
     ensures not_live { (result ≡ status.not_live) ↔ IsSomeAnd allocator.old.value
         (λ s. (s.awaited ≡ None) × IsUtf8 name.now × (IsLive s piece.now → ⊥)) }
     ensures host_out_of_memory { result ≡ status.host_out_of_memory → IsSomeAnd allocator.old.value
         (λ s. (s.awaited ≡ None) × IsUtf8 name.now × IsLive s piece.now) }
-    ensures statuses { IsOneOf result (status.ok ∷ status.no_handle ∷ status.awaits_answer ∷ status.invalid ∷ status.not_live ∷ status.host_out_of_memory ∷ []) }
+    ensures statuses { IsOneOf result (status.ok ∷ status.no_handle ∷ status.awaits_answer
+        ∷ status.invalid ∷ status.not_live ∷ status.host_out_of_memory ∷ []) }
     ensures refused { result ≢ status.ok → allocator.new.value ≡ allocator.old.value }
 {
     match allocator.take(alloc) {
@@ -241,7 +276,8 @@ pub extern "C" fn pilhangko_raw_allocator_is_live(
     piece: &AllocatorPiece,
     answer: &mut bool,
 ) -> u32
-    ensures reported { result ≡ status.ok → IsSomeAnd allocator.old.value (λ s. IsTrue answer.new ↔ IsLive s piece.now) }
+    ensures reported { result ≡ status.ok
+        → IsSomeAnd allocator.old.value (λ s. IsTrue answer.new ↔ IsLive s piece.now) }
     ensures no_handle { (result ≡ status.no_handle) ↔ (allocator.old.value ≡ None) }
     ensures statuses { IsOneOf result (status.ok ∷ status.no_handle ∷ []) }
     ensures same { allocator.new.value ≡ allocator.old.value }
@@ -267,12 +303,18 @@ pub extern "C" fn pilhangko_raw_allocator_set_budget(
     has_budget: bool,
     bytes: u64,
 ) -> u32
-    ensures bounded { result ≡ status.ok → Changes allocator.old.value allocator.new.value
-        (λ old new. (old.awaited ≡ None) × SetsBudget old memory_type (number_if has_budget bytes) (Ok tt) new) }
+    ensures bounded { result ≡ status.ok
+        → Changes allocator.old.value allocator.new.value
+        (λ old new. (old.awaited ≡ None)
+        × SetsBudget old memory_type (number_if has_budget bytes) (Ok tt) new) }
     ensures no_handle { (result ≡ status.no_handle) ↔ (allocator.old.value ≡ None) }
-    ensures awaits_answer { (result ≡ status.awaits_answer) ↔ IsSomeAnd allocator.old.value (λ s. IsSome s.awaited) }
-    ensures no_such_type { (result ≡ status.no_such_type) ↔ IsSomeAnd allocator.old.value (λ s. (s.awaited ≡ None) × (length s.budgets ≤ memory_type)) }
-    ensures statuses { IsOneOf result (status.ok ∷ status.no_handle ∷ status.awaits_answer ∷ status.no_such_type ∷ []) }
+    ensures awaits_answer { (result ≡ status.awaits_answer)
+        ↔ IsSomeAnd allocator.old.value (λ s. IsSome s.awaited) }
+    ensures no_such_type { (result ≡ status.no_such_type)
+        ↔ IsSomeAnd allocator.old.value
+        (λ s. (s.awaited ≡ None) × (length s.budgets ≤ memory_type)) }
+    ensures statuses { IsOneOf result (status.ok ∷ status.no_handle ∷ status.awaits_answer
+        ∷ status.no_such_type ∷ []) }
     ensures refused { result ≢ status.ok → allocator.new.value ≡ allocator.old.value }
 {
     match allocator.take(alloc) {
@@ -293,7 +335,9 @@ pub extern "C" fn pilhangko_raw_allocator_budget(
     memory_type: usize,
     budget: &mut AllocatorBudget,
 ) -> u32
-    ensures reported { result ≡ status.ok → IsSomeAnd allocator.old.value (λ s. budget.new ≡ budget_told (budget_at s.budgets memory_type)) }
+    ensures reported { result ≡ status.ok
+        → IsSomeAnd allocator.old.value
+        (λ s. budget.new ≡ budget_told (budget_at s.budgets memory_type)) }
     ensures no_handle { (result ≡ status.no_handle) ↔ (allocator.old.value ≡ None) }
     ensures statuses { IsOneOf result (status.ok ∷ status.no_handle ∷ []) }
     ensures same { allocator.new.value ≡ allocator.old.value }
@@ -316,7 +360,8 @@ pub extern "C" fn pilhangko_raw_allocator_capacity(
     alloc: Global,
     bytes: &mut u64,
 ) -> u32
-    ensures reported { result ≡ status.ok → IsSomeAnd allocator.old.value (λ s. bytes.new ≡ total_capacity s.slots) }
+    ensures reported { result ≡ status.ok
+        → IsSomeAnd allocator.old.value (λ s. bytes.new ≡ total_capacity s.slots) }
     ensures no_handle { (result ≡ status.no_handle) ↔ (allocator.old.value ≡ None) }
     ensures statuses { IsOneOf result (status.ok ∷ status.no_handle ∷ []) }
     ensures same { allocator.new.value ≡ allocator.old.value }

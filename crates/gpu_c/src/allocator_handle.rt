@@ -62,7 +62,8 @@ impl AllocatorHandle {
     /// Takes the value out, and leaves null.
     pub fn take(&mut self, alloc: Global) -> Option<Box<Machine>>
         ensures left { self.new.value ≡ None }
-        ensures value { MatchOption result (self.old.value ≡ None) (λ b. self.old.value ≡ Some b.value) }
+        ensures value { MatchOption result (self.old.value ≡ None)
+            (λ b. self.old.value ≡ Some b.value) }
     {
         match std::mem::replace(self, AllocatorHandle::empty()).into_raw_box(alloc) {
             None => None,

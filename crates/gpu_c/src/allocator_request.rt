@@ -1,17 +1,18 @@
 //! Requests of an allocator and its device's description, as C makes them.
 
-ghost use Rattle.std.specs.Prelude.{◌≡◌, ◌==◌, map, length, nat_le, MatchOption, IfOk, Some};
+ghost use Rattle.std.specs.Prelude.{◌≡◌, ◌==◌, map, length, nat_le, nat_lt, not, MatchOption, IfOk, Some};
 ghost use Rattle.std.specs.List.{list_any};
-ghost use Rattle.std.specs.Option.{is_some};
+ghost use Rattle.std.specs.Int.{is_power_of_two};
 ghost use Rattle.gpu_vulkan.specs.Setup.{lacks_heap};
 ghost use Rattle.gpu_machine.specs.Description.{description_of};
-ghost use Rattle.gpu_machine.specs.State.{told_fault};
 ghost use Rattle.gpu_c.specs.declared.allocator_values.AllocatorSettings.{AllocatorSettings};
-ghost use Rattle.gpu_c.specs.Allocator.{memory_type_told, heap_told, device_told, block_sizes, location_named, scheme_named, Says, SaysNothing, no_lines};
+ghost use Rattle.gpu_c.specs.Allocator.{memory_type_told, heap_told, device_told, device_status, block_sizes, location_named, scheme_named, Says, SaysNothing, no_lines};
 ghost use Rattle.gpu_c.specs.declared.request.TheConstants.{LINEAR};
+ghost use Rattle.gpu_c.specs.declared.status.TheConstants.{OK, INVALID_DEVICE, TOO_MANY_TYPES, NO_SUCH_HEAP};
 
 use crate::allocator_values::{AllocatorRequest, AllocatorSettings, DeviceHeap, DeviceMemoryType};
 use crate::request::{LINEAR, served};
+use crate::status::{INVALID_DEVICE, NO_SUCH_HEAP, OK, TOO_MANY_TYPES};
 use gpu_device::vulkan::{
     AllocationScheme, Buffer, Image, MemoryHeap, MemoryPropertyFlags, MemoryRequirements,
     MemoryTypeInfo,
@@ -50,7 +51,8 @@ fn scheme_named(scheme: u32, resource: u64) -> Option<AllocationScheme>
 
 /// What an allocator is asked, if the request is one that is served.
 pub fn described<'a>(request: &AllocatorRequest, name: &'a [u8]) -> Option<AllocationCreateDesc<'a>>
-    ensures { MatchOption result (SaysNothing request.now name.now) (λ d. Says request.now name.now (description_of d)) }
+    ensures { MatchOption result (SaysNothing request.now name.now)
+        (λ d. Says request.now name.now (description_of d)) }
 {
     match served(request.size, request.alignment, request.kind, name) {
         None => None,
@@ -76,7 +78,9 @@ pub fn described<'a>(request: &AllocatorRequest, name: &'a [u8]) -> Option<Alloc
 
 /// Whether a memory type lies in a heap that isn't there.
 fn lacks_heap(types: &[DeviceMemoryType], heaps: &[DeviceHeap]) -> bool
-    ensures { (settings : AllocatorSettings) → result ≡ list_any (lacks_heap (device_told types.now heaps.now settings)) (map memory_type_told types.now) }
+    ensures { (settings : AllocatorSettings)
+        → result ≡ list_any (lacks_heap (device_told types.now heaps.now settings))
+        (map memory_type_told types.now) }
 {
     for info in types {
         if heaps.len() <= info.heap as usize {
@@ -86,21 +90,24 @@ fn lacks_heap(types: &[DeviceMemoryType], heaps: &[DeviceHeap]) -> bool
     false
 }
 
-/// Whether no allocator is made of what is told of a device.
-pub fn has_fault(
+/// Why no allocator is made of what is told of a device, or `OK`.
+pub fn device_status(
     types: &[DeviceMemoryType],
     heaps: &[DeviceHeap],
     settings: &AllocatorSettings,
-) -> bool
-    ensures { result ≡ is_some (told_fault (device_told types.now heaps.now settings.now)) }
+) -> u32
+    ensures { result ≡ device_status (device_told types.now heaps.now settings.now) }
 {
     if !settings.granularity.is_power_of_two() {
-        return true;
+        return INVALID_DEVICE;
     }
     if types.len() > MAX_MEMORY_TYPES {
-        return true;
+        return TOO_MANY_TYPES;
     }
-    lacks_heap(types, heaps)
+    if lacks_heap(types, heaps) {
+        return NO_SUCH_HEAP;
+    }
+    OK
 }
 
 /// The memory types that are told, as an allocator's.

@@ -116,6 +116,30 @@ pub struct AllocatorMemory {
     pub memory: u64,
 }
 
+/// What is counted of a memory type, and of all its blocks together.
+#[repr(C)]
+#[derive(Drop)]
+pub struct TypeStatistics {
+    /// The sum of the sizes of its blocks, in bytes.
+    pub capacity: u64,
+    /// How many slots there are, the empty ones included.
+    pub slots: usize,
+    /// How many blocks are shared.
+    pub shared_blocks: usize,
+    /// Whether the sum of the blocks' sizes has a bound.
+    pub has_budget: bool,
+    /// The bound in bytes, else 0.
+    pub budget: u64,
+    /// How many pieces are live.
+    pub pieces: usize,
+    /// The bytes that they take, with the padding before them.
+    pub piece_bytes: u64,
+    /// How many gaps there are.
+    pub gaps: usize,
+    /// The bytes of the longest gap, 0 where there is none.
+    pub longest_gap: u64,
+}
+
 /// A bound of the sum of the blocks' sizes of a memory type, or none.
 #[repr(C)]
 #[derive(Drop)]

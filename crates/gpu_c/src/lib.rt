@@ -8,6 +8,8 @@ mod allocator_calls;
 mod allocator_handle;
 mod allocator_request;
 mod allocator_values;
+mod allocator_visit;
+mod allocator_visit_calls;
 mod memory_type;
 mod memory_type_calls;
 mod memory_type_handle;

@@ -22,6 +22,7 @@ use crate::status::{
 };
 use crate::virtual_block_values::PieceView;
 use crate::visit::{fill_from, first_from, name_from, names_from, no_piece};
+use gpu_block_pieces::BlockStatistics;
 use gpu_core::{MemoryType, NeedBlock, Piece, Prepared, Request};
 use gpu_values::AllocationSizes;
 use std::alloc::Global;
@@ -107,10 +108,16 @@ fn memory_block(block: Option<u64>) -> MemoryBlock
 /// Whether a new block of `size` bytes may be asked for: the sum of the blocks' sizes stays in 64 bits, else `OUT_OF_MEMORY`, and
 /// within the budget, else `BUDGET_EXCEEDED`.
 fn growth_status(memory_type: &MemoryType<u64>, size: u64) -> u32
-    ensures within { result ≡ status.ok → (capacity_of memory_type.now.slots + size < 2 ^ 64) × (fits_budget memory_type.now.budget (capacity_of memory_type.now.slots + size) ≡ true) }
-    ensures out_of_memory { result ≡ status.out_of_memory → 2 ^ 64 ≤ capacity_of memory_type.now.slots + size }
-    ensures past_budget { result ≡ status.budget_exceeded → (capacity_of memory_type.now.slots + size < 2 ^ 64) × (fits_budget memory_type.now.budget (capacity_of memory_type.now.slots + size) ≡ false) }
-    ensures statuses { IsOneOf result (status.ok ∷ status.out_of_memory ∷ status.budget_exceeded ∷ []) }
+    ensures within { result ≡ status.ok
+        → (capacity_of memory_type.now.slots + size < 2 ^ 64)
+        × (fits_budget memory_type.now.budget (capacity_of memory_type.now.slots + size) ≡ true) }
+    ensures out_of_memory { result ≡ status.out_of_memory
+        → 2 ^ 64 ≤ capacity_of memory_type.now.slots + size }
+    ensures past_budget { result ≡ status.budget_exceeded
+        → (capacity_of memory_type.now.slots + size < 2 ^ 64)
+        × (fits_budget memory_type.now.budget (capacity_of memory_type.now.slots + size) ≡ false) }
+    ensures statuses { IsOneOf result (status.ok ∷ status.out_of_memory ∷ status.budget_exceeded
+        ∷ []) }
 {
     if memory_type.capacity().checked_add(size).is_none() {
         return OUT_OF_MEMORY;
@@ -144,14 +151,23 @@ impl AwaitingType {
         name: &[u8],
         prepared: &mut MemoryPrepared,
     ) -> u32
-        ensures done { result ≡ status.ok → Prepares self.old request.now name.now prepared.new self.new }
+        ensures done { result ≡ status.ok
+            → Prepares self.old request.now name.now prepared.new self.new }
         ensures awaits_block { (result ≡ status.awaits_block) ↔ IsSome self.old.awaited }
-        ensures invalid { (result ≡ status.invalid) ↔ (self.old.awaited ≡ None) × (IsServed request.now.size request.now.alignment request.now.kind name.now → ⊥) }
-        ensures host_out_of_memory { result ≡ status.host_out_of_memory → IsIdleAndServed self.old request.now name.now }
-        ensures out_of_memory { result ≡ status.out_of_memory → IsTooLarge self.old request.now name.now }
-        ensures budget_exceeded { result ≡ status.budget_exceeded → IsPastBudget self.old request.now name.now }
-        ensures statuses { IsOneOf result (status.ok ∷ status.awaits_block ∷ status.invalid ∷ status.host_out_of_memory ∷ status.out_of_memory ∷ status.budget_exceeded ∷ []) }
-        ensures refused { result ≢ status.ok → (self.new ≡ self.old) × (prepared.new ≡ prepared.old) }
+        ensures invalid { (result ≡ status.invalid)
+            ↔ (self.old.awaited ≡ None)
+            × (IsServed request.now.size request.now.alignment request.now.kind name.now → ⊥) }
+        ensures host_out_of_memory { result ≡ status.host_out_of_memory
+            → IsIdleAndServed self.old request.now name.now }
+        ensures out_of_memory { result ≡ status.out_of_memory
+            → IsTooLarge self.old request.now name.now }
+        ensures budget_exceeded { result ≡ status.budget_exceeded
+            → IsPastBudget self.old request.now name.now }
+        ensures statuses { IsOneOf result
+            (status.ok ∷ status.awaits_block ∷ status.invalid ∷ status.host_out_of_memory
+            ∷ status.out_of_memory ∷ status.budget_exceeded ∷ []) }
+        ensures refused { result ≢ status.ok
+            → (self.new ≡ self.old) × (prepared.new ≡ prepared.old) }
     {
         match &self.awaited {
             Some(_) => return AWAITS_BLOCK,
@@ -222,7 +238,8 @@ impl AwaitingType {
     pub fn free(&mut self, piece: &MemoryPiece, gone: &mut MemoryBlock) -> u32
         ensures freed { result ≡ status.ok → FreesPiece self.old piece.now gone.new self.new }
         ensures awaits_block { (result ≡ status.awaits_block) ↔ IsSome self.old.awaited }
-        ensures not_live { (result ≡ status.not_live) ↔ (self.old.awaited ≡ None) × (IsLiveIn self.old piece.now → ⊥) }
+        ensures not_live { (result ≡ status.not_live)
+            ↔ (self.old.awaited ≡ None) × (IsLiveIn self.old piece.now → ⊥) }
         ensures statuses { IsOneOf result (status.ok ∷ status.awaits_block ∷ status.not_live ∷ []) }
         ensures refused { result ≢ status.ok → (self.new ≡ self.old) × (gone.new ≡ gone.old) }
     {
@@ -244,12 +261,18 @@ impl AwaitingType {
 
     /// Renames a piece.
     pub fn rename(&mut self, piece: &MemoryPiece, name: &[u8]) -> u32
-        ensures renamed { result ≡ status.ok → IsUtf8 name.now × NamesMemory self.old piece.now name.now self.new }
+        ensures renamed { result ≡ status.ok
+            → IsUtf8 name.now × NamesMemory self.old piece.now name.now self.new }
         ensures awaits_block { (result ≡ status.awaits_block) ↔ IsSome self.old.awaited }
-        ensures invalid { (result ≡ status.invalid) ↔ (self.old.awaited ≡ None) × (IsUtf8 name.now → ⊥) }
-        ensures not_live { (result ≡ status.not_live) ↔ (self.old.awaited ≡ None) × IsUtf8 name.now × (IsLiveIn self.old piece.now → ⊥) }
-        ensures host_out_of_memory { result ≡ status.host_out_of_memory → (self.old.awaited ≡ None) × IsUtf8 name.now × IsLiveIn self.old piece.now }
-        ensures statuses { IsOneOf result (status.ok ∷ status.awaits_block ∷ status.invalid ∷ status.not_live ∷ status.host_out_of_memory ∷ []) }
+        ensures invalid { (result ≡ status.invalid)
+            ↔ (self.old.awaited ≡ None) × (IsUtf8 name.now → ⊥) }
+        ensures not_live { (result ≡ status.not_live)
+            ↔ (self.old.awaited ≡ None) × IsUtf8 name.now × (IsLiveIn self.old piece.now → ⊥) }
+        ensures host_out_of_memory { result ≡ status.host_out_of_memory
+            → (self.old.awaited ≡ None) × IsUtf8 name.now × IsLiveIn self.old piece.now }
+        ensures statuses { IsOneOf result
+            (status.ok ∷ status.awaits_block ∷ status.invalid ∷ status.not_live
+            ∷ status.host_out_of_memory ∷ []) }
         ensures refused { result ≢ status.ok → self.new ≡ self.old }
     {
         match &self.awaited {
@@ -285,7 +308,9 @@ impl AwaitingType {
 
     /// Bounds the sum of the blocks' sizes, or takes the bound away.
     pub fn set_budget(&mut self, has_budget: bool, bytes: u64) -> u32
-        ensures bounded { result ≡ status.ok → (self.old.awaited ≡ None) × (self.new ≡ record self.old { budget = number_if has_budget bytes }) }
+        ensures bounded { result ≡ status.ok
+            → (self.old.awaited ≡ None)
+            × (self.new ≡ record self.old { budget = number_if has_budget bytes }) }
         ensures awaits_block { (result ≡ status.awaits_block) ↔ IsSome self.old.awaited }
         ensures statuses { IsOneOf result (status.ok ∷ status.awaits_block ∷ []) }
         ensures refused { result ≢ status.ok → self.new ≡ self.old }
@@ -310,27 +335,13 @@ impl AwaitingType {
     pub fn block_statistics(&self, slot: usize) -> MemoryBlockStatistics
         ensures { result ≡ block_counts (statistics_in (slot_at self.now.slots slot)) }
     {
-        match self.memory_type.statistics(slot) {
-            None => MemoryBlockStatistics {
-                exists: false,
-                pieces: 0,
-                piece_bytes: 0,
-                gaps: 0,
-                longest_gap: 0,
-            },
-            Some(counted) => MemoryBlockStatistics {
-                exists: true,
-                pieces: counted.pieces,
-                piece_bytes: counted.piece_bytes,
-                gaps: counted.gaps,
-                longest_gap: counted.longest_gap,
-            },
-        }
+        block_counts(self.memory_type.statistics(slot))
     }
 
     /// The first piece of the block in a slot whose own bytes begin at `from` or behind it.
     pub fn next_piece(&self, slot: usize, from: u64) -> PieceView
-        ensures { result ≡ piece_view (piece_in_from from (pieces_in (slot_at self.now.slots slot))) }
+        ensures { result ≡ piece_view (piece_in_from from
+            (pieces_in (slot_at self.now.slots slot))) }
     {
         match self.memory_type.pieces(slot) {
             None => no_piece(),
@@ -341,7 +352,8 @@ impl AwaitingType {
     /// Fills an array with the pieces of the block in a slot whose own bytes begin at `from` or behind it, as far as it has room, and
     /// returns how many it shows.
     pub fn pieces(&self, slot: usize, from: u64, views: &mut [PieceView]) -> usize
-        ensures { ShowsPieces (pieces_in_from from (pieces_in (slot_at self.now.slots slot))) views.old views.new result }
+        ensures { ShowsPieces (pieces_in_from from (pieces_in (slot_at self.now.slots slot)))
+            views.old views.new result }
     {
         match self.memory_type.pieces(slot) {
             None => 0,
@@ -351,7 +363,8 @@ impl AwaitingType {
 
     /// Copies the name of the piece that `next_piece` shows, as much as there is room for, and returns its whole length.
     pub fn piece_name(&self, slot: usize, from: u64, name: &mut [u8]) -> usize
-        ensures { ShowsName (piece_in_from from (pieces_in (slot_at self.now.slots slot))) name.old name.new result }
+        ensures { ShowsName (piece_in_from from (pieces_in (slot_at self.now.slots slot))) name.old
+            name.new result }
     {
         match self.memory_type.pieces(slot) {
             None => 0,
@@ -368,7 +381,8 @@ impl AwaitingType {
         lengths: &mut [usize],
         names: &mut [u8],
     ) -> usize
-        ensures { ShowsNames (pieces_in_from from (pieces_in (slot_at self.now.slots slot))) lengths.old lengths.new names.old names.new result }
+        ensures { ShowsNames (pieces_in_from from (pieces_in (slot_at self.now.slots slot)))
+            lengths.old lengths.new names.old names.new result }
     {
         match self.memory_type.pieces(slot) {
             None => 0,
@@ -389,6 +403,28 @@ impl AwaitingType {
             budget: budget.unwrap_or(0),
             awaits_block: self.awaited.is_some(),
         }
+    }
+}
+
+/// What is counted of a block, or none.
+pub fn block_counts(counted: Option<BlockStatistics>) -> MemoryBlockStatistics
+    ensures { result ≡ block_counts counted }
+{
+    match counted {
+        None => MemoryBlockStatistics {
+            exists: false,
+            pieces: 0,
+            piece_bytes: 0,
+            gaps: 0,
+            longest_gap: 0,
+        },
+        Some(counted) => MemoryBlockStatistics {
+            exists: true,
+            pieces: counted.pieces,
+            piece_bytes: counted.piece_bytes,
+            gaps: counted.gaps,
+            longest_gap: counted.longest_gap,
+        },
     }
 }
 

@@ -32,12 +32,16 @@ pub extern "C" fn pilhangko_raw_memory_type_create(
     alloc: Global,
     settings: &MemoryTypeSettings,
 ) -> u32
-    ensures created { result ≡ status.ok → (memory_type.old.value ≡ None) × IsTrue (is_power_of_two settings.now.granularity)
+    ensures created { result ≡ status.ok
+        → (memory_type.old.value ≡ None) × IsTrue (is_power_of_two settings.now.granularity)
         × (memory_type.new.value ≡ Some (fresh_memory_type settings.now)) }
     ensures in_use { (result ≡ status.in_use) ↔ (memory_type.old.value ≢ None) }
-    ensures invalid { (result ≡ status.invalid) ↔ (memory_type.old.value ≡ None) × (IsTrue (is_power_of_two settings.now.granularity) → ⊥) }
-    ensures host_out_of_memory { result ≡ status.host_out_of_memory → (memory_type.old.value ≡ None) × IsTrue (is_power_of_two settings.now.granularity) }
-    ensures statuses { IsOneOf result (status.ok ∷ status.in_use ∷ status.invalid ∷ status.host_out_of_memory ∷ []) }
+    ensures invalid { (result ≡ status.invalid)
+        ↔ (memory_type.old.value ≡ None) × (IsTrue (is_power_of_two settings.now.granularity) → ⊥) }
+    ensures host_out_of_memory { result ≡ status.host_out_of_memory
+        → (memory_type.old.value ≡ None) × IsTrue (is_power_of_two settings.now.granularity) }
+    ensures statuses { IsOneOf result (status.ok ∷ status.in_use ∷ status.invalid
+        ∷ status.host_out_of_memory ∷ []) }
     ensures refused { result ≢ status.ok → memory_type.new.value ≡ memory_type.old.value }
 {
     if let Some(kept) = memory_type.take(alloc) {
@@ -71,15 +75,23 @@ pub extern "C" fn pilhangko_raw_memory_type_prepare(
     ensures done { result ≡ status.ok → Changes memory_type.old.value memory_type.new.value
         (λ old new. Prepares old request.now name.now prepared.new new) }
     ensures no_handle { (result ≡ status.no_handle) ↔ (memory_type.old.value ≡ None) }
-    ensures awaits_block { (result ≡ status.awaits_block) ↔ IsSomeAnd memory_type.old.value (λ t. IsSome t.awaited) }
-    ensures invalid { (result ≡ status.invalid) ↔ IsSomeAnd memory_type.old.value
-        (λ t. (t.awaited ≡ None) × (IsServed request.now.size request.now.alignment request.now.kind name.now → ⊥)) }
-    ensures host_out_of_memory { result ≡ status.host_out_of_memory → IsSomeAnd memory_type.old.value (λ t. IsIdleAndServed t request.now name.now) }
-    ensures out_of_memory { result ≡ status.out_of_memory → IsSomeAnd memory_type.old.value (λ t. IsTooLarge t request.now name.now) }
-    ensures budget_exceeded { result ≡ status.budget_exceeded → IsSomeAnd memory_type.old.value (λ t. IsPastBudget t request.now name.now) }
-    ensures statuses { IsOneOf result
-        (status.ok ∷ status.no_handle ∷ status.awaits_block ∷ status.invalid ∷ status.host_out_of_memory ∷ status.out_of_memory ∷ status.budget_exceeded ∷ []) }
-    ensures refused { result ≢ status.ok → (memory_type.new.value ≡ memory_type.old.value) × (prepared.new ≡ prepared.old) }
+    ensures awaits_block { (result ≡ status.awaits_block)
+        ↔ IsSomeAnd memory_type.old.value (λ t. IsSome t.awaited) }
+    ensures invalid { (result ≡ status.invalid)
+        ↔ IsSomeAnd memory_type.old.value
+        (λ t. (t.awaited ≡ None) × (IsServed request.now.size request.now.alignment request.now.kind
+        name.now → ⊥)) }
+    ensures host_out_of_memory { result ≡ status.host_out_of_memory
+        → IsSomeAnd memory_type.old.value (λ t. IsIdleAndServed t request.now name.now) }
+    ensures out_of_memory { result ≡ status.out_of_memory
+        → IsSomeAnd memory_type.old.value (λ t. IsTooLarge t request.now name.now) }
+    ensures budget_exceeded { result ≡ status.budget_exceeded
+        → IsSomeAnd memory_type.old.value (λ t. IsPastBudget t request.now name.now) }
+    ensures statuses { IsOneOf result (status.ok ∷ status.no_handle ∷ status.awaits_block
+        ∷ status.invalid ∷ status.host_out_of_memory ∷ status.out_of_memory
+        ∷ status.budget_exceeded ∷ []) }
+    ensures refused { result ≢ status.ok
+        → (memory_type.new.value ≡ memory_type.old.value) × (prepared.new ≡ prepared.old) }
 {
     match memory_type.take(alloc) {
         None => NO_HANDLE,
@@ -100,11 +112,15 @@ pub extern "C" fn pilhangko_raw_memory_type_install(
     block: u64,
     piece: &mut MemoryPiece,
 ) -> u32
-    ensures installed { result ≡ status.ok → Changes memory_type.old.value memory_type.new.value (λ old new. InstallsAwaited old block piece.new new) }
+    ensures installed { result ≡ status.ok
+        → Changes memory_type.old.value memory_type.new.value
+        (λ old new. InstallsAwaited old block piece.new new) }
     ensures no_handle { (result ≡ status.no_handle) ↔ (memory_type.old.value ≡ None) }
-    ensures awaits_no_block { (result ≡ status.awaits_no_block) ↔ IsSomeAnd memory_type.old.value (λ t. t.awaited ≡ None) }
+    ensures awaits_no_block { (result ≡ status.awaits_no_block)
+        ↔ IsSomeAnd memory_type.old.value (λ t. t.awaited ≡ None) }
     ensures statuses { IsOneOf result (status.ok ∷ status.no_handle ∷ status.awaits_no_block ∷ []) }
-    ensures refused { result ≢ status.ok → (memory_type.new.value ≡ memory_type.old.value) × (piece.new ≡ piece.old) }
+    ensures refused { result ≢ status.ok
+        → (memory_type.new.value ≡ memory_type.old.value) × (piece.new ≡ piece.old) }
 {
     match memory_type.take(alloc) {
         None => NO_HANDLE,
@@ -122,9 +138,11 @@ pub extern "C" fn pilhangko_raw_memory_type_abandon(
     memory_type: &mut MemoryTypeHandle,
     alloc: Global,
 ) -> u32
-    ensures abandoned { result ≡ status.ok → Changes memory_type.old.value memory_type.new.value Abandons }
+    ensures abandoned { result ≡ status.ok
+        → Changes memory_type.old.value memory_type.new.value Abandons }
     ensures no_handle { (result ≡ status.no_handle) ↔ (memory_type.old.value ≡ None) }
-    ensures awaits_no_block { (result ≡ status.awaits_no_block) ↔ IsSomeAnd memory_type.old.value (λ t. t.awaited ≡ None) }
+    ensures awaits_no_block { (result ≡ status.awaits_no_block)
+        ↔ IsSomeAnd memory_type.old.value (λ t. t.awaited ≡ None) }
     ensures statuses { IsOneOf result (status.ok ∷ status.no_handle ∷ status.awaits_no_block ∷ []) }
     ensures refused { result ≢ status.ok → memory_type.new.value ≡ memory_type.old.value }
 {
@@ -147,12 +165,17 @@ pub extern "C" fn pilhangko_raw_memory_type_free(
     piece: &MemoryPiece,
     gone: &mut MemoryBlock,
 ) -> u32
-    ensures freed { result ≡ status.ok → Changes memory_type.old.value memory_type.new.value (λ old new. FreesPiece old piece.now gone.new new) }
+    ensures freed { result ≡ status.ok → Changes memory_type.old.value memory_type.new.value
+        (λ old new. FreesPiece old piece.now gone.new new) }
     ensures no_handle { (result ≡ status.no_handle) ↔ (memory_type.old.value ≡ None) }
-    ensures awaits_block { (result ≡ status.awaits_block) ↔ IsSomeAnd memory_type.old.value (λ t. IsSome t.awaited) }
-    ensures not_live { (result ≡ status.not_live) ↔ IsSomeAnd memory_type.old.value (λ t. (t.awaited ≡ None) × (IsLiveIn t piece.now → ⊥)) }
-    ensures statuses { IsOneOf result (status.ok ∷ status.no_handle ∷ status.awaits_block ∷ status.not_live ∷ []) }
-    ensures refused { result ≢ status.ok → (memory_type.new.value ≡ memory_type.old.value) × (gone.new ≡ gone.old) }
+    ensures awaits_block { (result ≡ status.awaits_block)
+        ↔ IsSomeAnd memory_type.old.value (λ t. IsSome t.awaited) }
+    ensures not_live { (result ≡ status.not_live)
+        ↔ IsSomeAnd memory_type.old.value (λ t. (t.awaited ≡ None) × (IsLiveIn t piece.now → ⊥)) }
+    ensures statuses { IsOneOf result (status.ok ∷ status.no_handle ∷ status.awaits_block
+        ∷ status.not_live ∷ []) }
+    ensures refused { result ≢ status.ok
+        → (memory_type.new.value ≡ memory_type.old.value) × (gone.new ≡ gone.old) }
 {
     match memory_type.take(alloc) {
         None => NO_HANDLE,
@@ -173,16 +196,21 @@ pub extern "C" fn pilhangko_raw_memory_type_rename(
     piece: &MemoryPiece,
     name: &[u8],
 ) -> u32
-    ensures renamed { result ≡ status.ok → IsUtf8 name.now
-        × Changes memory_type.old.value memory_type.new.value (λ old new. NamesMemory old piece.now name.now new) }
+    ensures renamed { result ≡ status.ok
+        → IsUtf8 name.now × Changes memory_type.old.value memory_type.new.value
+        (λ old new. NamesMemory old piece.now name.now new) }
     ensures no_handle { (result ≡ status.no_handle) ↔ (memory_type.old.value ≡ None) }
-    ensures awaits_block { (result ≡ status.awaits_block) ↔ IsSomeAnd memory_type.old.value (λ t. IsSome t.awaited) }
-    ensures invalid { (result ≡ status.invalid) ↔ IsSomeAnd memory_type.old.value (λ t. (t.awaited ≡ None) × (IsUtf8 name.now → ⊥)) }
+    ensures awaits_block { (result ≡ status.awaits_block)
+        ↔ IsSomeAnd memory_type.old.value (λ t. IsSome t.awaited) }
+    ensures invalid { (result ≡ status.invalid)
+        ↔ IsSomeAnd memory_type.old.value (λ t. (t.awaited ≡ None) × (IsUtf8 name.now → ⊥)) }
     ensures not_live { (result ≡ status.not_live) ↔ IsSomeAnd memory_type.old.value
         (λ t. (t.awaited ≡ None) × IsUtf8 name.now × (IsLiveIn t piece.now → ⊥)) }
-    ensures host_out_of_memory { result ≡ status.host_out_of_memory → IsSomeAnd memory_type.old.value
+    ensures host_out_of_memory { result ≡ status.host_out_of_memory
+        → IsSomeAnd memory_type.old.value
         (λ t. (t.awaited ≡ None) × IsUtf8 name.now × IsLiveIn t piece.now) }
-    ensures statuses { IsOneOf result (status.ok ∷ status.no_handle ∷ status.awaits_block ∷ status.invalid ∷ status.not_live ∷ status.host_out_of_memory ∷ []) }
+    ensures statuses { IsOneOf result (status.ok ∷ status.no_handle ∷ status.awaits_block
+        ∷ status.invalid ∷ status.not_live ∷ status.host_out_of_memory ∷ []) }
     ensures refused { result ≢ status.ok → memory_type.new.value ≡ memory_type.old.value }
 {
     match memory_type.take(alloc) {
@@ -203,7 +231,8 @@ pub extern "C" fn pilhangko_raw_memory_type_is_live(
     piece: &MemoryPiece,
     is_live: &mut bool,
 ) -> u32
-    ensures reported { result ≡ status.ok → IsSomeAnd memory_type.old.value (λ t. IsTrue is_live.new ↔ IsLiveIn t piece.now) }
+    ensures reported { result ≡ status.ok
+        → IsSomeAnd memory_type.old.value (λ t. IsTrue is_live.new ↔ IsLiveIn t piece.now) }
     ensures no_handle { (result ≡ status.no_handle) ↔ (memory_type.old.value ≡ None) }
     ensures statuses { IsOneOf result (status.ok ∷ status.no_handle ∷ []) }
     ensures same { memory_type.new.value ≡ memory_type.old.value }
@@ -228,10 +257,13 @@ pub extern "C" fn pilhangko_raw_memory_type_set_budget(
     has_budget: bool,
     bytes: u64,
 ) -> u32
-    ensures bounded { result ≡ status.ok → Changes memory_type.old.value memory_type.new.value
-        (λ old new. (old.awaited ≡ None) × (new ≡ record old { budget = number_if has_budget bytes })) }
+    ensures bounded { result ≡ status.ok
+        → Changes memory_type.old.value memory_type.new.value
+        (λ old new. (old.awaited ≡ None)
+        × (new ≡ record old { budget = number_if has_budget bytes })) }
     ensures no_handle { (result ≡ status.no_handle) ↔ (memory_type.old.value ≡ None) }
-    ensures awaits_block { (result ≡ status.awaits_block) ↔ IsSomeAnd memory_type.old.value (λ t. IsSome t.awaited) }
+    ensures awaits_block { (result ≡ status.awaits_block)
+        ↔ IsSomeAnd memory_type.old.value (λ t. IsSome t.awaited) }
     ensures statuses { IsOneOf result (status.ok ∷ status.no_handle ∷ status.awaits_block ∷ []) }
     ensures refused { result ≢ status.ok → memory_type.new.value ≡ memory_type.old.value }
 {
@@ -253,7 +285,9 @@ pub extern "C" fn pilhangko_raw_memory_type_block(
     slot: usize,
     block: &mut MemoryBlock,
 ) -> u32
-    ensures reported { result ≡ status.ok → IsSomeAnd memory_type.old.value (λ t. block.new ≡ memory_block (block_number (slot_at t.slots slot))) }
+    ensures reported { result ≡ status.ok
+        → IsSomeAnd memory_type.old.value
+        (λ t. block.new ≡ memory_block (block_number (slot_at t.slots slot))) }
     ensures no_handle { (result ≡ status.no_handle) ↔ (memory_type.old.value ≡ None) }
     ensures statuses { IsOneOf result (status.ok ∷ status.no_handle ∷ []) }
     ensures same { memory_type.new.value ≡ memory_type.old.value }
@@ -277,7 +311,9 @@ pub extern "C" fn pilhangko_raw_memory_type_block_statistics(
     slot: usize,
     statistics: &mut MemoryBlockStatistics,
 ) -> u32
-    ensures reported { result ≡ status.ok → IsSomeAnd memory_type.old.value (λ t. statistics.new ≡ block_counts (statistics_in (slot_at t.slots slot))) }
+    ensures reported { result ≡ status.ok
+        → IsSomeAnd memory_type.old.value
+        (λ t. statistics.new ≡ block_counts (statistics_in (slot_at t.slots slot))) }
     ensures no_handle { (result ≡ status.no_handle) ↔ (memory_type.old.value ≡ None) }
     ensures statuses { IsOneOf result (status.ok ∷ status.no_handle ∷ []) }
     ensures same { memory_type.new.value ≡ memory_type.old.value }
@@ -331,8 +367,10 @@ pub extern "C" fn pilhangko_raw_memory_type_pieces(
     pieces: &mut [PieceView],
     count: &mut usize,
 ) -> u32
-    ensures reported { result ≡ status.ok → IsSomeAnd memory_type.old.value
-        (λ t. ShowsPieces (pieces_in_from from (pieces_in (slot_at t.slots slot))) pieces.old pieces.new count.new) }
+    ensures reported { result ≡ status.ok
+        → IsSomeAnd memory_type.old.value
+        (λ t. ShowsPieces (pieces_in_from from (pieces_in (slot_at t.slots slot))) pieces.old
+        pieces.new count.new) }
     ensures no_handle { (result ≡ status.no_handle) ↔ (memory_type.old.value ≡ None) }
     ensures statuses { IsOneOf result (status.ok ∷ status.no_handle ∷ []) }
     ensures same { memory_type.new.value ≡ memory_type.old.value }
@@ -359,8 +397,10 @@ pub extern "C" fn pilhangko_raw_memory_type_piece_name(
     name: &mut [u8],
     whole: &mut usize,
 ) -> u32
-    ensures reported { result ≡ status.ok → IsSomeAnd memory_type.old.value
-        (λ t. ShowsName (piece_in_from from (pieces_in (slot_at t.slots slot))) name.old name.new whole.new) }
+    ensures reported { result ≡ status.ok
+        → IsSomeAnd memory_type.old.value
+        (λ t. ShowsName (piece_in_from from (pieces_in (slot_at t.slots slot))) name.old name.new
+        whole.new) }
     ensures no_handle { (result ≡ status.no_handle) ↔ (memory_type.old.value ≡ None) }
     ensures statuses { IsOneOf result (status.ok ∷ status.no_handle ∷ []) }
     ensures same { memory_type.new.value ≡ memory_type.old.value }
@@ -388,12 +428,15 @@ pub extern "C" fn pilhangko_raw_memory_type_piece_names(
     names: &mut [u8],
     count: &mut usize,
 ) -> u32
-    ensures reported { result ≡ status.ok → IsSomeAnd memory_type.old.value
-        (λ t. ShowsNames (pieces_in_from from (pieces_in (slot_at t.slots slot))) lengths.old lengths.new names.old names.new count.new) }
+    ensures reported { result ≡ status.ok
+        → IsSomeAnd memory_type.old.value
+        (λ t. ShowsNames (pieces_in_from from (pieces_in (slot_at t.slots slot))) lengths.old
+        lengths.new names.old names.new count.new) }
     ensures no_handle { (result ≡ status.no_handle) ↔ (memory_type.old.value ≡ None) }
     ensures statuses { IsOneOf result (status.ok ∷ status.no_handle ∷ []) }
     ensures same { memory_type.new.value ≡ memory_type.old.value }
-    ensures refused { result ≢ status.ok → (lengths.new ≡ lengths.old) × (names.new ≡ names.old) × (count.new ≡ count.old) }
+    ensures refused { result ≢ status.ok
+        → (lengths.new ≡ lengths.old) × (names.new ≡ names.old) × (count.new ≡ count.old) }
 {
     match memory_type.take(alloc) {
         None => NO_HANDLE,
@@ -412,7 +455,8 @@ pub extern "C" fn pilhangko_raw_memory_type_statistics(
     alloc: Global,
     statistics: &mut MemoryStatistics,
 ) -> u32
-    ensures reported { result ≡ status.ok → IsSomeAnd memory_type.old.value (λ t. statistics.new ≡ statistics_of t) }
+    ensures reported { result ≡ status.ok
+        → IsSomeAnd memory_type.old.value (λ t. statistics.new ≡ statistics_of t) }
     ensures no_handle { (result ≡ status.no_handle) ↔ (memory_type.old.value ≡ None) }
     ensures statuses { IsOneOf result (status.ok ∷ status.no_handle ∷ []) }
     ensures same { memory_type.new.value ≡ memory_type.old.value }

@@ -14,7 +14,8 @@ pub const NON_LINEAR: u32 = 2;
 
 /// The kind of that number; `None` where no kind has it.
 fn kind_of(kind: u32) -> Option<AllocationType>
-    ensures known { IfSome result (λ k. (k ≡ kind_named kind) × (k ≢ AllocationType.Free) × ((kind ≡ linear) ⊎ (kind ≡ non_linear))) }
+    ensures known { IfSome result (λ k. (k ≡ kind_named kind) × (k ≢ AllocationType.Free)
+        × ((kind ≡ linear) ⊎ (kind ≡ non_linear))) }
     ensures unknown { IfNone result ((kind ≢ linear) × (kind ≢ non_linear)) }
 {
     if kind == LINEAR {
@@ -35,7 +36,8 @@ pub fn served<'a>(
 ) -> Option<(AllocationType, &'a str)>
     ensures kind { IfSome result (λ p. (p.0 ≡ kind_named kind) × (p.0 ≢ AllocationType.Free)) }
     ensures name { IfSome result (λ p. p.1.now ≡ name.now) }
-    ensures served { MatchOption result (IsServed size alignment kind name.now → ⊥) (λ _. IsServed size alignment kind name.now) }
+    ensures served { MatchOption result (IsServed size alignment kind name.now → ⊥)
+        (λ _. IsServed size alignment kind name.now) }
 {
     if size == 0 {
         return None;

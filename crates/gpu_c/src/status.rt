@@ -1,4 +1,4 @@
-//! What the calls out. 1 to 11 are the library's errors E1 to E11, 12 and 13 two causes of E6; from 100 on a handle is in the wrong state.
+//! What the calls out. 1 to 11 are the library's errors E1 to E11, 12 and 13 two causes of E6, 14 and 15 of E5; from 100 on a handle is in the wrong state.
 
 ghost use Rattle.std.specs.Prelude.{◌≡◌};
 ghost use Rattle.gpu_c.specs.Status.{status_of};
@@ -20,7 +20,7 @@ pub const NO_MEMORY_TYPE: u32 = 3;
 /// A size of 0, an alignment or a page size that isn't a power of two, an unknown kind, or a name that isn't UTF-8.
 pub const INVALID: u32 = 4;
 
-/// A page size that isn't a power of two, more than 32 memory types, or a memory type in a heap that isn't there.
+/// The page size of a device isn't a power of two.
 pub const INVALID_DEVICE: u32 = 5;
 
 /// No live piece is the one that was named.
@@ -37,6 +37,12 @@ pub const DRIVER_REFUSED: u32 = 12;
 
 /// No memory type has that index.
 pub const NO_SUCH_TYPE: u32 = 13;
+
+/// A device has more than 32 memory types (`VK_MAX_MEMORY_TYPES`).
+pub const TOO_MANY_TYPES: u32 = 14;
+
+/// A memory type of a device lies in a heap that isn't there.
+pub const NO_SUCH_HEAP: u32 = 15;
 
 /// The handle is empty.
 pub const NO_HANDLE: u32 = 100;

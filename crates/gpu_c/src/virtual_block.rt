@@ -63,11 +63,16 @@ impl VirtualBlock {
         name: &[u8],
         piece: &mut VirtualPiece,
     ) -> u32
-        ensures allocated { result ≡ status.ok → Allocates self.old wanted.now name.now piece.new self.new }
-        ensures invalid { (result ≡ status.invalid) ↔ (IsServed wanted.now.size wanted.now.alignment wanted.now.kind name.now → ⊥) }
-        ensures out_of_memory { result ≡ status.out_of_memory → IsRefusedFor self.old wanted.now name.now OutOfMemory }
-        ensures host_out_of_memory { result ≡ status.host_out_of_memory → IsRefusedFor self.old wanted.now name.now HostOutOfMemory }
-        ensures statuses { IsOneOf result (status.ok ∷ status.invalid ∷ status.out_of_memory ∷ status.host_out_of_memory ∷ []) }
+        ensures allocated { result ≡ status.ok
+            → Allocates self.old wanted.now name.now piece.new self.new }
+        ensures invalid { (result ≡ status.invalid)
+            ↔ (IsServed wanted.now.size wanted.now.alignment wanted.now.kind name.now → ⊥) }
+        ensures out_of_memory { result ≡ status.out_of_memory
+            → IsRefusedFor self.old wanted.now name.now OutOfMemory }
+        ensures host_out_of_memory { result ≡ status.host_out_of_memory
+            → IsRefusedFor self.old wanted.now name.now HostOutOfMemory }
+        ensures statuses { IsOneOf result
+            (status.ok ∷ status.invalid ∷ status.out_of_memory ∷ status.host_out_of_memory ∷ []) }
         ensures refused { result ≢ status.ok → (self.new ≡ self.old) × (piece.new ≡ piece.old) }
     {
         let Some((kind, name)) = served(wanted.size, wanted.alignment, wanted.kind, name) else {
@@ -87,7 +92,8 @@ impl VirtualBlock {
 
     /// The number of a live piece, as the block knows it.
     fn number_of(&self, piece: &VirtualPiece) -> Option<NonZeroU64>
-        ensures { MatchOption result (IsLivePiece self.now piece.now → ⊥) (λ n. IsLivePiece self.now piece.now × (non_zero_u64_get n ≡ piece.now.number)) }
+        ensures { MatchOption result (IsLivePiece self.now piece.now → ⊥)
+            (λ n. IsLivePiece self.now piece.now × (non_zero_u64_get n ≡ piece.now.number)) }
     {
         match NonZeroU64::new(piece.number) {
             None => None,
@@ -122,11 +128,15 @@ impl VirtualBlock {
 
     /// Renames a piece.
     pub fn rename(&mut self, piece: &VirtualPiece, name: &[u8]) -> u32
-        ensures renamed { result ≡ status.ok → IsUtf8 name.now × NamesPiece self.old piece.now name.now self.new }
+        ensures renamed { result ≡ status.ok
+            → IsUtf8 name.now × NamesPiece self.old piece.now name.now self.new }
         ensures invalid { (result ≡ status.invalid) ↔ (IsUtf8 name.now → ⊥) }
-        ensures not_live { (result ≡ status.not_live) ↔ IsUtf8 name.now × (IsLivePiece self.old piece.now → ⊥) }
-        ensures host_out_of_memory { result ≡ status.host_out_of_memory → IsUtf8 name.now × IsLivePiece self.old piece.now }
-        ensures statuses { IsOneOf result (status.ok ∷ status.invalid ∷ status.not_live ∷ status.host_out_of_memory ∷ []) }
+        ensures not_live { (result ≡ status.not_live)
+            ↔ IsUtf8 name.now × (IsLivePiece self.old piece.now → ⊥) }
+        ensures host_out_of_memory { result ≡ status.host_out_of_memory
+            → IsUtf8 name.now × IsLivePiece self.old piece.now }
+        ensures statuses { IsOneOf result
+            (status.ok ∷ status.invalid ∷ status.not_live ∷ status.host_out_of_memory ∷ []) }
         ensures refused { result ≢ status.ok → self.new ≡ self.old }
     {
         let Ok(name) = str::from_utf8(name) else {
@@ -194,7 +204,8 @@ impl VirtualBlock {
     /// Fills an array with the lengths of the names of the pieces that `pieces` shows, and a buffer with these names one after another, as
     /// far as each has room; returns how many lengths there are.
     pub fn piece_names(&self, from: u64, lengths: &mut [usize], names: &mut [u8]) -> usize
-        ensures { ShowsNames (pieces_from from (extents_of self.now)) lengths.old lengths.new names.old names.new result }
+        ensures { ShowsNames (pieces_from from (extents_of self.now)) lengths.old lengths.new
+            names.old names.new result }
     {
         names_from(self.sub.pieces(), from, lengths, names)
     }

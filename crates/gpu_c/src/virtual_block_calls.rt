@@ -22,7 +22,8 @@ use std::alloc::Global;
 fn create(block: &mut VirtualBlockHandle, alloc: Global, size: u64, granularity: u64) -> u32
     requires empty { block.old.value ≡ None }
     requires valid { CanCreate size granularity }
-    ensures created { result ≡ status.ok → block.new.value ≡ Some (fresh_virtual_block size granularity) }
+    ensures created { result ≡ status.ok
+        → block.new.value ≡ Some (fresh_virtual_block size granularity) }
     ensures statuses { IsOneOf result (status.ok ∷ status.host_out_of_memory ∷ []) }
     ensures refused { result ≢ status.ok → block.new.value ≡ None }
 {
@@ -50,9 +51,12 @@ pub extern "C" fn pilhangko_raw_virtual_block_create(
     ensures created { result ≡ status.ok → (block.old.value ≡ None) × CanCreate size granularity
         × (block.new.value ≡ Some (fresh_virtual_block size granularity)) }
     ensures in_use { (result ≡ status.in_use) ↔ (block.old.value ≢ None) }
-    ensures invalid { (result ≡ status.invalid) ↔ (block.old.value ≡ None) × (CanCreate size granularity → ⊥) }
-    ensures host_out_of_memory { result ≡ status.host_out_of_memory → (block.old.value ≡ None) × CanCreate size granularity }
-    ensures statuses { IsOneOf result (status.ok ∷ status.in_use ∷ status.invalid ∷ status.host_out_of_memory ∷ []) }
+    ensures invalid { (result ≡ status.invalid)
+        ↔ (block.old.value ≡ None) × (CanCreate size granularity → ⊥) }
+    ensures host_out_of_memory { result ≡ status.host_out_of_memory
+        → (block.old.value ≡ None) × CanCreate size granularity }
+    ensures statuses { IsOneOf result (status.ok ∷ status.in_use ∷ status.invalid
+        ∷ status.host_out_of_memory ∷ []) }
     ensures refused { result ≢ status.ok → block.new.value ≡ block.old.value }
 {
     if let Some(kept) = block.take(alloc) {
@@ -87,8 +91,10 @@ pub extern "C" fn pilhangko_raw_virtual_block_allocate(
         (λ b. IsRefusedFor b request.now name.now OutOfMemory) }
     ensures host_out_of_memory { result ≡ status.host_out_of_memory → IsSomeAnd block.old.value
         (λ b. IsRefusedFor b request.now name.now HostOutOfMemory) }
-    ensures statuses { IsOneOf result (status.ok ∷ status.no_handle ∷ status.invalid ∷ status.out_of_memory ∷ status.host_out_of_memory ∷ []) }
-    ensures refused { result ≢ status.ok → (block.new.value ≡ block.old.value) × (piece.new ≡ piece.old) }
+    ensures statuses { IsOneOf result (status.ok ∷ status.no_handle ∷ status.invalid
+        ∷ status.out_of_memory ∷ status.host_out_of_memory ∷ []) }
+    ensures refused { result ≢ status.ok
+        → (block.new.value ≡ block.old.value) × (piece.new ≡ piece.old) }
 {
     match block.take(alloc) {
         None => NO_HANDLE,
@@ -108,9 +114,11 @@ pub extern "C" fn pilhangko_raw_virtual_block_free(
     alloc: Global,
     piece: &VirtualPiece,
 ) -> u32
-    ensures freed { result ≡ status.ok → Changes block.old.value block.new.value (λ old new. Frees old piece.now new) }
+    ensures freed { result ≡ status.ok → Changes block.old.value block.new.value
+        (λ old new. Frees old piece.now new) }
     ensures no_handle { (result ≡ status.no_handle) ↔ (block.old.value ≡ None) }
-    ensures not_live { (result ≡ status.not_live) ↔ IsSomeAnd block.old.value (λ b. IsLivePiece b piece.now → ⊥) }
+    ensures not_live { (result ≡ status.not_live)
+        ↔ IsSomeAnd block.old.value (λ b. IsLivePiece b piece.now → ⊥) }
     ensures statuses { IsOneOf result (status.ok ∷ status.no_handle ∷ status.not_live ∷ []) }
     ensures refused { result ≢ status.ok → block.new.value ≡ block.old.value }
 {
@@ -132,13 +140,18 @@ pub extern "C" fn pilhangko_raw_virtual_block_rename(
     piece: &VirtualPiece,
     name: &[u8],
 ) -> u32
-    ensures renamed { result ≡ status.ok → IsUtf8 name.now
-        × Changes block.old.value block.new.value (λ old new. NamesPiece old piece.now name.now new) }
+    ensures renamed { result ≡ status.ok
+        → IsUtf8 name.now × Changes block.old.value block.new.value
+        (λ old new. NamesPiece old piece.now name.now new) }
     ensures no_handle { (result ≡ status.no_handle) ↔ (block.old.value ≡ None) }
-    ensures invalid { (result ≡ status.invalid) ↔ IsSomeAnd block.old.value (λ _. IsUtf8 name.now → ⊥) }
-    ensures not_live { (result ≡ status.not_live) ↔ IsSomeAnd block.old.value (λ b. IsUtf8 name.now × (IsLivePiece b piece.now → ⊥)) }
-    ensures host_out_of_memory { result ≡ status.host_out_of_memory → IsSomeAnd block.old.value (λ b. IsUtf8 name.now × IsLivePiece b piece.now) }
-    ensures statuses { IsOneOf result (status.ok ∷ status.no_handle ∷ status.invalid ∷ status.not_live ∷ status.host_out_of_memory ∷ []) }
+    ensures invalid { (result ≡ status.invalid)
+        ↔ IsSomeAnd block.old.value (λ _. IsUtf8 name.now → ⊥) }
+    ensures not_live { (result ≡ status.not_live)
+        ↔ IsSomeAnd block.old.value (λ b. IsUtf8 name.now × (IsLivePiece b piece.now → ⊥)) }
+    ensures host_out_of_memory { result ≡ status.host_out_of_memory
+        → IsSomeAnd block.old.value (λ b. IsUtf8 name.now × IsLivePiece b piece.now) }
+    ensures statuses { IsOneOf result (status.ok ∷ status.no_handle ∷ status.invalid
+        ∷ status.not_live ∷ status.host_out_of_memory ∷ []) }
     ensures refused { result ≢ status.ok → block.new.value ≡ block.old.value }
 {
     match block.take(alloc) {
@@ -157,9 +170,11 @@ pub extern "C" fn pilhangko_raw_virtual_block_clear(
     block: &mut VirtualBlockHandle,
     alloc: Global,
 ) -> u32
-    ensures emptied { result ≡ status.ok → Changes block.old.value block.new.value (λ old new. new ≡ cleared old) }
+    ensures emptied { result ≡ status.ok
+        → Changes block.old.value block.new.value (λ old new. new ≡ cleared old) }
     ensures no_handle { (result ≡ status.no_handle) ↔ (block.old.value ≡ None) }
-    ensures statuses { IsOneOf result (status.ok ∷ status.no_handle ∷ status.host_out_of_memory ∷ []) }
+    ensures statuses { IsOneOf result (status.ok ∷ status.no_handle ∷ status.host_out_of_memory
+        ∷ []) }
     ensures refused { result ≢ status.ok → block.new.value ≡ block.old.value }
 {
     match block.take(alloc) {
@@ -179,7 +194,8 @@ pub extern "C" fn pilhangko_raw_virtual_block_statistics(
     alloc: Global,
     statistics: &mut VirtualStatistics,
 ) -> u32
-    ensures reported { result ≡ status.ok → IsSomeAnd block.old.value (λ b. statistics.new ≡ counts_of b) }
+    ensures reported { result ≡ status.ok
+        → IsSomeAnd block.old.value (λ b. statistics.new ≡ counts_of b) }
     ensures no_handle { (result ≡ status.no_handle) ↔ (block.old.value ≡ None) }
     ensures statuses { IsOneOf result (status.ok ∷ status.no_handle ∷ []) }
     ensures same { block.new.value ≡ block.old.value }
@@ -203,7 +219,8 @@ pub extern "C" fn pilhangko_raw_virtual_block_next_piece(
     from: u64,
     piece: &mut PieceView,
 ) -> u32
-    ensures reported { result ≡ status.ok → IsSomeAnd block.old.value (λ b. piece.new ≡ piece_view (piece_from from (extents_of b))) }
+    ensures reported { result ≡ status.ok
+        → IsSomeAnd block.old.value (λ b. piece.new ≡ piece_view (piece_from from (extents_of b))) }
     ensures no_handle { (result ≡ status.no_handle) ↔ (block.old.value ≡ None) }
     ensures statuses { IsOneOf result (status.ok ∷ status.no_handle ∷ []) }
     ensures same { block.new.value ≡ block.old.value }
@@ -229,7 +246,9 @@ pub extern "C" fn pilhangko_raw_virtual_block_pieces(
     pieces: &mut [PieceView],
     count: &mut usize,
 ) -> u32
-    ensures reported { result ≡ status.ok → IsSomeAnd block.old.value (λ b. ShowsPieces (pieces_from from (extents_of b)) pieces.old pieces.new count.new) }
+    ensures reported { result ≡ status.ok
+        → IsSomeAnd block.old.value (λ b. ShowsPieces (pieces_from from (extents_of b)) pieces.old
+        pieces.new count.new) }
     ensures no_handle { (result ≡ status.no_handle) ↔ (block.old.value ≡ None) }
     ensures statuses { IsOneOf result (status.ok ∷ status.no_handle ∷ []) }
     ensures same { block.new.value ≡ block.old.value }
@@ -255,7 +274,9 @@ pub extern "C" fn pilhangko_raw_virtual_block_piece_name(
     name: &mut [u8],
     whole: &mut usize,
 ) -> u32
-    ensures reported { result ≡ status.ok → IsSomeAnd block.old.value (λ b. ShowsName (piece_from from (extents_of b)) name.old name.new whole.new) }
+    ensures reported { result ≡ status.ok
+        → IsSomeAnd block.old.value (λ b. ShowsName (piece_from from (extents_of b)) name.old
+        name.new whole.new) }
     ensures no_handle { (result ≡ status.no_handle) ↔ (block.old.value ≡ None) }
     ensures statuses { IsOneOf result (status.ok ∷ status.no_handle ∷ []) }
     ensures same { block.new.value ≡ block.old.value }
@@ -282,12 +303,14 @@ pub extern "C" fn pilhangko_raw_virtual_block_piece_names(
     names: &mut [u8],
     count: &mut usize,
 ) -> u32
-    ensures reported { result ≡ status.ok → IsSomeAnd block.old.value
-        (λ b. ShowsNames (pieces_from from (extents_of b)) lengths.old lengths.new names.old names.new count.new) }
+    ensures reported { result ≡ status.ok
+        → IsSomeAnd block.old.value (λ b. ShowsNames (pieces_from from (extents_of b)) lengths.old
+        lengths.new names.old names.new count.new) }
     ensures no_handle { (result ≡ status.no_handle) ↔ (block.old.value ≡ None) }
     ensures statuses { IsOneOf result (status.ok ∷ status.no_handle ∷ []) }
     ensures same { block.new.value ≡ block.old.value }
-    ensures refused { result ≢ status.ok → (lengths.new ≡ lengths.old) × (names.new ≡ names.old) × (count.new ≡ count.old) }
+    ensures refused { result ≢ status.ok
+        → (lengths.new ≡ lengths.old) × (names.new ≡ names.old) × (count.new ≡ count.old) }
 {
     match block.take(alloc) {
         None => NO_HANDLE,

@@ -62,7 +62,8 @@ impl VirtualBlockHandle {
     /// Takes the value out, and leaves null.
     pub fn take(&mut self, alloc: Global) -> Option<Box<VirtualBlock>>
         ensures left { self.new.value ≡ None }
-        ensures value { MatchOption result (self.old.value ≡ None) (λ b. self.old.value ≡ Some b.value) }
+        ensures value { MatchOption result (self.old.value ≡ None)
+            (λ b. self.old.value ≡ Some b.value) }
     {
         match std::mem::replace(self, VirtualBlockHandle::empty()).into_raw_box(alloc) {
             None => None,

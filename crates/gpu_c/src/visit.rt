@@ -75,7 +75,7 @@ pub fn fill_from(pieces: Pieces<'_>, from: u64, views: &mut [PieceView]) -> usiz
 }
 
 /// Copies as much of a text as there is room for, and returns its whole length.
-fn copy_text(text: &str, buffer: &mut [u8]) -> usize
+pub fn copy_text(text: &str, buffer: &mut [u8]) -> usize
     ensures whole { result ≡ length text.now }
     ensures copied { buffer.new ≡ copied_into text.now buffer.old }
 {
@@ -102,7 +102,8 @@ pub fn name_from(pieces: Pieces<'_>, from: u64, buffer: &mut [u8]) -> usize
 fn append_text(text: &str, buffer: &mut [u8], filled: usize) -> usize
     requires { filled ≤ length buffer.old }
     ensures filled { result ≡ filled + room_for text.now (drop filled buffer.old) }
-    ensures copied { buffer.new ≡ take filled buffer.old ++ copied_into text.now (drop filled buffer.old) }
+    ensures copied { buffer.new ≡ take filled buffer.old
+        ++ copied_into text.now (drop filled buffer.old) }
 {
     let count = text.len().min(buffer.len() - filled);
     let _whole = copy_text(text, &mut buffer[filled..]);
@@ -112,7 +113,8 @@ fn append_text(text: &str, buffer: &mut [u8], filled: usize) -> usize
 /// Fills an array with the lengths of the names of the pieces whose own bytes begin at `from` or behind it, as far as it has room, and a
 /// buffer with these names one after another, as far as it has room; returns how many lengths there are.
 pub fn names_from(pieces: Pieces<'_>, from: u64, lengths: &mut [usize], names: &mut [u8]) -> usize
-    ensures { ShowsNames (pieces_from from pieces.entry) lengths.old lengths.new names.old names.new result }
+    ensures { ShowsNames (pieces_from from pieces.entry) lengths.old lengths.new names.old names.new
+        result }
 {
     let mut count = 0;
     let mut filled = 0;

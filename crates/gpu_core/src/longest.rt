@@ -21,7 +21,11 @@ impl Model for Longest {
 
     ghost Value = { LongestGaps };
 
-    ghost view = { λ l. record { lengths = l.each.items; room = min (vec_capacity l.each) (16 * vec_capacity l.runs) } };
+    ghost view = { λ l. record {
+      lengths = l.each.items;
+      room = min (vec_capacity l.each)
+          (16 * vec_capacity l.runs);
+    } };
 
     ghost invariant = { λ l. BoundRuns l.each.items l.runs.items };
 }
@@ -102,7 +106,8 @@ impl Longest {
 
 /// The highest number of the run that begins there.
 fn highest(lengths: &[u64], start: usize) -> u64
-    ensures { (i : ℕ) → start ≤ i → i < start + 16 → i < length lengths.now → slice_index lengths.now i ≤ result }
+    ensures { (i : ℕ) → start ≤ i → i < start + 16 → i < length lengths.now
+        → slice_index lengths.now i ≤ result }
 {
     let mut most = 0;
     let mut place = start;

@@ -114,7 +114,8 @@ impl<H: Copy + Eq> MemoryType<H> {
         ensures prepared { IfOk result (λ p. IsPrepared self.old sizes.now request.now p self.new) }
         ensures cause { IfErr result (λ e. e ≡ HostOutOfMemory) }
         ensures refused { OnErr result (self.new.slots ≡ self.old.slots) }
-        ensures kind { (self.new.is_host ≡ self.old.is_host) × (self.new.granularity ≡ self.old.granularity) }
+        ensures kind { (self.new.is_host ≡ self.old.is_host)
+            × (self.new.granularity ≡ self.old.granularity) }
         ensures budget { self.new.budget ≡ self.old.budget }
         ensures capacity { capacity_of self.new.slots ≡ capacity_of self.old.slots }
         ensures sound { AreSound self.new.granularity self.new.slots }
@@ -143,9 +144,11 @@ impl<H: Copy + Eq> MemoryType<H> {
     pub fn install(&mut self, need: NeedBlock, handle: H) -> Piece<H>
         requires ready { CanInstall self.old need.size need.dedicated need.room }
         requires sum { capacity_of self.old.slots + need.size < 2 ^ 64 }
-        ensures installed { Installs self.old.slots need.dedicated need.room handle result self.new.slots }
+        ensures installed { Installs self.old.slots need.dedicated need.room handle result
+            self.new.slots }
         ensures capacity { capacity_of self.new.slots ≡ capacity_of self.old.slots + need.size }
-        ensures kind { (self.new.is_host ≡ self.old.is_host) × (self.new.granularity ≡ self.old.granularity) }
+        ensures kind { (self.new.is_host ≡ self.old.is_host)
+            × (self.new.granularity ≡ self.old.granularity) }
         ensures budget { self.new.budget ≡ self.old.budget }
         ensures sound { AreSound self.new.granularity self.new.slots }
         ensures empty { KeepsOneEmptyAtMost self.new.slots }
@@ -177,13 +180,15 @@ impl<H: Copy + Eq> MemoryType<H> {
     /// emptied shared one where another shared one is live. It takes no memory. `Internal` where the piece isn't live, and then
     /// nothing changes.
     pub fn free(&mut self, piece: &Piece<H>) -> Result<Option<H>>
-        ensures released { IfOk result (λ gone.
-            ReleasesPiece (IsTrue (has_others self.old.slots)) self.old.slots piece.now gone self.new.slots) }
+        ensures released { IfOk result (λ gone. ReleasesPiece (IsTrue (has_others self.old.slots))
+            self.old.slots piece.now gone self.new.slots) }
         ensures live { OnOk result (IsLive H.eq self.old.slots piece.now) }
         ensures dead { OnErr result (IsLive H.eq self.old.slots piece.now → ⊥) }
-        ensures cause { IfErr result (λ e. IsFreeRefusal H.eq piece.now (slot_at self.old.slots piece.now.slot) (refusal_of e)) }
+        ensures cause { IfErr result (λ e. IsFreeRefusal H.eq piece.now
+            (slot_at self.old.slots piece.now.slot) (refusal_of e)) }
         ensures refused { OnErr result (self.new ≡ self.old) }
-        ensures kind { (self.new.is_host ≡ self.old.is_host) × (self.new.granularity ≡ self.old.granularity) }
+        ensures kind { (self.new.is_host ≡ self.old.is_host)
+            × (self.new.granularity ≡ self.old.granularity) }
         ensures budget { self.new.budget ≡ self.old.budget }
         ensures capacity { capacity_of self.new.slots ≤ capacity_of self.old.slots }
         ensures sound { AreSound self.new.granularity self.new.slots }
@@ -205,13 +210,18 @@ impl<H: Copy + Eq> MemoryType<H> {
     /// Renames a piece. `Internal` where the piece isn't live, else `HostOutOfMemory` where the host refused
     /// memory; then nothing changes.
     pub fn rename(&mut self, piece: &Piece<H>, name: &str) -> Result<()>
-        ensures renamed { OnOk result (RenamesPiece self.old.slots piece.now name.now self.new.slots) }
+        ensures renamed { OnOk result (RenamesPiece self.old.slots piece.now name.now
+            self.new.slots) }
         ensures live { OnOk result (IsLive H.eq self.old.slots piece.now) }
-        ensures dead { IfErr result (λ e. e ≢ HostOutOfMemory → IsLive H.eq self.old.slots piece.now → ⊥) }
-        ensures starved { IfErr result (λ e. e ≡ HostOutOfMemory → IsLive H.eq self.old.slots piece.now) }
-        ensures cause { IfErr result (λ e. IsNameRefusal H.eq piece.now (slot_at self.old.slots piece.now.slot) (refusal_of e)) }
+        ensures dead { IfErr result (λ e. e ≢ HostOutOfMemory → IsLive H.eq self.old.slots piece.now
+            → ⊥) }
+        ensures starved { IfErr result (λ e. e ≡ HostOutOfMemory
+            → IsLive H.eq self.old.slots piece.now) }
+        ensures cause { IfErr result (λ e. IsNameRefusal H.eq piece.now
+            (slot_at self.old.slots piece.now.slot) (refusal_of e)) }
         ensures refused { OnErr result (self.new ≡ self.old) }
-        ensures kind { (self.new.is_host ≡ self.old.is_host) × (self.new.granularity ≡ self.old.granularity) }
+        ensures kind { (self.new.is_host ≡ self.old.is_host)
+            × (self.new.granularity ≡ self.old.granularity) }
         ensures budget { self.new.budget ≡ self.old.budget }
         ensures capacity { capacity_of self.new.slots ≡ capacity_of self.old.slots }
         ensures sound { AreSound self.new.granularity self.new.slots }
@@ -358,10 +368,14 @@ impl<H: Copy + Eq> MemoryType<H> {
     /// is `HostOutOfMemory`, and then the report holds a part of it: drop it. Its caller sees to it that the report's sums with
     /// this type's capacity stay in 64 bits.
     pub fn report(&self, report: &mut AllocatorReport) -> Result<()>
-        requires allocated { report.old.total_allocated_bytes + capacity_of self.now.slots < 2 ^ 64 }
+        requires allocated { report.old.total_allocated_bytes + capacity_of self.now.slots
+            < 2 ^ 64 }
         requires capacity { report.old.total_capacity_bytes + capacity_of self.now.slots < 2 ^ 64 }
-        ensures added { OnOk result (report_of report.new ≡ with_type (report_of report.old) self.now.slots) }
-        ensures within { OnOk result (report.old.total_allocated_bytes ≤ report.old.total_capacity_bytes → report.new.total_allocated_bytes ≤ report.new.total_capacity_bytes) }
+        ensures added { OnOk result (report_of report.new
+            ≡ with_type (report_of report.old) self.now.slots) }
+        ensures within { OnOk result (report.old.total_allocated_bytes
+            ≤ report.old.total_capacity_bytes
+            → report.new.total_allocated_bytes ≤ report.new.total_capacity_bytes) }
         ensures cause { IfErr result (λ e. e ≡ HostOutOfMemory) }
     {
         add_slots(report, self.slots.as_slice())

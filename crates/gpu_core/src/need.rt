@@ -31,7 +31,13 @@ impl Model for PendingBlock {
 
     ghost Value = { Pending };
 
-    ghost view = { λ r. record { block = block_of r.sub; offset = r.offset; chunk_id = non_zero_u64_get r.chunk_id; size = r.size } };
+    ghost view = { λ r. record {
+      block = block_of r.sub;
+      offset = r.offset;
+      chunk_id =
+          non_zero_u64_get r.chunk_id;
+      size = r.size;
+    } };
 }
 
 /// The block that a request needs: ask the device for `size` bytes, and then call `install`.
@@ -74,8 +80,8 @@ pub fn make_pending(
     requires paged { IsTrue (is_power_of_two granularity) }
     requires exact { IsTrue is_dedicated → size ≡ request.now.size }
     requires fits { request.now.size ≤ size }
-    ensures takes { IfOk result
-        (λ r. TakesIn (fresh_block is_dedicated size granularity) (asked request.now) r.offset r.chunk_id r.block) }
+    ensures takes { IfOk result (λ r. TakesIn (fresh_block is_dedicated size granularity)
+        (asked request.now) r.offset r.chunk_id r.block) }
     ensures piece { IfOk result (λ r. r.size ≡ request.now.size) }
     ensures begins { IfOk result (λ r. r.offset ≡ 0) }
     ensures holds { IfOk result (λ r. HoldsPiece r.block r.chunk_id r.offset r.size) }

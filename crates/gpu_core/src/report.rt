@@ -14,10 +14,14 @@ use gpu_values::{AllocatorReport, MemoryBlockReport, Result};
 
 /// Adds a block, its pieces and the sums of both. The only refusal is `HostOutOfMemory`.
 fn add_block<H>(report: &mut AllocatorReport, block: &LiveBlock<H>) -> Result<()>
-    requires allocated { report.old.total_allocated_bytes + size_of (block_of block.now.sub) < 2 ^ 64 }
-    requires capacity { report.old.total_capacity_bytes + size_of (block_of block.now.sub) < 2 ^ 64 }
-    ensures added { OnOk result (report_of report.new ≡ with_type (report_of report.old) (Some (slot_of block.now) ∷ [])) }
-    ensures within { OnOk result (report.new.total_allocated_bytes + report.old.total_capacity_bytes ≤ report.new.total_capacity_bytes + report.old.total_allocated_bytes) }
+    requires allocated { report.old.total_allocated_bytes + size_of (block_of block.now.sub)
+        < 2 ^ 64 }
+    requires capacity { report.old.total_capacity_bytes + size_of (block_of block.now.sub)
+        < 2 ^ 64 }
+    ensures added { OnOk result (report_of report.new
+        ≡ with_type (report_of report.old) (Some (slot_of block.now) ∷ [])) }
+    ensures within { OnOk result (report.new.total_allocated_bytes + report.old.total_capacity_bytes
+        ≤ report.new.total_capacity_bytes + report.old.total_allocated_bytes) }
     ensures cause { IfErr result (λ e. e ≡ HostOutOfMemory) }
 {
     let start = report.allocations.len();
@@ -35,10 +39,14 @@ fn add_block<H>(report: &mut AllocatorReport, block: &LiveBlock<H>) -> Result<()
 
 /// Adds the blocks of all slots, their pieces and the sums of both. The only refusal is `HostOutOfMemory`.
 pub fn add_slots<H>(report: &mut AllocatorReport, slots: &[Option<LiveBlock<H>>]) -> Result<()>
-    requires allocated { report.old.total_allocated_bytes + capacity_of (slots_of slots.now) < 2 ^ 64 }
-    requires capacity { report.old.total_capacity_bytes + capacity_of (slots_of slots.now) < 2 ^ 64 }
-    ensures added { OnOk result (report_of report.new ≡ with_type (report_of report.old) (slots_of slots.now)) }
-    ensures within { OnOk result (report.new.total_allocated_bytes + report.old.total_capacity_bytes ≤ report.new.total_capacity_bytes + report.old.total_allocated_bytes) }
+    requires allocated { report.old.total_allocated_bytes + capacity_of (slots_of slots.now)
+        < 2 ^ 64 }
+    requires capacity { report.old.total_capacity_bytes + capacity_of (slots_of slots.now)
+        < 2 ^ 64 }
+    ensures added { OnOk result (report_of report.new
+        ≡ with_type (report_of report.old) (slots_of slots.now)) }
+    ensures within { OnOk result (report.new.total_allocated_bytes + report.old.total_capacity_bytes
+        ≤ report.new.total_capacity_bytes + report.old.total_allocated_bytes) }
     ensures cause { IfErr result (λ e. e ≡ HostOutOfMemory) }
 {
     for slot in slots {

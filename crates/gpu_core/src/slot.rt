@@ -54,9 +54,11 @@ pub fn allocate_in<H: Copy>(
     requires aligned { IsTrue (is_power_of_two request.now.alignment) }
     requires piece { request.now.kind ≢ AllocationType.Free }
     requires sound { SlotIsSound granularity (option_map slot_of slot.old) }
-    ensures took { IfOk result (λ o. IfSome o (λ t. SlotTakes (option_map slot_of slot.old) (asked request.now)
-        t.offset (non_zero_u64_get t.chunk_id) t.handle (option_map slot_of slot.new))) }
-    ensures none { IfOk result (λ o. IsNone o → CannotServe (asked request.now) (option_map slot_of slot.old)
+    ensures took { IfOk result (λ o. IfSome o
+        (λ t. SlotTakes (option_map slot_of slot.old) (asked request.now) t.offset
+        (non_zero_u64_get t.chunk_id) t.handle (option_map slot_of slot.new))) }
+    ensures none { IfOk result (λ o. IsNone o
+        → CannotServe (asked request.now) (option_map slot_of slot.old)
         × (option_map slot_of slot.new ≡ option_map slot_of slot.old)) }
     ensures cause { IfErr result (λ e. e ≡ HostOutOfMemory) }
     ensures refused { OnErr result (option_map slot_of slot.new ≡ option_map slot_of slot.old) }
@@ -124,9 +126,12 @@ pub struct ReleasedBlock<H> {
 
 /// Gives the block of a slot up where it is empty and dedicated, or empty and one of several shared ones.
 fn settle<H: Copy>(slot: &mut Option<LiveBlock<H>>, several: bool) -> Option<ReleasedBlock<H>>
-    ensures settled { Settles (IsTrue several) (option_map slot_of slot.old) (released_handle result) (option_map slot_of slot.new) }
-    ensures size { slot_size (option_map slot_of slot.new) + released_size result ≡ slot_size (option_map slot_of slot.old) }
-    ensures shared { shared_in (option_map slot_of slot.new) + released_shared result ≡ shared_in (option_map slot_of slot.old) }
+    ensures settled { Settles (IsTrue several) (option_map slot_of slot.old)
+        (released_handle result) (option_map slot_of slot.new) }
+    ensures size { slot_size (option_map slot_of slot.new) + released_size result
+        ≡ slot_size (option_map slot_of slot.old) }
+    ensures shared { shared_in (option_map slot_of slot.new) + released_shared result
+        ≡ shared_in (option_map slot_of slot.old) }
 {
     if let Some(block) = slot {
         let is_shared = block.sub.supports_general_allocations();
@@ -146,12 +151,15 @@ fn settle<H: Copy>(slot: &mut Option<LiveBlock<H>>, several: bool) -> Option<Rel
 /// Frees a piece of its block. It takes no memory; a refusal leaves the block as it was.
 fn free_piece<H: Copy + Eq>(block: &mut LiveBlock<H>, piece: &Piece<H>) -> Result<()>
     requires { IsSoundBlock (block_of block.old.sub) }
-    ensures released { OnOk result (ReleasesIn (block_of block.old.sub) (non_zero_u64_get piece.now.chunk_id) (block_of block.new.sub)) }
+    ensures released { OnOk result (ReleasesIn (block_of block.old.sub)
+        (non_zero_u64_get piece.now.chunk_id) (block_of block.new.sub)) }
     ensures live { OnOk result (SlotHolds H.eq piece.now (Some (slot_of block.old))) }
-    ensures cause { IfErr result (λ e. IsFreeRefusal H.eq piece.now (Some (slot_of block.old)) (refusal_of e)) }
+    ensures cause { IfErr result (λ e. IsFreeRefusal H.eq piece.now (Some (slot_of block.old))
+        (refusal_of e)) }
     ensures refused { OnErr result (slot_of block.new ≡ slot_of block.old) }
     ensures handle { block.new.handle ≡ block.old.handle }
-    ensures pages { (g : ℕ) → HasPages (block_of block.old.sub) g → HasPages (block_of block.new.sub) g }
+    ensures pages { (g : ℕ) → HasPages (block_of block.old.sub) g
+        → HasPages (block_of block.new.sub) g }
     ensures sound { IsSoundBlock (block_of block.new.sub) }
     ensures separated { OnOk result (HasPagesApart (block_of block.new.sub)) }
 {
@@ -168,14 +176,19 @@ pub fn release<H: Copy + Eq>(
     several: bool,
 ) -> Result<Option<ReleasedBlock<H>>>
     requires { (g : ℕ) × SlotIsSound g (option_map slot_of slot.old) }
-    ensures released { IfOk result (λ went. SlotReleases (IsTrue several) (non_zero_u64_get piece.now.chunk_id)
-        (option_map slot_of slot.old) (released_handle went) (option_map slot_of slot.new)) }
+    ensures released { IfOk result (λ went. SlotReleases (IsTrue several)
+        (non_zero_u64_get piece.now.chunk_id) (option_map slot_of slot.old) (released_handle went)
+        (option_map slot_of slot.new)) }
     ensures live { OnOk result (SlotHolds H.eq piece.now (option_map slot_of slot.old)) }
-    ensures size { IfOk result (λ went. slot_size (option_map slot_of slot.new) + released_size went ≡ slot_size (option_map slot_of slot.old)) }
-    ensures shared { IfOk result (λ went. shared_in (option_map slot_of slot.new) + released_shared went ≡ shared_in (option_map slot_of slot.old)) }
-    ensures cause { IfErr result (λ e. IsFreeRefusal H.eq piece.now (option_map slot_of slot.old) (refusal_of e)) }
+    ensures size { IfOk result (λ went. slot_size (option_map slot_of slot.new) + released_size went
+        ≡ slot_size (option_map slot_of slot.old)) }
+    ensures shared { IfOk result (λ went. shared_in (option_map slot_of slot.new) + released_shared
+        went ≡ shared_in (option_map slot_of slot.old)) }
+    ensures cause { IfErr result (λ e. IsFreeRefusal H.eq piece.now (option_map slot_of slot.old)
+        (refusal_of e)) }
     ensures refused { OnErr result (option_map slot_of slot.new ≡ option_map slot_of slot.old) }
-    ensures kept { (g : ℕ) → SlotIsSound g (option_map slot_of slot.old) → SlotIsSound g (option_map slot_of slot.new) }
+    ensures kept { (g : ℕ) → SlotIsSound g (option_map slot_of slot.old)
+        → SlotIsSound g (option_map slot_of slot.new) }
 {
     match slot {
         None => Err(internal_fault("Memory block must be Some.")),
@@ -196,10 +209,13 @@ pub fn rename<H: Copy + Eq>(
     ensures renamed { OnOk result (SlotRenames (non_zero_u64_get piece.now.chunk_id) name.now
         (option_map slot_of slot.old) (option_map slot_of slot.new)) }
     ensures live { OnOk result (SlotHolds H.eq piece.now (option_map slot_of slot.old)) }
-    ensures starved { IfErr result (λ e. e ≡ HostOutOfMemory → SlotHolds H.eq piece.now (option_map slot_of slot.old)) }
-    ensures cause { IfErr result (λ e. IsNameRefusal H.eq piece.now (option_map slot_of slot.old) (refusal_of e)) }
+    ensures starved { IfErr result (λ e. e ≡ HostOutOfMemory
+        → SlotHolds H.eq piece.now (option_map slot_of slot.old)) }
+    ensures cause { IfErr result (λ e. IsNameRefusal H.eq piece.now (option_map slot_of slot.old)
+        (refusal_of e)) }
     ensures refused { OnErr result (option_map slot_of slot.new ≡ option_map slot_of slot.old) }
-    ensures kept { (g : ℕ) → SlotIsSound g (option_map slot_of slot.old) → SlotIsSound g (option_map slot_of slot.new) }
+    ensures kept { (g : ℕ) → SlotIsSound g (option_map slot_of slot.old)
+        → SlotIsSound g (option_map slot_of slot.new) }
 {
     match slot {
         None => Err(internal_fault("Memory block must be Some.")),

@@ -32,7 +32,11 @@ impl<H> Model for Slots<H> {
 
     ghost Value = { SlotList H };
 
-    ghost view = { λ s. record { slots = slots_of s.blocks.items; room = min (vec_capacity s.blocks) s.longest.room } };
+    ghost view = { λ s. record {
+      slots = slots_of s.blocks.items;
+      room = min (vec_capacity s.blocks)
+          s.longest.room;
+    } };
 
     ghost invariant = { λ s. AreBounded s.longest.lengths (slots_of s.blocks.items) };
 }
@@ -69,8 +73,10 @@ impl<H: Copy + Eq> Slots<H> {
         requires aligned { IsTrue (is_power_of_two request.now.alignment) }
         requires piece { request.now.kind ≢ AllocationType.Free }
         requires sound { AreSound granularity self.old.slots }
-        ensures took { IfOk result (λ o. IfSome o (λ p. PreparesPiece self.old.slots (asked request.now) p self.new.slots)) }
-        ensures none { IfOk result (λ o. IsNone o → NoneServes self.old.slots (asked request.now) × (self.new.slots ≡ self.old.slots)) }
+        ensures took { IfOk result (λ o. IfSome o
+            (λ p. PreparesPiece self.old.slots (asked request.now) p self.new.slots)) }
+        ensures none { IfOk result (λ o. IsNone o
+            → NoneServes self.old.slots (asked request.now) × (self.new.slots ≡ self.old.slots)) }
         ensures cause { IfErr result (λ e. e ≡ HostOutOfMemory) }
         ensures refused { OnErr result (self.new.slots ≡ self.old.slots) }
         ensures room { self.new.room ≡ self.old.room }
@@ -88,7 +94,9 @@ impl<H: Copy + Eq> Slots<H> {
     /// Makes host memory for one more block. The only refusal is `HostOutOfMemory`.
     pub fn reserve(&mut self) -> Result<()>
         ensures slots { self.new.slots ≡ self.old.slots }
-        ensures room { OnOk result (IsTrue (is_some (highest_empty self.new.slots) || nat_lt (length self.new.slots) self.new.room)) }
+        ensures room { OnOk result (IsTrue
+            (is_some (highest_empty self.new.slots) || nat_lt (length self.new.slots)
+            self.new.room)) }
         ensures cause { IfErr result (λ e. e ≡ HostOutOfMemory) }
     {
         if highest_empty(&self.blocks).is_none() {
@@ -100,7 +108,8 @@ impl<H: Copy + Eq> Slots<H> {
 
     /// Puts a block where it goes, and answers that slot. It takes no memory.
     pub fn put(&mut self, block: LiveBlock<H>, is_dedicated: bool) -> usize
-        requires { IsTrue (is_some (highest_empty self.old.slots) || nat_lt (length self.old.slots) self.old.room) }
+        requires { IsTrue (is_some (highest_empty self.old.slots) || nat_lt (length self.old.slots)
+            self.old.room) }
         ensures slot { result ≡ new_slot is_dedicated self.old.slots }
         ensures slots { self.new.slots ≡ with_block self.old.slots result (slot_of block) }
         ensures length { length self.new.slots < 2 ^ 64 }
@@ -117,12 +126,15 @@ impl<H: Copy + Eq> Slots<H> {
     /// Frees a piece. It takes no memory; a refusal changes nothing.
     pub fn free(&mut self, piece: &Piece<H>, several: bool) -> Result<Option<ReleasedBlock<H>>>
         requires { (g : ℕ) × AreSound g self.old.slots }
-        ensures released { IfOk result (λ went.
-            ReleasesPiece (IsTrue several) self.old.slots piece.now (released_handle went) self.new.slots) }
+        ensures released { IfOk result (λ went. ReleasesPiece (IsTrue several) self.old.slots
+            piece.now (released_handle went) self.new.slots) }
         ensures live { OnOk result (IsLive H.eq self.old.slots piece.now) }
-        ensures size { IfOk result (λ went. capacity_of self.new.slots + released_size went ≡ capacity_of self.old.slots) }
-        ensures shared { IfOk result (λ went. shared_count self.new.slots + released_shared went ≡ shared_count self.old.slots) }
-        ensures cause { IfErr result (λ e. IsFreeRefusal H.eq piece.now (slot_at self.old.slots piece.now.slot) (refusal_of e)) }
+        ensures size { IfOk result (λ went. capacity_of self.new.slots + released_size went
+            ≡ capacity_of self.old.slots) }
+        ensures shared { IfOk result (λ went. shared_count self.new.slots + released_shared went
+            ≡ shared_count self.old.slots) }
+        ensures cause { IfErr result (λ e. IsFreeRefusal H.eq piece.now
+            (slot_at self.old.slots piece.now.slot) (refusal_of e)) }
         ensures refused { OnErr result (self.new.slots ≡ self.old.slots) }
         ensures room { self.new.room ≡ self.old.room }
         ensures kept { (g : ℕ) → AreSound g self.old.slots → AreSound g self.new.slots }
@@ -135,10 +147,13 @@ impl<H: Copy + Eq> Slots<H> {
     /// Renames a piece. A refusal changes nothing.
     pub fn rename(&mut self, piece: &Piece<H>, name: &str) -> Result<()>
         requires { (g : ℕ) × AreSound g self.old.slots }
-        ensures renamed { OnOk result (RenamesPiece self.old.slots piece.now name.now self.new.slots) }
+        ensures renamed { OnOk result (RenamesPiece self.old.slots piece.now name.now
+            self.new.slots) }
         ensures live { OnOk result (IsLive H.eq self.old.slots piece.now) }
-        ensures starved { IfErr result (λ e. e ≡ HostOutOfMemory → IsLive H.eq self.old.slots piece.now) }
-        ensures cause { IfErr result (λ e. IsNameRefusal H.eq piece.now (slot_at self.old.slots piece.now.slot) (refusal_of e)) }
+        ensures starved { IfErr result (λ e. e ≡ HostOutOfMemory
+            → IsLive H.eq self.old.slots piece.now) }
+        ensures cause { IfErr result (λ e. IsNameRefusal H.eq piece.now
+            (slot_at self.old.slots piece.now.slot) (refusal_of e)) }
         ensures refused { OnErr result (self.new.slots ≡ self.old.slots) }
         ensures room { self.new.room ≡ self.old.room }
         ensures kept { (g : ℕ) → AreSound g self.old.slots → AreSound g self.new.slots }
@@ -172,9 +187,11 @@ fn allocate_shared<H: Copy>(
     requires piece { request.now.kind ≢ AllocationType.Free }
     requires sound { AreSound granularity (slots_of slots.old.items) }
     requires bounded { AreBounded longest.now.lengths (slots_of slots.old.items) }
-    ensures took { IfOk result (λ o. IfSome o (λ p.
-        PreparesPiece (slots_of slots.old.items) (asked request.now) p (slots_of slots.new.items))) }
-    ensures none { IfOk result (λ o. IsNone o → NoneServes (slots_of slots.old.items) (asked request.now)
+    ensures took { IfOk result (λ o. IfSome o
+        (λ p. PreparesPiece (slots_of slots.old.items) (asked request.now) p
+        (slots_of slots.new.items))) }
+    ensures none { IfOk result (λ o. IsNone o
+        → NoneServes (slots_of slots.old.items) (asked request.now)
         × (slots_of slots.new.items ≡ slots_of slots.old.items)) }
     ensures cause { IfErr result (λ e. e ≡ HostOutOfMemory) }
     ensures refused { OnErr result (slots_of slots.new.items ≡ slots_of slots.old.items) }
@@ -232,7 +249,8 @@ fn highest_empty<H>(slots: &[Option<LiveBlock<H>>]) -> Option<usize>
 /// The empty slot for a dedicated or for a shared block.
 #[tactic(auto, using(crate::proofs::EmptySlots::empty_lemmas))]
 fn empty_for<H>(slots: &[Option<LiveBlock<H>>], is_dedicated: bool) -> Option<usize>
-    ensures value { result ≡ (if is_dedicated then lowest_empty (slots_of slots.now) else highest_empty (slots_of slots.now)) }
+    ensures value { result ≡ (if is_dedicated then lowest_empty (slots_of slots.now)
+        else highest_empty (slots_of slots.now)) }
     ensures found { IfSome result (λ i. IsEmptyAt (slots_of slots.now) i) }
     ensures missed { IsNone result → highest_empty (slots_of slots.now) ≡ None }
 {
@@ -252,7 +270,8 @@ fn put_block<H: Drop>(
     requires { IsTrue (is_some (highest_empty (slots_of slots.old.items))
         || nat_lt (length (slots_of slots.old.items)) (vec_capacity slots.old)) }
     ensures slot { result ≡ new_slot is_dedicated (slots_of slots.old.items) }
-    ensures slots { slots_of slots.new.items ≡ with_block (slots_of slots.old.items) result (slot_of block) }
+    ensures slots { slots_of slots.new.items
+        ≡ with_block (slots_of slots.old.items) result (slot_of block) }
     ensures length { length slots.new.items < 2 ^ 64 }
     ensures room { vec_capacity slots.new ≡ vec_capacity slots.old }
 {
@@ -275,16 +294,19 @@ fn free_in<H: Copy + Eq>(
     several: bool,
 ) -> Result<Option<ReleasedBlock<H>>>
     requires { (g : ℕ) × AreSound g (slots_of slots.old.items) }
-    ensures released { IfOk result (λ went.
-        ReleasesPiece (IsTrue several) (slots_of slots.old.items) piece.now (released_handle went) (slots_of slots.new.items)) }
+    ensures released { IfOk result (λ went. ReleasesPiece (IsTrue several)
+        (slots_of slots.old.items) piece.now (released_handle went) (slots_of slots.new.items)) }
     ensures live { OnOk result (IsLive H.eq (slots_of slots.old.items) piece.now) }
-    ensures size { IfOk result (λ went. capacity_of (slots_of slots.new.items) + released_size went ≡ capacity_of (slots_of slots.old.items)) }
-    ensures shared { IfOk result (λ went. shared_count (slots_of slots.new.items) + released_shared went ≡ shared_count (slots_of slots.old.items)) }
-    ensures cause { IfErr result (λ e.
-        IsFreeRefusal H.eq piece.now (slot_at (slots_of slots.old.items) piece.now.slot) (refusal_of e)) }
+    ensures size { IfOk result (λ went. capacity_of (slots_of slots.new.items) + released_size went
+        ≡ capacity_of (slots_of slots.old.items)) }
+    ensures shared { IfOk result (λ went. shared_count (slots_of slots.new.items) + released_shared
+        went ≡ shared_count (slots_of slots.old.items)) }
+    ensures cause { IfErr result (λ e. IsFreeRefusal H.eq piece.now
+        (slot_at (slots_of slots.old.items) piece.now.slot) (refusal_of e)) }
     ensures refused { OnErr result (slots_of slots.new.items ≡ slots_of slots.old.items) }
     ensures room { vec_capacity slots.new ≡ vec_capacity slots.old }
-    ensures kept { (g : ℕ) → AreSound g (slots_of slots.old.items) → AreSound g (slots_of slots.new.items) }
+    ensures kept { (g : ℕ) → AreSound g (slots_of slots.old.items)
+        → AreSound g (slots_of slots.new.items) }
 {
     if piece.slot >= slots.len() {
         return Err(internal_fault("Memory block must be Some."));
@@ -300,14 +322,17 @@ fn rename_in<H: Copy + Eq>(
     name: &str,
 ) -> Result<()>
     requires { (g : ℕ) × AreSound g (slots_of slots.old.items) }
-    ensures renamed { OnOk result (RenamesPiece (slots_of slots.old.items) piece.now name.now (slots_of slots.new.items)) }
+    ensures renamed { OnOk result (RenamesPiece (slots_of slots.old.items) piece.now name.now
+        (slots_of slots.new.items)) }
     ensures live { OnOk result (IsLive H.eq (slots_of slots.old.items) piece.now) }
-    ensures starved { IfErr result (λ e. e ≡ HostOutOfMemory → IsLive H.eq (slots_of slots.old.items) piece.now) }
-    ensures cause { IfErr result (λ e.
-        IsNameRefusal H.eq piece.now (slot_at (slots_of slots.old.items) piece.now.slot) (refusal_of e)) }
+    ensures starved { IfErr result (λ e. e ≡ HostOutOfMemory
+        → IsLive H.eq (slots_of slots.old.items) piece.now) }
+    ensures cause { IfErr result (λ e. IsNameRefusal H.eq piece.now
+        (slot_at (slots_of slots.old.items) piece.now.slot) (refusal_of e)) }
     ensures refused { OnErr result (slots_of slots.new.items ≡ slots_of slots.old.items) }
     ensures room { vec_capacity slots.new ≡ vec_capacity slots.old }
-    ensures kept { (g : ℕ) → AreSound g (slots_of slots.old.items) → AreSound g (slots_of slots.new.items) }
+    ensures kept { (g : ℕ) → AreSound g (slots_of slots.old.items)
+        → AreSound g (slots_of slots.new.items) }
 {
     if piece.slot >= slots.len() {
         return Err(internal_fault("Memory block must be Some."));

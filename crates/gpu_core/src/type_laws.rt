@@ -19,8 +19,8 @@ pub fn fresh_block_has_place()
         → IsBestFit (fresh_free_list size granularity 2) r 0 size 0 }
     ensures served { (size granularity : ℕ) (r : Request) → 0 < r.size → r.size ≤ size
         → HasNoPlace (fresh_free_list size granularity 2) r → ⊥ }
-    ensures begins { (size granularity : ℕ) (r : Request) (o n : ℕ) (new : Block) → 0 < r.size → r.size ≤ size
-        → TakesIn (fresh_block false size granularity) r o n new → o ≡ 0 }
+    ensures begins { (size granularity : ℕ) (r : Request) (o n : ℕ) (new : Block) → 0 < r.size
+        → r.size ≤ size → TakesIn (fresh_block false size granularity) r o n new → o ≡ 0 }
 {}
 
 /// A shared block whose last piece is given back is one gap of its whole size.
@@ -33,30 +33,41 @@ pub fn emptied_block_is_one_gap()
 
 /// A shared block that serves a request has one outcome, and then no block is needed.
 pub fn one_piece_prepared<H: Copy + Eq>()
-    ensures once { (g : ℕ) (old : List (Option (Slot H))) (r : Request) (p q : Piece H) (new next : List (Option (Slot H)))
-        → AreSound g old → PreparesPiece old r p new → PreparesPiece old r q next → (p ≡ q) × (new ≡ next) }
-    ensures serves_or_needs { (t : TypeState H) (sizes : Sizes) (own : Bool) (r : Request) (p : Piece H) (new : List (Option (Slot H)))
-        (size : ℕ) (is_dedicated : Bool) (ready : Pending) → has_dedicated_block t sizes own r.size ≡ false
+    ensures once { (g : ℕ) (old : List (Option (Slot H))) (r : Request) (p q : Piece H)
+        (new next : List (Option (Slot H))) → AreSound g old → PreparesPiece old r p new
+        → PreparesPiece old r q next → (p ≡ q) × (new ≡ next) }
+    ensures serves_or_needs { (t : TypeState H) (sizes : Sizes) (own : Bool) (r : Request)
+        (p : Piece H) (new : List (Option (Slot H))) (size : ℕ) (is_dedicated : Bool)
+        (ready : Pending) → has_dedicated_block t sizes own r.size ≡ false
         → PreparesPiece t.slots r p new → NeedsBlock t sizes own r size is_dedicated ready → ⊥ }
 {}
 
 /// A request that needs a block needs one of one size and kind, with the piece at one place in it; and a block goes to one slot.
 pub fn one_block_needed<H: Copy + Eq>()
-    ensures needs { (t : TypeState H) (sizes : Sizes) (own : Bool) (r : Request) (size other : ℕ) (is_dedicated kind : Bool) (ready next : Pending)
-        → NeedsBlock t sizes own r size is_dedicated ready → NeedsBlock t sizes own r other kind next
+    ensures needs { (t : TypeState H) (sizes : Sizes) (own : Bool) (r : Request) (size other : ℕ)
+        (is_dedicated kind : Bool) (ready next : Pending)
+        → NeedsBlock t sizes own r size is_dedicated ready
+        → NeedsBlock t sizes own r other kind next
         → (size ≡ other) × (is_dedicated ≡ kind) × (ready ≡ next) }
-    ensures installs { (old : List (Option (Slot H))) (is_dedicated : Bool) (ready : Pending) (chunk_id : H) (p q : Piece H) (new next : List (Option (Slot H)))
-        → Installs old is_dedicated ready chunk_id p new → Installs old is_dedicated ready chunk_id q next → (p ≡ q) × (new ≡ next) }
+    ensures installs { (old : List (Option (Slot H))) (is_dedicated : Bool) (ready : Pending)
+        (chunk_id : H) (p q : Piece H) (new next : List (Option (Slot H)))
+        → Installs old is_dedicated ready chunk_id p new
+        → Installs old is_dedicated ready chunk_id q next → (p ≡ q) × (new ≡ next) }
 {}
 
 /// A release of a piece has one outcome, and so have a new name, and each refusal of one but lack of host memory.
 pub fn one_piece_released<H: Copy + Eq>()
-    ensures releases { (g : ℕ) (several : Bool) (old : List (Option (Slot H))) (p : Piece H) (went gone : Option H) (new next : List (Option (Slot H)))
-        → AreSound g old → ReleasesPiece (IsTrue several) old p went new → ReleasesPiece (IsTrue several) old p gone next → (went ≡ gone) × (new ≡ next) }
-    ensures refuses { (eq : H → H → Bool) (g : ℕ) (p : Piece H) (old : Option (Slot H)) (r s : Refusal)
-        → SlotIsSound g old → IsFreeRefusal eq p old r → IsFreeRefusal eq p old s → r ≡ s }
-    ensures refuses_names { (eq : H → H → Bool) (g : ℕ) (p : Piece H) (old : Option (Slot H)) (r s : Refusal)
-        → SlotIsSound g old → r ≢ host_out_of_memory → s ≢ host_out_of_memory → IsNameRefusal eq p old r → IsNameRefusal eq p old s → r ≡ s }
-    ensures renames { (old : List (Option (Slot H))) (p : Piece H) (name : List ℕ) (new next : List (Option (Slot H)))
-        → RenamesPiece old p name new → RenamesPiece old p name next → new ≡ next }
+    ensures releases { (g : ℕ) (several : Bool) (old : List (Option (Slot H))) (p : Piece H)
+        (went gone : Option H) (new next : List (Option (Slot H))) → AreSound g old
+        → ReleasesPiece (IsTrue several) old p went new
+        → ReleasesPiece (IsTrue several) old p gone next → (went ≡ gone) × (new ≡ next) }
+    ensures refuses { (eq : H → H → Bool) (g : ℕ) (p : Piece H) (old : Option (Slot H))
+        (r s : Refusal) → SlotIsSound g old → IsFreeRefusal eq p old r → IsFreeRefusal eq p old s
+        → r ≡ s }
+    ensures refuses_names { (eq : H → H → Bool) (g : ℕ) (p : Piece H) (old : Option (Slot H))
+        (r s : Refusal) → SlotIsSound g old → r ≢ host_out_of_memory → s ≢ host_out_of_memory
+        → IsNameRefusal eq p old r → IsNameRefusal eq p old s → r ≡ s }
+    ensures renames { (old : List (Option (Slot H))) (p : Piece H) (name : List ℕ)
+        (new next : List (Option (Slot H))) → RenamesPiece old p name new
+        → RenamesPiece old p name next → new ≡ next }
 {}

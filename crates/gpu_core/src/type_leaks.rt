@@ -29,7 +29,8 @@ impl<'a, H> Model for TypeLeaks<'a, H> {
 
     ghost Value = { List LeakOf };
 
-    ghost view = { λ l. unwrap_or l.block [] ++ leaks_from l.memory_type l.next (slots_of (drop l.next l.slots.now)) };
+    ghost view = { λ l. unwrap_or l.block []
+        ++ leaks_from l.memory_type l.next (slots_of (drop l.next l.slots.now)) };
 }
 
 impl<'a, H> TypeLeaks<'a, H> {

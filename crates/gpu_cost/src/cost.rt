@@ -36,19 +36,22 @@ impl Cost {
     }
 
     fn after_comparison(&self) -> Cost
-        ensures { (result.comparisons ≡ self.now.comparisons + 1) × (result.tests ≡ self.now.tests) × (result.lookups ≡ self.now.lookups) }
+        ensures { (result.comparisons ≡ self.now.comparisons + 1) × (result.tests ≡ self.now.tests)
+            × (result.lookups ≡ self.now.lookups) }
     {
         Cost { seal: PhantomData }
     }
 
     fn after_test(&self) -> Cost
-        ensures { (result.comparisons ≡ self.now.comparisons) × (result.tests ≡ self.now.tests + 1) × (result.lookups ≡ self.now.lookups) }
+        ensures { (result.comparisons ≡ self.now.comparisons) × (result.tests ≡ self.now.tests + 1)
+            × (result.lookups ≡ self.now.lookups) }
     {
         Cost { seal: PhantomData }
     }
 
     fn after_lookup(&self) -> Cost
-        ensures { (result.comparisons ≡ self.now.comparisons) × (result.tests ≡ self.now.tests) × (result.lookups ≡ self.now.lookups + 1) }
+        ensures { (result.comparisons ≡ self.now.comparisons) × (result.tests ≡ self.now.tests)
+            × (result.lookups ≡ self.now.lookups + 1) }
     {
         Cost { seal: PhantomData }
     }

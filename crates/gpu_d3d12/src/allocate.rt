@@ -20,7 +20,8 @@ pub fn allocate_piece<D: D3D12Device>(
     pool: &mut Pool<D3D12Blocks<D>>,
     desc: &AllocationCreateDesc,
 ) -> Result<Allocation>
-    ensures allocates { AllocatesBy D.D3D12Device desc.now (is_valid desc.now) pool.old result pool.new }
+    ensures allocates { AllocatesBy D.D3D12Device desc.now (is_valid desc.now) pool.old result
+        pool.new }
     ensures kinds { kinds_of_device pool.new.source.tier ≡ kinds_of_device pool.old.source.tier }
     ensures journal { pool.new.source.journal ≡ pool.old.source.journal }
     ensures aligned { IfOk result (λ a. a.offset % desc.now.alignment ≡ 0) }

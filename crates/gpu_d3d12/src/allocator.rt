@@ -76,17 +76,23 @@ impl<D: D3D12Device> Allocator<D> {
         desc: AllocatorCreateDesc<D>,
     ) -> Result<Self, (AllocationError, ID3D12DeviceVersion<D>)>
         ensures device { IfOk result (λ a. (a.device ≡ desc.device) × (a.first ≡ desc.device)) }
-        ensures tier { IfOk result (λ a. (D.properties (device_of desc.device)).tier ≡ Ok a.setup.tier) }
-        ensures chosen { IfOk result (λ a. (a.setup.sizes ≡ desc.allocation_sizes) × (a.setup.debug ≡ desc.debug_settings)) }
+        ensures tier { IfOk result (λ a. (D.properties (device_of desc.device)).tier
+            ≡ Ok a.setup.tier) }
+        ensures chosen { IfOk result (λ a. (a.setup.sizes ≡ desc.allocation_sizes)
+            × (a.setup.debug ≡ desc.debug_settings)) }
         ensures empty { IfOk result (λ a. All (λ slots. slots ≡ []) a.slots) }
         ensures types { IfOk result (λ a. length a.slots ≡ length (memory_kinds a.setup.tier)) }
         ensures budgets { IfOk result (λ a. All (λ b. b ≡ None) a.budgets) }
-        ensures committed { IfOk result (λ a. (length a.committed ≡ length (memory_kinds a.setup.tier)) × All (λ records. records ≡ []) a.committed) }
-        ensures beside { IfOk result (λ a. beside_of D.D3D12Device a ≡ D.held (device_of desc.device)) }
+        ensures committed { IfOk result
+            (λ a. (length a.committed ≡ length (memory_kinds a.setup.tier))
+            × All (λ records. records ≡ []) a.committed) }
+        ensures beside { IfOk result (λ a. beside_of D.D3D12Device a
+            ≡ D.held (device_of desc.device)) }
         ensures journal { IfOk result (λ a. a.journal ≡ []) }
         ensures refused { IfErr result (λ e. e.1 ≡ desc.device) }
         // the device's tier can't be told, else lack of host memory: nothing else refuses
-        ensures cause { IfErr result (λ e. refusal_of e.0 ≡ unwrap_or (setup_fault (D.properties (device_of desc.device))) host_out_of_memory) }
+        ensures cause { IfErr result (λ e. refusal_of e.0
+            ≡ unwrap_or (setup_fault (D.properties (device_of desc.device))) host_out_of_memory) }
     {
         let AllocatorCreateDesc {
             device,
@@ -120,12 +126,14 @@ impl<D: D3D12Device> Allocator<D> {
     pub fn allocate<L: Log>(&mut self, log: &L, desc: &AllocationCreateDesc) -> Result<Allocation>
         // which memory type is asked, what it met with, what is returned, and what that leaves of blocks and device
         ensures allocates { Allocates D.D3D12Device desc.now self.old result self.new }
-        ensures constant { (self.new.first ≡ self.old.first) × (self.new.setup ≡ self.old.setup) × (self.new.committed ≡ self.old.committed) }
+        ensures constant { (self.new.first ≡ self.old.first) × (self.new.setup ≡ self.old.setup)
+            × (self.new.committed ≡ self.old.committed) }
         ensures journal { self.new.journal ≡ self.old.journal }
         ensures step { IsAllocateStep D.D3D12Device desc.now result self.old self.new }
         ensures aligned { IfOk result (λ a. a.offset % desc.now.alignment ≡ 0) }
         ensures keeps { StayLive is_same_heap self.old.slots self.new.slots }
-        ensures gives { IfOk result (λ a. IsNewlyLive is_same_heap self.old.slots self.new.slots a) }
+        ensures gives { IfOk result (λ a. IsNewlyLive is_same_heap self.old.slots self.new.slots
+            a) }
     {
         log_allocate(log, self.debug, desc);
         allocate_piece(self.alloc, &mut self.pool, desc)
@@ -134,7 +142,8 @@ impl<D: D3D12Device> Allocator<D> {
     /// The sum of the sizes of the live blocks, in bytes.
     pub fn capacity(&self) -> u64
         ensures sum { result ≡ total_capacity self.now.slots }
-        ensures step { IsStep D.D3D12Device Capacity (module_replies.Pool (replies.Capacity result)) self.now self.now }
+        ensures step { IsStep D.D3D12Device Capacity (module_replies.Pool (replies.Capacity result))
+            self.now self.now }
     {
         self.pool.capacity()
     }
@@ -153,10 +162,13 @@ impl<D: D3D12Device> Allocator<D> {
     /// `free_resource` beside a live piece is released too: of such numbers (`strays`) it may hold less than at first.
     pub fn device(&self) -> &ID3D12DeviceVersion<D>
         ensures lent { result.now ≡ self.now.device }
-        ensures holds { HoldsJustLiveBlocks self.now.setup.tier (beside_of D.D3D12Device self.now) (D.held (device_of self.now.device)) self.now.slots }
+        ensures holds { HoldsJustLiveBlocks self.now.setup.tier (beside_of D.D3D12Device self.now)
+            (D.held (device_of self.now.device)) self.now.slots }
         // beside the live blocks: what was held at first, the resources that are out, and nothing else
-        ensures beside { IsFirstAndOut (D.held (device_of self.now.first)) (beside_of D.D3D12Device self.now) self.now.journal }
-        ensures constant { D.properties (device_of self.now.device) ≡ D.properties (device_of self.now.first) }
+        ensures beside { IsFirstAndOut (D.held (device_of self.now.first))
+            (beside_of D.D3D12Device self.now) self.now.journal }
+        ensures constant { D.properties (device_of self.now.device)
+            ≡ D.properties (device_of self.now.first) }
     {
         self.pool.source().device()
     }
@@ -167,7 +179,8 @@ impl<D: D3D12Device> Allocator<D> {
         ensures sound { BlocksWellFormed 1 self.now.slots }
         ensures lists { length self.now.committed ≡ length (kinds_of_device self.now.setup.tier) }
         ensures inside { (a : Allocation) → IsLive self.now.slots a → IsInside self.now.slots a }
-        ensures apart { (a b : Allocation) → IsLive self.now.slots a → IsLive self.now.slots b → AreDistinct a b → SharesNoByte a b }
+        ensures apart { (a b : Allocation) → IsLive self.now.slots a → IsLive self.now.slots b
+            → AreDistinct a b → SharesNoByte a b }
     {
         self.pool.pieces_are_apart();
     }
@@ -175,7 +188,8 @@ impl<D: D3D12Device> Allocator<D> {
     /// What holds of live placed resources at any time, for callers' proofs: the device holds the heap that each is placed in,
     /// and its allocation ends inside that heap. It does nothing.
     pub fn resources_lie_in_heaps(&self)
-        ensures { (r : Resource) (a : Allocation) → IsLivePlaced (D.held (device_of self.now.device)) self.now.slots r a
+        ensures { (r : Resource) (a : Allocation)
+            → IsLivePlaced (D.held (device_of self.now.device)) self.now.slots r a
             → LiesInHeap (D.held (device_of self.now.device)) a }
     {
         let _ = self.device();
@@ -201,7 +215,8 @@ impl<D: D3D12Device> Allocator<D> {
         ensures constant { (self.new.first ≡ self.old.first) × (self.new.setup ≡ self.old.setup) }
         ensures journal { self.new.journal ≡ self.old.journal }
         ensures step { IsStep D.D3D12Device (Free allocation) (freed_as result) self.old self.new }
-        ensures keeps { (b : Allocation) → IsLive self.old.slots b → AreDistinct b allocation → IsLive self.new.slots b }
+        ensures keeps { (b : Allocation) → IsLive self.old.slots b → AreDistinct b allocation
+            → IsLive self.new.slots b }
     {
         log_free(log, self.debug, &allocation);
         match self.pool.free_named(&allocation) {
@@ -214,9 +229,11 @@ impl<D: D3D12Device> Allocator<D> {
     /// refused with `BudgetExceeded`. Committed resources don't count. `None` takes the bound away; a budget below the present
     /// sum gives no block back. `Internal` where there is no such memory type, and then nothing changes. It takes no memory.
     pub fn set_budget(&mut self, memory_type: usize, budget: Option<u64>) -> Result<()>
-        ensures budgets { SetsBudgetAt self.old.slots memory_type budget self.old.budgets result self.new.budgets }
+        ensures budgets { SetsBudgetAt self.old.slots memory_type budget self.old.budgets result
+            self.new.budgets }
         ensures others { self.new ≡ record self.old { budgets = self.new.budgets } }
-        ensures step { IsStep D.D3D12Device (SetBudget memory_type budget) (reply_of_done result) self.old self.new }
+        ensures step { IsStep D.D3D12Device (SetBudget memory_type budget) (reply_of_done result)
+            self.old self.new }
     {
         self.pool.set_budget(memory_type, budget)
     }
@@ -224,7 +241,8 @@ impl<D: D3D12Device> Allocator<D> {
     /// The budget of a memory type, in bytes; `None` where it has none, or there is no such type.
     pub fn budget(&self, memory_type: usize) -> Option<u64>
         ensures budget { result ≡ budget_at self.now.budgets memory_type }
-        ensures step { IsStep D.D3D12Device (Budget memory_type) (module_replies.Pool (replies.Budget result)) self.now self.now }
+        ensures step { IsStep D.D3D12Device (Budget memory_type)
+            (module_replies.Pool (replies.Budget result)) self.now self.now }
     {
         self.pool.budget(memory_type)
     }
@@ -255,8 +273,10 @@ impl<D: D3D12Device> Allocator<D> {
         ensures keeps { StayLive is_same_heap self.old.slots self.new.slots }
         ensures gives { IfOk result (λ r. IsNewIn self.old.slots self.new.slots r.allocation) }
         // under this number the device held neither a resource nor a heap of others
-        ensures fresh { IfOk result (λ r. get (beside_of D.D3D12Device self.old) r.resource.0 ≡ None) }
-        ensures aligned { IfOk result (λ r. BeginsAligned (info_of (basis_of D.D3D12Device self.old) desc.now).alignment r.allocation) }
+        ensures fresh { IfOk result (λ r. get (beside_of D.D3D12Device self.old) r.resource.0
+            ≡ None) }
+        ensures aligned { IfOk result (λ r. BeginsAligned
+            (info_of (basis_of D.D3D12Device self.old) desc.now).alignment r.allocation) }
     {
         let question = match question_for(self.pool.source().device(), desc) {
             Err(error) => return Err(error),
@@ -288,9 +308,12 @@ impl<D: D3D12Device> Allocator<D> {
         log: &L,
         resource: Resource,
     ) -> Result<(), (AllocationError, Resource)>
-        ensures journal { self.new.journal ≡ with_released resource.resource result self.old.journal }
-        ensures step { IsStep D.D3D12Device (FreeResource resource) (freed_as result) self.old self.new }
-        ensures keeps { (b : Allocation) → IsLive self.old.slots b → IsBeside b resource.allocation → IsLive self.new.slots b }
+        ensures journal { self.new.journal
+            ≡ with_released resource.resource result self.old.journal }
+        ensures step { IsStep D.D3D12Device (FreeResource resource) (freed_as result) self.old
+            self.new }
+        ensures keeps { (b : Allocation) → IsLive self.old.slots b → IsBeside b resource.allocation
+            → IsLive self.new.slots b }
         ensures back { IfErr result (λ e. e.1 ≡ resource) }
         ensures constant { (self.new.first ≡ self.old.first) × (self.new.setup ≡ self.old.setup) }
     {
@@ -305,7 +328,8 @@ impl<D: D3D12Device> Allocator<D> {
     /// sum in bytes; `None` where there is no such memory type.
     pub fn committed(&self, memory_type: usize) -> Option<CommittedAllocationStatistics>
         ensures statistics { result ≡ statistics_at self.now.committed memory_type }
-        ensures step { IsStep D.D3D12Device (Statistics memory_type) (module_replies.Statistics result) self.now self.now }
+        ensures step { IsStep D.D3D12Device (Statistics memory_type)
+            (module_replies.Statistics result) self.now self.now }
     {
         self.committed.statistics(memory_type)
     }
@@ -313,10 +337,13 @@ impl<D: D3D12Device> Allocator<D> {
     /// IsResultOf an allocation another name, and with it the record that reports and leaks show. `Internal` where the
     /// allocation isn't live, else `HostOutOfMemory` where the host refused memory; then both names are as they were.
     pub fn rename_allocation(&mut self, allocation: &mut Allocation, name: &str) -> Result<()>
-        ensures renames { RenamesNamed is_same_heap allocation.old name.now (pool_of self.old) result allocation.new (pool_of self.new) }
-        ensures step { IsStep D.D3D12Device (Rename allocation.old name.now) (reply_of_done result) self.old self.new }
+        ensures renames { RenamesNamed is_same_heap allocation.old name.now (pool_of self.old)
+            result allocation.new (pool_of self.new) }
+        ensures step { IsStep D.D3D12Device (Rename allocation.old name.now) (reply_of_done result)
+            self.old self.new }
         ensures live { StayLive is_same_heap self.old.slots self.new.slots }
-        ensures constant { (self.new.device ≡ self.old.device) × (self.new.first ≡ self.old.first) × (self.new.setup ≡ self.old.setup) }
+        ensures constant { (self.new.device ≡ self.old.device) × (self.new.first ≡ self.old.first)
+            × (self.new.setup ≡ self.old.setup) }
         ensures journal { self.new.journal ≡ self.old.journal }
     {
         self.pool.rename_named(self.alloc, allocation, name)
@@ -351,10 +378,13 @@ impl<D: D3D12Device> Allocator<D> {
     pub fn destroy<L: Log>(self, log: &L) -> ID3D12DeviceVersion<D>
         ensures held { D.held (device_of result) ≡ beside_of D.D3D12Device self }
         // what was held at first, the resources that are out, and nothing else
-        ensures left { IsFirstAndOut (D.held (device_of self.first)) (D.held (device_of result)) self.journal }
-        ensures asks_nothing { AsksNothing D.D3D12Device (device_of self.device) (device_of result) }
+        ensures left { IsFirstAndOut (D.held (device_of self.first)) (D.held (device_of result))
+            self.journal }
+        ensures asks_nothing { AsksNothing D.D3D12Device (device_of self.device)
+            (device_of result) }
         // each heap goes back once: by memory type, then by slot
-        ensures recorded { D.history (device_of result) ≡ releases_recorded (all_handles self.slots) (D.history (device_of self.device)) }
+        ensures recorded { D.history (device_of result)
+            ≡ releases_recorded (all_handles self.slots) (D.history (device_of self.device)) }
         ensures version { result ≡ with_device self.first (device_of result) }
     {
         log_last_leaks(log, self.debug, self.pool.memory_types());

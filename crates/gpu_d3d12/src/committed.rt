@@ -53,10 +53,13 @@ fn commit<D: D3D12Device>(
     size: u64,
 ) -> Result<ID3D12Resource>
     requires { total_size records.old.items < 2 ^ 64 }
-    ensures committed { IsCommitted (λ s answer t. MakesResource D.D3D12Device desc.now s question (Own own.entry.heap_properties.now own.entry.heap_flags)
-        (Committed (made_size (D.properties (device_of source.old.device)) question desc.now.resource_desc.now desc.now.castable_formats.now)) answer t)
-        size records.old.items source.old result records.new.items source.new }
-    ensures blocks { (n : ℕ) → source_blocks D.D3D12Device source.new n ≡ source_blocks D.D3D12Device source.old n }
+    ensures committed { IsCommitted (λ s answer t. MakesResource D.D3D12Device desc.now s question
+        (Own own.entry.heap_properties.now own.entry.heap_flags)
+        (Committed (made_size (D.properties (device_of source.old.device)) question
+        desc.now.resource_desc.now desc.now.castable_formats.now)) answer t) size
+        records.old.items source.old result records.new.items source.new }
+    ensures blocks { (n : ℕ) → source_blocks D.D3D12Device source.new n
+        ≡ source_blocks D.D3D12Device source.old n }
     ensures tier { source.new.tier ≡ source.old.tier }
     ensures journal { source.new.journal ≡ with_made (number_in result) source.old.journal }
     ensures sum { total_size records.new.items < 2 ^ 64 }
@@ -98,12 +101,16 @@ fn release<D: D3D12Device>(
     source: &mut D3D12Blocks<D>,
     made: CommittedRecord,
 ) -> Result<()>
-    ensures gives { OnOk result ((place : ℕ) × (place_of records.old.items made ≡ Some place) × (records.new.items ≡ remove records.old.items place)) }
-    ensures released { OnOk result (ReleasesResource D.D3D12Device source.old made.resource.0 source.new) }
+    ensures gives { OnOk result ((place : ℕ) × (place_of records.old.items made ≡ Some place)
+        × (records.new.items ≡ remove records.old.items place)) }
+    ensures released { OnOk result (ReleasesResource D.D3D12Device source.old made.resource.0
+        source.new) }
     ensures dead { OnErr result (place_of records.old.items made ≡ None) }
     ensures cause { IfErr result (λ e. refusal_of e ≡ freed) }
-    ensures refused { OnErr result ((records.new.items ≡ records.old.items) × (source.new ≡ source.old)) }
-    ensures blocks { (n : ℕ) → source_blocks D.D3D12Device source.new n ≡ source_blocks D.D3D12Device source.old n }
+    ensures refused { OnErr result ((records.new.items ≡ records.old.items)
+        × (source.new ≡ source.old)) }
+    ensures blocks { (n : ℕ) → source_blocks D.D3D12Device source.new n
+        ≡ source_blocks D.D3D12Device source.old n }
     ensures tier { source.new.tier ≡ source.old.tier }
     ensures journal { source.new.journal ≡ with_released made.resource result source.old.journal }
     ensures sum { total_size records.old.items < 2 ^ 64 → total_size records.new.items < 2 ^ 64 }
@@ -171,10 +178,14 @@ impl CommittedResources {
         size: u64,
     ) -> Result<ID3D12Resource>
         requires there { index < length self.old }
-        ensures committed { IsCommitted (λ s answer t. MakesResource D.D3D12Device desc.now s question (Own own.entry.heap_properties.now own.entry.heap_flags)
-            (Committed (made_size (D.properties (device_of source.old.device)) question desc.now.resource_desc.now desc.now.castable_formats.now)) answer t)
-            size (records_at self.old index) source.old result (records_at self.new index) source.new }
-        ensures blocks { (n : ℕ) → source_blocks D.D3D12Device source.new n ≡ source_blocks D.D3D12Device source.old n }
+        ensures committed { IsCommitted
+            (λ s answer t. MakesResource D.D3D12Device desc.now s question
+            (Own own.entry.heap_properties.now own.entry.heap_flags)
+            (Committed (made_size (D.properties (device_of source.old.device)) question
+            desc.now.resource_desc.now desc.now.castable_formats.now)) answer t) size
+            (records_at self.old index) source.old result (records_at self.new index) source.new }
+        ensures blocks { (n : ℕ) → source_blocks D.D3D12Device source.new n
+            ≡ source_blocks D.D3D12Device source.old n }
         ensures tier { source.new.tier ≡ source.old.tier }
         ensures journal { source.new.journal ≡ with_made (number_in result) source.old.journal }
         ensures others { self.new ≡ slice_set self.old index (records_at self.new index) }
@@ -191,13 +202,16 @@ impl CommittedResources {
         index: usize,
         made: CommittedRecord,
     ) -> Result<()>
-        ensures gives { OnOk result (ReleasesRecord index made self.old self.new × ReleasesResource D.D3D12Device source.old made.resource.0 source.new) }
+        ensures gives { OnOk result (ReleasesRecord index made self.old self.new
+            × ReleasesResource D.D3D12Device source.old made.resource.0 source.new) }
         ensures dead { OnErr result (place_of (records_at self.old index) made ≡ None) }
         ensures cause { IfErr result (λ e. refusal_of e ≡ freed) }
         ensures refused { OnErr result ((self.new ≡ self.old) × (source.new ≡ source.old)) }
-        ensures blocks { (n : ℕ) → source_blocks D.D3D12Device source.new n ≡ source_blocks D.D3D12Device source.old n }
+        ensures blocks { (n : ℕ) → source_blocks D.D3D12Device source.new n
+            ≡ source_blocks D.D3D12Device source.old n }
         ensures tier { source.new.tier ≡ source.old.tier }
-        ensures journal { source.new.journal ≡ with_released made.resource result source.old.journal }
+        ensures journal { source.new.journal
+            ≡ with_released made.resource result source.old.journal }
         ensures kept { SumsFit self.new }
     {
         if index >= self.types.len() {

@@ -84,10 +84,13 @@ pub fn make_committed<D: D3D12Device>(
     desc: &ResourceCreateDesc,
 ) -> Result<Resource>
     requires { length committed.old ≡ length (kinds_of_device pool.old.source.tier) }
-    ensures made { IsCommittedOver D.D3D12Device desc.now question (own.entry.heap_properties.now, own.entry.heap_flags)
-        (record { pool = pool.old; committed = committed.old }) result (record { pool = pool.new; committed = committed.new }) }
+    ensures made { IsCommittedOver D.D3D12Device desc.now question
+        (own.entry.heap_properties.now, own.entry.heap_flags)
+        (record { pool = pool.old; committed = committed.old }) result
+        (record { pool = pool.new; committed = committed.new }) }
     ensures kinds { kinds_of_device pool.new.source.tier ≡ kinds_of_device pool.old.source.tier }
-    ensures journal { pool.new.source.journal ≡ with_made (number_given result) pool.old.source.journal }
+    ensures journal { pool.new.source.journal
+        ≡ with_made (number_given result) pool.old.source.journal }
     ensures many { length committed.new ≡ length committed.old }
     ensures alone { IfOk result (λ r. r.allocation ≡ None) }
 {
@@ -111,10 +114,12 @@ pub fn make_placed<D: D3D12Device, L: Log>(
 ) -> Result<Resource>
     ensures made { IsPlacedOver D.D3D12Device desc.now question pool.old result pool.new }
     ensures kinds { kinds_of_device pool.new.source.tier ≡ kinds_of_device pool.old.source.tier }
-    ensures journal { pool.new.source.journal ≡ with_made (number_given result) pool.old.source.journal }
+    ensures journal { pool.new.source.journal
+        ≡ with_made (number_given result) pool.old.source.journal }
     ensures keeps { StayLive is_same_heap pool.old.slots pool.new.slots }
     ensures gives { IfOk result (λ r. IsNewIn pool.old.slots pool.new.slots r.allocation) }
-    ensures aligned { IfOk result (λ r. BeginsAligned (info_of (source_basis D.D3D12Device pool.old.source) desc.now).alignment r.allocation) }
+    ensures aligned { IfOk result (λ r. BeginsAligned
+        (info_of (source_basis D.D3D12Device pool.old.source) desc.now).alignment r.allocation) }
 {
     let asked = piece_desc(desc, allocation_info_of(pool.source().device(), desc));
     log_allocate(log, debug, &asked);

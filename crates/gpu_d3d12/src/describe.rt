@@ -44,8 +44,10 @@ impl<'a> AllocationCreateDesc<'a> {
         name: &'a str,
         location: MemoryLocation,
     ) -> Self
-        ensures size { result.size ≡ ((D.properties device.now).allocation_info desc.now).size_in_bytes }
-        ensures alignment { result.alignment ≡ ((D.properties device.now).allocation_info desc.now).alignment }
+        ensures size { result.size ≡ ((D.properties device.now).allocation_info
+            desc.now).size_in_bytes }
+        ensures alignment { result.alignment
+            ≡ ((D.properties device.now).allocation_info desc.now).alignment }
         ensures category { result.resource_category ≡ category_of desc.now }
         ensures name { result.name.now ≡ name.now }
         ensures location { result.location ≡ location }

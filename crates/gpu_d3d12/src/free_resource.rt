@@ -25,10 +25,13 @@ fn free_placed<D: D3D12Device, L: Log>(
     resource: ID3D12Resource,
     allocation: &Allocation,
 ) -> Result<()>
-    ensures frees { FreesPlacedOver D.D3D12Device allocation.now resource.0 pool.old (result_of result) pool.new }
+    ensures frees { FreesPlacedOver D.D3D12Device allocation.now resource.0 pool.old
+        (result_of result) pool.new }
     ensures kinds { kinds_of_device pool.new.source.tier ≡ kinds_of_device pool.old.source.tier }
-    ensures journal { pool.new.source.journal ≡ with_released resource result pool.old.source.journal }
-    ensures keeps { (b : Allocation) → IsLive pool.old.slots b → AreDistinct b allocation.now → IsLive pool.new.slots b }
+    ensures journal { pool.new.source.journal
+        ≡ with_released resource result pool.old.source.journal }
+    ensures keeps { (b : Allocation) → IsLive pool.old.slots b → AreDistinct b allocation.now
+        → IsLive pool.new.slots b }
 {
     if !pool.is_live_named(allocation) {
         // This is refused, and says why.
@@ -48,11 +51,14 @@ pub fn free_resource<D: D3D12Device, L: Log>(
     resource: &Resource,
 ) -> Result<()>
     ensures frees { FreesResourceOver D.D3D12Device resource.now
-        (record { pool = pool.old; committed = committed.old }) (result_of result) (record { pool = pool.new; committed = committed.new }) }
+        (record { pool = pool.old; committed = committed.old }) (result_of result)
+        (record { pool = pool.new; committed = committed.new }) }
     ensures kinds { kinds_of_device pool.new.source.tier ≡ kinds_of_device pool.old.source.tier }
-    ensures journal { pool.new.source.journal ≡ with_released resource.now.resource result pool.old.source.journal }
+    ensures journal { pool.new.source.journal
+        ≡ with_released resource.now.resource result pool.old.source.journal }
     ensures many { length committed.new ≡ length committed.old }
-    ensures keeps { (b : Allocation) → IsLive pool.old.slots b → IsBeside b resource.now.allocation → IsLive pool.new.slots b }
+    ensures keeps { (b : Allocation) → IsLive pool.old.slots b → IsBeside b resource.now.allocation
+        → IsLive pool.new.slots b }
 {
     match &resource.allocation {
         Some(allocation) => free_placed(log, debug, pool, resource.resource, allocation),

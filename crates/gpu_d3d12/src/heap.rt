@@ -98,7 +98,8 @@ fn refusal_of_heap(code: i32) -> AllocationError
 /// Asks for the heap of a block. `OutOfMemory` where the device has no memory for it, `Internal` where it refuses for
 /// another cause or gives null.
 pub fn create_block_heap<D: D3D12Device>(device: &mut D, desc: &HeapDesc) -> Result<ID3D12Heap>
-    ensures { (answer : HeapAnswer) × AsksHeap D.D3D12Device device.old desc.now answer device.new × IsResultOf result answer }
+    ensures { (answer : HeapAnswer) × AsksHeap D.D3D12Device device.old desc.now answer device.new
+        × IsResultOf result answer }
 {
     match device.create_heap(desc) {
         Err(code) => Err(refusal_of_heap(code)),

@@ -81,9 +81,10 @@ pub fn question_for<D>(
     version: &ID3D12DeviceVersion<D>,
     desc: &ResourceCreateDesc,
 ) -> Result<CreateCall>
-    ensures { MatchResult result
-        (λ question. resource_question version.now desc.now.initial_state_or_layout desc.now.castable_formats.now ≡ Ok question)
-        (λ e. resource_question version.now desc.now.initial_state_or_layout desc.now.castable_formats.now ≡ Err (refusal_of e)) }
+    ensures { MatchResult result (λ question. resource_question version.now
+        desc.now.initial_state_or_layout desc.now.castable_formats.now ≡ Ok question)
+        (λ e. resource_question version.now desc.now.initial_state_or_layout
+        desc.now.castable_formats.now ≡ Err (refusal_of e)) }
 {
     let has_formats = !desc.castable_formats.is_empty();
     let layout = match desc.initial_state_or_layout {
@@ -118,7 +119,8 @@ pub fn allocation_info_of<D: D3D12Device>(
     version: &ID3D12DeviceVersion<D>,
     desc: &ResourceCreateDesc,
 ) -> ResourceAllocationInfo
-    ensures { result ≡ told_info (D.properties (device_of version.now)) version.now desc.now.resource_desc.now desc.now.castable_formats.now }
+    ensures { result ≡ told_info (D.properties (device_of version.now)) version.now
+        desc.now.resource_desc.now desc.now.castable_formats.now }
 {
     match version {
         ID3D12DeviceVersion::Device(device) => device.resource_allocation_info(desc.resource_desc),

@@ -90,8 +90,10 @@ pub fn create_committed<D: D3D12Device>(
     heap_flags: HeapFlags,
 ) -> Result<ID3D12Resource>
     ensures { (answer : ResourceAnswer)
-        × AsksResource D.D3D12Device device.old question desc.now (Own heap_properties.now heap_flags)
-        (Committed (made_size (D.properties device.old) question desc.now.resource_desc.now desc.now.castable_formats.now)) answer device.new
+        × AsksResource D.D3D12Device device.old question desc.now
+        (Own heap_properties.now heap_flags)
+        (Committed (made_size (D.properties device.old) question desc.now.resource_desc.now
+        desc.now.castable_formats.now)) answer device.new
         × Makes committed_texts result answer }
 {
     let clear = desc.clear_value;
@@ -141,7 +143,8 @@ pub fn create_placed<D: D3D12Device>(
 ) -> Result<ID3D12Resource>
     ensures { (answer : ResourceAnswer)
         × AsksResource D.D3D12Device device.old question desc.now (InHeap heap offset)
-        (Placed heap.0 offset (made_size (D.properties device.old) question desc.now.resource_desc.now desc.now.castable_formats.now)) answer device.new
+        (Placed heap.0 offset (made_size (D.properties device.old) question
+        desc.now.resource_desc.now desc.now.castable_formats.now)) answer device.new
         × Makes placed_texts result answer }
 {
     let clear = desc.clear_value;

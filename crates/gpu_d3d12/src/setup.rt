@@ -17,9 +17,9 @@ use std::alloc::{AllocError, Global};
 
 /// The device's heap tier, or why it can't be told. That is a property of the device, and no refused question.
 pub fn tier_of<D: D3D12Device>(device: &D) -> Result<ResourceHeapTier>
-    ensures { MatchResult result
-        (λ tier. (D.properties device.now).tier ≡ Ok tier)
-        (λ e. (code : ℤ) × ((D.properties device.now).tier ≡ Err code) × (refusal_of e ≡ tier_refusal code)) }
+    ensures { MatchResult result (λ tier. (D.properties device.now).tier ≡ Ok tier)
+        (λ e. (code : ℤ) × ((D.properties device.now).tier ≡ Err code)
+        × (refusal_of e ≡ tier_refusal code)) }
 {
     match device.resource_heap_tier() {
         Ok(tier) => Ok(tier),
@@ -58,7 +58,8 @@ pub fn parts_of<D: D3D12Device>(
     ensures empty { IfOk result (λ parts. All (λ slots. slots ≡ []) (slots_of parts.1)) }
     ensures unbounded { IfOk result (λ parts. All (λ b. b ≡ None) (budgets parts.1)) }
     ensures kept { IfOk result (λ parts. MemoryTypesInvariant parts.1) }
-    ensures cause { IfErr result (λ e. refusal_of e ≡ unwrap_or (setup_fault (D.properties device.now)) host_out_of_memory) }
+    ensures cause { IfErr result (λ e. refusal_of e
+        ≡ unwrap_or (setup_fault (D.properties device.now)) host_out_of_memory) }
 {
     let tier = match tier_of(device) {
         Ok(tier) => tier,

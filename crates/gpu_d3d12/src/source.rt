@@ -38,12 +38,20 @@ impl<D: D3D12Device> Model for D3D12Blocks<D> {
 
     ghost Value = { SourceState D };
 
-    ghost view = { λ s. record { device = s.device; first = s.first.value; tier = s.tier; journal = events s.journal } };
+    ghost view = { λ s. record {
+      device = s.device;
+      first = s.first.value;
+      tier = s.tier;
+      journal =
+          events s.journal;
+    } };
 
-    ghost invariant = { λ s. (D.properties (device_of s.device) ≡ D.properties (device_of s.first.value))
+    ghost invariant = { λ s. (D.properties (device_of s.device)
+        ≡ D.properties (device_of s.first.value))
         × (s.device ≡ with_device s.first.value (device_of s.device))
         × HoldsFirst s.tier (D.held (device_of s.first.value)) (D.held (device_of s.device))
-        × HoldsResources (D.held (device_of s.first.value)) (D.held (device_of s.device)) (events s.journal) };
+        × HoldsResources (D.held (device_of s.first.value)) (D.held (device_of s.device))
+        (events s.journal) };
 }
 
 impl<D: D3D12Device> BlockSource for D3D12Blocks<D> {
@@ -76,7 +84,12 @@ impl<D: D3D12Device> BlockSource for D3D12Blocks<D> {
 impl<D: D3D12Device> D3D12Blocks<D> {
     /// A source without blocks, over a device of this heap tier.
     pub fn new(device: ID3D12DeviceVersion<D>, tier: ResourceHeapTier) -> Self
-        ensures made { result ≡ record { device = device; first = device; tier = tier; journal = [] } }
+        ensures made { result ≡ record {
+          device = device;
+          first = device;
+          tier = tier;
+          journal = [];
+        } }
         ensures none { (n : ℕ) → source_blocks D.D3D12Device result n ≡ None }
         ensures beside { source_beside D.D3D12Device result ≡ D.held (device_of device) }
     {
@@ -92,9 +105,12 @@ impl<D: D3D12Device> D3D12Blocks<D> {
     /// The device, lent.
     pub fn device(&self) -> &ID3D12DeviceVersion<D>
         ensures lent { result.now ≡ self.now.device }
-        ensures holds { HoldsFirst self.now.tier (D.held (device_of self.now.first)) (held_by D.D3D12Device self.now) }
-        ensures resources { HoldsResources (D.held (device_of self.now.first)) (held_by D.D3D12Device self.now) self.now.journal }
-        ensures constant { D.properties (device_of self.now.device) ≡ D.properties (device_of self.now.first) }
+        ensures holds { HoldsFirst self.now.tier (D.held (device_of self.now.first))
+            (held_by D.D3D12Device self.now) }
+        ensures resources { HoldsResources (D.held (device_of self.now.first))
+            (held_by D.D3D12Device self.now) self.now.journal }
+        ensures constant { D.properties (device_of self.now.device)
+            ≡ D.properties (device_of self.now.first) }
     {
         &self.device
     }
@@ -115,10 +131,13 @@ impl<D: D3D12Device> D3D12Blocks<D> {
         desc: &ResourceCreateDesc,
     ) -> Result<ID3D12Resource>
         ensures makes { (answer : ResourceAnswer)
-            × MakesResource D.D3D12Device desc.now self.old question (Own own.entry.heap_properties.now own.entry.heap_flags)
-            (Committed (made_size (D.properties (device_of self.old.device)) question desc.now.resource_desc.now desc.now.castable_formats.now)) answer self.new
+            × MakesResource D.D3D12Device desc.now self.old question
+            (Own own.entry.heap_properties.now own.entry.heap_flags)
+            (Committed (made_size (D.properties (device_of self.old.device)) question
+            desc.now.resource_desc.now desc.now.castable_formats.now)) answer self.new
             × Makes committed_texts result answer }
-        ensures blocks { (n : ℕ) → source_blocks D.D3D12Device self.new n ≡ source_blocks D.D3D12Device self.old n }
+        ensures blocks { (n : ℕ) → source_blocks D.D3D12Device self.new n
+            ≡ source_blocks D.D3D12Device self.old n }
         ensures tier { self.new.tier ≡ self.old.tier }
         ensures journal { self.new.journal ≡ with_made (number_in result) self.old.journal }
     {
@@ -139,9 +158,11 @@ impl<D: D3D12Device> D3D12Blocks<D> {
     ) -> Result<ID3D12Resource>
         ensures makes { (answer : ResourceAnswer)
             × MakesResource D.D3D12Device desc.now self.old question (InHeap heap offset)
-            (Placed heap.0 offset (made_size (D.properties (device_of self.old.device)) question desc.now.resource_desc.now desc.now.castable_formats.now)) answer self.new
+            (Placed heap.0 offset (made_size (D.properties (device_of self.old.device)) question
+            desc.now.resource_desc.now desc.now.castable_formats.now)) answer self.new
             × Makes placed_texts result answer }
-        ensures blocks { (n : ℕ) → source_blocks D.D3D12Device self.new n ≡ source_blocks D.D3D12Device self.old n }
+        ensures blocks { (n : ℕ) → source_blocks D.D3D12Device self.new n
+            ≡ source_blocks D.D3D12Device self.old n }
         ensures tier { self.new.tier ≡ self.old.tier }
         ensures journal { self.new.journal ≡ with_made (number_in result) self.old.journal }
     {
@@ -154,7 +175,8 @@ impl<D: D3D12Device> D3D12Blocks<D> {
     /// Releases a resource. Never refused.
     pub fn release(&mut self, resource: ID3D12Resource)
         ensures releases { ReleasesResource D.D3D12Device self.old resource.0 self.new }
-        ensures blocks { (n : ℕ) → source_blocks D.D3D12Device self.new n ≡ source_blocks D.D3D12Device self.old n }
+        ensures blocks { (n : ℕ) → source_blocks D.D3D12Device self.new n
+            ≡ source_blocks D.D3D12Device self.old n }
         ensures tier { self.new.tier ≡ self.old.tier }
     {
         self.device.device_mut().release_resource(resource);
@@ -166,7 +188,8 @@ impl<D: D3D12Device> D3D12Blocks<D> {
         requires { (n : ℕ) → source_blocks D.D3D12Device self n ≡ None }
         ensures same { result ≡ self.device }
         ensures held { D.held (device_of result) ≡ source_beside D.D3D12Device self }
-        ensures left { IsFirstAndOut (D.held (device_of self.first)) (D.held (device_of result)) self.journal }
+        ensures left { IsFirstAndOut (D.held (device_of self.first)) (D.held (device_of result))
+            self.journal }
         ensures version { result ≡ with_device self.first (device_of result) }
     {
         let D3D12Blocks {

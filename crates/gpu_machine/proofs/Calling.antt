@@ -1,10 +1,10 @@
 -- Calls of the memory types as calls of the machine.
-use Rattle.std.proofs.Common.{◌≡◌, refl, sym, ap, subst, ℕ, ◌<◌, Bool, false, List, length, Option, Some, None, Ok, Err, Result, IfErr, OnOk, OnErr, IsTrue, arith}
+use Rattle.std.proofs.Common.{◌≡◌, refl, sym, ap, subst, ℕ, ◌<◌, ◌≤◌, Bool, false, List, [], length, Option, Some, None, Ok, Err, Result, IfErr, OnOk, OnErr, IsTrue, arith}
 use Rattle.std.specs.Prelude.{◌↔◌, IsSome}
-use Rattle.std.proofs.lemmas.List.{length-map}
+use Rattle.std.proofs.lemmas.List.{length-map, get_or_past}
 use Rattle.gpu_values.specs.Refusal.{refusal_of}
 use Rattle.gpu_values.specs.declared.error.AllocationError.{AllocationError}
-use Rattle.gpu_core.specs.TypeState.{TypeState}
+use Rattle.gpu_core.specs.TypeState.{TypeState, Slot, slot_at, block_number}
 use Rattle.gpu_core.specs.declared.piece.Piece.{Piece}
 use Rattle.gpu_device.specs.declared.vulkan.types.DeviceMemory.{DeviceMemory}
 use Rattle.gpu_memory_types.specs.Blocks.{slots_at}
@@ -15,7 +15,7 @@ use Rattle.gpu_pool.proofs.Freeing.{type_below}
 use Rattle.gpu_vulkan.specs.Live.{is_same_memory, IsLiveIn}
 use Rattle.gpu_vulkan.specs.Setup.{Setup}
 use Rattle.gpu_vulkan.specs.Types.{is_host_visible, kinds_of_device}
-use Rattle.gpu_machine.specs.Calls.{Renames, RenamesIn}
+use Rattle.gpu_machine.specs.Calls.{Renames, RenamesIn, memory_back, block_memory}
 use Rattle.gpu_machine.specs.State.{State, state_of}
 use Rattle.gpu_machine.specs.declared.awaited.Awaited.{Awaited}
 
@@ -52,3 +52,14 @@ module _ (setup : Setup) (types new : Types DeviceMemory) (a : Option Awaited) (
   renames now result view closed renamed cause same bs =
       subst (λ (o : Option Awaited). RenamesIn o now t p name result (state_of setup new a)) (sym closed)
       (subst (λ (s : State). RenamesIn None s t p name result (state_of setup new a)) view (renamed_in result renamed cause same bs))
+
+-- where there is no such memory type there is no block of it
+pub no_block_there : (setup : Setup) (types : Types DeviceMemory) (a : Option Awaited) (t slot : ℕ) → kinds types ≡ kinds_of_device setup.properties
+    → length setup.properties.types ≤ t → block_memory (state_of setup types a) t slot ≡ None
+no_block_there setup types a t slot same past =
+    let long = length-map {B = Bool × ℕ} setup.properties.types (λ info. (is_host_visible info, setup.properties.granularity)) in
+    let own = length-map {B = Bool × ℕ} types (λ (k : TypeState DeviceMemory). (k.is_host, k.granularity)) in
+    let slots = length-map types (λ (k : TypeState DeviceMemory). k.slots) in
+    let alike = ap (λ (ks : List (Bool × ℕ)). length ks) same in
+    let beyond : length (slots_of types) ≤ t = omega (arith, long, own, slots, alike, past) in
+    ap (λ (xs : List (Option (Slot DeviceMemory))). memory_back setup t (block_number (slot_at xs slot))) (get_or_past (slots_of types) t [] beyond)

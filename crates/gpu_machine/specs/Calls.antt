@@ -3,6 +3,7 @@ use Rattle.std.specs.Prelude.{◌≡◌, ℕ, List, Option, Some, None, Result, 
 use Rattle.std.specs.Option.{option_map}
 use Rattle.gpu_values.specs.Refusal.{refusal_of}
 use Rattle.gpu_values.specs.declared.error.AllocationError.{AllocationError}
+use Rattle.gpu_core.specs.TypeState.{slot_at, block_number}
 use Rattle.gpu_core.specs.declared.piece.Piece.{Piece}
 use Rattle.gpu_device.specs.declared.vulkan.types.DeviceMemory.{DeviceMemory}
 use Rattle.gpu_memory_types.specs.Blocks.{slots_at}
@@ -52,6 +53,12 @@ FreesIn None old t p (Err e) new = IsNotLive old t p e new
 -- a piece is freed where no question is open
 abbrev pub Frees : State → (t : ℕ) → Piece DeviceMemory → Result (Option MemoryBack) AllocationError → State → Type 0
 Frees old t p result new = FreesIn old.awaited old t p result new
+
+-- ---- looks
+
+-- the memory of the block in a slot of a memory type
+abbrev pub block_memory : State → (t slot : ℕ) → Option MemoryBack
+block_memory s t slot = memory_back s.setup t (block_number (slot_at (slots_at s.slots t) slot))
 
 -- ---- rename
 

@@ -25,32 +25,44 @@ use gpu_device::vulkan::VulkanDevice;
 /// returns over that device, and leaves its blocks and the device as `allocate` does; nothing else of the machine changes, and no
 /// question is left open.
 pub fn runs_are_allocations<D: VulkanDevice>()
-    ensures { (questions : ℕ) (old new : State) (d : AllocationCreateDesc) (device after : D) (told : Result Allocated AllocationError) (result : Result Allocation AllocationError)
-        → old.awaited ≡ None → Runs D.VulkanDevice questions old d device told new after → Returns old.setup d told result
-        → Allocates D.VulkanDevice old.setup old.budgets d old.slots device result new.slots after × (new ≡ record old { slots = new.slots }) }
+    ensures { (questions : ℕ) (old new : State) (d : AllocationCreateDesc) (device after : D)
+        (told : Result Allocated AllocationError) (result : Result Allocation AllocationError)
+        → old.awaited ≡ None → Runs D.VulkanDevice questions old d device told new after
+        → Returns old.setup d told result
+        → Allocates D.VulkanDevice old.setup old.budgets d old.slots device result new.slots after
+        × (new ≡ record old { slots = new.slots }) }
 {}
 
 /// A request asks at most two questions.
 pub fn two_questions_suffice<D: VulkanDevice>()
-    ensures { (questions : ℕ) (old new : State) (d : AllocationCreateDesc) (device after : D) (told : Result Allocated AllocationError)
-        → old.awaited ≡ None → Runs D.VulkanDevice questions old d device told new after → Runs D.VulkanDevice 2 old d device told new after }
+    ensures { (questions : ℕ) (old new : State) (d : AllocationCreateDesc) (device after : D)
+        (told : Result Allocated AllocationError) → old.awaited ≡ None
+        → Runs D.VulkanDevice questions old d device told new after
+        → Runs D.VulkanDevice 2 old d device told new after }
 {}
 
 /// Whoever frees a piece, and gives a device back the memory that the machine told, has freed the allocator's allocation over that device;
 /// where the machine refuses, the allocator does, for the same cause.
 pub fn frees_are_frees<D: VulkanDevice>()
-    ensures freed { (old new : State) (a : Allocation) (p : Piece DeviceMemory) (back : Option MemoryBack) (device after : D) → old.awaited ≡ None → piece_of a ≡ Some p
-        → Frees old a.memory_type_index p (Ok back) new → GivesBack D.VulkanDevice device (memory_in back) after
+    ensures freed { (old new : State) (a : Allocation) (p : Piece DeviceMemory)
+        (back : Option MemoryBack) (device after : D) → old.awaited ≡ None → piece_of a ≡ Some p
+        → Frees old a.memory_type_index p (Ok back) new
+        → GivesBack D.VulkanDevice device (memory_in back) after
         → allocator_free.Frees D.VulkanDevice a old.slots device (Ok tt) new.slots after }
-    ensures refused { (old new : State) (a : Allocation) (p : Piece DeviceMemory) (e f : AllocationError) (device : D) → old.awaited ≡ None → piece_of a ≡ Some p
+    ensures refused { (old new : State) (a : Allocation) (p : Piece DeviceMemory)
+        (e f : AllocationError) (device : D) → old.awaited ≡ None → piece_of a ≡ Some p
         → Frees old a.memory_type_index p (Err e) new → refusal_of f ≡ refusal_of e
         → allocator_free.Frees D.VulkanDevice a old.slots device (Err (f, a)) new.slots device }
 {}
 
 /// Whoever renames a piece has renamed the allocator's allocation.
 pub fn renames_are_renames()
-    ensures renamed { (old new : State) (a b : Allocation) (p : Piece DeviceMemory) (name : List ℕ) → old.awaited ≡ None → piece_of a ≡ Some p → Renames old a.memory_type_index p name (Ok tt) new
-        → IsNamed a name b → allocator_rename.Renames a name old.slots (Ok tt) b new.slots }
-    ensures refused { (old new : State) (a : Allocation) (p : Piece DeviceMemory) (name : List ℕ) (e f : AllocationError) → old.awaited ≡ None → piece_of a ≡ Some p
-        → Renames old a.memory_type_index p name (Err e) new → refusal_of f ≡ refusal_of e → allocator_rename.Renames a name old.slots (Err f) a new.slots }
+    ensures renamed { (old new : State) (a b : Allocation) (p : Piece DeviceMemory) (name : List ℕ)
+        → old.awaited ≡ None → piece_of a ≡ Some p
+        → Renames old a.memory_type_index p name (Ok tt) new → IsNamed a name b
+        → allocator_rename.Renames a name old.slots (Ok tt) b new.slots }
+    ensures refused { (old new : State) (a : Allocation) (p : Piece DeviceMemory) (name : List ℕ)
+        (e f : AllocationError) → old.awaited ≡ None → piece_of a ≡ Some p
+        → Renames old a.memory_type_index p name (Err e) new → refusal_of f ≡ refusal_of e
+        → allocator_rename.Renames a name old.slots (Err f) a new.slots }
 {}

@@ -14,7 +14,9 @@ ghost use Rattle.gpu_memory_types.specs.Blocks.{total_capacity, BlocksWellFormed
 ghost use Rattle.gpu_memory_types.specs.Budgets.{budget_at, budgets};
 ghost use Rattle.gpu_memory_types.specs.Types.{slots_of, kinds};
 ghost use Rattle.gpu_vulkan.specs.Types.{kinds_of_device};
-ghost use Rattle.gpu_machine.specs.Calls.{memory_back, Frees, Renames, SetsBudget};
+ghost use Rattle.gpu_memory_types.specs.Leaks.{all_leaks};
+ghost use Rattle.gpu_pool.specs.Told.{Reports};
+ghost use Rattle.gpu_machine.specs.Calls.{memory_back, block_memory, Frees, Renames, SetsBudget};
 ghost use Rattle.gpu_machine.specs.Description.{description_of};
 ghost use Rattle.gpu_machine.specs.Live.{StayLive, IsNewlyLive, Gives, GivesAwaited};
 ghost use Rattle.gpu_machine.specs.State.{IsServed, told_fault};
@@ -27,8 +29,8 @@ use crate::refusal::{answer_awaited, no_answer_awaited, refusal_of_mapping};
 use crate::told::fault_of;
 use gpu_core::{Piece, Prepared};
 use gpu_device::vulkan::{DeviceMemory, MemoryAllocateInfo, MemoryHeap, MemoryTypeInfo};
-use gpu_memory_types::MemoryTypes;
-use gpu_values::{AllocationError, Result};
+use gpu_memory_types::{AllLeaks, MemoryTypes};
+use gpu_values::{AllocationError, AllocatorReport, Result};
 use gpu_vulkan::{
     AllocationCreateDesc, Settings, Setup, best_type, next_type, refusal_of_memory, request_of,
     told_parts,
@@ -99,7 +101,8 @@ impl Model for Machine {
 
     ghost view = { λ m. state_of m.setup m.types m.awaited };
 
-    ghost invariant = { λ m. (kinds m.types ≡ kinds_of_device m.setup.properties) × MemoryTypesInvariant m.types × CanAnswer m.types m.awaited };
+    ghost invariant = { λ m. (kinds m.types ≡ kinds_of_device m.setup.properties)
+        × MemoryTypesInvariant m.types × CanAnswer m.types m.awaited };
 }
 
 impl Machine {
@@ -123,9 +126,12 @@ impl Machine {
         ensures types { IfOk result (λ m. length m.slots ≡ length memory_types.items) }
         ensures budgets { IfOk result (λ m. All (λ b. b ≡ None) m.budgets) }
         ensures closed { IfOk result (λ m. m.awaited ≡ None) }
-        ensures valid { OnOk result (told_fault (properties_told memory_types.items heaps.items granularity) ≡ None) }
+        ensures valid { OnOk result (told_fault
+            (properties_told memory_types.items heaps.items granularity) ≡ None) }
         // the first fault that holds, else lack of host memory: nothing else refuses
-        ensures cause { IfErr result (λ e. refusal_of e ≡ unwrap_or (told_fault (properties_told memory_types.items heaps.items granularity)) host_out_of_memory) }
+        ensures cause { IfErr result (λ e. refusal_of e
+            ≡ unwrap_or (told_fault (properties_told memory_types.items heaps.items granularity))
+            host_out_of_memory) }
     {
         if let Some(error) = fault_of(&memory_types, &heaps, granularity) {
             return Err(error);
@@ -183,7 +189,8 @@ impl Machine {
     /// It takes no host memory, and isn't refused but where no question is open (`Internal`).
     pub fn granted(&mut self, memory: DeviceMemory) -> Result<Allocated>
         ensures grants { Grants self.old memory result self.new }
-        ensures gives { IfOk result (λ a. IsNewlyLive self.old.slots self.new.slots a × (a.piece.offset ≡ 0)) }
+        ensures gives { IfOk result (λ a. IsNewlyLive self.old.slots self.new.slots a
+            × (a.piece.offset ≡ 0)) }
         ensures keeps { StayLive self.old.slots self.new.slots }
     {
         match self.awaited.take() {
@@ -290,6 +297,33 @@ impl Machine {
         self.types.capacity()
     }
 
+    /// What is allocated: the live blocks and pieces by memory type, then by slot, pieces by offset, and the sums of both.
+    /// The only refusal is `HostOutOfMemory`.
+    pub fn report(&self) -> Result<AllocatorReport>
+        ensures { Reports self.now.slots result }
+    {
+        self.types.report(self.alloc)
+    }
+
+    /// The live pieces by memory type, then by slot, then in order of offset, with their texts. It takes no memory.
+    pub fn leaks(&self) -> AllLeaks<'_, DeviceMemory>
+        ensures { result ≡ all_leaks self.now.slots }
+    {
+        self.types.leaks()
+    }
+
+    /// The memory of the block in a slot of the memory type at `index`, or `None` where there is none. A machine is dropped with its
+    /// pieces; a visit of all slots before shows which memory goes back to the driver then.
+    #[tactic(auto, using(crate::proofs::Calling::no_block_there))]
+    pub fn block(&self, index: usize, slot: usize) -> Option<MemoryBack>
+        ensures { result ≡ block_memory self.now index slot }
+    {
+        if index >= self.setup.memory_types().len() {
+            return None;
+        }
+        memory_back(&self.setup, index, self.types.block(index, slot))
+    }
+
     /// The memory types, lent to be looked at: their blocks with pieces and gaps, and what is counted of them.
     pub fn memory_types(&self) -> &MemoryTypes<DeviceMemory>
         ensures slots { slots_of result.now ≡ self.now.slots }
@@ -304,11 +338,14 @@ impl Machine {
     pub fn pieces_are_apart(&self)
         ensures types { length self.now.slots ≡ length self.now.setup.properties.types }
         ensures sound { BlocksWellFormed self.now.setup.properties.granularity self.now.slots }
-        ensures inside { (t : ℕ) (p : Piece DeviceMemory) → IsLiveIn self.now.slots t (Some p) → IsInside self.now.slots t p }
-        ensures apart { (t : ℕ) (p : Piece DeviceMemory) (u : ℕ) (q : Piece DeviceMemory) → IsLiveIn self.now.slots t (Some p)
-            → IsLiveIn self.now.slots u (Some q) → AreDistinct t p u q → SharesNoByte t p u q }
+        ensures inside { (t : ℕ) (p : Piece DeviceMemory) → IsLiveIn self.now.slots t (Some p)
+            → IsInside self.now.slots t p }
+        ensures apart { (t : ℕ) (p : Piece DeviceMemory) (u : ℕ) (q : Piece DeviceMemory)
+            → IsLiveIn self.now.slots t (Some p) → IsLiveIn self.now.slots u (Some q)
+            → AreDistinct t p u q → SharesNoByte t p u q }
         ensures pages { (t : ℕ) (p q : Piece DeviceMemory) → IsLiveIn self.now.slots t (Some p)
-            → IsLiveIn self.now.slots t (Some q) → KeepsPages self.now.setup.properties.granularity self.now.slots t p q }
+            → IsLiveIn self.now.slots t (Some q)
+            → KeepsPages self.now.setup.properties.granularity self.now.slots t p q }
     {
         let _ = &self.types;
     }
@@ -358,7 +395,8 @@ impl Machine {
     fn follow(&mut self, desc: &AllocationCreateDesc, error: AllocationError) -> Result<Progress>
         requires closed { self.old.awaited ≡ None }
         requires served { IsServed (description_of desc.now) }
-        ensures { Follows self.old desc.now (next_type self.old.setup desc.now (refusal_of error)) (refusal_of error) result self.new }
+        ensures { Follows self.old desc.now (next_type self.old.setup desc.now (refusal_of error))
+            (refusal_of error) result self.new }
     {
         match next_type(&self.setup, desc, &error) {
             None => Err(error),

@@ -22,7 +22,8 @@ fn invalid(text: &'static str) -> AllocationError
 
 /// Whether each memory type lies in a heap that is there.
 fn has_heaps(types: &[MemoryTypeInfo], heaps: &[MemoryHeap]) -> bool
-    ensures { (granularity : ℕ) → result ≡ not (list_any (lacks_heap (properties_told types.now heaps.now granularity)) types.now) }
+    ensures { (granularity : ℕ) → result
+        ≡ not (list_any (lacks_heap (properties_told types.now heaps.now granularity)) types.now) }
 {
     for info in types {
         if heaps.len() <= info.heap_index as usize {
@@ -38,7 +39,8 @@ pub fn fault_of(
     heaps: &[MemoryHeap],
     granularity: u64,
 ) -> Option<AllocationError>
-    ensures { option_map refusal_of result ≡ told_fault (properties_told types.now heaps.now granularity) }
+    ensures { option_map refusal_of result
+        ≡ told_fault (properties_told types.now heaps.now granularity) }
 {
     if !granularity.is_power_of_two() {
         return Some(invalid("buffer image granularity is not a power of two."));

@@ -32,7 +32,8 @@ impl<'a, H: Copy + Eq> Model for AllLeaks<'a, H> {
 
     ghost Value = { List LeakOf };
 
-    ghost view = { λ l. unwrap_or l.rest [] ++ leaks_beginning l.next (slots_of (drop l.next l.types.now)) };
+    ghost view = { λ l. unwrap_or l.rest []
+        ++ leaks_beginning l.next (slots_of (drop l.next l.types.now)) };
 }
 
 /// The live pieces of all memory types.

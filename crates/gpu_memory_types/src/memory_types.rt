@@ -59,7 +59,8 @@ fn within_limits<H: Copy + Eq>(
 ) -> Result<Prepared<H>>
     ensures same { IfOk result (λ p. p ≡ prepared) }
     ensures fits { OnOk result (refusal_of_need used memory_type.now prepared ≡ None) }
-    ensures cause { IfErr result (λ e. refusal_of_need used memory_type.now prepared ≡ Some (refusal_of e)) }
+    ensures cause { IfErr result (λ e. refusal_of_need used memory_type.now prepared
+        ≡ Some (refusal_of e)) }
 {
     if let Prepared::NeedBlock(need) = &prepared {
         check_block(used, memory_type, need.size)?;
@@ -132,7 +133,8 @@ impl<H: Copy + Eq> MemoryTypes<H> {
     /// budget below the present sum gives no block back. It takes no memory. `Internal` where there is no such memory type,
     /// and then nothing changes.
     pub fn set_budget(&mut self, index: usize, budget: Option<u64>) -> Result<()>
-        ensures budgets { SetsBudget index budget (budgets self.old) (refusal_in result) (budgets self.new) }
+        ensures budgets { SetsBudget index budget (budgets self.old) (refusal_in result)
+            (budgets self.new) }
         ensures found { index < length (slots_of self.old) → IsOk result }
         ensures slots { slots_of self.new ≡ slots_of self.old }
         ensures kinds { kinds self.new ≡ kinds self.old }
@@ -177,8 +179,10 @@ impl<H: Copy + Eq> MemoryTypes<H> {
         requires sized { 0 < request.now.size }
         requires aligned { IsTrue (is_power_of_two request.now.alignment) }
         requires piece { request.now.kind ≢ AllocationType.Free }
-        ensures prepared { IfOk result (λ p. PreparesAt index self.old sizes.now request.now p self.new) }
-        ensures cause { IfErr result (λ e. IsPrepareRefusal index self.old sizes.now request.now (refusal_of e)) }
+        ensures prepared { IfOk result (λ p. PreparesAt index self.old sizes.now request.now p
+            self.new) }
+        ensures cause { IfErr result (λ e. IsPrepareRefusal index self.old sizes.now request.now
+            (refusal_of e)) }
         ensures refused { OnErr result (slots_of self.new ≡ slots_of self.old) }
         ensures others { (t : ℕ) → t ≢ index → type_of self.new t ≡ type_of self.old t }
         ensures kinds { kinds self.new ≡ kinds self.old }
@@ -197,7 +201,8 @@ impl<H: Copy + Eq> MemoryTypes<H> {
         requires there { index < length self.old }
         requires ready { CanInstall (type_of self.old index) need.size need.dedicated need.room }
         requires sum { total_capacity (slots_of self.old) + need.size < 2 ^ 64 }
-        ensures installed { InstallsAt index (slots_of self.old) need.dedicated need.room handle result (slots_of self.new) }
+        ensures installed { InstallsAt index (slots_of self.old) need.dedicated need.room handle
+            result (slots_of self.new) }
         ensures others { (t : ℕ) → t ≢ index → type_of self.new t ≡ type_of self.old t }
         ensures kinds { kinds self.new ≡ kinds self.old }
         ensures budgets { budgets self.new ≡ budgets self.old }
@@ -209,10 +214,12 @@ impl<H: Copy + Eq> MemoryTypes<H> {
     /// Frees a piece of the memory type at `index`, and names the block that went with it, if one did. It takes no
     /// memory. `Internal` where the piece isn't live, and then nothing changes.
     pub fn free(&mut self, index: usize, piece: &Piece<H>) -> Result<Option<H>>
-        ensures released { IfOk result (λ went. ReleasesAt index piece.now (slots_of self.old) went (slots_of self.new)) }
+        ensures released { IfOk result (λ went. ReleasesAt index piece.now (slots_of self.old) went
+            (slots_of self.new)) }
         ensures live { OnOk result (IsLiveIn H.eq (slots_of self.old) index (Some piece.now)) }
         ensures dead { OnErr result (IsLiveIn H.eq (slots_of self.old) index (Some piece.now) → ⊥) }
-        ensures cause { IfErr result (λ e. IsReleaseRefusal H.eq index (slots_of self.old) piece.now (refusal_of e)) }
+        ensures cause { IfErr result (λ e. IsReleaseRefusal H.eq index (slots_of self.old) piece.now
+            (refusal_of e)) }
         ensures refused { OnErr result (self.new ≡ self.old) }
         ensures others { (t : ℕ) → t ≢ index → type_of self.new t ≡ type_of self.old t }
         ensures kinds { kinds self.new ≡ kinds self.old }
@@ -228,8 +235,10 @@ impl<H: Copy + Eq> MemoryTypes<H> {
     /// Renames a piece of the memory type at `index`. `Internal` where the piece isn't live, else
     /// `HostOutOfMemory` where the host refused memory; then nothing changes.
     pub fn rename(&mut self, index: usize, piece: &Piece<H>, name: &str) -> Result<()>
-        ensures renamed { OnOk result (IsRenamed H.eq index piece.now name.now (slots_of self.old) (slots_of self.new)) }
-        ensures cause { IfErr result (λ e. IsNotNamed H.eq (slots_at (slots_of self.old) index) piece.now (refusal_of e)) }
+        ensures renamed { OnOk result (IsRenamed H.eq index piece.now name.now (slots_of self.old)
+            (slots_of self.new)) }
+        ensures cause { IfErr result (λ e. IsNotNamed H.eq (slots_at (slots_of self.old) index)
+            piece.now (refusal_of e)) }
         ensures refused { OnErr result (self.new ≡ self.old) }
         ensures others { (t : ℕ) → t ≢ index → type_of self.new t ≡ type_of self.old t }
         ensures kinds { kinds self.new ≡ kinds self.old }
@@ -245,11 +254,15 @@ impl<H: Copy + Eq> MemoryTypes<H> {
     /// What holds of live pieces at any time, for callers' proofs: each lies inside its block, no two share a byte, and those
     /// of different kinds share no page of their memory type. It does nothing.
     pub fn pieces_are_apart(&self)
-        ensures inside { (t : ℕ) (p : Piece H) → IsLiveIn H.eq (slots_of self.now) t (Some p) → IsInside (slots_of self.now) t p }
-        ensures apart { (t : ℕ) (p : Piece H) (u : ℕ) (q : Piece H) → IsLiveIn H.eq (slots_of self.now) t (Some p)
-            → IsLiveIn H.eq (slots_of self.now) u (Some q) → AreDistinct t p u q → SharesNoByte t p u q }
+        ensures inside { (t : ℕ) (p : Piece H) → IsLiveIn H.eq (slots_of self.now) t (Some p)
+            → IsInside (slots_of self.now) t p }
+        ensures apart { (t : ℕ) (p : Piece H) (u : ℕ) (q : Piece H)
+            → IsLiveIn H.eq (slots_of self.now) t (Some p)
+            → IsLiveIn H.eq (slots_of self.now) u (Some q) → AreDistinct t p u q
+            → SharesNoByte t p u q }
         ensures pages { (t : ℕ) (p q : Piece H) → IsLiveIn H.eq (slots_of self.now) t (Some p)
-            → IsLiveIn H.eq (slots_of self.now) t (Some q) → KeepsPages (type_of self.now t).granularity (slots_of self.now) t p q }
+            → IsLiveIn H.eq (slots_of self.now) t (Some q)
+            → KeepsPages (type_of self.now t).granularity (slots_of self.now) t p q }
     {
         let _ = &self.types;
     }
@@ -300,7 +313,8 @@ impl<H: Copy + Eq> MemoryTypes<H> {
 
     /// The texts of all live pieces in the same order. The only refusal is `HostOutOfMemory`.
     pub fn leak_texts(&self, alloc: Global) -> Result<Vec<String>>
-        ensures texts { IfOk result (λ v. map string_bytes v.items ≡ map leak_text (all_leaks (slots_of self.now))) }
+        ensures texts { IfOk result (λ v. map string_bytes v.items
+            ≡ map leak_text (all_leaks (slots_of self.now))) }
         ensures cause { IfErr result (λ e. e ≡ HostOutOfMemory) }
     {
         texts_of(alloc, self.leaks())

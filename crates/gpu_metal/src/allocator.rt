@@ -59,12 +59,15 @@ impl<D: MetalDevice> Allocator<D> {
     /// set; it holds what it held.
     pub fn new(alloc: Global, desc: AllocatorCreateDesc<D>) -> Result<Self, (AllocationError, D)>
         ensures first { IfOk result (λ a. a.first ≡ desc.device) }
-        ensures made { IfOk result (λ a. MakesSet D.MetalDevice desc.create_residency_set desc.device a.setup.residency_set a.device) }
-        ensures chosen { IfOk result (λ a. (a.setup.sizes ≡ desc.allocation_sizes) × (a.setup.debug ≡ desc.debug_settings)) }
+        ensures made { IfOk result (λ a. MakesSet D.MetalDevice desc.create_residency_set
+            desc.device a.setup.residency_set a.device) }
+        ensures chosen { IfOk result (λ a. (a.setup.sizes ≡ desc.allocation_sizes)
+            × (a.setup.debug ≡ desc.debug_settings)) }
         ensures empty { IfOk result (λ a. All (λ slots. slots ≡ []) a.slots) }
         ensures budgets { IfOk result (λ a. All (λ b. b ≡ None) a.budgets) }
         ensures types { IfOk result (λ a. length a.slots ≡ length locations) }
-        ensures refused { IfErr result (λ e. IsNotMade D.MetalDevice desc.create_residency_set (refusal_of e.0) desc.device e.1) }
+        ensures refused { IfErr result (λ e. IsNotMade D.MetalDevice desc.create_residency_set
+            (refusal_of e.0) desc.device e.1) }
         ensures held { IfErr result (λ e. D.held e.1 ≡ D.held desc.device) }
     {
         let AllocatorCreateDesc {
@@ -99,11 +102,13 @@ impl<D: MetalDevice> Allocator<D> {
     pub fn allocate<L: Log>(&mut self, log: &L, desc: &AllocationCreateDesc) -> Result<Allocation>
         // which memory type is asked, what it met with, what is returned, and what that leaves of blocks, device and set
         ensures allocates { Allocates D.MetalDevice desc.now self.old result self.new }
-        ensures constant { (self.new.first ≡ self.old.first) × (self.new.setup ≡ self.old.setup) × (self.new.budgets ≡ self.old.budgets) }
+        ensures constant { (self.new.first ≡ self.old.first) × (self.new.setup ≡ self.old.setup)
+            × (self.new.budgets ≡ self.old.budgets) }
         ensures step { IsAllocateStep D.MetalDevice desc.now result self.old self.new }
         ensures aligned { IfOk result (λ a. a.offset % desc.now.alignment ≡ 0) }
         ensures keeps { StayLive is_same_heap self.old.slots self.new.slots }
-        ensures gives { IfOk result (λ a. IsNewlyLive is_same_heap self.old.slots self.new.slots a) }
+        ensures gives { IfOk result (λ a. IsNewlyLive is_same_heap self.old.slots self.new.slots
+            a) }
     {
         log_allocate(log, self.debug, desc);
         if desc.size == 0 || !desc.alignment.is_power_of_two() {
@@ -123,9 +128,11 @@ impl<D: MetalDevice> Allocator<D> {
         allocation: Allocation,
     ) -> Result<(), (AllocationError, Allocation)>
         ensures frees { Frees D.MetalDevice allocation self.old result self.new }
-        ensures constant { (self.new.first ≡ self.old.first) × (self.new.setup ≡ self.old.setup) × (self.new.budgets ≡ self.old.budgets) }
+        ensures constant { (self.new.first ≡ self.old.first) × (self.new.setup ≡ self.old.setup)
+            × (self.new.budgets ≡ self.old.budgets) }
         ensures step { IsStep D.MetalDevice (Free allocation) (freed_as result) self.old self.new }
-        ensures keeps { (b : Allocation) → IsLive self.old.slots b → AreDistinct b allocation → IsLive self.new.slots b }
+        ensures keeps { (b : Allocation) → IsLive self.old.slots b → AreDistinct b allocation
+            → IsLive self.new.slots b }
     {
         log_free(log, self.debug, &allocation);
         match self.pool.free_named(&allocation) {
@@ -153,9 +160,12 @@ impl<D: MetalDevice> Allocator<D> {
     /// Makes the members of the residency set its committed members; without a set it does nothing. It takes no memory and is
     /// never refused.
     pub fn commit_residency_set(&mut self)
-        ensures commits { ChangesHeld D.MetalDevice self.old.device (with_committed (D.held self.old.device) self.old.setup.residency_set)
-            (commit_recorded self.old.setup.residency_set (D.history self.old.device)) self.new.device }
-        ensures constant { (self.new.first ≡ self.old.first) × (self.new.setup ≡ self.old.setup) × (self.new.slots ≡ self.old.slots) × (self.new.budgets ≡ self.old.budgets) }
+        ensures commits { ChangesHeld D.MetalDevice self.old.device
+            (with_committed (D.held self.old.device) self.old.setup.residency_set)
+            (commit_recorded self.old.setup.residency_set (D.history self.old.device))
+            self.new.device }
+        ensures constant { (self.new.first ≡ self.old.first) × (self.new.setup ≡ self.old.setup)
+            × (self.new.slots ≡ self.old.slots) × (self.new.budgets ≡ self.old.budgets) }
         ensures step { IsStep D.MetalDevice Commit Done self.old self.new }
     {
         let pool = &mut self.pool;
@@ -166,9 +176,11 @@ impl<D: MetalDevice> Allocator<D> {
     /// refused with `BudgetExceeded`. `None` takes the bound away; a budget below the present sum gives no block back.
     /// `Internal` where there is no such memory type, and then nothing changes. It takes no memory.
     pub fn set_budget(&mut self, memory_type: usize, budget: Option<u64>) -> Result<()>
-        ensures budgets { SetsBudgetAt self.old.slots memory_type budget self.old.budgets result self.new.budgets }
+        ensures budgets { SetsBudgetAt self.old.slots memory_type budget self.old.budgets result
+            self.new.budgets }
         ensures others { self.new ≡ record self.old { budgets = self.new.budgets } }
-        ensures step { IsStep D.MetalDevice (SetBudget memory_type budget) (reply_of_done result) self.old self.new }
+        ensures step { IsStep D.MetalDevice (SetBudget memory_type budget) (reply_of_done result)
+            self.old self.new }
     {
         self.pool.set_budget(memory_type, budget)
     }
@@ -176,7 +188,8 @@ impl<D: MetalDevice> Allocator<D> {
     /// The budget of a memory type, in bytes; `None` where it has none, or there is no such type.
     pub fn budget(&self, memory_type: usize) -> Option<u64>
         ensures budget { result ≡ budget_at self.now.budgets memory_type }
-        ensures step { IsStep D.MetalDevice (Budget memory_type) (replies.Budget result) self.now self.now }
+        ensures step { IsStep D.MetalDevice (Budget memory_type) (replies.Budget result) self.now
+            self.now }
     {
         self.pool.budget(memory_type)
     }
@@ -211,7 +224,8 @@ impl<D: MetalDevice> Allocator<D> {
     /// blocks.
     pub fn device(&self) -> &D
         ensures lent { result.now ≡ self.now.device }
-        ensures holds { HoldsJustLiveBlocks self.now.setup.residency_set (D.held self.now.first) (D.held self.now.device) self.now.slots }
+        ensures holds { HoldsJustLiveBlocks self.now.setup.residency_set (D.held self.now.first)
+            (D.held self.now.device) self.now.slots }
         ensures constant { D.properties self.now.device ≡ D.properties self.now.first }
     {
         self.pool.source().device()
@@ -222,7 +236,8 @@ impl<D: MetalDevice> Allocator<D> {
     pub fn allocations_are_apart(&self)
         ensures sound { BlocksWellFormed 1 self.now.slots }
         ensures inside { (a : Allocation) → IsLive self.now.slots a → IsInside self.now.slots a }
-        ensures apart { (a b : Allocation) → IsLive self.now.slots a → IsLive self.now.slots b → AreDistinct a b → SharesNoByte a b }
+        ensures apart { (a b : Allocation) → IsLive self.now.slots a → IsLive self.now.slots b
+            → AreDistinct a b → SharesNoByte a b }
     {
         self.pool.pieces_are_apart();
     }
@@ -239,10 +254,12 @@ impl<D: MetalDevice> Allocator<D> {
     /// is never refused.
     pub fn destroy(self) -> D
         // what was held at first, and the set without members
-        ensures held { D.held result ≡ left_behind (D.held self.first) self.setup.residency_set (residency_of (D.held self.device) self.setup.residency_set) }
+        ensures held { D.held result ≡ left_behind (D.held self.first) self.setup.residency_set
+            (residency_of (D.held self.device) self.setup.residency_set) }
         // each heap left the set and went back, once, by memory type, then by slot
         ensures asks_nothing { ChangesHeld D.MetalDevice self.device (D.held result)
-            (releases_recorded self.setup.residency_set (all_handles self.slots) (D.history self.device)) result }
+            (releases_recorded self.setup.residency_set (all_handles self.slots)
+            (D.history self.device)) result }
     {
         let Allocator {
             pool,

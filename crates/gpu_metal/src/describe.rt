@@ -59,7 +59,8 @@ fn buffer_storage_mode(location: MemoryLocation) -> StorageMode
 
 /// Where a texture of this storage mode is allocated. `Internal`, with the mode's value, where the mode has no name.
 fn texture_location(storage_mode: StorageMode) -> Result<MemoryLocation>
-    ensures { MatchResult result (IsTextureLocation storage_mode) (λ e. IsUnknownMode storage_mode (refusal_of e)) }
+    ensures { MatchResult result (IsTextureLocation storage_mode)
+        (λ e. IsUnknownMode storage_mode (refusal_of e)) }
 {
     match storage_mode {
         StorageMode::Private => Ok(MemoryLocation::GpuOnly),
@@ -81,8 +82,10 @@ impl<'a> AllocationCreateDesc<'a> {
         length: u64,
         location: MemoryLocation,
     ) -> Self
-        ensures size { result.size ≡ ((D.properties device.now).buffer_size length (buffer_storage_mode location)).size }
-        ensures alignment { result.alignment ≡ ((D.properties device.now).buffer_size length (buffer_storage_mode location)).align }
+        ensures size { result.size ≡ ((D.properties device.now).buffer_size length
+            (buffer_storage_mode location)).size }
+        ensures alignment { result.alignment
+            ≡ ((D.properties device.now).buffer_size length (buffer_storage_mode location)).align }
         ensures name { result.name.now ≡ name.now }
         ensures location { result.location ≡ location }
     {
@@ -103,9 +106,13 @@ impl<'a> AllocationCreateDesc<'a> {
         name: &'a str,
         desc: &TextureDescriptor,
     ) -> Result<Self>
-        ensures location { MatchResult result (λ d. IsTextureLocation desc.now.storage_mode d.location) (λ e. IsUnknownMode desc.now.storage_mode (refusal_of e)) }
-        ensures size { IfOk result (λ d. d.size ≡ ((D.properties device.now).texture_size desc.now).size) }
-        ensures alignment { IfOk result (λ d. d.alignment ≡ ((D.properties device.now).texture_size desc.now).align) }
+        ensures location { MatchResult result
+            (λ d. IsTextureLocation desc.now.storage_mode d.location)
+            (λ e. IsUnknownMode desc.now.storage_mode (refusal_of e)) }
+        ensures size { IfOk result (λ d. d.size
+            ≡ ((D.properties device.now).texture_size desc.now).size) }
+        ensures alignment { IfOk result
+            (λ d. d.alignment ≡ ((D.properties device.now).texture_size desc.now).align) }
         ensures name { IfOk result (λ d. d.name.now ≡ name.now) }
     {
         let told = device.heap_texture_size_and_align(desc);
@@ -128,8 +135,10 @@ impl<'a> AllocationCreateDesc<'a> {
         size: u64,
         location: MemoryLocation,
     ) -> Self
-        ensures size { result.size ≡ ((D.properties device.now).acceleration_structure_size size).size }
-        ensures alignment { result.alignment ≡ ((D.properties device.now).acceleration_structure_size size).align }
+        ensures size { result.size ≡ ((D.properties device.now).acceleration_structure_size
+            size).size }
+        ensures alignment { result.alignment
+            ≡ ((D.properties device.now).acceleration_structure_size size).align }
         ensures name { result.name.now ≡ name.now }
         ensures location { result.location ≡ location }
     {

@@ -21,9 +21,10 @@ pub fn create_block_heap<D: MetalDevice>(
     size: u64,
 ) -> Result<MTLHeap>
     requires { HoldsSet (D.held device.old) set }
-    ensures { MatchResult result
-        (λ heap. AsksHeap D.MetalDevice set device.old (heap_descriptor location) size (Some heap) device.new)
-        (λ e. (refusal_of e ≡ heap_refusal) × AsksHeap D.MetalDevice set device.old (heap_descriptor location) size None device.new) }
+    ensures { MatchResult result (λ heap. AsksHeap D.MetalDevice set device.old
+        (heap_descriptor location) size (Some heap) device.new)
+        (λ e. (refusal_of e ≡ heap_refusal)
+        × AsksHeap D.MetalDevice set device.old (heap_descriptor location) size None device.new) }
 {
     match device.new_heap(&heap_descriptor(location), size, heap_label(location)) {
         None => Err(internal_fault("No MTLHeap was returned")),
@@ -42,7 +43,8 @@ pub fn release_block_heap<D: MetalDevice>(
 )
     requires set { HoldsSet (D.held device.old) set }
     requires heap { IsHeap (D.held device.old) heap.0 }
-    ensures { ChangesHeld D.MetalDevice device.old (without_heap (with_left (D.held device.old) set heap) heap.0)
+    ensures { ChangesHeld D.MetalDevice device.old
+        (without_heap (with_left (D.held device.old) set heap) heap.0)
         (release_recorded set heap (D.history device.old)) device.new }
 {
     leave_set(device, set, heap);

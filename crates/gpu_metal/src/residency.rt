@@ -16,9 +16,9 @@ pub fn create_residency_set<D: MetalDevice>(
     device: &mut D,
     wanted: bool,
 ) -> Result<Option<MTLResidencySet>>
-    ensures { MatchResult result
-        (λ set. MakesSet D.MetalDevice wanted device.old set device.new)
-        (λ e. (refusal_of e ≡ set_refusal) × (wanted ≡ true) × ((code : ℤ) × AnswersSet D.MetalDevice device.old (Err code) device.new)) }
+    ensures { MatchResult result (λ set. MakesSet D.MetalDevice wanted device.old set device.new)
+        (λ e. (refusal_of e ≡ set_refusal) × (wanted ≡ true)
+        × ((code : ℤ) × AnswersSet D.MetalDevice device.old (Err code) device.new)) }
 {
     if !wanted {
         return Ok(None);
@@ -35,7 +35,8 @@ pub fn create_residency_set<D: MetalDevice>(
 pub fn join_set<D: MetalDevice>(device: &mut D, set: Option<MTLResidencySet>, heap: MTLHeap)
     requires set { HoldsSet (D.held device.old) set }
     requires heap { IsHeap (D.held device.old) heap.0 }
-    ensures { ChangesHeld D.MetalDevice device.old (with_joined (D.held device.old) set heap) (join_recorded set heap (D.history device.old)) device.new }
+    ensures { ChangesHeld D.MetalDevice device.old (with_joined (D.held device.old) set heap)
+        (join_recorded set heap (D.history device.old)) device.new }
 {
     if let Some(set) = set {
         device.add_allocation(set, heap);
@@ -46,7 +47,8 @@ pub fn join_set<D: MetalDevice>(device: &mut D, set: Option<MTLResidencySet>, he
 pub fn leave_set<D: MetalDevice>(device: &mut D, set: Option<MTLResidencySet>, heap: MTLHeap)
     requires set { HoldsSet (D.held device.old) set }
     requires heap { IsHeap (D.held device.old) heap.0 }
-    ensures { ChangesHeld D.MetalDevice device.old (with_left (D.held device.old) set heap) (leave_recorded set heap (D.history device.old)) device.new }
+    ensures { ChangesHeld D.MetalDevice device.old (with_left (D.held device.old) set heap)
+        (leave_recorded set heap (D.history device.old)) device.new }
 {
     if let Some(set) = set {
         device.remove_allocation(set, heap);
@@ -55,7 +57,8 @@ pub fn leave_set<D: MetalDevice>(device: &mut D, set: Option<MTLResidencySet>, h
 
 /// Makes the members of the set its committed members, where there is one. Never refused.
 pub fn commit_set<D: MetalDevice>(device: &mut D, set: Option<MTLResidencySet>)
-    ensures { ChangesHeld D.MetalDevice device.old (with_committed (D.held device.old) set) (commit_recorded set (D.history device.old)) device.new }
+    ensures { ChangesHeld D.MetalDevice device.old (with_committed (D.held device.old) set)
+        (commit_recorded set (D.history device.old)) device.new }
 {
     if let Some(set) = set {
         device.commit(set);

@@ -30,7 +30,8 @@ impl<D: MetalDevice> Model for MetalBlocks<D> {
 
     ghost view = { λ s. record { device = s.device; first = s.first.value; set = s.set } };
 
-    ghost invariant = { λ s. (D.properties s.device ≡ D.properties s.first.value) × HoldsFirst s.set (D.held s.first.value) (D.held s.device) };
+    ghost invariant = { λ s. (D.properties s.device ≡ D.properties s.first.value)
+        × HoldsFirst s.set (D.held s.first.value) (D.held s.device) };
 }
 
 impl<D: MetalDevice> BlockSource for MetalBlocks<D> {
@@ -62,8 +63,10 @@ impl<D: MetalDevice> BlockSource for MetalBlocks<D> {
 impl<D: MetalDevice> MetalBlocks<D> {
     /// A source without blocks. Where a residency set is wanted and refused, the device comes back beside `Internal`.
     pub fn new(device: D, wants_set: bool) -> Result<Self, (AllocationError, D)>
-        ensures made { IfOk result (λ s. (s.first ≡ device) × MakesSet D.MetalDevice wants_set device s.set s.device) }
-        ensures none { IfOk result (λ s. (n : ℕ) → blocks_of (D.held s.first) (D.held s.device) n ≡ None) }
+        ensures made { IfOk result (λ s. (s.first ≡ device)
+            × MakesSet D.MetalDevice wants_set device s.set s.device) }
+        ensures none { IfOk result (λ s. (n : ℕ)
+            → blocks_of (D.held s.first) (D.held s.device) n ≡ None) }
         ensures refused { IfErr result (λ e. (refusal_of e.0 ≡ set_refusal) × (wants_set ≡ true)
             × ((code : ℤ) × AnswersSet D.MetalDevice device (Err code) e.1)) }
     {
@@ -105,7 +108,8 @@ impl<D: MetalDevice> MetalBlocks<D> {
     pub fn into_device(self) -> D
         requires { (n : ℕ) → blocks_of (D.held self.first) (D.held self.device) n ≡ None }
         ensures same { result ≡ self.device }
-        ensures held { D.held result ≡ left_behind (D.held self.first) self.set (residency_of (D.held self.device) self.set) }
+        ensures held { D.held result ≡ left_behind (D.held self.first) self.set
+            (residency_of (D.held self.device) self.set) }
     {
         let MetalBlocks {
             device,

@@ -22,7 +22,8 @@ pub enum Form {
 
 /// Writes views of blocks in a form.
 fn write_views<W: Write>(form: Form, views: &[BlockView<'_>], writer: &mut W) -> io::Result<()>
-    ensures { OnOk result (Appends (W.contents writer.old) (W.contents writer.new) (drawing form views.now)) }
+    ensures { OnOk result (Appends (W.contents writer.old) (W.contents writer.new)
+        (drawing form views.now)) }
 {
     match form {
         Form::Svg => {
@@ -38,7 +39,8 @@ fn write_views<W: Write>(form: Form, views: &[BlockView<'_>], writer: &mut W) ->
 
 /// Writes the block of a block trace, or none where it made none.
 fn draw_block<W: Write>(form: Form, stage: &BlockStage, writer: &mut W) -> io::Result<()>
-    ensures { OnOk result (DrawsBlock form stage.now (W.contents writer.old) (W.contents writer.new)) }
+    ensures { OnOk result (DrawsBlock form stage.now (W.contents writer.old)
+        (W.contents writer.new)) }
 {
     match stage {
         BlockStage::Open(session) => {
@@ -77,7 +79,8 @@ fn draw_types<H: Copy + Eq, W: Write>(
     types: &MemoryTypes<H>,
     writer: &mut W,
 ) -> io::Result<()>
-    ensures { OnOk result (DrawsTypes form types.now (W.contents writer.old) (W.contents writer.new)) }
+    ensures { OnOk result (DrawsTypes form types.now (W.contents writer.old)
+        (W.contents writer.new)) }
 {
     match views_of(alloc, types) {
         Ok(views) => write_views(form, &views, writer),
@@ -87,7 +90,8 @@ fn draw_types<H: Copy + Eq, W: Write>(
 
 /// Writes the blocks of a block trace or of a device trace's allocator.
 fn draw_vulkan<W: Write>(alloc: Global, form: Form, stage: &Stage, writer: &mut W) -> io::Result<()>
-    ensures { OnOk result (DrawsVulkan form stage.now (W.contents writer.old) (W.contents writer.new)) }
+    ensures { OnOk result (DrawsVulkan form stage.now (W.contents writer.old)
+        (W.contents writer.new)) }
 {
     match stage {
         Stage::Block(stage) => draw_block(form, stage, writer),
@@ -105,7 +109,8 @@ fn draw_metal<W: Write>(
     stage: &metal::Stage,
     writer: &mut W,
 ) -> io::Result<()>
-    ensures { OnOk result (DrawsMetal form stage.now (W.contents writer.old) (W.contents writer.new)) }
+    ensures { OnOk result (DrawsMetal form stage.now (W.contents writer.old)
+        (W.contents writer.new)) }
 {
     match stage {
         metal::Stage::Running(session) => {
@@ -122,7 +127,8 @@ fn draw_d3d12<W: Write>(
     stage: &d3d12::Stage,
     writer: &mut W,
 ) -> io::Result<()>
-    ensures { OnOk result (DrawsD3D12 form stage.now (W.contents writer.old) (W.contents writer.new)) }
+    ensures { OnOk result (DrawsD3D12 form stage.now (W.contents writer.old)
+        (W.contents writer.new)) }
 {
     match stage {
         d3d12::Stage::Running(session) => {

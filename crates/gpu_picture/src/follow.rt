@@ -152,7 +152,8 @@ fn note(
     outcome: &Outcome<AnyReply>,
     trace: &AnyTrace,
 ) -> Result<(), AllocError>
-    ensures { OnOk result (map told samples.new.items ≡ map told samples.old.items ++ noted line outcome.now trace.now) }
+    ensures { OnOk result (map told samples.new.items
+        ≡ map told samples.old.items ++ noted line outcome.now trace.now) }
 {
     let Outcome::Replied(reply) = outcome else {
         return Ok(());
@@ -233,14 +234,16 @@ pub fn follow_trace<R: Read, L: Log>(
     alloc: Global,
     reader: &mut R,
 ) -> Result<Replayed<Followed>, TraceError>
-    ensures { IfOk result (λ r. IfSome (R.remaining reader.old) (λ input. (first : Followed) × IsStart first × ReplaysTrace Follows first input r)) }
+    ensures { IfOk result (λ r. IfSome (R.remaining reader.old)
+        (λ input. (first : Followed) × IsStart first × ReplaysTrace Follows first input r)) }
 {
     replay_from(log, alloc, start(alloc), reader)
 }
 
 /// Writes what memory types held after one command after another, as a picture.
 pub fn draw_over_time<W: Write>(followed: &Followed, writer: &mut W) -> io::Result<()>
-    ensures { OnOk result (Appends (W.contents writer.old) (W.contents writer.new) (timeline_svg followed.now.samples.items)) }
+    ensures { OnOk result (Appends (W.contents writer.old) (W.contents writer.new)
+        (timeline_svg followed.now.samples.items)) }
 {
     let picture = TimelineSvg(&followed.samples);
     write!(writer, "{picture}")

@@ -27,10 +27,22 @@ pub fn attempt<S: BlockSource>(
     requires aligned { IsTrue (is_power_of_two request.now.alignment) }
     requires piece { request.now.kind ≢ AllocationType.Free }
     requires kinds { kinds types.old ≡ S.kinds source.old }
-    ensures allocates { Allocates (S.kinds source.old) (AsksOf S.BlockSource) (request_at index request.now extra)
-        (record { source = source.old; sizes = sizes.now; slots = slots_of types.old; budgets = budgets types.old })
-        (result_of result)
-        (record { source = source.new; sizes = sizes.now; slots = slots_of types.new; budgets = budgets types.new }) }
+    ensures allocates { Allocates (S.kinds source.old) (AsksOf S.BlockSource)
+        (request_at index request.now extra)
+        (record {
+          source = source.old;
+          sizes = sizes.now;
+          slots = slots_of types.old;
+          budgets =
+              budgets types.old;
+        }) (result_of result)
+        (record {
+          source = source.new;
+          sizes = sizes.now;
+          slots = slots_of types.new;
+          budgets =
+              budgets types.new;
+        }) }
     ensures kinds { kinds types.new ≡ kinds types.old }
     ensures kept { MemoryTypesInvariant types.new }
 {

@@ -29,8 +29,10 @@ pub fn free_piece<S: BlockSource>(
         × GivesBackAny (GivesBackOf S.BlockSource) source.old went source.new) }
     ensures live { OnOk result (IsLive S.Handle.eq (slots_of types.old) index piece.now) }
     ensures dead { OnErr result (IsLive S.Handle.eq (slots_of types.old) index piece.now → ⊥) }
-    ensures cause { IfErr result (λ e. IsReleaseRefusal S.Handle.eq index (slots_of types.old) piece.now (refusal_of e)) }
-    ensures refused { OnErr result ((slots_of types.new ≡ slots_of types.old) × (source.new ≡ source.old)) }
+    ensures cause { IfErr result (λ e. IsReleaseRefusal S.Handle.eq index (slots_of types.old)
+        piece.now (refusal_of e)) }
+    ensures refused { OnErr result ((slots_of types.new ≡ slots_of types.old)
+        × (source.new ≡ source.old)) }
     ensures kinds { kinds types.new ≡ kinds types.old }
     ensures budgets { budgets types.new ≡ budgets types.old }
     ensures kept { MemoryTypesInvariant types.new }
@@ -49,7 +51,8 @@ pub fn free_piece<S: BlockSource>(
 pub fn give_back_all<S: BlockSource>(source: &mut S, types: &MemoryTypes<S::Handle>)
     requires { HoldsJustBlocks S.number (S.held source.old) (slots_of types.now) }
     ensures none { (n : ℕ) → S.held source.new n ≡ None }
-    ensures gives_back { GivesBackAll S.gives_back source.old (all_handles (slots_of types.now)) source.new }
+    ensures gives_back { GivesBackAll S.gives_back source.old (all_handles (slots_of types.now))
+        source.new }
     ensures constant { S.kinds source.new ≡ S.kinds source.old }
 {
     for handle in all_handles(types) {

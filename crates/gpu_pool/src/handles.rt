@@ -67,9 +67,9 @@ fn next_from<H: Copy + Eq>(
     index: usize,
     slot: usize,
 ) -> Option<(H, usize, usize)>
-    ensures { MatchOption result
-        (handles_from index slot (slots_of types.now) ≡ [])
-        (λ p. handles_from index slot (slots_of types.now) ≡ p.0 ∷ handles_from p.1 p.2 (slots_of types.now)) }
+    ensures { MatchOption result (handles_from index slot (slots_of types.now) ≡ [])
+        (λ p. handles_from index slot (slots_of types.now)
+        ≡ p.0 ∷ handles_from p.1 p.2 (slots_of types.now)) }
 {
     let mut at = index;
     let mut first = slot;

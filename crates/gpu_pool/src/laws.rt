@@ -12,8 +12,9 @@ use crate::BlockSource;
 /// decides what is left of the source.
 pub fn one_step<S: BlockSource>()
     ensures { AskDecides S.asks → GiveBackDecides S.gives_back
-        → (kinds : List (Bool × ℕ)) (call : Call S.Handle S.Extra) (met : Environment S.Handle) (a b : Reply S.Handle)
-        → (old new next : State S S.Handle) → ((t : ℕ) → IsSoundAt kinds old.slots t)
+        → (kinds : List (Bool × ℕ)) (call : Call S.Handle S.Extra) (met : Environment S.Handle)
+        (a b : Reply S.Handle) → (old new next : State S S.Handle)
+        → ((t : ℕ) → IsSoundAt kinds old.slots t)
         → Step kinds S.asks S.gives_back S.Handle.eq old call met a new
         → Step kinds S.asks S.gives_back S.Handle.eq old call met b next → (a ≡ b) × (new ≡ next) }
 {}
@@ -21,8 +22,9 @@ pub fn one_step<S: BlockSource>()
 /// Budgets of memory types that aren't asked decide nothing: a call that asks no memory type with a budget returns and steps
 /// as if there were no budgets.
 pub fn unasked_budgets_decide_nothing<S: BlockSource>()
-    ensures { (kinds : List (Bool × ℕ)) (call : Call S.Handle S.Extra) (met : Environment S.Handle) (reply : Reply S.Handle)
-        → (old new : State S S.Handle) → MeetsNoBudget call old.budgets
+    ensures { (kinds : List (Bool × ℕ)) (call : Call S.Handle S.Extra) (met : Environment S.Handle)
+        (reply : Reply S.Handle) → (old new : State S S.Handle) → MeetsNoBudget call old.budgets
         → Step kinds S.asks S.gives_back S.Handle.eq old call met reply new
-        → Step kinds S.asks S.gives_back S.Handle.eq (without_budgets old) call met reply (without_budgets new) }
+        → Step kinds S.asks S.gives_back S.Handle.eq (without_budgets old) call met reply
+        (without_budgets new) }
 {}

@@ -40,8 +40,8 @@ impl<S: BlockSource> Pool<S> {
         requires sized { 0 < request.now.size }
         requires aligned { IsTrue (is_power_of_two request.now.alignment) }
         requires piece { request.now.kind ≢ AllocationType.Free }
-        ensures allocates { AllocatesNamed (S.kinds self.old.source) S.asks (request_at index request.now extra)
-            self.old result self.new }
+        ensures allocates { AllocatesNamed (S.kinds self.old.source) S.asks
+            (request_at index request.now extra) self.old result self.new }
         ensures constant { S.kinds self.new.source ≡ S.kinds self.old.source }
         ensures aligned { IfOk result (λ a. a.offset % request.now.alignment ≡ 0) }
         ensures keeps { StayLive S.Handle.eq self.old.slots self.new.slots }
@@ -59,11 +59,11 @@ impl<S: BlockSource> Pool<S> {
 
     /// Frees an allocation, as `free` frees its piece. It takes no memory.
     pub fn free_named(&mut self, allocation: &Allocation<S::Handle>) -> Result<()>
-        ensures frees { Frees S.gives_back S.Handle.eq allocation.now.memory_type_index (piece_of allocation.now)
-            self.old (result_of result) self.new }
+        ensures frees { Frees S.gives_back S.Handle.eq allocation.now.memory_type_index
+            (piece_of allocation.now) self.old (result_of result) self.new }
         ensures constant { S.kinds self.new.source ≡ S.kinds self.old.source }
-        ensures keeps { (b : Allocation S.Handle) → IsLive S.Handle.eq self.old.slots b → AreDistinct b allocation.now
-            → IsLive S.Handle.eq self.new.slots b }
+        ensures keeps { (b : Allocation S.Handle) → IsLive S.Handle.eq self.old.slots b
+            → AreDistinct b allocation.now → IsLive S.Handle.eq self.new.slots b }
     {
         self.free(allocation.memory_type_index, &allocation.piece())
     }
@@ -83,7 +83,8 @@ impl<S: BlockSource> Pool<S> {
         allocation: &mut Allocation<S::Handle>,
         name: &str,
     ) -> Result<()>
-        ensures renames { RenamesNamed S.Handle.eq allocation.old name.now self.old result allocation.new self.new }
+        ensures renames { RenamesNamed S.Handle.eq allocation.old name.now self.old result
+            allocation.new self.new }
         ensures keeps { StayLive S.Handle.eq self.old.slots self.new.slots }
         ensures source { self.new.source ≡ self.old.source }
     {

@@ -49,7 +49,12 @@ impl<S: BlockSource> Model for Pool<S> {
 
     ghost Value = { State S S.Handle };
 
-    ghost view = { λ p. record { source = p.source; sizes = p.sizes; slots = slots_of p.types; budgets = budgets p.types } };
+    ghost view = { λ p. record {
+      source = p.source;
+      sizes = p.sizes;
+      slots = slots_of p.types;
+      budgets = budgets p.types;
+    } };
 
     ghost invariant = { λ p. (kinds p.types ≡ S.kinds p.source)
         × HoldsJustBlocks S.number (S.held p.source) (slots_of p.types)
@@ -62,7 +67,12 @@ impl<S: BlockSource> Pool<S> {
         requires kinds { kinds types ≡ S.kinds source }
         requires empty { All (λ slots. slots ≡ []) (slots_of types) }
         requires none { (n : ℕ) → S.held source n ≡ None }
-        ensures { result ≡ record { source = source; sizes = sizes; slots = slots_of types; budgets = budgets types } }
+        ensures { result ≡ record {
+          source = source;
+          sizes = sizes;
+          slots = slots_of types;
+          budgets = budgets types;
+        } }
     {
         let _ = types.capacity();
         Pool {
@@ -84,12 +94,13 @@ impl<S: BlockSource> Pool<S> {
         requires aligned { IsTrue (is_power_of_two request.now.alignment) }
         requires piece { request.now.kind ≢ AllocationType.Free }
         // what the request met with, what it is answered, and what that leaves
-        ensures allocates { Allocates (S.kinds self.old.source) S.asks (request_at index request.now extra)
-            self.old (result_of result) self.new }
+        ensures allocates { Allocates (S.kinds self.old.source) S.asks
+            (request_at index request.now extra) self.old (result_of result) self.new }
         ensures constant { S.kinds self.new.source ≡ S.kinds self.old.source }
         ensures aligned { IfOk result (λ p. p.offset % request.now.alignment ≡ 0) }
         ensures keeps { StayLive S.Handle.eq self.old.slots self.new.slots }
-        ensures live { IfOk result (λ p. IsNewlyLive S.Handle.eq self.old.slots self.new.slots index p) }
+        ensures live { IfOk result (λ p. IsNewlyLive S.Handle.eq self.old.slots self.new.slots index
+            p) }
     {
         attempt(
             &mut self.source,
@@ -104,7 +115,8 @@ impl<S: BlockSource> Pool<S> {
     /// Frees a piece of the memory type at `index`, and gives its block back where the block is left empty and isn't the only
     /// shared one of its memory type. A live piece is never refused; of any other nothing changes. It takes no memory.
     pub fn free(&mut self, index: usize, piece: &Piece<S::Handle>) -> Result<()>
-        ensures frees { Frees S.gives_back S.Handle.eq index piece.now self.old (result_of result) self.new }
+        ensures frees { Frees S.gives_back S.Handle.eq index piece.now self.old (result_of result)
+            self.new }
         ensures constant { S.kinds self.new.source ≡ S.kinds self.old.source }
         ensures keeps { (t : ℕ) (p : Piece S.Handle) → IsLive S.Handle.eq self.old.slots t p
             → AreDistinct t p index piece.now → IsLive S.Handle.eq self.new.slots t p }
@@ -115,7 +127,8 @@ impl<S: BlockSource> Pool<S> {
     /// Renames a piece of the memory type at `index`. `Internal` where the piece isn't live, else
     /// `HostOutOfMemory`; then nothing changes.
     pub fn rename(&mut self, index: usize, piece: &Piece<S::Handle>, name: &str) -> Result<()>
-        ensures renames { Renames S.Handle.eq index piece.now name.now self.old (result_of result) self.new }
+        ensures renames { Renames S.Handle.eq index piece.now name.now self.old (result_of result)
+            self.new }
         ensures keeps { StayLive S.Handle.eq self.old.slots self.new.slots }
     {
         self.types.rename(index, piece, name)
@@ -125,7 +138,8 @@ impl<S: BlockSource> Pool<S> {
     /// the present sum gives no block back. `Internal` where there is no such memory type, and then nothing changes. It takes
     /// no memory.
     pub fn set_budget(&mut self, index: usize, budget: Option<u64>) -> Result<()>
-        ensures budgets { SetsBudget index budget self.old.budgets (refusal_in result) self.new.budgets }
+        ensures budgets { SetsBudget index budget self.old.budgets (refusal_in result)
+            self.new.budgets }
         ensures found { index < length self.old.slots → IsOk result }
         ensures others { self.new ≡ record self.old { budgets = self.new.budgets } }
     {
@@ -164,7 +178,8 @@ impl<S: BlockSource> Pool<S> {
 
     /// The texts of all live pieces in the same order. The only refusal is `HostOutOfMemory`.
     pub fn leak_texts(&self, alloc: Global) -> Result<Vec<String>>
-        ensures texts { IfOk result (λ v. map string_bytes v.items ≡ map leak_text (all_leaks self.now.slots)) }
+        ensures texts { IfOk result (λ v. map string_bytes v.items
+            ≡ map leak_text (all_leaks self.now.slots)) }
         ensures cause { IfErr result (λ e. e ≡ HostOutOfMemory) }
     {
         self.types.leak_texts(alloc)
@@ -205,12 +220,14 @@ impl<S: BlockSource> Pool<S> {
     /// share a byte, and those of different kinds share no page of their memory type. It does nothing.
     pub fn pieces_are_apart(&self)
         ensures sound { (t : ℕ) → IsSoundAt (S.kinds self.now.source) self.now.slots t }
-        ensures inside { (t : ℕ) (p : Piece S.Handle) → IsLive S.Handle.eq self.now.slots t p → IsInside self.now.slots t p }
+        ensures inside { (t : ℕ) (p : Piece S.Handle) → IsLive S.Handle.eq self.now.slots t p
+            → IsInside self.now.slots t p }
         ensures apart { (t : ℕ) (p : Piece S.Handle) (u : ℕ) (q : Piece S.Handle)
-            → IsLive S.Handle.eq self.now.slots t p → IsLive S.Handle.eq self.now.slots u q → AreDistinct t p u q
-            → (S.number p.handle ≢ S.number q.handle) ⊎ AreBytesApart p q }
+            → IsLive S.Handle.eq self.now.slots t p → IsLive S.Handle.eq self.now.slots u q
+            → AreDistinct t p u q → (S.number p.handle ≢ S.number q.handle) ⊎ AreBytesApart p q }
         ensures pages { (t : ℕ) (p q : Piece S.Handle) → IsLive S.Handle.eq self.now.slots t p
-            → IsLive S.Handle.eq self.now.slots t q → KeepsPages (kind_at (S.kinds self.now.source) t).1 self.now.slots t p q }
+            → IsLive S.Handle.eq self.now.slots t q
+            → KeepsPages (kind_at (S.kinds self.now.source) t).1 self.now.slots t p q }
     {
         let _ = &self.types;
     }

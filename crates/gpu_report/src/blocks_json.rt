@@ -26,7 +26,8 @@ pub(crate) fn word_of(kind: AllocationType) -> &'static str
 
 #[tactic(auto, unfolding(crate::specs::BlocksJson::piece_names_json))]
 fn write_piece_names<W: fmt::Write>(piece: &LivePiece<'_>, f: &mut fmt::Formatter<W>) -> fmt::Result
-    ensures { DisplaysOnOk W.write_str_gives f.old result (Some (piece_names_json piece.now)) f.new }
+    ensures { DisplaysOnOk W.write_str_gives f.old result (Some (piece_names_json piece.now))
+        f.new }
 {
     let kind = word_of(piece.kind());
     let number = piece.chunk_id();
@@ -37,7 +38,8 @@ fn write_piece_names<W: fmt::Write>(piece: &LivePiece<'_>, f: &mut fmt::Formatte
 
 #[tactic(auto, unfolding(crate::specs::BlocksJson::piece_place_json))]
 fn write_piece_place<W: fmt::Write>(piece: &LivePiece<'_>, f: &mut fmt::Formatter<W>) -> fmt::Result
-    ensures { DisplaysOnOk W.write_str_gives f.old result (Some (piece_place_json piece.now)) f.new }
+    ensures { DisplaysOnOk W.write_str_gives f.old result (Some (piece_place_json piece.now))
+        f.new }
 {
     let offset = piece.offset();
     let padding = piece.padding();
@@ -57,7 +59,8 @@ fn write_piece<W: fmt::Write>(piece: &LivePiece<'_>, f: &mut fmt::Formatter<W>) 
 }
 
 fn write_pieces<W: fmt::Write>(pieces: Pieces<'_>, f: &mut fmt::Formatter<W>) -> fmt::Result
-    ensures { DisplaysOnOk W.write_str_gives f.old result (Some (listed piece_json pieces.entry)) f.new }
+    ensures { DisplaysOnOk W.write_str_gives f.old result (Some (listed piece_json pieces.entry))
+        f.new }
 {
     let mut pieces = pieces;
     let Some(first) = pieces.next() else {
@@ -81,7 +84,8 @@ fn write_gap<W: fmt::Write>(gap: (u64, u64), f: &mut fmt::Formatter<W>) -> fmt::
 }
 
 fn write_gaps<W: fmt::Write>(gaps: Gaps<'_>, f: &mut fmt::Formatter<W>) -> fmt::Result
-    ensures { DisplaysOnOk W.write_str_gives f.old result (Some (listed gap_json gaps.entry)) f.new }
+    ensures { DisplaysOnOk W.write_str_gives f.old result (Some (listed gap_json gaps.entry))
+        f.new }
 {
     let mut gaps = gaps;
     let Some(first) = gaps.next() else {
@@ -150,7 +154,8 @@ fn write_block<W: fmt::Write>(view: &BlockView<'_>, f: &mut fmt::Formatter<W>) -
 }
 
 fn write_blocks<W: fmt::Write>(views: &[BlockView<'_>], f: &mut fmt::Formatter<W>) -> fmt::Result
-    ensures { DisplaysOnOk W.write_str_gives f.old result (Some (listed block_json views.now)) f.new }
+    ensures { DisplaysOnOk W.write_str_gives f.old result (Some (listed block_json views.now))
+        f.new }
 {
     let Some((first, others)) = views.split_first() else {
         return Ok(());

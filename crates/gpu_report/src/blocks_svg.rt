@@ -137,7 +137,8 @@ fn write_cells<W: fmt::Write>(
 ) -> fmt::Result
     requires { scale.width ≤ 10000 }
     ensures { DisplaysOnOk W.write_str_gives f.old result
-        (Some (flat_map (cell_svg scale.size scale.width) (cells_between 0 pieces.entry scale.size))) f.new }
+        (Some (flat_map (cell_svg scale.size scale.width)
+        (cells_between 0 pieces.entry scale.size))) f.new }
 {
     let mut end = 0;
     for piece in pieces {
@@ -218,7 +219,8 @@ fn write_bar<W: fmt::Write>(
     view: &BlockView<'_>,
     f: &mut fmt::Formatter<W>,
 ) -> fmt::Result
-    ensures { DisplaysOnOk W.write_str_gives f.old result (Some (bar_svg largest i view.now)) f.new }
+    ensures { DisplaysOnOk W.write_str_gives f.old result (Some (bar_svg largest i view.now))
+        f.new }
 {
     let size = view.block.size();
     let width = bar_width(largest, size);
@@ -235,7 +237,8 @@ fn write_bars<W: fmt::Write>(
     views: &[BlockView<'_>],
     f: &mut fmt::Formatter<W>,
 ) -> fmt::Result
-    ensures { DisplaysOnOk W.write_str_gives f.old result (Some (bars_svg largest 0 views.now)) f.new }
+    ensures { DisplaysOnOk W.write_str_gives f.old result (Some (bars_svg largest 0 views.now))
+        f.new }
 {
     for (i, view) in views.iter().enumerate() {
         write_bar(largest, i as u64, view, f)?;

@@ -17,7 +17,8 @@ pub enum Escaping {
 
 #[tactic(auto, unfolding(crate::specs::Escape::json_byte))]
 fn write_json_char<W: fmt::Write>(c: char, f: &mut fmt::Formatter<W>) -> fmt::Result
-    ensures { DisplaysOnOk W.write_str_gives f.old result (Some (escaped Escaping.Json (encode_utf8 c))) f.new }
+    ensures { DisplaysOnOk W.write_str_gives f.old result
+        (Some (escaped Escaping.Json (encode_utf8 c))) f.new }
 {
     match c {
         '"' => f.write_str("\\\""),
@@ -38,7 +39,8 @@ fn write_json_char<W: fmt::Write>(c: char, f: &mut fmt::Formatter<W>) -> fmt::Re
 
 #[tactic(auto, unfolding(crate::specs::Escape::xml_byte))]
 fn write_xml_char<W: fmt::Write>(c: char, f: &mut fmt::Formatter<W>) -> fmt::Result
-    ensures { DisplaysOnOk W.write_str_gives f.old result (Some (escaped Escaping.Xml (encode_utf8 c))) f.new }
+    ensures { DisplaysOnOk W.write_str_gives f.old result
+        (Some (escaped Escaping.Xml (encode_utf8 c))) f.new }
 {
     match c {
         '&' => f.write_str("&amp;"),
@@ -51,7 +53,8 @@ fn write_xml_char<W: fmt::Write>(c: char, f: &mut fmt::Formatter<W>) -> fmt::Res
 }
 
 fn write_char<W: fmt::Write>(form: Escaping, c: char, f: &mut fmt::Formatter<W>) -> fmt::Result
-    ensures { DisplaysOnOk W.write_str_gives f.old result (Some (escaped form (encode_utf8 c))) f.new }
+    ensures { DisplaysOnOk W.write_str_gives f.old result (Some (escaped form (encode_utf8 c)))
+        f.new }
 {
     match form {
         Escaping::Json => write_json_char(c, f),

@@ -28,27 +28,31 @@ pub fn reports_print_apart()
 /// The JSON of blocks reads back as the blocks: each gap and each piece of each block once, in order, and each name and number
 /// as it is. Their numbers fit, as `blocks_fit` says of all blocks.
 pub fn blocks_read_back()
-    ensures { (views : List BlockView) → All BlockFits views → document (blocks_json views) ≡ Some (blocks_value views) }
+    ensures { (views : List BlockView) → All BlockFits views
+        → document (blocks_json views) ≡ Some (blocks_value views) }
 {}
 
 /// Blocks with the same JSON stand at the same places with the same page sizes, sizes and pieces.
 pub fn blocks_print_apart()
-    ensures { (views others : List BlockView) → All BlockFits views → All BlockFits others → blocks_json views ≡ blocks_json others
-        → map printed views ≡ map printed others }
+    ensures { (views others : List BlockView) → All BlockFits views → All BlockFits others
+        → blocks_json views ≡ blocks_json others → map printed views ≡ map printed others }
 {}
 
 /// What is drawn of pieces that lie one behind another covers the block from its first byte to its last: no two cells share a
 /// byte, and none is left out.
 pub fn cells_cover()
-    ensures { (from to : ℕ) (xs : List Extent) → LieBetween from xs to → Tile from (cells_between from xs to) to }
+    ensures { (from to : ℕ) (xs : List Extent) → LieBetween from xs to
+        → Tile from (cells_between from xs to) to }
 {}
 
 /// Each piece is drawn once, from its offset to its end, and in order.
 pub fn each_piece_once()
-    ensures { (from to : ℕ) (xs : List Extent) → filter is_piece_cell (cells_between from xs to) ≡ map piece_cell xs }
+    ensures { (from to : ℕ) (xs : List Extent)
+        → filter is_piece_cell (cells_between from xs to) ≡ map piece_cell xs }
 {}
 
 /// A byte behind another is drawn behind it or at its place, and inside the bar.
 pub fn cells_stay_in_order()
-    ensures { (size width a b : ℕ) → a ≤ b → (place size width a ≤ place size width b) × (place size width b ≤ width) }
+    ensures { (size width a b : ℕ) → a ≤ b
+        → (place size width a ≤ place size width b) × (place size width b ≤ width) }
 {}

@@ -12,7 +12,8 @@ use json::Value;
 /// The whole number below 2^64 that a value is; `None` where it is no such number. What was printed of a number is read as that number.
 pub fn whole_number(value: &Value<'_>) -> Option<u64>
     ensures printed { (n : ℕ) → Fits n → value_view value.now ≡ number_of n → result ≡ Some n }
-    ensures value { MatchOption (as_number (value_view value.now)) (result ≡ None) (λ s. ParsesUnsigned 64 10 s (ok_or result s)) }
+    ensures value { MatchOption (as_number (value_view value.now)) (result ≡ None)
+        (λ s. ParsesUnsigned 64 10 s (ok_or result s)) }
 {
     value.as_u64()
 }

@@ -22,7 +22,8 @@ fn write_row<W: fmt::Write>(row: &AllocationReport, f: &mut fmt::Formatter<W>) -
 }
 
 fn write_rows<W: fmt::Write>(rows: &[AllocationReport], f: &mut fmt::Formatter<W>) -> fmt::Result
-    ensures { DisplaysOnOk W.write_str_gives f.old result (Some (listed row_json (map row_of rows.now))) f.new }
+    ensures { DisplaysOnOk W.write_str_gives f.old result
+        (Some (listed row_json (map row_of rows.now))) f.new }
 {
     let Some((first, others)) = rows.split_first() else {
         return Ok(());
@@ -52,7 +53,8 @@ fn write_blocks<W: fmt::Write>(
     blocks: &[MemoryBlockReport],
     f: &mut fmt::Formatter<W>,
 ) -> fmt::Result
-    ensures { DisplaysOnOk W.write_str_gives f.old result (Some (listed block_row_json blocks.now)) f.new }
+    ensures { DisplaysOnOk W.write_str_gives f.old result (Some (listed block_row_json blocks.now))
+        f.new }
 {
     let Some((first, others)) = blocks.split_first() else {
         return Ok(());
@@ -67,7 +69,8 @@ fn write_blocks<W: fmt::Write>(
 
 #[tactic(auto, unfolding(crate::specs::ReportJson::sums_json))]
 fn write_sums<W: fmt::Write>(report: &AllocatorReport, f: &mut fmt::Formatter<W>) -> fmt::Result
-    ensures { DisplaysOnOk W.write_str_gives f.old result (Some (sums_json (report_of report.now))) f.new }
+    ensures { DisplaysOnOk W.write_str_gives f.old result (Some (sums_json (report_of report.now)))
+        f.new }
 {
     let allocated = report.total_allocated_bytes;
     let capacity = report.total_capacity_bytes;

@@ -43,7 +43,8 @@ fn write_row<W: fmt::Write>(
     f: &mut fmt::Formatter<W>,
 ) -> fmt::Result
     requires { scale.width ≤ 10000 }
-    ensures { DisplaysOnOk W.write_str_gives f.old result (Some (cell_svg scale.size scale.width (row_cell row.now))) f.new }
+    ensures { DisplaysOnOk W.write_str_gives f.old result
+        (Some (cell_svg scale.size scale.width (row_cell row.now))) f.new }
 {
     let shown = Shown {
         look: Look::Piece,
@@ -60,7 +61,8 @@ fn write_rest<W: fmt::Write>(
     f: &mut fmt::Formatter<W>,
 ) -> fmt::Result
     requires { scale.width ≤ 10000 }
-    ensures { DisplaysOnOk W.write_str_gives f.old result (Some (cell_svg scale.size scale.width (rest_cell block.now))) f.new }
+    ensures { DisplaysOnOk W.write_str_gives f.old result
+        (Some (cell_svg scale.size scale.width (rest_cell block.now))) f.new }
 {
     let shown = Shown {
         look: Look::Rest,
@@ -114,7 +116,8 @@ fn write_label<W: fmt::Write>(
     block: &MemoryBlockReport,
     f: &mut fmt::Formatter<W>,
 ) -> fmt::Result
-    ensures { DisplaysOnOk W.write_str_gives f.old result (Some (row_label_svg i width pieces block.now)) f.new }
+    ensures { DisplaysOnOk W.write_str_gives f.old result
+        (Some (row_label_svg i width pieces block.now)) f.new }
 {
     write_index_note(i, block, f)?;
     write_count_note(pieces, f)?;
@@ -130,7 +133,8 @@ fn write_bar<W: fmt::Write>(
     block: &MemoryBlockReport,
     f: &mut fmt::Formatter<W>,
 ) -> fmt::Result
-    ensures { DisplaysOnOk W.write_str_gives f.old result (Some (row_bar_svg largest rows.now i block.now)) f.new }
+    ensures { DisplaysOnOk W.write_str_gives f.old result
+        (Some (row_bar_svg largest rows.now i block.now)) f.new }
 {
     let size = block.size;
     let width = bar_width(largest, size);
@@ -149,7 +153,8 @@ fn write_bars<W: fmt::Write>(
     blocks: &[MemoryBlockReport],
     f: &mut fmt::Formatter<W>,
 ) -> fmt::Result
-    ensures { DisplaysOnOk W.write_str_gives f.old result (Some (row_bars_svg largest rows.now 0 blocks.now)) f.new }
+    ensures { DisplaysOnOk W.write_str_gives f.old result
+        (Some (row_bars_svg largest rows.now 0 blocks.now)) f.new }
 {
     for (i, block) in blocks.iter().enumerate() {
         write_bar(largest, rows, i as u64, block, f)?;

@@ -145,7 +145,8 @@ fn write_named<W: fmt::Write>(name: &str, f: &mut fmt::Formatter<W>) -> fmt::Res
 
 #[tactic(auto, unfolding(crate::specs::Svg::title_svg))]
 fn write_title<W: fmt::Write>(shown: Shown<'_>, f: &mut fmt::Formatter<W>) -> fmt::Result
-    ensures { DisplaysOnOk W.write_str_gives f.old result (Some (title_svg (cell_of shown.entry))) f.new }
+    ensures { DisplaysOnOk W.write_str_gives f.old result (Some (title_svg (cell_of shown.entry)))
+        f.new }
 {
     write_what(shown.look, f)?;
     write_bytes(shown.start, shown.end, f)?;
@@ -189,7 +190,8 @@ pub fn write_cell<W: fmt::Write>(
     f: &mut fmt::Formatter<W>,
 ) -> fmt::Result
     requires { scale.width ≤ 10000 }
-    ensures { DisplaysOnOk W.write_str_gives f.old result (Some (cell_svg scale.size scale.width (cell_of shown.entry))) f.new }
+    ensures { DisplaysOnOk W.write_str_gives f.old result
+        (Some (cell_svg scale.size scale.width (cell_of shown.entry))) f.new }
 {
     let x = place(scale.size, scale.width, shown.start);
     let end = place(scale.size, scale.width, shown.end);
@@ -355,7 +357,8 @@ pub fn write_totals<W: fmt::Write>(
     capacity: u64,
     f: &mut fmt::Formatter<W>,
 ) -> fmt::Result
-    ensures { DisplaysOnOk W.write_str_gives f.old result (Some (totals_svg blocks pieces taken capacity)) f.new }
+    ensures { DisplaysOnOk W.write_str_gives f.old result
+        (Some (totals_svg blocks pieces taken capacity)) f.new }
 {
     write!(
         f,

@@ -25,7 +25,8 @@ pub fn add_views<'a, H: Copy + Eq>(
     memory_type: &'a MemoryType<H>,
 ) -> Result<()>
     ensures added { OnOk result (map shown views.new.items
-        ≡ map shown views.old.items ++ shown_from index memory_type.now.granularity 0 memory_type.now.slots) }
+        ≡ map shown views.old.items ++ shown_from index memory_type.now.granularity 0
+        memory_type.now.slots) }
     ensures cause { IfErr result (λ e. e ≡ HostOutOfMemory) }
 {
     let page_size = memory_type.granularity();

@@ -9,7 +9,8 @@ use std::collections::HashMap;
 /// Binds a number that there is room for.
 pub fn bind<T: Drop>(bound: &mut HashMap<u64, T>, key: u64, value: T)
     requires { 1 ≤ spare bound.old }
-    ensures { (k : ℕ) → lookup (nat_eq k) bound.new.entries ≡ cond (nat_eq key k) (Some value) (lookup (nat_eq k) bound.old.entries) }
+    ensures { (k : ℕ) → lookup (nat_eq k) bound.new.entries
+        ≡ cond (nat_eq key k) (Some value) (lookup (nat_eq k) bound.old.entries) }
 {
     match bound.insert(key, value) {
         Ok(_) => {}

@@ -31,7 +31,8 @@ pub fn run<M: Machine, L: Log>(
     log: &L,
     commands: &[M::Command],
 ) -> Result<Vec<M::Reply>>
-    ensures run { IfOk result (λ replies. IsRun M.serves commands.now replies.items machine.old machine.new) }
+    ensures run { IfOk result (λ replies. IsRun M.serves commands.now replies.items machine.old
+        machine.new) }
     ensures count { IfOk result (λ replies. length replies.items ≡ length commands.now) }
     ensures nothing { OnErr result (machine.new ≡ machine.old) }
     ensures cause { IfErr result (λ e. e ≡ HostOutOfMemory) }

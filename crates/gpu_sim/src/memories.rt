@@ -39,7 +39,8 @@ impl Memories {
     pub(crate) fn add(&mut self, info: &MemoryAllocateInfo) -> Result<u64, AllocError>
         ensures number { IfOk result (λ number. number ≡ issued self.old + 1) }
         ensures fresh { IfOk result (λ number. get (held_in self.old) number ≡ None) }
-        ensures held { IfOk result (λ number. held_in self.new ≡ insert (held_in self.old) number (new_entry info.now)) }
+        ensures held { IfOk result (λ number. held_in self.new
+            ≡ insert (held_in self.old) number (new_entry info.now)) }
         ensures given { IfOk result (λ number. issued self.new ≡ issued self.old + 1) }
         ensures refused { OnErr result (held_in self.new ≡ held_in self.old) }
         ensures none_given { OnErr result (issued self.new ≡ issued self.old) }
@@ -114,7 +115,8 @@ impl Memories {
 
     /// The slot of a number, where it was given out.
     fn index_of(&self, number: u64) -> Option<usize>
-        ensures index { IfSome result (λ index. (index + 1 ≡ number) × (index < vec_len self.now.slots)) }
+        ensures index { IfSome result (λ index. (index + 1 ≡ number)
+            × (index < vec_len self.now.slots)) }
         ensures unknown { result ≡ None → get (held_in self.now) number ≡ None }
     {
         if number == 0 {

@@ -47,7 +47,12 @@ impl SimVulkan {
     ) -> Self
         ensures held { held_of result ≡ empty }
         ensures plan { plan_of result ≡ record {
-          properties = record { types = types.items; heaps = heaps.items; granularity = granularity };
+          properties = record {
+            types = types.items;
+            heaps = heaps.items;
+            granularity =
+                granularity;
+          };
           limit = limit;
           script = refusals.items;
           questions = 0;
@@ -153,8 +158,10 @@ impl VulkanDevice for SimVulkan {
     }
 
     fn allocate_memory(&mut self, info: &MemoryAllocateInfo) -> Result<DeviceMemory, i32>
-        ensures number { IfOk result (λ memory. (memory.0 ≢ 0) × (get (held_of self.old) memory.0 ≡ None)) }
-        ensures grants { IfOk result (λ memory. held_of self.new ≡ insert (held_of self.old) memory.0 (new_entry info.now)) }
+        ensures number { IfOk result (λ memory. (memory.0 ≢ 0)
+            × (get (held_of self.old) memory.0 ≡ None)) }
+        ensures grants { IfOk result (λ memory. held_of self.new
+            ≡ insert (held_of self.old) memory.0 (new_entry info.now)) }
         ensures refuses { OnErr result (held_of self.new ≡ held_of self.old) }
         ensures counts_no_grant { OnOk result (refused_of self.new ≡ refused_of self.old) }
         ensures counts_refusal { OnErr result (refused_of self.new ≡ raised (refused_of self.old)) }
@@ -162,8 +169,10 @@ impl VulkanDevice for SimVulkan {
         ensures recorded { history_of self.new ≡ AskedMemory info.now result ∷ history_of self.old }
         ensures constant { properties_of self.new ≡ properties_of self.old }
         ensures next_number { IfOk result (λ memory. memory.0 ≡ (plan_of self.old).issued + 1) }
-        ensures by_plan { IfSome (planned_code (plan_of self.old) info.now.size) (λ code. result ≡ Err code) }
-        ensures by_host { planned_code (plan_of self.old) info.now.size ≡ None → IfErr result (λ code. code ≡ out_of_host_memory) }
+        ensures by_plan { IfSome (planned_code (plan_of self.old) info.now.size)
+            (λ code. result ≡ Err code) }
+        ensures by_host { planned_code (plan_of self.old) info.now.size ≡ None
+            → IfErr result (λ code. code ≡ out_of_host_memory) }
         ensures plan_granted { OnOk result (plan_of self.new ≡ given (plan_of self.old)) }
         ensures plan_refused { OnErr result (plan_of self.new ≡ asked (plan_of self.old)) }
     {
@@ -182,21 +191,30 @@ impl VulkanDevice for SimVulkan {
     fn map_memory(&mut self, memory: DeviceMemory) -> Result<bool, i32>
         requires { IsUnmapped (held_of self.old) memory.0 }
         ensures grants { IfOk result (λ mapped. mapped ≡ true
-            → (xs : List ℕ) × (length xs ≡ size_of (held_of self.old) memory.0) × (held_of self.new ≡ mapped_with (held_of self.old) memory.0 xs)) }
-        ensures fits_host { IfOk result (λ mapped. mapped ≡ true → size_of (held_of self.old) memory.0 < 2 ^ 63) }
-        ensures refuses_null { IfOk result (λ mapped. mapped ≡ false → held_of self.new ≡ held_of self.old) }
+            → (xs : List ℕ) × (length xs ≡ size_of (held_of self.old) memory.0)
+            × (held_of self.new ≡ mapped_with (held_of self.old) memory.0 xs)) }
+        ensures fits_host { IfOk result
+            (λ mapped. mapped ≡ true → size_of (held_of self.old) memory.0 < 2 ^ 63) }
+        ensures refuses_null { IfOk result
+            (λ mapped. mapped ≡ false → held_of self.new ≡ held_of self.old) }
         ensures refuses { OnErr result (held_of self.new ≡ held_of self.old) }
-        ensures counts_no_grant { IfOk result (λ mapped. mapped ≡ true → refused_of self.new ≡ refused_of self.old) }
-        ensures counts_null { IfOk result (λ mapped. mapped ≡ false → refused_of self.new ≡ raised (refused_of self.old)) }
+        ensures counts_no_grant { IfOk result
+            (λ mapped. mapped ≡ true → refused_of self.new ≡ refused_of self.old) }
+        ensures counts_null { IfOk result
+            (λ mapped. mapped ≡ false → refused_of self.new ≡ raised (refused_of self.old)) }
         ensures counts_refusal { OnErr result (refused_of self.new ≡ raised (refused_of self.old)) }
         ensures names_no_question { latest_of self.new ≡ latest_of self.old }
         ensures recorded { history_of self.new ≡ AskedMapping memory result ∷ history_of self.old }
         ensures constant { properties_of self.new ≡ properties_of self.old }
         ensures zeros { IfOk result (λ mapped. mapped ≡ true
-            → held_of self.new ≡ mapped_with (held_of self.old) memory.0 (replicate (size_of (held_of self.old) memory.0) 0)) }
-        ensures by_plan { IfSome (planned_answer (plan_of self.old) (size_of (held_of self.old) memory.0)) (λ answer. result ≡ answer) }
-        ensures by_host { planned_answer (plan_of self.old) (size_of (held_of self.old) memory.0) ≡ None → IfErr result (λ code. code ≡ out_of_host_memory) }
-        ensures null_by_plan { planned_answer (plan_of self.old) (size_of (held_of self.old) memory.0) ≡ None → result ≢ Ok false }
+            → held_of self.new ≡ mapped_with (held_of self.old) memory.0
+            (replicate (size_of (held_of self.old) memory.0) 0)) }
+        ensures by_plan { IfSome (planned_answer (plan_of self.old)
+            (size_of (held_of self.old) memory.0)) (λ answer. result ≡ answer) }
+        ensures by_host { planned_answer (plan_of self.old) (size_of (held_of self.old) memory.0)
+            ≡ None → IfErr result (λ code. code ≡ out_of_host_memory) }
+        ensures null_by_plan { planned_answer (plan_of self.old)
+            (size_of (held_of self.old) memory.0) ≡ None → result ≢ Ok false }
         ensures plan { plan_of self.new ≡ asked (plan_of self.old) }
     {
         let refusal = self.journal.next_refusal();

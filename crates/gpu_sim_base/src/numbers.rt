@@ -31,7 +31,8 @@ impl<T: Drop> Numbers<T> {
     /// Holds an item, and gives its new number. Where the host refuses room for it nothing changes.
     pub fn add(&mut self, item: T) -> Result<u64, AllocError>
         ensures number { IfOk result (λ number. number ≡ length self.old.slots.items + 1) }
-        ensures held { IfOk result (λ number. self.new.slots.items ≡ self.old.slots.items ++ Some item ∷ []) }
+        ensures held { IfOk result (λ number. self.new.slots.items
+            ≡ self.old.slots.items ++ Some item ∷ []) }
         ensures refused { OnErr result (self.new.slots.items ≡ self.old.slots.items) }
     {
         self.slots.push(Some(item))?;
@@ -81,7 +82,8 @@ impl<T: Drop> Numbers<T> {
 
     /// The slot of a number, where it was given out.
     fn index_of(&self, number: u64) -> Option<usize>
-        ensures index { IfSome result (λ index. (index + 1 ≡ number) × (index < vec_len self.now.slots)) }
+        ensures index { IfSome result (λ index. (index + 1 ≡ number)
+            × (index < vec_len self.now.slots)) }
         ensures unknown { result ≡ None → (number ≡ 0) ⊎ (vec_len self.now.slots < number) }
     {
         let index = number.checked_sub(1)? as usize;

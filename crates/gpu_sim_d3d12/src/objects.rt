@@ -58,7 +58,8 @@ impl Objects {
     ) -> Result<Option<u64>, i32>
         ensures answer { IsAnswer (λ number. number) refusal (issued self.old + 1) result }
         ensures number { IsNew (held_in_objects self.old) (granted result) }
-        ensures holds { held_in_objects self.new ≡ with_granted (held_in_objects self.old) (granted result) (entry_of object) }
+        ensures holds { held_in_objects self.new
+            ≡ with_granted (held_in_objects self.old) (granted result) (entry_of object) }
         ensures issues { issued self.new ≡ asked (issued self.old) (granted result) }
     {
         match refusal {
@@ -83,7 +84,8 @@ impl Objects {
 
     /// Takes a resource away; nothing where the number is no resource's.
     pub(crate) fn release_resource(&mut self, number: u64)
-        ensures held { held_in_objects self.new ≡ without_resource (held_in_objects self.old) number }
+        ensures held { held_in_objects self.new
+            ≡ without_resource (held_in_objects self.old) number }
         ensures issues { issued self.new ≡ issued self.old }
     {
         if !self.is_heap(number) {

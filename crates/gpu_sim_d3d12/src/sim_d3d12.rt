@@ -50,7 +50,11 @@ impl SimD3D12 {
     ) -> Self
         ensures held { held_of result ≡ empty }
         ensures tier { (properties_of result).tier ≡ tier }
-        ensures plan { plan_of result ≡ record { script = refusals.items; questions = 0; issued = 0 } }
+        ensures plan { plan_of result ≡ record {
+          script = refusals.items;
+          questions = 0;
+          issued = 0;
+        } }
         ensures refused { refused_of result ≡ 0 }
         ensures history { history_of result ≡ scripted refusals.items }
     {
@@ -130,10 +134,13 @@ impl SimD3D12 {
         request: ResourceRequest,
     ) -> Result<Option<ID3D12Resource>, i32>
         ensures number { IsNew (held_of self.old) (granted_resource result) }
-        ensures holds { held_of self.new ≡ with_granted (held_of self.old) (granted_resource result) (entry_of object) }
-        ensures recorded { history_of self.new ≡ AskedResource request result ∷ history_of self.old }
+        ensures holds { held_of self.new
+            ≡ with_granted (held_of self.old) (granted_resource result) (entry_of object) }
+        ensures recorded { history_of self.new
+            ≡ AskedResource request result ∷ history_of self.old }
         ensures tier { self.new.tier ≡ self.old.tier }
-        ensures answer { IsAnswer (λ resource. resource.0) (planned (plan_of self.old)) ((plan_of self.old).issued + 1) result }
+        ensures answer { IsAnswer (λ resource. resource.0) (planned (plan_of self.old))
+            ((plan_of self.old).issued + 1) result }
         ensures plan { plan_of self.new ≡ answered (plan_of self.old) (granted_resource result) }
     {
         let refusal = self.journal.next_refusal();
@@ -208,15 +215,20 @@ impl D3D12Device for SimD3D12 {
 
     fn create_heap(&mut self, desc: &HeapDesc) -> Result<Option<ID3D12Heap>, i32>
         ensures number { IsNew (held_of self.old) (granted_heap result) }
-        ensures holds { held_of self.new ≡ with_granted (held_of self.old) (granted_heap result) (Heap desc.now) }
+        ensures holds { held_of self.new
+            ≡ with_granted (held_of self.old) (granted_heap result) (Heap desc.now) }
         ensures counts { refused_of self.new ≡ counted (refused_of self.old) (granted_heap result) }
         ensures names_heap { latest_heap_of self.new ≡ Some desc.now }
-        ensures names_no_formats { request_formats (latest_resource_of self.new) ≡ request_formats (latest_resource_of self.old) }
-        ensures names_no_clear_value { request_clear (latest_resource_of self.new) ≡ request_clear (latest_resource_of self.old) }
-        ensures names_no_memory { request_memory (latest_resource_of self.new) ≡ request_memory (latest_resource_of self.old) }
+        ensures names_no_formats { request_formats (latest_resource_of self.new)
+            ≡ request_formats (latest_resource_of self.old) }
+        ensures names_no_clear_value { request_clear (latest_resource_of self.new)
+            ≡ request_clear (latest_resource_of self.old) }
+        ensures names_no_memory { request_memory (latest_resource_of self.new)
+            ≡ request_memory (latest_resource_of self.old) }
         ensures recorded { history_of self.new ≡ AskedHeap desc.now result ∷ history_of self.old }
         ensures constant { properties_of self.new ≡ properties_of self.old }
-        ensures answer { IsAnswer (λ heap. heap.0) (planned (plan_of self.old)) ((plan_of self.old).issued + 1) result }
+        ensures answer { IsAnswer (λ heap. heap.0) (planned (plan_of self.old))
+            ((plan_of self.old).issued + 1) result }
         ensures plan { plan_of self.new ≡ answered (plan_of self.old) (granted_heap result) }
     {
         let refusal = self.journal.next_refusal();
@@ -237,19 +249,25 @@ impl D3D12Device for SimD3D12 {
         clear_value: Option<&ClearValue>,
     ) -> Result<Option<ID3D12Resource>, i32>
         ensures number { IsNew (held_of self.old) (granted_resource result) }
-        ensures holds { held_of self.new ≡ with_granted (held_of self.old) (granted_resource result) (Committed (told_size (properties_of self.old) desc.now)) }
-        ensures counts { refused_of self.new ≡ counted (refused_of self.old) (granted_resource result) }
+        ensures holds { held_of self.new
+            ≡ with_granted (held_of self.old) (granted_resource result)
+            (Committed (told_size (properties_of self.old) desc.now)) }
+        ensures counts { refused_of self.new
+            ≡ counted (refused_of self.old) (granted_resource result) }
         ensures names_no_heap { latest_heap_of self.new ≡ latest_heap_of self.old }
         ensures names_formats { request_formats (latest_resource_of self.new) ≡ None }
-        ensures names_clear_value { request_clear (latest_resource_of self.new) ≡ option_copied clear_value.entry }
-        ensures names_memory { request_memory (latest_resource_of self.new) ≡ Some (heap_properties.now, heap_flags) }
+        ensures names_clear_value { request_clear (latest_resource_of self.new)
+            ≡ option_copied clear_value.entry }
+        ensures names_memory { request_memory (latest_resource_of self.new)
+            ≡ Some (heap_properties.now, heap_flags) }
         ensures recorded { history_of self.new ≡ AskedResource (record {
           place = Own heap_properties.now heap_flags;
           shape = InState desc.now initial_state;
           clear_value = option_copied clear_value.entry;
         }) result ∷ history_of self.old }
         ensures constant { properties_of self.new ≡ properties_of self.old }
-        ensures answer { IsAnswer (λ resource. resource.0) (planned (plan_of self.old)) ((plan_of self.old).issued + 1) result }
+        ensures answer { IsAnswer (λ resource. resource.0) (planned (plan_of self.old))
+            ((plan_of self.old).issued + 1) result }
         ensures plan { plan_of self.new ≡ answered (plan_of self.old) (granted_resource result) }
     {
         let size = self.resource_allocation_info(desc).size_in_bytes;
@@ -271,20 +289,27 @@ impl D3D12Device for SimD3D12 {
         castable_formats: Option<&[Format]>,
     ) -> Result<Option<ID3D12Resource>, i32>
         ensures number { IsNew (held_of self.old) (granted_resource result) }
-        ensures holds { held_of self.new ≡ with_granted (held_of self.old) (granted_resource result)
-            (Committed (told_size1 (properties_of self.old) desc.now (option_copied castable_formats.entry))) }
-        ensures counts { refused_of self.new ≡ counted (refused_of self.old) (granted_resource result) }
+        ensures holds { held_of self.new
+            ≡ with_granted (held_of self.old) (granted_resource result)
+            (Committed (told_size1 (properties_of self.old) desc.now
+            (option_copied castable_formats.entry))) }
+        ensures counts { refused_of self.new
+            ≡ counted (refused_of self.old) (granted_resource result) }
         ensures names_no_heap { latest_heap_of self.new ≡ latest_heap_of self.old }
-        ensures names_formats { request_formats (latest_resource_of self.new) ≡ option_map length (option_copied castable_formats.entry) }
-        ensures names_clear_value { request_clear (latest_resource_of self.new) ≡ option_copied clear_value.entry }
-        ensures names_memory { request_memory (latest_resource_of self.new) ≡ Some (heap_properties.now, heap_flags) }
+        ensures names_formats { request_formats (latest_resource_of self.new)
+            ≡ option_map length (option_copied castable_formats.entry) }
+        ensures names_clear_value { request_clear (latest_resource_of self.new)
+            ≡ option_copied clear_value.entry }
+        ensures names_memory { request_memory (latest_resource_of self.new)
+            ≡ Some (heap_properties.now, heap_flags) }
         ensures recorded { history_of self.new ≡ AskedResource (record {
           place = Own heap_properties.now heap_flags;
           shape = InLayout desc.now initial_layout (option_copied castable_formats.entry);
           clear_value = option_copied clear_value.entry;
         }) result ∷ history_of self.old }
         ensures constant { properties_of self.new ≡ properties_of self.old }
-        ensures answer { IsAnswer (λ resource. resource.0) (planned (plan_of self.old)) ((plan_of self.old).issued + 1) result }
+        ensures answer { IsAnswer (λ resource. resource.0) (planned (plan_of self.old))
+            ((plan_of self.old).issued + 1) result }
         ensures plan { plan_of self.new ≡ answered (plan_of self.old) (granted_resource result) }
     {
         let size = self.resource_allocation_info(&desc.desc).size_in_bytes;
@@ -309,11 +334,15 @@ impl D3D12Device for SimD3D12 {
         clear_value: Option<&ClearValue>,
     ) -> Result<Option<ID3D12Resource>, i32>
         ensures number { IsNew (held_of self.old) (granted_resource result) }
-        ensures holds { held_of self.new ≡ with_granted (held_of self.old) (granted_resource result) (Placed heap.0 offset (told_size (properties_of self.old) desc.now)) }
-        ensures counts { refused_of self.new ≡ counted (refused_of self.old) (granted_resource result) }
+        ensures holds { held_of self.new
+            ≡ with_granted (held_of self.old) (granted_resource result)
+            (Placed heap.0 offset (told_size (properties_of self.old) desc.now)) }
+        ensures counts { refused_of self.new
+            ≡ counted (refused_of self.old) (granted_resource result) }
         ensures names_no_heap { latest_heap_of self.new ≡ latest_heap_of self.old }
         ensures names_formats { request_formats (latest_resource_of self.new) ≡ None }
-        ensures names_clear_value { request_clear (latest_resource_of self.new) ≡ option_copied clear_value.entry }
+        ensures names_clear_value { request_clear (latest_resource_of self.new)
+            ≡ option_copied clear_value.entry }
         ensures names_memory { request_memory (latest_resource_of self.new) ≡ None }
         ensures recorded { history_of self.new ≡ AskedResource (record {
           place = InHeap heap offset;
@@ -321,7 +350,8 @@ impl D3D12Device for SimD3D12 {
           clear_value = option_copied clear_value.entry;
         }) result ∷ history_of self.old }
         ensures constant { properties_of self.new ≡ properties_of self.old }
-        ensures answer { IsAnswer (λ resource. resource.0) (planned (plan_of self.old)) ((plan_of self.old).issued + 1) result }
+        ensures answer { IsAnswer (λ resource. resource.0) (planned (plan_of self.old))
+            ((plan_of self.old).issued + 1) result }
         ensures plan { plan_of self.new ≡ answered (plan_of self.old) (granted_resource result) }
     {
         let size = self.resource_allocation_info(desc).size_in_bytes;
@@ -343,12 +373,17 @@ impl D3D12Device for SimD3D12 {
         castable_formats: Option<&[Format]>,
     ) -> Result<Option<ID3D12Resource>, i32>
         ensures number { IsNew (held_of self.old) (granted_resource result) }
-        ensures holds { held_of self.new ≡ with_granted (held_of self.old) (granted_resource result)
-            (Placed heap.0 offset (told_size1 (properties_of self.old) desc.now (option_copied castable_formats.entry))) }
-        ensures counts { refused_of self.new ≡ counted (refused_of self.old) (granted_resource result) }
+        ensures holds { held_of self.new
+            ≡ with_granted (held_of self.old) (granted_resource result)
+            (Placed heap.0 offset (told_size1 (properties_of self.old) desc.now
+            (option_copied castable_formats.entry))) }
+        ensures counts { refused_of self.new
+            ≡ counted (refused_of self.old) (granted_resource result) }
         ensures names_no_heap { latest_heap_of self.new ≡ latest_heap_of self.old }
-        ensures names_formats { request_formats (latest_resource_of self.new) ≡ option_map length (option_copied castable_formats.entry) }
-        ensures names_clear_value { request_clear (latest_resource_of self.new) ≡ option_copied clear_value.entry }
+        ensures names_formats { request_formats (latest_resource_of self.new)
+            ≡ option_map length (option_copied castable_formats.entry) }
+        ensures names_clear_value { request_clear (latest_resource_of self.new)
+            ≡ option_copied clear_value.entry }
         ensures names_memory { request_memory (latest_resource_of self.new) ≡ None }
         ensures recorded { history_of self.new ≡ AskedResource (record {
           place = InHeap heap offset;
@@ -356,7 +391,8 @@ impl D3D12Device for SimD3D12 {
           clear_value = option_copied clear_value.entry;
         }) result ∷ history_of self.old }
         ensures constant { properties_of self.new ≡ properties_of self.old }
-        ensures answer { IsAnswer (λ resource. resource.0) (planned (plan_of self.old)) ((plan_of self.old).issued + 1) result }
+        ensures answer { IsAnswer (λ resource. resource.0) (planned (plan_of self.old))
+            ((plan_of self.old).issued + 1) result }
         ensures plan { plan_of self.new ≡ answered (plan_of self.old) (granted_resource result) }
     {
         let size = self.resource_allocation_info(&desc.desc).size_in_bytes;
@@ -376,9 +412,12 @@ impl D3D12Device for SimD3D12 {
         ensures gives_back { held_of self.new ≡ without_heap (held_of self.old) heap.0 }
         ensures counts_nothing { refused_of self.new ≡ refused_of self.old }
         ensures names_no_heap { latest_heap_of self.new ≡ latest_heap_of self.old }
-        ensures names_no_formats { request_formats (latest_resource_of self.new) ≡ request_formats (latest_resource_of self.old) }
-        ensures names_no_clear_value { request_clear (latest_resource_of self.new) ≡ request_clear (latest_resource_of self.old) }
-        ensures names_no_memory { request_memory (latest_resource_of self.new) ≡ request_memory (latest_resource_of self.old) }
+        ensures names_no_formats { request_formats (latest_resource_of self.new)
+            ≡ request_formats (latest_resource_of self.old) }
+        ensures names_no_clear_value { request_clear (latest_resource_of self.new)
+            ≡ request_clear (latest_resource_of self.old) }
+        ensures names_no_memory { request_memory (latest_resource_of self.new)
+            ≡ request_memory (latest_resource_of self.old) }
         ensures recorded { history_of self.new ≡ ReleasedHeap heap ∷ history_of self.old }
         ensures constant { properties_of self.new ≡ properties_of self.old }
         ensures plan { plan_of self.new ≡ plan_of self.old }
@@ -391,9 +430,12 @@ impl D3D12Device for SimD3D12 {
         ensures gives_back { held_of self.new ≡ without_resource (held_of self.old) resource.0 }
         ensures counts_nothing { refused_of self.new ≡ refused_of self.old }
         ensures names_no_heap { latest_heap_of self.new ≡ latest_heap_of self.old }
-        ensures names_no_formats { request_formats (latest_resource_of self.new) ≡ request_formats (latest_resource_of self.old) }
-        ensures names_no_clear_value { request_clear (latest_resource_of self.new) ≡ request_clear (latest_resource_of self.old) }
-        ensures names_no_memory { request_memory (latest_resource_of self.new) ≡ request_memory (latest_resource_of self.old) }
+        ensures names_no_formats { request_formats (latest_resource_of self.new)
+            ≡ request_formats (latest_resource_of self.old) }
+        ensures names_no_clear_value { request_clear (latest_resource_of self.new)
+            ≡ request_clear (latest_resource_of self.old) }
+        ensures names_no_memory { request_memory (latest_resource_of self.new)
+            ≡ request_memory (latest_resource_of self.old) }
         ensures recorded { history_of self.new ≡ ReleasedResource resource ∷ history_of self.old }
         ensures constant { properties_of self.new ≡ properties_of self.old }
         ensures plan { plan_of self.new ≡ plan_of self.old }

@@ -69,11 +69,16 @@ impl Objects {
     /// A new heap, and its number. Where the host refuses room for it, also in a set, nothing that is held changes.
     pub(crate) fn hold_heap(&mut self, desc: HeapDescriptor, size: u64) -> Result<u64, AllocError>
         ensures number { IfOk result (λ number. number ≡ length self.old.numbers.slots.items + 1) }
-        ensures new { IfOk result (λ number. get (held_by self.old.numbers.slots.items) number ≡ None) }
-        ensures held { IfOk result (λ number. held_by self.new.numbers.slots.items ≡ insert (held_by self.old.numbers.slots.items) number (Heap desc size)) }
-        ensures given { OnOk result (length self.new.numbers.slots.items ≡ length self.old.numbers.slots.items + 1) }
-        ensures refused { OnErr result (held_by self.new.numbers.slots.items ≡ held_by self.old.numbers.slots.items) }
-        ensures none_given { OnErr result (length self.new.numbers.slots.items ≡ length self.old.numbers.slots.items) }
+        ensures new { IfOk result (λ number. get (held_by self.old.numbers.slots.items) number
+            ≡ None) }
+        ensures held { IfOk result (λ number. held_by self.new.numbers.slots.items
+            ≡ insert (held_by self.old.numbers.slots.items) number (Heap desc size)) }
+        ensures given { OnOk result (length self.new.numbers.slots.items
+            ≡ length self.old.numbers.slots.items + 1) }
+        ensures refused { OnErr result (held_by self.new.numbers.slots.items
+            ≡ held_by self.old.numbers.slots.items) }
+        ensures none_given { OnErr result
+            (length self.new.numbers.slots.items ≡ length self.old.numbers.slots.items) }
     {
         self.make_room()?;
         let number = self.numbers.add(Object::Heap { desc, size })?;
@@ -83,11 +88,16 @@ impl Objects {
     /// A new empty set, and its number. Where the host refuses room for it nothing that is held changes.
     pub(crate) fn hold_set(&mut self) -> Result<u64, AllocError>
         ensures number { IfOk result (λ number. number ≡ length self.old.numbers.slots.items + 1) }
-        ensures new { IfOk result (λ number. get (held_by self.old.numbers.slots.items) number ≡ None) }
-        ensures held { IfOk result (λ number. held_by self.new.numbers.slots.items ≡ insert (held_by self.old.numbers.slots.items) number (Set [] [])) }
-        ensures given { OnOk result (length self.new.numbers.slots.items ≡ length self.old.numbers.slots.items + 1) }
-        ensures refused { OnErr result (held_by self.new.numbers.slots.items ≡ held_by self.old.numbers.slots.items) }
-        ensures none_given { OnErr result (length self.new.numbers.slots.items ≡ length self.old.numbers.slots.items) }
+        ensures new { IfOk result (λ number. get (held_by self.old.numbers.slots.items) number
+            ≡ None) }
+        ensures held { IfOk result (λ number. held_by self.new.numbers.slots.items
+            ≡ insert (held_by self.old.numbers.slots.items) number (Set [] [])) }
+        ensures given { OnOk result (length self.new.numbers.slots.items
+            ≡ length self.old.numbers.slots.items + 1) }
+        ensures refused { OnErr result (held_by self.new.numbers.slots.items
+            ≡ held_by self.old.numbers.slots.items) }
+        ensures none_given { OnErr result
+            (length self.new.numbers.slots.items ≡ length self.old.numbers.slots.items) }
     {
         self.make_room()?;
         let set = ResidencySet::new(self.alloc, self.room)?;
@@ -97,7 +107,8 @@ impl Objects {
 
     /// Takes a heap away; nothing where the number is no heap's.
     pub(crate) fn release_heap(&mut self, number: u64)
-        ensures held { held_by self.new.numbers.slots.items ≡ without_heap (held_by self.old.numbers.slots.items) number }
+        ensures held { held_by self.new.numbers.slots.items
+            ≡ without_heap (held_by self.old.numbers.slots.items) number }
         ensures given { length self.new.numbers.slots.items ≡ length self.old.numbers.slots.items }
     {
         if self.is_heap(number) {
@@ -125,7 +136,8 @@ impl Objects {
     /// Adds a heap to a set's members; nothing where the number is no set's.
     pub(crate) fn add_member(&mut self, number: u64, heap: MTLHeap)
         requires { IsHeap (held_by self.old.numbers.slots.items) heap.0 }
-        ensures held { held_by self.new.numbers.slots.items ≡ with_member (held_by self.old.numbers.slots.items) number heap }
+        ensures held { held_by self.new.numbers.slots.items
+            ≡ with_member (held_by self.old.numbers.slots.items) number heap }
         ensures given { length self.new.numbers.slots.items ≡ length self.old.numbers.slots.items }
     {
         if let Some(mut set) = take_set(&mut self.numbers, number) {
@@ -136,7 +148,8 @@ impl Objects {
 
     /// Removes a heap from a set's members; nothing where the number is no set's.
     pub(crate) fn remove_member(&mut self, number: u64, heap: MTLHeap)
-        ensures held { held_by self.new.numbers.slots.items ≡ without_member (held_by self.old.numbers.slots.items) number heap }
+        ensures held { held_by self.new.numbers.slots.items
+            ≡ without_member (held_by self.old.numbers.slots.items) number heap }
         ensures given { length self.new.numbers.slots.items ≡ length self.old.numbers.slots.items }
     {
         if let Some(mut set) = take_set(&mut self.numbers, number) {
@@ -147,7 +160,8 @@ impl Objects {
 
     /// Makes a set's members its committed members; nothing where the number is no set's.
     pub(crate) fn commit(&mut self, number: u64)
-        ensures held { held_by self.new.numbers.slots.items ≡ with_commit (held_by self.old.numbers.slots.items) number }
+        ensures held { held_by self.new.numbers.slots.items
+            ≡ with_commit (held_by self.old.numbers.slots.items) number }
         ensures given { length self.new.numbers.slots.items ≡ length self.old.numbers.slots.items }
     {
         if let Some(mut set) = take_set(&mut self.numbers, number) {
@@ -160,7 +174,9 @@ impl Objects {
 /// Takes a set out; nothing where the number is no set's.
 fn take_set(numbers: &mut Numbers<Object>, number: u64) -> Option<ResidencySet>
     ensures set { result ≡ set_in (item_at numbers.old.slots.items number) }
-    ensures slots { numbers.new.slots.items ≡ (if is_some result then with_item_at numbers.old.slots.items number None else numbers.old.slots.items) }
+    ensures slots { numbers.new.slots.items
+        ≡ (if is_some result then with_item_at numbers.old.slots.items number None
+        else numbers.old.slots.items) }
 {
     match numbers.take(number) {
         Some(Object::Set(set)) => Some(set),
@@ -176,7 +192,8 @@ fn take_set(numbers: &mut Numbers<Object>, number: u64) -> Option<ResidencySet>
 fn make_room_in_all(numbers: &mut Numbers<Object>, room: usize) -> Result<(), AllocError>
     ensures held { held_by numbers.new.slots.items ≡ held_by numbers.old.slots.items }
     ensures given { length numbers.new.slots.items ≡ length numbers.old.slots.items }
-    ensures keeps { (count : ℕ) → AllHaveRoom count numbers.old.slots.items → AllHaveRoom count numbers.new.slots.items }
+    ensures keeps { (count : ℕ) → AllHaveRoom count numbers.old.slots.items
+        → AllHaveRoom count numbers.new.slots.items }
     ensures room { OnOk result (AllHaveRoom room numbers.new.slots.items) }
 {
     for index in 0..numbers.issued() {
@@ -189,8 +206,10 @@ fn make_room_in_all(numbers: &mut Numbers<Object>, room: usize) -> Result<(), Al
 fn make_room_in(numbers: &mut Numbers<Object>, number: u64, room: usize) -> Result<(), AllocError>
     ensures held { held_by numbers.new.slots.items ≡ held_by numbers.old.slots.items }
     ensures given { length numbers.new.slots.items ≡ length numbers.old.slots.items }
-    ensures others { (other : ℕ) → other ≢ number → item_at numbers.new.slots.items other ≡ item_at numbers.old.slots.items other }
-    ensures keeps { (count : ℕ) → HasRoom count (item_at numbers.old.slots.items number) → HasRoom count (item_at numbers.new.slots.items number) }
+    ensures others { (other : ℕ) → other ≢ number
+        → item_at numbers.new.slots.items other ≡ item_at numbers.old.slots.items other }
+    ensures keeps { (count : ℕ) → HasRoom count (item_at numbers.old.slots.items number)
+        → HasRoom count (item_at numbers.new.slots.items number) }
     ensures room { OnOk result (HasRoom room (item_at numbers.new.slots.items number)) }
 {
     let Some(mut set) = take_set(numbers, number) else {

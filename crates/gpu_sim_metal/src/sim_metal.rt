@@ -40,7 +40,8 @@ impl SimMetal {
     /// at one number the first counts.
     pub fn new(alloc: Global, residency: bool, refusals: Vec<(u64, Refusal)>) -> Self
         ensures held { held_of result ≡ empty }
-        ensures plan { plan_of result ≡ record { residency = residency; script = refusals.items; questions = 0; issued = 0 } }
+        ensures plan { plan_of result ≡ record
+            { residency = residency; script = refusals.items; questions = 0; issued = 0 } }
         ensures refused { refused_of result ≡ 0 }
         ensures history { history_of result ≡ scripted refusals.items }
     {
@@ -102,10 +103,14 @@ impl SimMetal {
     /// The answer to a question for a heap: a number, or none where the script or the host refuses it.
     fn answer_heap(&mut self, desc: &HeapDescriptor, size: u64) -> Option<MTLHeap>
         ensures number { IsNew (held_of self.old) (granted_heap result) }
-        ensures holds { held_of self.new ≡ with_granted (held_of self.old) (granted_heap result) (Heap desc.now size) }
+        ensures holds { held_of self.new
+            ≡ with_granted (held_of self.old) (granted_heap result) (Heap desc.now size) }
         ensures journal { self.new.journal ≡ self.old.journal }
-        ensures answer { IsHeapAnswer (planned (plan_of self.old)) ((plan_of self.old).issued + 1) result }
-        ensures others { (self.new.residency ≡ self.old.residency) × ((plan_of self.new).issued ≡ issued_after (plan_of self.old).issued (granted_heap result)) }
+        ensures answer { IsHeapAnswer (planned (plan_of self.old)) ((plan_of self.old).issued + 1)
+            result }
+        ensures others { (self.new.residency ≡ self.old.residency)
+            × ((plan_of self.new).issued
+            ≡ issued_after (plan_of self.old).issued (granted_heap result)) }
     {
         if self.journal.next_refusal().is_some() {
             return None;
@@ -117,10 +122,14 @@ impl SimMetal {
     /// The answer to a question for a set: a number, or a code where there are no sets or the script or the host refuses it.
     fn answer_set(&mut self) -> Result<MTLResidencySet, i32>
         ensures number { IsNew (held_of self.old) (granted_set result) }
-        ensures holds { held_of self.new ≡ with_granted (held_of self.old) (granted_set result) (Set [] []) }
+        ensures holds { held_of self.new
+            ≡ with_granted (held_of self.old) (granted_set result) (Set [] []) }
         ensures journal { self.new.journal ≡ self.old.journal }
-        ensures answer { IsSetAnswer (plan_of self.old).residency (planned (plan_of self.old)) ((plan_of self.old).issued + 1) result }
-        ensures others { (self.new.residency ≡ self.old.residency) × ((plan_of self.new).issued ≡ issued_after (plan_of self.old).issued (granted_set result)) }
+        ensures answer { IsSetAnswer (plan_of self.old).residency (planned (plan_of self.old))
+            ((plan_of self.old).issued + 1) result }
+        ensures others { (self.new.residency ≡ self.old.residency)
+            × ((plan_of self.new).issued
+            ≡ issued_after (plan_of self.old).issued (granted_set result)) }
     {
         let refusal = self.journal.next_refusal();
         if self.residency && refusal.is_none() {
@@ -196,12 +205,15 @@ impl MetalDevice for SimMetal {
 
     fn new_heap(&mut self, desc: &HeapDescriptor, size: u64, label: &str) -> Option<MTLHeap>
         ensures number { IsNew (held_of self.old) (granted_heap result) }
-        ensures holds { held_of self.new ≡ with_granted (held_of self.old) (granted_heap result) (Heap desc.now size) }
+        ensures holds { held_of self.new
+            ≡ with_granted (held_of self.old) (granted_heap result) (Heap desc.now size) }
         ensures counts { refused_of self.new ≡ counted (refused_of self.old) (granted_heap result) }
         ensures names_heap { latest_heap_of self.new ≡ Some (desc.now, size) }
-        ensures recorded { history_of self.new ≡ AskedHeap desc.now size result ∷ history_of self.old }
+        ensures recorded { history_of self.new
+            ≡ AskedHeap desc.now size result ∷ history_of self.old }
         ensures constant { properties_of self.new ≡ properties_of self.old }
-        ensures answer { IsHeapAnswer (planned (plan_of self.old)) ((plan_of self.old).issued + 1) result }
+        ensures answer { IsHeapAnswer (planned (plan_of self.old)) ((plan_of self.old).issued + 1)
+            result }
         ensures plan { plan_of self.new ≡ answered (plan_of self.old) (granted_heap result) }
     {
         let answer = self.answer_heap(desc, size);
@@ -223,12 +235,14 @@ impl MetalDevice for SimMetal {
 
     fn new_residency_set(&mut self, label: &str) -> Result<MTLResidencySet, i32>
         ensures number { IsNew (held_of self.old) (granted_set result) }
-        ensures holds { held_of self.new ≡ with_granted (held_of self.old) (granted_set result) (Set [] []) }
+        ensures holds { held_of self.new
+            ≡ with_granted (held_of self.old) (granted_set result) (Set [] []) }
         ensures counts { refused_of self.new ≡ counted (refused_of self.old) (granted_set result) }
         ensures names_no_heap { latest_heap_of self.new ≡ latest_heap_of self.old }
         ensures recorded { history_of self.new ≡ AskedSet result ∷ history_of self.old }
         ensures constant { properties_of self.new ≡ properties_of self.old }
-        ensures answer { IsSetAnswer (plan_of self.old).residency (planned (plan_of self.old)) ((plan_of self.old).issued + 1) result }
+        ensures answer { IsSetAnswer (plan_of self.old).residency (planned (plan_of self.old))
+            ((plan_of self.old).issued + 1) result }
         ensures plan { plan_of self.new ≡ answered (plan_of self.old) (granted_set result) }
     {
         let answer = self.answer_set();

@@ -6,5 +6,6 @@ ghost use Rattle.gpu_timeline.specs.declared.samples.Sample.{Sample};
 
 /// The columns of a picture are all its samples, each once and in order.
 pub fn columns_part_the_samples()
-    ensures { (samples : List Sample) → columns (column_count samples) samples (column_count samples) ≡ samples }
+    ensures { (samples : List Sample) → columns (column_count samples) samples
+        (column_count samples) ≡ samples }
 {}

@@ -41,7 +41,8 @@ fn write_column<W: fmt::Write>(
     f: &mut fmt::Formatter<W>,
 ) -> fmt::Result
     requires { j ≤ 1000 }
-    ensures { DisplaysOnOk W.write_str_gives f.old result (Some (column_svg curve.measure curve.scale count samples.now j)) f.new }
+    ensures { DisplaysOnOk W.write_str_gives f.old result
+        (Some (column_svg curve.measure curve.scale count samples.now j)) f.new }
 {
     let part = column(count, j, samples);
     let low = level(curve.scale, least(curve.measure, part));
@@ -55,7 +56,8 @@ fn write_columns<W: fmt::Write>(
     f: &mut fmt::Formatter<W>,
 ) -> fmt::Result
     ensures { DisplaysOnOk W.write_str_gives f.old result
-        (Some (columns_svg curve.measure curve.scale (column_count samples.now) samples.now (column_count samples.now))) f.new }
+        (Some (columns_svg curve.measure curve.scale (column_count samples.now) samples.now
+        (column_count samples.now))) f.new }
 {
     let count = column_count(samples);
     for j in 0..count {
@@ -89,7 +91,8 @@ fn write_curve<W: fmt::Write>(
     samples: &[Sample],
     f: &mut fmt::Formatter<W>,
 ) -> fmt::Result
-    ensures { DisplaysOnOk W.write_str_gives f.old result (Some (curve_svg curve.measure curve.scale samples.now)) f.new }
+    ensures { DisplaysOnOk W.write_str_gives f.old result
+        (Some (curve_svg curve.measure curve.scale samples.now)) f.new }
 {
     write_curve_start(curve.measure, f)?;
     write_columns(curve, samples, f)?;
@@ -103,7 +106,8 @@ fn write_peak<W: fmt::Write>(
     samples: &[Sample],
     f: &mut fmt::Formatter<W>,
 ) -> fmt::Result
-    ensures { DisplaysOnOk W.write_str_gives f.old result (Some (peak_note measure samples.now)) f.new }
+    ensures { DisplaysOnOk W.write_str_gives f.old result (Some (peak_note measure samples.now))
+        f.new }
 {
     let peak = greatest(measure, samples);
     let line = first_line(measure, peak, samples);
@@ -181,7 +185,8 @@ fn write_charts<W: fmt::Write>(
     samples: &[Sample],
     f: &mut fmt::Formatter<W>,
 ) -> fmt::Result
-    ensures { DisplaysOnOk W.write_str_gives f.old result (Some (charts_svg samples.now charts)) f.new }
+    ensures { DisplaysOnOk W.write_str_gives f.old result (Some (charts_svg samples.now charts))
+        f.new }
 {
     for t in 0..charts {
         write_chart(t as usize, samples, f)?;
@@ -208,7 +213,8 @@ fn write_marked<W: fmt::Write>(
     f: &mut fmt::Formatter<W>,
 ) -> fmt::Result
     requires { j ≤ 1000 }
-    ensures { DisplaysOnOk W.write_str_gives f.old result (Some (marked_svg count samples.now j)) f.new }
+    ensures { DisplaysOnOk W.write_str_gives f.old result (Some (marked_svg count samples.now j))
+        f.new }
 {
     let part = column(count, j, samples);
     if greatest(Measure::Refused, part) == 0 {
@@ -271,7 +277,8 @@ fn write_totals<W: fmt::Write>(
     refused: u64,
     f: &mut fmt::Formatter<W>,
 ) -> fmt::Result
-    ensures { DisplaysOnOk W.write_str_gives f.old result (Some (totals_svg commands refused)) f.new }
+    ensures { DisplaysOnOk W.write_str_gives f.old result (Some (totals_svg commands refused))
+        f.new }
 {
     write!(
         f,
@@ -303,7 +310,8 @@ fn write_picture<W: fmt::Write>(
     samples: &[Sample],
     f: &mut fmt::Formatter<W>,
 ) -> fmt::Result
-    ensures { DisplaysOnOk W.write_str_gives f.old result (Some (picture_svg charts commands refused samples.now)) f.new }
+    ensures { DisplaysOnOk W.write_str_gives f.old result
+        (Some (picture_svg charts commands refused samples.now)) f.new }
 {
     write_height(charts, f)?;
     write_view_box(charts, f)?;

@@ -151,10 +151,12 @@ pub fn run_trace<R: Read, W: Write, L: Log>(
     writer: &mut W,
 ) -> u8
     ensures status { result ≤ 2 }
-    ensures whole { result ≡ 0 → IfSome (R.remaining reader.old) (λ input.
-        Answers Does reply_line (Vulkan stages.Before) input (W.contents writer.old) (W.contents writer.new) None) }
-    ensures bad { result ≡ 2 → IfSome (R.remaining reader.old) (λ input. (n : ℕ) ×
-        Answers Does reply_line (Vulkan stages.Before) input (W.contents writer.old) (W.contents writer.new) (Some n)) }
+    ensures whole { result ≡ 0 → IfSome (R.remaining reader.old)
+        (λ input. Answers Does reply_line (Vulkan stages.Before) input (W.contents writer.old)
+        (W.contents writer.new) None) }
+    ensures bad { result ≡ 2 → IfSome (R.remaining reader.old)
+        (λ input. (n : ℕ) × Answers Does reply_line (Vulkan stages.Before) input
+        (W.contents writer.old) (W.contents writer.new) (Some n)) }
 {
     run_from(log, alloc, AnyTrace::Vulkan(Stage::Before), reader, writer)
 }
@@ -167,7 +169,8 @@ pub fn replay_trace<R: Read, L: Log>(
     alloc: Global,
     reader: &mut R,
 ) -> Result<Replayed<AnyTrace>, TraceError>
-    ensures { IfOk result (λ r. IfSome (R.remaining reader.old) (λ input. ReplaysTrace Does (Vulkan stages.Before) input r)) }
+    ensures { IfOk result (λ r. IfSome (R.remaining reader.old)
+        (λ input. ReplaysTrace Does (Vulkan stages.Before) input r)) }
 {
     replay_from(log, alloc, AnyTrace::Vulkan(Stage::Before), reader)
 }

@@ -28,7 +28,8 @@ impl BlockStage {
     /// Serves a command, or answers `None` to one that is out of its order.
     pub fn serve(&mut self, alloc: Global, command: &Command) -> Option<Reply>
         requires { Fits command.now }
-        ensures { MatchOption result (Admits self.old (sort_of_command command.now) → ⊥) (λ r. Step self.old command.now r self.new) }
+        ensures { MatchOption result (Admits self.old (sort_of_command command.now) → ⊥)
+            (λ r. Step self.old command.now r self.new) }
     {
         match self {
             BlockStage::Before => match command {

@@ -54,8 +54,10 @@ impl Configuration {
 
     /// Sets what a line says. Answers whether it could: a page size and block sizes are set once. A refusal changes nothing.
     pub fn set(&mut self, setting: &Setting) -> Result<bool, AllocError>
-        ensures set { IfOk result (λ set. set ≡ true → configured_by self.old setting.now ≡ Some self.new) }
-        ensures not_set { IfOk result (λ set. set ≡ false → (configured_by self.old setting.now ≡ None) × (self.new ≡ self.old)) }
+        ensures set { IfOk result (λ set. set ≡ true
+            → configured_by self.old setting.now ≡ Some self.new) }
+        ensures not_set { IfOk result (λ set. set ≡ false
+            → (configured_by self.old setting.now ≡ None) × (self.new ≡ self.old)) }
         ensures refused { OnErr result (self.new ≡ self.old) }
     {
         match *setting {

@@ -8,7 +8,8 @@ use std::fmt;
 
 /// The value of a digit.
 fn digit_value(digit: u8) -> Option<u8>
-    ensures { MatchOption result ((n : ℕ) → n < 16 → digit ≢ hex_digit n) (λ n. (n < 16) × (digit ≡ hex_digit n)) }
+    ensures { MatchOption result ((n : ℕ) → n < 16 → digit ≢ hex_digit n)
+        (λ n. (n < 16) × (digit ≡ hex_digit n)) }
 {
     match digit {
         b'0'..=b'9' => Some(digit - b'0'),
@@ -19,7 +20,8 @@ fn digit_value(digit: u8) -> Option<u8>
 
 /// The byte that two digits spell.
 fn byte_of(high: u8, low: u8) -> Option<u8>
-    ensures { MatchOption result ((n : ℕ) → n < 256 → high ∷ low ∷ [] ≢ hex_byte n) (λ n. high ∷ low ∷ [] ≡ hex_byte n) }
+    ensures { MatchOption result ((n : ℕ) → n < 256 → high ∷ low ∷ [] ≢ hex_byte n)
+        (λ n. high ∷ low ∷ [] ≡ hex_byte n) }
 {
     let high = digit_value(high)?;
     let low = digit_value(low)?;
@@ -28,7 +30,8 @@ fn byte_of(high: u8, low: u8) -> Option<u8>
 
 /// The bytes that digits spell, two digits a byte.
 pub fn decode(alloc: Global, text: &[u8]) -> Result<Option<Vec<u8>>, AllocError>
-    ensures { IfOk result (λ found. MatchOption found ((bs : List ℕ) → AreBytes bs → text.now ≢ hex bs) (λ v. text.now ≡ hex v.items)) }
+    ensures { IfOk result (λ found. MatchOption found
+        ((bs : List ℕ) → AreBytes bs → text.now ≢ hex bs) (λ v. text.now ≡ hex v.items)) }
 {
     let count = text.len() / 2;
     if count * 2 != text.len() {

@@ -33,7 +33,8 @@ pub enum Line {
 
 /// The text of a line, where all its bytes are ASCII.
 pub fn ascii(line: &[u8]) -> Option<&str>
-    ensures { MatchOption result (IsAscii line.now → ⊥) (λ s. (s.now ≡ line.now) × IsAscii line.now) }
+    ensures { MatchOption result (IsAscii line.now → ⊥)
+        (λ s. (s.now ≡ line.now) × IsAscii line.now) }
 {
     let Ok(text) = str::from_utf8(line) else {
         return None;

@@ -48,7 +48,8 @@ pub fn replay_from<T: Trace, R: Read, L: Log>(
     start: T,
     reader: &mut R,
 ) -> Result<Replayed<T>, TraceError>
-    ensures { IfOk result (λ r. IfSome (R.remaining reader.old) (λ input. ReplaysTrace T.does start input r)) }
+    ensures { IfOk result (λ r. IfSome (R.remaining reader.old)
+        (λ input. ReplaysTrace T.does start input r)) }
 {
     let text = match read_trace(alloc, reader) {
         Ok(text) => text,

@@ -32,7 +32,8 @@ pub enum TraceError {
 
 /// Reads a trace, and one byte more where it is too long.
 pub fn read_trace<R: Read>(alloc: Global, reader: &mut R) -> Result<Vec<u8>, TraceError>
-    ensures { IfOk result (λ v. IfSome (R.remaining reader.old) (λ input. v.items ≡ take (longest_trace + 1) input)) }
+    ensures { IfOk result (λ v. IfSome (R.remaining reader.old)
+        (λ input. v.items ≡ take (longest_trace + 1) input)) }
 {
     let mut bytes = Vec::new(alloc);
     let mut limited = Read::take(&mut *reader, LIMIT + 1);
@@ -50,7 +51,8 @@ pub fn lines_in(alloc: Global, text: &[u8]) -> Result<Vec<&[u8]>, AllocError>
 }
 
 fn write_bad<W: Write>(writer: &mut W, number: u64) -> io::Result<()>
-    ensures { OnOk result (Appends (W.contents writer.old) (W.contents writer.new) (bad_text (Some number))) }
+    ensures { OnOk result (Appends (W.contents writer.old) (W.contents writer.new)
+        (bad_text (Some number))) }
 {
     writeln!(writer, "bad line {number}")
 }
@@ -61,7 +63,8 @@ fn write_outcome<T: Trace, W: Write>(
     outcome: &Outcome<T::Reply>,
     number: u64,
 ) -> io::Result<()>
-    ensures { OnOk result (Appends (W.contents writer.old) (W.contents writer.new) (outcome_text T.reply_line number outcome.now)) }
+    ensures { OnOk result (Appends (W.contents writer.old) (W.contents writer.new)
+        (outcome_text T.reply_line number outcome.now)) }
 {
     match outcome {
         Outcome::Nothing => Ok(()),
@@ -78,7 +81,8 @@ fn run_lines<T: Trace, W: Write, L: Log>(
     lines: &[&[u8]],
     writer: &mut W,
 ) -> Result<Option<u64>, TraceError>
-    ensures { IfOk result (HasRun T.does T.reply_line start (texts lines.now) (W.contents writer.old) (W.contents writer.new)) }
+    ensures { IfOk result (HasRun T.does T.reply_line start (texts lines.now)
+        (W.contents writer.old) (W.contents writer.new)) }
 {
     let mut stage = start;
     for (i, line) in lines.iter().enumerate() {
@@ -105,8 +109,9 @@ fn run<T: Trace, R: Read, W: Write, L: Log>(
     reader: &mut R,
     writer: &mut W,
 ) -> Result<Option<u64>, TraceError>
-    ensures { IfOk result (λ bad. IfSome (R.remaining reader.old) (λ input.
-        Answers T.does T.reply_line start input (W.contents writer.old) (W.contents writer.new) bad)) }
+    ensures { IfOk result (λ bad. IfSome (R.remaining reader.old)
+        (λ input. Answers T.does T.reply_line start input (W.contents writer.old)
+        (W.contents writer.new) bad)) }
 {
     let text = match read_trace(alloc, reader) {
         Ok(text) => text,
@@ -145,10 +150,12 @@ pub fn run_from<T: Trace, R: Read, W: Write, L: Log>(
     writer: &mut W,
 ) -> u8
     ensures status { result ≤ 2 }
-    ensures whole { result ≡ 0 → IfSome (R.remaining reader.old) (λ input.
-        Answers T.does T.reply_line start input (W.contents writer.old) (W.contents writer.new) None) }
-    ensures bad { result ≡ 2 → IfSome (R.remaining reader.old) (λ input. (n : ℕ) ×
-        Answers T.does T.reply_line start input (W.contents writer.old) (W.contents writer.new) (Some n)) }
+    ensures whole { result ≡ 0 → IfSome (R.remaining reader.old)
+        (λ input. Answers T.does T.reply_line start input (W.contents writer.old)
+        (W.contents writer.new) None) }
+    ensures bad { result ≡ 2 → IfSome (R.remaining reader.old)
+        (λ input. (n : ℕ) × Answers T.does T.reply_line start input (W.contents writer.old)
+        (W.contents writer.new) (Some n)) }
 {
     match run(log, alloc, start, reader, writer) {
         Ok(None) => 0,

@@ -86,7 +86,8 @@ fn configure(
     mut configuration: Configuration,
     setting: Setting,
 ) -> Result<(Stage, Outcome<Reply>), AllocError>
-    ensures { IfOk result (λ r. Does (Stage.Configuring configuration) (Line.Configures setting) r.1 r.0) }
+    ensures { IfOk result (λ r. Does (Stage.Configuring configuration) (Line.Configures setting) r.1
+        r.0) }
 {
     if configuration.set(&setting)? {
         Ok((Stage::Configuring(configuration), Outcome::Nothing))

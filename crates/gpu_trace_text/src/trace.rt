@@ -31,7 +31,8 @@ pub trait Trace {
 
     /// Writes a reply, and the end of its line.
     fn write<W: io::Write>(reply: &Self::Reply, writer: &mut W) -> io::Result<()>
-        ensures { OnOk result (Appends (W.contents writer.old) (W.contents writer.new) (reply_line reply.now)) };
+        ensures { OnOk result (Appends (W.contents writer.old) (W.contents writer.new)
+            (reply_line reply.now)) };
 
     /// Ends the trace: an allocator that is still there is destroyed.
     fn end<L: Log>(self, log: &L);

@@ -16,7 +16,8 @@ pub fn words<'a>(alloc: Global, line: &'a str) -> Result<Vec<&'a str>, AllocErro
 
 /// The number that a word spells in decimal, without leading zeros.
 pub fn number(word: &str) -> Option<u64>
-    ensures { MatchOption result ((n : ℕ) → n < 2 ^ 64 → word.now ≢ decimal n) (λ n. word.now ≡ decimal n) }
+    ensures { MatchOption result ((n : ℕ) → n < 2 ^ 64 → word.now ≢ decimal n)
+        (λ n. word.now ≡ decimal n) }
 {
     let bytes = word.as_bytes();
     if bytes.is_empty() {
@@ -33,7 +34,8 @@ pub fn number(word: &str) -> Option<u64>
 
 /// The number below 2^32 that a word spells in decimal, without leading zeros.
 pub fn small_number(word: &str) -> Option<u32>
-    ensures { MatchOption result ((n : ℕ) → n < 2 ^ 32 → word.now ≢ decimal n) (λ n. word.now ≡ decimal n) }
+    ensures { MatchOption result ((n : ℕ) → n < 2 ^ 32 → word.now ≢ decimal n)
+        (λ n. word.now ≡ decimal n) }
 {
     let number = number(word)?;
     if number <= u32::MAX as u64 {
@@ -45,7 +47,9 @@ pub fn small_number(word: &str) -> Option<u32>
 
 /// The signed number of 32 bits that a word spells in decimal, without leading zeros.
 pub fn code(alloc: Global, word: &str) -> Result<Option<i32>, AllocError>
-    ensures { IfOk result (λ found. MatchOption found ((z : ℤ) → FitsSigned w32 z → word.now ≢ signed_decimal z) (λ z. word.now ≡ signed_decimal z)) }
+    ensures { IfOk result (λ found. MatchOption found
+        ((z : ℤ) → FitsSigned w32 z → word.now ≢ signed_decimal z)
+        (λ z. word.now ≡ signed_decimal z)) }
 {
     let Ok(number) = word.parse::<i32>() else {
         return Ok(None);
@@ -75,7 +79,8 @@ fn is_name(word: &str) -> bool
 
 /// A name, where the word may be one.
 pub fn name_of(alloc: Global, word: &str) -> Result<Option<String>, AllocError>
-    ensures { IfOk result (λ found. MatchOption found (IsName word.now → ⊥) (λ name. IsName word.now × (string_bytes name ≡ word.now))) }
+    ensures { IfOk result (λ found. MatchOption found (IsName word.now → ⊥)
+        (λ name. IsName word.now × (string_bytes name ≡ word.now))) }
 {
     if !is_name(word) {
         return Ok(None);

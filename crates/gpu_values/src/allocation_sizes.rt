@@ -38,13 +38,19 @@ impl Model for AllocationSizes {
     ghost Value = { Sizes };
 
     ghost view = { λ s. record {
-      device = record { smallest = s.min_device_memblock_size; largest = s.max_device_memblock_size };
-      host = record { smallest = s.min_host_memblock_size; largest = s.max_host_memblock_size };
+      device = record
+          { smallest = s.min_device_memblock_size; largest = s.max_device_memblock_size };
+      host =
+          record { smallest = s.min_host_memblock_size; largest = s.max_host_memblock_size };
     } };
 
-    ghost invariant = { λ s.
-        AreInLimits (record { smallest = s.min_device_memblock_size; largest = s.max_device_memblock_size })
-        × AreInLimits (record { smallest = s.min_host_memblock_size; largest = s.max_host_memblock_size }) };
+    ghost invariant = { λ s. AreInLimits
+        (record { smallest = s.min_device_memblock_size; largest = s.max_device_memblock_size })
+        × AreInLimits (record {
+          smallest = s.min_host_memblock_size;
+          largest =
+              s.max_host_memblock_size;
+        }) };
 
     ghost inverse = { λ v. record {
       min_device_memblock_size = v.device.smallest;
@@ -61,7 +67,11 @@ impl AllocationSizes {
     /// One size in bytes for all blocks of the device's memory, and one for all blocks that the host can see; they don't
     /// double. Each is brought into 4 MB to 256 MB and rounded up to a multiple of 4 MB.
     pub fn new(device_memblock_size: u64, host_memblock_size: u64) -> Self
-        ensures { result ≡ record { device = only_size device_memblock_size; host = only_size host_memblock_size } }
+        ensures { result ≡ record {
+          device = only_size device_memblock_size;
+          host = only_size
+              host_memblock_size;
+        } }
     {
         let device = block_size_near(device_memblock_size);
         let host = block_size_near(host_memblock_size);

@@ -76,12 +76,16 @@ impl<D: VulkanDevice> Allocator<D> {
           device_address = desc.buffer_device_address;
         }) }
         ensures empty { IfOk result (λ a. All (λ slots. slots ≡ []) a.slots) }
-        ensures types { IfOk result (λ a. length a.slots ≡ length (D.properties desc.device).types) }
+        ensures types { IfOk result (λ a. length a.slots
+            ≡ length (D.properties desc.device).types) }
         ensures budgets { IfOk result (λ a. All (λ b. b ≡ None) a.budgets) }
-        ensures valid { OnOk result (setup_fault desc.physical_device.0 (D.properties desc.device) ≡ None) }
+        ensures valid { OnOk result (setup_fault desc.physical_device.0 (D.properties desc.device)
+            ≡ None) }
         ensures refused { IfErr result (λ e. e.1 ≡ desc.device) }
         // the first fault that holds, else lack of host memory: nothing else refuses
-        ensures cause { IfErr result (λ e. refusal_of e.0 ≡ unwrap_or (setup_fault desc.physical_device.0 (D.properties desc.device)) host_out_of_memory) }
+        ensures cause { IfErr result (λ e. refusal_of e.0
+            ≡ unwrap_or (setup_fault desc.physical_device.0 (D.properties desc.device))
+            host_out_of_memory) }
     {
         let AllocatorCreateDesc {
             device,
@@ -134,12 +138,15 @@ impl<D: VulkanDevice> Allocator<D> {
     /// block as it was, and the device holds what it held.
     pub fn allocate<L: Log>(&mut self, log: &L, desc: &AllocationCreateDesc) -> Result<Allocation>
         // which memory types are asked, one after another, what each attempt results in, and what the device then holds
-        ensures allocates { Allocates D.VulkanDevice self.old.setup self.old.budgets desc.now self.old.slots self.old.device result self.new.slots self.new.device }
-        ensures constant { (self.new.first ≡ self.old.first) × (self.new.setup ≡ self.old.setup) × (self.new.budgets ≡ self.old.budgets) }
+        ensures allocates { Allocates D.VulkanDevice self.old.setup self.old.budgets desc.now
+            self.old.slots self.old.device result self.new.slots self.new.device }
+        ensures constant { (self.new.first ≡ self.old.first) × (self.new.setup ≡ self.old.setup)
+            × (self.new.budgets ≡ self.old.budgets) }
         ensures step { IsAllocateStep D.VulkanDevice desc.now result self.old self.new }
         ensures aligned { IfOk result (λ a. a.offset % desc.now.requirements.alignment ≡ 0) }
         ensures keeps { StayLive self.old.slots self.new.slots }
-        ensures gives { IfOk result (λ a. IsLive self.new.slots a × ((b : Allocation) → IsLive self.old.slots b → AreDistinct b a)) }
+        ensures gives { IfOk result (λ a. IsLive self.new.slots a
+            × ((b : Allocation) → IsLive self.old.slots b → AreDistinct b a)) }
     {
         log_allocate(log, self.setup().debug(), desc);
         if desc.requirements.size == 0 || !desc.requirements.alignment.is_power_of_two() {
@@ -170,9 +177,11 @@ impl<D: VulkanDevice> Allocator<D> {
     /// below the present sum gives no block back. `Internal` where there is no such memory type, and then nothing changes.
     /// It takes no memory.
     pub fn set_budget(&mut self, memory_type: usize, budget: Option<u64>) -> Result<()>
-        ensures budgets { SetsBudgetAt self.old.slots memory_type budget self.old.budgets result self.new.budgets }
+        ensures budgets { SetsBudgetAt self.old.slots memory_type budget self.old.budgets result
+            self.new.budgets }
         ensures others { self.new ≡ record self.old { budgets = self.new.budgets } }
-        ensures step { IsStep D.VulkanDevice (SetBudget memory_type budget) (reply_of_done result) self.old self.new }
+        ensures step { IsStep D.VulkanDevice (SetBudget memory_type budget) (reply_of_done result)
+            self.old self.new }
     {
         self.pool.set_budget(memory_type, budget)
     }
@@ -180,7 +189,8 @@ impl<D: VulkanDevice> Allocator<D> {
     /// The budget of a memory type, in bytes; `None` where it has none, or there is no such type.
     pub fn budget(&self, memory_type: usize) -> Option<u64>
         ensures budget { result ≡ budget_at self.now.budgets memory_type }
-        ensures step { IsStep D.VulkanDevice (Budget memory_type) (replies.Budget result) self.now self.now }
+        ensures step { IsStep D.VulkanDevice (Budget memory_type) (replies.Budget result) self.now
+            self.now }
     {
         self.pool.budget(memory_type)
     }
@@ -197,7 +207,8 @@ impl<D: VulkanDevice> Allocator<D> {
     /// The device, lent. It holds what it held when it was handed in, and just the live blocks.
     pub fn device(&self) -> &D
         ensures lent { result.now ≡ self.now.device }
-        ensures holds { HoldsJustLiveBlocks self.now.setup.properties (D.held self.now.first) (D.held self.now.device) self.now.slots }
+        ensures holds { HoldsJustLiveBlocks self.now.setup.properties (D.held self.now.first)
+            (D.held self.now.device) self.now.slots }
         ensures constant { D.properties self.now.device ≡ self.now.setup.properties }
     {
         blocks_are_held(&self.pool);
@@ -209,7 +220,8 @@ impl<D: VulkanDevice> Allocator<D> {
     pub fn allocations_are_apart(&self)
         ensures sound { BlocksWellFormed self.now.setup.properties.granularity self.now.slots }
         ensures inside { (a : Allocation) → IsLive self.now.slots a → IsInside self.now.slots a }
-        ensures apart { (a b : Allocation) → IsLive self.now.slots a → IsLive self.now.slots b → AreDistinct a b → SharesNoByte a b }
+        ensures apart { (a b : Allocation) → IsLive self.now.slots a → IsLive self.now.slots b
+            → AreDistinct a b → SharesNoByte a b }
         ensures pages { (a b : Allocation) → IsLive self.now.slots a → IsLive self.now.slots b
             → KeepsPages self.now.setup.properties.granularity self.now.slots a b }
     {
@@ -230,10 +242,13 @@ impl<D: VulkanDevice> Allocator<D> {
 
     /// The bytes of a live allocation in mapped memory; `None` where it is null, isn't live or isn't mapped. It takes no memory.
     pub fn mapped_slice(&self, allocation: &Allocation) -> Option<&[u8]>
-        ensures mapped { IsSome result ↔ IsMapped self.now.setup.properties self.now.slots allocation.now }
-        ensures value { IfSome result (λ s. bytes_at (D.held self.now.device) allocation.now ≡ Some s.now) }
+        ensures mapped { IsSome result ↔ IsMapped self.now.setup.properties self.now.slots
+            allocation.now }
+        ensures value { IfSome result (λ s. bytes_at (D.held self.now.device) allocation.now
+            ≡ Some s.now) }
         ensures len { IfSome result (λ s. length s.now ≡ allocation.now.size) }
-        ensures step { IsStep D.VulkanDevice (Read allocation.now) (Bytes (option_copied result)) self.now self.now }
+        ensures step { IsStep D.VulkanDevice (Read allocation.now) (Bytes (option_copied result))
+            self.now self.now }
     {
         if !self.is_live(allocation) {
             return None;
@@ -252,9 +267,11 @@ impl<D: VulkanDevice> Allocator<D> {
         ensures value { bytes_at (D.held self.old.device) allocation.now ≡ Some result.now }
         ensures len { length result.now ≡ allocation.now.size }
         ensures isolated { (ws : List ℕ) → length ws ≡ allocation.now.size
-            → ChangesOnly D.VulkanDevice self.old allocation.now ws (written_at D.VulkanDevice self.old allocation.now ws) }
+            → ChangesOnly D.VulkanDevice self.old allocation.now ws
+            (written_at D.VulkanDevice self.old allocation.now ws) }
         ensures step { (ws : List ℕ) → length ws ≡ allocation.now.size
-            → IsStep D.VulkanDevice (Write allocation.now ws) Done self.old (written_at D.VulkanDevice self.old allocation.now ws) }
+            → IsStep D.VulkanDevice (Write allocation.now ws) Done self.old
+            (written_at D.VulkanDevice self.old allocation.now ws) }
     {
         self.allocations_are_apart();
         blocks_are_held(&self.pool);
@@ -267,7 +284,8 @@ impl<D: VulkanDevice> Allocator<D> {
     fn with_mapped_found(&mut self, allocation: &Allocation) -> (&mut Self, bool)
         ensures same_reference { result.0.ghost_name ≡ self.entry.ghost_name }
         ensures unchanged { result.0.now ≡ self.old }
-        ensures found { IsTrue result.1 ↔ IsMapped self.old.setup.properties self.old.slots allocation.now }
+        ensures found { IsTrue result.1
+            ↔ IsMapped self.old.setup.properties self.old.slots allocation.now }
     {
         let found = self.mapped_slice(allocation).is_some();
         (self, found)
@@ -277,14 +295,20 @@ impl<D: VulkanDevice> Allocator<D> {
     /// stays as it is. It takes no memory.
     pub fn mapped_slice_mut(&mut self, allocation: &Allocation) -> Option<&mut [u8]>
         // once the slice has ended, what it then holds stands at the allocation's place; at None nothing has changed
-        ensures* lends { sem 𝓛 (lends_piece_if D.row D.VulkanDevice self.entry allocation.now result) }
-        ensures mapped { IsSome result ↔ IsMapped self.old.setup.properties self.old.slots allocation.now }
-        ensures value { IfSome result (λ s. bytes_at (D.held self.old.device) allocation.now ≡ Some s.now) }
+        ensures* lends { sem 𝓛 (lends_piece_if D.row D.VulkanDevice self.entry allocation.now
+            result) }
+        ensures mapped { IsSome result ↔ IsMapped self.old.setup.properties self.old.slots
+            allocation.now }
+        ensures value { IfSome result (λ s. bytes_at (D.held self.old.device) allocation.now
+            ≡ Some s.now) }
         ensures len { IfSome result (λ s. length s.now ≡ allocation.now.size) }
-        ensures isolated { OnSome result ((ws : List ℕ) → length ws ≡ allocation.now.size
-            → ChangesOnly D.VulkanDevice self.old allocation.now ws (written_at D.VulkanDevice self.old allocation.now ws)) }
+        ensures isolated { OnSome result
+            ((ws : List ℕ) → length ws ≡ allocation.now.size
+            → ChangesOnly D.VulkanDevice self.old allocation.now ws
+            (written_at D.VulkanDevice self.old allocation.now ws)) }
         ensures step { OnSome result ((ws : List ℕ) → length ws ≡ allocation.now.size
-            → IsStep D.VulkanDevice (Write allocation.now ws) Done self.old (written_at D.VulkanDevice self.old allocation.now ws)) }
+            → IsStep D.VulkanDevice (Write allocation.now ws) Done self.old
+            (written_at D.VulkanDevice self.old allocation.now ws)) }
     {
         let (allocator, found) = self.with_mapped_found(allocation);
         if found {
@@ -301,14 +325,20 @@ impl<D: VulkanDevice> Allocator<D> {
         allocation: &Allocation,
     ) -> Option<MappedAllocationSlab<'_>>
         // once the slab's bytes are dropped, what they then hold stands at the allocation's place; at None nothing has changed
-        ensures* lends { sem 𝓛 (lends_slab_if D.row D.VulkanDevice self.entry allocation.now result) }
-        ensures mapped { IsSome result ↔ IsMapped self.old.setup.properties self.old.slots allocation.now }
-        ensures value { IfSome result (λ s. bytes_at (D.held self.old.device) allocation.now ≡ Some s.bytes.now) }
+        ensures* lends { sem 𝓛 (lends_slab_if D.row D.VulkanDevice self.entry allocation.now
+            result) }
+        ensures mapped { IsSome result ↔ IsMapped self.old.setup.properties self.old.slots
+            allocation.now }
+        ensures value { IfSome result (λ s. bytes_at (D.held self.old.device) allocation.now
+            ≡ Some s.bytes.now) }
         ensures len { IfSome result (λ s. length s.bytes.now ≡ allocation.now.size) }
-        ensures isolated { OnSome result ((ws : List ℕ) → length ws ≡ allocation.now.size
-            → ChangesOnly D.VulkanDevice self.old allocation.now ws (written_at D.VulkanDevice self.old allocation.now ws)) }
+        ensures isolated { OnSome result
+            ((ws : List ℕ) → length ws ≡ allocation.now.size
+            → ChangesOnly D.VulkanDevice self.old allocation.now ws
+            (written_at D.VulkanDevice self.old allocation.now ws)) }
         ensures step { OnSome result ((ws : List ℕ) → length ws ≡ allocation.now.size
-            → IsStep D.VulkanDevice (Write allocation.now ws) Done self.old (written_at D.VulkanDevice self.old allocation.now ws)) }
+            → IsStep D.VulkanDevice (Write allocation.now ws) Done self.old
+            (written_at D.VulkanDevice self.old allocation.now ws)) }
     {
         let (allocator, found) = self.with_mapped_found(allocation);
         if found {
@@ -329,10 +359,13 @@ impl<D: VulkanDevice> Allocator<D> {
         allocation: Allocation,
     ) -> Result<(), (AllocationError, Allocation)>
         // a null allocation is done at once; a live one goes; any other comes back, and nothing changes
-        ensures frees { Frees D.VulkanDevice allocation self.old.slots self.old.device result self.new.slots self.new.device }
-        ensures constant { (self.new.first ≡ self.old.first) × (self.new.setup ≡ self.old.setup) × (self.new.budgets ≡ self.old.budgets) }
+        ensures frees { Frees D.VulkanDevice allocation self.old.slots self.old.device result
+            self.new.slots self.new.device }
+        ensures constant { (self.new.first ≡ self.old.first) × (self.new.setup ≡ self.old.setup)
+            × (self.new.budgets ≡ self.old.budgets) }
         ensures step { IsStep D.VulkanDevice (Free allocation) (freed_as result) self.old self.new }
-        ensures keeps { (b : Allocation) → IsLive self.old.slots b → AreDistinct b allocation → IsLive self.new.slots b }
+        ensures keeps { (b : Allocation) → IsLive self.old.slots b → AreDistinct b allocation
+            → IsLive self.new.slots b }
     {
         log_free(log, self.setup().debug(), &allocation);
         let Some(piece) = allocation.piece() else {
@@ -351,10 +384,13 @@ impl<D: VulkanDevice> Allocator<D> {
     /// both names are as they were.
     pub fn rename_allocation(&mut self, allocation: &mut Allocation, name: &str) -> Result<()>
         // the allocation and its record get the name, or neither does; a null one has no record
-        ensures renames { Renames allocation.old name.now self.old.slots result allocation.new self.new.slots }
-        ensures step { IsStep D.VulkanDevice (Rename allocation.old name.now) (reply_of_done result) self.old self.new }
+        ensures renames { Renames allocation.old name.now self.old.slots result allocation.new
+            self.new.slots }
+        ensures step { IsStep D.VulkanDevice (Rename allocation.old name.now) (reply_of_done result)
+            self.old self.new }
         ensures live { StayLive self.old.slots self.new.slots }
-        ensures constant { (self.new.device ≡ self.old.device) × (self.new.first ≡ self.old.first) × (self.new.setup ≡ self.old.setup) × (self.new.budgets ≡ self.old.budgets) }
+        ensures constant { (self.new.device ≡ self.old.device) × (self.new.first ≡ self.old.first)
+            × (self.new.setup ≡ self.old.setup) × (self.new.budgets ≡ self.old.budgets) }
     {
         rename(self.alloc, &mut self.pool, allocation, name)
     }
@@ -389,7 +425,8 @@ impl<D: VulkanDevice> Allocator<D> {
         ensures counts_nothing { D.refused result ≡ D.refused self.device }
         ensures names_no_question { D.latest result ≡ D.latest self.device }
         // each memory goes back once, unmapped before where it is mapped: by memory type, then by slot
-        ensures recorded { D.history result ≡ frees_recorded (D.held self.device) (all_handles self.slots) (D.history self.device) }
+        ensures recorded { D.history result
+            ≡ frees_recorded (D.held self.device) (all_handles self.slots) (D.history self.device) }
         ensures constant { D.properties result ≡ D.properties self.first }
     {
         let Allocator { pool, alloc: _ } = self;

@@ -32,7 +32,8 @@ fn allocation_of(
     name: String,
 ) -> Allocation
     requires { index < length setup.now.properties.types }
-    ensures { string_bytes name ≡ desc.now.name.now → IsAllocated setup.now index desc.now piece result }
+    ensures { string_bytes name ≡ desc.now.name.now
+        → IsAllocated setup.now index desc.now piece result }
 {
     let info = setup.memory_types()[index];
     Allocation {
@@ -77,7 +78,8 @@ pub fn allocate_in_type<D: VulkanDevice>(
     ensures constant { IsConstant pool.old pool.new }
     ensures aligned { IfOk result (λ a. a.offset % desc.now.requirements.alignment ≡ 0) }
     ensures keeps { StayLive pool.old.slots pool.new.slots }
-    ensures live { IfOk result (λ a. IsLive pool.new.slots a × ((b : Allocation) → IsLive pool.old.slots b → AreDistinct b a)) }
+    ensures live { IfOk result (λ a. IsLive pool.new.slots a
+        × ((b : Allocation) → IsLive pool.old.slots b → AreDistinct b a)) }
 {
     if desc.requirements.size > pool.source().setup().heap_size(index) {
         return Err(AllocationError::OutOfMemory);
@@ -126,7 +128,8 @@ pub fn allocate_with_fallback<D: VulkanDevice>(
     ensures constant { IsConstant pool.old pool.new }
     ensures aligned { IfOk result (λ a. a.offset % desc.now.requirements.alignment ≡ 0) }
     ensures keeps { StayLive pool.old.slots pool.new.slots }
-    ensures live { IfOk result (λ a. IsLive pool.new.slots a × ((b : Allocation) → IsLive pool.old.slots b → AreDistinct b a)) }
+    ensures live { IfOk result (λ a. IsLive pool.new.slots a
+        × ((b : Allocation) → IsLive pool.old.slots b → AreDistinct b a)) }
 {
     match allocate_in_type(alloc, pool, desc, index) {
         Ok(allocation) => Ok(allocation),

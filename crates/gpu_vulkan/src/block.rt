@@ -43,11 +43,14 @@ fn free_unmapped<D: VulkanDevice>(device: &mut D, memory: DeviceMemory)
 /// Maps memory that is new. Where that is refused or gives null, the memory goes back.
 fn map_new<D: VulkanDevice>(device: &mut D, memory: DeviceMemory) -> Result<()>
     requires { IsUnmapped (D.held device.old) memory.0 }
-    ensures maps { OnOk result ((xs : List ℕ) × (length xs ≡ size_of (D.held device.old) memory.0) × (D.held device.new ≡ mapped_with (D.held device.old) memory.0 xs)) }
+    ensures maps { OnOk result ((xs : List ℕ) × (length xs ≡ size_of (D.held device.old) memory.0)
+        × (D.held device.new ≡ mapped_with (D.held device.old) memory.0 xs)) }
     ensures counts_no_grant { OnOk result (D.refused device.new ≡ D.refused device.old) }
-    ensures recorded { OnOk result (D.history device.new ≡ AskedMapping memory (Ok true) ∷ D.history device.old) }
+    ensures recorded { OnOk result (D.history device.new
+        ≡ AskedMapping memory (Ok true) ∷ D.history device.old) }
     ensures cause { IfErr result (λ e. (code : Option ℤ) × (refusal_of e ≡ map_refusal code)
-        × (D.history device.new ≡ Freed memory ∷ AskedMapping memory (mapping_answer code) ∷ D.history device.old)) }
+        × (D.history device.new ≡ Freed memory ∷ AskedMapping memory (mapping_answer code)
+        ∷ D.history device.old)) }
     ensures gives_back { OnErr result (D.held device.new ≡ remove (D.held device.old) memory.0) }
     ensures counts_refusal { OnErr result (D.refused device.new ≡ raised (D.refused device.old)) }
     ensures names_no_question { D.latest device.new ≡ D.latest device.old }
@@ -79,7 +82,8 @@ pub fn allocate_block_memory<D: VulkanDevice>(
     info: &MemoryAllocateInfo,
     mapped: bool,
 ) -> Result<DeviceMemory>
-    ensures { (answer : BlockAnswer) × Asks D.VulkanDevice device.old info.now mapped answer device.new × IsResultOf result answer }
+    ensures { (answer : BlockAnswer) × Asks D.VulkanDevice device.old info.now mapped answer
+        device.new × IsResultOf result answer }
 {
     match device.allocate_memory(info) {
         Err(code) => Err(refusal_of_memory(code)),
@@ -101,7 +105,9 @@ pub fn free_block_memory<D: VulkanDevice>(device: &mut D, memory: DeviceMemory)
     ensures gives_back { D.held device.new ≡ remove (D.held device.old) memory.0 }
     ensures counts_nothing { D.refused device.new ≡ D.refused device.old }
     ensures names_no_question { D.latest device.new ≡ D.latest device.old }
-    ensures recorded { D.history device.new ≡ free_recorded (is_some (bytes_of (D.held device.old) memory.0)) memory (D.history device.old) }
+    ensures recorded { D.history device.new
+        ≡ free_recorded (is_some (bytes_of (D.held device.old) memory.0)) memory
+        (D.history device.old) }
     ensures constant { D.properties device.new ≡ D.properties device.old }
 {
     if device.bytes(memory, 0, 0).is_some() {

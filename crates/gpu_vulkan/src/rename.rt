@@ -32,7 +32,8 @@ fn name_for<D: VulkanDevice>(
     piece: &Piece<DeviceMemory>,
     name: &str,
 ) -> Result<Option<String>>
-    ensures name { IsLiveIn pool.now.slots index (Some piece.now) → IfOk result (λ own. IsSomeAnd own (λ s. string_bytes s ≡ name.now)) }
+    ensures name { IsLiveIn pool.now.slots index (Some piece.now)
+        → IfOk result (λ own. IsSomeAnd own (λ s. string_bytes s ≡ name.now)) }
     ensures cause { IfErr result (λ e. e ≡ HostOutOfMemory) }
     ensures live { OnErr result (IsLiveIn pool.now.slots index (Some piece.now)) }
 {
@@ -52,8 +53,10 @@ fn rename_piece<D: VulkanDevice>(
     name: &str,
 ) -> Result<Option<String>>
     ensures name { IfOk result (λ own. IsSomeAnd own (λ s. string_bytes s ≡ name.now)) }
-    ensures renamed { OnOk result (IsRenamed is_same_memory index piece.now name.now pool.old.slots pool.new.slots) }
-    ensures cause { IfErr result (λ e. IsNotNamed is_same_memory (slots_at pool.old.slots index) piece.now (refusal_of e)) }
+    ensures renamed { OnOk result (IsRenamed is_same_memory index piece.now name.now pool.old.slots
+        pool.new.slots) }
+    ensures cause { IfErr result (λ e. IsNotNamed is_same_memory (slots_at pool.old.slots index)
+        piece.now (refusal_of e)) }
     ensures refused { OnErr result (pool.new.slots ≡ pool.old.slots) }
     ensures keeps { StayLive pool.old.slots pool.new.slots }
     ensures others { pool.new ≡ record pool.old { slots = pool.new.slots } }
@@ -73,7 +76,8 @@ pub fn rename<D: VulkanDevice>(
     allocation: &mut Allocation,
     name: &str,
 ) -> Result<()>
-    ensures renames { Renames allocation.old name.now pool.old.slots result allocation.new pool.new.slots }
+    ensures renames { Renames allocation.old name.now pool.old.slots result allocation.new
+        pool.new.slots }
     ensures live { StayLive pool.old.slots pool.new.slots }
     ensures others { pool.new ≡ record pool.old { slots = pool.new.slots } }
 {

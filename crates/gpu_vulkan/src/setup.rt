@@ -47,13 +47,16 @@ impl Model for Setup {
     ghost Value = { Setup };
 
     ghost view = { λ s. record {
-      properties = record { types = s.memory_types.items; heaps = s.heaps.items; granularity = s.granularity };
+      properties = record
+          { types = s.memory_types.items; heaps = s.heaps.items; granularity = s.granularity };
       sizes = s.settings.sizes;
       debug = s.settings.debug;
-      device_address = s.settings.buffer_device_address;
+      device_address =
+          s.settings.buffer_device_address;
     } };
 
-    ghost invariant = { λ s. IsValid (record { types = s.memory_types.items; heaps = s.heaps.items; granularity = s.granularity }) };
+    ghost invariant = { λ s. IsValid (record
+        { types = s.memory_types.items; heaps = s.heaps.items; granularity = s.granularity }) };
 }
 
 /// A fault in what an allocator is made from.
@@ -66,7 +69,8 @@ fn invalid(text: &'static str) -> AllocationError
 /// Whether a memory type lies in a heap that is there.
 fn has_heap<D: VulkanDevice>(device: &D, index: usize) -> bool
     requires { index < length (D.properties device.now).types }
-    ensures { IfSome (slice_get (D.properties device.now).types index) (λ info. result ≡ not (lacks_heap (D.properties device.now) info)) }
+    ensures { IfSome (slice_get (D.properties device.now).types index)
+        (λ info. result ≡ not (lacks_heap (D.properties device.now) info)) }
 {
     (device.memory_type(index).heap_index as usize) < device.heap_count()
 }
@@ -74,7 +78,8 @@ fn has_heap<D: VulkanDevice>(device: &D, index: usize) -> bool
 /// Whether each memory type lies in a heap that is there.
 #[tactic(auto, using(crate::proofs::Taken::none_next_told, crate::proofs::Taken::one_passes_told))]
 fn has_heaps<D: VulkanDevice>(device: &D) -> bool
-    ensures { result ≡ not (list_any (lacks_heap (D.properties device.now)) (D.properties device.now).types) }
+    ensures { result ≡ not (list_any (lacks_heap (D.properties device.now))
+        (D.properties device.now).types) }
 {
     for index in 0..device.memory_type_count() {
         if !has_heap(device, index) {
@@ -89,7 +94,8 @@ pub fn fault_of<D: VulkanDevice>(
     device: &D,
     physical_device: PhysicalDevice,
 ) -> Option<AllocationError>
-    ensures { option_map refusal_of result ≡ setup_fault physical_device.0 (D.properties device.now) }
+    ensures { option_map refusal_of result
+        ≡ setup_fault physical_device.0 (D.properties device.now) }
 {
     if physical_device.0 == 0 {
         return Some(invalid("AllocatorCreateDesc field `physical_device` is null."));
@@ -142,7 +148,8 @@ pub fn empty_types(
     granularity: u64,
 ) -> Result<Vec<MemoryType<DeviceMemory>>, AllocError>
     requires { IsTrue (is_power_of_two granularity) }
-    ensures kinds { IfOk result (λ v. kinds v.items ≡ map (λ info. (is_host_visible info, granularity)) memory_types.now) }
+    ensures kinds { IfOk result (λ v. kinds v.items
+        ≡ map (λ info. (is_host_visible info, granularity)) memory_types.now) }
     ensures empty { IfOk result (λ v. All (λ slots. slots ≡ []) (slots_of v.items)) }
     ensures unbounded { IfOk result (λ v. All (λ b. b ≡ None) (budgets v.items)) }
 {
@@ -195,7 +202,8 @@ impl Setup {
     /// Whether memory of the type at `index` is mapped.
     pub fn is_mapped(&self, index: usize) -> bool
         requires { index < length self.now.properties.types }
-        ensures { IfSome (slice_get self.now.properties.types index) (λ info. result ≡ is_host_visible info) }
+        ensures { IfSome (slice_get self.now.properties.types index)
+            (λ info. result ≡ is_host_visible info) }
     {
         is_mapped(&self.memory_types[index])
     }
@@ -224,7 +232,8 @@ pub fn told_parts(
       debug = settings.debug;
       device_address = settings.buffer_device_address;
     }) }
-    ensures kinds { IfOk result (λ parts. kinds parts.1 ≡ kinds_of_device (properties_told memory_types.items heaps.items granularity)) }
+    ensures kinds { IfOk result (λ parts. kinds parts.1
+        ≡ kinds_of_device (properties_told memory_types.items heaps.items granularity)) }
     ensures empty { IfOk result (λ parts. All (λ slots. slots ≡ []) (slots_of parts.1)) }
     ensures unbounded { IfOk result (λ parts. All (λ b. b ≡ None) (budgets parts.1)) }
     ensures kept { IfOk result (λ parts. MemoryTypesInvariant parts.1) }
@@ -253,7 +262,8 @@ pub fn parts_of<D: VulkanDevice>(
       device_address = settings.buffer_device_address;
     }) }
     ensures valid { OnOk result (IsValid (D.properties device.now)) }
-    ensures kinds { IfOk result (λ parts. kinds parts.1 ≡ kinds_of_device (D.properties device.now)) }
+    ensures kinds { IfOk result (λ parts. kinds parts.1
+        ≡ kinds_of_device (D.properties device.now)) }
     ensures empty { IfOk result (λ parts. All (λ slots. slots ≡ []) (slots_of parts.1)) }
     ensures unbounded { IfOk result (λ parts. All (λ b. b ≡ None) (budgets parts.1)) }
     ensures kept { IfOk result (λ parts. MemoryTypesInvariant parts.1) }

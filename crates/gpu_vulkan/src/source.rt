@@ -97,7 +97,8 @@ impl<D: VulkanDevice> VulkanBlocks<D> {
     /// The device, lent.
     pub fn device(&self) -> &D
         ensures lent { result.now ≡ self.now.device }
-        ensures holds { HoldsFirst self.now.setup.properties (D.held self.now.first) (D.held self.now.device) }
+        ensures holds { HoldsFirst self.now.setup.properties (D.held self.now.first)
+            (D.held self.now.device) }
         ensures constant { D.properties self.now.device ≡ self.now.setup.properties }
     {
         &self.device
@@ -114,11 +115,14 @@ impl<D: VulkanDevice> VulkanBlocks<D> {
     /// Lends the bytes of a range of a block to be written. A write leaves which blocks there are.
     pub fn range_mut(&mut self, memory: DeviceMemory, start: u64, len: u64) -> &mut [u8]
         requires range { IsSome (range_of (D.held self.old.device) memory.0 start len) }
-        requires block { IsSome (blocks_of (D.held self.old.first) (D.held self.old.device) memory.0) }
+        requires block { IsSome (blocks_of (D.held self.old.first) (D.held self.old.device)
+            memory.0) }
         ensures value { range_of (D.held self.old.device) memory.0 start len ≡ Some result.now }
         ensures* lends { sem 𝓛 (lends_range D.row D.VulkanDevice self.entry memory.0 start result) }
-        ensures blocks { (ws : List ℕ) (n : ℕ) → let now = with_written D.VulkanDevice self.old memory.0 start ws in
-            blocks_of (D.held now.first) (D.held now.device) n ≡ blocks_of (D.held self.old.first) (D.held self.old.device) n }
+        ensures blocks { (ws : List ℕ) (n : ℕ)
+            → let now = with_written D.VulkanDevice self.old memory.0 start ws
+            in blocks_of (D.held now.first) (D.held now.device) n
+            ≡ blocks_of (D.held self.old.first) (D.held self.old.device) n }
     {
         self.device.range_mut(memory, start, len)
     }

@@ -80,7 +80,8 @@ fn set_follower(
 )
     requires chain { chain < length heads.old }
     requires before { IfSome before (λ s. IsSome (slice_index_or entries.old s None)) }
-    ensures links { ChangesLink (link_at heads.old entries.old) (link_at heads.new entries.new) chain before link }
+    ensures links { ChangesLink (link_at heads.old entries.old) (link_at heads.new entries.new)
+        chain before link }
     ensures ids { ids_in entries.new ≡ ids_in entries.old }
     ensures heads { length heads.new ≡ length heads.old }
 {
@@ -103,8 +104,9 @@ fn above(
     chunk_id: u64,
 ) -> Option<u32>
     requires { chain < length heads.now }
-    ensures { let link = link_at heads.now entries.now chain before in let ids = ids_in entries.now in
-        MatchOption result (NoneAbove ids link chunk_id) (λ s. (link ≡ Some s) × IsAbove ids s chunk_id) }
+    ensures { let link = link_at heads.now entries.now chain before in let ids = ids_in entries.now
+        in MatchOption result (NoneAbove ids link chunk_id)
+        (λ s. (link ≡ Some s) × IsAbove ids s chunk_id) }
 {
     let slot = follower(heads, entries, chain, before)?;
     match entry_at(entries, slot) {
@@ -197,29 +199,28 @@ impl ChunkIds {
     }
 
     /// The slot of a chunk id.
-    pub fn find(&self, chunk_id: u64) -> Option<usize>
+    pub fn find(&self, chunk_id: u64) -> Option<u32>
         ensures { result ≡ slot_of self.now chunk_id }
     {
-        let slot = find(&self.heads, &self.entries, chunk_id)?;
-        Some(slot as usize)
+        find(&self.heads, &self.entries, chunk_id)
     }
 
     /// Puts a chunk id, which no slot has, into a slot without one.
-    pub fn insert(&mut self, chunk_id: u64, slot: usize)
+    pub fn insert(&mut self, chunk_id: u64, slot: u32)
         requires new { slot_of self.old chunk_id ≡ None }
         requires vacant { slice_get self.old slot ≡ Some None }
         ensures { self.new ≡ slice_set self.old slot (Some chunk_id) }
     {
-        link(&mut self.heads, &mut self.entries, chunk_id, slot as u32);
+        link(&mut self.heads, &mut self.entries, chunk_id, slot);
     }
 
     /// Takes a chunk id out of its slot.
-    pub fn remove(&mut self, chunk_id: u64, slot: usize)
+    pub fn remove(&mut self, chunk_id: u64, slot: u32)
         requires { id_at self.old slot ≡ Some chunk_id }
         ensures ids { self.new ≡ slice_set self.old slot None }
         ensures gone { slot_of self.new chunk_id ≡ None }
     {
-        unlink(&mut self.heads, &mut self.entries, chunk_id, slot as u32);
+        unlink(&mut self.heads, &mut self.entries, chunk_id, slot);
     }
 
     /// The same ids in the same slots, of which there are so many, and as many heads.
@@ -231,7 +232,7 @@ impl ChunkIds {
         let mut wide = ChunkIds::with_slots(*self.heads.allocator(), slots)?;
         for slot in 0..self.entries.len() {
             if let Some(entry) = self.entries[slot] {
-                wide.insert(entry.chunk_id, slot);
+                wide.insert(entry.chunk_id, slot as u32);
             }
         }
         Ok(wide)
@@ -241,7 +242,10 @@ impl ChunkIds {
     pub fn reserve_to(&mut self, slots: usize) -> Result<(), AllocError>
         ensures same { (more : ℕ) × (self.new ≡ self.old ++ replicate more None) }
         ensures room { OnOk result (slots ≤ length self.new) }
+        ensures few { length self.new ≤ 2 ^ 32 }
     {
+        // a read, so that the proof has the invariant
+        let _entries = &self.entries;
         if slots > MOST {
             return Err(AllocError);
         }
@@ -250,7 +254,7 @@ impl ChunkIds {
             return Ok(());
         }
         self.entries
-            .reserve(slots.saturating_sub(self.entries.len()))?;
+            .reserve_exact(slots.saturating_sub(self.entries.len()))?;
         while self.entries.len() < slots {
             self.entries.push_reserved(None);
         }

@@ -1,8 +1,7 @@
 //! Chunks with links to the ones beside them.
 
 ghost use Rattle.std.specs.Prelude.{◌≡◌};
-ghost use Rattle.gpu_block_chunks.specs.Chain.{node_of};
-ghost use Rattle.gpu_block_chunks.specs.Nodes.{node_value, link_chunk_id};
+ghost use Rattle.gpu_block_chunks.specs.Nodes.{link_chunk_id, link_slot};
 
 use super::Neighbour;
 use crate::chunk::Chunk;
@@ -12,15 +11,15 @@ use crate::name::Name;
 #[derive(Clone, Copy)]
 pub struct Link {
     pub chunk_id: u64,
-    pub slot: usize,
+    pub slot: u32,
 }
 
-/// A chunk, and where the ones beside it are found.
+/// A chunk, and the slots of the ones beside it. What is read of a neighbour stands together, before the name.
 #[derive(Drop)]
 pub struct LinkedChunk {
+    pub prev: Option<u32>,
+    pub next: Option<u32>,
     pub chunk: Chunk,
-    pub prev: Option<Link>,
-    pub next: Option<Link>,
 }
 
 impl LinkedChunk {
@@ -29,13 +28,19 @@ impl LinkedChunk {
         here: Neighbour,
         offset: u64,
         name: Name,
-        prev: Option<Link>,
-        next: Option<Link>,
+        prev: Option<u32>,
+        next: Option<u32>,
     ) -> LinkedChunk
         ensures links { (result.prev ≡ prev) × (result.next ≡ next) }
-        ensures value { node_value result ≡ node_of
-            (record { start = here.start; size = here.size; offset = offset; kind = here.kind; chunk_id = here.chunk_id; name = name })
-            (link_chunk_id prev) (link_chunk_id next) }
+        ensures value { result.chunk ≡ record {
+          start = here.start;
+          size = here.size;
+          offset = offset;
+          kind = here.kind;
+          chunk_id =
+              here.chunk_id;
+          name = name;
+        } }
     {
         let chunk = Chunk {
             start: here.start,
@@ -45,7 +50,7 @@ impl LinkedChunk {
             chunk_id: here.chunk_id,
             name,
         };
-        LinkedChunk { chunk, prev, next }
+        LinkedChunk { prev, next, chunk }
     }
 }
 
@@ -54,4 +59,11 @@ pub fn chunk_id_of(link: Option<Link>) -> Option<u64>
     ensures { result ≡ link_chunk_id link }
 {
     link.map(|link| link.chunk_id)
+}
+
+/// The slot that a link leads to, if there is one.
+pub fn slot_of(link: Option<Link>) -> Option<u32>
+    ensures { result ≡ link_slot link }
+{
+    link.map(|link| link.slot)
 }

@@ -2,11 +2,11 @@
 
 ghost use Rattle.std.specs.Prelude.{◌≡◌, ◌+◌, ◌-◌, ◌^◌, ◌<◌, ◌≤◌, is_some, if◌then◌else◌, IsSome, IsSomeAnd, IfSome, Some};
 ghost use Rattle.gpu_cost.specs.Cost.{LooksUp, LooksUpBetween};
-ghost use Rattle.gpu_block_chunks.specs.Nodes.{held_at, room_of, node_value, link_chunk_id, Leads, Reaches, KeepsLinks};
+ghost use Rattle.gpu_block_chunks.specs.Nodes.{held_at, room_of, node_value, link_chunk_id, number_at, IsTaken, Leads, Reaches, KeepsOthers};
 ghost use Rattle.gpu_block_chunks.specs.Chain.{Node, CanJoin, JoinsNext, JoinsRight, JoinsLeft, LinkedAt, is_free_kind};
 ghost use Rattle.gpu_block_chunks.specs.Chain.{ChangesAt, ChangesAtOpt, with_next, with_prev, cut_node, joined_node, used_node};
 
-use super::link::{Link, LinkedChunk};
+use super::link::{Link, LinkedChunk, slot_of};
 use super::nodes::Nodes;
 use crate::name::Name;
 use gpu_cost::Cost;
@@ -15,8 +15,8 @@ use gpu_values::AllocationType;
 /// The one way to read a chunk that a link leads to.
 pub fn linked_at<'a>(nodes: &'a Nodes, at: Link, cost: &mut Cost) -> &'a LinkedChunk
     requires { Reaches nodes.now (Some at) }
-    ensures value { held_at nodes.now at.chunk_id ≡ Some (node_value result.now) }
-    ensures links { Leads nodes.now result.now.prev × Leads nodes.now result.now.next }
+    ensures value { held_at nodes.now at.chunk_id ≡ Some (node_value nodes.now.ids result.now) }
+    ensures links { IsTaken nodes.now.ids result.now.prev × IsTaken nodes.now.ids result.now.next }
     ensures counted { LooksUp 1 cost.old cost.new }
 {
     cost.look_up();
@@ -27,14 +27,15 @@ pub fn linked_at<'a>(nodes: &'a Nodes, at: Link, cost: &mut Cost) -> &'a LinkedC
 pub fn set_next(nodes: &mut Nodes, at: Link, next: Option<Link>, cost: &mut Cost)
     requires there { Reaches nodes.old (Some at) }
     requires next { Leads nodes.old next }
-    ensures changes { ChangesAt at.chunk_id (with_next (link_chunk_id next)) (held_at nodes.old) (held_at nodes.new) }
+    ensures changes { ChangesAt at.chunk_id (with_next (link_chunk_id next)) (held_at nodes.old)
+        (held_at nodes.new) }
     ensures ids { nodes.new.ids ≡ nodes.old.ids }
     ensures room { room_of nodes.new ≡ room_of nodes.old }
     ensures counted { LooksUp 1 cost.old cost.new }
 {
     cost.look_up();
-    match nodes.chunks.get_mut(at.slot) {
-        Some(linked) => linked.next = next,
+    match nodes.chunks.get_mut(at.slot as usize) {
+        Some(linked) => linked.next = slot_of(next),
         None => unreachable!(),
     }
 }
@@ -43,37 +44,40 @@ pub fn set_next(nodes: &mut Nodes, at: Link, next: Option<Link>, cost: &mut Cost
 pub fn set_prev(nodes: &mut Nodes, at: Link, prev: Option<Link>, cost: &mut Cost)
     requires there { Reaches nodes.old (Some at) }
     requires prev { Leads nodes.old prev }
-    ensures changes { ChangesAt at.chunk_id (with_prev (link_chunk_id prev)) (held_at nodes.old) (held_at nodes.new) }
+    ensures changes { ChangesAt at.chunk_id (with_prev (link_chunk_id prev)) (held_at nodes.old)
+        (held_at nodes.new) }
     ensures ids { nodes.new.ids ≡ nodes.old.ids }
     ensures room { room_of nodes.new ≡ room_of nodes.old }
     ensures counted { LooksUp 1 cost.old cost.new }
 {
     cost.look_up();
-    match nodes.chunks.get_mut(at.slot) {
-        Some(linked) => linked.prev = prev,
+    match nodes.chunks.get_mut(at.slot as usize) {
+        Some(linked) => linked.prev = slot_of(prev),
         None => unreachable!(),
     }
 }
 
 /// Takes that much off a chunk's front.
 pub fn cut_front(nodes: &mut Nodes, at: Link, taken: u64, prev: Option<Link>, cost: &mut Cost)
-    requires longer { IsSomeAnd (held_at nodes.old at.chunk_id) (λ n. (taken < (n.chunk).size) × ((n.chunk).start + (n.chunk).size < 2 ^ 64)) }
+    requires longer { IsSomeAnd (held_at nodes.old at.chunk_id)
+        (λ n. (taken < (n.chunk).size) × ((n.chunk).start + (n.chunk).size < 2 ^ 64)) }
     requires leads { Leads nodes.old (Some at) }
     requires prev { Leads nodes.old prev }
-    ensures changes { ChangesAt at.chunk_id (cut_node taken (link_chunk_id prev)) (held_at nodes.old) (held_at nodes.new) }
+    ensures changes { ChangesAt at.chunk_id (cut_node taken (link_chunk_id prev))
+        (held_at nodes.old) (held_at nodes.new) }
     ensures ids { nodes.new.ids ≡ nodes.old.ids }
     ensures room { room_of nodes.new ≡ room_of nodes.old }
     ensures counted { LooksUp 1 cost.old cost.new }
 {
     cost.look_up();
-    match nodes.chunks.get_mut(at.slot) {
+    match nodes.chunks.get_mut(at.slot as usize) {
         Some(linked) => {
             let chunk = &mut linked.chunk;
             let start = chunk.start + taken;
             chunk.start = start;
             chunk.size -= taken;
             chunk.offset = start;
-            linked.prev = prev;
+            linked.prev = slot_of(prev);
         }
         None => unreachable!(),
     }
@@ -81,19 +85,21 @@ pub fn cut_front(nodes: &mut Nodes, at: Link, taken: u64, prev: Option<Link>, co
 
 /// Makes a chunk longer.
 pub fn lengthen(nodes: &mut Nodes, at: Link, more: u64, next: Option<Link>, cost: &mut Cost)
-    requires fits { IsSomeAnd (held_at nodes.old at.chunk_id) (λ n. (n.chunk).size + more < 2 ^ 64) }
+    requires fits { IsSomeAnd (held_at nodes.old at.chunk_id)
+        (λ n. (n.chunk).size + more < 2 ^ 64) }
     requires leads { Leads nodes.old (Some at) }
     requires next { Leads nodes.old next }
-    ensures changes { ChangesAt at.chunk_id (joined_node more (link_chunk_id next)) (held_at nodes.old) (held_at nodes.new) }
+    ensures changes { ChangesAt at.chunk_id (joined_node more (link_chunk_id next))
+        (held_at nodes.old) (held_at nodes.new) }
     ensures ids { nodes.new.ids ≡ nodes.old.ids }
     ensures room { room_of nodes.new ≡ room_of nodes.old }
     ensures counted { LooksUp 1 cost.old cost.new }
 {
     cost.look_up();
-    match nodes.chunks.get_mut(at.slot) {
+    match nodes.chunks.get_mut(at.slot as usize) {
         Some(linked) => {
             linked.chunk.size += more;
-            linked.next = next;
+            linked.next = slot_of(next);
         }
         None => unreachable!(),
     }
@@ -103,7 +109,8 @@ pub fn lengthen(nodes: &mut Nodes, at: Link, more: u64, next: Option<Link>, cost
 pub fn set_next_of(nodes: &mut Nodes, at: Option<Link>, next: Option<Link>, cost: &mut Cost)
     requires there { Reaches nodes.old at }
     requires next { Leads nodes.old next }
-    ensures changes { ChangesAtOpt (link_chunk_id at) (with_next (link_chunk_id next)) (held_at nodes.old) (held_at nodes.new) }
+    ensures changes { ChangesAtOpt (link_chunk_id at) (with_next (link_chunk_id next))
+        (held_at nodes.old) (held_at nodes.new) }
     ensures ids { nodes.new.ids ≡ nodes.old.ids }
     ensures room { room_of nodes.new ≡ room_of nodes.old }
     ensures counted { LooksUp (if is_some at then 1 else 0) cost.old cost.new }
@@ -117,7 +124,8 @@ pub fn set_next_of(nodes: &mut Nodes, at: Option<Link>, next: Option<Link>, cost
 pub fn set_prev_of(nodes: &mut Nodes, at: Option<Link>, prev: Option<Link>, cost: &mut Cost)
     requires there { Reaches nodes.old at }
     requires prev { Leads nodes.old prev }
-    ensures changes { ChangesAtOpt (link_chunk_id at) (with_prev (link_chunk_id prev)) (held_at nodes.old) (held_at nodes.new) }
+    ensures changes { ChangesAtOpt (link_chunk_id at) (with_prev (link_chunk_id prev))
+        (held_at nodes.old) (held_at nodes.new) }
     ensures ids { nodes.new.ids ≡ nodes.old.ids }
     ensures room { room_of nodes.new ≡ room_of nodes.old }
     ensures counted { LooksUp (if is_some at then 1 else 0) cost.old cost.new }
@@ -127,20 +135,21 @@ pub fn set_prev_of(nodes: &mut Nodes, at: Option<Link>, prev: Option<Link>, cost
     }
 }
 
-/// The start of a chunk, and where the ones beside it are found.
+/// The start of a chunk, and the slots of the ones beside it.
 #[derive(Clone, Copy)]
 pub struct Ends {
     pub start: u64,
-    pub prev: Option<Link>,
-    pub next: Option<Link>,
+    pub prev: Option<u32>,
+    pub next: Option<u32>,
 }
 
 /// Where the chunk that a link leads to stands.
 pub fn ends_of(nodes: &Nodes, at: Link, cost: &mut Cost) -> Ends
     requires { Reaches nodes.now (Some at) }
-    ensures ends { (n : Node) → held_at nodes.now at.chunk_id ≡ Some n →
-        (result.start ≡ (n.chunk).start) × (link_chunk_id result.prev ≡ n.prev) × (link_chunk_id result.next ≡ n.next) }
-    ensures links { Leads nodes.now result.prev × Leads nodes.now result.next }
+    ensures ends { (n : Node) → held_at nodes.now at.chunk_id ≡ Some n
+        → (result.start ≡ (n.chunk).start) × (number_at nodes.now.ids result.prev ≡ n.prev)
+        × (number_at nodes.now.ids result.next ≡ n.next) }
+    ensures links { IsTaken nodes.now.ids result.prev × IsTaken nodes.now.ids result.next }
     ensures counted { LooksUp 1 cost.old cost.new }
 {
     let linked = linked_at(nodes, at, cost);
@@ -156,14 +165,16 @@ pub fn join_next(nodes: &mut Nodes, left: Link, right: Link, cost: &mut Cost)
     requires joins { CanJoin (held_at nodes.old) left.chunk_id right.chunk_id }
     requires leads { Leads nodes.old (Some left) × Leads nodes.old (Some right) }
     ensures joins { JoinsNext left.chunk_id right.chunk_id (held_at nodes.old) (held_at nodes.new) }
-    ensures kept { KeepsLinks nodes.old nodes.new }
+    ensures kept { KeepsOthers nodes.old nodes.new right.chunk_id }
     ensures room { room_of nodes.old ≤ room_of nodes.new }
     ensures counted { LooksUpBetween 2 3 cost.old cost.new }
 {
-    cost.look_up();
-    let gone = nodes.remove(right);
-    lengthen(nodes, left, gone.chunk.size, gone.next, cost);
-    set_prev_of(nodes, gone.next, Some(left), cost);
+    let gone = linked_at(nodes, right, cost);
+    let more = gone.chunk.size;
+    let next = nodes.link_in(gone.next);
+    lengthen(nodes, left, more, next, cost);
+    set_prev_of(nodes, next, Some(left), cost);
+    nodes.remove(right);
 }
 
 /// Gives a chunk another use.
@@ -176,13 +187,14 @@ pub fn set_use(
     cost: &mut Cost,
 )
     requires { Reaches nodes.old (Some at) }
-    ensures changes { ChangesAt at.chunk_id (used_node offset kind name) (held_at nodes.old) (held_at nodes.new) }
+    ensures changes { ChangesAt at.chunk_id (used_node offset kind name) (held_at nodes.old)
+        (held_at nodes.new) }
     ensures ids { nodes.new.ids ≡ nodes.old.ids }
     ensures room { room_of nodes.new ≡ room_of nodes.old }
     ensures counted { LooksUp 1 cost.old cost.new }
 {
     cost.look_up();
-    match nodes.chunks.get_mut(at.slot) {
+    match nodes.chunks.get_mut(at.slot as usize) {
         Some(linked) => {
             linked.chunk.offset = offset;
             linked.chunk.kind = kind;
@@ -195,7 +207,8 @@ pub fn set_use(
 /// Whether the chunk that a link leads to is free.
 pub fn is_free_at(nodes: &Nodes, at: Link, cost: &mut Cost) -> bool
     requires { Reaches nodes.now (Some at) }
-    ensures free { (n : Node) → held_at nodes.now at.chunk_id ≡ Some n → result ≡ is_free_kind (n.chunk).kind }
+    ensures free { (n : Node) → held_at nodes.now at.chunk_id ≡ Some n
+        → result ≡ is_free_kind (n.chunk).kind }
     ensures counted { LooksUp 1 cost.old cost.new }
 {
     match linked_at(nodes, at, cost).chunk.kind {
@@ -209,12 +222,12 @@ pub fn join_right(nodes: &mut Nodes, at: Link, cost: &mut Cost)
     requires linked { LinkedAt (held_at nodes.old) at.chunk_id }
     requires leads { Leads nodes.old (Some at) }
     ensures joins { JoinsRight at.chunk_id (held_at nodes.old) (held_at nodes.new) }
-    ensures kept { KeepsLinks nodes.old nodes.new }
+    ensures kept { Leads nodes.new (Some at) }
     ensures room { room_of nodes.old ≤ room_of nodes.new }
     ensures counted { LooksUpBetween 1 5 cost.old cost.new }
 {
     let ends = ends_of(nodes, at, cost);
-    if let Some(right) = ends.next {
+    if let Some(right) = nodes.link_in(ends.next) {
         if is_free_at(nodes, right, cost) {
             join_next(nodes, at, right, cost);
         }
@@ -230,7 +243,7 @@ pub fn join_left(nodes: &mut Nodes, at: Link, cost: &mut Cost)
     ensures counted { LooksUpBetween 1 5 cost.old cost.new }
 {
     let ends = ends_of(nodes, at, cost);
-    if let Some(left) = ends.prev {
+    if let Some(left) = nodes.link_in(ends.prev) {
         if is_free_at(nodes, left, cost) {
             join_next(nodes, left, at, cost);
         }

@@ -3,7 +3,7 @@
 ghost use Rattle.std.specs.Prelude.{◌≡◌, ℕ, ◌+◌, ◌≤◌, ◌<◌, IsSome, IfOk, OnOk, IfSome, Some, None};
 ghost use Rattle.std.specs.Option.{option_copied, option_map};
 ghost use Rattle.gpu_block_chunks.specs.Chain.{SetsAt, IsUnlinked};
-ghost use Rattle.gpu_block_chunks.specs.Nodes.{held_at, room_of, node_value, Leads, Reaches, KeepsLinks, KeepsReached};
+ghost use Rattle.gpu_block_chunks.specs.Nodes.{held_at, room_of, node_value, link_chunk_id, link_slot, number_at, IsTaken, Leads, Reaches, KeepsOthers, KeepsReached, IsAlone};
 
 use super::chunk_ids::ChunkIds;
 use super::link::{Link, LinkedChunk};
@@ -49,11 +49,13 @@ impl Nodes {
 
     /// The chunk of a number.
     pub fn get(&self, chunk_id: u64) -> Option<&LinkedChunk>
-        ensures value { option_map node_value (option_copied result) ≡ held_at self.now chunk_id }
-        ensures links { IfSome result (λ n. Leads self.now n.now.prev × Leads self.now n.now.next) }
+        ensures value { option_map (node_value self.now.ids) (option_copied result)
+            ≡ held_at self.now chunk_id }
+        ensures links { IfSome result (λ n. IsTaken self.now.ids n.now.prev
+            × IsTaken self.now.ids n.now.next) }
     {
         let slot = self.ids.find(chunk_id)?;
-        self.chunks.get(slot)
+        self.chunks.get(slot as usize)
     }
 
     /// Where the chunk of a number is found.
@@ -71,13 +73,33 @@ impl Nodes {
     /// The chunk that a link leads to.
     pub fn linked(&self, link: Link) -> &LinkedChunk
         requires { Reaches self.now (Some link) }
-        ensures value { held_at self.now link.chunk_id ≡ Some (node_value result.now) }
-        ensures links { Leads self.now result.now.prev × Leads self.now result.now.next }
+        ensures value { held_at self.now link.chunk_id ≡ Some (node_value self.now.ids result.now) }
+        ensures links { IsTaken self.now.ids result.now.prev
+            × IsTaken self.now.ids result.now.next }
     {
         // a read, so that the proof has the invariant
         let _ids = &self.ids;
-        match self.chunks.get(link.slot) {
+        match self.chunks.get(link.slot as usize) {
             Some(chunk) => chunk,
+            None => unreachable!(),
+        }
+    }
+
+    /// A link to the chunk in a slot, if it is one.
+    pub fn link_in(&self, slot: Option<u32>) -> Option<Link>
+        requires { IsTaken self.now.ids slot }
+        ensures chunk_id { link_chunk_id result ≡ number_at self.now.ids slot }
+        ensures slot { link_slot result ≡ slot }
+        ensures reaches { Reaches self.now result }
+    {
+        // a read, so that the proof has the invariant
+        let _ids = &self.ids;
+        let slot = slot?;
+        match self.chunks.get(slot as usize) {
+            Some(linked) => Some(Link {
+                chunk_id: linked.chunk.chunk_id,
+                slot,
+            }),
             None => unreachable!(),
         }
     }
@@ -105,28 +127,28 @@ impl Nodes {
         requires room { 0 < room_of self.old }
         requires numbered { (chunk.chunk).chunk_id ≡ chunk_id }
         requires unlinked { IsUnlinked chunk_id (held_at self.old) }
-        requires prev { Reaches self.old chunk.prev }
-        requires next { Reaches self.old chunk.next }
-        ensures sets { SetsAt chunk_id (Some (node_value chunk)) (held_at self.old) (held_at self.new) }
+        requires prev { IsTaken self.old.ids chunk.prev }
+        requires next { IsTaken self.old.ids chunk.next }
+        ensures sets { SetsAt chunk_id (Some (node_value self.old.ids chunk)) (held_at self.old)
+            (held_at self.new) }
         ensures link { (result.chunk_id ≡ chunk_id) × Leads self.new (Some result) }
         ensures links { KeepsReached self.old self.new }
         ensures room { room_of self.old ≤ room_of self.new + 1 }
     {
-        let slot = self.chunks.insert_reserved(chunk);
+        let slot = self.chunks.insert_reserved(chunk) as u32;
         self.ids.insert(chunk_id, slot);
         Link { chunk_id, slot }
     }
 
-    /// Takes the chunk that a link leads to out of its slot.
-    pub fn remove(&mut self, link: Link) -> LinkedChunk
-        requires { Reaches self.old (Some link) }
-        ensures node { held_at self.old link.chunk_id ≡ Some (node_value result) }
-        ensures links { Leads self.old result.prev × Leads self.old result.next }
+    /// Takes the chunk that a link leads to out of its slot. No other is linked to it.
+    pub fn remove(&mut self, link: Link)
+        requires there { Reaches self.old (Some link) }
+        requires alone { IsAlone link.chunk_id (held_at self.old) }
         ensures sets { SetsAt link.chunk_id None (held_at self.old) (held_at self.new) }
-        ensures kept { KeepsLinks self.old self.new }
+        ensures kept { KeepsOthers self.old self.new link.chunk_id }
         ensures room { room_of self.old ≤ room_of self.new }
     {
         self.ids.remove(link.chunk_id, link.slot);
-        self.chunks.remove(link.slot)
+        let _ = self.chunks.remove(link.slot as usize);
     }
 }

@@ -21,6 +21,9 @@ enum Slot {
     Free(Option<usize>),
 }
 
+// All but the name lies in the first 64 of its bytes.
+const _: () = prove!(size_of::<Slot>() == 96);
+
 impl Slot {
     ghost use Rattle.gpu_block_chunks.specs.contracts.chain.slots.Slot.{the_row};
     ghost use Rattle.gpu_block_chunks.specs.contracts.chain.link.LinkedChunk as chunk_type;
@@ -124,7 +127,8 @@ impl Slots {
 
     /// The chunk in a slot, lent.
     pub fn get_mut(&mut self, slot: usize) -> Option<&mut LinkedChunk>
-        ensures* writes_back { sem 𝓛 (LendsIf the_row chunk_type.the_row self.entry result (with_chunk self.entry.now slot) self.entry.now) }
+        ensures* writes_back { sem 𝓛 (LendsIf the_row chunk_type.the_row self.entry result
+            (with_chunk self.entry.now slot) self.entry.now) }
         ensures value { option_copied_mut result ≡ chunk_at self.old slot }
     {
         if self.get(slot).is_some() {
@@ -136,7 +140,8 @@ impl Slots {
 
     fn chunk_mut(&mut self, slot: usize) -> &mut LinkedChunk
         requires { IsSome (chunk_at self.old slot) }
-        ensures* writes_back { sem 𝓛 (Lends the_row chunk_type.the_row self.entry result (with_chunk self.entry.now slot)) }
+        ensures* writes_back { sem 𝓛 (Lends the_row chunk_type.the_row self.entry result
+            (with_chunk self.entry.now slot)) }
         ensures value { chunk_at self.old slot ≡ Some result.now }
     {
         self.slots[slot].chunk_mut()

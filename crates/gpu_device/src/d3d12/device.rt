@@ -89,7 +89,8 @@ pub trait D3D12Device {
     /// refused it memory; `None` is a null pointer without an error, which is a refusal too.
     fn create_heap(&mut self, desc: &HeapDesc) -> Result<Option<ID3D12Heap>, i32>
         ensures number { IsNew (held self.old) (granted_heap result) }
-        ensures holds { held self.new ≡ with_granted (held self.old) (granted_heap result) (Heap desc.now) }
+        ensures holds { held self.new ≡ with_granted (held self.old) (granted_heap result)
+            (Heap desc.now) }
         ensures counts { refused self.new ≡ counted (refused self.old) (granted_heap result) }
         ensures names_heap { latest_heap self.new ≡ Some desc.now }
         ensures names_no_formats { latest_formats self.new ≡ latest_formats self.old }
@@ -109,7 +110,8 @@ pub trait D3D12Device {
         clear_value: Option<&ClearValue>,
     ) -> Result<Option<ID3D12Resource>, i32>
         ensures number { IsNew (held self.old) (granted_resource result) }
-        ensures holds { held self.new ≡ with_granted (held self.old) (granted_resource result) (Committed (told_size (properties self.old) desc.now)) }
+        ensures holds { held self.new ≡ with_granted (held self.old) (granted_resource result)
+            (Committed (told_size (properties self.old) desc.now)) }
         ensures counts { refused self.new ≡ counted (refused self.old) (granted_resource result) }
         ensures names_no_heap { latest_heap self.new ≡ latest_heap self.old }
         ensures names_formats { latest_formats self.new ≡ None }
@@ -135,10 +137,12 @@ pub trait D3D12Device {
     ) -> Result<Option<ID3D12Resource>, i32>
         ensures number { IsNew (held self.old) (granted_resource result) }
         ensures holds { held self.new ≡ with_granted (held self.old) (granted_resource result)
-            (Committed (told_size1 (properties self.old) desc.now (option_copied castable_formats.entry))) }
+            (Committed (told_size1 (properties self.old) desc.now
+            (option_copied castable_formats.entry))) }
         ensures counts { refused self.new ≡ counted (refused self.old) (granted_resource result) }
         ensures names_no_heap { latest_heap self.new ≡ latest_heap self.old }
-        ensures names_formats { latest_formats self.new ≡ option_map length (option_copied castable_formats.entry) }
+        ensures names_formats { latest_formats self.new
+            ≡ option_map length (option_copied castable_formats.entry) }
         ensures names_clear_value { latest_clear self.new ≡ option_copied clear_value.entry }
         ensures names_memory { latest_memory self.new ≡ Some (heap_properties.now, heap_flags) }
         ensures recorded { history self.new ≡ AskedResource (record {
@@ -159,7 +163,8 @@ pub trait D3D12Device {
         clear_value: Option<&ClearValue>,
     ) -> Result<Option<ID3D12Resource>, i32>
         ensures number { IsNew (held self.old) (granted_resource result) }
-        ensures holds { held self.new ≡ with_granted (held self.old) (granted_resource result) (Placed heap.0 offset (told_size (properties self.old) desc.now)) }
+        ensures holds { held self.new ≡ with_granted (held self.old) (granted_resource result)
+            (Placed heap.0 offset (told_size (properties self.old) desc.now)) }
         ensures counts { refused self.new ≡ counted (refused self.old) (granted_resource result) }
         ensures names_no_heap { latest_heap self.new ≡ latest_heap self.old }
         ensures names_formats { latest_formats self.new ≡ None }
@@ -185,10 +190,12 @@ pub trait D3D12Device {
     ) -> Result<Option<ID3D12Resource>, i32>
         ensures number { IsNew (held self.old) (granted_resource result) }
         ensures holds { held self.new ≡ with_granted (held self.old) (granted_resource result)
-            (Placed heap.0 offset (told_size1 (properties self.old) desc.now (option_copied castable_formats.entry))) }
+            (Placed heap.0 offset (told_size1 (properties self.old) desc.now
+            (option_copied castable_formats.entry))) }
         ensures counts { refused self.new ≡ counted (refused self.old) (granted_resource result) }
         ensures names_no_heap { latest_heap self.new ≡ latest_heap self.old }
-        ensures names_formats { latest_formats self.new ≡ option_map length (option_copied castable_formats.entry) }
+        ensures names_formats { latest_formats self.new
+            ≡ option_map length (option_copied castable_formats.entry) }
         ensures names_clear_value { latest_clear self.new ≡ option_copied clear_value.entry }
         ensures names_memory { latest_memory self.new ≡ None }
         ensures recorded { history self.new ≡ AskedResource (record {
@@ -228,9 +235,12 @@ pub trait D3D12Device {
 
     ghost latest_heap_is: { (d : Self) → latest_heap d ≡ latest_heap_in (history d) };
 
-    ghost latest_formats_is: { (d : Self) → latest_formats d ≡ request_formats (latest_resource_in (history d)) };
+    ghost latest_formats_is: { (d : Self)
+        → latest_formats d ≡ request_formats (latest_resource_in (history d)) };
 
-    ghost latest_clear_is: { (d : Self) → latest_clear d ≡ request_clear (latest_resource_in (history d)) };
+    ghost latest_clear_is: { (d : Self)
+        → latest_clear d ≡ request_clear (latest_resource_in (history d)) };
 
-    ghost latest_memory_is: { (d : Self) → latest_memory d ≡ request_memory (latest_resource_in (history d)) };
+    ghost latest_memory_is: { (d : Self)
+        → latest_memory d ≡ request_memory (latest_resource_in (history d)) };
 }

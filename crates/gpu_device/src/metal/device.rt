@@ -63,7 +63,8 @@ pub trait MetalDevice {
     /// refusal, by the device or for lack of host memory.
     fn new_heap(&mut self, desc: &HeapDescriptor, size: u64, label: &str) -> Option<MTLHeap>
         ensures number { IsNew (held self.old) (granted_heap result) }
-        ensures holds { held self.new ≡ with_granted (held self.old) (granted_heap result) (Heap desc.now size) }
+        ensures holds { held self.new ≡ with_granted (held self.old) (granted_heap result)
+            (Heap desc.now size) }
         ensures counts { refused self.new ≡ counted (refused self.old) (granted_heap result) }
         ensures names_heap { latest_heap self.new ≡ Some (desc.now, size) }
         ensures recorded { history self.new ≡ AskedHeap desc.now size result ∷ history self.old }
@@ -81,7 +82,8 @@ pub trait MetalDevice {
     /// Metal's code, or the device's own where there are no such sets or the host refused it memory.
     fn new_residency_set(&mut self, label: &str) -> Result<MTLResidencySet, i32>
         ensures number { IsNew (held self.old) (granted_set result) }
-        ensures holds { held self.new ≡ with_granted (held self.old) (granted_set result) (Set [] []) }
+        ensures holds { held self.new ≡ with_granted (held self.old) (granted_set result)
+            (Set [] []) }
         ensures counts { refused self.new ≡ counted (refused self.old) (granted_set result) }
         ensures names_no_heap { latest_heap self.new ≡ latest_heap self.old }
         ensures recorded { history self.new ≡ AskedSet result ∷ history self.old }

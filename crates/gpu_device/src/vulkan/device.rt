@@ -72,8 +72,10 @@ pub trait VulkanDevice {
     /// Asks for a memory (`vkAllocateMemory`). The error is Vulkan's code, or the device's own where the host refused it
     /// memory.
     fn allocate_memory(&mut self, info: &MemoryAllocateInfo) -> Result<DeviceMemory, i32>
-        ensures number { IfOk result (λ memory. (memory.0 ≢ 0) × (get (held self.old) memory.0 ≡ None)) }
-        ensures grants { IfOk result (λ memory. held self.new ≡ insert (held self.old) memory.0 (new_entry info.now)) }
+        ensures number { IfOk result (λ memory. (memory.0 ≢ 0)
+            × (get (held self.old) memory.0 ≡ None)) }
+        ensures grants { IfOk result (λ memory. held self.new
+            ≡ insert (held self.old) memory.0 (new_entry info.now)) }
         ensures refuses { OnErr result (held self.new ≡ held self.old) }
         ensures counts_no_grant { OnOk result (refused self.new ≡ refused self.old) }
         ensures counts_refusal { OnErr result (refused self.new ≡ raised (refused self.old)) }
@@ -86,12 +88,17 @@ pub trait VulkanDevice {
     fn map_memory(&mut self, memory: DeviceMemory) -> Result<bool, i32>
         requires { IsUnmapped (held self.old) memory.0 }
         ensures grants { IfOk result (λ mapped. mapped ≡ true
-            → (xs : List ℕ) × (length xs ≡ size_of (held self.old) memory.0) × (held self.new ≡ mapped_with (held self.old) memory.0 xs)) }
-        ensures fits_host { IfOk result (λ mapped. mapped ≡ true → size_of (held self.old) memory.0 < 2 ^ 63) }
-        ensures refuses_null { IfOk result (λ mapped. mapped ≡ false → held self.new ≡ held self.old) }
+            → (xs : List ℕ) × (length xs ≡ size_of (held self.old) memory.0)
+            × (held self.new ≡ mapped_with (held self.old) memory.0 xs)) }
+        ensures fits_host { IfOk result
+            (λ mapped. mapped ≡ true → size_of (held self.old) memory.0 < 2 ^ 63) }
+        ensures refuses_null { IfOk result
+            (λ mapped. mapped ≡ false → held self.new ≡ held self.old) }
         ensures refuses { OnErr result (held self.new ≡ held self.old) }
-        ensures counts_no_grant { IfOk result (λ mapped. mapped ≡ true → refused self.new ≡ refused self.old) }
-        ensures counts_null { IfOk result (λ mapped. mapped ≡ false → refused self.new ≡ raised (refused self.old)) }
+        ensures counts_no_grant { IfOk result
+            (λ mapped. mapped ≡ true → refused self.new ≡ refused self.old) }
+        ensures counts_null { IfOk result
+            (λ mapped. mapped ≡ false → refused self.new ≡ raised (refused self.old)) }
         ensures counts_refusal { OnErr result (refused self.new ≡ raised (refused self.old)) }
         ensures names_no_question { latest self.new ≡ latest self.old }
         ensures recorded { history self.new ≡ AskedMapping memory result ∷ history self.old }
@@ -121,7 +128,8 @@ pub trait VulkanDevice {
     fn range_mut(&mut self, memory: DeviceMemory, start: u64, len: u64) -> &mut [u8]
         requires { IsSome (range_of (held self.old) memory.0 start len) }
         ensures value { range_of (held self.old) memory.0 start len ≡ Some result.now }
-        ensures* writes_back { sem 𝓛 (Lends Self.row (Array byte 0) self.entry result (written self.old memory.0 start)) };
+        ensures* writes_back { sem 𝓛 (Lends Self.row (Array byte 0) self.entry result
+            (written self.old memory.0 start)) };
 
     // No memory is held under the number 0, which is null.
     ghost no_null: { (d : Self) → get (held d) 0 ≡ None };
@@ -130,16 +138,21 @@ pub trait VulkanDevice {
     ghost whole: { (d : Self) (number : ℕ) → IsWhole (get (held d) number) };
 
     // A write changes that range of that memory alone.
-    ghost write_leaves_others: { (d : Self) (number start : ℕ) (ws : List ℕ) → held (written d number start ws) ≡ with_range (held d) number start ws };
+    ghost write_leaves_others: { (d : Self) (number start : ℕ) (ws : List ℕ)
+        → held (written d number start ws) ≡ with_range (held d) number start ws };
 
     // A write is no question.
-    ghost write_counts_nothing: { (d : Self) (number start : ℕ) (ws : List ℕ) → refused (written d number start ws) ≡ refused d };
+    ghost write_counts_nothing: { (d : Self) (number start : ℕ) (ws : List ℕ)
+        → refused (written d number start ws) ≡ refused d };
 
-    ghost write_names_no_question: { (d : Self) (number start : ℕ) (ws : List ℕ) → latest (written d number start ws) ≡ latest d };
+    ghost write_names_no_question: { (d : Self) (number start : ℕ) (ws : List ℕ)
+        → latest (written d number start ws) ≡ latest d };
 
-    ghost write_records_nothing: { (d : Self) (number start : ℕ) (ws : List ℕ) → history (written d number start ws) ≡ history d };
+    ghost write_records_nothing: { (d : Self) (number start : ℕ) (ws : List ℕ)
+        → history (written d number start ws) ≡ history d };
 
-    ghost write_constant: { (d : Self) (number start : ℕ) (ws : List ℕ) → properties (written d number start ws) ≡ properties d };
+    ghost write_constant: { (d : Self) (number start : ℕ) (ws : List ℕ)
+        → properties (written d number start ws) ≡ properties d };
 
     // The count of refusals and the latest question are those of the history.
     ghost refused_is: { (d : Self) → refused d ≡ refused_in (history d) };
@@ -164,9 +177,11 @@ pub trait VulkanDevice {
     /// Lends the bytes of a range to be written, exactly where `bytes` gives it; else the device stays as it is.
     final fn bytes_mut(&mut self, memory: DeviceMemory, start: u64, len: u64) -> Option<&mut [u8]>
         // once the slice has ended, what it then holds stands in that range; at None nothing has changed
-        ensures* lends { sem 𝓛 (LendsIf Self.row (Array byte 0) self.entry result (written self.old memory.0 start) self.old) }
+        ensures* lends { sem 𝓛 (LendsIf Self.row (Array byte 0) self.entry result
+            (written self.old memory.0 start) self.old) }
         ensures inside { IsSome result ↔ IsSome (range_of (held self.old) memory.0 start len) }
-        ensures value { IfSome result (λ slice. range_of (held self.old) memory.0 start len ≡ Some slice.now) }
+        ensures value { IfSome result (λ slice. range_of (held self.old) memory.0 start len
+            ≡ Some slice.now) }
     {
         let (device, found) = self.with_range_found(memory, start, len);
         if found {

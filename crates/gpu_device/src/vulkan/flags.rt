@@ -56,7 +56,8 @@ impl Flags for MemoryPropertyFlags {
 
     ghost exact = { ⊤ };
 
-    ghost table = { (codes "DEVICE_LOCAL", 1) ∷ (codes "HOST_VISIBLE", 2) ∷ (codes "HOST_COHERENT", 4) ∷ (codes "HOST_CACHED", 8) ∷ [] };
+    ghost table = { (codes "DEVICE_LOCAL", 1) ∷ (codes "HOST_VISIBLE", 2)
+        ∷ (codes "HOST_COHERENT", 4) ∷ (codes "HOST_CACHED", 8) ∷ [] };
 
     ghost set_of = { λ flags. flags.0 };
 

@@ -16,7 +16,8 @@ pub fn commit_one_heap<D: MetalDevice>(
     size: u64,
 ) -> Option<MTLHeap>
     requires { get (D.held device.old) set.0 ≡ Some (Set [] []) }
-    ensures granted { IfSome result (λ heap. get (D.held device.new) set.0 ≡ Some (Set [] (heap ∷ []))) }
+    ensures granted { IfSome result (λ heap. get (D.held device.new) set.0
+        ≡ Some (Set [] (heap ∷ []))) }
     ensures refused { result ≡ None → D.held device.new ≡ D.held device.old }
 {
     let heap = device.new_heap(desc, size, "heap")?;

@@ -65,7 +65,8 @@ fn write_leaves_the_rest<D: VulkanDevice>(
 )
     requires there { IsSome (range_of (D.held device.old) memory.0 start (length content.now)) }
     requires apart { (place + count ≤ start) ⊎ (start + length content.now ≤ place) }
-    ensures { range_of (D.held device.new) memory.0 place count ≡ range_of (D.held device.old) memory.0 place count }
+    ensures { range_of (D.held device.new) memory.0 place count
+        ≡ range_of (D.held device.old) memory.0 place count }
 {
     write(device, memory, start, content);
 }
@@ -76,7 +77,8 @@ fn allocate_mapped<D: VulkanDevice>(
     device: &mut D,
     info: &MemoryAllocateInfo,
 ) -> Option<DeviceMemory>
-    ensures mapped { IfSome result (λ memory. HasRange (bytes_of (D.held device.new) memory.0) 0 info.now.size) }
+    ensures mapped { IfSome result (λ memory. HasRange (bytes_of (D.held device.new) memory.0) 0
+        info.now.size) }
     ensures size { IfSome result (λ memory. size_of (D.held device.new) memory.0 ≡ info.now.size) }
     ensures new { IfSome result (λ memory. get (D.held device.old) memory.0 ≡ None) }
     ensures no_refusal { IfSome result (λ memory. D.refused device.new ≡ D.refused device.old) }

@@ -49,7 +49,8 @@ impl Model for BlockSession {
 
     ghost view = { λ s. record { block = block_of s.block; bound = s.bound.entries } };
 
-    ghost invariant = { λ s. (size_of (block_of s.block) ≡ s.size) × HasPages (block_of s.block) s.granularity
+    ghost invariant = { λ s. (size_of (block_of s.block) ≡ s.size)
+        × HasPages (block_of s.block) s.granularity
         × OwnsPieces (record { block = block_of s.block; bound = s.bound.entries }) };
 }
 
@@ -107,7 +108,8 @@ impl BlockSession {
 
     /// Allocates a piece under the caller's number.
     pub fn allocate(&mut self, key: u64, size: u64, alignment: u64, kind: Kind, name: &str) -> Reply
-        ensures { Allocating self.old key (request size alignment (type_of_kind kind) name.now) result self.new }
+        ensures { Allocating self.old key (request size alignment (type_of_kind kind) name.now)
+            result self.new }
     {
         if self.bound.contains_key(&key) {
             return Reply::Busy;
@@ -159,7 +161,8 @@ impl BlockSession {
         log: &L,
         commands: &[Command],
     ) -> gpu_values::Result<Vec<Reply>>
-        ensures run { IfOk result (λ replies. IsRun Serves commands.now replies.items self.old self.new) }
+        ensures run { IfOk result (λ replies. IsRun Serves commands.now replies.items self.old
+            self.new) }
         ensures count { IfOk result (λ replies. length replies.items ≡ length commands.now) }
         ensures nothing { OnErr result (self.new ≡ self.old) }
         ensures cause { IfErr result (λ e. e ≡ HostOutOfMemory) }
@@ -196,8 +199,8 @@ fn allocate_unbound(
     requires paged { HasPages (block_of block.old) wanted.granularity }
     requires shared { is_shared (block_of block.old) ≡ true }
     requires unbound { get nat_cmp bound.old key ≡ None }
-    ensures taking { Allocating (record { block = block_of block.old; bound = bound.old.entries }) key
-        (request wanted.size wanted.alignment wanted.kind name.now) result
+    ensures taking { Allocating (record { block = block_of block.old; bound = bound.old.entries })
+        key (request wanted.size wanted.alignment wanted.kind name.now) result
         (record { block = block_of block.new; bound = bound.new.entries }) }
     ensures sound { IsSoundBlock (block_of block.old) → IsSoundBlock (block_of block.new) }
     ensures pages { (g : ℕ) → HasPages (block_of block.old) g → HasPages (block_of block.new) g }

@@ -48,9 +48,20 @@ impl<D: D3D12Device> Model for Session<D> {
 
     ghost Value = { SessionValue D };
 
-    ghost view = { λ s. record { allocator = s.allocator; bound = s.bound.entries; resources = s.resources.entries } };
+    ghost view = { λ s. record {
+      allocator = s.allocator;
+      bound = s.bound.entries;
+      resources =
+          s.resources.entries;
+    } };
 
-    ghost invariant = { λ s. IsOwn (session_of D.D3D12Device (record { allocator = s.allocator; bound = s.bound.entries; resources = s.resources.entries })) };
+    ghost invariant = { λ s. IsOwn (session_of D.D3D12Device
+        (record {
+          allocator = s.allocator;
+          bound = s.bound.entries;
+          resources =
+              s.resources.entries;
+        })) };
 }
 
 impl<D: D3D12Device> Machine for Session<D> {
@@ -90,10 +101,12 @@ impl<D: D3D12Device> Session<D> {
     /// refused, the answer is `HostOutOfMemory` and nothing has run. Any later lack of memory is the reply of its command,
     /// which changed nothing but what the device counts of questions that it was asked before.
     pub fn run<L: Log>(&mut self, log: &L, commands: &[Command]) -> Result<Vec<Reply>>
-        ensures run { IfOk result (λ replies. IsRun (ServesCommand D.D3D12Device) commands.now replies.items self.old self.new) }
+        ensures run { IfOk result (λ replies. IsRun (ServesCommand D.D3D12Device) commands.now
+            replies.items self.old self.new) }
         ensures count { IfOk result (λ replies. length replies.items ≡ length commands.now) }
         ensures constant { IsConstant D.D3D12Device self.old self.new }
-        ensures basis { basis_of D.D3D12Device self.new.allocator ≡ basis_of D.D3D12Device self.old.allocator }
+        ensures basis { basis_of D.D3D12Device self.new.allocator
+            ≡ basis_of D.D3D12Device self.old.allocator }
         ensures nothing { OnErr result (self.new ≡ self.old) }
         ensures cause { IfErr result (λ e. e ≡ HostOutOfMemory) }
     {
@@ -104,10 +117,13 @@ impl<D: D3D12Device> Session<D> {
     /// that were never given back, and nothing else.
     pub fn device(&self) -> &ID3D12DeviceVersion<D>
         ensures lent { result.now ≡ self.now.allocator.device }
-        ensures holds { HoldsJustLiveBlocks self.now.allocator.setup.tier (beside_of D.D3D12Device self.now.allocator)
+        ensures holds { HoldsJustLiveBlocks self.now.allocator.setup.tier
+            (beside_of D.D3D12Device self.now.allocator)
             (D.held (device_of self.now.allocator.device)) self.now.allocator.slots }
-        ensures beside { IsFirstAndOut (D.held (device_of self.now.allocator.first)) (beside_of D.D3D12Device self.now.allocator) self.now.allocator.journal }
-        ensures constant { D.properties (device_of self.now.allocator.device) ≡ D.properties (device_of self.now.allocator.first) }
+        ensures beside { IsFirstAndOut (D.held (device_of self.now.allocator.first))
+            (beside_of D.D3D12Device self.now.allocator) self.now.allocator.journal }
+        ensures constant { D.properties (device_of self.now.allocator.device)
+            ≡ D.properties (device_of self.now.allocator.first) }
     {
         self.allocator.device()
     }
@@ -131,10 +147,14 @@ impl<D: D3D12Device> Session<D> {
     /// were never released, and nothing else: release placed ones before, for their heaps go.
     pub fn destroy<L: Log>(self, log: &L) -> ID3D12DeviceVersion<D>
         ensures held { D.held (device_of result) ≡ beside_of D.D3D12Device self.allocator }
-        ensures left { IsFirstAndOut (D.held (device_of self.allocator.first)) (D.held (device_of result)) self.allocator.journal }
-        ensures asks_nothing { AsksNothing D.D3D12Device (device_of self.allocator.device) (device_of result) }
+        ensures left { IsFirstAndOut (D.held (device_of self.allocator.first))
+            (D.held (device_of result)) self.allocator.journal }
+        ensures asks_nothing { AsksNothing D.D3D12Device (device_of self.allocator.device)
+            (device_of result) }
         // each heap goes back once: by memory type, then by slot
-        ensures recorded { D.history (device_of result) ≡ releases_recorded (all_handles self.allocator.slots) (D.history (device_of self.allocator.device)) }
+        ensures recorded { D.history (device_of result)
+            ≡ releases_recorded (all_handles self.allocator.slots)
+            (D.history (device_of self.allocator.device)) }
         ensures version { result ≡ with_device self.allocator.first (device_of result) }
     {
         let Session {
@@ -148,7 +168,8 @@ impl<D: D3D12Device> Session<D> {
 
     /// Serves one command.
     fn answer<L: Log>(&mut self, log: &L, command: &Command) -> Reply
-        ensures { IsAnswered D.D3D12Device (command_of command.now) (reply_of result) self.old self.new }
+        ensures { IsAnswered D.D3D12Device (command_of command.now) (reply_of result) self.old
+            self.new }
     {
         match command {
             Command::Alloc {
@@ -188,7 +209,8 @@ impl<D: D3D12Device> Session<D> {
 
     /// Room for the number is made before the allocator is asked.
     fn allocate<L: Log>(&mut self, log: &L, key: u64, desc: &AllocationCreateDesc) -> Reply
-        ensures { (w : Wanted) → AsksFor w desc.now → IsAnswered D.D3D12Device (Under key (Alloc w)) (reply_of result) self.old self.new }
+        ensures { (w : Wanted) → AsksFor w desc.now
+            → IsAnswered D.D3D12Device (Under key (Alloc w)) (reply_of result) self.old self.new }
     {
         if self.bound.contains_key(&key) {
             return Reply::Busy;
@@ -219,7 +241,8 @@ impl<D: D3D12Device> Session<D> {
     }
 
     fn rename(&mut self, key: u64, name: &str) -> Reply
-        ensures { IsAnswered D.D3D12Device (Under key (Rename name.now)) (reply_of result) self.old self.new }
+        ensures { IsAnswered D.D3D12Device (Under key (Rename name.now)) (reply_of result) self.old
+            self.new }
     {
         match self.bound.get_mut(&key) {
             None => Reply::Unbound,
@@ -233,7 +256,8 @@ impl<D: D3D12Device> Session<D> {
     /// Room for the number is made before the allocator is asked.
     fn create<L: Log>(&mut self, log: &L, key: u64, desc: &ResourceCreateDesc) -> Reply
         ensures { (w : WantedResource) → AsksForResource w desc.now
-            → IsAnswered D.D3D12Device (UnderResource key (Create w)) (reply_of result) self.old self.new }
+            → IsAnswered D.D3D12Device (UnderResource key (Create w)) (reply_of result) self.old
+            self.new }
     {
         if self.resources.contains_key(&key) {
             return Reply::Busy;
@@ -253,7 +277,8 @@ impl<D: D3D12Device> Session<D> {
     }
 
     fn release<L: Log>(&mut self, log: &L, key: u64) -> Reply
-        ensures { IsAnswered D.D3D12Device (UnderResource key Release) (reply_of result) self.old self.new }
+        ensures { IsAnswered D.D3D12Device (UnderResource key Release) (reply_of result) self.old
+            self.new }
     {
         match self.resources.remove(&key) {
             None => Reply::Unbound,
@@ -289,13 +314,15 @@ impl<D: D3D12Device> Session<D> {
     }
 
     fn committed(&self, memory_type: u64) -> Reply
-        ensures { IsAnswered D.D3D12Device (commands.Committed memory_type) (reply_of result) self.now self.now }
+        ensures { IsAnswered D.D3D12Device (commands.Committed memory_type) (reply_of result)
+            self.now self.now }
     {
         Reply::Committed(self.allocator.committed(memory_type as usize))
     }
 
     fn set_budget(&mut self, memory_type: u64, budget: Option<u64>) -> Reply
-        ensures { IsAnswered D.D3D12Device (commands.SetBudget memory_type budget) (reply_of result) self.old self.new }
+        ensures { IsAnswered D.D3D12Device (commands.SetBudget memory_type budget) (reply_of result)
+            self.old self.new }
     {
         match self.allocator.set_budget(memory_type as usize, budget) {
             Ok(()) => Reply::Done,
@@ -325,7 +352,8 @@ fn allocated(allocation: &Allocation) -> Allocated
 fn made(resource: &Resource) -> Made
     ensures number { result.resource ≡ resource.now.resource }
     ensures size { result.size ≡ resource.now.size }
-    ensures piece { option_map shown_of result.piece ≡ option_map (λ a. shown a.memory_type_index (piece_of a)) resource.now.allocation }
+    ensures piece { option_map shown_of result.piece
+        ≡ option_map (λ a. shown a.memory_type_index (piece_of a)) resource.now.allocation }
 {
     Made {
         resource: *resource.resource(),

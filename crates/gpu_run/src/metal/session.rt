@@ -42,7 +42,8 @@ impl<D: MetalDevice> Model for Session<D> {
 
     ghost view = { λ s. record { allocator = s.allocator; bound = s.bound.entries } };
 
-    ghost invariant = { λ s. IsOwn (session_of D.MetalDevice (record { allocator = s.allocator; bound = s.bound.entries })) };
+    ghost invariant = { λ s. IsOwn (session_of D.MetalDevice
+        (record { allocator = s.allocator; bound = s.bound.entries })) };
 }
 
 impl<D: MetalDevice> Machine for Session<D> {
@@ -78,7 +79,8 @@ impl<D: MetalDevice> Session<D> {
     /// refused, the answer is `HostOutOfMemory` and nothing has run. Any later lack of memory is the reply of its command,
     /// which changed nothing but what the device counts of questions that it was asked before.
     pub fn run<L: Log>(&mut self, log: &L, commands: &[Command]) -> Result<Vec<Reply>>
-        ensures run { IfOk result (λ replies. IsRun (ServesCommand D.MetalDevice) commands.now replies.items self.old self.new) }
+        ensures run { IfOk result (λ replies. IsRun (ServesCommand D.MetalDevice) commands.now
+            replies.items self.old self.new) }
         ensures count { IfOk result (λ replies. length replies.items ≡ length commands.now) }
         ensures constant { IsConstant D.MetalDevice self.old self.new }
         ensures nothing { OnErr result (self.new ≡ self.old) }
@@ -91,9 +93,11 @@ impl<D: MetalDevice> Session<D> {
     /// live blocks.
     pub fn device(&self) -> &D
         ensures lent { result.now ≡ self.now.allocator.device }
-        ensures holds { HoldsJustLiveBlocks self.now.allocator.setup.residency_set (D.held self.now.allocator.first)
-            (D.held self.now.allocator.device) self.now.allocator.slots }
-        ensures constant { D.properties self.now.allocator.device ≡ D.properties self.now.allocator.first }
+        ensures holds { HoldsJustLiveBlocks self.now.allocator.setup.residency_set
+            (D.held self.now.allocator.first) (D.held self.now.allocator.device)
+            self.now.allocator.slots }
+        ensures constant { D.properties self.now.allocator.device
+            ≡ D.properties self.now.allocator.first }
     {
         self.allocator.device()
     }
@@ -115,10 +119,12 @@ impl<D: MetalDevice> Session<D> {
     /// Gives every block back, and returns the device, which then holds what it held when the allocator was made, and the
     /// residency set, where there is one, without members.
     pub fn destroy(self) -> D
-        ensures held { D.held result ≡ left_behind (D.held self.allocator.first) self.allocator.setup.residency_set
+        ensures held { D.held result ≡ left_behind (D.held self.allocator.first)
+            self.allocator.setup.residency_set
             (residency_of (D.held self.allocator.device) self.allocator.setup.residency_set) }
         ensures asks_nothing { ChangesHeld D.MetalDevice self.allocator.device (D.held result)
-            (releases_recorded self.allocator.setup.residency_set (all_handles self.allocator.slots) (D.history self.allocator.device)) result }
+            (releases_recorded self.allocator.setup.residency_set (all_handles self.allocator.slots)
+            (D.history self.allocator.device)) result }
     {
         let Session {
             allocator,
@@ -130,7 +136,8 @@ impl<D: MetalDevice> Session<D> {
 
     /// Serves one command.
     fn answer<L: Log>(&mut self, log: &L, command: &Command) -> Reply
-        ensures { IsAnswered D.MetalDevice (command_of command.now) (reply_of result) self.old self.new }
+        ensures { IsAnswered D.MetalDevice (command_of command.now) (reply_of result) self.old
+            self.new }
     {
         match command {
             Command::Alloc {
@@ -139,12 +146,10 @@ impl<D: MetalDevice> Session<D> {
                 alignment,
                 location,
                 name,
-            } => self.allocate(
-                log,
-                *key,
-                Wanted::Piece(*size, *alignment, *location),
-                name.as_str(),
-            ),
+            } => {
+                let wanted = Wanted::Piece(*size, *alignment, *location);
+                self.allocate(log, *key, wanted, name.as_str())
+            }
             Command::Buffer {
                 key,
                 length,
@@ -156,18 +161,13 @@ impl<D: MetalDevice> Session<D> {
                 size,
                 location,
                 name,
-            } => self.allocate(
-                log,
-                *key,
-                Wanted::AccelerationStructure(*size, *location),
-                name.as_str(),
-            ),
-            Command::Texture { key, texture, name } => self.allocate(
-                log,
-                *key,
-                Wanted::Texture(*texture),
-                name.as_str(),
-            ),
+            } => {
+                let wanted = Wanted::AccelerationStructure(*size, *location);
+                self.allocate(log, *key, wanted, name.as_str())
+            }
+            Command::Texture { key, texture, name } => {
+                self.allocate(log, *key, Wanted::Texture(*texture), name.as_str())
+            }
             Command::Free { key } => self.free(log, *key),
             Command::Heaps => self.heaps(),
             Command::Commit => self.commit(),
@@ -182,7 +182,8 @@ impl<D: MetalDevice> Session<D> {
 
     /// Room for the number is made before the allocator is asked.
     fn allocate<L: Log>(&mut self, log: &L, key: u64, wanted: Wanted, name: &str) -> Reply
-        ensures { IsAnswered D.MetalDevice (Under key (Alloc wanted name.now)) (reply_of result) self.old self.new }
+        ensures { IsAnswered D.MetalDevice (Under key (Alloc wanted name.now)) (reply_of result)
+            self.old self.new }
     {
         if self.bound.contains_key(&key) {
             return Reply::Busy;
@@ -248,7 +249,8 @@ impl<D: MetalDevice> Session<D> {
     }
 
     fn set_budget(&mut self, memory_type: u64, budget: Option<u64>) -> Reply
-        ensures { IsAnswered D.MetalDevice (commands.SetBudget memory_type budget) (reply_of result) self.old self.new }
+        ensures { IsAnswered D.MetalDevice (commands.SetBudget memory_type budget) (reply_of result)
+            self.old self.new }
     {
         match self.allocator.set_budget(memory_type as usize, budget) {
             Ok(()) => Reply::Done,
@@ -259,7 +261,8 @@ impl<D: MetalDevice> Session<D> {
 
 /// What is told of a new allocation.
 fn allocated(allocation: &Allocation) -> Reply
-    ensures { reply_of result ≡ replies.Allocated (shown allocation.now.memory_type_index (piece_of allocation.now)) }
+    ensures { reply_of result ≡ replies.Allocated
+        (shown allocation.now.memory_type_index (piece_of allocation.now)) }
 {
     let Some(chunk) = allocation.chunk_id() else {
         unreachable!()

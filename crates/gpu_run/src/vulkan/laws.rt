@@ -21,7 +21,10 @@ pub fn two_runs()
 
 /// A write under one number leaves the bytes of every other number's live allocation.
 pub fn writes_are_apart()
-    ensures { (setup : Setup) (key other at : ℕ) (bytes : List ℕ) (o : CommandEnvironment) (reply : SessionReply) (old new : SessionState) (b : Allocation) → IsOwn old
-        → Serves setup (Under key (Write at bytes)) o reply old new → key ≢ other → old.bound other ≡ Some b → IsLive old.model.slots b
-        → new.model.byte_view.allocation_bytes (id_of b) ≡ old.model.byte_view.allocation_bytes (id_of b) }
+    ensures { (setup : Setup) (key other at : ℕ) (bytes : List ℕ) (o : CommandEnvironment)
+        (reply : SessionReply) (old new : SessionState) (b : Allocation) → IsOwn old
+        → Serves setup (Under key (Write at bytes)) o reply old new → key ≢ other
+        → old.bound other ≡ Some b → IsLive old.model.slots b
+        → new.model.byte_view.allocation_bytes (id_of b)
+        ≡ old.model.byte_view.allocation_bytes (id_of b) }
 {}

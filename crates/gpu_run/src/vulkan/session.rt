@@ -37,7 +37,8 @@ impl<D: VulkanDevice> Model for Session<D> {
 
     ghost view = { λ s. record { allocator = s.allocator; bound = s.bound.entries } };
 
-    ghost invariant = { λ s. IsOwn (session_of D.VulkanDevice (record { allocator = s.allocator; bound = s.bound.entries })) };
+    ghost invariant = { λ s. IsOwn (session_of D.VulkanDevice
+        (record { allocator = s.allocator; bound = s.bound.entries })) };
 }
 
 impl<D: VulkanDevice> Machine for Session<D> {
@@ -73,15 +74,16 @@ impl<D: VulkanDevice> Session<D> {
     /// refused, the answer is `HostOutOfMemory` and nothing has run. Any later lack of memory is the reply of its command,
     /// which changed nothing but what the device counts of questions that it was asked before.
     pub fn run<L: Log>(&mut self, log: &L, commands: &[Command]) -> Result<Vec<Reply>>
-        ensures run { IfOk result (λ replies. IsRun D.VulkanDevice (map command_of commands.now) (map reply_of replies.items)
-            self.old self.new) }
-        ensures each { IfOk result (λ replies. ServesEach D.VulkanDevice (map command_of commands.now) (map reply_of replies.items)
-            self.old self.new) }
+        ensures run { IfOk result (λ replies. IsRun D.VulkanDevice (map command_of commands.now)
+            (map reply_of replies.items) self.old self.new) }
+        ensures each { IfOk result (λ replies. ServesEach D.VulkanDevice
+            (map command_of commands.now) (map reply_of replies.items) self.old self.new) }
         ensures count { IfOk result (λ replies. length replies.items ≡ length commands.now) }
         ensures nothing { OnErr result (self.new ≡ self.old) }
         ensures cause { IfErr result (λ e. e ≡ HostOutOfMemory) }
-        ensures holds { HoldsJustLiveBlocks self.new.allocator.setup.properties (D.held self.new.allocator.first)
-            (D.held self.new.allocator.device) self.new.allocator.slots }
+        ensures holds { HoldsJustLiveBlocks self.new.allocator.setup.properties
+            (D.held self.new.allocator.first) (D.held self.new.allocator.device)
+            self.new.allocator.slots }
     {
         let replies = crate::run(self.alloc, self, log, commands);
         let _ = self.allocator.device();
@@ -91,8 +93,9 @@ impl<D: VulkanDevice> Session<D> {
     /// The device, lent. It holds what it held when the allocator was made, and just the live blocks.
     pub fn device(&self) -> &D
         ensures lent { result.now ≡ self.now.allocator.device }
-        ensures holds { HoldsJustLiveBlocks self.now.allocator.setup.properties (D.held self.now.allocator.first)
-            (D.held self.now.allocator.device) self.now.allocator.slots }
+        ensures holds { HoldsJustLiveBlocks self.now.allocator.setup.properties
+            (D.held self.now.allocator.first) (D.held self.now.allocator.device)
+            self.now.allocator.slots }
     {
         self.allocator.device()
     }
@@ -118,7 +121,8 @@ impl<D: VulkanDevice> Session<D> {
         ensures counts_nothing { D.refused result ≡ D.refused self.allocator.device }
         ensures names_no_question { D.latest result ≡ D.latest self.allocator.device }
         // each memory goes back once, unmapped before where it is mapped: by memory type, then by slot
-        ensures recorded { D.history result ≡ frees_recorded (D.held self.allocator.device) (all_handles self.allocator.slots)
+        ensures recorded { D.history result
+            ≡ frees_recorded (D.held self.allocator.device) (all_handles self.allocator.slots)
             (D.history self.allocator.device) }
         ensures constant { D.properties result ≡ D.properties self.allocator.first }
     {
@@ -133,7 +137,8 @@ impl<D: VulkanDevice> Session<D> {
     /// Serves one command. For lack of memory it answers `Error(HostOutOfMemory)`, and then the command changed nothing but
     /// what the device counts of questions that it was asked before.
     pub fn serve<L: Log>(&mut self, log: &L, command: &Command) -> Reply
-        ensures { IsServed D.VulkanDevice (command_of command.now) (reply_of result) self.old self.new }
+        ensures { IsServed D.VulkanDevice (command_of command.now) (reply_of result) self.old
+            self.new }
     {
         match command {
             Command::Alloc {
@@ -215,7 +220,8 @@ impl<D: VulkanDevice> Session<D> {
     }
 
     fn rename(&mut self, key: u64, name: &str) -> Reply
-        ensures { IsServed D.VulkanDevice (Under key (Rename name.now)) (reply_of result) self.old self.new }
+        ensures { IsServed D.VulkanDevice (Under key (Rename name.now)) (reply_of result) self.old
+            self.new }
     {
         match self.bound.get_mut(&key) {
             None => Reply::Unbound,
@@ -227,7 +233,8 @@ impl<D: VulkanDevice> Session<D> {
     }
 
     fn write(&mut self, key: u64, at: u64, bytes: &[u8]) -> Reply
-        ensures { IsServed D.VulkanDevice (Under key (Write at bytes.now)) (reply_of result) self.old self.new }
+        ensures { IsServed D.VulkanDevice (Under key (Write at bytes.now)) (reply_of result)
+            self.old self.new }
     {
         let Some(allocation) = self.bound.get(&key) else {
             return Reply::Unbound;
@@ -243,7 +250,8 @@ impl<D: VulkanDevice> Session<D> {
     }
 
     fn read(&mut self, key: u64, at: u64, size: u64) -> Reply
-        ensures { IsServed D.VulkanDevice (Under key (Read at size)) (reply_of result) self.old self.new }
+        ensures { IsServed D.VulkanDevice (Under key (Read at size)) (reply_of result) self.old
+            self.new }
     {
         let Some(allocation) = self.bound.get(&key) else {
             return Reply::Unbound;
@@ -262,7 +270,8 @@ impl<D: VulkanDevice> Session<D> {
     }
 
     fn set_budget(&mut self, memory_type: u64, budget: Option<u64>) -> Reply
-        ensures { IsServed D.VulkanDevice (commands.SetBudget memory_type budget) (reply_of result) self.old self.new }
+        ensures { IsServed D.VulkanDevice (commands.SetBudget memory_type budget) (reply_of result)
+            self.old self.new }
     {
         match self.allocator.set_budget(memory_type as usize, budget) {
             Ok(()) => Reply::Done,

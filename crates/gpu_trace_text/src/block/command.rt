@@ -12,7 +12,8 @@ use gpu_run::block::{Command, Kind, Side};
 use std::alloc::{AllocError, Global};
 
 fn side_of(word: &str) -> Option<Side>
-    ensures { MatchOption result ((s : Side) → word.now ≢ side_word s) (λ s. word.now ≡ side_word s) }
+    ensures { MatchOption result ((s : Side) → word.now ≢ side_word s)
+        (λ s. word.now ≡ side_word s) }
 {
     match word {
         "device" => Some(Side::Device),
@@ -22,7 +23,8 @@ fn side_of(word: &str) -> Option<Side>
 }
 
 fn kind_of(word: &str) -> Option<Kind>
-    ensures { MatchOption result ((k : Kind) → word.now ≢ kind_word k) (λ k. word.now ≡ kind_word k) }
+    ensures { MatchOption result ((k : Kind) → word.now ≢ kind_word k)
+        (λ k. word.now ≡ kind_word k) }
 {
     match word {
         "linear" => Some(Kind::Linear),

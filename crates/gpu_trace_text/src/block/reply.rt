@@ -11,7 +11,8 @@ use gpu_values::AllocationReport;
 use std::fmt;
 
 fn write_piece<W: fmt::Write>(piece: &AllocationReport, f: &mut fmt::Formatter<W>) -> fmt::Result
-    ensures { DisplaysOnOk W.write_str_gives f.old result (Some (piece_line (row_of piece.now))) f.new }
+    ensures { DisplaysOnOk W.write_str_gives f.old result (Some (piece_line (row_of piece.now)))
+        f.new }
 {
     let name = piece.name.as_str();
     let offset = piece.offset;
@@ -24,7 +25,8 @@ pub fn write_pieces<W: fmt::Write>(
     pieces: &[AllocationReport],
     f: &mut fmt::Formatter<W>,
 ) -> fmt::Result
-    ensures { DisplaysOnOk W.write_str_gives f.old result (Some (flat_map piece_line (map row_of pieces.now))) f.new }
+    ensures { DisplaysOnOk W.write_str_gives f.old result
+        (Some (flat_map piece_line (map row_of pieces.now))) f.new }
 {
     for piece in pieces {
         write_piece(piece, f)?;

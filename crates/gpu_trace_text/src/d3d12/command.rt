@@ -37,7 +37,9 @@ fn piece(
     alignment: u64,
     arguments: &[&str],
 ) -> Result<Option<Command>, AllocError>
-    ensures { IfOk result (λ found. Says (codes "alloc" ∷ decimal key ∷ decimal size ∷ decimal alignment ∷ texts arguments.now) found) }
+    ensures { IfOk result (λ found. Says
+        (codes "alloc" ∷ decimal key ∷ decimal size ∷ decimal alignment ∷ texts arguments.now)
+        found) }
 {
     let [location, category, name] = arguments else {
         return Ok(None);

@@ -32,7 +32,13 @@ impl Model for Configuration {
 
     ghost Value = { Configured };
 
-    ghost view = { λ c. record { tier = c.tier; version = c.version; sizes = c.sizes; refusals = c.refusals.items } };
+    ghost view = { λ c. record {
+      tier = c.tier;
+      version = c.version;
+      sizes = c.sizes;
+      refusals =
+          c.refusals.items;
+    } };
 }
 
 /// A device by this interface.
@@ -61,8 +67,10 @@ impl Configuration {
 
     /// Sets what a line says. Answers whether it could: all but refusals are set once. Want of memory changes nothing.
     pub fn set(&mut self, setting: &Setting) -> Result<bool, AllocError>
-        ensures set { IfOk result (λ set. set ≡ true → configured_by self.old setting.now ≡ Some self.new) }
-        ensures not_set { IfOk result (λ set. set ≡ false → (configured_by self.old setting.now ≡ None) × (self.new ≡ self.old)) }
+        ensures set { IfOk result (λ set. set ≡ true
+            → configured_by self.old setting.now ≡ Some self.new) }
+        ensures not_set { IfOk result (λ set. set ≡ false
+            → (configured_by self.old setting.now ≡ None) × (self.new ≡ self.old)) }
         ensures refused { OnErr result (self.new ≡ self.old) }
     {
         match *setting {

@@ -23,7 +23,8 @@ pub(crate) fn numbers_of(
     separator: char,
 ) -> Result<Option<Vec<u32>>, AllocError>
     requires { IsSeparator separator }
-    ensures { IfOk result (λ found. MatchOption found ((ns : List ℕ) → AreNumbers ns → word.now ≢ numbers_word separator ns)
+    ensures { IfOk result (λ found. MatchOption found
+        ((ns : List ℕ) → AreNumbers ns → word.now ≢ numbers_word separator ns)
         (λ v. AreNumbers v.items × (word.now ≡ numbers_word separator v.items))) }
 {
     let parts = parts(alloc, word, separator)?;

@@ -91,7 +91,8 @@ fn write_statistics<W: fmt::Write>(
     statistics: &Option<CommittedAllocationStatistics>,
     f: &mut fmt::Formatter<W>,
 ) -> fmt::Result
-    ensures { DisplaysOnOk W.write_str_gives f.old result (Some (statistics_text statistics.now)) f.new }
+    ensures { DisplaysOnOk W.write_str_gives f.old result (Some (statistics_text statistics.now))
+        f.new }
 {
     match statistics {
         None => write!(f, "none"),
@@ -211,7 +212,8 @@ fn write_asked<W: fmt::Write>(
     initial: Option<ResourceStateOrBarrierLayout>,
     f: &mut fmt::Formatter<W>,
 ) -> fmt::Result
-    ensures { DisplaysOnOk W.write_str_gives f.old result (Some (asked_text questions heap.now formats clear.now initial)) f.new }
+    ensures { DisplaysOnOk W.write_str_gives f.old result
+        (Some (asked_text questions heap.now formats clear.now initial)) f.new }
 {
     write!(f, "asked {questions} heap ")?;
     write_heap(heap, f)?;

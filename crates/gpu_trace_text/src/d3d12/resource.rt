@@ -25,7 +25,8 @@ use std::alloc::{AllocError, Global};
 
 /// The category that a word names.
 pub(crate) fn category_of(word: &str) -> Option<ResourceCategory>
-    ensures { MatchOption result ((c : ResourceCategory) → word.now ≢ category_word c) (λ c. word.now ≡ category_word c) }
+    ensures { MatchOption result ((c : ResourceCategory) → word.now ≢ category_word c)
+        (λ c. word.now ≡ category_word c) }
 {
     match word {
         "buffer" => Some(ResourceCategory::Buffer),
@@ -37,7 +38,8 @@ pub(crate) fn category_of(word: &str) -> Option<ResourceCategory>
 
 /// Where the memory of a resource in this location comes from.
 fn memory_of(word: &str, location: MemoryLocation) -> Option<Memory>
-    ensures { MatchOption result ((m : Memory) → FitsMemory location m → word.now ≢ place_word m) (λ m. FitsMemory location m × (word.now ≡ place_word m)) }
+    ensures { MatchOption result ((m : Memory) → FitsMemory location m → word.now ≢ place_word m)
+        (λ m. FitsMemory location m × (word.now ≡ place_word m)) }
 {
     match word {
         "placed" => Some(Memory::Placed),
@@ -47,7 +49,8 @@ fn memory_of(word: &str, location: MemoryLocation) -> Option<Memory>
 }
 
 fn dimension_of(word: &str) -> Option<ResourceDimension>
-    ensures { MatchOption result ((d : ResourceDimension) → word.now ≢ dimension_word d) (λ d. word.now ≡ dimension_word d) }
+    ensures { MatchOption result ((d : ResourceDimension) → word.now ≢ dimension_word d)
+        (λ d. word.now ≡ dimension_word d) }
 {
     match word {
         "unknown" => Some(ResourceDimension::Unknown),
@@ -61,7 +64,8 @@ fn dimension_of(word: &str) -> Option<ResourceDimension>
 
 /// A depth or a count of textures.
 fn depth_of(word: &str) -> Option<u16>
-    ensures { MatchOption result ((n : ℕ) → n < 2 ^ 16 → word.now ≢ decimal n) (λ n. word.now ≡ decimal n) }
+    ensures { MatchOption result ((n : ℕ) → n < 2 ^ 16 → word.now ≢ decimal n)
+        (λ n. word.now ≡ decimal n) }
 {
     let depth = small_number(word)?;
     if depth <= u16::MAX as u32 {
@@ -79,7 +83,8 @@ fn desc_of(
     depth: &str,
     flags: &str,
 ) -> Option<ResourceDesc>
-    ensures { MatchOption result ((d : ResourceDesc) → SpellsDesc dimension.now width.now height.now depth.now flags.now d → ⊥)
+    ensures { MatchOption result ((d : ResourceDesc)
+        → SpellsDesc dimension.now width.now height.now depth.now flags.now d → ⊥)
         (SpellsDesc dimension.now width.now height.now depth.now flags.now) }
 {
     let dimension = dimension_of(dimension)?;
@@ -103,8 +108,8 @@ fn desc_of(
 }
 
 fn initial_of(word: &str) -> Option<ResourceStateOrBarrierLayout>
-    ensures { MatchOption result ((i : ResourceStateOrBarrierLayout) → FitsInitial i → word.now ≢ initial_word i)
-        (λ i. FitsInitial i × (word.now ≡ initial_word i)) }
+    ensures { MatchOption result ((i : ResourceStateOrBarrierLayout) → FitsInitial i
+        → word.now ≢ initial_word i) (λ i. FitsInitial i × (word.now ≡ initial_word i)) }
 {
     if let Some(digits) = word.strip_prefix("state:") {
         return Some(ResourceStateOrBarrierLayout::ResourceState(small_number(digits)?));
@@ -127,7 +132,8 @@ fn numbered(alloc: Global, numbers: &[u32]) -> Result<Vec<Format>, AllocError>
 }
 
 fn formats_of(alloc: Global, word: &str) -> Result<Option<Vec<Format>>, AllocError>
-    ensures { IfOk result (λ found. MatchOption found ((fs : List Format) → FitsFormats fs → word.now ≢ formats_word fs)
+    ensures { IfOk result (λ found. MatchOption found
+        ((fs : List Format) → FitsFormats fs → word.now ≢ formats_word fs)
         (λ v. FitsFormats v.items × (word.now ≡ formats_word v.items))) }
 {
     if word == "none" {
@@ -145,7 +151,8 @@ fn formats_of(alloc: Global, word: &str) -> Result<Option<Vec<Format>>, AllocErr
 
 /// The clear value of these numbers: its format, and the four words of its value.
 fn value_of(numbers: &[u32]) -> Option<ClearValue>
-    ensures { MatchOption result (length numbers.now ≢ 5) (λ v. (v.format.0 ∷ v.value ≡ numbers.now) × (length v.value ≡ 4)) }
+    ensures { MatchOption result (length numbers.now ≢ 5)
+        (λ v. (v.format.0 ∷ v.value ≡ numbers.now) × (length v.value ≡ 4)) }
 {
     let [format, a, b, c, d] = numbers else {
         return None;
@@ -157,7 +164,8 @@ fn value_of(numbers: &[u32]) -> Option<ClearValue>
 }
 
 fn clear_of(alloc: Global, word: &str) -> Result<Option<Option<ClearValue>>, AllocError>
-    ensures { IfOk result (λ found. MatchOption found ((c : Option ClearValue) → FitsClear c → word.now ≢ clear_word c)
+    ensures { IfOk result (λ found. MatchOption found
+        ((c : Option ClearValue) → FitsClear c → word.now ≢ clear_word c)
         (λ c. FitsClear c × (word.now ≡ clear_word c))) }
 {
     if word == "none" {
@@ -181,7 +189,8 @@ fn described(
     arguments: &[&str],
 ) -> Result<Option<WantedResource>, AllocError>
     requires { FitsMemory location memory }
-    ensures { IfOk result (SaysWanted (place_word memory ∷ location_word location ∷ category_word category ∷ texts arguments.now)) }
+    ensures { IfOk result (SaysWanted (place_word memory ∷ location_word location
+        ∷ category_word category ∷ texts arguments.now)) }
 {
     let [
         dimension,

@@ -66,7 +66,8 @@ fn tier(alloc: Global, arguments: &[&str]) -> Result<Option<Setting>, AllocError
 }
 
 fn version_of(word: &str) -> Option<Version>
-    ensures { MatchOption result ((v : Version) → word.now ≢ version_word v) (λ v. word.now ≡ version_word v) }
+    ensures { MatchOption result ((v : Version) → word.now ≢ version_word v)
+        (λ v. word.now ≡ version_word v) }
 {
     match word {
         "device" => Some(Version::Device),

@@ -17,7 +17,8 @@ use std::alloc::{AllocError, Global};
 
 /// The location that a word names.
 pub fn location_of(word: &str) -> Option<MemoryLocation>
-    ensures { MatchOption result ((l : MemoryLocation) → word.now ≢ location_word l) (λ l. word.now ≡ location_word l) }
+    ensures { MatchOption result ((l : MemoryLocation) → word.now ≢ location_word l)
+        (λ l. word.now ≡ location_word l) }
 {
     match word {
         "Unknown" => Some(MemoryLocation::Unknown),
@@ -29,7 +30,8 @@ pub fn location_of(word: &str) -> Option<MemoryLocation>
 }
 
 fn is_linear(word: &str) -> Option<bool>
-    ensures { MatchOption result ((l : Bool) → word.now ≢ linear_word l) (λ l. word.now ≡ linear_word l) }
+    ensures { MatchOption result ((l : Bool) → word.now ≢ linear_word l)
+        (λ l. word.now ≡ linear_word l) }
 {
     match word {
         "linear" => Some(true),
@@ -39,7 +41,8 @@ fn is_linear(word: &str) -> Option<bool>
 }
 
 fn scheme_of(word: &str) -> Option<AllocationScheme>
-    ensures { MatchOption result ((s : AllocationScheme) → FitsScheme s → word.now ≢ scheme_word s) (λ s. FitsScheme s × (word.now ≡ scheme_word s)) }
+    ensures { MatchOption result ((s : AllocationScheme) → FitsScheme s → word.now ≢ scheme_word s)
+        (λ s. FitsScheme s × (word.now ≡ scheme_word s)) }
 {
     if word == "managed" {
         return Some(AllocationScheme::GpuAllocatorManaged);
@@ -55,8 +58,10 @@ fn scheme_of(word: &str) -> Option<AllocationScheme>
 
 /// What is asked of the memory, in three words.
 fn requirements_of(size: &str, alignment: &str, bits: &str) -> Option<MemoryRequirements>
-    ensures { MatchOption result ((a b : ℕ) (c : ℕ) → a < 2 ^ 64 → b < 2 ^ 64 → c < 2 ^ 32 → size.now ≡ decimal a → alignment.now ≡ decimal b → bits.now ≢ decimal c)
-        (λ r. (size.now ≡ decimal r.size) × (alignment.now ≡ decimal r.alignment) × (bits.now ≡ decimal r.memory_type_bits)) }
+    ensures { MatchOption result ((a b : ℕ) (c : ℕ) → a < 2 ^ 64 → b < 2 ^ 64 → c < 2 ^ 32
+        → size.now ≡ decimal a → alignment.now ≡ decimal b → bits.now ≢ decimal c)
+        (λ r. (size.now ≡ decimal r.size) × (alignment.now ≡ decimal r.alignment)
+        × (bits.now ≡ decimal r.memory_type_bits)) }
 {
     let size = number(size)?;
     let alignment = number(alignment)?;
@@ -75,7 +80,8 @@ fn request_of(
     requirements: MemoryRequirements,
     arguments: &[&str],
 ) -> Result<Option<Command>, AllocError>
-    ensures { IfOk result (λ found. Says (codes "alloc" ∷ decimal key ∷ decimal requirements.size ∷ decimal requirements.alignment
+    ensures { IfOk result (λ found. Says
+        (codes "alloc" ∷ decimal key ∷ decimal requirements.size ∷ decimal requirements.alignment
         ∷ decimal requirements.memory_type_bits ∷ texts arguments.now) found) }
 {
     let [location, linear, scheme, name] = arguments else {
@@ -169,7 +175,9 @@ fn may_be_written(bytes: &[u8]) -> bool
 }
 
 fn payload(alloc: Global, word: &str) -> Result<Option<Vec<u8>>, AllocError>
-    ensures { IfOk result (λ found. MatchOption found ((bs : List ℕ) → IsPayload bs → word.now ≢ hex bs) (λ v. IsPayload v.items × (word.now ≡ hex v.items))) }
+    ensures { IfOk result (λ found. MatchOption found
+        ((bs : List ℕ) → IsPayload bs → word.now ≢ hex bs)
+        (λ v. IsPayload v.items × (word.now ≡ hex v.items))) }
 {
     let Some(bytes) = hex::decode(alloc, word.as_bytes())? else {
         return Ok(None);
@@ -200,7 +208,8 @@ fn write(alloc: Global, arguments: &[&str]) -> Result<Option<Command>, AllocErro
 }
 
 fn size_of(word: &str) -> Option<u64>
-    ensures { MatchOption result ((n : ℕ) → IsLength n → word.now ≢ decimal n) (λ n. IsLength n × (word.now ≡ decimal n)) }
+    ensures { MatchOption result ((n : ℕ) → IsLength n → word.now ≢ decimal n)
+        (λ n. IsLength n × (word.now ≡ decimal n)) }
 {
     let size = number(word)?;
     if is_length(size) { Some(size) } else { None }
@@ -238,7 +247,8 @@ fn capacity(arguments: &[&str]) -> Option<Command>
 
 /// A budget: a number of bytes, or `none`.
 pub fn budget_of(word: &str) -> Option<Option<u64>>
-    ensures { MatchOption result ((b : Option ℕ) → FitsBudget b → word.now ≢ budget_word b) (λ b. FitsBudget b × (word.now ≡ budget_word b)) }
+    ensures { MatchOption result ((b : Option ℕ) → FitsBudget b → word.now ≢ budget_word b)
+        (λ b. FitsBudget b × (word.now ≡ budget_word b)) }
 {
     if word == "none" {
         return Some(None);

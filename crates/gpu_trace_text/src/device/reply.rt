@@ -110,7 +110,8 @@ fn write_blocks<W: fmt::Write>(
     blocks: &[MemoryBlockReport],
     f: &mut fmt::Formatter<W>,
 ) -> fmt::Result
-    ensures { DisplaysOnOk W.write_str_gives f.old result (Some (flat_map block_line blocks.now)) f.new }
+    ensures { DisplaysOnOk W.write_str_gives f.old result (Some (flat_map block_line blocks.now))
+        f.new }
 {
     for block in blocks {
         write_block(block, f)?;
@@ -140,7 +141,8 @@ fn write_leak<W: fmt::Write>(text: &str, f: &mut fmt::Formatter<W>) -> fmt::Resu
 
 /// The texts of leaks, each with a line end, and their count.
 pub fn write_leaks<W: fmt::Write>(texts: &[String], f: &mut fmt::Formatter<W>) -> fmt::Result
-    ensures { DisplaysOnOk W.write_str_gives f.old result (Some (leaks_text (map string_bytes texts.now))) f.new }
+    ensures { DisplaysOnOk W.write_str_gives f.old result
+        (Some (leaks_text (map string_bytes texts.now))) f.new }
 {
     for text in texts {
         write_leak(text.as_str(), f)?;

@@ -93,7 +93,8 @@ fn sizes(arguments: &[&str]) -> Option<Setting>
 }
 
 fn refusal_of(alloc: Global, word: &str) -> Result<Option<Refusal>, AllocError>
-    ensures { IfOk result (λ found. MatchOption found ((r : Refusal) → FitsRefusal r → word.now ≢ refusal_word r)
+    ensures { IfOk result (λ found. MatchOption found
+        ((r : Refusal) → FitsRefusal r → word.now ≢ refusal_word r)
         (λ r. (word.now ≡ refusal_word r) × FitsRefusal r)) }
 {
     if word == "null" {
@@ -107,7 +108,8 @@ fn refusal_of(alloc: Global, word: &str) -> Result<Option<Refusal>, AllocError>
 
 /// The number of a question, counted from 1.
 fn question_of(word: &str) -> Option<u64>
-    ensures { MatchOption result ((n : ℕ) → 0 < n → n < 2 ^ 64 → word.now ≢ decimal n) (λ n. (0 < n) × (word.now ≡ decimal n)) }
+    ensures { MatchOption result ((n : ℕ) → 0 < n → n < 2 ^ 64 → word.now ≢ decimal n)
+        (λ n. (0 < n) × (word.now ≡ decimal n)) }
 {
     let number = number(word)?;
     if number == 0 { None } else { Some(number) }

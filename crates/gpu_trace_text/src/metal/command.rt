@@ -16,7 +16,8 @@ use gpu_values::MemoryLocation;
 use std::alloc::{AllocError, Global};
 
 fn mode_of(word: &str) -> Option<StorageMode>
-    ensures { MatchOption result ((m : StorageMode) → FitsMode m → word.now ≢ mode_word m) (λ m. FitsMode m × (word.now ≡ mode_word m)) }
+    ensures { MatchOption result ((m : StorageMode) → FitsMode m → word.now ≢ mode_word m)
+        (λ m. FitsMode m × (word.now ≡ mode_word m)) }
 {
     if let Some(digits) = word.strip_prefix("other:") {
         return Some(StorageMode::Other(small_number(digits)?));
@@ -56,7 +57,9 @@ fn piece(
     alignment: u64,
     arguments: &[&str],
 ) -> Result<Option<Command>, AllocError>
-    ensures { IfOk result (λ found. Says (codes "alloc" ∷ decimal key ∷ decimal size ∷ decimal alignment ∷ texts arguments.now) found) }
+    ensures { IfOk result (λ found. Says
+        (codes "alloc" ∷ decimal key ∷ decimal size ∷ decimal alignment ∷ texts arguments.now)
+        found) }
 {
     let [location, name] = arguments else {
         return Ok(None);
@@ -130,9 +133,12 @@ fn structure(alloc: Global, arguments: &[&str]) -> Result<Option<Command>, Alloc
 
 /// A texture, in four words.
 fn texture_of(mode: &str, width: &str, height: &str, bytes: &str) -> Option<TextureDescriptor>
-    ensures { MatchOption result
-        ((m : StorageMode) (w h b : ℕ) → FitsMode m → w < 2 ^ 64 → h < 2 ^ 64 → b < 2 ^ 64 → mode.now ≡ mode_word m → width.now ≡ decimal w → height.now ≡ decimal h → bytes.now ≢ decimal b)
-        (λ t. FitsMode t.storage_mode × (mode.now ≡ mode_word t.storage_mode) × (width.now ≡ decimal t.width) × (height.now ≡ decimal t.height) × (bytes.now ≡ decimal t.bytes_per_texel)) }
+    ensures { MatchOption result ((m : StorageMode) (w h b : ℕ) → FitsMode m → w < 2 ^ 64
+        → h < 2 ^ 64 → b < 2 ^ 64 → mode.now ≡ mode_word m → width.now ≡ decimal w
+        → height.now ≡ decimal h → bytes.now ≢ decimal b)
+        (λ t. FitsMode t.storage_mode × (mode.now ≡ mode_word t.storage_mode)
+        × (width.now ≡ decimal t.width) × (height.now ≡ decimal t.height)
+        × (bytes.now ≡ decimal t.bytes_per_texel)) }
 {
     let storage_mode = mode_of(mode)?;
     let width = number(width)?;

@@ -120,7 +120,8 @@ fn write_asked<W: fmt::Write>(
     heap: &Option<(HeapDescriptor, u64)>,
     f: &mut fmt::Formatter<W>,
 ) -> fmt::Result
-    ensures { DisplaysOnOk W.write_str_gives f.old result (Some (asked_text questions heap.now)) f.new }
+    ensures { DisplaysOnOk W.write_str_gives f.old result (Some (asked_text questions heap.now))
+        f.new }
 {
     match heap {
         None => write!(f, "asked {questions} heap none"),

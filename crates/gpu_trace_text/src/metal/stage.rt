@@ -73,7 +73,8 @@ fn configure(
     mut configuration: Configuration,
     setting: Setting,
 ) -> Result<(Stage, Outcome<Reply>), AllocError>
-    ensures { IfOk result (MatchDone (Does (Stage.Configuring configuration) (Line.Configures setting))) }
+    ensures { IfOk result (MatchDone (Does (Stage.Configuring configuration)
+        (Line.Configures setting))) }
 {
     if configuration.set(&setting)? {
         Ok((Stage::Configuring(configuration), Outcome::Nothing))

@@ -1,4 +1,4 @@
-use Rattle.std.proofs.Common.{◌<◌, arith}
+use Rattle.std.proofs.Common.{arith}
 use Rattle.gpu_block_gaps.proofs.order.exchange.Goals as goal
 
 pub put-requires-clause-room : goal.put-requires-clause-room

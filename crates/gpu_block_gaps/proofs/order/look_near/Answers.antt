@@ -1,7 +1,7 @@
 use Rattle.std.proofs.Common.{◌≡◌, ◌/◌, ◌+◌, ◌^◌, ◌∙◌, sym, ap, subst}
 use Rattle.std.proofs.lemmas.Option.{MatchOption-at_some, MatchOption-at_none}
-use Rattle.gap_tree.specs.Key.{code_of}
-use Rattle.gap_tree.specs.Order.{IsIn}
+use Rattle.gpu_block_gaps.specs.Key.{code_of}
+use Rattle.gpu_block_gaps.specs.Order.{IsIn}
 use Rattle.gpu_block_gaps.specs.Ordered.{code, key_in}
 use Rattle.gpu_block_gaps.proofs.Indexing.{near_in, sorted_in}
 use Rattle.gpu_block_gaps.proofs.order.look_near.Goals as goal

@@ -1,6 +1,6 @@
 use Rattle.std.proofs.Common.{subst, arith}
 use Rattle.std.proofs.lemmas.Option.{MatchOption-at_some, MatchOption-at_none}
-use Rattle.gap_tree.specs.Key.{code_of}
+use Rattle.gpu_block_gaps.specs.Key.{code_of}
 use Rattle.gpu_block_gaps.specs.declared.order.Nearby.{Nearby}
 use Rattle.gpu_block_gaps.specs.Ordered.{key_in, IsNearby}
 use Rattle.gpu_block_gaps.proofs.Indexing.{code_fits, next_later, next_none, next_same, next_before, next_after}

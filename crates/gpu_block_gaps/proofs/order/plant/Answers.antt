@@ -1,8 +1,8 @@
 use Rattle.std.proofs.Common.{subst}
-use Rattle.gap_tree.specs.Key.{code_of}
-use Rattle.gap_tree.specs.Tree.{tip}
-use Rattle.gap_tree.specs.Forest.{class_in}
-use Rattle.gap_tree.proofs.Ordered.{gains_first, gains_beside}
+use Rattle.gpu_block_gaps.specs.Key.{code_of}
+use Rattle.gpu_block_gaps.specs.Tree.{tip}
+use Rattle.gpu_block_gaps.specs.Forest.{class_in}
+use Rattle.gpu_block_gaps.proofs.Ordered.{gains_first, gains_beside}
 use Rattle.gpu_block_gaps.specs.declared.order.Nearby.{Nearby}
 use Rattle.gpu_block_gaps.specs.Ordered.{IsNearby}
 use Rattle.gpu_block_gaps.proofs.order.plant.Goals as goal

@@ -1,9 +1,9 @@
 use Rattle.std.proofs.Common.{◌∙◌, Some, set, sym, ap, subst, arith}
-use Rattle.gap_tree.specs.Key.{code_of}
-use Rattle.gap_tree.specs.Tree.{Tree}
-use Rattle.gap_tree.specs.Forest.{IsForest, class_in}
-use Rattle.gap_tree.specs.Order.{IsPlaceIn, Gains}
-use Rattle.gap_tree.proofs.Positions.{place_there}
+use Rattle.gpu_block_gaps.specs.Key.{code_of}
+use Rattle.gpu_block_gaps.specs.Tree.{Tree}
+use Rattle.gpu_block_gaps.specs.Forest.{IsForest, class_in}
+use Rattle.gpu_block_gaps.specs.Order.{IsPlaceIn, Gains}
+use Rattle.gpu_block_gaps.proofs.Positions.{place_there}
 use Rattle.gpu_block_gaps.specs.declared.order.Nearby.{Nearby}
 use Rattle.gpu_block_gaps.specs.Index.{IsInserted}
 use Rattle.gpu_block_gaps.specs.Ordered.{code, key_in, gaps_of, IsShort, IsNearby, IsIndexed}

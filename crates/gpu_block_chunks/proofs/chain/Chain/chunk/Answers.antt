@@ -11,5 +11,8 @@ returns-in_err-node-clause-value c =
 
 pub returns-clause-value : goal.returns-clause-value
 returns-clause-value c =
-    rw c.chunk_id_of.ensures (chunk_at (held_at c.self.inside.nodes) c.self.inside.first c.self.inside.size _ c.args.self.now.chunks c.self.invariant
-    (ap (λ (v : Linked). v.chunks) c.self.view_is) c.args.chunk_id (node_value c.in_ok-node.node.now) (sym c.in_ok-node.ensures.value))
+    rw (c.chunk_id_of.ensures, c.link_in.ensures.chunk_id) (chunk_at (held_at c.self.inside.nodes) c.self.inside.first c.self.inside.size _ c.args.self.now.chunks c.self.invariant
+    (ap (λ (v : Linked). v.chunks) c.self.view_is) c.args.chunk_id (node_value c.self.inside.nodes.ids c.in_ok-node.node.now) (sym c.in_ok-node.ensures.value))
+
+pub link_in-requires : goal.link_in-requires
+link_in-requires c = c.in_ok-node.ensures.links.1

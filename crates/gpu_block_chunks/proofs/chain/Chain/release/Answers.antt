@@ -1,4 +1,4 @@
-use Rattle.std.proofs.Common.{ap, arith, Some, []}
+use Rattle.std.proofs.Common.{ap, arith, []}
 use Rattle.gpu_block_chunks.specs.Chain.{Linked}
 use Rattle.gpu_block_chunks.proofs.Unlinks.{opened_has, right_ready, left_ready}
 use Rattle.gpu_block_chunks.proofs.Listing.{open_at, released}
@@ -48,7 +48,7 @@ join_left-requires-clause-linked c =
 
 pub join_left-requires-clause-leads : goal.join_left-requires-clause-leads
 join_left-requires-clause-leads c =
-    c.join_right.ensures.kept (Some c.link_to-at.result) (rw c.set_use.ensures.ids c.link_to-at.ensures.leads)
+    c.join_right.ensures.kept
 
 pub invariant_of-self : goal.invariant_of-self
 invariant_of-self c =

@@ -1,8 +1,8 @@
 use Rattle.std.proofs.Common.{◌≡◌, ◌<◌, ◌≤◌, ◌+◌, ◌*◌, ◌^◌, ℕ, List, length, get_or, ap, subst, ◌∙◌, arith}
 use Rattle.std.specs.List.{AllPairs}
 use Rattle.std.proofs.lemmas.List.{length-map}
-use Rattle.gap_tree.specs.Order.{IsPlaceIn}
-use Rattle.gap_tree.proofs.Positions.{place_there}
+use Rattle.gpu_block_gaps.specs.Order.{IsPlaceIn}
+use Rattle.gpu_block_gaps.proofs.Positions.{place_there}
 use Rattle.gpu_cost.specs.declared.cost.Cost.{Cost}
 use Rattle.gpu_cost.specs.Cost.{digits}
 use Rattle.gpu_block_gaps.specs.declared.index.Gap.{Gap}

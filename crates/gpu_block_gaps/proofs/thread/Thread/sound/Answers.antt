@@ -1,7 +1,7 @@
 use Rattle.std.proofs.Common.{◌≢◌, suc, List, ℕ, length, ap, sym, subst, arith}
 use Rattle.std.specs.List.{AllPairs}
 use Rattle.std.proofs.lemmas.List.{length-map}
-use Rattle.gap_tree.specs.Order.{IsIn}
+use Rattle.gpu_block_gaps.specs.Order.{IsIn}
 use Rattle.gpu_block_gaps.specs.Thread.{Threaded}
 use Rattle.gpu_block_gaps.specs.Records.{gap_of}
 use Rattle.gpu_block_gaps.proofs.Threads.{above_zero}

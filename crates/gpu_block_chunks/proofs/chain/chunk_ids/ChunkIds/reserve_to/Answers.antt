@@ -13,7 +13,7 @@ invariant_of-self-in-loop-self c =
     let enough = inv.enough in
     let few = inv.few in
     let es = c.self.inside.entries.items in
-    let is : new.items ≡ es ++ replicate grown.0 None = grown.1 ∙ ap (λ (xs : List (Option Entry)). xs ++ replicate grown.0 None) c.in_ok-reserve.ensures.items in
+    let is : new.items ≡ es ++ replicate grown.0 None = grown.1 ∙ ap (λ (xs : List (Option Entry)). xs ++ replicate grown.0 None) c.in_ok-reserve_exact.ensures.items in
     let long = ap length is in
     let whole : length new.items ≡ vec_len new = omega arith in
     subst (λ (hs : List (Option ℕ)). AreChains hs new.items) (sym inv.heads)
@@ -36,8 +36,8 @@ loop-self-preserved c =
       grown = (
         grown.0 + 1,
         c.push_reserved.ensures.items
-            ∙ ap (λ (xs : List (Option Entry)). xs ++ None ∷ []) grown.1 ∙ append_assoc c.reserve.new.self.items (replicate grown.0 None) (None ∷ [])
-            ∙ ap (λ (xs : List (Option Entry)). c.reserve.new.self.items ++ xs) (replicate_more grown.0 None),
+            ∙ ap (λ (xs : List (Option Entry)). xs ++ None ∷ []) grown.1 ∙ append_assoc c.reserve_exact.new.self.items (replicate grown.0 None) (None ∷ [])
+            ∙ ap (λ (xs : List (Option Entry)). c.reserve_exact.new.self.items ++ xs) (replicate_more grown.0 None),
       );
       room = omega arith;
       heads = inv.heads;
@@ -49,6 +49,6 @@ pub returns-clause-same : goal.returns-clause-same
 returns-clause-same c =
     let grown = c.loop-self.invariant.grown in (
       grown.0,
-      ap ids_in (grown.1 ∙ ap (λ (xs : List (Option Entry)). xs ++ replicate grown.0 None) c.in_ok-reserve.ensures.items)
+      ap ids_in (grown.1 ∙ ap (λ (xs : List (Option Entry)). xs ++ replicate grown.0 None) c.in_ok-reserve_exact.ensures.items)
           ∙ ids_more c.self.inside.entries.items grown.0 ∙ ap (λ (ids : List (Option ℕ)). ids ++ replicate grown.0 None) c.self.view_is,
     )

@@ -1,5 +1,6 @@
-use Rattle.std.proofs.Common.{rules}
+use Rattle.std.proofs.Common.{sym, ◌∙◌}
+use Rattle.gpu_block_chunks.proofs.IdSlots.{slot_has}
 use Rattle.gpu_block_chunks.proofs.chain.nodes.Nodes.link_to.Goals as goal
 
 pub returns-clause-leads : goal.returns-clause-leads
-returns-clause-leads c = search rules
+returns-clause-leads c = rw (← c.self.view_is) (slot_has c.self.inside.ids c.args.chunk_id c.in-Some.slot (sym c.find.ensures ∙ c.in-Some.is))

@@ -22,7 +22,7 @@ invariant_of-self c =
     put_sound c.self.inside.ids c.insert.new.self c.self.inside.chunks.slots put.new.self.slots c.self.invariant c.args.chunk_id put.result c.args.chunk c.insert.ensures within new
     put.ensures.was_free put.ensures.changes.changed put.ensures.changes.others
     (first_long c.self.inside.ids c.self.inside.chunks put.new.self put.result c.self.invariant.enough room put.ensures.first) c.requires.numbered
-    (rw (← c.self.view_is) at c.requires.unlinked) (rw (← c.self.view_is) at c.requires.prev) (rw (← c.self.view_is) at c.requires.next)
+    (rw (← c.self.view_is) at c.requires.prev) (rw (← c.self.view_is) at c.requires.next)
 
 pub returns-clause-sets : goal.returns-clause-sets
 returns-clause-sets c =
@@ -31,7 +31,7 @@ returns-clause-sets c =
     let within = first_within c.self.inside.ids c.self.inside.chunks put.new.self put.result c.self.invariant.enough room put.ensures.first in
     let new = slotless _ _ c.self.view_is c.self.invariant c.args.chunk_id c.requires.unlinked.none in
     rw (← c.self.view_is) (put_sets c.self.inside.ids c.insert.new.self c.self.inside.chunks.slots put.new.self.slots c.self.invariant c.args.chunk_id put.result c.args.chunk c.insert.ensures within new
-    put.ensures.was_free put.ensures.changes.changed put.ensures.changes.others)
+    put.ensures.was_free put.ensures.changes.changed put.ensures.changes.others (rw (← c.self.view_is) at c.requires.prev) (rw (← c.self.view_is) at c.requires.next))
 
 pub returns-clause-link : goal.returns-clause-link
 returns-clause-link c =
@@ -51,5 +51,4 @@ returns-clause-links c =
     let within = first_within c.self.inside.ids c.self.inside.chunks put.new.self put.result c.self.invariant.enough room put.ensures.first in
     let new = slotless _ _ c.self.view_is c.self.invariant c.args.chunk_id c.requires.unlinked.none in
     λ link reaches. put_keeps c.self.inside.ids c.insert.new.self c.self.inside.chunks.slots put.new.self.slots c.self.invariant c.args.chunk_id put.result c.args.chunk c.insert.ensures within new
-    put.ensures.was_free put.ensures.changes.changed put.ensures.changes.others (rw (← c.self.view_is) at c.requires.unlinked.none) link
-    (rw (← c.self.view_is) at reaches)
+    put.ensures.was_free put.ensures.changes.changed put.ensures.changes.others link (rw (← c.self.view_is) at reaches.0)

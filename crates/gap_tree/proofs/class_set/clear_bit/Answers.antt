@@ -1,5 +1,0 @@
-use Rattle.gap_tree.proofs.Words.{clear_one}
-use Rattle.gap_tree.proofs.class_set.clear_bit.Goals as goal
-
-pub returns-clause-changes : goal.returns-clause-changes
-returns-clause-changes c = clear_one c.args.words.now c.args.class c.requires

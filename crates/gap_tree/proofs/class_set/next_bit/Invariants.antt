@@ -1,6 +1,0 @@
-use Rattle.std.proofs.Common.{◌≡◌, ◌*◌, ◌<◌, ◌≤◌, ℕ, false}
-use Rattle.gap_tree.specs.ClassSet.{is_in}
-use Rattle.gap_tree.proofs.class_set.next_bit.Given as goal
-
-abbrev pub invariant-loop-at : goal.invariant-loop-at
-invariant-loop-at l = (j : ℕ) → l.from ≤ j → j < l.at * 64 → is_in l.words j ≡ false

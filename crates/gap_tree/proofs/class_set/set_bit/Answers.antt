@@ -1,5 +1,0 @@
-use Rattle.gap_tree.proofs.Words.{set_one}
-use Rattle.gap_tree.proofs.class_set.set_bit.Goals as goal
-
-pub returns-clause-changes : goal.returns-clause-changes
-returns-clause-changes c = set_one c.args.words.now c.args.class c.requires

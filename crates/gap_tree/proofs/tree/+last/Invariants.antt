@@ -1,6 +1,0 @@
-use Rattle.std.specs.List.{slice_get}
-use Rattle.gap_tree.proofs.Trees.{rank}
-use Rattle.gap_tree.proofs.tree.+last.Given as goal
-
-abbrev pub decreases-last : goal.decreases-last
-decreases-last l = rank (slice_get l.forks.now) l.node

@@ -1,6 +1,0 @@
-use Rattle.std.specs.List.{slice_get}
-use Rattle.gap_tree.proofs.Trees.{rank}
-use Rattle.gap_tree.proofs.tree.+place_of.Given as goal
-
-abbrev pub decreases-place_of : goal.decreases-place_of
-decreases-place_of l = rank (slice_get l.forks.now) l.node

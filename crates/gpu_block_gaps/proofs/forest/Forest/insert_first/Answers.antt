@@ -1,0 +1,16 @@
+use Rattle.std.proofs.Common.{◌<◌, ap, subst, ◌∙◌, length, set, Some, vec_capacity, arith}
+use Rattle.gpu_block_gaps.specs.declared.tree.Node.TheVariants.{Leaf}
+use Rattle.gpu_block_gaps.specs.Key.{code_of}
+use Rattle.gpu_block_gaps.specs.Tree.{tip}
+use Rattle.gpu_block_gaps.specs.Forest.{tree_at, AreTrees}
+use Rattle.gpu_block_gaps.proofs.Planting.{first_planted}
+use Rattle.gpu_block_gaps.proofs.forest.Forest.insert_first.Goals as goal
+
+pub returns-clause-trees : goal.returns-clause-trees
+returns-clause-trees c = λ key trees are has none.
+    let class = c.class-class.ensures.class in
+    let within : c.class-class.result < length c.args.self.now.roots.items = (let a = c.class-class.ensures.within in let b = c.requires.wide in omega arith) in
+    let planted = first_planted key _ _ _ _ _ _ trees are c.insert.new.self c.class-class.result c.args.leaf (code_of c.args.key) class within has (ap (tree_at trees) class ∙ none) c.insert.ensures in
+    let self = c.args.self.now in
+    subst (λ k. AreTrees key self.digits self.forks.items self.spare.items (vec_capacity self.spare) (set self.roots.items c.class-class.result (Some (Leaf c.args.leaf))) c.insert.new.self
+    (set trees k (Some (tip c.args.leaf)))) class planted

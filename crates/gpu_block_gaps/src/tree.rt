@@ -1,0 +1,212 @@
+//! A tree over the bits of keys, whose forks lie in slots.
+
+ghost use Rattle.std.specs.Prelude.{◌≡◌, ◌≢◌, ℕ, ◌<◌, length, Some, if◌then◌else◌};
+ghost use Rattle.std.specs.List.{slice_get};
+ghost use Rattle.gpu_block_gaps.specs.Key.{code_of, bit_of};
+ghost use Rattle.gpu_block_gaps.specs.Tree.{Tree, Lays, Sorted, leaves_of, first_leaf, last_leaf, near, grown, CanGrow, HasGrown, HasPruned, IsSplit, IsPlace};
+
+use crate::key::Key;
+
+/// Where a branch leads: to a leaf, which names a record, or to the fork in a slot.
+#[derive(Clone, Copy)]
+pub enum Node {
+    Leaf(u32),
+    Branch(u32),
+}
+
+/// Keys without the bit are found along `zero`, those with it along `one`.
+#[derive(Clone, Copy)]
+pub struct Fork {
+    pub zero: Node,
+    pub one: Node,
+    pub bit: u32,
+}
+
+/// The leaf beside which the place of a key is.
+#[derive(Clone, Copy)]
+pub enum Place {
+    Before(u32),
+    After(u32),
+}
+
+/// What stands at a node without a leaf, the slot of the fork that is no longer used, and the leaf.
+#[derive(Clone, Copy)]
+pub struct Cut {
+    pub node: Node,
+    pub slot: u32,
+    pub leaf: u32,
+}
+
+impl Fork {
+    /// The branch of the keys with the bit, or of those without it.
+    pub fn branch(self, set: bool) -> Node
+        ensures { result ≡ (if set then self.one else self.zero) }
+    {
+        if set { self.one } else { self.zero }
+    }
+
+    /// The fork with another branch of the keys with the bit, or of those without it.
+    fn with_branch(self, set: bool, branch: Node) -> Fork
+        ensures { result ≡ (if set then record self { one = branch }
+            else record self { zero = branch }) }
+    {
+        if set {
+            Fork {
+                one: branch,
+                ..self
+            }
+        } else {
+            Fork {
+                zero: branch,
+                ..self
+            }
+        }
+    }
+
+    /// A fork with a leaf beside a node, along the branch of the keys with the bit or of those without it.
+    fn beside(bit: u32, set: bool, node: Node, leaf: u32) -> Fork
+        ensures { result ≡ (if set then record { zero = node; one = Node.Leaf leaf; bit = bit }
+            else record { zero = Node.Leaf leaf; one = node; bit = bit }) }
+    {
+        let leaf = Node::Leaf(leaf);
+        if set {
+            Fork {
+                zero: node,
+                one: leaf,
+                bit,
+            }
+        } else {
+            Fork {
+                zero: leaf,
+                one: node,
+                bit,
+            }
+        }
+    }
+}
+
+/// The fork in a slot.
+fn fork_in(forks: &[Fork], slot: u32) -> Fork
+    requires { slot < length forks.now }
+    ensures { slice_get forks.now slot ≡ Some result }
+{
+    forks[slot as usize]
+}
+
+/// Writes a fork into a slot.
+fn put(forks: &mut [Fork], slot: u32, fork: Fork)
+    requires { slot < length forks.old }
+    ensures changed { slice_get forks.new slot ≡ Some fork }
+    ensures others { (k : ℕ) → k ≢ slot → slice_get forks.new k ≡ slice_get forks.old k }
+{
+    forks[slot as usize] = fork;
+}
+
+/// The leaf of the least key.
+pub fn first(forks: &[Fork], node: Node) -> u32
+    requires { (t : Tree) × Lays (slice_get forks.now) 128 node t }
+    ensures { (t : Tree) → Lays (slice_get forks.now) 128 node t → result ≡ first_leaf t }
+{
+    match node {
+        Node::Leaf(leaf) => leaf,
+        Node::Branch(slot) => first(forks, fork_in(forks, slot).zero),
+    }
+}
+
+/// The leaf of the greatest key.
+pub fn last(forks: &[Fork], node: Node) -> u32
+    requires { (t : Tree) × Lays (slice_get forks.now) 128 node t }
+    ensures { (t : Tree) → Lays (slice_get forks.now) 128 node t → result ≡ last_leaf t }
+{
+    match node {
+        Node::Leaf(leaf) => leaf,
+        Node::Branch(slot) => last(forks, fork_in(forks, slot).one),
+    }
+}
+
+/// The leaf to which the bits of a key lead.
+pub fn nearest(forks: &[Fork], node: Node, key: Key) -> u32
+    requires { (t : Tree) × Lays (slice_get forks.now) 128 node t }
+    ensures { (t : Tree) → Lays (slice_get forks.now) 128 node t → result ≡ near (code_of key) t }
+{
+    match node {
+        Node::Leaf(leaf) => leaf,
+        Node::Branch(slot) => {
+            let fork = fork_in(forks, slot);
+            nearest(forks, fork.branch(key.is_set(fork.bit)), key)
+        }
+    }
+}
+
+/// Puts a leaf into a tree beside the part from which its key differs in that bit, and in none above it, by a fork in a slot.
+pub fn insert(forks: &mut [Fork], node: Node, key: Key, bit: u32, leaf: u32, slot: u32) -> Node
+    requires laid { (t : Tree) × Lays (slice_get forks.old) 128 node t }
+    requires slot { slot < length forks.old }
+    requires bit { bit < 128 }
+    ensures { (at : ℕ → ℕ) (top : ℕ) (t : Tree)
+        → CanGrow at (slice_get forks.old) top node t (code_of key) bit slot
+        → HasGrown (slice_get forks.old) (slice_get forks.new) top result t
+        (grown (code_of key) bit leaf slot t) slot }
+{
+    if let Node::Branch(at) = node {
+        let fork = fork_in(forks, at);
+        if bit < fork.bit {
+            let set = key.is_set(fork.bit);
+            let branch = insert(forks, fork.branch(set), key, bit, leaf, slot);
+            put(forks, at, fork.with_branch(set, branch));
+            return node;
+        }
+    }
+    put(forks, slot, Fork::beside(bit, key.is_set(bit), node, leaf));
+    Node::Branch(slot)
+}
+
+/// The place of a key that differs in that bit from the key to which its bits lead, and in none above it.
+pub fn place_of(forks: &[Fork], node: Node, key: Key, bit: u32) -> Place
+    requires laid { (t : Tree) × Lays (slice_get forks.now) 128 node t }
+    requires bit { bit < 128 }
+    ensures { (at : ℕ → ℕ) (t : Tree) → Lays (slice_get forks.now) 128 node t
+        → IsSplit at t (code_of key) bit → IsPlace at (code_of key) (leaves_of t) result }
+{
+    if let Node::Branch(at) = node {
+        let fork = fork_in(forks, at);
+        if bit < fork.bit {
+            return place_of(forks, fork.branch(key.is_set(fork.bit)), key, bit);
+        }
+    }
+    if key.is_set(bit) {
+        Place::After(last(forks, node))
+    } else {
+        Place::Before(first(forks, node))
+    }
+}
+
+/// Takes the leaf to which the bits of a key lead out of the tree at a fork.
+pub fn remove(forks: &mut [Fork], slot: u32, key: Key) -> Cut
+    requires { (t : Tree) × Lays (slice_get forks.old) 128 (Node.Branch slot) t }
+    ensures tree { (at : ℕ → ℕ) (top : ℕ) (t : Tree)
+        → Lays (slice_get forks.old) top (Node.Branch slot) t → Sorted at t
+        → HasPruned (slice_get forks.old) (slice_get forks.new) top result.node t (code_of key)
+        result.slot }
+    ensures leaf { (t : Tree) → Lays (slice_get forks.old) 128 (Node.Branch slot) t
+        → result.leaf ≡ near (code_of key) t }
+{
+    let fork = fork_in(forks, slot);
+    let set = key.is_set(fork.bit);
+    match fork.branch(set) {
+        Node::Leaf(leaf) => Cut {
+            node: fork.branch(!set),
+            slot,
+            leaf,
+        },
+        Node::Branch(below) => {
+            let cut = remove(forks, below, key);
+            put(forks, slot, fork.with_branch(set, cut.node));
+            Cut {
+                node: Node::Branch(slot),
+                slot: cut.slot,
+                leaf: cut.leaf,
+            }
+        }
+    }
+}

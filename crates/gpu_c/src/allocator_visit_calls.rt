@@ -1,0 +1,232 @@
+//! Exports that look at an allocator, also while a question is open, and change nothing.
+
+ghost use Rattle.std.specs.Prelude.{◌≡◌, ◌≢◌, ◌≤◌, ◌↔◌, [], ◌∷◌, Some, None, IsSomeAnd, length};
+ghost use Rattle.std.specs.List.{slice_get};
+ghost use Rattle.gpu_core.specs.TypeReport.{pieces_in, statistics_in};
+ghost use Rattle.gpu_core.specs.TypeState.{slot_at};
+ghost use Rattle.gpu_memory_types.specs.Blocks.{slots_at};
+ghost use Rattle.gpu_memory_types.specs.Leaks.{all_leaks};
+ghost use Rattle.gpu_memory_types.specs.Reports.{whole_report};
+ghost use Rattle.gpu_report.specs.ReportJson.{report_json};
+ghost use Rattle.gpu_machine.specs.Calls.{block_memory};
+ghost use Rattle.gpu_c.specs.Allocator.{memory_told};
+ghost use Rattle.gpu_c.specs.AllocatorVisit.{type_counts, ShowsText, ShowsLeak};
+ghost use Rattle.gpu_c.specs.MemoryType.{block_counts};
+ghost use Rattle.gpu_c.specs.Status as status;
+ghost use Rattle.gpu_c.specs.Status.{IsOneOf};
+ghost use Rattle.gpu_c.specs.Visit.{pieces_in_from, ShowsPieces, ShowsNames};
+ghost use Rattle.gpu_c.specs.declared.status.TheConstants.{OK, NO_HANDLE, HOST_OUT_OF_MEMORY, NO_SUCH_TYPE};
+
+use crate::allocator_handle::AllocatorHandle;
+use crate::allocator_values::{AllocatorMemory, TypeStatistics};
+use crate::allocator_visit::{
+    block, block_statistics, leak, piece_names, pieces, report, type_statistics,
+};
+use crate::memory_type_values::MemoryBlockStatistics;
+use crate::status::{NO_HANDLE, OK};
+use crate::virtual_block_values::PieceView;
+use std::alloc::Global;
+
+/// What is counted of a memory type and of all its blocks together. `NO_SUCH_TYPE` past the last memory type.
+#[unsafe(no_mangle)]
+pub extern "C" fn pilhangko_raw_allocator_type_statistics(
+    allocator: &mut AllocatorHandle,
+    alloc: Global,
+    index: usize,
+    statistics: &mut TypeStatistics,
+) -> u32
+    ensures reported { result ≡ status.ok
+        → IsSomeAnd allocator.old.value (λ s. statistics.new ≡ type_counts s index) }
+    ensures no_handle { (result ≡ status.no_handle) ↔ (allocator.old.value ≡ None) }
+    ensures no_such_type { (result ≡ status.no_such_type)
+        ↔ IsSomeAnd allocator.old.value (λ s. length s.slots ≤ index) }
+    ensures statuses { IsOneOf result (status.ok ∷ status.no_handle ∷ status.no_such_type ∷ []) }
+    ensures same { allocator.new.value ≡ allocator.old.value }
+    ensures refused { result ≢ status.ok → statistics.new ≡ statistics.old }
+{
+    match allocator.take(alloc) {
+        None => NO_HANDLE,
+        Some(kept) => {
+            let status = type_statistics(&kept, index, statistics);
+            allocator.put(kept);
+            status
+        }
+    }
+}
+
+/// The memory of the block in a slot of a memory type, and whether it is mapped, for a visit of all blocks: slots are numbered from 0.
+#[unsafe(no_mangle)]
+pub extern "C" fn pilhangko_raw_allocator_block(
+    allocator: &mut AllocatorHandle,
+    alloc: Global,
+    index: usize,
+    slot: usize,
+    memory: &mut AllocatorMemory,
+) -> u32
+    ensures reported { result ≡ status.ok
+        → IsSomeAnd allocator.old.value
+        (λ s. memory.new ≡ memory_told (block_memory s index slot)) }
+    ensures no_handle { (result ≡ status.no_handle) ↔ (allocator.old.value ≡ None) }
+    ensures statuses { IsOneOf result (status.ok ∷ status.no_handle ∷ []) }
+    ensures same { allocator.new.value ≡ allocator.old.value }
+    ensures refused { result ≢ status.ok → memory.new ≡ memory.old }
+{
+    match allocator.take(alloc) {
+        None => NO_HANDLE,
+        Some(kept) => {
+            *memory = block(&kept, index, slot);
+            allocator.put(kept);
+            OK
+        }
+    }
+}
+
+/// Pieces and their bytes, gaps and the longest one of the block in a slot of a memory type.
+#[unsafe(no_mangle)]
+pub extern "C" fn pilhangko_raw_allocator_block_statistics(
+    allocator: &mut AllocatorHandle,
+    alloc: Global,
+    index: usize,
+    slot: usize,
+    statistics: &mut MemoryBlockStatistics,
+) -> u32
+    ensures reported { result ≡ status.ok
+        → IsSomeAnd allocator.old.value
+        (λ s. statistics.new ≡ block_counts
+        (statistics_in (slot_at (slots_at s.slots index) slot))) }
+    ensures no_handle { (result ≡ status.no_handle) ↔ (allocator.old.value ≡ None) }
+    ensures statuses { IsOneOf result (status.ok ∷ status.no_handle ∷ []) }
+    ensures same { allocator.new.value ≡ allocator.old.value }
+    ensures refused { result ≢ status.ok → statistics.new ≡ statistics.old }
+{
+    match allocator.take(alloc) {
+        None => NO_HANDLE,
+        Some(kept) => {
+            *statistics = block_statistics(&kept, index, slot);
+            allocator.put(kept);
+            OK
+        }
+    }
+}
+
+/// Fills an array with the live pieces of the block in a slot of a memory type whose own bytes begin at `from` or behind it, in order of
+/// offset and as far as it has room, and reports how many it shows: with an array for all of a block's pieces, one call visits them all.
+#[unsafe(no_mangle)]
+pub extern "C" fn pilhangko_raw_allocator_pieces(
+    allocator: &mut AllocatorHandle,
+    alloc: Global,
+    index: usize,
+    slot: usize,
+    from: u64,
+    views: &mut [PieceView],
+    count: &mut usize,
+) -> u32
+    ensures reported { result ≡ status.ok
+        → IsSomeAnd allocator.old.value
+        (λ s. ShowsPieces (pieces_in_from from (pieces_in (slot_at (slots_at s.slots index) slot)))
+        views.old views.new count.new) }
+    ensures no_handle { (result ≡ status.no_handle) ↔ (allocator.old.value ≡ None) }
+    ensures statuses { IsOneOf result (status.ok ∷ status.no_handle ∷ []) }
+    ensures same { allocator.new.value ≡ allocator.old.value }
+    ensures refused { result ≢ status.ok → (views.new ≡ views.old) × (count.new ≡ count.old) }
+{
+    match allocator.take(alloc) {
+        None => NO_HANDLE,
+        Some(kept) => {
+            *count = pieces(&kept, index, slot, from, views);
+            allocator.put(kept);
+            OK
+        }
+    }
+}
+
+/// The names of the live pieces that `pieces` shows: fills an array with their lengths and a buffer with the names one after another, as
+/// far as each has room, and reports how many lengths there are.
+#[unsafe(no_mangle)]
+pub extern "C" fn pilhangko_raw_allocator_piece_names(
+    allocator: &mut AllocatorHandle,
+    alloc: Global,
+    index: usize,
+    slot: usize,
+    from: u64,
+    lengths: &mut [usize],
+    names: &mut [u8],
+    count: &mut usize,
+) -> u32
+    ensures reported { result ≡ status.ok
+        → IsSomeAnd allocator.old.value
+        (λ s. ShowsNames (pieces_in_from from (pieces_in (slot_at (slots_at s.slots index) slot)))
+        lengths.old lengths.new names.old names.new count.new) }
+    ensures no_handle { (result ≡ status.no_handle) ↔ (allocator.old.value ≡ None) }
+    ensures statuses { IsOneOf result (status.ok ∷ status.no_handle ∷ []) }
+    ensures same { allocator.new.value ≡ allocator.old.value }
+    ensures refused { result ≢ status.ok
+        → (lengths.new ≡ lengths.old) × (names.new ≡ names.old) × (count.new ≡ count.old) }
+{
+    match allocator.take(alloc) {
+        None => NO_HANDLE,
+        Some(kept) => {
+            *count = piece_names(&kept, index, slot, from, lengths, names);
+            allocator.put(kept);
+            OK
+        }
+    }
+}
+
+/// The report of what is allocated as JSON: copies as many bytes of it as there is room for, and reports how many it has. It takes host
+/// memory for the whole text: `HOST_OUT_OF_MEMORY`.
+#[unsafe(no_mangle)]
+pub extern "C" fn pilhangko_raw_allocator_report(
+    allocator: &mut AllocatorHandle,
+    alloc: Global,
+    text: &mut [u8],
+    whole: &mut usize,
+) -> u32
+    ensures reported { result ≡ status.ok
+        → IsSomeAnd allocator.old.value
+        (λ s. ShowsText (report_json (whole_report s.slots)) text.old text.new whole.new) }
+    ensures no_handle { (result ≡ status.no_handle) ↔ (allocator.old.value ≡ None) }
+    ensures statuses { IsOneOf result (status.ok ∷ status.no_handle ∷ status.host_out_of_memory
+        ∷ []) }
+    ensures same { allocator.new.value ≡ allocator.old.value }
+    ensures refused { result ≢ status.ok → (text.new ≡ text.old) × (whole.new ≡ whole.old) }
+{
+    match allocator.take(alloc) {
+        None => NO_HANDLE,
+        Some(kept) => {
+            let status = report(&kept, alloc, text, whole);
+            allocator.put(kept);
+            status
+        }
+    }
+}
+
+/// The text of one live piece as a leak, by its number from 0 among all, by memory type, then by slot, then in order of offset: copies as
+/// many bytes of it as there is room for, and reports how many it has, 0 past the last piece. It takes host memory for the text:
+/// `HOST_OUT_OF_MEMORY`.
+#[unsafe(no_mangle)]
+pub extern "C" fn pilhangko_raw_allocator_leak(
+    allocator: &mut AllocatorHandle,
+    alloc: Global,
+    number: usize,
+    text: &mut [u8],
+    whole: &mut usize,
+) -> u32
+    ensures reported { result ≡ status.ok
+        → IsSomeAnd allocator.old.value
+        (λ s. ShowsLeak (slice_get (all_leaks s.slots) number) text.old text.new whole.new) }
+    ensures no_handle { (result ≡ status.no_handle) ↔ (allocator.old.value ≡ None) }
+    ensures statuses { IsOneOf result (status.ok ∷ status.no_handle ∷ status.host_out_of_memory
+        ∷ []) }
+    ensures same { allocator.new.value ≡ allocator.old.value }
+    ensures refused { result ≢ status.ok → (text.new ≡ text.old) × (whole.new ≡ whole.old) }
+{
+    match allocator.take(alloc) {
+        None => NO_HANDLE,
+        Some(kept) => {
+            let status = leak(&kept, alloc, number, text, whole);
+            allocator.put(kept);
+            status
+        }
+    }
+}
