@@ -110,6 +110,14 @@ pub(crate) const fn internal(text: &'static str) -> AllocationError {
     AllocationError::Internal(Fault { text, code: None })
 }
 
+/// Why a device with more than 32 memory types is refused.
+pub(crate) const TOO_MANY_TYPES: &str = "more than 32 memory types.";
+
+/// A fault of a device.
+pub(crate) const fn invalid_device(text: &'static str) -> AllocationError {
+    AllocationError::InvalidAllocatorCreateDesc(Fault { text, code: None })
+}
+
 /// What a status of the archive says. A status that no call in its place may return is a defect of the crate, and panics.
 pub(crate) fn check(status: u32) -> Result<()> {
     match status {
@@ -117,10 +125,13 @@ pub(crate) fn check(status: u32) -> Result<()> {
         1 => Err(AllocationError::OutOfMemory),
         3 => Err(AllocationError::NoCompatibleMemoryTypeFound),
         4 => Err(AllocationError::InvalidAllocationCreateDesc),
+        5 => Err(invalid_device("buffer image granularity is not a power of two.")),
         6 => Err(internal("Allocation does not belong to this allocator.")),
         10 => Err(AllocationError::HostOutOfMemory),
         11 => Err(AllocationError::BudgetExceeded),
         13 => Err(internal("No such memory type.")),
+        14 => Err(invalid_device(TOO_MANY_TYPES)),
+        15 => Err(invalid_device("memory type with a heap index out of range.")),
         102 => Err(internal("A block is awaited.")),
         _ => panic!("libgpu_c.a returned the status {status} where it can't"),
     }
