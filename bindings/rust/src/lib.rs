@@ -5,7 +5,7 @@
 //! blocks of one memory type.
 //!
 //! What decides where a piece lies, which block is asked for and which goes back is the library `libgpu_c.a`, proved and built from
-//! contracts; this crate asks the driver, keeps names for reports, and owns the handles. All of it may go from thread to thread, and serves
+//! contracts; this crate asks the driver, maps memory, and owns the handles. All of it may go from thread to thread, and serves
 //! one call at a time.
 //!
 //! The archive is for x86-64 processors with SSE4.2 on Linux. The build looks for it in the folder `PILHANGKO_LIB_DIR`, or else where the

@@ -176,6 +176,18 @@ pub struct BlockStatistics {
     pub longest_gap: u64,
 }
 
+impl BlockStatistics {
+    /// What is counted of a block, if there is one.
+    pub(crate) fn counted(s: &raw::MemoryBlockStatistics) -> Option<Self> {
+        s.exists.then_some(BlockStatistics {
+            pieces: s.pieces,
+            piece_bytes: s.piece_bytes,
+            gaps: s.gaps,
+            longest_gap: s.longest_gap,
+        })
+    }
+}
+
 /// The blocks of one memory type and the pieces in them. It holds no memory and asks no driver: it says which block is needed. It may go
 /// from thread to thread. The blocks' memory is the caller's to give back to the driver before it drops a memory type (`blocks`).
 #[derive(Debug)]
@@ -307,12 +319,7 @@ impl MemoryType {
         let mut s = raw::MemoryBlockStatistics::default();
         // SAFETY: the handle is this memory type's alone: it isn't `Sync`.
         check_unrefused(unsafe { raw::pilhangko_raw_memory_type_block_statistics(self.handle.as_ptr(), slot, &mut s) });
-        s.exists.then_some(BlockStatistics {
-            pieces: s.pieces,
-            piece_bytes: s.piece_bytes,
-            gaps: s.gaps,
-            longest_gap: s.longest_gap,
-        })
+        BlockStatistics::counted(&s)
     }
 
     /// The first live piece of the block in a slot whose own bytes begin at `from` or behind it. Each call goes over the pieces before it.

@@ -219,6 +219,20 @@ pub(crate) struct Budget {
     pub(crate) bytes: u64,
 }
 
+#[repr(C)]
+#[derive(Debug, Default)]
+pub(crate) struct TypeStatistics {
+    pub(crate) capacity: u64,
+    pub(crate) slots: usize,
+    pub(crate) shared_blocks: usize,
+    pub(crate) has_budget: bool,
+    pub(crate) budget: u64,
+    pub(crate) pieces: usize,
+    pub(crate) piece_bytes: u64,
+    pub(crate) gaps: usize,
+    pub(crate) longest_gap: u64,
+}
+
 /// A memory type of a device, laid out as `VkMemoryType` is.
 pub(crate) type DeviceMemoryType = crate::vulkan::MemoryType;
 
@@ -396,5 +410,42 @@ extern "C" {
         budget: *mut Budget,
     ) -> u32;
     pub(crate) fn pilhangko_raw_allocator_capacity(allocator: *mut Handle, bytes: *mut u64) -> u32;
+    pub(crate) fn pilhangko_raw_allocator_type_statistics(
+        allocator: *mut Handle,
+        memory_type: usize,
+        statistics: *mut TypeStatistics,
+    ) -> u32;
+    pub(crate) fn pilhangko_raw_allocator_block_statistics(
+        allocator: *mut Handle,
+        memory_type: usize,
+        slot: usize,
+        statistics: *mut MemoryBlockStatistics,
+    ) -> u32;
+    pub(crate) fn pilhangko_raw_allocator_pieces(
+        allocator: *mut Handle,
+        memory_type: usize,
+        slot: usize,
+        from: u64,
+        pieces: *mut PieceView,
+        room: usize,
+        count: *mut usize,
+    ) -> u32;
+    pub(crate) fn pilhangko_raw_allocator_piece_names(
+        allocator: *mut Handle,
+        memory_type: usize,
+        slot: usize,
+        from: u64,
+        lengths: *mut usize,
+        room: usize,
+        names: *mut u8,
+        names_room: usize,
+        count: *mut usize,
+    ) -> u32;
+    pub(crate) fn pilhangko_raw_allocator_report(
+        allocator: *mut Handle,
+        text: *mut u8,
+        room: usize,
+        length: *mut usize,
+    ) -> u32;
     pub(crate) fn pilhangko_raw_allocator_destroy(allocator: *mut Handle) -> u32;
 }

@@ -32,7 +32,7 @@ pub struct AllocatorReport {
     pub allocations: Vec<AllocationReport>,
     /// The live blocks.
     pub blocks: Vec<MemoryBlockReport>,
-    /// The sizes of all pieces in bytes, summed up, without padding.
+    /// What all pieces take in bytes, with the padding before them.
     pub total_allocated_bytes: u64,
     /// The sizes of all blocks in bytes, summed up.
     pub total_capacity_bytes: u64,

@@ -109,17 +109,17 @@ sizes 4194304 4194304 4194304 4194304
 refuse 1 -1
 refuse 4 null
 new
-alloc 0 100 16 3 GpuOnly linear managed first
-alloc 0 100 16 3 GpuOnly linear managed first
-alloc 1 100 16 3 GpuToCpu linear managed read_back
-alloc 1 50 16 3 GpuOnly nonlinear image:9 _
-rename 0 gr__e
+alloc 1 100 16 3 GpuOnly linear managed first
+alloc 2 100 16 3 GpuOnly linear managed first
+alloc 3 100 16 3 GpuToCpu linear managed read_back
+alloc 4 50 16 3 GpuOnly nonlinear image:9 _
+rename 2 gr__e
 budget 0 8388608
 budget 0 none
 budget 7 none
-free 0
-alloc 0 10 16 3 Unknown linear buffer:18446744073709551615 b
-free 1
+free 2
+alloc 5 10 16 3 Unknown linear buffer:18446744073709551615 b
+free 4
 destroy
 ";
     assert_eq!(capture.to_string(), expected);

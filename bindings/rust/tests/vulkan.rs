@@ -4,9 +4,10 @@
 mod common;
 
 use common::{Asked, FakeDriver, Refusal, MB};
+use pilhangko::memory_type::BlockStatistics;
 use pilhangko::vulkan::{
     Allocation, AllocationCreateDesc, AllocationScheme, Allocator, AllocatorCreateDesc, Buffer, Image,
-    MemoryPropertyFlags, MemoryRequirements,
+    MemoryPropertyFlags, MemoryRequirements, TypeStatistics,
 };
 use pilhangko::{AllocationError, AllocationSizes, AllocatorDebugSettings, Fault, Level, Logger, MemoryLocation};
 use std::sync::{Arc, Mutex};
@@ -348,19 +349,20 @@ fn leaks_are_logged_when_the_allocator_goes() {
     let mut a = Allocator::new(&AllocatorCreateDesc { logger: Some(logger), ..described(&driver) }).unwrap();
     let image = AllocationCreateDesc { name: "a", linear: false, ..request(100, MemoryLocation::GpuOnly) };
     let own = AllocationCreateDesc { name: "b", ..request(9 * MB, MemoryLocation::GpuOnly) };
+    let freed = a.allocate(&request(10, MemoryLocation::GpuOnly)).unwrap();
     let leaks = (a.allocate(&image).unwrap(), a.allocate(&own).unwrap());
-    let freed = a.allocate(&image).unwrap();
     a.free(freed).unwrap();
     drop(a);
     driver.assert_left_empty();
+    // the page of the buffer that is freed ends at 64: padding from 10 on, 154 bytes in all
     let shared = "\
 leak detected: {
     memory type: 0
     memory block: 0
     chunk: {
-        chunk_id: 2,
-        size: 0x64,
-        offset: 0x0,
+        chunk_id: 3,
+        size: 0x9a,
+        offset: 0xa,
         allocation_type: NonLinear,
         name: a
     }
@@ -458,4 +460,51 @@ fn pieces_of_different_kinds_share_no_page() {
         .map(|it| a.allocate(it).unwrap().offset())
         .collect();
     assert_eq!(offsets, [0, 10, 64]); // the page is 64 bytes
+}
+
+#[test]
+fn a_report_is_told_as_json() {
+    let driver = driver();
+    let mut a = made(&driver);
+    let empty = r#"{"allocations":[],"blocks":[],"schema":"gpu_report.allocator","total_allocated_bytes":0,"total_capacity_bytes":0,"version":1}"#;
+    assert_eq!(a.report_json().unwrap(), empty);
+    let quoted = AllocationCreateDesc { name: "a \"b\"", ..request(100, MemoryLocation::GpuOnly) };
+    let _leak = a.allocate(&quoted).unwrap();
+    let expected = concat!(
+        r#"{"allocations":[{"name":"a \"b\"","offset":0,"size":100}],"#,
+        r#""blocks":[{"allocations":{"end":1,"start":0},"size":8388608}],"schema":"gpu_report.allocator","#,
+        r#""total_allocated_bytes":100,"total_capacity_bytes":8388608,"version":1}"#
+    );
+    assert_eq!(a.report_json().unwrap(), expected);
+}
+
+#[test]
+fn what_is_counted_and_shown_of_memory_types_and_blocks() {
+    let driver = driver();
+    let mut a = made(&driver);
+    let image = AllocationCreateDesc { linear: false, ..request(100, MemoryLocation::GpuOnly) };
+    let _live = (a.allocate(&request(10, MemoryLocation::GpuOnly)).unwrap(), a.allocate(&image).unwrap());
+    a.set_budget(0, Some(9 * MB)).unwrap();
+    let counted = TypeStatistics {
+        capacity: 8 * MB,
+        slots: 1,
+        shared_blocks: 1,
+        budget: Some(9 * MB),
+        pieces: 2,
+        piece_bytes: 164, // with the padding from 10 to 64
+        gaps: 1,
+        longest_gap: 8 * MB - 164,
+    };
+    assert_eq!(a.type_statistics(0), Some(counted));
+    assert_eq!((a.type_statistics(1), a.type_statistics(3)), (Some(TypeStatistics::default()), None));
+    let of_block = BlockStatistics { pieces: 2, piece_bytes: 164, gaps: 1, longest_gap: 8 * MB - 164 };
+    assert_eq!(
+        (a.block_statistics(0, 0), a.block_statistics(0, 1), a.block_statistics(9, 0)),
+        (Some(of_block), None, None)
+    );
+    let shown: Vec<_> =
+        a.named_pieces(0, 0).unwrap().iter().map(|it| (it.view.start, it.view.offset, it.view.end)).collect();
+    assert_eq!(shown, [(0, 0, 10), (10, 64, 164)]);
+    assert_eq!(a.named_pieces(2, 0).unwrap(), []);
+    assert_eq!(a.generate_report().total_allocated_bytes, 164);
 }

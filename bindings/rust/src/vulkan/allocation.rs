@@ -21,7 +21,8 @@ pub struct Allocation {
 #[derive(Debug)]
 pub(super) struct Held {
     pub(super) piece: AllocatorPiece,
-    pub(super) key: usize,
+    /// The number of the request, by which a capture knows it.
+    pub(super) number: u64,
     pub(super) memory: DeviceMemory,
     pub(super) address: Option<Address>,
     pub(super) flags: MemoryPropertyFlags,

@@ -2,16 +2,20 @@
 
 use super::abi::{Buffer, Image, MemoryRequirements};
 use super::allocation::{Allocation, Held};
+use super::blocks::{Block, Blocks};
 use super::capture::Capture;
 use super::device::{Answer, Device, Memory, Refusal};
-use super::ledger::{Block, Entry, Ledger};
 use super::machine::{Machine, Progress, Question};
+use super::reading;
 use crate::error::{check, copied};
+use crate::memory_type::BlockStatistics;
+use crate::pieces::Visited;
 use crate::raw::AllocatorPiece;
 use crate::{
     AllocationError, AllocationSizes, AllocatorDebugSettings, AllocatorReport, Fault, Level, Logger, MemoryLocation,
-    Result,
+    NamedPiece, Result,
 };
+use std::alloc::{handle_alloc_error, Layout};
 use std::fmt;
 use std::sync::atomic::{AtomicU64, Ordering};
 
@@ -78,6 +82,27 @@ impl AllocatorCreateDesc {
     }
 }
 
+/// What is counted of a memory type, and of all its blocks together.
+#[derive(Clone, Copy, Debug, Default, PartialEq, Eq)]
+pub struct TypeStatistics {
+    /// The sum of the blocks' sizes in bytes.
+    pub capacity: u64,
+    /// How many slots there are, the empty ones included.
+    pub slots: usize,
+    /// How many blocks there are that several pieces may share.
+    pub shared_blocks: usize,
+    /// The bound of `capacity`, if there is one.
+    pub budget: Option<u64>,
+    /// How many pieces are live.
+    pub pieces: usize,
+    /// What they take in bytes, with the padding before them.
+    pub piece_bytes: u64,
+    /// How many gaps there are.
+    pub gaps: usize,
+    /// The length of the longest gap in bytes, 0 where there is none.
+    pub longest_gap: u64,
+}
+
 /// Numbers of blocks: each names one block of all allocators, so that no allocator takes another one's allocation for its own.
 fn next_block_number() -> u64 {
     static NEXT: AtomicU64 = AtomicU64::new(1);
@@ -89,7 +114,8 @@ fn next_block_number() -> u64 {
 pub struct Allocator {
     machine: Machine,
     device: Device,
-    ledger: Ledger,
+    blocks: Blocks,
+    requests: u64,
     sizes: AllocationSizes,
     debug_settings: AllocatorDebugSettings,
     logger: Option<Logger>,
@@ -108,7 +134,8 @@ impl Allocator {
         }
         let allocator = Allocator {
             machine: Machine::new(device, allocation_sizes, desc.buffer_device_address)?,
-            ledger: Ledger::new(device.memory_types().len())?,
+            blocks: Blocks::new(device.memory_types().len())?,
+            requests: 0,
             capture: desc.capture.then(|| Capture::new(device, allocation_sizes)).transpose()?,
             device: device.clone(),
             sizes: *allocation_sizes,
@@ -125,15 +152,15 @@ impl Allocator {
     /// The errors, the first that holds: `InvalidAllocationCreateDesc`, `NoCompatibleMemoryTypeFound`, and of the attempt that counts
     /// `OutOfMemory` where the request is larger than its heap, `HostOutOfMemory`, `OutOfMemory` where the blocks' sizes would pass
     /// `u64::MAX`, `BudgetExceeded`, and what the driver refuses: `OutOfMemory` for `VK_ERROR_OUT_OF_DEVICE_MEMORY`, `Internal` for another
-    /// code, `FailedToMap`. Lack of host memory for the binding's own list is `HostOutOfMemory` before all of them.
+    /// code, `FailedToMap`. Lack of host memory for the binding's own lists is `HostOutOfMemory` before all of them.
     pub fn allocate(&mut self, desc: &AllocationCreateDesc<'_>) -> Result<Allocation> {
         self.log_request(desc);
-        let key = self.ledger.next_key();
+        self.requests += 1;
         let result = self.serve(desc);
         if let Some(capture) = &mut self.capture {
             match result {
                 Err(AllocationError::HostOutOfMemory) => capture.undo(),
-                _ => capture.allocated(key, desc),
+                _ => capture.allocated(self.requests, desc),
             }
         }
         result
@@ -147,12 +174,11 @@ impl Allocator {
         self.log_free(&allocation);
         let Some(held) = allocation.held else { return Ok(()) };
         let is_block_gone = self.machine.free(&held.piece)?;
-        self.ledger.strike_out(held.key);
         if let Some(capture) = &mut self.capture {
-            capture.freed(held.key);
+            capture.freed(held.number);
         }
         if is_block_gone {
-            if let Some(block) = self.ledger.take_block(held.piece.memory_type, held.piece.piece.slot) {
+            if let Some(block) = self.blocks.take(held.piece.memory_type, held.piece.piece.slot) {
                 self.device.give_back(block.memory);
             }
         }
@@ -163,12 +189,11 @@ impl Allocator {
     ///
     /// The errors, and then nothing changes: `Internal` where it isn't this allocator's, `HostOutOfMemory`.
     pub fn rename_allocation(&mut self, allocation: &mut Allocation, name: &str) -> Result<()> {
-        let (own, listed) = (copied(name)?, copied(name)?);
+        let own = copied(name)?;
         if let Some(held) = &allocation.held {
             self.machine.rename(&held.piece, name)?;
-            self.ledger.rename(held.key, listed);
             if let Some(capture) = &mut self.capture {
-                capture.renamed(held.key, name);
+                capture.renamed(held.number, name);
             }
         }
         allocation.name = Some(own);
@@ -202,15 +227,44 @@ impl Allocator {
         self.machine.capacity()
     }
 
-    /// What is held: pieces and blocks by memory type, slot and offset.
-    pub fn generate_report(&self) -> AllocatorReport {
-        self.ledger.report()
+    /// What is counted of a memory type; `None` where it isn't there.
+    pub fn type_statistics(&self, memory_type: usize) -> Option<TypeStatistics> {
+        self.machine.type_statistics(memory_type)
     }
 
-    /// Logs each live allocation as a leak, by memory type, slot and offset, where there is a logger.
+    /// What is counted of the block in a slot of a memory type, if one is there.
+    pub fn block_statistics(&self, memory_type: usize, slot: usize) -> Option<BlockStatistics> {
+        self.machine.block_at(memory_type, slot).statistics()
+    }
+
+    /// All live pieces of the block in a slot in order of offset, with their names, in linear time; none where the slot has no block.
+    ///
+    /// The error: `HostOutOfMemory`.
+    pub fn named_pieces(&self, memory_type: usize, slot: usize) -> Result<Vec<NamedPiece>> {
+        self.machine.block_at(memory_type, slot).named()
+    }
+
+    /// What is held: pieces and blocks by memory type, slot and offset. Where the host has no memory for it, the program ends, as it does
+    /// wherever Rust's lists have none; `report_json` and `named_pieces` return an error instead.
+    pub fn generate_report(&self) -> AllocatorReport {
+        reading::report(&self.machine, &self.blocks).unwrap_or_else(|_| out_of_host_memory())
+    }
+
+    /// The report as JSON (`gpu_report.allocator` of docs/REPORT.md).
+    ///
+    /// The error: `HostOutOfMemory`.
+    pub fn report_json(&self) -> Result<String> {
+        self.machine.report_json()
+    }
+
+    /// Logs each live allocation as a leak, by memory type, slot and offset, where there is a logger. Where the host has no memory for the
+    /// next ones, the last line says so.
     pub fn report_memory_leaks(&self, log_level: Level) {
         if let Some(logger) = &self.logger {
-            self.ledger.leaks().for_each(|leak| logger.log(log_level, &leak));
+            let told = reading::leaks(&self.machine, &self.blocks, |leak| logger.log(log_level, &leak.to_string()));
+            if told.is_err() {
+                logger.log(log_level, "the host refused memory for further leaks");
+            }
         }
     }
 
@@ -233,10 +287,10 @@ impl Allocator {
 
     /// A request from its beginning to its end.
     fn serve(&mut self, desc: &AllocationCreateDesc<'_>) -> Result<Allocation> {
-        let (own, listed) = (copied(desc.name)?, copied(desc.name)?);
-        self.ledger.reserve()?;
+        let name = copied(desc.name)?;
+        self.blocks.reserve()?;
         let piece = self.place(desc)?;
-        Ok(self.enter(piece, desc, own, listed))
+        Ok(Allocation { held: Some(self.held(piece, desc.allocation_scheme)), name: Some(name) })
     }
 
     /// Asks the driver until the request has a piece, or is refused.
@@ -273,42 +327,26 @@ impl Allocator {
     /// Puts in the block that the driver granted, with its first piece. Nothing fails here: there is room for it.
     fn install(&mut self, question: &Question, memory: Memory) -> AllocatorPiece {
         let piece = self.machine.granted(next_block_number());
-        let live = self.ledger.shared_count(piece.memory_type);
+        let live = self.blocks.shared_count(piece.memory_type);
         let shared_size = self.sizes.memblock_size(question.mapped, live);
         let is_managed = question.scheme == AllocationScheme::GpuAllocatorManaged;
         // a block of a piece's own is larger than the next shared one, or asked for
         let is_shared = is_managed && question.size == shared_size;
-        self.ledger.install(piece.memory_type, piece.piece.slot, Block { memory, size: question.size, is_shared });
+        self.blocks.install(piece.memory_type, piece.piece.slot, Block { memory, size: question.size, is_shared });
         piece
     }
 
-    /// Enters a new piece, and returns what its owner holds of it.
-    fn enter(
-        &mut self,
-        piece: AllocatorPiece,
-        desc: &AllocationCreateDesc<'_>,
-        own: String,
-        listed: String,
-    ) -> Allocation {
-        let (memory_type, slot, offset) = (piece.memory_type, piece.piece.slot, piece.piece.offset);
-        let key = self.ledger.enter(Entry {
-            memory_type,
-            slot,
-            chunk_id: piece.piece.number,
-            offset,
-            size: piece.piece.size,
-            is_linear: desc.linear,
-            name: listed,
-        });
-        let held = Held {
+    /// What the owner of a new piece holds of it.
+    fn held(&self, piece: AllocatorPiece, scheme: AllocationScheme) -> Held {
+        let (memory_type, slot) = (piece.memory_type, piece.piece.slot);
+        Held {
             piece,
-            key,
-            memory: self.ledger.block(memory_type, slot).memory.handle,
-            address: self.ledger.address(memory_type, slot, offset),
+            number: self.requests,
+            memory: self.blocks.block(memory_type, slot).memory.handle,
+            address: self.blocks.address(memory_type, slot, piece.piece.offset),
             flags: self.device.memory_types()[memory_type].property_flags,
-            is_dedicated: desc.allocation_scheme != AllocationScheme::GpuAllocatorManaged,
-        };
-        Allocation { held: Some(held), name: Some(own) }
+            is_dedicated: scheme != AllocationScheme::GpuAllocatorManaged,
+        }
     }
 
     fn log(&self, is_wanted: bool, line: fmt::Arguments<'_>) {
@@ -346,6 +384,11 @@ impl Allocator {
     }
 }
 
+/// Ends the program as Rust's lists do where the host has no memory for them.
+fn out_of_host_memory() -> ! {
+    handle_alloc_error(Layout::new::<AllocatorReport>())
+}
+
 /// Why a request is refused, by its status and what the driver refused last.
 fn error_of(status: u32, refusal: Option<Refusal>) -> AllocationError {
     let code = refusal.and_then(Refusal::code).map(i64::from);
@@ -370,7 +413,7 @@ impl Drop for Allocator {
         if self.debug_settings.log_leaks_on_shutdown {
             self.report_memory_leaks(Level::Warn);
         }
-        for block in self.ledger.take_all() {
+        for block in self.blocks.take_all() {
             self.device.give_back(block.memory);
         }
     }

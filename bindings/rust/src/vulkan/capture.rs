@@ -105,7 +105,7 @@ impl Capture {
     }
 
     /// Records a request under its number, which stands for its allocation.
-    pub(super) fn allocated(&mut self, number: usize, desc: &AllocationCreateDesc<'_>) {
+    pub(super) fn allocated(&mut self, number: u64, desc: &AllocationCreateDesc<'_>) {
         let needs = &desc.requirements;
         let (size, alignment, bits) = (needs.size, needs.alignment, needs.memory_type_bits);
         let (location, name) = (desc.location, TraceName(desc.name));
@@ -122,12 +122,12 @@ impl Capture {
     }
 
     /// Records that an allocation is freed.
-    pub(super) fn freed(&mut self, number: usize) {
+    pub(super) fn freed(&mut self, number: u64) {
         self.record(format_args!("free {number}"));
     }
 
     /// Records that an allocation is renamed.
-    pub(super) fn renamed(&mut self, number: usize, name: &str) {
+    pub(super) fn renamed(&mut self, number: u64, name: &str) {
         self.record(format_args!("rename {number} {}", TraceName(name)));
     }
 

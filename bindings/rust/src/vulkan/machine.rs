@@ -1,8 +1,10 @@
 //! The proved allocator, which calls no driver: it says what to ask for, and is told the answer.
 
 use super::abi::{Buffer, Image};
-use super::{AllocationCreateDesc, AllocationScheme, Device};
+use super::{AllocationCreateDesc, AllocationScheme, Device, TypeStatistics};
 use crate::error::{check, check_unrefused};
+use crate::memory_type::BlockStatistics;
+use crate::pieces::Visited;
 use crate::raw::{self, AllocatorPiece, AllocatorProgress, Handle};
 use crate::{AllocationSizes, Kind, MemoryLocation, Result};
 
@@ -205,6 +207,117 @@ impl Machine {
         // SAFETY: the handle is this machine's alone: it isn't `Sync`.
         check_unrefused(unsafe { raw::pilhangko_raw_allocator_capacity(self.handle.as_ptr(), &mut bytes) });
         bytes
+    }
+}
+
+/// What is read of it.
+impl Machine {
+    /// What is counted of a memory type, if it is there.
+    pub(super) fn type_statistics(&self, memory_type: usize) -> Option<TypeStatistics> {
+        let mut s = raw::TypeStatistics::default();
+        // SAFETY: the handle is this machine's alone: it isn't `Sync`.
+        check(unsafe { raw::pilhangko_raw_allocator_type_statistics(self.handle.as_ptr(), memory_type, &mut s) })
+            .ok()?;
+        Some(TypeStatistics {
+            capacity: s.capacity,
+            slots: s.slots,
+            shared_blocks: s.shared_blocks,
+            budget: s.has_budget.then_some(s.budget),
+            pieces: s.pieces,
+            piece_bytes: s.piece_bytes,
+            gaps: s.gaps,
+            longest_gap: s.longest_gap,
+        })
+    }
+
+    /// The block in a slot, as a visit sees it.
+    pub(super) fn block_at(&self, memory_type: usize, slot: usize) -> BlockAt<'_> {
+        BlockAt { machine: self, memory_type, slot }
+    }
+
+    /// The report as JSON.
+    pub(super) fn report_json(&self) -> Result<String> {
+        let mut text = Vec::new();
+        loop {
+            let room = text.len();
+            let mut length = 0;
+            // SAFETY: the handle is this machine's alone: it isn't `Sync`. There is room for as many bytes as is said.
+            check(unsafe {
+                raw::pilhangko_raw_allocator_report(self.handle.as_ptr(), text.as_mut_ptr(), room, &mut length)
+            })?;
+            if length <= room {
+                return Ok(String::from_utf8(text).expect("JSON is UTF-8"));
+            }
+            text.try_reserve_exact(length)?;
+            text.resize(length, 0);
+        }
+    }
+}
+
+/// A block of an allocator, as a visit sees it; there may be none.
+#[derive(Clone, Copy, Debug)]
+pub(super) struct BlockAt<'a> {
+    machine: &'a Machine,
+    memory_type: usize,
+    slot: usize,
+}
+
+impl BlockAt<'_> {
+    /// What is counted of the block, if there is one.
+    pub(super) fn statistics(&self) -> Option<BlockStatistics> {
+        let mut s = raw::MemoryBlockStatistics::default();
+        // SAFETY: the handle is the machine's alone: it isn't `Sync`.
+        check_unrefused(unsafe {
+            raw::pilhangko_raw_allocator_block_statistics(
+                self.machine.handle.as_ptr(),
+                self.memory_type,
+                self.slot,
+                &mut s,
+            )
+        });
+        BlockStatistics::counted(&s)
+    }
+}
+
+impl Visited for BlockAt<'_> {
+    fn count(&self) -> usize {
+        self.statistics().map_or(0, |counted| counted.pieces)
+    }
+
+    fn show(&self, views: &mut [raw::PieceView]) -> (u32, usize) {
+        let mut shown = 0;
+        // SAFETY: the handle is the machine's alone: it isn't `Sync`. There is room for as many views as is said.
+        let status = unsafe {
+            raw::pilhangko_raw_allocator_pieces(
+                self.machine.handle.as_ptr(),
+                self.memory_type,
+                self.slot,
+                0,
+                views.as_mut_ptr(),
+                views.len(),
+                &mut shown,
+            )
+        };
+        (status, shown)
+    }
+
+    fn show_names(&self, lengths: &mut [usize], names: &mut [u8]) -> (u32, usize) {
+        let mut shown = 0;
+        // SAFETY: the handle is the machine's alone: it isn't `Sync`. There is room for as many lengths and bytes as is said.
+        let status = unsafe {
+            raw::pilhangko_raw_allocator_piece_names(
+                self.machine.handle.as_ptr(),
+                self.memory_type,
+                self.slot,
+                0,
+                lengths.as_mut_ptr(),
+                lengths.len(),
+                names.as_mut_ptr(),
+                names.len(),
+                &mut shown,
+            )
+        };
+        (status, shown)
     }
 }
 

@@ -29,10 +29,11 @@
 mod abi;
 mod allocation;
 mod allocator;
+mod blocks;
 mod capture;
 mod device;
-mod ledger;
 mod machine;
+mod reading;
 
 pub use abi::{
     AllocateMemory, Buffer, DeviceFunctions, DeviceMemory, FreeMemory, Image, MapMemory, MemoryAllocateFlagsInfo,
@@ -40,6 +41,6 @@ pub use abi::{
     PhysicalDeviceMemoryProperties, UnmapMemory, VoidFunction,
 };
 pub use allocation::Allocation;
-pub use allocator::{AllocationCreateDesc, AllocationScheme, Allocator, AllocatorCreateDesc};
+pub use allocator::{AllocationCreateDesc, AllocationScheme, Allocator, AllocatorCreateDesc, TypeStatistics};
 pub use capture::{Capture, CaptureEnd};
 pub use device::Device;

@@ -231,18 +231,40 @@ impl Script {
         let report = self.allocator.generate_report();
         let mut rows = report.allocations.iter();
         let mut blocks = report.blocks.iter();
-        let mut bytes = 0;
         for block in self.account.blocks.iter().flatten().flatten() {
             let shown = blocks.next().expect("each block is shown");
             assert_eq!((shown.size, shown.allocations.len()), (block.size, block.pieces.len()));
             for (offset, piece) in &block.pieces {
                 let row = rows.next().expect("each piece is shown");
                 assert_eq!((&row.name, row.offset, row.offset + row.size), (&piece.name, *offset, piece.end));
-                bytes += row.size;
             }
         }
         assert!(rows.next().is_none() && blocks.next().is_none());
-        assert_eq!((report.total_allocated_bytes, report.total_capacity_bytes), (bytes, self.account.capacity()));
+        assert_eq!(report.total_capacity_bytes, self.account.capacity());
+        let own: u64 = report.allocations.iter().map(|row| row.size).sum();
+        assert!((own..=report.total_capacity_bytes).contains(&report.total_allocated_bytes));
+        self.assert_counted(report.total_allocated_bytes);
+    }
+
+    /// What is counted of memory types and blocks is what the account has; pieces with their padding sum up to so many bytes.
+    fn assert_counted(&self, piece_bytes: u64) {
+        let mut bytes = 0;
+        for (memory_type, slots) in self.account.blocks.iter().enumerate() {
+            let counted = self.allocator.type_statistics(memory_type).expect("the memory type is there");
+            let live = || slots.iter().flatten();
+            let pieces: usize = live().map(|block| block.pieces.len()).sum();
+            let capacity: u64 = live().map(|block| block.size).sum();
+            let shared_blocks = live().filter(|block| block.is_shared).count();
+            assert_eq!((counted.pieces, counted.capacity, counted.shared_blocks), (pieces, capacity, shared_blocks));
+            assert_eq!((counted.slots, counted.budget), (slots.len(), self.account.budgets[memory_type]));
+            for (slot, block) in slots.iter().enumerate() {
+                let of_block = self.allocator.block_statistics(memory_type, slot);
+                assert_eq!(of_block.map(|it| it.pieces), block.as_ref().map(|it| it.pieces.len()));
+            }
+            bytes += counted.piece_bytes;
+        }
+        assert_eq!(bytes, piece_bytes);
+        assert!(self.allocator.type_statistics(TYPES.len()).is_none());
     }
 }
 
