@@ -1,5 +1,5 @@
-//! Buffers and images on a Vulkan device, where there is one: the driver binds them where the allocator says, and the validation layer, where
-//! it is installed, has nothing to say.
+//! Buffers and images on a Vulkan device, where there is one: the driver binds them where the allocator says, and the validation layer,
+//! where it is installed, has nothing to say.
 #![allow(missing_docs)]
 
 #[path = "../examples/support/vulkan.rs"]

@@ -466,7 +466,10 @@ fn pieces_of_different_kinds_share_no_page() {
 fn a_report_is_told_as_json() {
     let driver = driver();
     let mut a = made(&driver);
-    let empty = r#"{"allocations":[],"blocks":[],"schema":"gpu_report.allocator","total_allocated_bytes":0,"total_capacity_bytes":0,"version":1}"#;
+    let empty = concat!(
+        r#"{"allocations":[],"blocks":[],"schema":"gpu_report.allocator","#,
+        r#""total_allocated_bytes":0,"total_capacity_bytes":0,"version":1}"#
+    );
     assert_eq!(a.report_json().unwrap(), empty);
     let quoted = AllocationCreateDesc { name: "a \"b\"", ..request(100, MemoryLocation::GpuOnly) };
     let _leak = a.allocate(&quoted).unwrap();

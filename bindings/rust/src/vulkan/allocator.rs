@@ -7,7 +7,7 @@ use super::capture::Capture;
 use super::device::{Answer, Device, Memory, Refusal};
 use super::machine::{Machine, Progress, Question};
 use super::reading;
-use crate::error::{check, copied};
+use crate::error::{check, copied, invalid_device, TOO_MANY_TYPES};
 use crate::memory_type::BlockStatistics;
 use crate::pieces::Visited;
 use crate::raw::AllocatorPiece;
@@ -129,8 +129,9 @@ impl Allocator {
     /// types and a memory type in a heap that isn't there; `HostOutOfMemory`.
     pub fn new(desc: &AllocatorCreateDesc) -> Result<Self> {
         let AllocatorCreateDesc { device, allocation_sizes, .. } = desc;
-        if let Some(text) = device.fault() {
-            return Err(AllocationError::InvalidAllocatorCreateDesc(Fault { text, code: None }));
+        // the library can't be told of so many; it would refuse them behind an odd page size and before a heap that isn't there
+        if device.has_too_many_types() && device.buffer_image_granularity().is_power_of_two() {
+            return Err(invalid_device(TOO_MANY_TYPES));
         }
         let allocator = Allocator {
             machine: Machine::new(device, allocation_sizes, desc.buffer_device_address)?,

@@ -29,8 +29,8 @@ impl Device {
     /// The caller promises, as long as an allocator over the device or over a clone of it lives:
     /// - the `VkDevice` is live, and the functions are its own;
     /// - the memory properties are those of its physical device;
-    /// - the buffers and images that requests name (`AllocationScheme`) are live ones of the device, and bufferDeviceAddress is enabled where
-    ///   an allocator is made with it;
+    /// - the buffers and images that requests name (`AllocationScheme`) are live ones of the device, and bufferDeviceAddress is enabled
+    ///   where an allocator is made with it;
     /// - no one else frees, maps or unmaps memory that an allocator asked for.
     ///
     /// And of allocations from these allocators, whose mapped bytes are read and written without `unsafe`: no one touches them after their
@@ -61,18 +61,9 @@ impl Device {
         self.buffer_image_granularity
     }
 
-    /// The first of its properties that makes no sense.
-    pub(super) fn fault(&self) -> Option<&'static str> {
-        let is_in_heap = |it: &MemoryType| (it.heap_index as usize) < self.memory_heaps().len();
-        if !self.buffer_image_granularity.is_power_of_two() {
-            Some("buffer image granularity is not a power of two.")
-        } else if self.memory_properties.memory_type_count > 32 {
-            Some("more than 32 memory types.")
-        } else if !self.memory_types().iter().all(is_in_heap) {
-            Some("memory type with a heap index out of range.")
-        } else {
-            None
-        }
+    /// Whether it says that it has more memory types than there is room for in what says so.
+    pub(super) fn has_too_many_types(&self) -> bool {
+        self.memory_properties.memory_type_count as usize > self.memory_properties.memory_types.len()
     }
 
     /// Asks the driver for the memory of a block, and to map it where it is to be mapped. Memory that it doesn't map goes back.
