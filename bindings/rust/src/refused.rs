@@ -10,6 +10,11 @@ use crate::vulkan::{AllocationCreateDesc, AllocationScheme, Allocator, Allocator
 use crate::{AllocationError, Kind, MemoryLocation, MemoryType, Result, VirtualBlock};
 use common::FakeDriver;
 
+/// Names that are too long to be kept without host memory.
+const NAME: &str =
+    "a name of a hundred bytes or so, which has to lie in memory that the host is asked for by each of these calls";
+const OTHER: &str = "another name of a hundred bytes or so, which has to lie in memory that the host is asked for by each of these calls";
+
 /// Tries a call with its first request for host memory refused, then with its second one, and so on until it makes no more.
 /// `unchanged` looks at what a refused call left. Returns what the call returned at last, and how often it was refused.
 fn in_turn<S, T>(state: &mut S, mut call: impl FnMut(&mut S) -> Result<T>, mut unchanged: impl FnMut(&S)) -> (T, u64) {
@@ -40,12 +45,12 @@ fn of_a_virtual_block() {
     assert!(refusals > 0);
     for count in 0..20 {
         let untouched = |it: &VirtualBlock| assert_eq!(it.statistics().pieces, count);
-        let (piece, refusals) = in_turn(&mut block, |it| it.allocate(&request, "piece"), untouched);
-        assert!(refusals > 0); // for the name, at least
+        let (piece, refusals) = in_turn(&mut block, |it| it.allocate(&request, NAME), untouched);
+        assert!(refusals > 0);
         let named = |it: &VirtualBlock| {
-            assert_eq!(it.named_pieces().unwrap().last().map(|it| it.name.clone()), Some("piece".to_owned()));
+            assert_eq!(it.named_pieces().unwrap().last().map(|it| it.name.clone()), Some(NAME.to_owned()));
         };
-        let ((), refusals) = in_turn(&mut block, |it| it.rename(piece, "another name"), named);
+        let ((), refusals) = in_turn(&mut block, |it| it.rename(piece, OTHER), named);
         assert!(refusals > 0);
     }
     let full = |it: &VirtualBlock| assert_eq!(it.statistics().pieces, 20);
@@ -62,7 +67,7 @@ fn of_a_memory_type() {
         let request = MemoryRequest { size: 100, alignment: 1, kind: Kind::Linear, dedicated: true };
         let before = it.statistics();
         let unchanged = |it: &MemoryType| assert_eq!(it.statistics(), before);
-        let install = |it: &mut MemoryType| match it.prepare(&request, "own")? {
+        let install = |it: &mut MemoryType| match it.prepare(&request, NAME)? {
             Prepared::Piece(piece) => Ok(piece),
             Prepared::NeedsBlock(pending) => Ok(pending.install(handle)),
         };
@@ -84,7 +89,7 @@ fn of_the_vulkan_allocator() {
         [MemoryLocation::GpuOnly, MemoryLocation::CpuToGpu].into_iter().zip(schemes).cycle().take(8)
     {
         let request = AllocationCreateDesc {
-            name: "piece",
+            name: NAME,
             requirements: MemoryRequirements { size: 100, alignment: 4, memory_type_bits: 3 },
             location,
             linear: true,

@@ -188,9 +188,12 @@ impl Account {
             assert!(block.is_shared && !it.is_dedicated());
             return;
         }
-        let first_empty = self.blocks[memory_type].iter().position(Option::is_none);
-        assert_eq!(slot, first_empty.unwrap_or(self.blocks[memory_type].len()));
         let (size, is_shared) = self.block_for(memory_type, desc);
+        // a shared block takes the highest empty slot, a piece's own the lowest
+        let slots = &self.blocks[memory_type];
+        let empty =
+            if is_shared { slots.iter().rposition(Option::is_none) } else { slots.iter().position(Option::is_none) };
+        assert_eq!(slot, empty.unwrap_or(slots.len()));
         assert_eq!((held.asked.size, held.asked.memory_type as usize), (size, memory_type));
         assert!(!self.is_above_budget(memory_type, desc));
         let (buffer, image) = match desc.allocation_scheme {
@@ -200,7 +203,7 @@ impl Account {
         };
         assert_eq!((held.asked.buffer, held.asked.image), (buffer, image));
         let block = Some(Block { memory, size, is_shared, pieces: BTreeMap::new() });
-        match first_empty {
+        match empty {
             Some(slot) => self.blocks[memory_type][slot] = block,
             None => self.blocks[memory_type].push(block),
         }
