@@ -1,0 +1,39 @@
+//! Pilhangko: GPU memory allocators whose code is proved, from Rust.
+//!
+//! [`vulkan`] has the allocator under the names of the crate gpu-allocator: it asks the driver for large blocks, cuts them up by best fit,
+//! and gives them back. [`virtual_block`] and [`memory_type`] are what it stands on, for any graphics API: one block of numbers, and the
+//! blocks of one memory type.
+//!
+//! What decides where a piece lies, which block is asked for and which goes back is the library `libgpu_c.a`, proved and built from
+//! contracts; this crate asks the driver, maps memory, and owns the handles. All of it may go from thread to thread, and serves
+//! one call at a time.
+//!
+//! The archive is for x86-64 processors with SSE4.2 on Linux. The build looks for it in the folder `PILHANGKO_LIB_DIR`, or else where the
+//! repository builds it.
+
+#![deny(unsafe_op_in_unsafe_fn, missing_docs)]
+
+// the driver of the tests names the crate as its users do
+#[cfg(test)]
+extern crate self as pilhangko;
+
+mod error;
+mod heap;
+pub mod memory_type;
+mod pieces;
+mod raw;
+#[cfg(test)]
+mod refused;
+mod report;
+mod settings;
+mod sizes;
+pub mod virtual_block;
+pub mod vulkan;
+
+pub use error::{AllocationError, Fault, Result};
+pub use memory_type::MemoryType;
+pub use pieces::{Kind, NamedPiece, PieceView};
+pub use report::{AllocationReport, AllocatorReport, MemoryBlockReport};
+pub use settings::{AllocatorDebugSettings, Level, Logger, MemoryLocation};
+pub use sizes::AllocationSizes;
+pub use virtual_block::VirtualBlock;

@@ -1,0 +1,451 @@
+//! The archive's symbols and what crosses to them, as include/pilhangko.h declares them. The types that own a handle (`VirtualBlock`,
+//! `MemoryType`, the Vulkan allocator) are the only callers.
+
+use std::cell::UnsafeCell;
+use std::ffi::c_void;
+use std::ptr;
+
+pub(crate) const OK: u32 = 0;
+
+pub(crate) const KIND_LINEAR: u32 = 1;
+pub(crate) const KIND_NON_LINEAR: u32 = 2;
+
+pub(crate) const LOCATION_UNKNOWN: u32 = 1;
+pub(crate) const LOCATION_GPU_ONLY: u32 = 2;
+pub(crate) const LOCATION_CPU_TO_GPU: u32 = 3;
+pub(crate) const LOCATION_GPU_TO_CPU: u32 = 4;
+
+pub(crate) const SCHEME_MANAGED: u32 = 1;
+pub(crate) const SCHEME_BUFFER: u32 = 2;
+pub(crate) const SCHEME_IMAGE: u32 = 3;
+
+pub(crate) const PROGRESS_PIECE: u32 = 1;
+pub(crate) const PROGRESS_QUESTION: u32 = 2;
+
+/// A handle: one pointer that the caller keeps and the library owns. Each call takes what lies behind it out and returns it, also one
+/// that changes nothing, so the pointer stands in a cell, and what holds a handle is never `Sync`.
+///
+/// ```compile_fail,E0277
+/// fn is_sync<T: Sync>() {}
+/// is_sync::<pilhangko::vulkan::Allocator>();
+/// ```
+#[repr(transparent)]
+#[derive(Debug)]
+pub(crate) struct Handle(UnsafeCell<*mut c_void>);
+
+impl Handle {
+    /// An empty handle.
+    pub(crate) const fn empty() -> Self {
+        Handle(UnsafeCell::new(ptr::null_mut()))
+    }
+
+    /// What the library is handed.
+    pub(crate) fn as_ptr(&self) -> *mut Handle {
+        self.0.get().cast()
+    }
+}
+
+// SAFETY: the archive's handles may go from thread to thread (the header: "It is given to one call at a time, on any thread").
+unsafe impl Send for Handle {}
+
+#[repr(C)]
+#[derive(Debug)]
+pub(crate) struct VirtualRequest {
+    pub(crate) size: u64,
+    pub(crate) alignment: u64,
+    pub(crate) kind: u32,
+}
+
+#[repr(C)]
+#[derive(Debug, Default)]
+pub(crate) struct VirtualPiece {
+    pub(crate) offset: u64,
+    pub(crate) number: u64,
+}
+
+#[repr(C)]
+#[derive(Debug, Default)]
+pub(crate) struct VirtualStatistics {
+    pub(crate) size: u64,
+    pub(crate) pieces: usize,
+    pub(crate) piece_bytes: u64,
+    pub(crate) gaps: usize,
+    pub(crate) longest_gap: u64,
+}
+
+#[repr(C)]
+#[derive(Clone, Copy, Debug, Default)]
+pub(crate) struct PieceView {
+    pub(crate) exists: bool,
+    pub(crate) number: u64,
+    pub(crate) start: u64,
+    pub(crate) offset: u64,
+    pub(crate) end: u64,
+    pub(crate) kind: u32,
+}
+
+#[repr(C)]
+#[derive(Debug)]
+pub(crate) struct MemoryTypeSettings {
+    pub(crate) is_host: bool,
+    pub(crate) page_size: u64,
+    pub(crate) device_block_size: u64,
+    pub(crate) largest_device_block_size: u64,
+    pub(crate) host_block_size: u64,
+    pub(crate) largest_host_block_size: u64,
+    pub(crate) has_budget: bool,
+    pub(crate) budget: u64,
+}
+
+#[repr(C)]
+#[derive(Debug)]
+pub(crate) struct MemoryRequest {
+    pub(crate) size: u64,
+    pub(crate) alignment: u64,
+    pub(crate) kind: u32,
+    pub(crate) dedicated: bool,
+}
+
+#[repr(C)]
+#[derive(Clone, Copy, Debug, Default)]
+pub(crate) struct MemoryPiece {
+    pub(crate) slot: usize,
+    pub(crate) number: u64,
+    pub(crate) offset: u64,
+    pub(crate) size: u64,
+    pub(crate) block: u64,
+}
+
+#[repr(C)]
+#[derive(Debug, Default)]
+pub(crate) struct MemoryPrepared {
+    pub(crate) needs_block: bool,
+    pub(crate) dedicated: bool,
+    pub(crate) block_size: u64,
+    pub(crate) piece: MemoryPiece,
+}
+
+#[repr(C)]
+#[derive(Debug, Default)]
+pub(crate) struct MemoryBlock {
+    pub(crate) exists: bool,
+    pub(crate) block: u64,
+}
+
+#[repr(C)]
+#[derive(Debug, Default)]
+pub(crate) struct MemoryStatistics {
+    pub(crate) capacity: u64,
+    pub(crate) slots: usize,
+    pub(crate) shared_blocks: usize,
+    pub(crate) has_budget: bool,
+    pub(crate) budget: u64,
+    pub(crate) awaits_block: bool,
+}
+
+#[repr(C)]
+#[derive(Debug, Default)]
+pub(crate) struct MemoryBlockStatistics {
+    pub(crate) exists: bool,
+    pub(crate) pieces: usize,
+    pub(crate) piece_bytes: u64,
+    pub(crate) gaps: usize,
+    pub(crate) longest_gap: u64,
+}
+
+#[repr(C)]
+#[derive(Debug)]
+pub(crate) struct AllocatorSettings {
+    pub(crate) page_size: u64,
+    pub(crate) device_block_size: u64,
+    pub(crate) largest_device_block_size: u64,
+    pub(crate) host_block_size: u64,
+    pub(crate) largest_host_block_size: u64,
+    pub(crate) device_address: bool,
+}
+
+#[repr(C)]
+#[derive(Debug)]
+pub(crate) struct AllocatorRequest {
+    pub(crate) size: u64,
+    pub(crate) alignment: u64,
+    pub(crate) memory_type_bits: u32,
+    pub(crate) kind: u32,
+    pub(crate) location: u32,
+    pub(crate) scheme: u32,
+    pub(crate) resource: u64,
+}
+
+#[repr(C)]
+#[derive(Clone, Copy, Debug, Default)]
+pub(crate) struct AllocatorPiece {
+    pub(crate) memory_type: usize,
+    pub(crate) mapped: bool,
+    pub(crate) piece: MemoryPiece,
+}
+
+#[repr(C)]
+#[derive(Clone, Copy, Debug, Default)]
+pub(crate) struct AllocatorQuestion {
+    pub(crate) size: u64,
+    pub(crate) memory_type: u32,
+    pub(crate) scheme: u32,
+    pub(crate) resource: u64,
+    pub(crate) device_address: bool,
+    pub(crate) mapped: bool,
+}
+
+#[repr(C)]
+#[derive(Debug, Default)]
+pub(crate) struct AllocatorProgress {
+    pub(crate) kind: u32,
+    pub(crate) status: u32,
+    pub(crate) piece: AllocatorPiece,
+    pub(crate) question: AllocatorQuestion,
+}
+
+#[repr(C)]
+#[derive(Debug, Default)]
+pub(crate) struct AllocatorMemory {
+    pub(crate) exists: bool,
+    pub(crate) mapped: bool,
+    pub(crate) memory: u64,
+}
+
+#[repr(C)]
+#[derive(Debug, Default)]
+pub(crate) struct Budget {
+    pub(crate) exists: bool,
+    pub(crate) bytes: u64,
+}
+
+#[repr(C)]
+#[derive(Debug, Default)]
+pub(crate) struct TypeStatistics {
+    pub(crate) capacity: u64,
+    pub(crate) slots: usize,
+    pub(crate) shared_blocks: usize,
+    pub(crate) has_budget: bool,
+    pub(crate) budget: u64,
+    pub(crate) pieces: usize,
+    pub(crate) piece_bytes: u64,
+    pub(crate) gaps: usize,
+    pub(crate) longest_gap: u64,
+}
+
+/// A memory type of a device, laid out as `VkMemoryType` is.
+pub(crate) type DeviceMemoryType = crate::vulkan::MemoryType;
+
+/// A heap of a device, laid out as `VkMemoryHeap` is.
+pub(crate) type DeviceHeap = crate::vulkan::MemoryHeap;
+
+extern "C" {
+    pub(crate) fn pilhangko_raw_virtual_block_create(block: *mut Handle, size: u64, page_size: u64) -> u32;
+    pub(crate) fn pilhangko_raw_virtual_block_allocate(
+        block: *mut Handle,
+        request: *const VirtualRequest,
+        name: *const u8,
+        name_length: usize,
+        piece: *mut VirtualPiece,
+    ) -> u32;
+    pub(crate) fn pilhangko_raw_virtual_block_free(block: *mut Handle, piece: *const VirtualPiece) -> u32;
+    pub(crate) fn pilhangko_raw_virtual_block_rename(
+        block: *mut Handle,
+        piece: *const VirtualPiece,
+        name: *const u8,
+        name_length: usize,
+    ) -> u32;
+    pub(crate) fn pilhangko_raw_virtual_block_clear(block: *mut Handle) -> u32;
+    pub(crate) fn pilhangko_raw_virtual_block_statistics(block: *mut Handle, statistics: *mut VirtualStatistics)
+        -> u32;
+    pub(crate) fn pilhangko_raw_virtual_block_next_piece(block: *mut Handle, from: u64, piece: *mut PieceView) -> u32;
+    pub(crate) fn pilhangko_raw_virtual_block_pieces(
+        block: *mut Handle,
+        from: u64,
+        pieces: *mut PieceView,
+        room: usize,
+        count: *mut usize,
+    ) -> u32;
+    pub(crate) fn pilhangko_raw_virtual_block_piece_names(
+        block: *mut Handle,
+        from: u64,
+        lengths: *mut usize,
+        room: usize,
+        names: *mut u8,
+        names_room: usize,
+        count: *mut usize,
+    ) -> u32;
+    pub(crate) fn pilhangko_raw_virtual_block_destroy(block: *mut Handle) -> u32;
+
+    pub(crate) fn pilhangko_raw_memory_type_create(
+        memory_type: *mut Handle,
+        settings: *const MemoryTypeSettings,
+    ) -> u32;
+    pub(crate) fn pilhangko_raw_memory_type_prepare(
+        memory_type: *mut Handle,
+        request: *const MemoryRequest,
+        name: *const u8,
+        name_length: usize,
+        prepared: *mut MemoryPrepared,
+    ) -> u32;
+    pub(crate) fn pilhangko_raw_memory_type_install(
+        memory_type: *mut Handle,
+        block: u64,
+        piece: *mut MemoryPiece,
+    ) -> u32;
+    pub(crate) fn pilhangko_raw_memory_type_abandon(memory_type: *mut Handle) -> u32;
+    pub(crate) fn pilhangko_raw_memory_type_free(
+        memory_type: *mut Handle,
+        piece: *const MemoryPiece,
+        gone: *mut MemoryBlock,
+    ) -> u32;
+    pub(crate) fn pilhangko_raw_memory_type_rename(
+        memory_type: *mut Handle,
+        piece: *const MemoryPiece,
+        name: *const u8,
+        name_length: usize,
+    ) -> u32;
+    pub(crate) fn pilhangko_raw_memory_type_is_live(
+        memory_type: *mut Handle,
+        piece: *const MemoryPiece,
+        is_live: *mut bool,
+    ) -> u32;
+    pub(crate) fn pilhangko_raw_memory_type_set_budget(memory_type: *mut Handle, has_budget: bool, bytes: u64) -> u32;
+    pub(crate) fn pilhangko_raw_memory_type_block(
+        memory_type: *mut Handle,
+        slot: usize,
+        block: *mut MemoryBlock,
+    ) -> u32;
+    pub(crate) fn pilhangko_raw_memory_type_block_statistics(
+        memory_type: *mut Handle,
+        slot: usize,
+        statistics: *mut MemoryBlockStatistics,
+    ) -> u32;
+    pub(crate) fn pilhangko_raw_memory_type_next_piece(
+        memory_type: *mut Handle,
+        slot: usize,
+        from: u64,
+        piece: *mut PieceView,
+    ) -> u32;
+    pub(crate) fn pilhangko_raw_memory_type_pieces(
+        memory_type: *mut Handle,
+        slot: usize,
+        from: u64,
+        pieces: *mut PieceView,
+        room: usize,
+        count: *mut usize,
+    ) -> u32;
+    pub(crate) fn pilhangko_raw_memory_type_piece_names(
+        memory_type: *mut Handle,
+        slot: usize,
+        from: u64,
+        lengths: *mut usize,
+        room: usize,
+        names: *mut u8,
+        names_room: usize,
+        count: *mut usize,
+    ) -> u32;
+    pub(crate) fn pilhangko_raw_memory_type_statistics(
+        memory_type: *mut Handle,
+        statistics: *mut MemoryStatistics,
+    ) -> u32;
+    pub(crate) fn pilhangko_raw_memory_type_destroy(memory_type: *mut Handle) -> u32;
+
+    pub(crate) fn pilhangko_raw_allocator_create(
+        allocator: *mut Handle,
+        types: *const DeviceMemoryType,
+        type_count: usize,
+        heaps: *const DeviceHeap,
+        heap_count: usize,
+        settings: *const AllocatorSettings,
+    ) -> u32;
+    pub(crate) fn pilhangko_raw_allocator_begin(
+        allocator: *mut Handle,
+        request: *const AllocatorRequest,
+        name: *const u8,
+        name_length: usize,
+        progress: *mut AllocatorProgress,
+    ) -> u32;
+    pub(crate) fn pilhangko_raw_allocator_granted(
+        allocator: *mut Handle,
+        memory: u64,
+        piece: *mut AllocatorPiece,
+    ) -> u32;
+    pub(crate) fn pilhangko_raw_allocator_refused(
+        allocator: *mut Handle,
+        code: i32,
+        progress: *mut AllocatorProgress,
+    ) -> u32;
+    pub(crate) fn pilhangko_raw_allocator_mapping_refused(
+        allocator: *mut Handle,
+        has_code: bool,
+        code: i32,
+        progress: *mut AllocatorProgress,
+    ) -> u32;
+    pub(crate) fn pilhangko_raw_allocator_free(
+        allocator: *mut Handle,
+        piece: *const AllocatorPiece,
+        back: *mut AllocatorMemory,
+    ) -> u32;
+    pub(crate) fn pilhangko_raw_allocator_rename(
+        allocator: *mut Handle,
+        piece: *const AllocatorPiece,
+        name: *const u8,
+        name_length: usize,
+    ) -> u32;
+    pub(crate) fn pilhangko_raw_allocator_is_live(
+        allocator: *mut Handle,
+        piece: *const AllocatorPiece,
+        is_live: *mut bool,
+    ) -> u32;
+    pub(crate) fn pilhangko_raw_allocator_set_budget(
+        allocator: *mut Handle,
+        memory_type: usize,
+        has_budget: bool,
+        bytes: u64,
+    ) -> u32;
+    pub(crate) fn pilhangko_raw_allocator_budget(
+        allocator: *mut Handle,
+        memory_type: usize,
+        budget: *mut Budget,
+    ) -> u32;
+    pub(crate) fn pilhangko_raw_allocator_capacity(allocator: *mut Handle, bytes: *mut u64) -> u32;
+    pub(crate) fn pilhangko_raw_allocator_type_statistics(
+        allocator: *mut Handle,
+        memory_type: usize,
+        statistics: *mut TypeStatistics,
+    ) -> u32;
+    pub(crate) fn pilhangko_raw_allocator_block_statistics(
+        allocator: *mut Handle,
+        memory_type: usize,
+        slot: usize,
+        statistics: *mut MemoryBlockStatistics,
+    ) -> u32;
+    pub(crate) fn pilhangko_raw_allocator_pieces(
+        allocator: *mut Handle,
+        memory_type: usize,
+        slot: usize,
+        from: u64,
+        pieces: *mut PieceView,
+        room: usize,
+        count: *mut usize,
+    ) -> u32;
+    pub(crate) fn pilhangko_raw_allocator_piece_names(
+        allocator: *mut Handle,
+        memory_type: usize,
+        slot: usize,
+        from: u64,
+        lengths: *mut usize,
+        room: usize,
+        names: *mut u8,
+        names_room: usize,
+        count: *mut usize,
+    ) -> u32;
+    pub(crate) fn pilhangko_raw_allocator_report(
+        allocator: *mut Handle,
+        text: *mut u8,
+        room: usize,
+        length: *mut usize,
+    ) -> u32;
+    pub(crate) fn pilhangko_raw_allocator_destroy(allocator: *mut Handle) -> u32;
+}

@@ -1,0 +1,118 @@
+//! Each request of the archive for host memory is refused in turn: the call says so and changes nothing, and the next try succeeds.
+
+#[path = "../tests/common/mod.rs"]
+mod common;
+
+use crate::heap::refusing::{has_refused, refuse};
+use crate::memory_type::{MemoryRequest, Prepared};
+use crate::virtual_block::VirtualRequest;
+use crate::vulkan::{AllocationCreateDesc, AllocationScheme, Allocator, AllocatorCreateDesc, MemoryRequirements};
+use crate::{AllocationError, Kind, MemoryLocation, MemoryType, Result, VirtualBlock};
+use common::FakeDriver;
+
+/// Names that are too long to be kept without host memory.
+const NAME: &str =
+    "a name of a hundred bytes or so, which has to lie in memory that the host is asked for by each of these calls";
+const OTHER: &str = "another name of a hundred bytes or so, which has to lie in memory that the host is asked for by each of these calls";
+
+/// Tries a call with its first request for host memory refused, then with its second one, and so on until it makes no more.
+/// `unchanged` looks at what a refused call left. Returns what the call returned at last, and how often it was refused.
+fn in_turn<S, T>(state: &mut S, mut call: impl FnMut(&mut S) -> Result<T>, mut unchanged: impl FnMut(&S)) -> (T, u64) {
+    for nth in 1.. {
+        refuse(nth);
+        let result = call(state);
+        let is_refused = has_refused();
+        refuse(0);
+        match result {
+            Ok(value) => {
+                assert!(!is_refused, "refused memory is told");
+                return (value, nth - 1);
+            }
+            Err(error) => {
+                assert!(is_refused);
+                assert_eq!(error, AllocationError::HostOutOfMemory);
+                unchanged(state);
+            }
+        }
+    }
+    unreachable!("a call makes finitely many requests")
+}
+
+#[test]
+fn of_a_virtual_block() {
+    let request = VirtualRequest { size: 10, alignment: 1, kind: Kind::Linear };
+    let ((mut block, _), refusals) = in_turn(&mut (), |()| Ok((VirtualBlock::new(1000, 1)?, ())), |()| ());
+    assert!(refusals > 0);
+    for count in 0..20 {
+        let untouched = |it: &VirtualBlock| assert_eq!(it.statistics().pieces, count);
+        let (piece, refusals) = in_turn(&mut block, |it| it.allocate(&request, NAME), untouched);
+        assert!(refusals > 0);
+        let named = |it: &VirtualBlock| {
+            assert_eq!(it.named_pieces().unwrap().last().map(|it| it.name.clone()), Some(NAME.to_owned()));
+        };
+        let ((), refusals) = in_turn(&mut block, |it| it.rename(piece, OTHER), named);
+        assert!(refusals > 0);
+    }
+    let full = |it: &VirtualBlock| assert_eq!(it.statistics().pieces, 20);
+    in_turn(&mut block, VirtualBlock::clear, full);
+    assert_eq!(block.statistics().pieces, 0);
+}
+
+#[test]
+fn of_a_memory_type() {
+    let settings = crate::memory_type::MemoryTypeSettings::default();
+    let (mut it, refusals) = in_turn(&mut (), |()| MemoryType::new(&settings), |()| ());
+    assert!(refusals > 0);
+    for handle in 1..5 {
+        let request = MemoryRequest { size: 100, alignment: 1, kind: Kind::Linear, dedicated: true };
+        let before = it.statistics();
+        let unchanged = |it: &MemoryType| assert_eq!(it.statistics(), before);
+        let install = |it: &mut MemoryType| match it.prepare(&request, NAME)? {
+            Prepared::Piece(piece) => Ok(piece),
+            Prepared::NeedsBlock(pending) => Ok(pending.install(handle)),
+        };
+        let (piece, refusals) = in_turn(&mut it, install, unchanged);
+        assert!(refusals > 0);
+        assert_eq!(piece.handle, handle);
+    }
+}
+
+#[test]
+fn of_the_vulkan_allocator() {
+    let driver = FakeDriver::new(&[(1, 0), (7, 0)], &[1 << 30], 64);
+    let desc = AllocatorCreateDesc { capture: true, ..AllocatorCreateDesc::new(driver.device()) };
+    let (mut allocator, refusals) = in_turn(&mut (), |()| Allocator::new(&desc), |()| ());
+    assert!(refusals > 0);
+    let schemes = [AllocationScheme::GpuAllocatorManaged, AllocationScheme::DedicatedBuffer(crate::vulkan::Buffer(1))];
+    let mut live = Vec::new();
+    for (location, scheme) in
+        [MemoryLocation::GpuOnly, MemoryLocation::CpuToGpu].into_iter().zip(schemes).cycle().take(8)
+    {
+        let request = AllocationCreateDesc {
+            name: NAME,
+            requirements: MemoryRequirements { size: 100, alignment: 4, memory_type_bits: 3 },
+            location,
+            linear: true,
+            allocation_scheme: scheme,
+        };
+        let (capacity, questions) = (allocator.capacity(), driver.state().questions);
+        let unchanged = |it: &Allocator| {
+            assert_eq!((it.capacity(), driver.state().questions), (capacity, questions));
+        };
+        let (piece, refusals) = in_turn(&mut allocator, |it| it.allocate(&request), unchanged);
+        assert!(refusals > 0);
+        live.push(piece);
+    }
+    let held = driver.state().held.len();
+    assert_eq!(held, 5); // a shared block, and four of a piece's own
+    let pieces = live.len();
+    for piece in live {
+        refuse(1); // free needs none
+        allocator.free(piece).unwrap();
+        assert!(!has_refused());
+        refuse(0);
+    }
+    let commands = allocator.destroy().map_or(0, |capture| capture.lines().filter(|it| it.contains("alloc ")).count());
+    assert_eq!(commands, pieces); // what the host refused isn't captured
+    driver.assert_left_empty();
+}

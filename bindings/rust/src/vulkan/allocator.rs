@@ -1,0 +1,421 @@
+//! The allocator.
+
+use super::abi::{Buffer, Image, MemoryRequirements};
+use super::allocation::{Allocation, Held};
+use super::blocks::{Block, Blocks};
+use super::capture::Capture;
+use super::device::{Answer, Device, Memory, Refusal};
+use super::machine::{Machine, Progress, Question};
+use super::reading;
+use crate::error::{check, copied, invalid_device, TOO_MANY_TYPES};
+use crate::memory_type::BlockStatistics;
+use crate::pieces::Visited;
+use crate::raw::AllocatorPiece;
+use crate::{
+    AllocationError, AllocationSizes, AllocatorDebugSettings, AllocatorReport, Fault, Level, Logger, MemoryLocation,
+    NamedPiece, Result,
+};
+use std::alloc::{handle_alloc_error, Layout};
+use std::fmt;
+use std::sync::atomic::{AtomicU64, Ordering};
+
+/// The archive's status of memory that the driver refused with a code of its own.
+const DRIVER_REFUSED: u32 = 12;
+
+/// The archive's status of memory that the driver didn't map.
+const FAILED_TO_MAP: u32 = 2;
+
+/// What memory is made for.
+#[derive(Clone, Copy, Debug, PartialEq, Eq)]
+pub enum AllocationScheme {
+    /// This buffer alone (`VkMemoryDedicatedAllocateInfo`).
+    DedicatedBuffer(Buffer),
+    /// This image alone.
+    DedicatedImage(Image),
+    /// Whatever the allocator puts there.
+    GpuAllocatorManaged,
+}
+
+/// What is asked of an allocator.
+#[derive(Clone, Debug)]
+pub struct AllocationCreateDesc<'a> {
+    /// A name for reports and leaks.
+    pub name: &'a str,
+    /// What the buffer or image needs.
+    pub requirements: MemoryRequirements,
+    /// Who reads and writes it.
+    pub location: MemoryLocation,
+    /// Whether it is for a buffer or a linear image, and not for an image in the device's own layout.
+    pub linear: bool,
+    /// What its memory is made for.
+    pub allocation_scheme: AllocationScheme,
+}
+
+/// What an allocator is made with.
+#[derive(Clone, Debug)]
+pub struct AllocatorCreateDesc {
+    /// The device that is asked for memory.
+    pub device: Device,
+    /// What is logged, where there is a logger.
+    pub debug_settings: AllocatorDebugSettings,
+    /// Whether memory is made so that shaders may read its address: the device's feature `bufferDeviceAddress` is enabled.
+    pub buffer_device_address: bool,
+    /// The sizes of the blocks that pieces share.
+    pub allocation_sizes: AllocationSizes,
+    /// Where log lines go.
+    pub logger: Option<Logger>,
+    /// Whether the calls are recorded: `Allocator::capture`.
+    pub capture: bool,
+}
+
+impl AllocatorCreateDesc {
+    /// A description with the default settings and sizes, without device addresses, without a logger and without a capture.
+    pub fn new(device: Device) -> Self {
+        AllocatorCreateDesc {
+            device,
+            debug_settings: AllocatorDebugSettings::default(),
+            buffer_device_address: false,
+            allocation_sizes: AllocationSizes::default(),
+            logger: None,
+            capture: false,
+        }
+    }
+}
+
+/// What is counted of a memory type, and of all its blocks together.
+#[derive(Clone, Copy, Debug, Default, PartialEq, Eq)]
+pub struct TypeStatistics {
+    /// The sum of the blocks' sizes in bytes.
+    pub capacity: u64,
+    /// How many slots there are, the empty ones included.
+    pub slots: usize,
+    /// How many blocks there are that several pieces may share.
+    pub shared_blocks: usize,
+    /// The bound of `capacity`, if there is one.
+    pub budget: Option<u64>,
+    /// How many pieces are live.
+    pub pieces: usize,
+    /// What they take in bytes, with the padding before them.
+    pub piece_bytes: u64,
+    /// How many gaps there are.
+    pub gaps: usize,
+    /// The length of the longest gap in bytes, 0 where there is none.
+    pub longest_gap: u64,
+}
+
+/// Numbers of blocks: each names one block of all allocators, so that no allocator takes another one's allocation for its own.
+fn next_block_number() -> u64 {
+    static NEXT: AtomicU64 = AtomicU64::new(1);
+    NEXT.fetch_add(1, Ordering::Relaxed)
+}
+
+/// An allocator of a device's memory. It may go from thread to thread, and serves one call at a time (`Mutex<Allocator>`). Dropping it
+/// gives all blocks back to the driver and logs the allocations that are live still.
+pub struct Allocator {
+    machine: Machine,
+    device: Device,
+    blocks: Blocks,
+    requests: u64,
+    sizes: AllocationSizes,
+    debug_settings: AllocatorDebugSettings,
+    logger: Option<Logger>,
+    capture: Option<Capture>,
+}
+
+impl Allocator {
+    /// An allocator without blocks; the driver isn't asked.
+    ///
+    /// The errors: `InvalidAllocatorCreateDesc` for the first that holds of a granularity that is no power of two, more than 32 memory
+    /// types and a memory type in a heap that isn't there; `HostOutOfMemory`.
+    pub fn new(desc: &AllocatorCreateDesc) -> Result<Self> {
+        let AllocatorCreateDesc { device, allocation_sizes, .. } = desc;
+        // the library can't be told of so many; it would refuse them behind an odd page size and before a heap that isn't there
+        if device.has_too_many_types() && device.buffer_image_granularity().is_power_of_two() {
+            return Err(invalid_device(TOO_MANY_TYPES));
+        }
+        let allocator = Allocator {
+            machine: Machine::new(device, allocation_sizes, desc.buffer_device_address)?,
+            blocks: Blocks::new(device.memory_types().len())?,
+            requests: 0,
+            capture: desc.capture.then(|| Capture::new(device, allocation_sizes)).transpose()?,
+            device: device.clone(),
+            sizes: *allocation_sizes,
+            debug_settings: desc.debug_settings,
+            logger: desc.logger.clone(),
+        };
+        allocator.log_device();
+        Ok(allocator)
+    }
+
+    /// Allocates a piece: of a shared block with a place, or of a new one that the driver is asked for. An upload (`CpuToGpu`) whose first
+    /// memory type is refused has a second attempt at the first one that the host can write.
+    ///
+    /// The errors, the first that holds: `InvalidAllocationCreateDesc`, `NoCompatibleMemoryTypeFound`, and of the attempt that counts
+    /// `OutOfMemory` where the request is larger than its heap, `HostOutOfMemory`, `OutOfMemory` where the blocks' sizes would pass
+    /// `u64::MAX`, `BudgetExceeded`, and what the driver refuses: `OutOfMemory` for `VK_ERROR_OUT_OF_DEVICE_MEMORY`, `Internal` for another
+    /// code, `FailedToMap`. Lack of host memory for the binding's own lists is `HostOutOfMemory` before all of them.
+    pub fn allocate(&mut self, desc: &AllocationCreateDesc<'_>) -> Result<Allocation> {
+        self.log_request(desc);
+        self.requests += 1;
+        let result = self.serve(desc);
+        if let Some(capture) = &mut self.capture {
+            match result {
+                Err(AllocationError::HostOutOfMemory) => capture.undo(),
+                _ => capture.allocated(self.requests, desc),
+            }
+        }
+        result
+    }
+
+    /// Frees an allocation; its block goes back to the driver where it is left empty and isn't the only shared one of its memory type. It
+    /// needs no host memory. The null allocation is freed without effect.
+    ///
+    /// The error: `Internal` where it isn't this allocator's.
+    pub fn free(&mut self, allocation: Allocation) -> Result<()> {
+        self.log_free(&allocation);
+        let Some(held) = allocation.held else { return Ok(()) };
+        let is_block_gone = self.machine.free(&held.piece)?;
+        if let Some(capture) = &mut self.capture {
+            capture.freed(held.number);
+        }
+        if is_block_gone {
+            if let Some(block) = self.blocks.take(held.piece.memory_type, held.piece.piece.slot) {
+                self.device.give_back(block.memory);
+            }
+        }
+        Ok(())
+    }
+
+    /// Renames an allocation, a null one too.
+    ///
+    /// The errors, and then nothing changes: `Internal` where it isn't this allocator's, `HostOutOfMemory`.
+    pub fn rename_allocation(&mut self, allocation: &mut Allocation, name: &str) -> Result<()> {
+        let own = copied(name)?;
+        if let Some(held) = &allocation.held {
+            self.machine.rename(&held.piece, name)?;
+            if let Some(capture) = &mut self.capture {
+                capture.renamed(held.number, name);
+            }
+        }
+        allocation.name = Some(own);
+        Ok(())
+    }
+
+    /// Whether an allocation is this allocator's and live.
+    pub fn is_live(&self, allocation: &Allocation) -> bool {
+        allocation.held.as_ref().is_some_and(|held| self.machine.is_live(&held.piece))
+    }
+
+    /// Bounds the sum of the sizes of a memory type's blocks in bytes, or takes the bound away. A bound below the present sum gives no
+    /// block back.
+    ///
+    /// The error: `Internal` where there is no such memory type.
+    pub fn set_budget(&mut self, memory_type: usize, budget: Option<u64>) -> Result<()> {
+        let result = self.machine.set_budget(memory_type, budget);
+        if let Some(capture) = &mut self.capture {
+            capture.budgeted(memory_type, budget);
+        }
+        result
+    }
+
+    /// The bound of a memory type in bytes; `None` where it has none, or isn't there.
+    pub fn budget(&self, memory_type: usize) -> Option<u64> {
+        self.machine.budget(memory_type)
+    }
+
+    /// The sum of the sizes of the live blocks in bytes.
+    pub fn capacity(&self) -> u64 {
+        self.machine.capacity()
+    }
+
+    /// What is counted of a memory type; `None` where it isn't there.
+    pub fn type_statistics(&self, memory_type: usize) -> Option<TypeStatistics> {
+        self.machine.type_statistics(memory_type)
+    }
+
+    /// What is counted of the block in a slot of a memory type, if one is there.
+    pub fn block_statistics(&self, memory_type: usize, slot: usize) -> Option<BlockStatistics> {
+        self.machine.block_at(memory_type, slot).statistics()
+    }
+
+    /// All live pieces of the block in a slot in order of offset, with their names, in linear time; none where the slot has no block.
+    ///
+    /// The error: `HostOutOfMemory`.
+    pub fn named_pieces(&self, memory_type: usize, slot: usize) -> Result<Vec<NamedPiece>> {
+        self.machine.block_at(memory_type, slot).named()
+    }
+
+    /// What is held: pieces and blocks by memory type, slot and offset. Where the host has no memory for it, the program ends, as it does
+    /// wherever Rust's lists have none; `report_json` and `named_pieces` return an error instead.
+    pub fn generate_report(&self) -> AllocatorReport {
+        reading::report(&self.machine, &self.blocks).unwrap_or_else(|_| out_of_host_memory())
+    }
+
+    /// The report as JSON (`gpu_report.allocator` of docs/REPORT.md).
+    ///
+    /// The error: `HostOutOfMemory`.
+    pub fn report_json(&self) -> Result<String> {
+        self.machine.report_json()
+    }
+
+    /// Logs each live allocation as a leak, by memory type, slot and offset, where there is a logger. Where the host has no memory for the
+    /// next ones, the last line says so.
+    pub fn report_memory_leaks(&self, log_level: Level) {
+        if let Some(logger) = &self.logger {
+            let told = reading::leaks(&self.machine, &self.blocks, |leak| logger.log(log_level, &leak.to_string()));
+            if told.is_err() {
+                logger.log(log_level, "the host refused memory for further leaks");
+            }
+        }
+    }
+
+    /// The device that is asked for memory.
+    pub fn device(&self) -> &Device {
+        &self.device
+    }
+
+    /// What was asked of the allocator by now, where that is recorded.
+    pub fn capture(&self) -> Option<&Capture> {
+        self.capture.as_ref()
+    }
+
+    /// Drops the allocator, and returns what was asked of it, up to its end, where that is recorded.
+    pub fn destroy(mut self) -> Option<Capture> {
+        let mut capture = self.capture.take()?;
+        capture.destroyed();
+        Some(capture)
+    }
+
+    /// A request from its beginning to its end.
+    fn serve(&mut self, desc: &AllocationCreateDesc<'_>) -> Result<Allocation> {
+        let name = copied(desc.name)?;
+        self.blocks.reserve()?;
+        let piece = self.place(desc)?;
+        Ok(Allocation { held: Some(self.held(piece, desc.allocation_scheme)), name: Some(name) })
+    }
+
+    /// Asks the driver until the request has a piece, or is refused.
+    fn place(&mut self, desc: &AllocationCreateDesc<'_>) -> Result<AllocatorPiece> {
+        let mut progress = self.machine.begin(desc)?;
+        let mut refusal = None;
+        loop {
+            progress = match progress {
+                Progress::Piece(piece) => return Ok(piece),
+                Progress::Refused(status) => return Err(error_of(status, refusal)),
+                Progress::Question(question) => match self.ask(&question) {
+                    Answer::Granted(memory) => return Ok(self.install(&question, memory)),
+                    Answer::MemoryRefused(refused) => {
+                        refusal = Some(refused);
+                        self.machine.refused(refused.memory_code())
+                    }
+                    Answer::MappingRefused(refused) => {
+                        refusal = Some(refused);
+                        self.machine.mapping_refused(refused.code())
+                    }
+                },
+            }
+        }
+    }
+
+    fn ask(&mut self, question: &Question) -> Answer {
+        let answer = self.device.ask(question);
+        if let Some(capture) = &mut self.capture {
+            capture.asked(question.mapped, &answer);
+        }
+        answer
+    }
+
+    /// Puts in the block that the driver granted, with its first piece. Nothing fails here: there is room for it.
+    fn install(&mut self, question: &Question, memory: Memory) -> AllocatorPiece {
+        let piece = self.machine.granted(next_block_number());
+        let live = self.blocks.shared_count(piece.memory_type);
+        let shared_size = self.sizes.memblock_size(question.mapped, live);
+        let is_managed = question.scheme == AllocationScheme::GpuAllocatorManaged;
+        // a block of a piece's own is larger than the next shared one, or asked for
+        let is_shared = is_managed && question.size == shared_size;
+        self.blocks.install(piece.memory_type, piece.piece.slot, Block { memory, size: question.size, is_shared });
+        piece
+    }
+
+    /// What the owner of a new piece holds of it.
+    fn held(&self, piece: AllocatorPiece, scheme: AllocationScheme) -> Held {
+        let (memory_type, slot) = (piece.memory_type, piece.piece.slot);
+        Held {
+            piece,
+            number: self.requests,
+            memory: self.blocks.block(memory_type, slot).memory.handle,
+            address: self.blocks.address(memory_type, slot, piece.piece.offset),
+            flags: self.device.memory_types()[memory_type].property_flags,
+            is_dedicated: scheme != AllocationScheme::GpuAllocatorManaged,
+        }
+    }
+
+    fn log(&self, is_wanted: bool, line: fmt::Arguments<'_>) {
+        if let (true, Some(logger)) = (is_wanted, &self.logger) {
+            logger.log(Level::Debug, &line.to_string());
+        }
+    }
+
+    fn log_device(&self) {
+        let (types, heaps) = (self.device.memory_types(), self.device.memory_heaps());
+        let is_wanted = self.debug_settings.log_memory_information;
+        self.log(is_wanted, format_args!("memory type count: {}", types.len()));
+        self.log(is_wanted, format_args!("memory heap count: {}", heaps.len()));
+        for (index, it) in types.iter().enumerate() {
+            let (flags, heap) = (it.property_flags.0, it.heap_index);
+            self.log(is_wanted, format_args!("memory type[{index}]: prop flags: {flags:#x}, heap[{heap}]"));
+        }
+        for (index, heap) in heaps.iter().enumerate() {
+            let (flags, size) = (heap.flags, heap.size >> 20);
+            self.log(is_wanted, format_args!("heap[{index}] flags: {flags:#x}, size: {size} MiB"));
+        }
+    }
+
+    fn log_request(&self, desc: &AllocationCreateDesc<'_>) {
+        let (name, size, alignment) = (desc.name, desc.requirements.size, desc.requirements.alignment);
+        self.log(
+            self.debug_settings.log_allocations,
+            format_args!("Allocating `{name}` of {size} bytes with an alignment of {alignment}."),
+        );
+    }
+
+    fn log_free(&self, allocation: &Allocation) {
+        let name = allocation.name().unwrap_or("<null>");
+        self.log(self.debug_settings.log_frees, format_args!("Freeing `{name}`."));
+    }
+}
+
+/// Ends the program as Rust's lists do where the host has no memory for them.
+fn out_of_host_memory() -> ! {
+    handle_alloc_error(Layout::new::<AllocatorReport>())
+}
+
+/// Why a request is refused, by its status and what the driver refused last.
+fn error_of(status: u32, refusal: Option<Refusal>) -> AllocationError {
+    let code = refusal.and_then(Refusal::code).map(i64::from);
+    match status {
+        DRIVER_REFUSED => AllocationError::Internal(Fault { text: "Unexpected error in vkAllocateMemory", code }),
+        FAILED_TO_MAP if code.is_none() => {
+            AllocationError::FailedToMap(Fault { text: "Returned mapped pointer is null", code })
+        }
+        FAILED_TO_MAP => AllocationError::FailedToMap(Fault { text: "vkMapMemory failed", code }),
+        _ => check(status).expect_err("a refused request has a status but OK"),
+    }
+}
+
+impl fmt::Debug for Allocator {
+    fn fmt(&self, f: &mut fmt::Formatter<'_>) -> fmt::Result {
+        self.generate_report().fmt(f)
+    }
+}
+
+impl Drop for Allocator {
+    fn drop(&mut self) {
+        if self.debug_settings.log_leaks_on_shutdown {
+            self.report_memory_leaks(Level::Warn);
+        }
+        for block in self.blocks.take_all() {
+            self.device.give_back(block.memory);
+        }
+    }
+}

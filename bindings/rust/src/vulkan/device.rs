@@ -1,0 +1,215 @@
+//! The device that an allocator asks for memory.
+
+use super::abi::{
+    Buffer, DeviceFunctions, DeviceMemory, Image, MemoryAllocateFlagsInfo, MemoryAllocateInfo,
+    MemoryDedicatedAllocateInfo, MemoryHeap, MemoryType, PhysicalDeviceMemoryProperties, OUT_OF_DEVICE_MEMORY, SUCCESS,
+    WHOLE_SIZE,
+};
+use super::machine::Question;
+use super::AllocationScheme;
+use std::ffi::c_void;
+use std::ptr::{self, NonNull};
+
+/// A Vulkan device as an allocator needs it: the handle, four functions, and what the physical device says of its memory. Clones stand for
+/// the same device.
+#[derive(Clone, Debug)]
+pub struct Device {
+    handle: u64,
+    functions: DeviceFunctions,
+    memory_properties: PhysicalDeviceMemoryProperties,
+    buffer_image_granularity: u64,
+}
+
+impl Device {
+    /// A device by its `VkDevice` as a number (ash: `device.handle().as_raw()`), its functions, what
+    /// `vkGetPhysicalDeviceMemoryProperties` says, and its limit `bufferImageGranularity`.
+    ///
+    /// # Safety
+    ///
+    /// The caller promises, as long as an allocator over the device or over a clone of it lives:
+    /// - the `VkDevice` is live, and the functions are its own;
+    /// - the memory properties are those of its physical device;
+    /// - the buffers and images that requests name (`AllocationScheme`) are live ones of the device, and bufferDeviceAddress is enabled
+    ///   where an allocator is made with it;
+    /// - no one else frees, maps or unmaps memory that an allocator asked for.
+    ///
+    /// And of allocations from these allocators, whose mapped bytes are read and written without `unsafe`: no one touches them after their
+    /// allocator is dropped, and the device doesn't write bytes while a slice of them is borrowed.
+    pub const unsafe fn new(
+        handle: u64,
+        functions: DeviceFunctions,
+        memory_properties: PhysicalDeviceMemoryProperties,
+        buffer_image_granularity: u64,
+    ) -> Self {
+        Device { handle, functions, memory_properties, buffer_image_granularity }
+    }
+
+    /// The memory types.
+    pub fn memory_types(&self) -> &[MemoryType] {
+        let all = &self.memory_properties.memory_types;
+        &all[..all.len().min(self.memory_properties.memory_type_count as usize)]
+    }
+
+    /// The heaps.
+    pub fn memory_heaps(&self) -> &[MemoryHeap] {
+        let all = &self.memory_properties.memory_heaps;
+        &all[..all.len().min(self.memory_properties.memory_heap_count as usize)]
+    }
+
+    /// The size in bytes of a page that buffers and images may not share.
+    pub fn buffer_image_granularity(&self) -> u64 {
+        self.buffer_image_granularity
+    }
+
+    /// Whether it says that it has more memory types than there is room for in what says so.
+    pub(super) fn has_too_many_types(&self) -> bool {
+        self.memory_properties.memory_type_count as usize > self.memory_properties.memory_types.len()
+    }
+
+    /// Asks the driver for the memory of a block, and to map it where it is to be mapped. Memory that it doesn't map goes back.
+    pub(super) fn ask(&self, question: &Question) -> Answer {
+        let memory = match self.allocate(question) {
+            Err(refusal) => return Answer::MemoryRefused(refusal),
+            Ok(memory) => memory,
+        };
+        if !question.mapped {
+            return Answer::Granted(Memory { handle: memory, address: None });
+        }
+        match self.map(memory) {
+            Ok(address) => Answer::Granted(Memory { handle: memory, address: Some(address) }),
+            Err(refusal) => {
+                self.free(memory);
+                Answer::MappingRefused(refusal)
+            }
+        }
+    }
+
+    /// Gives memory back to the driver, unmapped before where it is mapped.
+    pub(super) fn give_back(&self, memory: Memory) {
+        if memory.address.is_some() {
+            // SAFETY: the device is live and the function its own (`new`), and the memory is mapped.
+            unsafe { (self.functions.unmap_memory)(self.as_ptr(), memory.handle) };
+        }
+        self.free(memory.handle);
+    }
+
+    fn as_ptr(&self) -> *mut c_void {
+        self.handle as usize as *mut c_void
+    }
+
+    fn allocate(&self, question: &Question) -> Result<DeviceMemory, Refusal> {
+        let addresses = MemoryAllocateFlagsInfo {
+            s_type: MemoryAllocateFlagsInfo::STRUCTURE_TYPE,
+            next: ptr::null(),
+            flags: MemoryAllocateFlagsInfo::DEVICE_ADDRESS,
+            device_mask: 0,
+        };
+        let with_addresses = if question.device_address { (&raw const addresses).cast() } else { ptr::null() };
+        let dedicated = dedicated_info(question.scheme, with_addresses);
+        let info = MemoryAllocateInfo {
+            s_type: MemoryAllocateInfo::STRUCTURE_TYPE,
+            next: dedicated.as_ref().map_or(with_addresses, |info| ptr::from_ref(info).cast()),
+            allocation_size: question.size,
+            memory_type_index: question.memory_type,
+        };
+        let mut memory = DeviceMemory(0);
+        // SAFETY: the device is live and the function its own (`new`); what is chained to the description outlives the call.
+        let code = unsafe { (self.functions.allocate_memory)(self.as_ptr(), &info, ptr::null(), &mut memory) };
+        match (code, memory) {
+            (SUCCESS, DeviceMemory(0)) => Err(Refusal::Null),
+            (SUCCESS, memory) => Ok(memory),
+            (code, _) => Err(Refusal::Code(code)),
+        }
+    }
+
+    fn map(&self, memory: DeviceMemory) -> Result<Address, Refusal> {
+        let mut address = ptr::null_mut();
+        // SAFETY: the device is live and the function its own (`new`); the memory is live, isn't mapped, and the host can see it.
+        let code = unsafe { (self.functions.map_memory)(self.as_ptr(), memory, 0, WHOLE_SIZE, 0, &mut address) };
+        match (code, NonNull::new(address)) {
+            (SUCCESS, Some(address)) => Ok(Address(address.cast())),
+            (SUCCESS, None) => Err(Refusal::Null),
+            (code, _) => Err(Refusal::Code(code)),
+        }
+    }
+
+    fn free(&self, memory: DeviceMemory) {
+        // SAFETY: the device is live and the function its own (`new`); the memory is live and isn't used again.
+        unsafe { (self.functions.free_memory)(self.as_ptr(), memory, ptr::null()) };
+    }
+}
+
+/// What says that memory is for one buffer or image alone, where it is.
+fn dedicated_info(scheme: AllocationScheme, next: *const c_void) -> Option<MemoryDedicatedAllocateInfo> {
+    let (buffer, image) = match scheme {
+        AllocationScheme::GpuAllocatorManaged => return None,
+        AllocationScheme::DedicatedBuffer(buffer) => (buffer, Image(0)),
+        AllocationScheme::DedicatedImage(image) => (Buffer(0), image),
+    };
+    let s_type = MemoryDedicatedAllocateInfo::STRUCTURE_TYPE;
+    Some(MemoryDedicatedAllocateInfo { s_type, next, image, buffer })
+}
+
+/// What the driver answers.
+#[derive(Clone, Copy, Debug)]
+pub(super) enum Answer {
+    Granted(Memory),
+    MemoryRefused(Refusal),
+    MappingRefused(Refusal),
+}
+
+/// How the driver refuses: by a code, or by success and a null handle or pointer.
+#[derive(Clone, Copy, Debug)]
+pub(super) enum Refusal {
+    Code(i32),
+    Null,
+}
+
+impl Refusal {
+    /// The code, where there is one.
+    pub(super) fn code(self) -> Option<i32> {
+        match self {
+            Refusal::Code(code) => Some(code),
+            Refusal::Null => None,
+        }
+    }
+
+    /// The code that stands for it where memory was refused: no memory is as if the device had none left.
+    pub(super) fn memory_code(self) -> i32 {
+        self.code().unwrap_or(OUT_OF_DEVICE_MEMORY)
+    }
+}
+
+/// Memory that the driver granted, and where the host sees its first byte.
+#[derive(Clone, Copy, Debug)]
+pub(super) struct Memory {
+    pub(super) handle: DeviceMemory,
+    pub(super) address: Option<Address>,
+}
+
+/// Where the host sees a byte of mapped memory.
+#[derive(Clone, Copy, Debug)]
+pub(super) struct Address(NonNull<u8>);
+
+// SAFETY: an address is the same on each thread; the bytes behind it are read and written by the borrow rules of their allocation alone.
+unsafe impl Send for Address {}
+
+// SAFETY: as above: nothing can be done with a shared address but to copy it.
+unsafe impl Sync for Address {}
+
+impl Address {
+    /// The address so many bytes further.
+    ///
+    /// # Safety
+    ///
+    /// That byte, or the end behind the last one, is of the same mapping.
+    pub(super) unsafe fn at(self, offset: u64) -> Self {
+        // SAFETY: the mapping reaches so far, as the caller promises.
+        Address(unsafe { self.0.add(offset as usize) })
+    }
+
+    /// The pointer.
+    pub(super) fn as_ptr(self) -> NonNull<u8> {
+        self.0
+    }
+}

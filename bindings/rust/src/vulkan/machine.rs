@@ -1,0 +1,329 @@
+//! The proved allocator, which calls no driver: it says what to ask for, and is told the answer.
+
+use super::abi::{Buffer, Image};
+use super::{AllocationCreateDesc, AllocationScheme, Device, TypeStatistics};
+use crate::error::{check, check_unrefused};
+use crate::memory_type::BlockStatistics;
+use crate::pieces::Visited;
+use crate::raw::{self, AllocatorPiece, AllocatorProgress, Handle};
+use crate::{AllocationSizes, Kind, MemoryLocation, Result};
+
+/// What a request leads to.
+#[derive(Clone, Copy, Debug)]
+pub(super) enum Progress {
+    /// A piece is allocated.
+    Piece(AllocatorPiece),
+    /// The driver is to be asked.
+    Question(Question),
+    /// The request is refused for this status, and over.
+    Refused(u32),
+}
+
+/// What the driver is to be asked for.
+#[derive(Clone, Copy, Debug)]
+pub(super) struct Question {
+    pub(super) size: u64,
+    pub(super) memory_type: u32,
+    pub(super) scheme: AllocationScheme,
+    pub(super) device_address: bool,
+    pub(super) mapped: bool,
+}
+
+impl Question {
+    fn from_raw(question: &raw::AllocatorQuestion) -> Self {
+        let scheme = match question.scheme {
+            raw::SCHEME_BUFFER => AllocationScheme::DedicatedBuffer(Buffer(question.resource)),
+            raw::SCHEME_IMAGE => AllocationScheme::DedicatedImage(Image(question.resource)),
+            _ => AllocationScheme::GpuAllocatorManaged,
+        };
+        Question {
+            size: question.size,
+            memory_type: question.memory_type,
+            scheme,
+            device_address: question.device_address,
+            mapped: question.mapped,
+        }
+    }
+}
+
+impl Progress {
+    fn from_raw(progress: &AllocatorProgress) -> Self {
+        match progress.kind {
+            raw::PROGRESS_PIECE => Progress::Piece(progress.piece),
+            raw::PROGRESS_QUESTION => Progress::Question(Question::from_raw(&progress.question)),
+            _ => Progress::Refused(progress.status),
+        }
+    }
+}
+
+fn location_number(location: MemoryLocation) -> u32 {
+    match location {
+        MemoryLocation::Unknown => raw::LOCATION_UNKNOWN,
+        MemoryLocation::GpuOnly => raw::LOCATION_GPU_ONLY,
+        MemoryLocation::CpuToGpu => raw::LOCATION_CPU_TO_GPU,
+        MemoryLocation::GpuToCpu => raw::LOCATION_GPU_TO_CPU,
+    }
+}
+
+fn raw_request(desc: &AllocationCreateDesc<'_>) -> raw::AllocatorRequest {
+    let (scheme, resource) = match desc.allocation_scheme {
+        AllocationScheme::GpuAllocatorManaged => (raw::SCHEME_MANAGED, 0),
+        AllocationScheme::DedicatedBuffer(buffer) => (raw::SCHEME_BUFFER, buffer.0),
+        AllocationScheme::DedicatedImage(image) => (raw::SCHEME_IMAGE, image.0),
+    };
+    raw::AllocatorRequest {
+        size: desc.requirements.size,
+        alignment: desc.requirements.alignment,
+        memory_type_bits: desc.requirements.memory_type_bits,
+        kind: Kind::of(desc.linear).to_raw(),
+        location: location_number(desc.location),
+        scheme,
+        resource,
+    }
+}
+
+/// The allocator behind its handle.
+#[derive(Debug)]
+pub(super) struct Machine {
+    handle: Handle,
+}
+
+impl Machine {
+    /// An allocator without blocks over a device whose properties make sense.
+    pub(super) fn new(device: &Device, sizes: &AllocationSizes, device_address: bool) -> Result<Self> {
+        let (types, heaps, sizes) = (device.memory_types(), device.memory_heaps(), sizes.parts());
+        let settings = raw::AllocatorSettings {
+            page_size: device.buffer_image_granularity(),
+            device_block_size: sizes.device,
+            largest_device_block_size: sizes.largest_device,
+            host_block_size: sizes.host,
+            largest_host_block_size: sizes.largest_host,
+            device_address,
+        };
+        let machine = Machine { handle: Handle::empty() };
+        // SAFETY: the handle is empty and this call's alone; types and heaps are as many as is said, and all of it outlives the call.
+        check(unsafe {
+            raw::pilhangko_raw_allocator_create(
+                machine.handle.as_ptr(),
+                types.as_ptr(),
+                types.len(),
+                heaps.as_ptr(),
+                heaps.len(),
+                &settings,
+            )
+        })?;
+        Ok(machine)
+    }
+
+    /// Begins a request. A question that it leads to has to be answered before the next request.
+    pub(super) fn begin(&mut self, desc: &AllocationCreateDesc<'_>) -> Result<Progress> {
+        let mut progress = AllocatorProgress::default();
+        // SAFETY: the handle is this machine's alone, the name's bytes are as many as is said, and all of it outlives the call.
+        check(unsafe {
+            raw::pilhangko_raw_allocator_begin(
+                self.handle.as_ptr(),
+                &raw_request(desc),
+                desc.name.as_ptr(),
+                desc.name.len(),
+                &mut progress,
+            )
+        })?;
+        Ok(Progress::from_raw(&progress))
+    }
+
+    /// The driver granted the memory, which is known by this number from now on. A question is open.
+    pub(super) fn granted(&mut self, number: u64) -> AllocatorPiece {
+        let mut piece = AllocatorPiece::default();
+        // SAFETY: the handle is this machine's alone.
+        check_unrefused(unsafe { raw::pilhangko_raw_allocator_granted(self.handle.as_ptr(), number, &mut piece) });
+        piece
+    }
+
+    /// The driver refused the memory, with this code. A question is open.
+    pub(super) fn refused(&mut self, code: i32) -> Progress {
+        let mut progress = AllocatorProgress::default();
+        // SAFETY: the handle is this machine's alone.
+        check_unrefused(unsafe { raw::pilhangko_raw_allocator_refused(self.handle.as_ptr(), code, &mut progress) });
+        Progress::from_raw(&progress)
+    }
+
+    /// The driver granted the memory, but refused to map it, and the memory has gone back. A question is open.
+    pub(super) fn mapping_refused(&mut self, code: Option<i32>) -> Progress {
+        let mut progress = AllocatorProgress::default();
+        // SAFETY: the handle is this machine's alone.
+        check_unrefused(unsafe {
+            raw::pilhangko_raw_allocator_mapping_refused(
+                self.handle.as_ptr(),
+                code.is_some(),
+                code.unwrap_or(0),
+                &mut progress,
+            )
+        });
+        Progress::from_raw(&progress)
+    }
+
+    /// Frees a piece, and says whether its block goes back to the driver.
+    pub(super) fn free(&mut self, piece: &AllocatorPiece) -> Result<bool> {
+        let mut back = raw::AllocatorMemory::default();
+        // SAFETY: the handle is this machine's alone, and the piece outlives the call.
+        check(unsafe { raw::pilhangko_raw_allocator_free(self.handle.as_ptr(), piece, &mut back) })?;
+        Ok(back.exists)
+    }
+
+    /// Renames a live piece.
+    pub(super) fn rename(&mut self, piece: &AllocatorPiece, name: &str) -> Result<()> {
+        // SAFETY: the handle is this machine's alone, the name's bytes are as many as is said, and all of it outlives the call.
+        check(unsafe { raw::pilhangko_raw_allocator_rename(self.handle.as_ptr(), piece, name.as_ptr(), name.len()) })
+    }
+
+    /// Whether a piece is live.
+    pub(super) fn is_live(&self, piece: &AllocatorPiece) -> bool {
+        let mut is_live = false;
+        // SAFETY: the handle is this machine's alone: it isn't `Sync`. The piece outlives the call.
+        check_unrefused(unsafe { raw::pilhangko_raw_allocator_is_live(self.handle.as_ptr(), piece, &mut is_live) });
+        is_live
+    }
+
+    /// Bounds the sum of the sizes of a memory type's blocks in bytes, or takes the bound away.
+    pub(super) fn set_budget(&mut self, memory_type: usize, budget: Option<u64>) -> Result<()> {
+        let bytes = budget.unwrap_or(0);
+        // SAFETY: the handle is this machine's alone.
+        check(unsafe {
+            raw::pilhangko_raw_allocator_set_budget(self.handle.as_ptr(), memory_type, budget.is_some(), bytes)
+        })
+    }
+
+    /// The bound of a memory type, if it has one.
+    pub(super) fn budget(&self, memory_type: usize) -> Option<u64> {
+        let mut budget = raw::Budget::default();
+        // SAFETY: the handle is this machine's alone: it isn't `Sync`.
+        check_unrefused(unsafe { raw::pilhangko_raw_allocator_budget(self.handle.as_ptr(), memory_type, &mut budget) });
+        budget.exists.then_some(budget.bytes)
+    }
+
+    /// The sum of the sizes of the live blocks in bytes.
+    pub(super) fn capacity(&self) -> u64 {
+        let mut bytes = 0;
+        // SAFETY: the handle is this machine's alone: it isn't `Sync`.
+        check_unrefused(unsafe { raw::pilhangko_raw_allocator_capacity(self.handle.as_ptr(), &mut bytes) });
+        bytes
+    }
+}
+
+/// What is read of it.
+impl Machine {
+    /// What is counted of a memory type, if it is there.
+    pub(super) fn type_statistics(&self, memory_type: usize) -> Option<TypeStatistics> {
+        let mut s = raw::TypeStatistics::default();
+        // SAFETY: the handle is this machine's alone: it isn't `Sync`.
+        check(unsafe { raw::pilhangko_raw_allocator_type_statistics(self.handle.as_ptr(), memory_type, &mut s) })
+            .ok()?;
+        Some(TypeStatistics {
+            capacity: s.capacity,
+            slots: s.slots,
+            shared_blocks: s.shared_blocks,
+            budget: s.has_budget.then_some(s.budget),
+            pieces: s.pieces,
+            piece_bytes: s.piece_bytes,
+            gaps: s.gaps,
+            longest_gap: s.longest_gap,
+        })
+    }
+
+    /// The block in a slot, as a visit sees it.
+    pub(super) fn block_at(&self, memory_type: usize, slot: usize) -> BlockAt<'_> {
+        BlockAt { machine: self, memory_type, slot }
+    }
+
+    /// The report as JSON.
+    pub(super) fn report_json(&self) -> Result<String> {
+        let mut text = Vec::new();
+        loop {
+            let room = text.len();
+            let mut length = 0;
+            // SAFETY: the handle is this machine's alone: it isn't `Sync`. There is room for as many bytes as is said.
+            check(unsafe {
+                raw::pilhangko_raw_allocator_report(self.handle.as_ptr(), text.as_mut_ptr(), room, &mut length)
+            })?;
+            if length <= room {
+                return Ok(String::from_utf8(text).expect("JSON is UTF-8"));
+            }
+            text.try_reserve_exact(length)?;
+            text.resize(length, 0);
+        }
+    }
+}
+
+/// A block of an allocator, as a visit sees it; there may be none.
+#[derive(Clone, Copy, Debug)]
+pub(super) struct BlockAt<'a> {
+    machine: &'a Machine,
+    memory_type: usize,
+    slot: usize,
+}
+
+impl BlockAt<'_> {
+    /// What is counted of the block, if there is one.
+    pub(super) fn statistics(&self) -> Option<BlockStatistics> {
+        let mut s = raw::MemoryBlockStatistics::default();
+        // SAFETY: the handle is the machine's alone: it isn't `Sync`.
+        check_unrefused(unsafe {
+            raw::pilhangko_raw_allocator_block_statistics(
+                self.machine.handle.as_ptr(),
+                self.memory_type,
+                self.slot,
+                &mut s,
+            )
+        });
+        BlockStatistics::counted(&s)
+    }
+}
+
+impl Visited for BlockAt<'_> {
+    fn count(&self) -> usize {
+        self.statistics().map_or(0, |counted| counted.pieces)
+    }
+
+    fn show(&self, views: &mut [raw::PieceView]) -> (u32, usize) {
+        let mut shown = 0;
+        // SAFETY: the handle is the machine's alone: it isn't `Sync`. There is room for as many views as is said.
+        let status = unsafe {
+            raw::pilhangko_raw_allocator_pieces(
+                self.machine.handle.as_ptr(),
+                self.memory_type,
+                self.slot,
+                0,
+                views.as_mut_ptr(),
+                views.len(),
+                &mut shown,
+            )
+        };
+        (status, shown)
+    }
+
+    fn show_names(&self, lengths: &mut [usize], names: &mut [u8]) -> (u32, usize) {
+        let mut shown = 0;
+        // SAFETY: the handle is the machine's alone: it isn't `Sync`. There is room for as many lengths and bytes as is said.
+        let status = unsafe {
+            raw::pilhangko_raw_allocator_piece_names(
+                self.machine.handle.as_ptr(),
+                self.memory_type,
+                self.slot,
+                0,
+                lengths.as_mut_ptr(),
+                lengths.len(),
+                names.as_mut_ptr(),
+                names.len(),
+                &mut shown,
+            )
+        };
+        (status, shown)
+    }
+}
+
+impl Drop for Machine {
+    fn drop(&mut self) {
+        // SAFETY: the handle is this machine's alone, and isn't used again. An empty one, which `new` left, is refused.
+        unsafe { raw::pilhangko_raw_allocator_destroy(self.handle.as_ptr()) };
+    }
+}

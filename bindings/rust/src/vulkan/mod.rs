@@ -1,0 +1,46 @@
+//! The Vulkan allocator, under the names of the crate gpu-allocator. It asks the driver through four function pointers, so that any binding
+//! of Vulkan serves.
+//!
+//! ```no_run
+//! use pilhangko::vulkan::{
+//!     AllocationCreateDesc, AllocationScheme, Allocator, AllocatorCreateDesc, Device, DeviceFunctions, MemoryRequirements,
+//!     PhysicalDeviceMemoryProperties, VoidFunction,
+//! };
+//! use pilhangko::MemoryLocation;
+//! # fn function_of(_: &std::ffi::CStr) -> Option<VoidFunction> { None }
+//! # let (handle, properties, granularity) = (1, PhysicalDeviceMemoryProperties::default(), 1);
+//!
+//! // SAFETY: functions, properties and handle are those of one live device, which outlives the allocator.
+//! let functions = unsafe { DeviceFunctions::load(function_of) }.expect("Vulkan 1.0 has these functions");
+//! let device = unsafe { Device::new(handle, functions, properties, granularity) };
+//! let mut allocator = Allocator::new(&AllocatorCreateDesc::new(device))?;
+//! let mut upload = allocator.allocate(&AllocationCreateDesc {
+//!     name: "upload buffer",
+//!     requirements: MemoryRequirements { size: 65536, alignment: 256, memory_type_bits: u32::MAX },
+//!     location: MemoryLocation::CpuToGpu,
+//!     linear: true,
+//!     allocation_scheme: AllocationScheme::GpuAllocatorManaged,
+//! })?;
+//! upload.mapped_slice_mut().expect("uploads are mapped").fill(7);
+//! allocator.free(upload)?;
+//! # Ok::<(), pilhangko::AllocationError>(())
+//! ```
+
+mod abi;
+mod allocation;
+mod allocator;
+mod blocks;
+mod capture;
+mod device;
+mod machine;
+mod reading;
+
+pub use abi::{
+    AllocateMemory, Buffer, DeviceFunctions, DeviceMemory, FreeMemory, Image, MapMemory, MemoryAllocateFlagsInfo,
+    MemoryAllocateInfo, MemoryDedicatedAllocateInfo, MemoryHeap, MemoryPropertyFlags, MemoryRequirements, MemoryType,
+    PhysicalDeviceMemoryProperties, UnmapMemory, VoidFunction,
+};
+pub use allocation::Allocation;
+pub use allocator::{AllocationCreateDesc, AllocationScheme, Allocator, AllocatorCreateDesc, TypeStatistics};
+pub use capture::{Capture, CaptureEnd};
+pub use device::Device;

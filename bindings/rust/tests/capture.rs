@@ -1,0 +1,193 @@
+//! Captures: their text, and that `gpu_trace` (the program that PILHANGKO_GPU_TRACE names) replays them with the run's own replies.
+#![allow(missing_docs)]
+
+mod common;
+
+use common::script::Script;
+use common::{FakeDriver, Refusal, MB};
+use pilhangko::vulkan::{
+    Allocation, AllocationCreateDesc, AllocationScheme, Allocator, AllocatorCreateDesc, Buffer, Capture, CaptureEnd,
+    Image, MemoryRequirements,
+};
+use pilhangko::{AllocationSizes, MemoryLocation};
+use std::io::Write;
+use std::process::{Command, Stdio};
+use std::thread;
+
+fn request<'a>(name: &'a str, size: u64, location: MemoryLocation) -> AllocationCreateDesc<'a> {
+    AllocationCreateDesc {
+        name,
+        requirements: MemoryRequirements { size, alignment: 16, memory_type_bits: 3 },
+        location,
+        linear: true,
+        allocation_scheme: AllocationScheme::GpuAllocatorManaged,
+    }
+}
+
+/// Two memory types, the device's and the host's, with blocks of 4 MB.
+fn described(driver: &FakeDriver) -> AllocatorCreateDesc {
+    AllocatorCreateDesc {
+        capture: true,
+        allocation_sizes: AllocationSizes::new(4 * MB, 4 * MB),
+        ..AllocatorCreateDesc::new(driver.device())
+    }
+}
+
+fn driver() -> Box<FakeDriver> {
+    FakeDriver::new(&[(1, 0), (6, 1)], &[100 * MB, 50 * MB], 64)
+}
+
+/// What `gpu_trace` replies to a trace, by lines; `None` where there is no such program.
+fn replayed(trace: &str) -> Option<Vec<String>> {
+    let Some(program) = std::env::var_os("PILHANGKO_GPU_TRACE") else {
+        eprintln!("PILHANGKO_GPU_TRACE isn't set: gpu_trace replays no capture here");
+        return None;
+    };
+    let mut child =
+        Command::new(program).stdin(Stdio::piped()).stdout(Stdio::piped()).spawn().expect("gpu_trace starts");
+    let mut input = child.stdin.take().expect("it has an input");
+    let output = thread::scope(|scope| {
+        scope.spawn(move || input.write_all(trace.as_bytes()).expect("gpu_trace reads its input"));
+        child.wait_with_output().expect("gpu_trace ends")
+    });
+    assert!(output.status.success(), "{:?}", output.status);
+    let text = String::from_utf8(output.stdout).expect("replies are ASCII");
+    Some(text.lines().map(str::to_owned).collect())
+}
+
+fn assert_replays(capture: &Capture, replies: &[String]) {
+    if let Some(replayed) = replayed(&capture.to_string()) {
+        for (number, (told, expected)) in replayed.iter().zip(replies).enumerate() {
+            assert_eq!(told, expected, "reply {number}");
+        }
+        assert_eq!(replayed.len(), replies.len());
+    }
+}
+
+#[test]
+fn without_capture_there_is_none() {
+    let driver = driver();
+    let a = Allocator::new(&AllocatorCreateDesc { capture: false, ..described(&driver) }).unwrap();
+    assert!(a.capture().is_none() && a.destroy().is_none());
+}
+
+#[test]
+fn a_capture_is_what_was_asked() {
+    let driver = driver();
+    driver.refuse(1, Refusal::Code(-1));
+    driver.refuse(4, Refusal::Null); // the mapping of the readback's second try
+    let mut a = Allocator::new(&described(&driver)).unwrap();
+    assert!(a.allocate(&request("first", 100, MemoryLocation::GpuOnly)).is_err());
+    let mut first = a.allocate(&request("first", 100, MemoryLocation::GpuOnly)).unwrap();
+    assert!(a.allocate(&request("read back", 100, MemoryLocation::GpuToCpu)).is_err());
+    let own = AllocationCreateDesc {
+        linear: false,
+        allocation_scheme: AllocationScheme::DedicatedImage(Image(9)),
+        ..request("", 50, MemoryLocation::GpuOnly)
+    };
+    let own = a.allocate(&own).unwrap();
+    a.rename_allocation(&mut first, "größe").unwrap();
+    a.set_budget(0, Some(8 * MB)).unwrap();
+    a.set_budget(0, None).unwrap();
+    assert!(a.set_budget(7, None).is_err());
+    a.free(Allocation::default()).unwrap();
+    a.free(first).unwrap();
+    let scheme = AllocationScheme::DedicatedBuffer(Buffer(u64::MAX));
+    let again = AllocationCreateDesc { allocation_scheme: scheme, ..request("b", 10, MemoryLocation::Unknown) };
+    let _leak = a.allocate(&again).unwrap();
+    a.free(own).unwrap();
+    let capture = a.destroy().unwrap();
+    driver.assert_left_empty();
+    assert_eq!(capture.end(), CaptureEnd::Whole);
+    let expected = "\
+heap 104857600
+heap 52428800
+type 1 0
+type 6 1
+granularity 64
+sizes 4194304 4194304 4194304 4194304
+refuse 1 -1
+refuse 4 null
+new
+alloc 1 100 16 3 GpuOnly linear managed first
+alloc 2 100 16 3 GpuOnly linear managed first
+alloc 3 100 16 3 GpuToCpu linear managed read_back
+alloc 4 50 16 3 GpuOnly nonlinear image:9 _
+rename 2 gr__e
+budget 0 8388608
+budget 0 none
+budget 7 none
+free 2
+alloc 5 10 16 3 Unknown linear buffer:18446744073709551615 b
+free 4
+destroy
+";
+    assert_eq!(capture.to_string(), expected);
+    let mut written = Vec::new();
+    capture.write_to(&mut written).unwrap();
+    assert_eq!(written, expected.as_bytes());
+    let replies = [
+        "ok",
+        "error E6",
+        "ok type 0 slot 0 offset 0 size 100 chunk 2 dedicated false mapped false",
+        "error E2",
+        "ok type 0 slot 1 offset 0 size 50 chunk 1 dedicated true mapped false",
+        "ok",
+        "ok",
+        "ok",
+        "error E6",
+        "ok",
+        "ok type 0 slot 2 offset 0 size 10 chunk 1 dedicated true mapped false",
+        "ok",
+        "held 0",
+    ];
+    assert_replays(&capture, &replies.map(str::to_owned));
+}
+
+#[test]
+fn random_runs_replay_with_the_same_replies() {
+    for seed in 1..=5 {
+        let mut script = Script::new(seed, true);
+        for number in 0..4000 {
+            script.step(number);
+        }
+        let Script { allocator, mut replies, live, driver, .. } = script;
+        let report = allocator.generate_report();
+        let capacity = allocator.capacity();
+        let capture = allocator.destroy().expect("the run is captured");
+        drop(live);
+        driver.assert_left_empty();
+        assert_eq!(capture.end(), CaptureEnd::Whole);
+        replies.push("held 0".to_owned());
+        assert_replays(&capture, &replies);
+        // a report and the capacity before the end are those of the run, too
+        let text = capture.to_string().replace("\ndestroy\n", "\nreport\ncapacity\ndestroy\n");
+        let Some(replayed) = replayed(&text) else { continue };
+        let pieces: Vec<&String> = replayed.iter().filter(|line| line.starts_with("piece ")).collect();
+        assert_eq!(pieces.len(), report.allocations.len());
+        for (piece, row) in pieces.iter().zip(&report.allocations) {
+            assert!(piece.ends_with(&format!(" {} {}", row.offset, row.size)), "{piece} {row:?}");
+        }
+        assert_eq!(replayed[replayed.len() - 2], capacity.to_string());
+    }
+}
+
+#[test]
+fn a_capture_that_is_full_replays_as_far_as_it_goes() {
+    let driver = driver();
+    let mut a = Allocator::new(&described(&driver)).unwrap();
+    let mut replies = vec!["ok".to_owned()];
+    while a.capture().is_some_and(|capture| capture.end() == CaptureEnd::Whole) {
+        let it = a.allocate(&request("piece", 100, MemoryLocation::GpuOnly)).unwrap();
+        let chunk = it.chunk_id().unwrap();
+        replies.push(format!("ok type 0 slot 0 offset 0 size 100 chunk {chunk} dedicated false mapped false"));
+        a.free(it).unwrap();
+        replies.push("ok".to_owned());
+    }
+    let capture = a.destroy().unwrap();
+    assert!(capture.to_string().len() <= 1 << 20);
+    let last = capture.lines().last().unwrap();
+    assert_eq!(last, "# the capture ends here: a trace has no room for the next call");
+    let commands = capture.lines().filter(|line| line.starts_with("alloc") || line.starts_with("free")).count();
+    assert_replays(&capture, &replies[..=commands]);
+}

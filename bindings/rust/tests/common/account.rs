@@ -1,0 +1,263 @@
+//! A plain account of a Vulkan allocator: what is live, where, in which block; and by which rules a request may be refused. It knows the
+//! rules of docs/TRACE.md and nothing of how the library finds a place.
+#![allow(dead_code)]
+
+use super::{FakeDriver, Held, Question, Refusal};
+use pilhangko::vulkan::{Allocation, AllocationCreateDesc, AllocationScheme, Buffer, Image};
+use pilhangko::{AllocationError, AllocationSizes, MemoryLocation};
+use std::collections::BTreeMap;
+
+const DEVICE_LOCAL: u32 = 1;
+const HOST_VISIBLE: u32 = 2;
+const HOST_COHERENT: u32 = 4;
+const HOST_CACHED: u32 = 8;
+
+/// A piece in a block, by its offset.
+#[derive(Clone, Debug)]
+pub struct Piece {
+    pub end: u64,
+    pub linear: bool,
+    pub name: String,
+}
+
+/// A block of the account.
+#[derive(Clone, Debug)]
+pub struct Block {
+    pub memory: u64,
+    pub size: u64,
+    pub is_shared: bool,
+    pub pieces: BTreeMap<u64, Piece>,
+}
+
+#[derive(Debug)]
+pub struct Account {
+    pub types: Vec<(u32, u32)>,
+    pub heaps: Vec<u64>,
+    pub page: u64,
+    pub sizes: AllocationSizes,
+    pub budgets: Vec<Option<u64>>,
+    /// Blocks by memory type and slot.
+    pub blocks: Vec<Vec<Option<Block>>>,
+}
+
+/// What of the driver a call met with: the questions that it refused.
+#[derive(Debug)]
+pub struct Met {
+    pub refused: Vec<(Question, Refusal)>,
+}
+
+impl Account {
+    pub fn new(types: &[(u32, u32)], heaps: &[u64], page: u64, sizes: AllocationSizes) -> Self {
+        Account {
+            types: types.to_vec(),
+            heaps: heaps.to_vec(),
+            page,
+            sizes,
+            budgets: vec![None; types.len()],
+            blocks: vec![Vec::new(); types.len()],
+        }
+    }
+
+    fn is_mapped(&self, memory_type: usize) -> bool {
+        self.types[memory_type].0 & HOST_VISIBLE != 0
+    }
+
+    fn first_type(&self, bits: u32, flags: u32) -> Option<usize> {
+        (0..self.types.len()).find(|&index| bits >> index & 1 == 1 && self.types[index].0 & flags == flags)
+    }
+
+    /// The memory types of a request's attempts: the first, and an upload's second.
+    fn attempts(&self, desc: &AllocationCreateDesc<'_>) -> (Option<usize>, Option<usize>) {
+        let (preferred, required) = match desc.location {
+            MemoryLocation::Unknown => (0, 0),
+            MemoryLocation::GpuOnly => (DEVICE_LOCAL, DEVICE_LOCAL),
+            MemoryLocation::CpuToGpu => (DEVICE_LOCAL | HOST_VISIBLE | HOST_COHERENT, HOST_VISIBLE | HOST_COHERENT),
+            MemoryLocation::GpuToCpu => (HOST_VISIBLE | HOST_COHERENT | HOST_CACHED, HOST_VISIBLE | HOST_COHERENT),
+        };
+        let bits = desc.requirements.memory_type_bits;
+        let best = self.first_type(bits, preferred).or_else(|| self.first_type(bits, required));
+        let second = match desc.location {
+            MemoryLocation::CpuToGpu => self.first_type(bits, required),
+            _ => None,
+        };
+        (best, second)
+    }
+
+    fn shared_count(&self, memory_type: usize) -> usize {
+        self.blocks[memory_type].iter().flatten().filter(|block| block.is_shared).count()
+    }
+
+    fn held(&self, memory_type: usize) -> u64 {
+        self.blocks[memory_type].iter().flatten().map(|block| block.size).sum()
+    }
+
+    pub fn capacity(&self) -> u64 {
+        (0..self.types.len()).map(|memory_type| self.held(memory_type)).sum()
+    }
+
+    /// The size of the block that a request would need in a memory type, and whether others may share it.
+    fn block_for(&self, memory_type: usize, desc: &AllocationCreateDesc<'_>) -> (u64, bool) {
+        let shared = self.sizes.memblock_size(self.is_mapped(memory_type), self.shared_count(memory_type));
+        let size = desc.requirements.size;
+        if desc.allocation_scheme != AllocationScheme::GpuAllocatorManaged || size > shared {
+            (size, false)
+        } else {
+            (shared, true)
+        }
+    }
+
+    fn is_above_heap(&self, memory_type: usize, size: u64) -> bool {
+        size > self.heaps[self.types[memory_type].1 as usize]
+    }
+
+    fn is_above_budget(&self, memory_type: usize, desc: &AllocationCreateDesc<'_>) -> bool {
+        let needed = self.block_for(memory_type, desc).0;
+        self.budgets[memory_type].is_some_and(|budget| self.held(memory_type) + needed > budget)
+    }
+
+    /// Whether an attempt may be refused for this cause.
+    fn allows(&self, memory_type: usize, desc: &AllocationCreateDesc<'_>, met: &Met, error: &AllocationError) -> bool {
+        let last = met.refused.last().copied();
+        if self.is_above_heap(memory_type, desc.requirements.size) {
+            return *error == AllocationError::OutOfMemory;
+        }
+        match error {
+            AllocationError::BudgetExceeded => self.is_above_budget(memory_type, desc),
+            _ if self.is_above_budget(memory_type, desc) => false, // then the driver isn't asked
+            AllocationError::OutOfMemory => {
+                matches!(last, Some((Question::Memory, Refusal::Null | Refusal::Code(-2))))
+            }
+            AllocationError::FailedToMap(fault) => match last {
+                Some((Question::Mapping, Refusal::Null)) => fault.code.is_none(),
+                Some((Question::Mapping, Refusal::Code(code))) => fault.code == Some(i64::from(code)),
+                _ => false,
+            },
+            AllocationError::Internal(fault) => {
+                matches!(last, Some((Question::Memory, Refusal::Code(code))) if code != -2 && fault.code == Some(i64::from(code)))
+            }
+            _ => false,
+        }
+    }
+
+    /// Whether an attempt must be refused, for causes that are known without a look at gaps.
+    fn must_refuse(&self, memory_type: usize, desc: &AllocationCreateDesc<'_>) -> bool {
+        let is_own = !self.block_for(memory_type, desc).1;
+        self.is_above_heap(memory_type, desc.requirements.size) || (is_own && self.is_above_budget(memory_type, desc))
+    }
+
+    /// Looks at a refusal.
+    pub fn refused(&self, desc: &AllocationCreateDesc<'_>, met: &Met, error: &AllocationError) {
+        let needs = &desc.requirements;
+        if needs.size == 0 || !needs.alignment.is_power_of_two() {
+            assert_eq!(*error, AllocationError::InvalidAllocationCreateDesc);
+            return;
+        }
+        match self.attempts(desc) {
+            (None, _) => assert_eq!(*error, AllocationError::NoCompatibleMemoryTypeFound),
+            (_, Some(second)) => assert!(self.allows(second, desc, met, error), "{desc:?} {met:?} {error:?}"),
+            (Some(first), None) => assert!(self.allows(first, desc, met, error), "{desc:?} {met:?} {error:?}"),
+        }
+    }
+
+    /// Looks at a new allocation, and enters it.
+    pub fn allocated(&mut self, driver: &FakeDriver, desc: &AllocationCreateDesc<'_>, met: &Met, it: &Allocation) {
+        let memory_type = it.memory_type_index();
+        let (first, second) = self.attempts(desc);
+        let first = first.expect("a memory type serves");
+        if memory_type != first {
+            assert_eq!(Some(memory_type), second);
+        }
+        if memory_type != first || !met.refused.is_empty() {
+            let is_refused = !met.refused.is_empty() || self.is_above_heap(first, desc.requirements.size);
+            assert!(second.is_some() && (is_refused || self.is_above_budget(first, desc)));
+        }
+        assert!(!self.must_refuse(memory_type, desc));
+        // SAFETY: the handle is only looked up.
+        let memory = unsafe { it.memory() }.0;
+        let held = *driver.state().held.get(&memory).expect("a piece lies in memory that the driver holds");
+        self.enter_block(desc, it, memory, &held);
+        self.enter_piece(desc, it, &held);
+    }
+
+    /// Enters the block of an allocation where it is new.
+    fn enter_block(&mut self, desc: &AllocationCreateDesc<'_>, it: &Allocation, memory: u64, held: &Held) {
+        let (memory_type, slot) = (it.memory_type_index(), it.memory_block_index());
+        let known = self.blocks[memory_type].get(slot).and_then(Option::as_ref);
+        if let Some(block) = known {
+            assert_eq!(block.memory, memory);
+            assert!(block.is_shared && !it.is_dedicated());
+            return;
+        }
+        let (size, is_shared) = self.block_for(memory_type, desc);
+        // a shared block takes the highest empty slot, a piece's own the lowest
+        let slots = &self.blocks[memory_type];
+        let empty =
+            if is_shared { slots.iter().rposition(Option::is_none) } else { slots.iter().position(Option::is_none) };
+        assert_eq!(slot, empty.unwrap_or(slots.len()));
+        assert_eq!((held.asked.size, held.asked.memory_type as usize), (size, memory_type));
+        assert!(!self.is_above_budget(memory_type, desc));
+        let (buffer, image) = match desc.allocation_scheme {
+            AllocationScheme::DedicatedBuffer(buffer) => (buffer, Image(0)),
+            AllocationScheme::DedicatedImage(image) => (Buffer(0), image),
+            AllocationScheme::GpuAllocatorManaged => (Buffer(0), Image(0)),
+        };
+        assert_eq!((held.asked.buffer, held.asked.image), (buffer, image));
+        let block = Some(Block { memory, size, is_shared, pieces: BTreeMap::new() });
+        match empty {
+            Some(slot) => self.blocks[memory_type][slot] = block,
+            None => self.blocks[memory_type].push(block),
+        }
+    }
+
+    /// Enters a piece: it is aligned, lies inside its block, shares no byte with a neighbour, and no page with one of the other kind.
+    fn enter_piece(&mut self, desc: &AllocationCreateDesc<'_>, it: &Allocation, held: &Held) {
+        let (offset, size) = (it.offset(), it.size());
+        assert_eq!(size, desc.requirements.size);
+        assert_eq!(offset % desc.requirements.alignment, 0);
+        assert_eq!(it.is_dedicated(), desc.allocation_scheme != AllocationScheme::GpuAllocatorManaged);
+        let start = held.mapped.map(|bytes| bytes as u64 + offset);
+        assert_eq!(it.mapped_ptr().map(|it| it.as_ptr() as u64), start);
+        assert_eq!(start.is_some(), self.is_mapped(it.memory_type_index()));
+        let page = self.page;
+        let slots = &mut self.blocks[it.memory_type_index()];
+        let block = slots[it.memory_block_index()].as_mut().expect("it was entered");
+        let end = offset + size;
+        assert!(end <= block.size);
+        if let Some((_, before)) = block.pieces.range(..=offset).next_back() {
+            assert!(before.end <= offset);
+            assert!(before.linear == desc.linear || (before.end - 1) / page < offset / page);
+        }
+        if let Some((&next, behind)) = block.pieces.range(offset..).next() {
+            assert!(end <= next);
+            assert!(behind.linear == desc.linear || (end - 1) / page < next / page);
+        }
+        block.pieces.insert(offset, Piece { end, linear: desc.linear, name: desc.name.to_owned() });
+    }
+
+    /// Strikes out an allocation that is freed, and its block where that goes by the rule.
+    pub fn freed(&mut self, (memory_type, slot, offset): (usize, usize, u64)) {
+        let is_last = self.shared_count(memory_type) == 1;
+        let place = &mut self.blocks[memory_type][slot];
+        let block = place.as_mut().expect("a piece was here");
+        block.pieces.remove(&offset).expect("a piece was here");
+        if block.pieces.is_empty() && !(block.is_shared && is_last) {
+            *place = None;
+        }
+    }
+
+    /// Gives a live piece another name.
+    pub fn renamed(&mut self, (memory_type, slot, offset): (usize, usize, u64), name: &str) {
+        let block = self.blocks[memory_type][slot].as_mut().expect("a piece is here");
+        block.pieces.get_mut(&offset).expect("a piece is here").name = name.to_owned();
+    }
+
+    /// The driver holds just the live blocks.
+    pub fn assert_held(&self, driver: &FakeDriver) {
+        let mut live: Vec<u64> = self.blocks.iter().flatten().flatten().map(|block| block.memory).collect();
+        live.sort_unstable();
+        let state = driver.state();
+        assert!(state.held.keys().copied().eq(live));
+        assert_eq!(state.bytes(), self.capacity());
+        assert_eq!(state.faults, [""; 0]);
+    }
+}

@@ -1,0 +1,285 @@
+//! A Vulkan driver for tests, by four functions over a state that tests look at, and random numbers that are the same on each run.
+#![allow(dead_code, missing_docs)]
+
+use pilhangko::vulkan::{
+    Buffer, Device, DeviceFunctions, DeviceMemory, Image, MemoryAllocateFlagsInfo, MemoryAllocateInfo,
+    MemoryDedicatedAllocateInfo, MemoryHeap, MemoryPropertyFlags, MemoryType, PhysicalDeviceMemoryProperties,
+};
+use std::alloc::{alloc_zeroed, dealloc, Layout};
+use std::collections::{BTreeMap, HashMap};
+use std::ffi::c_void;
+use std::ptr;
+use std::sync::{Mutex, MutexGuard};
+
+pub mod account;
+pub mod script;
+
+pub const MB: u64 = 1 << 20;
+
+/// How the driver refuses a question: by a code, or by success and null.
+#[derive(Clone, Copy, Debug, PartialEq, Eq)]
+pub enum Refusal {
+    Code(i32),
+    Null,
+}
+
+/// A question is for memory, or for its mapping.
+#[derive(Clone, Copy, Debug, PartialEq, Eq)]
+pub enum Question {
+    Memory,
+    Mapping,
+}
+
+/// What memory was asked for.
+#[derive(Clone, Copy, Debug, Default, PartialEq, Eq)]
+pub struct Asked {
+    pub size: u64,
+    pub memory_type: u32,
+    pub buffer: Buffer,
+    pub image: Image,
+    pub device_address: bool,
+}
+
+/// Memory that the driver holds.
+#[derive(Clone, Copy, Debug)]
+pub struct Held {
+    pub asked: Asked,
+    pub mapped: Option<*mut u8>,
+}
+
+#[derive(Debug, Default)]
+pub struct State {
+    /// How many questions came.
+    pub questions: u64,
+    /// Which questions are refused, by number from 1.
+    pub refusals: HashMap<u64, Refusal>,
+    /// The memory that is held, by handle.
+    pub held: BTreeMap<u64, Held>,
+    /// The questions that were refused since a test last emptied the list.
+    pub refused: Vec<(Question, Refusal)>,
+    /// What the driver was misused for.
+    pub faults: Vec<String>,
+    last_handle: u64,
+}
+
+// SAFETY: the addresses of mapped bytes are used by the driver alone, to free them.
+unsafe impl Send for State {}
+
+impl State {
+    /// Counts a question, and says whether it is refused.
+    fn meets(&mut self, question: Question) -> Result<(), Refusal> {
+        self.questions += 1;
+        match self.refusals.get(&self.questions) {
+            None => Ok(()),
+            Some(&refusal) => {
+                self.refused.push((question, refusal));
+                Err(refusal)
+            }
+        }
+    }
+
+    fn allocate(&mut self, asked: Asked) -> Result<DeviceMemory, Refusal> {
+        self.meets(Question::Memory)?;
+        self.last_handle += 16;
+        self.held.insert(self.last_handle, Held { asked, mapped: None });
+        Ok(DeviceMemory(self.last_handle))
+    }
+
+    fn map(&mut self, memory: DeviceMemory) -> Result<*mut u8, Refusal> {
+        self.meets(Question::Mapping)?;
+        let Some(held) = self.held.get_mut(&memory.0).filter(|held| held.mapped.is_none()) else {
+            self.faults.push(format!("mapping {memory:?}, which isn't held or is mapped"));
+            return Err(Refusal::Null);
+        };
+        // SAFETY: no memory is of 0 bytes.
+        let bytes = unsafe { alloc_zeroed(layout(held.asked.size)) };
+        held.mapped = Some(bytes);
+        Ok(bytes)
+    }
+
+    fn unmap(&mut self, memory: DeviceMemory) {
+        match self.held.get_mut(&memory.0).and_then(|held| Some((held.mapped.take()?, held.asked.size))) {
+            // SAFETY: the bytes are those that `map` allocated.
+            Some((bytes, size)) => unsafe { dealloc(bytes, layout(size)) },
+            None => self.faults.push(format!("unmapping {memory:?}, which isn't mapped")),
+        }
+    }
+
+    fn free(&mut self, memory: DeviceMemory) {
+        match self.held.remove(&memory.0) {
+            Some(Held { mapped: None, .. }) => {}
+            other => self.faults.push(format!("freeing {memory:?}, which isn't held or is mapped: {other:?}")),
+        }
+    }
+
+    /// The sizes of the memory that is held, summed up.
+    pub fn bytes(&self) -> u64 {
+        self.held.values().map(|held| held.asked.size).sum()
+    }
+}
+
+fn layout(size: u64) -> Layout {
+    Layout::from_size_align(size as usize, 64).expect("a size of memory is below 2^63")
+}
+
+/// A driver. Its address is the handle of its device.
+#[derive(Debug)]
+pub struct FakeDriver {
+    state: Mutex<State>,
+    properties: PhysicalDeviceMemoryProperties,
+    granularity: u64,
+}
+
+impl FakeDriver {
+    /// A driver with these memory types (flags and heap) and heaps (size).
+    pub fn new(types: &[(u32, u32)], heaps: &[u64], granularity: u64) -> Box<Self> {
+        let mut properties = PhysicalDeviceMemoryProperties {
+            memory_type_count: types.len() as u32,
+            memory_heap_count: heaps.len() as u32,
+            ..Default::default()
+        };
+        for (place, &(flags, heap_index)) in properties.memory_types.iter_mut().zip(types) {
+            *place = MemoryType { property_flags: MemoryPropertyFlags(flags), heap_index };
+        }
+        for (place, &size) in properties.memory_heaps.iter_mut().zip(heaps) {
+            *place = MemoryHeap { size, flags: 0 };
+        }
+        Box::new(FakeDriver { state: Mutex::default(), properties, granularity })
+    }
+
+    pub fn device(&self) -> Device {
+        let functions = DeviceFunctions { allocate_memory, free_memory, map_memory, unmap_memory };
+        // SAFETY: tests keep a driver as long as its allocators.
+        unsafe { Device::new(ptr::from_ref(self) as u64, functions, self.properties, self.granularity) }
+    }
+
+    pub fn state(&self) -> MutexGuard<'_, State> {
+        self.state.lock().expect("no test panics while it looks")
+    }
+
+    /// Refuses a question, by number from 1.
+    pub fn refuse(&self, question: u64, refusal: Refusal) {
+        self.state().refusals.insert(question, refusal);
+    }
+
+    /// Nothing is held, and nothing was misused.
+    pub fn assert_left_empty(&self) {
+        let state = self.state();
+        assert!(state.held.is_empty(), "{:?}", state.held);
+        assert_eq!(state.faults, [""; 0]);
+    }
+}
+
+/// The driver behind a device's handle.
+///
+/// # Safety
+///
+/// The handle is the address of a driver that lives.
+unsafe fn driver<'a>(device: *mut c_void) -> &'a FakeDriver {
+    // SAFETY: as the caller promises.
+    unsafe { &*device.cast::<FakeDriver>() }
+}
+
+/// What is asked for, and what is chained to it.
+///
+/// # Safety
+///
+/// The chain is one of Vulkan's structs.
+unsafe fn asked(info: &MemoryAllocateInfo) -> Asked {
+    let mut asked = Asked { size: info.allocation_size, memory_type: info.memory_type_index, ..Asked::default() };
+    assert_eq!(info.s_type, MemoryAllocateInfo::STRUCTURE_TYPE);
+    let mut next = info.next;
+    while !next.is_null() {
+        // SAFETY: each struct of a chain begins with its type.
+        match unsafe { *next.cast::<i32>() } {
+            MemoryAllocateFlagsInfo::STRUCTURE_TYPE => {
+                // SAFETY: the type says which struct it is.
+                let info = unsafe { &*next.cast::<MemoryAllocateFlagsInfo>() };
+                asked.device_address = info.flags == MemoryAllocateFlagsInfo::DEVICE_ADDRESS;
+                next = info.next;
+            }
+            MemoryDedicatedAllocateInfo::STRUCTURE_TYPE => {
+                // SAFETY: the type says which struct it is.
+                let info = unsafe { &*next.cast::<MemoryDedicatedAllocateInfo>() };
+                (asked.buffer, asked.image) = (info.buffer, info.image);
+                next = info.next;
+            }
+            other => panic!("a struct of type {other} is chained"),
+        }
+    }
+    asked
+}
+
+unsafe extern "system" fn allocate_memory(
+    device: *mut c_void,
+    info: *const MemoryAllocateInfo,
+    _: *const c_void,
+    memory: *mut DeviceMemory,
+) -> i32 {
+    // SAFETY: the allocator hands in the device's handle and a description.
+    let (driver, asked) = unsafe { (driver(device), asked(&*info)) };
+    let (code, handle) = match driver.state().allocate(asked) {
+        Ok(handle) => (0, handle),
+        Err(Refusal::Code(code)) => (code, DeviceMemory(77)), // what is written beside a code isn't read
+        Err(Refusal::Null) => (0, DeviceMemory(0)),
+    };
+    // SAFETY: the allocator hands in where to write.
+    unsafe { *memory = handle };
+    code
+}
+
+unsafe extern "system" fn free_memory(device: *mut c_void, memory: DeviceMemory, _: *const c_void) {
+    // SAFETY: the allocator hands in the device's handle.
+    unsafe { driver(device) }.state().free(memory);
+}
+
+unsafe extern "system" fn map_memory(
+    device: *mut c_void,
+    memory: DeviceMemory,
+    offset: u64,
+    size: u64,
+    flags: u32,
+    address: *mut *mut c_void,
+) -> i32 {
+    assert_eq!((offset, size, flags), (0, u64::MAX, 0));
+    // SAFETY: the allocator hands in the device's handle.
+    let (code, bytes) = match unsafe { driver(device) }.state().map(memory) {
+        Ok(bytes) => (0, bytes),
+        Err(Refusal::Code(code)) => (code, ptr::NonNull::dangling().as_ptr()),
+        Err(Refusal::Null) => (0, ptr::null_mut()),
+    };
+    // SAFETY: the allocator hands in where to write.
+    unsafe { *address = bytes.cast() };
+    code
+}
+
+unsafe extern "system" fn unmap_memory(device: *mut c_void, memory: DeviceMemory) {
+    // SAFETY: the allocator hands in the device's handle.
+    unsafe { driver(device) }.state().unmap(memory);
+}
+
+/// splitmix64.
+#[derive(Debug)]
+pub struct Random(pub u64);
+
+impl Random {
+    pub fn next(&mut self) -> u64 {
+        self.0 = self.0.wrapping_add(0x9E37_79B9_7F4A_7C15);
+        let mut z = self.0;
+        z = (z ^ (z >> 30)).wrapping_mul(0xBF58_476D_1CE4_E5B9);
+        z = (z ^ (z >> 27)).wrapping_mul(0x94D0_49BB_1331_11EB);
+        z ^ (z >> 31)
+    }
+
+    pub fn below(&mut self, bound: u64) -> u64 {
+        self.next() % bound
+    }
+
+    pub fn one_in(&mut self, chance: u64) -> bool {
+        self.below(chance) == 0
+    }
+
+    pub fn of<T: Copy>(&mut self, all: &[T]) -> T {
+        all[self.below(all.len() as u64) as usize]
+    }
+}

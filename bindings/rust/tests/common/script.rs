@@ -1,0 +1,296 @@
+//! Random calls of an allocator, each looked at beside the plain account.
+#![allow(dead_code)]
+
+use super::account::{Account, Met};
+use super::{FakeDriver, Random, Refusal, MB};
+use pilhangko::vulkan::{
+    Allocation, AllocationCreateDesc, AllocationScheme, Allocator, AllocatorCreateDesc, Buffer, Image,
+    MemoryRequirements,
+};
+use pilhangko::{AllocationError, AllocationSizes, MemoryLocation, Result};
+use std::collections::BTreeMap;
+
+const TYPES: [(u32, u32); 5] = [(1, 0), (6, 1), (7, 2), (14, 1), (3, 0)];
+const HEAPS: [u64; 3] = [400 * MB, 200 * MB, 24 * MB];
+const PAGE: u64 = 1024;
+
+/// Names of different lengths, some with characters that a trace hasn't.
+const NAMES: [&str; 5] = [
+    "",
+    "vertices",
+    "shadow map 7",
+    "größe",
+    "a name that is longer than what a trace has room for: 64 bytes and no more",
+];
+
+/// What a call returned, in the words of a trace's reply.
+pub type Reply = String;
+
+/// An allocator, its driver, the account, and what is live.
+#[derive(Debug)]
+pub struct Script {
+    pub allocator: Allocator,
+    pub account: Account,
+    pub random: Random,
+    pub live: Vec<Allocation>,
+    pub replies: Vec<Reply>,
+    pub driver: Box<FakeDriver>,
+    /// How often each outcome came: error numbers, and 0 for success.
+    pub outcomes: BTreeMap<u32, u64>,
+    is_captured: bool,
+}
+
+/// Sizes: most are small, some larger than a block, few larger than a heap.
+fn size(random: &mut Random) -> u64 {
+    match random.below(400) {
+        0 => 0,
+        1 => 24 * MB + random.below(400 * MB),
+        2..=5 => 4 * MB + random.below(12 * MB),
+        6..=40 => random.below(2 * MB),
+        _ => 1 + random.below(60_000),
+    }
+}
+
+fn alignment(random: &mut Random) -> u64 {
+    match random.below(200) {
+        0 => 0,
+        1 => 48,
+        2 => 1 << (12 + random.below(11)),
+        _ => 1 << random.below(10),
+    }
+}
+
+fn location(random: &mut Random) -> MemoryLocation {
+    random.of(&[
+        MemoryLocation::Unknown,
+        MemoryLocation::GpuOnly,
+        MemoryLocation::CpuToGpu,
+        MemoryLocation::CpuToGpu,
+        MemoryLocation::GpuToCpu,
+    ])
+}
+
+pub fn description(random: &mut Random) -> AllocationCreateDesc<'static> {
+    let number = random.next();
+    AllocationCreateDesc {
+        name: random.of(&NAMES),
+        requirements: MemoryRequirements {
+            size: size(random),
+            alignment: alignment(random),
+            memory_type_bits: if random.one_in(4) { random.next() as u32 } else { u32::MAX },
+        },
+        location: location(random),
+        linear: !random.one_in(3),
+        allocation_scheme: match random.below(40) {
+            0 => AllocationScheme::DedicatedBuffer(Buffer(number)),
+            1 => AllocationScheme::DedicatedImage(Image(number)),
+            _ => AllocationScheme::GpuAllocatorManaged,
+        },
+    }
+}
+
+/// Where an allocation lies.
+fn place(it: &Allocation) -> (usize, usize, u64) {
+    (it.memory_type_index(), it.memory_block_index(), it.offset())
+}
+
+/// What a trace replies to a request.
+fn reply(result: &Result<Allocation>) -> Reply {
+    match result {
+        Err(error) => format!("error E{}", error.number()),
+        Ok(it) => format!(
+            "ok type {} slot {} offset {} size {} chunk {} dedicated {} mapped {}",
+            it.memory_type_index(),
+            it.memory_block_index(),
+            it.offset(),
+            it.size(),
+            it.chunk_id().map_or(0, u64::from),
+            it.is_dedicated(),
+            it.mapped_ptr().is_some()
+        ),
+    }
+}
+
+impl Script {
+    pub fn new(seed: u64, is_captured: bool) -> Self {
+        let driver = FakeDriver::new(&TYPES, &HEAPS, PAGE);
+        let sizes = AllocationSizes::new(8 * MB, 4 * MB).with_max_device_memblock_size(32 * MB);
+        let desc = AllocatorCreateDesc {
+            allocation_sizes: sizes,
+            buffer_device_address: true,
+            capture: is_captured,
+            ..AllocatorCreateDesc::new(driver.device())
+        };
+        Script {
+            allocator: Allocator::new(&desc).expect("the device makes sense"),
+            account: Account::new(&TYPES, &HEAPS, PAGE, sizes),
+            random: Random(seed),
+            live: Vec::new(),
+            replies: vec!["ok".to_owned()],
+            driver,
+            outcomes: BTreeMap::new(),
+            is_captured,
+        }
+    }
+
+    fn told(&mut self, reply: Reply) {
+        if self.is_captured {
+            self.replies.push(reply);
+        }
+    }
+
+    /// Lets the driver refuse one of the next four questions, sometimes.
+    fn maybe_refuse(&mut self) {
+        if self.random.one_in(6) {
+            let refusal = self.random.of(&[Refusal::Code(-2), Refusal::Code(-1), Refusal::Code(-5), Refusal::Null]);
+            let question = self.driver.state().questions + 1 + self.random.below(4);
+            self.driver.refuse(question, refusal);
+        }
+    }
+
+    pub fn allocate(&mut self) {
+        let desc = description(&mut self.random);
+        self.maybe_refuse();
+        self.driver.state().refused.clear();
+        let result = self.allocator.allocate(&desc);
+        let met = Met { refused: self.driver.state().refused.clone() };
+        self.told(reply(&result));
+        *self.outcomes.entry(result.as_ref().map_or_else(AllocationError::number, |_| 0)).or_default() += 1;
+        match result {
+            Err(error) => self.account.refused(&desc, &met, &error),
+            Ok(mut it) => {
+                self.account.allocated(&self.driver, &desc, &met, &it);
+                assert_eq!(it.name(), Some(desc.name));
+                mark(&mut it);
+                self.live.push(it);
+            }
+        }
+    }
+
+    pub fn free(&mut self) {
+        if self.live.is_empty() {
+            return;
+        }
+        let index = self.random.below(self.live.len() as u64) as usize;
+        let it = self.live.swap_remove(index);
+        assert!(self.allocator.is_live(&it));
+        assert_marked(&it);
+        let place = place(&it);
+        self.allocator.free(it).expect("a live allocation is freed");
+        self.account.freed(place);
+        self.told("ok".to_owned());
+    }
+
+    pub fn rename(&mut self) {
+        if self.live.is_empty() {
+            return;
+        }
+        let index = self.random.below(self.live.len() as u64) as usize;
+        let name = self.random.of(&NAMES);
+        let it = &mut self.live[index];
+        self.allocator.rename_allocation(it, name).expect("a live allocation is renamed");
+        assert_eq!(it.name(), Some(name));
+        self.account.renamed(place(it), name);
+        self.told("ok".to_owned());
+    }
+
+    pub fn set_budget(&mut self) {
+        let memory_type = self.random.below(TYPES.len() as u64 + 1) as usize;
+        let budget = (!self.random.one_in(2)).then(|| self.random.below(120 * MB));
+        let result = self.allocator.set_budget(memory_type, budget);
+        if memory_type == TYPES.len() {
+            assert!(matches!(result, Err(AllocationError::Internal(_))));
+            self.told("error E6".to_owned());
+        } else {
+            result.expect("the memory type is there");
+            self.account.budgets[memory_type] = budget;
+            self.told("ok".to_owned());
+        }
+        let expected = self.account.budgets.get(memory_type).copied().flatten();
+        assert_eq!(self.allocator.budget(memory_type), expected);
+    }
+
+    /// A random call. Phases in which more is allocated than freed alternate with the reverse.
+    pub fn step(&mut self, number: u64) {
+        let allocates = if number / 3000 % 2 == 0 { 55 } else { 40 };
+        match self.random.below(100) {
+            0 => self.set_budget(),
+            1..=3 => self.rename(),
+            it if it < 4 + allocates => self.allocate(),
+            _ => self.free(),
+        }
+        self.account.assert_held(&self.driver);
+        assert_eq!(self.allocator.capacity(), self.account.capacity());
+        if number % 1000 == 0 {
+            self.assert_reported();
+        }
+    }
+
+    /// The report shows what the account has.
+    pub fn assert_reported(&self) {
+        let report = self.allocator.generate_report();
+        let mut rows = report.allocations.iter();
+        let mut blocks = report.blocks.iter();
+        for block in self.account.blocks.iter().flatten().flatten() {
+            let shown = blocks.next().expect("each block is shown");
+            assert_eq!((shown.size, shown.allocations.len()), (block.size, block.pieces.len()));
+            for (offset, piece) in &block.pieces {
+                let row = rows.next().expect("each piece is shown");
+                assert_eq!((&row.name, row.offset, row.offset + row.size), (&piece.name, *offset, piece.end));
+            }
+        }
+        assert!(rows.next().is_none() && blocks.next().is_none());
+        assert_eq!(report.total_capacity_bytes, self.account.capacity());
+        let own: u64 = report.allocations.iter().map(|row| row.size).sum();
+        assert!((own..=report.total_capacity_bytes).contains(&report.total_allocated_bytes));
+        self.assert_counted(report.total_allocated_bytes);
+    }
+
+    /// What is counted of memory types and blocks is what the account has; pieces with their padding sum up to so many bytes.
+    fn assert_counted(&self, piece_bytes: u64) {
+        let mut bytes = 0;
+        for (memory_type, slots) in self.account.blocks.iter().enumerate() {
+            let counted = self.allocator.type_statistics(memory_type).expect("the memory type is there");
+            let live = || slots.iter().flatten();
+            let pieces: usize = live().map(|block| block.pieces.len()).sum();
+            let capacity: u64 = live().map(|block| block.size).sum();
+            let shared_blocks = live().filter(|block| block.is_shared).count();
+            assert_eq!((counted.pieces, counted.capacity, counted.shared_blocks), (pieces, capacity, shared_blocks));
+            assert_eq!((counted.slots, counted.budget), (slots.len(), self.account.budgets[memory_type]));
+            for (slot, block) in slots.iter().enumerate() {
+                let of_block = self.allocator.block_statistics(memory_type, slot);
+                assert_eq!(of_block.map(|it| it.pieces), block.as_ref().map(|it| it.pieces.len()));
+            }
+            bytes += counted.piece_bytes;
+        }
+        assert_eq!(bytes, piece_bytes);
+        assert!(self.allocator.type_statistics(TYPES.len()).is_none());
+    }
+}
+
+/// Writes where an allocation lies into its first and last bytes.
+fn mark(it: &mut Allocation) {
+    let mark = mark_of(it);
+    if let Some(bytes) = it.mapped_slice_mut() {
+        let length = bytes.len().min(mark.len());
+        bytes[..length].copy_from_slice(&mark[..length]);
+        let end = bytes.len() - length;
+        bytes[end..].copy_from_slice(&mark[..length]);
+    }
+}
+
+fn assert_marked(it: &Allocation) {
+    let mark = mark_of(it);
+    if let Some(bytes) = it.mapped_slice() {
+        let length = bytes.len().min(mark.len());
+        assert_eq!(bytes[bytes.len() - length..], mark[..length]);
+        if bytes.len() >= 2 * length {
+            assert_eq!(bytes[..length], mark[..length]);
+        }
+    }
+}
+
+fn mark_of(it: &Allocation) -> [u8; 8] {
+    let (memory_type, slot, offset) = place(it);
+    (offset ^ (slot as u64) << 40 ^ (memory_type as u64) << 56 ^ it.size() << 20).to_le_bytes()
+}

@@ -1,0 +1,31 @@
+//! 200,000 random calls of the Vulkan allocator beside a plain account, with the driver's refusals.
+#![allow(missing_docs)]
+
+mod common;
+
+use common::script::Script;
+
+fn runs(seed: u64, calls: u64) {
+    let mut script = Script::new(seed, false);
+    for number in 0..calls {
+        script.step(number);
+    }
+    let Script { allocator, live, driver, outcomes, .. } = script;
+    assert!(!live.is_empty());
+    // each outcome came, and so each rule of the account was looked at
+    for outcome in [0, 1, 2, 3, 4, 6, 11] {
+        assert!(outcomes.get(&outcome).is_some_and(|&count| count >= 20), "{outcomes:?}");
+    }
+    drop(allocator);
+    driver.assert_left_empty();
+}
+
+#[test]
+fn a_hundred_thousand_calls() {
+    runs(42, 100_000);
+}
+
+#[test]
+fn another_hundred_thousand_calls() {
+    runs(43, 100_000);
+}

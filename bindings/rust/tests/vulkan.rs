@@ -1,0 +1,513 @@
+//! The Vulkan allocator over a driver of the test's: rows that were worked out by hand.
+#![allow(missing_docs)]
+
+mod common;
+
+use common::{Asked, FakeDriver, Refusal, MB};
+use pilhangko::memory_type::BlockStatistics;
+use pilhangko::vulkan::{
+    Allocation, AllocationCreateDesc, AllocationScheme, Allocator, AllocatorCreateDesc, Buffer, Image,
+    MemoryPropertyFlags, MemoryRequirements, TypeStatistics,
+};
+use pilhangko::{AllocationError, AllocationSizes, AllocatorDebugSettings, Fault, Level, Logger, MemoryLocation};
+use std::sync::{Arc, Mutex};
+use std::thread;
+
+/// Memory type 0 is the device's, 1 the host's, 2 the device's that the host can see, in a small heap.
+const TYPES: [(u32, u32); 3] = [(1, 0), (6, 1), (7, 2)];
+const HEAPS: [u64; 3] = [1024 * MB, 512 * MB, 16 * MB];
+
+fn driver() -> Box<FakeDriver> {
+    FakeDriver::new(&TYPES, &HEAPS, 64)
+}
+
+/// On the host's side blocks of 4 MB, doubling up to 8 MB; on the device's 8 MB.
+fn described(driver: &FakeDriver) -> AllocatorCreateDesc {
+    AllocatorCreateDesc {
+        buffer_device_address: true,
+        allocation_sizes: AllocationSizes::new(8 * MB, 4 * MB).with_max_host_memblock_size(8 * MB),
+        ..AllocatorCreateDesc::new(driver.device())
+    }
+}
+
+fn made(driver: &FakeDriver) -> Allocator {
+    Allocator::new(&described(driver)).expect("the device makes sense")
+}
+
+fn request(size: u64, location: MemoryLocation) -> AllocationCreateDesc<'static> {
+    AllocationCreateDesc {
+        name: "piece",
+        requirements: MemoryRequirements { size, alignment: 1, memory_type_bits: 7 },
+        location,
+        linear: true,
+        allocation_scheme: AllocationScheme::GpuAllocatorManaged,
+    }
+}
+
+/// Memory type, slot, offset, size, chunk id, whether it is dedicated, whether it is mapped.
+fn place(it: &Allocation) -> (usize, usize, u64, u64, u64, bool, bool) {
+    let chunk_id = it.chunk_id().map_or(0, u64::from);
+    let is_mapped = it.mapped_ptr().is_some();
+    (it.memory_type_index(), it.memory_block_index(), it.offset(), it.size(), chunk_id, it.is_dedicated(), is_mapped)
+}
+
+fn memory(it: &Allocation) -> u64 {
+    // SAFETY: the handle is only looked up.
+    unsafe { it.memory() }.0
+}
+
+fn asked_for(driver: &FakeDriver, it: &Allocation) -> Asked {
+    driver.state().held[&memory(it)].asked
+}
+
+#[test]
+fn pieces_lie_in_blocks_and_blocks_come_and_go() {
+    let driver = driver();
+    let mut a = made(&driver);
+    assert_eq!(a.capacity(), 0);
+    let first = a.allocate(&request(100, MemoryLocation::GpuOnly)).unwrap();
+    assert_eq!(place(&first), (0, 0, 0, 100, 2, false, false));
+    let whole = Asked { size: 8 * MB, memory_type: 0, device_address: true, ..Asked::default() };
+    assert_eq!(asked_for(&driver, &first), whole);
+    let second = a.allocate(&request(50, MemoryLocation::Unknown)).unwrap();
+    assert_eq!(place(&second), (0, 0, 100, 50, 3, false, false));
+    assert_eq!(memory(&second), memory(&first));
+    let for_buffer = AllocationScheme::DedicatedBuffer(Buffer(77));
+    let own = AllocationCreateDesc { allocation_scheme: for_buffer, ..request(10, MemoryLocation::GpuOnly) };
+    let own = a.allocate(&own).unwrap();
+    assert_eq!(place(&own), (0, 1, 0, 10, 1, true, false));
+    assert_eq!(asked_for(&driver, &own), Asked { size: 10, buffer: Buffer(77), ..whole });
+    let for_image = AllocationScheme::DedicatedImage(Image(78));
+    let read = AllocationCreateDesc { allocation_scheme: for_image, ..request(20, MemoryLocation::GpuToCpu) };
+    let read = a.allocate(&read).unwrap();
+    assert_eq!(place(&read), (1, 0, 0, 20, 1, true, true));
+    assert_eq!(asked_for(&driver, &read), Asked { size: 20, memory_type: 1, image: Image(78), ..whole });
+    assert_eq!(a.capacity(), 8 * MB + 30);
+    let large = a.allocate(&request(9 * MB, MemoryLocation::GpuOnly)).unwrap(); // larger than the next shared block
+    assert_eq!(place(&large), (0, 2, 0, 9 * MB, 1, false, false));
+    for (gone, held) in [(own, 3), (read, 2), (large, 1), (first, 1), (second, 1)] {
+        assert!(a.is_live(&gone));
+        a.free(gone).unwrap();
+        assert_eq!(driver.state().held.len(), held); // the last shared block stays
+    }
+    assert_eq!(a.capacity(), 8 * MB);
+    drop(a);
+    driver.assert_left_empty();
+}
+
+#[test]
+fn without_device_addresses_nothing_is_chained() {
+    let driver = driver();
+    let mut a = Allocator::new(&AllocatorCreateDesc::new(driver.device())).unwrap();
+    let it = a.allocate(&request(100, MemoryLocation::GpuToCpu)).unwrap();
+    let size = 64 * MB; // the default on the host's side
+    assert_eq!(asked_for(&driver, &it), Asked { size, memory_type: 1, ..Asked::default() });
+    assert_eq!(it.memory_properties(), MemoryPropertyFlags::HOST_VISIBLE | MemoryPropertyFlags::HOST_COHERENT);
+    drop(a);
+    driver.assert_left_empty();
+}
+
+/// Four requests with the questions that they lead to: 1 is for the memory of the first; 2 and 3 for memory and mapping of the second,
+/// 4 and 5 of the third, 6 and 7 of the fourth.
+fn four_requests() -> [AllocationCreateDesc<'static>; 4] {
+    let mut narrow = request(100, MemoryLocation::CpuToGpu);
+    narrow.requirements.memory_type_bits = 4;
+    narrow.allocation_scheme = AllocationScheme::DedicatedBuffer(Buffer(5));
+    [
+        request(100, MemoryLocation::GpuOnly),
+        request(100, MemoryLocation::GpuToCpu),
+        request(100, MemoryLocation::CpuToGpu),
+        narrow,
+    ]
+}
+
+/// Why the request of a question is refused, where it has no second attempt.
+fn refusal_of(question: u64, refusal: Refusal) -> AllocationError {
+    let is_mapping = question == 3;
+    match (is_mapping, refusal) {
+        (false, Refusal::Null | Refusal::Code(-2)) => AllocationError::OutOfMemory,
+        (false, Refusal::Code(code)) => AllocationError::Internal(Fault {
+            text: "Unexpected error in vkAllocateMemory",
+            code: Some(i64::from(code)),
+        }),
+        (true, Refusal::Null) => {
+            AllocationError::FailedToMap(Fault { text: "Returned mapped pointer is null", code: None })
+        }
+        (true, Refusal::Code(code)) => {
+            AllocationError::FailedToMap(Fault { text: "vkMapMemory failed", code: Some(i64::from(code)) })
+        }
+    }
+}
+
+#[test]
+fn each_question_is_refused_in_turn() {
+    for question in 1..=7 {
+        for refusal in [Refusal::Code(-2), Refusal::Code(-1), Refusal::Code(-5), Refusal::Null] {
+            let driver = driver();
+            driver.refuse(question, refusal);
+            let mut a = made(&driver);
+            let results: Vec<_> = four_requests().iter().map(|it| a.allocate(it)).collect();
+            let refused = match question {
+                1 => Some(0),
+                2 | 3 => Some(1),
+                _ => None, // uploads have a second attempt
+            };
+            for (index, result) in results.iter().enumerate() {
+                let error = result.as_ref().err();
+                let expected = (refused == Some(index)).then(|| refusal_of(question, refusal));
+                assert_eq!(error, expected.as_ref(), "request {index}, question {question}, {refusal:?}");
+            }
+            // the third one's second attempt is at memory type 1, where the second one's block has a place
+            let third = results[2].as_ref().unwrap();
+            let is_fallback = matches!(question, 4 | 5);
+            assert_eq!(third.memory_type_index(), if is_fallback { 1 } else { 2 });
+            assert_eq!(a.capacity(), driver.state().bytes());
+            let again = refused.map(|index| a.allocate(&four_requests()[index]).expect("the next try is granted"));
+            for it in results.into_iter().flatten().chain(again) {
+                a.free(it).unwrap();
+            }
+            assert_eq!(a.capacity(), driver.state().bytes());
+            drop(a);
+            driver.assert_left_empty();
+        }
+    }
+}
+
+#[test]
+fn an_upload_is_refused_where_both_attempts_are() {
+    let driver = driver();
+    let mut a = made(&driver);
+    driver.refuse(1, Refusal::Code(-1));
+    driver.refuse(2, Refusal::Null);
+    assert_eq!(a.allocate(&request(100, MemoryLocation::CpuToGpu)).unwrap_err(), AllocationError::OutOfMemory);
+    driver.refuse(3, Refusal::Null);
+    driver.refuse(5, Refusal::Code(-5));
+    let error = a.allocate(&request(100, MemoryLocation::CpuToGpu)).unwrap_err();
+    assert_eq!(error.to_string(), "Failed to map memory: vkMapMemory failed (code -5)");
+    assert_eq!((a.capacity(), driver.state().questions), (0, 5));
+    let served = a.allocate(&request(100, MemoryLocation::CpuToGpu)).unwrap();
+    assert_eq!(place(&served), (2, 0, 0, 100, 2, false, true));
+    drop(a);
+    driver.assert_left_empty();
+}
+
+#[test]
+fn requests_are_refused_by_their_cause_before_the_driver_is_asked() {
+    let driver = driver();
+    let mut a = made(&driver);
+    let mut refused = |size, alignment, memory_type_bits, location| {
+        let requirements = MemoryRequirements { size, alignment, memory_type_bits };
+        a.allocate(&AllocationCreateDesc { requirements, ..request(1, location) }).unwrap_err()
+    };
+    assert_eq!(refused(0, 1, 7, MemoryLocation::GpuOnly), AllocationError::InvalidAllocationCreateDesc);
+    assert_eq!(refused(1, 0, 7, MemoryLocation::GpuOnly), AllocationError::InvalidAllocationCreateDesc);
+    assert_eq!(refused(1, 6, 0, MemoryLocation::GpuOnly), AllocationError::InvalidAllocationCreateDesc);
+    assert_eq!(refused(1, 1, 2, MemoryLocation::GpuOnly), AllocationError::NoCompatibleMemoryTypeFound);
+    assert_eq!(refused(1, 1, 1, MemoryLocation::CpuToGpu), AllocationError::NoCompatibleMemoryTypeFound);
+    assert_eq!(refused(1, 1, 0, MemoryLocation::Unknown), AllocationError::NoCompatibleMemoryTypeFound);
+    assert_eq!(refused(1024 * MB + 1, 1, 7, MemoryLocation::GpuOnly), AllocationError::OutOfMemory);
+    assert_eq!(refused(512 * MB + 1, 1, 7, MemoryLocation::CpuToGpu), AllocationError::OutOfMemory); // both heaps
+    assert_eq!(driver.state().questions, 0);
+}
+
+#[test]
+fn budgets_bound_the_blocks_of_a_memory_type() {
+    let driver = driver();
+    let mut a = made(&driver);
+    assert_eq!(a.budget(0), None);
+    a.set_budget(0, Some(8 * MB)).unwrap();
+    assert_eq!((a.budget(0), a.budget(1), a.budget(3)), (Some(8 * MB), None, None));
+    let error = a.set_budget(3, Some(1)).unwrap_err();
+    assert_eq!(error, AllocationError::Internal(Fault { text: "No such memory type.", code: None }));
+    let it = a.allocate(&request(100, MemoryLocation::GpuOnly)).unwrap(); // just within
+    let own = AllocationCreateDesc {
+        allocation_scheme: AllocationScheme::DedicatedBuffer(Buffer(1)),
+        ..request(1, MemoryLocation::GpuOnly)
+    };
+    assert_eq!(a.allocate(&own).unwrap_err(), AllocationError::BudgetExceeded);
+    assert_eq!(driver.state().questions, 1);
+    a.set_budget(0, None).unwrap();
+    let own = a.allocate(&own).unwrap();
+    a.free(own).unwrap();
+    a.free(it).unwrap();
+}
+
+#[test]
+fn devices_that_make_no_sense_are_refused() {
+    let texts = |types: &[(u32, u32)], heaps: &[u64], granularity| {
+        let driver = FakeDriver::new(types, heaps, granularity);
+        Allocator::new(&AllocatorCreateDesc::new(driver.device())).err().map(|error| error.to_string())
+    };
+    let invalid = |text| Some(format!("Invalid AllocatorCreateDesc {text}"));
+    assert_eq!(texts(&TYPES, &HEAPS, 0), invalid("buffer image granularity is not a power of two."));
+    assert_eq!(texts(&[(1, 0); 33], &HEAPS, 48), invalid("buffer image granularity is not a power of two."));
+    assert_eq!(texts(&[(1, 9); 33], &HEAPS, 1), invalid("more than 32 memory types."));
+    assert_eq!(texts(&TYPES, &HEAPS[..2], 1), invalid("memory type with a heap index out of range."));
+    assert_eq!(texts(&[(1, 0); 32], &HEAPS, 1), None);
+    assert_eq!(texts(&[], &[], 1), None);
+}
+
+#[test]
+fn bytes_are_where_the_piece_is() {
+    let driver = driver();
+    let mut a = made(&driver);
+    let mut pieces: Vec<Allocation> =
+        (1..=20).map(|size| a.allocate(&request(size * 1000, MemoryLocation::CpuToGpu)).unwrap()).collect();
+    for (byte, it) in (1..).zip(&mut pieces) {
+        it.mapped_slice_mut().unwrap().fill(byte);
+    }
+    for (byte, it) in (1..).zip(&pieces) {
+        let bytes = it.mapped_slice().unwrap();
+        assert_eq!(bytes.len() as u64, it.size());
+        assert!(bytes.iter().all(|&it| it == byte));
+        let start = driver.state().held[&memory(it)].mapped.unwrap() as u64;
+        assert_eq!(bytes.as_ptr() as u64, start + it.offset());
+    }
+    let hidden = a.allocate(&request(10, MemoryLocation::GpuOnly)).unwrap();
+    assert!(hidden.mapped_slice().is_none() && hidden.mapped_ptr().is_none());
+}
+
+#[test]
+fn the_null_allocation_is_no_piece() {
+    let driver = driver();
+    let mut a = made(&driver);
+    let mut null = Allocation::default();
+    assert!(null.is_null() && !a.is_live(&null));
+    assert_eq!(place(&null), (usize::MAX, usize::MAX, 0, 0, 0, false, false));
+    assert_eq!((memory(&null), null.memory_properties()), (0, MemoryPropertyFlags(0)));
+    assert!(null.mapped_slice_mut().is_none());
+    assert_eq!(null.name(), None);
+    a.rename_allocation(&mut null, "nothing").unwrap();
+    assert_eq!(null.name(), Some("nothing"));
+    a.free(null).unwrap();
+}
+
+#[test]
+fn an_allocation_of_another_allocator_is_refused() {
+    let (mine, yours) = (driver(), driver());
+    let (mut a, mut b) = (made(&mine), made(&yours));
+    let not_live =
+        AllocationError::Internal(Fault { text: "Allocation does not belong to this allocator.", code: None });
+    // the same memory type, slot, place and chunk id in both
+    let mut of_a = a.allocate(&request(100, MemoryLocation::GpuOnly)).unwrap();
+    let of_b = b.allocate(&request(100, MemoryLocation::GpuOnly)).unwrap();
+    assert_eq!((place(&of_a), memory(&of_a)), (place(&of_b), memory(&of_b)));
+    assert!(!b.is_live(&of_a) && a.is_live(&of_a));
+    assert_eq!(b.rename_allocation(&mut of_a, "x").unwrap_err(), not_live);
+    assert_eq!(of_a.name(), Some("piece"));
+    drop(a);
+    assert_eq!(b.free(of_a).unwrap_err(), not_live);
+    assert!(b.is_live(&of_b));
+    b.free(of_b).unwrap();
+    drop(b);
+    yours.assert_left_empty();
+    mine.assert_left_empty();
+}
+
+#[test]
+fn reports_show_pieces_and_blocks_in_order() {
+    let driver = driver();
+    let mut a = made(&driver);
+    let named = |name, size, location| AllocationCreateDesc { name, ..request(size, location) };
+    let upload = a.allocate(&named("upload", 100, MemoryLocation::CpuToGpu)).unwrap();
+    let mut first = a.allocate(&named("first", 1000, MemoryLocation::GpuOnly)).unwrap();
+    let second = a.allocate(&named("second", 500, MemoryLocation::GpuOnly)).unwrap();
+    a.rename_allocation(&mut first, "target").unwrap();
+    assert_eq!(first.name(), Some("target"));
+    let report = a.generate_report();
+    let rows: Vec<_> = report.allocations.iter().map(|it| (it.name.as_str(), it.offset, it.size)).collect();
+    assert_eq!(rows, [("target", 0, 1000), ("second", 1000, 500), ("upload", 0, 100)]);
+    let blocks: Vec<_> = report.blocks.iter().map(|it| (it.size, it.allocations.clone())).collect();
+    assert_eq!(blocks, [(8 * MB, 0..2), (4 * MB, 2..3)]);
+    assert_eq!((report.total_allocated_bytes, report.total_capacity_bytes), (1600, 12 * MB));
+    let text =
+        "AllocatorReport { summary: 1.56 KB / 12.00 MB, blocks: 2, allocations: 3, largest: [\"target\": 1000.00 B] }";
+    assert_eq!(format!("{a:.1?}"), text);
+    a.free(first).unwrap();
+    a.free(upload).unwrap();
+    let left = a.allocate(&named("", 400, MemoryLocation::GpuOnly)).unwrap(); // in the first one's place
+    let report = a.generate_report();
+    let rows: Vec<_> = report.allocations.iter().map(|it| (it.name.as_str(), it.offset, it.size)).collect();
+    assert_eq!(rows, [("", 0, 400), ("second", 1000, 500)]);
+    assert_eq!(report.blocks[1].allocations, 2..2);
+    drop((second, left));
+}
+
+/// The lines that a logger was handed.
+type Lines = Arc<Mutex<Vec<(Level, String)>>>;
+
+fn listening() -> (Logger, Lines) {
+    let lines = Lines::default();
+    let kept = Arc::clone(&lines);
+    (Logger::new(move |level, line| kept.lock().unwrap().push((level, line.to_owned()))), lines)
+}
+
+#[test]
+fn leaks_are_logged_when_the_allocator_goes() {
+    let driver = driver();
+    let (logger, lines) = listening();
+    let mut a = Allocator::new(&AllocatorCreateDesc { logger: Some(logger), ..described(&driver) }).unwrap();
+    let image = AllocationCreateDesc { name: "a", linear: false, ..request(100, MemoryLocation::GpuOnly) };
+    let own = AllocationCreateDesc { name: "b", ..request(9 * MB, MemoryLocation::GpuOnly) };
+    let freed = a.allocate(&request(10, MemoryLocation::GpuOnly)).unwrap();
+    let leaks = (a.allocate(&image).unwrap(), a.allocate(&own).unwrap());
+    a.free(freed).unwrap();
+    drop(a);
+    driver.assert_left_empty();
+    // the page of the buffer that is freed ends at 64: padding from 10 on, 154 bytes in all
+    let shared = "\
+leak detected: {
+    memory type: 0
+    memory block: 0
+    chunk: {
+        chunk_id: 3,
+        size: 0x9a,
+        offset: 0xa,
+        allocation_type: NonLinear,
+        name: a
+    }
+}";
+    let dedicated = "\
+leak detected: {
+    memory type: 0
+    memory block: 1
+    dedicated allocation: {
+        size: 0x900000,
+        name: b
+    }
+}";
+    let expected = [(Level::Warn, shared.to_owned()), (Level::Warn, dedicated.to_owned())];
+    assert_eq!(*lines.lock().unwrap(), expected);
+    drop(leaks);
+}
+
+#[test]
+fn what_is_asked_for_is_logged() {
+    let driver = FakeDriver::new(&[(7, 0)], &[300 * MB], 1);
+    let (logger, lines) = listening();
+    let debug_settings = AllocatorDebugSettings {
+        log_memory_information: true,
+        log_leaks_on_shutdown: false,
+        log_allocations: true,
+        log_frees: true,
+    };
+    let mut a = Allocator::new(&AllocatorCreateDesc {
+        logger: Some(logger),
+        debug_settings,
+        ..AllocatorCreateDesc::new(driver.device())
+    })
+    .unwrap();
+    let it = a.allocate(&request(100, MemoryLocation::GpuOnly)).unwrap();
+    let _leak = a.allocate(&request(200, MemoryLocation::GpuOnly)).unwrap();
+    a.free(it).unwrap();
+    a.free(Allocation::default()).unwrap();
+    drop(a);
+    let expected = [
+        "memory type count: 1",
+        "memory heap count: 1",
+        "memory type[0]: prop flags: 0x7, heap[0]",
+        "heap[0] flags: 0x0, size: 300 MiB",
+        "Allocating `piece` of 100 bytes with an alignment of 1.",
+        "Allocating `piece` of 200 bytes with an alignment of 1.",
+        "Freeing `piece`.",
+        "Freeing `<null>`.",
+    ];
+    assert_eq!(*lines.lock().unwrap(), expected.map(|line| (Level::Debug, line.to_owned())));
+}
+
+#[test]
+fn what_may_go_to_another_thread() {
+    fn is_send<T: Send>() {}
+    fn is_sync<T: Sync>() {}
+    is_send::<Allocator>();
+    is_send::<pilhangko::VirtualBlock>();
+    is_send::<pilhangko::MemoryType>();
+    is_send::<Allocation>();
+    is_sync::<Allocation>();
+}
+
+#[test]
+fn an_allocator_and_its_allocations_go_from_thread_to_thread() {
+    let driver = driver();
+    let a = Mutex::new(made(&driver));
+    thread::scope(|scope| {
+        for byte in 1..=4 {
+            let a = &a;
+            scope.spawn(move || {
+                for size in 1..=500 {
+                    let mut it = a.lock().unwrap().allocate(&request(size, MemoryLocation::CpuToGpu)).unwrap();
+                    it.mapped_slice_mut().unwrap().fill(byte);
+                    thread::yield_now();
+                    assert!(it.mapped_slice().unwrap().iter().all(|&it| it == byte));
+                    a.lock().unwrap().free(it).unwrap();
+                }
+            });
+        }
+    });
+    let a = a.into_inner().unwrap();
+    assert!(a.generate_report().allocations.is_empty());
+    drop(a);
+    driver.assert_left_empty();
+}
+
+#[test]
+fn pieces_of_different_kinds_share_no_page() {
+    let driver = driver();
+    let mut a = made(&driver);
+    let image = AllocationCreateDesc { linear: false, ..request(10, MemoryLocation::GpuOnly) };
+    let offsets: Vec<u64> = [request(10, MemoryLocation::GpuOnly), request(10, MemoryLocation::GpuOnly), image]
+        .iter()
+        .map(|it| a.allocate(it).unwrap().offset())
+        .collect();
+    assert_eq!(offsets, [0, 10, 64]); // the page is 64 bytes
+}
+
+#[test]
+fn a_report_is_told_as_json() {
+    let driver = driver();
+    let mut a = made(&driver);
+    let empty = concat!(
+        r#"{"allocations":[],"blocks":[],"schema":"gpu_report.allocator","#,
+        r#""total_allocated_bytes":0,"total_capacity_bytes":0,"version":1}"#
+    );
+    assert_eq!(a.report_json().unwrap(), empty);
+    let quoted = AllocationCreateDesc { name: "a \"b\"", ..request(100, MemoryLocation::GpuOnly) };
+    let _leak = a.allocate(&quoted).unwrap();
+    let expected = concat!(
+        r#"{"allocations":[{"name":"a \"b\"","offset":0,"size":100}],"#,
+        r#""blocks":[{"allocations":{"end":1,"start":0},"size":8388608}],"schema":"gpu_report.allocator","#,
+        r#""total_allocated_bytes":100,"total_capacity_bytes":8388608,"version":1}"#
+    );
+    assert_eq!(a.report_json().unwrap(), expected);
+}
+
+#[test]
+fn what_is_counted_and_shown_of_memory_types_and_blocks() {
+    let driver = driver();
+    let mut a = made(&driver);
+    let image = AllocationCreateDesc { linear: false, ..request(100, MemoryLocation::GpuOnly) };
+    let _live = (a.allocate(&request(10, MemoryLocation::GpuOnly)).unwrap(), a.allocate(&image).unwrap());
+    a.set_budget(0, Some(9 * MB)).unwrap();
+    let counted = TypeStatistics {
+        capacity: 8 * MB,
+        slots: 1,
+        shared_blocks: 1,
+        budget: Some(9 * MB),
+        pieces: 2,
+        piece_bytes: 164, // with the padding from 10 to 64
+        gaps: 1,
+        longest_gap: 8 * MB - 164,
+    };
+    assert_eq!(a.type_statistics(0), Some(counted));
+    assert_eq!((a.type_statistics(1), a.type_statistics(3)), (Some(TypeStatistics::default()), None));
+    let of_block = BlockStatistics { pieces: 2, piece_bytes: 164, gaps: 1, longest_gap: 8 * MB - 164 };
+    assert_eq!(
+        (a.block_statistics(0, 0), a.block_statistics(0, 1), a.block_statistics(9, 0)),
+        (Some(of_block), None, None)
+    );
+    let shown: Vec<_> =
+        a.named_pieces(0, 0).unwrap().iter().map(|it| (it.view.start, it.view.offset, it.view.end)).collect();
+    assert_eq!(shown, [(0, 0, 10), (10, 64, 164)]);
+    assert_eq!(a.named_pieces(2, 0).unwrap(), []);
+    assert_eq!(a.generate_report().total_allocated_bytes, 164);
+}
