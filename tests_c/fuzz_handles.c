@@ -1,11 +1,12 @@
 /* A target for clang's libFuzzer: an input is a row of calls of the three handles of pilhangko.h, each beside a plain account that
  * foretells its status and what it reports. Sizes, alignments, names and pieces may be anything. */
 #include "allocator_account.h"
+#include "fuzz_handles.h"
 
 #define CALLS 900 /* of one input: the account's rows have room for what they leave */
 #define NAME_ROOM 12
 
-int LLVMFuzzerTestOneInput(const uint8_t *bytes, size_t length);
+size_t fuzz_pieces[3];
 
 /* ---- the input */
 
@@ -112,6 +113,7 @@ static void allocates_in_block(void) {
     if (status == PILHANGKO_OK && !account_allocate(&block_account, r.size, r.alignment, r.kind, name, &wanted.offset, &wanted.number))
         status = PILHANGKO_OUT_OF_MEMORY;
     IS(pilhangko_virtual_block_allocate(&block, &r, name, &piece), status);
+    fuzz_pieces[0] += status == PILHANGKO_OK;
     CHECK(piece.offset == wanted.offset && piece.number == wanted.number);
 }
 
@@ -222,6 +224,7 @@ static void prepares(void) {
     }
     CHECK(told.needs_block == wanted.needs_block && told.dedicated == wanted.dedicated && told.block_size == wanted.block_size);
     CHECK(same_piece(&told.piece, &wanted.piece));
+    fuzz_pieces[1] += !wanted.needs_block;
     awaits_block = wanted.needs_block;
     awaited = wanted;
     awaited_request = r;
@@ -426,6 +429,7 @@ static void grants(void) {
     }
     account_granted(&account, memory);
     CHECK(same_allocation(&account, &piece));
+    fuzz_pieces[2]++;
 }
 
 static void refuses(bool mapping) {
@@ -555,9 +559,11 @@ static void same_texts(size_t index) {
 
 static void looks_at_allocator(void) {
     const size_t at = next_byte() % ACCOUNT_TYPES;
+    pilhangko_type_statistics all;
     uint64_t bytes = 0;
     IS(pilhangko_allocator_capacity(&allocator, &bytes), allocator_status(false, PILHANGKO_OK));
-    CHECK(!has_allocator || bytes == allocator_capacity(&account));
+    IS(pilhangko_allocator_statistics(&allocator, &all), allocator_status(false, PILHANGKO_OK));
+    CHECK(!has_allocator || (bytes == allocator_capacity(&account) && all.capacity == bytes && !all.has_budget));
     same_type_statistics(at);
     same_slot(at, next_byte() % 8, next_number());
     if (next_byte() % 4 == 0) same_texts(next_byte());
@@ -586,7 +592,7 @@ static void calls_type(uint8_t what) {
     else if (what < 65) frees_of_type();
     else if (what < 69) renames_of_type();
     else if (what < 72) bounds_type();
-    else if (what < 80) looks_at_type();
+    else if (what < 84) looks_at_type();
     else ends_type();
 }
 
@@ -598,7 +604,7 @@ static void calls_allocator(uint8_t what) {
     else if (what < 70) frees_of_allocator();
     else if (what < 75) renames_of_allocator();
     else if (what < 80) bounds_allocator();
-    else if (what < 84) looks_at_allocator();
+    else if (what < 89) looks_at_allocator();
     else ends_allocator();
 }
 
