@@ -10,7 +10,10 @@ int main(void) {
     for (unsigned i = 0; i < ROWS; i++) {
         const size_t length = 1 + (size_t)random_below(ROW_LENGTH);
         const uint64_t small = random_below(4); /* rows of small bytes have small numbers, and more that fits */
-        for (size_t j = 0; j < length; j++) row[j] = (uint8_t)(random_number() >> (small && random_below(4) < small ? 61 : 56));
+        for (size_t j = 0; j < length; j++) {
+            const unsigned bits = random_below(4) < small ? 3 : 8;
+            row[j] = (uint8_t)(random_number() >> (64 - bits));
+        }
         CHECK(LLVMFuzzerTestOneInput(row, length) == 0);
     }
     printf("%u rows: %zu pieces of virtual blocks, %zu of memory types, %zu in new blocks of allocators\n", ROWS, fuzz_pieces[0],
