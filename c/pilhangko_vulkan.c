@@ -148,7 +148,7 @@ struct asked {
         bool is_null;
         int32_t code;
     } refused[2];    /* one for each attempt */
-    VkResult driver; /* the last refusal's code */
+    VkResult driver; /* the last code of a refusal */
 };
 
 static bool makes_room(struct text *text, size_t more) {
@@ -383,7 +383,7 @@ static void note_refusal(struct asked *asked, bool is_null, int32_t code, VkResu
     asked->refused[asked->refusals].is_null = is_null;
     asked->refused[asked->refusals].code = code;
     asked->refusals++;
-    asked->driver = driver;
+    if (driver != VK_SUCCESS) asked->driver = driver;
 }
 
 static pilhangko_status memory_refused(
@@ -633,7 +633,7 @@ static void plain_requirements(const struct binding *b, const struct resource *r
 }
 
 /* What the driver needs for it, and whether it requires or prefers memory for it alone. */
-static bool requirements_of(const struct binding *b, const struct resource *r, VkMemoryRequirements *needs) {
+static VkMemoryDedicatedRequirements requirements_of(const struct binding *b, const struct resource *r, VkMemoryRequirements *needs) {
     VkMemoryDedicatedRequirements alone;
     VkMemoryRequirements2 told;
     memset(&alone, 0, sizeof alone);
@@ -657,26 +657,41 @@ static bool requirements_of(const struct binding *b, const struct resource *r, V
         plain_requirements(b, r, &told.memoryRequirements);
     }
     *needs = told.memoryRequirements;
-    return alone.requiresDedicatedAllocation || alone.prefersDedicatedAllocation;
+    return alone;
+}
+
+/* Allocates memory for a resource: its own where that is asked for or the driver requires it, and where the driver prefers it and there is
+ * such memory. */
+static pilhangko_vulkan_result allocate_for(struct binding *b, const struct resource *r, uint32_t kind,
+    const pilhangko_vulkan_placement *placement, pilhangko_vulkan_allocation *allocation) {
+    pilhangko_vulkan_request request;
+    pilhangko_vulkan_result first, second;
+    VkMemoryDedicatedRequirements alone;
+    bool may_share;
+    memset(&request, 0, sizeof request);
+    alone = requirements_of(b, r, &request.requirements);
+    may_share = !placement->dedicated && !alone.requiresDedicatedAllocation;
+    request.location = placement->location;
+    request.kind = kind;
+    request.scheme = r->is_image ? PILHANGKO_SCHEME_IMAGE : PILHANGKO_SCHEME_BUFFER;
+    if (may_share && !alone.prefersDedicatedAllocation) request.scheme = PILHANGKO_SCHEME_MANAGED;
+    request.buffer = r->buffer;
+    request.image = r->image;
+    request.name = placement->name;
+    first = allocate(b, &request, allocation);
+    if (first.status == PILHANGKO_OK || first.status == PILHANGKO_HOST_OUT_OF_MEMORY) return first;
+    if (!may_share || request.scheme == PILHANGKO_SCHEME_MANAGED) return first;
+    request.scheme = PILHANGKO_SCHEME_MANAGED;
+    second = allocate(b, &request, allocation);
+    return result_of(second.status, second.driver != VK_SUCCESS ? second.driver : first.driver);
 }
 
 /* Gives a resource memory and binds it; destroys it where that fails. */
 static pilhangko_vulkan_result place(struct binding *b, const struct resource *r, uint32_t kind,
     const pilhangko_vulkan_placement *placement, pilhangko_vulkan_allocation *allocation) {
-    pilhangko_vulkan_request request;
     pilhangko_vulkan_allocation made;
-    pilhangko_vulkan_result result;
+    const pilhangko_vulkan_result result = allocate_for(b, r, kind, placement, &made);
     VkResult driver;
-    bool is_dedicated;
-    memset(&request, 0, sizeof request);
-    is_dedicated = requirements_of(b, r, &request.requirements) || placement->dedicated;
-    request.location = placement->location;
-    request.kind = kind;
-    request.scheme = !is_dedicated ? PILHANGKO_SCHEME_MANAGED : r->is_image ? PILHANGKO_SCHEME_IMAGE : PILHANGKO_SCHEME_BUFFER;
-    request.buffer = r->buffer;
-    request.image = r->image;
-    request.name = placement->name;
-    result = allocate(b, &request, &made);
     if (result.status != PILHANGKO_OK) {
         destroy_resource(b, r);
         return result;

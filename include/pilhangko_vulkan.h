@@ -44,8 +44,8 @@ enum {
     PILHANGKO_VULKAN_NO_CAPTURE = 306
 };
 
-/* What a call that asks the driver results in. driver: VK_SUCCESS where status is PILHANGKO_OK; else the code with which the driver refused
- * last in this call, and VK_SUCCESS where it refused nothing, or refused by a null pointer or handle. */
+/* What a call that asks the driver results in. driver: VK_SUCCESS where status is PILHANGKO_OK; else the last code with which the driver
+ * refused in this call, and VK_SUCCESS where it refused nothing, or by null pointers and handles alone. */
 typedef struct pilhangko_vulkan_result {
     pilhangko_status status;
     VkResult driver;
@@ -231,12 +231,13 @@ PILHANGKO_NODISCARD PILHANGKO_API pilhangko_status PILHANGKO_CALL pilhangko_vulk
 /* Where a buffer or an image goes. */
 typedef struct pilhangko_vulkan_placement {
     uint32_t location; /* PILHANGKO_LOCATION_.. */
-    bool dedicated;    /* whether it shall have memory of its own; else it has, where the driver requires or prefers it */
+    bool dedicated;    /* whether it shall have memory of its own */
     const char *name;  /* copied; NULL for none */
 } pilhangko_vulkan_placement;
 
-/* Makes a buffer or an image with memory and binds it. What was made is undone where something fails. Buffers and images that are sparse or
- * disjoint are INVALID: bind these to memory of pilhangko_vulkan_allocate.
+/* Makes a buffer or an image with memory and binds it. It has memory of its own where placement says so or the driver requires it; where
+ * the driver prefers it, it has if there is such memory, and else shares. What was made is undone where something fails. Buffers and images
+ * that are sparse or disjoint are INVALID: bind these to memory of pilhangko_vulkan_allocate.
  * NULL_POINTER. NO_HANDLE. INVALID. CALL_FAILED: vkCreate... Then the causes of pilhangko_vulkan_allocate. CALL_FAILED: vkBind... */
 PILHANGKO_NODISCARD PILHANGKO_API pilhangko_vulkan_result PILHANGKO_CALL pilhangko_vulkan_create_buffer(pilhangko_vulkan *vulkan,
     const VkBufferCreateInfo *info, const pilhangko_vulkan_placement *placement, VkBuffer *buffer, pilhangko_vulkan_allocation *allocation);
@@ -263,7 +264,7 @@ typedef struct pilhangko_vulkan_heap {
 } pilhangko_vulkan_heap;
 
 /* What a heap has, and what the driver tells of it now. Heaps are numbered as the device numbers them.
- * NULL_POINTER. NO_HANDLE. NO_SUCH_HEAP. */
+ * NULL_POINTER. NO_HANDLE. PILHANGKO_VULKAN_NO_SUCH_HEAP. */
 PILHANGKO_NODISCARD PILHANGKO_API pilhangko_status PILHANGKO_CALL pilhangko_vulkan_read_heap(
     const pilhangko_vulkan *vulkan, uint32_t heap, pilhangko_vulkan_heap *read);
 

@@ -26,7 +26,7 @@ static size_t live_count;
 static pilhangko_vulkan_allocation stale[STALE];
 static uint64_t last_serial;
 static FILE *replies; /* what the captured calls came to, or NULL */
-static unsigned allocated, made, refused, second_attempts, freed, not_live, renamed, flushed;
+static unsigned allocated, made, refused, second_attempts, freed, not_live, renamed, flushed, shared_after_all;
 
 static const char *const names[] = {NULL, "", "vertices", "a name that takes host memory of its own", "\xc3\xa9t\xc3\xa9 2",
     "a name of more than sixty-four bytes, which no trace can have as it stands here"};
@@ -84,7 +84,7 @@ static void foretell_answer(struct foretold *f, uint64_t first) {
         return;
     }
     const struct fake_refusal *r = fake_refusal_of(first + f->questions);
-    f->driver = r->answer == FAKE_REFUSES ? r->code : VK_SUCCESS;
+    if (r->answer == FAKE_REFUSES) f->driver = r->code;
     f->status = account_refused(&account, answer);
 }
 
@@ -222,18 +222,30 @@ static pilhangko_vulkan_result create(bool is_image, uint64_t bytes, const pilha
 }
 
 /* The resource has a piece, but the driver refuses to bind it: the piece goes again. */
-static void is_unbound(bool dedicated) {
+static void is_unbound(void) {
     const pilhangko_allocator_piece piece = {account.type, (account.flags[account.type] & 2) != 0, account.placed.piece};
     const long at = allocator_find(&account, &piece);
     CHECK(at >= 0);
-    reply_allocation(&piece, dedicated);
+    reply_allocation(&piece, account.request.scheme != PILHANGKO_SCHEME_MANAGED);
     type_free(&account.types[account.type], &piece.piece, at);
     reply("ok");
     last_serial++;
 }
 
+/* The driver's preference for memory of its own was refused: the resource shares. */
+static void foretell_shared(const pilhangko_allocator_request *asks, uint64_t first, struct foretold *f) {
+    pilhangko_allocator_request shared = *asks;
+    reply_refusal(f->status);
+    shared.scheme = PILHANGKO_SCHEME_MANAGED;
+    const struct foretold again = foretell(&shared, "", first + f->questions);
+    f->status = again.status;
+    f->questions += again.questions;
+    if (again.status == PILHANGKO_OK || again.driver != VK_SUCCESS) f->driver = again.driver;
+    shared_after_all += again.status == PILHANGKO_OK;
+}
+
 /* What the driver will make of a resource: f is what becomes of its memory. */
-static struct foretold foretell_resource(const pilhangko_allocator_request *asks) {
+static struct foretold foretell_resource(const pilhangko_allocator_request *asks, bool may_share) {
     const uint64_t first = fake.questions;
     const struct fake_refusal *refusal = fake_refusal_of(first + 1);
     struct foretold f = {PILHANGKO_VULKAN_CALL_FAILED, 1, VK_SUCCESS};
@@ -243,6 +255,7 @@ static struct foretold foretell_resource(const pilhangko_allocator_request *asks
     }
     f = foretell(asks, "", first + 1);
     f.questions++;
+    if (f.status != PILHANGKO_OK && may_share) foretell_shared(asks, first, &f);
     if (f.status != PILHANGKO_OK) {
         reply_refusal(f.status);
         return f;
@@ -251,7 +264,7 @@ static struct foretold foretell_resource(const pilhangko_allocator_request *asks
     if (!refusal) return f;
     f.status = PILHANGKO_VULKAN_CALL_FAILED;
     f.driver = refusal->answer == FAKE_REFUSES ? refusal->code : VK_ERROR_OUT_OF_HOST_MEMORY;
-    is_unbound(asks->scheme != PILHANGKO_SCHEME_MANAGED);
+    is_unbound();
     return f;
 }
 
@@ -268,14 +281,15 @@ static void creates(void) {
     it.kind = is_image && random_below(3) ? PILHANGKO_KIND_NON_LINEAR : PILHANGKO_KIND_LINEAR;
     it.alignment = raised(needs.alignment, needs.memoryTypeBits);
     const pilhangko_allocator_request asks = {needs.size, it.alignment, needs.memoryTypeBits, it.kind, placement.location, scheme, 0};
-    const struct foretold f = foretell_resource(&asks);
+    const bool is_preferred = dedicated && !placement.dedicated && (fake.last_handle + 1) % 2 == 1; /* fake_tell_needs */
+    const struct foretold f = foretell_resource(&asks, is_preferred);
     const pilhangko_vulkan_result result = create(is_image, bytes, &placement, &it);
     IS(result.status, f.status);
     CHECK(result.driver == f.driver && fake.questions == first + f.questions);
     if (f.status == PILHANGKO_OK) {
         meets(&it.allocation);
-        CHECK(it.allocation.dedicated == dedicated);
-        reply_allocation(&it.allocation.piece, dedicated);
+        CHECK(it.allocation.dedicated == (account.request.scheme != PILHANGKO_SCHEME_MANAGED));
+        reply_allocation(&it.allocation.piece, it.allocation.dedicated);
         keeps(&it);
         made++;
     } else {
@@ -503,10 +517,11 @@ int main(int count, char **words) {
         for (unsigned i = 0; i < 50000; i++) step();
         ends();
     }
-    printf("200000 calls: %u allocated, %u made, %u refused, %u at the second attempt, %u freed, %u not live, %u renamed, %u flushed\n",
-        allocated, made, refused, second_attempts, freed, not_live, renamed, flushed);
+    printf("200000 calls: %u allocated, %u made, %u refused, %u at the second attempt, %u shared after all, %u freed, %u not live, "
+           "%u renamed, %u flushed\n",
+        allocated, made, refused, second_attempts, shared_after_all, freed, not_live, renamed, flushed);
     CHECK(allocated > 10000 && made > 5000 && refused > 10000 && second_attempts > 300 && freed > 15000 && not_live > 1000);
-    CHECK(renamed > 1000 && flushed > 100);
+    CHECK(renamed > 1000 && flushed > 100 && shared_after_all > 20);
     if (count == 3) captured_run(words[1], words[2]);
     return 0;
 }
