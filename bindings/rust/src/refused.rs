@@ -1,7 +1,7 @@
 //! Each request of the archive for host memory is refused in turn: the call says so and changes nothing, and the next try succeeds.
 
 #[path = "../tests/common/mod.rs"]
-mod common;
+pub(crate) mod common;
 
 use crate::heap::refusing::{has_refused, refuse};
 use crate::memory_type::{MemoryRequest, Prepared};

@@ -419,3 +419,38 @@ impl Drop for Allocator {
         }
     }
 }
+
+#[cfg(test)]
+mod tests {
+    use super::*;
+    use crate::refused::common::script::Script;
+    use std::sync::Mutex;
+
+    /// The lines that are logged of leaks, and the library's own texts of them.
+    fn leaks(allocator: &mut Allocator) -> (Vec<String>, Vec<String>) {
+        let lines: std::sync::Arc<Mutex<Vec<String>>> = std::sync::Arc::default();
+        let kept = std::sync::Arc::clone(&lines);
+        allocator.logger = Some(Logger::new(move |_, line| kept.lock().expect("one thread").push(line.to_owned())));
+        allocator.report_memory_leaks(Level::Info);
+        allocator.logger = None;
+        let texts = (0..).map(|index| allocator.machine.leak(index)).take_while(|text| !text.is_empty()).collect();
+        let logged = std::mem::take(&mut *lines.lock().expect("one thread"));
+        (logged, texts)
+    }
+
+    #[test]
+    fn leaks_are_logged_in_the_words_of_the_library() {
+        let mut script = Script::new(11, false);
+        let mut calls = 0..;
+        while script.live.len() < 100 || !script.live.iter().any(Allocation::is_dedicated) {
+            script.step(calls.next().expect("calls without end"));
+        }
+        let (logged, texts) = leaks(&mut script.allocator);
+        assert_eq!((logged.len(), texts.len()), (script.live.len(), script.live.len()));
+        assert!(texts.iter().any(|text| text.contains("dedicated allocation")), "{}", texts.len());
+        assert!(texts.iter().any(|text| text.contains("chunk: ")));
+        for (line, text) in logged.iter().zip(&texts) {
+            assert_eq!(line, text.trim_end());
+        }
+    }
+}
