@@ -858,12 +858,34 @@ PILHANGKO_NODISCARD static inline pilhangko_status pilhangko_allocator_capacity(
     return pilhangko_raw_allocator_capacity(allocator, bytes);
 }
 
-/* What is counted of a memory type. A sum over all goes from 0 up to the first NO_SUCH_TYPE.
+/* What is counted of a memory type. Memory types are numbered from 0 up to the first NO_SUCH_TYPE.
  * NO_HANDLE. NO_SUCH_TYPE. */
 PILHANGKO_NODISCARD static inline pilhangko_status pilhangko_allocator_type_statistics(
     const pilhangko_allocator *allocator, size_t memory_type, pilhangko_type_statistics *statistics) {
     if (!allocator || !statistics) return PILHANGKO_NULL_POINTER;
     return pilhangko_raw_allocator_type_statistics(allocator, memory_type, statistics);
+}
+
+/* The same of all memory types together: the sums, and the longest gap of any; without a budget.
+ * NO_HANDLE. */
+PILHANGKO_NODISCARD static inline pilhangko_status pilhangko_allocator_statistics(
+    const pilhangko_allocator *allocator, pilhangko_type_statistics *statistics) {
+    pilhangko_type_statistics all = {0, 0, 0, false, 0, 0, 0, 0, 0}, one;
+    pilhangko_status status;
+    size_t memory_type = 0;
+    if (!allocator || !statistics) return PILHANGKO_NULL_POINTER;
+    while ((status = pilhangko_raw_allocator_type_statistics(allocator, memory_type++, &one)) == PILHANGKO_OK) {
+        all.capacity += one.capacity;
+        all.slots += one.slots;
+        all.shared_blocks += one.shared_blocks;
+        all.pieces += one.pieces;
+        all.piece_bytes += one.piece_bytes;
+        all.gaps += one.gaps;
+        if (one.longest_gap > all.longest_gap) all.longest_gap = one.longest_gap;
+    }
+    if (status != PILHANGKO_NO_SUCH_TYPE) return status;
+    *statistics = all;
+    return PILHANGKO_OK;
 }
 
 /* The memory of the block in a slot of a memory type, if one is there. Slots are numbered from 0 to one less than type_statistics' slots;

@@ -28,19 +28,22 @@ static inline void account_begin(struct account *a, uint64_t size, uint64_t page
     a->chunks[0] = (struct chunk){0, 0, size, 1, 0, ""};
 }
 
-static inline uint64_t rounded_up(uint64_t n, uint64_t alignment) {
+/* wide enough for each sum of sizes and alignments */
+__extension__ typedef unsigned __int128 wide;
+
+static inline wide rounded_up(wide n, uint64_t alignment) {
     return (n + alignment - 1) / alignment * alignment;
 }
 
-/* Whether the request fits in the gap at that index, and where. Sizes in these tests are far below 2^63, so nothing wraps. */
+/* Whether the request fits in the gap at that index, and where. */
 static inline bool account_fits(const struct account *a, size_t at, uint64_t size, uint64_t alignment, uint32_t kind, uint64_t *offset) {
     const struct chunk *gap = &a->chunks[at];
-    uint64_t place = rounded_up(gap->start, alignment);
+    wide place = rounded_up(gap->start, alignment);
     if (at > 0 && a->chunks[at - 1].kind != kind && place / a->page == (gap->start - 1) / a->page)
-        place = rounded_up(((gap->start - 1) / a->page + 1) * a->page, alignment);
+        place = rounded_up(((wide)(gap->start - 1) / a->page + 1) * a->page, alignment);
     if (place + size > gap->end) return false;
     if (at + 1 < a->count && a->chunks[at + 1].kind != kind && (place + size - 1) / a->page == gap->end / a->page) return false;
-    *offset = place;
+    *offset = (uint64_t)place;
     return true;
 }
 
@@ -155,8 +158,8 @@ static inline void account_names(const struct account *a, uint64_t from, const c
 
 /* The names of all pieces from a place on, as many as there are lengths for and as far as there is room, are the account's; the lengths
  * were SIZE_MAX, and the bytes '?'. */
-static inline void account_names_all(const struct account *a, uint64_t from, const size_t *lengths, size_t room, const char *bytes,
-    size_t bytes_room, size_t count) {
+static inline void account_names_all(
+    const struct account *a, uint64_t from, const size_t *lengths, size_t room, const char *bytes, size_t bytes_room, size_t count) {
     size_t shown = 0, filled = 0;
     for (size_t i = 0; i < a->count && shown < room; i++) {
         if (!a->chunks[i].kind || a->chunks[i].offset < from) continue;

@@ -370,6 +370,9 @@ static void counts_of_types(const pilhangko_allocator *a) {
     CHECK(s.pieces == 1 && s.piece_bytes == 100 && s.gaps == 0 && s.longest_gap == 0);
     IS(pilhangko_allocator_type_statistics(a, 2, &s), PILHANGKO_OK);
     CHECK(s.capacity == 0 && s.slots == 0 && s.shared_blocks == 0 && s.pieces == 0 && s.piece_bytes == 0);
+    IS(pilhangko_allocator_statistics(a, &s), PILHANGKO_OK);
+    CHECK(s.capacity == 8 * MB + 100 && s.slots == 2 && s.shared_blocks == 1 && !s.has_budget && s.budget == 0);
+    CHECK(s.pieces == 3 && s.piece_bytes == 456 && s.gaps == 1 && s.longest_gap == 8 * MB - 356);
 }
 
 static void blocks_of_slots(const pilhangko_allocator *a) {
@@ -485,6 +488,7 @@ static void each_call(pilhangko_allocator *a, bool tells, pilhangko_status expec
     IS(pilhangko_allocator_budget(a, 0, tells ? &budget : NULL), expected);
     IS(pilhangko_allocator_capacity(a, tells ? &bytes : NULL), expected);
     IS(pilhangko_allocator_type_statistics(a, 0, tells ? &type : NULL), expected);
+    IS(pilhangko_allocator_statistics(a, tells ? &type : NULL), expected);
     IS(pilhangko_allocator_block(a, 0, 0, tells ? &back : NULL), expected);
     IS(pilhangko_allocator_block_statistics(a, 0, 0, tells ? &block : NULL), expected);
     IS(pilhangko_allocator_pieces(a, 0, 0, 0, views, 1, tells ? &count : NULL), expected);

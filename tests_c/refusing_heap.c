@@ -14,29 +14,38 @@ struct tried rattle_alloc(size_t size, size_t alignment);
 struct tried rattle_realloc(void *memory, size_t kept, size_t size, size_t alignment);
 void rattle_dealloc(void *memory);
 
-static char nothing;
+void *refusing_malloc(size_t size) {
+    void *memory = ++heap_requests == heap_refused ? NULL : malloc(size);
+    heap_held += memory != NULL;
+    return memory;
+}
+
+void *refusing_realloc(void *memory, size_t size) {
+    void *moved = ++heap_requests == heap_refused ? NULL : realloc(memory, size);
+    heap_held += moved && !memory;
+    return moved;
+}
+
+void refusing_free(void *memory) {
+    heap_held -= memory != NULL;
+    free(memory);
+}
+
+static struct tried tried(void *memory) {
+    static char nothing;
+    struct tried result = {memory != NULL, memory ? memory : &nothing};
+    return result;
+}
 
 struct tried rattle_alloc(size_t size, size_t alignment) {
-    struct tried result = {false, &nothing};
-    void *memory = ++heap_requests == heap_refused ? NULL : malloc(size ? size : alignment);
-    if (!memory) return result;
-    heap_held++;
-    result.succeeded = true;
-    result.memory = memory;
-    return result;
+    return tried(refusing_malloc(size ? size : alignment));
 }
 
 struct tried rattle_realloc(void *memory, size_t kept, size_t size, size_t alignment) {
-    struct tried result = {false, &nothing};
-    void *moved = ++heap_requests == heap_refused ? NULL : realloc(memory, size ? size : alignment);
     (void)kept;
-    if (!moved) return result;
-    result.succeeded = true;
-    result.memory = moved;
-    return result;
+    return tried(refusing_realloc(memory, size ? size : alignment));
 }
 
 void rattle_dealloc(void *memory) {
-    heap_held--;
-    free(memory);
+    refusing_free(memory);
 }

@@ -1,13 +1,18 @@
-//! Links the proved archive, libgpu_c.a: the one in the folder PILHANGKO_LIB_DIR, or else the one that the repository has built.
+//! Links the proved archive, libgpu_c.a: the one in the folder PILHANGKO_LIB_DIR, or else the one that the repository has built, or that a
+//! release has beside the crate.
 
 use std::env;
 use std::path::{Path, PathBuf};
 
-/// Where the archive is looked for: the folder that the environment names, else the repository's own.
+/// Where the archive is looked for: the folder that the environment names, else a release's, where there is one, else the repository's.
 fn archive_folder() -> PathBuf {
     match env::var_os("PILHANGKO_LIB_DIR") {
         Some(folder) => PathBuf::from(folder),
-        None => Path::new(env!("CARGO_MANIFEST_DIR")).join("../../crates/gpu_c/out"),
+        None => {
+            let here = Path::new(env!("CARGO_MANIFEST_DIR"));
+            let released = here.join("../lib");
+            if released.join("libgpu_c.a").is_file() { released } else { here.join("../../crates/gpu_c/out") }
+        }
     }
 }
 

@@ -3,7 +3,7 @@ use Rattle.std.specs.Prelude.{◌≡◌, ◌⊎◌, ℕ, List, [], ◌∷◌}
 use Rattle.gpu_values.specs.declared.error.AllocationError.{AllocationError}
 use Rattle.gpu_values.specs.declared.error.AllocationError.TheVariants as errors
 
--- ---- what calls out: 1 to 11 are the numbers of the library's errors, 12 and 13 split the sixth, 14 and 15 the fifth, from 100 on a handle is in the wrong state
+-- ---- what calls return: 1 to 11 are the numbers of the library's errors, 12 and 13 split the sixth, 14 and 15 the fifth, from 100 on a handle is in the wrong state
 
 -- the call did what it says
 abbrev pub ok : ℕ
@@ -81,7 +81,7 @@ awaits_answer = 104
 abbrev pub awaits_no_answer : ℕ
 awaits_no_answer = 105
 
--- blocks and memory types out no other error than the first five; Internal is theirs for a piece that isn't live
+-- blocks and memory types return no other error than the first five; Internal is theirs for a piece that isn't live
 abbrev pub status_of : AllocationError → ℕ
 status_of errors.OutOfMemory = out_of_memory
 status_of errors.HostOutOfMemory = host_out_of_memory

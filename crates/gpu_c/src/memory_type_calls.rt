@@ -1,4 +1,4 @@
-//! Memory memory_type for C. The caller asks its driver for each block, between prepare and install; while a block is awaited, each other call
+//! Memory types for C. The caller asks its driver for each block, between prepare and install; while a block is awaited, each other call
 //! that changes anything returns `AWAITS_BLOCK`. A handle begins zeroed; create fills it and destroy leaves it zeroed. Any status but
 //! `OK` leaves everything as it was.
 

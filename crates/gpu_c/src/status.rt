@@ -1,4 +1,4 @@
-//! What the calls out. 1 to 11 are the library's errors E1 to E11, 12 and 13 two causes of E6, 14 and 15 of E5; from 100 on a handle is in the wrong state.
+//! What the calls return. 1 to 11 are the library's errors E1 to E11, 12 and 13 two causes of E6, 14 and 15 of E5; from 100 on a handle is in the wrong state.
 
 ghost use Rattle.std.specs.Prelude.{◌≡◌};
 ghost use Rattle.gpu_c.specs.Status.{status_of};

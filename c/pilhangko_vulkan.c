@@ -1,0 +1,974 @@
+/* Pilhangko's Vulkan binding (include/pilhangko_vulkan.h): compile it with the program, as C11 or as C++11. It asks the driver what the
+ * allocator wants to know, and keeps a record of each block; the allocator decides all else. */
+#include "pilhangko_vulkan.h"
+#include <inttypes.h>
+#include <stdio.h>
+#include <stdlib.h>
+
+/* ---- records ---- */
+
+/* Records of one size, which keep their indices. The spare ones are a list: each record begins with the index of the next spare one. */
+struct table {
+    char *records;
+    size_t record_size;
+    uint32_t count, room, spare;
+};
+#define NO_RECORD UINT32_MAX
+
+/* A block of memory that the driver gave. The allocator knows it by its index among the records. */
+struct block {
+    uint32_t next_spare;
+    uint32_t memory_type;
+    VkDeviceMemory memory; /* VK_NULL_HANDLE of a spare record */
+    void *mapped;          /* the whole block, as long as it lives; NULL where the host can't see it */
+    VkDeviceSize size;
+};
+
+/* A live allocation. Its serial number never comes again, so one that was freed is told apart from each later one. */
+struct live {
+    uint32_t next_spare;
+    uint64_t serial; /* 0 of a spare record */
+    pilhangko_allocator_piece piece;
+};
+
+/* Bytes that grow. */
+struct text {
+    char *bytes;
+    size_t length, room;
+};
+
+/* The capture: what stands before `new`, and what stands behind it. */
+struct capture {
+    uint32_t end; /* PILHANGKO_VULKAN_CAPTURE_WHOLE while it goes on; PILHANGKO_VULKAN_CAPTURE_NONE where there is none */
+    pilhangko_vulkan_write write;
+    void *user;
+    struct text device, calls;
+    uint64_t questions; /* those of the calls that were written */
+};
+
+struct binding {
+    pilhangko_allocator allocator;
+    pilhangko_vulkan_functions functions;
+    VkAllocationCallbacks callbacks;
+    bool has_callbacks;
+    VkPhysicalDevice physical_device;
+    VkDevice device;
+    uint32_t api_version;
+    bool memory_budget;
+    VkPhysicalDeviceMemoryProperties properties;
+    VkDeviceSize atom; /* nonCoherentAtomSize */
+    struct table blocks, live;
+    VkDeviceSize held[VK_MAX_MEMORY_TYPES]; /* the sum of the blocks' sizes */
+    uint64_t last_serial, live_count;
+    struct capture capture;
+};
+
+static struct binding *binding_of(const pilhangko_vulkan *vulkan) {
+    return (struct binding *)vulkan->opaque;
+}
+
+static const VkAllocationCallbacks *callbacks_of(const struct binding *b) {
+    return b->has_callbacks ? &b->callbacks : NULL;
+}
+
+static pilhangko_vulkan_result result_of(pilhangko_status status, VkResult driver) {
+    pilhangko_vulkan_result result;
+    result.status = status;
+    result.driver = status == PILHANGKO_OK ? VK_SUCCESS : driver;
+    return result;
+}
+
+/* A result in which the driver has no part. */
+static pilhangko_vulkan_result undriven(pilhangko_status status) {
+    return result_of(status, VK_SUCCESS);
+}
+
+static bool is_power_of_two(VkDeviceSize n) {
+    return n != 0 && (n & (n - 1)) == 0;
+}
+
+/* ---- tables ---- */
+
+static void *record_of(const struct table *table, uint32_t index) {
+    return table->records + index * table->record_size;
+}
+
+static void make_spare(struct table *table, uint32_t index) {
+    memset(record_of(table, index), 0, table->record_size);
+    *(uint32_t *)record_of(table, index) = table->spare;
+    table->spare = index;
+}
+
+/* Whether there is a spare record; makes one where there is none. */
+static bool has_spare(struct table *table) {
+    if (table->spare != NO_RECORD) return true;
+    if (table->count == table->room) {
+        const uint32_t room = table->room ? 2 * table->room : 16;
+        char *records = (char *)realloc(table->records, room * table->record_size);
+        if (!records) return false;
+        table->records = records;
+        table->room = room;
+    }
+    make_spare(table, table->count++);
+    return true;
+}
+
+/* The index of a record that was spare. */
+static uint32_t take_spare(struct table *table) {
+    const uint32_t index = table->spare;
+    table->spare = *(uint32_t *)record_of(table, index);
+    return index;
+}
+
+static struct block *block_at(const struct binding *b, uint64_t index) {
+    return (struct block *)record_of(&b->blocks, (uint32_t)index);
+}
+
+/* The record of an allocation, or NULL where it isn't live or another binding's. */
+static const struct live *find(const struct binding *b, const pilhangko_vulkan_allocation *allocation) {
+    const struct live *it;
+    if (allocation->owner != b || allocation->serial == 0 || allocation->index >= b->live.count) return NULL;
+    it = (const struct live *)record_of(&b->live, allocation->index);
+    return it->serial == allocation->serial ? it : NULL;
+}
+
+/* ---- captures ---- */
+
+#define TRACE_LIMIT 1048576 /* bytes of the longest trace that gpu_trace reads */
+#define LINE_ROOM 320       /* more than the longest line */
+#define NAME_ROOM 64        /* of a name in a trace */
+#define END_ROOM 160        /* for `new`, `destroy` and the remark why a capture ends early */
+
+/* What a call asked the driver, in the trace's terms: how many questions, and which of them it refused. */
+struct asked {
+    uint64_t questions;
+    unsigned refusals;
+    struct {
+        uint64_t question;
+        bool is_null;
+        int32_t code;
+    } refused[2];    /* one for each attempt */
+    VkResult driver; /* the last refusal's code */
+};
+
+static bool makes_room(struct text *text, size_t more) {
+    size_t room = text->room ? text->room : 4096;
+    char *bytes;
+    if (text->room - text->length >= more) return true;
+    while (room - text->length < more) room *= 2;
+    bytes = (char *)realloc(text->bytes, room);
+    if (!bytes) return false;
+    text->bytes = bytes;
+    text->room = room;
+    return true;
+}
+
+/* Behind makes_room. Where nothing was ever put in, there are no bytes to copy to. */
+static void append(struct text *text, const char *bytes, size_t length) {
+    if (length > 0) memcpy(text->bytes + text->length, bytes, length);
+    text->length += length;
+}
+
+static void forget_text(struct text *text) {
+    free(text->bytes);
+    memset(text, 0, sizeof *text);
+}
+
+/* Puts the lines of one call into the capture, all or none of them. */
+static void capture_lines(struct capture *c, const char *device_lines, const char *call_lines) {
+    size_t device_length = strlen(device_lines), calls_length = strlen(call_lines);
+    if (c->device.length + c->calls.length + device_length + calls_length + END_ROOM > TRACE_LIMIT) {
+        c->end = PILHANGKO_VULKAN_CAPTURE_TOO_LONG;
+    } else if (!makes_room(&c->device, device_length) || !makes_room(&c->calls, calls_length)) {
+        c->end = PILHANGKO_VULKAN_CAPTURE_NO_HOST_MEMORY;
+    } else {
+        append(&c->device, device_lines, device_length);
+        append(&c->calls, call_lines, calls_length);
+    }
+}
+
+static bool is_captured(const struct binding *b) {
+    return b->capture.end == PILHANGKO_VULKAN_CAPTURE_WHOLE;
+}
+
+/* The device's lines. Each is written by itself, so that LINE_ROOM is enough. */
+static void capture_device(struct binding *b, const pilhangko_allocator_settings *s) {
+    const VkPhysicalDeviceMemoryProperties *p = &b->properties;
+    char line[LINE_ROOM];
+    for (uint32_t i = 0; i < p->memoryHeapCount && is_captured(b); i++) {
+        snprintf(line, sizeof line, "heap %" PRIu64 "\n", (uint64_t)p->memoryHeaps[i].size);
+        capture_lines(&b->capture, line, "");
+    }
+    for (uint32_t i = 0; i < p->memoryTypeCount && is_captured(b); i++) {
+        snprintf(
+            line, sizeof line, "type %" PRIu32 " %" PRIu32 "\n", (uint32_t)p->memoryTypes[i].propertyFlags, p->memoryTypes[i].heapIndex);
+        capture_lines(&b->capture, line, "");
+    }
+    snprintf(line, sizeof line, "granularity %" PRIu64 "\nsizes %" PRIu64 " %" PRIu64 " %" PRIu64 " %" PRIu64 "\n", s->page_size,
+        s->device_block_size, s->host_block_size, s->largest_device_block_size, s->largest_host_block_size);
+    if (is_captured(b)) capture_lines(&b->capture, line, "");
+    if (!is_captured(b)) forget_text(&b->capture.device); /* half a device is none */
+}
+
+/* A name as a trace can have it. */
+static const char *trace_name(const char *name, char *word) {
+    size_t length = 0;
+    for (; name && name[length] && length < NAME_ROOM; length++) {
+        unsigned char byte = (unsigned char)name[length];
+        word[length] = byte >= '!' && byte <= '~' ? (char)byte : '_';
+    }
+    if (length == 0) word[length++] = '_';
+    word[length] = 0;
+    return word;
+}
+
+static const char *trace_location(uint32_t location) {
+    switch (location) {
+    case PILHANGKO_LOCATION_GPU_ONLY: return "GpuOnly";
+    case PILHANGKO_LOCATION_CPU_TO_GPU: return "CpuToGpu";
+    case PILHANGKO_LOCATION_GPU_TO_CPU: return "GpuToCpu";
+    default: return "Unknown";
+    }
+}
+
+static void trace_scheme(const pilhangko_allocator_request *request, char *word, size_t room) {
+    if (request->scheme == PILHANGKO_SCHEME_MANAGED) snprintf(word, room, "managed");
+    else snprintf(word, room, "%s:%" PRIu64, request->scheme == PILHANGKO_SCHEME_BUFFER ? "buffer" : "image", request->resource);
+}
+
+static void trace_refusals(const struct capture *c, const struct asked *asked, char *lines, size_t room) {
+    size_t length = 0;
+    lines[0] = 0;
+    for (unsigned i = 0; i < asked->refusals; i++) {
+        uint64_t question = c->questions + asked->refused[i].question;
+        int written = asked->refused[i].is_null
+                          ? snprintf(lines + length, room - length, "refuse %" PRIu64 " null\n", question)
+                          : snprintf(lines + length, room - length, "refuse %" PRIu64 " %" PRId32 "\n", question, asked->refused[i].code);
+        length += (size_t)written;
+    }
+}
+
+/* The call `allocate`: what it asked for, and what the driver refused. Where host memory was lacking, nothing has changed, and in a replay
+ * nothing is lacking; an invalid request may have words that no trace has. An allocation is called by its serial number; one that was
+ * refused by the next one's. */
+static void capture_allocation(
+    struct binding *b, const pilhangko_allocator_request *request, const char *name, pilhangko_status status, const struct asked *asked) {
+    char lines[LINE_ROOM], refusals[LINE_ROOM], scheme[32], word[NAME_ROOM + 1];
+    if (!is_captured(b) || status == PILHANGKO_HOST_OUT_OF_MEMORY || status == PILHANGKO_INVALID) return;
+    trace_scheme(request, scheme, sizeof scheme);
+    trace_refusals(&b->capture, asked, refusals, sizeof refusals);
+    snprintf(lines, sizeof lines, "alloc %" PRIu64 " %" PRIu64 " %" PRIu64 " %" PRIu32 " %s %s %s %s\n", b->last_serial + 1, request->size,
+        request->alignment, request->memory_type_bits, trace_location(request->location),
+        request->kind == PILHANGKO_KIND_LINEAR ? "linear" : "nonlinear", scheme, trace_name(name, word));
+    capture_lines(&b->capture, refusals, lines);
+    b->capture.questions += asked->questions;
+}
+
+static void capture_free(struct binding *b, uint64_t serial) {
+    char line[LINE_ROOM];
+    if (!is_captured(b)) return;
+    snprintf(line, sizeof line, "free %" PRIu64 "\n", serial);
+    capture_lines(&b->capture, "", line);
+}
+
+static void capture_rename(struct binding *b, uint64_t serial, const char *name) {
+    char line[LINE_ROOM], word[NAME_ROOM + 1];
+    if (!is_captured(b)) return;
+    snprintf(line, sizeof line, "rename %" PRIu64 " %s\n", serial, trace_name(name, word));
+    capture_lines(&b->capture, "", line);
+}
+
+static void capture_budget(struct binding *b, uint32_t memory_type, bool has_budget, VkDeviceSize bytes) {
+    char line[LINE_ROOM];
+    if (!is_captured(b)) return;
+    if (has_budget) snprintf(line, sizeof line, "budget %" PRIu32 " %" PRIu64 "\n", memory_type, (uint64_t)bytes);
+    else snprintf(line, sizeof line, "budget %" PRIu32 " none\n", memory_type);
+    capture_lines(&b->capture, "", line);
+}
+
+static const char *remark_of(uint32_t end) {
+    switch (end) {
+    case PILHANGKO_VULKAN_CAPTURE_TOO_LONG: return "# the capture ends here: the next call would make the trace too long\n";
+    case PILHANGKO_VULKAN_CAPTURE_NO_HOST_MEMORY: return "# the capture ends here: no host memory for the next call\n";
+    default: return "";
+    }
+}
+
+/* Hands bytes to the caller, unless some were refused before. */
+static void write_bytes(const struct capture *c, pilhangko_vulkan_capture *told, const char *bytes, size_t length) {
+    if (told->end == PILHANGKO_VULKAN_CAPTURE_NOT_WRITTEN || length == 0) return;
+    if (c->write(c->user, bytes, length)) told->bytes += length;
+    else told->end = PILHANGKO_VULKAN_CAPTURE_NOT_WRITTEN;
+}
+
+/* Writes the capture with a last line, and forgets it. Without a device there is only the remark. */
+static pilhangko_vulkan_capture end_capture(struct capture *c, const char *last_line) {
+    const char *remark = remark_of(c->end);
+    pilhangko_vulkan_capture told;
+    told.end = c->end;
+    told.bytes = 0;
+    if (c->end == PILHANGKO_VULKAN_CAPTURE_NONE) return told;
+    if (c->end != PILHANGKO_VULKAN_CAPTURE_WHOLE) last_line = "";
+    write_bytes(c, &told, c->device.bytes, c->device.length);
+    write_bytes(c, &told, "new\n", c->device.length > 0 ? 4 : 0);
+    write_bytes(c, &told, c->calls.bytes, c->calls.length);
+    write_bytes(c, &told, last_line, strlen(last_line));
+    write_bytes(c, &told, remark, strlen(remark));
+    forget_text(&c->device);
+    forget_text(&c->calls);
+    c->end = PILHANGKO_VULKAN_CAPTURE_NONE;
+    return told;
+}
+
+/* ---- blocks ---- */
+
+/* Keeps memory in a spare record; returns its number. */
+static uint64_t keep_block(struct binding *b, VkDeviceMemory memory, void *mapped, const pilhangko_allocator_question *question) {
+    const uint32_t index = take_spare(&b->blocks);
+    struct block *block = block_at(b, index);
+    block->memory_type = question->memory_type;
+    block->memory = memory;
+    block->mapped = mapped;
+    block->size = question->size;
+    b->held[block->memory_type] += block->size;
+    return index;
+}
+
+/* Gives a block back to the driver. */
+static void give_back(struct binding *b, uint32_t index) {
+    const struct block *block = block_at(b, index);
+    if (block->mapped) b->functions.vkUnmapMemory(b->device, block->memory);
+    b->functions.vkFreeMemory(b->device, block->memory, callbacks_of(b));
+    b->held[block->memory_type] -= block->size;
+    make_spare(&b->blocks, index);
+}
+
+/* Whether a block has that memory: the driver may not give it twice. */
+static bool is_held(const struct binding *b, VkDeviceMemory memory) {
+    uint32_t i = 0;
+    while (i < b->blocks.count && block_at(b, i)->memory != memory) i++;
+    return i < b->blocks.count;
+}
+
+/* ---- asking the driver ---- */
+
+static VkResult ask_memory(const struct binding *b, const pilhangko_allocator_question *question, VkDeviceMemory *memory) {
+    VkMemoryAllocateInfo info;
+    VkMemoryDedicatedAllocateInfo alone;
+    VkMemoryAllocateFlagsInfo flags;
+    memset(&info, 0, sizeof info);
+    info.sType = VK_STRUCTURE_TYPE_MEMORY_ALLOCATE_INFO;
+    info.allocationSize = question->size;
+    info.memoryTypeIndex = question->memory_type;
+    if (question->scheme != PILHANGKO_SCHEME_MANAGED && b->api_version >= VK_API_VERSION_1_1) {
+        memset(&alone, 0, sizeof alone);
+        alone.sType = VK_STRUCTURE_TYPE_MEMORY_DEDICATED_ALLOCATE_INFO;
+        if (question->scheme == PILHANGKO_SCHEME_BUFFER) alone.buffer = (VkBuffer)question->resource;
+        else alone.image = (VkImage)question->resource;
+        info.pNext = &alone;
+    }
+    if (question->device_address) {
+        memset(&flags, 0, sizeof flags);
+        flags.sType = VK_STRUCTURE_TYPE_MEMORY_ALLOCATE_FLAGS_INFO;
+        flags.pNext = info.pNext;
+        flags.flags = VK_MEMORY_ALLOCATE_DEVICE_ADDRESS_BIT;
+        info.pNext = &flags;
+    }
+    *memory = VK_NULL_HANDLE;
+    return b->functions.vkAllocateMemory(b->device, &info, callbacks_of(b), memory);
+}
+
+static void note_refusal(struct asked *asked, bool is_null, int32_t code, VkResult driver) {
+    asked->refused[asked->refusals].question = asked->questions;
+    asked->refused[asked->refusals].is_null = is_null;
+    asked->refused[asked->refusals].code = code;
+    asked->refusals++;
+    asked->driver = driver;
+}
+
+static pilhangko_status memory_refused(
+    struct binding *b, struct asked *asked, VkResult driver, VkDeviceMemory memory, pilhangko_allocator_progress *progress) {
+    bool is_null = driver == VK_SUCCESS && memory == VK_NULL_HANDLE;
+    int32_t code = is_null ? VK_ERROR_OUT_OF_DEVICE_MEMORY : driver == VK_SUCCESS ? VK_ERROR_UNKNOWN : driver;
+    note_refusal(asked, is_null, code, driver);
+    return pilhangko_allocator_refused(&b->allocator, code, progress);
+}
+
+static pilhangko_status mapping_refused(
+    struct binding *b, struct asked *asked, VkResult driver, VkDeviceMemory memory, pilhangko_allocator_progress *progress) {
+    bool has_code = driver != VK_SUCCESS;
+    if (!has_code) b->functions.vkUnmapMemory(b->device, memory); /* to the driver it is mapped, though nobody knows where */
+    b->functions.vkFreeMemory(b->device, memory, callbacks_of(b));
+    note_refusal(asked, !has_code, driver, driver);
+    return pilhangko_allocator_mapping_refused(&b->allocator, has_code, driver, progress);
+}
+
+/* Asks the driver the question that is open, and tells the answer. */
+static pilhangko_status ask(struct binding *b, struct asked *asked, pilhangko_allocator_progress *progress) {
+    const pilhangko_allocator_question question = progress->question;
+    void *mapped = NULL;
+    VkDeviceMemory memory;
+    VkResult driver = ask_memory(b, &question, &memory);
+    asked->questions++;
+    if (driver != VK_SUCCESS || memory == VK_NULL_HANDLE || is_held(b, memory)) return memory_refused(b, asked, driver, memory, progress);
+    if (question.mapped) {
+        driver = b->functions.vkMapMemory(b->device, memory, 0, VK_WHOLE_SIZE, 0, &mapped);
+        asked->questions++;
+        if (driver != VK_SUCCESS || !mapped) return mapping_refused(b, asked, driver, memory, progress);
+    }
+    progress->kind = PILHANGKO_PROGRESS_PIECE;
+    return pilhangko_allocator_granted(&b->allocator, keep_block(b, memory, mapped, &question), &progress->piece);
+}
+
+/* ---- memory ---- */
+
+/* Whether a memory type that the bits allow needs flushes. */
+static bool may_need_flushes(const struct binding *b, uint32_t bits) {
+    const VkMemoryPropertyFlags both = VK_MEMORY_PROPERTY_HOST_VISIBLE_BIT | VK_MEMORY_PROPERTY_HOST_COHERENT_BIT;
+    for (uint32_t i = 0; i < b->properties.memoryTypeCount; i++)
+        if ((bits >> i & 1) && (b->properties.memoryTypes[i].propertyFlags & both) == VK_MEMORY_PROPERTY_HOST_VISIBLE_BIT) return true;
+    return false;
+}
+
+/* What the allocator is asked for. */
+static pilhangko_status asks_for(const struct binding *b, const pilhangko_vulkan_request *request, pilhangko_allocator_request *asks) {
+    const bool for_buffer = request->scheme == PILHANGKO_SCHEME_BUFFER, for_image = request->scheme == PILHANGKO_SCHEME_IMAGE;
+    if ((for_buffer && request->buffer == VK_NULL_HANDLE) || (for_image && request->image == VK_NULL_HANDLE)) return PILHANGKO_INVALID;
+    asks->size = request->requirements.size;
+    asks->alignment = request->requirements.alignment;
+    asks->memory_type_bits = request->requirements.memoryTypeBits;
+    asks->kind = request->kind;
+    asks->location = request->location;
+    asks->scheme = request->scheme;
+    asks->resource = for_buffer ? (uint64_t)request->buffer : for_image ? (uint64_t)request->image : 0;
+    if (asks->alignment < b->atom && is_power_of_two(asks->alignment) && may_need_flushes(b, asks->memory_type_bits))
+        asks->alignment = b->atom;
+    return PILHANGKO_OK;
+}
+
+/* Keeps a piece as a live allocation, and tells it. */
+static void keep_allocation(
+    struct binding *b, const pilhangko_allocator_piece *piece, bool dedicated, pilhangko_vulkan_allocation *allocation) {
+    const uint32_t index = take_spare(&b->live);
+    struct live *it = (struct live *)record_of(&b->live, index);
+    it->serial = ++b->last_serial;
+    it->piece = *piece;
+    b->live_count++;
+    allocation->memory = block_at(b, piece->piece.block)->memory;
+    allocation->offset = piece->piece.offset;
+    allocation->size = piece->piece.size;
+    allocation->dedicated = dedicated;
+    allocation->piece = *piece;
+    allocation->owner = b;
+    allocation->serial = it->serial;
+    allocation->index = index;
+}
+
+static pilhangko_vulkan_result allocate(
+    struct binding *b, const pilhangko_vulkan_request *request, pilhangko_vulkan_allocation *allocation) {
+    pilhangko_allocator_request asks;
+    pilhangko_allocator_progress progress;
+    struct asked asked;
+    pilhangko_status status = asks_for(b, request, &asks);
+    if (status != PILHANGKO_OK) return undriven(status);
+    /* before the driver is asked, so that nothing can fail behind its grant */
+    if (!has_spare(&b->blocks) || !has_spare(&b->live)) return undriven(PILHANGKO_HOST_OUT_OF_MEMORY);
+    memset(&asked, 0, sizeof asked);
+    status = pilhangko_allocator_begin(&b->allocator, &asks, request->name, &progress);
+    while (status == PILHANGKO_OK && progress.kind == PILHANGKO_PROGRESS_QUESTION) status = ask(b, &asked, &progress);
+    if (status == PILHANGKO_OK) status = progress.status;
+    capture_allocation(b, &asks, request->name, status, &asked);
+    if (status != PILHANGKO_OK) return result_of(status, asked.driver);
+    keep_allocation(b, &progress.piece, asks.scheme != PILHANGKO_SCHEME_MANAGED, allocation);
+    return undriven(PILHANGKO_OK);
+}
+
+static pilhangko_status free_allocation(struct binding *b, const pilhangko_vulkan_allocation *allocation) {
+    const struct live *it = find(b, allocation);
+    pilhangko_allocator_memory back;
+    pilhangko_status status;
+    if (!it) return PILHANGKO_NOT_LIVE;
+    status = pilhangko_allocator_free(&b->allocator, &it->piece, &back);
+    if (status != PILHANGKO_OK) return status;
+    capture_free(b, it->serial);
+    make_spare(&b->live, allocation->index);
+    b->live_count--;
+    if (back.exists) give_back(b, (uint32_t)back.memory);
+    return PILHANGKO_OK;
+}
+
+pilhangko_vulkan_result PILHANGKO_CALL pilhangko_vulkan_allocate(
+    pilhangko_vulkan *vulkan, const pilhangko_vulkan_request *request, pilhangko_vulkan_allocation *allocation) {
+    if (!vulkan || !request || !allocation) return undriven(PILHANGKO_NULL_POINTER);
+    if (!vulkan->opaque) return undriven(PILHANGKO_NO_HANDLE);
+    return allocate(binding_of(vulkan), request, allocation);
+}
+
+pilhangko_status PILHANGKO_CALL pilhangko_vulkan_free(pilhangko_vulkan *vulkan, const pilhangko_vulkan_allocation *allocation) {
+    if (!vulkan || !allocation) return PILHANGKO_NULL_POINTER;
+    if (!vulkan->opaque) return PILHANGKO_NO_HANDLE;
+    return free_allocation(binding_of(vulkan), allocation);
+}
+
+void *PILHANGKO_CALL pilhangko_vulkan_mapped(const pilhangko_vulkan *vulkan, const pilhangko_vulkan_allocation *allocation) {
+    const struct live *it;
+    char *mapped;
+    if (!vulkan || !allocation || !vulkan->opaque) return NULL;
+    it = find(binding_of(vulkan), allocation);
+    if (!it) return NULL;
+    mapped = (char *)block_at(binding_of(vulkan), it->piece.piece.block)->mapped;
+    return mapped ? mapped + it->piece.piece.offset : NULL;
+}
+
+/* The range of a block that a flush of a piece's bytes is about: whole units of nonCoherentAtomSize, or up to the block's end. */
+static VkMappedMemoryRange whole_atoms(const struct block *block, VkDeviceSize atom, VkDeviceSize first, VkDeviceSize size) {
+    const VkDeviceSize begin = first & ~(atom - 1), end = first + size;
+    VkMappedMemoryRange range;
+    memset(&range, 0, sizeof range);
+    range.sType = VK_STRUCTURE_TYPE_MAPPED_MEMORY_RANGE;
+    range.memory = block->memory;
+    range.offset = begin;
+    range.size = end - begin;
+    /* up to the next unit, unless the block ends before it; the sum could pass 2^64 */
+    if (end % atom != 0) range.size += atom - end % atom < block->size - end ? atom - end % atom : block->size - end;
+    return range;
+}
+
+static pilhangko_vulkan_result flush(
+    const struct binding *b, const pilhangko_vulkan_allocation *allocation, VkDeviceSize offset, VkDeviceSize size, bool invalidates) {
+    const struct live *it = find(b, allocation);
+    const pilhangko_memory_piece *piece;
+    const struct block *block;
+    VkMappedMemoryRange range;
+    VkResult driver;
+    if (!it) return undriven(PILHANGKO_NOT_LIVE);
+    piece = &it->piece.piece;
+    block = block_at(b, piece->block);
+    if (!block->mapped) return undriven(PILHANGKO_VULKAN_NOT_MAPPED);
+    if (offset > piece->size) return undriven(PILHANGKO_VULKAN_OUT_OF_RANGE);
+    if (size == VK_WHOLE_SIZE) size = piece->size - offset;
+    if (size > piece->size - offset) return undriven(PILHANGKO_VULKAN_OUT_OF_RANGE);
+    if (size == 0 || (b->properties.memoryTypes[block->memory_type].propertyFlags & VK_MEMORY_PROPERTY_HOST_COHERENT_BIT))
+        return undriven(PILHANGKO_OK);
+    range = whole_atoms(block, b->atom, piece->offset + offset, size);
+    driver = invalidates ? b->functions.vkInvalidateMappedMemoryRanges(b->device, 1, &range)
+                         : b->functions.vkFlushMappedMemoryRanges(b->device, 1, &range);
+    if (driver != VK_SUCCESS) return result_of(PILHANGKO_VULKAN_CALL_FAILED, driver);
+    return undriven(PILHANGKO_OK);
+}
+
+pilhangko_vulkan_result PILHANGKO_CALL pilhangko_vulkan_flush(
+    const pilhangko_vulkan *vulkan, const pilhangko_vulkan_allocation *allocation, VkDeviceSize offset, VkDeviceSize size) {
+    if (!vulkan || !allocation) return undriven(PILHANGKO_NULL_POINTER);
+    if (!vulkan->opaque) return undriven(PILHANGKO_NO_HANDLE);
+    return flush(binding_of(vulkan), allocation, offset, size, false);
+}
+
+pilhangko_vulkan_result PILHANGKO_CALL pilhangko_vulkan_invalidate(
+    const pilhangko_vulkan *vulkan, const pilhangko_vulkan_allocation *allocation, VkDeviceSize offset, VkDeviceSize size) {
+    if (!vulkan || !allocation) return undriven(PILHANGKO_NULL_POINTER);
+    if (!vulkan->opaque) return undriven(PILHANGKO_NO_HANDLE);
+    return flush(binding_of(vulkan), allocation, offset, size, true);
+}
+
+pilhangko_status PILHANGKO_CALL pilhangko_vulkan_rename(
+    pilhangko_vulkan *vulkan, const pilhangko_vulkan_allocation *allocation, const char *name) {
+    const struct live *it;
+    pilhangko_allocator_piece none;
+    pilhangko_status status;
+    if (!vulkan || !allocation) return PILHANGKO_NULL_POINTER;
+    if (!vulkan->opaque) return PILHANGKO_NO_HANDLE;
+    it = find(binding_of(vulkan), allocation);
+    memset(&none, 0, sizeof none); /* no live piece: the name is looked at first all the same */
+    status = pilhangko_allocator_rename(&binding_of(vulkan)->allocator, it ? &it->piece : &none, name);
+    if (status == PILHANGKO_OK) capture_rename(binding_of(vulkan), allocation->serial, name);
+    return status;
+}
+
+pilhangko_status PILHANGKO_CALL pilhangko_vulkan_is_live(
+    const pilhangko_vulkan *vulkan, const pilhangko_vulkan_allocation *allocation, bool *is_live) {
+    if (!vulkan || !allocation || !is_live) return PILHANGKO_NULL_POINTER;
+    if (!vulkan->opaque) return PILHANGKO_NO_HANDLE;
+    *is_live = find(binding_of(vulkan), allocation) != NULL;
+    return PILHANGKO_OK;
+}
+
+pilhangko_status PILHANGKO_CALL pilhangko_vulkan_capacity(const pilhangko_vulkan *vulkan, VkDeviceSize *bytes) {
+    uint64_t sum;
+    pilhangko_status status;
+    if (!vulkan || !bytes) return PILHANGKO_NULL_POINTER;
+    if (!vulkan->opaque) return PILHANGKO_NO_HANDLE;
+    status = pilhangko_allocator_capacity(&binding_of(vulkan)->allocator, &sum);
+    if (status == PILHANGKO_OK) *bytes = sum;
+    return status;
+}
+
+const pilhangko_allocator *PILHANGKO_CALL pilhangko_vulkan_allocator(const pilhangko_vulkan *vulkan) {
+    return vulkan && vulkan->opaque ? &binding_of(vulkan)->allocator : NULL;
+}
+
+/* ---- buffers and images ---- */
+
+/* A buffer or an image: the other one is null. */
+struct resource {
+    bool is_image;
+    VkBuffer buffer;
+    VkImage image;
+};
+
+static void destroy_resource(const struct binding *b, const struct resource *r) {
+    if (r->is_image) b->functions.vkDestroyImage(b->device, r->image, callbacks_of(b));
+    else b->functions.vkDestroyBuffer(b->device, r->buffer, callbacks_of(b));
+}
+
+static VkResult bind_resource(const struct binding *b, const struct resource *r, const pilhangko_vulkan_allocation *a) {
+    return r->is_image ? b->functions.vkBindImageMemory(b->device, r->image, a->memory, a->offset)
+                       : b->functions.vkBindBufferMemory(b->device, r->buffer, a->memory, a->offset);
+}
+
+/* What the driver needs for it, before Vulkan 1.1. */
+static void plain_requirements(const struct binding *b, const struct resource *r, VkMemoryRequirements *needs) {
+    if (r->is_image) b->functions.vkGetImageMemoryRequirements(b->device, r->image, needs);
+    else b->functions.vkGetBufferMemoryRequirements(b->device, r->buffer, needs);
+}
+
+/* What the driver needs for it, and whether it requires or prefers memory for it alone. */
+static bool requirements_of(const struct binding *b, const struct resource *r, VkMemoryRequirements *needs) {
+    VkMemoryDedicatedRequirements alone;
+    VkMemoryRequirements2 told;
+    memset(&alone, 0, sizeof alone);
+    alone.sType = VK_STRUCTURE_TYPE_MEMORY_DEDICATED_REQUIREMENTS;
+    memset(&told, 0, sizeof told);
+    told.sType = VK_STRUCTURE_TYPE_MEMORY_REQUIREMENTS_2;
+    told.pNext = &alone;
+    if (b->api_version >= VK_API_VERSION_1_1 && r->is_image && b->functions.vkGetImageMemoryRequirements2) {
+        VkImageMemoryRequirementsInfo2 info;
+        memset(&info, 0, sizeof info);
+        info.sType = VK_STRUCTURE_TYPE_IMAGE_MEMORY_REQUIREMENTS_INFO_2;
+        info.image = r->image;
+        b->functions.vkGetImageMemoryRequirements2(b->device, &info, &told);
+    } else if (b->api_version >= VK_API_VERSION_1_1 && !r->is_image && b->functions.vkGetBufferMemoryRequirements2) {
+        VkBufferMemoryRequirementsInfo2 info;
+        memset(&info, 0, sizeof info);
+        info.sType = VK_STRUCTURE_TYPE_BUFFER_MEMORY_REQUIREMENTS_INFO_2;
+        info.buffer = r->buffer;
+        b->functions.vkGetBufferMemoryRequirements2(b->device, &info, &told);
+    } else {
+        plain_requirements(b, r, &told.memoryRequirements);
+    }
+    *needs = told.memoryRequirements;
+    return alone.requiresDedicatedAllocation || alone.prefersDedicatedAllocation;
+}
+
+/* Gives a resource memory and binds it; destroys it where that fails. */
+static pilhangko_vulkan_result place(struct binding *b, const struct resource *r, uint32_t kind,
+    const pilhangko_vulkan_placement *placement, pilhangko_vulkan_allocation *allocation) {
+    pilhangko_vulkan_request request;
+    pilhangko_vulkan_allocation made;
+    pilhangko_vulkan_result result;
+    VkResult driver;
+    bool is_dedicated;
+    memset(&request, 0, sizeof request);
+    is_dedicated = requirements_of(b, r, &request.requirements) || placement->dedicated;
+    request.location = placement->location;
+    request.kind = kind;
+    request.scheme = !is_dedicated ? PILHANGKO_SCHEME_MANAGED : r->is_image ? PILHANGKO_SCHEME_IMAGE : PILHANGKO_SCHEME_BUFFER;
+    request.buffer = r->buffer;
+    request.image = r->image;
+    request.name = placement->name;
+    result = allocate(b, &request, &made);
+    if (result.status != PILHANGKO_OK) {
+        destroy_resource(b, r);
+        return result;
+    }
+    driver = bind_resource(b, r, &made);
+    if (driver != VK_SUCCESS) {
+        destroy_resource(b, r);
+        free_allocation(b, &made);
+        return result_of(PILHANGKO_VULKAN_CALL_FAILED, driver);
+    }
+    *allocation = made;
+    return result;
+}
+
+pilhangko_vulkan_result PILHANGKO_CALL pilhangko_vulkan_create_buffer(pilhangko_vulkan *vulkan, const VkBufferCreateInfo *info,
+    const pilhangko_vulkan_placement *placement, VkBuffer *buffer, pilhangko_vulkan_allocation *allocation) {
+    struct resource made = {false, VK_NULL_HANDLE, VK_NULL_HANDLE};
+    struct binding *b;
+    pilhangko_vulkan_result result;
+    VkResult driver;
+    if (!vulkan || !info || !placement || !buffer || !allocation) return undriven(PILHANGKO_NULL_POINTER);
+    b = binding_of(vulkan);
+    if (!b) return undriven(PILHANGKO_NO_HANDLE);
+    if (info->flags & VK_BUFFER_CREATE_SPARSE_BINDING_BIT) return undriven(PILHANGKO_INVALID);
+    driver = b->functions.vkCreateBuffer(b->device, info, callbacks_of(b), &made.buffer);
+    if (driver != VK_SUCCESS || made.buffer == VK_NULL_HANDLE) return result_of(PILHANGKO_VULKAN_CALL_FAILED, driver);
+    result = place(b, &made, PILHANGKO_KIND_LINEAR, placement, allocation);
+    if (result.status == PILHANGKO_OK) *buffer = made.buffer;
+    return result;
+}
+
+pilhangko_vulkan_result PILHANGKO_CALL pilhangko_vulkan_create_image(pilhangko_vulkan *vulkan, const VkImageCreateInfo *info,
+    const pilhangko_vulkan_placement *placement, VkImage *image, pilhangko_vulkan_allocation *allocation) {
+    struct resource made = {true, VK_NULL_HANDLE, VK_NULL_HANDLE};
+    struct binding *b;
+    pilhangko_vulkan_result result;
+    VkResult driver;
+    if (!vulkan || !info || !placement || !image || !allocation) return undriven(PILHANGKO_NULL_POINTER);
+    b = binding_of(vulkan);
+    if (!b) return undriven(PILHANGKO_NO_HANDLE);
+    if (info->flags & (VK_IMAGE_CREATE_SPARSE_BINDING_BIT | VK_IMAGE_CREATE_DISJOINT_BIT)) return undriven(PILHANGKO_INVALID);
+    driver = b->functions.vkCreateImage(b->device, info, callbacks_of(b), &made.image);
+    if (driver != VK_SUCCESS || made.image == VK_NULL_HANDLE) return result_of(PILHANGKO_VULKAN_CALL_FAILED, driver);
+    result =
+        place(b, &made, info->tiling == VK_IMAGE_TILING_LINEAR ? PILHANGKO_KIND_LINEAR : PILHANGKO_KIND_NON_LINEAR, placement, allocation);
+    if (result.status == PILHANGKO_OK) *image = made.image;
+    return result;
+}
+
+/* The resource goes before its memory, as the driver wants it. */
+static pilhangko_status destroy_placed(struct binding *b, const struct resource *r, const pilhangko_vulkan_allocation *allocation) {
+    if (!find(b, allocation)) return PILHANGKO_NOT_LIVE;
+    destroy_resource(b, r);
+    return free_allocation(b, allocation);
+}
+
+pilhangko_status PILHANGKO_CALL pilhangko_vulkan_destroy_buffer(
+    pilhangko_vulkan *vulkan, VkBuffer buffer, const pilhangko_vulkan_allocation *allocation) {
+    struct resource gone = {false, buffer, VK_NULL_HANDLE};
+    if (!vulkan || buffer == VK_NULL_HANDLE || !allocation) return PILHANGKO_NULL_POINTER;
+    if (!vulkan->opaque) return PILHANGKO_NO_HANDLE;
+    return destroy_placed(binding_of(vulkan), &gone, allocation);
+}
+
+pilhangko_status PILHANGKO_CALL pilhangko_vulkan_destroy_image(
+    pilhangko_vulkan *vulkan, VkImage image, const pilhangko_vulkan_allocation *allocation) {
+    struct resource gone = {true, VK_NULL_HANDLE, image};
+    if (!vulkan || image == VK_NULL_HANDLE || !allocation) return PILHANGKO_NULL_POINTER;
+    if (!vulkan->opaque) return PILHANGKO_NO_HANDLE;
+    return destroy_placed(binding_of(vulkan), &gone, allocation);
+}
+
+/* ---- budgets ---- */
+
+/* What the driver tells of its heaps now. */
+static void read_budgets(const struct binding *b, VkPhysicalDeviceMemoryBudgetPropertiesEXT *budgets) {
+    VkPhysicalDeviceMemoryProperties2 properties;
+    memset(budgets, 0, sizeof *budgets);
+    budgets->sType = VK_STRUCTURE_TYPE_PHYSICAL_DEVICE_MEMORY_BUDGET_PROPERTIES_EXT;
+    memset(&properties, 0, sizeof properties);
+    properties.sType = VK_STRUCTURE_TYPE_PHYSICAL_DEVICE_MEMORY_PROPERTIES_2;
+    properties.pNext = budgets;
+    b->functions.vkGetPhysicalDeviceMemoryProperties2(b->physical_device, &properties);
+}
+
+pilhangko_status PILHANGKO_CALL pilhangko_vulkan_read_heap(const pilhangko_vulkan *vulkan, uint32_t heap, pilhangko_vulkan_heap *read) {
+    VkPhysicalDeviceMemoryBudgetPropertiesEXT budgets;
+    const struct binding *b;
+    if (!vulkan || !read) return PILHANGKO_NULL_POINTER;
+    b = binding_of(vulkan);
+    if (!b) return PILHANGKO_NO_HANDLE;
+    if (heap >= b->properties.memoryHeapCount) return PILHANGKO_VULKAN_NO_SUCH_HEAP;
+    memset(read, 0, sizeof *read);
+    read->size = b->properties.memoryHeaps[heap].size;
+    read->flags = b->properties.memoryHeaps[heap].flags;
+    for (uint32_t i = 0; i < b->properties.memoryTypeCount; i++)
+        if (b->properties.memoryTypes[i].heapIndex == heap) read->held += b->held[i];
+    read->has_budget = b->memory_budget;
+    if (!b->memory_budget) return PILHANGKO_OK;
+    read_budgets(b, &budgets);
+    read->usage = budgets.heapUsage[heap];
+    read->budget = budgets.heapBudget[heap];
+    return PILHANGKO_OK;
+}
+
+static pilhangko_status set_budget(struct binding *b, uint32_t memory_type, bool has_budget, VkDeviceSize bytes) {
+    pilhangko_status status = pilhangko_allocator_set_budget(&b->allocator, memory_type, has_budget, bytes);
+    if (status == PILHANGKO_OK) capture_budget(b, memory_type, has_budget, bytes);
+    return status;
+}
+
+pilhangko_status PILHANGKO_CALL pilhangko_vulkan_update_budgets(pilhangko_vulkan *vulkan) {
+    VkPhysicalDeviceMemoryBudgetPropertiesEXT budgets;
+    struct binding *b;
+    pilhangko_status status = PILHANGKO_OK;
+    if (!vulkan) return PILHANGKO_NULL_POINTER;
+    b = binding_of(vulkan);
+    if (!b) return PILHANGKO_NO_HANDLE;
+    if (!b->memory_budget) return PILHANGKO_VULKAN_NO_BUDGETS;
+    read_budgets(b, &budgets);
+    for (uint32_t i = 0; i < b->properties.memoryTypeCount && status == PILHANGKO_OK; i++) {
+        const uint32_t heap = b->properties.memoryTypes[i].heapIndex;
+        const VkDeviceSize usage = budgets.heapUsage[heap], budget = budgets.heapBudget[heap];
+        const VkDeviceSize left = budget > usage ? budget - usage : 0, held = b->held[i];
+        status = set_budget(b, i, true, left <= UINT64_MAX - held ? held + left : UINT64_MAX);
+    }
+    return status;
+}
+
+pilhangko_status PILHANGKO_CALL pilhangko_vulkan_set_budget(
+    pilhangko_vulkan *vulkan, uint32_t memory_type, bool has_budget, VkDeviceSize bytes) {
+    if (!vulkan) return PILHANGKO_NULL_POINTER;
+    if (!vulkan->opaque) return PILHANGKO_NO_HANDLE;
+    return set_budget(binding_of(vulkan), memory_type, has_budget, bytes);
+}
+
+pilhangko_status PILHANGKO_CALL pilhangko_vulkan_budget(const pilhangko_vulkan *vulkan, uint32_t memory_type, pilhangko_budget *budget) {
+    if (!vulkan || !budget) return PILHANGKO_NULL_POINTER;
+    if (!vulkan->opaque) return PILHANGKO_NO_HANDLE;
+    return pilhangko_allocator_budget(&binding_of(vulkan)->allocator, memory_type, budget);
+}
+
+/* ---- create and destroy ---- */
+
+static bool has_functions(const pilhangko_vulkan_functions *f) {
+    return f->vkGetPhysicalDeviceProperties && f->vkGetPhysicalDeviceMemoryProperties && f->vkAllocateMemory && f->vkFreeMemory &&
+           f->vkMapMemory && f->vkUnmapMemory && f->vkFlushMappedMemoryRanges && f->vkInvalidateMappedMemoryRanges && f->vkCreateBuffer &&
+           f->vkDestroyBuffer && f->vkGetBufferMemoryRequirements && f->vkBindBufferMemory && f->vkCreateImage && f->vkDestroyImage &&
+           f->vkGetImageMemoryRequirements && f->vkBindImageMemory;
+}
+
+#define LOAD(get, of, name) loaded.name = (PFN_##name)get(of, #name)
+#define LOAD_SINCE_1_1(get, of, name) loaded.name = (PFN_##name)get(of, api_version >= VK_API_VERSION_1_1 ? #name : #name "KHR")
+
+pilhangko_status PILHANGKO_CALL pilhangko_vulkan_load(pilhangko_vulkan_functions *functions, VkInstance instance, VkDevice device,
+    uint32_t api_version, PFN_vkGetInstanceProcAddr get_instance_proc_addr, PFN_vkGetDeviceProcAddr get_device_proc_addr) {
+    pilhangko_vulkan_functions loaded;
+    PFN_vkGetDeviceProcAddr get = get_device_proc_addr;
+    if (!functions || !instance || !device || !get_instance_proc_addr) return PILHANGKO_NULL_POINTER;
+    if (!get) get = (PFN_vkGetDeviceProcAddr)get_instance_proc_addr(instance, "vkGetDeviceProcAddr");
+    if (!get) return PILHANGKO_VULKAN_NO_FUNCTION;
+    LOAD(get_instance_proc_addr, instance, vkGetPhysicalDeviceProperties);
+    LOAD(get_instance_proc_addr, instance, vkGetPhysicalDeviceMemoryProperties);
+    LOAD(get, device, vkAllocateMemory);
+    LOAD(get, device, vkFreeMemory);
+    LOAD(get, device, vkMapMemory);
+    LOAD(get, device, vkUnmapMemory);
+    LOAD(get, device, vkFlushMappedMemoryRanges);
+    LOAD(get, device, vkInvalidateMappedMemoryRanges);
+    LOAD(get, device, vkCreateBuffer);
+    LOAD(get, device, vkDestroyBuffer);
+    LOAD(get, device, vkGetBufferMemoryRequirements);
+    LOAD(get, device, vkBindBufferMemory);
+    LOAD(get, device, vkCreateImage);
+    LOAD(get, device, vkDestroyImage);
+    LOAD(get, device, vkGetImageMemoryRequirements);
+    LOAD(get, device, vkBindImageMemory);
+    LOAD_SINCE_1_1(get, device, vkGetBufferMemoryRequirements2);
+    LOAD_SINCE_1_1(get, device, vkGetImageMemoryRequirements2);
+    LOAD_SINCE_1_1(get_instance_proc_addr, instance, vkGetPhysicalDeviceMemoryProperties2);
+    if (!has_functions(&loaded)) return PILHANGKO_VULKAN_NO_FUNCTION;
+    *functions = loaded;
+    return PILHANGKO_OK;
+}
+
+static VkDeviceSize or_else(VkDeviceSize size, VkDeviceSize otherwise) {
+    return size ? size : otherwise;
+}
+
+static pilhangko_allocator_settings allocator_settings(const pilhangko_vulkan_settings *settings, VkDeviceSize granularity) {
+    pilhangko_allocator_settings s;
+    s.page_size = granularity;
+    s.device_block_size = or_else(settings->device_block_size, UINT64_C(256) << 20);
+    s.largest_device_block_size = settings->largest_device_block_size;
+    s.host_block_size = or_else(settings->host_block_size, UINT64_C(64) << 20);
+    s.largest_host_block_size = settings->largest_host_block_size;
+    s.device_address = settings->buffer_device_address;
+    return s;
+}
+
+static pilhangko_status create_allocator(struct binding *b, const pilhangko_allocator_settings *settings) {
+    const VkPhysicalDeviceMemoryProperties *p = &b->properties;
+    pilhangko_device_memory_type types[VK_MAX_MEMORY_TYPES];
+    pilhangko_device_heap heaps[VK_MAX_MEMORY_HEAPS];
+    if (p->memoryTypeCount > VK_MAX_MEMORY_TYPES) return PILHANGKO_TOO_MANY_TYPES;
+    if (p->memoryHeapCount > VK_MAX_MEMORY_HEAPS) return PILHANGKO_INVALID_DEVICE;
+    for (uint32_t i = 0; i < p->memoryTypeCount; i++) {
+        types[i].flags = p->memoryTypes[i].propertyFlags;
+        types[i].heap = p->memoryTypes[i].heapIndex;
+    }
+    for (uint32_t i = 0; i < p->memoryHeapCount; i++) {
+        heaps[i].size = p->memoryHeaps[i].size;
+        heaps[i].flags = p->memoryHeaps[i].flags;
+    }
+    return pilhangko_allocator_create(&b->allocator, types, p->memoryTypeCount, heaps, p->memoryHeapCount, settings);
+}
+
+static void take_settings(struct binding *b, const pilhangko_vulkan_settings *settings) {
+    memset(b, 0, sizeof *b);
+    b->functions = *settings->functions;
+    b->has_callbacks = settings->allocation_callbacks != NULL;
+    if (b->has_callbacks) b->callbacks = *settings->allocation_callbacks;
+    b->physical_device = settings->physical_device;
+    b->device = settings->device;
+    b->blocks.record_size = sizeof(struct block);
+    b->live.record_size = sizeof(struct live);
+    b->blocks.spare = b->live.spare = NO_RECORD;
+    b->api_version = settings->api_version;
+    b->memory_budget = settings->memory_budget;
+    b->capture.end = settings->capture_write ? PILHANGKO_VULKAN_CAPTURE_WHOLE : PILHANGKO_VULKAN_CAPTURE_NONE;
+    b->capture.write = settings->capture_write;
+    b->capture.user = settings->capture_user;
+}
+
+/* Reads the device, and makes the allocator over it. */
+static pilhangko_status begin_binding(struct binding *b, const pilhangko_vulkan_settings *settings) {
+    VkPhysicalDeviceProperties device;
+    pilhangko_allocator_settings s;
+    pilhangko_status status;
+    take_settings(b, settings);
+    memset(&device, 0, sizeof device);
+    b->functions.vkGetPhysicalDeviceProperties(b->physical_device, &device);
+    b->functions.vkGetPhysicalDeviceMemoryProperties(b->physical_device, &b->properties);
+    b->atom = device.limits.nonCoherentAtomSize;
+    s = allocator_settings(settings, device.limits.bufferImageGranularity);
+    if (!is_power_of_two(b->atom)) return PILHANGKO_INVALID_DEVICE;
+    status = create_allocator(b, &s);
+    if (status == PILHANGKO_OK && is_captured(b)) capture_device(b, &s);
+    return status;
+}
+
+pilhangko_status PILHANGKO_CALL pilhangko_vulkan_create(pilhangko_vulkan *vulkan, const pilhangko_vulkan_settings *settings) {
+    struct binding *b;
+    pilhangko_status status;
+    if (!vulkan || !settings || !settings->physical_device || !settings->device || !settings->functions) return PILHANGKO_NULL_POINTER;
+    if (vulkan->opaque) return PILHANGKO_IN_USE;
+    if (!has_functions(settings->functions)) return PILHANGKO_VULKAN_NO_FUNCTION;
+    if (settings->memory_budget && !settings->functions->vkGetPhysicalDeviceMemoryProperties2) return PILHANGKO_VULKAN_NO_FUNCTION;
+    b = (struct binding *)malloc(sizeof *b);
+    if (!b) return PILHANGKO_HOST_OUT_OF_MEMORY;
+    status = begin_binding(b, settings);
+    if (status != PILHANGKO_OK) {
+        free(b);
+        return status;
+    }
+    vulkan->opaque = b;
+    return PILHANGKO_OK;
+}
+
+pilhangko_status PILHANGKO_CALL pilhangko_vulkan_end_capture(pilhangko_vulkan *vulkan, pilhangko_vulkan_capture *capture) {
+    if (!vulkan || !capture) return PILHANGKO_NULL_POINTER;
+    if (!vulkan->opaque) return PILHANGKO_NO_HANDLE;
+    if (binding_of(vulkan)->capture.end == PILHANGKO_VULKAN_CAPTURE_NONE) return PILHANGKO_VULKAN_NO_CAPTURE;
+    *capture = end_capture(&binding_of(vulkan)->capture, "");
+    return PILHANGKO_OK;
+}
+
+pilhangko_status PILHANGKO_CALL pilhangko_vulkan_destroy(pilhangko_vulkan *vulkan, pilhangko_vulkan_ending *ending) {
+    struct binding *b;
+    pilhangko_vulkan_ending told;
+    if (!vulkan) return PILHANGKO_NULL_POINTER;
+    b = binding_of(vulkan);
+    if (!b) return PILHANGKO_NO_HANDLE;
+    told.leaks = b->live_count;
+    told.capture = end_capture(&b->capture, "destroy\n");
+    for (uint32_t i = 0; i < b->blocks.count; i++)
+        if (block_at(b, i)->memory != VK_NULL_HANDLE) give_back(b, i);
+    (void)pilhangko_allocator_destroy(&b->allocator);
+    free(b->blocks.records);
+    free(b->live.records);
+    free(b);
+    vulkan->opaque = NULL;
+    if (ending) *ending = told;
+    return PILHANGKO_OK;
+}

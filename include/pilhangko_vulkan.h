@@ -1,0 +1,333 @@
+/* Pilhangko's Vulkan binding: memory, buffers and images of a VkDevice, placed by a pilhangko_allocator.
+ *
+ * The binding asks the driver for blocks, maps those that the host can see, and keeps them; the allocator says where each piece lies
+ * (pilhangko.h). Compile c/pilhangko_vulkan.c and c/pilhangko_heap.c with the program, and link libgpu_c.a. It needs Vulkan's headers of
+ * version 1.2 or later, and runs on drivers from Vulkan 1.0 on. It calls the driver through a table of functions, so it links no loader;
+ * its own host memory is malloc's.
+ *
+ * Handles. A pilhangko_vulkan is one pointer that begins zeroed, as in `pilhangko_vulkan vulkan = {0};`, and keeps the rules of the handles
+ * of pilhangko.h: never copied, given to one call at a time, on any thread. The physical device and the device outlive it. What Vulkan
+ * wants of the caller it still wants: resources that the device uses aren't destroyed, for instance.
+ *
+ * Statuses. A call that asks the driver returns a pilhangko_vulkan_result: why it failed, and beside it the driver's code. Causes
+ * are listed at each call in the order in which they count. Whatever isn't PILHANGKO_OK leaves all as it was, out parameters too; but a
+ * block that was made for an allocation may stay for the next ones, as with each free.
+ */
+#ifndef PILHANGKO_VULKAN_H
+#define PILHANGKO_VULKAN_H
+#include "pilhangko.h"
+#include <vulkan/vulkan.h>
+
+#ifndef VK_VERSION_1_2
+#error "pilhangko_vulkan.h needs the Vulkan headers of version 1.2 or later"
+#endif
+
+#ifdef __cplusplus
+extern "C" {
+#endif
+
+/* The statuses of the binding, beside those of pilhangko.h. */
+enum {
+    /* The driver refused to make, to bind, to flush or to invalidate, or said VK_SUCCESS and gave a null handle. */
+    PILHANGKO_VULKAN_CALL_FAILED = 300,
+    /* A function that is needed is missing: the loader doesn't have it, or it is NULL in the table. */
+    PILHANGKO_VULKAN_NO_FUNCTION = 301,
+    /* The host can't see the allocation's memory. */
+    PILHANGKO_VULKAN_NOT_MAPPED = 302,
+    /* The range isn't within the allocation. */
+    PILHANGKO_VULKAN_OUT_OF_RANGE = 303,
+    /* VK_EXT_memory_budget isn't enabled. */
+    PILHANGKO_VULKAN_NO_BUDGETS = 304,
+    /* No memory heap has that index. */
+    PILHANGKO_VULKAN_NO_SUCH_HEAP = 305,
+    /* No capture is under way. */
+    PILHANGKO_VULKAN_NO_CAPTURE = 306
+};
+
+/* What a call that asks the driver results in. driver: VK_SUCCESS where status is PILHANGKO_OK; else the code with which the driver refused
+ * last in this call, and VK_SUCCESS where it refused nothing, or refused by a null pointer or handle. */
+typedef struct pilhangko_vulkan_result {
+    pilhangko_status status;
+    VkResult driver;
+} pilhangko_vulkan_result;
+
+/* ---- Functions ---- */
+
+/* The functions of Vulkan that the binding calls. Those of the last three lines may be NULL: without vkGet..MemoryRequirements2 no buffer
+ * or image has memory of its own because the driver prefers it, and vkGetPhysicalDeviceMemoryProperties2 serves budgets alone. */
+typedef struct pilhangko_vulkan_functions {
+    PFN_vkGetPhysicalDeviceProperties vkGetPhysicalDeviceProperties;
+    PFN_vkGetPhysicalDeviceMemoryProperties vkGetPhysicalDeviceMemoryProperties;
+    PFN_vkAllocateMemory vkAllocateMemory;
+    PFN_vkFreeMemory vkFreeMemory;
+    PFN_vkMapMemory vkMapMemory;
+    PFN_vkUnmapMemory vkUnmapMemory;
+    PFN_vkFlushMappedMemoryRanges vkFlushMappedMemoryRanges;
+    PFN_vkInvalidateMappedMemoryRanges vkInvalidateMappedMemoryRanges;
+    PFN_vkCreateBuffer vkCreateBuffer;
+    PFN_vkDestroyBuffer vkDestroyBuffer;
+    PFN_vkGetBufferMemoryRequirements vkGetBufferMemoryRequirements;
+    PFN_vkBindBufferMemory vkBindBufferMemory;
+    PFN_vkCreateImage vkCreateImage;
+    PFN_vkDestroyImage vkDestroyImage;
+    PFN_vkGetImageMemoryRequirements vkGetImageMemoryRequirements;
+    PFN_vkBindImageMemory vkBindImageMemory;
+    PFN_vkGetBufferMemoryRequirements2 vkGetBufferMemoryRequirements2;
+    PFN_vkGetImageMemoryRequirements2 vkGetImageMemoryRequirements2;
+    PFN_vkGetPhysicalDeviceMemoryProperties2 vkGetPhysicalDeviceMemoryProperties2;
+} pilhangko_vulkan_functions;
+
+/* Fills the table from a loader. api_version, as in the settings below, says whether the last three have their names of Vulkan 1.1 or those
+ * of the extensions before it. get_device_proc_addr may be NULL: it is asked of the other one then. NULL_POINTER: a pointer or a handle.
+ * NO_FUNCTION: one that may not be NULL; the table is untouched. */
+PILHANGKO_NODISCARD PILHANGKO_API pilhangko_status PILHANGKO_CALL pilhangko_vulkan_load(pilhangko_vulkan_functions *functions,
+    VkInstance instance, VkDevice device, uint32_t api_version, PFN_vkGetInstanceProcAddr get_instance_proc_addr,
+    PFN_vkGetDeviceProcAddr get_device_proc_addr);
+
+/* The table from a loader that the program links: define PILHANGKO_VULKAN_LINKED before this header. */
+#ifdef PILHANGKO_VULKAN_LINKED
+PILHANGKO_NODISCARD static inline pilhangko_status pilhangko_vulkan_load_linked(
+    pilhangko_vulkan_functions *functions, VkInstance instance, VkDevice device, uint32_t api_version) {
+    return pilhangko_vulkan_load(functions, instance, device, api_version, vkGetInstanceProcAddr, vkGetDeviceProcAddr);
+}
+#endif
+
+/* ---- Create and destroy ---- */
+
+typedef struct pilhangko_vulkan {
+    void *opaque; /* the library's own */
+} pilhangko_vulkan;
+
+/* Takes the next bytes of a capture, and says whether it could. It calls nothing of the same handle. */
+typedef bool(PILHANGKO_CALL *pilhangko_vulkan_write)(void *user, const char *bytes, size_t length);
+
+/* All zeros but the first three fields are settings that work. A block size of 0 is 256 MB for memory that the host can't see and 64 MB for
+ * memory that it can; blocks don't double up where the largest size is 0. (They are brought into 4 MB to 256 MB: see
+ * pilhangko_memory_type_settings.) */
+typedef struct pilhangko_vulkan_settings {
+    VkPhysicalDevice physical_device;
+    VkDevice device;
+    const pilhangko_vulkan_functions *functions;       /* copied */
+    const VkAllocationCallbacks *allocation_callbacks; /* handed to the driver; copied; NULL for none */
+    uint32_t api_version;                              /* the lesser of the instance's and the device's; 0 is 1.0 */
+    bool buffer_device_address;                        /* whether the feature bufferDeviceAddress is enabled */
+    bool memory_budget;                                /* whether VK_EXT_memory_budget is enabled */
+    VkDeviceSize device_block_size;
+    VkDeviceSize largest_device_block_size;
+    VkDeviceSize host_block_size;
+    VkDeviceSize largest_host_block_size;
+    pilhangko_vulkan_write capture_write; /* where the capture goes; NULL for no capture */
+    void *capture_user;                   /* handed to capture_write */
+} pilhangko_vulkan_settings;
+
+/* Makes a binding without blocks in an empty handle. It asks the driver for the device's properties, and for no memory.
+ * NULL_POINTER: a pointer or a handle. IN_USE: the handle isn't empty. NO_FUNCTION. HOST_OUT_OF_MEMORY. And what the driver tells:
+ * INVALID_DEVICE: a nonCoherentAtomSize or bufferImageGranularity that is no power of two, or more than 16 heaps. TOO_MANY_TYPES.
+ * NO_SUCH_HEAP. */
+PILHANGKO_NODISCARD PILHANGKO_API pilhangko_status PILHANGKO_CALL pilhangko_vulkan_create(
+    pilhangko_vulkan *vulkan, const pilhangko_vulkan_settings *settings);
+
+/* How a capture ended. */
+enum {
+    /* There is none, or its end was told before. */
+    PILHANGKO_VULKAN_CAPTURE_NONE = 0,
+    /* All calls are in it. */
+    PILHANGKO_VULKAN_CAPTURE_WHOLE = 1,
+    /* It ends before the call that would have carried it past the longest trace. */
+    PILHANGKO_VULKAN_CAPTURE_TOO_LONG = 2,
+    /* It ends before the call for whose lines there was no host memory. */
+    PILHANGKO_VULKAN_CAPTURE_NO_HOST_MEMORY = 3,
+    /* capture_write couldn't take all of it. */
+    PILHANGKO_VULKAN_CAPTURE_NOT_WRITTEN = 4
+};
+typedef struct pilhangko_vulkan_capture {
+    uint32_t end; /* PILHANGKO_VULKAN_CAPTURE_.. */
+    size_t bytes; /* what capture_write took */
+} pilhangko_vulkan_capture;
+
+/* What a binding left: the allocations that nobody freed, and the capture, where it was still under way. */
+typedef struct pilhangko_vulkan_ending {
+    uint64_t leaks;
+    pilhangko_vulkan_capture capture;
+} pilhangko_vulkan_ending;
+
+/* Ends a binding: writes the capture, if one is under way, gives each block back to the driver, and leaves the handle empty. Buffers and
+ * images are the caller's to destroy before. ending may be NULL.
+ * NULL_POINTER: the handle. NO_HANDLE. */
+PILHANGKO_API pilhangko_status PILHANGKO_CALL pilhangko_vulkan_destroy(pilhangko_vulkan *vulkan, pilhangko_vulkan_ending *ending);
+
+/* ---- Memory ---- */
+
+/* What memory is wanted for. */
+typedef struct pilhangko_vulkan_request {
+    VkMemoryRequirements requirements;
+    uint32_t location; /* PILHANGKO_LOCATION_.. */
+    uint32_t kind;     /* PILHANGKO_KIND_.. */
+    uint32_t scheme;   /* PILHANGKO_SCHEME_..: MANAGED, or memory for the buffer or the image alone */
+    VkBuffer buffer;   /* it counts where the scheme is PILHANGKO_SCHEME_BUFFER, and isn't null then */
+    VkImage image;     /* it counts where the scheme is PILHANGKO_SCHEME_IMAGE, and isn't null then */
+    const char *name;  /* copied; NULL for none */
+} pilhangko_vulkan_request;
+
+/* An allocation: bind at offset of memory. The calls read the last three fields alone. One that was freed is refused (PILHANGKO_NOT_LIVE)
+ * as long as its binding lives, and so is one of another binding. */
+typedef struct pilhangko_vulkan_allocation {
+    VkDeviceMemory memory;
+    VkDeviceSize offset;
+    VkDeviceSize size;
+    bool dedicated; /* whether the memory is for one buffer or image alone */
+    pilhangko_allocator_piece piece;
+    const void *owner; /* the binding */
+    uint64_t serial;   /* which of its allocations: 1, 2, .. as they were made */
+    uint32_t index;    /* the library's own */
+} pilhangko_vulkan_allocation;
+
+/* Allocates memory. Where a memory type that the request allows needs flushes, the alignment is nonCoherentAtomSize at least, so that a
+ * flush touches no other allocation.
+ * NULL_POINTER. NO_HANDLE. INVALID: a null buffer or image that counts. HOST_OUT_OF_MEMORY: the binding's own. Then the causes of
+ * pilhangko_allocator_begin, or why the driver refused, as with pilhangko_allocator_refused: OUT_OF_MEMORY, DRIVER_REFUSED or
+ * FAILED_TO_MAP. A driver that gives a null handle has no memory left; one that gives memory which is held already refuses it by
+ * VK_ERROR_UNKNOWN. */
+PILHANGKO_NODISCARD PILHANGKO_API pilhangko_vulkan_result PILHANGKO_CALL pilhangko_vulkan_allocate(
+    pilhangko_vulkan *vulkan, const pilhangko_vulkan_request *request, pilhangko_vulkan_allocation *allocation);
+
+/* Frees an allocation, and gives its block back to the driver where that goes too.
+ * NULL_POINTER. NO_HANDLE. NOT_LIVE. */
+PILHANGKO_NODISCARD PILHANGKO_API pilhangko_status PILHANGKO_CALL pilhangko_vulkan_free(
+    pilhangko_vulkan *vulkan, const pilhangko_vulkan_allocation *allocation);
+
+/* Where the host sees an allocation; NULL where it can't, or where one of the pointers is NULL, the handle empty or the allocation not
+ * live. It stays the same as long as the allocation lives. */
+PILHANGKO_NODISCARD PILHANGKO_API void *PILHANGKO_CALL pilhangko_vulkan_mapped(
+    const pilhangko_vulkan *vulkan, const pilhangko_vulkan_allocation *allocation);
+
+/* Makes what the host wrote visible to the device (flush), or what the device wrote visible to the host (invalidate): of the bytes
+ * [offset, offset + size) of the allocation, up to its end where size is VK_WHOLE_SIZE. The range may be anything: it grows to whole
+ * nonCoherentAtomSize units within the block. Coherent memory and ranges without bytes ask the driver nothing.
+ * NULL_POINTER. NO_HANDLE. NOT_LIVE. NOT_MAPPED. OUT_OF_RANGE. CALL_FAILED. */
+PILHANGKO_NODISCARD PILHANGKO_API pilhangko_vulkan_result PILHANGKO_CALL pilhangko_vulkan_flush(
+    const pilhangko_vulkan *vulkan, const pilhangko_vulkan_allocation *allocation, VkDeviceSize offset, VkDeviceSize size);
+PILHANGKO_NODISCARD PILHANGKO_API pilhangko_vulkan_result PILHANGKO_CALL pilhangko_vulkan_invalidate(
+    const pilhangko_vulkan *vulkan, const pilhangko_vulkan_allocation *allocation, VkDeviceSize offset, VkDeviceSize size);
+
+/* Renames a live allocation.
+ * NULL_POINTER. NO_HANDLE. INVALID: the name. NOT_LIVE. HOST_OUT_OF_MEMORY. */
+PILHANGKO_NODISCARD PILHANGKO_API pilhangko_status PILHANGKO_CALL pilhangko_vulkan_rename(
+    pilhangko_vulkan *vulkan, const pilhangko_vulkan_allocation *allocation, const char *name);
+
+/* Whether an allocation is live.
+ * NULL_POINTER. NO_HANDLE. */
+PILHANGKO_NODISCARD PILHANGKO_API pilhangko_status PILHANGKO_CALL pilhangko_vulkan_is_live(
+    const pilhangko_vulkan *vulkan, const pilhangko_vulkan_allocation *allocation, bool *is_live);
+
+/* The sum of the sizes of the blocks.
+ * NULL_POINTER. NO_HANDLE. */
+PILHANGKO_NODISCARD PILHANGKO_API pilhangko_status PILHANGKO_CALL pilhangko_vulkan_capacity(
+    const pilhangko_vulkan *vulkan, VkDeviceSize *bytes);
+
+/* ---- Buffers and images ---- */
+
+/* Where a buffer or an image goes. */
+typedef struct pilhangko_vulkan_placement {
+    uint32_t location; /* PILHANGKO_LOCATION_.. */
+    bool dedicated;    /* whether it shall have memory of its own; else it has, where the driver requires or prefers it */
+    const char *name;  /* copied; NULL for none */
+} pilhangko_vulkan_placement;
+
+/* Makes a buffer or an image with memory and binds it. What was made is undone where something fails. Buffers and images that are sparse or
+ * disjoint are INVALID: bind these to memory of pilhangko_vulkan_allocate.
+ * NULL_POINTER. NO_HANDLE. INVALID. CALL_FAILED: vkCreate... Then the causes of pilhangko_vulkan_allocate. CALL_FAILED: vkBind... */
+PILHANGKO_NODISCARD PILHANGKO_API pilhangko_vulkan_result PILHANGKO_CALL pilhangko_vulkan_create_buffer(pilhangko_vulkan *vulkan,
+    const VkBufferCreateInfo *info, const pilhangko_vulkan_placement *placement, VkBuffer *buffer, pilhangko_vulkan_allocation *allocation);
+PILHANGKO_NODISCARD PILHANGKO_API pilhangko_vulkan_result PILHANGKO_CALL pilhangko_vulkan_create_image(pilhangko_vulkan *vulkan,
+    const VkImageCreateInfo *info, const pilhangko_vulkan_placement *placement, VkImage *image, pilhangko_vulkan_allocation *allocation);
+
+/* Destroys a buffer or an image of the binding's device, and frees its allocation. Where the allocation isn't live, neither happens.
+ * NULL_POINTER: a pointer or a handle. NO_HANDLE. NOT_LIVE. */
+PILHANGKO_NODISCARD PILHANGKO_API pilhangko_status PILHANGKO_CALL pilhangko_vulkan_destroy_buffer(
+    pilhangko_vulkan *vulkan, VkBuffer buffer, const pilhangko_vulkan_allocation *allocation);
+PILHANGKO_NODISCARD PILHANGKO_API pilhangko_status PILHANGKO_CALL pilhangko_vulkan_destroy_image(
+    pilhangko_vulkan *vulkan, VkImage image, const pilhangko_vulkan_allocation *allocation);
+
+/* ---- Budgets ---- */
+
+/* A memory heap. usage and budget are the driver's, of the whole process; they are 0 where has_budget is false. */
+typedef struct pilhangko_vulkan_heap {
+    VkDeviceSize size;
+    VkMemoryHeapFlags flags;
+    VkDeviceSize held; /* the sum of the sizes of this binding's blocks */
+    bool has_budget;   /* whether VK_EXT_memory_budget is enabled */
+    VkDeviceSize usage;
+    VkDeviceSize budget;
+} pilhangko_vulkan_heap;
+
+/* What a heap has, and what the driver tells of it now. Heaps are numbered as the device numbers them.
+ * NULL_POINTER. NO_HANDLE. NO_SUCH_HEAP. */
+PILHANGKO_NODISCARD PILHANGKO_API pilhangko_status PILHANGKO_CALL pilhangko_vulkan_read_heap(
+    const pilhangko_vulkan *vulkan, uint32_t heap, pilhangko_vulkan_heap *read);
+
+/* Bounds each memory type by what it holds and what its heap has left now, by the driver: once a frame, say. Memory types of one heap share
+ * what is left: until the next call they may take it more than once.
+ * NULL_POINTER. NO_HANDLE. NO_BUDGETS. */
+PILHANGKO_NODISCARD PILHANGKO_API pilhangko_status PILHANGKO_CALL pilhangko_vulkan_update_budgets(pilhangko_vulkan *vulkan);
+
+/* Bounds the sum of the sizes of a memory type's blocks, or takes the bound away; and the bound. As with a pilhangko_allocator.
+ * NULL_POINTER. NO_HANDLE. And of set_budget, NO_SUCH_TYPE. */
+PILHANGKO_NODISCARD PILHANGKO_API pilhangko_status PILHANGKO_CALL pilhangko_vulkan_set_budget(
+    pilhangko_vulkan *vulkan, uint32_t memory_type, bool has_budget, VkDeviceSize bytes);
+PILHANGKO_NODISCARD PILHANGKO_API pilhangko_status PILHANGKO_CALL pilhangko_vulkan_budget(
+    const pilhangko_vulkan *vulkan, uint32_t memory_type, pilhangko_budget *budget);
+
+/* ---- What else the allocator tells ---- */
+
+/* The allocator behind the binding, for each call of pilhangko.h that takes a `const pilhangko_allocator *`: statistics by memory type,
+ * blocks and their pieces with names, the report as JSON, and the texts of leaks. NULL where vulkan is NULL or empty. It lives as long as
+ * the binding; calls on both never overlap. */
+PILHANGKO_NODISCARD PILHANGKO_API const pilhangko_allocator *PILHANGKO_CALL pilhangko_vulkan_allocator(const pilhangko_vulkan *vulkan);
+
+/* ---- Captures ---- */
+
+/* A capture is the trace of a binding's calls from create on: `gpu_trace` replays it, and replies the same places, numbers and refusals
+ * (docs/TRACE.md). It has the device and its refusals, then a line for each allocation, free, rename and bound of a memory type; destroy
+ * ends it. An allocation is called by its serial number, a refused one by the next one's. Bytes of a name beyond `!` to `~` are written as
+ * `_`, and so is a name of no bytes; a name is cut after 64 bytes. Calls that changed nothing aren't written, but for allocations that were
+ * refused for another cause than INVALID and HOST_OUT_OF_MEMORY.
+ *
+ * The refusals stand before the calls, so the capture is kept in host memory, at most 1 MB, and written when it ends. Where it can't go
+ * on, it ends behind a whole call, its last line says why, and the binding works on. This call ends it before destroy does.
+ * NULL_POINTER. NO_HANDLE. NO_CAPTURE: there is none, or it was written. */
+PILHANGKO_NODISCARD PILHANGKO_API pilhangko_status PILHANGKO_CALL pilhangko_vulkan_end_capture(
+    pilhangko_vulkan *vulkan, pilhangko_vulkan_capture *capture);
+
+/* ---- Statuses ---- */
+
+/* A status of the binding or of pilhangko.h by its name, and in one line of text. */
+static inline const char *pilhangko_vulkan_status_name(pilhangko_status status) {
+    switch (status) {
+    case PILHANGKO_VULKAN_CALL_FAILED: return "PILHANGKO_VULKAN_CALL_FAILED";
+    case PILHANGKO_VULKAN_NO_FUNCTION: return "PILHANGKO_VULKAN_NO_FUNCTION";
+    case PILHANGKO_VULKAN_NOT_MAPPED: return "PILHANGKO_VULKAN_NOT_MAPPED";
+    case PILHANGKO_VULKAN_OUT_OF_RANGE: return "PILHANGKO_VULKAN_OUT_OF_RANGE";
+    case PILHANGKO_VULKAN_NO_BUDGETS: return "PILHANGKO_VULKAN_NO_BUDGETS";
+    case PILHANGKO_VULKAN_NO_SUCH_HEAP: return "PILHANGKO_VULKAN_NO_SUCH_HEAP";
+    case PILHANGKO_VULKAN_NO_CAPTURE: return "PILHANGKO_VULKAN_NO_CAPTURE";
+    default: return pilhangko_status_name(status);
+    }
+}
+static inline const char *pilhangko_vulkan_status_text(pilhangko_status status) {
+    switch (status) {
+    case PILHANGKO_VULKAN_CALL_FAILED: return "the driver refused to make, to bind, to flush or to invalidate";
+    case PILHANGKO_VULKAN_NO_FUNCTION: return "a function of Vulkan that is needed is missing";
+    case PILHANGKO_VULKAN_NOT_MAPPED: return "the host can't see the allocation's memory";
+    case PILHANGKO_VULKAN_OUT_OF_RANGE: return "the range isn't within the allocation";
+    case PILHANGKO_VULKAN_NO_BUDGETS: return "VK_EXT_memory_budget isn't enabled";
+    case PILHANGKO_VULKAN_NO_SUCH_HEAP: return "no memory heap has that index";
+    case PILHANGKO_VULKAN_NO_CAPTURE: return "no capture is under way";
+    default: return pilhangko_status_text(status);
+    }
+}
+
+#ifdef __cplusplus
+}
+#endif
+#endif

@@ -1,0 +1,104 @@
+/* A plain account of an allocator: memory types (type_account.h), which of them serves a request, and the second attempt of an upload. A
+ * request goes to the first memory type that it allows which has all that its location prefers, else to the first one that has all that it
+ * needs. A refused upload has one more attempt, at the first memory type that has what uploads need. */
+#ifndef ALLOCATOR_ACCOUNT_H
+#define ALLOCATOR_ACCOUNT_H
+#include "type_account.h"
+
+#define ACCOUNT_TYPES 6
+
+/* Vulkan's flags of a memory type: 1 the device's own, 2 seen by the host, 4 coherent, 8 cached; by PILHANGKO_LOCATION_.. */
+static const uint32_t preferred_flags[] = {0, 0, 1, 7, 14}, required_flags[] = {0, 0, 1, 6, 6};
+
+struct allocator_account {
+    size_t type_count;
+    uint32_t flags[ACCOUNT_TYPES];
+    uint64_t heap_size[ACCOUNT_TYPES]; /* of each memory type's heap */
+    struct type_account types[ACCOUNT_TYPES];
+    /* the request that is under way, or was last */
+    pilhangko_allocator_request request;
+    const char *name;
+    bool awaits_answer, is_second; /* whether a question is open, and of which attempt */
+    size_t type;                   /* of the attempt */
+    struct placed placed;          /* what the attempt came to */
+};
+
+static inline uint64_t allocator_capacity(const struct allocator_account *a) {
+    uint64_t sum = 0;
+    for (size_t i = 0; i < a->type_count; i++) sum += type_capacity(&a->types[i]);
+    return sum;
+}
+
+/* The first memory type that is allowed and has the flags, or the count of memory types. */
+static inline size_t first_type(const struct allocator_account *a, uint32_t flags) {
+    size_t i = 0;
+    while (i < a->type_count && (!(a->request.memory_type_bits >> i & 1) || (a->flags[i] & flags) != flags)) i++;
+    return i;
+}
+
+static inline pilhangko_memory_request attempt_request(const struct allocator_account *a) {
+    const pilhangko_allocator_request *r = &a->request;
+    pilhangko_memory_request request = {r->size, r->alignment, r->kind, r->scheme != PILHANGKO_SCHEME_MANAGED};
+    return request;
+}
+
+static inline pilhangko_status account_second_attempt(struct allocator_account *a, pilhangko_status refused);
+
+/* Attempts the request at a memory type: it leads to a piece, to a question, or to its refusal. */
+static inline pilhangko_status account_attempt(struct allocator_account *a, size_t type) {
+    pilhangko_memory_request request = attempt_request(a);
+    pilhangko_status status = PILHANGKO_OUT_OF_MEMORY;
+    a->type = type;
+    if (request.size <= a->heap_size[type]) status = type_allocate(&a->types[type], &request, a->name, allocator_capacity(a), &a->placed);
+    if (status != PILHANGKO_OK) return account_second_attempt(a, status);
+    a->awaits_answer = a->placed.needs_block;
+    return PILHANGKO_OK;
+}
+
+static inline pilhangko_status account_second_attempt(struct allocator_account *a, pilhangko_status refused) {
+    if (a->is_second || a->request.location != PILHANGKO_LOCATION_CPU_TO_GPU) return refused;
+    a->is_second = true;
+    return account_attempt(a, first_type(a, required_flags[PILHANGKO_LOCATION_CPU_TO_GPU]));
+}
+
+static inline bool is_valid_request(const pilhangko_allocator_request *r) {
+    return r->size != 0 && r->alignment != 0 && (r->alignment & (r->alignment - 1)) == 0 && (r->kind == 1 || r->kind == 2) &&
+           r->location >= 1 && r->location <= 4 && r->scheme >= 1 && r->scheme <= 3;
+}
+
+static inline pilhangko_status account_begin_request(
+    struct allocator_account *a, const pilhangko_allocator_request *request, const char *name) {
+    size_t type;
+    if (a->awaits_answer) return PILHANGKO_AWAITS_ANSWER;
+    if (!is_valid_request(request)) return PILHANGKO_INVALID;
+    a->request = *request;
+    a->name = name;
+    a->is_second = false;
+    type = first_type(a, preferred_flags[request->location]);
+    if (type == a->type_count) type = first_type(a, required_flags[request->location]);
+    if (type == a->type_count) return PILHANGKO_NO_MEMORY_TYPE;
+    return account_attempt(a, type);
+}
+
+/* The question is answered by a refusal. */
+static inline pilhangko_status account_refused(struct allocator_account *a, pilhangko_status refused) {
+    a->awaits_answer = false;
+    return account_second_attempt(a, refused);
+}
+
+/* The question is answered by memory. */
+static inline void account_granted(struct allocator_account *a, uint64_t memory) {
+    pilhangko_memory_request request = attempt_request(a);
+    a->awaits_answer = false;
+    a->placed.piece = type_install(&a->types[a->type], &a->placed, &request, a->name, memory);
+}
+
+static inline bool same_allocation(const struct allocator_account *a, const pilhangko_allocator_piece *piece) {
+    return piece->memory_type == a->type && piece->mapped == ((a->flags[a->type] & 2) != 0) && same_piece(&piece->piece, &a->placed.piece);
+}
+
+/* The index of a live piece in its slot's account, or -1. */
+static inline long allocator_find(const struct allocator_account *a, const pilhangko_allocator_piece *piece) {
+    return piece->memory_type < a->type_count ? type_find(&a->types[piece->memory_type], &piece->piece) : -1;
+}
+#endif

@@ -1,0 +1,622 @@
+/* A target for clang's libFuzzer: an input is a row of calls of the three handles of pilhangko.h, each beside a plain account that
+ * foretells its status and what it reports. Sizes, alignments, names and pieces may be anything. */
+#include "allocator_account.h"
+
+#define CALLS 900 /* of one input: the account's rows have room for what they leave */
+#define NAME_ROOM 12
+
+int LLVMFuzzerTestOneInput(const uint8_t *bytes, size_t length);
+
+/* ---- the input */
+
+static const uint8_t *input;
+static size_t input_left;
+
+static uint8_t next_byte(void) {
+    if (input_left == 0) return 0;
+    input_left--;
+    return *input++;
+}
+
+static uint64_t next_bytes(unsigned count) {
+    uint64_t n = 0;
+    while (count-- > 0) n = n << 8 | next_byte();
+    return n;
+}
+
+/* A number: a small one, one around a power of two, or any. */
+static uint64_t next_number(void) {
+    const uint8_t how = next_byte();
+    if (how < 100) return next_byte();
+    if (how < 160) return next_bytes(3);
+    if (how < 240) return (UINT64_C(1) << next_byte() % 64) + next_byte() % 5 - 2;
+    return next_bytes(8);
+}
+
+static uint64_t next_alignment(void) {
+    return next_byte() % 16 ? UINT64_C(1) << next_byte() % 64 : next_number();
+}
+
+static uint32_t next_small(uint32_t count) {
+    return next_byte() % count;
+}
+
+/* names of their own for the account, which keeps pointers */
+static char name_pool[CALLS][NAME_ROOM + 1];
+static size_t names_taken;
+
+static const char *next_name(void) {
+    static const char *const common[] = {NULL, "", "vertices", "a name that takes host memory of its own"};
+    const uint8_t how = next_byte();
+    if (how < 200) return common[how % 4];
+    char *name = name_pool[names_taken++];
+    const size_t length = how % (NAME_ROOM + 1);
+    for (size_t i = 0; i < length; i++) name[i] = (char)next_byte();
+    name[length] = 0;
+    return name;
+}
+
+static bool is_between(uint8_t byte, uint8_t least, uint8_t most) {
+    return byte >= least && byte <= most;
+}
+
+/* How many bytes the character that begins here has, by the Unicode standard's table of well-formed UTF-8; 0 where there is none. A byte
+ * behind a text is 0, which goes on no character. */
+static size_t character_length(const uint8_t *b) {
+    if (b[0] < 0x80) return 1;
+    if (is_between(b[0], 0xc2, 0xdf)) return is_between(b[1], 0x80, 0xbf) ? 2 : 0;
+    if (is_between(b[0], 0xe0, 0xef)) {
+        if (!is_between(b[1], b[0] == 0xe0 ? 0xa0 : 0x80, b[0] == 0xed ? 0x9f : 0xbf)) return 0;
+        return is_between(b[2], 0x80, 0xbf) ? 3 : 0;
+    }
+    if (!is_between(b[0], 0xf0, 0xf4)) return 0;
+    if (!is_between(b[1], b[0] == 0xf0 ? 0x90 : 0x80, b[0] == 0xf4 ? 0x8f : 0xbf)) return 0;
+    return is_between(b[2], 0x80, 0xbf) && is_between(b[3], 0x80, 0xbf) ? 4 : 0;
+}
+
+static bool is_utf8(const char *name) {
+    size_t step = 1;
+    for (const uint8_t *at = (const uint8_t *)name; name && *at && step; at += step) step = character_length(at);
+    return step != 0;
+}
+
+static bool is_power(uint64_t n) {
+    return n && !(n & (n - 1));
+}
+
+/* ---- a virtual block */
+
+static pilhangko_virtual_block block;
+static struct account block_account;
+static bool has_block;
+
+static pilhangko_status block_status(pilhangko_status status) {
+    return has_block ? status : PILHANGKO_NO_HANDLE;
+}
+
+static void creates_block(void) {
+    const uint64_t size = next_number(), page = next_alignment();
+    const pilhangko_status status = has_block ? PILHANGKO_IN_USE : !size || !is_power(page) ? PILHANGKO_INVALID : PILHANGKO_OK;
+    IS(pilhangko_virtual_block_create(&block, size, page), status);
+    if (status != PILHANGKO_OK) return;
+    has_block = true;
+    account_begin(&block_account, size, page);
+}
+
+static void allocates_in_block(void) {
+    const pilhangko_virtual_request r = {next_number(), next_alignment(), 1 + next_small(3)};
+    const char *name = next_name();
+    pilhangko_virtual_piece piece = {3, 3}, wanted = {3, 3};
+    pilhangko_status status = block_status(PILHANGKO_OK);
+    if (has_block && (!r.size || !is_power(r.alignment) || r.kind > 2 || !is_utf8(name))) status = PILHANGKO_INVALID;
+    if (status == PILHANGKO_OK && !account_allocate(&block_account, r.size, r.alignment, r.kind, name, &wanted.offset, &wanted.number))
+        status = PILHANGKO_OUT_OF_MEMORY;
+    IS(pilhangko_virtual_block_allocate(&block, &r, name, &piece), status);
+    CHECK(piece.offset == wanted.offset && piece.number == wanted.number);
+}
+
+/* A live piece, or one that is made up. */
+static pilhangko_virtual_piece some_block_piece(void) {
+    pilhangko_virtual_piece piece = {0, 0};
+    const uint8_t how = next_byte();
+    if (has_block) {
+        const struct chunk *c = &block_account.chunks[next_bytes(2) % block_account.count];
+        piece.offset = c->offset;
+        piece.number = c->number;
+    }
+    if (how < 20) piece.offset = next_number();
+    if (how > 235) piece.number = next_number();
+    return piece;
+}
+
+static void frees_or_renames_in_block(bool frees) {
+    const pilhangko_virtual_piece piece = some_block_piece();
+    const char *name = frees ? NULL : next_name();
+    const size_t at = has_block ? account_find(&block_account, piece.offset, piece.number) : 0;
+    const bool is_live = has_block && at < block_account.count;
+    const pilhangko_status live = is_live ? PILHANGKO_OK : PILHANGKO_NOT_LIVE;
+    if (frees) {
+        IS(pilhangko_virtual_block_free(&block, &piece), block_status(live));
+        if (is_live) account_free(&block_account, at);
+    } else {
+        IS(pilhangko_virtual_block_rename(&block, &piece, name), block_status(is_utf8(name) ? live : (pilhangko_status)PILHANGKO_INVALID));
+        if (is_live && is_utf8(name)) block_account.chunks[at].name = name ? name : "";
+    }
+}
+
+static void looks_at_block(void) {
+    const uint64_t from = next_number();
+    pilhangko_virtual_statistics s;
+    pilhangko_piece_view views[8];
+    char names[40];
+    size_t lengths[8], room = next_byte() % 9, names_room = next_byte() % 41, shown, named;
+    IS(pilhangko_virtual_block_statistics(&block, &s), block_status(PILHANGKO_OK));
+    memset(views, 0xff, sizeof views);
+    memset(lengths, 0xff, sizeof lengths);
+    memset(names, '?', sizeof names);
+    IS(pilhangko_virtual_block_pieces(&block, from, views, room, &shown), block_status(PILHANGKO_OK));
+    IS(pilhangko_virtual_block_piece_names(&block, from, lengths, room, names, names_room, &named), block_status(PILHANGKO_OK));
+    if (!has_block) return;
+    account_same(&block_account, &s);
+    account_shows_all(&block_account, from, views, room, shown);
+    account_names_all(&block_account, from, lengths, room, names, names_room, named);
+}
+
+static void ends_block(bool clears) {
+    if (clears) {
+        IS(pilhangko_virtual_block_clear(&block), block_status(PILHANGKO_OK));
+        if (has_block) account_begin(&block_account, block_account.size, block_account.page);
+    } else {
+        IS(pilhangko_virtual_block_destroy(&block), block_status(PILHANGKO_OK));
+        has_block = false;
+    }
+}
+
+/* ---- a memory type */
+
+static pilhangko_memory_type type;
+static struct type_account type_account;
+static bool has_type, awaits_block;
+static pilhangko_memory_request awaited_request;
+static struct placed awaited;
+static const char *awaited_name;
+
+static uint64_t block_size_near(uint64_t size) {
+    const uint64_t within = size < 4 * MB ? 4 * MB : size > 256 * MB ? 256 * MB : size;
+    return (within + 4 * MB - 1) / (4 * MB) * (4 * MB);
+}
+
+static pilhangko_status type_status(bool changes, pilhangko_status status) {
+    return !has_type ? PILHANGKO_NO_HANDLE : changes && awaits_block ? PILHANGKO_AWAITS_BLOCK : status;
+}
+
+static void creates_type(void) {
+    const uint64_t size = next_number(), largest = next_number(), unused = next_number();
+    const bool is_host = next_byte() % 2, has_budget = next_byte() % 4 == 0;
+    const pilhangko_memory_type_settings s = {is_host, next_alignment(), is_host ? unused : size, is_host ? unused : largest,
+        is_host ? size : unused, is_host ? largest : unused, has_budget, next_number()};
+    const pilhangko_status status = has_type ? PILHANGKO_IN_USE : !is_power(s.page_size) ? PILHANGKO_INVALID : PILHANGKO_OK;
+    IS(pilhangko_memory_type_create(&type, &s), status);
+    if (status != PILHANGKO_OK) return;
+    has_type = true;
+    awaits_block = false;
+    const uint64_t first = block_size_near(size), last = block_size_near(largest);
+    type_begin(&type_account, first, last < first ? first : last, s.page_size);
+    type_account.has_budget = s.has_budget;
+    type_account.budget = s.budget;
+}
+
+static void prepares(void) {
+    const pilhangko_memory_request r = {next_number() << (next_byte() % 3 * 8), next_alignment(), 1 + next_small(3), next_byte() % 8 == 0};
+    const char *name = next_name();
+    const bool is_valid = r.size && is_power(r.alignment) && r.kind <= 2 && is_utf8(name);
+    pilhangko_memory_prepared told = {false, false, 77, {7, 7, 7, 7, 7}};
+    pilhangko_status status = type_status(true, is_valid ? PILHANGKO_OK : PILHANGKO_INVALID);
+    struct placed wanted;
+    if (has_type && type_account.slot_count >= ACCOUNT_SLOTS - 1) return;
+    if (status == PILHANGKO_OK) status = type_allocate(&type_account, &r, name, type_capacity(&type_account), &wanted);
+    IS(pilhangko_memory_type_prepare(&type, &r, name, &told), status);
+    if (status != PILHANGKO_OK) {
+        CHECK(told.block_size == 77 && told.piece.number == 7);
+        return;
+    }
+    CHECK(told.needs_block == wanted.needs_block && told.dedicated == wanted.dedicated && told.block_size == wanted.block_size);
+    CHECK(same_piece(&told.piece, &wanted.piece));
+    awaits_block = wanted.needs_block;
+    awaited = wanted;
+    awaited_request = r;
+    awaited_name = name;
+}
+
+static void installs_or_abandons(bool installs) {
+    const uint64_t handle = next_number();
+    const pilhangko_status status = type_status(false, awaits_block ? PILHANGKO_OK : PILHANGKO_AWAITS_NO_BLOCK);
+    pilhangko_memory_piece piece = {7, 7, 7, 7, 7}, wanted = piece;
+    if (status == PILHANGKO_OK && installs) wanted = type_install(&type_account, &awaited, &awaited_request, awaited_name, handle);
+    if (installs) IS(pilhangko_memory_type_install(&type, handle, &piece), status);
+    else IS(pilhangko_memory_type_abandon(&type), status);
+    CHECK(same_piece(&piece, &wanted));
+    if (status == PILHANGKO_OK) awaits_block = false;
+}
+
+/* A live piece of an account, or one that is made up. */
+static pilhangko_memory_piece some_piece(const struct type_account *t) {
+    pilhangko_memory_piece piece = {next_byte() % 8, 1, 0, 1, 1};
+    const uint8_t how = next_byte();
+    if (piece.slot < t->slot_count && t->slots[piece.slot].exists) {
+        const struct slot *slot = &t->slots[piece.slot];
+        const struct chunk *c = &slot->account.chunks[next_bytes(2) % slot->account.count];
+        piece.number = c->number;
+        piece.offset = c->offset;
+        piece.size = c->end - c->offset;
+        piece.block = slot->block;
+    }
+    if (how == 0) piece.slot = next_number();
+    if (how == 1) piece.number = next_number();
+    if (how == 2) piece.offset = next_number();
+    if (how == 3) piece.size = next_number();
+    if (how == 4) piece.block = next_number();
+    return piece;
+}
+
+static void frees_of_type(void) {
+    const pilhangko_memory_piece piece = some_piece(&type_account);
+    const long at = has_type ? type_find(&type_account, &piece) : -1;
+    const pilhangko_status status = type_status(true, at >= 0 ? PILHANGKO_OK : PILHANGKO_NOT_LIVE);
+    pilhangko_memory_block gone = {true, 77};
+    IS(pilhangko_memory_type_free(&type, &piece, &gone), status);
+    if (status != PILHANGKO_OK) {
+        CHECK(gone.exists && gone.block == 77);
+        return;
+    }
+    const uint64_t handle = type_account.slots[piece.slot].block;
+    const bool goes = type_free(&type_account, &piece, at);
+    CHECK(gone.exists == goes && gone.block == (goes ? handle : 0));
+}
+
+static void renames_of_type(void) {
+    const pilhangko_memory_piece piece = some_piece(&type_account);
+    const char *name = next_name();
+    const long at = has_type ? type_find(&type_account, &piece) : -1;
+    const pilhangko_status live = at >= 0 ? PILHANGKO_OK : PILHANGKO_NOT_LIVE;
+    const pilhangko_status status = type_status(true, is_utf8(name) ? live : (pilhangko_status)PILHANGKO_INVALID);
+    bool is_live = at < 0;
+    IS(pilhangko_memory_type_is_live(&type, &piece, &is_live), type_status(false, PILHANGKO_OK));
+    CHECK(!has_type || is_live == (at >= 0));
+    IS(pilhangko_memory_type_rename(&type, &piece, name), status);
+    if (status == PILHANGKO_OK) type_account.slots[piece.slot].account.chunks[at].name = name ? name : "";
+}
+
+static void bounds_type(void) {
+    const bool has = next_byte() % 2;
+    const uint64_t bytes = next_number();
+    const pilhangko_status status = type_status(true, PILHANGKO_OK);
+    IS(pilhangko_memory_type_set_budget(&type, has, bytes), status);
+    if (status != PILHANGKO_OK) return;
+    type_account.has_budget = has;
+    type_account.budget = bytes;
+}
+
+static void looks_at_slot(size_t slot, uint64_t from) {
+    const bool exists = slot < type_account.slot_count && type_account.slots[slot].exists;
+    pilhangko_memory_block there;
+    pilhangko_piece_view views[6];
+    char names[40];
+    size_t lengths[6], room = next_byte() % 7, names_room = next_byte() % 41, shown, named;
+    memset(views, 0xff, sizeof views);
+    memset(lengths, 0xff, sizeof lengths);
+    memset(names, '?', sizeof names);
+    IS(pilhangko_memory_type_block(&type, slot, &there), PILHANGKO_OK);
+    CHECK(there.exists == exists && there.block == (exists ? type_account.slots[slot].block : 0));
+    IS(pilhangko_memory_type_pieces(&type, slot, from, views, room, &shown), PILHANGKO_OK);
+    IS(pilhangko_memory_type_piece_names(&type, slot, from, lengths, room, names, names_room, &named), PILHANGKO_OK);
+    if (exists) {
+        account_shows_all(&type_account.slots[slot].account, from, views, room, shown);
+        account_names_all(&type_account.slots[slot].account, from, lengths, room, names, names_room, named);
+    } else {
+        CHECK(shown == 0 && named == 0);
+    }
+}
+
+static void looks_at_type(void) {
+    pilhangko_memory_statistics s;
+    IS(pilhangko_memory_type_statistics(&type, &s), type_status(false, PILHANGKO_OK));
+    if (!has_type) return;
+    CHECK(s.capacity == type_capacity(&type_account) && s.slots == type_account.slot_count);
+    CHECK(s.shared_blocks == shared_blocks(&type_account) && s.awaits_block == awaits_block);
+    CHECK(s.has_budget == type_account.has_budget && s.budget == (s.has_budget ? type_account.budget : 0));
+    looks_at_slot(next_byte() % 8, next_number());
+}
+
+static void ends_type(void) {
+    IS(pilhangko_memory_type_destroy(&type), type_status(false, PILHANGKO_OK));
+    has_type = awaits_block = false;
+}
+
+/* ---- an allocator */
+
+static pilhangko_allocator allocator;
+static struct allocator_account account;
+static bool has_allocator, has_addresses;
+
+static pilhangko_status allocator_status(bool changes, pilhangko_status status) {
+    return !has_allocator ? PILHANGKO_NO_HANDLE : changes && account.awaits_answer ? PILHANGKO_AWAITS_ANSWER : status;
+}
+
+static void begins_account(
+    const pilhangko_device_memory_type *types, const pilhangko_device_heap *heaps, size_t count, const pilhangko_allocator_settings *s) {
+    has_allocator = true;
+    has_addresses = s->device_address;
+    account.type_count = count;
+    account.awaits_answer = false;
+    for (size_t i = 0; i < count; i++) {
+        const bool is_host = types[i].flags & 2;
+        const uint64_t first = block_size_near(is_host ? s->host_block_size : s->device_block_size);
+        const uint64_t last = block_size_near(is_host ? s->largest_host_block_size : s->largest_device_block_size);
+        account.flags[i] = types[i].flags;
+        account.heap_size[i] = heaps[types[i].heap].size;
+        type_begin(&account.types[i], first, last < first ? first : last, s->page_size);
+    }
+}
+
+static void creates_allocator(void) {
+    pilhangko_device_memory_type types[ACCOUNT_TYPES];
+    pilhangko_device_heap heaps[3];
+    const size_t count = next_byte() % (ACCOUNT_TYPES + 1), heap_count = next_byte() % 4;
+    const pilhangko_allocator_settings s = {
+        next_alignment(), next_number() << 8, next_number() << 8, next_number() << 8, next_number() << 8, next_byte() % 2};
+    pilhangko_status valid = is_power(s.page_size) ? PILHANGKO_OK : PILHANGKO_INVALID_DEVICE;
+    for (size_t i = 0; i < 3; i++) heaps[i].size = next_byte() % 2 ? 1024 * MB : next_number() << 8, heaps[i].flags = next_byte();
+    for (size_t i = 0; i < count; i++) {
+        types[i].flags = next_byte();
+        types[i].heap = next_byte() % 16 ? next_byte() % 3 % (heap_count ? (uint32_t)heap_count : 1) : next_byte();
+        if (valid == PILHANGKO_OK && types[i].heap >= heap_count) valid = PILHANGKO_NO_SUCH_HEAP;
+    }
+    const pilhangko_status status = has_allocator ? PILHANGKO_IN_USE : valid;
+    IS(pilhangko_allocator_create(&allocator, types, count, heaps, heap_count, &s), status);
+    if (status == PILHANGKO_OK) begins_account(types, heaps, count, &s);
+}
+
+/* The progress is the account's, and says nothing else. */
+static void is_progress(const pilhangko_allocator_progress *p, pilhangko_status status) {
+    const pilhangko_allocator_question *q = &p->question;
+    const bool asks = status == PILHANGKO_OK && account.awaits_answer, has_piece = status == PILHANGKO_OK && !account.awaits_answer;
+    CHECK(p->status == status);
+    CHECK(p->kind == (asks ? PILHANGKO_PROGRESS_QUESTION : has_piece ? PILHANGKO_PROGRESS_PIECE : (uint32_t)PILHANGKO_PROGRESS_REFUSED));
+    CHECK(has_piece ? same_allocation(&account, &p->piece) : p->piece.piece.number == 0 && p->piece.piece.size == 0);
+    if (asks) {
+        const uint64_t resource = account.request.scheme == PILHANGKO_SCHEME_MANAGED ? 0 : account.request.resource;
+        CHECK(q->size == account.placed.block_size && q->memory_type == account.type && q->scheme == account.request.scheme);
+        CHECK(q->resource == resource && q->mapped == ((account.flags[account.type] & 2) != 0) && q->device_address == has_addresses);
+    } else {
+        CHECK(q->size == 0 && q->memory_type == 0 && q->scheme == 0 && q->resource == 0 && !q->mapped && !q->device_address);
+    }
+}
+
+/* Whether each memory type's account has room for one more block. */
+static bool has_room(void) {
+    for (size_t i = 0; has_allocator && i < account.type_count; i++)
+        if (account.types[i].slot_count >= ACCOUNT_SLOTS - 1) return false;
+    return true;
+}
+
+static void begins_request(void) {
+    const uint64_t size = next_number() << (next_byte() % 3 * 8);
+    const pilhangko_allocator_request r = {size, next_alignment(), next_byte() % 4 ? 63 : next_byte(), 1 + next_small(3), 1 + next_small(5),
+        next_byte() % 4 ? PILHANGKO_SCHEME_MANAGED : next_small(5), next_number()};
+    const char *name = next_name();
+    pilhangko_allocator_progress p;
+    if (!has_room()) return;
+    memset(&p, 0xff, sizeof p);
+    pilhangko_status status = allocator_status(true, is_utf8(name) ? PILHANGKO_OK : PILHANGKO_INVALID);
+    if (status == PILHANGKO_OK) status = account_begin_request(&account, &r, name);
+    IS(pilhangko_allocator_begin(&allocator, &r, name, &p), status);
+    if (status == PILHANGKO_OK) is_progress(&p, status);
+    else CHECK(p.kind == UINT32_MAX && p.status == UINT32_MAX && p.question.size == UINT64_MAX);
+}
+
+static void grants(void) {
+    const uint64_t memory = next_number();
+    pilhangko_allocator_piece piece = {7, false, {7, 7, 7, 7, 7}};
+    const pilhangko_status status = allocator_status(false, account.awaits_answer ? PILHANGKO_OK : PILHANGKO_AWAITS_NO_ANSWER);
+    IS(pilhangko_allocator_granted(&allocator, memory, &piece), status);
+    if (status != PILHANGKO_OK) {
+        CHECK(piece.memory_type == 7 && piece.piece.number == 7);
+        return;
+    }
+    account_granted(&account, memory);
+    CHECK(same_allocation(&account, &piece));
+}
+
+static void refuses(bool mapping) {
+    const int32_t code = next_byte() % 2 ? -2 : (int32_t)next_bytes(4);
+    const bool has_code = next_byte() % 2;
+    pilhangko_allocator_progress p;
+    const pilhangko_status status = allocator_status(false, account.awaits_answer ? PILHANGKO_OK : PILHANGKO_AWAITS_NO_ANSWER);
+    if (mapping) IS(pilhangko_allocator_mapping_refused(&allocator, has_code, code, &p), status);
+    else IS(pilhangko_allocator_refused(&allocator, code, &p), status);
+    if (status != PILHANGKO_OK) return;
+    const pilhangko_status cause = mapping      ? PILHANGKO_FAILED_TO_MAP
+                                   : code == -2 ? PILHANGKO_OUT_OF_MEMORY
+                                                : (pilhangko_status)PILHANGKO_DRIVER_REFUSED;
+    is_progress(&p, account_refused(&account, cause));
+}
+
+static pilhangko_allocator_piece some_allocation(void) {
+    const size_t at = next_byte() % ACCOUNT_TYPES;
+    pilhangko_allocator_piece piece = {at, next_byte() % 2, some_piece(&account.types[has_allocator && at < account.type_count ? at : 0])};
+    if (next_byte() == 0) piece.memory_type = next_number();
+    return piece;
+}
+
+static void frees_of_allocator(void) {
+    const pilhangko_allocator_piece piece = some_allocation();
+    const long at = has_allocator ? allocator_find(&account, &piece) : -1;
+    const pilhangko_status status = allocator_status(true, at >= 0 ? PILHANGKO_OK : PILHANGKO_NOT_LIVE);
+    pilhangko_allocator_memory back = {true, true, 77};
+    IS(pilhangko_allocator_free(&allocator, &piece, &back), status);
+    if (status != PILHANGKO_OK) {
+        CHECK(back.exists && back.mapped && back.memory == 77);
+        return;
+    }
+    struct type_account *t = &account.types[piece.memory_type];
+    const uint64_t memory = t->slots[piece.piece.slot].block;
+    const bool goes = type_free(t, &piece.piece, at), mapped = goes && (account.flags[piece.memory_type] & 2);
+    CHECK(back.exists == goes && back.mapped == mapped && back.memory == (goes ? memory : 0));
+}
+
+static void renames_of_allocator(void) {
+    const pilhangko_allocator_piece piece = some_allocation();
+    const char *name = next_name();
+    const long at = has_allocator ? allocator_find(&account, &piece) : -1;
+    const pilhangko_status live = at >= 0 ? PILHANGKO_OK : PILHANGKO_NOT_LIVE;
+    bool is_live = at < 0;
+    IS(pilhangko_allocator_is_live(&allocator, &piece, &is_live), allocator_status(false, PILHANGKO_OK));
+    CHECK(!has_allocator || is_live == (at >= 0));
+    IS(pilhangko_allocator_rename(&allocator, &piece, name),
+        allocator_status(true, is_utf8(name) ? live : (pilhangko_status)PILHANGKO_INVALID));
+}
+
+static void bounds_allocator(void) {
+    const size_t at = next_byte() % 16 ? next_byte() % ACCOUNT_TYPES : next_number();
+    const bool has = next_byte() % 2, is_there = has_allocator && at < account.type_count;
+    const uint64_t bytes = next_number() << (next_byte() % 2 * 16);
+    const pilhangko_status status = allocator_status(true, is_there ? PILHANGKO_OK : PILHANGKO_NO_SUCH_TYPE);
+    pilhangko_budget told;
+    IS(pilhangko_allocator_set_budget(&allocator, at, has, bytes), status);
+    if (status == PILHANGKO_OK) {
+        account.types[at].has_budget = has;
+        account.types[at].budget = bytes;
+    }
+    IS(pilhangko_allocator_budget(&allocator, at, &told), allocator_status(false, PILHANGKO_OK));
+    if (!has_allocator) return;
+    const bool bounded = is_there && account.types[at].has_budget;
+    CHECK(told.exists == bounded && told.bytes == (bounded ? account.types[at].budget : 0));
+}
+
+static void same_type_statistics(size_t at) {
+    const struct type_account *t = &account.types[at];
+    const bool is_there = has_allocator && at < account.type_count;
+    pilhangko_type_statistics s;
+    uint64_t piece_bytes = 0, longest = 0;
+    size_t pieces = 0, gaps = 0;
+    IS(pilhangko_allocator_type_statistics(&allocator, at, &s), allocator_status(false, is_there ? PILHANGKO_OK : PILHANGKO_NO_SUCH_TYPE));
+    if (!is_there) return;
+    for (size_t i = 0; i < t->slot_count; i++) {
+        const struct account *a = &t->slots[i].account;
+        for (size_t j = 0; t->slots[i].exists && j < a->count; j++) {
+            const uint64_t length = a->chunks[j].end - a->chunks[j].start;
+            pieces += a->chunks[j].kind != 0;
+            gaps += a->chunks[j].kind == 0;
+            piece_bytes += a->chunks[j].kind ? length : 0;
+            longest = !a->chunks[j].kind && length > longest ? length : longest;
+        }
+    }
+    CHECK(s.capacity == type_capacity(t) && s.slots == t->slot_count && s.shared_blocks == shared_blocks(t));
+    CHECK(s.has_budget == t->has_budget && s.budget == (t->has_budget ? t->budget : 0));
+    CHECK(s.pieces == pieces && s.piece_bytes == piece_bytes && s.gaps == gaps && s.longest_gap == longest);
+}
+
+static void same_slot(size_t at, size_t slot, uint64_t from) {
+    const bool is_there = has_allocator && at < account.type_count && slot < account.types[at].slot_count;
+    const struct slot *there = is_there && account.types[at].slots[slot].exists ? &account.types[at].slots[slot] : NULL;
+    pilhangko_allocator_memory memory;
+    pilhangko_piece_view views[6];
+    char names[40];
+    size_t lengths[6], room = next_byte() % 7, names_room = next_byte() % 41, shown, named;
+    memset(views, 0xff, sizeof views);
+    IS(pilhangko_allocator_block(&allocator, at, slot, &memory), allocator_status(false, PILHANGKO_OK));
+    IS(pilhangko_allocator_pieces(&allocator, at, slot, from, views, room, &shown), allocator_status(false, PILHANGKO_OK));
+    IS(pilhangko_allocator_piece_names(&allocator, at, slot, from, lengths, room, names, names_room, &named),
+        allocator_status(false, PILHANGKO_OK));
+    if (!has_allocator) return;
+    CHECK(memory.exists == (there != NULL) && memory.memory == (there ? there->block : 0));
+    CHECK(memory.mapped == (there && (account.flags[at] & 2)) && shown == named);
+    if (there) account_shows_all(&there->account, from, views, room, shown);
+    else CHECK(shown == 0);
+}
+
+/* A text is copied as far as there is room, and its length told whole. */
+static void same_texts(size_t index) {
+    char text[300];
+    size_t length, again, pieces = 0, room = next_byte() % sizeof text;
+    memset(text, '?', sizeof text);
+    IS(pilhangko_allocator_report(&allocator, NULL, 0, &length), allocator_status(false, PILHANGKO_OK));
+    IS(pilhangko_allocator_report(&allocator, text, room, &again), allocator_status(false, PILHANGKO_OK));
+    if (!has_allocator) return;
+    CHECK(length == again && length >= 2 && (room == 0 || text[0] == '{'));
+    for (size_t i = length < room ? length : room; i < sizeof text; i++) CHECK(text[i] == '?');
+    for (size_t i = 0; i < account.type_count; i++)
+        for (size_t j = 0; j < account.types[i].slot_count; j++)
+            if (account.types[i].slots[j].exists) pieces += account_pieces(&account.types[i].slots[j].account);
+    IS(pilhangko_allocator_leak(&allocator, index, text, room, &length), PILHANGKO_OK);
+    CHECK((length > 0) == (index < pieces));
+}
+
+static void looks_at_allocator(void) {
+    const size_t at = next_byte() % ACCOUNT_TYPES;
+    uint64_t bytes = 0;
+    IS(pilhangko_allocator_capacity(&allocator, &bytes), allocator_status(false, PILHANGKO_OK));
+    CHECK(!has_allocator || bytes == allocator_capacity(&account));
+    same_type_statistics(at);
+    same_slot(at, next_byte() % 8, next_number());
+    if (next_byte() % 4 == 0) same_texts(next_byte());
+}
+
+static void ends_allocator(void) {
+    IS(pilhangko_allocator_destroy(&allocator), allocator_status(false, PILHANGKO_OK));
+    has_allocator = false;
+}
+
+/* ---- the calls */
+
+static void calls_block(uint8_t what) {
+    if (what < 5) creates_block();
+    else if (what < 40) allocates_in_block();
+    else if (what < 65) frees_or_renames_in_block(true);
+    else if (what < 70) frees_or_renames_in_block(false);
+    else if (what < 79) looks_at_block();
+    else ends_block(what == 79);
+}
+
+static void calls_type(uint8_t what) {
+    if (what < 5) creates_type();
+    else if (what < 30) prepares();
+    else if (what < 45) installs_or_abandons(what < 43);
+    else if (what < 65) frees_of_type();
+    else if (what < 69) renames_of_type();
+    else if (what < 72) bounds_type();
+    else if (what < 80) looks_at_type();
+    else ends_type();
+}
+
+static void calls_allocator(uint8_t what) {
+    if (what < 5) creates_allocator();
+    else if (what < 30) begins_request();
+    else if (what < 43) grants();
+    else if (what < 50) refuses(what % 2);
+    else if (what < 70) frees_of_allocator();
+    else if (what < 75) renames_of_allocator();
+    else if (what < 80) bounds_allocator();
+    else if (what < 84) looks_at_allocator();
+    else ends_allocator();
+}
+
+int LLVMFuzzerTestOneInput(const uint8_t *bytes, size_t length) {
+    input = bytes;
+    input_left = length;
+    names_taken = 0;
+    type_account.slot_count = 0;
+    for (size_t i = 0; i < ACCOUNT_TYPES; i++) account.types[i].slot_count = 0;
+    account.awaits_answer = false;
+    for (unsigned calls = 0; input_left > 0 && calls < CALLS; calls++) {
+        const uint8_t what = next_byte();
+        if (what < 81) calls_block(what);
+        else if (what < 166) calls_type(what - 81);
+        else calls_allocator(what - 166);
+    }
+    if (has_block) ends_block(false);
+    if (has_type) ends_type();
+    if (has_allocator) ends_allocator();
+    return 0;
+}
