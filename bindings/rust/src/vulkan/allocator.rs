@@ -103,6 +103,22 @@ pub struct TypeStatistics {
     pub longest_gap: u64,
 }
 
+impl TypeStatistics {
+    /// Of two memory types together.
+    fn and(self, other: Self) -> Self {
+        TypeStatistics {
+            capacity: self.capacity + other.capacity,
+            slots: self.slots + other.slots,
+            shared_blocks: self.shared_blocks + other.shared_blocks,
+            budget: None,
+            pieces: self.pieces + other.pieces,
+            piece_bytes: self.piece_bytes + other.piece_bytes,
+            gaps: self.gaps + other.gaps,
+            longest_gap: self.longest_gap.max(other.longest_gap),
+        }
+    }
+}
+
 /// Numbers of blocks: each names one block of all allocators, so that no allocator takes another one's allocation for its own.
 fn next_block_number() -> u64 {
     static NEXT: AtomicU64 = AtomicU64::new(1);
@@ -231,6 +247,12 @@ impl Allocator {
     /// What is counted of a memory type; `None` where it isn't there.
     pub fn type_statistics(&self, memory_type: usize) -> Option<TypeStatistics> {
         self.machine.type_statistics(memory_type)
+    }
+
+    /// The same of all memory types together: the sums, and the longest gap of any; without a budget.
+    pub fn statistics(&self) -> TypeStatistics {
+        let types = (0..).map_while(|memory_type| self.type_statistics(memory_type));
+        types.fold(TypeStatistics::default(), TypeStatistics::and)
     }
 
     /// What is counted of the block in a slot of a memory type, if one is there.
