@@ -11,7 +11,11 @@ fn archive_folder() -> PathBuf {
         None => {
             let here = Path::new(env!("CARGO_MANIFEST_DIR"));
             let released = here.join("../lib");
-            if released.join("libgpu_c.a").is_file() { released } else { here.join("../../crates/gpu_c/out") }
+            if released.join("libgpu_c.a").is_file() {
+                released
+            } else {
+                here.join("../../crates/gpu_c/out")
+            }
         }
     }
 }

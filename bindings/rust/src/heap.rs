@@ -28,7 +28,9 @@ extern "C" fn rattle_alloc(size: usize, alignment: usize) -> Tried {
         return tried(ptr::null_mut());
     }
     // SAFETY: malloc may be asked for any size.
-    tried(unsafe { malloc(if size == 0 { alignment } else { size }) })
+    let memory = tried(unsafe { malloc(if size == 0 { alignment } else { size }) });
+    count(i64::from(memory.succeeded));
+    memory
 }
 
 /// realloc keeps the first bytes, and leaves the memory as it was where it refuses.
@@ -52,6 +54,7 @@ unsafe extern "C" fn rattle_realloc(memory: *mut c_void, _kept: usize, size: usi
 /// `memory` is from one of the two functions above and hasn't been freed.
 #[no_mangle]
 unsafe extern "C" fn rattle_dealloc(memory: *mut c_void) {
+    count(-1);
     // SAFETY: the memory is malloc's or realloc's, as the caller promises.
     unsafe { free(memory) }
 }
@@ -61,16 +64,30 @@ fn refused() -> bool {
     false
 }
 
-#[cfg(test)]
-pub(crate) use refusing::refused;
+#[cfg(not(test))]
+fn count(_: i64) {}
 
-/// A heap that refuses one of its requests, for tests: each thread's own.
+#[cfg(test)]
+use refusing::{count, refused};
+
+/// A heap that refuses one of its requests and counts what is held, for tests: each thread's own.
 #[cfg(test)]
 pub(crate) mod refusing {
     use std::cell::Cell;
 
     thread_local! {
         static UNTIL_REFUSED: Cell<u64> = const { Cell::new(0) };
+        static HELD: Cell<i64> = const { Cell::new(0) };
+    }
+
+    /// How much more memory this thread was granted than it freed, in pieces.
+    pub(crate) fn held() -> i64 {
+        HELD.get()
+    }
+
+    /// Counts a piece that is granted or freed.
+    pub(crate) fn count(more: i64) {
+        HELD.set(HELD.get() + more);
     }
 
     /// Refuses this thread's request number `nth` from now on, counted from 1; none where it is 0.

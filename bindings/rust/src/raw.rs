@@ -447,5 +447,13 @@ extern "C" {
         room: usize,
         length: *mut usize,
     ) -> u32;
+    #[cfg(test)]
+    pub(crate) fn pilhangko_raw_allocator_leak(
+        allocator: *mut Handle,
+        index: usize,
+        text: *mut u8,
+        room: usize,
+        length: *mut usize,
+    ) -> u32;
     pub(crate) fn pilhangko_raw_allocator_destroy(allocator: *mut Handle) -> u32;
 }

@@ -1,9 +1,9 @@
 //! Each request of the archive for host memory is refused in turn: the call says so and changes nothing, and the next try succeeds.
 
 #[path = "../tests/common/mod.rs"]
-mod common;
+pub(crate) mod common;
 
-use crate::heap::refusing::{has_refused, refuse};
+use crate::heap::refusing::{has_refused, held, refuse};
 use crate::memory_type::{MemoryRequest, Prepared};
 use crate::virtual_block::VirtualRequest;
 use crate::vulkan::{AllocationCreateDesc, AllocationScheme, Allocator, AllocatorCreateDesc, MemoryRequirements};
@@ -56,6 +56,10 @@ fn of_a_virtual_block() {
     let full = |it: &VirtualBlock| assert_eq!(it.statistics().pieces, 20);
     in_turn(&mut block, VirtualBlock::clear, full);
     assert_eq!(block.statistics().pieces, 0);
+    block.allocate(&request, NAME).unwrap();
+    assert!(held() > 0);
+    drop(block);
+    assert_eq!(held(), 0);
 }
 
 #[test]
@@ -75,6 +79,9 @@ fn of_a_memory_type() {
         assert!(refusals > 0);
         assert_eq!(piece.handle, handle);
     }
+    assert!(held() > 0);
+    drop(it);
+    assert_eq!(held(), 0);
 }
 
 #[test]
@@ -103,8 +110,8 @@ fn of_the_vulkan_allocator() {
         assert!(refusals > 0);
         live.push(piece);
     }
-    let held = driver.state().held.len();
-    assert_eq!(held, 5); // a shared block, and four of a piece's own
+    let blocks = driver.state().held.len();
+    assert_eq!(blocks, 5); // a shared block, and four of a piece's own
     let pieces = live.len();
     for piece in live {
         refuse(1); // free needs none
@@ -115,4 +122,5 @@ fn of_the_vulkan_allocator() {
     let commands = allocator.destroy().map_or(0, |capture| capture.lines().filter(|it| it.contains("alloc ")).count());
     assert_eq!(commands, pieces); // what the host refused isn't captured
     driver.assert_left_empty();
+    assert_eq!(held(), 0);
 }

@@ -510,4 +510,17 @@ fn what_is_counted_and_shown_of_memory_types_and_blocks() {
     assert_eq!(shown, [(0, 0, 10), (10, 64, 164)]);
     assert_eq!(a.named_pieces(2, 0).unwrap(), []);
     assert_eq!(a.generate_report().total_allocated_bytes, 164);
+    let upload = a.allocate(&request(MB, MemoryLocation::CpuToGpu)).unwrap();
+    let together = TypeStatistics {
+        capacity: 12 * MB,
+        slots: 2,
+        shared_blocks: 2,
+        budget: None,
+        pieces: 3,
+        piece_bytes: 164 + MB,
+        gaps: 2,
+        longest_gap: 8 * MB - 164,
+    };
+    assert_eq!(a.statistics(), together);
+    a.free(upload).unwrap();
 }

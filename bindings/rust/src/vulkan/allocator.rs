@@ -103,6 +103,22 @@ pub struct TypeStatistics {
     pub longest_gap: u64,
 }
 
+impl TypeStatistics {
+    /// Of two memory types together.
+    fn and(self, other: Self) -> Self {
+        TypeStatistics {
+            capacity: self.capacity + other.capacity,
+            slots: self.slots + other.slots,
+            shared_blocks: self.shared_blocks + other.shared_blocks,
+            budget: None,
+            pieces: self.pieces + other.pieces,
+            piece_bytes: self.piece_bytes + other.piece_bytes,
+            gaps: self.gaps + other.gaps,
+            longest_gap: self.longest_gap.max(other.longest_gap),
+        }
+    }
+}
+
 /// Numbers of blocks: each names one block of all allocators, so that no allocator takes another one's allocation for its own.
 fn next_block_number() -> u64 {
     static NEXT: AtomicU64 = AtomicU64::new(1);
@@ -231,6 +247,12 @@ impl Allocator {
     /// What is counted of a memory type; `None` where it isn't there.
     pub fn type_statistics(&self, memory_type: usize) -> Option<TypeStatistics> {
         self.machine.type_statistics(memory_type)
+    }
+
+    /// The same of all memory types together: the sums, and the longest gap of any; without a budget.
+    pub fn statistics(&self) -> TypeStatistics {
+        let types = (0..).map_while(|memory_type| self.type_statistics(memory_type));
+        types.fold(TypeStatistics::default(), TypeStatistics::and)
     }
 
     /// What is counted of the block in a slot of a memory type, if one is there.
@@ -416,6 +438,41 @@ impl Drop for Allocator {
         }
         for block in self.blocks.take_all() {
             self.device.give_back(block.memory);
+        }
+    }
+}
+
+#[cfg(test)]
+mod tests {
+    use super::*;
+    use crate::refused::common::script::Script;
+    use std::sync::Mutex;
+
+    /// The lines that are logged of leaks, and the library's own texts of them.
+    fn leaks(allocator: &mut Allocator) -> (Vec<String>, Vec<String>) {
+        let lines: std::sync::Arc<Mutex<Vec<String>>> = std::sync::Arc::default();
+        let kept = std::sync::Arc::clone(&lines);
+        allocator.logger = Some(Logger::new(move |_, line| kept.lock().expect("one thread").push(line.to_owned())));
+        allocator.report_memory_leaks(Level::Info);
+        allocator.logger = None;
+        let texts = (0..).map(|index| allocator.machine.leak(index)).take_while(|text| !text.is_empty()).collect();
+        let logged = std::mem::take(&mut *lines.lock().expect("one thread"));
+        (logged, texts)
+    }
+
+    #[test]
+    fn leaks_are_logged_in_the_words_of_the_library() {
+        let mut script = Script::new(11, false);
+        let mut calls = 0..;
+        while script.live.len() < 100 || !script.live.iter().any(Allocation::is_dedicated) {
+            script.step(calls.next().expect("calls without end"));
+        }
+        let (logged, texts) = leaks(&mut script.allocator);
+        assert_eq!((logged.len(), texts.len()), (script.live.len(), script.live.len()));
+        assert!(texts.iter().any(|text| text.contains("dedicated allocation")), "{}", texts.len());
+        assert!(texts.iter().any(|text| text.contains("chunk: ")));
+        for (line, text) in logged.iter().zip(&texts) {
+            assert_eq!(line, text.trim_end());
         }
     }
 }

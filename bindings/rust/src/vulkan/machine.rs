@@ -254,6 +254,21 @@ impl Machine {
     }
 }
 
+#[cfg(test)]
+impl Machine {
+    /// The library's own text of a live piece as a leak, by its index; empty past the last one.
+    pub(super) fn leak(&self, index: usize) -> String {
+        let mut text = vec![0; 1 << 10];
+        let mut length = 0;
+        // SAFETY: the handle is this machine's alone: it isn't `Sync`. There is room for as many bytes as is said.
+        check_unrefused(unsafe {
+            raw::pilhangko_raw_allocator_leak(self.handle.as_ptr(), index, text.as_mut_ptr(), text.len(), &mut length)
+        });
+        text.truncate(length);
+        String::from_utf8(text).expect("the text is UTF-8")
+    }
+}
+
 /// A block of an allocator, as a visit sees it; there may be none.
 #[derive(Clone, Copy, Debug)]
 pub(super) struct BlockAt<'a> {
