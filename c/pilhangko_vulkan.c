@@ -829,15 +829,16 @@ static bool has_functions(const pilhangko_vulkan_functions *f) {
 }
 
 #define LOAD(get, of, name) loaded.name = (PFN_##name)get(of, #name)
-#define LOAD_SINCE_1_1(get, of, name) loaded.name = (PFN_##name)get(of, api_version >= VK_API_VERSION_1_1 ? #name : #name "KHR")
 
 pilhangko_status PILHANGKO_CALL pilhangko_vulkan_load(pilhangko_vulkan_functions *functions, VkInstance instance, VkDevice device,
     uint32_t api_version, PFN_vkGetInstanceProcAddr get_instance_proc_addr, PFN_vkGetDeviceProcAddr get_device_proc_addr) {
     pilhangko_vulkan_functions loaded;
     PFN_vkGetDeviceProcAddr get = get_device_proc_addr;
+    const bool has_1_1 = api_version >= VK_API_VERSION_1_1;
     if (!functions || !instance || !device || !get_instance_proc_addr) return PILHANGKO_NULL_POINTER;
     if (!get) get = (PFN_vkGetDeviceProcAddr)get_instance_proc_addr(instance, "vkGetDeviceProcAddr");
     if (!get) return PILHANGKO_VULKAN_NO_FUNCTION;
+    memset(&loaded, 0, sizeof loaded);
     LOAD(get_instance_proc_addr, instance, vkGetPhysicalDeviceProperties);
     LOAD(get_instance_proc_addr, instance, vkGetPhysicalDeviceMemoryProperties);
     LOAD(get, device, vkAllocateMemory);
@@ -854,9 +855,14 @@ pilhangko_status PILHANGKO_CALL pilhangko_vulkan_load(pilhangko_vulkan_functions
     LOAD(get, device, vkDestroyImage);
     LOAD(get, device, vkGetImageMemoryRequirements);
     LOAD(get, device, vkBindImageMemory);
-    LOAD_SINCE_1_1(get, device, vkGetBufferMemoryRequirements2);
-    LOAD_SINCE_1_1(get, device, vkGetImageMemoryRequirements2);
-    LOAD_SINCE_1_1(get_instance_proc_addr, instance, vkGetPhysicalDeviceMemoryProperties2);
+    if (has_1_1) {
+        LOAD(get, device, vkGetBufferMemoryRequirements2);
+        LOAD(get, device, vkGetImageMemoryRequirements2);
+        LOAD(get_instance_proc_addr, instance, vkGetPhysicalDeviceMemoryProperties2);
+    } else {
+        loaded.vkGetPhysicalDeviceMemoryProperties2 =
+            (PFN_vkGetPhysicalDeviceMemoryProperties2)get_instance_proc_addr(instance, "vkGetPhysicalDeviceMemoryProperties2KHR");
+    }
     if (!has_functions(&loaded)) return PILHANGKO_VULKAN_NO_FUNCTION;
     *functions = loaded;
     return PILHANGKO_OK;

@@ -77,9 +77,10 @@ typedef struct pilhangko_vulkan_functions {
     PFN_vkGetPhysicalDeviceMemoryProperties2 vkGetPhysicalDeviceMemoryProperties2;
 } pilhangko_vulkan_functions;
 
-/* Fills the table from a loader. api_version, as in the settings below, says whether the last three have their names of Vulkan 1.1 or those
- * of the extensions before it. get_device_proc_addr may be NULL: it is asked of the other one then. NULL_POINTER: a pointer or a handle.
- * NO_FUNCTION: one that may not be NULL; the table is untouched. */
+/* Fills the table from a loader. Where api_version, as in the settings below, is less than 1.1, the two vkGet..MemoryRequirements2 are
+ * NULL, and vkGetPhysicalDeviceMemoryProperties2 is the one of VK_KHR_get_physical_device_properties2. get_device_proc_addr may be NULL:
+ * it is asked of the other one then.
+ * NULL_POINTER: a pointer or a handle. NO_FUNCTION: one that may not be NULL; the table is untouched. */
 PILHANGKO_NODISCARD PILHANGKO_API pilhangko_status PILHANGKO_CALL pilhangko_vulkan_load(pilhangko_vulkan_functions *functions,
     VkInstance instance, VkDevice device, uint32_t api_version, PFN_vkGetInstanceProcAddr get_instance_proc_addr,
     PFN_vkGetDeviceProcAddr get_device_proc_addr);

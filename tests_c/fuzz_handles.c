@@ -1,11 +1,12 @@
 /* A target for clang's libFuzzer: an input is a row of calls of the three handles of pilhangko.h, each beside a plain account that
  * foretells its status and what it reports. Sizes, alignments, names and pieces may be anything. */
 #include "allocator_account.h"
+#include "fuzz_handles.h"
 
 #define CALLS 900 /* of one input: the account's rows have room for what they leave */
 #define NAME_ROOM 12
 
-int LLVMFuzzerTestOneInput(const uint8_t *bytes, size_t length);
+size_t fuzz_pieces[3];
 
 /* ---- the input */
 
@@ -24,13 +25,21 @@ static uint64_t next_bytes(unsigned count) {
     return n;
 }
 
-/* A number: a small one, one around a power of two, or any. */
+/* A number: a small one, one around a power of two, or any. Two calls that take bytes never stand in one expression, whose order a compiler
+ * may choose: a row means the same calls to each. */
 static uint64_t next_number(void) {
     const uint8_t how = next_byte();
     if (how < 100) return next_byte();
     if (how < 160) return next_bytes(3);
-    if (how < 240) return (UINT64_C(1) << next_byte() % 64) + next_byte() % 5 - 2;
-    return next_bytes(8);
+    if (how >= 240) return next_bytes(8);
+    const uint64_t power = UINT64_C(1) << next_byte() % 64;
+    return power + next_byte() % 5 - 2;
+}
+
+/* Some of whole 256 or 65,536 bytes. */
+static uint64_t next_size(void) {
+    const uint64_t number = next_number();
+    return number << next_byte() % 3 * 8;
 }
 
 static uint64_t next_alignment(void) {
@@ -104,7 +113,8 @@ static void creates_block(void) {
 }
 
 static void allocates_in_block(void) {
-    const pilhangko_virtual_request r = {next_number(), next_alignment(), 1 + next_small(3)};
+    const uint64_t size = next_number(), alignment = next_alignment();
+    const pilhangko_virtual_request r = {size, alignment, 1 + next_small(3)};
     const char *name = next_name();
     pilhangko_virtual_piece piece = {3, 3}, wanted = {3, 3};
     pilhangko_status status = block_status(PILHANGKO_OK);
@@ -112,6 +122,7 @@ static void allocates_in_block(void) {
     if (status == PILHANGKO_OK && !account_allocate(&block_account, r.size, r.alignment, r.kind, name, &wanted.offset, &wanted.number))
         status = PILHANGKO_OUT_OF_MEMORY;
     IS(pilhangko_virtual_block_allocate(&block, &r, name, &piece), status);
+    fuzz_pieces[0] += status == PILHANGKO_OK;
     CHECK(piece.offset == wanted.offset && piece.number == wanted.number);
 }
 
@@ -193,8 +204,9 @@ static pilhangko_status type_status(bool changes, pilhangko_status status) {
 static void creates_type(void) {
     const uint64_t size = next_number(), largest = next_number(), unused = next_number();
     const bool is_host = next_byte() % 2, has_budget = next_byte() % 4 == 0;
-    const pilhangko_memory_type_settings s = {is_host, next_alignment(), is_host ? unused : size, is_host ? unused : largest,
-        is_host ? size : unused, is_host ? largest : unused, has_budget, next_number()};
+    const uint64_t page = next_alignment();
+    const pilhangko_memory_type_settings s = {is_host, page, is_host ? unused : size, is_host ? unused : largest, is_host ? size : unused,
+        is_host ? largest : unused, has_budget, next_number()};
     const pilhangko_status status = has_type ? PILHANGKO_IN_USE : !is_power(s.page_size) ? PILHANGKO_INVALID : PILHANGKO_OK;
     IS(pilhangko_memory_type_create(&type, &s), status);
     if (status != PILHANGKO_OK) return;
@@ -207,7 +219,9 @@ static void creates_type(void) {
 }
 
 static void prepares(void) {
-    const pilhangko_memory_request r = {next_number() << (next_byte() % 3 * 8), next_alignment(), 1 + next_small(3), next_byte() % 8 == 0};
+    const uint64_t size = next_size(), alignment = next_alignment();
+    const uint32_t kind = 1 + next_small(3);
+    const pilhangko_memory_request r = {size, alignment, kind, next_byte() % 8 == 0};
     const char *name = next_name();
     const bool is_valid = r.size && is_power(r.alignment) && r.kind <= 2 && is_utf8(name);
     pilhangko_memory_prepared told = {false, false, 77, {7, 7, 7, 7, 7}};
@@ -222,6 +236,7 @@ static void prepares(void) {
     }
     CHECK(told.needs_block == wanted.needs_block && told.dedicated == wanted.dedicated && told.block_size == wanted.block_size);
     CHECK(same_piece(&told.piece, &wanted.piece));
+    fuzz_pieces[1] += !wanted.needs_block;
     awaits_block = wanted.needs_block;
     awaited = wanted;
     awaited_request = r;
@@ -325,7 +340,8 @@ static void looks_at_type(void) {
     CHECK(s.capacity == type_capacity(&type_account) && s.slots == type_account.slot_count);
     CHECK(s.shared_blocks == shared_blocks(&type_account) && s.awaits_block == awaits_block);
     CHECK(s.has_budget == type_account.has_budget && s.budget == (s.has_budget ? type_account.budget : 0));
-    looks_at_slot(next_byte() % 8, next_number());
+    const size_t slot = next_byte() % 8;
+    looks_at_slot(slot, next_number());
 }
 
 static void ends_type(void) {
@@ -363,8 +379,9 @@ static void creates_allocator(void) {
     pilhangko_device_memory_type types[ACCOUNT_TYPES];
     pilhangko_device_heap heaps[3];
     const size_t count = next_byte() % (ACCOUNT_TYPES + 1), heap_count = next_byte() % 4;
-    const pilhangko_allocator_settings s = {
-        next_alignment(), next_number() << 8, next_number() << 8, next_number() << 8, next_number() << 8, next_byte() % 2};
+    const uint64_t page = next_alignment(), first = next_number() << 8, last = next_number() << 8, other = next_number() << 8,
+                   others = next_number() << 8;
+    const pilhangko_allocator_settings s = {page, first, last, other, others, next_byte() % 2};
     pilhangko_status valid = is_power(s.page_size) ? PILHANGKO_OK : PILHANGKO_INVALID_DEVICE;
     for (size_t i = 0; i < 3; i++) heaps[i].size = next_byte() % 2 ? 1024 * MB : next_number() << 8, heaps[i].flags = next_byte();
     for (size_t i = 0; i < count; i++) {
@@ -401,9 +418,14 @@ static bool has_room(void) {
 }
 
 static void begins_request(void) {
-    const uint64_t size = next_number() << (next_byte() % 3 * 8);
-    const pilhangko_allocator_request r = {size, next_alignment(), next_byte() % 4 ? 63 : next_byte(), 1 + next_small(3), 1 + next_small(5),
-        next_byte() % 4 ? PILHANGKO_SCHEME_MANAGED : next_small(5), next_number()};
+    pilhangko_allocator_request r;
+    r.size = next_size();
+    r.alignment = next_alignment();
+    r.memory_type_bits = next_byte() % 4 ? 63 : next_byte();
+    r.kind = 1 + next_small(3);
+    r.location = 1 + next_small(5);
+    r.scheme = next_byte() % 4 ? PILHANGKO_SCHEME_MANAGED : next_small(5);
+    r.resource = next_number();
     const char *name = next_name();
     pilhangko_allocator_progress p;
     if (!has_room()) return;
@@ -426,6 +448,7 @@ static void grants(void) {
     }
     account_granted(&account, memory);
     CHECK(same_allocation(&account, &piece));
+    fuzz_pieces[2]++;
 }
 
 static void refuses(bool mapping) {
@@ -444,7 +467,8 @@ static void refuses(bool mapping) {
 
 static pilhangko_allocator_piece some_allocation(void) {
     const size_t at = next_byte() % ACCOUNT_TYPES;
-    pilhangko_allocator_piece piece = {at, next_byte() % 2, some_piece(&account.types[has_allocator && at < account.type_count ? at : 0])};
+    const bool mapped = next_byte() % 2; /* which no call reads */
+    pilhangko_allocator_piece piece = {at, mapped, some_piece(&account.types[has_allocator && at < account.type_count ? at : 0])};
     if (next_byte() == 0) piece.memory_type = next_number();
     return piece;
 }
@@ -480,7 +504,7 @@ static void renames_of_allocator(void) {
 static void bounds_allocator(void) {
     const size_t at = next_byte() % 16 ? next_byte() % ACCOUNT_TYPES : next_number();
     const bool has = next_byte() % 2, is_there = has_allocator && at < account.type_count;
-    const uint64_t bytes = next_number() << (next_byte() % 2 * 16);
+    const uint64_t bytes = next_size();
     const pilhangko_status status = allocator_status(true, is_there ? PILHANGKO_OK : PILHANGKO_NO_SUCH_TYPE);
     pilhangko_budget told;
     IS(pilhangko_allocator_set_budget(&allocator, at, has, bytes), status);
@@ -555,11 +579,14 @@ static void same_texts(size_t index) {
 
 static void looks_at_allocator(void) {
     const size_t at = next_byte() % ACCOUNT_TYPES;
+    pilhangko_type_statistics all;
     uint64_t bytes = 0;
     IS(pilhangko_allocator_capacity(&allocator, &bytes), allocator_status(false, PILHANGKO_OK));
-    CHECK(!has_allocator || bytes == allocator_capacity(&account));
+    IS(pilhangko_allocator_statistics(&allocator, &all), allocator_status(false, PILHANGKO_OK));
+    CHECK(!has_allocator || (bytes == allocator_capacity(&account) && all.capacity == bytes && !all.has_budget));
     same_type_statistics(at);
-    same_slot(at, next_byte() % 8, next_number());
+    const size_t slot = next_byte() % 8;
+    same_slot(at, slot, next_number());
     if (next_byte() % 4 == 0) same_texts(next_byte());
 }
 
@@ -586,7 +613,7 @@ static void calls_type(uint8_t what) {
     else if (what < 65) frees_of_type();
     else if (what < 69) renames_of_type();
     else if (what < 72) bounds_type();
-    else if (what < 80) looks_at_type();
+    else if (what < 84) looks_at_type();
     else ends_type();
 }
 
@@ -598,7 +625,7 @@ static void calls_allocator(uint8_t what) {
     else if (what < 70) frees_of_allocator();
     else if (what < 75) renames_of_allocator();
     else if (what < 80) bounds_allocator();
-    else if (what < 84) looks_at_allocator();
+    else if (what < 89) looks_at_allocator();
     else ends_allocator();
 }
 

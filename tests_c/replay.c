@@ -5,7 +5,7 @@
 
 #define MOST_LIVE 4096
 #define MOST_MEMORIES 4096
-#define MOST_REFUSALS 64
+#define MOST_REFUSALS 1024
 #define MOST_TYPES 40
 #define LINE_ROOM 16384
 #define MOST_WORDS 10

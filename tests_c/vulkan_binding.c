@@ -215,11 +215,12 @@ static PFN_vkVoidFunction VKAPI_CALL loads_nothing(VkInstance instance, const ch
 }
 static PFN_vkVoidFunction VKAPI_CALL loads_one(VkDevice device, const char *name) {
     (void)device;
-    return strcmp(name, "vkGetBufferMemoryRequirements2KHR") ? (PFN_vkVoidFunction)fake_free : NULL;
+    return strcmp(name, "vkGetBufferMemoryRequirements2") ? (PFN_vkVoidFunction)fake_free : NULL;
 }
 static PFN_vkVoidFunction VKAPI_CALL loads_all(VkInstance instance, const char *name) {
     (void)instance;
-    return strcmp(name, "vkGetDeviceProcAddr") ? (PFN_vkVoidFunction)fake_properties : (PFN_vkVoidFunction)loads_one;
+    if (!strcmp(name, "vkGetDeviceProcAddr")) return (PFN_vkVoidFunction)loads_one;
+    return strcmp(name, "vkGetPhysicalDeviceMemoryProperties2KHR") ? (PFN_vkVoidFunction)fake_properties : (PFN_vkVoidFunction)fake_map;
 }
 
 static void loaders(void) {
@@ -235,9 +236,11 @@ static void loaders(void) {
     IS(pilhangko_vulkan_load(&f, instance, device, 0, loads_nothing, loads_one), PILHANGKO_VULKAN_NO_FUNCTION);
     CHECK(!f.vkFreeMemory && !f.vkGetPhysicalDeviceProperties);
     IS(pilhangko_vulkan_load(&f, instance, device, VK_API_VERSION_1_0, loads_all, NULL), PILHANGKO_OK);
-    CHECK(f.vkFreeMemory && f.vkGetPhysicalDeviceProperties && !f.vkGetBufferMemoryRequirements2 && f.vkGetImageMemoryRequirements2);
+    CHECK(f.vkFreeMemory && f.vkGetPhysicalDeviceProperties && !f.vkGetBufferMemoryRequirements2 && !f.vkGetImageMemoryRequirements2);
+    CHECK((PFN_vkVoidFunction)f.vkGetPhysicalDeviceMemoryProperties2 == (PFN_vkVoidFunction)fake_map);
     IS(pilhangko_vulkan_load(&f, instance, device, VK_API_VERSION_1_1, loads_all, loads_one), PILHANGKO_OK);
-    CHECK(f.vkGetBufferMemoryRequirements2 && f.vkGetPhysicalDeviceMemoryProperties2);
+    CHECK(!f.vkGetBufferMemoryRequirements2 && f.vkGetImageMemoryRequirements2);
+    CHECK((PFN_vkVoidFunction)f.vkGetPhysicalDeviceMemoryProperties2 == (PFN_vkVoidFunction)fake_properties);
 }
 
 static void creations(void) {

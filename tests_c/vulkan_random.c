@@ -26,7 +26,7 @@ static size_t live_count;
 static pilhangko_vulkan_allocation stale[STALE];
 static uint64_t last_serial;
 static FILE *replies; /* what the captured calls came to, or NULL */
-static unsigned allocated, made, refused, second_attempts, freed, not_live, renamed, flushed, lines;
+static unsigned allocated, made, refused, second_attempts, freed, not_live, renamed, flushed;
 
 static const char *const names[] = {NULL, "", "vertices", "a name that takes host memory of its own", "\xc3\xa9t\xc3\xa9 2",
     "a name of more than sixty-four bytes, which no trace can have as it stands here"};
@@ -39,7 +39,6 @@ static const char *word_of(bool it) {
 }
 
 static void reply(const char *line) {
-    lines++;
     if (replies) fprintf(replies, "%s\n", line);
 }
 

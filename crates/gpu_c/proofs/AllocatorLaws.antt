@@ -1,8 +1,8 @@
 -- Answers of the machine as answers of an allocator behind a handle.
-use Rattle.std.proofs.Common.{◌≡◌, ℕ, ◌≤◌, ◌<◌, ◌==◌, true, false, Bool, List, [], ◌∷◌, map, Option, Some, None, Ok, Err, Result, refl, sym, ap, ◌∙◌, subst, arith, ⊎_elim, ◌||◌}
-use Rattle.std.specs.Prelude.{IsSome, IsOk, length}
+use Rattle.std.proofs.Common.{◌≡◌, ℕ, ◌≤◌, ◌<◌, ◌==◌, true, false, Bool, List, [], ◌∷◌, map, Option, Some, None, Ok, Err, refl, sym, ap, ◌∙◌, subst, arith, ⊎_elim, ◌||◌}
+use Rattle.std.specs.Prelude.{IsSome, length}
 use Rattle.std.specs.List.{list_any}
-use Rattle.gpu_values.specs.Refusal.{Refusal, refusal_of}
+use Rattle.gpu_values.specs.Refusal.{Refusal}
 use Rattle.gpu_values.specs.declared.error.AllocationError.{AllocationError}
 use Rattle.gpu_block.specs.Block.{HoldsPiece}
 use Rattle.gpu_core.specs.TypeRelease.{SlotHolds}
@@ -19,7 +19,6 @@ use Rattle.gpu_machine.specs.Calls.{Frees, FreesIn, Renames, RenamesIn, SetsBudg
 use Rattle.gpu_machine.specs.State.{State}
 use Rattle.gpu_machine.specs.declared.answer.Allocated.{Allocated}
 use Rattle.gpu_machine.specs.declared.answer.MemoryBack.{MemoryBack}
-use Rattle.gpu_machine.specs.declared.answer.Progress.{Progress}
 use Rattle.gpu_machine.specs.declared.awaited.Awaited.{Awaited}
 use Rattle.gpu_c.specs.Allocator.{piece_told, IsLive}
 use Rattle.gpu_c.specs.declared.allocator_values.AllocatorPiece.{AllocatorPiece}

@@ -1,5 +1,5 @@
 -- With which statuses a request that is served is refused before the driver is asked.
-use Rattle.std.proofs.Common.{◌≡◌, ℕ, ◌<◌, ◌==◌, ◌&&◌, Bool, true, false, not, if◌then◌else◌, List, [], ◌∷◌, Option, Some, None, Ok, Err, Result, refl, sym, ap, ◌∙◌, subst, arith, ⊎_elim, inl, inr}
+use Rattle.std.proofs.Common.{◌≡◌, ℕ, ◌<◌, ◌==◌, ◌&&◌, Bool, true, false, not, if◌then◌else◌, List, [], ◌∷◌, Option, Some, None, Ok, Err, refl, sym, subst, arith, ⊎_elim, inl, inr}
 use Rattle.std.specs.Int.{is_power_of_two}
 use Rattle.gpu_values.specs.Refusal as refusals
 use Rattle.gpu_values.specs.Refusal.{Refusal, refusal_of, refusal_in}
@@ -8,12 +8,12 @@ use Rattle.gpu_device.specs.declared.vulkan.types.MemoryRequirements.{MemoryRequ
 use Rattle.gpu_device.specs.declared.vulkan.types.DeviceMemory.{DeviceMemory}
 use Rattle.gpu_pool.specs.Allocate as pools
 use Rattle.gpu_pool.specs.Allocate.{Environment, NothingMet, NoHostMemory, Answered}
-use Rattle.gpu_vulkan.specs.Allocate.{Attempts, next_type, is_valid}
-use Rattle.gpu_vulkan.specs.Attempt.{AttemptEnvironment, Answer, IsMet, AnyQuestion, request_in, unseen}
+use Rattle.gpu_vulkan.specs.Allocate.{is_valid}
+use Rattle.gpu_vulkan.specs.Attempt.{Answer, IsMet, AnyQuestion, request_in, unseen}
 use Rattle.gpu_vulkan.specs.Types.{kinds_of_device}
 use Rattle.gpu_vulkan.specs.declared.describe.AllocationCreateDesc.{AllocationCreateDesc}
 use Rattle.gpu_machine.specs.Begin.{Begins, BeginsIn, BeginsBy, Finds, Serves, Follows, Denies}
-use Rattle.gpu_machine.specs.Description.{Description, description_of}
+use Rattle.gpu_machine.specs.Description.{description_of}
 use Rattle.gpu_machine.specs.State.{State}
 use Rattle.gpu_machine.specs.declared.awaited.Awaited.{Awaited}
 use Rattle.gpu_c.specs.Allocator.{refusal_status, Says}

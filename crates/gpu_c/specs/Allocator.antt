@@ -21,12 +21,10 @@ use Rattle.gpu_device.specs.declared.vulkan.types.MemoryTypeInfo.{MemoryTypeInfo
 use Rattle.gpu_vulkan.specs.Live as machine_live
 use Rattle.gpu_vulkan.specs.Setup.{properties_told, lacks_heap}
 use Rattle.gpu_vulkan.specs.declared.describe.AllocationCreateDesc.{AllocationCreateDesc}
-use Rattle.gpu_machine.specs.Begin as machine_begin
 use Rattle.gpu_machine.specs.Begin.{Begins, Grants, Declines}
-use Rattle.gpu_machine.specs.Calls as machine_calls
 use Rattle.gpu_machine.specs.Calls.{Frees, Renames}
 use Rattle.gpu_machine.specs.Description.{Description, description_of}
-use Rattle.gpu_machine.specs.State.{State, told_fault}
+use Rattle.gpu_machine.specs.State.{State}
 use Rattle.gpu_machine.specs.declared.answer.Allocated.{Allocated}
 use Rattle.gpu_machine.specs.declared.answer.MemoryBack.{MemoryBack}
 use Rattle.gpu_machine.specs.declared.answer.Progress.{Progress}
