@@ -9,7 +9,7 @@ use std::alloc::{alloc_zeroed, dealloc, Layout};
 use std::collections::{BTreeMap, HashMap};
 use std::ffi::c_void;
 use std::ptr;
-use std::sync::{Mutex, MutexGuard};
+use std::sync::{Mutex, MutexGuard, PoisonError};
 
 pub mod account;
 pub mod script;
@@ -153,8 +153,9 @@ impl FakeDriver {
         unsafe { Device::new(ptr::from_ref(self) as u64, functions, self.properties, self.granularity) }
     }
 
+    /// Where a test has failed while it looked, its allocator still gives its memory back.
     pub fn state(&self) -> MutexGuard<'_, State> {
-        self.state.lock().expect("no test panics while it looks")
+        self.state.lock().unwrap_or_else(PoisonError::into_inner)
     }
 
     /// Refuses a question, by number from 1.
