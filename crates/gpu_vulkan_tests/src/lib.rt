@@ -1,8 +1,5 @@
-//! Tests of the Vulkan allocator over the simulated device: worked rows, log lines, and scripts with refusals; and of the machine
-//! that calls no driver.
+//! Tests of the Vulkan allocator over the simulated device: worked rows, log lines, and scripts with refusals.
 #![tactic(auto)]
 
-#[cfg(test)]
-mod machine;
 #[cfg(test)]
 mod vulkan;
