@@ -1,6 +1,6 @@
 //! What is read of an allocator: its memory types, blocks and pieces, its report, and the texts of its pieces as leaks.
 
-ghost use Rattle.std.specs.Prelude.{◌≡◌, ◌≢◌, ◌≤◌, ◌↔◌, [], ◌∷◌, length, string_bytes, IfOk, Some};
+ghost use Rattle.std.specs.Prelude.{◌≡◌, ◌≢◌, ◌≤◌, ◌↔◌, [], ◌∷◌, length, string_bytes, IfOk, OnErr, Some, IsSome};
 ghost use Rattle.std.specs.Option.{option_map, unwrap_or};
 ghost use Rattle.std.specs.List.{slice_get};
 ghost use Rattle.gpu_block_pieces.specs.Leak.{leak_text};
@@ -158,8 +158,9 @@ pub fn report(machine: &Machine, alloc: Global, text: &mut [u8], whole: &mut usi
 
 /// The text of the live piece with that number, by memory type, then by slot, then in order of offset, if there are so many.
 fn leak_at(machine: &Machine, alloc: Global, number: usize) -> Result<Option<String>, AllocError>
-    ensures { IfOk result (λ text. option_map string_bytes text
+    ensures text { IfOk result (λ text. option_map string_bytes text
         ≡ option_map leak_text (slice_get (all_leaks machine.now.slots) number)) }
+    ensures there { OnErr result (IsSome (slice_get (all_leaks machine.now.slots) number)) }
 {
     match machine.leaks().nth(number) {
         None => Ok(None),
@@ -178,6 +179,8 @@ pub fn leak(
 ) -> u32
     ensures reported { result ≡ status.ok
         → ShowsLeak (slice_get (all_leaks machine.now.slots) number) text.old text.new whole.new }
+    ensures host_out_of_memory { result ≡ status.host_out_of_memory
+        → IsSome (slice_get (all_leaks machine.now.slots) number) }
     ensures statuses { IsOneOf result (status.ok ∷ status.host_out_of_memory ∷ []) }
     ensures refused { result ≢ status.ok → (text.new ≡ text.old) × (whole.new ≡ whole.old) }
 {

@@ -1,6 +1,6 @@
 //! Exports that look at an allocator, also while a question is open, and change nothing.
 
-ghost use Rattle.std.specs.Prelude.{◌≡◌, ◌≢◌, ◌≤◌, ◌↔◌, [], ◌∷◌, Some, None, IsSomeAnd, length};
+ghost use Rattle.std.specs.Prelude.{◌≡◌, ◌≢◌, ◌≤◌, ◌↔◌, [], ◌∷◌, Some, None, IsSome, IsSomeAnd, length};
 ghost use Rattle.std.specs.List.{slice_get};
 ghost use Rattle.gpu_core.specs.TypeReport.{pieces_in, statistics_in};
 ghost use Rattle.gpu_core.specs.TypeState.{slot_at};
@@ -202,8 +202,8 @@ pub extern "C" fn pilhangko_raw_allocator_report(
 }
 
 /// The text of one live piece as a leak, by its number from 0 among all, by memory type, then by slot, then in order of offset: copies as
-/// many bytes of it as there is room for, and reports how many it has, 0 past the last piece. It takes host memory for the text:
-/// `HOST_OUT_OF_MEMORY`.
+/// many bytes of it as there is room for, and reports how many it has, 0 past the last piece. It takes host memory for the text,
+/// `HOST_OUT_OF_MEMORY`, but none past the last piece.
 #[unsafe(no_mangle)]
 pub extern "C" fn pilhangko_raw_allocator_leak(
     allocator: &mut AllocatorHandle,
@@ -215,6 +215,9 @@ pub extern "C" fn pilhangko_raw_allocator_leak(
     ensures reported { result ≡ status.ok
         → IsSomeAnd allocator.old.value
         (λ s. ShowsLeak (slice_get (all_leaks s.slots) number) text.old text.new whole.new) }
+    ensures host_out_of_memory { result ≡ status.host_out_of_memory
+        → IsSomeAnd allocator.old.value
+        (λ s. IsSome (slice_get (all_leaks s.slots) number)) }
     ensures no_handle { (result ≡ status.no_handle) ↔ (allocator.old.value ≡ None) }
     ensures statuses { IsOneOf result (status.ok ∷ status.no_handle ∷ status.host_out_of_memory
         ∷ []) }

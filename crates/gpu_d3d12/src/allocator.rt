@@ -372,7 +372,7 @@ impl<D: D3D12Device> Allocator<D> {
         log_leaks(log, level, self.pool.memory_types());
     }
 
-    /// IsResultOf every block back, and returns the device, which then holds what it held when it was handed in, and the resources
+    /// Gives every block back, and returns the device, which then holds what it held when it was handed in, and the resources
     /// that were made and not given back: give placed ones back before, for their heaps go. What is still live is logged first,
     /// as warnings, where the settings ask for it. It is never refused.
     pub fn destroy<L: Log>(self, log: &L) -> ID3D12DeviceVersion<D>

@@ -418,7 +418,7 @@ impl<D: VulkanDevice> Allocator<D> {
         log_leaks(log, level, self.pool.memory_types());
     }
 
-    /// IsResultOf every block back, and returns the device, which then holds what it held when it was handed in. What is still
+    /// Gives every block back, and returns the device, which then holds what it held when it was handed in. What is still
     /// live is logged first, as warnings, where the settings ask for it; its memory goes all the same. It is never refused.
     pub fn destroy<L: Log>(self, log: &L) -> D
         ensures held { D.held result ≡ D.held self.first }

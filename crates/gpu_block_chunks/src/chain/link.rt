@@ -37,8 +37,7 @@ impl LinkedChunk {
           size = here.size;
           offset = offset;
           kind = here.kind;
-          chunk_id =
-              here.chunk_id;
+          chunk_id = here.chunk_id;
           name = name;
         } }
     {

@@ -5,13 +5,13 @@ use Rattle.gpu_block_pieces.specs.Leak.{LeakOf, leak_text}
 use Rattle.gpu_c.proofs.AllocatorVisits.{nth_leak}
 use Rattle.gpu_c.proofs.allocator_visit.leak_at.Goals as goal
 
-pub returns-in-None : goal.returns-in-None
-returns-in-None c =
+pub returns-in-None-clause-text : goal.returns-in-None-clause-text
+returns-in-None-clause-text c =
     let found = nth_leak c.leaks.result c.nth.result c.nth.new.self c.args.number c.nth.ensures.ran in
     ap (option_map leak_text) (sym c.in-None.is ∙ found ∙ ap (λ (xs : List LeakOf). slice_get xs c.args.number) c.leaks.ensures)
 
-pub returns-in_ok-to_string-in-Some : goal.returns-in_ok-to_string-in-Some
-returns-in_ok-to_string-in-Some c =
+pub returns-in_ok-to_string-in-Some-clause-text : goal.returns-in_ok-to_string-in-Some-clause-text
+returns-in_ok-to_string-in-Some-clause-text c =
     let found = nth_leak c.leaks.result c.nth.result c.nth.new.self c.args.number c.nth.ensures.ran in
     ap Some c.in_ok-to_string-in-Some.ensures.ok
     ∙ ap (option_map leak_text) (sym c.in-Some.is ∙ found ∙ ap (λ (xs : List LeakOf). slice_get xs c.args.number) c.leaks.ensures)
