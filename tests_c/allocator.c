@@ -114,6 +114,18 @@ static void whole_requests(void) {
 
 /* ---- rows */
 
+/* a piece with a block of its own, whose question names what it is for */
+static pilhangko_allocator_piece own_piece(
+    pilhangko_allocator *a, const pilhangko_allocator_request *request, uint32_t memory_type, bool mapped, uint64_t memory) {
+    pilhangko_allocator_progress p;
+    pilhangko_allocator_piece piece;
+    IS(pilhangko_allocator_begin(a, request, "own", &p), PILHANGKO_OK);
+    is_question(&p, request->size, memory_type, mapped);
+    CHECK(p.question.scheme == request->scheme && p.question.resource == request->resource);
+    IS(pilhangko_allocator_granted(a, memory, &piece), PILHANGKO_OK);
+    return piece;
+}
+
 static void pieces_and_questions(void) {
     pilhangko_allocator a = made();
     pilhangko_allocator_request r = asks(100, 7, PILHANGKO_LOCATION_GPU_ONLY);
@@ -136,18 +148,12 @@ static void pieces_and_questions(void) {
     r = asks(10, 7, PILHANGKO_LOCATION_GPU_ONLY);
     r.scheme = PILHANGKO_SCHEME_BUFFER;
     r.resource = 77;
-    IS(pilhangko_allocator_begin(&a, &r, "own", &p), PILHANGKO_OK);
-    is_question(&p, 10, 0, false);
-    CHECK(p.question.scheme == PILHANGKO_SCHEME_BUFFER && p.question.resource == 77);
-    IS(pilhangko_allocator_granted(&a, 1002, &own), PILHANGKO_OK);
+    own = own_piece(&a, &r, 0, false, 1002);
     is_piece(&own, 0, false, 1, 1, 0, 10, 1002);
     r = asks(20, 7, PILHANGKO_LOCATION_GPU_TO_CPU);
     r.scheme = PILHANGKO_SCHEME_IMAGE;
     r.resource = 78;
-    IS(pilhangko_allocator_begin(&a, &r, "read", &p), PILHANGKO_OK);
-    is_question(&p, 20, 1, true);
-    CHECK(p.question.scheme == PILHANGKO_SCHEME_IMAGE && p.question.resource == 78);
-    IS(pilhangko_allocator_granted(&a, 1003, &read), PILHANGKO_OK);
+    read = own_piece(&a, &r, 1, true, 1003);
     is_piece(&read, 1, true, 0, 1, 0, 20, 1003);
     has_capacity(&a, 8 * MB + 30);
     frees(&a, &own, true, false, 1002); /* a piece's own block goes */
@@ -285,12 +291,10 @@ static void devices(void) {
     IS(pilhangko_allocator_destroy(&a), PILHANGKO_OK);
 }
 
-static void request_and_piece_statuses(void) {
+static void request_statuses(void) {
     pilhangko_allocator a = made();
     pilhangko_allocator_request good = asks(100, 7, PILHANGKO_LOCATION_GPU_ONLY);
     pilhangko_allocator_progress p = {9, 9, {9, true, {9, 9, 9, 9, 9}}, {9, 9, 9, 9, true, true}};
-    pilhangko_allocator_memory back = {true, true, 3};
-    pilhangko_allocator_piece piece;
     for (unsigned field = 0; field < 9; field++) {
         pilhangko_allocator_request bad = good;
         if (field == 0) bad.size = 0;
@@ -311,7 +315,15 @@ static void request_and_piece_statuses(void) {
     good.size = 1024 * MB + 1; /* larger than its heap */
     IS(pilhangko_allocator_begin(&a, &good, NULL, &p), PILHANGKO_OUT_OF_MEMORY);
     CHECK(p.kind == 9 && p.status == 9 && p.piece.memory_type == 9 && p.question.size == 9);
-    good.size = 100;
+    IS(pilhangko_allocator_destroy(&a), PILHANGKO_OK);
+}
+
+static void piece_statuses(void) {
+    pilhangko_allocator a = made();
+    pilhangko_allocator_request good = asks(100, 7, PILHANGKO_LOCATION_GPU_ONLY);
+    pilhangko_allocator_progress p;
+    pilhangko_allocator_memory back = {true, true, 3};
+    pilhangko_allocator_piece piece;
     IS(pilhangko_allocator_begin(&a, &good, NULL, &p), PILHANGKO_OK);
     IS(pilhangko_allocator_granted(&a, 7, &piece), PILHANGKO_OK);
     for (unsigned field = 0; field < 8; field++) {
@@ -526,7 +538,8 @@ int main(void) {
     out_of_turn();
     budgets();
     devices();
-    request_and_piece_statuses();
+    request_statuses();
+    piece_statuses();
     visits();
     empty_handles_and_null();
     return 0;

@@ -57,27 +57,51 @@ static void has_block(const pilhangko_memory_type *type, size_t slot, bool exist
     CHECK(b.exists == exists && b.block == (exists ? block : 0));
 }
 
+/* two pieces in a shared block, one in a second of twice its size, one larger than the next, and one that asks for a block of its own */
+static void five_pieces(pilhangko_memory_type *type, pilhangko_memory_piece piece[5]) {
+    pilhangko_memory_type_settings s = settings(true);
+    IS(pilhangko_memory_type_create(type, &s), PILHANGKO_OK);
+    counts(type, 0, 0, 0, false);
+    needs(type, 100, false, 4 * MB, false);
+    counts(type, 0, 0, 0, true);
+    installs(type, 1001, 0, 2, 100, &piece[0]);
+    allocates(type, 50, 0, 3, 100, 1001, &piece[1]);
+    needs(type, 4 * MB, false, 8 * MB, false);
+    installs(type, 1002, 1, 2, 4 * MB, &piece[2]);
+    needs(type, 8 * MB + 1, false, 8 * MB + 1, true);
+    installs(type, 1003, 2, 1, 8 * MB + 1, &piece[3]);
+    needs(type, 10, true, 10, true);
+    installs(type, 1004, 3, 1, 10, &piece[4]);
+    counts(type, 4 * MB + 8 * MB + 8 * MB + 1 + 10, 4, 2, false);
+}
+
 static void blocks_come_and_go(void) {
     pilhangko_memory_type type = {0};
-    pilhangko_memory_type_settings s = settings(true);
-    pilhangko_memory_piece a, b, c, d, e;
-    IS(pilhangko_memory_type_create(&type, &s), PILHANGKO_OK);
-    counts(&type, 0, 0, 0, false);
-    needs(&type, 100, false, 4 * MB, false);
-    counts(&type, 0, 0, 0, true);
-    installs(&type, 1001, 0, 2, 100, &a);
-    allocates(&type, 50, 0, 3, 100, 1001, &b);
-    needs(&type, 4 * MB, false, 8 * MB, false); /* the second shared block has twice the size */
-    installs(&type, 1002, 1, 2, 4 * MB, &c);
-    needs(&type, 8 * MB + 1, false, 8 * MB + 1, true); /* larger than the next shared block */
-    installs(&type, 1003, 2, 1, 8 * MB + 1, &d);
-    needs(&type, 10, true, 10, true); /* asks for its own */
-    installs(&type, 1004, 3, 1, 10, &e);
-    counts(&type, 4 * MB + 8 * MB + 8 * MB + 1 + 10, 4, 2, false);
+    pilhangko_memory_piece piece[5];
+    five_pieces(&type, piece);
     has_block(&type, 0, true, 1001);
     has_block(&type, 3, true, 1004);
     has_block(&type, 4, false, 0);
     has_block(&type, SIZE_MAX, false, 0);
+    frees(&type, &piece[3], true, 1003); /* a piece's own block goes */
+    has_block(&type, 2, false, 0);
+    frees(&type, &piece[0], false, 0);
+    frees(&type, &piece[1], true, 1001); /* the first shared block is without pieces, and another one is live */
+    frees(&type, &piece[2], false, 0);   /* the last shared block stays */
+    counts(&type, 8 * MB + 10, 4, 1, false);
+    allocates(&type, 7, 1, 3, 0, 1002, &piece[0]);
+    needs(&type, 8 * MB, false, 8 * MB, false);
+    installs(&type, 1005, 2, 1, 8 * MB, &piece[1]); /* the highest empty slot; the piece fills its block */
+    needs(&type, 1, true, 1, true);
+    installs(&type, 1006, 0, 1, 1, &piece[2]); /* the lowest empty slot */
+    IS(pilhangko_memory_type_destroy(&type), PILHANGKO_OK);
+    IS(pilhangko_memory_type_destroy(&type), PILHANGKO_NO_HANDLE);
+}
+
+static void statistics_of_blocks(void) {
+    pilhangko_memory_type type = {0};
+    pilhangko_memory_piece piece[5];
+    five_pieces(&type, piece);
     pilhangko_memory_block_statistics counted;
     IS(pilhangko_memory_type_block_statistics(&type, 0, &counted), PILHANGKO_OK);
     CHECK(counted.exists && counted.pieces == 2 && counted.piece_bytes == 150 && counted.gaps == 1 && counted.longest_gap == 4 * MB - 150);
@@ -85,9 +109,16 @@ static void blocks_come_and_go(void) {
     CHECK(counted.exists && counted.pieces == 1 && counted.piece_bytes == 10 && counted.gaps == 0 && counted.longest_gap == 0);
     IS(pilhangko_memory_type_block_statistics(&type, 4, &counted), PILHANGKO_OK);
     CHECK(!counted.exists && counted.pieces == 0);
+    IS(pilhangko_memory_type_destroy(&type), PILHANGKO_OK);
+}
+
+static void views_of_pieces(void) {
+    pilhangko_memory_type type = {0};
+    pilhangko_memory_piece piece[5];
+    five_pieces(&type, piece);
     pilhangko_piece_view view;
     IS(pilhangko_memory_type_next_piece(&type, 0, 1, &view), PILHANGKO_OK);
-    CHECK(view.exists && view.number == b.number && view.start == 100 && view.offset == 100 && view.end == 150 &&
+    CHECK(view.exists && view.number == piece[1].number && view.start == 100 && view.offset == 100 && view.end == 150 &&
           view.kind == PILHANGKO_KIND_LINEAR);
     IS(pilhangko_memory_type_next_piece(&type, 0, 101, &view), PILHANGKO_OK);
     CHECK(!view.exists);
@@ -101,8 +132,15 @@ static void blocks_come_and_go(void) {
     CHECK(shown == 0 && views[0].number == 3);
     IS(pilhangko_memory_type_next_piece(&type, 9, 0, &view), PILHANGKO_OK);
     CHECK(!view.exists);
+    IS(pilhangko_memory_type_destroy(&type), PILHANGKO_OK);
+}
+
+static void names_of_pieces(void) {
+    pilhangko_memory_type type = {0};
+    pilhangko_memory_piece piece[5];
+    five_pieces(&type, piece);
     char bytes[8] = "???????";
-    size_t length;
+    size_t length, shown;
     IS(pilhangko_memory_type_piece_name(&type, 0, 0, bytes, 7, &length), PILHANGKO_OK);
     CHECK(length == 5 && !strcmp(bytes, "block??"));
     size_t lengths[2] = {77, 77};
@@ -113,19 +151,7 @@ static void blocks_come_and_go(void) {
     CHECK(shown == 0 && lengths[0] == 5);
     IS(pilhangko_memory_type_piece_name(&type, 9, 0, bytes, 7, &length), PILHANGKO_OK);
     CHECK(length == 0 && !strcmp(bytes, "block??"));
-    frees(&type, &d, true, 1003); /* a piece's own block goes */
-    has_block(&type, 2, false, 0);
-    frees(&type, &a, false, 0);
-    frees(&type, &b, true, 1001); /* the first shared block is without pieces, and another one is live */
-    frees(&type, &c, false, 0);   /* the last shared block stays */
-    counts(&type, 8 * MB + 10, 4, 1, false);
-    allocates(&type, 7, 1, 3, 0, 1002, &a);
-    needs(&type, 8 * MB, false, 8 * MB, false);
-    installs(&type, 1005, 2, 1, 8 * MB, &b); /* the highest empty slot; the piece fills its block */
-    needs(&type, 1, true, 1, true);
-    installs(&type, 1006, 0, 1, 1, &c); /* the lowest empty slot */
     IS(pilhangko_memory_type_destroy(&type), PILHANGKO_OK);
-    IS(pilhangko_memory_type_destroy(&type), PILHANGKO_NO_HANDLE);
 }
 
 static void sides(void) {
@@ -301,7 +327,7 @@ static void created_once(void) {
     IS(pilhangko_memory_type_destroy(&type), PILHANGKO_OK);
 }
 
-static void null_pointers(void) {
+static void null_pointers_of_calls(void) {
     pilhangko_memory_type type = {0};
     pilhangko_memory_type_settings s = settings(true);
     pilhangko_memory_request request = {100, 1, PILHANGKO_KIND_LINEAR, false};
@@ -324,6 +350,12 @@ static void null_pointers(void) {
     IS(pilhangko_memory_type_is_live(&type, NULL, &to.is_live), PILHANGKO_NULL_POINTER);
     IS(pilhangko_memory_type_is_live(&type, &piece, NULL), PILHANGKO_NULL_POINTER);
     IS(pilhangko_memory_type_set_budget(NULL, true, 1), PILHANGKO_NULL_POINTER);
+    IS(pilhangko_memory_type_destroy(NULL), PILHANGKO_NULL_POINTER);
+}
+
+static void null_pointers_of_visits(void) {
+    pilhangko_memory_type type = {0};
+    struct results to;
     IS(pilhangko_memory_type_block(NULL, 0, &to.gone), PILHANGKO_NULL_POINTER);
     IS(pilhangko_memory_type_block(&type, 0, NULL), PILHANGKO_NULL_POINTER);
     IS(pilhangko_memory_type_statistics(NULL, &to.statistics), PILHANGKO_NULL_POINTER);
@@ -342,17 +374,20 @@ static void null_pointers(void) {
     IS(pilhangko_memory_type_piece_name(&type, 0, 0, NULL, 1, &to.length), PILHANGKO_NULL_POINTER);
     IS(pilhangko_memory_type_piece_name(&type, 0, 0, NULL, 0, NULL), PILHANGKO_NULL_POINTER);
     IS(pilhangko_memory_type_statistics(&type, NULL), PILHANGKO_NULL_POINTER);
-    IS(pilhangko_memory_type_destroy(NULL), PILHANGKO_NULL_POINTER);
 }
 
 int main(void) {
     blocks_come_and_go();
+    statistics_of_blocks();
+    views_of_pieces();
+    names_of_pieces();
     sides();
     budgets();
     awaited();
     request_and_piece_statuses();
     unmade_memory_type();
     created_once();
-    null_pointers();
+    null_pointers_of_calls();
+    null_pointers_of_visits();
     return 0;
 }

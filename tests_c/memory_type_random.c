@@ -75,6 +75,39 @@ static void free_piece(void) {
     went += goes;
 }
 
+/* the pieces of the block in that slot, from a place on, by each kind of visit */
+static void look_at_pieces(size_t i, const pilhangko_memory_block_statistics *counted) {
+    uint64_t from = random_below(9 * MB);
+    pilhangko_piece_view view;
+    IS(pilhangko_memory_type_next_piece(&type, i, from, &view), PILHANGKO_OK);
+    pilhangko_piece_view views[20];
+    size_t view_room = random_below(21), shown;
+    for (size_t j = 0; j < 20; j++) views[j].number = UINT64_MAX;
+    IS(pilhangko_memory_type_pieces(&type, i, from, views, view_room, &shown), PILHANGKO_OK);
+    char all[100];
+    size_t lengths[20], named, all_room = random_below(sizeof all + 1);
+    memset(all, '?', sizeof all);
+    memset(lengths, 0xff, sizeof lengths);
+    IS(pilhangko_memory_type_piece_names(&type, i, from, lengths, view_room, all, all_room, &named), PILHANGKO_OK);
+    if (!counted->exists) {
+        CHECK(shown == 0 && named == 0 && (!view_room || (views[0].number == UINT64_MAX && lengths[0] == SIZE_MAX)));
+        CHECK(!view.exists && view.number == 0 && counted->pieces == 0 && counted->piece_bytes == 0 && counted->gaps == 0 &&
+              counted->longest_gap == 0);
+        return;
+    }
+    pilhangko_virtual_statistics same = {
+        account.slots[i].account.size, counted->pieces, counted->piece_bytes, counted->gaps, counted->longest_gap};
+    account_same(&account.slots[i].account, &same);
+    account_shows(&account.slots[i].account, from, &view);
+    account_shows_all(&account.slots[i].account, from, views, view_room, shown);
+    account_names_all(&account.slots[i].account, from, lengths, view_room, all, all_room, named);
+    char bytes[16];
+    size_t room = random_below(sizeof bytes + 1), length;
+    memset(bytes, '?', sizeof bytes);
+    IS(pilhangko_memory_type_piece_name(&type, i, from, bytes, room, &length), PILHANGKO_OK);
+    account_names(&account.slots[i].account, from, bytes, room, length);
+}
+
 static void look(void) {
     pilhangko_memory_statistics s;
     IS(pilhangko_memory_type_statistics(&type, &s), PILHANGKO_OK);
@@ -89,35 +122,7 @@ static void look(void) {
     pilhangko_memory_block_statistics counted;
     IS(pilhangko_memory_type_block_statistics(&type, i, &counted), PILHANGKO_OK);
     CHECK(counted.exists == block.exists);
-    uint64_t from = random_below(9 * MB);
-    pilhangko_piece_view view;
-    IS(pilhangko_memory_type_next_piece(&type, i, from, &view), PILHANGKO_OK);
-    pilhangko_piece_view views[20];
-    size_t view_room = random_below(21), shown;
-    for (size_t j = 0; j < 20; j++) views[j].number = UINT64_MAX;
-    IS(pilhangko_memory_type_pieces(&type, i, from, views, view_room, &shown), PILHANGKO_OK);
-    char all[100];
-    size_t lengths[20], named, all_room = random_below(sizeof all + 1);
-    memset(all, '?', sizeof all);
-    memset(lengths, 0xff, sizeof lengths);
-    IS(pilhangko_memory_type_piece_names(&type, i, from, lengths, view_room, all, all_room, &named), PILHANGKO_OK);
-    if (block.exists) {
-        pilhangko_virtual_statistics same = {
-            account.slots[i].account.size, counted.pieces, counted.piece_bytes, counted.gaps, counted.longest_gap};
-        account_same(&account.slots[i].account, &same);
-        account_shows(&account.slots[i].account, from, &view);
-        account_shows_all(&account.slots[i].account, from, views, view_room, shown);
-        account_names_all(&account.slots[i].account, from, lengths, view_room, all, all_room, named);
-        char bytes[16];
-        size_t room = random_below(sizeof bytes + 1), length;
-        memset(bytes, '?', sizeof bytes);
-        IS(pilhangko_memory_type_piece_name(&type, i, from, bytes, room, &length), PILHANGKO_OK);
-        account_names(&account.slots[i].account, from, bytes, room, length);
-    } else {
-        CHECK(shown == 0 && named == 0 && (!view_room || (views[0].number == UINT64_MAX && lengths[0] == SIZE_MAX)));
-        CHECK(!view.exists && view.number == 0 && counted.pieces == 0 && counted.piece_bytes == 0 && counted.gaps == 0 &&
-              counted.longest_gap == 0);
-    }
+    look_at_pieces(i, &counted);
     pilhangko_memory_piece piece = some_piece();
     bool is_live;
     IS(pilhangko_memory_type_is_live(&type, &piece, &is_live), PILHANGKO_OK);

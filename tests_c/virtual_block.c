@@ -50,21 +50,25 @@ static void pages(void) {
     IS(pilhangko_virtual_block_destroy(&block), PILHANGKO_OK);
 }
 
-/* what is counted, and a visit of all pieces */
-static void readings(void) {
+/* a block of 1,000 bytes with a piece in [10, 74), of which 54 bytes are padding, and one in [74, 90), of which 6 are */
+static void two_of_three(pilhangko_virtual_block *block, pilhangko_virtual_piece pieces[3]) {
+    pilhangko_virtual_statistics s;
+    IS(pilhangko_virtual_block_create(block, 1000, 64), PILHANGKO_OK);
+    allocates(block, 10, 1, PILHANGKO_KIND_LINEAR, 0, 2, &pieces[0]);
+    allocates(block, 10, 1, PILHANGKO_KIND_NON_LINEAR, 64, 3, &pieces[1]);
+    allocates(block, 10, 16, PILHANGKO_KIND_NON_LINEAR, 80, 4, &pieces[2]);
+    IS(pilhangko_virtual_block_statistics(block, &s), PILHANGKO_OK);
+    CHECK(s.size == 1000 && s.pieces == 3 && s.piece_bytes == 90 && s.gaps == 1 && s.longest_gap == 910);
+    IS(pilhangko_virtual_block_free(block, &pieces[0]), PILHANGKO_OK);
+    IS(pilhangko_virtual_block_statistics(block, &s), PILHANGKO_OK);
+    CHECK(s.size == 1000 && s.pieces == 2 && s.piece_bytes == 80 && s.gaps == 2 && s.longest_gap == 910);
+}
+
+static void visit_by_steps(void) {
     pilhangko_virtual_block block = {0};
     pilhangko_virtual_piece pieces[3];
-    pilhangko_virtual_statistics s;
     pilhangko_piece_view view;
-    IS(pilhangko_virtual_block_create(&block, 1000, 64), PILHANGKO_OK);
-    allocates(&block, 10, 1, PILHANGKO_KIND_LINEAR, 0, 2, &pieces[0]);
-    allocates(&block, 10, 1, PILHANGKO_KIND_NON_LINEAR, 64, 3, &pieces[1]);  /* [10, 74): 54 bytes of padding */
-    allocates(&block, 10, 16, PILHANGKO_KIND_NON_LINEAR, 80, 4, &pieces[2]); /* [74, 90): 6 */
-    IS(pilhangko_virtual_block_statistics(&block, &s), PILHANGKO_OK);
-    CHECK(s.size == 1000 && s.pieces == 3 && s.piece_bytes == 90 && s.gaps == 1 && s.longest_gap == 910);
-    IS(pilhangko_virtual_block_free(&block, &pieces[0]), PILHANGKO_OK);
-    IS(pilhangko_virtual_block_statistics(&block, &s), PILHANGKO_OK);
-    CHECK(s.size == 1000 && s.pieces == 2 && s.piece_bytes == 80 && s.gaps == 2 && s.longest_gap == 910);
+    two_of_three(&block, pieces);
     size_t seen = 0;
     for (uint64_t from = 0;; from = view.offset + 1) {
         IS(pilhangko_virtual_block_next_piece(&block, from, &view), PILHANGKO_OK);
@@ -76,6 +80,13 @@ static void readings(void) {
     CHECK(seen == 2 && view.number == 0 && view.start == 0 && view.offset == 0 && view.end == 0 && view.kind == 0);
     IS(pilhangko_virtual_block_next_piece(&block, UINT64_MAX, &view), PILHANGKO_OK);
     CHECK(!view.exists);
+    IS(pilhangko_virtual_block_destroy(&block), PILHANGKO_OK);
+}
+
+static void visit_by_one_call(void) {
+    pilhangko_virtual_block block = {0};
+    pilhangko_virtual_piece pieces[3];
+    two_of_three(&block, pieces);
     pilhangko_piece_view views[3] = {{.number = 77}, {.number = 77}, {.number = 77}};
     size_t shown = 9;
     IS(pilhangko_virtual_block_pieces(&block, 0, views, 3, &shown), PILHANGKO_OK);
@@ -88,6 +99,13 @@ static void readings(void) {
     CHECK(shown == 0 && views[0].number == pieces[1].number);
     IS(pilhangko_virtual_block_pieces(&block, 0, NULL, 0, &shown), PILHANGKO_OK);
     CHECK(shown == 0);
+    IS(pilhangko_virtual_block_destroy(&block), PILHANGKO_OK);
+}
+
+static void one_name(void) {
+    pilhangko_virtual_block block = {0};
+    pilhangko_virtual_piece pieces[3];
+    two_of_three(&block, pieces);
     char bytes[8] = "???????";
     size_t length = 9;
     IS(pilhangko_virtual_block_rename(&block, &pieces[2], "name"), PILHANGKO_OK);
@@ -99,7 +117,17 @@ static void readings(void) {
     CHECK(length == 0 && !strcmp(bytes, "pime???"));
     IS(pilhangko_virtual_block_piece_name(&block, 0, NULL, 0, &length), PILHANGKO_OK);
     CHECK(length == 5);
-    size_t lengths[3] = {77, 77, 77};
+    IS(pilhangko_virtual_block_destroy(&block), PILHANGKO_OK);
+    IS(pilhangko_virtual_block_piece_name(&block, 0, bytes, 7, &length), PILHANGKO_NO_HANDLE);
+    CHECK(length == 5 && !strcmp(bytes, "pime???"));
+}
+
+static void all_names(void) {
+    pilhangko_virtual_block block = {0};
+    pilhangko_virtual_piece pieces[3];
+    two_of_three(&block, pieces);
+    IS(pilhangko_virtual_block_rename(&block, &pieces[2], "name"), PILHANGKO_OK);
+    size_t lengths[3] = {77, 77, 77}, shown;
     char names[12] = "???????????";
     IS(pilhangko_virtual_block_piece_names(&block, 0, lengths, 3, names, 11, &shown), PILHANGKO_OK);
     CHECK(shown == 2 && lengths[0] == 5 && lengths[1] == 4 && lengths[2] == 77 && !strcmp(names, "piecename??"));
@@ -110,14 +138,18 @@ static void readings(void) {
     IS(pilhangko_virtual_block_piece_names(&block, 0, NULL, 0, NULL, 0, &shown), PILHANGKO_OK);
     CHECK(shown == 0);
     IS(pilhangko_virtual_block_destroy(&block), PILHANGKO_OK);
-    IS(pilhangko_virtual_block_piece_name(&block, 0, bytes, 7, &length), PILHANGKO_NO_HANDLE);
-    CHECK(length == 5 && !strcmp(bytes, "pime???"));
-    s.size = 3;
-    view.number = 4;
+    IS(pilhangko_virtual_block_piece_names(&block, 0, lengths, 3, names, 11, &shown), PILHANGKO_NO_HANDLE);
+    CHECK(shown == 0 && !strcmp(names, "piecename??"));
+}
+
+static void readings_of_no_block(void) {
+    pilhangko_virtual_block block = {0};
+    pilhangko_virtual_statistics s = {.size = 3};
+    pilhangko_piece_view view = {.number = 4};
+    size_t shown = 0;
     IS(pilhangko_virtual_block_statistics(&block, &s), PILHANGKO_NO_HANDLE);
     IS(pilhangko_virtual_block_next_piece(&block, 0, &view), PILHANGKO_NO_HANDLE);
     IS(pilhangko_virtual_block_pieces(&block, 0, &view, 1, &shown), PILHANGKO_NO_HANDLE);
-    IS(pilhangko_virtual_block_piece_names(&block, 0, lengths, 3, names, 11, &shown), PILHANGKO_NO_HANDLE);
     CHECK(s.size == 3 && view.number == 4 && shown == 0);
 }
 
@@ -259,7 +291,11 @@ static void status_words(void) {
 int main(void) {
     places();
     pages();
-    readings();
+    visit_by_steps();
+    visit_by_one_call();
+    one_name();
+    all_names();
+    readings_of_no_block();
     visit_of_many();
     allocate_statuses();
     handle_statuses();

@@ -57,16 +57,21 @@ struct Mark {
 impl Capture {
     /// The capture of an allocator that is made.
     pub(super) fn new(device: &Device, sizes: &AllocationSizes) -> Result<Self> {
-        let mut capture = Capture {
+        let mut capture = Capture::blank();
+        capture.describe(device, sizes).map_err(|NoRoom| AllocationError::HostOutOfMemory)?;
+        Ok(capture)
+    }
+
+    /// A capture without a line.
+    fn blank() -> Self {
+        Capture {
             settings: Lines::default(),
             refusals: Lines::default(),
             commands: Lines::default(),
             asked: 0,
             last_whole: Mark::default(),
             end: CaptureEnd::Whole,
-        };
-        capture.describe(device, sizes).map_err(|NoRoom| AllocationError::HostOutOfMemory)?;
-        Ok(capture)
+        }
     }
 
     fn describe(&mut self, device: &Device, sizes: &AllocationSizes) -> Result<(), NoRoom> {
@@ -275,17 +280,6 @@ mod tests {
     use crate::vulkan::MemoryRequirements;
     use crate::MemoryLocation;
 
-    fn empty() -> Capture {
-        Capture {
-            settings: Lines::default(),
-            refusals: Lines::default(),
-            commands: Lines::default(),
-            asked: 0,
-            last_whole: Mark::default(),
-            end: CaptureEnd::Whole,
-        }
-    }
-
     fn request(name: &str) -> AllocationCreateDesc<'_> {
         AllocationCreateDesc {
             name,
@@ -307,7 +301,7 @@ mod tests {
 
     #[test]
     fn a_capture_ends_at_a_whole_line_where_a_trace_has_no_more_room() {
-        let mut capture = empty();
+        let mut capture = Capture::blank();
         let name = "n".repeat(64);
         for number in 0..20_000 {
             capture.allocated(number, &request(&name));
@@ -328,7 +322,7 @@ mod tests {
 
     #[test]
     fn refusals_are_numbered_and_an_undone_call_leaves_none() {
-        let mut capture = empty();
+        let mut capture = Capture::blank();
         capture.asked(true, &Answer::MemoryRefused(Refusal::Code(-2))); // question 1
         capture.asked(true, &Answer::MappingRefused(Refusal::Null)); // 2 and 3
         capture.allocated(0, &request("a"));
