@@ -112,7 +112,7 @@ fn download_of(
     })
 }
 
-/// A command, whose name and bytes are borrowed. Each but the last three begins with its number.
+/// A command, whose name and bytes are borrowed. Each but the last begins with its number.
 #[derive(Clone, Copy)]
 enum Call<'a> {
     /// A request of this size for a piece that the host writes.
@@ -124,10 +124,6 @@ enum Call<'a> {
     /// Reads so many bytes behind this offset.
     Read(u64, u64, u64),
     Free(u64),
-    Null(u64),
-    Rename(u64, &'a str),
-    Report,
-    Leaks,
     Capacity,
 }
 
@@ -140,13 +136,6 @@ fn command_of(alloc: Global, call: Call) -> std::result::Result<Command, AllocEr
         Call::Write(key, at, bytes) => write_of(alloc, key, at, bytes)?,
         Call::Read(key, at, size) => Command::Read { key, at, size },
         Call::Free(key) => Command::Free { key },
-        Call::Null(key) => Command::Null { key },
-        Call::Rename(key, name) => Command::Rename {
-            key,
-            name: name.to_string(alloc)?,
-        },
-        Call::Report => Command::Report,
-        Call::Leaks => Command::Leaks,
         Call::Capacity => Command::Capacity,
     })
 }
@@ -202,12 +191,6 @@ enum Answer {
     Allocated(u64, u64, u64),
     Done,
     Bytes(&'static [u8]),
-    Unbound,
-    Busy,
-    Unmapped,
-    OutOfRange,
-    /// The request is refused for what it asks.
-    Invalid,
 }
 
 fn is_answer(reply: &Reply, want: Answer) -> bool {
@@ -215,14 +198,6 @@ fn is_answer(reply: &Reply, want: Answer) -> bool {
         Answer::Allocated(offset, size, number) => given_at(reply) == Some((offset, size, number)),
         Answer::Done => is_done(reply),
         Answer::Bytes(bytes) => is_bytes(reply, bytes),
-        Answer::Unbound => matches!(reply, Reply::Unbound),
-        Answer::Busy => matches!(reply, Reply::Busy),
-        Answer::Unmapped => matches!(reply, Reply::Unmapped),
-        Answer::OutOfRange => matches!(reply, Reply::OutOfRange),
-        Answer::Invalid => matches!(
-            reply,
-            Reply::Error(AllocationError::InvalidAllocationCreateDesc)
-        ),
     }
 }
 
@@ -285,90 +260,6 @@ fn a_place_is_used_again(rt: HostRuntime) -> Outcome {
     let mut s = session(rt.alloc())?;
     let done = script(&rt, &mut s, rt.alloc());
     s.numbers_own_their_pieces();
-    let device = s.destroy(&Discard);
-    assert!(&rt; device.held() == 0);
-    done
-}
-
-/// Numbers that stand for nothing, or for a null allocation.
-const NUMBERS: &[(Call, Answer)] = &[
-    (Call::Free(1), Answer::Unbound),
-    (Call::Write(1, 9, &[1]), Answer::Unbound),
-    (Call::Null(1), Answer::Done),
-    (Call::Null(1), Answer::Busy),
-    (Call::Upload(1, 0, "a"), Answer::Busy),
-    (Call::Write(1, 9, &[1]), Answer::Unmapped),
-    (Call::Rename(1, "n"), Answer::Done),
-    (Call::Rename(2, "n"), Answer::Unbound),
-    (Call::Free(1), Answer::Done),
-    (Call::Free(1), Answer::Unbound),
-];
-
-#[test]
-fn each_number_out_of_place_is_told(rt: HostRuntime) -> Outcome {
-    let mut s = session(rt.alloc())?;
-    let done = make_calls(&rt, &mut s, rt.alloc(), NUMBERS);
-    let device = s.destroy(&Discard);
-    assert!(&rt; device.held() == 0);
-    done
-}
-
-/// A request for nothing, which leaves its number free, and ranges that end past a piece.
-const SIZES: &[(Call, Answer)] = &[
-    (Call::Upload(1, 0, "a"), Answer::Invalid),
-    (Call::Upload(1, 4, "a"), Answer::Allocated(0, 4, 2)),
-    (Call::Write(1, 3, &[1, 2]), Answer::OutOfRange),
-    (Call::Read(1, 1, 4), Answer::OutOfRange),
-];
-
-#[test]
-fn each_size_out_of_range_is_told(rt: HostRuntime) -> Outcome {
-    let mut s = session(rt.alloc())?;
-    let done = make_calls(&rt, &mut s, rt.alloc(), SIZES);
-    let device = s.destroy(&Discard);
-    assert!(&rt; device.held() == 0);
-    done
-}
-
-/// A piece that gets another name.
-const NAMED: &[(Call, Answer)] = &[
-    (Call::Upload(7, 100, "a"), Answer::Allocated(0, 100, 2)),
-    (Call::Rename(7, "b"), Answer::Done),
-];
-
-/// Looks at the report of that piece.
-fn show_report(rt: &impl Abort, s: &mut Session<SimVulkan>, alloc: Global) -> Outcome {
-    match one(s, Command::Report, alloc)? {
-        Reply::Report(report) => {
-            assert!(rt; report.allocations.len() == 1);
-            assert!(rt; report.allocations[0].name.as_str() == "b");
-            assert!(rt;
-                (report.total_allocated_bytes, report.total_capacity_bytes) == (100, 64 * MB)
-            );
-        }
-        _ => return Err(Fail::from("no report was made")),
-    }
-    Ok(())
-}
-
-fn shown(rt: &impl Abort, s: &mut Session<SimVulkan>, alloc: Global) -> Outcome {
-    make_calls(rt, s, alloc, NAMED)?;
-    show_report(rt, s, alloc)?;
-    match one(s, Command::Leaks, alloc)? {
-        Reply::Leaks(texts) => assert!(rt; texts.len() == 1),
-        _ => return Err(Fail::from("no leaks were told")),
-    }
-    match one(s, Command::Capacity, alloc)? {
-        Reply::Capacity(bytes) => assert!(rt; bytes == 64 * MB),
-        _ => return Err(Fail::from("no capacity was told")),
-    }
-    Ok(())
-}
-
-#[test]
-fn reports_leaks_and_capacity(rt: HostRuntime) -> Outcome {
-    let mut s = session(rt.alloc())?;
-    let done = shown(&rt, &mut s, rt.alloc());
     let device = s.destroy(&Discard);
     assert!(&rt; device.held() == 0);
     done

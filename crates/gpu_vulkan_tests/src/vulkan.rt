@@ -1,6 +1,5 @@
 //! Worked rows of the Vulkan allocator.
 
-mod budgets;
 mod bytes;
 mod counting;
 mod foreign;

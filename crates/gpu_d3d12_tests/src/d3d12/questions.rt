@@ -1,15 +1,15 @@
-//! Questions for resources.
+//! What is told of a refused resource.
 
 use super::*;
 use gpu_d3d12::{
-    CreateCall, ResourceCreateDesc, ResourceStateOrBarrierLayout, ResourceType, allocation_info_of,
-    create_committed, create_placed,
+    CreateCall, ResourceCreateDesc, ResourceStateOrBarrierLayout, ResourceType, create_committed,
+    create_placed,
 };
 use gpu_device::d3d12::{
-    ClearValue, CpuPageProperty, D3D12Device, HeapFlags, HeapProperties, HeapType, ID3D12Heap,
-    ID3D12Resource, MemoryPool,
+    CpuPageProperty, D3D12Device, HeapFlags, HeapProperties, HeapType, ID3D12Heap, ID3D12Resource,
+    MemoryPool,
 };
-use gpu_values::{AllocationError, Result};
+use gpu_values::Result;
 use std::process::Abort;
 
 const PROPERTIES: HeapProperties = HeapProperties {
@@ -20,29 +20,18 @@ const PROPERTIES: HeapProperties = HeapProperties {
     visible_node_mask: 0,
 };
 
-const CLEAR: ClearValue = ClearValue {
-    format: Format(28),
-    value: [1, 2, 3, 4],
-};
-
 const IN_STATE: ResourceStateOrBarrierLayout = ResourceStateOrBarrierLayout::ResourceState(1);
 
-const IN_LAYOUT: ResourceStateOrBarrierLayout = ResourceStateOrBarrierLayout::BarrierLayout(1);
-
-/// A placed buffer that begins so, with these formats.
-fn asked<'a>(
-    resource_desc: &'a ResourceDesc,
-    castable_formats: &'a [Format],
-    initial_state_or_layout: ResourceStateOrBarrierLayout,
-) -> ResourceCreateDesc<'a> {
+/// A placed buffer.
+fn asked<'a>(resource_desc: &'a ResourceDesc) -> ResourceCreateDesc<'a> {
     ResourceCreateDesc {
         name: "buffer",
         memory_location: MemoryLocation::GpuOnly,
         resource_category: ResourceCategory::Buffer,
         resource_desc,
-        castable_formats,
-        clear_value: Some(&CLEAR),
-        initial_state_or_layout,
+        castable_formats: &[],
+        clear_value: None,
+        initial_state_or_layout: IN_STATE,
         resource_type: &ResourceType::Placed,
     }
 }
@@ -56,49 +45,6 @@ fn text_of(alloc: Global, made: Result<ID3D12Resource>) -> std::result::Result<S
             Err(AllocError) => Err(Fail::from("a text was refused")),
         },
     }
-}
-
-/// A placed resource, of whose formats the device is told.
-fn placed_as_asked(rt: &impl Abort, device: &mut SimD3D12, plain: &ResourceCreateDesc) -> Outcome {
-    let with = CreateCall::InLayoutWithFormats(1);
-    match create_placed(device, with, plain, ID3D12Heap(9), 65536) {
-        Ok(resource) => assert!(rt; resource == ID3D12Resource(1)),
-        Err(_) => return Err(Fail::from("a resource was refused")),
-    }
-    assert!(rt; device.last_formats() == Some(0));
-    assert!(rt; device.last_clear() == Some(CLEAR));
-    Ok(())
-}
-
-/// A committed resource, of whose formats it isn't told.
-fn committed_as_asked(
-    rt: &impl Abort,
-    device: &mut SimD3D12,
-    plain: &ResourceCreateDesc,
-) -> Outcome {
-    let without = CreateCall::InLayout(1);
-    let buffers = HeapFlags(0xc0);
-    match create_committed(device, without, plain, &PROPERTIES, buffers) {
-        Ok(resource) => assert!(rt; resource == ID3D12Resource(2)),
-        Err(_) => return Err(Fail::from("a resource was refused")),
-    }
-    assert!(rt; device.last_formats() == None);
-    assert!(rt; device.last_clear() == Some(CLEAR));
-    assert!(rt; device.last_memory() == Some((PROPERTIES, buffers)));
-    Ok(())
-}
-
-#[test]
-fn made_as_asked_for(rt: HostRuntime) -> Outcome {
-    let mut device = simulated(rt.alloc(), Ok(ResourceHeapTier::Tier2), &[])?;
-    let desc = buffer(512);
-    let plain = asked(&desc, &[], IN_LAYOUT);
-    placed_as_asked(&rt, &mut device, &plain)?;
-    committed_as_asked(&rt, &mut device, &plain)?;
-    assert!(&rt; device.held() == 2);
-    let info = allocation_info_of(&ID3D12DeviceVersion::Device12(device), &plain);
-    assert!(&rt; (info.size_in_bytes, info.alignment) == (65536, 65536));
-    Ok(())
 }
 
 /// Looks that the device refuses a placed buffer, and with which text.
@@ -142,7 +88,7 @@ fn refused_resources(rt: HostRuntime) -> Outcome {
     ];
     let mut device = simulated(alloc, Ok(ResourceHeapTier::Tier2), &script)?;
     let desc = buffer(512);
-    let plain = asked(&desc, &[], IN_STATE);
+    let plain = asked(&desc);
     let told =
         "Internal error: ID3D12Device::CreatePlacedResource DEVICE_REMOVED (code -2005270523)";
     check_placed(&rt, alloc, &mut device, &plain, told)?;

@@ -45,27 +45,6 @@ fn two_written(
     Ok((x, y))
 }
 
-fn reuse(rt: &impl Abort, a: &mut Allocator<SimVulkan>) -> Outcome {
-    let (x, y) = two_written(rt, a)?;
-    give(a, x)?;
-    let z = take_at(rt, a, &four(), (0, 0, Some(2)))?;
-    assert!(rt; reads(a, &z, &[1, 2, 3, 4]));
-    write(a, &z, &[9, 9, 9, 9])?;
-    assert!(rt; reads(a, &y, &[5, 6, 7, 8]));
-    assert!(rt; reads(a, &z, &[9, 9, 9, 9]));
-    Ok(())
-}
-
-#[test]
-fn a_reused_place_begins_with_its_old_bytes(rt: HostRuntime) -> Outcome {
-    let properties = one_type(&[(6, 0)], &[1024 * MB]);
-    let mut a = made(rt.alloc(), &properties, AllocationSizes::default())?;
-    let done = reuse(&rt, &mut a);
-    let device = a.destroy(&Discard);
-    assert!(&rt; device.held() == 0);
-    done
-}
-
 fn slab_of_four(rt: &impl Abort, a: &mut Allocator<SimVulkan>) -> Outcome {
     let x = take(a, &managed(4, 4, MemoryLocation::CpuToGpu))?;
     match a.try_as_mapped_slab(&x) {

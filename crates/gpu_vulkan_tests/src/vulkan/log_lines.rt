@@ -24,7 +24,7 @@ const NONE: AllocatorDebugSettings = AllocatorDebugSettings {
 };
 
 /// Looks that a log has these lines and no others.
-pub fn check_lines(rt: &impl Abort, lines: &Lines, want: &[&str]) {
+fn check_lines(rt: &impl Abort, lines: &Lines, want: &[&str]) {
     assert!(rt; lines.len() == want.len());
     for (line, want) in lines.as_slice().iter().zip(want) {
         assert!(rt; line.as_str() == *want);
@@ -32,7 +32,7 @@ pub fn check_lines(rt: &impl Abort, lines: &Lines, want: &[&str]) {
 }
 
 /// An allocator that logs under these settings, over one type of memory that the host can see.
-pub fn logging<L: Log>(
+fn logging<L: Log>(
     alloc: Global,
     log: &L,
     settings: AllocatorDebugSettings,
@@ -177,5 +177,41 @@ fn leaks_are_told_at_the_level_asked_for(rt: HostRuntime) -> Outcome {
     let first = format!(in rt.alloc(); "[INFO  gpu] {FIRST}")?;
     let second = format!(in rt.alloc(); "[INFO  gpu] {SECOND}")?;
     check_lines(&rt, &sink.into_lines(), &[first.as_str(), second.as_str()]);
+    Ok(())
+}
+
+/// Offers an allocation to an allocator that isn't its own, and frees it in its own one: each logs its name.
+fn free_in_both<L: Log>(
+    log: &L,
+    a: &mut Allocator<SimVulkan>,
+    b: &mut Allocator<SimVulkan>,
+) -> Outcome {
+    let (_first, second) = two_pieces(a)?;
+    let Err((AllocationError::Internal(_), back)) = b.free(log, second) else {
+        return Err(Fail::from("a foreign allocation was given back"));
+    };
+    match a.free(log, back) {
+        Ok(()) => Ok(()),
+        Err((_, _)) => Err(Fail::from("a live allocation came back")),
+    }
+}
+
+#[test]
+fn a_refused_free_is_logged_too(rt: HostRuntime) -> Outcome {
+    let sink = Memory::new(rt.alloc());
+    let mut a = logging(rt.alloc(), &Discard, ALL)?;
+    let other = logging(rt.alloc(), &Discard, ALL);
+    let done = match other {
+        Ok(mut b) => {
+            let done = free_in_both(&sink.with_target("gpu"), &mut a, &mut b);
+            let _ = b.destroy(&Discard);
+            done
+        }
+        Err(fail) => Err(fail),
+    };
+    let _ = a.destroy(&Discard);
+    done?;
+    let line = "[DEBUG gpu] Freeing `b`.";
+    check_lines(&rt, &sink.into_lines(), &[line, line]);
     Ok(())
 }
