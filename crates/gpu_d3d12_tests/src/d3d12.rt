@@ -1,6 +1,5 @@
 //! Worked rows of the DirectX 12 allocator.
 
-mod foreign;
 mod log_lines;
 mod pieces;
 mod questions;
@@ -10,8 +9,7 @@ mod resources;
 mod sessions;
 
 use gpu_d3d12::{
-    Allocation, AllocationCreateDesc, Allocator, AllocatorCreateDesc, ID3D12DeviceVersion,
-    ResourceCategory,
+    AllocationCreateDesc, Allocator, AllocatorCreateDesc, ID3D12DeviceVersion, ResourceCategory,
 };
 use gpu_device::d3d12::{Format, ResourceDesc, ResourceDimension, ResourceHeapTier};
 use gpu_sim_base::Refusal;
@@ -21,9 +19,6 @@ use log::sink::Discard;
 use std::alloc::{AllocError, Global};
 use std::process::Abort;
 use std::test::Fail;
-
-/// Bytes in a megabyte.
-const MB: u64 = 1_048_576;
 
 /// How a test ends.
 type Outcome = std::result::Result<(), Fail>;
@@ -94,47 +89,7 @@ fn piece_for(
     }
 }
 
-/// Takes what must be given.
-fn take(
-    a: &mut Allocator<SimD3D12>,
-    desc: &AllocationCreateDesc,
-) -> std::result::Result<Allocation, Fail> {
-    match a.allocate(&Discard, desc) {
-        Ok(allocation) => Ok(allocation),
-        Err(_) => Err(Fail::from("nothing was given")),
-    }
-}
-
-/// Takes what must be given, and looks where it lies: its offset, size and number.
-fn take_at(
-    rt: &impl Abort,
-    a: &mut Allocator<SimD3D12>,
-    desc: &AllocationCreateDesc,
-    want: (u64, u64, Option<u64>),
-) -> std::result::Result<Allocation, Fail> {
-    let allocation = take(a, desc)?;
-    assert!(rt; place(&allocation) == want);
-    Ok(allocation)
-}
-
-/// Gives back what is live.
-fn give(a: &mut Allocator<SimD3D12>, allocation: Allocation) -> Outcome {
-    match a.free(&Discard, allocation) {
-        Ok(()) => Ok(()),
-        Err((_, _)) => Err(Fail::from("a live allocation came back")),
-    }
-}
-
 /// The device of an allocator that is gone.
 fn destroyed(a: Allocator<SimD3D12>) -> SimD3D12 {
     a.destroy(&Discard).into_device()
-}
-
-/// The offset, size and number of an allocation.
-fn place(allocation: &Allocation) -> (u64, u64, Option<u64>) {
-    let number = match allocation.chunk_id() {
-        Some(number) => Some(number.get()),
-        None => None,
-    };
-    (allocation.offset(), allocation.size(), number)
 }

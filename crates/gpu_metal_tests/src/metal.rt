@@ -1,6 +1,5 @@
 //! The Metal allocator.
 
-mod foreign;
 mod log_lines;
 mod refusals;
 mod refused;
@@ -14,9 +13,6 @@ use log::sink::Discard;
 use std::alloc::{AllocError, Global};
 use std::process::Abort;
 use std::test::Fail;
-
-/// Bytes in a megabyte.
-const MB: u64 = 1_048_576;
 
 /// How a test ends.
 type Outcome = std::result::Result<(), Fail>;

@@ -2,7 +2,6 @@
 
 mod bytes;
 mod counting;
-mod foreign;
 mod log_lines;
 mod refused;
 mod reports;

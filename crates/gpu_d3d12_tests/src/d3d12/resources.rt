@@ -51,7 +51,7 @@ pub fn asked<'a>(
 }
 
 /// Makes what must be made.
-pub fn make(
+fn make(
     a: &mut Allocator<SimD3D12>,
     desc: &ResourceCreateDesc,
 ) -> std::result::Result<Resource, Fail> {
@@ -67,12 +67,6 @@ fn unmake(a: &mut Allocator<SimD3D12>, resource: Resource) -> Outcome {
         Ok(()) => Ok(()),
         Err((_, _)) => Err(Fail::from("a live resource came back")),
     }
-}
-
-/// How many committed resources there are, and their sum.
-pub fn counts(a: &Allocator<SimD3D12>, memory_type: usize) -> Option<(usize, u64)> {
-    let statistics = a.committed(memory_type)?;
-    Some((statistics.num_allocations, statistics.total_size))
 }
 
 fn foreign_resources(

@@ -1,4 +1,4 @@
-//! What is told of a refusal.
+//! What is told of a refusal, and another allocator's piece.
 
 use super::*;
 use gpu_device::metal::{StorageMode, TextureDescriptor};
@@ -63,4 +63,30 @@ fn a_storage_mode_without_a_name(rt: HostRuntime) -> Outcome {
             "Internal error: Unknown storage mode (code 7)",
         ),
     }
+}
+
+/// What is live in one allocator isn't in another.
+fn foreign(a: &mut Allocator<SimMetal>, b: &mut Allocator<SimMetal>) -> Outcome {
+    let theirs = take(a, &piece(512, MemoryLocation::GpuToCpu))?;
+    match b.free(&Discard, theirs) {
+        Ok(()) => Err(Fail::from("another allocator's piece was freed")),
+        Err((_, theirs)) => give(a, theirs),
+    }
+}
+
+#[test]
+fn another_allocators_piece(rt: HostRuntime) -> Outcome {
+    let mut a = made(rt.alloc(), false, &[])?;
+    let done = match made(rt.alloc(), false, &[]) {
+        Ok(mut b) => {
+            let done = foreign(&mut a, &mut b);
+            let device = b.destroy();
+            assert!(&rt; device.held() == 0);
+            done
+        }
+        Err(fail) => Err(fail),
+    };
+    let device = a.destroy();
+    assert!(&rt; device.held() == 0);
+    done
 }
