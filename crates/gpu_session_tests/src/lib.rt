@@ -4,8 +4,6 @@
 #[cfg(test)]
 mod blocks;
 #[cfg(test)]
-mod numbers;
-#[cfg(test)]
 mod sessions;
 #[cfg(test)]
 mod trace_errors;

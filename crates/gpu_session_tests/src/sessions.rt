@@ -3,7 +3,7 @@
 mod refused;
 
 use gpu_allocator::vulkan::*;
-use gpu_run::vulkan::{Allocated, Command, Reply, Session};
+use gpu_session::{Command, Reply, Session};
 use gpu_sim::SimVulkan;
 use gpu_values::{AllocationError, AllocationSizes, AllocatorDebugSettings, MemoryLocation};
 use log::sink::Discard;
@@ -148,23 +148,6 @@ fn commands_of(alloc: Global, calls: &[Call]) -> std::result::Result<Vec<Command
     Ok(commands)
 }
 
-/// Runs one command.
-fn one(
-    session: &mut Session<SimVulkan>,
-    command: Command,
-    alloc: Global,
-) -> std::result::Result<Reply, Fail> {
-    let mut commands = Vec::new(alloc);
-    commands.push(command)?;
-    let Ok(mut replies) = session.run(&Discard, &commands) else {
-        return Err(Fail::from("the session refused to run"));
-    };
-    match replies.pop() {
-        Some(reply) => Ok(reply),
-        None => Err(Fail::from("there is no reply")),
-    }
-}
-
 /// Where a new allocation lies, and its number.
 fn given_at(reply: &Reply) -> Option<(u64, u64, u64)> {
     match reply {
@@ -175,94 +158,6 @@ fn given_at(reply: &Reply) -> Option<(u64, u64, u64)> {
 
 fn is_done(reply: &Reply) -> bool {
     matches!(reply, Reply::Done)
-}
-
-fn is_bytes(reply: &Reply, bytes: &[u8]) -> bool {
-    match reply {
-        Reply::Bytes(read) => read.as_slice() == bytes,
-        _ => false,
-    }
-}
-
-/// What a command answers.
-#[derive(Clone, Copy)]
-enum Answer {
-    /// The offset, size and number of a new allocation.
-    Allocated(u64, u64, u64),
-    Done,
-    Bytes(&'static [u8]),
-}
-
-fn is_answer(reply: &Reply, want: Answer) -> bool {
-    match want {
-        Answer::Allocated(offset, size, number) => given_at(reply) == Some((offset, size, number)),
-        Answer::Done => is_done(reply),
-        Answer::Bytes(bytes) => is_bytes(reply, bytes),
-    }
-}
-
-/// Runs commands one by one, and looks at each answer.
-fn make_calls(
-    rt: &impl Abort,
-    s: &mut Session<SimVulkan>,
-    alloc: Global,
-    calls: &[(Call, Answer)],
-) -> Outcome {
-    for (number, (call, want)) in calls.iter().enumerate() {
-        let reply = one(s, command_of(alloc, *call)?, alloc)?;
-        assert!(rt; is_answer(&reply, *want), "call {number}");
-    }
-    Ok(())
-}
-
-/// Looks at all that is told of the first piece.
-fn check_first(rt: &impl Abort, s: &mut Session<SimVulkan>, alloc: Global) -> Outcome {
-    let first = one(s, alloc_of(alloc, 1, 4, "a")?, alloc)?;
-    match &first {
-        Reply::Allocated(given) => {
-            let Allocated {
-                memory_type,
-                slot,
-                offset,
-                size,
-                chunk,
-                dedicated,
-                mapped,
-            } = *given;
-            assert!(rt; (memory_type, slot, offset, size) == (0, 0, 0, 4));
-            assert!(rt; (chunk.get(), dedicated, mapped) == (2, false, true));
-        }
-        _ => return Err(Fail::from("nothing was given")),
-    }
-    Ok(())
-}
-
-/// A second piece, and a third one that has the place of the first.
-const USED_AGAIN: &[(Call, Answer)] = &[
-    (Call::Upload(2, 4, "b"), Answer::Allocated(4, 4, 3)),
-    (Call::Write(1, 0, &[1, 2, 3, 4]), Answer::Done),
-    (Call::Write(2, 0, &[5, 6, 7, 8]), Answer::Done),
-    (Call::Free(1), Answer::Done),
-    (Call::Upload(3, 4, "c"), Answer::Allocated(0, 4, 2)),
-    (Call::Read(3, 0, 4), Answer::Bytes(&[1, 2, 3, 4])),
-    (Call::Write(3, 0, &[9, 9, 9, 9]), Answer::Done),
-    (Call::Read(2, 1, 3), Answer::Bytes(&[6, 7, 8])),
-];
-
-/// The script of a place that is used again, by commands.
-fn script(rt: &impl Abort, s: &mut Session<SimVulkan>, alloc: Global) -> Outcome {
-    check_first(rt, s, alloc)?;
-    make_calls(rt, s, alloc, USED_AGAIN)
-}
-
-#[test]
-fn a_place_is_used_again(rt: HostRuntime) -> Outcome {
-    let mut s = session(rt.alloc())?;
-    let done = script(&rt, &mut s, rt.alloc());
-    s.numbers_own_their_pieces();
-    let device = s.destroy(&Discard);
-    assert!(&rt; device.held() == 0);
-    done
 }
 
 /// Two parties, 1 and 2: the second writes `theirs`, and what the first has taken after the second gave its piece back begins

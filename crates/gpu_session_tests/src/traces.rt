@@ -1,70 +1,9 @@
-//! Whole traces with readers and writers that fail, and a session by its names in `gpu_session`. What traces are answered is in
-//! traces/.
+//! Whole traces with readers and writers that fail. What traces are answered is in traces/.
 
-use gpu_device::vulkan::PhysicalDevice;
-use gpu_session::{Command, Reply, Session, run_trace};
-use gpu_sim::SimVulkan;
-use gpu_values::{AllocationSizes, AllocatorDebugSettings};
-use gpu_vulkan::{Allocator, AllocatorCreateDesc};
+use gpu_session::run_trace;
 use log::sink::Discard;
-use std::alloc::Global;
 use std::io;
 use std::io::{ErrorKind, Read, Write};
-use std::process::Abort;
-use std::test::Fail;
-
-// ---- a session of one's own
-
-/// A session over a device without memory types.
-fn session(alloc: Global) -> Result<Session<SimVulkan>, Fail> {
-    let heaps = Vec::new(alloc);
-    let types = Vec::new(alloc);
-    let desc = AllocatorCreateDesc {
-        device: SimVulkan::new(alloc, heaps, types, 1, u64::MAX, Vec::new(alloc)),
-        physical_device: PhysicalDevice(1),
-        debug_settings: AllocatorDebugSettings::default(),
-        buffer_device_address: false,
-        allocation_sizes: AllocationSizes::default(),
-    };
-    match Allocator::new(&Discard, alloc, desc) {
-        Ok(allocator) => Ok(Session::new(alloc, allocator)),
-        Err((_, _)) => Err(Fail::from("the allocator can't be made")),
-    }
-}
-
-#[test]
-fn a_session_is_run_by_its_names_here(rt: HostRuntime) -> Result<(), Fail> {
-    let alloc = rt.alloc();
-    let mut commands = Vec::new(alloc);
-    for key in [1, 2, 1] {
-        commands.push(Command::Null { key })?;
-    }
-    for key in [1, 1] {
-        commands.push(Command::Free { key })?;
-    }
-    let mut session = session(alloc)?;
-    let replies = session.run(&Discard, &commands);
-    let device = session.destroy(&Discard);
-    assert!(rt; device.held() == 0);
-    let Ok(replies) = replies else {
-        return Err(Fail::from("the session refused to run"));
-    };
-    assert!(rt;
-        matches!(
-            replies.as_slice(),
-            [
-                Reply::Done,
-                Reply::Done,
-                Reply::Busy,
-                Reply::Done,
-                Reply::Unbound
-            ]
-        )
-    );
-    Ok(())
-}
-
-// ---- readers and writers that fail
 
 /// Gives a byte a read, and fails after so many.
 #[derive(Drop)]
