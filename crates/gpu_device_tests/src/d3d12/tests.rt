@@ -3,8 +3,8 @@
 use super::laws::make_and_release;
 use gpu_device::d3d12::{
     ClearValue, CpuPageProperty, D3D12Device, Format, HeapContent, HeapDesc, HeapFlags,
-    HeapProperties, HeapType, ID3D12Heap, ID3D12Resource, MemoryPool, ResourceDesc, ResourceDesc1,
-    ResourceDimension, ResourceHeapTier, ResourcePlace, ResourceRequest, ResourceShape,
+    HeapProperties, HeapType, ID3D12Heap, ID3D12Resource, MemoryPool, ResourceDesc,
+    ResourceDimension, ResourceHeapTier,
 };
 use gpu_sim::SimD3D12;
 use gpu_sim_base::Refusal;
@@ -48,14 +48,6 @@ fn buffer(width: u64) -> ResourceDesc {
     }
 }
 
-/// The same for the later calls.
-fn buffer1(width: u64) -> ResourceDesc1 {
-    ResourceDesc1 {
-        desc: buffer(width),
-        sampler_feedback_mip_region: [0; 3],
-    }
-}
-
 /// Looks that a device was asked for nothing.
 fn check_new(rt: &impl Abort, sim: &SimD3D12) {
     assert!(rt; (sim.held(), sim.questions(), sim.refusals()) == (0, 0, 0));
@@ -78,29 +70,6 @@ fn tells_what_it_was_given(rt: HostRuntime) {
     check_new(&rt, &sim);
     let none = SimD3D12::new(rt.alloc(), Err(-5), Vec::new(rt.alloc()));
     assert!(rt; none.resource_heap_tier() == Err(-5));
-}
-
-#[test]
-fn sizes(rt: HostRuntime) {
-    let sim = SimD3D12::new(
-        rt.alloc(),
-        Ok(ResourceHeapTier::Tier2),
-        Vec::new(rt.alloc()),
-    );
-    for (width, size) in [
-        (0, 65536),
-        (1, 65536),
-        (65536, 65536),
-        (65537, 131072),
-        (70000, 131072),
-        (u64::MAX - 65535, u64::MAX - 65535),
-        (u64::MAX, u64::MAX - 65535),
-    ] {
-        let info = sim.resource_allocation_info(&buffer(width));
-        assert!(rt; info.size_in_bytes == size);
-        assert!(rt; info.alignment == 65536);
-        assert!(rt; sim.resource_allocation_info3(&buffer1(width), &[Format(28)]) == info);
-    }
 }
 
 /// A heap and a resource, with a heap refused behind each.
@@ -145,17 +114,6 @@ fn numbers_after_a_refusal(rt: HostRuntime) -> Result<(), Fail> {
     Ok(())
 }
 
-#[test]
-fn a_null_heap(rt: HostRuntime) -> Result<(), Fail> {
-    let refusals = vec![in rt.alloc(); (2, Refusal::Null)]?;
-    let mut sim = SimD3D12::new(rt.alloc(), Ok(ResourceHeapTier::Tier2), refusals);
-    assert!(rt; sim.create_heap(&HEAP) == Ok(Some(ID3D12Heap(1))));
-    assert!(rt; sim.create_heap(&HEAP) == Ok(None));
-    assert!(rt; sim.create_heap(&HEAP) == Ok(Some(ID3D12Heap(2))));
-    assert!(rt; (sim.held(), sim.questions(), sim.refusals()) == (2, 3, 1));
-    Ok(())
-}
-
 /// A committed resource without formats.
 fn committed(rt: &impl Abort, sim: &mut SimD3D12) {
     let flags = HeapFlags(0xc0);
@@ -166,55 +124,16 @@ fn committed(rt: &impl Abort, sim: &mut SimD3D12) {
     assert!(rt; sim.last_memory() == Some((PROPERTIES, flags)));
 }
 
-/// A committed resource with two formats, and without a clear value.
-fn committed_with_formats(rt: &impl Abort, sim: &mut SimD3D12) {
-    let formats = [Format(28), Format(29)];
-    let textures = HeapFlags(0x44);
-    let later = sim.create_committed_resource3(
-        &PROPERTIES,
-        textures,
-        &buffer1(1),
-        0,
-        None,
-        Some(&formats),
-    );
-    assert!(rt; later == Ok(Some(ID3D12Resource(2))));
-    assert!(rt; sim.last_formats() == Some(2));
-    assert!(rt; sim.last_clear().is_none());
-    assert!(rt; sim.last_memory() == Some((PROPERTIES, textures)));
-}
-
-/// A placed resource with a list of no formats.
-fn placed_with_formats(rt: &impl Abort, sim: &mut SimD3D12) {
-    let placed = sim.create_placed_resource2(
-        ID3D12Heap(7),
-        65536,
-        &buffer1(1),
-        0,
-        Some(&CLEAR),
-        Some(&[]),
-    );
-    assert!(rt; placed == Ok(Some(ID3D12Resource(3))));
-    assert!(rt; sim.last_formats() == Some(0));
-    assert!(rt; sim.last_clear() == Some(CLEAR));
-    assert!(rt; sim.last_memory().is_none());
-}
-
 #[test]
-fn formats_clear_values_and_memory(rt: HostRuntime) {
+fn a_committed_resource_is_told_whole(rt: HostRuntime) {
     let mut sim = SimD3D12::new(
         rt.alloc(),
         Ok(ResourceHeapTier::Tier2),
         Vec::new(rt.alloc()),
     );
     committed(&rt, &mut sim);
-    committed_with_formats(&rt, &mut sim);
-    placed_with_formats(&rt, &mut sim);
-    let early = sim.create_placed_resource2(ID3D12Heap(7), 0, &buffer1(1), 0, None, None);
-    assert!(rt; early == Ok(Some(ID3D12Resource(4))));
-    assert!(rt; sim.last_formats().is_none());
     assert!(rt; sim.last_heap().is_none());
-    assert!(rt; (sim.held(), sim.questions(), sim.refusals()) == (4, 4, 0));
+    assert!(rt; (sim.held(), sim.questions(), sim.refusals()) == (1, 1, 0));
 }
 
 #[test]
@@ -232,37 +151,4 @@ fn made_and_released(rt: HostRuntime) -> Result<(), Fail> {
         assert!(rt; sim.held() == 0);
     }
     Ok(())
-}
-
-/// Whether the latest question for a resource was the one of `latest_resource_is_told_whole`.
-fn is_asked_in_layout(request: &ResourceRequest) -> bool {
-    let is_described = match &request.shape {
-        ResourceShape::InLayout(desc, layout, Some(formats)) => {
-            *desc == buffer1(70000) && *layout == 3 && formats.len() == 2
-        }
-        _ => false,
-    };
-    is_described
-        && request.place == ResourcePlace::InHeap(ID3D12Heap(7), 65536)
-        && request.clear_value == Some(CLEAR)
-}
-
-#[test]
-fn latest_resource_is_told_whole(rt: HostRuntime) {
-    let mut sim = SimD3D12::new(
-        rt.alloc(),
-        Ok(ResourceHeapTier::Tier2),
-        Vec::new(rt.alloc()),
-    );
-    let formats = [Format(28), Format(29)];
-    let placed = sim.create_placed_resource2(
-        ID3D12Heap(7),
-        65536,
-        &buffer1(70000),
-        3,
-        Some(&CLEAR),
-        Some(&formats),
-    );
-    assert!(rt; placed == Ok(Some(ID3D12Resource(1))));
-    assert!(rt; sim.last_resource().is_some_and(is_asked_in_layout));
 }

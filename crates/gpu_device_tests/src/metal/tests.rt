@@ -2,8 +2,7 @@
 
 use super::laws::commit_one_heap;
 use gpu_device::metal::{
-    CpuCacheMode, HeapDescriptor, MTLHeap, MTLResidencySet, MetalDevice, SizeAndAlign, StorageMode,
-    TextureDescriptor,
+    CpuCacheMode, HeapDescriptor, MTLHeap, MTLResidencySet, MetalDevice, StorageMode,
 };
 use gpu_sim::SimMetal;
 use gpu_sim_base::Refusal;
@@ -14,46 +13,6 @@ pub(super) const PRIVATE: HeapDescriptor = HeapDescriptor {
     storage_mode: StorageMode::Private,
     cpu_cache_mode: CpuCacheMode::DefaultCache,
 };
-
-/// A texture of so many texels.
-fn texture(width: u64, height: u64, bytes_per_texel: u64) -> TextureDescriptor {
-    TextureDescriptor {
-        storage_mode: StorageMode::Private,
-        width,
-        height,
-        bytes_per_texel,
-    }
-}
-
-#[test]
-fn sizes(rt: HostRuntime) {
-    let sim = SimMetal::new(rt.alloc(), true, Vec::new(rt.alloc()));
-    let greatest = u64::MAX - 255;
-    for (length, size) in [
-        (0, 256),
-        (1, 256),
-        (256, 256),
-        (257, 512),
-        (1000, 1024),
-        (greatest, greatest),
-        (u64::MAX, greatest),
-    ] {
-        let told = SizeAndAlign { size, align: 256 };
-        assert!(rt; sim.heap_buffer_size_and_align(length, StorageMode::Shared) == told);
-        assert!(rt; sim.heap_acceleration_structure_size_and_align(length) == told);
-    }
-    for (desc, size) in [
-        (texture(10, 10, 4), 512),
-        (texture(0, 10, 4), 256),
-        (texture(1 << 32, 1 << 32, 1), greatest),
-        (texture(1 << 32, 1 << 31, 2), greatest),
-        (texture(u64::MAX, u64::MAX, 0), 256),
-        (texture(u64::MAX, u64::MAX, u64::MAX), greatest),
-    ] {
-        let told = SizeAndAlign { size, align: 256 };
-        assert!(rt; sim.heap_texture_size_and_align(&desc) == told);
-    }
-}
 
 /// A set and a heap, with a heap and two sets refused.
 fn three_refused(rt: &impl Abort, sim: &mut SimMetal) -> Result<MTLHeap, Fail> {
@@ -94,27 +53,10 @@ fn heaps_and_sets(rt: HostRuntime) -> Result<(), Fail> {
     Ok(())
 }
 
-#[test]
-fn without_sets(rt: HostRuntime) {
-    let mut sim = SimMetal::new(rt.alloc(), false, Vec::new(rt.alloc()));
-    assert!(rt; sim.new_residency_set("set") == Err(-1));
-    assert!(rt; (sim.held(), sim.questions(), sim.refusals()) == (0, 1, 1));
-}
-
 /// A set, and a heap that was its member when it was committed; none where the device refuses either.
 #[tactic(auto, using(gpu_device::proofs::HeapsAndSets::metal_changes))]
 pub(super) fn set_and_heap(sim: &mut SimMetal) -> Option<(MTLResidencySet, MTLHeap)> {
     let set = sim.new_residency_set("set").ok()?;
     let heap = commit_one_heap(sim, set, &PRIVATE, 512)?;
     Some((set, heap))
-}
-
-#[test]
-fn one_heap_committed(rt: HostRuntime) -> Result<(), Fail> {
-    let mut sim = SimMetal::new(rt.alloc(), true, Vec::new(rt.alloc()));
-    let (set, heap) = set_and_heap(&mut sim).ok_or("refused")?;
-    assert!(rt; (set, heap) == (MTLResidencySet(1), MTLHeap(2)));
-    assert!(rt; sim.members(set).ok_or("members")?.len() == 0);
-    assert!(rt; sim.committed_members(set).ok_or("committed")? == [heap].as_slice());
-    Ok(())
 }
