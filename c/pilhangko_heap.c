@@ -5,6 +5,10 @@
 #include <stddef.h>
 #include <stdlib.h>
 
+#ifdef __cplusplus
+extern "C" {
+#endif
+
 /* What a request came to: the memory where it succeeded, and else a pointer that isn't NULL and is never used. */
 struct pilhangko_tried {
     bool succeeded;
@@ -35,3 +39,7 @@ struct pilhangko_tried rattle_realloc(void *memory, size_t kept, size_t size, si
 void rattle_dealloc(void *memory) {
     free(memory);
 }
+
+#ifdef __cplusplus
+}
+#endif

@@ -773,8 +773,9 @@ PILHANGKO_NODISCARD static inline pilhangko_status pilhangko_allocator_create(pi
 }
 
 /* Begins a request: it leads to a piece, or to a question, which stays open until the answer is told.
- * NO_HANDLE. AWAITS_ANSWER. INVALID: the request or the name. NO_MEMORY_TYPE. OUT_OF_MEMORY. HOST_OUT_OF_MEMORY. BUDGET_EXCEEDED. (The last
- * three are those of the one attempt that counts: an upload's second one, where it has one.) */
+ * NO_HANDLE. AWAITS_ANSWER. INVALID: the request or the name. NO_MEMORY_TYPE. OUT_OF_MEMORY: the request is above its heap.
+ * HOST_OUT_OF_MEMORY. And where a block is needed: OUT_OF_MEMORY: the sum of the blocks' sizes would pass 2^64 - 1. BUDGET_EXCEEDED. (From
+ * the first OUT_OF_MEMORY on, of the one attempt that counts: an upload's second one, where it has one.) */
 PILHANGKO_NODISCARD static inline pilhangko_status pilhangko_allocator_begin(pilhangko_allocator *allocator,
     const pilhangko_allocator_request *request, const char *name, pilhangko_allocator_progress *progress) {
     if (!allocator || !request || !progress) return PILHANGKO_NULL_POINTER;

@@ -21,6 +21,7 @@ fn main() -> Result<(), Box<dyn std::error::Error>> {
         allocation_scheme: AllocationScheme::GpuAllocatorManaged,
     })?;
     upload.mapped_slice_mut().ok_or("uploads are mapped")?.fill(7);
+    println!("{} bytes at offset {} of their block", upload.size(), upload.offset());
     allocator.free(upload)?;
     Ok(())
 }

@@ -13,7 +13,7 @@ use std::sync::atomic::{AtomicUsize, Ordering};
 
 const VALIDATION_LAYER: &CStr = c"VK_LAYER_KHRONOS_validation";
 
-extern "C" {
+unsafe extern "C" {
     fn dlopen(name: *const c_char, flags: c_int) -> *mut c_void;
     fn dlsym(library: *mut c_void, name: *const c_char) -> *mut c_void;
 }
@@ -176,7 +176,7 @@ fn succeeded(code: i32) {
 }
 
 impl Vulkan {
-    /// An instance and the first device; `None` where there is no loader or no device.
+    /// An instance and the first device; `None` where there is no loader, no driver or no device.
     pub fn open() -> Option<Self> {
         // SAFETY: the loader may be opened; its function of this name has this type.
         let find: GetProcAddr = unsafe {
@@ -197,7 +197,7 @@ impl Vulkan {
             messages: Box::default(),
         };
         vulkan.validates = vulkan.has_validation();
-        vulkan.create_instance();
+        vulkan.create_instance()?;
         vulkan.find_physical_device()?;
         vulkan.create_device();
         Some(vulkan)
@@ -230,7 +230,7 @@ impl Vulkan {
         }
     }
 
-    fn create_instance(&mut self) {
+    fn create_instance(&mut self) -> Option<()> {
         type Create = unsafe extern "system" fn(*const InstanceCreateInfo, *const c_void, *mut Handle) -> i32;
         type Listen = unsafe extern "system" fn(Handle, *const MessengerCreateInfo, *const c_void, *mut u64) -> i32;
         let listens = MessengerCreateInfo {
@@ -266,12 +266,16 @@ impl Vulkan {
         // SAFETY: the types are the functions', and the descriptions outlive the calls.
         unsafe {
             let create: Create = self.function(c"vkCreateInstance");
-            succeeded(create(&info, null(), &mut self.instance));
+            if create(&info, null(), &mut self.instance) != 0 {
+                self.instance = null_mut();
+                return None;
+            }
             if self.validates {
                 let listen: Listen = self.function(c"vkCreateDebugUtilsMessengerEXT");
                 succeeded(listen(self.instance, &listens, null(), &mut self.messenger));
             }
         }
+        Some(())
     }
 
     fn find_physical_device(&mut self) -> Option<()> {
@@ -436,6 +440,8 @@ impl Drop for Vulkan {
         if self.messenger != 0 {
             self.destroy_object(c"vkDestroyDebugUtilsMessengerEXT", self.instance, self.messenger);
         }
-        self.destroy_parent(c"vkDestroyInstance", self.instance);
+        if !self.instance.is_null() {
+            self.destroy_parent(c"vkDestroyInstance", self.instance);
+        }
     }
 }
