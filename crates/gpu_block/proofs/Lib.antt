@@ -1,5 +1,4 @@
 pub mod Blocks
-pub mod LongestCounted
 pub mod Whole
 pub use Rattle.gpu_block_pieces.proofs.Separation
 pub use Rattle.gpu_block_pieces.proofs.OrderedLists

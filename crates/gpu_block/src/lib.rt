@@ -2,12 +2,12 @@
 #![tactic(auto)]
 
 mod dedicated_block;
-mod free_list;
 pub mod laws;
 mod queries;
 mod sub_allocator;
 
 pub use dedicated_block::DedicatedBlockAllocator;
-pub use free_list::FreeListAllocator;
-pub use gpu_block_pieces::{BlockStatistics, Gaps, Leak, Leaks, LivePiece, Pieces};
+pub use gpu_block_pieces::{
+    BlockStatistics, FreeListAllocator, Gaps, Leak, Leaks, LivePiece, Pieces,
+};
 pub use sub_allocator::SubAllocator;

@@ -9,8 +9,10 @@ ghost use Rattle.gpu_block_pieces.specs.Request.{Request, request};
 ghost use Rattle.gpu_values.specs.Report.{row_of};
 ghost use Rattle.gpu_block_pieces.specs.Rows.{extent_row};
 
-use crate::{DedicatedBlockAllocator, FreeListAllocator};
-use gpu_block_pieces::{BlockStatistics, Gaps, Leaks, Pieces, count_pieces, texts_of};
+use crate::DedicatedBlockAllocator;
+use gpu_block_pieces::{
+    BlockStatistics, FreeListAllocator, Gaps, Leaks, Pieces, count_pieces, texts_of,
+};
 use gpu_values::{AllocationReport, AllocationType, Result};
 use std::num::NonZeroU64;
 
@@ -147,7 +149,7 @@ impl SubAllocator {
         ensures cause { IfErr result (λ e. e ≡ HostOutOfMemory) }
     {
         let alloc = match self {
-            SubAllocator::FreeList(list) => list.alloc,
+            SubAllocator::FreeList(list) => list.alloc(),
             SubAllocator::Dedicated(block) => block.alloc,
         };
         texts_of(alloc, self.leaks(memory_type, memory_block))

@@ -32,7 +32,9 @@ pub mod Updates
 pub mod Merges
 pub mod FirstFitIsBest
 pub mod LongestGap
+pub mod LongestCounted
 pub mod Spending
 pub mod FoundByChunkId
 pub mod Costing
+pub mod Counting
 pub mod Amounts

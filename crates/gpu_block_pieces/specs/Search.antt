@@ -32,3 +32,10 @@ pub record IsSearch (b : FreeList) (r : Request) (old new : Counts) : Type 0 whe
   pub none : ((start end offset : ℕ) → Fits b r start end offset → ⊥) → (new.tests ≡ old.tests + count_by (is_long_span r.size) (gap_spans b)) × (new.lookups ≡ old.lookups)
   pub lookups : (old.lookups ≤ new.lookups) × (new.lookups ≤ old.lookups + 4)
   pub whole : (start end offset : ℕ) → IsBestFit b r start end offset → offset + r.size ≡ end → new.lookups ≤ old.lookups + 1
+
+-- at most so many chunks were looked up, and nothing else is counted
+pub record LooksUpTo (most : ℕ) (old new : Counts) : Type 0 where
+  pub comparisons : new.comparisons ≡ old.comparisons
+  pub tests : new.tests ≡ old.tests
+  pub rises : old.lookups ≤ new.lookups
+  pub to : new.lookups ≤ old.lookups + most

@@ -1,16 +1,15 @@
 //! The chunks of a block: a chain of all of them, and an index of the gaps.
 
-ghost use Rattle.std.specs.Prelude.{◌≡◌, ◌≢◌, ℕ, ◌+◌, ◌-◌, ◌^◌, ◌<◌, ◌≤◌, length, [], IfOk, OnOk, OnErr, MatchOption, IsTrue, ◌↔◌};
+ghost use Rattle.std.specs.Prelude.{◌≡◌, ◌≢◌, ℕ, ◌+◌, ◌^◌, ◌<◌, ◌≤◌, [], IfOk, OnOk, OnErr, MatchOption, IsTrue, ◌↔◌};
 ghost use Rattle.std.specs.List.{list_any};
-ghost use Rattle.std.specs.Int.{is_power_of_two};
 ghost use Rattle.gpu_cost.specs.Cost.{LooksUp, LooksUpBetween, Tests};
 ghost use Rattle.gpu_block_chunks.specs.ChunkList.{IsFree};
-ghost use Rattle.gpu_block_pieces.specs.Chunks.{NoneFits, IsTaken, IsNamedAt, HoldsChunkId, extents_of, is_gap_by};
+ghost use Rattle.gpu_block_pieces.specs.Chunks.{IsTaken, IsNamedAt, HoldsChunkId, extents_of, is_gap_by};
 ghost use Rattle.gpu_block_chunks.specs.Chain.{IsFresh, HasNoChunkId, StandsAt, IsReleased};
-ghost use Rattle.gpu_block_pieces.specs.Indexed.{IsChosen, chosen_at, Spends, IsPieceAt, IsPieceOf, IsLongestOf};
+ghost use Rattle.gpu_block_pieces.specs.Indexed.{HasSame, gaps_between, ArePlaced, IsChosen, chosen_at, IsPieceAt, IsPieceOf, IsLongestOf};
 
 use crate::place::Wanted;
-use crate::search::{Found, find};
+use crate::search::Found;
 use crate::update::{allocate_front, allocate_whole, release};
 use gpu_block_chunks::{Chain, Chunk, Name, Neighbours, Walk, is_free};
 use gpu_block_gaps::{Gap, GapIndex};
@@ -68,19 +67,16 @@ impl Chunks {
         self.chain.size(cost)
     }
 
-    /// The shortest gap in which the request fits, and of equal ones the lowest.
-    pub fn find_place(&self, wanted: Wanted, cost: &mut Cost) -> Option<Found>
-        requires sized { 0 < wanted.size }
-        requires aligned { IsTrue (is_power_of_two wanted.alignment) }
-        requires paged { IsTrue (is_power_of_two wanted.granularity) }
-        ensures found { MatchOption result (NoneFits self.now.items wanted (length self.now.items))
-            (λ f. IsChosen self.now.items wanted f) }
-        ensures cost { Spends self.now.items wanted.size result cost.old cost.new }
+    /// The index of the gaps, lent to a search.
+    pub fn gaps(&self) -> &GapIndex
+        ensures same { HasSame result.now.gaps
+            (gaps_between AllocationType.Free self.now.items AllocationType.Free) }
+        ensures placed { ArePlaced result.now.gaps }
     {
         // a read, so that the proof has the invariant
         let _live = self.live;
         self.chain.laid_out();
-        find(&self.index, wanted, cost)
+        &self.index
     }
 
     /// The length of the longest gap, 0 where there is none.
@@ -98,24 +94,26 @@ impl Chunks {
     pub fn allocate(
         &mut self,
         found: Found,
-        wanted: Wanted,
+        wanted: &Wanted,
         counter: u64,
         name: Name,
         cost: &mut Cost,
     ) -> Result<u64, AllocError>
-        requires chosen { IsChosen self.old.items wanted found }
-        requires sized { 0 < wanted.size }
-        requires piece { wanted.kind ≢ AllocationType.Free }
+        requires chosen { IsChosen self.old.items wanted.now found }
+        requires sized { 0 < wanted.now.size }
+        requires piece { wanted.now.kind ≢ AllocationType.Free }
         requires fresh { HasNoChunkId self.old.items counter }
-        ensures taken { IfOk result (λ chunk_id. (h : IsChosen self.old.items wanted found)
-            → IsTaken self.old.items (chosen_at self.old.items wanted found h) wanted counter name
-            chunk_id self.new.items) }
+        ensures taken { IfOk result (λ chunk_id. (h : IsChosen self.old.items wanted.now found)
+            → IsTaken self.old.items (chosen_at self.old.items wanted.now found h) wanted.now
+            counter name chunk_id self.new.items) }
         ensures refused { OnErr result (self.new.items ≡ self.old.items) }
         ensures size { self.new.size ≡ self.old.size }
         // three or four look-ups where a rest is left, and one where none is
-        ensures front { OnOk result (found.offset + wanted.size < found.gap.start + found.gap.length
+        ensures front { OnOk result
+            (found.offset + wanted.now.size < found.gap.start + found.gap.length
             → LooksUpBetween 3 4 cost.old cost.new) }
-        ensures whole { OnOk result (found.gap.start + found.gap.length ≤ found.offset + wanted.size
+        ensures whole { OnOk result
+            (found.gap.start + found.gap.length ≤ found.offset + wanted.now.size
             → LooksUp 1 cost.old cost.new) }
         ensures none { OnErr result (LooksUp 0 cost.old cost.new) }
     {

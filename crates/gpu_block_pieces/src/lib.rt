@@ -1,19 +1,20 @@
-// The pieces of a block: how a place is found for one, and how it is taken, given back and renamed. Whatever is looked at
-// for that is counted in a counter that the caller hands in, and no counter can be made here.
+// A block that is cut into pieces: how a place is found for one, and how it is taken, given back, renamed and read. Whatever is
+// looked at for that is counted, and no module but `queries` can begin a counter.
 #![tactic(auto)]
 
 mod chunks;
-mod cut_block;
+mod free_list;
 mod gaps;
 pub mod laws;
 mod leaks;
 mod pieces;
 mod place;
+mod queries;
 mod rows;
 mod search;
 mod update;
 
-pub use cut_block::CutBlock;
+pub use free_list::FreeListAllocator;
 pub use gaps::Gaps;
 pub use leaks::{Leak, Leaks, texts_of};
 pub use pieces::{BlockStatistics, LivePiece, Pieces, count_pieces};

@@ -88,18 +88,18 @@ pub fn place_between(
     length: u64,
     left: AllocationType,
     right: AllocationType,
-    wanted: Wanted,
+    wanted: &Wanted,
 ) -> Option<u64>
     requires bounded { start + length < 2 ^ 64 }
-    requires sized { 0 < wanted.size }
-    requires aligned { IsTrue (is_power_of_two wanted.alignment) }
-    requires paged { IsTrue (is_power_of_two wanted.granularity) }
-    requires behind { Differ left wanted.kind → 0 < start }
+    requires sized { 0 < wanted.now.size }
+    requires aligned { IsTrue (is_power_of_two wanted.now.alignment) }
+    requires paged { IsTrue (is_power_of_two wanted.now.granularity) }
+    requires behind { Differ left wanted.now.kind → 0 < start }
     ensures { MatchOption result ((o : ℕ)
-        → FitsBetween wanted.granularity wanted.alignment wanted.size (Differ left wanted.kind)
-        (Differ right wanted.kind) start (start + length) o → ⊥)
-        (λ o. FitsBetween wanted.granularity wanted.alignment wanted.size (Differ left wanted.kind)
-        (Differ right wanted.kind) start (start + length) o) }
+        → FitsBetween wanted.now.granularity wanted.now.alignment wanted.now.size
+        (Differ left wanted.now.kind) (Differ right wanted.now.kind) start (start + length) o → ⊥)
+        (λ o. FitsBetween wanted.now.granularity wanted.now.alignment wanted.now.size
+        (Differ left wanted.now.kind) (Differ right wanted.now.kind) start (start + length) o) }
 {
     let spare = length.checked_sub(wanted.size)?;
     let offset = offset_from(

@@ -20,26 +20,27 @@ pub struct Found {
 }
 
 /// The place of the request in the gap, if it fits.
-fn place_in(gap: Gap, wanted: Wanted) -> Option<u64>
+fn place_in(gap: Gap, wanted: &Wanted) -> Option<u64>
     requires placed { IsPlaced gap }
-    requires sized { 0 < wanted.size }
-    requires aligned { IsTrue (is_power_of_two wanted.alignment) }
-    requires paged { IsTrue (is_power_of_two wanted.granularity) }
-    ensures { MatchOption result ((o : ℕ) → FitsGap wanted gap o → ⊥) (λ o. FitsGap wanted gap o) }
+    requires sized { 0 < wanted.now.size }
+    requires aligned { IsTrue (is_power_of_two wanted.now.alignment) }
+    requires paged { IsTrue (is_power_of_two wanted.now.granularity) }
+    ensures { MatchOption result ((o : ℕ) → FitsGap wanted.now gap o → ⊥)
+        (λ o. FitsGap wanted.now gap o) }
 {
     place_between(gap.start, gap.length, gap.before, gap.after, wanted)
 }
 
 /// The best fit: the first gap of the index, which is in order of length and then of start, in which the request fits.
-pub fn find(index: &GapIndex, wanted: Wanted, cost: &mut Cost) -> Option<Found>
+pub fn find(index: &GapIndex, wanted: &Wanted, cost: &mut Cost) -> Option<Found>
     requires placed { ArePlaced index.now.gaps }
-    requires sized { 0 < wanted.size }
-    requires aligned { IsTrue (is_power_of_two wanted.alignment) }
-    requires paged { IsTrue (is_power_of_two wanted.granularity) }
-    ensures found { MatchOption result (NoGapFits index.now.gaps wanted
-        × (cost.new.tests ≡ cost.old.tests + count_by (is_long wanted.size) index.now.gaps))
-        (λ f. (place : ℕ) × IsFirstFit index.now.gaps wanted f place
-        × (cost.new.tests ≡ cost.old.tests + count_by (is_long wanted.size)
+    requires sized { 0 < wanted.now.size }
+    requires aligned { IsTrue (is_power_of_two wanted.now.alignment) }
+    requires paged { IsTrue (is_power_of_two wanted.now.granularity) }
+    ensures found { MatchOption result (NoGapFits index.now.gaps wanted.now
+        × (cost.new.tests ≡ cost.old.tests + count_by (is_long wanted.now.size) index.now.gaps))
+        (λ f. (place : ℕ) × IsFirstFit index.now.gaps wanted.now f place
+        × (cost.new.tests ≡ cost.old.tests + count_by (is_long wanted.now.size)
         (take (place + 1) index.now.gaps))) }
     ensures ordered { AllPairs Before index.now.gaps }
     ensures comparisons { (cost.old.comparisons ≤ cost.new.comparisons)

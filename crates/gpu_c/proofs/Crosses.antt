@@ -28,8 +28,7 @@ use Rattle.gpu_block_chunks.specs.contracts.chain.slots.Slots as Slots
 use Rattle.gpu_block_chunks.specs.contracts.chain.nodes.Nodes as Nodes
 use Rattle.gpu_block_chunks.specs.contracts.chain.Chain as Chain
 use Rattle.gpu_block_pieces.specs.contracts.chunks.Chunks as Chunks
-use Rattle.gpu_block_pieces.specs.contracts.cut_block.CutBlock as CutBlock
-use Rattle.gpu_block.specs.contracts.free_list.FreeListAllocator as FreeList
+use Rattle.gpu_block_pieces.specs.contracts.free_list.FreeListAllocator as FreeList
 use Rattle.gpu_block.specs.contracts.dedicated_block.DedicatedBlockAllocator as Dedicated
 use Rattle.gpu_block.specs.contracts.sub_allocator.SubAllocator as SubAllocator
 use Rattle.gpu_core.specs.contracts.slot.LiveBlock as Live
@@ -124,14 +123,11 @@ chain_send = let n = nodes_send in search sendable depth 20
 chunks_send : IsSend Chunks.the_row
 chunks_send = let c = chain_send in let i = index_send in search sendable depth 20
 
-cut_send : IsSend CutBlock.the_row
-cut_send = let c = chunks_send in search sendable depth 20
-
 cost_send : IsSend Cost.the_row
 cost_send = search sendable depth 20
 
 list_send : IsSend FreeList.the_row
-list_send = let c = cut_send in let k = cost_send in search sendable depth 20
+list_send = let c = chunks_send in let k = cost_send in search sendable depth 20
 
 dedicated_send : IsSend Dedicated.the_row
 dedicated_send = let c = chunk_send in search sendable depth 20

@@ -7,13 +7,13 @@ use Rattle.gpu_block_pieces.proofs.search.find.Goals as goal
 
 pub loop-gap-init : goal.loop-gap-init
 loop-gap-init c =
-    let z = counts_short c.args.index.now.gaps c.args.wanted.size c.first_at_least-scan.result.place c.first_at_least-scan.ensures.within c.first_at_least-scan.ensures.below in
+    let z = counts_short c.args.index.now.gaps c.args.wanted.now.size c.first_at_least-scan.result.place c.first_at_least-scan.ensures.within c.first_at_least-scan.ensures.below in
     let n = c.first_at_least-scan.ensures.counted in
     let first = c.first_at_least-scan.ensures in
     record {
       same = first.gaps;
       within = first.within;
-      past = λ k o d lt f. short_fails c.args.wanted (get_or c.args.index.now.gaps k d) o (first.below k d lt) f;
+      past = λ k o d lt f. short_fails c.args.wanted.now (get_or c.args.index.now.gaps k d) o (first.below k d lt) f;
       from = first.from;
       comparisons = (n.rises, n.to);
       tests = omega (arith, z, n.tests);
@@ -25,7 +25,7 @@ pub loop-gap-preserved : goal.loop-gap-preserved
 loop-gap-preserved c =
     let i = c.loop-gap.invariant in
     let at = c.in-Some.ensures.gap ∙ ap (λ (gs : List Gap). slice_get gs c.loop-gap.scan.place) i.same in
-    let n = counts_long c.args.index.now.gaps c.args.wanted.size c.loop-gap.scan.place c.in-Some.gap at i.from in
+    let n = counts_long c.args.index.now.gaps c.args.wanted.now.size c.loop-gap.scan.place c.in-Some.gap at i.from in
     let t : c.next.new.cost.tests ≡ c.loop-gap.cost.tests + 1 = c.in-Some.ensures.counted in
     let p : c.next.new.self.place ≡ c.loop-gap.scan.place + 1 = c.in-Some.ensures.place in
     let w = slice_get_within c.args.index.now.gaps c.loop-gap.scan.place c.in-Some.gap (sym at) in
@@ -33,7 +33,7 @@ loop-gap-preserved c =
     record {
       same = c.in-Some.ensures.gaps ∙ i.same;
       within = omega arith;
-      past = rw p (one_more_past c.args.index.now.gaps c.args.wanted c.loop-gap.scan.place c.in-Some.gap at c.in_default-place_in.ensures i.past);
+      past = rw p (one_more_past c.args.index.now.gaps c.args.wanted.now c.loop-gap.scan.place c.in-Some.gap at c.in_default-place_in.ensures i.past);
       from = λ k d le lt. i.from k d (omega (arith, p)) lt;
       comparisons = (omega (arith, o.0, i.comparisons.0), omega (arith, o.0, i.comparisons.1));
       tests = rw p (omega (arith, i.tests));
@@ -51,7 +51,7 @@ pub returns-in-Some-place_in-clause-found : goal.returns-in-Some-place_in-clause
 returns-in-Some-place_in-clause-found c =
     let i = c.loop-gap.invariant in
     let at = c.in-Some.ensures.gap ∙ ap (λ (gs : List Gap). slice_get gs c.loop-gap.scan.place) i.same in
-    let n = counts_long c.args.index.now.gaps c.args.wanted.size c.loop-gap.scan.place c.in-Some.gap at i.from in
+    let n = counts_long c.args.index.now.gaps c.args.wanted.now.size c.loop-gap.scan.place c.in-Some.gap at i.from in
     let t : c.next.new.cost.tests ≡ c.loop-gap.cost.tests + 1 = c.in-Some.ensures.counted in (
       c.loop-gap.scan.place,
       record {

@@ -10,19 +10,19 @@ use Rattle.gpu_block_pieces.proofs.chunks.Chunks.allocate.Goals as goal
 
 pub overflow_add-taken : goal.overflow_add-taken
 overflow_add-taken c =
-    let h = subst (λ (xs : List Chunk). IsChosen xs c.args.wanted c.args.found) (sym (ap (λ (v : LaidChunks). v.items) c.self.view_is)) c.requires.chosen in
-    let f = chosen_fits c.self.inside.chain.chunks c.args.wanted c.args.found c.self.inside.chain.size c.laid_out.ensures.covers c.laid_out.ensures.bounded h in
+    let h = subst (λ (xs : List Chunk). IsChosen xs c.args.wanted.now c.args.found) (sym (ap (λ (v : LaidChunks). v.items) c.self.view_is)) c.requires.chosen in
+    let f = chosen_fits c.self.inside.chain.chunks c.args.wanted.now c.args.found c.self.inside.chain.size c.laid_out.ensures.covers c.laid_out.ensures.bounded h in
     omega (arith, f.high, f.ends)
 
 pub allocate_front-requires-clause-gap : goal.allocate_front-requires-clause-gap
 allocate_front-requires-clause-gap c =
     let e = c.in_ok-make_room.ensures.chain.0 ∙ ap (λ (v : LaidChunks). v.items) c.self.view_is in
-    subst (λ (xs : List Chunk). IsGapOf xs c.args.found.gap) (sym e) (chosen_gap c.args.self.now.items c.args.wanted c.args.found c.requires.chosen)
+    subst (λ (xs : List Chunk). IsGapOf xs c.args.found.gap) (sym e) (chosen_gap c.args.self.now.items c.args.wanted.now c.args.found c.requires.chosen)
 
 pub allocate_whole-requires-clause-gap : goal.allocate_whole-requires-clause-gap
 allocate_whole-requires-clause-gap c =
     let e = c.in_ok-make_room.ensures.chain.0 ∙ ap (λ (v : LaidChunks). v.items) c.self.view_is in
-    subst (λ (xs : List Chunk). IsGapOf xs c.args.found.gap) (sym e) (chosen_gap c.args.self.now.items c.args.wanted c.args.found c.requires.chosen)
+    subst (λ (xs : List Chunk). IsGapOf xs c.args.found.gap) (sym e) (chosen_gap c.args.self.now.items c.args.wanted.now c.args.found c.requires.chosen)
 
 pub allocate_front-requires-clause-room : goal.allocate_front-requires-clause-room
 allocate_front-requires-clause-room c =
@@ -38,20 +38,20 @@ allocate_front-requires-clause-room c =
 pub returns-then-taken-found-clause-taken : goal.returns-then-taken-found-clause-taken
 returns-then-taken-found-clause-taken c =
     let v = ap (λ (v : LaidChunks). v.items) c.self.view_is in
-    let h = subst (λ (xs : List Chunk). IsChosen xs c.args.wanted c.args.found) (sym v) c.requires.chosen in
-    let f = chosen_fits c.self.inside.chain.chunks c.args.wanted c.args.found c.self.inside.chain.size c.laid_out.ensures.covers c.laid_out.ensures.bounded h in
-    front_taken c.args.self.now.items c.allocate_front.new.chain.chunks c.args.wanted c.args.found c.args.counter c.args.name (subst (λ (xs : List Chunk). AreDistinct xs) v c.laid_out.ensures.distinct)
-    (c.args.found.offset + c.args.wanted.size - c.args.found.gap.start) refl c.if-taken-found.true f.low
-    (subst (λ (xs : List Chunk). IsSplit xs c.args.found.gap.chunk_id (c.args.found.offset + c.args.wanted.size - c.args.found.gap.start) c.args.counter c.args.found.offset c.args.wanted.kind
+    let h = subst (λ (xs : List Chunk). IsChosen xs c.args.wanted.now c.args.found) (sym v) c.requires.chosen in
+    let f = chosen_fits c.self.inside.chain.chunks c.args.wanted.now c.args.found c.self.inside.chain.size c.laid_out.ensures.covers c.laid_out.ensures.bounded h in
+    front_taken c.args.self.now.items c.allocate_front.new.chain.chunks c.args.wanted.now c.args.found c.args.counter c.args.name (subst (λ (xs : List Chunk). AreDistinct xs) v c.laid_out.ensures.distinct)
+    (c.args.found.offset + c.args.wanted.now.size - c.args.found.gap.start) refl c.if-taken-found.true f.low
+    (subst (λ (xs : List Chunk). IsSplit xs c.args.found.gap.chunk_id (c.args.found.offset + c.args.wanted.now.size - c.args.found.gap.start) c.args.counter c.args.found.offset c.args.wanted.now.kind
     c.args.name c.allocate_front.new.chain.chunks) (c.in_ok-make_room.ensures.chain.0 ∙ v) c.allocate_front.ensures.chunks)
 
 pub returns-clause-taken : goal.returns-clause-taken
 returns-clause-taken c =
     let v = ap (λ (v : LaidChunks). v.items) c.self.view_is in
-    let h = subst (λ (xs : List Chunk). IsChosen xs c.args.wanted c.args.found) (sym v) c.requires.chosen in
-    let f = chosen_fits c.self.inside.chain.chunks c.args.wanted c.args.found c.self.inside.chain.size c.laid_out.ensures.covers c.laid_out.ensures.bounded h in
+    let h = subst (λ (xs : List Chunk). IsChosen xs c.args.wanted.now c.args.found) (sym v) c.requires.chosen in
+    let f = chosen_fits c.self.inside.chain.chunks c.args.wanted.now c.args.found c.self.inside.chain.size c.laid_out.ensures.covers c.laid_out.ensures.bounded h in
     let some = c.requires.sized in
-    whole_taken c.args.self.now.items c.allocate_whole.new.chain.chunks c.args.wanted c.args.found c.args.counter c.args.name (subst (λ (xs : List Chunk). AreDistinct xs) v c.laid_out.ensures.distinct)
+    whole_taken c.args.self.now.items c.allocate_whole.new.chain.chunks c.args.wanted.now c.args.found c.args.counter c.args.name (subst (λ (xs : List Chunk). AreDistinct xs) v c.laid_out.ensures.distinct)
     (omega (arith, c.if-taken-found.false)) (omega (arith, f.low, f.high))
-    (subst (λ (xs : List Chunk). IsFilled xs c.args.found.gap.chunk_id c.args.found.offset c.args.wanted.kind c.args.name c.allocate_whole.new.chain.chunks) (c.in_ok-make_room.ensures.chain.0 ∙ v)
+    (subst (λ (xs : List Chunk). IsFilled xs c.args.found.gap.chunk_id c.args.found.offset c.args.wanted.now.kind c.args.name c.allocate_whole.new.chain.chunks) (c.in_ok-make_room.ensures.chain.0 ∙ v)
     c.allocate_whole.ensures.chunks)

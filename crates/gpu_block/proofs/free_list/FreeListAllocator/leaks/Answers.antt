@@ -1,5 +1,0 @@
-use Rattle.std.proofs.Common.{rules}
-use Rattle.gpu_block.proofs.free_list.FreeListAllocator.leaks.Goals as goal
-
-pub returns : goal.returns
-returns c = search rules

@@ -1,5 +1,0 @@
-use Rattle.std.proofs.Common.{rules}
-use Rattle.gpu_block.proofs.free_list.FreeListAllocator.new.Goals as goal
-
-pub returns-clause-fresh : goal.returns-clause-fresh
-returns-clause-fresh c = search rules
