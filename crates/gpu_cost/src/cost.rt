@@ -17,8 +17,8 @@ impl Model for Cost {
     ghost also_owns = { λ _. ftrue };
 }
 
-/// Who may begin a count: a block, for the calls that it answers. The crates below that search in a block have no such
-/// type, so whatever they look at is counted in the counter that they were handed.
+/// Who may begin a count: a free list for its own, and a call that only reads a block. The index of gaps and the chain of
+/// chunks, in which they search, have no such type, so what those look at is counted in the counter that they were handed.
 pub trait BeginsCount {}
 
 impl Cost {
