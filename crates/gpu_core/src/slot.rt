@@ -1,36 +1,25 @@
 //! One slot of a memory type.
 
-ghost use Rattle.std.specs.Prelude.{◌≡◌, ◌≢◌, ℕ, ◌<◌, ◌+◌, Some, IfOk, OnOk, IfErr, IfSome, IsNone, OnErr, IsTrue};
+ghost use Rattle.std.specs.Prelude.{◌≡◌, ℕ, ◌<◌, ◌+◌, Some, IfOk, OnOk, IfErr, OnErr, IsTrue};
 ghost use Rattle.std.specs.Option.{option_map};
-ghost use Rattle.std.specs.Int.{is_power_of_two};
 ghost use Rattle.std.specs.Int.NonZero.{non_zero_u64_get};
 ghost use Rattle.gpu_values.specs.declared.error.AllocationError.TheVariants.{HostOutOfMemory};
-ghost use Rattle.gpu_core.specs.TypeTake.{asked, CannotServe};
 ghost use Rattle.gpu_values.specs.Refusal.{refusal_of};
 ghost use Rattle.gpu_block.specs.SubAllocator.{block_of};
 ghost use Rattle.gpu_block.specs.Block.{IsSoundBlock, HasPages, HasPagesApart, ReleasesIn};
 ghost use Rattle.gpu_core.specs.TypeState.{slot_size, shared_in};
 ghost use Rattle.gpu_core.specs.TypeRelease.{SlotHolds, IsFreeRefusal, IsNameRefusal, SlotReleases, SlotRenames};
-ghost use Rattle.gpu_core.specs.Slots.{slot_of, Bounds, SlotTakes, SlotIsSound, Finds, Settles, released_handle, released_size, released_shared};
+ghost use Rattle.gpu_core.specs.Slots.{slot_of, Bounds, SlotIsSound, Finds, Settles, released_handle, released_size, released_shared};
 
-use crate::{Piece, Request};
+use crate::Piece;
 use gpu_block::SubAllocator;
-use gpu_values::{AllocationError, AllocationType, Result, internal_fault};
-use std::num::NonZeroU64;
+use gpu_values::{Result, internal_fault};
 
 /// A live block: the driver's handle of it, and its pieces.
 #[derive(Drop)]
 pub struct LiveBlock<H> {
     pub handle: H,
     pub sub: SubAllocator,
-}
-
-/// A piece that was taken of a slot's block.
-#[derive(Drop)]
-pub struct Placed<H> {
-    pub offset: u64,
-    pub chunk_id: NonZeroU64,
-    pub handle: H,
 }
 
 /// The bytes up to which a slot may serve requests: those of its shared block's longest gap, and 0 where it has none.
@@ -40,50 +29,6 @@ pub fn longest_in<H>(slot: &Option<LiveBlock<H>>) -> u64
     match slot {
         Some(block) if block.sub.supports_general_allocations() => block.sub.longest_gap(),
         _ => 0,
-    }
-}
-
-/// Allocates a piece of a shared block, or answers `None` where the slot can't serve the request. The only refusal is
-/// `HostOutOfMemory`.
-pub fn allocate_in<H: Copy>(
-    slot: &mut Option<LiveBlock<H>>,
-    request: &Request,
-    granularity: u64,
-) -> Result<Option<Placed<H>>>
-    requires sized { 0 < request.now.size }
-    requires aligned { IsTrue (is_power_of_two request.now.alignment) }
-    requires piece { request.now.kind ≢ AllocationType.Free }
-    requires sound { SlotIsSound granularity (option_map slot_of slot.old) }
-    ensures took { IfOk result (λ o. IfSome o
-        (λ t. SlotTakes (option_map slot_of slot.old) (asked request.now) t.offset
-        (non_zero_u64_get t.chunk_id) t.handle (option_map slot_of slot.new))) }
-    ensures none { IfOk result (λ o. IsNone o
-        → CannotServe (asked request.now) (option_map slot_of slot.old)
-        × (option_map slot_of slot.new ≡ option_map slot_of slot.old)) }
-    ensures cause { IfErr result (λ e. e ≡ HostOutOfMemory) }
-    ensures refused { OnErr result (option_map slot_of slot.new ≡ option_map slot_of slot.old) }
-    ensures kept { SlotIsSound granularity (option_map slot_of slot.new) }
-{
-    match slot {
-        Some(block) if block.sub.supports_general_allocations() => {
-            let Request {
-                size,
-                alignment,
-                kind,
-                name,
-                ..
-            } = *request;
-            match block.sub.allocate(size, alignment, kind, granularity, name) {
-                Ok((offset, chunk_id)) => Ok(Some(Placed {
-                    offset,
-                    chunk_id,
-                    handle: block.handle,
-                })),
-                Err(AllocationError::OutOfMemory) => Ok(None),
-                Err(error) => Err(error),
-            }
-        }
-        _ => Ok(None),
     }
 }
 

@@ -12,9 +12,10 @@ ghost use Rattle.gpu_core.specs.TypeTake.{asked, PreparesPiece, NoneServes, new_
 ghost use Rattle.gpu_core.specs.Slots.{slot_of, slots_of, AreSound, AreBounded, OthersAreBounded, IsEmptyAt, released_handle, released_size, released_shared};
 
 use crate::longest::Longest;
-use crate::slot::{LiveBlock, ReleasedBlock, allocate_in, longest_in, release, rename};
+use crate::slot::{LiveBlock, ReleasedBlock, longest_in, release, rename};
 use crate::{Piece, Request};
-use gpu_values::{AllocationType, Result, internal_fault};
+use gpu_block::SubAllocator;
+use gpu_values::{AllocationError, AllocationType, Result, internal_fault};
 use std::alloc::Global;
 use std::marker::Model;
 
@@ -82,13 +83,38 @@ impl<H: Copy + Eq> Slots<H> {
         ensures room { self.new.room ≡ self.old.room }
         ensures kept { AreSound granularity self.new.slots }
     {
-        match allocate_shared(&mut self.blocks, &self.longest, request, granularity)? {
-            None => Ok(None),
-            Some(piece) => {
-                measure(&mut self.longest, &self.blocks, piece.slot);
-                Ok(Some(piece))
+        let Request {
+            size,
+            alignment,
+            kind,
+            name,
+            ..
+        } = *request;
+        let mut below = self.longest.pass_over(self.blocks.len(), size);
+        while below > 0 {
+            below -= 1;
+            if let Some(LiveBlock { handle, sub }) = &mut self.blocks[below] {
+                if let SubAllocator::FreeList(list) = sub {
+                    match list.allocate(size, alignment, kind, granularity, name) {
+                        Ok((offset, chunk_id)) => {
+                            let piece = Piece {
+                                slot: below,
+                                chunk_id,
+                                offset,
+                                size,
+                                handle: *handle,
+                            };
+                            measure(&mut self.longest, &self.blocks, below);
+                            return Ok(Some(piece));
+                        }
+                        Err(AllocationError::OutOfMemory) => (),
+                        Err(error) => return Err(error),
+                    }
+                }
             }
+            below = self.longest.pass_over(below, size);
         }
+        Ok(None)
     }
 
     /// Makes host memory for one more block. The only refusal is `HostOutOfMemory`.
@@ -172,50 +198,6 @@ fn measure<H>(longest: &mut Longest, slots: &[Option<LiveBlock<H>>], slot: usize
     ensures room { longest.new.room ≡ longest.old.room }
 {
     longest.set(slot, longest_in(&slots[slot]));
-}
-
-/// Allocates a piece of the highest shared block that has a place, or answers `None` where none has. Only blocks with a gap that is
-/// long enough are asked. The only refusal is `HostOutOfMemory`.
-fn allocate_shared<H: Copy>(
-    slots: &mut Vec<Option<LiveBlock<H>>>,
-    longest: &Longest,
-    request: &Request,
-    granularity: u64,
-) -> Result<Option<Piece<H>>>
-    requires sized { 0 < request.now.size }
-    requires aligned { IsTrue (is_power_of_two request.now.alignment) }
-    requires piece { request.now.kind ≢ AllocationType.Free }
-    requires sound { AreSound granularity (slots_of slots.old.items) }
-    requires bounded { AreBounded longest.now.lengths (slots_of slots.old.items) }
-    ensures took { IfOk result (λ o. IfSome o
-        (λ p. PreparesPiece (slots_of slots.old.items) (asked request.now) p
-        (slots_of slots.new.items))) }
-    ensures none { IfOk result (λ o. IsNone o
-        → NoneServes (slots_of slots.old.items) (asked request.now)
-        × (slots_of slots.new.items ≡ slots_of slots.old.items)) }
-    ensures cause { IfErr result (λ e. e ≡ HostOutOfMemory) }
-    ensures refused { OnErr result (slots_of slots.new.items ≡ slots_of slots.old.items) }
-    ensures room { vec_capacity slots.new ≡ vec_capacity slots.old }
-    ensures kept { AreSound granularity (slots_of slots.new.items) }
-{
-    let mut below = longest.pass_over(slots.len(), request.size);
-    while below > 0 {
-        below -= 1;
-        let slot = &mut slots[below];
-        match allocate_in(slot, request, granularity)? {
-            None => below = longest.pass_over(below, request.size),
-            Some(taken) => {
-                return Ok(Some(Piece {
-                    slot: below,
-                    chunk_id: taken.chunk_id,
-                    offset: taken.offset,
-                    size: request.size,
-                    handle: taken.handle,
-                }));
-            }
-        }
-    }
-    Ok(None)
 }
 
 /// The lowest empty slot.

@@ -4,6 +4,7 @@ pub mod Allocating
 pub mod Holding
 pub mod Serving
 pub mod Owning
+pub mod Outcomes
 pub mod Freeing
 pub mod Renaming
 pub mod Naming

@@ -2,7 +2,6 @@
 //! graphics API.
 #![tactic(auto)]
 
-mod allocate;
 mod allocation;
 mod free;
 mod handles;

@@ -23,10 +23,9 @@ ghost use Rattle.gpu_pool.specs.Source.{result_of};
 ghost use Rattle.gpu_pool.specs.State.{State, kind_at, IsSoundAt};
 
 use crate::BlockSource;
-use crate::allocate::attempt;
 use crate::free::{free_piece, give_back_all};
 use crate::handles::{Handles, all_handles};
-use gpu_core::{Piece, Request};
+use gpu_core::{Piece, Prepared, Request};
 use gpu_memory_types::{AllLeaks, MemoryTypes};
 use gpu_values::{AllocationSizes, AllocationType, AllocatorReport, Result};
 use std::alloc::Global;
@@ -82,7 +81,8 @@ impl<S: BlockSource> Pool<S> {
         }
     }
 
-    /// Allocates a piece of the memory type at `index`: of a shared block, or of a new one of the source.
+    /// Allocates a piece of the memory type at `index`: of a shared block, or of a new one of the source, which is asked when all
+    /// host memory for the piece is at hand.
     pub fn allocate(
         &mut self,
         index: usize,
@@ -102,14 +102,15 @@ impl<S: BlockSource> Pool<S> {
         ensures live { IfOk result (λ p. IsNewlyLive S.Handle.eq self.old.slots self.new.slots index
             p) }
     {
-        attempt(
-            &mut self.source,
-            &mut self.types,
-            &self.sizes,
-            index,
-            request,
-            extra,
-        )
+        let need = match self.types.prepare(index, request, &self.sizes) {
+            Err(error) => return Err(error),
+            Ok(Prepared::Taken(piece)) => return Ok(piece),
+            Ok(Prepared::NeedBlock(need)) => need,
+        };
+        match self.source.ask(index, need.size, extra) {
+            Err(error) => Err(error),
+            Ok(handle) => Ok(self.types.install(index, need, handle)),
+        }
     }
 
     /// Frees a piece of the memory type at `index`, and gives its block back where the block is left empty and isn't the only

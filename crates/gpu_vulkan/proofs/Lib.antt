@@ -3,6 +3,7 @@ pub mod Heaps
 pub mod Changing
 pub mod Attempts
 pub mod Following
+pub mod Fallback
 pub mod Inside
 pub mod Writing
 pub mod Joins

@@ -28,7 +28,7 @@ ghost use Rattle.gpu_vulkan.specs.Live.{IsLive, IsMapped, bytes_at};
 use super::logging::{log_allocate, log_device, log_free, log_last_leaks, log_leaks};
 use super::rename::rename;
 use super::{Allocation, MappedAllocationSlab};
-use crate::attempt::{allocate_with_fallback, blocks_are_held};
+use crate::attempt::{allocate_in_type, blocks_are_held, next_type};
 use crate::source::VulkanBlocks;
 use crate::{
     AllocationCreateDesc, AllocatorCreateDesc, Settings, Setup, best_type, fault_of, parts_of,
@@ -157,7 +157,13 @@ impl<D: VulkanDevice> Allocator<D> {
             None => Err(AllocationError::NoCompatibleMemoryTypeFound),
             Some(index) => {
                 blocks_are_held(&self.pool);
-                let result = allocate_with_fallback(self.alloc, &mut self.pool, desc, index);
+                let result = match allocate_in_type(self.alloc, &mut self.pool, desc, index) {
+                    Ok(allocation) => Ok(allocation),
+                    Err(error) => match next_type(self.pool.source().setup(), desc, &error) {
+                        None => Err(error),
+                        Some(next) => allocate_in_type(self.alloc, &mut self.pool, desc, next),
+                    },
+                };
                 blocks_are_held(&self.pool);
                 result
             }

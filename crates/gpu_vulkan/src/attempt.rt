@@ -4,7 +4,7 @@ ghost use Rattle.std.specs.Prelude.{◌≡◌, ◌<◌, ◌%◌, length, Some, I
 ghost use Rattle.std.specs.Int.{is_power_of_two};
 ghost use Rattle.gpu_values.specs.Refusal.{refusal_of};
 ghost use Rattle.gpu_memory_types.specs.Blocks.{BlocksWellFormed};
-ghost use Rattle.gpu_vulkan.specs.Allocate.{IsAttempt, IsServed, next_type};
+ghost use Rattle.gpu_vulkan.specs.Allocate.{IsAttempt, next_type};
 ghost use Rattle.gpu_vulkan.specs.Blocks.{HoldsJustLiveBlocks};
 ghost use Rattle.gpu_vulkan.specs.Lends.{AreDistinct};
 ghost use Rattle.gpu_vulkan.specs.Live.{IsAllocated, IsLive};
@@ -94,7 +94,7 @@ pub fn allocate_in_type<D: VulkanDevice>(
     }
 }
 
-/// The memory type that is asked after a refusal: memory for uploads is then allocated where the host can write it, be it slow
+/// The memory type that is asked after a refusal, the fallback: memory for uploads is then allocated where the host can write it, be it slow
 /// for the device.
 pub fn next_type(
     setup: &Setup,
@@ -110,32 +110,5 @@ pub fn next_type(
         (MemoryLocation::CpuToGpu, AllocationError::HostOutOfMemory) => None,
         (MemoryLocation::CpuToGpu, _) => first_type(types, bits, required_flags(desc.location)),
         (_, _) => None,
-    }
-}
-
-/// An allocation in the memory type at `index`, or in the one that is asked after a refusal.
-pub fn allocate_with_fallback<D: VulkanDevice>(
-    alloc: Global,
-    pool: &mut Pool<VulkanBlocks<D>>,
-    desc: &AllocationCreateDesc,
-    index: usize,
-) -> Result<Allocation>
-    requires sized { 0 < desc.now.requirements.size }
-    requires aligned { IsTrue (is_power_of_two desc.now.requirements.alignment) }
-    requires there { index < length pool.old.source.setup.properties.types }
-    ensures served { IsServed D.VulkanDevice (setup_of pool.old) pool.old.budgets index desc.now
-        pool.old.slots pool.old.source.device result pool.new.slots pool.new.source.device }
-    ensures constant { IsConstant pool.old pool.new }
-    ensures aligned { IfOk result (λ a. a.offset % desc.now.requirements.alignment ≡ 0) }
-    ensures keeps { StayLive pool.old.slots pool.new.slots }
-    ensures live { IfOk result (λ a. IsLive pool.new.slots a
-        × ((b : Allocation) → IsLive pool.old.slots b → AreDistinct b a)) }
-{
-    match allocate_in_type(alloc, pool, desc, index) {
-        Ok(allocation) => Ok(allocation),
-        Err(error) => match next_type(pool.source().setup(), desc, &error) {
-            None => Err(error),
-            Some(next) => allocate_in_type(alloc, pool, desc, next),
-        },
     }
 }
