@@ -1,8 +1,6 @@
-use Rattle.std.proofs.Common.{sym, subst, rules}
+use Rattle.std.proofs.Common.{sym, subst}
 use Rattle.gpu_memory_types.specs.Apart as pieces
 use Rattle.gpu_pool.specs.Allocation.{piece_of}
-use Rattle.gpu_pool.specs.Free.{Frees}
-use Rattle.gpu_pool.specs.Source.{result_of}
 use Rattle.gpu_pool.proofs.pool.Pool.free_named.Goals as goal
 
 pub returns-clause-keeps : goal.returns-clause-keeps
