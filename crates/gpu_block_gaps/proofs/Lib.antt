@@ -19,3 +19,4 @@ pub mod Rings
 pub mod Threads
 pub mod Indexing
 pub mod Surface
+pub mod Anew

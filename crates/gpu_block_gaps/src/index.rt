@@ -1,8 +1,9 @@
 //! The gaps of a block in the order of length and start.
-ghost use Rattle.std.specs.Prelude.{◌≡◌, ℕ, ◌+◌, ◌^◌, ◌<◌, ◌≤◌, List, [], length, slice_index_or, OnOk, OnErr, IsOk};
+ghost use Rattle.std.specs.Prelude.{◌≡◌, ℕ, ◌+◌, ◌^◌, ◌<◌, ◌≤◌, List, [], length, slice_index_or, OnOk, OnErr, IfOk, IsOk};
 ghost use Rattle.std.specs.List.{AllPairs};
 ghost use Rattle.gpu_cost.specs.Cost.{Compares, Tests};
 ghost use Rattle.gpu_block_gaps.specs.Index.{Before, HasNoKey, HasKeyAt, IsInserted, IsRemoved, IsReplaced, HasLength};
+ghost use Rattle.gpu_block_gaps.specs.Ordered.{gaps_of};
 
 use crate::forest::Forest;
 use crate::key::Key;
@@ -14,8 +15,8 @@ use gpu_values::AllocationType;
 use std::alloc::{AllocError, Global};
 use std::marker::Model;
 
-/// How many binary digits of a length its class tells, behind the first.
-const DIGITS: u32 = 4;
+/// How many binary digits of a length its class tells, behind the first, where there is room for few gaps.
+const FEW_DIGITS: u32 = 4;
 
 /// For how many gaps more there is room at least, once it grows.
 const LEAST_GROWTH: usize = 4;
@@ -26,6 +27,21 @@ fn grown(room: usize) -> usize
 {
     let most = u32::MAX as usize - 1;
     most.min(room.saturating_add(LEAST_GROWTH.max(room / 4)))
+}
+
+/// How many digits serve that many gaps. Each digit more halves the gaps of a class, and doubles the table of the classes.
+fn digits_for(count: usize) -> u32
+    ensures { result < 24 }
+{
+    if count < 128 {
+        FEW_DIGITS
+    } else if count < 1024 {
+        6
+    } else if count < 16384 {
+        8
+    } else {
+        10
+    }
 }
 
 /// A gap of a block, with what a test of it reads: the kinds of the pieces beside it, `Free` at an end of the block.
@@ -57,15 +73,40 @@ impl Model for GapIndex {
     ghost invariant = { λ s. IsIndexed s.thread s.forest };
 }
 
+/// Puts the gaps of a thread into an index that has none. There is room for them.
+fn put_all(from: &Thread, index: &mut GapIndex)
+    requires ordered { AllPairs Before (gaps_of from.now) }
+    requires empty { index.old.gaps ≡ [] }
+    requires room { length (gaps_of from.now) ≤ index.old.room }
+    ensures gaps { index.new.gaps ≡ gaps_of from.now }
+    ensures room { index.new.room ≡ index.old.room }
+{
+    from.sound();
+    let mut slot = from.next(0);
+    while slot != 0 {
+        index.insert(from.gap(slot));
+        index.in_order();
+        slot = from.next(slot);
+    }
+}
+
 impl GapIndex {
     /// An index without gaps, which has taken no memory.
     pub fn new(alloc: Global) -> GapIndex
         ensures gaps { result.gaps ≡ [] }
         ensures room { result.room ≡ 0 }
     {
+        GapIndex::with_digits(alloc, FEW_DIGITS)
+    }
+
+    fn with_digits(alloc: Global, digits: u32) -> GapIndex
+        requires { digits < 24 }
+        ensures gaps { result.gaps ≡ [] }
+        ensures room { result.room ≡ 0 }
+    {
         GapIndex {
             thread: Thread::new(alloc),
-            forest: Forest::new(alloc, DIGITS),
+            forest: Forest::new(alloc, digits),
         }
     }
 
@@ -108,8 +149,38 @@ impl GapIndex {
             return Err(AllocError);
         }
         let wanted = count.max(grown(self.thread.room()));
-        self.forest.reserve_to(wanted)?;
-        self.thread.reserve_to(wanted)
+        if digits_for(wanted) == self.forest.digits {
+            return self.widen(wanted);
+        }
+        *self = self.made_anew(wanted)?;
+        Ok(())
+    }
+
+    /// Makes room for that many gaps in all, with the same classes. A refusal changes nothing.
+    fn widen(&mut self, count: usize) -> Result<(), AllocError>
+        requires few { count + 1 < 2 ^ 32 }
+        ensures same { self.new.gaps ≡ self.old.gaps }
+        ensures room { OnOk result (count ≤ self.new.room) }
+        ensures kept { self.old.room ≤ self.new.room }
+        ensures refused { OnErr result (self.new ≡ self.old) }
+    {
+        self.forest.reserve_to(count)?;
+        self.thread.reserve_to(count)
+    }
+
+    /// The same gaps, with classes for that many, and with room for them.
+    fn made_anew(&self, count: usize) -> Result<GapIndex, AllocError>
+        requires few { count + 1 < 2 ^ 32 }
+        requires enough { self.now.room ≤ count }
+        ensures same { IfOk result (λ i. i.gaps ≡ self.now.gaps) }
+        ensures room { IfOk result (λ i. count ≤ i.room) }
+    {
+        self.thread.sound();
+        let alloc = *self.forest.forks.allocator();
+        let mut anew = GapIndex::with_digits(alloc, digits_for(count));
+        anew.widen(count)?;
+        put_all(&self.thread, &mut anew);
+        Ok(anew)
     }
 
     /// The gaps from the first of at least that length on, to be tested one after another.

@@ -1,7 +1,7 @@
 use Rattle.gpu_block_gaps.specs.Ordered.{key_in}
 use Rattle.std.proofs.Common.{[]}
 use Rattle.gpu_block_gaps.proofs.Surface.{none_indexed}
-use Rattle.gpu_block_gaps.proofs.index.GapIndex.new.Goals as goal
+use Rattle.gpu_block_gaps.proofs.index.GapIndex.with_digits.Goals as goal
 
 pub invariant_of-result : goal.invariant_of-result
 invariant_of-result c = none_indexed c.new.result c.new-2.result c.new.ensures.0 c.new.ensures.1 (c.new-2.ensures.trees (key_in []))

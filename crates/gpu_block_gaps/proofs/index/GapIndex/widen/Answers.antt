@@ -1,7 +1,7 @@
 use Rattle.std.proofs.Common.{arith}
 use Rattle.gpu_block_gaps.specs.Ordered.{key_in}
 use Rattle.gpu_block_gaps.proofs.Surface.{forest_reserved, thread_reserved}
-use Rattle.gpu_block_gaps.proofs.index.GapIndex.reserve_to.Goals as goal
+use Rattle.gpu_block_gaps.proofs.index.GapIndex.widen.Goals as goal
 
 pub invariant_of-self : goal.invariant_of-self
 invariant_of-self c =
