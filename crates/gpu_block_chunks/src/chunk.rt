@@ -10,10 +10,10 @@ use gpu_values::AllocationType;
 pub struct Chunk {
     pub start: u64,
     pub size: u64,
-    /// Where the piece begins: what lies before it in the chunk is padding.
-    pub offset: u64,
     pub kind: AllocationType,
     pub chunk_id: u64,
+    /// Where the piece begins: what lies before it in the chunk is padding.
+    pub offset: u64,
     pub name: Name,
 }
 
