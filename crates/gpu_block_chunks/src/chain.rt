@@ -66,6 +66,7 @@ impl Model for Chain {
 }
 
 /// The one way to read a chunk by its number.
+#[inline(always)]
 fn node_at<'a>(nodes: &'a Nodes, chunk_id: u64, cost: &mut Cost) -> Option<&'a LinkedChunk>
     ensures value { option_map (node_value nodes.now.ids) (option_copied result)
         ≡ held_at nodes.now chunk_id }
@@ -167,6 +168,7 @@ impl Chain {
     }
 
     /// The chunk of that number, and what stands beside it.
+    #[inline(always)]
     pub fn around(&self, chunk_id: u64, cost: &mut Cost) -> Option<Neighbours>
         ensures value { MatchOption result (HasNoChunkId self.now.chunks chunk_id)
             (λ a. AreNeighbours self.now.chunks chunk_id a) }

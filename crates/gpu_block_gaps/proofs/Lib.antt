@@ -20,3 +20,4 @@ pub mod Threads
 pub mod Indexing
 pub mod Surface
 pub mod Anew
+pub mod Rekeyed

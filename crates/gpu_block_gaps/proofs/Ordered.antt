@@ -28,7 +28,7 @@ sorted_rekeyed key key' (fork slot bit x y) same sorted = (
   sorted_rekeyed key key' y (λ l has. same l (inr has)) sorted.4,
 )
 
-roots_rekeyed : (key key' : ℕ → ℕ) (slots : Slots) (digits c : ℕ) (r : Option Node) (o : Option Tree) → ((t : Tree) → o ≡ Some t → (l : ℕ) → HasLeaf l t → key' l ≡ key l)
+pub roots_rekeyed : (key key' : ℕ → ℕ) (slots : Slots) (digits c : ℕ) (r : Option Node) (o : Option Tree) → ((t : Tree) → o ≡ Some t → (l : ℕ) → HasLeaf l t → key' l ≡ key l)
     → Roots key slots digits c r o → Roots key' slots digits c r o
 roots_rekeyed key key' slots digits c None None same rooted = tt
 roots_rekeyed key key' slots digits c None (Some t) same rooted = absurd rooted

@@ -1,5 +1,5 @@
 -- Records that are threaded.
-use Rattle.std.proofs.Common.{◌≡◌, ◌≢◌, ℕ, zero, suc, ◌+◌, ◌^◌, ◌<◌, ◌≤◌, List, [], ◌∷◌, ◌++◌, length, get_or, set, map, ◌⊎◌, inl, inr, refl, sym, ap, subst, ◌∙◌, arith}
+use Rattle.std.proofs.Common.{◌≡◌, ◌≢◌, ℕ, zero, suc, ◌+◌, ◌^◌, ◌<◌, ◌≤◌, List, [], ◌∷◌, ◌++◌, length, get_or, set, map, All, ◌⊎◌, inl, inr, refl, sym, ap, subst, ◌∙◌, arith}
 use Rattle.std.specs.List.{insert, remove}
 use Rattle.std.proofs.lemmas.Bool.{cases_lt, cases_eq}
 use Rattle.std.proofs.lemmas.List.{map-set, set-get_or, get_or-map, get_or_default, get_or_past, get_or_push, get_or_append_left, get_or_at, length-append, length-map}
@@ -276,3 +276,17 @@ module _ (rs old rs' : List Record) (spare spare' : List ℕ) (s room room' : �
       threaded_less rs rs' spare room order threaded_all p s lt there (long ∙ ap length same)
       (subst (λ (xs : List Record). LeadsTo (next_in xs) (next_in rs') (prev_in xs s) (next_in xs s)) same next_links)
       (subst (λ (xs : List Record). LeadsTo (prev_in xs) (prev_in rs') (next_in xs s) (prev_in xs s)) same prev_links))))
+
+-- the same links, whatever the gaps
+pub same_links : (rs rs' : List Record) (spare : List ℕ) (room : ℕ) (order : List ℕ) → IsThread rs spare room → order_of rs ≡ order → length rs' ≡ length rs → ((k : ℕ) → next_in rs' k ≡ next_in rs k)
+    → ((k : ℕ) → prev_in rs' k ≡ prev_in rs k) → IsThread rs' spare room × (order_of rs' ≡ order)
+same_links rs rs' spare room order thread is long next prev = whole rs' spare room order (subst (λ (xs : List ℕ). AreThreaded rs' spare room xs) is (record {
+  linked = λ k le. (next (get_or (0 ∷ order_of rs) k 0) ∙ (thread.linked k le).0, prev (get_or (order_of rs) k 0) ∙ (thread.linked k le).1);
+  distinct = thread.distinct;
+  inside = λ slot in_order. (let a = thread.inside slot in_order in omega arith);
+  free = subst (λ n. All (IsSpare (λ slot. IsIn slot (order_of rs)) n) spare) (sym long) thread.free;
+  apart = thread.apart;
+  counted = (let a = thread.counted in omega arith);
+  fits = (let a = thread.fits in omega arith);
+  few = (let a = thread.few in omega arith);
+}))

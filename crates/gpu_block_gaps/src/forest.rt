@@ -1,6 +1,6 @@
 //! A tree for each class of lengths, all in one row of slots.
 
-ghost use Rattle.std.specs.Prelude.{◌≡◌, ℕ, ◌+◌, ◌^◌, ◌<◌, ◌≤◌, ◌⊎◌, List, [], Option, Some, None, MatchOption, OnOk, vec_len, vec_capacity, slice_set};
+ghost use Rattle.std.specs.Prelude.{◌≡◌, ℕ, ◌+◌, ◌^◌, ◌<◌, ◌≤◌, ◌⊎◌, List, [], Option, Some, None, MatchOption, IfSome, OnOk, vec_len, vec_capacity, slice_set};
 ghost use Rattle.gpu_block_gaps.specs.Key.{code_of};
 ghost use Rattle.gpu_block_gaps.specs.Class.{class_number, class_count};
 ghost use Rattle.gpu_block_gaps.specs.Tree.{Tree, tip, near, leaves_of, IsSplit, IsPlace};
@@ -122,6 +122,24 @@ impl Forest {
         }
     }
 
+    /// The leaf of a key's class, if it has no other, and another key is of that class too.
+    pub fn only_leaf(&self, key: Key, other: Key) -> Option<u32>
+        requires { (at : ℕ → ℕ) × (trees : List (Option Tree)) × IsForest at self.now trees }
+        ensures { (at : ℕ → ℕ) (trees : List (Option Tree)) → IsForest at self.now trees
+            → let class = class_in self.now.digits (code_of key)
+            in IfSome result (λ leaf. (class_in self.now.digits (code_of other) ≡ class)
+            × (tree_at trees class ≡ Some (tip leaf))) }
+    {
+        let class = self.class(key);
+        if self.class(other) != class {
+            return None;
+        }
+        match self.root(class)? {
+            Node::Leaf(leaf) => Some(leaf),
+            Node::Branch(_) => None,
+        }
+    }
+
     /// The leaf to which the bits of a key lead, in the tree of its class.
     pub fn near(&self, key: Key) -> Option<u32>
         requires { (at : ℕ → ℕ) × (trees : List (Option Tree)) × IsForest at self.now trees }
@@ -149,6 +167,7 @@ impl Forest {
     }
 
     /// The first leaf of the classes behind that of a key.
+    #[inline(always)]
     pub fn first_later(&self, key: Key) -> Option<u32>
         requires { (at : ℕ → ℕ) × (trees : List (Option Tree)) × IsForest at self.now trees }
         ensures { (at : ℕ → ℕ) (trees : List (Option Tree)) → IsForest at self.now trees
@@ -179,6 +198,7 @@ impl Forest {
     }
 
     /// Puts a leaf into the tree of its class. Its key differs in that bit from the key to which its bits lead, and in none above it.
+    #[inline(always)]
     pub fn insert_beside(&mut self, key: Key, bit: u32, leaf: u32)
         requires there { HasTree self.old (code_of key) }
         requires bit { bit < 128 }
@@ -202,6 +222,7 @@ impl Forest {
     }
 
     /// Takes the leaf to which the bits of a key lead out of the tree of its class.
+    #[inline(always)]
     pub fn remove(&mut self, key: Key) -> u32
         requires { HasTree self.old (code_of key) }
         ensures trees { (at : ℕ → ℕ) (trees : List (Option Tree)) (t : Tree)

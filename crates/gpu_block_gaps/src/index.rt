@@ -134,6 +134,7 @@ impl GapIndex {
     }
 
     /// Makes room for that many gaps in all. A refusal changes nothing.
+    #[inline(always)]
     pub fn reserve_to(&mut self, count: usize) -> Result<(), AllocError>
         ensures same { self.new.gaps ≡ self.old.gaps }
         ensures room { OnOk result (count ≤ self.new.room) }

@@ -48,6 +48,7 @@ pub fn look_near(thread: &Thread, forest: &Forest, key: Key) -> Nearby
 }
 
 /// The slot of the first gap from a key on, 0 where there is none.
+#[inline(always)]
 pub fn next_from(thread: &Thread, forest: &Forest, key: Key, nearby: Nearby) -> u32
     requires { (trees : List (Option Tree)) × AreIndexed thread.now forest.now trees
         × IsNearby (key_in thread.now.gaps) forest.now.digits trees (code_of key) nearby }
@@ -68,6 +69,7 @@ pub fn next_from(thread: &Thread, forest: &Forest, key: Key, nearby: Nearby) -> 
 }
 
 /// Puts a slot into the tree of its key's class.
+#[inline(always)]
 fn plant(forest: &mut Forest, key: Key, nearby: Nearby, slot: u32)
     requires there { (at : ℕ → ℕ) × (trees : List (Option Tree)) × IsForest at forest.old trees
         × IsNearby at forest.old.digits trees (code_of key) nearby }
@@ -89,6 +91,7 @@ fn plant(forest: &mut Forest, key: Key, nearby: Nearby, slot: u32)
 }
 
 /// Puts a gap into a slot, into the order and into the tree of its class. There is room for it, so no memory is taken.
+#[inline(always)]
 pub fn put(thread: &mut Thread, forest: &mut Forest, gap: Gap)
     requires indexed { IsIndexed thread.old forest.old }
     requires room { length thread.old.order + 1 < length thread.old.gaps }
@@ -105,6 +108,7 @@ pub fn put(thread: &mut Thread, forest: &mut Forest, gap: Gap)
 }
 
 /// Takes the gap of that length and start out of its slot, of the order and of the tree of its class.
+#[inline(always)]
 pub fn take(thread: &mut Thread, forest: &mut Forest, size: u64, start: u64)
     requires indexed { IsIndexed thread.old forest.old }
     requires there { HasKeyAt (gaps_of thread.old) size start }
@@ -122,7 +126,9 @@ pub fn take(thread: &mut Thread, forest: &mut Forest, size: u64, start: u64)
     thread.remove(slot);
 }
 
-/// Puts a gap in its place, and takes the one of that length and start out. It takes no memory.
+/// Puts a gap in its place, and takes the one of that length and start out. It takes no memory. A gap that is alone in its class, and
+/// stays in it, keeps its slot.
+#[inline(always)]
 pub fn exchange(thread: &mut Thread, forest: &mut Forest, size: u64, start: u64, gap: Gap)
     requires indexed { IsIndexed thread.old forest.old }
     requires there { HasKeyAt (gaps_of thread.old) size start }
@@ -133,6 +139,14 @@ pub fn exchange(thread: &mut Thread, forest: &mut Forest, size: u64, start: u64,
     ensures room { length thread.new.gaps ≡ length thread.old.gaps }
 {
     thread.sound();
+    let key = Key {
+        length: size,
+        start,
+    };
+    if let Some(slot) = forest.only_leaf(key, key_of(&gap)) {
+        thread.set(slot, gap);
+        return;
+    }
     take(thread, forest, size, start);
     put(thread, forest, gap);
 }

@@ -62,6 +62,16 @@ fn set_prev(records: &mut [Record], slot: u32, prev: u32)
     records[slot as usize].prev = prev;
 }
 
+/// Puts another gap into a slot.
+fn set_gap(records: &mut [Record], slot: u32, gap: Gap)
+    requires { slot < length records.old }
+    ensures next { (k : ℕ) → next_in records.new k ≡ next_in records.old k }
+    ensures prev { (k : ℕ) → prev_in records.new k ≡ prev_in records.old k }
+    ensures gaps { map gap_of records.new ≡ slice_set (map gap_of records.old) slot gap }
+{
+    records[slot as usize].gap = gap;
+}
+
 /// Puts a record into a slot, and links the slots beside it to that.
 fn link(records: &mut [Record], slot: u32, entry: Record)
     requires slot { slot < length records.old }
@@ -237,6 +247,15 @@ impl Thread {
         let prev = self.records[next as usize].prev;
         link(&mut self.records, slot, Record { gap, prev, next });
         slot
+    }
+
+    /// Puts another gap into a slot, which stays where it is in the order.
+    pub fn set(&mut self, slot: u32, gap: Gap)
+        requires { IsIn slot self.old.order }
+        ensures order { self.new.order ≡ self.old.order }
+        ensures gaps { self.new.gaps ≡ slice_set self.old.gaps slot gap }
+    {
+        set_gap(&mut self.records, slot, gap);
     }
 
     /// Takes the gap in a slot out.

@@ -161,6 +161,7 @@ pub fn ends_of(nodes: &Nodes, at: Link, cost: &mut Cost) -> Ends
 }
 
 /// Makes one chunk of two neighbours. It takes no memory.
+#[inline(always)]
 pub fn join_next(nodes: &mut Nodes, left: Link, right: Link, cost: &mut Cost)
     requires joins { CanJoin (held_at nodes.old) left.chunk_id right.chunk_id }
     requires leads { Leads nodes.old (Some left) × Leads nodes.old (Some right) }

@@ -123,6 +123,7 @@ impl Nodes {
     }
 
     /// Puts a chunk under its number, which no other has. There is room for it, so no memory is taken.
+    #[inline(always)]
     pub fn put(&mut self, chunk_id: u64, chunk: LinkedChunk) -> Link
         requires room { 0 < room_of self.old }
         requires numbered { (chunk.chunk).chunk_id ≡ chunk_id }
@@ -141,6 +142,7 @@ impl Nodes {
     }
 
     /// Takes the chunk that a link leads to out of its slot. No other is linked to it.
+    #[inline(always)]
     pub fn remove(&mut self, link: Link)
         requires there { Reaches self.old (Some link) }
         requires alone { IsAlone link.chunk_id (held_at self.old) }

@@ -1,0 +1,6 @@
+use Rattle.std.proofs.lemmas.List.{map-set}
+use Rattle.gpu_block_gaps.specs.Records.{gap_of}
+use Rattle.gpu_block_gaps.proofs.thread.set_gap.Goals as goal
+
+pub returns-clause-gaps : goal.returns-clause-gaps
+returns-clause-gaps c = map-set gap_of c.args.records.now c.args.slot _
