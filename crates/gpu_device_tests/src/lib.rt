@@ -4,9 +4,6 @@
 pub mod d3d12;
 pub mod metal;
 #[cfg(test)]
-mod vulkan;
-
-/// What a run of a test ends with in which one request for host memory was refused, after all else held.
-/// `tools/check_refused` refuses each in turn, and looks for this text.
+mod steps;
 #[cfg(test)]
-const TOLD: &str = "one call was refused, and nothing was lost";
+mod vulkan;

@@ -1,6 +1,7 @@
 //! The answers of the simulated DirectX 12 device, with ample memory and with memory refused.
 
 use super::laws::make_and_release;
+use crate::steps::check;
 use gpu_device::d3d12::{
     ClearValue, CpuPageProperty, D3D12Device, Format, HeapContent, HeapDesc, HeapFlags,
     HeapProperties, HeapType, ID3D12Heap, ID3D12Resource, MemoryPool, ResourceDesc,
@@ -8,7 +9,7 @@ use gpu_device::d3d12::{
 };
 use gpu_sim::SimD3D12;
 use gpu_sim_base::Refusal;
-use std::process::Abort;
+use std::alloc::{AllocError, Global};
 use std::test::Fail;
 
 const PROPERTIES: HeapProperties = HeapProperties {
@@ -48,107 +49,119 @@ fn buffer(width: u64) -> ResourceDesc {
     }
 }
 
-/// Looks that a device was asked for nothing.
-fn check_new(rt: &impl Abort, sim: &SimD3D12) {
-    assert!(rt; (sim.held(), sim.questions(), sim.refusals()) == (0, 0, 0));
-    assert!(rt; sim.last_heap().is_none());
-    assert!(rt; sim.last_resource().is_none());
-    assert!(rt; sim.last_formats().is_none());
-    assert!(rt; sim.last_clear().is_none());
-    assert!(rt; sim.last_memory().is_none());
+/// A device of this tier, with these refusals.
+fn device(
+    alloc: Global,
+    tier: Result<ResourceHeapTier, i32>,
+    refusals: &[(u64, Refusal)],
+) -> Result<SimD3D12, AllocError> {
+    Ok(SimD3D12::new(alloc, tier, Vec::from_slice(alloc, refusals)?))
 }
 
-#[test]
-fn tells_what_it_was_given(rt: HostRuntime) {
-    let sim = SimD3D12::new(
-        rt.alloc(),
-        Ok(ResourceHeapTier::Tier1),
-        Vec::new(rt.alloc()),
-    );
-    assert!(rt; sim.resource_heap_tier() == Ok(ResourceHeapTier::Tier1));
-    assert!(rt; sim.device_removed_reason() == -2005270523);
-    check_new(&rt, &sim);
-    let none = SimD3D12::new(rt.alloc(), Err(-5), Vec::new(rt.alloc()));
-    assert!(rt; none.resource_heap_tier() == Err(-5));
+/// Whether the device holds so much, was asked so many questions, and refused so many.
+pub(super) fn counts(sim: &SimD3D12, want: (usize, u64, u64)) -> bool {
+    (sim.held(), sim.questions(), sim.refusals()) == want
 }
 
-/// A heap and a resource, with a heap refused behind each.
-fn two_refused(rt: &impl Abort, sim: &mut SimD3D12) {
-    assert!(rt; sim.create_heap(&HEAP) == Ok(Some(ID3D12Heap(1))));
-    let small = HeapDesc {
-        size: 65536,
-        ..HEAP
-    };
-    assert!(rt; sim.create_heap(&small) == Err(-7));
-    assert!(rt; sim.last_heap() == Some(small));
+/// Whether a device tells this tier, and was asked for nothing.
+fn is_new(sim: &SimD3D12, tier: Result<ResourceHeapTier, i32>) -> bool {
+    sim.resource_heap_tier() == tier
+        && sim.device_removed_reason() == -2005270523
+        && counts(sim, (0, 0, 0))
+        && sim.last_heap().is_none()
+        && sim.last_resource().is_none()
+        && sim.last_formats().is_none()
+        && sim.last_clear().is_none()
+        && sim.last_memory().is_none()
+}
+
+/// Asks for a heap of this size, which the device remembers.
+pub(super) fn heap(sim: &mut SimD3D12, size: u64, want: Result<Option<ID3D12Heap>, i32>) -> bool {
+    let desc = HeapDesc { size, ..HEAP };
+    sim.create_heap(&desc) == want && sim.last_heap() == Some(desc)
+}
+
+/// Asks for a resource in the first heap.
+fn placed(sim: &mut SimD3D12) -> bool {
     let placed = sim.create_placed_resource(ID3D12Heap(1), 0, &buffer(1), 0, Some(&CLEAR));
-    assert!(rt; placed == Ok(Some(ID3D12Resource(2))));
-    assert!(rt; sim.last_clear() == Some(CLEAR));
-    assert!(rt; sim.create_heap(&HEAP) == Ok(None));
-    assert!(rt; (sim.held(), sim.questions(), sim.refusals()) == (2, 4, 2));
+    placed == Ok(Some(ID3D12Resource(2))) && sim.last_clear() == Some(CLEAR)
 }
 
 /// Gives back what isn't there, and then the heap, twice, and the resource.
-fn release_all(rt: &impl Abort, sim: &mut SimD3D12) {
+fn release_all(sim: &mut SimD3D12) -> bool {
     sim.release_heap(ID3D12Heap(2));
     sim.release_resource(ID3D12Resource(1));
     sim.release_resource(ID3D12Resource(9));
-    assert!(rt; sim.held() == 2);
+    let both = sim.held();
     sim.release_resource(ID3D12Resource(2));
     sim.release_heap(ID3D12Heap(1));
     sim.release_heap(ID3D12Heap(1));
-    assert!(rt; sim.held() == 0);
+    both == 2 && counts(sim, (0, 4, 2))
 }
+
+const SIZE: u64 = 4 << 20;
 
 #[test]
 fn numbers_after_a_refusal(rt: HostRuntime) -> Result<(), Fail> {
-    let refusals = vec![in rt.alloc();
+    let refusals = [
         (2, Refusal::Code(-7)),
         (2, Refusal::Null),
         (4, Refusal::Null),
-    ]?;
-    let mut sim = SimD3D12::new(rt.alloc(), Ok(ResourceHeapTier::Tier2), refusals);
-    two_refused(&rt, &mut sim);
-    release_all(&rt, &mut sim);
-    assert!(rt; sim.create_heap(&HEAP) == Ok(Some(ID3D12Heap(3))));
+    ];
+    let mut sim = device(rt.alloc(), Ok(ResourceHeapTier::Tier2), &refusals)?;
+    let steps = [
+        heap(&mut sim, SIZE, Ok(Some(ID3D12Heap(1)))),
+        heap(&mut sim, 65536, Err(-7)),
+        placed(&mut sim),
+        heap(&mut sim, SIZE, Ok(None)),
+        counts(&sim, (2, 4, 2)),
+        release_all(&mut sim),
+        heap(&mut sim, SIZE, Ok(Some(ID3D12Heap(3)))),
+    ];
+    check(&rt, &steps);
     Ok(())
 }
 
-/// A committed resource without formats.
-fn committed(rt: &impl Abort, sim: &mut SimD3D12) {
+/// Asks for a committed resource without formats.
+fn committed(sim: &mut SimD3D12) -> bool {
     let flags = HeapFlags(0xc0);
     let committed = sim.create_committed_resource(&PROPERTIES, flags, &buffer(1), 0, Some(&CLEAR));
-    assert!(rt; committed == Ok(Some(ID3D12Resource(1))));
-    assert!(rt; sim.last_formats().is_none());
-    assert!(rt; sim.last_clear() == Some(CLEAR));
-    assert!(rt; sim.last_memory() == Some((PROPERTIES, flags)));
+    committed == Ok(Some(ID3D12Resource(1)))
+        && sim.last_formats().is_none()
+        && sim.last_clear() == Some(CLEAR)
+        && sim.last_memory() == Some((PROPERTIES, flags))
+        && sim.last_heap().is_none()
 }
 
 #[test]
-fn a_committed_resource_is_told_whole(rt: HostRuntime) {
-    let mut sim = SimD3D12::new(
-        rt.alloc(),
-        Ok(ResourceHeapTier::Tier2),
-        Vec::new(rt.alloc()),
-    );
-    committed(&rt, &mut sim);
-    assert!(rt; sim.last_heap().is_none());
-    assert!(rt; (sim.held(), sim.questions(), sim.refusals()) == (1, 1, 0));
+fn tells_what_it_was_given_and_a_committed_resource_whole(rt: HostRuntime) -> Result<(), Fail> {
+    let tier = Ok(ResourceHeapTier::Tier1);
+    let mut sim = device(rt.alloc(), tier, &[])?;
+    let steps = [
+        is_new(&sim, tier),
+        committed(&mut sim),
+        counts(&sim, (1, 1, 0)),
+    ];
+    check(&rt, &steps);
+    Ok(())
+}
+
+/// Makes a heap and a resource in it, and gives both back: whether that answers so, and leaves these counts.
+fn made(sim: &mut SimD3D12, granted: bool, questions: u64, refusals: u64) -> bool {
+    make_and_release(sim, &HEAP, &buffer(512)) == granted && counts(sim, (0, questions, refusals))
 }
 
 #[test]
-fn made_and_released(rt: HostRuntime) -> Result<(), Fail> {
-    let refusals = vec![in rt.alloc(); (4, Refusal::Null), (5, Refusal::Code(-1))]?;
-    let mut sim = SimD3D12::new(rt.alloc(), Ok(ResourceHeapTier::Tier2), refusals);
-    for (granted, questions, refused) in [
-        (true, 2, 0),
-        (false, 4, 1),
-        (false, 5, 2),
-        (true, 7, 2),
-    ] {
-        assert!(rt; make_and_release(&mut sim, &HEAP, &buffer(512)) == granted);
-        assert!(rt; (sim.questions(), sim.refusals()) == (questions, refused));
-        assert!(rt; sim.held() == 0);
-    }
+fn made_and_released_without_a_tier(rt: HostRuntime) -> Result<(), Fail> {
+    let refusals = [(4, Refusal::Null), (5, Refusal::Code(-1))];
+    let mut sim = device(rt.alloc(), Err(-5), &refusals)?;
+    let steps = [
+        is_new(&sim, Err(-5)),
+        made(&mut sim, true, 2, 0),
+        made(&mut sim, false, 4, 1),
+        made(&mut sim, false, 5, 2),
+        made(&mut sim, true, 7, 2),
+    ];
+    check(&rt, &steps);
     Ok(())
 }

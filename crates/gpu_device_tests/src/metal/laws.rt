@@ -8,7 +8,6 @@ use gpu_device::metal::{HeapDescriptor, MTLHeap, MTLResidencySet, MetalDevice};
 
 /// Makes a heap, adds it to an empty set, commits the set and removes the heap from it again: then the set has no member,
 /// and that heap as its committed member. A refused heap leaves the set as it was.
-#[tactic(auto, using(gpu_device::proofs::HeapsAndSets::metal_changes))]
 pub fn commit_one_heap<D: MetalDevice>(
     device: &mut D,
     set: MTLResidencySet,

@@ -4,32 +4,36 @@ ghost use Rattle.std.specs.Prelude.{All};
 ghost use Rattle.gpu_device.specs.Metal.{IsHeap, IsSet};
 ghost use Rattle.gpu_sim_metal.specs.Simulation.{held_of};
 
-use super::tests::{PRIVATE, set_and_heap};
-use crate::TOLD;
+use super::tests::{PRIVATE, counts, heap, set_and_heap};
+use crate::steps::ends;
 use gpu_device::metal::{MTLHeap, MTLResidencySet, MetalDevice};
 use gpu_sim::SimMetal;
-use std::process::Abort;
+use std::alloc::Global;
 use std::test::Fail;
 
 const HEAPS: usize = 10_000;
 
 /// Where the host refuses memory, the counts alone tell of it: no number is lost.
+fn ask(sim: &mut SimMetal) -> (bool, bool) {
+    match set_and_heap(sim) {
+        Some(both) => {
+            let held = both == (MTLResidencySet(1), MTLHeap(2)) && counts(sim, (2, 2, 0));
+            (false, held)
+        }
+        None => {
+            let held = sim.held();
+            let next = (held as u64).saturating_add(1);
+            let held = counts(sim, (held, next, 1)) && heap(sim, 512, Some(MTLHeap(next)));
+            (true, held)
+        }
+    }
+}
+
 #[test]
 fn a_set_and_a_heap(rt: HostRuntime) -> Result<(), Fail> {
     let mut sim = SimMetal::new(rt.alloc(), true, Vec::new(rt.alloc()));
-    match set_and_heap(&mut sim) {
-        Some(both) => {
-            assert!(rt; both == (MTLResidencySet(1), MTLHeap(2)));
-            assert!(rt; (sim.held(), sim.questions(), sim.refusals()) == (2, 2, 0));
-            Ok(())
-        }
-        None => {
-            let next = (sim.held() as u64).saturating_add(1);
-            assert!(rt; (sim.questions(), sim.refusals()) == (next, 1));
-            assert!(rt; sim.new_heap(&PRIVATE, 512, "heap") == Some(MTLHeap(next)));
-            Err(Fail::new(TOLD))
-        }
-    }
+    let (refused, held) = ask(&mut sim);
+    ends(refused, held)
 }
 
 /// Makes heaps until one is refused or there are so many, and adds each to the set and to the list of heaps.
@@ -75,44 +79,51 @@ fn remove_each(sim: &mut SimMetal, set: MTLResidencySet, heaps: &[MTLHeap])
     }
 }
 
-/// What the set has, and what it had at the last commit.
-fn check_set(
-    rt: &impl Abort,
-    sim: &SimMetal,
-    set: MTLResidencySet,
-    members: &[MTLHeap],
-    committed: &[MTLHeap],
-) {
-    assert!(rt; sim.members(set) == Some(members));
-    assert!(rt; sim.committed_members(set) == Some(committed));
+/// Whether the set has these heaps, and had those at the last commit.
+fn has(sim: &SimMetal, set: MTLResidencySet, members: &[MTLHeap], committed: &[MTLHeap]) -> bool {
+    sim.members(set) == Some(members) && sim.committed_members(set) == Some(committed)
+}
+
+/// Removes the set's heaps, adds them again and commits.
+#[tactic(auto, using(gpu_device::proofs::HeapsAndSets::metal_kinds))]
+fn remove_and_add(sim: &mut SimMetal, set: MTLResidencySet, heaps: &[MTLHeap]) -> bool
+    requires set { IsSet (held_of sim.old) set.0 }
+    requires heaps { All (λ heap. IsHeap (held_of sim.old) heap.0) heaps.now }
+{
+    let full = has(sim, set, heaps, &[]);
+    remove_each(sim, set, heaps);
+    let empty = has(sim, set, &[], &[]);
+    add_each(sim, set, heaps);
+    let again = has(sim, set, heaps, &[]);
+    sim.commit(set);
+    full && empty && again && has(sim, set, heaps, heaps)
+}
+
+/// Fills a set, and looks that its calls take no memory.
+#[tactic(auto, using(gpu_device::proofs::HeapsAndSets::metal_kinds))]
+fn fill(alloc: Global, sim: &mut SimMetal) -> (bool, bool) {
+    let Ok(mut heaps) = Vec::with_capacity(alloc, HEAPS) else {
+        return (true, true);
+    };
+    let Ok(set) = sim.new_residency_set("set") else {
+        return (true, counts(sim, (0, 1, 1)));
+    };
+    add_new(sim, set, &mut heaps);
+    let count = heaps.len();
+    let held = sim.held() == count + 1 && remove_and_add(sim, set, &heaps);
+    let refused = sim.refusals() == 1;
+    (
+        refused,
+        held && (refused || (count, sim.refusals()) == (HEAPS, 0)),
+    )
 }
 
 /// Once the heaps are made and added, removing them, adding them again and committing take no memory: those calls can't
 /// tell of a refusal, so `tools/check_refused` would find any request of theirs. A set looks through its members for a heap
 /// that is added: a fifth of a second in all as it is built, and over a minute under the checks of `rt try --test`.
 #[test]
-#[tactic(auto, using(gpu_device::proofs::HeapsAndSets::metal_kinds))]
 fn a_set_has_room_for_ten_thousand_heaps(rt: HostRuntime) -> Result<(), Fail> {
     let mut sim = SimMetal::new(rt.alloc(), true, Vec::new(rt.alloc()));
-    let Ok(mut heaps) = Vec::with_capacity(rt.alloc(), HEAPS) else {
-        return Err(Fail::new(TOLD));
-    };
-    let Ok(set) = sim.new_residency_set("set") else {
-        assert!(rt; (sim.held(), sim.questions(), sim.refusals()) == (0, 1, 1));
-        return Err(Fail::new(TOLD));
-    };
-    add_new(&mut sim, set, &mut heaps);
-    assert!(rt; sim.held() == heaps.len() + 1);
-    check_set(&rt, &sim, set, &heaps, &[]);
-    remove_each(&mut sim, set, &heaps);
-    check_set(&rt, &sim, set, &[], &[]);
-    add_each(&mut sim, set, &heaps);
-    check_set(&rt, &sim, set, &heaps, &[]);
-    sim.commit(set);
-    check_set(&rt, &sim, set, &heaps, &heaps);
-    if sim.refusals() == 1 {
-        return Err(Fail::new(TOLD));
-    }
-    assert!(rt; (heaps.len(), sim.refusals()) == (HEAPS, 0));
-    Ok(())
+    let (refused, held) = fill(rt.alloc(), &mut sim);
+    ends(refused, held)
 }

@@ -1,12 +1,12 @@
 //! The answers of the simulated Metal device, with ample memory and with memory refused.
 
 use super::laws::commit_one_heap;
+use crate::steps::check;
 use gpu_device::metal::{
     CpuCacheMode, HeapDescriptor, MTLHeap, MTLResidencySet, MetalDevice, StorageMode,
 };
 use gpu_sim::SimMetal;
 use gpu_sim_base::Refusal;
-use std::process::Abort;
 use std::test::Fail;
 
 pub(super) const PRIVATE: HeapDescriptor = HeapDescriptor {
@@ -14,28 +14,35 @@ pub(super) const PRIVATE: HeapDescriptor = HeapDescriptor {
     cpu_cache_mode: CpuCacheMode::DefaultCache,
 };
 
-/// A set and a heap, with a heap and two sets refused.
-fn three_refused(rt: &impl Abort, sim: &mut SimMetal) -> Result<MTLHeap, Fail> {
-    assert!(rt; sim.last_heap().is_none());
-    let set = MTLResidencySet(1);
-    assert!(rt; sim.new_residency_set("set") == Ok(set));
-    assert!(rt; sim.new_heap(&PRIVATE, 512, "heap").is_none());
-    assert!(rt; sim.last_heap() == Some((PRIVATE, 512)));
-    let heap = sim.new_heap(&PRIVATE, 1024, "heap").ok_or("heap")?;
-    assert!(rt; heap == MTLHeap(2));
-    assert!(rt; sim.new_residency_set("set") == Err(-1));
-    assert!(rt; sim.new_residency_set("set") == Err(-3));
-    Ok(heap)
+/// Whether the device holds so much, was asked so many questions, and refused so many.
+pub(super) fn counts(sim: &SimMetal, want: (usize, u64, u64)) -> bool {
+    (sim.held(), sim.questions(), sim.refusals()) == want
+}
+
+/// Asks for a heap of this size, which the device remembers.
+pub(super) fn heap(sim: &mut SimMetal, size: u64, want: Option<MTLHeap>) -> bool {
+    sim.new_heap(&PRIVATE, size, "heap") == want && sim.last_heap() == Some((PRIVATE, size))
+}
+
+/// Asks for a set.
+fn set(sim: &mut SimMetal, want: Result<MTLResidencySet, i32>) -> bool {
+    sim.new_residency_set("set") == want
+}
+
+/// Looks for sets under the number of a heap, and under one that stands for nothing.
+fn no_sets(sim: &SimMetal) -> bool {
+    sim.members(MTLResidencySet(2)).is_none() && sim.committed_members(MTLResidencySet(9)).is_none()
 }
 
 /// Gives back what is no heap, and then the heap, twice.
-fn release_all(rt: &impl Abort, sim: &mut SimMetal, heap: MTLHeap) {
+fn release_all(sim: &mut SimMetal) -> bool {
     sim.release_heap(MTLHeap(1));
-    sim.release_heap(heap);
-    sim.release_heap(heap);
-    assert!(rt; sim.held() == 1);
+    sim.release_heap(MTLHeap(2));
+    sim.release_heap(MTLHeap(2));
+    sim.held() == 1
 }
 
+/// A set and a heap, with a heap and two sets refused.
 #[test]
 fn heaps_and_sets(rt: HostRuntime) -> Result<(), Fail> {
     let refusals = vec![in rt.alloc();
@@ -44,12 +51,19 @@ fn heaps_and_sets(rt: HostRuntime) -> Result<(), Fail> {
         (5, Refusal::Code(-3)),
     ]?;
     let mut sim = SimMetal::new(rt.alloc(), true, refusals);
-    let heap = three_refused(&rt, &mut sim)?;
-    assert!(rt; (sim.held(), sim.questions(), sim.refusals()) == (2, 5, 3));
-    assert!(rt; sim.members(MTLResidencySet(2)).is_none());
-    assert!(rt; sim.committed_members(MTLResidencySet(9)).is_none());
-    release_all(&rt, &mut sim, heap);
-    assert!(rt; sim.new_heap(&PRIVATE, 1, "heap") == Some(MTLHeap(3)));
+    let steps = [
+        sim.last_heap().is_none(),
+        set(&mut sim, Ok(MTLResidencySet(1))),
+        heap(&mut sim, 512, None),
+        heap(&mut sim, 1024, Some(MTLHeap(2))),
+        set(&mut sim, Err(-1)),
+        set(&mut sim, Err(-3)),
+        counts(&sim, (2, 5, 3)),
+        no_sets(&sim),
+        release_all(&mut sim),
+        heap(&mut sim, 1, Some(MTLHeap(3))),
+    ];
+    check(&rt, &steps);
     Ok(())
 }
 

@@ -4,9 +4,10 @@ ghost use Rattle.std.specs.Prelude.{◌≡◌, ◌≢◌, ◌+◌, ◌≤◌, �
 ghost use Rattle.std.specs.FinMap.{get};
 ghost use Rattle.gpu_device.specs.Held.{range_of, bytes_of, size_of, with_range, HasRange, raised};
 
-use super::{device, info};
+use super::{counts, device, has_bytes, info};
+use crate::steps::check;
 use gpu_device::vulkan::{DeviceMemory, MemoryAllocateInfo, MemoryTypeInfo, VulkanDevice};
-use gpu_sim::Refusal;
+use gpu_sim::{Refusal, SimVulkan};
 use std::test::Fail;
 
 /// Writes bytes into a memory.
@@ -133,36 +134,62 @@ fn null_bytes<D: VulkanDevice>(device: &D) -> Option<&[u8]>
     device.bytes(DeviceMemory(0), 0, 0)
 }
 
+/// Writes bytes, which are then read.
+fn read_back(sim: &mut SimVulkan, memory: DeviceMemory) -> bool {
+    sim.bytes(memory, 2, 3).is_some()
+        && write_then_read(sim, memory, 2, &[1, 2, 3]) == Some([1u8, 2, 3].as_slice())
+}
+
+/// Writes to another memory, and beside what was written.
+fn write_beside(sim: &mut SimVulkan, first: DeviceMemory, second: DeviceMemory) -> bool {
+    if first == second || sim.bytes(second, 0, 8).is_none() {
+        return false;
+    }
+    write_leaves_another(sim, second, first, 0, &[9, 9, 9, 9, 9, 9, 9, 9]);
+    if sim.bytes(first, 5, 1).is_none() {
+        return false;
+    }
+    write_leaves_the_rest(sim, first, 5, &[4], 0, 5);
+    has_bytes(sim, first, 0, &[0, 0, 1, 2, 3, 4, 0, 0])
+}
+
+/// Writes to two mapped memories of a device.
+fn write_to_two(sim: &mut SimVulkan) -> bool {
+    let Some(first) = allocate_mapped(sim, &info(8)) else {
+        return false;
+    };
+    match allocate_mapped(sim, &info(8)) {
+        Some(second) => read_back(sim, first) && write_beside(sim, first, second),
+        None => false,
+    }
+}
+
+/// The bytes of a new memory, and of the null memory.
+fn new_and_null(sim: &mut SimVulkan) -> bool {
+    new_bytes(sim, &info(3)) == Some([0u8, 0, 0].as_slice()) && null_bytes(sim).is_none()
+}
+
 #[test]
 fn two_memories(rt: HostRuntime) -> Result<(), Fail> {
-    let mut sim = device(rt.alloc(), u64::MAX, Vec::new(rt.alloc()))?;
-    let first = allocate_mapped(&mut sim, &info(8)).ok_or("first")?;
-    let second = allocate_mapped(&mut sim, &info(8)).ok_or("second")?;
-    assert!(rt; first != second);
-    assert!(rt; sim.bytes(first, 2, 3).is_some());
-    let read = write_then_read(&mut sim, first, 2, &[1, 2, 3]).ok_or("read")?;
-    assert!(rt; read == [1u8, 2, 3].as_slice());
-    assert!(rt; sim.bytes(second, 0, 8).is_some());
-    write_leaves_another(&mut sim, second, first, 0, &[9, 9, 9, 9, 9, 9, 9, 9]);
-    assert!(rt; sim.bytes(first, 5, 1).is_some());
-    write_leaves_the_rest(&mut sim, first, 5, &[4], 0, 5);
-    let all = sim.bytes(first, 0, 8).ok_or("all")?;
-    assert!(rt; all == [0u8, 0, 1, 2, 3, 4, 0, 0].as_slice());
-    let new = new_bytes(&mut sim, &info(3)).ok_or("new")?;
-    assert!(rt; new == [0u8, 0, 0].as_slice());
-    assert!(rt; null_bytes(&sim).is_none());
+    let mut sim = device(rt.alloc(), u64::MAX, &[])?;
+    let steps = [write_to_two(&mut sim), new_and_null(&mut sim)];
+    check(&rt, &steps);
     Ok(())
+}
+
+/// Asks for two mapped memories, of which the mapping and the memory are refused, and for a memory type.
+fn refused(sim: &mut SimVulkan) -> bool {
+    allocate_mapped(sim, &info(8)).is_none()
+        && allocate_mapped(sim, &info(9)).is_none()
+        && counts(sim, (0, 3, 2))
+        && sim.memory_type_count() == 2
+        && type_after_question(sim, &info(1), 1).property_flags.0 == 6
 }
 
 #[test]
 fn refused_mapping(rt: HostRuntime) -> Result<(), Fail> {
-    let script = vec![in rt.alloc(); (2, Refusal::Null), (3, Refusal::Code(-2))]?;
-    let mut sim = device(rt.alloc(), u64::MAX, script)?;
-    assert!(rt; allocate_mapped(&mut sim, &info(8)).is_none());
-    assert!(rt; allocate_mapped(&mut sim, &info(9)).is_none());
-    assert!(rt; sim.held() == 0);
-    assert!(rt; sim.refusals() == 2);
-    assert!(rt; sim.memory_type_count() == 2);
-    assert!(rt; type_after_question(&mut sim, &info(1), 1).property_flags.0 == 6);
+    let script = [(2, Refusal::Null), (3, Refusal::Code(-2))];
+    let mut sim = device(rt.alloc(), u64::MAX, &script)?;
+    check(&rt, &[refused(&mut sim)]);
     Ok(())
 }

@@ -3,10 +3,12 @@
 ghost use Rattle.std.specs.Prelude.{refl};
 ghost use Rattle.gpu_device.specs.VulkanHistory.{refused_in, latest_in};
 
-use super::{device, info};
+use super::{counts, device, memory};
+use crate::steps::check;
 use gpu_device::vulkan::{
     DeviceMemory, Journal, MemoryAllocateInfo, MemoryHeap, MemoryTypeInfo, VulkanDevice,
 };
+use gpu_sim::SimVulkan;
 use std::test::Fail;
 
 /// A device that refuses memory above a limit, without asking the device behind it.
@@ -107,18 +109,23 @@ impl<D: VulkanDevice> VulkanDevice for Limited<D> {
     }
 }
 
+/// Asks for too much, which the device behind isn't asked for, and for as much as is allowed.
+fn ask(limited: &mut Limited<SimVulkan>) -> bool {
+    let asked = memory(limited, 65, Err(-2))
+        && counts(&limited.inner, (0, 0, 0))
+        && memory(limited, 64, Ok(DeviceMemory(1)))
+        && limited.bytes_mut(DeviceMemory(1), 0, 1).is_none();
+    limited.free_memory(DeviceMemory(1));
+    asked && counts(&limited.inner, (0, 1, 0)) && limited.refusals() == 1
+}
+
 #[test]
 fn keeps_the_budget(rt: HostRuntime) -> Result<(), Fail> {
     let mut limited = Limited {
-        inner: device(rt.alloc(), u64::MAX, Vec::new(rt.alloc()))?,
+        inner: device(rt.alloc(), u64::MAX, &[])?,
         limit: 64,
         journal: Journal::new(),
     };
-    assert!(rt; limited.allocate_memory(&info(65)) == Err(-2));
-    assert!(rt; limited.allocate_memory(&info(64)) == Ok(DeviceMemory(1)));
-    assert!(rt; limited.bytes_mut(DeviceMemory(1), 0, 1).is_none());
-    limited.free_memory(DeviceMemory(1));
-    assert!(rt; limited.inner.held() == 0);
-    assert!(rt; limited.refusals() == 1);
+    check(&rt, &[ask(&mut limited)]);
     Ok(())
 }
