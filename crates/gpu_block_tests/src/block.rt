@@ -1,11 +1,10 @@
 //! Tests of what no contract says: worked rows, printed texts, and that each call succeeds while there is memory.
 
-ghost use Rattle.std.specs.Prelude.{◌≡◌, ◌≢◌, ℕ, IfOk, IsTrue};
+ghost use Rattle.std.specs.Prelude.{◌≡◌, ◌≢◌, ◌<◌, ℕ, IfOk};
 ghost use Rattle.gpu_block.specs.Block.{HasPages};
 ghost use Rattle.gpu_block.specs.SubAllocator.{block_of};
-ghost use Rattle.std.specs.Int.{is_power_of_two};
 
-mod free_list;
+mod calls;
 mod leaks;
 mod refused;
 mod refused_or_served;
@@ -13,46 +12,28 @@ mod search;
 mod sub_allocator;
 
 use gpu_block::{DedicatedBlockAllocator, FreeListAllocator, SubAllocator};
-use gpu_values::{AllocationType, Result};
+use gpu_values::{AllocationError, AllocationType, Result};
 use std::alloc::Global;
-use std::fmt::Display;
 use std::num::NonZeroU64;
-use std::process::Abort;
 
 const MB: u64 = 1_048_576;
 
-fn check_text<D: Display>(rt: &impl Abort, alloc: Global, value: &D, want: &str) -> Result<()> {
-    let text = value.to_string(alloc)?;
-    assert!(rt; text.as_str() == want);
-    Ok(())
-}
-
-fn block_of(rt: &impl Abort, alloc: Global, granularity: u64) -> Result<FreeListAllocator>
-    ensures { IfOk result (λ b. b.block.granularity ≡ granularity) }
-{
-    assert!(rt; granularity.is_power_of_two());
-    FreeListAllocator::new(alloc, 4 * MB, granularity)
-}
-
-fn granularity_one(rt: &impl Abort) -> u64
-    ensures value { result ≡ 1 }
-    ensures power { IsTrue (is_power_of_two result) }
-{
-    let granularity = 1u64;
-    assert!(rt; granularity.is_power_of_two());
-    granularity
-}
-
-fn general(rt: &impl Abort, alloc: Global, granularity: u64) -> Result<SubAllocator>
+/// A block that is cut into pieces.
+fn general(alloc: Global, size: u64, granularity: u64) -> Result<SubAllocator>
     ensures { IfOk result (λ b. HasPages (block_of b) granularity) }
 {
-    Ok(SubAllocator::FreeList(block_of(rt, alloc, granularity)?))
+    if size == 0 || !granularity.is_power_of_two() {
+        return Err(AllocationError::InvalidAllocationCreateDesc);
+    }
+    let list = FreeListAllocator::new(alloc, size, granularity)?;
+    Ok(SubAllocator::FreeList(list))
 }
 
-fn dedicated(rt: &impl Abort, alloc: Global, size: u64) -> SubAllocator
+/// A block that is one piece's own.
+fn dedicated(alloc: Global, size: u64) -> SubAllocator
+    requires { 0 < size }
     ensures { HasPages (block_of result) 1 }
 {
-    assert!(rt; size > 0);
     SubAllocator::Dedicated(DedicatedBlockAllocator::new(alloc, size))
 }
 
@@ -66,26 +47,28 @@ struct Request<'a> {
     name: &'a str,
 }
 
-fn wanted(size: u64, name: &str) -> Request<'_>
+fn linear(size: u64, alignment: u64, granularity: u64, name: &str) -> Request<'_>
     ensures piece { result.kind ≢ AllocationType.Free }
-    ensures paged { result.granularity ≡ 1 }
+    ensures paged { result.granularity ≡ granularity }
 {
     Request {
         size,
-        alignment: 1,
+        alignment,
         kind: AllocationType::Linear,
-        granularity: 1,
+        granularity,
         name,
     }
 }
 
-fn allocate(rt: &impl Abort, block: &mut SubAllocator, asked: Request) -> Result<(u64, u64)>
+/// The offset and the number of a piece that is taken.
+fn allocate(block: &mut SubAllocator, asked: Request) -> Result<(u64, u64)>
     requires paged { HasPages (block_of block.old) asked.granularity }
     requires piece { asked.kind ≢ AllocationType.Free }
     ensures { (g : ℕ) → HasPages (block_of block.old) g → HasPages (block_of block.new) g }
 {
-    assert!(rt; asked.size > 0);
-    assert!(rt; asked.alignment.is_power_of_two());
+    if asked.size == 0 || !asked.alignment.is_power_of_two() {
+        return Err(AllocationError::InvalidAllocationCreateDesc);
+    }
     let (offset, chunk_id) = block.allocate(
         asked.size,
         asked.alignment,
@@ -96,6 +79,14 @@ fn allocate(rt: &impl Abort, block: &mut SubAllocator, asked: Request) -> Result
     Ok((offset, chunk_id.get()))
 }
 
+/// Whether this offset and number were given.
+fn gave(answer: Result<(u64, u64)>, want: (u64, u64)) -> bool {
+    match answer {
+        Ok(got) => got == want,
+        Err(_) => false,
+    }
+}
+
 /// 0 stands for no number.
 fn free(block: &mut SubAllocator, chunk_id: u64) -> Result<()>
     ensures { (g : ℕ) → HasPages (block_of block.old) g → HasPages (block_of block.new) g }
@@ -103,6 +94,14 @@ fn free(block: &mut SubAllocator, chunk_id: u64) -> Result<()>
     block.free(NonZeroU64::new(chunk_id))
 }
 
+/// Gives another name. 0 stands for no number.
+fn rename(block: &mut SubAllocator, chunk_id: u64, name: &str) -> Result<()>
+    ensures { (g : ℕ) → HasPages (block_of block.old) g → HasPages (block_of block.new) g }
+{
+    block.rename_allocation(NonZeroU64::new(chunk_id), name)
+}
+
+/// Names, offsets and sizes of the live pieces.
 fn report_text(block: &SubAllocator, alloc: Global) -> Result<String> {
     let mut text = String::new(alloc);
     for row in &block.report_allocations()? {
@@ -113,10 +112,4 @@ fn report_text(block: &SubAllocator, alloc: Global) -> Result<String> {
         text.push_str(line.as_str())?;
     }
     Ok(text)
-}
-
-fn check_report(rt: &impl Abort, alloc: Global, block: &SubAllocator, want: &str) -> Result<()> {
-    let text = report_text(block, alloc)?;
-    assert!(rt; text.as_str() == want);
-    Ok(())
 }

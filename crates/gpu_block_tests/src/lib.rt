@@ -4,4 +4,6 @@
 #[cfg(test)]
 mod block;
 #[cfg(test)]
+mod steps;
+#[cfg(test)]
 mod values;

@@ -6,264 +6,205 @@ ghost use Rattle.std.specs.Prelude.{◌≡◌, ◌≢◌, ℕ};
 ghost use Rattle.gpu_block.specs.Block.{HasPages};
 ghost use Rattle.gpu_block.specs.SubAllocator.{block_of};
 
-use super::{
-    MB, Request, allocate, dedicated, free, general, granularity_one, report_text, wanted,
-};
+use super::{MB, allocate, dedicated, free, gave, general, linear, rename, report_text};
+use crate::steps::{check, ends, is_refused, reads};
 use gpu_block::SubAllocator;
-use gpu_values::{AllocationError, AllocationReport, AllocationType, Result, fmt_bytes};
+use gpu_values::{AllocationReport, Result, fmt_bytes};
 use std::alloc::Global;
-use std::num::NonZeroU64;
-use std::process::Abort;
 use std::test::Fail;
 
-/// What a run ends with in which one request was refused.
-pub const TOLD: &str = "one call was refused, and nothing was lost";
+/// How a test ends.
+type Outcome = std::result::Result<(), Fail>;
 
-/// How many calls were refused.
-#[derive(Drop)]
-struct Refusals {
-    count: u64,
-}
-
-impl Refusals {
-    /// Whether a call was refused host memory, which is counted.
-    fn is_one<V: Drop>(&mut self, answer: &Result<V>) -> bool {
-        let is_one = matches!(answer, Err(AllocationError::HostOutOfMemory));
-        if is_one {
-            self.count = self.count.saturating_add(1);
-        }
-        is_one
-    }
-
-    /// How a test ends in which so many calls were refused.
-    fn end(&self) -> std::result::Result<(), Fail> {
-        match self.count {
-            0 => Ok(()),
-            1 => Err(Fail::new(TOLD)),
-            _ => Err(Fail::new("more than one call was refused")),
-        }
-    }
-}
-
-/// Allocates a piece; where the host refused memory nothing has changed, and it is asked for once more.
-fn take(
-    rt: &impl Abort,
+/// Takes a piece; where the host refused memory nothing has changed, and it is asked for once more.
+fn takes(
     block: &mut SubAllocator,
-    refusals: &mut Refusals,
-    asked: Request,
-) -> Result<(u64, u64)>
-    requires paged { HasPages (block_of block.old) asked.granularity }
-    requires piece { asked.kind ≢ AllocationType.Free }
+    refused: &mut u64,
+    size: u64,
+    name: &str,
+    want: (u64, u64),
+) -> bool
+    requires { HasPages (block_of block.old) 1 }
     ensures { (g : ℕ) → HasPages (block_of block.old) g → HasPages (block_of block.new) g }
 {
     let before = (block.allocated(), block.is_empty());
-    let answer = allocate(rt, block, asked);
-    if refusals.is_one(&answer) {
-        assert!(rt; (block.allocated(), block.is_empty()) == before);
-        return allocate(rt, block, asked);
+    let answer = allocate(block, linear(size, 1, 1, name));
+    if is_refused(refused, &answer) {
+        let after = (block.allocated(), block.is_empty());
+        return after == before && gave(allocate(block, linear(size, 1, 1, name)), want);
     }
-    answer
+    gave(answer, want)
 }
 
-/// What a report shows, asked for once more where the host refused memory. It stands in a text, which takes memory too.
-fn shown(block: &SubAllocator, alloc: Global, refusals: &mut Refusals) -> Result<String> {
+/// Whether a report shows this, asked for once more where the host refused memory. It stands in a text, which takes memory too.
+fn shows(block: &SubAllocator, alloc: Global, refused: &mut u64, want: &str) -> bool {
     let answer = report_text(block, alloc);
-    if refusals.is_one(&answer) {
-        return report_text(block, alloc);
+    if is_refused(refused, &answer) {
+        return reads(report_text(block, alloc), want);
     }
-    answer
+    reads(answer, want)
 }
 
-pub fn check_shown(rt: &impl Abort, text: &str, want: &str) {
-    assert!(rt; text == want);
-}
-
-/// Gives another name; where the host refused memory the old one stands, and it is given once more.
-fn rename(
-    rt: &impl Abort,
+/// Gives another name; where the host refused memory the report is as before, and the name is given once more.
+fn renames(
     block: &mut SubAllocator,
-    refusals: &mut Refusals,
     alloc: Global,
+    refused: &mut u64,
     chunk_id: u64,
     name: &str,
-) -> Result<()>
+    before: &str,
+) -> bool
     ensures { (g : ℕ) → HasPages (block_of block.old) g → HasPages (block_of block.new) g }
 {
-    let before = shown(block, alloc, refusals)?;
-    let answer = block.rename_allocation(NonZeroU64::new(chunk_id), name);
-    if refusals.is_one(&answer) {
-        let after = shown(block, alloc, refusals)?;
-        check_shown(rt, after.as_str(), before.as_str());
-        return block.rename_allocation(NonZeroU64::new(chunk_id), name);
+    let answer = rename(block, chunk_id, name);
+    if is_refused(refused, &answer) {
+        return shows(block, alloc, refused, before) && rename(block, chunk_id, name).is_ok();
     }
-    answer
+    answer.is_ok()
 }
 
-/// How many leaks there are by their texts, asked for once more where the host refused memory.
-fn count_leaks(block: &SubAllocator, refusals: &mut Refusals) -> Result<usize> {
-    let answer = block.leak_texts(0, 0);
-    if refusals.is_one(&answer) {
-        return Ok(block.leak_texts(0, 0)?.len());
+/// Whether there are so many texts.
+fn are_so_many(texts: Result<Vec<String>>, want: usize) -> bool {
+    match texts {
+        Ok(texts) => texts.len() == want,
+        Err(_) => false,
     }
-    Ok(answer?.len())
 }
+
+/// Whether there are so many leaks by their texts, asked for once more where the host refused memory.
+fn leaks(block: &SubAllocator, refused: &mut u64, want: usize) -> bool {
+    let answer = block.leak_texts(0, 0);
+    if is_refused(refused, &answer) {
+        return are_so_many(block.leak_texts(0, 0), want);
+    }
+    are_so_many(answer, want)
+}
+
+const LONG: &str = "a second piece with a longer name";
+
+const NEW: &str = "a name of more than thirty bytes";
 
 /// Two pieces with names, one of them long enough to have memory of its own, a gap, and a piece in it.
-fn calls(
-    rt: &impl Abort,
-    alloc: Global,
-    b: &mut SubAllocator,
-    refusals: &mut Refusals,
-) -> Result<()>
+fn calls(alloc: Global, b: &mut SubAllocator, refused: &mut u64) -> [bool; 8]
     requires { HasPages (block_of b.old) 1 }
-    ensures { (g : ℕ) → HasPages (block_of b.old) g → HasPages (block_of b.new) g }
 {
-    assert!(rt; take(rt, b, refusals, wanted(100, "first"))? == (0, 2));
-    assert!(rt;
-        take(
-            rt,
-            b,
-            refusals,
-            wanted(64, "a second piece with a longer name")
-        )? == (100, 3)
-    );
-    rename(
-        rt,
-        b,
-        refusals,
-        alloc,
-        3,
-        "a name of more than thirty bytes",
-    )?;
-    let text = shown(b, alloc, refusals)?;
-    check_shown(
-        rt,
-        text.as_str(),
-        "first 0 100;a name of more than thirty bytes 100 64;",
-    );
-    assert!(rt; count_leaks(b, refusals)? == 2);
-    assert!(rt; b.allocated() == 164);
-    assert!(rt; b.size() == 4 * MB);
-    free(b, 2)?;
-    assert!(rt; take(rt, b, refusals, wanted(50, "third"))? == (0, 4));
-    Ok(())
+    let before = "first 0 100;a second piece with a longer name 100 64;";
+    let after = "first 0 100;a name of more than thirty bytes 100 64;";
+    [
+        takes(b, refused, 100, "first", (0, 2)),
+        takes(b, refused, 64, LONG, (100, 3)),
+        renames(b, alloc, refused, 3, NEW, before),
+        shows(b, alloc, refused, after),
+        leaks(b, refused, 2),
+        (b.allocated(), b.size()) == (164, 4 * MB),
+        free(b, 2).is_ok(),
+        takes(b, refused, 50, "third", (0, 4)),
+    ]
 }
 
 /// Many pieces, so that the block's own lists grow, and all of them back.
-fn many(rt: &impl Abort, b: &mut SubAllocator, refusals: &mut Refusals) -> Result<()>
+fn many(b: &mut SubAllocator, refused: &mut u64) -> bool
     requires { HasPages (block_of b.old) 1 }
 {
     for place in 0..40u64 {
-        let (offset, chunk_id) = take(rt, b, refusals, wanted(16, "piece"))?;
-        assert!(rt; (offset, chunk_id) == (place.saturating_mul(16), place.saturating_add(2)));
+        let want = (place.saturating_mul(16), place.saturating_add(2));
+        if !takes(b, refused, 16, "piece", want) {
+            return false;
+        }
     }
     for chunk_id in 2..42u64 {
-        free(b, chunk_id)?;
+        if free(b, chunk_id).is_err() {
+            return false;
+        }
     }
-    assert!(rt; b.is_empty());
-    Ok(())
+    b.is_empty()
 }
 
 #[test]
-fn a_free_list_loses_nothing_where_memory_is_refused(
-    rt: HostRuntime,
-) -> std::result::Result<(), Fail> {
-    let mut refusals = Refusals { count: 0 };
-    let Ok(mut block) = general(&rt, rt.alloc(), granularity_one(&rt)) else {
-        return Err(Fail::new(TOLD));
+fn a_free_list_loses_nothing_where_memory_is_refused(rt: HostRuntime) -> Outcome {
+    let mut refused = 0;
+    let Ok(mut block) = general(rt.alloc(), 4 * MB, 1) else {
+        return ends(1);
     };
-    calls(&rt, rt.alloc(), &mut block, &mut refusals)?;
-    refusals.end()
+    check(&rt, &calls(rt.alloc(), &mut block, &mut refused));
+    ends(refused)
 }
 
 #[test]
-fn many_pieces_lose_nothing_where_memory_is_refused(
-    rt: HostRuntime,
-) -> std::result::Result<(), Fail> {
-    let mut refusals = Refusals { count: 0 };
-    let Ok(mut block) = general(&rt, rt.alloc(), granularity_one(&rt)) else {
-        return Err(Fail::new(TOLD));
+fn many_pieces_lose_nothing_where_memory_is_refused(rt: HostRuntime) -> Outcome {
+    let mut refused = 0;
+    let Ok(mut block) = general(rt.alloc(), 4 * MB, 1) else {
+        return ends(1);
     };
-    many(&rt, &mut block, &mut refusals)?;
-    refusals.end()
+    check(&rt, &[many(&mut block, &mut refused)]);
+    ends(refused)
 }
 
 /// One piece of the block's size, with another name, and back.
-fn dedicated_calls(
-    rt: &impl Abort,
-    alloc: Global,
-    b: &mut SubAllocator,
-    refusals: &mut Refusals,
-) -> Result<()>
+fn dedicated_calls(alloc: Global, b: &mut SubAllocator, refused: &mut u64) -> [bool; 6]
     requires { HasPages (block_of b.old) 1 }
 {
-    assert!(rt;
-        take(
-            rt,
-            b,
-            refusals,
-            wanted(1000, "a piece that has a block of its own")
-        )? == (0, 1)
-    );
-    rename(
-        rt,
-        b,
-        refusals,
-        alloc,
-        1,
-        "the same piece under another name",
-    )?;
-    let text = shown(b, alloc, refusals)?;
-    check_shown(
-        rt,
-        text.as_str(),
-        "the same piece under another name 0 1000;",
-    );
-    assert!(rt; count_leaks(b, refusals)? == 1);
-    free(b, 1)?;
-    assert!(rt; b.is_empty());
-    Ok(())
+    let before = "a second piece with a longer name 0 1000;";
+    let after = "a name of more than thirty bytes 0 1000;";
+    [
+        takes(b, refused, 1000, LONG, (0, 1)),
+        renames(b, alloc, refused, 1, NEW, before),
+        shows(b, alloc, refused, after),
+        leaks(b, refused, 1),
+        free(b, 1).is_ok(),
+        b.is_empty(),
+    ]
 }
 
 #[test]
-fn a_dedicated_block_loses_nothing_where_memory_is_refused(
-    rt: HostRuntime,
-) -> std::result::Result<(), Fail> {
-    let mut refusals = Refusals { count: 0 };
-    let mut block = dedicated(&rt, rt.alloc(), 1000);
-    dedicated_calls(&rt, rt.alloc(), &mut block, &mut refusals)?;
-    refusals.end()
+fn a_dedicated_block_loses_nothing_where_memory_is_refused(rt: HostRuntime) -> Outcome {
+    let mut refused = 0;
+    let mut block = dedicated(rt.alloc(), 1000);
+    check(&rt, &dedicated_calls(rt.alloc(), &mut block, &mut refused));
+    ends(refused)
+}
+
+/// Whether it is a row of a name, an offset and a size.
+fn is_row(row: Result<AllocationReport>) -> bool {
+    match row {
+        Ok(row) => (row.name.as_str(), row.offset, row.size) == ("a", 256, 64),
+        Err(_) => false,
+    }
 }
 
 /// A copy of a row, asked for once more where the host refused memory.
-fn copied_row(row: &AllocationReport, refusals: &mut Refusals) -> Result<AllocationReport> {
+fn copies(row: &AllocationReport, refused: &mut u64) -> bool {
     let copy = row.clone();
-    if refusals.is_one(&copy) {
-        return row.clone();
+    if is_refused(refused, &copy) {
+        return is_row(row.clone());
     }
-    copy
+    is_row(copy)
+}
+
+/// The text of an amount, asked for once more where the host refused memory.
+fn amounts(alloc: Global, refused: &mut u64) -> bool {
+    let amount = fmt_bytes(alloc, 1536);
+    if is_refused(refused, &amount) {
+        return reads(fmt_bytes(alloc, 1536), "1.50 KB");
+    }
+    reads(amount, "1.50 KB")
 }
 
 #[test]
-fn rows_and_amounts_lose_nothing_where_memory_is_refused(
-    rt: HostRuntime,
-) -> std::result::Result<(), Fail> {
-    let mut refusals = Refusals { count: 0 };
+fn rows_and_amounts_lose_nothing_where_memory_is_refused(rt: HostRuntime) -> Outcome {
+    let mut refused = 0;
     let Ok(name) = String::from_str(rt.alloc(), "a") else {
-        return Err(Fail::new(TOLD));
+        return ends(1);
     };
     let row = AllocationReport {
         name,
         offset: 256,
         size: 64,
     };
-    let copy = copied_row(&row, &mut refusals)?;
-    assert!(&rt; (copy.offset, copy.size) == (256, 64));
-    check_shown(&rt, copy.name.as_str(), "a");
-    let mut amount = fmt_bytes(rt.alloc(), 1536);
-    if refusals.is_one(&amount) {
-        amount = fmt_bytes(rt.alloc(), 1536);
-    }
-    check_shown(&rt, amount?.as_str(), "1.50 KB");
-    refusals.end()
+    let steps = [
+        copies(&row, &mut refused),
+        amounts(rt.alloc(), &mut refused),
+    ];
+    check(&rt, &steps);
+    ends(refused)
 }

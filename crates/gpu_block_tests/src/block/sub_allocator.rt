@@ -1,165 +1,18 @@
 //! Tests of a block of either form: lists of calls, each with what it answers.
 
-ghost use Rattle.std.specs.Prelude.{◌≡◌, ◌≢◌, ℕ};
+ghost use Rattle.std.specs.Prelude.{◌≡◌, IfOk};
 ghost use Rattle.gpu_block.specs.Block.{HasPages};
 ghost use Rattle.gpu_block.specs.SubAllocator.{block_of};
 
-use self::Call::{
-    Allocated, Finds, Frees, FreesNothing, IsGeneral, Renames, RenamesNothing, Reports, Size,
+use super::calls::Call::{
+    self, Allocated, Finds, Frees, FreesNothing, IsGeneral, Renames, RenamesNothing, Reports, Size,
     Takes, TakesAligned, TakesImage, TakesNothing,
 };
-use super::{
-    MB, Request, allocate, check_report, check_text, dedicated, free, general, granularity_one,
-    wanted,
-};
+use super::calls::{check_calls, check_dedicated, check_list, count};
+use super::{MB, general};
 use gpu_block::{FreeListAllocator, SubAllocator};
-use gpu_values::{AllocationType, Result};
+use gpu_values::{AllocationError, Result};
 use std::alloc::Global;
-use std::num::NonZeroU64;
-use std::process::Abort;
-use std::test::Fail;
-
-/// A call, and what it answers. The number 0 stands for none.
-#[derive(Clone, Copy)]
-enum Call {
-    /// A piece of so many bytes with this name is taken, linear and at any offset: its offset and number.
-    Takes(u64, &'static str, (u64, u64)),
-    /// A linear piece with this alignment is taken.
-    TakesAligned(u64, u64, &'static str, (u64, u64)),
-    /// A piece that isn't linear is taken.
-    TakesImage(u64, &'static str, (u64, u64)),
-    /// No piece is taken, for the cause of this text.
-    TakesNothing(u64, &'static str, &'static str),
-    Frees(u64),
-    FreesNothing(u64, &'static str),
-    Renames(u64, &'static str),
-    RenamesNothing(u64, &'static str),
-    /// The place of a piece: its offset and size.
-    Finds(u64, Option<(u64, u64)>),
-    Reports(&'static str),
-    /// How many bytes are taken, padding included.
-    Allocated(u64),
-    Size(u64),
-    IsGeneral(bool),
-}
-
-fn linear(size: u64, alignment: u64, granularity: u64, name: &str) -> Request<'_>
-    ensures piece { result.kind ≢ AllocationType.Free }
-    ensures paged { result.granularity ≡ granularity }
-{
-    Request {
-        alignment,
-        granularity,
-        ..wanted(size, name)
-    }
-}
-
-fn image(size: u64, granularity: u64, name: &str) -> Request<'_>
-    ensures piece { result.kind ≢ AllocationType.Free }
-    ensures paged { result.granularity ≡ granularity }
-{
-    Request {
-        kind: AllocationType::NonLinear,
-        ..linear(size, 1, granularity, name)
-    }
-}
-
-/// 0 stands for no number.
-fn rename(block: &mut SubAllocator, chunk_id: u64, name: &str) -> Result<()>
-    ensures { (g : ℕ) → HasPages (block_of block.old) g → HasPages (block_of block.new) g }
-{
-    block.rename_allocation(NonZeroU64::new(chunk_id), name)
-}
-
-/// 0 stands for no number.
-fn place(block: &SubAllocator, chunk_id: u64) -> Option<(u64, u64)> {
-    block.place_of(NonZeroU64::new(chunk_id)?)
-}
-
-fn check_refused<V: Drop>(
-    rt: &impl Abort,
-    alloc: Global,
-    got: Result<V>,
-    want: &str,
-) -> Result<()> {
-    match got {
-        Ok(_) => assert!(rt; false, "not refused: {want}"),
-        Err(error) => check_text(rt, alloc, &error, want)?,
-    }
-    Ok(())
-}
-
-/// Makes a call that only looks, and compares its answer.
-fn look(rt: &impl Abort, alloc: Global, block: &SubAllocator, call: Call) -> Result<()> {
-    match call {
-        Finds(chunk_id, want) => assert!(rt; place(block, chunk_id) == want, "chunk id {chunk_id}"),
-        Reports(want) => check_report(rt, alloc, block, want)?,
-        Allocated(want) => {
-            assert!(rt; block.allocated() == want);
-            assert!(rt; block.is_empty() == (want == 0));
-        }
-        Size(want) => assert!(rt; block.size() == want),
-        IsGeneral(want) => assert!(rt; block.supports_general_allocations() == want),
-        _ => {}
-    }
-    Ok(())
-}
-
-/// Makes a call that takes a piece, and compares its answer.
-fn take(rt: &impl Abort, block: &mut SubAllocator, request: Request, want: (u64, u64)) -> Result<()>
-    requires paged { HasPages (block_of block.old) request.granularity }
-    requires piece { request.kind ≢ AllocationType.Free }
-    ensures { (g : ℕ) → HasPages (block_of block.old) g → HasPages (block_of block.new) g }
-{
-    assert!(rt; allocate(rt, block, request)? == want);
-    Ok(())
-}
-
-/// Makes a call, and compares its answer.
-fn make_call(
-    rt: &impl Abort,
-    alloc: Global,
-    block: &mut SubAllocator,
-    granularity: u64,
-    call: Call,
-) -> Result<()>
-    requires { HasPages (block_of block.old) granularity }
-    ensures { (g : ℕ) → HasPages (block_of block.old) g → HasPages (block_of block.new) g }
-{
-    match call {
-        Takes(size, name, want) => take(rt, block, linear(size, 1, granularity, name), want),
-        TakesAligned(size, alignment, name, want) => {
-            take(rt, block, linear(size, alignment, granularity, name), want)
-        }
-        TakesImage(size, name, want) => take(rt, block, image(size, granularity, name), want),
-        TakesNothing(size, name, want) => {
-            let got = allocate(rt, block, linear(size, 1, granularity, name));
-            check_refused(rt, alloc, got, want)
-        }
-        Frees(chunk_id) => free(block, chunk_id),
-        FreesNothing(chunk_id, want) => check_refused(rt, alloc, free(block, chunk_id), want),
-        Renames(chunk_id, name) => rename(block, chunk_id, name),
-        RenamesNothing(chunk_id, want) => {
-            check_refused(rt, alloc, rename(block, chunk_id, "x"), want)
-        }
-        _ => look(rt, alloc, block, call),
-    }
-}
-
-fn make_calls(
-    rt: &impl Abort,
-    alloc: Global,
-    block: &mut SubAllocator,
-    granularity: u64,
-    calls: &[Call],
-) -> Result<()>
-    requires { HasPages (block_of block.old) granularity }
-{
-    for call in calls {
-        make_call(rt, alloc, block, granularity, *call)?;
-    }
-    Ok(())
-}
 
 const OUT_OF_MEMORY: &str = "Out of memory";
 
@@ -179,14 +32,14 @@ const RENAMED_UNKNOWN: &str =
     "Internal error: Attempting to rename chunk that is not in chunk list.";
 
 #[test]
-fn a_dedicated_block_holds_one_piece_of_its_size(rt: HostRuntime) -> Result<(), Fail> {
+fn a_dedicated_block_holds_one_piece_of_its_size(rt: HostRuntime) {
     const CALLS: &[Call] = &[
         IsGeneral(false),
-        TakesNothing(999, "a", OTHER_SIZE),
+        TakesNothing(999, 1, OTHER_SIZE),
         Allocated(0),
         Takes(1000, "a", (0, 1)),
-        TakesNothing(999, "b", OUT_OF_MEMORY),
-        TakesNothing(1000, "b", OUT_OF_MEMORY),
+        TakesNothing(999, 1, OUT_OF_MEMORY),
+        TakesNothing(1000, 1, OUT_OF_MEMORY),
         Allocated(1000),
         FreesNothing(2, NOT_ONE),
         FreesNothing(0, NOT_ONE),
@@ -195,66 +48,112 @@ fn a_dedicated_block_holds_one_piece_of_its_size(rt: HostRuntime) -> Result<(), 
         FreesNothing(2, NOT_ONE),
         Allocated(0),
     ];
-    let mut block = dedicated(&rt, rt.alloc(), 1000);
-    make_calls(&rt, rt.alloc(), &mut block, 1, CALLS)?;
-    Ok(())
+    check_dedicated(&rt, rt.alloc(), CALLS);
 }
 
 #[test]
-fn a_free_list_in_a_block_gives_and_takes(rt: HostRuntime) -> Result<(), Fail> {
+fn a_free_list_in_a_block_gives_and_takes(rt: HostRuntime) {
     const CALLS: &[Call] = &[
         IsGeneral(true),
         Allocated(0),
         Takes(10, "a", (0, 2)),
-        TakesNothing(4 * MB, "b", OUT_OF_MEMORY),
+        TakesNothing(4 * MB, 1, OUT_OF_MEMORY),
         FreesNothing(0, MISSING),
         FreesNothing(1, NOT_LISTED),
+        FreesNothing(3, NOT_LISTED),
         FreesNothing(7, NOT_LISTED),
         Frees(2),
+        FreesNothing(2, NOT_LISTED),
         Allocated(0),
         Takes(4 * MB, "b", (0, 2)),
+        Frees(2),
+        Takes(10, "a", (0, 3)),
     ];
-    let mut block = general(&rt, rt.alloc(), 1)?;
-    make_calls(&rt, rt.alloc(), &mut block, 1, CALLS)?;
-    Ok(())
+    check_list(&rt, rt.alloc(), 1, CALLS);
+}
+
+/// The greatest alignment: of its multiples only 0 lies in a block of 4 MB.
+const HALF: u64 = 9_223_372_036_854_775_808;
+
+#[test]
+fn sizes_and_alignments_may_be_as_large_as_they_like(rt: HostRuntime) {
+    const CALLS: &[Call] = &[
+        TakesNothing(u64::MAX, 1, OUT_OF_MEMORY),
+        TakesAligned(1, HALF, "a", (0, 2)),
+        TakesNothing(1, HALF, OUT_OF_MEMORY),
+        TakesImage(64, 256, "b", (256, 3)),
+    ];
+    check_list(&rt, rt.alloc(), 1, CALLS);
+}
+
+/// Makes the calls in a block of all bytes that there can be.
+fn count_in_all(alloc: Global, calls: &[Call]) -> usize {
+    match general(alloc, u64::MAX, 1) {
+        Ok(mut block) => count(alloc, &mut block, 1, calls),
+        Err(_) => 0,
+    }
+}
+
+#[test]
+fn a_block_may_have_all_bytes(rt: HostRuntime) {
+    const CALLS: &[Call] = &[
+        Takes(u64::MAX - 1, "a", (0, 2)),
+        Takes(1, "a", (u64::MAX - 1, 1)),
+        TakesNothing(1, 1, OUT_OF_MEMORY),
+    ];
+    check_calls(&rt, count_in_all(rt.alloc(), CALLS), CALLS);
 }
 
 /// The greatest number that a piece can have.
 const LAST: u64 = 18_446_744_073_709_551_614;
 
+/// A block of 4 MB whose next piece has this number.
+fn numbered(alloc: Global, next: u64) -> Result<SubAllocator>
+    ensures { IfOk result (λ b. HasPages (block_of b) 1) }
+{
+    let granularity = 1u64;
+    if next < 2 || !granularity.is_power_of_two() {
+        return Err(AllocationError::InvalidAllocationCreateDesc);
+    }
+    let list = FreeListAllocator::with_counter(alloc, 4 * MB, granularity, next)?;
+    Ok(SubAllocator::FreeList(list))
+}
+
+/// Makes the calls in a block whose next piece has this number.
+fn count_from(alloc: Global, next: u64, calls: &[Call]) -> usize {
+    match numbered(alloc, next) {
+        Ok(mut block) => count(alloc, &mut block, 1, calls),
+        Err(_) => 0,
+    }
+}
+
 #[test]
-fn the_last_number_in_a_block(rt: HostRuntime) -> Result<(), Fail> {
+fn the_last_number_in_a_block_is_given_once(rt: HostRuntime) {
     const CALLS: &[Call] = &[
         Takes(10, "a", (0, LAST)),
-        TakesNothing(10, "b", OUT_OF_MEMORY),
+        TakesNothing(10, 1, OUT_OF_MEMORY),
         Takes(4_194_294, "c", (10, 1)),
         Frees(LAST),
         Takes(10, "d", (0, LAST)),
     ];
-    let granularity = granularity_one(&rt);
-    let list = FreeListAllocator::with_counter(rt.alloc(), 4_194_304, granularity, LAST)?;
-    let mut block = SubAllocator::FreeList(list);
-    make_calls(&rt, rt.alloc(), &mut block, granularity, CALLS)?;
-    Ok(())
+    check_calls(&rt, count_from(rt.alloc(), LAST, CALLS), CALLS);
 }
 
 #[test]
-fn a_gap_is_refused_for_its_last_page(rt: HostRuntime) -> Result<(), Fail> {
+fn a_gap_is_refused_for_its_last_page(rt: HostRuntime) {
     const CALLS: &[Call] = &[
         Takes(2000, "a", (0, 2)),
-        TakesImage(100, "b", (2048, 3)),
+        TakesImage(100, 1, "b", (2048, 3)),
         Frees(2),
         Takes(1000, "a", (0, 4)),
         Takes(1000, "a", (3072, 5)),
-        TakesImage(1000, "b", (4096, 6)),
+        TakesImage(1000, 1, "b", (4096, 6)),
     ];
-    let mut block = general(&rt, rt.alloc(), 1024)?;
-    make_calls(&rt, rt.alloc(), &mut block, 1024, CALLS)?;
-    Ok(())
+    check_list(&rt, rt.alloc(), 1024, CALLS);
 }
 
 #[test]
-fn a_live_piece_gets_another_name_and_no_other(rt: HostRuntime) -> Result<(), Fail> {
+fn a_live_piece_gets_another_name_and_no_other(rt: HostRuntime) {
     const CALLS: &[Call] = &[
         Takes(10, "a", (0, 2)),
         Takes(20, "b", (10, 3)),
@@ -268,13 +167,11 @@ fn a_live_piece_gets_another_name_and_no_other(rt: HostRuntime) -> Result<(), Fa
         RenamesNothing(5, RENAMED_UNKNOWN),
         Reports("new 10 20;c 30 30;"),
     ];
-    let mut block = general(&rt, rt.alloc(), 1)?;
-    make_calls(&rt, rt.alloc(), &mut block, 1, CALLS)?;
-    Ok(())
+    check_list(&rt, rt.alloc(), 1, CALLS);
 }
 
 #[test]
-fn a_dedicated_piece_gets_another_name(rt: HostRuntime) -> Result<(), Fail> {
+fn a_dedicated_piece_gets_another_name(rt: HostRuntime) {
     const CALLS: &[Call] = &[
         RenamesNothing(1, RENAMED_AFTER_FREE),
         RenamesNothing(2, NOT_ONE),
@@ -286,13 +183,11 @@ fn a_dedicated_piece_gets_another_name(rt: HostRuntime) -> Result<(), Fail> {
         Renames(1, "new"),
         Reports("new 0 1000;"),
     ];
-    let mut block = dedicated(&rt, rt.alloc(), 1000);
-    make_calls(&rt, rt.alloc(), &mut block, 1, CALLS)?;
-    Ok(())
+    check_dedicated(&rt, rt.alloc(), CALLS);
 }
 
 #[test]
-fn a_live_piece_is_found_by_its_number(rt: HostRuntime) -> Result<(), Fail> {
+fn a_live_piece_is_found_by_its_number(rt: HostRuntime) {
     const CALLS: &[Call] = &[
         Size(4 * MB),
         Takes(100, "a", (0, 2)),
@@ -302,13 +197,11 @@ fn a_live_piece_is_found_by_its_number(rt: HostRuntime) -> Result<(), Fail> {
         Finds(1, None),
         Finds(4, None),
     ];
-    let mut block = general(&rt, rt.alloc(), 1)?;
-    make_calls(&rt, rt.alloc(), &mut block, 1, CALLS)?;
-    Ok(())
+    check_list(&rt, rt.alloc(), 1, CALLS);
 }
 
 #[test]
-fn a_dedicated_piece_is_found_by_the_number_one(rt: HostRuntime) -> Result<(), Fail> {
+fn a_dedicated_piece_is_found_by_the_number_one(rt: HostRuntime) {
     const CALLS: &[Call] = &[
         Size(1000),
         Finds(1, None),
@@ -316,7 +209,5 @@ fn a_dedicated_piece_is_found_by_the_number_one(rt: HostRuntime) -> Result<(), F
         Finds(1, Some((0, 1000))),
         Finds(2, None),
     ];
-    let mut block = dedicated(&rt, rt.alloc(), 1000);
-    make_calls(&rt, rt.alloc(), &mut block, 1, CALLS)?;
-    Ok(())
+    check_dedicated(&rt, rt.alloc(), CALLS);
 }
