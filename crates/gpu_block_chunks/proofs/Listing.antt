@@ -82,9 +82,9 @@ module _ (f : ℕ → Option Node) where
   first_beside_is b (x ∷ xs) h = ap (λ (o : Option Node). option_map (λ (n : Node). beside n.chunk) o) h.0
 
   pub is_around : (first size : ℕ) (ps : List (ℕ × Chunk)) (cs : List Chunk) → IsChain f first size ps → chunks_in ps ≡ cs → (k : ℕ) (n : Node) → f k ≡ Some n
-      → (before after : Option Neighbour) → before ≡ beside_of f n.prev → after ≡ beside_of f n.next
-      → AreNeighbours cs k (record { here = beside n.chunk; before = before; after = after })
-  is_around first size ps cs chain e k n at before after eb ea =
+      → (before after : Option Neighbour) (slot slot_before : ℕ) → before ≡ beside_of f n.prev → after ≡ beside_of f n.next
+      → AreNeighbours cs k (record { here = beside n.chunk; before = before; after = after; slot = slot; slot_before = slot_before })
+  is_around first size ps cs chain e k n at before after slot slot_before eb ea =
       let s = stands_from k n.chunk ps (chain.every k n at) in
       let h = subst (λ (ys : List (ℕ × Chunk)). Held f None ys None) s.is chain.held in
       let front = held_front f None s.front ((k, n.chunk) ∷ s.back) None h in

@@ -64,6 +64,12 @@ pub held_there : (ids : List (Option ℕ)) (chunks : List (Option LinkedChunk)) 
 held_there ids chunks sound s n at =
     ap (λ (o : Option ℕ). option_map (node_value ids) (stored_in chunks o)) (found_in ids chunks sound (n.chunk).chunk_id s (number_of_chunk ids chunks sound s n at)) ∙ ap (option_map (node_value ids)) at
 
+-- a slot has what is held under its chunk's number
+pub held_in : (w v : Slotted) → w ≡ v → AreSound w.ids w.chunks → (s : ℕ) (n : LinkedChunk) (k : ℕ) → get_or w.chunks s None ≡ Some n → (n.chunk).chunk_id ≡ k → Some (node_value v.ids n) ≡ held_at v k
+held_in w v is sound s n k at same =
+    subst (λ (u : Slotted). Some (node_value u.ids n) ≡ held_at u k) is
+    (sym (ap (λ j. option_map (node_value w.ids) (stored_in w.chunks (slot_of w.ids j))) (sym same) ∙ held_there w.ids w.chunks sound s n at))
+
 -- a link to a slot that is taken reaches its chunk
 pub reaches_in : (w v : Slotted) → w ≡ v → AreSound w.ids w.chunks → (s : ℕ) (n : LinkedChunk) → get_or w.chunks s None ≡ Some n → Reaches v (Some (record { chunk_id = (n.chunk).chunk_id; slot = s }))
 reaches_in w v is sound s n at =

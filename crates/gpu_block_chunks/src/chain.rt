@@ -32,12 +32,15 @@ pub struct Neighbour {
     pub chunk_id: u64,
 }
 
-/// A chunk, and what stands before and behind it.
+/// A chunk, and what stands before and behind it. The chunk and the one before it are looked for in these slots first: contracts say nothing of
+/// them.
 #[derive(Clone, Copy)]
 pub struct Neighbours {
     pub here: Neighbour,
     pub before: Option<Neighbour>,
     pub after: Option<Neighbour>,
+    pub slot: u32,
+    pub slot_before: u32,
 }
 
 /// The chunks of a block, from its start to its end. They cover it without overlap, and no two have one number.
@@ -63,6 +66,24 @@ impl Model for Chain {
 
     ghost invariant = { λ s. IsChain (held_at s.nodes) s.first s.size
         (walk s.size (held_at s.nodes) (Some s.first)) };
+}
+
+/// The same, where the number is looked for in that slot first.
+#[inline(always)]
+fn node_near<'a>(
+    nodes: &'a Nodes,
+    chunk_id: u64,
+    near: u32,
+    cost: &mut Cost,
+) -> Option<&'a LinkedChunk>
+    ensures value { option_map (node_value nodes.now.ids) (option_copied result)
+        ≡ held_at nodes.now chunk_id }
+    ensures links { IfSome result (λ n. IsTaken nodes.now.ids n.now.prev
+        × IsTaken nodes.now.ids n.now.next) }
+    ensures counted { LooksUp 1 cost.old cost.new }
+{
+    cost.look_up();
+    nodes.get_near(chunk_id, near)
 }
 
 /// The one way to read a chunk by its number.
@@ -174,15 +195,27 @@ impl Chain {
             (λ a. AreNeighbours self.now.chunks chunk_id a) }
         ensures counted { LooksUp (1 + neighbours result) cost.old cost.new }
     {
+        self.around_near(chunk_id, self.nodes.slot_near(chunk_id), cost)
+    }
+
+    /// The same, where the chunk is looked for in that slot first.
+    #[inline(always)]
+    pub fn around_near(&self, chunk_id: u64, near: u32, cost: &mut Cost) -> Option<Neighbours>
+        ensures value { MatchOption result (HasNoChunkId self.now.chunks chunk_id)
+            (λ a. AreNeighbours self.now.chunks chunk_id a) }
+        ensures counted { LooksUp (1 + neighbours result) cost.old cost.new }
+    {
         // a read, so that the proof has the invariant
         let _size = self.size;
-        let node = node_at(&self.nodes, chunk_id, cost)?;
+        let node = node_near(&self.nodes, chunk_id, near, cost)?;
         let before = beside_at(&self.nodes, self.nodes.link_in(node.prev), cost);
         let after = beside_at(&self.nodes, self.nodes.link_in(node.next), cost);
         Some(Neighbours {
             here: short(&node.chunk),
             before,
             after,
+            slot: near,
+            slot_before: node.prev.unwrap_or(0),
         })
     }
 
@@ -260,8 +293,8 @@ impl Chain {
         let _size = self.size;
     }
 
-    /// Frees a chunk, and joins it with the free chunks beside it. It takes no memory.
-    pub fn release(&mut self, chunk_id: u64, cost: &mut Cost)
+    /// Frees a chunk, which is looked for in that slot first, and joins it with the free chunks beside it. It takes no memory.
+    pub fn release(&mut self, chunk_id: u64, near: u32, cost: &mut Cost)
         requires there { HasChunkId self.old.chunks chunk_id }
         ensures chunks { IsReleased self.old.chunks chunk_id self.new.chunks }
         ensures size { self.new.size ≡ self.old.size }
@@ -269,7 +302,7 @@ impl Chain {
     {
         // a read, so that the proof has the invariant
         let _size = self.size;
-        let at = self.nodes.link_to(chunk_id);
+        let at = self.nodes.link_near(chunk_id, near);
         let start = ends_of(&self.nodes, at, cost).start;
         set_use(
             &mut self.nodes,

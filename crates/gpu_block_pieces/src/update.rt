@@ -162,8 +162,8 @@ fn kind_of(beside: Option<Neighbour>) -> AllocationType
     }
 }
 
-/// The entry of the free chunk of that number.
-fn gap_at(chain: &Chain, chunk_id: u64, cost: &mut Cost) -> Gap
+/// The entry of the free chunk of that number, which is looked for in that slot first.
+fn gap_at(chain: &Chain, chunk_id: u64, near: u32, cost: &mut Cost) -> Gap
     requires there { HasChunkId chain.now.chunks chunk_id }
     ensures gap { (front : List Chunk) (c : Chunk) (back : List Chunk)
         → chain.now.chunks ≡ front ++ c ∷ back → c.chunk_id ≡ chunk_id
@@ -172,7 +172,7 @@ fn gap_at(chain: &Chain, chunk_id: u64, cost: &mut Cost) -> Gap
     ensures counted { LooksUpBetween 1 3 cost.old cost.new }
 {
     chain.laid_out();
-    let Some(around) = chain.around(chunk_id, cost) else {
+    let Some(around) = chain.around_near(chunk_id, near, cost) else {
         unreachable!();
     };
     Gap {
@@ -200,6 +200,15 @@ fn first_chunk_id(around: Neighbours) -> u64
     }
 }
 
+/// The slot to look for that gap in first.
+fn first_slot(around: Neighbours) -> u32 {
+    if is_gap(around.before) {
+        around.slot_before
+    } else {
+        around.slot
+    }
+}
+
 /// Frees a piece, and joins it with the gaps beside it. It takes no memory.
 pub fn release(chain: &mut Chain, index: &mut GapIndex, around: Neighbours, cost: &mut Cost)
     requires listed { IsListed chain.old.chunks index.old.gaps }
@@ -212,9 +221,9 @@ pub fn release(chain: &mut Chain, index: &mut GapIndex, around: Neighbours, cost
     ensures counted { LooksUpBetween 5 15 cost.old cost.new }
 {
     chain.laid_out();
-    chain.release(around.here.chunk_id, cost);
+    chain.release(around.here.chunk_id, around.slot, cost);
     chain.laid_out();
     index.in_order();
-    let gap = gap_at(chain, first_chunk_id(around), cost);
+    let gap = gap_at(chain, first_chunk_id(around), first_slot(around), cost);
     put_joined(index, around, gap);
 }

@@ -14,12 +14,13 @@ pub struct Link {
     pub slot: u32,
 }
 
-/// A chunk, and the slots of the ones beside it. What is read of a neighbour stands together, before the name.
+/// A chunk, and the slots of the ones beside it. What is read of a neighbour stands together at the front of the chunk, mostly in one line
+/// of a cache.
 #[derive(Drop)]
 pub struct LinkedChunk {
     pub prev: Option<u32>,
-    pub next: Option<u32>,
     pub chunk: Chunk,
+    pub next: Option<u32>,
 }
 
 impl LinkedChunk {

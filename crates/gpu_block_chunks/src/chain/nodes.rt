@@ -58,6 +58,49 @@ impl Nodes {
         self.chunks.get(slot as usize)
     }
 
+    /// The slot of a number, or 0: where to look for it first.
+    #[inline(always)]
+    pub fn slot_near(&self, chunk_id: u64) -> u32 {
+        match self.ids.find(chunk_id) {
+            Some(slot) => slot,
+            None => 0,
+        }
+    }
+
+    /// The chunk of a number, which is looked for in that slot first.
+    #[inline(always)]
+    pub fn get_near(&self, chunk_id: u64, near: u32) -> Option<&LinkedChunk>
+        ensures value { option_map (node_value self.now.ids) (option_copied result)
+            ≡ held_at self.now chunk_id }
+        ensures links { IfSome result (λ n. IsTaken self.now.ids n.now.prev
+            × IsTaken self.now.ids n.now.next) }
+    {
+        // a read, so that the proof has the invariant
+        let _ids = &self.ids;
+        match self.chunks.get(near as usize) {
+            Some(linked) if linked.chunk.chunk_id == chunk_id => Some(linked),
+            _ => self.get(chunk_id),
+        }
+    }
+
+    /// Where the chunk of a number is found, which is looked for in that slot first.
+    #[inline(always)]
+    pub fn link_near(&self, chunk_id: u64, near: u32) -> Link
+        requires { IsSome (held_at self.now chunk_id) }
+        ensures chunk_id { result.chunk_id ≡ chunk_id }
+        ensures leads { Leads self.now (Some result) }
+    {
+        // a read, so that the proof has the invariant
+        let _ids = &self.ids;
+        match self.chunks.get(near as usize) {
+            Some(linked) if linked.chunk.chunk_id == chunk_id => Link {
+                chunk_id,
+                slot: near,
+            },
+            _ => self.link_to(chunk_id),
+        }
+    }
+
     /// Where the chunk of a number is found.
     pub fn link_to(&self, chunk_id: u64) -> Link
         requires { IsSome (held_at self.now chunk_id) }

@@ -3,7 +3,7 @@ use Rattle.gpu_block_chunks.specs.Chain.{Linked}
 use Rattle.gpu_block_chunks.proofs.Slots.{linked_some}
 use Rattle.gpu_block_chunks.proofs.Listing.{none_held, is_around, sides}
 use Rattle.gpu_block_chunks.specs.Nodes.{held_at, node_value}
-use Rattle.gpu_block_chunks.proofs.chain.Chain.around.Goals as goal
+use Rattle.gpu_block_chunks.proofs.chain.Chain.around_near.Goals as goal
 
 pub returns-in_err-node-clause-value : goal.returns-in_err-node-clause-value
 returns-in_err-node-clause-value c =
@@ -26,7 +26,7 @@ pub returns-clause-value : goal.returns-clause-value
 returns-clause-value c =
     rw c.short.ensures (is_around (held_at c.self.inside.nodes) c.self.inside.first c.self.inside.size _ c.args.self.now.chunks c.self.invariant
     (ap (λ (v : Linked). v.chunks) c.self.view_is) c.args.chunk_id (node_value c.self.inside.nodes.ids c.in_ok-node.node.now) (sym c.in_ok-node.ensures.value)
-    _ _ (rw c.link_in.ensures.chunk_id at c.beside_at-before.ensures.value) (rw c.link_in-2.ensures.chunk_id at c.beside_at-after.ensures.value))
+    _ _ _ _ (rw c.link_in.ensures.chunk_id at c.beside_at-before.ensures.value) (rw c.link_in-2.ensures.chunk_id at c.beside_at-after.ensures.value))
 
 pub returns-clause-counted : goal.returns-clause-counted
 returns-clause-counted c =
