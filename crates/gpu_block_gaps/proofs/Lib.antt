@@ -21,3 +21,4 @@ pub mod Indexing
 pub mod Surface
 pub mod Anew
 pub mod Rekeyed
+pub mod Below

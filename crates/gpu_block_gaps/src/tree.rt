@@ -37,6 +37,13 @@ pub struct Cut {
     pub leaf: u32,
 }
 
+/// The slot of the fork that is no longer used, and the leaf that is gone.
+#[derive(Clone, Copy)]
+pub struct Gone {
+    pub slot: u32,
+    pub leaf: u32,
+}
+
 impl Fork {
     /// The branch of the keys with the bit, or of those without it.
     pub fn branch(self, set: bool) -> Node
@@ -138,6 +145,35 @@ pub fn nearest(forks: &[Fork], node: Node, key: Key) -> u32
     }
 }
 
+/// Puts a leaf into the tree at a fork above that bit, by a fork in a slot: it goes beside the part from which its key differs in that bit,
+/// and in none above it.
+fn insert_below(forks: &mut [Fork], above: u32, key: Key, bit: u32, leaf: u32, slot: u32)
+    requires laid { (t : Tree) × Lays (slice_get forks.old) 128 (Node.Branch above) t }
+    requires slot { slot < length forks.old }
+    requires bit { bit < 128 }
+    requires higher { (f : Fork) × (slice_get forks.old above ≡ Some f) × (bit < f.bit) }
+    ensures { (at : ℕ → ℕ) (top : ℕ) (t : Tree)
+        → CanGrow at (slice_get forks.old) top (Node.Branch above) t (code_of key) bit slot
+        → HasGrown (slice_get forks.old) (slice_get forks.new) top (Node.Branch above) t
+        (grown (code_of key) bit leaf slot t) slot }
+{
+    let fork = fork_in(forks, above);
+    let set = key.is_set(fork.bit);
+    let branch = fork.branch(set);
+    if let Node::Branch(below) = branch {
+        if bit < fork_in(forks, below).bit {
+            insert_below(forks, below, key, bit, leaf, slot);
+            return;
+        }
+    }
+    put(
+        forks,
+        slot,
+        Fork::beside(bit, key.is_set(bit), branch, leaf),
+    );
+    put(forks, above, fork.with_branch(set, Node::Branch(slot)));
+}
+
 /// Puts a leaf into a tree beside the part from which its key differs in that bit, and in none above it, by a fork in a slot.
 pub fn insert(forks: &mut [Fork], node: Node, key: Key, bit: u32, leaf: u32, slot: u32) -> Node
     requires laid { (t : Tree) × Lays (slice_get forks.old) 128 node t }
@@ -149,11 +185,8 @@ pub fn insert(forks: &mut [Fork], node: Node, key: Key, bit: u32, leaf: u32, slo
         (grown (code_of key) bit leaf slot t) slot }
 {
     if let Node::Branch(at) = node {
-        let fork = fork_in(forks, at);
-        if bit < fork.bit {
-            let set = key.is_set(fork.bit);
-            let branch = insert(forks, fork.branch(set), key, bit, leaf, slot);
-            put(forks, at, fork.with_branch(set, branch));
+        if bit < fork_in(forks, at).bit {
+            insert_below(forks, at, key, bit, leaf, slot);
             return node;
         }
     }
@@ -181,6 +214,30 @@ pub fn place_of(forks: &[Fork], node: Node, key: Key, bit: u32) -> Place
     }
 }
 
+/// Takes the leaf to which the bits of a key lead out of the tree at a fork, along whose branch of the key there is another fork.
+fn remove_below(forks: &mut [Fork], slot: u32, fork: Fork, set: bool, below: u32, key: Key) -> Gone
+    requires laid { (t : Tree) × Lays (slice_get forks.old) 128 (Node.Branch slot) t }
+    requires read { slice_get forks.old slot ≡ Some fork }
+    requires set { set ≡ bit_of (code_of key) fork.bit }
+    requires deeper { (if set then fork.one else fork.zero) ≡ Node.Branch below }
+    ensures tree { (at : ℕ → ℕ) (top : ℕ) (t : Tree)
+        → Lays (slice_get forks.old) top (Node.Branch slot) t → Sorted at t
+        → HasPruned (slice_get forks.old) (slice_get forks.new) top (Node.Branch slot) t
+        (code_of key) result.slot }
+    ensures leaf { (t : Tree) → Lays (slice_get forks.old) 128 (Node.Branch slot) t
+        → result.leaf ≡ near (code_of key) t }
+{
+    let next = fork_in(forks, below);
+    let on = key.is_set(next.bit);
+    match next.branch(on) {
+        Node::Leaf(leaf) => {
+            put(forks, slot, fork.with_branch(set, next.branch(!on)));
+            Gone { slot: below, leaf }
+        }
+        Node::Branch(deeper) => remove_below(forks, below, next, on, deeper, key),
+    }
+}
+
 /// Takes the leaf to which the bits of a key lead out of the tree at a fork.
 pub fn remove(forks: &mut [Fork], slot: u32, key: Key) -> Cut
     requires { (t : Tree) × Lays (slice_get forks.old) 128 (Node.Branch slot) t }
@@ -200,12 +257,11 @@ pub fn remove(forks: &mut [Fork], slot: u32, key: Key) -> Cut
             leaf,
         },
         Node::Branch(below) => {
-            let cut = remove(forks, below, key);
-            put(forks, slot, fork.with_branch(set, cut.node));
+            let gone = remove_below(forks, slot, fork, set, below, key);
             Cut {
                 node: Node::Branch(slot),
-                slot: cut.slot,
-                leaf: cut.leaf,
+                slot: gone.slot,
+                leaf: gone.leaf,
             }
         }
     }

@@ -1,7 +1,0 @@
-use Rattle.std.specs.List.{slice_get}
-use Rattle.gpu_block_gaps.specs.declared.tree.Node.TheVariants.{Branch}
-use Rattle.gpu_block_gaps.proofs.Trees.{rank}
-use Rattle.gpu_block_gaps.proofs.tree.+remove.Given as goal
-
-abbrev pub decreases-remove : goal.decreases-remove
-decreases-remove l = rank (slice_get l.forks.now) (Branch l.slot)
