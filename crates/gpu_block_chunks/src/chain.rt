@@ -68,7 +68,7 @@ impl Model for Chain {
         (walk s.size (held_at s.nodes) (Some s.first)) };
 }
 
-/// The same, where the number is looked for in that slot first.
+/// The one way to read a chunk by its number, which is looked for in that slot first.
 #[inline(always)]
 fn node_near<'a>(
     nodes: &'a Nodes,
@@ -86,7 +86,7 @@ fn node_near<'a>(
     nodes.get_near(chunk_id, near)
 }
 
-/// The one way to read a chunk by its number.
+/// The same, with no slot to begin at.
 #[inline(always)]
 fn node_at<'a>(nodes: &'a Nodes, chunk_id: u64, cost: &mut Cost) -> Option<&'a LinkedChunk>
     ensures value { option_map (node_value nodes.now.ids) (option_copied result)
@@ -95,8 +95,7 @@ fn node_at<'a>(nodes: &'a Nodes, chunk_id: u64, cost: &mut Cost) -> Option<&'a L
         × IsTaken nodes.now.ids n.now.next) }
     ensures counted { LooksUp 1 cost.old cost.new }
 {
-    cost.look_up();
-    nodes.get(chunk_id)
+    node_near(nodes, chunk_id, nodes.slot_near(chunk_id), cost)
 }
 
 fn short(chunk: &Chunk) -> Neighbour
