@@ -16,24 +16,36 @@ use gpu_sim_base::Refusal;
 use gpu_sim_d3d12::SimD3D12;
 use gpu_values::{AllocationSizes, AllocatorDebugSettings, MemoryLocation};
 use log::sink::Discard;
-use std::alloc::{AllocError, Global};
+use std::alloc::Global;
+use std::fmt::Display;
 use std::process::Abort;
-use std::test::Fail;
 
-/// How a test ends.
-type Outcome = std::result::Result<(), Fail>;
+/// Looks that each step of a test went as it should; a failed one is told by its place. What the tests look at is told by a
+/// `bool`: a proof of a call that may abort costs more than the call itself.
+fn check(rt: &impl Abort, steps: &[bool]) {
+    for (place, step) in steps.iter().enumerate() {
+        assert!(rt; *step, "step {place}");
+    }
+}
+
+/// Whether the value prints this text.
+fn prints<D: Display>(alloc: Global, value: &D, want: &str) -> bool {
+    match value.to_string(alloc) {
+        Ok(text) => text.as_str() == want,
+        Err(_) => false,
+    }
+}
 
 /// A simulated device of this tier, that refuses these questions.
 fn simulated(
     alloc: Global,
     tier: std::result::Result<ResourceHeapTier, i32>,
     script: &[(u64, Refusal)],
-) -> std::result::Result<SimD3D12, AllocError> {
-    let mut refusals = Vec::new(alloc);
-    for refusal in script {
-        refusals.push(*refusal)?;
+) -> Option<SimD3D12> {
+    match Vec::from_slice(alloc, script) {
+        Ok(refusals) => Some(SimD3D12::new(alloc, tier, refusals)),
+        Err(_) => None,
     }
-    Ok(SimD3D12::new(alloc, tier, refusals))
 }
 
 /// What an allocator is made from, with the default settings.
@@ -45,17 +57,24 @@ fn described(device: SimD3D12) -> AllocatorCreateDesc<SimD3D12> {
     }
 }
 
-/// An allocator over a simulated device.
-fn made(
+/// An allocator over a simulated device that refuses these questions, and logs under these settings.
+fn made_with(
     alloc: Global,
-    tier: ResourceHeapTier,
+    debug_settings: AllocatorDebugSettings,
     script: &[(u64, Refusal)],
-) -> std::result::Result<Allocator<SimD3D12>, Fail> {
-    let device = simulated(alloc, Ok(tier), script)?;
-    match Allocator::new(alloc, described(device)) {
-        Ok(allocator) => Ok(allocator),
-        Err((_, _)) => Err(Fail::from("the allocator can't be made")),
+) -> Option<Allocator<SimD3D12>> {
+    let device = simulated(alloc, Ok(ResourceHeapTier::Tier2), script)?;
+    let mut desc = described(device);
+    desc.debug_settings = debug_settings;
+    match Allocator::new(alloc, desc) {
+        Ok(allocator) => Some(allocator),
+        Err((_, _)) => None,
     }
+}
+
+/// The same, with the default settings.
+fn made(alloc: Global, script: &[(u64, Refusal)]) -> Option<Allocator<SimD3D12>> {
+    made_with(alloc, AllocatorDebugSettings::default(), script)
 }
 
 /// A buffer of this width in bytes.

@@ -6,14 +6,15 @@ use gpu_d3d12::ResourceType;
 use gpu_values::AllocationError;
 use log::sink::{Lines, Memory};
 use log::{Level, Log};
-use std::process::Abort;
 
-/// Looks that a log has these lines and no others.
-fn check_lines(rt: &impl Abort, lines: &Lines, want: &[&str]) {
-    assert!(rt; lines.len() == want.len());
+/// Whether a log has these lines and no others.
+fn lines_are(lines: &Lines, want: &[&str]) -> bool {
     for (line, want) in lines.as_slice().iter().zip(want) {
-        assert!(rt; line.as_str() == *want);
+        if line.as_str() != *want {
+            return false;
+        }
     }
+    lines.len() == want.len()
 }
 
 /// Everything is logged.
@@ -32,58 +33,29 @@ const NONE: AllocatorDebugSettings = AllocatorDebugSettings {
     log_frees: false,
 };
 
-/// An allocator that logs under these settings, over a device that refuses these questions.
-fn logging(
-    alloc: Global,
-    settings: AllocatorDebugSettings,
-    script: &[(u64, Refusal)],
-) -> std::result::Result<Allocator<SimD3D12>, Fail> {
-    let device = simulated(alloc, Ok(ResourceHeapTier::Tier2), script)?;
-    let mut desc = described(device);
-    desc.debug_settings = settings;
-    match Allocator::new(alloc, desc) {
-        Ok(allocator) => Ok(allocator),
-        Err((_, _)) => Err(Fail::from("the allocator can't be made")),
-    }
-}
-
 /// A piece, a placed and a committed resource, both given back, and a refused placed one.
-fn script<L: Log>(log: &L, a: &mut Allocator<SimD3D12>) -> Outcome {
+fn resources<L: Log>(log: &L, a: &mut Allocator<SimD3D12>) -> bool {
     let small = buffer(512);
     let own = own_memory();
     let placed = asked(&small, &[], IN_STATE, &ResourceType::Placed);
     let Ok(resource) = a.create_resource(log, &placed) else {
-        return Err(Fail::from("no resource was made"));
+        return false;
     };
     let Ok(committed) = a.create_resource(log, &asked(&small, &[], IN_STATE, &own)) else {
-        return Err(Fail::from("no resource was made"));
+        return false;
     };
-    let Ok(()) = a.free_resource(log, resource) else {
-        return Err(Fail::from("a live resource came back"));
-    };
-    let Ok(()) = a.free_resource(log, committed) else {
-        return Err(Fail::from("a live resource came back"));
-    };
-    let Err(_) = a.create_resource(log, &placed) else {
-        return Err(Fail::from("a refused resource was given"));
-    };
-    Ok(())
+    a.free_resource(log, resource).is_ok()
+        && a.free_resource(log, committed).is_ok()
+        && a.create_resource(log, &placed).is_err()
 }
 
-#[test]
-fn lines_of_resources(rt: HostRuntime) -> Outcome {
-    let sink = Memory::new(rt.alloc());
-    let mut a = logging(rt.alloc(), ALL, &[(4, Refusal::Null)])?;
-    let done = script(&sink.with_target("gpu"), &mut a);
+/// The lines of resources, of which the third placed one is refused, and of the allocator's end.
+fn lines_of_resources(alloc: Global) -> Option<Lines> {
+    let sink = Memory::new(alloc);
+    let mut a = made_with(alloc, ALL, &[(4, Refusal::Null)])?;
+    let done = resources(&sink.with_target("gpu"), &mut a);
     let _ = a.destroy(&sink.with_target("gpu"));
-    done?;
-    let told = "[DEBUG gpu] Allocating `buffer` of 65536 bytes with an alignment of 65536.";
-    check_lines(
-        &rt,
-        &sink.into_lines(),
-        &[told, "[DEBUG gpu] Freeing `buffer`.", told],
-    );
-    Ok(())
+    if done { Some(sink.into_lines()) } else { None }
 }
 
 /// A piece of this name.
@@ -97,35 +69,50 @@ fn named(name: &'static str, size: u64, alignment: u64) -> AllocationCreateDesc<
 }
 
 /// Two pieces, a request that is refused, and one piece given back.
-fn pieces<L: Log>(log: &L, a: &mut Allocator<SimD3D12>) -> Outcome {
+fn pieces<L: Log>(log: &L, a: &mut Allocator<SimD3D12>) -> bool {
     let Ok(first) = a.allocate(log, &named("a", 256, 256)) else {
-        return Err(Fail::from("nothing was given"));
+        return false;
     };
-    let Ok(_second) = a.allocate(log, &named("b", 512, 256)) else {
-        return Err(Fail::from("nothing was given"));
-    };
-    let Err(AllocationError::InvalidAllocationCreateDesc) = a.allocate(log, &named("c", 0, 3))
-    else {
-        return Err(Fail::from("a request without bytes was served"));
-    };
-    let Ok(()) = a.free(log, first) else {
-        return Err(Fail::from("a live allocation came back"));
-    };
-    Ok(())
+    a.is_live(&first)
+        && a.allocate(log, &named("b", 512, 256)).is_ok()
+        && matches!(
+            a.allocate(log, &named("c", 0, 3)),
+            Err(AllocationError::InvalidAllocationCreateDesc)
+        )
+        && a.free(log, first).is_ok()
 }
 
 /// The lines of two pieces one of which is given back, and of the allocator's end, in a log without a target of its own.
-fn lines_of(alloc: Global, settings: AllocatorDebugSettings) -> std::result::Result<Lines, Fail> {
+fn lines_of(alloc: Global, settings: AllocatorDebugSettings) -> Option<Lines> {
     let sink = Memory::new(alloc);
-    let mut a = logging(alloc, settings, &[])?;
+    let mut a = made_with(alloc, settings, &[])?;
     let done = pieces(&sink, &mut a);
     let _ = a.destroy(&sink);
-    done?;
-    Ok(sink.into_lines())
+    if done { Some(sink.into_lines()) } else { None }
 }
 
-/// What is told of the piece that is left.
-const LEFT: &str = "leak detected: {
+/// What a log is told of the piece that is left, where it is asked for.
+fn leaks_told(alloc: Global) -> Option<Lines> {
+    let sink = Memory::new(alloc);
+    let mut a = made_with(alloc, NONE, &[])?;
+    let done = pieces(&Discard, &mut a);
+    a.report_memory_leaks(&sink.with_target("gpu"), Level::Info);
+    let _ = destroyed(a);
+    if done { Some(sink.into_lines()) } else { None }
+}
+
+/// Whether the lines are there, and are these.
+fn told(lines: Option<Lines>, want: &[&str]) -> bool {
+    match lines {
+        Some(lines) => lines_are(&lines, want),
+        None => false,
+    }
+}
+
+const RESOURCE: &str = "[DEBUG gpu] Allocating `buffer` of 65536 bytes with an alignment of 65536.";
+
+/// What is told of the piece that is left, by an allocator's end.
+const LEFT: &str = "[WARN  gpu_allocator::d3d12] leak detected: {
     memory type: 0
     memory block: 0
     chunk: {
@@ -137,43 +124,37 @@ const LEFT: &str = "leak detected: {
     }
 }";
 
+/// What is told of it to a log of a target, at another level.
+const LEFT_TO_GPU: &str = "[INFO  gpu] leak detected: {
+    memory type: 0
+    memory block: 0
+    chunk: {
+        chunk_id: 3,
+        size: 0x200,
+        offset: 0x100,
+        allocation_type: Linear,
+        name: b
+    }
+}";
+
+const EVERYTHING: &[&str] = &[
+    "[DEBUG gpu_allocator::d3d12] Allocating `a` of 256 bytes with an alignment of 256.",
+    "[DEBUG gpu_allocator::d3d12] Allocating `b` of 512 bytes with an alignment of 256.",
+    "[DEBUG gpu_allocator::d3d12] Allocating `c` of 0 bytes with an alignment of 3.",
+    "[DEBUG gpu_allocator::d3d12] Freeing `a`.",
+    LEFT,
+];
+
 #[test]
-fn all_is_logged_in_order(rt: HostRuntime) -> Outcome {
-    let leak = format!(in rt.alloc(); "[WARN  gpu_allocator::d3d12] {LEFT}")?;
-    let want = [
-        "[DEBUG gpu_allocator::d3d12] Allocating `a` of 256 bytes with an alignment of 256.",
-        "[DEBUG gpu_allocator::d3d12] Allocating `b` of 512 bytes with an alignment of 256.",
-        "[DEBUG gpu_allocator::d3d12] Allocating `c` of 0 bytes with an alignment of 3.",
-        "[DEBUG gpu_allocator::d3d12] Freeing `a`.",
-        leak.as_str(),
+fn all_that_is_set_is_logged_in_order(rt: HostRuntime) {
+    let alloc = rt.alloc();
+    let freed = "[DEBUG gpu] Freeing `buffer`.";
+    let steps = [
+        told(lines_of_resources(alloc), &[RESOURCE, freed, RESOURCE]),
+        told(lines_of(alloc, ALL), EVERYTHING),
+        told(lines_of(alloc, NONE), &[]),
+        told(lines_of(alloc, AllocatorDebugSettings::default()), &[LEFT]),
+        told(leaks_told(alloc), &[LEFT_TO_GPU]),
     ];
-    check_lines(&rt, &lines_of(rt.alloc(), ALL)?, &want);
-    Ok(())
-}
-
-#[test]
-fn without_settings_nothing_is_logged(rt: HostRuntime) -> Outcome {
-    check_lines(&rt, &lines_of(rt.alloc(), NONE)?, &[]);
-    Ok(())
-}
-
-#[test]
-fn by_default_leaks_alone_are_logged(rt: HostRuntime) -> Outcome {
-    let leak = format!(in rt.alloc(); "[WARN  gpu_allocator::d3d12] {LEFT}")?;
-    let lines = lines_of(rt.alloc(), AllocatorDebugSettings::default())?;
-    check_lines(&rt, &lines, &[leak.as_str()]);
-    Ok(())
-}
-
-#[test]
-fn leaks_are_told_to_a_log_at_its_level(rt: HostRuntime) -> Outcome {
-    let sink = Memory::new(rt.alloc());
-    let mut a = logging(rt.alloc(), NONE, &[])?;
-    let done = pieces(&Discard, &mut a);
-    a.report_memory_leaks(&sink.with_target("gpu"), Level::Info);
-    let _ = destroyed(a);
-    done?;
-    let leak = format!(in rt.alloc(); "[INFO  gpu] {LEFT}")?;
-    check_lines(&rt, &sink.into_lines(), &[leak.as_str()]);
-    Ok(())
+    check(&rt, &steps);
 }

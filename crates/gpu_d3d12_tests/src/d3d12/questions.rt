@@ -1,26 +1,10 @@
 //! What is told of a refused resource.
 
+use super::resources::{IN_STATE, PROPERTIES};
 use super::*;
-use gpu_d3d12::{
-    CreateCall, ResourceCreateDesc, ResourceStateOrBarrierLayout, ResourceType, create_committed,
-    create_placed,
-};
-use gpu_device::d3d12::{
-    CpuPageProperty, D3D12Device, HeapFlags, HeapProperties, HeapType, ID3D12Heap, ID3D12Resource,
-    MemoryPool,
-};
+use gpu_d3d12::{CreateCall, ResourceCreateDesc, ResourceType, create_committed, create_placed};
+use gpu_device::d3d12::{D3D12Device, HeapFlags, ID3D12Heap, ID3D12Resource};
 use gpu_values::Result;
-use std::process::Abort;
-
-const PROPERTIES: HeapProperties = HeapProperties {
-    heap_type: HeapType::Default,
-    cpu_page_property: CpuPageProperty::Unknown,
-    memory_pool_preference: MemoryPool::Unknown,
-    creation_node_mask: 0,
-    visible_node_mask: 0,
-};
-
-const IN_STATE: ResourceStateOrBarrierLayout = ResourceStateOrBarrierLayout::ResourceState(1);
 
 /// A placed buffer.
 fn asked<'a>(resource_desc: &'a ResourceDesc) -> ResourceCreateDesc<'a> {
@@ -36,70 +20,60 @@ fn asked<'a>(resource_desc: &'a ResourceDesc) -> ResourceCreateDesc<'a> {
     }
 }
 
-/// The text of a refused resource.
-fn text_of(alloc: Global, made: Result<ID3D12Resource>) -> std::result::Result<String, Fail> {
+/// Whether a resource is refused with this text.
+fn is_told(alloc: Global, made: Result<ID3D12Resource>, told: &str) -> bool {
     match made {
-        Ok(_) => Err(Fail::from("a refused resource was given")),
-        Err(error) => match error.to_string(alloc) {
-            Ok(text) => Ok(text),
-            Err(AllocError) => Err(Fail::from("a text was refused")),
-        },
+        Ok(_) => false,
+        Err(error) => prints(alloc, &error, told),
     }
 }
 
-/// Looks that the device refuses a placed buffer, and with which text.
-fn check_placed(
-    rt: &impl Abort,
-    alloc: Global,
-    device: &mut SimD3D12,
-    plain: &ResourceCreateDesc,
-    told: &str,
-) -> Outcome {
-    let placed = create_placed(device, CreateCall::InState(1), plain, ID3D12Heap(9), 0);
-    let text = text_of(alloc, placed)?;
-    assert!(rt; text.as_str() == told);
-    Ok(())
+/// Whether the device refuses a placed buffer with this text.
+fn refuses_placed(alloc: Global, device: &mut SimD3D12, told: &str) -> bool {
+    let desc = buffer(512);
+    let state = CreateCall::InState(1);
+    let placed = create_placed(device, state, &asked(&desc), ID3D12Heap(9), 0);
+    is_told(alloc, placed, told)
 }
 
-/// Looks that the device refuses a committed buffer, and with which text.
-fn check_committed(
-    rt: &impl Abort,
-    alloc: Global,
-    device: &mut SimD3D12,
-    plain: &ResourceCreateDesc,
-    told: &str,
-) -> Outcome {
+/// Whether the device refuses a committed buffer with this text.
+fn refuses_committed(alloc: Global, device: &mut SimD3D12, told: &str) -> bool {
+    let desc = buffer(512);
     let state = CreateCall::InState(1);
-    let committed = create_committed(device, state, plain, &PROPERTIES, HeapFlags(0));
-    let text = text_of(alloc, committed)?;
-    assert!(rt; text.as_str() == told);
-    Ok(())
+    let committed = create_committed(device, state, &asked(&desc), &PROPERTIES, HeapFlags(0));
+    is_told(alloc, committed, told)
+}
+
+const PLACED_REMOVED: &str =
+    "Internal error: ID3D12Device::CreatePlacedResource DEVICE_REMOVED (code -2005270523)";
+
+const COMMITTED_REMOVED: &str =
+    "Internal error: ID3D12Device::CreateCommittedResource DEVICE_REMOVED (code -2005270523)";
+
+const NULL: &str = "Internal error: Allocation succeeded but no resource was returned?";
+
+const FAILED: &str = "Internal error: ID3D12Device::CreatePlacedResource failed (code -5)";
+
+/// Four questions, each of them refused.
+fn four_refused(alloc: Global, device: &mut SimD3D12) -> bool {
+    refuses_placed(alloc, device, PLACED_REMOVED)
+        && refuses_committed(alloc, device, COMMITTED_REMOVED)
+        && refuses_placed(alloc, device, NULL)
+        && refuses_placed(alloc, device, FAILED)
+        && (device.refusals(), device.held()) == (4, 0)
 }
 
 #[test]
-fn refused_resources(rt: HostRuntime) -> Outcome {
-    let alloc = rt.alloc();
-    let removed = Refusal::Code(-2005270523);
+fn refused_resources(rt: HostRuntime) {
     let script = [
-        (1, removed),
-        (2, removed),
+        (1, Refusal::Code(-2005270523)),
+        (2, Refusal::Code(-2005270523)),
         (3, Refusal::Null),
         (4, Refusal::Code(-5)),
     ];
-    let mut device = simulated(alloc, Ok(ResourceHeapTier::Tier2), &script)?;
-    let desc = buffer(512);
-    let plain = asked(&desc);
-    let told =
-        "Internal error: ID3D12Device::CreatePlacedResource DEVICE_REMOVED (code -2005270523)";
-    check_placed(&rt, alloc, &mut device, &plain, told)?;
-    let told =
-        "Internal error: ID3D12Device::CreateCommittedResource DEVICE_REMOVED (code -2005270523)";
-    check_committed(&rt, alloc, &mut device, &plain, told)?;
-    let told = "Internal error: Allocation succeeded but no resource was returned?";
-    check_placed(&rt, alloc, &mut device, &plain, told)?;
-    let told = "Internal error: ID3D12Device::CreatePlacedResource failed (code -5)";
-    check_placed(&rt, alloc, &mut device, &plain, told)?;
-    assert!(&rt; device.refusals() == 4);
-    assert!(&rt; device.held() == 0);
-    Ok(())
+    let told = match simulated(rt.alloc(), Ok(ResourceHeapTier::Tier2), &script) {
+        Some(mut device) => four_refused(rt.alloc(), &mut device),
+        None => false,
+    };
+    check(&rt, &[told]);
 }

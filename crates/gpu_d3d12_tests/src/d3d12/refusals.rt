@@ -2,58 +2,57 @@
 
 use super::*;
 use gpu_values::AllocationError;
-use std::process::Abort;
 
-/// What a piece of 512 bytes is refused with at a device that refuses its first question so, and what is held then.
-fn first_refused(rt: &impl Abort, alloc: Global, refusal: Refusal, message: &str) -> Outcome {
-    let mut a = made(alloc, ResourceHeapTier::Tier2, &[(1, refusal)])?;
+/// Whether a piece of 512 bytes is refused with this text.
+fn refuses(alloc: Global, a: &mut Allocator<SimD3D12>, told: &str) -> bool {
     let desc = piece_for(MemoryLocation::GpuOnly, ResourceCategory::Buffer);
-    let told = match a.allocate(&Discard, &desc) {
-        Ok(_) => Err(Fail::from("a refused heap was given")),
-        Err(error) => match error.to_string(alloc) {
-            Ok(text) => Ok(text),
-            Err(AllocError) => Err(Fail::from("a text was refused")),
-        },
-    };
-    let capacity = a.capacity();
-    let device = destroyed(a);
-    assert!(rt; capacity == 0);
-    assert!(rt; device.held() == 0);
-    match told {
-        Ok(text) => {
-            assert!(rt; text.as_str() == message);
-            Ok(())
-        }
-        Err(fail) => Err(fail),
+    match a.allocate(&Discard, &desc) {
+        Ok(_) => false,
+        Err(error) => prints(alloc, &error, told) && a.capacity() == 0,
     }
 }
 
-#[test]
-fn refused_heaps(rt: HostRuntime) -> Outcome {
-    let alloc = rt.alloc();
-    first_refused(&rt, alloc, Refusal::Code(-2147024882), "Out of memory")?;
-    let failed = "Internal error: ID3D12Device::CreateHeap failed (code -5)";
-    first_refused(&rt, alloc, Refusal::Code(-5), failed)?;
-    let null = "Internal error: ID3D12Heap pointer is null, but should not be.";
-    first_refused(&rt, alloc, Refusal::Null, null)
+/// Whether a device that refuses its first question so has an allocator tell this text, and holds nothing then.
+fn first_refused(alloc: Global, refusal: Refusal, told: &str) -> bool {
+    match made(alloc, &[(1, refusal)]) {
+        Some(mut a) => {
+            let refused = refuses(alloc, &mut a, told);
+            let held = destroyed(a).held();
+            refused && held == 0
+        }
+        None => false,
+    }
 }
 
-#[test]
-fn a_tier_that_is_not_told(rt: HostRuntime) -> Outcome {
-    let alloc = rt.alloc();
-    let device = simulated(alloc, Err(-7), &[])?;
+/// Whether no allocator is made of a device that doesn't tell its tier.
+fn tier_is_not_told(alloc: Global) -> bool {
+    let Some(device) = simulated(alloc, Err(-7), &[]) else {
+        return false;
+    };
     match Allocator::new(alloc, described(device)) {
         Ok(a) => {
-            let device = destroyed(a);
-            assert!(&rt; device.held() == 0);
-            Err(Fail::from("an allocator without a heap tier"))
+            let _ = destroyed(a);
+            false
         }
         Err((AllocationError::Internal(fault), ID3D12DeviceVersion::Device12(device))) => {
-            assert!(&rt; fault.text == "ID3D12Device::CheckFeatureSupport failed");
-            assert!(&rt; fault.code == Some(-7));
-            assert!(&rt; device.questions() == 0);
-            Ok(())
+            fault.text == "ID3D12Device::CheckFeatureSupport failed"
+                && fault.code == Some(-7)
+                && device.questions() == 0
         }
-        Err((_, _)) => Err(Fail::from("another error, or another device")),
+        Err((_, _)) => false,
     }
+}
+
+#[test]
+fn refused_heaps_and_a_tier_that_is_not_told(rt: HostRuntime) {
+    let alloc = rt.alloc();
+    let failed = "Internal error: ID3D12Device::CreateHeap failed (code -5)";
+    let null = "Internal error: ID3D12Heap pointer is null, but should not be.";
+    let steps = [
+        first_refused(alloc, Refusal::Code(-2147024882), "Out of memory"),
+        first_refused(alloc, Refusal::Code(-5), failed),
+        first_refused(alloc, Refusal::Null, null),
+        tier_is_not_told(alloc),
+    ];
+    check(&rt, &steps);
 }

@@ -5,29 +5,21 @@
 use super::resources::{IN_STATE, asked, own_memory};
 use super::*;
 use gpu_d3d12::{Resource, ResourceType};
-use std::process::Abort;
+use std::test::Fail;
+
+/// How a test ends.
+type Outcome = std::result::Result<(), Fail>;
 
 /// What a run ends with in which one request was refused.
 const TOLD: &str = "one call was refused, and nothing was lost";
 
-/// How a test ends in which so many calls were refused.
-fn ends(refused: u64) -> Outcome {
-    match refused {
-        0 => Ok(()),
-        1 => Err(Fail::new(TOLD)),
-        _ => Err(Fail::new("more than one call was refused")),
-    }
-}
-
-/// An allocator whose device holds nothing; else its device came back so.
-fn begin(rt: &impl Abort, alloc: Global) -> Option<Allocator<SimD3D12>> {
-    let device = SimD3D12::new(alloc, Ok(ResourceHeapTier::Tier2), Vec::new(alloc));
-    match Allocator::new(alloc, described(device)) {
-        Ok(a) => Some(a),
-        Err((_, back)) => {
-            assert!(rt; back.device().held() == 0);
-            None
-        }
+/// How a test ends in which so many calls were refused, where nothing is held then.
+fn ends(refused: u64, held: usize) -> Outcome {
+    match (refused, held) {
+        (0, 0) => Ok(()),
+        (1, 0) => Err(Fail::new(TOLD)),
+        (_, 0) => Err(Fail::new("more than one call was refused")),
+        (_, _) => Err(Fail::new("something is held")),
     }
 }
 
@@ -63,24 +55,32 @@ fn looks(a: &Allocator<SimD3D12>) -> u64 {
     u64::from(a.generate_report().is_err()) + u64::from(a.leak_texts().is_err())
 }
 
-#[test]
-fn each_call_of_the_directx_12_allocator_tells_of_its_refusal(rt: HostRuntime) -> Outcome {
-    let Some(mut a) = begin(&rt, rt.alloc()) else {
-        return Err(Fail::new(TOLD));
-    };
+/// Calls that take memory, and some that don't; how many were refused.
+fn calls(a: &mut Allocator<SimD3D12>) -> u64 {
     let told = [
-        piece_comes_and_goes(&mut a, MemoryLocation::GpuOnly),
-        piece_comes_and_goes(&mut a, MemoryLocation::CpuToGpu),
-        looks(&a),
-        resource_comes_and_goes(&mut a, &ResourceType::Placed),
-        resource_comes_and_goes(&mut a, &own_memory()),
+        piece_comes_and_goes(a, MemoryLocation::GpuOnly),
+        piece_comes_and_goes(a, MemoryLocation::CpuToGpu),
+        looks(a),
+        resource_comes_and_goes(a, &ResourceType::Placed),
+        resource_comes_and_goes(a, &own_memory()),
         u64::from(a.set_budget(0, Some(1)).is_err()),
     ];
-    let held = destroyed(a).held();
-    assert!(&rt; held == 0);
     let mut refused: u64 = 0;
     for one in told {
         refused = refused.saturating_add(one);
     }
-    ends(refused)
+    refused
+}
+
+#[test]
+fn each_call_of_the_directx_12_allocator_tells_of_its_refusal(rt: HostRuntime) -> Outcome {
+    let tier = Ok(ResourceHeapTier::Tier2);
+    let device = SimD3D12::new(rt.alloc(), tier, Vec::new(rt.alloc()));
+    match Allocator::new(rt.alloc(), described(device)) {
+        Ok(mut a) => {
+            let refused = calls(&mut a);
+            ends(refused, destroyed(a).held())
+        }
+        Err((_, back)) => ends(1, back.device().held()),
+    }
 }

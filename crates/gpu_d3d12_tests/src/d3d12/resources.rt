@@ -6,9 +6,9 @@ use gpu_device::d3d12::{
     ClearValue, CpuPageProperty, HeapFlags, HeapProperties, HeapType, MemoryPool,
 };
 use gpu_values::AllocationError;
-use std::process::Abort;
 
-const PROPERTIES: HeapProperties = HeapProperties {
+/// The properties of a committed resource in the GPU's memory.
+pub const PROPERTIES: HeapProperties = HeapProperties {
     heap_type: HeapType::Default,
     cpu_page_property: CpuPageProperty::Unknown,
     memory_pool_preference: MemoryPool::Unknown,
@@ -50,64 +50,62 @@ pub fn asked<'a>(
     }
 }
 
-/// Makes what must be made.
-fn make(
-    a: &mut Allocator<SimD3D12>,
-    desc: &ResourceCreateDesc,
-) -> std::result::Result<Resource, Fail> {
-    match a.create_resource(&Discard, desc) {
-        Ok(resource) => Ok(resource),
-        Err(_) => Err(Fail::from("no resource was made")),
-    }
-}
-
-/// Gives back what is live.
-fn unmake(a: &mut Allocator<SimD3D12>, resource: Resource) -> Outcome {
-    match a.free_resource(&Discard, resource) {
-        Ok(()) => Ok(()),
-        Err((_, _)) => Err(Fail::from("a live resource came back")),
-    }
-}
-
-fn foreign_resources(
-    rt: &impl Abort,
+/// Whether `b` refuses a resource of `a` for the cause of this text, and `a` takes it back.
+fn comes_back(
     a: &mut Allocator<SimD3D12>,
     b: &mut Allocator<SimD3D12>,
-) -> Outcome {
-    let own = own_memory();
-    let small = buffer(512);
-    let placed = make(a, &asked(&small, &[], IN_STATE, &ResourceType::Placed))?;
-    let committed = make(a, &asked(&small, &[], IN_STATE, &own))?;
-    match b.free_resource(&Discard, committed) {
+    resource: Resource,
+    told: &str,
+) -> bool {
+    match b.free_resource(&Discard, resource) {
         Err((AllocationError::Internal(fault), back)) => {
-            assert!(rt; fault.text == "Resource was already freed.");
-            unmake(a, back)?;
+            fault.text == told && a.free_resource(&Discard, back).is_ok()
         }
-        _ => return Err(Fail::from("a resource of another allocator was given back")),
+        _ => false,
     }
-    match b.free_resource(&Discard, placed) {
-        Err((AllocationError::Internal(fault), back)) => {
-            assert!(rt; fault.text == "Memory block must be Some.");
-            unmake(a, back)
+}
+
+/// A resource of `a` that is offered to `b`.
+fn offered(
+    a: &mut Allocator<SimD3D12>,
+    b: &mut Allocator<SimD3D12>,
+    memory: &ResourceType,
+    told: &str,
+) -> bool {
+    let made = a.create_resource(&Discard, &asked(&buffer(512), &[], IN_STATE, memory));
+    match made {
+        Ok(resource) => comes_back(a, b, resource, told),
+        Err(_) => false,
+    }
+}
+
+/// What another allocator does with resources of `a`.
+fn with_another(alloc: Global, a: &mut Allocator<SimD3D12>) -> bool {
+    match made(alloc, &[]) {
+        Some(mut b) => {
+            let committed = offered(a, &mut b, &own_memory(), "Resource was already freed.");
+            let placed = offered(
+                a,
+                &mut b,
+                &ResourceType::Placed,
+                "Memory block must be Some.",
+            );
+            let held = destroyed(b).held();
+            committed && placed && held == 0
         }
-        _ => Err(Fail::from("a resource of another allocator was given back")),
+        None => false,
     }
 }
 
 #[test]
-fn resources_that_are_not_live_come_back(rt: HostRuntime) -> Outcome {
-    let mut a = made(rt.alloc(), ResourceHeapTier::Tier2, &[])?;
-    let made_b = made(rt.alloc(), ResourceHeapTier::Tier2, &[]);
-    let done = match made_b {
-        Ok(mut b) => {
-            let done = foreign_resources(&rt, &mut a, &mut b);
-            let device = destroyed(b);
-            assert!(&rt; device.held() == 0);
-            done
+fn resources_that_are_not_live_come_back(rt: HostRuntime) {
+    let came_back = match made(rt.alloc(), &[]) {
+        Some(mut a) => {
+            let came_back = with_another(rt.alloc(), &mut a);
+            let held = destroyed(a).held();
+            came_back && held == 0
         }
-        Err(fail) => Err(fail),
+        None => false,
     };
-    let device = destroyed(a);
-    assert!(&rt; device.held() == 0);
-    done
+    check(&rt, &[came_back]);
 }
