@@ -5,7 +5,6 @@ use super::*;
 use gpu_values::AllocationError;
 use log::sink::{Lines, Memory};
 use log::{Level, Log};
-use std::process::Abort;
 
 /// Everything is logged.
 const ALL: AllocatorDebugSettings = AllocatorDebugSettings {
@@ -23,161 +22,170 @@ const NONE: AllocatorDebugSettings = AllocatorDebugSettings {
     log_frees: false,
 };
 
-/// Looks that a log has these lines and no others.
-fn check_lines(rt: &impl Abort, lines: &Lines, want: &[&str]) {
-    assert!(rt; lines.len() == want.len());
-    for (line, want) in lines.as_slice().iter().zip(want) {
-        assert!(rt; line.as_str() == *want);
+/// A line: how it begins, and the rest.
+type Line = (&'static str, &'static str);
+
+const DEBUG: &str = "[DEBUG gpu_allocator::vulkan] ";
+
+const WARN: &str = "[WARN  gpu_allocator::vulkan] ";
+
+/// Whether the lines are there, and are these and no others.
+fn told(lines: Option<Lines>, want: &[Line]) -> bool {
+    match lines {
+        Some(lines) => lines_are(&lines, want),
+        None => false,
     }
 }
 
-/// An allocator that logs under these settings, over one type of memory that the host can see.
+fn lines_are(lines: &Lines, want: &[Line]) -> bool {
+    for (line, want) in lines.as_slice().iter().zip(want) {
+        if line.as_str().strip_prefix(want.0) != Some(want.1) {
+            return false;
+        }
+    }
+    lines.len() == want.len()
+}
+
+/// An allocator that logs under these settings, in blocks of 4 MB.
 fn logging<L: Log>(
     alloc: Global,
     log: &L,
     settings: AllocatorDebugSettings,
-) -> std::result::Result<Allocator<SimVulkan>, Fail> {
-    let properties = one_type(&[(6, 0)], &[1024 * MB]);
-    logging_over(alloc, log, settings, &properties)
-}
-
-fn logging_over<L: Log>(
-    alloc: Global,
-    log: &L,
-    settings: AllocatorDebugSettings,
     properties: &Properties,
-) -> std::result::Result<Allocator<SimVulkan>, Fail> {
-    let device = simulated(alloc, properties)?;
-    let mut desc = described(device, AllocationSizes::new(4 * MB, 4 * MB));
+) -> Option<Allocator<SimVulkan>> {
+    let device = simulated(alloc, properties).ok()?;
+    let mut desc = described(device, small());
     desc.debug_settings = settings;
     match Allocator::new(log, alloc, desc) {
-        Ok(allocator) => Ok(allocator),
-        Err((_, _)) => Err(Fail::from("the allocator can't be made")),
+        Ok(allocator) => Some(allocator),
+        Err((_, _)) => None,
     }
 }
 
 /// Two pieces, a request that is refused, one piece given back, and nothing given back.
-fn script<L: Log>(log: &L, a: &mut Allocator<SimVulkan>) -> Outcome {
+fn script<L: Log>(log: &L, a: &mut Allocator<SimVulkan>) -> bool {
     let Ok(first) = a.allocate(log, &named("a", 100, 1)) else {
-        return Err(Fail::from("nothing was given"));
+        return false;
     };
-    let Ok(_second) = a.allocate(log, &named("b", 64, 256)) else {
-        return Err(Fail::from("nothing was given"));
-    };
-    let Err(AllocationError::InvalidAllocationCreateDesc) = a.allocate(log, &named("c", 0, 3))
-    else {
-        return Err(Fail::from("a request without bytes was served"));
-    };
-    let Ok(()) = a.free(log, first) else {
-        return Err(Fail::from("a live allocation came back"));
-    };
-    let Ok(()) = a.free(log, Allocation::default()) else {
-        return Err(Fail::from("a null allocation came back"));
-    };
-    Ok(())
+    a.allocate(log, &named("b", 64, 256)).is_ok()
+        && matches!(
+            a.allocate(log, &named("c", 0, 3)),
+            Err(AllocationError::InvalidAllocationCreateDesc)
+        )
+        && a.free(log, first).is_ok()
+        && a.free(log, Allocation::default()).is_ok()
 }
 
 /// The lines of the script, and of the allocator's making and end, in a log without a target of its own.
-fn lines_of(alloc: Global, settings: AllocatorDebugSettings) -> std::result::Result<Lines, Fail> {
+fn lines_of(alloc: Global, settings: AllocatorDebugSettings) -> Option<Lines> {
     let sink = Memory::new(alloc);
-    let mut a = logging(alloc, &sink, settings)?;
+    let mut a = logging(alloc, &sink, settings, &with_types(&[HOST]))?;
     let done = script(&sink, &mut a);
     let _ = a.destroy(&sink);
-    done?;
-    Ok(sink.into_lines())
+    if done { Some(sink.into_lines()) } else { None }
 }
 
-#[test]
-fn all_is_logged_in_order(rt: HostRuntime) -> Outcome {
-    let leak = format!(in rt.alloc(); "[WARN  gpu_allocator::vulkan] {SECOND}")?;
-    let want = [
-        "[DEBUG gpu_allocator::vulkan] memory type count: 1",
-        "[DEBUG gpu_allocator::vulkan] memory heap count: 1",
-        "[DEBUG gpu_allocator::vulkan] memory type[0]: prop flags: 0x6, heap[0]",
-        "[DEBUG gpu_allocator::vulkan] heap[0] flags: 0x0, size: 1024 MiB",
-        "[DEBUG gpu_allocator::vulkan] Allocating `a` of 100 bytes with an alignment of 1.",
-        "[DEBUG gpu_allocator::vulkan] Allocating `b` of 64 bytes with an alignment of 256.",
-        "[DEBUG gpu_allocator::vulkan] Allocating `c` of 0 bytes with an alignment of 3.",
-        "[DEBUG gpu_allocator::vulkan] Freeing `a`.",
-        "[DEBUG gpu_allocator::vulkan] Freeing `<null>`.",
-        leak.as_str(),
-    ];
-    check_lines(&rt, &lines_of(rt.alloc(), ALL)?, &want);
-    Ok(())
-}
+const EVERYTHING: &[Line] = &[
+    (DEBUG, "memory type count: 1"),
+    (DEBUG, "memory heap count: 1"),
+    (DEBUG, "memory type[0]: prop flags: 0x6, heap[0]"),
+    (DEBUG, "heap[0] flags: 0x0, size: 1024 MiB"),
+    (DEBUG, "Allocating `a` of 100 bytes with an alignment of 1."),
+    (
+        DEBUG,
+        "Allocating `b` of 64 bytes with an alignment of 256.",
+    ),
+    (DEBUG, "Allocating `c` of 0 bytes with an alignment of 3."),
+    (DEBUG, "Freeing `a`."),
+    (DEBUG, "Freeing `<null>`."),
+    (WARN, SECOND),
+];
 
-#[test]
-fn without_settings_nothing_is_logged(rt: HostRuntime) -> Outcome {
-    check_lines(&rt, &lines_of(rt.alloc(), NONE)?, &[]);
-    Ok(())
-}
+/// Two memory types on two heaps, of which one has a little less than a number of megabytes.
+const TWO: Properties<'static> = Properties {
+    heaps: &[
+        MemoryHeap {
+            size: 1_572_863,
+            flags: 0,
+        },
+        GIGABYTE,
+    ],
+    types: &[
+        MemoryTypeInfo {
+            property_flags: MemoryPropertyFlags(1),
+            heap_index: 1,
+        },
+        MemoryTypeInfo {
+            property_flags: MemoryPropertyFlags(14),
+            heap_index: 0,
+        },
+    ],
+    granularity: 1,
+    limit: u64::MAX,
+    refusals: &[],
+};
 
-#[test]
-fn by_default_leaks_alone_are_logged(rt: HostRuntime) -> Outcome {
-    let leak = format!(in rt.alloc(); "[WARN  gpu_allocator::vulkan] {SECOND}")?;
-    let lines = lines_of(rt.alloc(), AllocatorDebugSettings::default())?;
-    check_lines(&rt, &lines, &[leak.as_str()]);
-    Ok(())
-}
-
-#[test]
-fn types_and_heaps_are_told_one_by_one(rt: HostRuntime) -> Outcome {
-    let sink = Memory::new(rt.alloc());
-    let properties = one_type(&[(1, 1), (14, 0)], &[1_572_863, 1024 * MB]);
+/// The lines of an allocator's making, over two memory types.
+fn lines_of_types(alloc: Global) -> Option<Lines> {
+    let sink = Memory::new(alloc);
     let mut settings = NONE;
     settings.log_memory_information = true;
-    let a = logging_over(rt.alloc(), &sink.with_target("gpu"), settings, &properties)?;
+    let a = logging(alloc, &sink.with_target("gpu"), settings, &TWO)?;
     let _ = a.destroy(&Discard);
-    let want = [
-        "[DEBUG gpu] memory type count: 2",
-        "[DEBUG gpu] memory heap count: 2",
-        "[DEBUG gpu] memory type[0]: prop flags: 0x1, heap[1]",
-        "[DEBUG gpu] memory type[1]: prop flags: 0xe, heap[0]",
-        "[DEBUG gpu] heap[0] flags: 0x0, size: 1 MiB",
-        "[DEBUG gpu] heap[1] flags: 0x0, size: 1024 MiB",
-    ];
-    check_lines(&rt, &sink.into_lines(), &want);
-    Ok(())
+    Some(sink.into_lines())
 }
 
-#[test]
-fn of_a_bad_device_nothing_is_told(rt: HostRuntime) -> Outcome {
-    let sink = Memory::new(rt.alloc());
-    let mut properties = one_type(&[(6, 0)], &[MB]);
-    properties.granularity = 3;
-    let mut desc = described(
-        simulated(rt.alloc(), &properties)?,
-        AllocationSizes::default(),
-    );
-    desc.debug_settings = ALL;
-    match Allocator::new(&sink, rt.alloc(), desc) {
-        Ok(a) => {
+const GPU: &str = "[DEBUG gpu] ";
+
+const TYPES: &[Line] = &[
+    (GPU, "memory type count: 2"),
+    (GPU, "memory heap count: 2"),
+    (GPU, "memory type[0]: prop flags: 0x1, heap[1]"),
+    (GPU, "memory type[1]: prop flags: 0xe, heap[0]"),
+    (GPU, "heap[0] flags: 0x0, size: 1 MiB"),
+    (GPU, "heap[1] flags: 0x0, size: 1024 MiB"),
+];
+
+/// The lines of an allocator that is not made, since its device has pages of 3 bytes.
+fn lines_of_a_bad_device(alloc: Global) -> Option<Lines> {
+    let sink = Memory::new(alloc);
+    let properties = Properties {
+        granularity: 3,
+        ..with_types(&[HOST])
+    };
+    match logging(alloc, &sink, ALL, &properties) {
+        Some(a) => {
             let _ = a.destroy(&Discard);
-            return Err(Fail::from("an allocator was made of a bad device"));
+            None
         }
-        Err((_, _)) => {}
+        None => Some(sink.into_lines()),
     }
-    check_lines(&rt, &sink.into_lines(), &[]);
-    Ok(())
-}
-
-fn told<L: Log>(log: &L, a: &mut Allocator<SimVulkan>) -> Outcome {
-    let (_first, _second) = two_pieces(a)?;
-    a.report_memory_leaks(log, Level::Info);
-    Ok(())
 }
 
 #[test]
-fn leaks_are_told_at_the_level_asked_for(rt: HostRuntime) -> Outcome {
-    let sink = Memory::new(rt.alloc());
-    let mut a = logging(rt.alloc(), &Discard, NONE)?;
-    let done = told(&sink.with_target("gpu"), &mut a);
+fn all_that_is_set_is_logged_in_order(rt: HostRuntime) {
+    let alloc = rt.alloc();
+    let steps = [
+        told(lines_of(alloc, ALL), EVERYTHING),
+        told(lines_of(alloc, NONE), &[]),
+        told(
+            lines_of(alloc, AllocatorDebugSettings::default()),
+            &[(WARN, SECOND)],
+        ),
+        told(lines_of_types(alloc), TYPES),
+        told(lines_of_a_bad_device(alloc), &[]),
+    ];
+    check(&rt, &steps);
+}
+
+/// What a log is told of two pieces, where the leaks are asked for and at the allocator's end.
+fn leaks_told(alloc: Global) -> Option<Lines> {
+    let sink = Memory::new(alloc);
+    let mut a = logging(alloc, &Discard, NONE, &with_types(&[HOST]))?;
+    let done = two_pieces(&mut a).is_some();
+    a.report_memory_leaks(&sink.with_target("gpu"), Level::Info);
     let _ = a.destroy(&sink.with_target("gpu"));
-    done?;
-    let first = format!(in rt.alloc(); "[INFO  gpu] {FIRST}")?;
-    let second = format!(in rt.alloc(); "[INFO  gpu] {SECOND}")?;
-    check_lines(&rt, &sink.into_lines(), &[first.as_str(), second.as_str()]);
-    Ok(())
+    if done { Some(sink.into_lines()) } else { None }
 }
 
 /// Offers an allocation to an allocator that isn't its own, and frees it in its own one: each logs its name.
@@ -185,33 +193,44 @@ fn free_in_both<L: Log>(
     log: &L,
     a: &mut Allocator<SimVulkan>,
     b: &mut Allocator<SimVulkan>,
-) -> Outcome {
-    let (_first, second) = two_pieces(a)?;
-    let Err((AllocationError::Internal(_), back)) = b.free(log, second) else {
-        return Err(Fail::from("a foreign allocation was given back"));
+) -> bool {
+    let Some((_first, second)) = two_pieces(a) else {
+        return false;
     };
-    match a.free(log, back) {
-        Ok(()) => Ok(()),
-        Err((_, _)) => Err(Fail::from("a live allocation came back")),
+    match b.free(log, second) {
+        Err((AllocationError::Internal(_), back)) => a.free(log, back).is_ok(),
+        _ => false,
     }
 }
 
-#[test]
-fn a_refused_free_is_logged_too(rt: HostRuntime) -> Outcome {
-    let sink = Memory::new(rt.alloc());
-    let mut a = logging(rt.alloc(), &Discard, ALL)?;
-    let other = logging(rt.alloc(), &Discard, ALL);
-    let done = match other {
-        Ok(mut b) => {
-            let done = free_in_both(&sink.with_target("gpu"), &mut a, &mut b);
+/// The same, with another allocator.
+fn free_in_another<L: Log>(alloc: Global, log: &L, a: &mut Allocator<SimVulkan>) -> bool {
+    match logging(alloc, &Discard, ALL, &with_types(&[HOST])) {
+        Some(mut b) => {
+            let done = free_in_both(log, a, &mut b);
             let _ = b.destroy(&Discard);
             done
         }
-        Err(fail) => Err(fail),
-    };
+        None => false,
+    }
+}
+
+/// What a log is told of a refused free and of one that isn't.
+fn frees_told(alloc: Global) -> Option<Lines> {
+    let sink = Memory::new(alloc);
+    let mut a = logging(alloc, &Discard, ALL, &with_types(&[HOST]))?;
+    let done = free_in_another(alloc, &sink.with_target("gpu"), &mut a);
     let _ = a.destroy(&Discard);
-    done?;
-    let line = "[DEBUG gpu] Freeing `b`.";
-    check_lines(&rt, &sink.into_lines(), &[line, line]);
-    Ok(())
+    if done { Some(sink.into_lines()) } else { None }
+}
+
+#[test]
+fn leaks_at_a_level_and_refused_frees_are_told(rt: HostRuntime) {
+    let info = "[INFO  gpu] ";
+    let freed = "Freeing `b`.";
+    let steps = [
+        told(leaks_told(rt.alloc()), &[(info, FIRST), (info, SECOND)]),
+        told(frees_told(rt.alloc()), &[(GPU, freed), (GPU, freed)]),
+    ];
+    check(&rt, &steps);
 }

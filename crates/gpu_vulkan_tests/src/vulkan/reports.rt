@@ -1,16 +1,13 @@
 //! Two pieces of one block, as a report and the texts of leaks show them.
 
 use super::*;
-use gpu_values::{AllocatorReport, MemoryLocation};
-use std::process::Abort;
+use gpu_values::AllocatorReport;
 
 /// Two linear pieces of one shared block of 4 MB: `a` of 100 bytes, and `b` of 64 at a multiple of 256.
-pub fn two_pieces(
-    a: &mut Allocator<SimVulkan>,
-) -> std::result::Result<(Allocation, Allocation), Fail> {
+pub fn two_pieces(a: &mut Allocator<SimVulkan>) -> Option<(Allocation, Allocation)> {
     let first = take(a, &named("a", 100, 1))?;
     let second = take(a, &named("b", 64, 256))?;
-    Ok((first, second))
+    Some((first, second))
 }
 
 /// A piece of the memory for uploads.
@@ -21,39 +18,22 @@ pub fn named(name: &str, size: u64, alignment: u64) -> AllocationCreateDesc<'_> 
     }
 }
 
-/// A row of a report, by its index.
-pub fn check_row(
-    rt: &impl Abort,
-    report: &AllocatorReport,
-    i: usize,
-    name: &str,
-    offset: u64,
-    size: u64,
-) {
+/// Whether the report has this row, by its index.
+pub fn has_row(report: &AllocatorReport, i: usize, name: &str, offset: u64, size: u64) -> bool {
     match report.allocations.get(i) {
-        Some(row) => {
-            assert!(rt; row.name.as_str() == name);
-            assert!(rt; (row.offset, row.size) == (offset, size));
-        }
-        None => panic!(rt; "row {i} of the report isn't there"),
+        Some(row) => row.name.as_str() == name && (row.offset, row.size) == (offset, size),
+        None => false,
     }
 }
 
-/// A block of a report, by its index: its size, and which rows are its own.
-pub fn check_block(
-    rt: &impl Abort,
-    report: &AllocatorReport,
-    i: usize,
-    size: u64,
-    start: usize,
-    end: usize,
-) {
+/// Whether the report has this block, by its index: its size, and which rows are its own.
+pub fn has_block(report: &AllocatorReport, i: usize, size: u64, start: usize, end: usize) -> bool {
     match report.blocks.get(i) {
         Some(block) => {
-            assert!(rt; block.size == size);
-            assert!(rt; (block.allocations.start, block.allocations.end) == (start, end));
+            let rows = &block.allocations;
+            (block.size, rows.start, rows.end) == (size, start, end)
         }
-        None => panic!(rt; "block {i} of the report isn't there"),
+        None => false,
     }
 }
 

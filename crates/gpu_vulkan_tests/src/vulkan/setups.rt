@@ -2,61 +2,54 @@
 
 use super::*;
 use gpu_values::AllocationError;
-use std::process::Abort;
 
 /// The text with which an allocator over this device is refused.
-fn refusal(
-    alloc: Global,
-    physical_device: PhysicalDevice,
-    properties: &Properties,
-) -> std::result::Result<&'static str, Fail> {
-    let device = simulated(alloc, properties)?;
+fn refusal(alloc: Global, number: u64, properties: &Properties) -> Option<&'static str> {
+    let device = simulated(alloc, properties).ok()?;
     let mut desc = described(device, AllocationSizes::default());
-    desc.physical_device = physical_device;
+    desc.physical_device = PhysicalDevice(number);
     match Allocator::new(&Discard, alloc, desc) {
         Ok(allocator) => {
             let _ = allocator.destroy(&Discard);
-            Ok("none")
+            Some("none")
         }
-        Err((AllocationError::InvalidAllocatorCreateDesc(fault), _)) => Ok(fault.text),
-        Err((_, _)) => Ok("another"),
+        Err((AllocationError::InvalidAllocatorCreateDesc(fault), _)) => Some(fault.text),
+        Err((_, _)) => None,
     }
 }
 
-/// Looks that an allocator over this device is refused with this text.
-fn check_refusal(
-    rt: &impl Abort,
-    alloc: Global,
-    physical_device: PhysicalDevice,
-    properties: &Properties,
-    want: &str,
-) -> Outcome {
-    assert!(rt; refusal(alloc, physical_device, properties)? == want);
-    Ok(())
-}
+/// Memory of the second heap.
+const OF_SECOND: MemoryTypeInfo = MemoryTypeInfo {
+    property_flags: MemoryPropertyFlags(6),
+    heap_index: 1,
+};
 
 /// More memory types than a device may have.
-const MANY: &[(u32, u32)] = &[(6, 1); 33];
+const MANY: &[MemoryTypeInfo] = &[OF_SECOND; 33];
 
 /// As many as it may have.
-const FEWER: &[(u32, u32)] = &[(6, 1); 32];
-
-/// What pages of 3 bytes and of none are refused with.
-const PAGES: &str = "buffer image granularity is not a power of two.";
+const FEWER: &[MemoryTypeInfo] = &[OF_SECOND; 32];
 
 #[test]
-fn bad_devices_are_refused_in_order(rt: HostRuntime) -> Outcome {
-    let mut properties = one_type(MANY, &[MB]);
-    properties.granularity = 3;
-    let device = PhysicalDevice(1);
+fn bad_devices_are_refused_in_order(rt: HostRuntime) {
     let alloc = rt.alloc();
+    let odd = Properties {
+        granularity: 3,
+        ..with_types(MANY)
+    };
+    let two = Properties {
+        heaps: &[GIGABYTE, GIGABYTE],
+        ..with_types(FEWER)
+    };
     let null = "AllocatorCreateDesc field `physical_device` is null.";
-    check_refusal(&rt, alloc, PhysicalDevice(0), &properties, null)?;
-    check_refusal(&rt, alloc, device, &properties, PAGES)?;
-    properties.granularity = 1;
-    let count = "more than 32 memory types.";
-    check_refusal(&rt, alloc, device, &properties, count)?;
+    let pages = "buffer image granularity is not a power of two.";
     let heap = "memory type with a heap index out of range.";
-    check_refusal(&rt, alloc, device, &one_type(FEWER, &[MB]), heap)?;
-    check_refusal(&rt, alloc, device, &one_type(FEWER, &[MB, MB]), "none")
+    let steps = [
+        refusal(alloc, 0, &odd) == Some(null),
+        refusal(alloc, 1, &odd) == Some(pages),
+        refusal(alloc, 1, &with_types(MANY)) == Some("more than 32 memory types."),
+        refusal(alloc, 1, &with_types(FEWER)) == Some(heap),
+        refusal(alloc, 1, &two) == Some("none"),
+    ];
+    check(&rt, &steps);
 }
