@@ -5,29 +5,28 @@ mod refusals;
 mod refused;
 mod sessions;
 
-use gpu_metal::{Allocation, AllocationCreateDesc, Allocator, AllocatorCreateDesc};
+use gpu_metal::{AllocationCreateDesc, Allocator, AllocatorCreateDesc};
 use gpu_sim_base::Refusal;
 use gpu_sim_metal::SimMetal;
 use gpu_values::{AllocationSizes, AllocatorDebugSettings, MemoryLocation};
 use log::sink::Discard;
-use std::alloc::{AllocError, Global};
+use std::alloc::Global;
 use std::process::Abort;
-use std::test::Fail;
 
-/// How a test ends.
-type Outcome = std::result::Result<(), Fail>;
-
-/// A simulated device, with residency sets or without, that refuses these questions.
-fn simulated(
-    alloc: Global,
-    residency: bool,
-    script: &[(u64, Refusal)],
-) -> std::result::Result<SimMetal, AllocError> {
-    let mut refusals = Vec::new(alloc);
-    for refusal in script {
-        refusals.push(*refusal)?;
+/// Looks that each step of a test went as it should; a failed one is told by its place. What the tests look at is told by a
+/// `bool`: a proof of a call that may abort costs more than the call itself.
+fn check(rt: &impl Abort, steps: &[bool]) {
+    for (place, step) in steps.iter().enumerate() {
+        assert!(rt; *step, "step {place}");
     }
-    Ok(SimMetal::new(alloc, residency, refusals))
+}
+
+/// A simulated device with residency sets, that refuses these questions.
+fn simulated(alloc: Global, script: &[(u64, Refusal)]) -> Option<SimMetal> {
+    match Vec::from_slice(alloc, script) {
+        Ok(refusals) => Some(SimMetal::new(alloc, true, refusals)),
+        Err(_) => None,
+    }
 }
 
 /// What an allocator is made from.
@@ -44,19 +43,15 @@ fn described(
     }
 }
 
-/// An allocator over a simulated device that has residency sets and refuses these questions, with the default sizes of blocks.
-fn made(
-    alloc: Global,
-    residency: bool,
-    script: &[(u64, Refusal)],
-) -> std::result::Result<Allocator<SimMetal>, Fail> {
-    let device = simulated(alloc, true, script)?;
+/// An allocator over such a device, with the default sizes of blocks.
+fn made(alloc: Global, residency: bool, script: &[(u64, Refusal)]) -> Option<Allocator<SimMetal>> {
+    let device = simulated(alloc, script)?;
     match Allocator::new(
         alloc,
         described(device, AllocationSizes::default(), residency),
     ) {
-        Ok(allocator) => Ok(allocator),
-        Err((_, _)) => Err(Fail::from("the allocator can't be made")),
+        Ok(allocator) => Some(allocator),
+        Err((_, _)) => None,
     }
 }
 
@@ -67,24 +62,5 @@ fn piece(size: u64, location: MemoryLocation) -> AllocationCreateDesc<'static> {
         location,
         size,
         alignment: 256,
-    }
-}
-
-/// Takes what must be given.
-fn take(
-    a: &mut Allocator<SimMetal>,
-    desc: &AllocationCreateDesc,
-) -> std::result::Result<Allocation, Fail> {
-    match a.allocate(&Discard, desc) {
-        Ok(allocation) => Ok(allocation),
-        Err(_) => Err(Fail::from("nothing was given")),
-    }
-}
-
-/// Gives back what is live.
-fn give(a: &mut Allocator<SimMetal>, allocation: Allocation) -> Outcome {
-    match a.free(&Discard, allocation) {
-        Ok(()) => Ok(()),
-        Err((_, _)) => Err(Fail::from("a live allocation came back")),
     }
 }

@@ -15,87 +15,76 @@ fn settings(log_allocations: bool, log_frees: bool) -> AllocatorDebugSettings {
     }
 }
 
-fn calls<L: Log>(log: &L, a: &mut Allocator<SimMetal>) -> Outcome {
+/// A piece that comes and goes, and a request that is refused.
+fn calls<L: Log>(log: &L, a: &mut Allocator<SimMetal>) -> bool {
     let Ok(first) = a.allocate(log, &piece(512, MemoryLocation::GpuOnly)) else {
-        return Err(Fail::from("nothing was given"));
+        return false;
     };
-    let Err(AllocationError::InvalidAllocationCreateDesc) = a.allocate(
-        log,
-        &piece(0, MemoryLocation::GpuOnly),
-    ) else {
-        return Err(Fail::from("a request without bytes was served"));
-    };
-    let Ok(()) = a.free(log, first) else {
-        return Err(Fail::from("a live allocation came back"));
-    };
-    Ok(())
+    matches!(
+        a.allocate(log, &piece(0, MemoryLocation::GpuOnly)),
+        Err(AllocationError::InvalidAllocationCreateDesc)
+    ) && a.free(log, first).is_ok()
 }
 
-fn lines_of(
-    alloc: Global,
-    log_allocations: bool,
-    log_frees: bool,
-) -> std::result::Result<Lines, Fail> {
-    let sink = Memory::new(alloc);
-    let device = simulated(alloc, true, &[])?;
+/// Whether an allocator under these settings makes those calls.
+fn makes_calls<L: Log>(alloc: Global, log: &L, debug_settings: AllocatorDebugSettings) -> bool {
+    let Some(device) = simulated(alloc, &[]) else {
+        return false;
+    };
     let mut desc = described(device, AllocationSizes::default(), false);
-    desc.debug_settings = settings(log_allocations, log_frees);
-    let Ok(mut a) = Allocator::new(alloc, desc) else {
-        return Err(Fail::from("the allocator can't be made"));
-    };
-    let done = calls(&sink, &mut a);
-    let _ = a.destroy();
-    done?;
-    Ok(sink.into_lines())
-}
-
-fn check_lines(rt: &impl Abort, lines: &Lines, want: &[&str]) {
-    assert!(rt; lines.len() == want.len());
-    for (line, want) in lines.as_slice().iter().zip(want) {
-        assert!(rt; line.as_str() == *want);
+    desc.debug_settings = debug_settings;
+    match Allocator::new(alloc, desc) {
+        Ok(mut a) => {
+            let done = calls(log, &mut a);
+            let _ = a.destroy();
+            done
+        }
+        Err((_, _)) => false,
     }
 }
 
+/// Whether a log has these lines and no others.
+fn lines_are(lines: &Lines, want: &[&str]) -> bool {
+    for (line, want) in lines.as_slice().iter().zip(want) {
+        if line.as_str() != *want {
+            return false;
+        }
+    }
+    lines.len() == want.len()
+}
+
+/// Whether these are the lines of the calls, in a log without a target of its own.
+fn logs(alloc: Global, log_allocations: bool, log_frees: bool, want: &[&str]) -> bool {
+    let sink = Memory::new(alloc);
+    makes_calls(alloc, &sink, settings(log_allocations, log_frees))
+        && lines_are(&sink.into_lines(), want)
+}
+
+/// Whether a log of a target has these lines of frees.
+fn logs_frees_to_gpu(alloc: Global, want: &[&str]) -> bool {
+    let sink = Memory::new(alloc);
+    makes_calls(alloc, &sink.with_target("gpu"), settings(false, true))
+        && lines_are(&sink.into_lines(), want)
+}
+
 /// Before the description is looked at.
-const ALLOCATING: [&str; 2] = [
-    "[DEBUG gpu_allocator::metal] Allocating `piece` of 512 bytes with an alignment of 256.",
-    "[DEBUG gpu_allocator::metal] Allocating `piece` of 0 bytes with an alignment of 256.",
-];
+const FIRST: &str =
+    "[DEBUG gpu_allocator::metal] Allocating `piece` of 512 bytes with an alignment of 256.";
+
+const EMPTY: &str =
+    "[DEBUG gpu_allocator::metal] Allocating `piece` of 0 bytes with an alignment of 256.";
 
 const FREEING: &str = "[DEBUG gpu_allocator::metal] Freeing `piece`.";
 
 #[test]
-fn allocations_and_frees_are_logged(rt: HostRuntime) -> Outcome {
-    let want = [ALLOCATING[0], ALLOCATING[1], FREEING];
-    check_lines(&rt, &lines_of(rt.alloc(), true, true)?, &want);
-    Ok(())
-}
-
-#[test]
-fn each_setting_logs_its_own_lines(rt: HostRuntime) -> Outcome {
-    check_lines(&rt, &lines_of(rt.alloc(), true, false)?, &ALLOCATING);
-    check_lines(&rt, &lines_of(rt.alloc(), false, true)?, &[FREEING]);
-    Ok(())
-}
-
-#[test]
-fn a_log_keeps_its_own_target(rt: HostRuntime) -> Outcome {
-    let sink = Memory::new(rt.alloc());
-    let device = simulated(rt.alloc(), true, &[])?;
-    let mut desc = described(device, AllocationSizes::default(), false);
-    desc.debug_settings = settings(false, true);
-    let Ok(mut a) = Allocator::new(rt.alloc(), desc) else {
-        return Err(Fail::from("the allocator can't be made"));
-    };
-    let done = calls(&sink.with_target("gpu"), &mut a);
-    let _ = a.destroy();
-    done?;
-    check_lines(&rt, &sink.into_lines(), &["[DEBUG gpu] Freeing `piece`."]);
-    Ok(())
-}
-
-#[test]
-fn without_settings_nothing_is_logged(rt: HostRuntime) -> Outcome {
-    check_lines(&rt, &lines_of(rt.alloc(), false, false)?, &[]);
-    Ok(())
+fn each_setting_logs_its_own_lines(rt: HostRuntime) {
+    let alloc = rt.alloc();
+    let steps = [
+        logs(alloc, true, true, &[FIRST, EMPTY, FREEING]),
+        logs(alloc, true, false, &[FIRST, EMPTY]),
+        logs(alloc, false, true, &[FREEING]),
+        logs(alloc, false, false, &[]),
+        logs_frees_to_gpu(alloc, &["[DEBUG gpu] Freeing `piece`."]),
+    ];
+    check(&rt, &steps);
 }

@@ -3,29 +3,21 @@
 //! call that takes memory and tells of no refusal is found.
 
 use super::*;
-use std::process::Abort;
+use std::test::Fail;
+
+/// How a test ends.
+type Outcome = std::result::Result<(), Fail>;
 
 /// What a run ends with in which one request was refused.
 const TOLD: &str = "one call was refused, and nothing was lost";
 
-/// How a test ends in which so many calls were refused.
-fn ends(refused: u64) -> Outcome {
-    match refused {
-        0 => Ok(()),
-        1 => Err(Fail::new(TOLD)),
-        _ => Err(Fail::new("more than one call was refused")),
-    }
-}
-
-/// An allocator with a residency set; else its device came back, and holds nothing.
-fn begin(rt: &impl Abort, alloc: Global) -> Option<Allocator<SimMetal>> {
-    let device = SimMetal::new(alloc, true, Vec::new(alloc));
-    match Allocator::new(alloc, described(device, AllocationSizes::default(), true)) {
-        Ok(a) => Some(a),
-        Err((_, back)) => {
-            assert!(rt; back.held() == 0);
-            None
-        }
+/// How a test ends in which so many calls were refused, if the device holds what it should.
+fn ends(refused: u64, held: bool) -> Outcome {
+    match (refused, held) {
+        (0, true) => Ok(()),
+        (1, true) => Err(Fail::new(TOLD)),
+        (_, true) => Err(Fail::new("more than one call was refused")),
+        (_, false) => Err(Fail::new("the device holds too much or too little")),
     }
 }
 
@@ -40,22 +32,33 @@ fn piece_comes_and_goes(a: &mut Allocator<SimMetal>, location: MemoryLocation) -
     }
 }
 
-#[test]
-fn each_call_of_the_metal_allocator_tells_of_its_refusal(rt: HostRuntime) -> Outcome {
-    let Some(mut a) = begin(&rt, rt.alloc()) else {
-        return Err(Fail::new(TOLD));
-    };
+/// Calls that take memory, and some that don't; how many were refused.
+fn calls(a: &mut Allocator<SimMetal>) -> u64 {
     let told = [
-        piece_comes_and_goes(&mut a, MemoryLocation::GpuOnly),
-        piece_comes_and_goes(&mut a, MemoryLocation::CpuToGpu),
+        piece_comes_and_goes(a, MemoryLocation::GpuOnly),
+        piece_comes_and_goes(a, MemoryLocation::CpuToGpu),
         u64::from(a.generate_report().is_err()),
         u64::from(a.set_budget(0, Some(1)).is_err()),
     ];
-    let held = a.destroy().held();
-    assert!(&rt; held == 1);
     let mut refused: u64 = 0;
     for one in told {
         refused = refused.saturating_add(one);
     }
-    ends(refused)
+    refused
+}
+
+/// At last the device holds the residency set; where no allocator was made, nothing.
+#[test]
+fn each_call_of_the_metal_allocator_tells_of_its_refusal(rt: HostRuntime) -> Outcome {
+    let device = SimMetal::new(rt.alloc(), true, Vec::new(rt.alloc()));
+    match Allocator::new(
+        rt.alloc(),
+        described(device, AllocationSizes::default(), true),
+    ) {
+        Ok(mut a) => {
+            let refused = calls(&mut a);
+            ends(refused, a.destroy().held() == 1)
+        }
+        Err((_, back)) => ends(1, back.held() == 0),
+    }
 }
