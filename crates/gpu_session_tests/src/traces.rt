@@ -1,7 +1,9 @@
 //! Whole traces with readers and writers that fail. What traces are answered is in traces/.
 
+use crate::check;
 use gpu_session::run_trace;
 use log::sink::Discard;
+use std::alloc::Global;
 use std::io;
 use std::io::{ErrorKind, Read, Write};
 
@@ -108,53 +110,86 @@ leaks 1
 held 0
 ";
 
-#[test]
-fn a_failed_read_ends_the_trace_unanswered(rt: HostRuntime) {
-    for input in [BEST_FIT, DAMAGED, BUFFER] {
-        for left in 0..input.len() {
-            let mut reader = Breaking {
-                bytes: input.as_bytes(),
-                left,
-            };
-            let mut out = Vec::new(rt.alloc());
-            let status = run_trace(&Discard, rt.alloc(), &mut reader, &mut out);
-            assert!(rt; status == 1);
-            assert!(rt; out.is_empty());
+/// Whether the trace ends unanswered where its reader fails after so many bytes.
+fn read_fails(alloc: Global, input: &str, left: usize) -> bool {
+    let mut reader = Breaking {
+        bytes: input.as_bytes(),
+        left,
+    };
+    let mut out = Vec::new(alloc);
+    run_trace(&Discard, alloc, &mut reader, &mut out) == 1 && out.is_empty()
+}
+
+/// The same, wherever it fails.
+fn each_read_fails(alloc: Global, input: &str) -> bool {
+    for left in 0..input.len() {
+        if !read_fails(alloc, input, left) {
+            return false;
         }
     }
+    true
+}
+
+#[test]
+fn a_failed_read_ends_the_trace_unanswered(rt: HostRuntime) {
+    let steps = [
+        each_read_fails(rt.alloc(), BEST_FIT),
+        each_read_fails(rt.alloc(), DAMAGED),
+        each_read_fails(rt.alloc(), BUFFER),
+    ];
+    check(&rt, &steps);
+}
+
+/// Whether the trace ends where its writer fails after so many bytes, which are those of its replies.
+fn write_fails(alloc: Global, input: &str, output: &str, left: usize) -> bool {
+    let mut reader = input.as_bytes();
+    let mut out = Full {
+        held: Vec::new(alloc),
+        left,
+        flushes: true,
+    };
+    run_trace(&Discard, alloc, &mut reader, &mut out) == 1
+        && output.as_bytes().starts_with(out.held.as_slice())
+}
+
+/// The same, wherever it fails.
+fn each_write_fails(alloc: Global, input: &str, output: &str) -> bool {
+    for left in 0..output.len() {
+        if !write_fails(alloc, input, output, left) {
+            return false;
+        }
+    }
+    true
 }
 
 #[test]
 fn a_failed_write_ends_the_trace(rt: HostRuntime) {
-    for (input, output) in [
-        (BEST_FIT, BEST_FIT_REPLIES),
-        (DAMAGED, DAMAGED_REPLIES),
-        (BUFFER, BUFFER_REPLIES),
-    ] {
-        for left in 0..output.len() {
-            let mut reader = input.as_bytes();
-            let mut out = Full {
-                held: Vec::new(rt.alloc()),
-                left,
-                flushes: true,
-            };
-            let status = run_trace(&Discard, rt.alloc(), &mut reader, &mut out);
-            assert!(rt; status == 1);
-            assert!(rt; output.as_bytes().starts_with(out.held.as_slice()));
-        }
-    }
+    let steps = [
+        each_write_fails(rt.alloc(), BEST_FIT, BEST_FIT_REPLIES),
+        each_write_fails(rt.alloc(), DAMAGED, DAMAGED_REPLIES),
+        each_write_fails(rt.alloc(), BUFFER, BUFFER_REPLIES),
+    ];
+    check(&rt, &steps);
+}
+
+/// Whether the trace fails where all is written, and the flush fails.
+fn flush_fails(alloc: Global, input: &str) -> bool {
+    let mut reader = input.as_bytes();
+    let mut out = Full {
+        held: Vec::new(alloc),
+        left: usize::MAX,
+        flushes: false,
+    };
+    run_trace(&Discard, alloc, &mut reader, &mut out) == 1
 }
 
 #[test]
 fn a_failed_flush_is_a_failed_write(rt: HostRuntime) {
-    for input in [BEST_FIT, DAMAGED, BUFFER, ""] {
-        let mut reader = input.as_bytes();
-        let mut out = Full {
-            held: Vec::new(rt.alloc()),
-            left: usize::MAX,
-            flushes: false,
-        };
-        let status = run_trace(&Discard, rt.alloc(), &mut reader, &mut out);
-        assert!(rt; status == 1);
-    }
+    let steps = [
+        flush_fails(rt.alloc(), BEST_FIT),
+        flush_fails(rt.alloc(), DAMAGED),
+        flush_fails(rt.alloc(), BUFFER),
+        flush_fails(rt.alloc(), ""),
+    ];
+    check(&rt, &steps);
 }

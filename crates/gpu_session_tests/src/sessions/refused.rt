@@ -3,16 +3,21 @@
 //! `tools/check_refused` refuses each in turn, and looks for that text.
 
 use super::*;
+use std::test::Fail;
+
+/// How a test ends.
+type Outcome = std::result::Result<(), Fail>;
 
 /// What a run ends with in which one request was refused.
 const TOLD: &str = "one call was refused, and nothing was lost";
 
-/// How a test ends in which so many calls were refused.
-fn ends(refused: u64) -> Outcome {
-    match refused {
-        0 => Ok(()),
-        1 => Err(Fail::new(TOLD)),
-        _ => Err(Fail::new("more than one call was refused")),
+/// How a test ends in which so many calls were refused, if all else held.
+fn ends(refused: u64, held: bool) -> Outcome {
+    match (refused, held) {
+        (0, true) => Ok(()),
+        (1, true) => Err(Fail::new(TOLD)),
+        (_, true) => Err(Fail::new("more than one call was refused")),
+        (_, false) => Err(Fail::new("something was lost")),
     }
 }
 
@@ -27,95 +32,85 @@ fn is_want_of_memory(error: &AllocationError) -> bool {
     }
 }
 
+/// A piece that the host reads: uploads are asked for again where the device lacks host memory.
+const DOWNLOAD: Piece<'static> = Piece {
+    size: 100,
+    alignment: 1,
+    location: MemoryLocation::GpuToCpu,
+    name: "first",
+};
+
 /// A piece comes and goes; the capacity before and after.
 const CALLS: &[Call] = &[
     Call::Capacity,
-    Call::Download(1, 100, 1, "first"),
+    Call::Take(1, DOWNLOAD),
     Call::Free(1),
     Call::Capacity,
 ];
-
-/// Whether a piece was given; then its offset, size and number are these. Else the host refused memory, to the allocator or
-/// to the device.
-fn is_given(rt: &impl Abort, reply: &Reply, want: (u64, u64, u64), refused: &mut u64) -> bool {
-    match reply {
-        Reply::Error(error) => {
-            assert!(rt; is_want_of_memory(error));
-            *refused = refused.saturating_add(1);
-            false
-        }
-        _ => {
-            assert!(rt; given_at(reply) == Some(want));
-            true
-        }
-    }
-}
 
 /// Runs all commands; where the host refused memory for the replies none has run, and they are run once more.
 fn run_again(
     s: &mut Session<SimVulkan>,
     commands: &[Command],
     refused: &mut u64,
-) -> std::result::Result<Vec<Reply>, Fail> {
+) -> Option<Vec<Reply>> {
     match s.run(&Discard, commands) {
-        Ok(replies) => return Ok(replies),
+        Ok(replies) => return Some(replies),
         Err(AllocationError::HostOutOfMemory) => *refused = refused.saturating_add(1),
-        Err(_) => return Err(Fail::from("a run was refused for another cause")),
+        Err(_) => return None,
     }
-    match s.run(&Discard, commands) {
-        Ok(replies) => Ok(replies),
-        Err(_) => Err(Fail::from("a run was refused again")),
-    }
+    s.run(&Discard, commands).ok()
 }
 
-fn served(
-    rt: &impl Abort,
-    s: &mut Session<SimVulkan>,
-    commands: &[Command],
-    refused: &mut u64,
-) -> Outcome {
-    let replies = run_again(s, commands, refused)?;
-    let [empty, given, freed, left] = replies.as_slice() else {
-        return Err(Fail::from("there is another count of replies"));
-    };
-    assert!(rt; matches!(empty, Reply::Capacity(0)));
-    if is_given(rt, given, (0, 100, 2), refused) {
-        assert!(rt; is_done(freed));
-        assert!(rt; matches!(left, Reply::Capacity(4_194_304)));
-    } else {
-        assert!(rt; matches!(freed, Reply::Unbound));
-        assert!(rt; matches!(left, Reply::Capacity(0)));
-    }
-    Ok(())
-}
-
-/// A session; else the host refused memory, and a device that was there came back as it was.
-fn begin(rt: &impl Abort, alloc: Global) -> Option<Session<SimVulkan>> {
-    let Ok(device) = simulated(alloc) else {
-        return None;
-    };
-    match made(alloc, device, AllocationSizes::new(4 * MB, 4 * MB)) {
-        Ok(a) => Some(Session::new(alloc, a)),
-        Err((error, device)) => {
-            assert!(rt; is_want_of_memory(&error));
-            assert!(rt; device.held() == 0);
-            None
+/// Whether a piece was given at its place, and came and went; or the host refused memory, to the allocator or to the device.
+fn comes_and_goes(given: &Reply, freed: &Reply, left: &Reply, refused: &mut u64) -> bool {
+    match given {
+        Reply::Error(error) => {
+            *refused = refused.saturating_add(1);
+            is_want_of_memory(error)
+                && matches!(freed, Reply::Unbound)
+                && matches!(left, Reply::Capacity(0))
         }
+        _ => {
+            given_at(given) == Some((0, 100, 2))
+                && matches!(freed, Reply::Done)
+                && matches!(left, Reply::Capacity(4_194_304))
+        }
+    }
+}
+
+/// Whether the replies are as they should be.
+fn served(s: &mut Session<SimVulkan>, commands: &[Command], refused: &mut u64) -> bool {
+    let Some(replies) = run_again(s, commands, refused) else {
+        return false;
+    };
+    match replies.as_slice() {
+        [Reply::Capacity(0), given, freed, left] => comes_and_goes(given, freed, left, refused),
+        _ => false,
+    }
+}
+
+/// A session of that device; else the host refused memory, and the device came back as it was.
+fn told(alloc: Global, device: SimVulkan, commands: &[Command]) -> Outcome {
+    match made(alloc, device, AllocationSizes::new(4 * MB, 4 * MB)) {
+        Ok(a) => {
+            let mut refused = 0;
+            let mut s = Session::new(alloc, a);
+            let done = served(&mut s, commands, &mut refused);
+            let held = s.destroy(&Discard).held();
+            ends(refused, done && held == 0)
+        }
+        Err((error, device)) => ends(1, is_want_of_memory(&error) && device.held() == 0),
     }
 }
 
 #[test]
 fn a_session_loses_nothing_where_memory_is_refused(rt: HostRuntime) -> Outcome {
     let Ok(commands) = commands_of(rt.alloc(), CALLS) else {
-        return Err(Fail::new(TOLD));
+        return ends(1, true);
     };
-    let Some(mut s) = begin(&rt, rt.alloc()) else {
-        return Err(Fail::new(TOLD));
-    };
-    let mut refused = 0;
-    let done = served(&rt, &mut s, &commands, &mut refused);
-    let device = s.destroy(&Discard);
-    done?;
-    assert!(&rt; device.held() == 0);
-    ends(refused)
+    match simulated(rt.alloc()) {
+        Ok(device) => told(rt.alloc(), device, &commands),
+        Err(AllocError) => ends(1, true),
+    }
 }
