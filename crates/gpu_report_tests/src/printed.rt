@@ -1,7 +1,4 @@
-//! Tests of printed texts.
-
-ghost use Rattle.std.specs.Prelude.{◌≡◌, IsTrue};
-ghost use Rattle.std.specs.Int.{is_power_of_two};
+//! Tests of printed texts. What they look at is told by a `bool`: a proof of a call that may abort costs more than the call itself.
 
 use gpu_core::{
     AllocationReport, AllocationType, AllocatorReport, DedicatedBlockAllocator, FreeListAllocator,
@@ -15,73 +12,114 @@ use std::process::Abort;
 
 const NAME: &str = "a<b&c\"d\\e>\n\u{1}ü";
 
-fn text_of<D: Display>(rt: &impl Abort, alloc: Global, value: &D) -> String {
-    value.to_string(alloc).expect(rt, "there is memory")
-}
-
-/// What another reader reads, which it prints as it was.
-fn read_back<D: Display>(rt: &impl Abort, alloc: Global, value: &D) -> Value {
-    let text = text_of(rt, alloc, value);
-    let read = Value::from_str(alloc, text.as_str()).expect(rt, "it is JSON");
-    let again = read.to_string(alloc).expect(rt, "there is memory");
-    assert!(rt; again.as_str() == text.as_str());
-    read
-}
-
-fn number_at(rt: &impl Abort, value: &Value, path: &str) -> u64 {
-    let found = value.pointer(path).and_then(Value::as_u64);
-    found.expect(rt, "a number")
-}
-
-fn one(rt: &impl Abort) -> u64
-    ensures value { result ≡ 1 }
-    ensures power { IsTrue (is_power_of_two result) }
-{
-    let granularity = 1u64;
-    assert!(rt; granularity.is_power_of_two());
-    granularity
-}
-
-/// A block with a piece of 300 bytes, and one of 1000 bytes behind padding.
-fn two_pieces(rt: &impl Abort, alloc: Global, name: &str) -> SubAllocator {
-    let granularity = one(rt);
-    let alignment = 256u64;
-    assert!(rt; alignment.is_power_of_two());
-    let mut list = FreeListAllocator::new(alloc, 4_194_304, granularity).expect(
-        rt,
-        "there is memory",
-    );
-    let first = list.allocate(300, granularity, AllocationType::Linear, granularity, name);
-    assert!(rt; first.is_ok());
-    let second = list.allocate(1000, alignment, AllocationType::NonLinear, granularity, "b");
-    assert!(rt; second.is_ok());
-    SubAllocator::FreeList(list)
-}
-
-fn report(rt: &impl Abort, alloc: Global) -> AllocatorReport {
-    let name = String::from_str(alloc, NAME).expect(rt, "there is memory");
-    let row = AllocationReport {
-        name,
-        offset: 9_007_199_254_740_993,
-        size: u64::MAX,
-    };
-    let block = MemoryBlockReport {
-        size: u64::MAX,
-        allocations: 0..1,
-    };
-    AllocatorReport {
-        allocations: vec![in alloc; row].expect(rt, "there is memory"),
-        blocks: vec![in alloc; block].expect(rt, "there is memory"),
-        total_allocated_bytes: 5,
-        total_capacity_bytes: u64::MAX,
+/// Looks that each step of a test went as it should; a failed one is told by its place.
+fn check(rt: &impl Abort, steps: &[bool]) {
+    for (place, step) in steps.iter().enumerate() {
+        assert!(rt; *step, "step {place}");
     }
 }
 
-/// Compares the numbers at these places of what was read.
-fn check_numbers(rt: &impl Abort, value: &Value, want: &[(&str, u64)]) {
-    for row in want {
+fn text_of<D: Display>(alloc: Global, value: &D) -> Option<String> {
+    match value.to_string(alloc) {
+        Ok(text) => Some(text),
+        Err(_) => None,
+    }
+}
+
+/// Whether the value prints this text.
+fn prints<D: Display>(alloc: Global, value: &D, want: &str) -> bool {
+    match text_of(alloc, value) {
+        Some(text) => text.as_str() == want,
+        None => false,
+    }
+}
+
+/// Whether these stand in what the value prints.
+fn prints_among<D: Display>(alloc: Global, value: &D, want: &[&str]) -> bool {
+    match text_of(alloc, value) {
+        Some(text) => {
+            for part in want {
+                if !text.contains(*part) {
+                    return false;
+                }
+            }
+            true
+        }
+        None => false,
+    }
+}
+
+/// What another reader reads.
+fn read(alloc: Global, text: &str) -> Option<Value> {
+    match Value::from_str(alloc, text) {
+        Ok(value) => Some(value),
+        Err(_) => None,
+    }
+}
+
+/// What another reader reads, which it prints as it was.
+fn read_back<D: Display>(alloc: Global, value: &D) -> Option<Value> {
+    let text = text_of(alloc, value)?;
+    let value = read(alloc, text.as_str())?;
+    if prints(alloc, &value, text.as_str()) {
+        Some(value)
+    } else {
+        None
+    }
+}
+
+/// Whether the numbers at these places of what was read are these, and the text at this one.
+fn reads_as(value: &Value, numbers: &[(&str, u64)], at: &str, name: &str) -> bool {
+    for row in numbers {
         let (path, number) = *row;
-        assert!(rt; number_at(rt, value, path) == number, "{path}");
+        if value.pointer(path).and_then(Value::as_u64) != Some(number) {
+            return false;
+        }
+    }
+    value.pointer(at).and_then(Value::as_str) == Some(name)
+}
+
+/// Whether another reader reads this.
+fn reads_back<D: Display>(
+    alloc: Global,
+    value: &D,
+    numbers: &[(&str, u64)],
+    at: &str,
+    name: &str,
+) -> bool {
+    match read_back(alloc, value) {
+        Some(read) => reads_as(&read, numbers, at, name),
+        None => false,
+    }
+}
+
+/// A block with a piece of 300 bytes, and one of 1000 bytes behind padding.
+fn two_pieces(alloc: Global, name: &str) -> Option<SubAllocator> {
+    let one = 1u64;
+    let alignment = 256u64;
+    if !one.is_power_of_two() || !alignment.is_power_of_two() {
+        return None;
+    }
+    let mut list = FreeListAllocator::new(alloc, 4_194_304, one).ok()?;
+    if list
+        .allocate(300, one, AllocationType::Linear, one, name)
+        .is_err()
+    {
+        return None;
+    }
+    match list.allocate(1000, alignment, AllocationType::NonLinear, one, "b") {
+        Ok(_) => Some(SubAllocator::FreeList(list)),
+        Err(_) => None,
+    }
+}
+
+/// A block in slot `slot` of memory type 3.
+fn view(slot: usize, block: &SubAllocator) -> BlockView<'_> {
+    BlockView {
+        memory_type: 3,
+        slot,
+        page_size: 1,
+        block,
     }
 }
 
@@ -96,21 +134,37 @@ const TWO_PIECES: &[(&str, u64)] = &[
     ("/blocks/0/statistics/piece_bytes", 1512),
 ];
 
-#[test]
-fn blocks_read_back(rt: HostRuntime) {
-    let block = two_pieces(&rt, rt.alloc(), NAME);
-    let view = BlockView {
-        memory_type: 3,
-        slot: 2,
-        page_size: 1,
-        block: &block,
+/// Whether the view of two pieces is read as it is.
+fn blocks_read_back(alloc: Global) -> bool {
+    match two_pieces(alloc, NAME) {
+        Some(block) => reads_back(
+            alloc,
+            &BlocksJson(&[view(2, &block)]),
+            TWO_PIECES,
+            "/blocks/0/pieces/0/name",
+            NAME,
+        ),
+        None => false,
+    }
+}
+
+/// A report of one piece.
+fn report(alloc: Global) -> Option<AllocatorReport> {
+    let row = AllocationReport {
+        name: String::from_str(alloc, NAME).ok()?,
+        offset: 9_007_199_254_740_993,
+        size: u64::MAX,
     };
-    let read = read_back(&rt, rt.alloc(), &BlocksJson(&[view]));
-    let name = read
-        .pointer("/blocks/0/pieces/0/name")
-        .and_then(Value::as_str);
-    assert!(rt; name == Some(NAME));
-    check_numbers(&rt, &read, TWO_PIECES);
+    let block = MemoryBlockReport {
+        size: u64::MAX,
+        allocations: 0..1,
+    };
+    Some(AllocatorReport {
+        allocations: vec![in alloc; row].ok()?,
+        blocks: vec![in alloc; block].ok()?,
+        total_allocated_bytes: 5,
+        total_capacity_bytes: u64::MAX,
+    })
 }
 
 /// The numbers of a report of one piece.
@@ -121,80 +175,134 @@ const ONE_PIECE: &[(&str, u64)] = &[
     ("/total_allocated_bytes", 5),
 ];
 
+/// Whether that report is read as it is, and its name is written in a picture.
+fn report_prints(alloc: Global) -> bool {
+    match report(alloc) {
+        Some(report) => {
+            reads_back(
+                alloc,
+                &ReportJson(&report),
+                ONE_PIECE,
+                "/allocations/0/name",
+                NAME,
+            ) && prints_among(
+                alloc,
+                &ReportSvg(&report),
+                &["bytes at 9007199254740993: a&lt;b&amp;c&quot;d\\e&gt;??ü</title>"],
+            )
+        }
+        None => false,
+    }
+}
+
 #[test]
-fn report_reads_back(rt: HostRuntime) {
-    let report = report(&rt, rt.alloc());
-    let read = read_back(&rt, rt.alloc(), &ReportJson(&report));
-    check_numbers(&rt, &read, ONE_PIECE);
+fn blocks_and_reports_read_back(rt: HostRuntime) {
+    let steps = [blocks_read_back(rt.alloc()), report_prints(rt.alloc())];
+    check(&rt, &steps);
 }
 
 /// A block that is one piece's own.
-fn dedicated(rt: &impl Abort, alloc: Global) -> SubAllocator {
+fn dedicated(alloc: Global) -> Option<SubAllocator> {
     let mut block = DedicatedBlockAllocator::new(alloc, 1000);
-    let piece = block.allocate(1000, AllocationType::Linear, "c");
-    assert!(rt; piece.is_ok());
-    SubAllocator::Dedicated(block)
-}
-
-/// A block in slot `slot` of memory type 3.
-fn view(slot: usize, block: &SubAllocator) -> BlockView<'_> {
-    BlockView {
-        memory_type: 3,
-        slot,
-        page_size: 1,
-        block,
+    match block.allocate(1000, AllocationType::Linear, "c") {
+        Ok(_) => Some(SubAllocator::Dedicated(block)),
+        Err(_) => None,
     }
 }
 
 const EACH_FORM: &str =
     "{\"blocks\":[{\"gaps\":[{\"size\":4192792,\"start\":1512}],\"memory_type\":3,\"page_size\":1,\"pieces\":[{\"kind\":\"linear\",\"name\":\"a\",\"number\":2,\"offset\":0,\"padding\":0,\"size\":300},{\"kind\":\"nonlinear\",\"name\":\"b\",\"number\":3,\"offset\":512,\"padding\":212,\"size\":1000}],\"size\":4194304,\"slot\":0,\"statistics\":{\"gaps\":1,\"longest_gap\":4192792,\"piece_bytes\":1512,\"pieces\":2}},{\"gaps\":[],\"memory_type\":3,\"page_size\":1,\"pieces\":[{\"kind\":\"linear\",\"name\":\"c\",\"number\":1,\"offset\":0,\"padding\":0,\"size\":1000}],\"size\":1000,\"slot\":1,\"statistics\":{\"gaps\":0,\"longest_gap\":0,\"piece_bytes\":1000,\"pieces\":1}},{\"gaps\":[{\"size\":77,\"start\":0}],\"memory_type\":3,\"page_size\":1,\"pieces\":[],\"size\":77,\"slot\":2,\"statistics\":{\"gaps\":1,\"longest_gap\":77,\"piece_bytes\":0,\"pieces\":0}}],\"schema\":\"gpu_report.blocks\",\"version\":1}";
 
-#[test]
-fn blocks_of_each_form(rt: HostRuntime) {
-    let shared = two_pieces(&rt, rt.alloc(), "a");
-    let full = dedicated(&rt, rt.alloc());
-    let empty = SubAllocator::Dedicated(DedicatedBlockAllocator::new(rt.alloc(), 77));
-    let views = [view(0, &shared), view(1, &full), view(2, &empty)];
-    let text = text_of(&rt, rt.alloc(), &BlocksJson(&views));
-    assert!(&rt; text.as_str() == EACH_FORM);
-    let picture = text_of(&rt, rt.alloc(), &BlocksSvg(&views));
-    assert!(rt;
-        picture.contains(
-            "type 3, slot 1: 1000 B, 1 pieces, 1000 B taken, 0 gaps, longest 0 B, not to scale</text>"
-        )
-    );
+const FULL: &str =
+    "type 3, slot 1: 1000 B, 1 pieces, 1000 B taken, 0 gaps, longest 0 B, not to scale</text>";
+
+/// What is told of these blocks, beside an empty one.
+fn three_print(alloc: Global, shared: &SubAllocator, full: &SubAllocator) -> bool {
+    let empty = SubAllocator::Dedicated(DedicatedBlockAllocator::new(alloc, 77));
+    let views = [view(0, shared), view(1, full), view(2, &empty)];
+    prints(alloc, &BlocksJson(&views), EACH_FORM)
+        && prints_among(alloc, &BlocksSvg(&views), &[FULL])
 }
 
+/// What is told of a block of each form.
+fn each_form(alloc: Global) -> Option<bool> {
+    let shared = two_pieces(alloc, "a")?;
+    let full = dedicated(alloc)?;
+    Some(three_print(alloc, &shared, &full))
+}
+
+const LARGE: &str = "type 0, slot 0: 8.0 EiB, 0 pieces, 0 B taken, 1 gaps, longest 8.0 EiB</text>";
+
+/// What is told of a small block beside a large one.
+fn beside_a_large_one(alloc: Global, small: &SubAllocator) -> bool {
+    let large = SubAllocator::Dedicated(DedicatedBlockAllocator::new(
+        alloc,
+        9_223_372_036_854_775_808,
+    ));
+    let views = [
+        BlockView {
+            memory_type: 0,
+            ..view(0, &large)
+        },
+        BlockView {
+            memory_type: 0,
+            page_size: 1024,
+            ..view(1, small)
+        },
+    ];
+    prints_among(
+        alloc,
+        &BlocksSvg(&views),
+        &[LARGE, "pages of 1.0 KiB, not to scale</text>"],
+    )
+}
+
+/// The same, where there is one.
+fn large_and_small(alloc: Global) -> Option<bool> {
+    let small = two_pieces(alloc, NAME)?;
+    Some(beside_a_large_one(alloc, &small))
+}
+
+const NO_BLOCKS: &str = "{\"blocks\":[],\"schema\":\"gpu_report.blocks\",\"version\":1}";
+
 #[test]
-fn no_blocks(rt: HostRuntime) {
-    let text = text_of(&rt, rt.alloc(), &BlocksJson(&[]));
-    assert!(rt; text.as_str() == "{\"blocks\":[],\"schema\":\"gpu_report.blocks\",\"version\":1}");
+fn blocks_of_each_form_and_none(rt: HostRuntime) {
+    let alloc = rt.alloc();
+    let steps = [
+        each_form(alloc) == Some(true),
+        large_and_small(alloc) == Some(true),
+        prints(alloc, &BlocksJson(&[]), NO_BLOCKS),
+    ];
+    check(&rt, &steps);
+}
+
+/// A row of many.
+fn row(alloc: Global, nth: usize) -> Option<AllocationReport> {
+    Some(AllocationReport {
+        name: String::from_str(alloc, LONG).ok()?,
+        offset: nth as u64,
+        size: 7,
+    })
 }
 
 /// A report of many blocks with a piece each.
-fn many(rt: &impl Abort, alloc: Global) -> AllocatorReport {
+fn many(alloc: Global) -> Option<AllocatorReport> {
     let mut allocations = Vec::new(alloc);
     let mut blocks = Vec::new(alloc);
     for nth in 0..130usize {
-        let name = String::from_str(alloc, LONG).expect(rt, "there is memory");
-        let row = AllocationReport {
-            name,
-            offset: nth as u64,
-            size: 7,
-        };
-        assert!(rt; allocations.push(row).is_ok());
+        allocations.push(row(alloc, nth)?).ok()?;
         let block = MemoryBlockReport {
             size: 1000,
             allocations: nth..nth + 1,
         };
-        assert!(rt; blocks.push(block).is_ok());
+        blocks.push(block).ok()?;
     }
-    AllocatorReport {
+    Some(AllocatorReport {
         allocations,
         blocks,
         total_allocated_bytes: 910,
         total_capacity_bytes: 130_000,
-    }
+    })
 }
 
 const LONG: &str = "positions_and_normals_of_the_forest_behind_the_river";
@@ -208,56 +316,26 @@ const LAST_OF_MANY: &[(&str, u64)] = &[
     ("/total_capacity_bytes", 130_000),
 ];
 
+const LAST_TITLE: &str =
+    "7 bytes at 129: positions_and_normals_of_the_forest_behind_the_river</title>";
+
+/// What is told of many blocks.
+fn many_print(alloc: Global) -> bool {
+    match many(alloc) {
+        Some(report) => {
+            reads_back(
+                alloc,
+                &ReportJson(&report),
+                LAST_OF_MANY,
+                "/allocations/129/name",
+                LONG,
+            ) && prints_among(alloc, &ReportSvg(&report), &[LAST_TITLE])
+        }
+        None => false,
+    }
+}
+
 #[test]
 fn many_blocks(rt: HostRuntime) {
-    let report = many(&rt, rt.alloc());
-    let read = read_back(&rt, rt.alloc(), &ReportJson(&report));
-    check_numbers(&rt, &read, LAST_OF_MANY);
-    let name = read
-        .pointer("/allocations/129/name")
-        .and_then(Value::as_str);
-    assert!(rt; name == Some(LONG));
-    let picture = text_of(&rt, rt.alloc(), &ReportSvg(&report));
-    assert!(rt;
-        picture.contains(
-            "7 bytes at 129: positions_and_normals_of_the_forest_behind_the_river</title>"
-        )
-    );
-}
-
-#[test]
-fn names_in_pictures(rt: HostRuntime) {
-    let report = report(&rt, rt.alloc());
-    let text = text_of(&rt, rt.alloc(), &ReportSvg(&report));
-    assert!(rt; text.contains("bytes at 9007199254740993: a&lt;b&amp;c&quot;d\\e&gt;??ü</title>"));
-}
-
-#[test]
-fn a_small_block_beside_a_large_one(rt: HostRuntime) {
-    let small = two_pieces(&rt, rt.alloc(), NAME);
-    let large = SubAllocator::Dedicated(DedicatedBlockAllocator::new(
-        rt.alloc(),
-        9_223_372_036_854_775_808,
-    ));
-    let views = [
-        BlockView {
-            memory_type: 0,
-            slot: 0,
-            page_size: 1,
-            block: &large,
-        },
-        BlockView {
-            memory_type: 0,
-            slot: 1,
-            page_size: 1024,
-            block: &small,
-        },
-    ];
-    let text = text_of(&rt, rt.alloc(), &BlocksSvg(&views));
-    assert!(rt;
-        text.contains(
-            "type 0, slot 0: 8.0 EiB, 0 pieces, 0 B taken, 1 gaps, longest 8.0 EiB</text>"
-        )
-    );
-    assert!(rt; text.contains("pages of 1.0 KiB, not to scale</text>"));
+    check(&rt, &[many_print(rt.alloc())]);
 }
