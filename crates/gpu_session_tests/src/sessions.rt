@@ -151,20 +151,16 @@ fn parties(alloc: Global, theirs: u8) -> std::result::Result<Vec<Command>, Alloc
 
 /// Whether our piece lies at the block's beginning, and our read gave these bytes.
 fn our_read_is(replies: &[Reply], want: &[u8]) -> bool {
-    match replies {
-        [
-            _,
-            _,
-            _,
-            _,
-            given,
-            _,
-            _,
-            Reply::Bytes(ours),
-            Reply::Capacity(67_108_864),
-        ] => matches!(given_at(given), Some((0, _, _))) && ours.as_slice() == want,
+    let [_, _, _, _, given, _, _, ours, capacity] = replies else {
+        return false;
+    };
+    let reads = match ours {
+        Reply::Bytes(bytes) => bytes.as_slice() == want,
         _ => false,
-    }
+    };
+    reads
+        && matches!(capacity, Reply::Capacity(67_108_864))
+        && matches!(given_at(given), Some((0, _, _)))
 }
 
 /// Whether our read gives these bytes in a run of the two parties, and the device holds nothing at last.
