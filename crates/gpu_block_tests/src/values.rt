@@ -95,21 +95,6 @@ fn errors_print_their_texts(rt: HostRuntime) {
         ),
         is_told(
             alloc,
-            AllocationError::BarrierLayoutNeedsDevice10,
-            "Initial `BARRIER_LAYOUT` needs at least `Device10`",
-        ),
-        is_told(
-            alloc,
-            AllocationError::CastableFormatsRequiresEnhancedBarriers,
-            "Castable formats require enhanced barriers",
-        ),
-        is_told(
-            alloc,
-            AllocationError::CastableFormatsRequiresAtLeastDevice12,
-            "Castable formats require at least `Device12`",
-        ),
-        is_told(
-            alloc,
             AllocationError::HostOutOfMemory,
             "Out of host memory",
         ),
@@ -122,6 +107,29 @@ fn errors_print_their_texts(rt: HostRuntime) {
             alloc,
             AllocationError::from(AllocError),
             "Out of host memory",
+        ),
+    ];
+    check(&rt, &steps);
+}
+
+#[test]
+fn errors_of_resources_print_their_texts(rt: HostRuntime) {
+    let alloc = rt.alloc();
+    let steps = [
+        is_told(
+            alloc,
+            AllocationError::BarrierLayoutNeedsDevice10,
+            "Initial `BARRIER_LAYOUT` needs at least `Device10`",
+        ),
+        is_told(
+            alloc,
+            AllocationError::CastableFormatsRequiresEnhancedBarriers,
+            "Castable formats require enhanced barriers",
+        ),
+        is_told(
+            alloc,
+            AllocationError::CastableFormatsRequiresAtLeastDevice12,
+            "Castable formats require at least `Device12`",
         ),
     ];
     check(&rt, &steps);
@@ -146,11 +154,19 @@ fn coded(code: i64) -> Fault {
 }
 
 #[test]
-fn errors_print_the_text_and_the_code_of_their_fault(rt: HostRuntime) {
+fn faults_print_their_text_and_their_code(rt: HostRuntime) {
     let alloc = rt.alloc();
     let steps = [
         prints(alloc, &NULL, "Returned mapped pointer is null"),
         prints(alloc, &coded(-4), "vkMapMemory failed (code -4)"),
+    ];
+    check(&rt, &steps);
+}
+
+#[test]
+fn errors_print_the_text_and_the_code_of_their_fault(rt: HostRuntime) {
+    let alloc = rt.alloc();
+    let steps = [
         is_told(
             alloc,
             internal_fault("Memory block must be Some."),

@@ -4,8 +4,8 @@ use Rattle.std.proofs.lemmas.Option.{slice_get-get_or}
 use Rattle.gpu_core.specs.TypeState.{TypeState}
 use Rattle.gpu_memory_types.specs.Types.{Types, slots_of, no_type}
 use Rattle.gpu_report.specs.View.{ShownBlock, shown_from}
-use Rattle.gpu_timeline.specs.Samples.{usage_of}
-use Rattle.gpu_timeline.specs.declared.samples.Usage.{Usage}
+use Rattle.gpu_report.specs.Samples.{usage_of}
+use Rattle.gpu_report.specs.declared.timeline.samples.Usage.{Usage}
 use Rattle.gpu_picture.specs.Draw.{shown_types}
 
 drop_at : {H : Type 0} (types : Types H) (i : ℕ) (t : TypeState H) → Some t ≡ slice_get types i → drop i types ≡ t ∷ drop (suc i) types

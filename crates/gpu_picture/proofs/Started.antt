@@ -1,8 +1,8 @@
 -- A trace that is followed from before its first line.
 use Rattle.std.proofs.Common.{ℕ, List, Option, Some, None}
 use Rattle.std.specs.Prelude.{IfSome}
-use Rattle.gpu_trace_text.specs.Replay.{ReplaysTrace}
-use Rattle.gpu_trace_text.specs.declared.replay.Replayed.{Replayed}
+use Rattle.gpu_block_session.specs.Replay.{ReplaysTrace}
+use Rattle.gpu_block_session.specs.declared.replay.Replayed.{Replayed}
 use Rattle.gpu_picture.specs.Follow.{IsStart, Follows}
 use Rattle.gpu_picture.specs.declared.follow.Followed.{Followed}
 

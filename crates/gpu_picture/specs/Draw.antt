@@ -11,8 +11,8 @@ use Rattle.gpu_report.specs.declared.view.BlockView.{BlockView}
 use Rattle.gpu_report.specs.View.{ShownBlock, shown, shown_from}
 use Rattle.gpu_report.specs.BlocksJson.{blocks_json}
 use Rattle.gpu_report.specs.BlocksSvg.{blocks_svg}
-use Rattle.gpu_trace_text.specs.declared.block_stage.BlockStage.{BlockStage}
-use Rattle.gpu_trace_text.specs.declared.block_stage.BlockStage.TheVariants as block_stages
+use Rattle.gpu_block_session.specs.declared.block_stage.BlockStage.{BlockStage}
+use Rattle.gpu_block_session.specs.declared.block_stage.BlockStage.TheVariants as block_stages
 use Rattle.gpu_trace_text.specs.declared.stage.Stage as vulkan
 use Rattle.gpu_trace_text.specs.declared.stage.Stage.TheVariants.{Block, Device}
 use Rattle.gpu_trace_text.specs.declared.metal.stage.Stage as metal

@@ -1,7 +1,7 @@
 -- A trace of any sort, with what its memory types held after each of its commands.
 use Rattle.std.specs.Prelude.{◌≡◌, ℕ, ◌+◌, Bool, true, false, List, [], ◌∷◌, ◌++◌, map}
 use Rattle.gpu_block.specs.Block.{Block, size_of, allocated_bytes}
-use Rattle.gpu_run.specs.declared.block.reply.Reply.TheVariants as block_replies
+use Rattle.gpu_block_session.specs.declared.block.reply.Reply.TheVariants as block_replies
 use Rattle.gpu_run.specs.declared.vulkan.reply.Reply.TheVariants as vulkan_replies
 use Rattle.gpu_run.specs.declared.d3d12.reply.Reply.TheVariants as d3d12_session_replies
 use Rattle.gpu_trace_text.specs.declared.d3d12.reply.Reply as d3d12_told
@@ -14,13 +14,13 @@ use Rattle.gpu_trace_text.specs.declared.metal.reply.Reply.TheVariants as metal_
 use Rattle.gpu_trace_text.specs.declared.metal.stage.Stage as metal
 use Rattle.gpu_trace_text.specs.declared.metal.stage.Stage.TheVariants.{Running}
 use Rattle.gpu_report.specs.Svg.{capped}
-use Rattle.gpu_timeline.specs.Samples.{usage_of}
-use Rattle.gpu_timeline.specs.declared.samples.Sample.{Sample}
-use Rattle.gpu_timeline.specs.declared.samples.Usage.{Usage}
+use Rattle.gpu_report.specs.Samples.{usage_of}
+use Rattle.gpu_report.specs.declared.timeline.samples.Sample.{Sample}
+use Rattle.gpu_report.specs.declared.timeline.samples.Usage.{Usage}
 use Rattle.gpu_trace_text.specs.declared.device.reply.Reply.TheVariants as device_replies
 use Rattle.gpu_trace_text.specs.declared.reply.Reply as vulkan_told
 use Rattle.gpu_trace_text.specs.declared.reply.Reply.TheVariants as line_replies
-use Rattle.gpu_trace_text.specs.declared.block_stage.BlockStage.TheVariants.{Open}
+use Rattle.gpu_block_session.specs.declared.block_stage.BlockStage.TheVariants.{Open}
 use Rattle.gpu_trace_text.specs.declared.stage.Stage as vulkan
 use Rattle.gpu_trace_text.specs.declared.stage.Stage.TheVariants.{Before, Block as InBlock, Device}
 use Rattle.gpu_trace_text.specs.Any.{Does}
@@ -28,8 +28,8 @@ use Rattle.gpu_trace_text.specs.declared.any.AnyReply.{AnyReply}
 use Rattle.gpu_trace_text.specs.declared.any.AnyReply.TheVariants as replies
 use Rattle.gpu_trace_text.specs.declared.any.AnyTrace.{AnyTrace}
 use Rattle.gpu_trace_text.specs.declared.any.AnyTrace.TheVariants.{Vulkan, Metal, D3D12}
-use Rattle.gpu_trace_text.specs.declared.outcome.Outcome.{Outcome}
-use Rattle.gpu_trace_text.specs.declared.outcome.Outcome.TheVariants.{Nothing, Replied, Bad}
+use Rattle.gpu_block_session.specs.declared.outcome.Outcome.{Outcome}
+use Rattle.gpu_block_session.specs.declared.outcome.Outcome.TheVariants.{Nothing, Replied, Bad}
 use Rattle.gpu_picture.specs.declared.follow.Followed.{Followed}
 
 -- ---- refused commands

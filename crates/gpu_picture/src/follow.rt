@@ -4,9 +4,9 @@ ghost use Rattle.std.specs.Prelude.{◌≡◌, [], ◌∷◌, ◌++◌, map, IfO
 ghost use Rattle.std.specs.Io.KnownBytes.{Appends};
 ghost use Rattle.gpu_block.specs.SubAllocator.{block_of};
 ghost use Rattle.gpu_memory_types.specs.Types.{slots_of};
-ghost use Rattle.gpu_timeline.specs.Samples.{usage_of};
-ghost use Rattle.gpu_timeline.specs.Timeline.{timeline_svg};
-ghost use Rattle.gpu_trace_text.specs.Replay.{ReplaysTrace};
+ghost use Rattle.gpu_report.specs.Samples.{usage_of};
+ghost use Rattle.gpu_report.specs.Timeline.{timeline_svg};
+ghost use Rattle.gpu_block_session.specs.Replay.{ReplaysTrace};
 ghost use Rattle.gpu_picture.specs.Follow.{told, usage_of_block, is_vulkan_refusal, is_metal_refusal, is_d3d12_refusal, is_refusal, usages_in_vulkan, usages_in_metal, usages_in_d3d12, usages_in, noted, IsStart, Follows};
 ghost use Rattle.gpu_picture.specs.declared.follow.Followed.{Followed};
 
@@ -16,7 +16,7 @@ use gpu_run::block::Reply as BlockReply;
 use gpu_run::d3d12::Reply as D3D12Reply;
 use gpu_run::metal::Reply as MetalReply;
 use gpu_run::vulkan::Reply as VulkanReply;
-use gpu_timeline::{Sample, TimelineSvg, Usage, usage_of};
+use gpu_report::timeline::{Sample, TimelineSvg, Usage, usage_of};
 use gpu_trace_text::device::reply as device;
 use gpu_trace_text::{
     AnyReply, AnyTrace, BlockStage, Outcome, Replayed, Reply, Stage, Trace, TraceError, d3d12,

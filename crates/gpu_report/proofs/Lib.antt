@@ -10,3 +10,5 @@ pub mod Cells
 pub mod Drawn
 pub mod Escapes
 pub mod Writing
+mod Measures
+mod Parted

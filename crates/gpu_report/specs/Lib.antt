@@ -12,3 +12,5 @@ pub mod Svg
 pub mod BlocksSvg
 pub mod ReportSvg
 pub mod View
+pub mod Samples
+pub mod Timeline

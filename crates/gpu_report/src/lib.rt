@@ -1,4 +1,4 @@
-//! Reports of an allocator and views of its blocks, as JSON and as pictures.
+//! Reports of an allocator and views of its blocks, as JSON and as pictures; and its memory types over time.
 #![tactic(auto)]
 
 mod blocks_json;
@@ -11,6 +11,7 @@ mod reading;
 mod report_json;
 mod report_svg;
 mod svg;
+pub mod timeline;
 mod view;
 
 pub use blocks_json::BlocksJson;

@@ -15,7 +15,7 @@ use Rattle.gpu_d3d12.specs.Step as model
 use Rattle.gpu_d3d12.specs.Step.{Step, IsStep, nothing_met}
 use Rattle.gpu_d3d12.specs.declared.resource.Resource.{Resource}
 use Rattle.gpu_run.specs.Bindings.{bindings_of}
-use Rattle.gpu_run.specs.Run.{IsRun}
+use Rattle.gpu_block_session.specs.CommandList.{IsRun}
 use Rattle.gpu_run.specs.D3D12Command.{KeyCommand, ResourceCommand, SessionCommand, Under, UnderResource}
 use Rattle.gpu_run.specs.D3D12Reply.{SessionReply}
 use Rattle.gpu_run.specs.D3D12Session.{SessionState, CommandEnvironment, refused_after, ServesAt, ServesResourceAt, Serves, Asks, reply_by}

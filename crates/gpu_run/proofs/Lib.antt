@@ -1,6 +1,5 @@
 pub mod Binding
 pub mod Owning
-pub mod Runs
 pub mod VulkanServing
 pub mod VulkanOwning
 pub mod VulkanTaking
@@ -13,7 +12,6 @@ pub mod VulkanKeptBudgets
 pub mod VulkanBudgeting
 mod VulkanNonInterference
 pub mod VulkanIsolation
-pub mod BlockOwning
 pub mod MetalCounting
 pub mod MetalServing
 pub mod MetalAllocating

@@ -15,7 +15,7 @@ use Rattle.gpu_metal.specs.State.{State, model_of}
 use Rattle.gpu_metal.specs.Step as model
 use Rattle.gpu_metal.specs.Step.{Step, IsStep}
 use Rattle.gpu_run.specs.Bindings.{bindings_of}
-use Rattle.gpu_run.specs.Run.{IsRun}
+use Rattle.gpu_block_session.specs.CommandList.{IsRun}
 use Rattle.gpu_run.specs.MetalCommand.{KeyCommand, SessionCommand, Under, Heaps}
 use Rattle.gpu_run.specs.MetalReply.{SessionReply}
 use Rattle.gpu_run.specs.MetalSession.{SessionState, SessionInvariant, IsOwn, CommandEnvironment, refused_after, ServesAt, Serves, Asks, reply_by, reply_to_heaps}

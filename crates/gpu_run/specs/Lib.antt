@@ -1,13 +1,9 @@
-pub mod BlockCommand
-pub mod ErrorNumber
 pub mod Bindings
-pub mod Run
 pub mod VulkanCommand
 pub mod VulkanReply
 pub mod VulkanSession
 pub mod VulkanServed
 pub mod VulkanLaws
-pub mod BlockSession
 pub mod MetalCommand
 pub mod MetalDescribe
 pub mod MetalReply

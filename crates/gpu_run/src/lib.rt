@@ -1,15 +1,11 @@
-//! Sessions, by module: an allocator or a block that serves one command after another. What a list of commands makes of any such machine
-//! is said once, and so is what a caller's numbers stand for.
+//! Sessions, by module: an allocator that serves one command after another, and what a caller's numbers stand for. The session of one
+//! block, and a list of commands over any machine, stand in gpu_block_session.
 #![tactic(auto)]
 
 mod bindings;
-pub mod block;
 pub mod d3d12;
-mod error_number;
-mod machine;
 pub mod metal;
 pub mod vulkan;
 
 pub use bindings::bind;
-pub use error_number::{ErrorNumber, number_of};
-pub use machine::{Machine, run};
+pub use gpu_block_session::{ErrorNumber, Machine, block, number_of, run};

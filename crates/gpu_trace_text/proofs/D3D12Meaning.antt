@@ -7,7 +7,7 @@ use Rattle.std.proofs.lemmas.List.{get_or-map, length-map}
 use Rattle.std.proofs.lemmas.List.Elements.{All-map}
 use Rattle.gpu_device.specs.declared.d3d12.types.ClearValue.{ClearValue}
 use Rattle.gpu_device.specs.declared.d3d12.types.Format.{Format}
-use Rattle.gpu_trace_text.specs.Words.{texts}
+use Rattle.gpu_block_session.specs.Words.{texts}
 use Rattle.gpu_trace_text.specs.D3D12Numbers.{IsSeparator, AreNumbers, numbers_word}
 use Rattle.gpu_trace_text.specs.D3D12Resource.{format_number, formats_word, clear_word, FitsFormats, FitsClear}
 use Rattle.gpu_trace_text.proofs.D3D12Parts.{IsSmall, as_many}

@@ -8,7 +8,7 @@ use Rattle.gpu_run.specs.declared.metal.command.Command.{Command}
 use Rattle.gpu_run.specs.declared.metal.command.Command.TheVariants.{Alloc, Buffer, AccelerationStructure, Texture, Free, Heaps, Commit, Report, Capacity, SetBudget}
 use Rattle.gpu_trace_text.specs.MetalCommand as commands
 use Rattle.gpu_trace_text.specs.MetalCommand.{mode_word, FitsMode}
-use Rattle.gpu_trace_text.specs.Words.{texts}
+use Rattle.gpu_block_session.specs.Words.{texts}
 
 -- four words that aren't a texture's stand in no command for one
 pub no_texture : (arguments : List (Bor (List ℕ))) (d : Bor (List ℕ))

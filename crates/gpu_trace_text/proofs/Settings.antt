@@ -6,7 +6,7 @@ use Rattle.std.specs.Fmt.{decimal}
 use Rattle.gpu_trace_text.specs.declared.device.setting.Setting.{Setting}
 use Rattle.gpu_trace_text.specs.declared.device.setting.Setting.TheVariants.{Heap, MemoryType, Granularity, Sizes, Refuse}
 use Rattle.gpu_trace_text.specs.Setting.{words, Spells, IsShared}
-use Rattle.gpu_trace_text.specs.Words.{texts}
+use Rattle.gpu_block_session.specs.Words.{texts}
 
 pub last_size_only : (arguments : List (Bor (List ℕ))) (d : Bor (List ℕ)) → ((n : ℕ) → n < 2 ^ 64 → (get_or arguments 3 d).now ≢ decimal n) → (x : Setting) → Spells (codes "sizes" ∷ texts arguments)
     x → ⊥

@@ -5,22 +5,24 @@ use Rattle.std.specs.List.{onto_first}
 use Rattle.std.specs.Str.{bytes_eq}
 use Rattle.gpu_run.specs.declared.vulkan.command.Command as asks_commands
 use Rattle.gpu_run.specs.declared.vulkan.command.Command.TheVariants as asked
-use Rattle.gpu_run.specs.declared.block.command.Command as block_commands
-use Rattle.gpu_run.specs.declared.block.command.Command.TheVariants as blocks
+use Rattle.gpu_block_session.specs.declared.block.command.Command as block_commands
+use Rattle.gpu_block_session.specs.declared.block.command.Command.TheVariants as blocks
 use Rattle.gpu_trace_text.specs.declared.device.setting.Setting as settings
 use Rattle.gpu_trace_text.specs.declared.device.setting.Setting.TheVariants.{Heap, MemoryType, Granularity, Sizes, Refuse}
 use Rattle.gpu_trace_text.specs.declared.line.Line.{Line}
 use Rattle.gpu_trace_text.specs.declared.line.Line.TheVariants as lines
 use Rattle.gpu_trace_text.specs.declared.reply.Reply.{Reply}
-use Rattle.gpu_trace_text.specs.declared.outcome.Outcome.{Outcome}
-use Rattle.gpu_trace_text.specs.declared.outcome.Outcome.TheVariants.{Nothing, Replied, Bad}
+use Rattle.gpu_block_session.specs.declared.outcome.Outcome.{Outcome}
+use Rattle.gpu_block_session.specs.declared.outcome.Outcome.TheVariants.{Nothing, Replied, Bad}
 use Rattle.gpu_trace_text.specs.declared.stage.Stage.{Stage}
-use Rattle.gpu_trace_text.specs.Words.{words_of}
-use Rattle.gpu_trace_text.specs.BlockCommand as block
+use Rattle.gpu_block_session.specs.Words.{words_of}
+use Rattle.gpu_block_session.specs.BlockWords as block
 use Rattle.gpu_trace_text.specs.Setting as setting
 use Rattle.gpu_trace_text.specs.Ask as ask
-use Rattle.gpu_trace_text.specs.Line.{IsBlank, IsRemark, IsSaid, Reads, Means}
-use Rattle.gpu_trace_text.specs.Sort.{Sort, opens_block, uses_block, reports, describes, sets_page, sets_sizes, makes, asks, destroys, says_nothing, sort_of, sort_of_command, sort_of_setting}
+use Rattle.gpu_block_session.specs.Line.{IsBlank, IsRemark}
+use Rattle.gpu_trace_text.specs.Line.{IsSaid, Reads, Means}
+use Rattle.gpu_block_session.specs.BlockSort.{opens_block, uses_block, reports, sort_of_command}
+use Rattle.gpu_trace_text.specs.Sort.{Sort, of_block, describes, sets_page, sets_sizes, makes, asks, destroys, says_nothing, sort_of, sort_of_setting}
 use Rattle.gpu_trace_text.specs.Stage.{Admits, AdmitsSort, Does}
 use Rattle.gpu_trace_text.specs.BlockOrDevice.{Serves}
 
@@ -31,10 +33,10 @@ choose false a b = b
 -- the sort of the lines that begin with this word
 abbrev by_word : List ℕ → Sort
 by_word w =
-    choose (bytes_eq w (codes "block")) opens_block
-    (choose (bytes_eq w (codes "take")) uses_block
-    (choose (bytes_eq w (codes "give")) uses_block
-    (choose (bytes_eq w (codes "report")) reports
+    choose (bytes_eq w (codes "block")) (of_block opens_block)
+    (choose (bytes_eq w (codes "take")) (of_block uses_block)
+    (choose (bytes_eq w (codes "give")) (of_block uses_block)
+    (choose (bytes_eq w (codes "report")) (of_block reports)
     (choose (bytes_eq w (codes "heap")) describes
     (choose (bytes_eq w (codes "type")) describes
     (choose (bytes_eq w (codes "refuse")) describes
@@ -56,7 +58,7 @@ abbrev by_words : List (List ℕ) → Sort
 by_words [] = says_nothing
 by_words (w ∷ ws) = by_word w
 
-of_command : (c : block_commands.Command) → by_words (block.words c) ≡ sort_of_command c
+of_command : (c : block_commands.Command) → by_words (block.words c) ≡ of_block (sort_of_command c)
 of_command (blocks.Block side min max count granularity) = refl
 of_command (blocks.Allocate key size alignment kind name) = refl
 of_command (blocks.Free key) = refl

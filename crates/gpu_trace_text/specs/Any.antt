@@ -14,8 +14,8 @@ use Rattle.gpu_trace_text.specs.declared.metal.stage.Stage.TheVariants.{Configur
 use Rattle.gpu_trace_text.specs.BlockOrDevice as vulkan
 use Rattle.gpu_trace_text.specs.declared.stage.Stage as vulkan_stages
 use Rattle.gpu_trace_text.specs.declared.stage.Stage.TheVariants.{Before}
-use Rattle.gpu_trace_text.specs.declared.outcome.Outcome.{Outcome}
-use Rattle.gpu_trace_text.specs.declared.outcome.Outcome.TheVariants.{Nothing, Replied, Bad}
+use Rattle.gpu_block_session.specs.declared.outcome.Outcome.{Outcome}
+use Rattle.gpu_block_session.specs.declared.outcome.Outcome.TheVariants.{Nothing, Replied, Bad}
 use Rattle.gpu_trace_text.specs.declared.any.AnyReply.{AnyReply}
 use Rattle.gpu_trace_text.specs.declared.any.AnyReply.TheVariants as replies
 use Rattle.gpu_trace_text.specs.declared.any.AnyTrace.{AnyTrace}

@@ -9,7 +9,7 @@ use Rattle.gpu_device.specs.declared.vulkan.types.MemoryRequirements.{MemoryRequ
 use Rattle.gpu_run.specs.declared.vulkan.command.Command.{Command}
 use Rattle.gpu_run.specs.declared.vulkan.command.Command.TheVariants.{Alloc, Null, Free, Rename, Write, Read, Report, Leaks, Capacity, SetBudget}
 use Rattle.gpu_trace_text.specs.Hex.{hex, AreBytes}
-use Rattle.gpu_trace_text.specs.Words.{IsName}
+use Rattle.gpu_block_session.specs.Words.{IsName}
 
 abbrev pub location_word : MemoryLocation → List ℕ
 location_word Unknown = codes "Unknown"

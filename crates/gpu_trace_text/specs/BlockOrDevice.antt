@@ -5,8 +5,8 @@ use Rattle.gpu_trace_text.specs.declared.line.Line.{Line}
 use Rattle.gpu_trace_text.specs.declared.reply.Reply.{Reply}
 use Rattle.gpu_trace_text.specs.Stage.{Admits, Quietly, Step}
 use Rattle.gpu_trace_text.specs.declared.stage.Stage.{Stage}
-use Rattle.gpu_trace_text.specs.declared.outcome.Outcome.{Outcome}
-use Rattle.gpu_trace_text.specs.declared.outcome.Outcome.TheVariants.{Nothing, Replied, Bad}
+use Rattle.gpu_block_session.specs.declared.outcome.Outcome.{Outcome}
+use Rattle.gpu_block_session.specs.declared.outcome.Outcome.TheVariants.{Nothing, Replied, Bad}
 
 -- a line that may not come next, however it is read
 abbrev pub IsBad : Stage → List ℕ → Type 0

@@ -4,7 +4,7 @@ use Rattle.std.specs.Fmt.{decimal}
 use Rattle.gpu_run.specs.declared.d3d12.command.Command.{Command}
 use Rattle.gpu_run.specs.declared.d3d12.command.Command.TheVariants.{Alloc, Free, Rename, Create, Release, Leaks, Report, Capacity, Committed, SetBudget}
 use Rattle.gpu_trace_text.specs.Ask.{location_word, budget_word, FitsBudget}
-use Rattle.gpu_trace_text.specs.Words.{IsName}
+use Rattle.gpu_block_session.specs.Words.{IsName}
 use Rattle.gpu_trace_text.specs.D3D12Resource.{category_word, wanted_words, FitsWanted}
 
 -- a command's words

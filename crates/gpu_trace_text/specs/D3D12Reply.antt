@@ -2,7 +2,7 @@
 use Rattle.std.specs.Prelude.{ℕ, List, [], ◌∷◌, ◌++◌, map, Option, Some, None, codes, string_bytes}
 use Rattle.std.specs.Fmt.{decimal}
 use Rattle.std.specs.Int.NonZero.{non_zero_u64_get}
-use Rattle.gpu_run.specs.ErrorNumber.{number_of, number_text}
+use Rattle.gpu_block_session.specs.ErrorNumber.{number_of, number_text}
 use Rattle.gpu_device.specs.declared.d3d12.types.ClearValue.{ClearValue}
 use Rattle.gpu_device.specs.declared.d3d12.types.CpuPageProperty.{CpuPageProperty}
 use Rattle.gpu_device.specs.declared.d3d12.types.CpuPageProperty.TheVariants as pages

@@ -5,8 +5,8 @@ use Rattle.std.specs.Option.{unwrap_or}
 use Rattle.gpu_values.specs.Refusal.{refusal_of, host_out_of_memory}
 use Rattle.gpu_values.specs.declared.error.AllocationError.{AllocationError}
 use Rattle.gpu_values.specs.declared.allocator_debug_settings.AllocatorDebugSettings.{AllocatorDebugSettings}
-use Rattle.gpu_run.specs.ErrorNumber.{number_of}
-use Rattle.gpu_run.specs.declared.error_number.ErrorNumber.{ErrorNumber}
+use Rattle.gpu_block_session.specs.ErrorNumber.{number_of}
+use Rattle.gpu_block_session.specs.declared.error_number.ErrorNumber.{ErrorNumber}
 use Rattle.gpu_device.specs.D3D12History.{scripted, request_formats, request_clear, request_memory}
 use Rattle.gpu_device.specs.declared.d3d12.device.D3D12Device.{Ghosts}
 use Rattle.gpu_d3d12.specs.DeviceVersion.{device_of}
@@ -19,8 +19,8 @@ use Rattle.gpu_run.specs.declared.d3d12.command.Command.{Command}
 use Rattle.gpu_sim_d3d12.specs.Scripted.{EndAsScripted}
 use Rattle.gpu_sim_d3d12.specs.Simulation.{properties_of, held_of, history_of, refused_of, latest_heap_of, latest_resource_of, removal_reason_of, plan_of}
 use Rattle.gpu_sim_d3d12.specs.declared.sim_d3d12.SimD3D12.{SimD3D12}
-use Rattle.gpu_trace_text.specs.declared.outcome.Outcome.{Outcome}
-use Rattle.gpu_trace_text.specs.declared.outcome.Outcome.TheVariants.{Nothing, Replied, Bad}
+use Rattle.gpu_block_session.specs.declared.outcome.Outcome.{Outcome}
+use Rattle.gpu_block_session.specs.declared.outcome.Outcome.TheVariants.{Nothing, Replied, Bad}
 use Rattle.gpu_trace_text.specs.D3D12Asked.{Shows}
 use Rattle.gpu_trace_text.specs.D3D12Configuration.{Configured, configured_by, tier_by, plan_by, version_by, sizes_by, by_version}
 use Rattle.gpu_trace_text.specs.D3D12Line.{Means}

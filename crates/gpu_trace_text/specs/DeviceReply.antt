@@ -9,8 +9,8 @@ use Rattle.gpu_values.specs.Report.{row_of}
 use Rattle.gpu_run.specs.declared.vulkan.reply.Allocated.{Allocated}
 use Rattle.gpu_run.specs.declared.vulkan.reply.Reply as told
 use Rattle.gpu_run.specs.declared.vulkan.reply.Reply.TheVariants as replies
-use Rattle.gpu_trace_text.specs.BlockReply.{piece_line}
-use Rattle.gpu_run.specs.ErrorNumber.{number_of, number_text}
+use Rattle.gpu_block_session.specs.BlockReply.{piece_line}
+use Rattle.gpu_block_session.specs.ErrorNumber.{number_of, number_text}
 use Rattle.gpu_trace_text.specs.Hex.{hex}
 use Rattle.gpu_trace_text.specs.declared.device.reply.Reply.{Reply}
 use Rattle.gpu_trace_text.specs.declared.device.reply.Reply.TheVariants.{Made, Served, Held, Refused}

@@ -1,11 +1,7 @@
 pub mod Any
-pub mod BlockStage
 pub mod Configuration
 pub mod Stage
 pub mod BlockOrDevice
-pub mod Words
-pub mod BlockCommand
-pub mod BlockReply
 pub mod Hex
 pub mod Setting
 pub mod Ask
@@ -13,8 +9,6 @@ pub mod DeviceReply
 pub mod Line
 pub mod Sort
 pub mod Reply
-pub mod Run
-pub mod Replay
 pub mod MetalSetting
 pub mod MetalCommand
 pub mod MetalLine

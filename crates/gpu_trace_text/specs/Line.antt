@@ -2,24 +2,15 @@
 use Rattle.std.specs.Prelude.{◌≡◌, ◌≢◌, ℕ, List, [], ◌∷◌, codes}
 use Rattle.std.specs.Str.{IsAscii}
 use Rattle.gpu_run.specs.declared.vulkan.command.Command as asks
-use Rattle.gpu_run.specs.declared.block.command.Command.{Command}
+use Rattle.gpu_block_session.specs.declared.block.command.Command.{Command}
 use Rattle.gpu_trace_text.specs.declared.device.setting.Setting.{Setting}
 use Rattle.gpu_trace_text.specs.declared.line.Line.{Line}
 use Rattle.gpu_trace_text.specs.declared.line.Line.TheVariants as lines
-use Rattle.gpu_trace_text.specs.Words.{words_of}
-use Rattle.gpu_trace_text.specs.BlockCommand.{Spells}
+use Rattle.gpu_block_session.specs.Words.{words_of}
+use Rattle.gpu_block_session.specs.BlockWords.{Spells}
+use Rattle.gpu_block_session.specs.Line.{IsBlank}
 use Rattle.gpu_trace_text.specs.Ask as ask
 use Rattle.gpu_trace_text.specs.Setting as setting
-
--- it is empty, or begins with '#'
-abbrev pub IsRemark : List ℕ → Type 0
-IsRemark [] = Unit {0}
-IsRemark (b ∷ bs) = b ≡ 35
-
--- a line that gives nothing
-pub record IsBlank (line : List ℕ) : Type 0 where
-  pub ascii : IsAscii line
-  pub remark : IsRemark line
 
 abbrev pub new_words : List (List ℕ)
 new_words = codes "new" ∷ []

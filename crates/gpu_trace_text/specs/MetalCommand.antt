@@ -7,7 +7,7 @@ use Rattle.gpu_device.specs.declared.metal.types.TextureDescriptor.{TextureDescr
 use Rattle.gpu_run.specs.declared.metal.command.Command.{Command}
 use Rattle.gpu_run.specs.declared.metal.command.Command.TheVariants.{Alloc, Buffer, AccelerationStructure, Texture, Free, Heaps, Commit, Report, Capacity, SetBudget}
 use Rattle.gpu_trace_text.specs.Ask.{location_word, budget_word, FitsBudget}
-use Rattle.gpu_trace_text.specs.Words.{IsName}
+use Rattle.gpu_block_session.specs.Words.{IsName}
 
 -- the word for a storage mode; another than the four is told by its number
 abbrev pub mode_word : StorageMode → List ℕ

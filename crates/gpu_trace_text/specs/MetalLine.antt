@@ -2,8 +2,9 @@
 use Rattle.std.specs.Prelude.{◌≡◌, ◌≢◌, ℕ, List, [], ◌∷◌, codes}
 use Rattle.std.specs.Str.{IsAscii}
 use Rattle.gpu_run.specs.declared.metal.command.Command.{Command}
-use Rattle.gpu_trace_text.specs.Line.{IsBlank, new_words, destroy_words}
-use Rattle.gpu_trace_text.specs.Words.{words_of}
+use Rattle.gpu_block_session.specs.Line.{IsBlank}
+use Rattle.gpu_trace_text.specs.Line.{new_words, destroy_words}
+use Rattle.gpu_block_session.specs.Words.{words_of}
 use Rattle.gpu_trace_text.specs.MetalCommand as command
 use Rattle.gpu_trace_text.specs.MetalSetting as setting
 use Rattle.gpu_trace_text.specs.declared.metal.line.Line.{Line}

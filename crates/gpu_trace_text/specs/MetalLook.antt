@@ -1,6 +1,6 @@
 -- What is looked up of the simulated device, beside the session.
 use Rattle.std.specs.Prelude.{◌≡◌, List, Option, Some, None}
-use Rattle.gpu_run.specs.declared.error_number.ErrorNumber.TheVariants.{E10}
+use Rattle.gpu_block_session.specs.declared.error_number.ErrorNumber.TheVariants.{E10}
 use Rattle.gpu_device.specs.Metal.{Held, members_of, committed_of}
 use Rattle.gpu_device.specs.declared.metal.types.MTLHeap.{MTLHeap}
 use Rattle.gpu_device.specs.declared.metal.types.MTLResidencySet.{MTLResidencySet}

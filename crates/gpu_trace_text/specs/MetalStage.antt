@@ -4,8 +4,8 @@ use Rattle.std.specs.FinMap.{empty, len as map_len}
 use Rattle.gpu_values.specs.Refusal.{refusal_of}
 use Rattle.gpu_values.specs.declared.error.AllocationError.{AllocationError}
 use Rattle.gpu_values.specs.declared.allocator_debug_settings.AllocatorDebugSettings.{AllocatorDebugSettings}
-use Rattle.gpu_run.specs.ErrorNumber.{number_of}
-use Rattle.gpu_run.specs.declared.error_number.ErrorNumber.{ErrorNumber}
+use Rattle.gpu_block_session.specs.ErrorNumber.{number_of}
+use Rattle.gpu_block_session.specs.declared.error_number.ErrorNumber.{ErrorNumber}
 use Rattle.gpu_device.specs.MetalHistory.{scripted}
 use Rattle.gpu_device.specs.Metal.{Held}
 use Rattle.gpu_device.specs.declared.metal.device.MetalDevice.{Ghosts}
@@ -20,8 +20,8 @@ use Rattle.gpu_metal.specs.Setup.{IsNotMade}
 use Rattle.gpu_sim_metal.specs.Scripted.{EndAsScripted}
 use Rattle.gpu_sim_metal.specs.Simulation.{held_of, properties_of, plan_of, history_of, refused_of, latest_heap_of}
 use Rattle.gpu_sim_metal.specs.declared.sim_metal.SimMetal.{SimMetal}
-use Rattle.gpu_trace_text.specs.declared.outcome.Outcome.{Outcome}
-use Rattle.gpu_trace_text.specs.declared.outcome.Outcome.TheVariants.{Nothing, Replied, Bad}
+use Rattle.gpu_block_session.specs.declared.outcome.Outcome.{Outcome}
+use Rattle.gpu_block_session.specs.declared.outcome.Outcome.TheVariants.{Nothing, Replied, Bad}
 use Rattle.gpu_trace_text.specs.MetalConfiguration.{Configured, configured_by, plan_by, sizes_by, wants_set}
 use Rattle.gpu_trace_text.specs.MetalLine.{Means}
 use Rattle.gpu_trace_text.specs.MetalLook.{Shows, members_in}

@@ -2,7 +2,7 @@
 use Rattle.std.specs.Prelude.{ℕ, List, [], ◌∷◌, ◌++◌}
 use Rattle.gpu_trace_text.specs.declared.reply.Reply.{Reply}
 use Rattle.gpu_trace_text.specs.declared.reply.Reply.TheVariants.{Block, Device}
-use Rattle.gpu_trace_text.specs.BlockReply as block
+use Rattle.gpu_block_session.specs.BlockReply as block
 use Rattle.gpu_trace_text.specs.DeviceReply as device
 
 abbrev pub reply_text : Reply → List ℕ

@@ -1,6 +1,5 @@
 -- The sorts of lines, as far as their order in a trace goes.
-use Rattle.gpu_run.specs.declared.block.command.Command as block_commands
-use Rattle.gpu_run.specs.declared.block.command.Command.TheVariants as blocks
+use Rattle.gpu_block_session.specs.BlockSort.{BlockSort, sort_of_command}
 use Rattle.gpu_trace_text.specs.declared.device.setting.Setting as settings
 use Rattle.gpu_trace_text.specs.declared.device.setting.Setting.TheVariants.{Heap, MemoryType, Granularity, Sizes, Refuse}
 use Rattle.gpu_trace_text.specs.declared.line.Line.{Line}
@@ -9,11 +8,8 @@ use Rattle.gpu_trace_text.specs.declared.line.Line.TheVariants as lines
 pub data Sort : Type 0 where
   -- empty, or a remark
   skips : Sort
-  opens_block : Sort
-  -- a take or a release
-  uses_block : Sort
-  -- `report`, which both sorts of traces have
-  reports : Sort
+  -- a command of a block trace
+  of_block : BlockSort → Sort
   -- a heap, a memory type or a refusal
   describes : Sort
   sets_page : Sort
@@ -22,12 +18,6 @@ pub data Sort : Type 0 where
   asks : Sort
   destroys : Sort
   says_nothing : Sort
-
-abbrev pub sort_of_command : block_commands.Command → Sort
-sort_of_command (blocks.Block side min max count granularity) = opens_block
-sort_of_command (blocks.Allocate key size alignment kind name) = uses_block
-sort_of_command (blocks.Free key) = uses_block
-sort_of_command blocks.Report = reports
 
 abbrev pub sort_of_setting : settings.Setting → Sort
 sort_of_setting (Heap size) = describes
@@ -38,7 +28,7 @@ sort_of_setting (Refuse question refusal) = describes
 
 abbrev pub sort_of : Line → Sort
 sort_of lines.Blank = skips
-sort_of (lines.Says c) = sort_of_command c
+sort_of (lines.Says c) = of_block (sort_of_command c)
 sort_of (lines.Configures s) = sort_of_setting s
 sort_of lines.New = makes
 sort_of (lines.Asks c) = asks

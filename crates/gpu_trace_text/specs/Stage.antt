@@ -18,24 +18,25 @@ use Rattle.gpu_run.specs.VulkanCommand as session_commands
 use Rattle.gpu_run.specs.VulkanCommand.{SessionCommand}
 use Rattle.gpu_run.specs.VulkanSession.{SessionInvariant}
 use Rattle.gpu_run.specs.VulkanServed.{SessionValue, command_of, reply_of, session_of, IsServed}
-use Rattle.gpu_run.specs.declared.block.command.Command as block_commands
-use Rattle.gpu_run.specs.declared.block.command.Command.TheVariants as commands
-use Rattle.gpu_trace_text.specs.declared.block_stage.BlockStage.TheVariants as block_stages
+use Rattle.gpu_block_session.specs.declared.block.command.Command as block_commands
+use Rattle.gpu_block_session.specs.declared.block.command.Command.TheVariants as commands
+use Rattle.gpu_block_session.specs.declared.block_stage.BlockStage.TheVariants as block_stages
 use Rattle.gpu_trace_text.specs.declared.device.reply.Reply as device_replies
 use Rattle.gpu_trace_text.specs.declared.device.reply.Reply.TheVariants.{Made, Served, Held, Refused}
 use Rattle.gpu_trace_text.specs.declared.line.Line.{Line}
 use Rattle.gpu_trace_text.specs.declared.line.Line.TheVariants as lines
 use Rattle.gpu_trace_text.specs.declared.reply.Reply.{Reply}
 use Rattle.gpu_trace_text.specs.declared.reply.Reply.TheVariants as replies
-use Rattle.gpu_trace_text.specs.declared.outcome.Outcome.{Outcome}
-use Rattle.gpu_trace_text.specs.declared.outcome.Outcome.TheVariants.{Nothing, Replied, Bad}
+use Rattle.gpu_block_session.specs.declared.outcome.Outcome.{Outcome}
+use Rattle.gpu_block_session.specs.declared.outcome.Outcome.TheVariants.{Nothing, Replied, Bad}
 use Rattle.gpu_trace_text.specs.declared.stage.Stage.{Stage}
 use Rattle.gpu_trace_text.specs.declared.stage.Stage.TheVariants.{Before, Block, Configuring, Device, Closed}
-use Rattle.gpu_trace_text.specs.BlockCommand.{Fits as FitsBlock}
-use Rattle.gpu_trace_text.specs.BlockStage as block
-use Rattle.gpu_trace_text.specs.Sort.{Sort, opens_block, reports, describes, sets_page, sets_sizes, makes, asks, destroys, sort_of}
+use Rattle.gpu_block_session.specs.BlockWords.{Fits as FitsBlock}
+use Rattle.gpu_block_session.specs.BlockStage as block
+use Rattle.gpu_block_session.specs.BlockSort.{opens_block, reports}
+use Rattle.gpu_trace_text.specs.Sort.{Sort, of_block, describes, sets_page, sets_sizes, makes, asks, destroys, sort_of}
 use Rattle.gpu_trace_text.specs.Configuration.{Configured, nothing_configured, configured_by, properties_by, plan_by, sizes_by}
-use Rattle.gpu_run.specs.ErrorNumber.{number_of}
+use Rattle.gpu_block_session.specs.ErrorNumber.{number_of}
 
 -- what contracts see of the simulated device
 abbrev pub simulated : Ghosts SimVulkan
@@ -144,19 +145,20 @@ AdmitsSetting c makes = Unit {0}
 AdmitsSetting c _ = ⊥
 
 abbrev pub AdmitsAsked : Sort → Type 0
-AdmitsAsked reports = Unit {0}
+AdmitsAsked (of_block reports) = Unit {0}
 AdmitsAsked asks = Unit {0}
 AdmitsAsked destroys = Unit {0}
 AdmitsAsked _ = ⊥
 
 -- the first line decides between the sorts of traces
 abbrev pub AdmitsFirst : Sort → Type 0
-AdmitsFirst opens_block = Unit {0}
+AdmitsFirst (of_block opens_block) = Unit {0}
 AdmitsFirst sort = AdmitsSetting nothing_configured sort
 
 abbrev pub AdmitsSort : Stage → Sort → Type 0
 AdmitsSort Before sort = AdmitsFirst sort
-AdmitsSort (Block old) sort = block.Admits old sort
+AdmitsSort (Block old) (of_block sort) = block.Admits old sort
+AdmitsSort (Block old) _ = ⊥
 AdmitsSort (Configuring c) sort = AdmitsSetting c sort
 AdmitsSort (Device s) sort = AdmitsAsked sort
 AdmitsSort Closed sort = ⊥

@@ -2,9 +2,9 @@
 
 ghost use Rattle.std.specs.Prelude.{◌≡◌, ◌≤◌, ℕ, Some, None, IfOk, IfSome};
 ghost use Rattle.gpu_trace_text.specs.declared.stage.Stage.TheVariants as stages;
-ghost use Rattle.gpu_trace_text.specs.Run.{Answers};
+ghost use Rattle.gpu_block_session.specs.Run.{Answers};
 ghost use Rattle.gpu_trace_text.specs.Any.{Does, DidVulkan, DidMetal, DidD3D12, MatchDone, reply_line};
-ghost use Rattle.gpu_trace_text.specs.Replay.{ReplaysTrace};
+ghost use Rattle.gpu_block_session.specs.Replay.{ReplaysTrace};
 ghost use Rattle.gpu_trace_text.specs.declared.any.AnyTrace.TheVariants.{Vulkan};
 
 use crate::{Outcome, Replayed, Stage, Trace, TraceError, d3d12, metal, replay_from, run_from};

@@ -1,32 +1,21 @@
-//! Traces of every sort: what a line says, which line may follow, how replies print, and the run from the bytes in to the bytes out,
-//! up to the first bad line; and how far a whole trace comes.
+//! Traces of every sort: what a line says, which line may follow, how replies print, and their run. Block traces, and what all sorts
+//! share, stand in gpu_block_session.
 #![tactic(auto)]
 
 mod any;
-mod block;
 mod block_or_device;
-mod block_stage;
 mod configuration;
 pub mod d3d12;
 pub mod device;
 mod hex;
 mod line;
 pub mod metal;
-mod outcome;
-mod replay;
 mod reply;
-mod run;
 mod stage;
-mod trace;
-pub mod words;
 
 pub use any::{AnyReply, AnyTrace, replay_trace, run_trace};
-pub use block_stage::BlockStage;
 pub use configuration::Configuration;
-pub use line::{Line, ascii, read};
-pub use outcome::Outcome;
-pub use replay::{Replayed, replay_from};
+pub use gpu_block_session::{BlockStage, Outcome, Replayed, Trace, TraceError, replay_from, run_from};
+pub use line::{Line, read};
 pub use reply::Reply;
-pub use run::{LIMIT, TraceError, lines_in, read_trace, run_from};
 pub use stage::Stage;
-pub use trace::Trace;

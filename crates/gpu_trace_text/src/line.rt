@@ -1,17 +1,16 @@
 //! What a line says.
 
-ghost use Rattle.std.specs.Prelude.{◌≡◌, ◌∷◌, [], IfOk, MatchOption};
-ghost use Rattle.std.specs.Str.{IsAscii};
+ghost use Rattle.std.specs.Prelude.{◌∷◌, IfOk};
 ghost use Rattle.gpu_trace_text.specs.Line.{Means, Reads, ReadsAlone};
-ghost use Rattle.gpu_trace_text.specs.Words.{texts, words_of};
+ghost use Rattle.gpu_block_session.specs.Words.{texts, words_of};
 
 use crate::device::setting::{Setting, setting_of};
-use crate::words::words;
-use crate::{block, device};
-use gpu_run::block::Command;
+use gpu_block_session::words::words;
+use gpu_block_session::{ascii, text};
+use crate::device;
+use gpu_block_session::block::Command;
 use gpu_run::vulkan::Command as Ask;
 use std::alloc::{AllocError, Global};
-use std::str;
 
 /// What a line says.
 #[derive(Debug, Drop)]
@@ -29,17 +28,6 @@ pub enum Line {
     /// The end of a device trace.
     Destroy,
     Bad,
-}
-
-/// The text of a line, where all its bytes are ASCII.
-pub fn ascii(line: &[u8]) -> Option<&str>
-    ensures { MatchOption result (IsAscii line.now → ⊥)
-        (λ s. (s.now ≡ line.now) × IsAscii line.now) }
-{
-    let Ok(text) = str::from_utf8(line) else {
-        return None;
-    };
-    if text.is_ascii() { Some(text) } else { None }
 }
 
 /// What a word alone says.
@@ -60,7 +48,7 @@ fn alone(verb: &str, arguments: &[&str]) -> Line
 fn said(alloc: Global, verb: &str, arguments: &[&str]) -> Result<Line, AllocError>
     ensures { IfOk result (Reads (verb.now ∷ texts arguments.now)) }
 {
-    if let Some(command) = block::command_of(alloc, verb, arguments)? {
+    if let Some(command) = text::command_of(alloc, verb, arguments)? {
         return Ok(Line::Says(command));
     }
     if let Some(setting) = setting_of(alloc, verb, arguments)? {

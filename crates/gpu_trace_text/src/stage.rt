@@ -1,19 +1,19 @@
 //! How far a trace has come.
 
 ghost use Rattle.std.specs.Prelude.{IfOk};
-ghost use Rattle.gpu_trace_text.specs.BlockCommand.{Fits};
+ghost use Rattle.gpu_block_session.specs.BlockWords.{Fits};
 ghost use Rattle.gpu_run.specs.VulkanServed.{command_of};
 ghost use Rattle.gpu_trace_text.specs.Stage.{IsSound, Begins, Does, MatchServed, Ended, FitsLine};
-ghost use Rattle.gpu_trace_text.specs.declared.block_stage.BlockStage.TheVariants as block_stages;
+ghost use Rattle.gpu_block_session.specs.declared.block_stage.BlockStage.TheVariants as block_stages;
 
-use crate::block_stage::BlockStage;
+use gpu_block_session::BlockStage;
 use crate::configuration::Configuration;
 use crate::device::reply as device;
 use crate::device::setting::Setting;
 use crate::{Line, Outcome, Reply};
 use gpu_device::vulkan::PhysicalDevice;
-use gpu_run::block::Command;
-use gpu_run::number_of;
+use gpu_block_session::block::Command;
+use gpu_block_session::number_of;
 use gpu_run::vulkan::{Command as Ask, Session};
 use gpu_sim::SimVulkan;
 use gpu_values::AllocatorDebugSettings;

@@ -102,8 +102,8 @@ fn calls(alloc: Global, b: &mut SubAllocator, refused: &mut u64) -> [bool; 8]
     ]
 }
 
-/// Many pieces, so that the block's own lists grow, and all of them back.
-fn many(b: &mut SubAllocator, refused: &mut u64) -> bool
+/// Many pieces, so that the block's own lists grow.
+fn takes_many(b: &mut SubAllocator, refused: &mut u64) -> bool
     requires { HasPages (block_of b.old) 1 }
 {
     for place in 0..40u64 {
@@ -112,6 +112,11 @@ fn many(b: &mut SubAllocator, refused: &mut u64) -> bool
             return false;
         }
     }
+    true
+}
+
+/// All of them back.
+fn frees_many(b: &mut SubAllocator) -> bool {
     for chunk_id in 2..42u64 {
         if free(b, chunk_id).is_err() {
             return false;
@@ -136,7 +141,8 @@ fn many_pieces_lose_nothing_where_memory_is_refused(rt: HostRuntime) -> Outcome 
     let Ok(mut block) = general(rt.alloc(), 4 * MB, 1) else {
         return ends(1);
     };
-    check(&rt, &[many(&mut block, &mut refused)]);
+    let taken = takes_many(&mut block, &mut refused);
+    check(&rt, &[taken, frees_many(&mut block)]);
     ends(refused)
 }
 

@@ -9,7 +9,7 @@ ghost use Rattle.gpu_d3d12.specs.Journal.{IsFirstAndOut};
 ghost use Rattle.gpu_pool.specs.Allocation.{piece_of};
 ghost use Rattle.gpu_d3d12.specs.State.{basis_of, beside_of};
 ghost use Rattle.gpu_pool.specs.Handles.{all_handles};
-ghost use Rattle.gpu_run.specs.Run.{IsRun};
+ghost use Rattle.gpu_block_session.specs.CommandList.{IsRun};
 ghost use Rattle.gpu_run.specs.D3D12Command as commands;
 ghost use Rattle.gpu_run.specs.D3D12Command.{Alloc, Free, Rename, Create, Release, Under, UnderResource, command_of};
 ghost use Rattle.gpu_run.specs.D3D12Describe.{Wanted, AsksFor, AsksForResource};

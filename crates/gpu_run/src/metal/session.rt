@@ -5,7 +5,7 @@ ghost use Rattle.gpu_values.specs.declared.error.AllocationError.TheVariants.{Ho
 ghost use Rattle.gpu_metal.specs.Blocks.{HoldsJustLiveBlocks, residency_of, left_behind};
 ghost use Rattle.gpu_metal.specs.Residency.{ChangesHeld, releases_recorded};
 ghost use Rattle.gpu_pool.specs.Handles.{all_handles};
-ghost use Rattle.gpu_run.specs.Run.{IsRun};
+ghost use Rattle.gpu_block_session.specs.CommandList.{IsRun};
 ghost use Rattle.gpu_run.specs.MetalCommand as commands;
 ghost use Rattle.gpu_run.specs.MetalCommand.{Alloc, Free, Under, command_of};
 ghost use Rattle.gpu_run.specs.MetalReply as replies;

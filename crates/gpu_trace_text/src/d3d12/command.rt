@@ -2,12 +2,12 @@
 
 ghost use Rattle.std.specs.Prelude.{◌≡◌, ◌∷◌, IfOk, codes};
 ghost use Rattle.std.specs.Fmt.{decimal};
-ghost use Rattle.gpu_trace_text.specs.Words.{texts};
+ghost use Rattle.gpu_block_session.specs.Words.{texts};
 ghost use Rattle.gpu_trace_text.specs.D3D12Command.{Says};
 
 use crate::d3d12::resource::{category_of, wanted_of};
 use crate::device::ask::{budget_of, location_of};
-use crate::words::{name_of, number};
+use gpu_block_session::words::{name_of, number};
 use gpu_run::d3d12::Command;
 use std::alloc::{AllocError, Global};
 

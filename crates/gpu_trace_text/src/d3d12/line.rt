@@ -1,13 +1,13 @@
 //! What a line of a DirectX 12 trace says.
 
 ghost use Rattle.std.specs.Prelude.{◌∷◌, IfOk};
-ghost use Rattle.gpu_trace_text.specs.Words.{texts, words_of};
+ghost use Rattle.gpu_block_session.specs.Words.{texts, words_of};
 ghost use Rattle.gpu_trace_text.specs.D3D12Line.{Means, Reads, ReadsAlone};
 
-use crate::ascii;
+use gpu_block_session::ascii;
 use crate::d3d12::command::said_command;
 use crate::d3d12::setting::{Setting, said_setting};
-use crate::words::words;
+use gpu_block_session::words::words;
 use gpu_run::d3d12::Command;
 use std::alloc::{AllocError, Global};
 

@@ -2,10 +2,10 @@
 
 ghost use Rattle.std.specs.Prelude.{◌≡◌, ◌≢◌, ℕ, ◌==◌, List, IfOk, MatchOption};
 ghost use Rattle.std.specs.List.{slice_split};
-ghost use Rattle.gpu_trace_text.specs.Words.{texts};
+ghost use Rattle.gpu_block_session.specs.Words.{texts};
 ghost use Rattle.gpu_trace_text.specs.D3D12Numbers.{IsSeparator, AreNumbers, numbers_word};
 
-use crate::words::small_number;
+use gpu_block_session::words::small_number;
 use std::alloc::{AllocError, Global};
 
 /// The parts of a word between its separators.

@@ -10,13 +10,13 @@ ghost use Rattle.gpu_d3d12.specs.declared.category.ResourceCategory.{ResourceCat
 ghost use Rattle.gpu_d3d12.specs.declared.question.ResourceStateOrBarrierLayout.{ResourceStateOrBarrierLayout};
 ghost use Rattle.gpu_run.specs.declared.d3d12.command.Memory.{Memory};
 ghost use Rattle.gpu_trace_text.specs.Ask.{location_word};
-ghost use Rattle.gpu_trace_text.specs.Words.{texts};
+ghost use Rattle.gpu_block_session.specs.Words.{texts};
 ghost use Rattle.gpu_trace_text.specs.D3D12Resource.{category_word, place_word, dimension_word, initial_word, format_number, formats_word, clear_word};
 ghost use Rattle.gpu_trace_text.specs.D3D12Resource.{FitsInitial, FitsFormats, FitsClear, FitsMemory, SpellsDesc, SaysWanted};
 
 use crate::d3d12::numbers::numbers_of;
 use crate::device::ask::location_of;
-use crate::words::{name_of, number, small_number};
+use gpu_block_session::words::{name_of, number, small_number};
 use gpu_d3d12::{ResourceCategory, ResourceStateOrBarrierLayout, heap_properties};
 use gpu_device::d3d12::{ClearValue, Format, HeapFlags, ResourceDesc, ResourceDimension};
 use gpu_run::d3d12::{Memory, WantedResource};

@@ -1,13 +1,13 @@
 //! What a configuration line of a DirectX 12 trace says.
 
 ghost use Rattle.std.specs.Prelude.{◌≡◌, ◌≢◌, [], ◌∷◌, IfOk, MatchOption, codes};
-ghost use Rattle.gpu_trace_text.specs.Words.{texts};
+ghost use Rattle.gpu_block_session.specs.Words.{texts};
 ghost use Rattle.gpu_trace_text.specs.D3D12Setting.{version_word, Says};
 ghost use Rattle.gpu_trace_text.specs.declared.d3d12.setting.Version.{Version};
 
 use crate::device::setting;
 use crate::device::setting::setting_of;
-use crate::words::code;
+use gpu_block_session::words::code;
 use gpu_device::d3d12::ResourceHeapTier;
 use std::alloc::{AllocError, Global};
 

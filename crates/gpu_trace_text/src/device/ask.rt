@@ -5,11 +5,11 @@ ghost use Rattle.std.specs.Fmt.{decimal};
 ghost use Rattle.gpu_values.specs.declared.memory_location.MemoryLocation.{MemoryLocation};
 ghost use Rattle.gpu_device.specs.declared.vulkan.types.AllocationScheme.{AllocationScheme};
 ghost use Rattle.gpu_trace_text.specs.Hex.{hex, AreBytes};
-ghost use Rattle.gpu_trace_text.specs.Words.{texts};
+ghost use Rattle.gpu_block_session.specs.Words.{texts};
 ghost use Rattle.gpu_trace_text.specs.Ask.{location_word, linear_word, scheme_word, budget_word, FitsScheme, FitsBudget, IsLength, IsPayload, Says};
 
 use crate::hex;
-use crate::words::{name_of, number, small_number};
+use gpu_block_session::words::{name_of, number, small_number};
 use gpu_device::vulkan::{AllocationScheme, Buffer, Image, MemoryRequirements};
 use gpu_run::vulkan::Command;
 use gpu_values::MemoryLocation;

@@ -4,11 +4,11 @@ ghost use Rattle.std.specs.Prelude.{◌≡◌, ◌<◌, Some, [], ◌∷◌, map
 ghost use Rattle.std.specs.List.{flat_map};
 ghost use Rattle.std.specs.Fmt.{DisplaysOnOk};
 ghost use Rattle.gpu_values.specs.Report.{row_of};
-ghost use Rattle.gpu_trace_text.specs.BlockReply.{piece_line};
+ghost use Rattle.gpu_block_session.specs.BlockReply.{piece_line};
 ghost use Rattle.gpu_trace_text.specs.Hex.{hex, hex_byte, hex_digit};
 ghost use Rattle.gpu_trace_text.specs.DeviceReply.{bool_text, allocated_text, block_line, leak_line, leaks_text, report_text, served_text};
 
-use crate::block::reply::write_pieces;
+use gpu_block_session::text::reply::write_pieces;
 use gpu_run::vulkan::{Allocated, Reply as Told};
 use gpu_run::{ErrorNumber, number_of};
 use gpu_values::{AllocatorReport, MemoryBlockReport};

@@ -3,10 +3,10 @@
 ghost use Rattle.std.specs.Prelude.{◌≡◌, ◌≢◌, ℕ, ◌<◌, ◌^◌, ◌∷◌, IfOk, MatchOption, codes};
 ghost use Rattle.std.specs.Fmt.{decimal};
 ghost use Rattle.gpu_device.specs.declared.refusal.Refusal.{Refusal};
-ghost use Rattle.gpu_trace_text.specs.Words.{texts};
+ghost use Rattle.gpu_block_session.specs.Words.{texts};
 ghost use Rattle.gpu_trace_text.specs.Setting.{refusal_word, FitsRefusal, Says, sizes_of};
 
-use crate::words::{code, number, small_number};
+use gpu_block_session::words::{code, number, small_number};
 use gpu_sim_base::Refusal;
 use gpu_values::AllocationSizes;
 use std::alloc::{AllocError, Global};

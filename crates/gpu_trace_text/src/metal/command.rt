@@ -5,11 +5,11 @@ ghost use Rattle.std.specs.Fmt.{decimal};
 ghost use Rattle.gpu_values.specs.declared.memory_location.MemoryLocation.{MemoryLocation};
 ghost use Rattle.gpu_device.specs.declared.metal.types.StorageMode.{StorageMode};
 ghost use Rattle.gpu_trace_text.specs.Ask.{location_word};
-ghost use Rattle.gpu_trace_text.specs.Words.{texts};
+ghost use Rattle.gpu_block_session.specs.Words.{texts};
 ghost use Rattle.gpu_trace_text.specs.MetalCommand.{mode_word, FitsMode, Says};
 
 use crate::device::ask::{budget_of, location_of};
-use crate::words::{name_of, number, small_number};
+use gpu_block_session::words::{name_of, number, small_number};
 use gpu_device::metal::{StorageMode, TextureDescriptor};
 use gpu_run::metal::Command;
 use gpu_values::MemoryLocation;

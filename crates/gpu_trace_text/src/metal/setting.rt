@@ -1,7 +1,7 @@
 //! What a configuration line of a Metal trace says.
 
 ghost use Rattle.std.specs.Prelude.{◌≡◌, ◌≢◌, ◌∷◌, Bool, IfOk, MatchOption, codes};
-ghost use Rattle.gpu_trace_text.specs.Words.{texts};
+ghost use Rattle.gpu_block_session.specs.Words.{texts};
 ghost use Rattle.gpu_trace_text.specs.MetalSetting.{yes_word, Says};
 
 use crate::device::setting;

@@ -1,6 +1,6 @@
 use Rattle.std.proofs.Common.{◌≡◌, ◌==◌, ◌∙◌, ap}
 use Rattle.std.specs.List.{slice_split}
-use Rattle.gpu_trace_text.specs.Words.{texts}
+use Rattle.gpu_block_session.specs.Words.{texts}
 use Rattle.gpu_trace_text.proofs.D3D12Parts.{all_spelled, not_spelled}
 use Rattle.gpu_trace_text.proofs.d3d12.numbers.numbers_of.Goals as goal
 

@@ -1,6 +1,6 @@
 use Rattle.std.proofs.Common.{◌≢◌, ◌∙◌, ap, length}
 use Rattle.std.specs.Prelude.{codes}
-use Rattle.gpu_trace_text.proofs.Canonical.{differ}
+use Rattle.gpu_block_session.proofs.Canonical.{differ}
 use Rattle.gpu_trace_text.proofs.D3D12Meaning.{no_clear, not_five}
 use Rattle.gpu_trace_text.proofs.d3d12.resource.clear_of.Goals as goal
 

@@ -1,0 +1,13 @@
+pub mod BlockCommand
+pub mod ErrorNumber
+pub mod CommandList
+pub mod BlockSession
+pub mod Words
+pub mod BlockWords
+pub mod BlockReply
+pub mod BlockSort
+pub mod BlockStage
+pub mod Line
+pub mod BlockTrace
+pub mod Run
+pub mod Replay

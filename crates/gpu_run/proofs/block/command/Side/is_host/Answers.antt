@@ -1,5 +1,0 @@
-use Rattle.std.proofs.Common.{rules}
-use Rattle.gpu_run.proofs.block.command.Side.is_host.Goals as goal
-
-pub returns-in-Device : goal.returns-in-Device
-returns-in-Device c = search rules

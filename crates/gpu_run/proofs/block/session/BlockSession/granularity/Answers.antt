@@ -1,5 +1,0 @@
-use Rattle.std.proofs.Common.{rules}
-use Rattle.gpu_run.proofs.block.session.BlockSession.granularity.Goals as goal
-
-pub returns : goal.returns
-returns c = search rules

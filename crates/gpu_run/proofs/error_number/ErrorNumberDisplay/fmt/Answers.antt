@@ -1,5 +1,0 @@
-use Rattle.std.proofs.Common.{rules}
-use Rattle.gpu_run.proofs.error_number.ErrorNumberDisplay.fmt.Goals as goal
-
-pub returns-clause-writes : goal.returns-clause-writes
-returns-clause-writes g c = search rules

@@ -1,2 +1,0 @@
-mod Measures
-mod Parted

@@ -1,5 +1,0 @@
-use Rattle.gpu_trace_text.proofs.Commands.{granularity_only}
-use Rattle.gpu_trace_text.proofs.block.command.block.Goals as goal
-
-pub returns-in_default-granularity_of : goal.returns-in_default-granularity_of
-returns-in_default-granularity_of c = granularity_only c.args.arguments.now _ c.in_default-granularity_of.ensures

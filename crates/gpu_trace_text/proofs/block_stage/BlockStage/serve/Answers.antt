@@ -1,8 +1,0 @@
-use Rattle.std.proofs.Common.{rules}
-use Rattle.gpu_trace_text.proofs.block_stage.BlockStage.serve.Goals as goal
-
-pub returns-in-Free : goal.returns-in-Free
-returns-in-Free c = search rules
-
-pub returns-in-Allocate : goal.returns-in-Allocate
-returns-in-Allocate c = search rules

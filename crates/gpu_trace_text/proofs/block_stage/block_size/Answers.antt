@@ -1,5 +1,0 @@
-use Rattle.std.proofs.Common.{rules}
-use Rattle.gpu_trace_text.proofs.block_stage.block_size.Goals as goal
-
-pub returns-clause-size : goal.returns-clause-size
-returns-clause-size c = search rules

@@ -1,6 +1,0 @@
-use Rattle.gpu_trace_text.specs.Words.{texts}
-use Rattle.gpu_trace_text.proofs.Runs.{SoFar}
-use Rattle.gpu_trace_text.proofs.run.run_lines.Given as goal
-
-abbrev pub invariant-loop-i : goal.invariant-loop-i
-invariant-loop-i g l = SoFar g.T.Trace.does g.T.Trace.reply_line l.fn.start (texts l.lines) (g.W.Write.contents l.initial.writer) (g.W.Write.contents l.writer) l.stage l.i

@@ -1,5 +1,0 @@
-use Rattle.std.proofs.Common.{rules}
-use Rattle.gpu_trace_text.proofs.words.has_leading_zero.Goals as goal
-
-pub returns-then-digits-eq48 : goal.returns-then-digits-eq48
-returns-then-digits-eq48 c = search rules
