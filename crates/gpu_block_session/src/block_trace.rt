@@ -5,9 +5,9 @@ ghost use Rattle.gpu_block_session.specs.declared.block_stage.BlockStage.TheVari
 ghost use Rattle.gpu_block_session.specs.BlockTrace.{Serves, reply_line};
 ghost use Rattle.gpu_block_session.specs.Run.{Answers};
 
+use crate::block::Reply;
 use crate::text::reply::Shown;
 use crate::{BlockStage, Line, Outcome, Trace, read, run_from};
-use crate::block::Reply;
 use log::Log;
 use std::alloc::{AllocError, Global};
 use std::io;

@@ -5,9 +5,9 @@ ghost use Rattle.std.specs.Str.{IsAscii};
 ghost use Rattle.gpu_block_session.specs.Line.{Means, Reads};
 ghost use Rattle.gpu_block_session.specs.Words.{words_of};
 
+use crate::block::Command;
 use crate::text::command_of;
 use crate::words::words;
-use crate::block::Command;
 use std::alloc::{AllocError, Global};
 use std::str;
 

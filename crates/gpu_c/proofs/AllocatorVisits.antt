@@ -8,8 +8,8 @@ use Rattle.std.specs.Iterator.{SkipsThenYields, YieldsFirst}
 use Rattle.gpu_block_pieces.specs.Leak.{LeakOf}
 use Rattle.gpu_core.specs.TypeState.{TypeState}
 use Rattle.gpu_device.specs.declared.vulkan.types.DeviceMemory.{DeviceMemory}
-use Rattle.gpu_memory_types.specs.Blocks.{Slots, slots_at}
-use Rattle.gpu_memory_types.specs.Types.{Types, slots_of}
+use Rattle.gpu_core.specs.Blocks.{Slots, slots_at}
+use Rattle.gpu_core.specs.Types.{Types, slots_of}
 
 -- ---- a memory type that is lent
 

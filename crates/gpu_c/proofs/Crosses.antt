@@ -45,7 +45,7 @@ use Rattle.gpu_device.specs.contracts.vulkan.types.MemoryRequirements as MemoryR
 use Rattle.gpu_values.specs.contracts.memory_location.MemoryLocation as MemoryLocation
 use Rattle.gpu_device.specs.contracts.vulkan.types.MemoryHeap as MemoryHeap
 use Rattle.gpu_device.specs.contracts.vulkan.types.MemoryTypeInfo as MemoryTypeInfo
-use Rattle.gpu_memory_types.specs.contracts.memory_types.MemoryTypes as MemoryTypes
+use Rattle.gpu_core.specs.contracts.memory_types.MemoryTypes as MemoryTypes
 use Rattle.gpu_vulkan.specs.contracts.setup.Settings as Settings
 use Rattle.gpu_vulkan.specs.contracts.setup.Setup as Setup
 use Rattle.gpu_machine.specs.contracts.awaited.Awaited as Awaited

@@ -4,8 +4,8 @@ use Rattle.std.specs.Option.{is_some, unwrap_or}
 use Rattle.gpu_block_pieces.specs.Leak.{LeakOf, leak_text}
 use Rattle.gpu_core.specs.TypeReport.{counted_with, nothing_counted}
 use Rattle.gpu_core.specs.TypeState.{capacity_of, shared_count}
-use Rattle.gpu_memory_types.specs.Blocks.{slots_at}
-use Rattle.gpu_memory_types.specs.Budgets.{budget_at}
+use Rattle.gpu_core.specs.Blocks.{slots_at}
+use Rattle.gpu_core.specs.Budgets.{budget_at}
 use Rattle.gpu_machine.specs.State.{State}
 use Rattle.gpu_c.specs.Visit.{copied_into}
 use Rattle.gpu_c.specs.declared.allocator_values.TypeStatistics.{TypeStatistics}

@@ -3,8 +3,8 @@
 //! destroy leaves it zeroed. Any status but `OK` leaves everything as it was.
 
 ghost use Rattle.std.specs.Prelude.{◌≡◌, ◌≢◌, ◌≤◌, ◌↔◌, [], ◌∷◌, length, Some, None, Ok, IsSome, IsSomeAnd, IsTrue, IsUtf8};
-ghost use Rattle.gpu_memory_types.specs.Blocks.{total_capacity};
-ghost use Rattle.gpu_memory_types.specs.Budgets.{budget_at};
+ghost use Rattle.gpu_core.specs.Blocks.{total_capacity};
+ghost use Rattle.gpu_core.specs.Budgets.{budget_at};
 ghost use Rattle.gpu_vulkan.specs.BlockAnswer.{memory_refusal, map_refusal};
 ghost use Rattle.gpu_machine.specs.Calls.{SetsBudget};
 ghost use Rattle.gpu_machine.specs.State.{told_fault};

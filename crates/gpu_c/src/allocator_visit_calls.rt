@@ -4,9 +4,9 @@ ghost use Rattle.std.specs.Prelude.{◌≡◌, ◌≢◌, ◌≤◌, ◌↔◌, 
 ghost use Rattle.std.specs.List.{slice_get};
 ghost use Rattle.gpu_core.specs.TypeReport.{pieces_in, statistics_in};
 ghost use Rattle.gpu_core.specs.TypeState.{slot_at};
-ghost use Rattle.gpu_memory_types.specs.Blocks.{slots_at};
-ghost use Rattle.gpu_memory_types.specs.Leaks.{all_leaks};
-ghost use Rattle.gpu_memory_types.specs.Reports.{whole_report};
+ghost use Rattle.gpu_core.specs.Blocks.{slots_at};
+ghost use Rattle.gpu_core.specs.Leaks.{all_leaks};
+ghost use Rattle.gpu_core.specs.Reports.{whole_report};
 ghost use Rattle.gpu_report.specs.ReportJson.{report_json};
 ghost use Rattle.gpu_machine.specs.Calls.{block_memory};
 ghost use Rattle.gpu_c.specs.Allocator.{memory_told};

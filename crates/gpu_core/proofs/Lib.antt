@@ -11,3 +11,14 @@ pub mod EmptyBlocks
 pub mod Dead
 pub mod Kept
 pub mod OneOutcome
+pub mod Aligned
+pub mod Apart
+pub mod Budgets
+pub mod Changed
+pub mod Holding
+pub mod Options
+pub mod Placed
+pub mod Reporting
+pub mod Sizes
+pub mod StayLive
+pub mod Types

@@ -34,3 +34,14 @@ pub use Rattle.gpu_block.specs.Pieces
 pub use Rattle.gpu_block.specs.Statistics
 pub use Rattle.gpu_block.specs.BlockViews
 pub use Rattle.gpu_block.specs.Cost
+pub mod Blocks
+pub mod Types
+pub mod Budgets
+pub mod Live
+pub mod Requests
+pub mod Release
+pub mod Rename
+pub mod Reports
+pub mod Leaks
+pub mod Held
+pub mod Apart

@@ -1,9 +1,11 @@
 //! The blocks of one memory type, with no device at hand: the slots that they lie in, which of them has a place for a request, which
-//! block is needed where none has, and which goes with its last piece. Re-exports blocks and plain values.
+//! block is needed where none has, and which goes with its last piece; and all memory types of an allocator, what is the same for Vulkan,
+//! DirectX 12 and Metal. Re-exports blocks and plain values.
 #![tactic(auto)]
 
 mod longest;
 mod memory_type;
+mod memory_types;
 mod need;
 mod piece;
 mod report;
@@ -22,6 +24,7 @@ pub use gpu_values::{
     AllocatorReport, Fault, MemoryBlockReport, MemoryLocation, Result, fmt_bytes,
 };
 pub use memory_type::{MemoryType, Prepared};
+pub use memory_types::{AllLeaks, MemoryTypes};
 pub use need::{NeedBlock, PendingBlock};
 pub use piece::{Piece, Request};
 pub use type_leaks::TypeLeaks;

@@ -8,7 +8,7 @@ use Rattle.gpu_device.specs.D3D12.{Held, Entry, without_resource}
 use Rattle.gpu_device.specs.Granted.{with_granted}
 use Rattle.gpu_device.specs.declared.d3d12.device.D3D12Device.{Ghosts}
 use Rattle.gpu_device.specs.declared.d3d12.types.ID3D12Heap.{ID3D12Heap}
-use Rattle.gpu_memory_types.proofs.Options.{none_some, some_same}
+use Rattle.gpu_core.proofs.Options.{none_some, some_same}
 use Rattle.gpu_d3d12.specs.DeviceVersion.{device_of, with_device}
 use Rattle.gpu_d3d12.specs.HeapAnswer.{HeapAnswer, Granted, Declined, Null, AsksHeap, IsWithoutHeap, IsResultOf}
 use Rattle.gpu_d3d12.specs.Heaps.{heap_desc}

@@ -11,11 +11,11 @@ use Rattle.gpu_block_pieces.specs.Leak.{leak_text}
 use Rattle.gpu_core.specs.declared.piece.Piece.{Piece}
 use Rattle.gpu_device.specs.declared.d3d12.device.D3D12Device.{Ghosts}
 use Rattle.gpu_device.specs.declared.d3d12.types.ID3D12Heap.{ID3D12Heap}
-use Rattle.gpu_memory_types.specs.Blocks.{total_capacity}
-use Rattle.gpu_memory_types.specs.Budgets.{budget_at, SetsBudget}
-use Rattle.gpu_memory_types.specs.Leaks.{all_leaks}
-use Rattle.gpu_memory_types.specs.Reports.{whole_report}
-use Rattle.gpu_memory_types.proofs.Options.{none_some, some_same}
+use Rattle.gpu_core.specs.Blocks.{total_capacity}
+use Rattle.gpu_core.specs.Budgets.{budget_at, SetsBudget}
+use Rattle.gpu_core.specs.Leaks.{all_leaks}
+use Rattle.gpu_core.specs.Reports.{whole_report}
+use Rattle.gpu_core.proofs.Options.{none_some, some_same}
 use Rattle.gpu_d3d12.specs.Setup.{kinds_of_device}
 use Rattle.gpu_d3d12.specs.declared.describe.AllocationCreateDesc.{AllocationCreateDesc}
 use Rattle.gpu_pool.specs.Allocate as environments

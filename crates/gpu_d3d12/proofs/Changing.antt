@@ -12,7 +12,7 @@ use Rattle.gpu_device.specs.declared.d3d12.types.ResourceHeapTier.TheVariants.{T
 use Rattle.gpu_device.proofs.HeapsAndResources.{get-without_heap_other, get-without_resource_other}
 use Rattle.gpu_device.proofs.Maps.{get-insert_same, get-insert_other, get-remove_same, held_alike}
 use Rattle.gpu_values.specs.declared.memory_location.MemoryLocation.TheVariants.{GpuOnly, CpuToGpu, GpuToCpu}
-use Rattle.gpu_memory_types.proofs.Options.{none_some, some_same}
+use Rattle.gpu_core.proofs.Options.{none_some, some_same}
 use Rattle.gpu_d3d12.specs.Heaps.{heap_properties, heap_desc}
 use Rattle.gpu_d3d12.specs.MemoryKinds.{kind}
 use Rattle.gpu_d3d12.specs.declared.memory_kind.MemoryKind.{MemoryKind}

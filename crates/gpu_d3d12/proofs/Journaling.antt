@@ -11,7 +11,7 @@ use Rattle.gpu_device.specs.declared.d3d12.types.ResourceHeapTier.{ResourceHeapT
 use Rattle.gpu_pool.specs.Source.{HeldBlock}
 use Rattle.gpu_device.proofs.HeapsAndResources.{get-without_heap_other, get-without_resource_other}
 use Rattle.gpu_device.proofs.Maps.{get-insert_same, get-insert_other}
-use Rattle.gpu_memory_types.proofs.Options.{none_some}
+use Rattle.gpu_core.proofs.Options.{none_some}
 use Rattle.gpu_values.specs.Refusal.{refusal_of}
 use Rattle.gpu_values.specs.declared.error.AllocationError.{AllocationError}
 use Rattle.gpu_d3d12.specs.ResourceAnswer.{ResourceAnswer, Granted, Declined, Null, Texts, Makes, resource_number}

@@ -10,10 +10,10 @@ use Rattle.gpu_device.specs.declared.d3d12.device.D3D12Device.{Ghosts}
 use Rattle.gpu_device.specs.declared.d3d12.types.HeapDesc.{HeapDesc}
 use Rattle.gpu_device.specs.declared.d3d12.types.ID3D12Heap.{ID3D12Heap}
 use Rattle.gpu_device.specs.declared.d3d12.types.ResourceHeapTier.{ResourceHeapTier}
-use Rattle.gpu_memory_types.specs.Apart.{EndsInside}
-use Rattle.gpu_memory_types.specs.Held.{HasEntry}
-use Rattle.gpu_memory_types.proofs.Apart.{found}
-use Rattle.gpu_memory_types.proofs.Options.{some_same}
+use Rattle.gpu_core.specs.Apart.{EndsInside}
+use Rattle.gpu_core.specs.Held.{HasEntry}
+use Rattle.gpu_core.proofs.Apart.{found}
+use Rattle.gpu_core.proofs.Options.{some_same}
 use Rattle.gpu_d3d12.specs.DeviceVersion.{device_of}
 use Rattle.gpu_d3d12.specs.Heaps.{heap_desc}
 use Rattle.gpu_d3d12.specs.declared.memory_kind.MemoryKind.{MemoryKind}

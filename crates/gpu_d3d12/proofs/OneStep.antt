@@ -16,8 +16,8 @@ use Rattle.gpu_device.specs.declared.d3d12.types.HeapFlags.{HeapFlags}
 use Rattle.gpu_device.specs.declared.d3d12.types.HeapProperties.{HeapProperties}
 use Rattle.gpu_device.specs.declared.d3d12.types.ID3D12Heap.{ID3D12Heap}
 use Rattle.gpu_device.specs.declared.d3d12.types.ResourceHeapTier.{ResourceHeapTier}
-use Rattle.gpu_memory_types.specs.Blocks.{slots_at, BlocksWellFormed}
-use Rattle.gpu_memory_types.proofs.Options.{none_some, some_same}
+use Rattle.gpu_core.specs.Blocks.{slots_at, BlocksWellFormed}
+use Rattle.gpu_core.proofs.Options.{none_some, some_same}
 use Rattle.gpu_d3d12.specs.HeapAnswer.{HeapAnswer, Granted, Declined, Null, null_refusal, told_answer}
 use Rattle.gpu_d3d12.specs.Heaps.{heap_desc, is_host}
 use Rattle.gpu_d3d12.specs.MemoryKinds.{memory_kinds}

@@ -5,7 +5,7 @@ use Rattle.gpu_core.specs.declared.piece.Piece.{Piece}
 use Rattle.gpu_device.specs.declared.d3d12.types.HeapFlags.{HeapFlags}
 use Rattle.gpu_device.specs.declared.d3d12.types.HeapProperties.{HeapProperties}
 use Rattle.gpu_device.specs.declared.d3d12.types.ID3D12Heap.{ID3D12Heap}
-use Rattle.gpu_memory_types.specs.Budgets.{budget_at}
+use Rattle.gpu_core.specs.Budgets.{budget_at}
 use Rattle.gpu_d3d12.specs.MemoryKinds.{memory_kinds, IsFirstServing}
 use Rattle.gpu_d3d12.specs.Question.{resource_question}
 use Rattle.gpu_d3d12.specs.ResourceAnswer.{ResourceAnswer, placed_texts}

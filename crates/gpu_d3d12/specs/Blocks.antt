@@ -9,8 +9,8 @@ use Rattle.gpu_device.specs.declared.d3d12.types.ResourceHeapTier.{ResourceHeapT
 use Rattle.gpu_d3d12.specs.Heaps.{heap_desc}
 use Rattle.gpu_d3d12.specs.MemoryKinds.{memory_kinds}
 use Rattle.gpu_d3d12.specs.declared.memory_kind.MemoryKind.{MemoryKind}
-use Rattle.gpu_memory_types.specs.Blocks as all
-use Rattle.gpu_memory_types.specs.Held.{HoldsBlocks}
+use Rattle.gpu_core.specs.Blocks as all
+use Rattle.gpu_core.specs.Held.{HoldsBlocks}
 
 -- the slots of each memory type
 abbrev pub Slots : Type 0

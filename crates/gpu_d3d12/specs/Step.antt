@@ -21,7 +21,7 @@ use Rattle.gpu_device.specs.declared.d3d12.types.ID3D12Heap.{ID3D12Heap}
 use Rattle.gpu_device.specs.declared.d3d12.types.ResourceAllocationInfo.{ResourceAllocationInfo}
 use Rattle.gpu_device.specs.declared.d3d12.types.ResourceHeapTier.{ResourceHeapTier}
 use Rattle.gpu_core.specs.declared.piece.Piece.{Piece}
-use Rattle.gpu_memory_types.specs.Budgets.{Budgets, budget_at}
+use Rattle.gpu_core.specs.Budgets.{Budgets, budget_at}
 use Rattle.gpu_d3d12.specs.DeviceVersion.{device_of, with_device}
 use Rattle.gpu_d3d12.specs.HeapAnswer.{HeapAnswer, told_answer}
 use Rattle.gpu_d3d12.specs.Heaps.{heap_desc}

@@ -5,9 +5,9 @@ ghost use Rattle.std.specs.Option.{unwrap_or};
 ghost use Rattle.std.specs.FinMap.{get};
 ghost use Rattle.gpu_values.specs.Refusal.{refusal_of, host_out_of_memory};
 ghost use Rattle.gpu_values.specs.declared.error.AllocationError.TheVariants.{HostOutOfMemory};
-ghost use Rattle.gpu_memory_types.specs.Blocks.{total_capacity, BlocksWellFormed};
-ghost use Rattle.gpu_memory_types.specs.Budgets.{budget_at, budgets};
-ghost use Rattle.gpu_memory_types.specs.Types.{slots_of, kinds};
+ghost use Rattle.gpu_core.specs.Blocks.{total_capacity, BlocksWellFormed};
+ghost use Rattle.gpu_core.specs.Budgets.{budget_at, budgets};
+ghost use Rattle.gpu_core.specs.Types.{slots_of, kinds};
 ghost use Rattle.gpu_d3d12.specs.DeviceVersion.{device_of, with_device};
 ghost use Rattle.gpu_d3d12.specs.MemoryKinds.{memory_kinds};
 ghost use Rattle.gpu_d3d12.specs.Setup.{kinds_of_device, setup_fault};
@@ -38,8 +38,8 @@ use crate::{
     CommittedMemory, CommittedResources, ID3D12DeviceVersion, Resource, ResourceCreateDesc,
     ResourceType, parts_of, question_for,
 };
+use gpu_core::MemoryTypes;
 use gpu_device::d3d12::{D3D12Device, ID3D12Heap};
-use gpu_memory_types::MemoryTypes;
 use gpu_pool::Pool;
 use gpu_values::{AllocationError, AllocatorDebugSettings, AllocatorReport, Result};
 use log::{Level, Log};

@@ -1,7 +1,7 @@
 //! Laws of the definitions, each the contract of a function that does nothing.
 
 ghost use Rattle.std.specs.Prelude.{◌≡◌, ℕ, List};
-ghost use Rattle.gpu_memory_types.specs.Blocks.{BlocksWellFormed};
+ghost use Rattle.gpu_core.specs.Blocks.{BlocksWellFormed};
 ghost use Rattle.gpu_d3d12.specs.Reply.{Reply};
 ghost use Rattle.gpu_d3d12.specs.State.{Basis, Model, without_budgets};
 ghost use Rattle.gpu_d3d12.specs.Step.{Call, Environment, Step, MeetsNoBudget};

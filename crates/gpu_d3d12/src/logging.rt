@@ -1,8 +1,8 @@
 //! Log lines of this allocator.
 
 use crate::{Allocation, AllocationCreateDesc};
+use gpu_core::MemoryTypes;
 use gpu_device::d3d12::ID3D12Heap;
-use gpu_memory_types::MemoryTypes;
 use gpu_pool::logging;
 use gpu_values::AllocatorDebugSettings;
 use log::{Level, Log};

@@ -3,15 +3,14 @@
 ghost use Rattle.std.specs.Prelude.{◌≡◌, ℤ, Ok, Err, IfOk, IfErr, MatchResult, All, [], None};
 ghost use Rattle.std.specs.Option.{unwrap_or};
 ghost use Rattle.gpu_values.specs.Refusal.{refusal_of, host_out_of_memory};
-ghost use Rattle.gpu_memory_types.specs.Budgets.{budgets};
-ghost use Rattle.gpu_memory_types.specs.Types.{slots_of, kinds, MemoryTypesInvariant};
+ghost use Rattle.gpu_core.specs.Budgets.{budgets};
+ghost use Rattle.gpu_core.specs.Types.{slots_of, kinds, MemoryTypesInvariant};
 ghost use Rattle.gpu_d3d12.specs.Setup.{tier_refusal, setup_fault, kinds_of_device};
 
 use crate::heap::is_host;
 use crate::memory_kind::{kind_at, type_count};
-use gpu_core::MemoryType;
+use gpu_core::{MemoryType, MemoryTypes};
 use gpu_device::d3d12::{D3D12Device, ID3D12Heap, ResourceHeapTier};
-use gpu_memory_types::MemoryTypes;
 use gpu_values::{AllocationError, Fault, Result};
 use std::alloc::{AllocError, Global};
 

@@ -3,8 +3,8 @@ use Rattle.std.proofs.Common.{◌≡◌, ◌∙◌, sym, subst, inl, inr, ⊎_el
 use Rattle.gpu_values.specs.Refusal.{Refusal}
 use Rattle.gpu_values.specs.declared.error.AllocationError.{AllocationError}
 use Rattle.gpu_device.specs.declared.vulkan.types.DeviceMemory.{DeviceMemory}
-use Rattle.gpu_memory_types.specs.Budgets.{Budgets}
-use Rattle.gpu_memory_types.specs.Types.{Types}
+use Rattle.gpu_core.specs.Budgets.{Budgets}
+use Rattle.gpu_core.specs.Types.{Types}
 use Rattle.gpu_vulkan.specs.Allocate.{Attempts, IsTooLarge, IsWithinHeap, next_type}
 use Rattle.gpu_vulkan.specs.Attempt.{AttemptEnvironment, Asked, Answer, IsAskedFor}
 use Rattle.gpu_vulkan.specs.Blocks.{Slots}

@@ -7,10 +7,10 @@ use Rattle.gpu_values.specs.declared.error.AllocationError.{AllocationError}
 use Rattle.gpu_core.specs.TypeState.{TypeState, Slot, slot_at, block_number}
 use Rattle.gpu_core.specs.declared.piece.Piece.{Piece}
 use Rattle.gpu_device.specs.declared.vulkan.types.DeviceMemory.{DeviceMemory}
-use Rattle.gpu_memory_types.specs.Blocks.{slots_at}
-use Rattle.gpu_memory_types.specs.Budgets.{budgets}
-use Rattle.gpu_memory_types.specs.Rename.{IsNotNamed, IsRenamed}
-use Rattle.gpu_memory_types.specs.Types.{Types, slots_of, kinds}
+use Rattle.gpu_core.specs.Blocks.{slots_at}
+use Rattle.gpu_core.specs.Budgets.{budgets}
+use Rattle.gpu_core.specs.Rename.{IsNotNamed, IsRenamed}
+use Rattle.gpu_core.specs.Types.{Types, slots_of, kinds}
 use Rattle.gpu_pool.proofs.Freeing.{type_below}
 use Rattle.gpu_vulkan.specs.Live.{is_same_memory, IsLiveIn}
 use Rattle.gpu_vulkan.specs.Setup.{Setup}

@@ -7,7 +7,7 @@ use Rattle.gpu_core.specs.TypeState.{slot_at}
 use Rattle.gpu_core.specs.declared.piece.Piece.{Piece}
 use Rattle.gpu_device.specs.declared.vulkan.device.VulkanDevice.{Ghosts}
 use Rattle.gpu_device.specs.declared.vulkan.types.DeviceMemory.{DeviceMemory}
-use Rattle.gpu_memory_types.specs.Blocks.{slots_at}
+use Rattle.gpu_core.specs.Blocks.{slots_at}
 use Rattle.gpu_vulkan.specs.Free as allocators
 use Rattle.gpu_vulkan.specs.Free.{GivesBack}
 use Rattle.gpu_vulkan.specs.Live.{is_same_memory, piece_of}

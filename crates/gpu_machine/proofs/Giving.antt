@@ -8,13 +8,13 @@ use Rattle.gpu_values.specs.declared.error.AllocationError.{AllocationError}
 use Rattle.gpu_core.specs.TypeState.{Slot, TypeState, slot_at}
 use Rattle.gpu_core.specs.declared.piece.Piece.{Piece}
 use Rattle.gpu_device.specs.declared.vulkan.types.DeviceMemory.{DeviceMemory}
-use Rattle.gpu_memory_types.specs.Blocks.{slots_at, BlocksWellFormed}
-use Rattle.gpu_memory_types.specs.Budgets.{Budgets}
-use Rattle.gpu_memory_types.specs.Requests.{InstallsAt}
-use Rattle.gpu_memory_types.specs.Types.{Types, slots_of, type_of, MemoryTypesInvariant}
-use Rattle.gpu_memory_types.proofs.Options.{none_some}
-use Rattle.gpu_memory_types.proofs.StayLive.{IsNewPiece, installed_keeps}
-use Rattle.gpu_memory_types.proofs.Types.{type_sound}
+use Rattle.gpu_core.specs.Blocks.{slots_at, BlocksWellFormed}
+use Rattle.gpu_core.specs.Budgets.{Budgets}
+use Rattle.gpu_core.specs.Requests.{InstallsAt}
+use Rattle.gpu_core.specs.Types.{Types, slots_of, type_of, MemoryTypesInvariant}
+use Rattle.gpu_core.proofs.Options.{none_some}
+use Rattle.gpu_core.proofs.StayLive.{IsNewPiece, installed_keeps}
+use Rattle.gpu_core.proofs.Types.{type_sound}
 use Rattle.gpu_pool.specs.Allocate.{Environment, NothingMet, NoHostMemory, Answered, Serves}
 use Rattle.gpu_pool.proofs.Owning.{Owns, allocates_owns, allocates_at}
 use Rattle.gpu_vulkan.specs.Allocate.{Attempts, IsTooLarge, IsWithinHeap, next_type, is_valid}

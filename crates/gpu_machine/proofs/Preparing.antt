@@ -11,12 +11,12 @@ use Rattle.gpu_core.specs.declared.memory_type.Prepared.TheVariants as prepared
 use Rattle.gpu_core.specs.declared.need.NeedBlock.{NeedBlock}
 use Rattle.gpu_block_pieces.specs.Request as block_requests
 use Rattle.gpu_device.specs.declared.vulkan.types.DeviceMemory.{DeviceMemory}
-use Rattle.gpu_memory_types.specs.Blocks.{slots_at, total_capacity}
-use Rattle.gpu_memory_types.specs.Budgets.{budgets, budget_at, block_refusal}
-use Rattle.gpu_memory_types.specs.Requests.{refusal_in_type, PreparesAt, IsPrepareRefusal, NeedsTooMuch}
-use Rattle.gpu_memory_types.specs.Types.{Types, slots_of, type_of, kinds}
-use Rattle.gpu_memory_types.proofs.Budgets.{budget_is, sum_fits}
-use Rattle.gpu_memory_types.proofs.Types.{slots_same, slots_here}
+use Rattle.gpu_core.specs.Blocks.{slots_at, total_capacity}
+use Rattle.gpu_core.specs.Budgets.{budgets, budget_at, block_refusal}
+use Rattle.gpu_core.specs.Requests.{refusal_in_type, PreparesAt, IsPrepareRefusal, NeedsTooMuch}
+use Rattle.gpu_core.specs.Types.{Types, slots_of, type_of, kinds}
+use Rattle.gpu_core.proofs.Budgets.{budget_is, sum_fits}
+use Rattle.gpu_core.proofs.Types.{slots_same, slots_here}
 use Rattle.gpu_pool.specs.Allocate.{NothingMet, NoHostMemory, type_asked}
 use Rattle.gpu_pool.specs.State as pools
 use Rattle.gpu_pool.specs.State.{kind_at}

@@ -4,8 +4,8 @@ use Rattle.gpu_values.specs.Refusal.{Refusal, refusal_of}
 use Rattle.gpu_values.specs.declared.error.AllocationError.{AllocationError}
 use Rattle.gpu_core.specs.declared.piece.Piece.{Piece}
 use Rattle.gpu_device.specs.declared.vulkan.types.DeviceMemory.{DeviceMemory}
-use Rattle.gpu_memory_types.specs.Blocks.{slots_at}
-use Rattle.gpu_memory_types.specs.Rename.{IsNotNamed}
+use Rattle.gpu_core.specs.Blocks.{slots_at}
+use Rattle.gpu_core.specs.Rename.{IsNotNamed}
 use Rattle.gpu_vulkan.specs.Live.{is_same_memory, piece_of}
 use Rattle.gpu_vulkan.specs.Rename as allocators
 use Rattle.gpu_vulkan.specs.Rename.{IsNamed}

@@ -11,10 +11,10 @@ use Rattle.gpu_core.specs.declared.need.NeedBlock.{NeedBlock}
 use Rattle.gpu_core.specs.declared.piece.Piece.{Piece}
 use Rattle.gpu_device.specs.declared.vulkan.device.VulkanDevice.{Ghosts}
 use Rattle.gpu_device.specs.declared.vulkan.types.DeviceMemory.{DeviceMemory}
-use Rattle.gpu_memory_types.specs.Blocks.{slots_at}
-use Rattle.gpu_memory_types.specs.Budgets.{Budgets}
-use Rattle.gpu_memory_types.specs.Requests.{InstallsAt}
-use Rattle.gpu_memory_types.proofs.Options.{none_some, some_same}
+use Rattle.gpu_core.specs.Blocks.{slots_at}
+use Rattle.gpu_core.specs.Budgets.{Budgets}
+use Rattle.gpu_core.specs.Requests.{InstallsAt}
+use Rattle.gpu_core.proofs.Options.{none_some, some_same}
 use Rattle.gpu_pool.specs.Allocate.{Answered}
 use Rattle.gpu_vulkan.specs.Allocate as allocating
 use Rattle.gpu_vulkan.specs.Allocate.{Attempts, IsAttempt, IsServed, IsFollowed, IsFound, AllocatesBy, Allocates, next_type, is_valid}

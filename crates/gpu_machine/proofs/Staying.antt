@@ -3,9 +3,9 @@ use Rattle.std.proofs.Common.{◌≡◌, sym, subst, ℕ, List, Option, Some, No
 use Rattle.gpu_values.specs.declared.error.AllocationError.{AllocationError}
 use Rattle.gpu_core.specs.declared.piece.Piece.{Piece}
 use Rattle.gpu_device.specs.declared.vulkan.types.DeviceMemory.{DeviceMemory}
-use Rattle.gpu_memory_types.specs.Apart.{AreDistinct}
-use Rattle.gpu_memory_types.specs.Blocks.{BlocksWellFormed}
-use Rattle.gpu_memory_types.proofs.StayLive.{released_keeps_others}
+use Rattle.gpu_core.specs.Apart.{AreDistinct}
+use Rattle.gpu_core.specs.Blocks.{BlocksWellFormed}
+use Rattle.gpu_core.proofs.StayLive.{released_keeps_others}
 use Rattle.gpu_pool.specs.Allocate.{NothingMet}
 use Rattle.gpu_pool.proofs.Freeing.{type_below}
 use Rattle.gpu_pool.proofs.Naming.{renamed_stay}

@@ -5,7 +5,7 @@ use Rattle.gpu_values.specs.declared.error.AllocationError.{AllocationError}
 use Rattle.gpu_core.specs.declared.need.NeedBlock.{NeedBlock}
 use Rattle.gpu_core.specs.declared.piece.Piece.{Piece}
 use Rattle.gpu_device.specs.declared.vulkan.types.DeviceMemory.{DeviceMemory}
-use Rattle.gpu_memory_types.specs.Requests.{InstallsAt}
+use Rattle.gpu_core.specs.Requests.{InstallsAt}
 use Rattle.gpu_pool.specs.Allocate.{NeedsNewBlock}
 use Rattle.gpu_vulkan.specs.Allocate.{Attempts, next_type, is_valid}
 use Rattle.gpu_vulkan.specs.Attempt.{request_in, unseen, AnyQuestion}

@@ -9,9 +9,9 @@ use Rattle.gpu_block_pieces.specs.Request.{Request}
 use Rattle.gpu_block.specs.Block.{TakesIn}
 use Rattle.gpu_core.specs.TypePrepare.{CanInstall}
 use Rattle.gpu_core.specs.TypeTake.{fresh_block}
-use Rattle.gpu_memory_types.specs.Blocks.{total_capacity}
-use Rattle.gpu_memory_types.specs.Budgets.{Budgets, budgets}
-use Rattle.gpu_memory_types.specs.Types.{Types, slots_of, type_of}
+use Rattle.gpu_core.specs.Blocks.{total_capacity}
+use Rattle.gpu_core.specs.Budgets.{Budgets, budgets}
+use Rattle.gpu_core.specs.Types.{Types, slots_of, type_of}
 use Rattle.gpu_vulkan.specs.Blocks.{Slots}
 use Rattle.gpu_vulkan.specs.Describe.{kind_of}
 use Rattle.gpu_vulkan.specs.Setup.{Setup, setup_fault}

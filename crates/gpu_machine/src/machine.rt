@@ -9,12 +9,12 @@ ghost use Rattle.gpu_vulkan.specs.Setup.{IsValid, properties_told};
 ghost use Rattle.gpu_vulkan.specs.Live.{IsLiveIn};
 ghost use Rattle.gpu_core.specs.declared.piece.Piece.{Piece};
 ghost use Rattle.gpu_device.specs.declared.vulkan.types.DeviceMemory.{DeviceMemory};
-ghost use Rattle.gpu_memory_types.specs.Apart.{IsInside, AreDistinct, SharesNoByte, KeepsPages};
-ghost use Rattle.gpu_memory_types.specs.Blocks.{total_capacity, BlocksWellFormed};
-ghost use Rattle.gpu_memory_types.specs.Budgets.{budget_at, budgets};
-ghost use Rattle.gpu_memory_types.specs.Types.{slots_of, kinds};
+ghost use Rattle.gpu_core.specs.Apart.{IsInside, AreDistinct, SharesNoByte, KeepsPages};
+ghost use Rattle.gpu_core.specs.Blocks.{total_capacity, BlocksWellFormed};
+ghost use Rattle.gpu_core.specs.Budgets.{budget_at, budgets};
+ghost use Rattle.gpu_core.specs.Types.{slots_of, kinds};
 ghost use Rattle.gpu_vulkan.specs.Types.{kinds_of_device};
-ghost use Rattle.gpu_memory_types.specs.Leaks.{all_leaks};
+ghost use Rattle.gpu_core.specs.Leaks.{all_leaks};
 ghost use Rattle.gpu_pool.specs.Told.{Reports};
 ghost use Rattle.gpu_machine.specs.Calls.{memory_back, block_memory, Frees, Renames, SetsBudget};
 ghost use Rattle.gpu_machine.specs.Description.{description_of};
@@ -27,9 +27,8 @@ use crate::awaited::Awaited;
 use crate::description::Description;
 use crate::refusal::{answer_awaited, no_answer_awaited, refusal_of_mapping};
 use crate::told::fault_of;
-use gpu_core::{Piece, Prepared};
+use gpu_core::{AllLeaks, MemoryTypes, Piece, Prepared};
 use gpu_device::vulkan::{DeviceMemory, MemoryAllocateInfo, MemoryHeap, MemoryTypeInfo};
-use gpu_memory_types::{AllLeaks, MemoryTypes};
 use gpu_values::{AllocationError, AllocatorReport, Result};
 use gpu_vulkan::{
     AllocationCreateDesc, Settings, Setup, best_type, next_type, refusal_of_memory, request_of,
@@ -93,7 +92,7 @@ pub struct Machine {
 
 impl Model for Machine {
     ghost use Rattle.std.specs.Prelude.{◌≡◌};
-    ghost use Rattle.gpu_memory_types.specs.Types.{kinds, MemoryTypesInvariant};
+    ghost use Rattle.gpu_core.specs.Types.{kinds, MemoryTypesInvariant};
     ghost use Rattle.gpu_vulkan.specs.Types.{kinds_of_device};
     ghost use Rattle.gpu_machine.specs.State.{State, state_of, CanAnswer};
 

@@ -20,7 +20,7 @@ use Rattle.gpu_metal.specs.Source.{blocks_of, new_block, HoldsFirst, joined}
 use Rattle.gpu_metal.specs.Blocks.{Residency, residency_of, is_same_heap}
 use Rattle.gpu_metal.specs.Source.{SourceState}
 use Rattle.std.proofs.lemmas.Bool.{cases_eq}
-use Rattle.gpu_memory_types.proofs.Options.{none_some}
+use Rattle.gpu_core.proofs.Options.{none_some}
 use Rattle.gpu_metal.proofs.Members.{in_of}
 use Rattle.gpu_metal.proofs.Changing.{type_at, heap_adds, heap_comes, heap_joins, new_same, new_set, is_some_none}
 

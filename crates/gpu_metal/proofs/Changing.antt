@@ -9,7 +9,7 @@ use Rattle.gpu_device.specs.declared.metal.types.MTLHeap.{MTLHeap}
 use Rattle.gpu_device.specs.declared.metal.types.MTLResidencySet.{MTLResidencySet}
 use Rattle.gpu_device.proofs.HeapsAndSets.{get-without_heap_other, get-with_member_other, get-without_member_other, get-with_member, get-without_member, get-with_commit, get-with_commit_other}
 use Rattle.gpu_device.proofs.Maps.{get-insert_same, get-insert_other, get-remove_same, held_alike}
-use Rattle.gpu_memory_types.proofs.Options.{none_some, some_same}
+use Rattle.gpu_core.proofs.Options.{none_some, some_same}
 use Rattle.gpu_metal.specs.MemoryKinds.{locations, heap_descriptor}
 use Rattle.gpu_metal.specs.Residency.{HoldsSet, with_joined, with_left, with_committed}
 use Rattle.gpu_pool.specs.Source.{HeldBlock, Adds, Removes}

@@ -15,9 +15,9 @@ use Rattle.gpu_device.specs.declared.metal.types.MTLResidencySet.{MTLResidencySe
 use Rattle.gpu_device.specs.declared.metal.types.StorageMode.{StorageMode}
 use Rattle.gpu_device.specs.declared.metal.types.StorageMode.TheVariants.{Shared, Managed, Private, Memoryless, Other}
 use Rattle.gpu_device.proofs.Maps.{get-insert_same, get-insert_other}
-use Rattle.gpu_memory_types.specs.Blocks.{block_at}
-use Rattle.gpu_memory_types.specs.Held.{HasEntry, HoldsBlocks}
-use Rattle.gpu_memory_types.proofs.Options.{none_some, some_same}
+use Rattle.gpu_core.specs.Blocks.{block_at}
+use Rattle.gpu_core.specs.Held.{HasEntry, HoldsBlocks}
+use Rattle.gpu_core.proofs.Options.{none_some, some_same}
 use Rattle.gpu_metal.specs.MemoryKinds.{heap_descriptor}
 use Rattle.gpu_pool.specs.Free.{GivesBackAll}
 use Rattle.gpu_pool.specs.Held.{HoldsJustBlocks}

@@ -3,9 +3,9 @@ use Rattle.std.proofs.Common.{◌≡◌, ◌∙◌, ◌⊎◌, refl, sym, ap, �
 use Rattle.std.proofs.lemmas.Bool.{cases_eq}
 use Rattle.gpu_core.specs.TypeState.{Slot, slot_at}
 use Rattle.gpu_device.specs.declared.metal.types.MTLHeap.{MTLHeap}
-use Rattle.gpu_memory_types.specs.Blocks.{slots_at}
-use Rattle.gpu_memory_types.specs.Held.{IsNoBlock}
-use Rattle.gpu_memory_types.proofs.Options.{none_some, some_same}
+use Rattle.gpu_core.specs.Blocks.{slots_at}
+use Rattle.gpu_core.specs.Held.{IsNoBlock}
+use Rattle.gpu_core.proofs.Options.{none_some, some_same}
 use Rattle.gpu_metal.specs.Blocks.{Slots, heap_number, IsBlockHeap}
 
 same_heap : (x y : MTLHeap) → x.0 ≡ y.0 → x ≡ y

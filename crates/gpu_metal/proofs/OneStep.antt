@@ -2,9 +2,9 @@
 use Rattle.std.proofs.Common.{◌≡◌, ◌∙◌, refl, sym, ap, subst, ℕ, zero, suc, Bool, true, false, None}
 use Rattle.gpu_core.specs.Slots.{AreSound}
 use Rattle.gpu_device.specs.declared.metal.types.MTLHeap.{MTLHeap}
-use Rattle.gpu_memory_types.specs.Blocks.{slots_at, BlocksWellFormed}
-use Rattle.gpu_memory_types.specs.Budgets.{budget_at}
-use Rattle.gpu_memory_types.proofs.Options.{some_same}
+use Rattle.gpu_core.specs.Blocks.{slots_at, BlocksWellFormed}
+use Rattle.gpu_core.specs.Budgets.{budget_at}
+use Rattle.gpu_core.proofs.Options.{some_same}
 use Rattle.gpu_metal.specs.MemoryKinds.{heap_descriptor, IsFirstServing}
 use Rattle.gpu_metal.specs.Setup.{kinds_of_device}
 use Rattle.gpu_metal.specs.declared.describe.AllocationCreateDesc.{AllocationCreateDesc}

@@ -8,10 +8,10 @@ use Rattle.gpu_values.specs.declared.report.AllocatorReport.{AllocatorReport}
 use Rattle.gpu_core.specs.declared.piece.Piece.{Piece}
 use Rattle.gpu_device.specs.declared.metal.device.MetalDevice.{Ghosts}
 use Rattle.gpu_device.specs.declared.metal.types.MTLHeap.{MTLHeap}
-use Rattle.gpu_memory_types.specs.Blocks.{total_capacity}
-use Rattle.gpu_memory_types.specs.Budgets.{budget_at, SetsBudget}
-use Rattle.gpu_memory_types.specs.Reports.{whole_report}
-use Rattle.gpu_memory_types.proofs.Options.{none_some, some_same}
+use Rattle.gpu_core.specs.Blocks.{total_capacity}
+use Rattle.gpu_core.specs.Budgets.{budget_at, SetsBudget}
+use Rattle.gpu_core.specs.Reports.{whole_report}
+use Rattle.gpu_core.proofs.Options.{none_some, some_same}
 use Rattle.gpu_metal.specs.Setup.{kinds_of_device}
 use Rattle.gpu_metal.specs.declared.describe.AllocationCreateDesc.{AllocationCreateDesc}
 use Rattle.gpu_pool.specs.Allocate.{NothingMet, NoHostMemory}

@@ -1,6 +1,6 @@
 -- What holds of all live allocations: each lies inside its block, and no two share a byte.
 use Rattle.std.specs.Prelude.{◌≢◌, ◌⊎◌, ◌+◌, ◌≤◌}
-use Rattle.gpu_memory_types.specs.Apart as all
+use Rattle.gpu_core.specs.Apart as all
 use Rattle.gpu_metal.specs.Blocks.{Slots}
 use Rattle.gpu_pool.specs.Allocation.{piece_of}
 use Rattle.gpu_metal.specs.Live.{Allocation}

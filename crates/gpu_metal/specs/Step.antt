@@ -8,7 +8,7 @@ use Rattle.gpu_values.specs.declared.memory_location.MemoryLocation.{MemoryLocat
 use Rattle.gpu_device.specs.declared.metal.device.MetalDevice.{Ghosts}
 use Rattle.gpu_device.specs.declared.metal.types.HeapDescriptor.{HeapDescriptor}
 use Rattle.gpu_device.specs.declared.metal.types.MTLHeap.{MTLHeap}
-use Rattle.gpu_memory_types.specs.Budgets.{Budgets, budget_at}
+use Rattle.gpu_core.specs.Budgets.{Budgets, budget_at}
 use Rattle.gpu_metal.specs.HeapAnswer.{question_recorded}
 use Rattle.gpu_metal.specs.Residency.{release_recorded, commit_recorded}
 use Rattle.gpu_metal.specs.MemoryKinds.{locations, heap_descriptor, IsFirstServing}

@@ -3,9 +3,9 @@
 ghost use Rattle.std.specs.Prelude.{◌≡◌, ◌↔◌, ◌%◌, ◌<◌, [], All, None, IfOk, IfErr, IsTrue, length, option_copied};
 ghost use Rattle.gpu_values.specs.Refusal.{refusal_of};
 ghost use Rattle.gpu_values.specs.declared.error.AllocationError.TheVariants.{HostOutOfMemory};
-ghost use Rattle.gpu_memory_types.specs.Blocks.{total_capacity, BlocksWellFormed};
-ghost use Rattle.gpu_memory_types.specs.Budgets.{budget_at, budgets};
-ghost use Rattle.gpu_memory_types.specs.Types.{slots_of, kinds};
+ghost use Rattle.gpu_core.specs.Blocks.{total_capacity, BlocksWellFormed};
+ghost use Rattle.gpu_core.specs.Budgets.{budget_at, budgets};
+ghost use Rattle.gpu_core.specs.Types.{slots_of, kinds};
 ghost use Rattle.gpu_metal.specs.MemoryKinds.{locations};
 ghost use Rattle.gpu_metal.specs.Residency.{MakesSet, ChangesHeld, with_committed, commit_recorded, releases_recorded};
 ghost use Rattle.gpu_metal.specs.Setup.{kinds_of_device, IsNotMade};
@@ -27,7 +27,7 @@ use crate::{
     Allocation, AllocationCreateDesc, AllocatorCreateDesc, empty_types, request_of, type_for,
 };
 use gpu_device::metal::{MTLHeap, MTLResidencySet, MetalDevice};
-use gpu_memory_types::MemoryTypes;
+use gpu_core::MemoryTypes;
 use gpu_pool::{Handles, Pool};
 use gpu_values::{AllocationError, AllocatorDebugSettings, AllocatorReport, Result};
 use log::Log;

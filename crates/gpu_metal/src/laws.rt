@@ -2,7 +2,7 @@
 
 ghost use Rattle.std.specs.Prelude.{◌≡◌, ℕ};
 ghost use Rattle.gpu_device.specs.declared.metal.types.MTLHeap.{MTLHeap};
-ghost use Rattle.gpu_memory_types.specs.Blocks.{BlocksWellFormed};
+ghost use Rattle.gpu_core.specs.Blocks.{BlocksWellFormed};
 ghost use Rattle.gpu_pool.specs.Allocate.{Environment};
 ghost use Rattle.gpu_pool.specs.Reply.{Reply};
 ghost use Rattle.gpu_pool.specs.State.{without_budgets};

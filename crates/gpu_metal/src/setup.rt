@@ -1,8 +1,8 @@
 //! The memory types of a new allocator.
 
 ghost use Rattle.std.specs.Prelude.{◌≡◌, IfOk, All, [], None};
-ghost use Rattle.gpu_memory_types.specs.Budgets.{budgets};
-ghost use Rattle.gpu_memory_types.specs.Types.{slots_of, kinds};
+ghost use Rattle.gpu_core.specs.Budgets.{budgets};
+ghost use Rattle.gpu_core.specs.Types.{slots_of, kinds};
 ghost use Rattle.gpu_metal.specs.Setup.{kinds_of_device};
 
 use crate::memory_kind::{TYPE_COUNT, is_host, location_at};

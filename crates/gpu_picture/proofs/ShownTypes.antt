@@ -2,7 +2,7 @@
 use Rattle.std.proofs.Common.{◌≡◌, ◌∙◌, sym, ap, ℕ, suc, zero, ◌+◌, ◌<◌, length, get_or, List, [], ◌∷◌, ◌++◌, map, drop, slice_get, Some, None, refl, add-one, append_assoc}
 use Rattle.std.proofs.lemmas.Option.{slice_get-get_or}
 use Rattle.gpu_core.specs.TypeState.{TypeState}
-use Rattle.gpu_memory_types.specs.Types.{Types, slots_of, no_type}
+use Rattle.gpu_core.specs.Types.{Types, slots_of, no_type}
 use Rattle.gpu_report.specs.View.{ShownBlock, shown_from}
 use Rattle.gpu_report.specs.Samples.{usage_of}
 use Rattle.gpu_report.specs.declared.timeline.samples.Usage.{Usage}

@@ -2,8 +2,8 @@
 use Rattle.std.specs.Prelude.{◌≡◌, ℕ, ◌+◌, List, [], ◌∷◌, ◌++◌, map, Bool, Option}
 use Rattle.std.specs.Io.KnownBytes.{Appends}
 use Rattle.gpu_block.specs.Block.{HasPages}
-use Rattle.gpu_memory_types.specs.Blocks.{Slots}
-use Rattle.gpu_memory_types.specs.Types.{Types, slots_of, kinds}
+use Rattle.gpu_core.specs.Blocks.{Slots}
+use Rattle.gpu_core.specs.Types.{Types, slots_of, kinds}
 use Rattle.gpu_d3d12.specs.Setup as d3d12_setup
 use Rattle.gpu_metal.specs.Setup as metal_setup
 use Rattle.gpu_vulkan.specs.Types as vulkan_types

@@ -5,7 +5,7 @@ ghost use Rattle.std.specs.Io.KnownBytes.{Appends};
 ghost use Rattle.gpu_report.specs.View.{shown};
 ghost use Rattle.gpu_picture.specs.Draw.{drawing, shown_types, DrawsBlock, DrawsTypes, DrawsVulkan, DrawsMetal, DrawsD3D12, Draws};
 
-use gpu_memory_types::MemoryTypes;
+use gpu_core::MemoryTypes;
 use gpu_report::{BlockView, BlocksJson, BlocksSvg, add_views};
 use gpu_trace_text::{AnyTrace, BlockStage, Stage, d3d12, metal};
 use gpu_values::AllocationError;

@@ -3,7 +3,7 @@
 ghost use Rattle.std.specs.Prelude.{◌≡◌, [], ◌∷◌, ◌++◌, map, IfOk, IfSome, OnOk};
 ghost use Rattle.std.specs.Io.KnownBytes.{Appends};
 ghost use Rattle.gpu_block.specs.SubAllocator.{block_of};
-ghost use Rattle.gpu_memory_types.specs.Types.{slots_of};
+ghost use Rattle.gpu_core.specs.Types.{slots_of};
 ghost use Rattle.gpu_report.specs.Samples.{usage_of};
 ghost use Rattle.gpu_report.specs.Timeline.{timeline_svg};
 ghost use Rattle.gpu_block_session.specs.Replay.{ReplaysTrace};
@@ -11,12 +11,12 @@ ghost use Rattle.gpu_picture.specs.Follow.{told, usage_of_block, is_vulkan_refus
 ghost use Rattle.gpu_picture.specs.declared.follow.Followed.{Followed};
 
 use gpu_block::SubAllocator;
-use gpu_memory_types::MemoryTypes;
+use gpu_core::MemoryTypes;
+use gpu_report::timeline::{Sample, TimelineSvg, Usage, usage_of};
 use gpu_run::block::Reply as BlockReply;
 use gpu_run::d3d12::Reply as D3D12Reply;
 use gpu_run::metal::Reply as MetalReply;
 use gpu_run::vulkan::Reply as VulkanReply;
-use gpu_report::timeline::{Sample, TimelineSvg, Usage, usage_of};
 use gpu_trace_text::device::reply as device;
 use gpu_trace_text::{
     AnyReply, AnyTrace, BlockStage, Outcome, Replayed, Reply, Stage, Trace, TraceError, d3d12,

@@ -8,12 +8,12 @@ use Rattle.gpu_core.specs.declared.piece.Piece.{Piece}
 use Rattle.gpu_core.specs.declared.piece.Request.{Request}
 use Rattle.gpu_core.specs.declared.memory_type.Prepared.TheVariants as prepared
 use Rattle.gpu_core.specs.declared.need.NeedBlock.{NeedBlock}
-use Rattle.gpu_memory_types.specs.Blocks.{Slots, slots_at, total_capacity}
-use Rattle.gpu_memory_types.specs.Budgets.{budgets, budget_at, block_refusal}
-use Rattle.gpu_memory_types.specs.Requests.{refusal_in_type, PreparesAt, IsPrepareRefusal, NeedsTooMuch, InstallsAt}
-use Rattle.gpu_memory_types.specs.Types.{Types, slots_of, type_of, kinds}
-use Rattle.gpu_memory_types.proofs.Budgets.{budget_is, sum_fits}
-use Rattle.gpu_memory_types.proofs.Types.{slots_same, slots_here}
+use Rattle.gpu_core.specs.Blocks.{Slots, slots_at, total_capacity}
+use Rattle.gpu_core.specs.Budgets.{budgets, budget_at, block_refusal}
+use Rattle.gpu_core.specs.Requests.{refusal_in_type, PreparesAt, IsPrepareRefusal, NeedsTooMuch, InstallsAt}
+use Rattle.gpu_core.specs.Types.{Types, slots_of, type_of, kinds}
+use Rattle.gpu_core.proofs.Budgets.{budget_is, sum_fits}
+use Rattle.gpu_core.proofs.Types.{slots_same, slots_here}
 use Rattle.gpu_pool.specs.State.{State, kind_at}
 use Rattle.gpu_pool.specs.Allocate.{RequestAt, request_at, NothingMet, NoHostMemory, Answered, type_asked, NeedsNewBlock, AsksOf, Allocates}
 use Rattle.gpu_pool.specs.declared.source.BlockSource.{Ghosts}

@@ -2,9 +2,9 @@
 use Rattle.std.proofs.Common.{◌≡◌, ◌≢◌, ◌∙◌, ◌⊎◌, sym, inl, inr, ⊎_elim, ℕ, Bool, true}
 use Rattle.gpu_core.specs.Slots.{AreSound}
 use Rattle.gpu_core.specs.declared.piece.Piece.{Piece}
-use Rattle.gpu_memory_types.specs.Apart.{AreDistinct}
-use Rattle.gpu_memory_types.specs.Blocks.{Slots, slots_at}
-use Rattle.gpu_memory_types.proofs.Apart.{found, pieces_apart}
+use Rattle.gpu_core.specs.Apart.{AreDistinct}
+use Rattle.gpu_core.specs.Blocks.{Slots, slots_at}
+use Rattle.gpu_core.proofs.Apart.{found, pieces_apart}
 use Rattle.gpu_pool.specs.Held.{HoldsJustBlocks}
 use Rattle.gpu_pool.specs.Live.{IsLive, AreBytesApart}
 use Rattle.gpu_pool.specs.Source.{HeldBlocks}

@@ -3,7 +3,7 @@ use Rattle.std.specs.Prelude.{IsSome}
 use Rattle.std.proofs.Common.{◌≡◌, ◌≢◌, ◌∙◌, refl, sym, ap, subst, ⊎_elim, inl, inr, ℕ, suc, List, [], ◌∷◌, ◌++◌, Option, Some, None, arith}
 use Rattle.std.proofs.lemmas.Bool.{cases_eq}
 use Rattle.gpu_core.specs.TypeState.{Slot, slot_at}
-use Rattle.gpu_memory_types.specs.Blocks.{Slots, block_at}
+use Rattle.gpu_core.specs.Blocks.{Slots, block_at}
 use Rattle.gpu_pool.specs.Handles.{handles_in, all_handles}
 use Rattle.gpu_pool.specs.Held.{HoldsJustBlocks, HoldsJust}
 use Rattle.gpu_pool.specs.Source.{HeldBlocks}

@@ -5,12 +5,12 @@ use Rattle.gpu_core.specs.TypeRelease.{SlotReleases, ReleasesPiece}
 use Rattle.gpu_core.specs.TypeState.{Slot, slot_at}
 use Rattle.gpu_core.specs.declared.piece.Piece.{Piece}
 use Rattle.gpu_core.proofs.Slotted.{set_only}
-use Rattle.gpu_memory_types.specs.Apart.{AreDistinct}
-use Rattle.gpu_memory_types.specs.Blocks.{Slots, slots_at}
-use Rattle.gpu_memory_types.proofs.Options.{none_some, some_same}
-use Rattle.gpu_memory_types.proofs.Placed.{only_block, some_below}
-use Rattle.gpu_memory_types.proofs.Sizes.{releases_size}
-use Rattle.gpu_memory_types.proofs.StayLive.{released_keeps_others}
+use Rattle.gpu_core.specs.Apart.{AreDistinct}
+use Rattle.gpu_core.specs.Blocks.{Slots, slots_at}
+use Rattle.gpu_core.proofs.Options.{none_some, some_same}
+use Rattle.gpu_core.proofs.Placed.{only_block, some_below}
+use Rattle.gpu_core.proofs.Sizes.{releases_size}
+use Rattle.gpu_core.proofs.StayLive.{released_keeps_others}
 use Rattle.gpu_pool.specs.Free.{GivesBackAny, GivesBackOf, Frees}
 use Rattle.gpu_pool.specs.Held.{HoldsJustBlocks}
 use Rattle.gpu_pool.specs.Live.{IsLive}

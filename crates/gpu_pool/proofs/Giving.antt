@@ -2,7 +2,7 @@
 use Rattle.std.proofs.Common.{◌∙◌, sym, ap, subst, Bool}
 use Rattle.std.specs.Int.NonZero.{non_zero_u64_get}
 use Rattle.gpu_core.specs.declared.piece.Piece.{Piece}
-use Rattle.gpu_memory_types.specs.Blocks.{Slots}
+use Rattle.gpu_core.specs.Blocks.{Slots}
 use Rattle.gpu_pool.specs.Allocation.{piece_of, IsAllocated, IsNewlyLive}
 use Rattle.gpu_pool.specs.Live as live
 use Rattle.gpu_pool.specs.declared.allocation.Allocation.{Allocation}

@@ -4,10 +4,10 @@ use Rattle.std.proofs.lemmas.Bool.{cases_eq}
 use Rattle.std.proofs.lemmas.List.Elements.{All-head, All-tail}
 use Rattle.gpu_block.specs.Block.{size_of}
 use Rattle.gpu_core.specs.TypeState.{Slot, slot_at}
-use Rattle.gpu_memory_types.specs.Blocks.{Slots, block_at}
-use Rattle.gpu_memory_types.specs.Held.{IsNoBlock}
-use Rattle.gpu_memory_types.proofs.Placed.{OnlyBlock, same_place}
-use Rattle.gpu_memory_types.proofs.Options.{none_some, some_same}
+use Rattle.gpu_core.specs.Blocks.{Slots, block_at}
+use Rattle.gpu_core.specs.Held.{IsNoBlock}
+use Rattle.gpu_core.proofs.Placed.{OnlyBlock, same_place}
+use Rattle.gpu_core.proofs.Options.{none_some, some_same}
 use Rattle.gpu_pool.specs.Source.{HeldBlocks, Adds, Removes}
 use Rattle.gpu_pool.specs.Held.{held_as, HoldsJustBlocks}
 

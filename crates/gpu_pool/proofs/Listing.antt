@@ -1,8 +1,8 @@
 -- The handles of the live blocks, one after another.
 use Rattle.std.proofs.Common.{◌≡◌, ◌∙◌, ◌≤◌, ◌⊎◌, refl, sym, ap, ℕ, zero, suc, ◌+◌, List, [], ◌∷◌, ◌++◌, length, drop, Option, Some, None, inl, inr, ⊎_elim, arith}
 use Rattle.gpu_core.specs.TypeState.{Slot, slot_at, block_number}
-use Rattle.gpu_memory_types.specs.Blocks.{Slots, slots_at, block_at}
-use Rattle.gpu_memory_types.proofs.Options.{none_some, some_same}
+use Rattle.gpu_core.specs.Blocks.{Slots, slots_at, block_at}
+use Rattle.gpu_core.proofs.Options.{none_some, some_same}
 use Rattle.gpu_pool.specs.Handles.{handles_in, all_handles, handles_from}
 
 later : (i : ℕ) → suc i + 1 ≡ suc (i + 1)

@@ -15,10 +15,10 @@ use Rattle.gpu_core.specs.TypeState.{Slot, slot_at}
 use Rattle.gpu_core.specs.declared.piece.Piece.{Piece}
 use Rattle.gpu_core.proofs.Slotted.{set_only}
 use Rattle.gpu_values.specs.Refusal.{Refusal}
-use Rattle.gpu_memory_types.specs.Blocks.{Slots, slots_at}
-use Rattle.gpu_memory_types.specs.Rename.{IsRenamed}
-use Rattle.gpu_memory_types.proofs.Placed.{some_below}
-use Rattle.gpu_memory_types.proofs.Types.{slots_after}
+use Rattle.gpu_core.specs.Blocks.{Slots, slots_at}
+use Rattle.gpu_core.specs.Rename.{IsRenamed}
+use Rattle.gpu_core.proofs.Placed.{some_below}
+use Rattle.gpu_core.proofs.Types.{slots_after}
 use Rattle.gpu_pool.specs.Allocate.{Environment, NothingMet, NoHostMemory, Answered}
 use Rattle.gpu_pool.specs.Live.{IsLive, StayLive}
 use Rattle.gpu_pool.specs.Rename.{RenamesBy, Renames}

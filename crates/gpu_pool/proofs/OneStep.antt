@@ -6,9 +6,9 @@ use Rattle.gpu_core.specs.TypeState.{TypeState, slot_at, capacity_of}
 use Rattle.gpu_core.specs.TypeTake.{Installs}
 use Rattle.gpu_core.specs.declared.piece.Piece.{Piece}
 use Rattle.gpu_core.proofs.OneOutcome.{prepared_once, needed_once, serves_or_needs, installed_once, released_once, refusal_once, renamed_once, name_refusal_once}
-use Rattle.gpu_memory_types.specs.Blocks.{slots_at, total_capacity}
-use Rattle.gpu_memory_types.specs.Budgets.{SetsBudget, budget_at, block_refusal}
-use Rattle.gpu_memory_types.proofs.Options.{some_same}
+use Rattle.gpu_core.specs.Blocks.{slots_at, total_capacity}
+use Rattle.gpu_core.specs.Budgets.{SetsBudget, budget_at, block_refusal}
+use Rattle.gpu_core.proofs.Options.{some_same}
 use Rattle.gpu_pool.specs.Allocate.{RequestAt, Environment, NothingMet, NoHostMemory, Answered, type_asked, with_slots, NeedsNewBlock, Serves}
 use Rattle.gpu_pool.specs.Free.{GivesBackAny, Frees}
 use Rattle.gpu_pool.specs.Rename.{RenamesBy}

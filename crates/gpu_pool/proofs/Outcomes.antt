@@ -5,8 +5,8 @@ use Rattle.gpu_values.specs.Sizes.{Sizes}
 use Rattle.gpu_values.specs.declared.error.AllocationError.{AllocationError}
 use Rattle.gpu_core.specs.declared.piece.Piece.{Piece}
 use Rattle.gpu_core.specs.declared.piece.Request.{Request}
-use Rattle.gpu_memory_types.specs.Budgets.{budgets}
-use Rattle.gpu_memory_types.specs.Types.{Types, slots_of, kinds, MemoryTypesInvariant}
+use Rattle.gpu_core.specs.Budgets.{budgets}
+use Rattle.gpu_core.specs.Types.{Types, slots_of, kinds, MemoryTypesInvariant}
 use Rattle.gpu_pool.specs.Allocate.{request_at, Allocates, AsksOf}
 use Rattle.gpu_pool.specs.Held.{HoldsJustBlocks}
 use Rattle.gpu_pool.specs.Source.{result_of}

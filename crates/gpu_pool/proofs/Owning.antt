@@ -6,11 +6,11 @@ use Rattle.gpu_values.specs.declared.error.AllocationError.{AllocationError}
 use Rattle.gpu_core.specs.Slots.{AreSound}
 use Rattle.gpu_core.specs.TypeState.{Slot}
 use Rattle.gpu_core.specs.declared.piece.Piece.{Piece}
-use Rattle.gpu_memory_types.specs.Blocks.{Slots, slots_at}
-use Rattle.gpu_memory_types.specs.Types.{Types, slots_of, type_of, kinds, MemoryTypesInvariant}
-use Rattle.gpu_memory_types.proofs.Aligned.{takes_aligned}
-use Rattle.gpu_memory_types.proofs.StayLive.{IsNewPiece, served_keeps, installed_keeps}
-use Rattle.gpu_memory_types.proofs.Types.{type_sound}
+use Rattle.gpu_core.specs.Blocks.{Slots, slots_at}
+use Rattle.gpu_core.specs.Types.{Types, slots_of, type_of, kinds, MemoryTypesInvariant}
+use Rattle.gpu_core.proofs.Aligned.{takes_aligned}
+use Rattle.gpu_core.proofs.StayLive.{IsNewPiece, served_keeps, installed_keeps}
+use Rattle.gpu_core.proofs.Types.{type_sound}
 use Rattle.gpu_pool.specs.Allocate.{RequestAt, Environment, NothingMet, NoHostMemory, Answered, Serves, Allocates}
 use Rattle.gpu_pool.specs.Live.{IsLive, StayLive, IsNewlyLive}
 use Rattle.gpu_pool.specs.Source.{result_of}

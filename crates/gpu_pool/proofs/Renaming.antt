@@ -6,9 +6,9 @@ use Rattle.gpu_core.specs.TypeState.{Slot, slot_at}
 use Rattle.gpu_core.specs.declared.piece.Piece.{Piece}
 use Rattle.gpu_core.proofs.Slotted.{set_only}
 use Rattle.gpu_values.specs.declared.error.AllocationError.{AllocationError}
-use Rattle.gpu_memory_types.specs.Blocks.{Slots, slots_at}
-use Rattle.gpu_memory_types.specs.Rename.{IsRenamed}
-use Rattle.gpu_memory_types.proofs.Placed.{only_block, some_below}
+use Rattle.gpu_core.specs.Blocks.{Slots, slots_at}
+use Rattle.gpu_core.specs.Rename.{IsRenamed}
+use Rattle.gpu_core.proofs.Placed.{only_block, some_below}
 use Rattle.gpu_pool.specs.Held.{HoldsJustBlocks}
 use Rattle.gpu_pool.specs.Allocate.{NothingMet, NoHostMemory, Answered}
 use Rattle.gpu_pool.specs.Rename.{RenamesBy, Renames}

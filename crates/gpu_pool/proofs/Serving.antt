@@ -5,9 +5,9 @@ use Rattle.gpu_values.specs.Refusal.{Refusal}
 use Rattle.gpu_core.specs.TypeState.{Slot}
 use Rattle.gpu_core.specs.TypeTake.{fresh_block}
 use Rattle.gpu_core.specs.declared.piece.Piece.{Piece}
-use Rattle.gpu_memory_types.specs.Blocks.{slots_at}
-use Rattle.gpu_memory_types.proofs.Sizes.{takes_size}
-use Rattle.gpu_memory_types.proofs.Placed.{only_block, installs_only, prepares_only}
+use Rattle.gpu_core.specs.Blocks.{slots_at}
+use Rattle.gpu_core.proofs.Sizes.{takes_size}
+use Rattle.gpu_core.proofs.Placed.{only_block, installs_only, prepares_only}
 use Rattle.gpu_pool.specs.Allocate.{RequestAt, Environment, NothingMet, NoHostMemory, Answered, NeedsNewBlock, AsksOf, Serves}
 use Rattle.gpu_pool.specs.Held.{held_as, HoldsJustBlocks}
 use Rattle.gpu_pool.specs.Source.{Adds}

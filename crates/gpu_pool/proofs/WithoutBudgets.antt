@@ -4,8 +4,8 @@ use Rattle.gpu_values.specs.Refusal.{Refusal}
 use Rattle.gpu_core.specs.TypeState.{TypeState, capacity_of}
 use Rattle.gpu_core.specs.TypeTake.{has_dedicated_block, NeedsBlock}
 use Rattle.gpu_core.specs.declared.piece.Piece.{Piece}
-use Rattle.gpu_memory_types.specs.Blocks.{slots_at, total_capacity}
-use Rattle.gpu_memory_types.specs.Budgets.{budget_at, block_refusal}
+use Rattle.gpu_core.specs.Blocks.{slots_at, total_capacity}
+use Rattle.gpu_core.specs.Budgets.{budget_at, block_refusal}
 use Rattle.gpu_pool.specs.Allocate.{RequestAt, Environment, NothingMet, NoHostMemory, Answered, type_asked, NeedsNewBlock, Serves}
 use Rattle.gpu_pool.specs.Free.{Frees}
 use Rattle.gpu_pool.specs.Rename.{RenamesBy}

@@ -7,8 +7,8 @@ use Rattle.gpu_core.specs.TypeState.{TypeState, Slot, capacity_of}
 use Rattle.gpu_core.specs.TypeTake.{asked, Pending, has_dedicated_block, PreparesPiece, NeedsBlock, Installs}
 use Rattle.gpu_core.specs.declared.piece.Piece.{Piece}
 use Rattle.gpu_core.specs.declared.piece.Request as type_requests
-use Rattle.gpu_memory_types.specs.Blocks.{slots_at, total_capacity}
-use Rattle.gpu_memory_types.specs.Budgets.{budget_at, block_refusal}
+use Rattle.gpu_core.specs.Blocks.{slots_at, total_capacity}
+use Rattle.gpu_core.specs.Budgets.{budget_at, block_refusal}
 use Rattle.gpu_pool.specs.Source.{HoldsAfter}
 use Rattle.gpu_pool.specs.State.{State, kind_at}
 use Rattle.gpu_pool.specs.declared.source.BlockSource.{Ghosts}

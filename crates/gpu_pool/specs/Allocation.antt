@@ -3,8 +3,8 @@ use Rattle.std.specs.Prelude.{◌≡◌, ℕ, Bool, List, string_bytes, Result, 
 use Rattle.gpu_values.specs.Refusal.{Refusal, refusal_of}
 use Rattle.gpu_values.specs.declared.error.AllocationError.{AllocationError}
 use Rattle.gpu_core.specs.declared.piece.Piece.{Piece}
-use Rattle.gpu_memory_types.specs.Apart as pieces
-use Rattle.gpu_memory_types.specs.Blocks.{Slots}
+use Rattle.gpu_core.specs.Apart as pieces
+use Rattle.gpu_core.specs.Blocks.{Slots}
 use Rattle.gpu_pool.specs.Allocate as pools
 use Rattle.gpu_pool.specs.Live as live
 use Rattle.gpu_pool.specs.Rename as renaming

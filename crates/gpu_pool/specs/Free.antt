@@ -2,7 +2,7 @@
 use Rattle.std.specs.Prelude.{◌≡◌, ℕ, Bool, List, [], ◌∷◌, Option, Some, None, Result, Ok, Err}
 use Rattle.gpu_values.specs.Refusal.{Refusal}
 use Rattle.gpu_core.specs.declared.piece.Piece.{Piece}
-use Rattle.gpu_memory_types.specs.Release.{ReleasesAt, IsReleaseRefusal}
+use Rattle.gpu_core.specs.Release.{ReleasesAt, IsReleaseRefusal}
 use Rattle.gpu_pool.specs.Live.{IsLive}
 use Rattle.gpu_pool.specs.Source.{Removes}
 use Rattle.gpu_pool.specs.State.{State}

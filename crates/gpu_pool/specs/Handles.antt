@@ -1,7 +1,7 @@
 -- The handles of the live blocks.
 use Rattle.std.specs.Prelude.{ℕ, ◌+◌, List, [], ◌∷◌, ◌++◌, drop, Option, Some, None}
 use Rattle.gpu_core.specs.TypeState.{Slot}
-use Rattle.gpu_memory_types.specs.Blocks.{Slots, slots_at}
+use Rattle.gpu_core.specs.Blocks.{Slots, slots_at}
 
 -- of the blocks in these slots, in order
 abbrev pub handles_in : {H : Type 0} → List (Option (Slot H)) → List H

@@ -2,8 +2,8 @@
 use Rattle.std.specs.Prelude.{◌≡◌, ℕ, List, [], ◌∷◌, Some, None, IsSome}
 use Rattle.gpu_block.specs.Block.{size_of}
 use Rattle.gpu_core.specs.TypeState.{Slot}
-use Rattle.gpu_memory_types.specs.Blocks.{Slots, block_at}
-use Rattle.gpu_memory_types.specs.Held.{IsNoBlock}
+use Rattle.gpu_core.specs.Blocks.{Slots, block_at}
+use Rattle.gpu_core.specs.Held.{IsNoBlock}
 use Rattle.gpu_pool.specs.Source.{HeldBlock, HeldBlocks, Removes}
 
 -- what a source holds of a block of the t-th memory type

@@ -1,9 +1,9 @@
 -- Which pieces of a pool are live.
 use Rattle.std.specs.Prelude.{◌⊎◌, ◌+◌, ◌≤◌, ℕ, Bool, Some}
 use Rattle.gpu_core.specs.declared.piece.Piece.{Piece}
-use Rattle.gpu_memory_types.specs.Apart.{AreDistinct}
-use Rattle.gpu_memory_types.specs.Blocks.{Slots}
-use Rattle.gpu_memory_types.specs.Live.{IsLiveIn}
+use Rattle.gpu_core.specs.Apart.{AreDistinct}
+use Rattle.gpu_core.specs.Blocks.{Slots}
+use Rattle.gpu_core.specs.Live.{IsLiveIn}
 
 module _ {H : Type 0} (eq : H → H → Bool) where
   -- the piece is live in the t-th memory type; handles are compared as their type compares them

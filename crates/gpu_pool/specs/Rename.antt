@@ -4,8 +4,8 @@ use Rattle.gpu_values.specs.Refusal.{Refusal, host_out_of_memory}
 use Rattle.gpu_core.specs.TypeRelease.{IsNameRefusal}
 use Rattle.gpu_core.specs.TypeState.{slot_at}
 use Rattle.gpu_core.specs.declared.piece.Piece.{Piece}
-use Rattle.gpu_memory_types.specs.Blocks.{Slots, slots_at}
-use Rattle.gpu_memory_types.specs.Rename.{IsRenamed}
+use Rattle.gpu_core.specs.Blocks.{Slots, slots_at}
+use Rattle.gpu_core.specs.Rename.{IsRenamed}
 use Rattle.gpu_pool.specs.Allocate.{Environment, NothingMet, NoHostMemory, Answered}
 use Rattle.gpu_pool.specs.Live.{IsLive}
 use Rattle.gpu_pool.specs.State.{State}

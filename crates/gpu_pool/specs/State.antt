@@ -3,8 +3,8 @@ use Rattle.std.specs.Prelude.{ℕ, Bool, false, [], List}
 use Rattle.std.specs.List.{slice_index_or}
 use Rattle.gpu_values.specs.Sizes.{Sizes}
 use Rattle.gpu_core.specs.Slots.{AreSound}
-use Rattle.gpu_memory_types.specs.Blocks.{Slots, slots_at}
-use Rattle.gpu_memory_types.specs.Budgets.{Budgets}
+use Rattle.gpu_core.specs.Blocks.{Slots, slots_at}
+use Rattle.gpu_core.specs.Budgets.{Budgets}
 
 -- the source of blocks, how large shared blocks are, the live blocks by memory type and slot, and the budgets of memory types
 pub record State (S H : Type 0) : Type 0 where

@@ -4,10 +4,10 @@ use Rattle.gpu_block_pieces.specs.Leak.{leak_text}
 use Rattle.gpu_values.specs.Refusal.{Refusal, host_out_of_memory}
 use Rattle.gpu_values.specs.Report as reports
 use Rattle.gpu_core.specs.declared.piece.Piece.{Piece}
-use Rattle.gpu_memory_types.specs.Blocks.{total_capacity}
-use Rattle.gpu_memory_types.specs.Budgets.{Budgets, budget_at, SetsBudget}
-use Rattle.gpu_memory_types.specs.Leaks.{all_leaks}
-use Rattle.gpu_memory_types.specs.Reports.{whole_report}
+use Rattle.gpu_core.specs.Blocks.{total_capacity}
+use Rattle.gpu_core.specs.Budgets.{Budgets, budget_at, SetsBudget}
+use Rattle.gpu_core.specs.Leaks.{all_leaks}
+use Rattle.gpu_core.specs.Reports.{whole_report}
 use Rattle.gpu_pool.specs.Allocate.{RequestAt, Environment, NothingMet, NoHostMemory, Answered, Serves}
 use Rattle.gpu_pool.specs.Free.{Frees}
 use Rattle.gpu_pool.specs.Handles.{all_handles}

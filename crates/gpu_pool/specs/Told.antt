@@ -7,10 +7,10 @@ use Rattle.gpu_values.specs.declared.error.AllocationError.{AllocationError}
 use Rattle.gpu_values.specs.declared.error.AllocationError.TheVariants.{HostOutOfMemory}
 use Rattle.gpu_values.specs.declared.report.AllocatorReport.{AllocatorReport}
 use Rattle.gpu_block_pieces.specs.Leak.{leak_text}
-use Rattle.gpu_memory_types.specs.Blocks.{Slots, total_capacity}
-use Rattle.gpu_memory_types.specs.Budgets.{Budgets, SetsBudget}
-use Rattle.gpu_memory_types.specs.Leaks.{all_leaks}
-use Rattle.gpu_memory_types.specs.Reports.{whole_report}
+use Rattle.gpu_core.specs.Blocks.{Slots, total_capacity}
+use Rattle.gpu_core.specs.Budgets.{Budgets, SetsBudget}
+use Rattle.gpu_core.specs.Leaks.{all_leaks}
+use Rattle.gpu_core.specs.Reports.{whole_report}
 
 -- the report of these blocks, or a host without memory for it
 pub record Reports {H : Type 0} (slots : Slots H) (result : Result AllocatorReport AllocationError) : Type 0 where

@@ -2,9 +2,9 @@
 
 ghost use Rattle.std.specs.Prelude.{◌≡◌, ℕ, None, IfOk, IfErr, OnOk, OnErr, Option};
 ghost use Rattle.gpu_values.specs.Refusal.{refusal_of};
-ghost use Rattle.gpu_memory_types.specs.Budgets.{budgets};
-ghost use Rattle.gpu_memory_types.specs.Release.{ReleasesAt, IsReleaseRefusal};
-ghost use Rattle.gpu_memory_types.specs.Types.{slots_of, kinds, MemoryTypesInvariant};
+ghost use Rattle.gpu_core.specs.Budgets.{budgets};
+ghost use Rattle.gpu_core.specs.Release.{ReleasesAt, IsReleaseRefusal};
+ghost use Rattle.gpu_core.specs.Types.{slots_of, kinds, MemoryTypesInvariant};
 ghost use Rattle.gpu_pool.specs.Free.{GivesBackAny, GivesBackAll, GivesBackOf};
 ghost use Rattle.gpu_pool.specs.Handles.{all_handles};
 ghost use Rattle.gpu_pool.specs.Held.{HoldsJustBlocks};
@@ -12,8 +12,7 @@ ghost use Rattle.gpu_pool.specs.Live.{IsLive};
 
 use crate::BlockSource;
 use crate::handles::all_handles;
-use gpu_core::Piece;
-use gpu_memory_types::MemoryTypes;
+use gpu_core::{MemoryTypes, Piece};
 use gpu_values::Result;
 
 /// Frees a piece of the memory type at `index`, and gives its block back where that goes. It takes no memory.

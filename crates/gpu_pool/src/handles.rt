@@ -2,11 +2,11 @@
 
 ghost use Rattle.std.specs.Prelude.{◌≡◌, ◌<◌, [], ◌∷◌, drop, MatchOption};
 ghost use Rattle.std.specs.Iterator.{YieldsFirst, item_count};
-ghost use Rattle.gpu_memory_types.specs.Blocks.{slots_at};
-ghost use Rattle.gpu_memory_types.specs.Types.{slots_of};
+ghost use Rattle.gpu_core.specs.Blocks.{slots_at};
+ghost use Rattle.gpu_core.specs.Types.{slots_of};
 ghost use Rattle.gpu_pool.specs.Handles.{handles_in, all_handles, handles_from};
 
-use gpu_memory_types::MemoryTypes;
+use gpu_core::MemoryTypes;
 use std::marker::Model;
 
 /// The handles of the live blocks by memory type, then by slot. It takes no memory.
@@ -21,7 +21,7 @@ pub struct Handles<'a, H: Copy + Eq> {
 
 impl<'a, H: Copy + Eq> Model for Handles<'a, H> {
     ghost use Rattle.std.specs.Prelude.{List};
-    ghost use Rattle.gpu_memory_types.specs.Types.{slots_of};
+    ghost use Rattle.gpu_core.specs.Types.{slots_of};
     ghost use Rattle.gpu_pool.specs.Handles.{handles_from};
 
     ghost Value = { List H };

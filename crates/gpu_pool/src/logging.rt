@@ -1,7 +1,7 @@
 //! Log lines of the allocators. They change no result and no state, whatever log they are sent to. A record's target is the
 //! log's own, where it has one, and else the module that is named.
 
-use gpu_memory_types::MemoryTypes;
+use gpu_core::MemoryTypes;
 use gpu_values::AllocatorDebugSettings;
 use log::{Level, Log, debug, log, target_or};
 

@@ -7,12 +7,12 @@ ghost use Rattle.gpu_values.specs.Report.{report_of};
 ghost use Rattle.gpu_values.specs.declared.error.AllocationError.TheVariants.{HostOutOfMemory};
 ghost use Rattle.gpu_block_pieces.specs.Leak.{leak_text};
 ghost use Rattle.gpu_core.specs.declared.piece.Piece.{Piece};
-ghost use Rattle.gpu_memory_types.specs.Apart.{IsInside, AreDistinct, KeepsPages};
-ghost use Rattle.gpu_memory_types.specs.Blocks.{total_capacity};
-ghost use Rattle.gpu_memory_types.specs.Budgets.{budget_at, budgets, SetsBudget};
-ghost use Rattle.gpu_memory_types.specs.Leaks.{all_leaks};
-ghost use Rattle.gpu_memory_types.specs.Reports.{whole_report};
-ghost use Rattle.gpu_memory_types.specs.Types.{slots_of, kinds};
+ghost use Rattle.gpu_core.specs.Apart.{IsInside, AreDistinct, KeepsPages};
+ghost use Rattle.gpu_core.specs.Blocks.{total_capacity};
+ghost use Rattle.gpu_core.specs.Budgets.{budget_at, budgets, SetsBudget};
+ghost use Rattle.gpu_core.specs.Leaks.{all_leaks};
+ghost use Rattle.gpu_core.specs.Reports.{whole_report};
+ghost use Rattle.gpu_core.specs.Types.{slots_of, kinds};
 ghost use Rattle.gpu_pool.specs.Allocate.{request_at, Allocates};
 ghost use Rattle.gpu_pool.specs.Free.{Frees, GivesBackAll};
 ghost use Rattle.gpu_pool.specs.Handles.{all_handles};
@@ -25,8 +25,7 @@ ghost use Rattle.gpu_pool.specs.State.{State, kind_at, IsSoundAt};
 use crate::BlockSource;
 use crate::free::{free_piece, give_back_all};
 use crate::handles::{Handles, all_handles};
-use gpu_core::{Piece, Prepared, Request};
-use gpu_memory_types::{AllLeaks, MemoryTypes};
+use gpu_core::{AllLeaks, MemoryTypes, Piece, Prepared, Request};
 use gpu_values::{AllocationSizes, AllocationType, AllocatorReport, Result};
 use std::alloc::Global;
 use std::marker::Model;
@@ -41,8 +40,8 @@ pub struct Pool<S: BlockSource> {
 
 impl<S: BlockSource> Model for Pool<S> {
     ghost use Rattle.std.specs.Prelude.{◌≡◌};
-    ghost use Rattle.gpu_memory_types.specs.Budgets.{budgets};
-    ghost use Rattle.gpu_memory_types.specs.Types.{slots_of, kinds, MemoryTypesInvariant};
+    ghost use Rattle.gpu_core.specs.Budgets.{budgets};
+    ghost use Rattle.gpu_core.specs.Types.{slots_of, kinds, MemoryTypesInvariant};
     ghost use Rattle.gpu_pool.specs.Held.{HoldsJustBlocks};
     ghost use Rattle.gpu_pool.specs.State.{State};
 

@@ -6,7 +6,7 @@ use Rattle.gpu_device.specs.Metal.{Properties}
 use Rattle.gpu_device.specs.MetalHistory.{refused_in}
 use Rattle.gpu_device.specs.declared.metal.device.MetalDevice.{Ghosts}
 use Rattle.gpu_device.specs.declared.metal.types.MTLHeap.{MTLHeap}
-use Rattle.gpu_memory_types.specs.Blocks.{BlocksWellFormed}
+use Rattle.gpu_core.specs.Blocks.{BlocksWellFormed}
 use Rattle.gpu_pool.specs.Allocate.{NothingMet}
 use Rattle.gpu_pool.specs.Reply as answers
 use Rattle.gpu_pool.specs.Allocation.{AreDistinct}

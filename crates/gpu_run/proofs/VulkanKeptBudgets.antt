@@ -5,7 +5,7 @@ use Rattle.gpu_vulkan.specs.Reply as answers
 use Rattle.gpu_vulkan.specs.Step as model
 use Rattle.gpu_vulkan.specs.Step.{CallEnvironment}
 use Rattle.gpu_vulkan.specs.EqualButBytes.{EqualButBytesCall}
-use Rattle.gpu_memory_types.specs.Blocks.{BlocksWellFormed}
+use Rattle.gpu_core.specs.Blocks.{BlocksWellFormed}
 use Rattle.gpu_vulkan.specs.Setup.{Setup}
 use Rattle.gpu_vulkan.specs.declared.allocation.Allocation.{Allocation}
 use Rattle.gpu_vulkan.proofs.KeptBudgets.{keeps_budgets}

@@ -5,7 +5,7 @@ use Rattle.gpu_values.specs.Refusal.{host_out_of_memory}
 use Rattle.gpu_device.specs.Granted.{counted}
 use Rattle.gpu_device.specs.Held.{raised}
 use Rattle.gpu_device.specs.declared.d3d12.types.ID3D12Heap.{ID3D12Heap}
-use Rattle.gpu_memory_types.specs.Blocks.{BlocksWellFormed}
+use Rattle.gpu_core.specs.Blocks.{BlocksWellFormed}
 use Rattle.gpu_pool.specs.Allocate as environments
 use Rattle.gpu_pool.specs.Allocate.{NothingMet, NoHostMemory, Answered}
 use Rattle.gpu_pool.specs.Reply as answers

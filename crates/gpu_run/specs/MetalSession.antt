@@ -4,7 +4,7 @@ use Rattle.gpu_values.specs.Refusal.{Refusal, host_out_of_memory}
 use Rattle.gpu_device.specs.Held.{raised}
 use Rattle.gpu_device.specs.Metal.{Properties}
 use Rattle.gpu_device.specs.declared.metal.types.MTLHeap.{MTLHeap}
-use Rattle.gpu_memory_types.specs.Blocks.{BlocksWellFormed}
+use Rattle.gpu_core.specs.Blocks.{BlocksWellFormed}
 use Rattle.gpu_pool.specs.Allocate.{Environment, NothingMet, NoHostMemory, Answered}
 use Rattle.gpu_pool.specs.Reply as answers
 use Rattle.gpu_pool.specs.Allocation.{AreDistinct, IsAllocated}

@@ -15,7 +15,9 @@ mod stage;
 
 pub use any::{AnyReply, AnyTrace, replay_trace, run_trace};
 pub use configuration::Configuration;
-pub use gpu_block_session::{BlockStage, Outcome, Replayed, Trace, TraceError, replay_from, run_from};
+pub use gpu_block_session::{
+    BlockStage, Outcome, Replayed, Trace, TraceError, replay_from, run_from,
+};
 pub use line::{Line, read};
 pub use reply::Reply;
 pub use stage::Stage;

@@ -4,11 +4,11 @@ ghost use Rattle.std.specs.Prelude.{◌∷◌, IfOk};
 ghost use Rattle.gpu_trace_text.specs.Line.{Means, Reads, ReadsAlone};
 ghost use Rattle.gpu_block_session.specs.Words.{texts, words_of};
 
+use crate::device;
 use crate::device::setting::{Setting, setting_of};
+use gpu_block_session::block::Command;
 use gpu_block_session::words::words;
 use gpu_block_session::{ascii, text};
-use crate::device;
-use gpu_block_session::block::Command;
 use gpu_run::vulkan::Command as Ask;
 use std::alloc::{AllocError, Global};
 

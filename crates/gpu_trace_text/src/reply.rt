@@ -1,8 +1,8 @@
 //! What is answered to a line of a trace.
 
-use gpu_block_session::text::reply::write_reply;
 use crate::device::reply as device;
 use gpu_block_session::block;
+use gpu_block_session::text::reply::write_reply;
 use std::fmt;
 
 /// The answer to a line of a trace.

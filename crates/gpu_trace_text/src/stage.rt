@@ -6,14 +6,13 @@ ghost use Rattle.gpu_run.specs.VulkanServed.{command_of};
 ghost use Rattle.gpu_trace_text.specs.Stage.{IsSound, Begins, Does, MatchServed, Ended, FitsLine};
 ghost use Rattle.gpu_block_session.specs.declared.block_stage.BlockStage.TheVariants as block_stages;
 
-use gpu_block_session::BlockStage;
 use crate::configuration::Configuration;
 use crate::device::reply as device;
 use crate::device::setting::Setting;
 use crate::{Line, Outcome, Reply};
-use gpu_device::vulkan::PhysicalDevice;
 use gpu_block_session::block::Command;
-use gpu_block_session::number_of;
+use gpu_block_session::{BlockStage, number_of};
+use gpu_device::vulkan::PhysicalDevice;
 use gpu_run::vulkan::{Command as Ask, Session};
 use gpu_sim::SimVulkan;
 use gpu_values::AllocatorDebugSettings;

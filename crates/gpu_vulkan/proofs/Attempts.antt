@@ -8,8 +8,8 @@ use Rattle.gpu_core.specs.declared.piece.Request.{Request}
 use Rattle.gpu_device.specs.declared.vulkan.device.VulkanDevice.{Ghosts}
 use Rattle.gpu_device.specs.declared.vulkan.types.AllocationScheme.{AllocationScheme}
 use Rattle.gpu_device.specs.declared.vulkan.types.DeviceMemory.{DeviceMemory}
-use Rattle.gpu_memory_types.specs.Budgets.{Budgets}
-use Rattle.gpu_memory_types.proofs.Options.{none_some}
+use Rattle.gpu_core.specs.Budgets.{Budgets}
+use Rattle.gpu_core.proofs.Options.{none_some}
 use Rattle.gpu_vulkan.specs.Describe.{requests_dedicated, request_of}
 use Rattle.gpu_vulkan.specs.Setup.{Setup}
 use Rattle.gpu_vulkan.specs.Types.{heap_size, is_mapped, kinds_of_device}

@@ -8,12 +8,12 @@ use Rattle.gpu_core.specs.TypeState.{Slot}
 use Rattle.gpu_device.specs.Held.{Held, bytes_of}
 use Rattle.gpu_device.specs.declared.vulkan.types.DeviceMemory.{DeviceMemory}
 use Rattle.gpu_vulkan.specs.Blocks.{Slots}
-use Rattle.gpu_memory_types.specs.Blocks.{block_at}
+use Rattle.gpu_core.specs.Blocks.{block_at}
 use Rattle.gpu_vulkan.specs.ByteView.{AllocationId, is_same_id, ByteView, byte_view_of, list_in, rest_in, piece_bytes, piece_of_number, byte_at, lies_in, IsOutOf, SplitsRest, JoinsRest, AddsBlock}
 use Rattle.gpu_vulkan.specs.ByteView.{DropsBlock}
 use Rattle.gpu_vulkan.proofs.Joins.{OneMore}
 use Rattle.gpu_vulkan.proofs.Parts.{HasRoom, in_range, left_of, left_with, taken_list, no_piece, other_pieces, put_back}
-use Rattle.gpu_memory_types.proofs.Placed.{OnlyBlock, same_place}
+use Rattle.gpu_core.proofs.Placed.{OnlyBlock, same_place}
 
 abbrev pub place : (t i n : ℕ) → AllocationId
 place t i n = record { memory_type = t; slot = i; chunk_id = n }

@@ -11,7 +11,7 @@ use Rattle.gpu_device.specs.declared.vulkan.device.VulkanDevice.{Ghosts}
 use Rattle.gpu_device.specs.declared.vulkan.types.DeviceMemory.{DeviceMemory}
 use Rattle.gpu_device.specs.declared.vulkan.types.MemoryAllocateInfo.{MemoryAllocateInfo}
 use Rattle.gpu_device.proofs.Maps.{get-insert_same, get-insert_other, get-remove_same, get-remove_other, held_alike}
-use Rattle.gpu_memory_types.proofs.Options.{none_some, some_same}
+use Rattle.gpu_core.proofs.Options.{none_some, some_same}
 use Rattle.gpu_pool.specs.Source.{HeldBlock, Adds, Removes, HoldsAfter}
 use Rattle.gpu_vulkan.specs.Source.{IsResult}
 use Rattle.gpu_vulkan.specs.BlockAnswer.{BlockAnswer, Declined, Granted, Mapped, NotMapped, Asks, IsResultOf}

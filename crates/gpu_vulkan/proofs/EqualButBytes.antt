@@ -9,7 +9,7 @@ use Rattle.gpu_core.proofs.OneOutcome.{released_once}
 use Rattle.gpu_device.specs.declared.vulkan.event.Event.{Event}
 use Rattle.gpu_device.specs.declared.vulkan.types.DeviceMemory.{DeviceMemory}
 use Rattle.gpu_device.specs.declared.vulkan.types.MemoryAllocateInfo.{MemoryAllocateInfo}
-use Rattle.gpu_memory_types.specs.Budgets.{Budgets, budget_at}
+use Rattle.gpu_core.specs.Budgets.{Budgets, budget_at}
 use Rattle.gpu_vulkan.proofs.KeptBudgets.{keeps_budgets}
 use Rattle.gpu_vulkan.proofs.OneStep.{allocates_once, mid_sound, SameBlocks, unchanged, free_alike, rename_alike, rename_rest, set_alike}
 use Rattle.gpu_pool.specs.Step.{Makes}
@@ -17,7 +17,7 @@ use Rattle.gpu_pool.proofs.OneStep.{makes_once}
 use Rattle.gpu_vulkan.specs.Allocate.{Attempts, IsTooLarge, IsWithinHeap, is_valid, is_for_upload, is_short}
 use Rattle.gpu_vulkan.specs.EqualButBytes.{EqualButBytesAnswer, EqualButBytesAsked, EqualButBytesAttemptEnvironment, EqualButBytesCallEnvironment, EqualButBytesDescription, EqualButBytesCall}
 use Rattle.gpu_vulkan.specs.EqualButBytes.{EqualButBytesReply}
-use Rattle.gpu_memory_types.proofs.Options.{none_some, some_same}
+use Rattle.gpu_core.proofs.Options.{none_some, some_same}
 use Rattle.gpu_device.specs.declared.vulkan.types.AllocationScheme.{AllocationScheme}
 use Rattle.gpu_pool.specs.Allocate.{RequestAt, Environment, NothingMet, NoHostMemory, Answered, Serves}
 use Rattle.gpu_vulkan.specs.Source.{IsResult}
@@ -26,12 +26,12 @@ use Rattle.gpu_vulkan.specs.Attempt.{AttemptEnvironment, Asked, Answer, IsMet, r
 use Rattle.gpu_vulkan.specs.BlockAnswer.{BlockAnswer, Declined, Granted, Mapped, NotMapped, answer_number, answer_refusal, question_recorded}
 use Rattle.gpu_vulkan.specs.Types.{is_mapped, kinds_of_device}
 use Rattle.gpu_vulkan.specs.Blocks.{Slots}
-use Rattle.gpu_memory_types.specs.Blocks.{slots_at, total_capacity, BlocksWellFormed}
+use Rattle.gpu_core.specs.Blocks.{slots_at, total_capacity, BlocksWellFormed}
 use Rattle.gpu_vulkan.specs.Choice.{first_type, required, best_type}
 use Rattle.gpu_vulkan.specs.Describe.{requests_dedicated, kind_of, request_of}
 use Rattle.gpu_vulkan.specs.Live.{piece_of, IsMapped}
-use Rattle.gpu_memory_types.specs.Leaks.{all_leaks}
-use Rattle.gpu_memory_types.specs.Reports.{whole_report}
+use Rattle.gpu_core.specs.Leaks.{all_leaks}
+use Rattle.gpu_core.specs.Reports.{whole_report}
 use Rattle.gpu_vulkan.specs.Setup.{Setup}
 use Rattle.gpu_vulkan.specs.Reply as replies
 use Rattle.gpu_vulkan.specs.Reply.{Reply, Allocated, Error, Done, Bytes, done_with, report_with, leaks_with}

@@ -7,7 +7,7 @@ use Rattle.gpu_vulkan.specs.Step.{next_by}
 use Rattle.gpu_vulkan.specs.Choice.{serves, first_from, first_type, preferred, required, or_else, best_type}
 use Rattle.gpu_vulkan.specs.Setup.{Setup}
 use Rattle.gpu_vulkan.specs.declared.describe.AllocationCreateDesc.{AllocationCreateDesc}
-use Rattle.gpu_memory_types.proofs.Options.{none_some, some_same}
+use Rattle.gpu_core.proofs.Options.{none_some, some_same}
 
 chosen_below : (b : Bool) (index u n : ℕ) (rest : Option ℕ) → (rest ≡ Some u → u < n) → index < n → (if b then Some index else rest) ≡ Some u → u < n
 chosen_below true index u n rest more here is = let same = some_same index u is in omega (arith, here, same)

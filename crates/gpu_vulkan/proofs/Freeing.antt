@@ -18,11 +18,11 @@ use Rattle.gpu_device.specs.Held.{Held, Entry, IsWhole, bytes_of, entry_bytes}
 use Rattle.gpu_device.specs.declared.vulkan.device.VulkanDevice.{Ghosts}
 use Rattle.gpu_device.specs.declared.vulkan.types.DeviceMemory.{DeviceMemory}
 use Rattle.gpu_device.proofs.Maps.{get-remove_other}
-use Rattle.gpu_memory_types.specs.Budgets.{Budgets}
+use Rattle.gpu_core.specs.Budgets.{Budgets}
 use Rattle.gpu_vulkan.specs.Types.{is_mapped}
 use Rattle.gpu_vulkan.specs.Blocks.{Slots, HoldsJustLiveBlocks, IsBlockEntry}
-use Rattle.gpu_memory_types.specs.Blocks.{slots_at, block_at, BlocksWellFormed}
-use Rattle.gpu_memory_types.specs.Held.{HasEntry}
+use Rattle.gpu_core.specs.Blocks.{slots_at, block_at, BlocksWellFormed}
+use Rattle.gpu_core.specs.Held.{HasEntry}
 use Rattle.gpu_vulkan.specs.ByteView.{ByteView, byte_view_of, JoinsRest}
 use Rattle.gpu_vulkan.specs.BlockAnswer.{free_recorded}
 use Rattle.gpu_vulkan.specs.Free.{GivesBack, IsReleased}
@@ -42,10 +42,10 @@ use Rattle.gpu_vulkan.specs.declared.allocation.Allocation.{Allocation}
 use Rattle.gpu_vulkan.proofs.ByteViews.{released_byte_view, dropped_byte_view, with_back, with_back_puts}
 use Rattle.gpu_vulkan.proofs.Joins.{OneMore, one_more_released, found_number}
 use Rattle.gpu_vulkan.proofs.Parts.{HasRoom}
-use Rattle.gpu_memory_types.proofs.Placed.{only_block, some_below}
+use Rattle.gpu_core.proofs.Placed.{only_block, some_below}
 use Rattle.gpu_pool.proofs.Freeing.{type_below}
 use Rattle.gpu_vulkan.proofs.Stepping.{live_room}
-use Rattle.gpu_memory_types.proofs.Options.{none_some, some_same}
+use Rattle.gpu_core.proofs.Options.{none_some, some_same}
 
 -- the piece that goes is the one that is held
 goes_as_held : (a : Block) (n o size : ℕ) (after : Block) → IsSoundBlock a → ReleasesIn a n after → (y : Extent) → Contains (extents_of a) y → y.chunk_id ≡ n → y.offset ≡ o → y.end ≡ o + size

@@ -10,18 +10,18 @@ use Rattle.gpu_core.specs.declared.piece.Piece.{Piece}
 use Rattle.gpu_device.specs.Held.{Held, Entry, HasRange, bytes_of, entry_bytes, IsWhole, IsAsLong, range_of, range_in}
 use Rattle.gpu_device.specs.Properties.{Properties}
 use Rattle.gpu_device.specs.declared.vulkan.types.DeviceMemory.{DeviceMemory}
-use Rattle.gpu_memory_types.specs.Held.{HasEntry}
+use Rattle.gpu_core.specs.Held.{HasEntry}
 use Rattle.gpu_vulkan.specs.Types.{is_mapped}
 use Rattle.gpu_vulkan.specs.Blocks.{Slots, IsBlockEntry, HoldsJustLiveBlocks}
-use Rattle.gpu_memory_types.specs.Blocks.{slots_at, BlocksWellFormed}
+use Rattle.gpu_core.specs.Blocks.{slots_at, BlocksWellFormed}
 use Rattle.gpu_vulkan.specs.Live.{is_same_memory, IsLiveIn}
 use Rattle.gpu_vulkan.specs.Live.{IsLive, IsMapped}
 use Rattle.gpu_vulkan.specs.declared.allocation.Allocation.{Allocation}
 use Rattle.std.specs.declared.num.NonZeroU64.{NonZeroU64}
 use Rattle.std.specs.Prelude.{option_copied}
 use Rattle.gpu_device.proofs.Writes.{range_from}
-use Rattle.gpu_memory_types.proofs.Apart.{extent_inside}
-use Rattle.gpu_memory_types.proofs.Options.{none_some}
+use Rattle.gpu_core.proofs.Apart.{extent_inside}
+use Rattle.gpu_core.proofs.Options.{none_some}
 use Rattle.std.proofs.lemmas.Bool.{eqb-true}
 
 bytes_range : (o : Option (List ℕ)) (offset size n : ℕ) → is_some o ≡ true → IsAsLong n o → offset + size ≤ n → HasRange o offset size

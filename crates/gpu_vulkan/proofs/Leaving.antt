@@ -10,11 +10,11 @@ use Rattle.gpu_device.specs.Held.{Held, Entry}
 use Rattle.gpu_device.specs.Properties.{Properties}
 use Rattle.gpu_device.specs.declared.vulkan.types.DeviceMemory.{DeviceMemory}
 use Rattle.gpu_device.specs.declared.vulkan.types.MemoryTypeInfo.{MemoryTypeInfo}
-use Rattle.gpu_memory_types.specs.Blocks.{block_at, slots_at, BlocksWellFormed}
-use Rattle.gpu_memory_types.specs.Held.{HasEntry}
-use Rattle.gpu_memory_types.specs.Types.{Types, slots_of, kinds}
-use Rattle.gpu_memory_types.proofs.Options.{none_some, some_same}
-use Rattle.gpu_memory_types.proofs.Types.{slots_past}
+use Rattle.gpu_core.specs.Blocks.{block_at, slots_at, BlocksWellFormed}
+use Rattle.gpu_core.specs.Held.{HasEntry}
+use Rattle.gpu_core.specs.Types.{Types, slots_of, kinds}
+use Rattle.gpu_core.proofs.Options.{none_some, some_same}
+use Rattle.gpu_core.proofs.Types.{slots_past}
 use Rattle.gpu_vulkan.specs.Types.{is_host_visible, is_mapped, kinds_of_device}
 use Rattle.gpu_pool.specs.Held.{HoldsJustBlocks, held_as}
 use Rattle.gpu_pool.specs.Source.{HeldBlock}

@@ -16,11 +16,11 @@ use Rattle.gpu_device.specs.Held.{Held, IsWhole, HasRange, bytes_of, range_in, r
 use Rattle.gpu_device.specs.declared.vulkan.device.VulkanDevice.{Ghosts}
 use Rattle.gpu_device.specs.declared.vulkan.types.DeviceMemory.{DeviceMemory}
 use Rattle.gpu_device.proofs.Writes.{bytes_there, bytes_elsewhere, range_elsewhere, reads_below, reads_above, length_of_range}
-use Rattle.gpu_memory_types.specs.Budgets.{budget_at, SetsBudget}
+use Rattle.gpu_core.specs.Budgets.{budget_at, SetsBudget}
 use Rattle.gpu_values.specs.Refusal.{refusal_in}
 use Rattle.gpu_values.specs.declared.error.AllocationError.{AllocationError}
 use Rattle.gpu_vulkan.specs.Blocks.{Slots, HoldsJustLiveBlocks}
-use Rattle.gpu_memory_types.specs.Blocks.{block_at, total_capacity, BlocksWellFormed}
+use Rattle.gpu_core.specs.Blocks.{block_at, total_capacity, BlocksWellFormed}
 use Rattle.gpu_vulkan.specs.ByteView.{is_same_id, byte_view_of, list_in, rest_in, piece_bytes, piece_of_number, covers, is_covered, byte_at, Writes}
 use Rattle.gpu_vulkan.specs.Lends.{number_in, written_at}
 use Rattle.gpu_vulkan.specs.Live.{IsLive, IsMapped, bytes_at}
@@ -36,8 +36,8 @@ use Rattle.gpu_vulkan.specs.declared.allocation.Allocation.{Allocation}
 use Rattle.gpu_vulkan.proofs.ByteViews.{place, other_number}
 use Rattle.gpu_vulkan.proofs.Joins.{number_found, found_number, any_of, all_of}
 use Rattle.gpu_vulkan.proofs.Parts.{part_get}
-use Rattle.gpu_memory_types.proofs.Options.{some_same}
-use Rattle.gpu_memory_types.proofs.Apart.{extents_apart}
+use Rattle.gpu_core.proofs.Options.{some_same}
+use Rattle.gpu_core.proofs.Apart.{extents_apart}
 use Rattle.gpu_vulkan.proofs.Writing.{Stands, stands, allocation_range, own_written}
 
 -- a piece ends behind its offset

@@ -6,8 +6,8 @@ use Rattle.std.specs.declared.num.NonZeroU64.{NonZeroU64}
 use Rattle.gpu_values.specs.declared.allocation_type.AllocationType.{AllocationType}
 use Rattle.gpu_core.specs.declared.piece.Piece.{Piece}
 use Rattle.gpu_device.specs.declared.vulkan.types.DeviceMemory.{DeviceMemory}
-use Rattle.gpu_memory_types.specs.Apart as pieces
-use Rattle.gpu_memory_types.proofs.Options.{none_some, some_same}
+use Rattle.gpu_core.specs.Apart as pieces
+use Rattle.gpu_core.proofs.Options.{none_some, some_same}
 use Rattle.gpu_pool.proofs.Freeing.{type_below}
 use Rattle.gpu_pool.specs.Live as pool
 use Rattle.gpu_pool.specs.Live.{AreBytesApart}

@@ -23,14 +23,14 @@ use Rattle.gpu_device.specs.Held.{Held, bytes_of, range_in}
 use Rattle.gpu_device.specs.declared.vulkan.device.VulkanDevice.{Ghosts}
 use Rattle.gpu_device.specs.declared.vulkan.types.DeviceMemory.{DeviceMemory}
 use Rattle.gpu_vulkan.specs.Blocks.{Slots}
-use Rattle.gpu_memory_types.specs.Blocks.{slots_at, block_at}
+use Rattle.gpu_core.specs.Blocks.{slots_at, block_at}
 use Rattle.gpu_vulkan.specs.ByteView.{byte_view_of, list_in, rest_in, piece_bytes, piece_of_number, is_covered, byte_at}
-use Rattle.gpu_memory_types.specs.Leaks.{all_leaks}
+use Rattle.gpu_core.specs.Leaks.{all_leaks}
 use Rattle.gpu_vulkan.specs.Live.{is_same_memory}
 use Rattle.gpu_vulkan.specs.Live.{piece_of}
-use Rattle.gpu_memory_types.specs.Rename.{IsRenamed}
+use Rattle.gpu_core.specs.Rename.{IsRenamed}
 use Rattle.gpu_vulkan.specs.Rename.{RenamesBy, Renames}
-use Rattle.gpu_memory_types.specs.Reports.{whole_report}
+use Rattle.gpu_core.specs.Reports.{whole_report}
 use Rattle.gpu_pool.specs.Source.{result_of}
 use Rattle.gpu_vulkan.specs.Attempt.{unseen}
 use Rattle.gpu_vulkan.specs.State.{State}
@@ -38,7 +38,7 @@ use Rattle.gpu_vulkan.proofs.Listed.{done_reply}
 use Rattle.gpu_vulkan.specs.Step.{model_of, Rename, Report, Leaks, RenameStep, KeepsTheRest, IsStep, CallEnvironment, nothing_met, reply_of_done, reply_of_report, reply_of_leaks}
 use Rattle.gpu_vulkan.specs.declared.allocation.Allocation.{Allocation}
 use Rattle.gpu_vulkan.proofs.OneStep.{byte_views_alike}
-use Rattle.gpu_memory_types.proofs.Placed.{OnlyBlock, only_block, some_below, same_place}
+use Rattle.gpu_core.proofs.Placed.{OnlyBlock, only_block, some_below, same_place}
 use Rattle.gpu_pool.proofs.Freeing.{type_below}
 
 -- ---- a name is no part of a piece's bytes

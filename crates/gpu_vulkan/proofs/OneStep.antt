@@ -10,11 +10,11 @@ use Rattle.gpu_core.proofs.OneOutcome.{released_once}
 use Rattle.gpu_core.specs.Slots.{AreSound}
 use Rattle.std.proofs.lemmas.Bool.{false≢true}
 use Rattle.gpu_device.specs.declared.vulkan.types.DeviceMemory.{DeviceMemory}
-use Rattle.gpu_memory_types.specs.Budgets.{Budgets}
+use Rattle.gpu_core.specs.Budgets.{Budgets}
 use Rattle.gpu_vulkan.specs.Allocate.{Attempts, IsTooLarge, IsWithinHeap, is_valid}
 use Rattle.gpu_vulkan.specs.Attempt.{AttemptEnvironment, Asked, Answer, IsMet, request_in, unseen, AnyQuestion, AnyBlockBack}
 use Rattle.gpu_vulkan.specs.Types.{is_mapped, kinds_of_device}
-use Rattle.gpu_memory_types.proofs.Options.{none_some, some_same}
+use Rattle.gpu_core.proofs.Options.{none_some, some_same}
 use Rattle.gpu_pool.specs.Allocate.{Environment, NothingMet, NoHostMemory, Answered, Serves}
 use Rattle.gpu_pool.specs.State as states
 use Rattle.gpu_pool.specs.State.{kind_at, IsSoundAt}
@@ -26,7 +26,7 @@ use Rattle.gpu_vulkan.specs.Attempt.{Allocates}
 use Rattle.gpu_vulkan.specs.BlockAnswer.{BlockAnswer, Declined, Granted, Mapped, NotMapped}
 use Rattle.gpu_vulkan.specs.Source.{IsResult}
 use Rattle.gpu_vulkan.specs.Blocks.{Slots}
-use Rattle.gpu_memory_types.specs.Blocks.{slots_at, BlocksWellFormed}
+use Rattle.gpu_core.specs.Blocks.{slots_at, BlocksWellFormed}
 use Rattle.gpu_vulkan.specs.ByteView.{AllocationId, is_same_id, ByteView, IsOutOf, SplitsRest, JoinsRest, AddsBlock, Writes}
 use Rattle.gpu_vulkan.specs.Live.{is_same_memory}
 use Rattle.gpu_vulkan.specs.Live.{piece_of}

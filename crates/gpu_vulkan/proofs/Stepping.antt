@@ -18,9 +18,9 @@ use Rattle.gpu_device.specs.declared.vulkan.device.VulkanDevice.{Ghosts}
 use Rattle.gpu_device.specs.declared.vulkan.types.DeviceMemory.{DeviceMemory}
 use Rattle.gpu_device.proofs.Maps.{get-insert_same, get-insert_other}
 use Rattle.gpu_device.proofs.Changes.{get-mapped_other, bytes-mapped, new_is_unmapped}
-use Rattle.gpu_memory_types.specs.Budgets.{Budgets}
+use Rattle.gpu_core.specs.Budgets.{Budgets}
 use Rattle.gpu_vulkan.specs.Allocate.{IsTooLarge, IsWithinHeap, IsAttempt}
-use Rattle.gpu_memory_types.proofs.Options.{none_some, some_same}
+use Rattle.gpu_core.proofs.Options.{none_some, some_same}
 use Rattle.gpu_pool.specs.Allocate.{Environment, NothingMet, NoHostMemory, Answered, Serves}
 use Rattle.gpu_pool.specs.State as states
 use Rattle.gpu_vulkan.specs.Describe.{request_of}
@@ -28,7 +28,7 @@ use Rattle.gpu_vulkan.specs.Attempt.{AttemptEnvironment, Asked, Answer, IsAfter,
 use Rattle.gpu_vulkan.specs.BlockAnswer.{BlockAnswer, Declined, Granted, Mapped, NotMapped, Asks, answer_number}
 use Rattle.gpu_vulkan.specs.Types.{is_mapped, kinds_of_device}
 use Rattle.gpu_vulkan.specs.Blocks.{Slots, HoldsJustLiveBlocks, memory_number, IsBlockEntry}
-use Rattle.gpu_memory_types.specs.Blocks.{slots_at, block_at, BlocksWellFormed}
+use Rattle.gpu_core.specs.Blocks.{slots_at, block_at, BlocksWellFormed}
 use Rattle.gpu_vulkan.specs.ByteView.{ByteView, byte_view_of, SplitsRest, AddsBlock}
 use Rattle.gpu_vulkan.specs.Live.{is_same_memory, IsLiveIn}
 use Rattle.gpu_vulkan.specs.Setup.{Setup}
@@ -36,11 +36,11 @@ use Rattle.gpu_vulkan.specs.Step.{BytesAfter, id_in, answer_bytes}
 use Rattle.gpu_vulkan.specs.declared.allocation.Allocation.{Allocation}
 use Rattle.gpu_vulkan.specs.declared.describe.AllocationCreateDesc.{AllocationCreateDesc}
 use Rattle.gpu_vulkan.proofs.ByteViews.{served_byte_view, installed_byte_view, with_new_adds, with_new}
-use Rattle.gpu_memory_types.proofs.Holding.{not_a_block}
+use Rattle.gpu_core.proofs.Holding.{not_a_block}
 use Rattle.gpu_vulkan.proofs.Inside.{live_range, live_unmapped}
 use Rattle.gpu_vulkan.proofs.Joins.{OneMore, one_more_taken}
 use Rattle.gpu_vulkan.proofs.Parts.{HasRoom}
-use Rattle.gpu_memory_types.proofs.Placed.{only_block, installs_only, prepares_only}
+use Rattle.gpu_core.proofs.Placed.{only_block, installs_only, prepares_only}
 use Rattle.gpu_vulkan.proofs.Attempts.{refused_held, unasked_held}
 use Rattle.gpu_block_pieces.proofs.OrderedLists.{eq_true}
 

@@ -7,12 +7,12 @@ use Rattle.gpu_values.specs.declared.error.AllocationError.{AllocationError}
 use Rattle.gpu_device.specs.Held.{Held, IsWhole}
 use Rattle.gpu_device.specs.declared.vulkan.device.VulkanDevice.{Ghosts}
 use Rattle.gpu_device.specs.declared.vulkan.types.DeviceMemory.{DeviceMemory}
-use Rattle.gpu_memory_types.specs.Budgets.{Budgets}
+use Rattle.gpu_core.specs.Budgets.{Budgets}
 use Rattle.gpu_vulkan.specs.Allocate.{Attempts, IsAttempt, Answers, IsServed, IsFollowed, is_valid, next_after, next_type}
 use Rattle.gpu_vulkan.specs.Attempt.{AttemptEnvironment, Asked, Answer, IsAfter}
 use Rattle.gpu_vulkan.specs.Types.{is_mapped}
 use Rattle.gpu_vulkan.specs.Blocks.{Slots, HoldsJustLiveBlocks}
-use Rattle.gpu_memory_types.specs.Blocks.{BlocksWellFormed}
+use Rattle.gpu_core.specs.Blocks.{BlocksWellFormed}
 use Rattle.gpu_vulkan.specs.ByteView.{byte_view_of}
 use Rattle.gpu_vulkan.specs.Choice.{best_type}
 use Rattle.gpu_vulkan.specs.Setup.{Setup}
@@ -25,7 +25,7 @@ use Rattle.gpu_vulkan.specs.declared.describe.AllocationCreateDesc.{AllocationCr
 use Rattle.gpu_vulkan.proofs.Attempts.{refused_same, attempt_held}
 use Rattle.gpu_vulkan.proofs.Following.{next_below}
 use Rattle.gpu_vulkan.proofs.Stepping.{attempt_bytes}
-use Rattle.gpu_memory_types.proofs.Options.{none_some, some_same}
+use Rattle.gpu_core.proofs.Options.{none_some, some_same}
 
 -- ---- what the device counts and names
 

@@ -5,7 +5,7 @@ use Rattle.gpu_values.specs.Refusal.{Refusal}
 use Rattle.gpu_core.specs.declared.piece.Piece.{Piece}
 use Rattle.gpu_device.specs.declared.vulkan.types.DeviceMemory.{DeviceMemory}
 use Rattle.gpu_pool.proofs.WithoutBudgets.{serves_plain}
-use Rattle.gpu_memory_types.specs.Budgets.{Budgets, budget_at}
+use Rattle.gpu_core.specs.Budgets.{Budgets, budget_at}
 use Rattle.gpu_vulkan.specs.Blocks.{Slots}
 use Rattle.gpu_vulkan.specs.Attempt.{AttemptEnvironment, Answer, request_in, unseen, AnyQuestion}
 use Rattle.gpu_vulkan.specs.Choice.{required, first_type, best_type}
@@ -20,7 +20,7 @@ use Rattle.gpu_vulkan.specs.Reply.{Reply}
 use Rattle.gpu_vulkan.specs.Step.{ModelState, Call, Allocate, Free, Write, Rename, Report, Leaks, Read, Capacity, SetBudget, Budget, CallEnvironment}
 use Rattle.gpu_vulkan.specs.Step.{Step, AttemptStep, AllocateStep, FoundStep, Follows, FreeStep, KeepsTheRest, RenameStep, IsRead, next_by}
 use Rattle.gpu_pool.specs.State as pools
-use Rattle.gpu_memory_types.proofs.Options.{none_some}
+use Rattle.gpu_core.proofs.Options.{none_some}
 
 module _ (setup : Setup) (d : AllocationCreateDesc) where
   attempts_plain : (budgets : Budgets) (old : Slots) (t : ℕ) (o : AttemptEnvironment) (answer : Answer) (new : Slots) → budget_at budgets t ≡ None

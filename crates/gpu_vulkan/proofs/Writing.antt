@@ -15,7 +15,7 @@ use Rattle.gpu_device.specs.declared.vulkan.types.DeviceMemory.{DeviceMemory}
 use Rattle.gpu_device.proofs.Writes.{range_there, range_elsewhere}
 use Rattle.gpu_vulkan.specs.Types.{is_mapped}
 use Rattle.gpu_vulkan.specs.Blocks.{Slots, HoldsJustLiveBlocks}
-use Rattle.gpu_memory_types.specs.Blocks.{slots_at, block_at, BlocksWellFormed}
+use Rattle.gpu_core.specs.Blocks.{slots_at, block_at, BlocksWellFormed}
 use Rattle.gpu_vulkan.specs.Apart.{SharesNoByte}
 use Rattle.gpu_vulkan.specs.Lends.{number_in}
 use Rattle.gpu_vulkan.specs.Live.{is_same_memory, IsLiveIn}

@@ -8,7 +8,7 @@ use Rattle.gpu_values.specs.declared.memory_location.MemoryLocation.{MemoryLocat
 use Rattle.gpu_values.specs.declared.memory_location.MemoryLocation.TheVariants.{Unknown, GpuOnly, CpuToGpu, GpuToCpu}
 use Rattle.gpu_values.specs.declared.error.AllocationError.{AllocationError}
 use Rattle.gpu_device.specs.declared.vulkan.device.VulkanDevice.{Ghosts}
-use Rattle.gpu_memory_types.specs.Budgets.{Budgets}
+use Rattle.gpu_core.specs.Budgets.{Budgets}
 use Rattle.gpu_vulkan.specs.Attempt as attempts
 use Rattle.gpu_vulkan.specs.Attempt.{AttemptEnvironment, Answer, IsAskedFor, IsAfter}
 use Rattle.gpu_vulkan.specs.Types.{is_mapped, heap_size}

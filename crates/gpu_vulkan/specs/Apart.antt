@@ -4,8 +4,8 @@ use Rattle.gpu_block_pieces.specs.FreeList.{Extent}
 use Rattle.gpu_block_pieces.specs.Place.{page}
 use Rattle.gpu_values.specs.declared.allocation_type.AllocationType.{AllocationType}
 use Rattle.gpu_vulkan.specs.Blocks.{Slots}
-use Rattle.gpu_memory_types.specs.Apart.{EndsInside, pieces_in}
-use Rattle.gpu_memory_types.specs.Blocks.{block_at}
+use Rattle.gpu_core.specs.Apart.{EndsInside, pieces_in}
+use Rattle.gpu_core.specs.Blocks.{block_at}
 use Rattle.gpu_vulkan.specs.Lends.{number_in}
 use Rattle.gpu_vulkan.specs.declared.allocation.Allocation.{Allocation}
 

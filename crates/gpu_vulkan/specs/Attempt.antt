@@ -6,7 +6,7 @@ use Rattle.gpu_device.specs.declared.vulkan.device.VulkanDevice.{Ghosts}
 use Rattle.gpu_device.specs.declared.vulkan.types.AllocationScheme.{AllocationScheme}
 use Rattle.gpu_device.specs.declared.vulkan.types.DeviceMemory.{DeviceMemory}
 use Rattle.gpu_device.specs.declared.vulkan.types.MemoryAllocateInfo.{MemoryAllocateInfo}
-use Rattle.gpu_memory_types.specs.Budgets.{Budgets}
+use Rattle.gpu_core.specs.Budgets.{Budgets}
 use Rattle.gpu_pool.specs.Allocate.{RequestAt, Environment, NothingMet, NoHostMemory, Answered, Serves}
 use Rattle.gpu_pool.specs.State as pools
 use Rattle.gpu_vulkan.specs.Describe.{requests_dedicated, request_of}

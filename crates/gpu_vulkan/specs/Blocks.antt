@@ -4,9 +4,9 @@ use Rattle.std.specs.Option.{is_some}
 use Rattle.gpu_device.specs.Held.{Held, Entry}
 use Rattle.gpu_device.specs.Properties.{Properties}
 use Rattle.gpu_device.specs.declared.vulkan.types.DeviceMemory.{DeviceMemory}
-use Rattle.gpu_memory_types.specs.Blocks as all
-use Rattle.gpu_memory_types.specs.Blocks.{slots_at}
-use Rattle.gpu_memory_types.specs.Held.{HoldsBlocks}
+use Rattle.gpu_core.specs.Blocks as all
+use Rattle.gpu_core.specs.Blocks.{slots_at}
+use Rattle.gpu_core.specs.Held.{HoldsBlocks}
 use Rattle.gpu_vulkan.specs.Types.{is_mapped}
 
 -- the slots of each memory type

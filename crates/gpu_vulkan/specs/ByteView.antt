@@ -7,7 +7,7 @@ use Rattle.gpu_core.specs.TypeState.{Slot}
 use Rattle.gpu_device.specs.Held.{Held, bytes_of, range_in}
 use Rattle.gpu_device.specs.declared.vulkan.types.DeviceMemory.{DeviceMemory}
 use Rattle.gpu_vulkan.specs.Blocks.{Slots}
-use Rattle.gpu_memory_types.specs.Blocks.{block_at}
+use Rattle.gpu_core.specs.Blocks.{block_at}
 
 -- where a live piece stands: its memory type, its slot there, and its number in that block
 pub record AllocationId : Type 0 where

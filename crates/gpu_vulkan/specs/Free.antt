@@ -13,7 +13,7 @@ use Rattle.gpu_device.specs.declared.vulkan.types.DeviceMemory.{DeviceMemory}
 use Rattle.gpu_device.specs.Held.{bytes_of}
 use Rattle.gpu_vulkan.specs.BlockAnswer.{free_recorded}
 use Rattle.gpu_vulkan.specs.Blocks.{Slots}
-use Rattle.gpu_memory_types.specs.Blocks.{slots_at}
+use Rattle.gpu_core.specs.Blocks.{slots_at}
 use Rattle.gpu_vulkan.specs.Live.{is_same_memory, IsLiveIn, piece_of}
 use Rattle.gpu_vulkan.specs.declared.allocation.Allocation.{Allocation}
 

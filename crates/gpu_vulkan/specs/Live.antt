@@ -5,7 +5,7 @@ use Rattle.gpu_core.specs.declared.piece.Piece.{Piece}
 use Rattle.gpu_device.specs.Held.{Held, range_of}
 use Rattle.gpu_device.specs.Properties.{Properties}
 use Rattle.gpu_device.specs.declared.vulkan.types.DeviceMemory.{DeviceMemory}
-use Rattle.gpu_memory_types.specs.Live as all
+use Rattle.gpu_core.specs.Live as all
 use Rattle.gpu_vulkan.specs.Types.{is_host_visible, is_mapped}
 use Rattle.gpu_vulkan.specs.Blocks.{Slots}
 use Rattle.gpu_vulkan.specs.Describe.{requests_dedicated}

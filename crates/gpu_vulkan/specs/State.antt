@@ -1,7 +1,7 @@
 -- What callers see of an allocator.
 use Rattle.std.specs.Prelude.{◌≡◌}
 use Rattle.gpu_device.specs.declared.vulkan.types.DeviceMemory.{DeviceMemory}
-use Rattle.gpu_memory_types.specs.Budgets.{Budgets}
+use Rattle.gpu_core.specs.Budgets.{Budgets}
 use Rattle.gpu_pool.specs.State as pools
 use Rattle.gpu_vulkan.specs.Setup.{Setup}
 use Rattle.gpu_vulkan.specs.Blocks.{Slots}

@@ -17,15 +17,15 @@ use Rattle.gpu_vulkan.specs.Attempt.{AttemptEnvironment, Asked, Answer, unseen, 
 use Rattle.gpu_vulkan.specs.BlockAnswer.{BlockAnswer, Declined, Granted, Mapped, NotMapped, refused_after, question_recorded, free_recorded}
 use Rattle.gpu_vulkan.specs.Types.{is_mapped}
 use Rattle.gpu_vulkan.specs.Blocks.{Slots}
-use Rattle.gpu_memory_types.specs.Blocks.{total_capacity}
+use Rattle.gpu_core.specs.Blocks.{total_capacity}
 use Rattle.gpu_vulkan.specs.ByteView.{AllocationId, ByteView, byte_view_of, SplitsRest, JoinsRest, AddsBlock, DropsBlock, Writes}
 use Rattle.gpu_vulkan.specs.Choice.{best_type}
 use Rattle.gpu_vulkan.specs.Lends.{number_in}
 use Rattle.gpu_vulkan.specs.Live.{is_same_memory, IsLiveIn}
 use Rattle.gpu_vulkan.specs.Live.{piece_of, IsAllocated, IsMapped}
-use Rattle.gpu_memory_types.specs.Budgets.{Budgets, budget_at}
-use Rattle.gpu_memory_types.specs.Leaks.{all_leaks}
-use Rattle.gpu_memory_types.specs.Reports.{whole_report}
+use Rattle.gpu_core.specs.Budgets.{Budgets, budget_at}
+use Rattle.gpu_core.specs.Leaks.{all_leaks}
+use Rattle.gpu_core.specs.Reports.{whole_report}
 use Rattle.gpu_vulkan.specs.Setup.{Setup}
 use Rattle.gpu_vulkan.specs.State.{State}
 use Rattle.gpu_vulkan.specs.declared.allocation.Allocation.{Allocation}
@@ -35,7 +35,7 @@ use Rattle.gpu_pool.specs.Free.{FreesPiece}
 use Rattle.gpu_pool.specs.Rename.{RenamesBy}
 use Rattle.gpu_pool.specs.State as pools
 use Rattle.gpu_pool.specs.Step.{Makes, SetsBudgetOf}
-use Rattle.gpu_memory_types.specs.Release.{IsReleaseRefusal}
+use Rattle.gpu_core.specs.Release.{IsReleaseRefusal}
 use Rattle.gpu_values.specs.Report as reports
 use Rattle.gpu_vulkan.specs.Reply as replies
 use Rattle.gpu_vulkan.specs.Reply.{Reply, Allocated, Error, Done, Bytes, done_with, report_with, leaks_with}

@@ -4,7 +4,7 @@ ghost use Rattle.std.specs.Prelude.{◌≡◌, ◌↔◌, [], All, map, Some, No
 ghost use Rattle.std.specs.Option.{unwrap_or};
 ghost use Rattle.gpu_values.specs.Refusal.{refusal_of, host_out_of_memory};
 ghost use Rattle.gpu_vulkan.specs.Setup.{setup_fault};
-ghost use Rattle.gpu_memory_types.specs.Blocks.{total_capacity, BlocksWellFormed};
+ghost use Rattle.gpu_core.specs.Blocks.{total_capacity, BlocksWellFormed};
 ghost use Rattle.gpu_pool.specs.Told.{Reports, SetsBudgetAt, TextsLeaks};
 ghost use Rattle.gpu_pool.specs.Handles.{all_handles};
 ghost use Rattle.gpu_vulkan.specs.BlockAnswer.{frees_recorded};
@@ -18,8 +18,8 @@ ghost use Rattle.gpu_vulkan.specs.Reply as replies;
 ghost use Rattle.gpu_vulkan.specs.Reply.{Done, Bytes};
 ghost use Rattle.gpu_vulkan.specs.Step.{IsStep, IsAllocateStep, Free, Rename, Write, Read, Capacity, Report, Leaks, SetBudget, Budget, freed_as, reply_of_done, reply_of_report, reply_of_leaks};
 ghost use Rattle.gpu_vulkan.specs.Rename.{Renames, StayLive};
-ghost use Rattle.gpu_memory_types.specs.Budgets.{budget_at, budgets};
-ghost use Rattle.gpu_memory_types.specs.Types.{slots_of, kinds};
+ghost use Rattle.gpu_core.specs.Budgets.{budget_at, budgets};
+ghost use Rattle.gpu_core.specs.Types.{slots_of, kinds};
 ghost use Rattle.gpu_vulkan.specs.Types.{kinds_of_device};
 ghost use Rattle.gpu_values.specs.declared.error.AllocationError.TheVariants.{HostOutOfMemory};
 ghost use Rattle.std.specs.Borrow.{sem};
@@ -33,8 +33,8 @@ use crate::source::VulkanBlocks;
 use crate::{
     AllocationCreateDesc, AllocatorCreateDesc, Settings, Setup, best_type, fault_of, parts_of,
 };
+use gpu_core::MemoryTypes;
 use gpu_device::vulkan::{DeviceMemory, VulkanDevice};
-use gpu_memory_types::MemoryTypes;
 use gpu_pool::Pool;
 use gpu_values::{AllocationError, AllocatorReport, Result};
 use log::{Level, Log};

@@ -3,7 +3,7 @@
 ghost use Rattle.std.specs.Prelude.{◌≡◌, ◌<◌, ◌%◌, length, Some, IfOk, IfSome, IsTrue, string_bytes};
 ghost use Rattle.std.specs.Int.{is_power_of_two};
 ghost use Rattle.gpu_values.specs.Refusal.{refusal_of};
-ghost use Rattle.gpu_memory_types.specs.Blocks.{BlocksWellFormed};
+ghost use Rattle.gpu_core.specs.Blocks.{BlocksWellFormed};
 ghost use Rattle.gpu_vulkan.specs.Allocate.{IsAttempt, next_type};
 ghost use Rattle.gpu_vulkan.specs.Blocks.{HoldsJustLiveBlocks};
 ghost use Rattle.gpu_vulkan.specs.Lends.{AreDistinct};

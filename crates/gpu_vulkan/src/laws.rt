@@ -3,8 +3,8 @@
 ghost use Rattle.std.specs.Prelude.{◌≡◌, Result};
 ghost use Rattle.gpu_vulkan.specs.Allocate.{Allocates};
 ghost use Rattle.gpu_vulkan.specs.Blocks.{Slots};
-ghost use Rattle.gpu_memory_types.specs.Blocks.{BlocksWellFormed};
-ghost use Rattle.gpu_memory_types.specs.Budgets.{Budgets};
+ghost use Rattle.gpu_core.specs.Blocks.{BlocksWellFormed};
+ghost use Rattle.gpu_core.specs.Budgets.{Budgets};
 ghost use Rattle.gpu_vulkan.specs.Budgets.{MeetsNoBudget, without_budgets};
 ghost use Rattle.gpu_vulkan.specs.Free.{Frees};
 ghost use Rattle.gpu_vulkan.specs.Untouched.{LeavesMemory};

@@ -2,8 +2,8 @@
 
 use super::Allocation;
 use crate::AllocationCreateDesc;
+use gpu_core::MemoryTypes;
 use gpu_device::vulkan::{DeviceMemory, VulkanDevice};
-use gpu_memory_types::MemoryTypes;
 use gpu_pool::logging;
 use gpu_values::AllocatorDebugSettings;
 use log::{Level, Log, debug, target_or};

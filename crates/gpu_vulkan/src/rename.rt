@@ -3,8 +3,8 @@
 ghost use Rattle.std.specs.Prelude.{◌≡◌, Some, IfOk, IfErr, OnOk, OnErr, IsSomeAnd, string_bytes};
 ghost use Rattle.gpu_values.specs.declared.error.AllocationError.TheVariants.{HostOutOfMemory};
 ghost use Rattle.gpu_values.specs.Refusal.{refusal_of};
-ghost use Rattle.gpu_memory_types.specs.Blocks.{slots_at};
-ghost use Rattle.gpu_memory_types.specs.Rename.{IsNotNamed, IsRenamed};
+ghost use Rattle.gpu_core.specs.Blocks.{slots_at};
+ghost use Rattle.gpu_core.specs.Rename.{IsNotNamed, IsRenamed};
 ghost use Rattle.gpu_vulkan.specs.Live.{is_same_memory, IsLiveIn};
 ghost use Rattle.gpu_vulkan.specs.Rename.{Renames, StayLive};
 

@@ -8,15 +8,14 @@ ghost use Rattle.gpu_values.specs.Refusal.{refusal_of, invalid_allocator_create_
 ghost use Rattle.gpu_vulkan.specs.Setup.{lacks_heap, setup_fault, IsValid, properties_told};
 ghost use Rattle.gpu_vulkan.specs.Types.{heap_size};
 ghost use Rattle.gpu_vulkan.specs.Types.{is_host_visible};
-ghost use Rattle.gpu_memory_types.specs.Budgets.{budgets};
-ghost use Rattle.gpu_memory_types.specs.Types.{slots_of, kinds, MemoryTypesInvariant};
+ghost use Rattle.gpu_core.specs.Budgets.{budgets};
+ghost use Rattle.gpu_core.specs.Types.{slots_of, kinds, MemoryTypesInvariant};
 ghost use Rattle.gpu_vulkan.specs.Types.{kinds_of_device};
 
-use gpu_core::MemoryType;
+use gpu_core::{MemoryType, MemoryTypes};
 use gpu_device::vulkan::{
     DeviceMemory, MemoryHeap, MemoryPropertyFlags, MemoryTypeInfo, PhysicalDevice, VulkanDevice,
 };
-use gpu_memory_types::MemoryTypes;
 use gpu_values::{AllocationError, AllocationSizes, AllocatorDebugSettings, Fault};
 use std::alloc::{AllocError, Global};
 use std::marker::Model;

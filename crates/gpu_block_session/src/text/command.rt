@@ -7,8 +7,8 @@ ghost use Rattle.gpu_block_session.specs.declared.block.command.Side.{Side};
 ghost use Rattle.gpu_block_session.specs.declared.block.command.Kind.{Kind};
 ghost use Rattle.gpu_block_session.specs.BlockWords.{IsPowerOfTwo, side_word, kind_word, Says};
 
-use crate::words::{name_of, number};
 use crate::block::{Command, Kind, Side};
+use crate::words::{name_of, number};
 use std::alloc::{AllocError, Global};
 
 fn side_of(word: &str) -> Option<Side>

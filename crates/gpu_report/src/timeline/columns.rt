@@ -3,9 +3,9 @@
 ghost use Rattle.std.specs.Prelude.{◌≡◌, ◌≤◌};
 ghost use Rattle.gpu_report.specs.Samples.{column_count, column};
 
-use crate::timeline::samples::Sample;
 use crate::laws::cells_stay_in_order;
 use crate::place::place;
+use crate::timeline::samples::Sample;
 
 /// In how many columns samples are drawn: each in one of its own, but in a thousand at most.
 pub(crate) fn column_count(samples: &[Sample]) -> u64

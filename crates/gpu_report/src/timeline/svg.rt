@@ -5,9 +5,9 @@ ghost use Rattle.std.specs.Fmt.{DisplaysOnOk};
 ghost use Rattle.gpu_report.specs.Timeline.{level, step_svg, column_svg, columns_svg, class_name, curve_start_svg, curve_svg, peak_note, chart_top, chart_start_svg, label_svg, frame_svg, chart_svg, charts_svg, mark_svg, marked_svg, marks_svg, height_svg, view_box_svg, style_svg, totals_svg, legend_svg, picture_svg};
 ghost use Rattle.gpu_report.specs.Samples.{column_count};
 
+use crate::place::place;
 use crate::timeline::columns::{column, column_count};
 use crate::timeline::samples::{Measure, Sample, first_line, greatest, least, sum};
-use crate::place::place;
 use crate::write_amount;
 use std::fmt;
 

@@ -4,9 +4,9 @@ ghost use Rattle.std.specs.Prelude.{◌∷◌, IfOk};
 ghost use Rattle.gpu_block_session.specs.Words.{texts, words_of};
 ghost use Rattle.gpu_trace_text.specs.D3D12Line.{Means, Reads, ReadsAlone};
 
-use gpu_block_session::ascii;
 use crate::d3d12::command::said_command;
 use crate::d3d12::setting::{Setting, said_setting};
+use gpu_block_session::ascii;
 use gpu_block_session::words::words;
 use gpu_run::d3d12::Command;
 use std::alloc::{AllocError, Global};

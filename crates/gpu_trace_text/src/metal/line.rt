@@ -4,9 +4,9 @@ ghost use Rattle.std.specs.Prelude.{◌≡◌, ◌∷◌, IfOk};
 ghost use Rattle.gpu_block_session.specs.Words.{texts, words_of};
 ghost use Rattle.gpu_trace_text.specs.MetalLine.{Means, Reads, ReadsAlone};
 
-use gpu_block_session::ascii;
 use crate::metal::command::said_command;
 use crate::metal::setting::{Setting, said_setting};
+use gpu_block_session::ascii;
 use gpu_block_session::words::words;
 use gpu_run::metal::Command;
 use std::alloc::{AllocError, Global};

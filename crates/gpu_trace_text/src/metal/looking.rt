@@ -5,8 +5,8 @@ ghost use Rattle.gpu_trace_text.specs.MetalLook.{Shows, ListsMembers, ListsCommi
 
 use crate::metal::line::Look;
 use crate::metal::reply::Reply;
-use gpu_device::metal::MTLResidencySet;
 use gpu_block_session::ErrorNumber;
+use gpu_device::metal::MTLResidencySet;
 use gpu_run::metal::Session;
 use gpu_sim_metal::SimMetal;
 use std::alloc::Global;

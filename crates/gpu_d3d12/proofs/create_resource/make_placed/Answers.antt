@@ -1,8 +1,8 @@
 use Rattle.std.proofs.Common.{◌≡◌, ◌∙◌, ℕ, refl, sym, ap, subst, Ok, Err, Result}
 use Rattle.gpu_values.specs.declared.error.AllocationError.{AllocationError}
 use Rattle.gpu_device.specs.declared.d3d12.types.ID3D12Heap.{ID3D12Heap}
-use Rattle.gpu_memory_types.specs.Budgets.{budgets}
-use Rattle.gpu_memory_types.specs.Types.{slots_of}
+use Rattle.gpu_core.specs.Budgets.{budgets}
+use Rattle.gpu_core.specs.Types.{slots_of}
 use Rattle.gpu_device.specs.D3D12.{Placed}
 use Rattle.gpu_device.specs.declared.d3d12.event.ResourcePlace.TheVariants.{InHeap}
 use Rattle.gpu_d3d12.specs.DeviceVersion.{device_of}

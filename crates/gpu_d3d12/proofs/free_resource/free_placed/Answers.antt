@@ -1,6 +1,6 @@
 use Rattle.std.proofs.Common.{rules, sym, subst}
-use Rattle.gpu_memory_types.specs.Budgets.{budgets}
-use Rattle.gpu_memory_types.specs.Types.{slots_of}
+use Rattle.gpu_core.specs.Budgets.{budgets}
+use Rattle.gpu_core.specs.Types.{slots_of}
 use Rattle.gpu_pool.specs.Source.{result_of}
 use Rattle.gpu_d3d12.specs.Live.{IsLive}
 use Rattle.gpu_d3d12.specs.Over.{FreesPlacedOver}

@@ -3,9 +3,9 @@ use Rattle.std.proofs.lemmas.List.{map-append}
 use Rattle.std.proofs.lemmas.List.Elements.{All-append, All-cons, All-nil}
 use Rattle.gpu_core.specs.TypeState.{TypeState}
 use Rattle.gpu_device.specs.declared.d3d12.types.ID3D12Heap.{ID3D12Heap}
-use Rattle.gpu_memory_types.specs.Blocks.{Slots}
-use Rattle.gpu_memory_types.specs.Budgets.{Budgets, budgets}
-use Rattle.gpu_memory_types.specs.Types.{Types, slots_of, kinds}
+use Rattle.gpu_core.specs.Blocks.{Slots}
+use Rattle.gpu_core.specs.Budgets.{Budgets, budgets}
+use Rattle.gpu_core.specs.Types.{Types, slots_of, kinds}
 use Rattle.gpu_d3d12.specs.Heaps.{is_host}
 use Rattle.gpu_d3d12.specs.MemoryKinds.{memory_kinds}
 use Rattle.gpu_d3d12.specs.declared.memory_kind.MemoryKind.{MemoryKind}

@@ -3,9 +3,9 @@ use Rattle.std.proofs.lemmas.List.{map-append}
 use Rattle.std.proofs.lemmas.List.Elements.{All-append, All-cons, All-nil}
 use Rattle.gpu_core.specs.TypeState.{TypeState}
 use Rattle.gpu_device.specs.declared.metal.types.MTLHeap.{MTLHeap}
-use Rattle.gpu_memory_types.specs.Blocks.{Slots}
-use Rattle.gpu_memory_types.specs.Budgets.{Budgets, budgets}
-use Rattle.gpu_memory_types.specs.Types.{Types, slots_of, kinds}
+use Rattle.gpu_core.specs.Blocks.{Slots}
+use Rattle.gpu_core.specs.Budgets.{Budgets, budgets}
+use Rattle.gpu_core.specs.Types.{Types, slots_of, kinds}
 use Rattle.gpu_values.specs.declared.memory_location.MemoryLocation.{MemoryLocation}
 use Rattle.gpu_metal.specs.MemoryKinds.{locations, is_host}
 use Rattle.gpu_metal.proofs.Lists.{take_next}

@@ -1,7 +1,7 @@
 use Rattle.std.proofs.Common.{◌≡◌, ◌≤◌, map, take, All, [], length, None}
 use Rattle.std.specs.Prelude.{vec_capacity}
-use Rattle.gpu_memory_types.specs.Budgets.{budgets}
-use Rattle.gpu_memory_types.specs.Types.{slots_of, kinds}
+use Rattle.gpu_core.specs.Budgets.{budgets}
+use Rattle.gpu_core.specs.Types.{slots_of, kinds}
 use Rattle.gpu_metal.specs.MemoryKinds.{locations, is_host}
 use Rattle.gpu_metal.proofs.setup.empty_types.Given as goal
 

@@ -1,5 +1,5 @@
 use Rattle.std.proofs.Common.{◌≡◌, ◌++◌, map, drop}
-use Rattle.gpu_memory_types.specs.Types.{slots_of}
+use Rattle.gpu_core.specs.Types.{slots_of}
 use Rattle.gpu_report.specs.Samples.{usage_of}
 use Rattle.gpu_picture.proofs.follow.usages_of.Given as goal
 

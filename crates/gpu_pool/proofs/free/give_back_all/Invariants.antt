@@ -1,5 +1,5 @@
 use Rattle.std.proofs.Common.{◌≡◌}
-use Rattle.gpu_memory_types.specs.Types.{slots_of}
+use Rattle.gpu_core.specs.Types.{slots_of}
 use Rattle.gpu_pool.specs.Free.{GivesBackAll}
 use Rattle.gpu_pool.specs.Handles.{all_handles}
 use Rattle.gpu_pool.specs.Held.{HoldsJust}

@@ -1,5 +1,5 @@
 use Rattle.std.proofs.Common.{◌≡◌, ◌-◌, length}
-use Rattle.gpu_memory_types.specs.Types.{slots_of}
+use Rattle.gpu_core.specs.Types.{slots_of}
 use Rattle.gpu_pool.specs.Handles.{handles_from}
 use Rattle.gpu_pool.proofs.handles.next_from.Given as goal
 

@@ -1,6 +1,6 @@
 use Rattle.std.proofs.Common.{◌≡◌, ◌-◌, drop, length}
-use Rattle.gpu_memory_types.specs.Blocks.{slots_at}
-use Rattle.gpu_memory_types.specs.Types.{slots_of}
+use Rattle.gpu_core.specs.Blocks.{slots_at}
+use Rattle.gpu_core.specs.Types.{slots_of}
 use Rattle.gpu_pool.specs.Handles.{handles_in}
 use Rattle.gpu_pool.proofs.handles.next_in.Given as goal
 

@@ -1,5 +1,5 @@
 use Rattle.std.proofs.Common.{◌∙◌, sym, ap, subst, length}
-use Rattle.gpu_memory_types.specs.Blocks.{BlocksWellFormed}
+use Rattle.gpu_core.specs.Blocks.{BlocksWellFormed}
 use Rattle.gpu_pool.specs.State.{IsSoundAt}
 use Rattle.gpu_vulkan.specs.Types.{kinds_of_device}
 use Rattle.gpu_vulkan.specs.Blocks.{Slots}

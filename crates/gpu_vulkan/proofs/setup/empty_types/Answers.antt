@@ -6,9 +6,9 @@ use Rattle.gpu_device.specs.declared.vulkan.types.DeviceMemory.{DeviceMemory}
 use Rattle.gpu_device.specs.declared.vulkan.types.MemoryTypeInfo.{MemoryTypeInfo}
 use Rattle.std.proofs.lemmas.List.Elements.{All-append, All-cons, All-nil}
 use Rattle.gpu_vulkan.specs.Types.{is_host_visible}
-use Rattle.gpu_memory_types.specs.Blocks.{Slots}
-use Rattle.gpu_memory_types.specs.Budgets.{Budgets, budgets}
-use Rattle.gpu_memory_types.specs.Types.{Types, slots_of, kinds}
+use Rattle.gpu_core.specs.Blocks.{Slots}
+use Rattle.gpu_core.specs.Budgets.{Budgets, budgets}
+use Rattle.gpu_core.specs.Types.{Types, slots_of, kinds}
 use Rattle.gpu_vulkan.proofs.Taken.{taken_next}
 use Rattle.gpu_vulkan.proofs.setup.empty_types.Goals as goal
 

@@ -1,7 +1,7 @@
 use Rattle.std.proofs.Common.{◌≡◌, ◌≤◌, map, take, All, [], length, vec_capacity, None}
 use Rattle.gpu_vulkan.specs.Types.{is_host_visible}
-use Rattle.gpu_memory_types.specs.Budgets.{budgets}
-use Rattle.gpu_memory_types.specs.Types.{slots_of, kinds}
+use Rattle.gpu_core.specs.Budgets.{budgets}
+use Rattle.gpu_core.specs.Types.{slots_of, kinds}
 use Rattle.gpu_vulkan.proofs.setup.empty_types.Given as goal
 
 abbrev pub invariant-loop-info : goal.invariant-loop-info

@@ -1,5 +1,5 @@
 use Rattle.std.proofs.Common.{rules, ◌≡◌}
-use Rattle.gpu_memory_types.specs.Budgets.{budget_at}
+use Rattle.gpu_core.specs.Budgets.{budget_at}
 use Rattle.gpu_d3d12.proofs.Calls.{budget_step}
 use Rattle.gpu_d3d12.proofs.allocator.Allocator.budget.Goals as goal
 

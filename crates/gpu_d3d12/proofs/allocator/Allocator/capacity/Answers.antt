@@ -1,5 +1,5 @@
 use Rattle.std.proofs.Common.{rules, ◌≡◌}
-use Rattle.gpu_memory_types.specs.Blocks.{total_capacity}
+use Rattle.gpu_core.specs.Blocks.{total_capacity}
 use Rattle.gpu_d3d12.proofs.Calls.{capacity_step}
 use Rattle.gpu_d3d12.proofs.allocator.Allocator.capacity.Goals as goal
 

@@ -1,7 +1,7 @@
 use Rattle.std.specs.Prelude.{string_bytes}
 use Rattle.std.proofs.Common.{rules, ◌≡◌, IfOk, map}
 use Rattle.gpu_block_pieces.specs.Leak.{leak_text}
-use Rattle.gpu_memory_types.specs.Leaks.{all_leaks}
+use Rattle.gpu_core.specs.Leaks.{all_leaks}
 use Rattle.gpu_d3d12.proofs.Calls.{leaks_step}
 use Rattle.gpu_d3d12.proofs.allocator.Allocator.leak_texts.Goals as goal
 

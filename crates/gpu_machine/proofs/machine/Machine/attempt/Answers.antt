@@ -2,7 +2,7 @@ use Rattle.std.proofs.Common.{◌∙◌, ◌<◌, sym, subst, length, arith, rul
 use Rattle.gpu_values.specs.Sizes.{Sizes}
 use Rattle.gpu_values.specs.Refusal.{refusal_of}
 use Rattle.gpu_core.specs.declared.memory_type.Prepared.TheVariants as prepared
-use Rattle.gpu_memory_types.specs.Requests.{PreparesAt, IsPrepareRefusal}
+use Rattle.gpu_core.specs.Requests.{PreparesAt, IsPrepareRefusal}
 use Rattle.gpu_machine.specs.State.{State}
 use Rattle.gpu_machine.proofs.Preparing.{IsReady, refused_at, taken_at, starved_at, asks_at, answers_at}
 use Rattle.gpu_machine.proofs.machine.Machine.attempt.Goals as goal

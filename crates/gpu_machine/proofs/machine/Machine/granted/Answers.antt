@@ -1,5 +1,5 @@
 use Rattle.std.proofs.Common.{◌≡◌, sym, subst, rules, Option, Some}
-use Rattle.gpu_memory_types.specs.Types.{slots_of}
+use Rattle.gpu_core.specs.Types.{slots_of}
 use Rattle.gpu_machine.specs.Live.{StayLive, IsNewlyLive}
 use Rattle.gpu_machine.specs.State.{State, CanAnswer}
 use Rattle.gpu_machine.specs.declared.answer.Allocated.{Allocated}

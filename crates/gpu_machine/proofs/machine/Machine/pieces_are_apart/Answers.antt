@@ -1,6 +1,6 @@
 use Rattle.std.proofs.Common.{◌≡◌, subst, length}
-use Rattle.gpu_memory_types.specs.Blocks.{BlocksWellFormed}
-use Rattle.gpu_memory_types.proofs.Apart.{piece_inside, pieces_apart, pieces_pages}
+use Rattle.gpu_core.specs.Blocks.{BlocksWellFormed}
+use Rattle.gpu_core.proofs.Apart.{piece_inside, pieces_apart, pieces_pages}
 use Rattle.gpu_pool.proofs.Owning.{sound_at}
 use Rattle.gpu_vulkan.specs.Live.{is_same_memory}
 use Rattle.gpu_vulkan.specs.Types.{kinds_of_device}

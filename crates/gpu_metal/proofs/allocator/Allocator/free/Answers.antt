@@ -1,7 +1,7 @@
 use Rattle.std.proofs.Common.{rules, sym, subst}
 use Rattle.gpu_core.specs.declared.piece.Piece.{Piece}
 use Rattle.gpu_device.specs.declared.metal.types.MTLHeap.{MTLHeap}
-use Rattle.gpu_memory_types.specs.Apart.{AreDistinct}
+use Rattle.gpu_core.specs.Apart.{AreDistinct}
 use Rattle.gpu_pool.specs.Allocation.{piece_of}
 use Rattle.gpu_metal.specs.Live.{IsLive}
 use Rattle.gpu_metal.specs.Free.{Frees}

@@ -1,6 +1,6 @@
 use Rattle.std.proofs.Common.{rules, ◌≡◌, IfOk}
 use Rattle.gpu_values.specs.Report.{report_of}
-use Rattle.gpu_memory_types.specs.Reports.{whole_report}
+use Rattle.gpu_core.specs.Reports.{whole_report}
 use Rattle.gpu_metal.proofs.Steps.{report_step}
 use Rattle.gpu_metal.proofs.allocator.Allocator.generate_report.Goals as goal
 

@@ -1,8 +1,8 @@
 use Rattle.std.proofs.Common.{◌≡◌, ◌∙◌, ◌<◌, length, sym, subst, Ok, Err, Result}
 use Rattle.gpu_core.specs.declared.memory_type.Prepared.TheVariants as prepared
 use Rattle.gpu_core.specs.declared.piece.Piece.{Piece}
-use Rattle.gpu_memory_types.specs.Requests.{PreparesAt}
-use Rattle.gpu_memory_types.specs.Types.{Types, kinds, MemoryTypesInvariant}
+use Rattle.gpu_core.specs.Requests.{PreparesAt}
+use Rattle.gpu_core.specs.Types.{Types, kinds, MemoryTypesInvariant}
 use Rattle.gpu_values.specs.Refusal.{refusal_of}
 use Rattle.gpu_values.specs.declared.error.AllocationError.{AllocationError}
 use Rattle.gpu_pool.specs.Allocate.{request_at, Allocates, AsksOf}

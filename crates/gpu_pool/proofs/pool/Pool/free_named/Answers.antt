@@ -1,5 +1,5 @@
 use Rattle.std.proofs.Common.{sym, subst}
-use Rattle.gpu_memory_types.specs.Apart as pieces
+use Rattle.gpu_core.specs.Apart as pieces
 use Rattle.gpu_pool.specs.Allocation.{piece_of}
 use Rattle.gpu_pool.proofs.pool.Pool.free_named.Goals as goal
 

@@ -1,7 +1,7 @@
 use Rattle.std.proofs.Common.{subst, ℕ}
 use Rattle.gpu_core.specs.Slots.{AreSound}
-use Rattle.gpu_memory_types.specs.Blocks.{slots_at}
-use Rattle.gpu_memory_types.proofs.Apart.{piece_inside, pieces_pages}
+use Rattle.gpu_core.specs.Blocks.{slots_at}
+use Rattle.gpu_core.proofs.Apart.{piece_inside, pieces_pages}
 use Rattle.gpu_pool.specs.Held.{HoldsJustBlocks}
 use Rattle.gpu_pool.specs.State.{State, kind_at}
 use Rattle.gpu_pool.proofs.Apart.{live_apart}

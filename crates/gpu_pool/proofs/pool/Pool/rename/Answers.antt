@@ -3,10 +3,10 @@ use Rattle.gpu_core.specs.declared.piece.Piece.{Piece}
 use Rattle.gpu_values.specs.Refusal.{refusal_of}
 use Rattle.gpu_values.specs.Sizes.{Sizes}
 use Rattle.gpu_values.specs.declared.error.AllocationError.{AllocationError}
-use Rattle.gpu_memory_types.specs.Blocks.{slots_at}
-use Rattle.gpu_memory_types.specs.Budgets.{budgets}
-use Rattle.gpu_memory_types.specs.Rename.{IsRenamed, IsNotNamed}
-use Rattle.gpu_memory_types.specs.Types.{Types, slots_of}
+use Rattle.gpu_core.specs.Blocks.{slots_at}
+use Rattle.gpu_core.specs.Budgets.{budgets}
+use Rattle.gpu_core.specs.Rename.{IsRenamed, IsNotNamed}
+use Rattle.gpu_core.specs.Types.{Types, slots_of}
 use Rattle.gpu_pool.specs.Allocate.{NothingMet, NoHostMemory}
 use Rattle.gpu_pool.specs.Rename.{Renames}
 use Rattle.gpu_pool.specs.Source.{result_of}

@@ -1,6 +1,6 @@
 use Rattle.std.proofs.Common.{rules, ◌≡◌, ◌∙◌, refl, sym, ap, subst, arith, true, false, Option, Some, None, Ok, Err, ℕ}
 use Rattle.gpu_device.specs.Properties.{Properties}
-use Rattle.gpu_memory_types.specs.Blocks.{BlocksWellFormed}
+use Rattle.gpu_core.specs.Blocks.{BlocksWellFormed}
 use Rattle.gpu_vulkan.specs.Allocate.{is_valid, next_type}
 use Rattle.gpu_vulkan.specs.Choice.{best_type}
 use Rattle.gpu_vulkan.specs.Setup.{Setup}

@@ -1,5 +1,5 @@
 use Rattle.std.proofs.Common.{◌<◌, ap, subst, ℕ, Bool}
-use Rattle.gpu_memory_types.specs.Apart as pieces
+use Rattle.gpu_core.specs.Apart as pieces
 use Rattle.gpu_vulkan.specs.Apart.{SharesNoByte, KeepsPages}
 use Rattle.gpu_vulkan.specs.Lends.{AreDistinct}
 use Rattle.gpu_vulkan.specs.Live.{IsLive}

@@ -1,5 +1,5 @@
 use Rattle.std.proofs.Common.{◌≡◌, rules}
-use Rattle.gpu_memory_types.specs.Budgets.{budget_at}
+use Rattle.gpu_core.specs.Budgets.{budget_at}
 use Rattle.gpu_vulkan.proofs.Listed.{budget_step}
 use Rattle.gpu_vulkan.proofs.allocator.Allocator.budget.Goals as goal
 

@@ -1,5 +1,5 @@
 use Rattle.std.proofs.Common.{◌≡◌, rules}
-use Rattle.gpu_memory_types.specs.Blocks.{total_capacity}
+use Rattle.gpu_core.specs.Blocks.{total_capacity}
 use Rattle.gpu_vulkan.proofs.Listed.{sum_step}
 use Rattle.gpu_vulkan.proofs.allocator.Allocator.capacity.Goals as goal
 

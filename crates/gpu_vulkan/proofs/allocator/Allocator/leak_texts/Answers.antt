@@ -1,6 +1,6 @@
 use Rattle.std.proofs.Common.{rules, ◌≡◌, IfOk, map, string_bytes}
 use Rattle.gpu_block_pieces.specs.Leak.{leak_text}
-use Rattle.gpu_memory_types.specs.Leaks.{all_leaks}
+use Rattle.gpu_core.specs.Leaks.{all_leaks}
 use Rattle.gpu_vulkan.proofs.Named.{leaks_step}
 use Rattle.gpu_vulkan.proofs.allocator.Allocator.leak_texts.Goals as goal
 

@@ -1,6 +1,6 @@
 use Rattle.std.proofs.Common.{◌≡◌, ◌∙◌, sym, ap, subst, option_copied, rules}
 use Rattle.gpu_device.specs.Held.{range_of}
-use Rattle.gpu_memory_types.specs.Blocks.{BlocksWellFormed}
+use Rattle.gpu_core.specs.Blocks.{BlocksWellFormed}
 use Rattle.gpu_vulkan.specs.Live.{IsLive}
 use Rattle.gpu_vulkan.specs.State.{State}
 use Rattle.gpu_vulkan.proofs.Listed.{read_step, dead_read, lent_length}

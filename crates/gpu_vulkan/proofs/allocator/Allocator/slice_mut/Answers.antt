@@ -1,7 +1,7 @@
 use Rattle.std.proofs.Common.{◌≡◌, ◌∙◌, refl, ℕ, Some, ap, subst}
 use Rattle.gpu_device.specs.Held.{range_of}
 use Rattle.gpu_device.proofs.Writes.{length_of_range}
-use Rattle.gpu_memory_types.specs.Blocks.{BlocksWellFormed}
+use Rattle.gpu_core.specs.Blocks.{BlocksWellFormed}
 use Rattle.gpu_vulkan.specs.Apart.{SharesNoByte}
 use Rattle.gpu_vulkan.specs.Blocks.{HoldsJustLiveBlocks}
 use Rattle.gpu_vulkan.specs.Live.{IsLive}

@@ -3,7 +3,7 @@ use Rattle.gpu_vulkan.specs.Setup.{Setup}
 use Rattle.gpu_vulkan.specs.Types.{heap_size, heap_of, size_in}
 use Rattle.gpu_vulkan.specs.contracts.setup.Setup.{the_view}
 use Rattle.gpu_vulkan.proofs.Heaps.{heap_there}
-use Rattle.gpu_memory_types.proofs.Changed.{element_at}
+use Rattle.gpu_core.proofs.Changed.{element_at}
 use Rattle.gpu_vulkan.proofs.setup.Setup.heap_size.Goals as goal
 
 pub returns-clause-size : goal.returns-clause-size

@@ -1,0 +1,52 @@
+use Rattle.std.proofs.Common.{◌≡◌, Some, arith, slice_get, slice_set, ap, ◌∙◌}
+use Rattle.gpu_core.specs.Budgets.{budgets}
+use Rattle.gpu_core.specs.Types.{Types, type_of, kinds, MemoryTypesInvariant}
+use Rattle.gpu_core.proofs.Changed.{element_at, renamed, named_cause}
+use Rattle.gpu_core.proofs.Types.{invariant_set, kinds_set, budgets_set, share_below, type_elsewhere}
+use Rattle.gpu_core.proofs.memory_types.MemoryTypes.rename.Goals as goal
+use Rattle.gpu_core.proofs.memory_types.MemoryTypes.rename.Goals.{After-rename}
+
+old_at : (g : _) (c : After-rename g) → slice_get c.self.inside.types.items c.args.index ≡ Some c.index_mut.result.now
+old_at g c = element_at c.self.inside.types.items c.args.index c.index_mut.result.now (omega (arith, c.if-index-len.false, c.len.ensures)) c.index_mut.ensures.value
+
+kept_after : (g : _) (c : After-rename g) → MemoryTypesInvariant (slice_set c.self.inside.types.items c.args.index c.rename.new.self)
+kept_after g c =
+    let at = old_at g c in
+    let sum = c.self.invariant.sum in
+    let share = share_below c.self.inside.types.items c.args.index c.index_mut.result.now at in
+    invariant_set c.self.inside.types.items c.args.index c.index_mut.result.now c.rename.new.self at (omega (arith, c.if-index-len.false, c.len.ensures)) c.self.invariant c.rename.ensures.sound
+    (omega (arith, sum, share, c.rename.ensures.capacity))
+
+pub invariant_of-self : goal.invariant_of-self
+invariant_of-self g c = kept_after g ((goal.at.invariant_of-self g c).After-rename)
+
+pub returns-clause-kept : goal.returns-clause-kept
+returns-clause-kept g c = kept_after g ((goal.at.returns-clause-kept g c).After-rename)
+
+pub returns-clause-renamed : goal.returns-clause-renamed
+returns-clause-renamed g c =
+    let at = old_at g ((goal.at.returns-clause-renamed g c).After-rename) in
+    rw (← c.self.view_is)
+    (renamed c.self.inside.types.items c.args.index c.index_mut.result.now c.rename.new.self at g.H.PartialEq.eq c.args.piece.now c.args.name.now c.rename.result c.rename.ensures.live
+    c.rename.ensures.renamed)
+
+pub returns-clause-cause : goal.returns-clause-cause
+returns-clause-cause g c =
+    let at = old_at g ((goal.at.returns-clause-cause g c).After-rename) in
+    rw (← c.self.view_is)
+    (named_cause c.self.inside.types.items c.args.index c.index_mut.result.now c.rename.new.self at g.H.PartialEq.eq c.args.piece.now c.rename.result c.rename.ensures.dead c.rename.ensures.starved
+    c.rename.ensures.cause)
+
+pub returns-clause-budgets : goal.returns-clause-budgets
+returns-clause-budgets g c =
+    let at = old_at g ((goal.at.returns-clause-budgets g c).After-rename) in
+    budgets_set c.self.inside.types.items c.args.index c.index_mut.result.now c.rename.new.self at c.rename.ensures.budget ∙ ap budgets c.self.view_is
+
+pub returns-clause-kinds : goal.returns-clause-kinds
+returns-clause-kinds g c =
+    let at = old_at g ((goal.at.returns-clause-kinds g c).After-rename) in
+    kinds_set c.self.inside.types.items c.args.index c.index_mut.result.now c.rename.new.self at c.rename.ensures.kind.0 c.rename.ensures.kind.1 ∙ ap kinds c.self.view_is
+
+pub returns-clause-others : goal.returns-clause-others
+returns-clause-others g c = λ t away.
+    type_elsewhere c.self.inside.types.items c.args.index c.rename.new.self t away ∙ ap (λ (ts : Types _). type_of ts t) c.self.view_is

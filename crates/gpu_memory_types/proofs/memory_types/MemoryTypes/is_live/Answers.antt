@@ -1,6 +1,0 @@
-use Rattle.std.proofs.Common.{arith}
-use Rattle.std.proofs.lemmas.Grind.{common_steps}
-use Rattle.gpu_memory_types.proofs.memory_types.MemoryTypes.is_live.Goals as goal
-
-pub returns-in-None : goal.returns-in-None
-returns-in-None g c = grind (arith, common_steps)

@@ -1,5 +1,0 @@
-use Rattle.std.proofs.Common.{rules}
-use Rattle.gpu_memory_types.proofs.memory_types.MemoryTypes.leak_texts.Goals as goal
-
-pub returns-clause-texts : goal.returns-clause-texts
-returns-clause-texts g c = search rules
