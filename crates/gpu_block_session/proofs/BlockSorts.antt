@@ -58,9 +58,9 @@ one_sort line c d said also =
 
 -- a command that may not come next, however its line is read
 pub out_of_order : (stage : BlockStage) (line : List ℕ) (c : Command) → SaysCommand line c → (Admits stage (sort_of_command c) → ⊥) → IsBad stage line
-out_of_order stage line c said no = record {
+out_of_order stage line c said not = record {
   gives = not_blank line c said;
-  says = λ d also a. no (subst (Admits stage) (one_sort line c d said also) a);
+  says = λ d also a. not (subst (Admits stage) (one_sort line c d said also) a);
 }
 
 pub says_nothing : (stage : BlockStage) (line : List ℕ) → SaysNothing line → IsBad stage line

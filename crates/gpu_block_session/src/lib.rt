@@ -11,9 +11,9 @@ mod line;
 mod machine;
 mod outcome;
 mod replay;
-mod run;
 pub mod text;
 mod trace;
+mod trace_run;
 pub mod words;
 
 pub use block_stage::BlockStage;
@@ -23,5 +23,5 @@ pub use line::{Line, ascii, read};
 pub use machine::{Machine, run};
 pub use outcome::Outcome;
 pub use replay::{Replayed, replay_from};
-pub use run::{LIMIT, TraceError, lines_in, read_trace, run_from};
 pub use trace::Trace;
+pub use trace_run::{LIMIT, TraceError, lines_in, read_trace, run_from};

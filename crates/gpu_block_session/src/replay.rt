@@ -4,8 +4,8 @@ ghost use Rattle.std.specs.Prelude.{IfOk, IfSome};
 ghost use Rattle.gpu_block_session.specs.Words.{texts};
 ghost use Rattle.gpu_block_session.specs.Replay.{Replays, ReplaysTrace};
 
-use crate::run::{LIMIT, TraceError, lines_in, read_trace};
 use crate::trace::Trace;
+use crate::trace_run::{LIMIT, TraceError, lines_in, read_trace};
 use log::Log;
 use std::alloc::{AllocError, Global};
 use std::io::Read;

@@ -1,4 +1,4 @@
-use Rattle.std.proofs.Common.{◌++◌, ◌∷◌, [], take, arith}
+use Rattle.std.proofs.Common.{take, arith}
 use Rattle.std.proofs.lemmas.Grind.{common_steps}
 use Rattle.gpu_block_session.proofs.CommandLists.{run_more, take_next}
 use Rattle.gpu_block_session.proofs.machine.run.Goals as goal

@@ -1,7 +1,7 @@
 use Rattle.std.proofs.Common.{rules, ◌==◌}
 use Rattle.std.proofs.lemmas.Iterator.Splits.{YieldsList-from_slice_split}
 use Rattle.std.proofs.lemmas.Iterator.Consumers.{map_from_collect}
-use Rattle.gpu_block_session.proofs.run.lines_in.Goals as goal
+use Rattle.gpu_block_session.proofs.trace_run.lines_in.Goals as goal
 
 pub returns : goal.returns
 returns c = map_from_collect _ c.collect.ensures.ran

@@ -2,7 +2,7 @@ use Rattle.std.proofs.Common.{rules, ◌≡◌, ◌∙◌, ap, ◌<◌, ◌≤�
 use Rattle.gpu_block_session.specs.Words.{texts}
 use Rattle.gpu_block_session.specs.Run.{lines_of, longest_trace}
 use Rattle.gpu_block_session.proofs.Input.{too_long, all_read}
-use Rattle.gpu_block_session.proofs.run.run.Goals as goal
+use Rattle.gpu_block_session.proofs.trace_run.run.Goals as goal
 
 pub returns-then-len-gt-LIMIT : goal.returns-then-len-gt-LIMIT
 returns-then-len-gt-LIMIT g c =
