@@ -1,9 +1,10 @@
 -- Classes of lengths are in the order of the lengths.
-use Rattle.std.proofs.Common.{◌≡◌, ℕ, ◌+◌, ◌-◌, ◌*◌, ◌/◌, ◌%◌, ◌^◌, ◌<◌, ◌≤◌, ◌⊎◌, inl, inr, sym, ap, subst, ◌∙◌, arith}
-use Rattle.std.proofs.Math.Nat.{pow-le-pow_right, mul-le-mul_right}
+use Rattle.std.proofs.Common.{◌≡◌, ℕ, min, ◌+◌, ◌-◌, ◌*◌, ◌/◌, ◌%◌, ◌^◌, ◌<◌, ◌≤◌, ◌⊎◌, inl, inr, sym, ap, subst, ◌∙◌, arith}
+use Rattle.std.proofs.Math.Nat.{pow-le-pow_right, mul-le-mul_right, min-le_left, min-le_right, min-eq_left, min-eq_right}
 use Rattle.std.proofs.lemmas.Nat.{leading_length, shr_below, le-div, pow_pos, shl_whole, pow-add}
 use Rattle.std.proofs.lemmas.Bool.{cases_lt}
-use Rattle.gpu_block_gaps.specs.Class.{untold, class_number, class_count}
+use Rattle.gpu_block_gaps.specs.declared.class.Scale.{Scale}
+use Rattle.gpu_block_gaps.specs.Class.{untold, class_number, class_count, class_on, IsFew}
 use Rattle.gpu_block_gaps.proofs.Bits.{quotient_le}
 
 -- a length has as many digits as its class tells, and those that it doesn't tell
@@ -57,14 +58,13 @@ class_count_small d few =
     let many : (65 - d) * 2 ^ d ≤ 65 * 2 ^ d = mul-le-mul_right (2 ^ d) (omega arith) in
     omega arith
 
-pub class_count_few : (d : ℕ) → d < 24 → class_count d < 2 ^ 32
-class_count_few d few =
+-- with few digits the class is a number of 32 bits, and so is the next one
+pub class_few : (d n : ℕ) → d < 24 → n < 2 ^ 64 → class_number d n + 1 < 2 ^ 32
+class_few d n few fits =
     let power = power_le d 23 (omega arith) in
     let many : (65 - d) * 2 ^ d ≤ 65 * 2 ^ d = mul-le-mul_right (2 ^ d) (omega arith) in
+    let within = class_within d n (omega arith) fits in
     omega arith
-
-pub count_whole : (d : ℕ) → d < 24 → ((65 - d) * 2 ^ d) % 2 ^ 64 ≡ class_count d
-count_whole d few = shl_whole (65 - d) 7 d 64 (omega arith) (omega arith)
 
 pub shift_whole : (d n : ℕ) → d < 32 → n < 2 ^ 64 → (untold d n * 2 ^ d) % 2 ^ 64 ≡ untold d n * 2 ^ d
 shift_whole d n few fits =
@@ -91,7 +91,7 @@ untold_rises d m n fits_m fits_n le =
         absurd (let power = power_le (b + 1) a (omega arith) in let twice : 2 ^ (b + 1) ≡ 2 ^ b * 2 = pow-add 2 b 1 in omega arith)
 
 -- a longer gap is of no earlier class
-pub class_rises : (d m n : ℕ) → d < 32 → m < 2 ^ 64 → n < 2 ^ 64 → m ≤ n → class_number d m ≤ class_number d n
+class_rises : (d m n : ℕ) → d < 32 → m < 2 ^ 64 → n < 2 ^ 64 → m ≤ n → class_number d m ≤ class_number d n
 class_rises d m n few fits_m fits_n le = by_order (cases_lt (untold d m) (untold d n)) (digits_of d n few fits_n).above
   where
     by_order : (untold d m < untold d n) ⊎ (untold d n ≤ untold d m) → (untold d n ≡ 0) ⊎ (2 ^ (untold d n + d) ≤ n) → class_number d m ≤ class_number d n
@@ -108,3 +108,16 @@ class_rises d m n few fits_m fits_n le = by_order (cases_lt (untold d m) (untold
         let told = told_below d m few fits_m in
         let many : (untold d m + 1) * 2 ^ d ≤ e * 2 ^ d = mul-le-mul_right (2 ^ d) (omega arith) in
         omega arith
+
+-- the lesser one of two numbers rises with the first
+min_rises : (a b l : ℕ) → a ≤ b → min a l ≤ min b l
+min_rises a b l le = by_order (cases_lt b l)
+  where
+    by_order : (b < l) ⊎ (l ≤ b) → min a l ≤ min b l
+    by_order (inl lt) = let first : min b l ≡ b = min-eq_left (omega arith) in let less = min-le_left a l in omega arith
+    by_order (inr ge) = let last : min b l ≡ l = min-eq_right ge in let less = min-le_right a l in omega arith
+
+-- a longer gap is of no earlier class, also where the last one is shared
+pub on_rises : (scale : Scale) (m n : ℕ) → IsFew scale → m < 2 ^ 64 → n < 2 ^ 64 → m ≤ n → class_on scale m ≤ class_on scale n
+on_rises scale m n few fits_m fits_n le =
+    min_rises (class_number scale.digits m) (class_number scale.digits n) scale.last (class_rises scale.digits m n (let h = few.0 in omega arith) fits_m fits_n le)

@@ -4,11 +4,13 @@ use Rattle.std.specs.List.{AllPairs}
 use Rattle.std.proofs.lemmas.Bool.{cases_lt, cases_eq}
 use Rattle.std.proofs.lemmas.Option.{same_Some}
 use Rattle.std.proofs.lemmas.List.{length-append, get_or_append_left, get_or-append_right, get_or_at}
+use Rattle.gpu_block_gaps.specs.declared.class.Scale.{Scale}
+use Rattle.gpu_block_gaps.specs.Class.{IsFew}
 use Rattle.gpu_block_gaps.specs.Tree.{Tree, tip, fork, HasLeaf, Sorted, leaves_of, first_leaf, IsBefore, IsAfter}
 use Rattle.gpu_block_gaps.specs.Forest.{class_in, tree_at, IsFirstLater}
 use Rattle.gpu_block_gaps.specs.Order.{IsIn, HasIn, AreInOrder, IsFirstUp, IsLastDown, AllDown}
 use Rattle.gpu_block_gaps.proofs.Bits.{quotient_le, below_by_part}
-use Rattle.gpu_block_gaps.proofs.Classes.{class_rises}
+use Rattle.gpu_block_gaps.proofs.Classes.{on_rises}
 use Rattle.gpu_block_gaps.proofs.Shapes.{first_has, agree_at}
 use Rattle.gpu_block_gaps.proofs.Positions.{in_append_left, in_append_right, all_pairs_append}
 
@@ -128,96 +130,96 @@ pub length_fits : (n : ℕ) → n < 2 ^ 128 → n / 2 ^ 64 < 2 ^ 64
 length_fits n fits = omega arith
 
 -- a lesser key is of no later class
-pub class_falls : (digits m n : ℕ) → digits < 24 → m < 2 ^ 128 → n < 2 ^ 128 → m ≤ n → class_in digits m ≤ class_in digits n
-class_falls digits m n few fits_m fits_n le = class_rises digits (m / 2 ^ 64) (n / 2 ^ 64) (omega arith) (length_fits m fits_m) (length_fits n fits_n) (quotient_le m n 64 le)
+pub class_falls : (scale : Scale) (m n : ℕ) → IsFew scale → m < 2 ^ 128 → n < 2 ^ 128 → m ≤ n → class_in scale m ≤ class_in scale n
+class_falls scale m n few fits_m fits_n le = on_rises scale (m / 2 ^ 64) (n / 2 ^ 64) few (length_fits m fits_m) (length_fits n fits_n) (quotient_le m n 64 le)
 
-pub less_by_class : (digits m n : ℕ) → digits < 24 → m < 2 ^ 128 → n < 2 ^ 128 → class_in digits m < class_in digits n → m < n
-less_by_class digits m n few fits_m fits_n less = by_order (cases_lt m n)
+pub less_by_class : (scale : Scale) (m n : ℕ) → IsFew scale → m < 2 ^ 128 → n < 2 ^ 128 → class_in scale m < class_in scale n → m < n
+less_by_class scale m n few fits_m fits_n less = by_order (cases_lt m n)
   where
     by_order : (m < n) ⊎ (n ≤ m) → m < n
     by_order (inl lt) = lt
-    by_order (inr le) = absurd (let falls = class_falls digits n m few fits_n fits_m le in omega arith)
+    by_order (inr le) = absurd (let falls = class_falls scale n m few fits_n fits_m le in omega arith)
 
-module _ (key : ℕ → ℕ) (digits : ℕ) (trees : List (Option Tree)) (order : List ℕ) (few : digits < 24) (are : AreInOrder key digits trees order) (n : ℕ) (fits : n < 2 ^ 128)
-    (kept : (c l : ℕ) → HasIn trees c l → class_in digits (key l) ≡ c) (in_order : (c : ℕ) (t : Tree) → tree_at trees c ≡ Some t → Sorted key t) where
+module _ (key : ℕ → ℕ) (scale : Scale) (trees : List (Option Tree)) (order : List ℕ) (few : IsFew scale) (are : AreInOrder key scale trees order) (n : ℕ) (fits : n < 2 ^ 128)
+    (kept : (c l : ℕ) → HasIn trees c l → class_in scale (key l) ≡ c) (in_order : (c : ℕ) (t : Tree) → tree_at trees c ≡ Some t → Sorted key t) where
   -- a leaf of another class than the number's
   one_tree : (c l : ℕ) (t : Tree) → tree_at trees c ≡ Some t → HasIn trees c l → HasLeaf l t
   one_tree c l t is has = subst (λ (u : Tree). HasLeaf l u) (same_Some _ _ (sym has.is ∙ is)) has.has
 
-  pub up_here : (t : Tree) (l : ℕ) → tree_at trees (class_in digits n) ≡ Some t → IsBefore key n (leaves_of t) l → IsFirstUp key order n l
+  pub up_here : (t : Tree) (l : ℕ) → tree_at trees (class_in scale n) ≡ Some t → IsBefore key n (leaves_of t) l → IsFirstUp key order n l
   up_here t l is before = record {
     here = here;
     up = (let h = b.1 in omega arith);
-    least = λ x has up. least x has up (cases_lt (class_in digits n) (class_in digits (key x)));
+    least = λ x has up. least x has up (cases_lt (class_in scale n) (class_in scale (key x)));
   }
     where
       b : HasLeaf l t × (n < key l) × ((x : ℕ) → HasLeaf x t → n ≤ key x → key l ≤ key x)
-      b = before_least key t (in_order (class_in digits n) t is) n l before
+      b = before_least key t (in_order (class_in scale n) t is) n l before
 
-      inside : HasIn trees (class_in digits n) l
+      inside : HasIn trees (class_in scale n) l
       inside = record { tree = t; is = is; has = b.0 }
 
       here : IsIn l order
-      here = are.held (class_in digits n) l inside
+      here = are.held (class_in scale n) l inside
 
-      least : (x : ℕ) → IsIn x order → n ≤ key x → (class_in digits n < class_in digits (key x)) ⊎ (class_in digits (key x) ≤ class_in digits n) → key l ≤ key x
+      least : (x : ℕ) → IsIn x order → n ≤ key x → (class_in scale n < class_in scale (key x)) ⊎ (class_in scale (key x) ≤ class_in scale n) → key l ≤ key x
       least x has up (inl later) =
-          let class = kept (class_in digits n) l inside in
-          let less = less_by_class digits (key l) (key x) few (are.fits l here) (are.fits x has) (omega arith) in
+          let class = kept (class_in scale n) l inside in
+          let less = less_by_class scale (key l) (key x) few (are.fits l here) (are.fits x has) (omega arith) in
           omega arith
       least x has up (inr no_later) =
-          let falls = class_falls digits n (key x) few fits (are.fits x has) up in
-          let same : class_in digits (key x) ≡ class_in digits n = omega arith in
-          b.2 x (one_tree (class_in digits n) x t is (subst (λ c. HasIn trees c x) same (are.holds x has))) up
+          let falls = class_falls scale n (key x) few fits (are.fits x has) up in
+          let same : class_in scale (key x) ≡ class_in scale n = omega arith in
+          b.2 x (one_tree (class_in scale n) x t is (subst (λ c. HasIn trees c x) same (are.holds x has))) up
 
-  pub down_here : (t : Tree) (l : ℕ) → tree_at trees (class_in digits n) ≡ Some t → IsAfter key n (leaves_of t) l → IsLastDown key order n l
+  pub down_here : (t : Tree) (l : ℕ) → tree_at trees (class_in scale n) ≡ Some t → IsAfter key n (leaves_of t) l → IsLastDown key order n l
   down_here t l is after = record {
     here = here;
     down = a.1;
-    greatest = λ x has down. greatest x has down (cases_lt (class_in digits (key x)) (class_in digits n));
+    greatest = λ x has down. greatest x has down (cases_lt (class_in scale (key x)) (class_in scale n));
   }
     where
       a : HasLeaf l t × (key l < n) × ((x : ℕ) → HasLeaf x t → key x < n → key x ≤ key l)
-      a = after_greatest key t (in_order (class_in digits n) t is) n l after
+      a = after_greatest key t (in_order (class_in scale n) t is) n l after
 
-      inside : HasIn trees (class_in digits n) l
+      inside : HasIn trees (class_in scale n) l
       inside = record { tree = t; is = is; has = a.0 }
 
       here : IsIn l order
-      here = are.held (class_in digits n) l inside
+      here = are.held (class_in scale n) l inside
 
-      greatest : (x : ℕ) → IsIn x order → key x < n → (class_in digits (key x) < class_in digits n) ⊎ (class_in digits n ≤ class_in digits (key x)) → key x ≤ key l
+      greatest : (x : ℕ) → IsIn x order → key x < n → (class_in scale (key x) < class_in scale n) ⊎ (class_in scale n ≤ class_in scale (key x)) → key x ≤ key l
       greatest x has down (inl earlier) =
-          let class = kept (class_in digits n) l inside in
-          let less = less_by_class digits (key x) (key l) few (are.fits x has) (are.fits l here) (omega arith) in
+          let class = kept (class_in scale n) l inside in
+          let less = less_by_class scale (key x) (key l) few (are.fits x has) (are.fits l here) (omega arith) in
           omega arith
       greatest x has down (inr no_earlier) =
-          let falls = class_falls digits (key x) n few (are.fits x has) fits (omega arith) in
-          let same : class_in digits (key x) ≡ class_in digits n = omega arith in
-          a.2 x (one_tree (class_in digits n) x t is (subst (λ c. HasIn trees c x) same (are.holds x has))) down
+          let falls = class_falls scale (key x) n few (are.fits x has) fits (omega arith) in
+          let same : class_in scale (key x) ≡ class_in scale n = omega arith in
+          a.2 x (one_tree (class_in scale n) x t is (subst (λ c. HasIn trees c x) same (are.holds x has))) down
 
-  pub same_here : (t : Tree) (l : ℕ) → tree_at trees (class_in digits n) ≡ Some t → HasLeaf l t → key l ≡ n → IsFirstUp key order n l
+  pub same_here : (t : Tree) (l : ℕ) → tree_at trees (class_in scale n) ≡ Some t → HasLeaf l t → key l ≡ n → IsFirstUp key order n l
   same_here t l is has same = record {
-    here = are.held (class_in digits n) l (record { tree = t; is = is; has = has });
+    here = are.held (class_in scale n) l (record { tree = t; is = is; has = has });
     up = omega arith;
     least = λ x there up. omega arith;
   }
 
-  none_below : (x : ℕ) → IsIn x order → tree_at trees (class_in digits n) ≡ None → n ≤ key x → class_in digits n < class_in digits (key x)
-  none_below x has none up = by_order (cases_eq (class_in digits n) (class_in digits (key x)))
+  none_below : (x : ℕ) → IsIn x order → tree_at trees (class_in scale n) ≡ None → n ≤ key x → class_in scale n < class_in scale (key x)
+  none_below x has none up = by_order (cases_eq (class_in scale n) (class_in scale (key x)))
     where
-      falls : class_in digits n ≤ class_in digits (key x)
-      falls = class_falls digits n (key x) few fits (are.fits x has) up
+      falls : class_in scale n ≤ class_in scale (key x)
+      falls = class_falls scale n (key x) few fits (are.fits x has) up
 
-      by_order : (class_in digits n ≡ class_in digits (key x)) ⊎ (class_in digits n ≢ class_in digits (key x)) → class_in digits n < class_in digits (key x)
-      by_order (inl same) = absurd (let there = (are.holds x has).is in let no_tree : tree_at trees (class_in digits (key x)) ≡ None = ap (tree_at trees) (sym same) ∙ none in cc)
+      by_order : (class_in scale n ≡ class_in scale (key x)) ⊎ (class_in scale n ≢ class_in scale (key x)) → class_in scale n < class_in scale (key x)
+      by_order (inl same) = absurd (let there = (are.holds x has).is in let no_tree : tree_at trees (class_in scale (key x)) ≡ None = ap (tree_at trees) (sym same) ∙ none in cc)
       by_order (inr other) = omega (arith, falls)
 
-  pub up_later : (l : ℕ) → tree_at trees (class_in digits n) ≡ None → IsFirstLater trees (class_in digits n) l → IsFirstUp key order n l
+  pub up_later : (l : ℕ) → tree_at trees (class_in scale n) ≡ None → IsFirstLater trees (class_in scale n) l → IsFirstUp key order n l
   up_later l none later = record {
     here = here;
-    up = (let less = less_by_class digits n (key l) few fits (are.fits l here) (let a = class in let b = later.later in omega arith) in omega arith);
-    least = λ x has up. least x has up (cases_lt later.next (class_in digits (key x))) (cases_lt (class_in digits (key x)) later.next);
+    up = (let less = less_by_class scale n (key l) few fits (are.fits l here) (let a = class in let b = later.later in omega arith) in omega arith);
+    least = λ x has up. least x has up (cases_lt later.next (class_in scale (key x))) (cases_lt (class_in scale (key x)) later.next);
   }
     where
       inside : HasIn trees later.next l
@@ -226,27 +228,27 @@ module _ (key : ℕ → ℕ) (digits : ℕ) (trees : List (Option Tree)) (order 
       here : IsIn l order
       here = are.held later.next l inside
 
-      class : class_in digits (key l) ≡ later.next
+      class : class_in scale (key l) ≡ later.next
       class = kept later.next l inside
 
-      least : (x : ℕ) → IsIn x order → n ≤ key x → (later.next < class_in digits (key x)) ⊎ (class_in digits (key x) ≤ later.next)
-          → (class_in digits (key x) < later.next) ⊎ (later.next ≤ class_in digits (key x)) → key l ≤ key x
+      least : (x : ℕ) → IsIn x order → n ≤ key x → (later.next < class_in scale (key x)) ⊎ (class_in scale (key x) ≤ later.next)
+          → (class_in scale (key x) < later.next) ⊎ (later.next ≤ class_in scale (key x)) → key l ≤ key x
       least x has up (inl behind) other =
-          let less = less_by_class digits (key l) (key x) few (are.fits l here) (are.fits x has) (let a = class in omega arith) in
+          let less = less_by_class scale (key l) (key x) few (are.fits l here) (are.fits x has) (let a = class in omega arith) in
           omega arith
       least x has up (inr le) (inl between) = absurd (
           let more = none_below x has none up in
           let there = (are.holds x has).is in
-          let no_tree = later.none (class_in digits (key x)) more between in
+          let no_tree = later.none (class_in scale (key x)) more between in
           cc)
       least x has up (inr le) (inr ge) =
-          let same : class_in digits (key x) ≡ later.next = omega arith in
+          let same : class_in scale (key x) ≡ later.next = omega arith in
           let inside_x = one_tree later.next x later.tree later.is (subst (λ c. HasIn trees c x) same (are.holds x has)) in
           let first = first_least key later.tree x (in_order later.next later.tree later.is) inside_x in
           let e : key l ≡ key (first_leaf later.tree) = ap key later.first in
           omega arith
 
-  pub none_later : tree_at trees (class_in digits n) ≡ None → ((c : ℕ) → class_in digits n < c → tree_at trees c ≡ None) → AllDown key order n
+  pub none_later : tree_at trees (class_in scale n) ≡ None → ((c : ℕ) → class_in scale n < c → tree_at trees c ≡ None) → AllDown key order n
   none_later none behind x has = by_order (cases_lt (key x) n)
     where
       by_order : (key x < n) ⊎ (n ≤ key x) → key x < n
@@ -254,5 +256,5 @@ module _ (key : ℕ → ℕ) (digits : ℕ) (trees : List (Option Tree)) (order 
       by_order (inr up) = absurd (
           let more = none_below x has none up in
           let there = (are.holds x has).is in
-          let no_tree = behind (class_in digits (key x)) more in
+          let no_tree = behind (class_in scale (key x)) more in
           cc)

@@ -5,8 +5,8 @@ use Rattle.std.proofs.lemmas.List.Sums.{sum_by-set}
 use Rattle.std.proofs.lemmas.List.Elements.{All-weaker}
 use Rattle.std.proofs.lemmas.Bool.{cases_eq, cases_lt}
 use Rattle.std.proofs.lemmas.Option.{same_Some}
+use Rattle.gpu_block_gaps.specs.declared.class.Scale.{Scale}
 use Rattle.gpu_block_gaps.specs.ClassSet.{is_in}
-use Rattle.gpu_block_gaps.specs.Class.{class_count}
 use Rattle.std.proofs.lemmas.List.{get_or_past, get_or-set_same, get_or-set_other, length-set}
 use Rattle.gpu_block_gaps.specs.declared.tree.Node.{Node}
 use Rattle.gpu_block_gaps.specs.declared.tree.Fork.{Fork}
@@ -15,31 +15,31 @@ use Rattle.gpu_block_gaps.specs.Forest.{class_in, tree_at, root_at, Roots, AreTr
 use Rattle.gpu_block_gaps.proofs.Shapes.{common_leaf, lays_kept}
 
 -- the tree that a root leads to
-pub record TreeAt (key : ℕ → ℕ) (slots : Slots) (digits c : ℕ) (node : Node) (o : Option Tree) : Type 0 where
+pub record TreeAt (key : ℕ → ℕ) (slots : Slots) (scale : Scale) (c : ℕ) (node : Node) (o : Option Tree) : Type 0 where
   pub tree : Tree
   pub is : o ≡ Some tree
   pub laid : Lays slots 128 node tree
   pub sorted : Sorted key tree
-  pub kept : (leaf : ℕ) → HasLeaf leaf tree → class_in digits (key leaf) ≡ c
+  pub kept : (leaf : ℕ) → HasLeaf leaf tree → class_in scale (key leaf) ≡ c
 
-pub tree_of_root : (key : ℕ → ℕ) (slots : Slots) (digits c : ℕ) (r : Option Node) (o : Option Tree) (node : Node) → Roots key slots digits c r o → r ≡ Some node → TreeAt key slots digits c node o
-tree_of_root key slots digits c None o node rooted is = absurd (cc)
-tree_of_root key slots digits c (Some m) None node rooted is = absurd rooted
-tree_of_root key slots digits c (Some m) (Some t) node rooted is =
+pub tree_of_root : (key : ℕ → ℕ) (slots : Slots) (scale : Scale) (c : ℕ) (r : Option Node) (o : Option Tree) (node : Node) → Roots key slots scale c r o → r ≡ Some node → TreeAt key slots scale c node o
+tree_of_root key slots scale c None o node rooted is = absurd (cc)
+tree_of_root key slots scale c (Some m) None node rooted is = absurd rooted
+tree_of_root key slots scale c (Some m) (Some t) node rooted is =
     let same : m ≡ node = cc in
     record { tree = t; is = refl; laid = subst (λ (n : Node). Lays slots 128 n t) same rooted.0; sorted = rooted.1; kept = rooted.2 }
 
-pub none_of_root : (key : ℕ → ℕ) (slots : Slots) (digits c : ℕ) (r : Option Node) (o : Option Tree) → Roots key slots digits c r o → r ≡ None → o ≡ None
-none_of_root key slots digits c None None rooted is = refl
-none_of_root key slots digits c None (Some t) rooted is = absurd rooted
-none_of_root key slots digits c (Some m) o rooted is = absurd (cc)
+pub none_of_root : (key : ℕ → ℕ) (slots : Slots) (scale : Scale) (c : ℕ) (r : Option Node) (o : Option Tree) → Roots key slots scale c r o → r ≡ None → o ≡ None
+none_of_root key slots scale c None None rooted is = refl
+none_of_root key slots scale c None (Some t) rooted is = absurd rooted
+none_of_root key slots scale c (Some m) o rooted is = absurd (cc)
 
-pub root_of_tree : (key : ℕ → ℕ) (slots : Slots) (digits c : ℕ) (r : Option Node) (o : Option Tree) (t : Tree) → Roots key slots digits c r o → o ≡ Some t
-    → (node : Node) × (r ≡ Some node) × TreeAt key slots digits c node o
-root_of_tree key slots digits c None None t rooted is = absurd (cc)
-root_of_tree key slots digits c None (Some u) t rooted is = absurd rooted
-root_of_tree key slots digits c (Some m) None t rooted is = absurd rooted
-root_of_tree key slots digits c (Some m) (Some u) t rooted is = (m, refl, tree_of_root key slots digits c (Some m) (Some u) m rooted refl)
+pub root_of_tree : (key : ℕ → ℕ) (slots : Slots) (scale : Scale) (c : ℕ) (r : Option Node) (o : Option Tree) (t : Tree) → Roots key slots scale c r o → o ≡ Some t
+    → (node : Node) × (r ≡ Some node) × TreeAt key slots scale c node o
+root_of_tree key slots scale c None None t rooted is = absurd (cc)
+root_of_tree key slots scale c None (Some u) t rooted is = absurd rooted
+root_of_tree key slots scale c (Some m) None t rooted is = absurd rooted
+root_of_tree key slots scale c (Some m) (Some u) t rooted is = (m, refl, tree_of_root key slots scale c (Some m) (Some u) m rooted refl)
 
 unset_none : (o : Option Node) → is_some o ≡ false → o ≡ None
 unset_none None is = refl
@@ -49,16 +49,16 @@ set_some : (o : Option Node) → is_some o ≡ true → (node : Node) × (o ≡ 
 set_some None is = absurd (cc)
 set_some (Some x) is = (x, refl)
 
-module _ (key : ℕ → ℕ) (digits : ℕ) (forks : List Fork) (spare : List ℕ) (room : ℕ) (roots : List (Option Node)) (classes : List ℕ) (trees : List (Option Tree))
-    (are : AreTrees key digits forks spare room roots classes trees) where
-  pub tree_there : (c : ℕ) (node : Node) → root_at roots c ≡ Some node → TreeAt key (slice_get forks) digits c node (tree_at trees c)
-  tree_there c node is = tree_of_root key (slice_get forks) digits c (root_at roots c) (tree_at trees c) node (are.lead c) is
+module _ (key : ℕ → ℕ) (scale : Scale) (forks : List Fork) (spare : List ℕ) (room : ℕ) (roots : List (Option Node)) (classes : List ℕ) (trees : List (Option Tree))
+    (are : AreTrees key scale forks spare room roots classes trees) where
+  pub tree_there : (c : ℕ) (node : Node) → root_at roots c ≡ Some node → TreeAt key (slice_get forks) scale c node (tree_at trees c)
+  tree_there c node is = tree_of_root key (slice_get forks) scale c (root_at roots c) (tree_at trees c) node (are.lead c) is
 
   pub none_there : (c : ℕ) → root_at roots c ≡ None → tree_at trees c ≡ None
-  none_there c is = none_of_root key (slice_get forks) digits c (root_at roots c) (tree_at trees c) (are.lead c) is
+  none_there c is = none_of_root key (slice_get forks) scale c (root_at roots c) (tree_at trees c) (are.lead c) is
 
-  pub root_there : (c : ℕ) (t : Tree) → tree_at trees c ≡ Some t → (node : Node) × (root_at roots c ≡ Some node) × TreeAt key (slice_get forks) digits c node (tree_at trees c)
-  root_there c t is = root_of_tree key (slice_get forks) digits c (root_at roots c) (tree_at trees c) t (are.lead c) is
+  pub root_there : (c : ℕ) (t : Tree) → tree_at trees c ≡ Some t → (node : Node) × (root_at roots c ≡ Some node) × TreeAt key (slice_get forks) scale c node (tree_at trees c)
+  root_there c t is = root_of_tree key (slice_get forks) scale c (root_at roots c) (tree_at trees c) t (are.lead c) is
 
   -- a class that isn't in the set has no tree, and one that is has a root
   pub none_outside : (c : ℕ) → is_in classes c ≡ false → tree_at trees c ≡ None
@@ -99,21 +99,21 @@ root_within roots c node is = by_order (cases_lt c (length roots))
 -- ---- another tree in a class
 
 -- a change of slots that the tree doesn't have
-pub roots_kept : (key : ℕ → ℕ) (old new : Slots) (digits c : ℕ) (r : Option Node) (o : Option Tree) → ((t : Tree) → o ≡ Some t → (k : ℕ) → HasFork k t → new k ≡ old k)
-    → Roots key old digits c r o → Roots key new digits c r o
-roots_kept key old new digits c None None same rooted = tt
-roots_kept key old new digits c None (Some t) same rooted = absurd rooted
-roots_kept key old new digits c (Some m) None same rooted = absurd rooted
-roots_kept key old new digits c (Some m) (Some t) same rooted = (lays_kept old new 128 m t (same t refl) rooted.0, rooted.1, rooted.2)
+pub roots_kept : (key : ℕ → ℕ) (old new : Slots) (scale : Scale) (c : ℕ) (r : Option Node) (o : Option Tree) → ((t : Tree) → o ≡ Some t → (k : ℕ) → HasFork k t → new k ≡ old k)
+    → Roots key old scale c r o → Roots key new scale c r o
+roots_kept key old new scale c None None same rooted = tt
+roots_kept key old new scale c None (Some t) same rooted = absurd rooted
+roots_kept key old new scale c (Some m) None same rooted = absurd rooted
+roots_kept key old new scale c (Some m) (Some t) same rooted = (lays_kept old new 128 m t (same t refl) rooted.0, rooted.1, rooted.2)
 
 -- neither the class's new tree nor the tree of another class has the slot
 abbrev pub IsOutside : List Fork → List (Option Tree) → ℕ → Option Tree → ℕ → Type 0
 IsOutside forks trees c o k = (k < length forks) × ((t : Tree) → o ≡ Some t → HasFork k t → ⊥) × ((d : ℕ) (t : Tree) → d ≢ c → tree_at trees d ≡ Some t → HasFork k t → ⊥)
 
-pub record Replants (key : ℕ → ℕ) (digits : ℕ) (forks forks' : List Fork) (spare spare' : List ℕ) (room : ℕ) (roots : List (Option Node)) (classes classes' : List ℕ) (trees : List (Option Tree))
+pub record Replants (key : ℕ → ℕ) (scale : Scale) (forks forks' : List Fork) (spare spare' : List ℕ) (room : ℕ) (roots : List (Option Node)) (classes classes' : List ℕ) (trees : List (Option Tree))
     (c : ℕ) (r : Option Node) (o : Option Tree) : Type 0 where
   pub within : c < length roots
-  pub planted : Roots key (slice_get forks') digits c r o
+  pub planted : Roots key (slice_get forks') scale c r o
   pub long : length forks' ≡ length forks
   pub others : (d : ℕ) (t : Tree) → d ≢ c → tree_at trees d ≡ Some t → (k : ℕ) → HasFork k t → slice_get forks' k ≡ slice_get forks k
   pub classes_long : length classes' ≡ length classes
@@ -123,13 +123,13 @@ pub record Replants (key : ℕ → ℕ) (digits : ℕ) (forks forks' : List Fork
   pub distinct : AllPairs (λ a b. a ≢ b) spare'
   pub vacant : All (IsOutside forks trees c o) spare'
 
-pub replanted : (key : ℕ → ℕ) (digits : ℕ) (forks forks' : List Fork) (spare spare' : List ℕ) (room : ℕ) (roots : List (Option Node)) (classes classes' : List ℕ) (trees : List (Option Tree))
-    (c : ℕ) (r : Option Node) (o : Option Tree) → AreTrees key digits forks spare room roots classes trees
-    → Replants key digits forks forks' spare spare' room roots classes classes' trees c r o
-    → AreTrees key digits forks' spare' room (set roots c r) classes' (set trees c o)
-replanted key digits forks forks' spare spare' room roots classes classes' trees c r o are new = record {
+pub replanted : (key : ℕ → ℕ) (scale : Scale) (forks forks' : List Fork) (spare spare' : List ℕ) (room : ℕ) (roots : List (Option Node)) (classes classes' : List ℕ) (trees : List (Option Tree))
+    (c : ℕ) (r : Option Node) (o : Option Tree) → AreTrees key scale forks spare room roots classes trees
+    → Replants key scale forks forks' spare spare' room roots classes classes' trees c r o
+    → AreTrees key scale forks' spare' room (set roots c r) classes' (set trees c o)
+replanted key scale forks forks' spare spare' room roots classes classes' trees c r o are new = record {
   few = are.few;
-  wide = subst (λ n. 0 < n → class_count digits ≤ n) (sym long_roots) are.wide;
+  wide = subst (λ n. 0 < n → scale.last < n) (sym long_roots) are.wide;
   rooted = length-set trees c o ∙ are.rooted ∙ sym long_roots;
   told_all = (let a = are.told_all in let b = long_roots in let e = new.classes_long in omega arith);
   lead = λ d. lead_at d (cases_eq d c);
@@ -152,15 +152,15 @@ replanted key digits forks forks' spare spare' room roots classes classes' trees
     root_same : root_at (set roots c r) c ≡ r
     root_same = get_or-set_same roots c r None new.within
 
-    lead_at : (d : ℕ) → (d ≡ c) ⊎ (d ≢ c) → Roots key (slice_get forks') digits d (root_at (set roots c r) d) (tree_at (set trees c o) d)
+    lead_at : (d : ℕ) → (d ≡ c) ⊎ (d ≢ c) → Roots key (slice_get forks') scale d (root_at (set roots c r) d) (tree_at (set trees c o) d)
     lead_at d (inl same) =
-        subst (λ e. Roots key (slice_get forks') digits e (root_at (set roots c r) e) (tree_at (set trees c o) e)) (sym same)
-        (subst (λ (n : Option Node). Roots key (slice_get forks') digits c n (tree_at (set trees c o) c)) (sym root_same)
-        (subst (λ (t : Option Tree). Roots key (slice_get forks') digits c r t) (sym tree_same) new.planted))
+        subst (λ e. Roots key (slice_get forks') scale e (root_at (set roots c r) e) (tree_at (set trees c o) e)) (sym same)
+        (subst (λ (n : Option Node). Roots key (slice_get forks') scale c n (tree_at (set trees c o) c)) (sym root_same)
+        (subst (λ (t : Option Tree). Roots key (slice_get forks') scale c r t) (sym tree_same) new.planted))
     lead_at d (inr other) =
-        let kept = roots_kept key (slice_get forks) (slice_get forks') digits d (root_at roots d) (tree_at trees d) (λ t is k has. new.others d t other is k has) (are.lead d) in
-        subst (λ (n : Option Node). Roots key (slice_get forks') digits d n (tree_at (set trees c o) d)) (sym (get_or-set_other roots c d r None other))
-        (subst (λ (t : Option Tree). Roots key (slice_get forks') digits d (root_at roots d) t) (sym (get_or-set_other trees c d o None other)) kept)
+        let kept = roots_kept key (slice_get forks) (slice_get forks') scale d (root_at roots d) (tree_at trees d) (λ t is k has. new.others d t other is k has) (are.lead d) in
+        subst (λ (n : Option Node). Roots key (slice_get forks') scale d n (tree_at (set trees c o) d)) (sym (get_or-set_other roots c d r None other))
+        (subst (λ (t : Option Tree). Roots key (slice_get forks') scale d (root_at roots d) t) (sym (get_or-set_other trees c d o None other)) kept)
 
     told_at : (d : ℕ) → (d ≡ c) ⊎ (d ≢ c) → is_in classes' d ≡ is_some (root_at (set roots c r) d)
     told_at d (inl same) = ap (is_in classes') same ∙ new.told ∙ sym (ap (λ e. is_some (root_at (set roots c r) e)) same ∙ ap (λ (n : Option Node). is_some n) root_same)

@@ -3,12 +3,13 @@ use Rattle.std.proofs.Common.{◌≡◌, ◌≢◌, ℕ, suc, ◌+◌, ◌*◌, 
 use Rattle.std.specs.List.{insert, remove}
 use Rattle.std.proofs.lemmas.Option.{same_Some}
 use Rattle.std.proofs.lemmas.List.{map-append, take-map, drop-map, length-map, length-set, get_or-map, get_or-set_same, get_or-set_other}
-use Rattle.gpu_block_gaps.specs.Class.{class_count}
+use Rattle.gpu_block_gaps.specs.declared.class.Scale.{Scale}
+use Rattle.gpu_block_gaps.specs.Class.{class_number}
 use Rattle.gpu_block_gaps.specs.Tree.{Tree, HasLeaf, Sorted, IsBefore, IsAfter, leaves_of, near}
 use Rattle.gpu_block_gaps.specs.declared.forest.Forest.{Forest}
 use Rattle.gpu_block_gaps.specs.Forest.{IsForest, KeepsRoom, class_in, tree_at, IsFirstLater, LosesLeaf}
 use Rattle.gpu_block_gaps.specs.Order.{IsIn, HasIn, AreInOrder, IsPlaceIn, IsFirstUp, Gains}
-use Rattle.gpu_block_gaps.proofs.Classes.{class_within}
+use Rattle.std.proofs.Math.Nat.{min-le_right}
 use Rattle.gpu_block_gaps.proofs.Shapes.{near_has}
 use Rattle.gpu_block_gaps.proofs.Pruning.{near_finds}
 use Rattle.gpu_block_gaps.proofs.Positions.{in_insert_cases, in_removed, first_up_at, none_up_at, last_down_at}
@@ -48,27 +49,26 @@ module _ (t : Threaded) (f : Forest) (trees : List (Option Tree)) (are : AreInde
   key : ℕ → ℕ
   key = key_in t.gaps
 
-  pub kept : (c l : ℕ) → HasIn trees c l → class_in f.digits (key_in t.gaps l) ≡ c
-  kept = class_kept (key_in t.gaps) f.digits f.forks.items f.spare.items (vec_capacity f.spare) f.roots.items f.classes trees are.forest
+  pub kept : (c l : ℕ) → HasIn trees c l → class_in f.scale (key_in t.gaps l) ≡ c
+  kept = class_kept (key_in t.gaps) f.scale f.forks.items f.spare.items (vec_capacity f.spare) f.roots.items f.classes trees are.forest
 
   pub sorted_in : (c : ℕ) (u : Tree) → tree_at trees c ≡ Some u → Sorted (key_in t.gaps) u
-  sorted_in = tree_sorted (key_in t.gaps) f.digits f.forks.items f.spare.items (vec_capacity f.spare) f.roots.items f.classes trees are.forest
+  sorted_in = tree_sorted (key_in t.gaps) f.scale f.forks.items f.spare.items (vec_capacity f.spare) f.roots.items f.classes trees are.forest
 
   -- the leaf to which a number's bits lead is one of the order
   pub near_in : (n c : ℕ) (u : Tree) → tree_at trees c ≡ Some u → IsIn (near n u) t.order
   near_in n c u is = are.ordered.held c (near n u) (record { tree = u; is = is; has = near_has n u })
 
-  pub class_inside : (n : ℕ) → n < 2 ^ 128 → 0 < length t.gaps → class_in f.digits n < length trees
+  pub class_inside : (n : ℕ) → n < 2 ^ 128 → 0 < length t.gaps → class_in f.scale n < length trees
   class_inside n fits some =
-      let few = are.forest.few in
-      let a = class_within f.digits (n / 2 ^ 64) (omega arith) (length_fits n fits) in
+      let a = min-le_right (class_number f.scale.digits (n / 2 ^ 64)) f.scale.last in
       let b = are.wide some in
       let e = are.forest.rooted in
       omega arith
 
   pub spare_left : length t.order + 1 < length t.gaps → 0 < length f.spare.items
   spare_left room =
-      spare_slot (key_in t.gaps) f.digits f.forks.items f.spare.items (vec_capacity f.spare) f.roots.items f.classes trees are.forest t.order are.ordered
+      spare_slot (key_in t.gaps) f.scale f.forks.items f.spare.items (vec_capacity f.spare) f.roots.items f.classes trees are.forest t.order are.ordered
       (let a = are.slots in let k = f.forks.ok in omega arith)
 
   -- ---- the slot of the first gap from a number on
@@ -77,23 +77,23 @@ module _ (t : Threaded) (f : Forest) (trees : List (Option Tree)) (are : AreInde
     first_is : (slot : ℕ) → IsFirstUp (key_in t.gaps) t.order n slot → slot ≡ get_or t.order place 0
     first_is slot first = sym (first_up_at (key_in t.gaps) t.order are.ordered.sorted n place is_place slot first).1
 
-    pub next_later : (slot : ℕ) → tree_at trees (class_in f.digits n) ≡ None → IsFirstLater trees (class_in f.digits n) slot → slot ≡ get_or t.order place 0
-    next_later slot none later = first_is slot (up_later (key_in t.gaps) f.digits trees t.order are.forest.few are.ordered n fits kept sorted_in slot none later)
+    pub next_later : (slot : ℕ) → tree_at trees (class_in f.scale n) ≡ None → IsFirstLater trees (class_in f.scale n) slot → slot ≡ get_or t.order place 0
+    next_later slot none later = first_is slot (up_later (key_in t.gaps) f.scale trees t.order are.forest.few are.ordered n fits kept sorted_in slot none later)
 
-    pub next_none : tree_at trees (class_in f.digits n) ≡ None → ((c : ℕ) → class_in f.digits n < c → tree_at trees c ≡ None) → 0 ≡ get_or t.order place 0
+    pub next_none : tree_at trees (class_in f.scale n) ≡ None → ((c : ℕ) → class_in f.scale n < c → tree_at trees c ≡ None) → 0 ≡ get_or t.order place 0
     next_none none behind =
-        sym (none_up_at (key_in t.gaps) t.order are.ordered.sorted n place is_place (none_later (key_in t.gaps) f.digits trees t.order are.forest.few are.ordered n fits kept sorted_in none behind)).1
+        sym (none_up_at (key_in t.gaps) t.order are.ordered.sorted n place is_place (none_later (key_in t.gaps) f.scale trees t.order are.forest.few are.ordered n fits kept sorted_in none behind)).1
 
-    pub next_same : (u : Tree) (slot : ℕ) → tree_at trees (class_in f.digits n) ≡ Some u → slot ≡ near n u → key_in t.gaps slot ≡ n → slot ≡ get_or t.order place 0
+    pub next_same : (u : Tree) (slot : ℕ) → tree_at trees (class_in f.scale n) ≡ Some u → slot ≡ near n u → key_in t.gaps slot ≡ n → slot ≡ get_or t.order place 0
     next_same u slot is at same =
-        first_is slot (same_here (key_in t.gaps) f.digits trees t.order are.forest.few are.ordered n fits kept sorted_in u slot is (subst (λ l. HasLeaf l u) (sym at) (near_has n u)) same)
+        first_is slot (same_here (key_in t.gaps) f.scale trees t.order are.forest.few are.ordered n fits kept sorted_in u slot is (subst (λ l. HasLeaf l u) (sym at) (near_has n u)) same)
 
-    pub next_before : (u : Tree) (slot : ℕ) → tree_at trees (class_in f.digits n) ≡ Some u → IsBefore (key_in t.gaps) n (leaves_of u) slot → slot ≡ get_or t.order place 0
-    next_before u slot is before = first_is slot (up_here (key_in t.gaps) f.digits trees t.order are.forest.few are.ordered n fits kept sorted_in u slot is before)
+    pub next_before : (u : Tree) (slot : ℕ) → tree_at trees (class_in f.scale n) ≡ Some u → IsBefore (key_in t.gaps) n (leaves_of u) slot → slot ≡ get_or t.order place 0
+    next_before u slot is before = first_is slot (up_here (key_in t.gaps) f.scale trees t.order are.forest.few are.ordered n fits kept sorted_in u slot is before)
 
-    pub next_after : (u : Tree) (slot : ℕ) → tree_at trees (class_in f.digits n) ≡ Some u → IsAfter (key_in t.gaps) n (leaves_of u) slot → slot ≡ get_or (0 ∷ t.order) place 0
+    pub next_after : (u : Tree) (slot : ℕ) → tree_at trees (class_in f.scale n) ≡ Some u → IsAfter (key_in t.gaps) n (leaves_of u) slot → slot ≡ get_or (0 ∷ t.order) place 0
     next_after u slot is after =
-        let last = down_here (key_in t.gaps) f.digits trees t.order are.forest.few are.ordered n fits kept sorted_in u slot is after in
+        let last = down_here (key_in t.gaps) f.scale trees t.order are.forest.few are.ordered n fits kept sorted_in u slot is after in
         let p = last_down_at (key_in t.gaps) t.order are.ordered.sorted n place is_place slot last in
         let e : place ≡ suc last.here.0 = omega arith in
         sym last.here.2 ∙ ap (λ j. get_or (0 ∷ t.order) j 0) (sym e)
@@ -108,8 +108,8 @@ module _ (t : Threaded) (f : Forest) (trees : List (Option Tree)) (are : AreInde
         subst (λ (a : Gap). HasKey a g.length g.start) (sym (get_or-map (gap_in t.gaps) t.order is.0 0 blank is.1 ∙ ap (gap_in t.gaps) is.2))
         (code_one (gap_in t.gaps l) g.length g.start (are.short l is) short.0 short.1 same))
 
-    pub not_same : (slot : ℕ) → IsNearby (key_in t.gaps) f.digits trees (code g) (Same slot) → ⊥
-    not_same slot at = other_key slot (subst (λ l. IsIn l t.order) (sym at.2) (near_in (code g) (class_in f.digits (code g)) at.0 at.1)) at.3
+    pub not_same : (slot : ℕ) → IsNearby (key_in t.gaps) f.scale trees (code g) (Same slot) → ⊥
+    not_same slot at = other_key slot (subst (λ l. IsIn l t.order) (sym at.2) (near_in (code g) (class_in f.scale (code g)) at.0 at.1)) at.3
 
     module _ (s : ℕ) (inside : s < length t.gaps) (apart : IsIn s t.order → ⊥) where
       -- the other gaps stay where they are
@@ -124,18 +124,18 @@ module _ (t : Threaded) (f : Forest) (trees : List (Option Tree)) (are : AreInde
 
       pub forest_rekeyed : IsForest (key_in (set t.gaps s g)) f trees
       forest_rekeyed =
-          trees_rekeyed (key_in t.gaps) (key_in (set t.gaps s g)) f.digits f.forks.items f.spare.items (vec_capacity f.spare) f.roots.items f.classes trees
+          trees_rekeyed (key_in t.gaps) (key_in (set t.gaps s g)) f.scale f.forks.items f.spare.items (vec_capacity f.spare) f.roots.items f.classes trees
           (λ c l has. stays_key l (are.ordered.held c l has)) are.forest
 
-      pub nearby_rekeyed : (n : ℕ) (near_by : Nearby) → IsNearby (key_in t.gaps) f.digits trees n near_by → IsNearby (key_in (set t.gaps s g)) f.digits trees n near_by
+      pub nearby_rekeyed : (n : ℕ) (near_by : Nearby) → IsNearby (key_in t.gaps) f.scale trees n near_by → IsNearby (key_in (set t.gaps s g)) f.scale trees n near_by
       nearby_rekeyed n Nothing at = at
-      nearby_rekeyed n (Same slot) at = (at.0, at.1, at.2, stays_key slot (subst (λ l. IsIn l t.order) (sym at.2) (near_in n (class_in f.digits n) at.0 at.1)) ∙ at.3)
+      nearby_rekeyed n (Same slot) at = (at.0, at.1, at.2, stays_key slot (subst (λ l. IsIn l t.order) (sym at.2) (near_in n (class_in f.scale n) at.0 at.1)) ∙ at.3)
       nearby_rekeyed n (Apart bit) at =
-          let e = stays_key (near n at.0) (near_in n (class_in f.digits n) at.0 at.1) in (
+          let e = stays_key (near n at.0) (near_in n (class_in f.scale n) at.0 at.1) in (
             at.0,
             at.1,
             record {
-              sorted = tree_sorted (key_in (set t.gaps s g)) f.digits f.forks.items f.spare.items (vec_capacity f.spare) f.roots.items f.classes trees forest_rekeyed (class_in f.digits n) at.0 at.1;
+              sorted = tree_sorted (key_in (set t.gaps s g)) f.scale f.forks.items f.spare.items (vec_capacity f.spare) f.roots.items f.classes trees forest_rekeyed (class_in f.scale n) at.0 at.1;
               above = at.2.above ∙ sym (ap (λ m. m / 2 ^ (bit + 1)) e);
               differs = λ same. at.2.differs (same ∙ ap (λ m. m / 2 ^ bit) e);
             },
@@ -144,17 +144,17 @@ module _ (t : Threaded) (f : Forest) (trees : List (Option Tree)) (are : AreInde
 
       module _ (t' : Threaded) (f' : Forest) (new : Tree) (p : ℕ) (place : IsPlaceIn (key_in t.gaps) t.order (code g) p) (room : KeepsRoom f f')
           (order' : t'.order ≡ insert t.order p s) (gaps' : t'.gaps ≡ set t.gaps s g)
-          (forest' : IsForest (key_in (set t.gaps s g)) f' (set trees (class_in f.digits (code g)) (Some new))) (gains : Gains trees (class_in f.digits (code g)) s new) where
+          (forest' : IsForest (key_in (set t.gaps s g)) f' (set trees (class_in f.scale (code g)) (Some new))) (gains : Gains trees (class_in f.scale (code g)) s new) where
         fits_all : code g < 2 ^ 128
         fits_all = code_fits g.length g.start short.0 short.1
 
-        made : AreIndexed (record { order = insert t.order p s; gaps = set t.gaps s g }) f' (set trees (class_in f.digits (code g)) (Some new))
+        made : AreIndexed (record { order = insert t.order p s; gaps = set t.gaps s g }) f' (set trees (class_in f.scale (code g)) (Some new))
         made = record {
           forest = forest';
-          ordered = subst (λ d. AreInOrder (key_in (set t.gaps s g)) d (set trees (class_in f.digits (code g)) (Some new)) (insert t.order p s)) (sym room.0)
-              (order_gains (key_in t.gaps) (key_in (set t.gaps s g)) f.digits trees t.order are.ordered (code g) p s new place other_key stays_key (ap code put_gap) fits_all gains (class_inside (code g) fits_all (omega arith)));
+          ordered = subst (λ d. AreInOrder (key_in (set t.gaps s g)) d (set trees (class_in f.scale (code g)) (Some new)) (insert t.order p s)) (sym room.0)
+              (order_gains (key_in t.gaps) (key_in (set t.gaps s g)) f.scale trees t.order are.ordered (code g) p s new place other_key stays_key (ap code put_gap) fits_all gains (class_inside (code g) fits_all (omega arith)));
           slots = (let a = are.slots in let b = room.1 in let e = length-set t.gaps s g in omega arith);
-          wide = λ some. subst (λ d. class_count d ≤ length f'.roots.items) (sym room.0) (let a = are.wide (omega arith) in let b = room.2 in omega arith);
+          wide = λ some. subst (λ (d : Scale). d.last < length f'.roots.items) (sym room.0) (let a = are.wide (omega arith) in let b = room.2 in omega arith);
           short = λ l is. by_cases l (in_insert_cases t.order p s place.within l is);
         }
           where
@@ -164,9 +164,9 @@ module _ (t : Threaded) (f : Forest) (trees : List (Option Tree)) (are : AreInde
 
         pub put_indexed : IsIndexed t' f'
         put_indexed = (
-          set trees (class_in f.digits (code g)) (Some new),
-          subst (λ (xs : List ℕ). AreIndexed (record { order = xs; gaps = t'.gaps }) f' (set trees (class_in f.digits (code g)) (Some new))) (sym order')
-              (subst (λ (gs : List Gap). AreIndexed (record { order = insert t.order p s; gaps = gs }) f' (set trees (class_in f.digits (code g)) (Some new))) (sym gaps') made),
+          set trees (class_in f.scale (code g)) (Some new),
+          subst (λ (xs : List ℕ). AreIndexed (record { order = xs; gaps = t'.gaps }) f' (set trees (class_in f.scale (code g)) (Some new))) (sym order')
+              (subst (λ (gs : List Gap). AreIndexed (record { order = insert t.order p s; gaps = gs }) f' (set trees (class_in f.scale (code g)) (Some new))) (sym gaps') made),
         )
 
         pub put_inserted : IsInserted (gaps_of t) g (gaps_of t')
@@ -197,34 +197,34 @@ module _ (t : Threaded) (f : Forest) (trees : List (Option Tree)) (are : AreInde
         let y = same.1 in
         omega arith
 
-    pub slot_tree : HasIn trees (class_in f.digits (size * 2 ^ 64 + start)) (get_or t.order has.at 0)
-    slot_tree = subst (λ m. HasIn trees (class_in f.digits m) (get_or t.order has.at 0)) slot_key (are.ordered.holds (get_or t.order has.at 0) slot_in)
+    pub slot_tree : HasIn trees (class_in f.scale (size * 2 ^ 64 + start)) (get_or t.order has.at 0)
+    slot_tree = subst (λ m. HasIn trees (class_in f.scale m) (get_or t.order has.at 0)) slot_key (are.ordered.holds (get_or t.order has.at 0) slot_in)
 
     -- the number's bits lead to the slot
-    pub slot_near : (u : Tree) → tree_at trees (class_in f.digits (size * 2 ^ 64 + start)) ≡ Some u → near (size * 2 ^ 64 + start) u ≡ get_or t.order has.at 0
+    pub slot_near : (u : Tree) → tree_at trees (class_in f.scale (size * 2 ^ 64 + start)) ≡ Some u → near (size * 2 ^ 64 + start) u ≡ get_or t.order has.at 0
     slot_near u is =
         let in_u : HasLeaf (get_or t.order has.at 0) u = subst (λ (v : Tree). HasLeaf (get_or t.order has.at 0) v) (same_Some _ _ (sym slot_tree.is ∙ is)) slot_tree.has in
-        ap (λ m. near m u) (sym slot_key) ∙ near_finds (key_in t.gaps) u (get_or t.order has.at 0) (sorted_in (class_in f.digits (size * 2 ^ 64 + start)) u is) in_u
+        ap (λ m. near m u) (sym slot_key) ∙ near_finds (key_in t.gaps) u (get_or t.order has.at 0) (sorted_in (class_in f.scale (size * 2 ^ 64 + start)) u is) in_u
 
-    module _ (t' : Threaded) (f' : Forest) (u : Tree) (rest : Option Tree) (is : tree_at trees (class_in f.digits (size * 2 ^ 64 + start)) ≡ Some u) (room : KeepsRoom f f')
+    module _ (t' : Threaded) (f' : Forest) (u : Tree) (rest : Option Tree) (is : tree_at trees (class_in f.scale (size * 2 ^ 64 + start)) ≡ Some u) (room : KeepsRoom f f')
         (order' : t'.order ≡ remove t.order has.at) (gaps' : t'.gaps ≡ t.gaps) (fits_size : size < 2 ^ 64) (fits_start : start < 2 ^ 64) (some : 0 < length t.gaps)
-        (forest' : IsForest (key_in t.gaps) f' (set trees (class_in f.digits (size * 2 ^ 64 + start)) rest)) (loses : LosesLeaf (near (size * 2 ^ 64 + start) u) u rest) where
-      left : AreIndexed (record { order = remove t.order has.at; gaps = t.gaps }) f' (set trees (class_in f.digits (size * 2 ^ 64 + start)) rest)
+        (forest' : IsForest (key_in t.gaps) f' (set trees (class_in f.scale (size * 2 ^ 64 + start)) rest)) (loses : LosesLeaf (near (size * 2 ^ 64 + start) u) u rest) where
+      left : AreIndexed (record { order = remove t.order has.at; gaps = t.gaps }) f' (set trees (class_in f.scale (size * 2 ^ 64 + start)) rest)
       left = record {
         forest = forest';
-        ordered = subst (λ d. AreInOrder (key_in t.gaps) d (set trees (class_in f.digits (size * 2 ^ 64 + start)) rest) (remove t.order has.at)) (sym room.0)
-            (order_loses (key_in t.gaps) f.digits trees t.order are.ordered kept (size * 2 ^ 64 + start) has.at u rest at_within slot_key is
+        ordered = subst (λ d. AreInOrder (key_in t.gaps) d (set trees (class_in f.scale (size * 2 ^ 64 + start)) rest) (remove t.order has.at)) (sym room.0)
+            (order_loses (key_in t.gaps) f.scale trees t.order are.ordered kept (size * 2 ^ 64 + start) has.at u rest at_within slot_key is
             (subst (λ m. LosesLeaf m u rest) (slot_near u is) loses) (class_inside (size * 2 ^ 64 + start) (code_fits size start fits_size fits_start) some));
         slots = (let a = are.slots in let b = room.1 in omega arith);
-        wide = λ any. subst (λ d. class_count d ≤ length f'.roots.items) (sym room.0) (let a = are.wide any in let b = room.2 in omega arith);
+        wide = λ any. subst (λ (d : Scale). d.last < length f'.roots.items) (sym room.0) (let a = are.wide any in let b = room.2 in omega arith);
         short = λ l in_l. (let old = in_removed t.order has.at at_within l in_l in are.short l (old.0, old.1, old.2));
       }
 
       pub take_indexed : IsIndexed t' f'
       take_indexed = (
-        set trees (class_in f.digits (size * 2 ^ 64 + start)) rest,
-        subst (λ (xs : List ℕ). AreIndexed (record { order = xs; gaps = t'.gaps }) f' (set trees (class_in f.digits (size * 2 ^ 64 + start)) rest)) (sym order')
-            (subst (λ (gs : List Gap). AreIndexed (record { order = remove t.order has.at; gaps = gs }) f' (set trees (class_in f.digits (size * 2 ^ 64 + start)) rest)) (sym gaps') left),
+        set trees (class_in f.scale (size * 2 ^ 64 + start)) rest,
+        subst (λ (xs : List ℕ). AreIndexed (record { order = xs; gaps = t'.gaps }) f' (set trees (class_in f.scale (size * 2 ^ 64 + start)) rest)) (sym order')
+            (subst (λ (gs : List Gap). AreIndexed (record { order = remove t.order has.at; gaps = gs }) f' (set trees (class_in f.scale (size * 2 ^ 64 + start)) rest)) (sym gaps') left),
       )
 
       pub take_removed : IsRemoved (gaps_of t) size start (gaps_of t')

@@ -4,6 +4,7 @@ use Rattle.std.specs.List.{slice_get, AllPairs}
 use Rattle.std.proofs.lemmas.Option.{same_Some}
 use Rattle.std.proofs.lemmas.List.{get_or_append_left, get_or_at, length-append}
 use Rattle.std.proofs.lemmas.List.Elements.{All-pop, All-weaker, All-from_get_or, All-get_or}
+use Rattle.gpu_block_gaps.specs.declared.class.Scale.{Scale}
 use Rattle.gpu_block_gaps.specs.declared.tree.Node.{Node}
 use Rattle.gpu_block_gaps.specs.declared.tree.Node.TheVariants.{Leaf}
 use Rattle.gpu_block_gaps.specs.declared.tree.Fork.{Fork}
@@ -91,14 +92,14 @@ apart_last ys z distinct = All-from_get_or (λ k. k ≢ z) ys 0 (λ i within sam
 
 -- ---- the trees of all classes
 
-module _ (key : ℕ → ℕ) (digits : ℕ) (forks : List Fork) (spare : List ℕ) (room : ℕ) (roots : List (Option Node)) (classes : List ℕ) (trees : List (Option Tree))
-    (are : AreTrees key digits forks spare room roots classes trees) where
-  pub first_planted : (classes' : List ℕ) (c leaf n : ℕ) → c ≡ class_in digits n → c < length roots → key leaf ≡ n → tree_at trees c ≡ None → ChangesOne classes classes' c true
-      → AreTrees key digits forks spare room (set roots c (Some (Leaf leaf))) classes' (set trees c (Some (tip leaf)))
+module _ (key : ℕ → ℕ) (scale : Scale) (forks : List Fork) (spare : List ℕ) (room : ℕ) (roots : List (Option Node)) (classes : List ℕ) (trees : List (Option Tree))
+    (are : AreTrees key scale forks spare room roots classes trees) where
+  pub first_planted : (classes' : List ℕ) (c leaf n : ℕ) → c ≡ class_in scale n → c < length roots → key leaf ≡ n → tree_at trees c ≡ None → ChangesOne classes classes' c true
+      → AreTrees key scale forks spare room (set roots c (Some (Leaf leaf))) classes' (set trees c (Some (tip leaf)))
   first_planted classes' c leaf n is within has none changes =
-      replanted key digits forks forks spare spare room roots classes classes' trees c (Some (Leaf leaf)) (Some (tip leaf)) are (record {
+      replanted key scale forks forks spare spare room roots classes classes' trees c (Some (Leaf leaf)) (Some (tip leaf)) are (record {
         within = within;
-        planted = (refl, tt, λ l same. ap (λ m. class_in digits (key m)) same ∙ ap (class_in digits) has ∙ sym is);
+        planted = (refl, tt, λ l same. ap (λ m. class_in scale (key m)) same ∙ ap (class_in scale) has ∙ sym is);
         long = refl;
         others = λ d t other there k in_t. refl;
         classes_long = changes.length;
@@ -119,7 +120,7 @@ module _ (key : ℕ → ℕ) (digits : ℕ) (forks : List Fork) (spare : List �
   pub beside_can : (spare' : List ℕ) (slot c : ℕ) (node : Node) (t : Tree) (n bit : ℕ) → spare ≡ spare' ++ slot ∷ [] → root_at roots c ≡ Some node → tree_at trees c ≡ Some t → IsSplit key t n bit → bit < 128
       → CanGrow key (slice_get forks) 128 node t n bit slot
   beside_can spare' slot c node t n bit was rooted is split below =
-      let there = tree_there key digits forks spare room roots classes trees are c node rooted in
+      let there = tree_there key scale forks spare room roots classes trees are c node rooted in
       let same = same_Some _ _ (sym there.is ∙ is) in
       let free = slot_vacant spare' slot was in
       record {
@@ -132,16 +133,16 @@ module _ (key : ℕ → ℕ) (digits : ℕ) (forks : List Fork) (spare : List �
       }
 
   pub beside_planted : (forks' : List Fork) (spare' : List ℕ) (slot c : ℕ) (node node' : Node) (t : Tree) (n bit leaf : ℕ) → spare ≡ spare' ++ slot ∷ [] → root_at roots c ≡ Some node
-      → tree_at trees c ≡ Some t → IsSplit key t n bit → c ≡ class_in digits n → c < length roots → key leaf ≡ n → length forks' ≡ length forks
+      → tree_at trees c ≡ Some t → IsSplit key t n bit → c ≡ class_in scale n → c < length roots → key leaf ≡ n → length forks' ≡ length forks
       → HasGrown (slice_get forks) (slice_get forks') 128 node' t (grown n bit leaf slot t) slot
-      → AreTrees key digits forks' spare' room (set roots c (Some node')) classes (set trees c (Some (grown n bit leaf slot t)))
+      → AreTrees key scale forks' spare' room (set roots c (Some node')) classes (set trees c (Some (grown n bit leaf slot t)))
   beside_planted forks' spare' slot c node node' t n bit leaf was rooted is split class within has long grew =
-      replanted key digits forks forks' spare spare' room roots classes classes trees c (Some node') (Some (grown n bit leaf slot t)) are (record {
+      replanted key scale forks forks' spare spare' room roots classes classes trees c (Some node') (Some (grown n bit leaf slot t)) are (record {
         within = within;
         planted = (grew.laid, sorted_grown key t n bit leaf slot split.sorted split.above split.differs has, λ l in_new. kept_class l (leaf_grown n bit leaf slot t l in_new));
         long = long;
         others = λ d u other there k in_u.
-            grew.others k (λ in_t. classes_apart key digits forks spare room roots classes trees are d c u t k other there is in_u in_t)
+            grew.others k (λ in_t. classes_apart key scale forks spare room roots classes trees are d c u t k other there is in_u in_t)
             (λ same. free.1 d u there (subst (λ j. HasFork j u) same in_u));
         classes_long = refl;
         told = are.told c ∙ ap (λ (o : Option Node). is_some o) rooted;
@@ -153,8 +154,8 @@ module _ (key : ℕ → ℕ) (digits : ℕ) (forks : List Fork) (spare : List �
             (All-get_or (λ k. k ≢ slot) spare' i 0 inside (apart_last spare' slot whole)));
       })
     where
-      there : (node : Node) × (root_at roots c ≡ Some node) × TreeAt key (slice_get forks) digits c node (tree_at trees c)
-      there = root_there key digits forks spare room roots classes trees are c t is
+      there : (node : Node) × (root_at roots c ≡ Some node) × TreeAt key (slice_get forks) scale c node (tree_at trees c)
+      there = root_there key scale forks spare room roots classes trees are c t is
 
       free : IsVacant forks trees slot
       free = slot_vacant spare' slot was
@@ -162,8 +163,8 @@ module _ (key : ℕ → ℕ) (digits : ℕ) (forks : List Fork) (spare : List �
       whole : AllPairs (λ a b. a ≢ b) (spare' ++ slot ∷ [])
       whole = subst (λ (xs : List ℕ). AllPairs (λ a b. a ≢ b) xs) was are.distinct
 
-      kept_class : (l : ℕ) → HasLeaf l t ⊎ (l ≡ leaf) → class_in digits (key l) ≡ c
-      kept_class l (inr same) = ap (λ m. class_in digits (key m)) same ∙ ap (class_in digits) has ∙ sym class
+      kept_class : (l : ℕ) → HasLeaf l t ⊎ (l ≡ leaf) → class_in scale (key l) ≡ c
+      kept_class l (inr same) = ap (λ m. class_in scale (key m)) same ∙ ap (class_in scale) has ∙ sym class
       kept_class l (inl in_t) = (there.2).kept l (subst (HasLeaf l) (sym (same_Some _ _ (sym (there.2).is ∙ is))) in_t)
 
       outside : (k : ℕ) → IsVacant forks trees k → k ≢ slot → IsOutside forks trees c (Some (grown n bit leaf slot t)) k

@@ -21,7 +21,7 @@ use Rattle.gpu_block_gaps.specs.Thread.{Threaded, gap_in, blank}
 use Rattle.gpu_block_gaps.specs.Ordered.{code, key_in, gaps_of, IsShort, AreIndexed, IsIndexed}
 
 module _ (t : Threaded) (f : Forest) (trees : List (Option Tree)) (are : AreIndexed t f trees) (s : ℕ) (at : IsIn s t.order) (inside : s < length t.gaps) (g : Gap) (short : IsShort g)
-    (class : class_in f.digits (code g) ≡ class_in f.digits (key_in t.gaps s)) (alone : tree_at trees (class_in f.digits (key_in t.gaps s)) ≡ Some (tip s)) where
+    (class : class_in f.scale (code g) ≡ class_in f.scale (key_in t.gaps s)) (alone : tree_at trees (class_in f.scale (key_in t.gaps s)) ≡ Some (tip s)) where
   now_at : gap_in (set t.gaps s g) s ≡ g
   now_at = get_or-set_same t.gaps s g blank inside
 
@@ -29,19 +29,19 @@ module _ (t : Threaded) (f : Forest) (trees : List (Option Tree)) (are : AreInde
   stays l other = get_or-set_other t.gaps s l g blank other
 
   -- the class has no other leaf
-  only : (l : ℕ) → HasIn trees (class_in f.digits (key_in t.gaps s)) l → l ≡ s
+  only : (l : ℕ) → HasIn trees (class_in f.scale (key_in t.gaps s)) l → l ≡ s
   only l has = subst (λ (u : Tree). HasLeaf l u) (same_Some _ _ (sym has.is ∙ alone)) has.has
 
   -- and the leaf is of no other class
-  here : (c : ℕ) → HasIn trees c s → c ≡ class_in f.digits (key_in t.gaps s)
+  here : (c : ℕ) → HasIn trees c s → c ≡ class_in f.scale (key_in t.gaps s)
   here c has = sym (kept t f trees are c s has)
 
-  class_stays : (l : ℕ) → class_in f.digits (key_in (set t.gaps s g) l) ≡ class_in f.digits (key_in t.gaps l)
+  class_stays : (l : ℕ) → class_in f.scale (key_in (set t.gaps s g) l) ≡ class_in f.scale (key_in t.gaps l)
   class_stays l = by_slot (cases_eq l s)
     where
-      by_slot : (l ≡ s) ⊎ (l ≡ s → ⊥) → class_in f.digits (key_in (set t.gaps s g) l) ≡ class_in f.digits (key_in t.gaps l)
-      by_slot (inl e) = subst (λ m. class_in f.digits (key_in (set t.gaps s g) m) ≡ class_in f.digits (key_in t.gaps m)) (sym e) (ap (λ (a : Gap). class_in f.digits (code a)) now_at ∙ class)
-      by_slot (inr other) = ap (λ (a : Gap). class_in f.digits (code a)) (stays l other)
+      by_slot : (l ≡ s) ⊎ (l ≡ s → ⊥) → class_in f.scale (key_in (set t.gaps s g) l) ≡ class_in f.scale (key_in t.gaps l)
+      by_slot (inl e) = subst (λ m. class_in f.scale (key_in (set t.gaps s g) m) ≡ class_in f.scale (key_in t.gaps m)) (sym e) (ap (λ (a : Gap). class_in f.scale (code a)) now_at ∙ class)
+      by_slot (inr other) = ap (λ (a : Gap). class_in f.scale (code a)) (stays l other)
 
   forest' : IsForest (key_in (set t.gaps s g)) f trees
   forest' = record {
@@ -49,7 +49,7 @@ module _ (t : Threaded) (f : Forest) (trees : List (Option Tree)) (are : AreInde
     wide = are.forest.wide;
     rooted = are.forest.rooted;
     told_all = are.forest.told_all;
-    lead = λ d. lead d (cases_eq d (class_in f.digits (key_in t.gaps s)));
+    lead = λ d. lead d (cases_eq d (class_in f.scale (key_in t.gaps s)));
     told = are.forest.told;
     counted = are.forest.counted;
     fits = are.forest.fits;
@@ -57,43 +57,43 @@ module _ (t : Threaded) (f : Forest) (trees : List (Option Tree)) (are : AreInde
     vacant = are.forest.vacant;
   }
     where
-      lead_here : Roots (key_in (set t.gaps s g)) (slice_get f.forks.items) f.digits (class_in f.digits (key_in t.gaps s)) (root_at f.roots.items (class_in f.digits (key_in t.gaps s))) (tree_at trees (class_in f.digits (key_in t.gaps s)))
+      lead_here : Roots (key_in (set t.gaps s g)) (slice_get f.forks.items) f.scale (class_in f.scale (key_in t.gaps s)) (root_at f.roots.items (class_in f.scale (key_in t.gaps s))) (tree_at trees (class_in f.scale (key_in t.gaps s)))
       lead_here =
-          let there = root_there (key_in t.gaps) f.digits f.forks.items f.spare.items (vec_capacity f.spare) f.roots.items f.classes trees are.forest (class_in f.digits (key_in t.gaps s)) (tip s) alone in
+          let there = root_there (key_in t.gaps) f.scale f.forks.items f.spare.items (vec_capacity f.spare) f.roots.items f.classes trees are.forest (class_in f.scale (key_in t.gaps s)) (tip s) alone in
           let same : there.2.tree ≡ tip s = same_Some _ _ (sym there.2.is ∙ alone) in
           let laid : Lays (slice_get f.forks.items) 128 there.0 (tip s) = subst (λ (u : Tree). Lays (slice_get f.forks.items) 128 there.0 u) same there.2.laid in
-          let planted : Roots (key_in (set t.gaps s g)) (slice_get f.forks.items) f.digits (class_in f.digits (key_in t.gaps s)) (Some there.0) (Some (tip s)) = (laid, tt, λ leaf e. class_stays leaf ∙ ap (λ m. class_in f.digits (key_in t.gaps m)) e) in
-          subst (λ (r : Option Node). Roots (key_in (set t.gaps s g)) (slice_get f.forks.items) f.digits (class_in f.digits (key_in t.gaps s)) r (tree_at trees (class_in f.digits (key_in t.gaps s)))) (sym there.1)
-          (subst (λ (o : Option Tree). Roots (key_in (set t.gaps s g)) (slice_get f.forks.items) f.digits (class_in f.digits (key_in t.gaps s)) (Some there.0) o) (sym alone) planted)
+          let planted : Roots (key_in (set t.gaps s g)) (slice_get f.forks.items) f.scale (class_in f.scale (key_in t.gaps s)) (Some there.0) (Some (tip s)) = (laid, tt, λ leaf e. class_stays leaf ∙ ap (λ m. class_in f.scale (key_in t.gaps m)) e) in
+          subst (λ (r : Option Node). Roots (key_in (set t.gaps s g)) (slice_get f.forks.items) f.scale (class_in f.scale (key_in t.gaps s)) r (tree_at trees (class_in f.scale (key_in t.gaps s)))) (sym there.1)
+          (subst (λ (o : Option Tree). Roots (key_in (set t.gaps s g)) (slice_get f.forks.items) f.scale (class_in f.scale (key_in t.gaps s)) (Some there.0) o) (sym alone) planted)
 
-      lead : (d : ℕ) → (d ≡ class_in f.digits (key_in t.gaps s)) ⊎ (d ≡ class_in f.digits (key_in t.gaps s) → ⊥) → Roots (key_in (set t.gaps s g)) (slice_get f.forks.items) f.digits d (root_at f.roots.items d) (tree_at trees d)
-      lead d (inl e) = subst (λ m. Roots (key_in (set t.gaps s g)) (slice_get f.forks.items) f.digits m (root_at f.roots.items m) (tree_at trees m)) (sym e) lead_here
+      lead : (d : ℕ) → (d ≡ class_in f.scale (key_in t.gaps s)) ⊎ (d ≡ class_in f.scale (key_in t.gaps s) → ⊥) → Roots (key_in (set t.gaps s g)) (slice_get f.forks.items) f.scale d (root_at f.roots.items d) (tree_at trees d)
+      lead d (inl e) = subst (λ m. Roots (key_in (set t.gaps s g)) (slice_get f.forks.items) f.scale m (root_at f.roots.items m) (tree_at trees m)) (sym e) lead_here
       lead d (inr other) =
-          roots_rekeyed (key_in t.gaps) (key_in (set t.gaps s g)) (slice_get f.forks.items) f.digits d (root_at f.roots.items d) (tree_at trees d)
+          roots_rekeyed (key_in t.gaps) (key_in (set t.gaps s g)) (slice_get f.forks.items) f.scale d (root_at f.roots.items d) (tree_at trees d)
           (λ u is l has. ap code (stays l (λ e. other (here d (subst (λ m. HasIn trees d m) e (record { tree = u; is = is; has = has })))))) (are.forest.lead d)
 
   fits : code g < 2 ^ 128
   fits = code_fits g.length g.start short.0 short.1
 
   -- a slot of the order whose key is before or behind that of s is before or behind the new one
-  apart : (l : ℕ) → IsIn l t.order → l ≢ s → class_in f.digits (key_in t.gaps l) ≢ class_in f.digits (key_in t.gaps s)
+  apart : (l : ℕ) → IsIn l t.order → l ≢ s → class_in f.scale (key_in t.gaps l) ≢ class_in f.scale (key_in t.gaps s)
   apart l is other same = other (only l (subst (λ c. HasIn trees c l) same (are.ordered.holds l is)))
 
   below : (l : ℕ) → IsIn l t.order → l ≢ s → key_in t.gaps l < key_in t.gaps s → key_in t.gaps l < code g
   below l is other less =
       let fits_l = are.ordered.fits l is in
       let fits_s = are.ordered.fits s at in
-      let no_more = class_falls f.digits (key_in t.gaps l) (key_in t.gaps s) are.forest.few fits_l fits_s (omega arith) in
+      let no_more = class_falls f.scale (key_in t.gaps l) (key_in t.gaps s) are.forest.few fits_l fits_s (omega arith) in
       let differ = apart l is other in
-      less_by_class f.digits (key_in t.gaps l) (code g) are.forest.few fits_l fits (let e = class in omega arith)
+      less_by_class f.scale (key_in t.gaps l) (code g) are.forest.few fits_l fits (let e = class in omega arith)
 
   above : (l : ℕ) → IsIn l t.order → l ≢ s → key_in t.gaps s < key_in t.gaps l → code g < key_in t.gaps l
   above l is other less =
       let fits_l = are.ordered.fits l is in
       let fits_s = are.ordered.fits s at in
-      let no_more = class_falls f.digits (key_in t.gaps s) (key_in t.gaps l) are.forest.few fits_s fits_l (omega arith) in
+      let no_more = class_falls f.scale (key_in t.gaps s) (key_in t.gaps l) are.forest.few fits_s fits_l (omega arith) in
       let differ = apart l is other in
-      less_by_class f.digits (code g) (key_in t.gaps l) are.forest.few fits fits_l (let e = class in omega arith)
+      less_by_class f.scale (code g) (key_in t.gaps l) are.forest.few fits fits_l (let e = class in omega arith)
 
   -- what a key has become
   became : (l : ℕ) → ((l ≡ s) × (key_in (set t.gaps s g) l ≡ code g)) ⊎ ((l ≢ s) × (key_in (set t.gaps s g) l ≡ key_in t.gaps l))
@@ -166,23 +166,23 @@ module _ (t : Threaded) (f : Forest) (trees : List (Option Tree)) (are : AreInde
   }
 
 module _ (t : Threaded) (f : Forest) (trees : List (Option Tree)) (are : AreIndexed t f trees) (size start : ℕ) (has : HasKeyAt (gaps_of t) size start) (slot : ℕ)
-    (alone : tree_at trees (class_in f.digits (size * 2 ^ 64 + start)) ≡ Some (tip slot)) where
+    (alone : tree_at trees (class_in f.scale (size * 2 ^ 64 + start)) ≡ Some (tip slot)) where
   -- the only leaf of the gap's class is the gap's slot
   pub the_slot : get_or t.order has.at 0 ≡ slot
   the_slot =
       let there = slot_tree t f trees are size start has in
       subst (λ (u : Tree). HasLeaf (get_or t.order has.at 0) u) (same_Some _ _ (sym there.is ∙ alone)) there.has
 
-  pub exchanged : (g : Gap) → IsShort g → class_in f.digits (code g) ≡ class_in f.digits (size * 2 ^ 64 + start) → ((l : ℕ) → IsIn l t.order → l < length t.gaps)
+  pub exchanged : (g : Gap) → IsShort g → class_in f.scale (code g) ≡ class_in f.scale (size * 2 ^ 64 + start) → ((l : ℕ) → IsIn l t.order → l < length t.gaps)
       → (t' : Threaded) → t'.order ≡ t.order → t'.gaps ≡ set t.gaps slot g → IsIndexed t' f × IsReplaced (gaps_of t) size start g (gaps_of t')
   exchanged g short class inside t' order' gaps' =
       let s = get_or t.order has.at 0 in
       let in_order = slot_in t f trees are size start has in
       let key = slot_key t f trees are size start has in
       let within = inside s in_order in
-      let alone' : tree_at trees (class_in f.digits (key_in t.gaps s)) ≡ Some (tip s) = ap (λ n. tree_at trees (class_in f.digits n)) key ∙ alone ∙ ap (λ l. Some (tip l)) (sym the_slot) in
+      let alone' : tree_at trees (class_in f.scale (key_in t.gaps s)) ≡ Some (tip s) = ap (λ n. tree_at trees (class_in f.scale n)) key ∙ alone ∙ ap (λ l. Some (tip l)) (sym the_slot) in
       let gaps'' : t'.gaps ≡ set t.gaps s g = gaps' ∙ ap (λ l. set t.gaps l g) (sym the_slot) in
-      let new = rekeyed t f trees are s in_order within g short (class ∙ ap (class_in f.digits) (sym key)) alone' in (
+      let new = rekeyed t f trees are s in_order within g short (class ∙ ap (class_in f.scale) (sym key)) alone' in (
         (trees, subst (λ (xs : List ℕ). AreIndexed (record { order = xs; gaps = t'.gaps }) f trees) (sym order') (subst (λ (gs : List Gap). AreIndexed (record { order = t.order; gaps = gs }) f trees) (sym gaps'') new)),
         subst (λ (gs : List Gap). IsReplaced (gaps_of t) size start g gs)
             (sym (ap (λ (gs : List Gap). map (gap_in gs) t'.order) gaps'' ∙ ap (map (gap_in (set t.gaps s g))) order')) (replaced t f trees are size start has g within),

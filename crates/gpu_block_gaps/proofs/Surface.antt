@@ -65,11 +65,11 @@ module _ (t : Threaded) (f : Forest) (trees : List (Option Tree)) (are : AreInde
       (are.ordered.sorted i j 0 lt in_j)))
 
   -- more room for forks
-  pub forest_reserved : (f' : Forest) (same : List (Option Tree)) → IsForest (key_in t.gaps) f' same → KeepsTrees trees same → (IsWide f → IsWide f') → vec_len f.forks ≤ vec_len f'.forks → f'.digits ≡ f.digits
+  pub forest_reserved : (f' : Forest) (same : List (Option Tree)) → IsForest (key_in t.gaps) f' same → KeepsTrees trees same → (IsWide f → IsWide f') → vec_len f.forks ≤ vec_len f'.forks → f'.scale ≡ f.scale
       → AreIndexed t f' same
-  forest_reserved f' same forest keeps wide more digits = record {
+  forest_reserved f' same forest keeps wide more scaled = record {
     forest = forest;
-    ordered = subst (λ d. AreInOrder (key_in t.gaps) d same t.order) (sym digits) (order_kept (key_in t.gaps) (key_in t.gaps) f.digits trees same t.order keeps (λ l is. refl) are.ordered);
+    ordered = subst (λ d. AreInOrder (key_in t.gaps) d same t.order) (sym scaled) (order_kept (key_in t.gaps) (key_in t.gaps) f.scale trees same t.order keeps (λ l is. refl) are.ordered);
     slots = (let a = are.slots in omega arith);
     wide = λ some. wide (are.wide some);
     short = are.short;
@@ -79,8 +79,8 @@ module _ (t : Threaded) (f : Forest) (trees : List (Option Tree)) (are : AreInde
   pub thread_reserved : (t' : Threaded) → t'.order ≡ t.order → ((k : ℕ) → gap_in t'.gaps k ≡ gap_in t.gaps k) → length t'.gaps ≤ vec_len f.forks + 1 → IsWide f → AreIndexed t' f trees
   thread_reserved t' order gaps few wide =
       subst (λ (xs : List ℕ). AreIndexed (record { order = xs; gaps = t'.gaps }) f trees) (sym order) (record {
-        forest = trees_rekeyed (key_in t.gaps) (key_in t'.gaps) f.digits f.forks.items f.spare.items (vec_capacity f.spare) f.roots.items f.classes trees (λ c l has. ap code (gaps l)) are.forest;
-        ordered = order_kept (key_in t.gaps) (key_in t'.gaps) f.digits trees trees t.order ((λ c. refl), refl) (λ l is. ap code (gaps l)) are.ordered;
+        forest = trees_rekeyed (key_in t.gaps) (key_in t'.gaps) f.scale f.forks.items f.spare.items (vec_capacity f.spare) f.roots.items f.classes trees (λ c l has. ap code (gaps l)) are.forest;
+        ordered = order_kept (key_in t.gaps) (key_in t'.gaps) f.scale trees trees t.order ((λ c. refl), refl) (λ l is. ap code (gaps l)) are.ordered;
         slots = few;
         wide = λ some. wide;
         short = λ l is. subst (λ (a : Gap). IsShort a) (sym (gaps l)) (are.short l is);
@@ -107,10 +107,10 @@ module _ (t : Threaded) (f : Forest) (trees : List (Option Tree)) (are : AreInde
         omega arith
 
   -- what is compared is a gap's length
-  pub some_gap : (n : ℕ) (near_by : Nearby) → IsNearby (key_in t.gaps) f.digits trees n near_by → near_by ≢ Nothing → 0 < length (gaps_of t)
+  pub some_gap : (n : ℕ) (near_by : Nearby) → IsNearby (key_in t.gaps) f.scale trees n near_by → near_by ≢ Nothing → 0 < length (gaps_of t)
   some_gap n Nothing at other = absurd (other refl)
-  some_gap n (Same slot) at other = let is = near_in t f trees are n (class_in f.digits n) at.0 at.1 in let a = is.1 in let b = length-map t.order (gap_in t.gaps) in omega arith
-  some_gap n (Apart bit) at other = let is = near_in t f trees are n (class_in f.digits n) at.0 at.1 in let a = is.1 in let b = length-map t.order (gap_in t.gaps) in omega arith
+  some_gap n (Same slot) at other = let is = near_in t f trees are n (class_in f.scale n) at.0 at.1 in let a = is.1 in let b = length-map t.order (gap_in t.gaps) in omega arith
+  some_gap n (Apart bit) at other = let is = near_in t f trees are n (class_in f.scale n) at.0 at.1 in let a = is.1 in let b = length-map t.order (gap_in t.gaps) in omega arith
 
   -- ---- the longest gap, in the last slot
 

@@ -8,6 +8,7 @@ use Rattle.std.proofs.lemmas.List.Quantifiers.{all_pairs_push}
 use Rattle.std.proofs.lemmas.List.Elements.{All-push, All-weaker, All-get_or}
 use Rattle.std.proofs.lemmas.Bool.{cases_lt}
 use Rattle.std.proofs.lemmas.List.{get_or_past}
+use Rattle.gpu_block_gaps.specs.declared.class.Scale.{Scale}
 use Rattle.gpu_block_gaps.specs.declared.tree.Node.{Node}
 use Rattle.gpu_block_gaps.specs.declared.tree.Node.TheVariants.{Branch}
 use Rattle.gpu_block_gaps.specs.declared.tree.Fork.{Fork}
@@ -99,8 +100,8 @@ some_forks : (t : Tree) → is_tip t ≡ false → 1 ≤ forks_in t
 some_forks (tip leaf) more = absurd (cc)
 some_forks (fork at b x y) more = omega arith
 
-module _ (key : ℕ → ℕ) (digits : ℕ) (forks : List Fork) (spare : List ℕ) (room : ℕ) (roots : List (Option Node)) (classes : List ℕ) (trees : List (Option Tree))
-    (are : AreTrees key digits forks spare room roots classes trees) where
+module _ (key : ℕ → ℕ) (scale : Scale) (forks : List Fork) (spare : List ℕ) (room : ℕ) (roots : List (Option Node)) (classes : List ℕ) (trees : List (Option Tree))
+    (are : AreTrees key scale forks spare room roots classes trees) where
   class_has : (c : ℕ) (t : Tree) → tree_at trees c ≡ Some t → c < length trees
   class_has c t is = by_order (cases_lt c (length trees))
     where
@@ -120,13 +121,13 @@ module _ (key : ℕ → ℕ) (digits : ℕ) (forks : List Fork) (spare : List �
 
   pub pruned_planted : (forks' : List Fork) (slot c : ℕ) (node node' : Node) (t : Tree) (n : ℕ) → root_at roots c ≡ Some node → tree_at trees c ≡ Some t → is_tip t ≡ false → c < length roots
       → length forks' ≡ length forks → HasPruned (slice_get forks) (slice_get forks') 128 node' t n slot
-      → AreTrees key digits forks' (spare ++ slot ∷ []) room (set roots c (Some node')) classes (set trees c (Some (pruned n t)))
+      → AreTrees key scale forks' (spare ++ slot ∷ []) room (set roots c (Some node')) classes (set trees c (Some (pruned n t)))
   pruned_planted forks' slot c node node' t n rooted is more within long cut =
-      replanted key digits forks forks' spare (spare ++ slot ∷ []) room roots classes classes trees c (Some node') (Some (pruned n t)) are (record {
+      replanted key scale forks forks' spare (spare ++ slot ∷ []) room roots classes classes trees c (Some node') (Some (pruned n t)) are (record {
         within = within;
         planted = (cut.laid, sorted_pruned key n t sorted, λ l has. kept l (leaf_pruned n t l has));
         long = long;
-        others = λ d u other here k in_u. cut.others k (λ in_t. classes_apart key digits forks spare room roots classes trees are d c u t k other here is in_u in_t);
+        others = λ d u other here k in_u. cut.others k (λ in_t. classes_apart key scale forks spare room roots classes trees are d c u t k other here is in_u in_t);
         classes_long = refl;
         told = are.told c ∙ ap (λ (o : Option Node). is_some o) rooted;
         told_others = λ d other. refl;
@@ -139,12 +140,12 @@ module _ (key : ℕ → ℕ) (digits : ℕ) (forks : List Fork) (spare : List �
               fork_within forks 128 node t slot laid given_has,
               λ u same has. freed_gone key (slice_get forks) 128 node n t laid sorted
                   (subst (λ k. HasFork k (pruned n t)) cut.unused (subst (HasFork slot) (sym (same_Some _ _ same)) has)),
-              λ d u other here has. classes_apart key digits forks spare room roots classes trees are d c u t slot other here is has given_has,
+              λ d u other here has. classes_apart key scale forks spare room roots classes trees are d c u t slot other here is has given_has,
             );
       })
     where
-      there : (m : Node) × (root_at roots c ≡ Some m) × TreeAt key (slice_get forks) digits c m (tree_at trees c)
-      there = root_there key digits forks spare room roots classes trees are c t is
+      there : (m : Node) × (root_at roots c ≡ Some m) × TreeAt key (slice_get forks) scale c m (tree_at trees c)
+      there = root_there key scale forks spare room roots classes trees are c t is
 
       same_tree : (there.2).tree ≡ t
       same_tree = same_Some _ _ (sym (there.2).is ∙ is)
@@ -158,16 +159,16 @@ module _ (key : ℕ → ℕ) (digits : ℕ) (forks : List Fork) (spare : List �
       sorted : Sorted key t
       sorted = subst (Sorted key) same_tree (there.2).sorted
 
-      kept : (l : ℕ) → HasLeaf l t → class_in digits (key l) ≡ c
+      kept : (l : ℕ) → HasLeaf l t → class_in scale (key l) ≡ c
       kept l has = (there.2).kept l (subst (HasLeaf l) (sym same_tree) has)
 
       given_has : HasFork slot t
       given_has = subst (λ k. HasFork k t) (sym cut.unused) (freed_has n t more)
 
   pub last_gone : (classes' : List ℕ) (c leaf : ℕ) → tree_at trees c ≡ Some (tip leaf) → c < length roots → ChangesOne classes classes' c false
-      → AreTrees key digits forks spare room (set roots c None) classes' (set trees c None)
+      → AreTrees key scale forks spare room (set roots c None) classes' (set trees c None)
   last_gone classes' c leaf is within changes =
-      replanted key digits forks forks spare spare room roots classes classes' trees c None None are (record {
+      replanted key scale forks forks spare spare room roots classes classes' trees c None None are (record {
         within = within;
         planted = tt;
         long = refl;

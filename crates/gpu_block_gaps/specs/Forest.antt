@@ -1,16 +1,17 @@
 -- A tree for each class, all in one row of slots.
 use Rattle.std.specs.Prelude.{◌≡◌, ◌≢◌, ℕ, ◌+◌, ◌*◌, ◌^◌, ◌/◌, ◌<◌, ◌≤◌, ◌⊎◌, List, length, slice_index_or, Option, Some, None, is_some, All, vec_len, vec_capacity}
 use Rattle.std.specs.List.{AllPairs, slice_get, sum_by}
+use Rattle.gpu_block_gaps.specs.declared.class.Scale.{Scale}
 use Rattle.gpu_block_gaps.specs.declared.tree.Node.{Node}
 use Rattle.gpu_block_gaps.specs.declared.tree.Fork.{Fork}
 use Rattle.gpu_block_gaps.specs.declared.forest.Forest.{Forest}
-use Rattle.gpu_block_gaps.specs.Class.{class_number, class_count}
+use Rattle.gpu_block_gaps.specs.Class.{class_on, IsFew}
 use Rattle.gpu_block_gaps.specs.ClassSet.{is_in}
 use Rattle.gpu_block_gaps.specs.Tree.{Tree, tip, fork, Slots, Lays, HasLeaf, HasFork, Sorted, first_leaf}
 
 -- the class of a key, which its length tells
-abbrev pub class_in : (digits n : ℕ) → ℕ
-class_in digits n = class_number digits (n / 2 ^ 64)
+abbrev pub class_in : (scale : Scale) (n : ℕ) → ℕ
+class_in scale n = class_on scale (n / 2 ^ 64)
 
 -- the tree of a class, if it has one
 abbrev pub tree_at : List (Option Tree) → ℕ → Option Tree
@@ -20,11 +21,11 @@ abbrev pub root_at : List (Option Node) → ℕ → Option Node
 root_at roots c = slice_index_or roots c None
 
 -- the root leads to the tree, whose keys are of that class, or there is neither
-abbrev pub Roots : (ℕ → ℕ) → Slots → (digits c : ℕ) → Option Node → Option Tree → Type 0
-Roots key slots digits c None None = Unit {0}
-Roots key slots digits c None (Some t) = ⊥
-Roots key slots digits c (Some node) None = ⊥
-Roots key slots digits c (Some node) (Some t) = Lays slots 128 node t × Sorted key t × ((leaf : ℕ) → HasLeaf leaf t → class_in digits (key leaf) ≡ c)
+abbrev pub Roots : (ℕ → ℕ) → Slots → (scale : Scale) (c : ℕ) → Option Node → Option Tree → Type 0
+Roots key slots scale c None None = Unit {0}
+Roots key slots scale c None (Some t) = ⊥
+Roots key slots scale c (Some node) None = ⊥
+Roots key slots scale c (Some node) (Some t) = Lays slots 128 node t × Sorted key t × ((leaf : ℕ) → HasLeaf leaf t → class_in scale (key leaf) ≡ c)
 
 -- how many forks a tree has
 abbrev pub forks_in : Tree → ℕ
@@ -45,12 +46,12 @@ abbrev pub IsVacant : List Fork → List (Option Tree) → ℕ → Type 0
 IsVacant forks trees k = (k < length forks) × ((c : ℕ) (t : Tree) → tree_at trees c ≡ Some t → HasFork k t → ⊥)
 
 -- the roots lead to the trees, the set has the classes that have one, and the spare slots are all that no tree has
-pub record AreTrees (key : ℕ → ℕ) (digits : ℕ) (forks : List Fork) (spare : List ℕ) (room : ℕ) (roots : List (Option Node)) (classes : List ℕ) (trees : List (Option Tree)) : Type 0 where
-  pub few : digits < 24
-  pub wide : 0 < length roots → class_count digits ≤ length roots
+pub record AreTrees (key : ℕ → ℕ) (scale : Scale) (forks : List Fork) (spare : List ℕ) (room : ℕ) (roots : List (Option Node)) (classes : List ℕ) (trees : List (Option Tree)) : Type 0 where
+  pub few : IsFew scale
+  pub wide : 0 < length roots → scale.last < length roots
   pub rooted : length trees ≡ length roots
   pub told_all : length roots ≤ length classes * 64
-  pub lead : (c : ℕ) → Roots key (slice_get forks) digits c (root_at roots c) (tree_at trees c)
+  pub lead : (c : ℕ) → Roots key (slice_get forks) scale c (root_at roots c) (tree_at trees c)
   pub told : (c : ℕ) → is_in classes c ≡ is_some (root_at roots c)
   pub counted : length spare + sum_by used trees ≡ length forks
   pub fits : length forks ≤ room
@@ -59,19 +60,19 @@ pub record AreTrees (key : ℕ → ℕ) (digits : ℕ) (forks : List Fork) (spar
 
 -- the forest has those trees, one or none for each class
 abbrev pub IsForest : (ℕ → ℕ) → Forest → List (Option Tree) → Type 0
-IsForest key f trees = AreTrees key f.digits f.forks.items f.spare.items (vec_capacity f.spare) f.roots.items f.classes trees
+IsForest key f trees = AreTrees key f.scale f.forks.items f.spare.items (vec_capacity f.spare) f.roots.items f.classes trees
 
 -- each class has a place for a root
 abbrev pub IsWide : Forest → Type 0
-IsWide f = class_count f.digits ≤ length f.roots.items
+IsWide f = f.scale.last < length f.roots.items
 
 -- as many slots and classes as before
 abbrev pub KeepsRoom : Forest → Forest → Type 0
-KeepsRoom old new = (new.digits ≡ old.digits) × (vec_len new.forks ≡ vec_len old.forks) × (length new.roots.items ≡ length old.roots.items)
+KeepsRoom old new = (new.scale ≡ old.scale) × (vec_len new.forks ≡ vec_len old.forks) × (length new.roots.items ≡ length old.roots.items)
 
 -- the class of that key has a tree
 abbrev pub HasTree : Forest → ℕ → Type 0
-HasTree f n = (key : ℕ → ℕ) × (trees : List (Option Tree)) × IsForest key f trees × (t : Tree) × (tree_at trees (class_in f.digits n) ≡ Some t)
+HasTree f n = (key : ℕ → ℕ) × (trees : List (Option Tree)) × IsForest key f trees × (t : Tree) × (tree_at trees (class_in f.scale n) ≡ Some t)
 
 -- the leaf is the first one of the first later class that has a tree
 pub record IsFirstLater (trees : List (Option Tree)) (class leaf : ℕ) : Type 0 where

@@ -10,10 +10,11 @@ IsBefore a length start = (a.length < length) ⊎ ((a.length ≡ length) × (a.s
 abbrev pub Before : Gap → Gap → Type 0
 Before a b = IsBefore a b.length b.start
 
--- the gaps of an index, and for how many it has room
+-- the gaps of an index, for how many it has room, and up to which length it tells them by class
 pub record Index : Type 0 where
   pub gaps : List Gap
   pub room : ℕ
+  pub longest : ℕ
 
 abbrev pub HasKey : Gap → ℕ → ℕ → Type 0
 HasKey a length start = (a.length ≡ length) × (a.start ≡ start)

@@ -1,6 +1,7 @@
 -- The leaves of all trees in the order of their keys.
 use Rattle.std.specs.Prelude.{◌≡◌, ℕ, ◌^◌, ◌<◌, ◌≤◌, ◌⊎◌, List, length, slice_index, Option, Some}
 use Rattle.std.specs.List.{AllPairs, sum_by}
+use Rattle.gpu_block_gaps.specs.declared.class.Scale.{Scale}
 use Rattle.gpu_block_gaps.specs.Tree.{Tree, HasLeaf}
 use Rattle.gpu_block_gaps.specs.Forest.{class_in, tree_at, leaf_count, forks_in}
 
@@ -15,10 +16,10 @@ pub record HasIn (trees : List (Option Tree)) (c l : ℕ) : Type 0 where
   pub has : HasLeaf l tree
 
 -- the list has the leaves of all trees, and is in the order of their keys
-pub record AreInOrder (key : ℕ → ℕ) (digits : ℕ) (trees : List (Option Tree)) (order : List ℕ) : Type 0 where
+pub record AreInOrder (key : ℕ → ℕ) (scale : Scale) (trees : List (Option Tree)) (order : List ℕ) : Type 0 where
   pub sorted : AllPairs (λ a b. key a < key b) order
   pub held : (c l : ℕ) → HasIn trees c l → IsIn l order
-  pub holds : (l : ℕ) → IsIn l order → HasIn trees (class_in digits (key l)) l
+  pub holds : (l : ℕ) → IsIn l order → HasIn trees (class_in scale (key l)) l
   pub counted : sum_by leaf_count trees ≡ length order
   pub fits : (l : ℕ) → IsIn l order → key l < 2 ^ 128
 

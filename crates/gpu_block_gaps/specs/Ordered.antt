@@ -1,5 +1,6 @@
 -- The gaps in order: a thread of their slots, and trees that find a slot by its gap's length and start.
 use Rattle.std.specs.Prelude.{◌≡◌, ℕ, ◌+◌, ◌*◌, ◌^◌, ◌<◌, ◌≤◌, List, length, map, Option, Some, None, vec_len}
+use Rattle.gpu_block_gaps.specs.declared.class.Scale.{Scale}
 use Rattle.gpu_block_gaps.specs.Tree.{Tree, IsSplit, near}
 use Rattle.gpu_block_gaps.specs.Forest.{IsForest, IsWide, class_in, tree_at}
 use Rattle.gpu_block_gaps.specs.Order.{IsIn, AreInOrder}
@@ -28,7 +29,7 @@ IsShort g = (g.length < 2 ^ 64) × (g.start < 2 ^ 64)
 -- the trees have the slots of the thread, which is in the order of length and start, and there is room for as many forks as gaps
 pub record AreIndexed (t : Threaded) (f : Forest) (trees : List (Option Tree)) : Type 0 where
   pub forest : IsForest (key_in t.gaps) f trees
-  pub ordered : AreInOrder (key_in t.gaps) f.digits trees t.order
+  pub ordered : AreInOrder (key_in t.gaps) f.scale trees t.order
   pub slots : length t.gaps ≤ vec_len f.forks + 1
   pub wide : 0 < length t.gaps → IsWide f
   pub short : (slot : ℕ) → IsIn slot t.order → IsShort (gap_in t.gaps slot)
@@ -37,7 +38,7 @@ abbrev pub IsIndexed : Threaded → Forest → Type 0
 IsIndexed t f = (trees : List (Option Tree)) × AreIndexed t f trees
 
 -- what the tree of a number's class has: nothing, a leaf with that key, or one to which the number's bits lead and whose key differs first in that bit
-abbrev pub IsNearby : (ℕ → ℕ) → ℕ → List (Option Tree) → ℕ → Nearby → Type 0
-IsNearby key digits trees n Nothing = tree_at trees (class_in digits n) ≡ None
-IsNearby key digits trees n (Same slot) = (t : Tree) × (tree_at trees (class_in digits n) ≡ Some t) × (slot ≡ near n t) × (key slot ≡ n)
-IsNearby key digits trees n (Apart bit) = (t : Tree) × (tree_at trees (class_in digits n) ≡ Some t) × IsSplit key t n bit × (bit < 128)
+abbrev pub IsNearby : (ℕ → ℕ) → Scale → List (Option Tree) → ℕ → Nearby → Type 0
+IsNearby key scale trees n Nothing = tree_at trees (class_in scale n) ≡ None
+IsNearby key scale trees n (Same slot) = (t : Tree) × (tree_at trees (class_in scale n) ≡ Some t) × (slot ≡ near n t) × (key slot ≡ n)
+IsNearby key scale trees n (Apart bit) = (t : Tree) × (tree_at trees (class_in scale n) ≡ Some t) × IsSplit key t n bit × (bit < 128)

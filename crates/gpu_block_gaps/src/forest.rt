@@ -2,11 +2,11 @@
 
 ghost use Rattle.std.specs.Prelude.{◌≡◌, ℕ, ◌+◌, ◌^◌, ◌<◌, ◌≤◌, ◌⊎◌, List, [], Option, Some, None, MatchOption, IfSome, OnOk, vec_len, vec_capacity, slice_set};
 ghost use Rattle.gpu_block_gaps.specs.Key.{code_of};
-ghost use Rattle.gpu_block_gaps.specs.Class.{class_number, class_count};
+ghost use Rattle.gpu_block_gaps.specs.Class.{IsFew};
 ghost use Rattle.gpu_block_gaps.specs.Tree.{Tree, tip, near, leaves_of, IsSplit, IsPlace};
 ghost use Rattle.gpu_block_gaps.specs.Forest.{IsForest, HasTree, AddsLeaf, LosesLeaf, IsFirstLater, IsWide, KeepsTrees, KeepsRoom, class_in, tree_at, root_at};
 
-use crate::class::class_of;
+use crate::class::Scale;
 use crate::class_set::ClassSet;
 use crate::key::Key;
 use crate::tree::{Fork, Node, Place, first, insert, nearest, place_of, remove};
@@ -20,40 +20,40 @@ pub struct Forest {
     pub(crate) spare: Vec<u32>,
     pub(crate) roots: Vec<Option<Node>>,
     pub(crate) classes: ClassSet,
-    pub(crate) digits: u32,
+    pub(crate) scale: Scale,
 }
 
 impl Forest {
-    /// A forest without trees, which has taken no memory. Its classes tell that many binary digits of a length behind the first.
-    pub fn new(alloc: Global, digits: u32) -> Forest
-        requires { digits < 24 }
+    /// A forest without trees, with the classes of a scale. It has taken no memory.
+    pub fn new(alloc: Global, scale: Scale) -> Forest
+        requires { IsFew scale }
         ensures trees { (at : ℕ → ℕ) → IsForest at result [] }
         ensures room { vec_len result.forks ≡ 0 }
-        ensures digits { result.digits ≡ digits }
+        ensures scale { result.scale ≡ scale }
     {
         Forest {
             forks: Vec::new(alloc),
             spare: Vec::new(alloc),
             roots: Vec::new(alloc),
             classes: ClassSet::new(alloc),
-            digits,
+            scale,
         }
     }
 
     /// Makes a place for a root of each class. A refusal changes nothing.
     fn widen(&mut self) -> Result<(), AllocError>
-        requires { self.old.digits < 24 }
+        requires { IsFew self.old.scale }
         ensures trees { (at : ℕ → ℕ) (trees : List (Option Tree)) → IsForest at self.old trees
             → (same : List (Option Tree)) × IsForest at self.new same × KeepsTrees trees same }
         ensures wide { OnOk result (0 < vec_len self.old.roots ⊎ IsWide self.new) }
         ensures kept { (0 < vec_len self.old.roots → self.new ≡ self.old)
-            × (self.new.forks ≡ self.old.forks) × (self.new.digits ≡ self.old.digits) }
+            × (self.new.forks ≡ self.old.forks) × (self.new.scale ≡ self.old.scale) }
     {
         if !self.roots.is_empty() {
             return Ok(());
         }
         let alloc = *self.roots.allocator();
-        let count = (65 - self.digits as usize) << self.digits;
+        let count = self.scale.last as usize + 1;
         let roots = vec![in alloc; None; count]?;
         let classes = ClassSet::with_room(alloc, count)?;
         self.roots = roots;
@@ -73,7 +73,7 @@ impl Forest {
             × (vec_len self.new.spare ≡ vec_len self.old.spare + 1) }
         ensures room { (vec_capacity self.new.forks ≡ vec_capacity self.old.forks)
             × (vec_capacity self.new.spare ≡ vec_capacity self.old.spare) }
-        ensures others { (self.new.roots ≡ self.old.roots) × (self.new.digits ≡ self.old.digits) }
+        ensures others { (self.new.roots ≡ self.old.roots) × (self.new.scale ≡ self.old.scale) }
     {
         self.spare.push_reserved(self.forks.len() as u32);
         self.forks.push_reserved(Fork {
@@ -92,7 +92,7 @@ impl Forest {
         ensures room { OnOk result (IsWide self.new × (count ≤ vec_len self.new.forks)) }
         ensures kept { (IsWide self.old → IsWide self.new)
             × (vec_len self.old.forks ≤ vec_len self.new.forks) }
-        ensures digits { self.new.digits ≡ self.old.digits }
+        ensures scale { self.new.scale ≡ self.old.scale }
     {
         self.widen()?;
         self.forks
@@ -106,11 +106,11 @@ impl Forest {
     }
 
     fn class(&self, key: Key) -> usize
-        requires { self.now.digits < 32 }
-        ensures class { result ≡ class_in self.now.digits (code_of key) }
-        ensures within { result < class_count self.now.digits }
+        requires { self.now.scale.digits < 32 }
+        ensures class { result ≡ class_in self.now.scale (code_of key) }
+        ensures within { result ≤ self.now.scale.last }
     {
-        class_of(key.length, self.digits)
+        self.scale.class(key.length)
     }
 
     fn root(&self, class: usize) -> Option<Node>
@@ -126,8 +126,8 @@ impl Forest {
     pub fn only_leaf(&self, key: Key, other: Key) -> Option<u32>
         requires { (at : ℕ → ℕ) × (trees : List (Option Tree)) × IsForest at self.now trees }
         ensures { (at : ℕ → ℕ) (trees : List (Option Tree)) → IsForest at self.now trees
-            → let class = class_in self.now.digits (code_of key)
-            in IfSome result (λ leaf. (class_in self.now.digits (code_of other) ≡ class)
+            → let class = class_in self.now.scale (code_of key)
+            in IfSome result (λ leaf. (class_in self.now.scale (code_of other) ≡ class)
             × (tree_at trees class ≡ Some (tip leaf))) }
     {
         let class = self.class(key);
@@ -144,7 +144,7 @@ impl Forest {
     pub fn near(&self, key: Key) -> Option<u32>
         requires { (at : ℕ → ℕ) × (trees : List (Option Tree)) × IsForest at self.now trees }
         ensures { (at : ℕ → ℕ) (trees : List (Option Tree)) → IsForest at self.now trees
-            → let class = class_in self.now.digits (code_of key)
+            → let class = class_in self.now.scale (code_of key)
             in MatchOption result (tree_at trees class ≡ None)
             (λ leaf. (t : Tree) × (tree_at trees class ≡ Some t) × (leaf ≡ near (code_of key) t)) }
     {
@@ -157,7 +157,7 @@ impl Forest {
         requires there { HasTree self.now (code_of key) }
         requires bit { bit < 128 }
         ensures { (at : ℕ → ℕ) (trees : List (Option Tree)) (t : Tree) → IsForest at self.now trees
-            → tree_at trees (class_in self.now.digits (code_of key)) ≡ Some t
+            → tree_at trees (class_in self.now.scale (code_of key)) ≡ Some t
             → IsSplit at t (code_of key) bit → IsPlace at (code_of key) (leaves_of t) result }
     {
         match self.root(self.class(key)) {
@@ -171,7 +171,7 @@ impl Forest {
     pub fn first_later(&self, key: Key) -> Option<u32>
         requires { (at : ℕ → ℕ) × (trees : List (Option Tree)) × IsForest at self.now trees }
         ensures { (at : ℕ → ℕ) (trees : List (Option Tree)) → IsForest at self.now trees
-            → let class = class_in self.now.digits (code_of key)
+            → let class = class_in self.now.scale (code_of key)
             in MatchOption result ((c : ℕ) → class < c → tree_at trees c ≡ None)
             (IsFirstLater trees class) }
     {
@@ -187,7 +187,7 @@ impl Forest {
         requires forest { (at : ℕ → ℕ) × (trees : List (Option Tree)) × IsForest at self.old trees }
         requires wide { IsWide self.old }
         ensures trees { (at : ℕ → ℕ) (trees : List (Option Tree)) → IsForest at self.old trees
-            → at leaf ≡ code_of key → let class = class_in self.old.digits (code_of key)
+            → at leaf ≡ code_of key → let class = class_in self.old.scale (code_of key)
             in tree_at trees class ≡ None
             → IsForest at self.new (slice_set trees class (Some (tip leaf))) }
         ensures room { KeepsRoom self.old self.new }
@@ -205,7 +205,7 @@ impl Forest {
         requires spare { 0 < vec_len self.old.spare }
         ensures trees { (at : ℕ → ℕ) (trees : List (Option Tree)) (t : Tree)
             → IsForest at self.old trees → at leaf ≡ code_of key
-            → let class = class_in self.old.digits (code_of key) in tree_at trees class ≡ Some t
+            → let class = class_in self.old.scale (code_of key) in tree_at trees class ≡ Some t
             → IsSplit at t (code_of key) bit
             → (grows : Tree) × IsForest at self.new (slice_set trees class (Some grows))
             × AddsLeaf leaf t grows }
@@ -226,13 +226,13 @@ impl Forest {
     pub fn remove(&mut self, key: Key) -> u32
         requires { HasTree self.old (code_of key) }
         ensures trees { (at : ℕ → ℕ) (trees : List (Option Tree)) (t : Tree)
-            → IsForest at self.old trees → let class = class_in self.old.digits (code_of key)
+            → IsForest at self.old trees → let class = class_in self.old.scale (code_of key)
             in tree_at trees class ≡ Some t
             → (rest : Option Tree) × IsForest at self.new (slice_set trees class rest)
             × LosesLeaf (near (code_of key) t) t rest }
         ensures leaf { (at : ℕ → ℕ) (trees : List (Option Tree)) (t : Tree)
             → IsForest at self.old trees
-            → tree_at trees (class_in self.old.digits (code_of key)) ≡ Some t
+            → tree_at trees (class_in self.old.scale (code_of key)) ≡ Some t
             → result ≡ near (code_of key) t }
         ensures room { KeepsRoom self.old self.new }
     {

@@ -5,6 +5,7 @@ ghost use Rattle.gpu_cost.specs.Cost.{Compares, Tests};
 ghost use Rattle.gpu_block_gaps.specs.Index.{Before, HasNoKey, HasKeyAt, IsInserted, IsRemoved, IsReplaced, HasLength};
 ghost use Rattle.gpu_block_gaps.specs.Ordered.{gaps_of};
 
+use crate::class::Scale;
 use crate::forest::Forest;
 use crate::key::Key;
 use crate::order::{Nearby, exchange, look_near, next_from, put, take};
@@ -59,6 +60,8 @@ pub struct Gap {
 pub struct GapIndex {
     thread: Thread,
     forest: Forest,
+    // Lengths up to it fall into classes; longer ones share the last.
+    longest: u64,
 }
 
 impl Model for GapIndex {
@@ -68,7 +71,11 @@ impl Model for GapIndex {
 
     ghost Value = { Index };
 
-    ghost view = { λ s. record { gaps = gaps_of s.thread; room = length s.thread.gaps - 1 } };
+    ghost view = { λ s. record {
+      gaps = gaps_of s.thread;
+      room = length s.thread.gaps - 1;
+      longest = s.longest;
+    } };
 
     ghost invariant = { λ s. IsIndexed s.thread s.forest };
 }
@@ -80,6 +87,7 @@ fn put_all(from: &Thread, index: &mut GapIndex)
     requires room { length (gaps_of from.now) ≤ index.old.room }
     ensures gaps { index.new.gaps ≡ gaps_of from.now }
     ensures room { index.new.room ≡ index.old.room }
+    ensures longest { index.new.longest ≡ index.old.longest }
 {
     from.sound();
     let mut slot = from.next(0);
@@ -91,22 +99,25 @@ fn put_all(from: &Thread, index: &mut GapIndex)
 }
 
 impl GapIndex {
-    /// An index without gaps, which has taken no memory.
-    pub fn new(alloc: Global) -> GapIndex
+    /// An index without gaps, which has taken no memory. It is made for gaps up to that length; longer ones are found more slowly.
+    pub fn new(alloc: Global, longest: u64) -> GapIndex
         ensures gaps { result.gaps ≡ [] }
         ensures room { result.room ≡ 0 }
+        ensures longest { result.longest ≡ longest }
     {
-        GapIndex::with_digits(alloc, FEW_DIGITS)
+        GapIndex::with_digits(alloc, longest, FEW_DIGITS)
     }
 
-    fn with_digits(alloc: Global, digits: u32) -> GapIndex
+    fn with_digits(alloc: Global, longest: u64, digits: u32) -> GapIndex
         requires { digits < 24 }
         ensures gaps { result.gaps ≡ [] }
         ensures room { result.room ≡ 0 }
+        ensures longest { result.longest ≡ longest }
     {
         GapIndex {
             thread: Thread::new(alloc),
-            forest: Forest::new(alloc, digits),
+            forest: Forest::new(alloc, Scale::up_to(longest, digits)),
+            longest,
         }
     }
 
@@ -140,6 +151,7 @@ impl GapIndex {
         ensures room { OnOk result (count ≤ self.new.room) }
         ensures kept { self.old.room ≤ self.new.room }
         ensures enough { count ≤ self.old.room → IsOk result × (self.new ≡ self.old) }
+        ensures longest { self.new.longest ≡ self.old.longest }
         ensures refused { OnErr result (self.new ≡ self.old) }
     {
         if count <= self.thread.room() {
@@ -150,7 +162,7 @@ impl GapIndex {
             return Err(AllocError);
         }
         let wanted = count.max(grown(self.thread.room()));
-        if digits_for(wanted) == self.forest.digits {
+        if digits_for(wanted) == self.forest.scale.digits {
             return self.widen(wanted);
         }
         *self = self.made_anew(wanted)?;
@@ -163,6 +175,7 @@ impl GapIndex {
         ensures same { self.new.gaps ≡ self.old.gaps }
         ensures room { OnOk result (count ≤ self.new.room) }
         ensures kept { self.old.room ≤ self.new.room }
+        ensures longest { self.new.longest ≡ self.old.longest }
         ensures refused { OnErr result (self.new ≡ self.old) }
     {
         self.forest.reserve_to(count)?;
@@ -175,10 +188,11 @@ impl GapIndex {
         requires enough { self.now.room ≤ count }
         ensures same { IfOk result (λ i. i.gaps ≡ self.now.gaps) }
         ensures room { IfOk result (λ i. count ≤ i.room) }
+        ensures longest { IfOk result (λ i. i.longest ≡ self.now.longest) }
     {
         self.thread.sound();
         let alloc = *self.forest.forks.allocator();
-        let mut anew = GapIndex::with_digits(alloc, digits_for(count));
+        let mut anew = GapIndex::with_digits(alloc, self.longest, digits_for(count));
         anew.widen(count)?;
         put_all(&self.thread, &mut anew);
         Ok(anew)
@@ -216,6 +230,7 @@ impl GapIndex {
         requires fresh { HasNoKey self.old.gaps gap.length gap.start }
         ensures gaps { IsInserted self.old.gaps gap self.new.gaps }
         ensures room { self.new.room ≡ self.old.room }
+        ensures longest { self.new.longest ≡ self.old.longest }
     {
         put(&mut self.thread, &mut self.forest, gap);
     }
@@ -226,6 +241,7 @@ impl GapIndex {
         ensures gaps { IsRemoved self.old.gaps size start self.new.gaps }
         ensures ordered { AllPairs Before self.old.gaps }
         ensures room { self.new.room ≡ self.old.room }
+        ensures longest { self.new.longest ≡ self.old.longest }
     {
         take(&mut self.thread, &mut self.forest, size, start);
     }
@@ -238,6 +254,7 @@ impl GapIndex {
         ensures gaps { IsReplaced self.old.gaps size start gap self.new.gaps }
         ensures ordered { AllPairs Before self.old.gaps }
         ensures room { self.new.room ≡ self.old.room }
+        ensures longest { self.new.longest ≡ self.old.longest }
     {
         exchange(&mut self.thread, &mut self.forest, size, start, gap);
     }

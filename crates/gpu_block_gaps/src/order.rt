@@ -35,7 +35,7 @@ fn key_of(gap: &Gap) -> Key
 pub fn look_near(thread: &Thread, forest: &Forest, key: Key) -> Nearby
     requires { IsIndexed thread.now forest.now }
     ensures { (trees : List (Option Tree)) → AreIndexed thread.now forest.now trees
-        → IsNearby (key_in thread.now.gaps) forest.now.digits trees (code_of key) result }
+        → IsNearby (key_in thread.now.gaps) forest.now.scale trees (code_of key) result }
 {
     thread.sound();
     let Some(slot) = forest.near(key) else {
@@ -51,7 +51,7 @@ pub fn look_near(thread: &Thread, forest: &Forest, key: Key) -> Nearby
 #[inline(always)]
 pub fn next_from(thread: &Thread, forest: &Forest, key: Key, nearby: Nearby) -> u32
     requires { (trees : List (Option Tree)) × AreIndexed thread.now forest.now trees
-        × IsNearby (key_in thread.now.gaps) forest.now.digits trees (code_of key) nearby }
+        × IsNearby (key_in thread.now.gaps) forest.now.scale trees (code_of key) nearby }
     ensures { (place : ℕ) → IsPlaceIn (key_in thread.now.gaps) thread.now.order (code_of key) place
         → result ≡ slice_index thread.now.order place }
 {
@@ -72,13 +72,13 @@ pub fn next_from(thread: &Thread, forest: &Forest, key: Key, nearby: Nearby) -> 
 #[inline(always)]
 fn plant(forest: &mut Forest, key: Key, nearby: Nearby, slot: u32)
     requires there { (at : ℕ → ℕ) × (trees : List (Option Tree)) × IsForest at forest.old trees
-        × IsNearby at forest.old.digits trees (code_of key) nearby }
+        × IsNearby at forest.old.scale trees (code_of key) nearby }
     requires new { (other : ℕ) → nearby ≢ Nearby.Same other }
     requires wide { IsWide forest.old }
     requires spare { 0 < vec_len forest.old.spare }
     ensures trees { (at : ℕ → ℕ) (trees : List (Option Tree)) → IsForest at forest.old trees
-        → at slot ≡ code_of key → IsNearby at forest.old.digits trees (code_of key) nearby
-        → let class = class_in forest.old.digits (code_of key)
+        → at slot ≡ code_of key → IsNearby at forest.old.scale trees (code_of key) nearby
+        → let class = class_in forest.old.scale (code_of key)
         in (new : Tree) × IsForest at forest.new (slice_set trees class (Some new))
         × Gains trees class slot new }
     ensures room { KeepsRoom forest.old forest.new }

@@ -43,7 +43,7 @@ impl Chunks {
         ensures { IfOk result (λ c. (c.size ≡ size) × IsFresh c.items size) }
     {
         let chain = Chain::new(alloc, size)?;
-        let mut index = GapIndex::new(alloc);
+        let mut index = GapIndex::new(alloc, size);
         index.reserve_to(1)?;
         index.insert(Gap {
             length: size,

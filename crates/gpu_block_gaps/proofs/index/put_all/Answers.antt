@@ -48,6 +48,7 @@ loop-slot-preserved c =
       put_next (gaps_of t) at.0 c.gap.result c.requires.ordered next.0 next.1 c.insert.new.self.gaps
           (subst (λ (gs : List Gap). IsInserted gs c.gap.result c.insert.new.self.gaps) at.3 c.insert.ensures.gaps) c.in_order.ensures,
       c.insert.ensures.room ∙ at.4,
+      c.insert.ensures.longest ∙ at.5,
     )
 
 pub returns-clause-gaps : goal.returns-clause-gaps

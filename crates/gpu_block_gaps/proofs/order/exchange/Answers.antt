@@ -22,7 +22,7 @@ both c =
     let trees = c.requires.indexed.0 in
     let are = c.requires.indexed.1 in
     let only = c.in-Some.ensures (key_in t.gaps) trees are.forest in
-    exchanged t f trees are c.args.size c.args.start c.requires.there c.in-Some.slot only.1 c.args.gap (omega arith, omega arith) (ap (class_in f.digits) (sym c.key_of.ensures) ∙ only.0)
+    exchanged t f trees are c.args.size c.args.start c.requires.there c.in-Some.slot only.1 c.args.gap (omega arith, omega arith) (ap (class_in f.scale) (sym c.key_of.ensures) ∙ only.0)
     (λ l is. (c.sound.ensures.inside l is).1) c.set.new.self c.set.ensures.order c.set.ensures.gaps
 
 pub returns-in-Some-clause-indexed : goal.returns-in-Some-clause-indexed

@@ -24,8 +24,8 @@ plant-requires-clause-new c = λ other same.
     let near = c.look_near-nearby.ensures trees are in
     let key = c.key_of-key.ensures in
     not_same c.args.thread.now c.args.forest.now trees are c.args.gap (omega arith, omega arith) c.requires.fresh other
-    (subst (λ n. IsNearby (key_in c.args.thread.now.gaps) c.args.forest.now.digits trees n (Nearby.Same other)) key
-    (subst (λ (n : Nearby). IsNearby (key_in c.args.thread.now.gaps) c.args.forest.now.digits trees (code_of c.key_of-key.result) n) same near))
+    (subst (λ n. IsNearby (key_in c.args.thread.now.gaps) c.args.forest.now.scale trees n (Nearby.Same other)) key
+    (subst (λ (n : Nearby). IsNearby (key_in c.args.thread.now.gaps) c.args.forest.now.scale trees (code_of c.key_of-key.result) n) same near))
 
 pub plant-requires-clause-spare : goal.plant-requires-clause-spare
 plant-requires-clause-spare c =
@@ -42,15 +42,15 @@ both c =
     let short : IsShort g = (omega arith, omega arith) in
     let key = c.key_of-key.ensures in
     let place = place_there (key_in t.gaps) t.order are.ordered.sorted (code g) in
-    let near = subst (λ n. IsNearby (key_in t.gaps) f.digits trees n c.look_near-nearby.result) key (c.look_near-nearby.ensures trees are) in
+    let near = subst (λ n. IsNearby (key_in t.gaps) f.scale trees n c.look_near-nearby.result) key (c.look_near-nearby.ensures trees are) in
     let slot = c.insert-slot.ensures.slot in
     let s = c.insert-slot.result in
     let next = c.next_from-next.ensures place.0 (subst (λ n. IsPlaceIn (key_in t.gaps) t.order n place.0) (sym key) place.1) in
     let order = c.insert-slot.ensures.order place.0 place.1.within next in
     let near' = nearby_rekeyed t f trees are g short c.requires.fresh s slot.1 slot.2 (code g) c.look_near-nearby.result near in
     let planted = c.plant.ensures.trees (key_in (set t.gaps s g)) trees (forest_rekeyed t f trees are g short c.requires.fresh s slot.1 slot.2)
-    (ap code (put_gap t f trees are g short c.requires.fresh s slot.1 slot.2) ∙ sym key) (subst (λ n. IsNearby (key_in (set t.gaps s g)) f.digits trees n c.look_near-nearby.result) (sym key) near') in
-    let planted' = subst (λ n. (new : Tree) × IsForest (key_in (set t.gaps s g)) c.plant.new.forest (set trees (class_in f.digits n) (Some new)) × Gains trees (class_in f.digits n) s new) key planted in (
+    (ap code (put_gap t f trees are g short c.requires.fresh s slot.1 slot.2) ∙ sym key) (subst (λ n. IsNearby (key_in (set t.gaps s g)) f.scale trees n c.look_near-nearby.result) (sym key) near') in
+    let planted' = subst (λ n. (new : Tree) × IsForest (key_in (set t.gaps s g)) c.plant.new.forest (set trees (class_in f.scale n) (Some new)) × Gains trees (class_in f.scale n) s new) key planted in (
       put_indexed t f trees are g short c.requires.fresh s slot.1 slot.2 c.insert-slot.new.self c.plant.new.forest planted'.0 place.0 place.1 c.plant.ensures.room order c.insert-slot.ensures.gaps planted'.1 planted'.2,
       put_inserted t f trees are g short c.requires.fresh s slot.1 slot.2 c.insert-slot.new.self c.plant.new.forest planted'.0 place.0 place.1 c.plant.ensures.room order c.insert-slot.ensures.gaps planted'.1 planted'.2,
     )

@@ -11,7 +11,7 @@ returns-clause-trees c = λ key trees fits are.
     let whole : length self.forks.items ≡ vec_len self.forks = omega arith in
     let fits' : length self.forks.items < vec_capacity self.spare = omega arith in
     let blank : Fork = record { zero = Leaf 0; one = Leaf 0; bit = 0 } in
-    let added = fork_added key self.digits self.forks.items self.spare.items (vec_capacity self.spare) self.roots.items self.classes trees blank are fits' in
-    subst (λ (fs : List Fork). AreTrees key self.digits fs c.push_reserved.new.self.items (vec_capacity c.push_reserved.new.self) self.roots.items self.classes trees) (sym c.push_reserved-2.ensures.items)
-    (subst (λ (ss : List ℕ). AreTrees key self.digits (self.forks.items ++ blank ∷ []) ss (vec_capacity c.push_reserved.new.self) self.roots.items self.classes trees) (sym (c.push_reserved.ensures.items ∙ ap (λ (n : ℕ). self.spare.items ++ n ∷ []) (let said = c.len.ensures in omega arith)))
-    (subst (λ r. AreTrees key self.digits (self.forks.items ++ blank ∷ []) (self.spare.items ++ length self.forks.items ∷ []) r self.roots.items self.classes trees) (sym c.push_reserved.ensures.capacity) added))
+    let added = fork_added key self.scale self.forks.items self.spare.items (vec_capacity self.spare) self.roots.items self.classes trees blank are fits' in
+    subst (λ (fs : List Fork). AreTrees key self.scale fs c.push_reserved.new.self.items (vec_capacity c.push_reserved.new.self) self.roots.items self.classes trees) (sym c.push_reserved-2.ensures.items)
+    (subst (λ (ss : List ℕ). AreTrees key self.scale (self.forks.items ++ blank ∷ []) ss (vec_capacity c.push_reserved.new.self) self.roots.items self.classes trees) (sym (c.push_reserved.ensures.items ∙ ap (λ (n : ℕ). self.spare.items ++ n ∷ []) (let said = c.len.ensures in omega arith)))
+    (subst (λ r. AreTrees key self.scale (self.forks.items ++ blank ∷ []) (self.spare.items ++ length self.forks.items ∷ []) r self.roots.items self.classes trees) (sym c.push_reserved.ensures.capacity) added))

@@ -49,9 +49,9 @@ returns-clause-trees c = λ key trees t are has is split.
     let moved = with_items_is self.forks forks' (let a = c.insert-root.auto.forks in let b = c.deref_mut.ensures.len in omega arith) in
     let room = c.in-Some-Some.ensures'.capacity in (
       new,
-      subst (λ (fs : List Fork). AreTrees key self.digits fs spare' (vec_capacity c.pop.new.self) (set self.roots.items at (Some node')) self.classes
-          (set trees (class_in self.digits n) (Some new))) (sym moved)
-          (subst (λ r. AreTrees key self.digits forks' spare' r (set self.roots.items at (Some node')) self.classes (set trees (class_in self.digits n) (Some new))) (sym room)
-          (subst (λ k. AreTrees key self.digits forks' spare' (vec_capacity self.spare) (set self.roots.items at (Some node')) self.classes (set trees k (Some new))) class planted)),
+      subst (λ (fs : List Fork). AreTrees key self.scale fs spare' (vec_capacity c.pop.new.self) (set self.roots.items at (Some node')) self.classes
+          (set trees (class_in self.scale n) (Some new))) (sym moved)
+          (subst (λ r. AreTrees key self.scale forks' spare' r (set self.roots.items at (Some node')) self.classes (set trees (class_in self.scale n) (Some new))) (sym room)
+          (subst (λ k. AreTrees key self.scale forks' spare' (vec_capacity self.spare) (set self.roots.items at (Some node')) self.classes (set trees k (Some new))) class planted)),
       adds_leaf n bit leaf slot t,
     )

@@ -61,13 +61,13 @@ returns-in-Some-Branch-clause-trees c = λ key trees t are is.
     let moved = with_items_is self.forks forks' (let a = c.remove-cut.auto.forks in let b = c.deref_mut.ensures.len in omega arith) in
     let spare' = c.push_reserved.new.self in (
       Some (pruned n t),
-      subst (λ (fs : List Fork). AreTrees key self.digits fs spare'.items (vec_capacity spare') (set self.roots.items at (Some cut.node)) self.classes
-          (set trees (class_in self.digits n) (Some (pruned n t)))) (sym moved)
-          (subst (λ (ss : List ℕ). AreTrees key self.digits forks' ss (vec_capacity spare') (set self.roots.items at (Some cut.node)) self.classes
-          (set trees (class_in self.digits n) (Some (pruned n t)))) (sym c.push_reserved.ensures.items)
-          (subst (λ r. AreTrees key self.digits forks' (self.spare.items ++ cut.slot ∷ []) r (set self.roots.items at (Some cut.node)) self.classes
-          (set trees (class_in self.digits n) (Some (pruned n t)))) (sym c.push_reserved.ensures.capacity)
-          (subst (λ k. AreTrees key self.digits forks' (self.spare.items ++ cut.slot ∷ []) (vec_capacity self.spare) (set self.roots.items at (Some cut.node)) self.classes
+      subst (λ (fs : List Fork). AreTrees key self.scale fs spare'.items (vec_capacity spare') (set self.roots.items at (Some cut.node)) self.classes
+          (set trees (class_in self.scale n) (Some (pruned n t)))) (sym moved)
+          (subst (λ (ss : List ℕ). AreTrees key self.scale forks' ss (vec_capacity spare') (set self.roots.items at (Some cut.node)) self.classes
+          (set trees (class_in self.scale n) (Some (pruned n t)))) (sym c.push_reserved.ensures.items)
+          (subst (λ r. AreTrees key self.scale forks' (self.spare.items ++ cut.slot ∷ []) r (set self.roots.items at (Some cut.node)) self.classes
+          (set trees (class_in self.scale n) (Some (pruned n t)))) (sym c.push_reserved.ensures.capacity)
+          (subst (λ k. AreTrees key self.scale forks' (self.spare.items ++ cut.slot ∷ []) (vec_capacity self.spare) (set self.roots.items at (Some cut.node)) self.classes
           (set trees k (Some (pruned n t)))) class planted))),
       without_leaf key n t sorted more,
     )
@@ -88,7 +88,7 @@ returns-in-Some-Leaf-clause-trees c = λ key trees t are is.
     let n = code_of c.args.key in
     let planted = last_gone key _ _ _ _ _ _ trees are c.remove.new.self at leaf (there.is ∙ ap (λ (u : Tree). Some u) alone) within c.remove.ensures in (
       None,
-      subst (λ k. AreTrees key self.digits self.forks.items self.spare.items (vec_capacity self.spare) (set self.roots.items at None) c.remove.new.self (set trees k None)) class planted,
+      subst (λ k. AreTrees key self.scale self.forks.items self.spare.items (vec_capacity self.spare) (set self.roots.items at None) c.remove.new.self (set trees k None)) class planted,
       subst (λ (u : Tree). u ≡ tip (near n u)) (sym whole) refl,
     )
 

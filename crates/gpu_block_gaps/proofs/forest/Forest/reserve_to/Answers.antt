@@ -8,14 +8,14 @@ pub returns-in_err-reserve_exact-clause-trees : goal.returns-in_err-reserve_exac
 returns-in_err-reserve_exact-clause-trees c = λ at trees are.
     let w = c.widen.ensures.trees at trees are in
     let v = c.widen.new.self in
-    (w.0, subst (λ (fs : List Fork). AreTrees at v.digits fs v.spare.items (vec_capacity v.spare) v.roots.items v.classes w.0) (sym c.reserve_exact.ensures.items) w.1, w.2)
+    (w.0, subst (λ (fs : List Fork). AreTrees at v.scale fs v.spare.items (vec_capacity v.spare) v.roots.items v.classes w.0) (sym c.reserve_exact.ensures.items) w.1, w.2)
 
 pub returns-in_err-reserve_exact-2-clause-trees : goal.returns-in_err-reserve_exact-2-clause-trees
 returns-in_err-reserve_exact-2-clause-trees c = λ at trees are.
     let w = c.widen.ensures.trees at trees are in
     let v = c.widen.new.self in (
       w.0,
-      reserved at v.digits v.forks.items c.reserve_exact.new.self.items v.spare.items c.reserve_exact-2.new.self.items (vec_capacity v.spare) (vec_capacity c.reserve_exact-2.new.self) v.roots.items v.classes w.0
+      reserved at v.scale v.forks.items c.reserve_exact.new.self.items v.spare.items c.reserve_exact-2.new.self.items (vec_capacity v.spare) (vec_capacity c.reserve_exact-2.new.self) v.roots.items v.classes w.0
           c.reserve_exact.ensures.items c.reserve_exact-2.ensures.items c.reserve_exact-2.ensures.capacity w.1,
       w.2,
     )
@@ -60,6 +60,6 @@ pub returns-clause-trees : goal.returns-clause-trees
 returns-clause-trees c = λ at trees are.
     let w = c.widen.ensures.trees at trees are in
     let v = c.widen.new.self in
-    let start = reserved at v.digits v.forks.items c.reserve_exact.new.self.items v.spare.items c.reserve_exact-2.new.self.items (vec_capacity v.spare) (vec_capacity c.reserve_exact-2.new.self) v.roots.items v.classes w.0
+    let start = reserved at v.scale v.forks.items c.reserve_exact.new.self.items v.spare.items c.reserve_exact-2.new.self.items (vec_capacity v.spare) (vec_capacity c.reserve_exact-2.new.self) v.roots.items v.classes w.0
     c.reserve_exact.ensures.items c.reserve_exact-2.ensures.items c.reserve_exact-2.ensures.capacity w.1 in
     (w.0, c.loop-self.invariant.trees at w.0 start, w.2)

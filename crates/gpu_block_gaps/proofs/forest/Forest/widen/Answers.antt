@@ -1,10 +1,8 @@
-use Rattle.std.proofs.Common.{◌≡◌, ◌≤◌, ◌*◌, ◌-◌, ◌^◌, ◌%◌, ℕ, List, Option, None, Some, refl, sym, subst, length, replicate, vec_capacity, arith}
+use Rattle.std.proofs.Common.{◌≡◌, ◌≤◌, ◌+◌, ◌*◌, ℕ, List, Option, None, Some, refl, sym, subst, length, replicate, vec_capacity, arith}
 use Rattle.std.proofs.lemmas.Bool.Decides.{nat_tests}
 use Rattle.gpu_block_gaps.specs.declared.tree.Node.{Node}
-use Rattle.gpu_block_gaps.specs.Class.{class_count}
 use Rattle.gpu_block_gaps.specs.ClassSet.{NoneFrom, is_in}
 use Rattle.gpu_block_gaps.specs.Forest.{AreTrees, KeepsTrees}
-use Rattle.gpu_block_gaps.proofs.Classes.{class_count_few, count_whole}
 use Rattle.gpu_block_gaps.proofs.Rooms.{widened}
 use Rattle.gpu_block_gaps.proofs.forest.Forest.widen.Goals as goal
 
@@ -12,20 +10,16 @@ none_only : (P : Option Node → Type 0) → ((x : Node) → P (Some x) → ⊥)
 none_only P never None h = refl
 none_only P never (Some x) h = absurd (never x h)
 
-pub with_room-requires : goal.with_room-requires
-with_room-requires c = let whole = count_whole c.args.self.now.digits c.requires in let few = class_count_few c.args.self.now.digits c.requires in omega arith
-
 pub returns-clause-trees : goal.returns-clause-trees
 returns-clause-trees c = λ key trees are.
     let self = c.args.self.now in
-    let d = self.digits in
+    let d = self.scale in
     let empty : length self.roots.items ≡ 0 = grind (arith, nat_tests) in
-    let whole = count_whole d c.requires in
-    let made : (classes' : List ℕ) (n : ℕ) → n ≡ class_count d → n ≤ length classes' * 64 → NoneFrom (is_in classes') 0
+    let made : (classes' : List ℕ) (n : ℕ) → n ≡ d.last + 1 → n ≤ length classes' * 64 → NoneFrom (is_in classes') 0
     → AreTrees key d self.forks.items self.spare.items (vec_capacity self.spare) (replicate n None) classes' (replicate n None) × KeepsTrees trees (replicate n None) =
     λ classes' n is enough none. widened key d self.forks.items self.spare.items (vec_capacity self.spare) self.roots.items self.classes trees classes' n are empty is enough none in
-    let at = made c.in_ok-classes.classes _ whole c.in_ok-classes.ensures.room c.in_ok-classes.ensures.none in
-    let n = (65 - d) * 2 ^ d % 2 ^ 64 in
+    let at = made c.in_ok-classes.classes (d.last + 1) refl c.in_ok-classes.ensures.room c.in_ok-classes.ensures.none in
+    let n = d.last + 1 in
     let same : c.in_ok-roots.roots.items ≡ replicate n None = c.in_ok-roots.ensures.items_if_clones_equal (none_only _ (λ x h. absurd h)) in (
       replicate n None,
       subst (λ (rs : List (Option Node)). AreTrees key d self.forks.items self.spare.items (vec_capacity self.spare) rs c.in_ok-classes.classes (replicate n None)) (sym same) at.0,

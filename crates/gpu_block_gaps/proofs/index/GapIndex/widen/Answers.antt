@@ -8,14 +8,14 @@ invariant_of-self c =
     let are = c.self.invariant.1 in
     let e = c.reserve_to.ensures in
     let same = e.trees (key_in c.self.inside.thread.gaps) c.self.invariant.0 are.forest in
-    (same.0, forest_reserved c.self.inside.thread c.self.inside.forest c.self.invariant.0 are c.reserve_to.new.self same.0 same.1 same.2 e.kept.0 e.kept.1 e.digits)
+    (same.0, forest_reserved c.self.inside.thread c.self.inside.forest c.self.invariant.0 are c.reserve_to.new.self same.0 same.1 same.2 e.kept.0 e.kept.1 e.scale)
 
 pub invariant_of-self-2 : goal.invariant_of-self-2
 invariant_of-self-2 c =
     let are = c.self.invariant.1 in
     let e = c.reserve_to.ensures in
     let same = e.trees (key_in c.self.inside.thread.gaps) c.self.invariant.0 are.forest in
-    let mid = forest_reserved c.self.inside.thread c.self.inside.forest c.self.invariant.0 are c.reserve_to.new.self same.0 same.1 same.2 e.kept.0 e.kept.1 e.digits in
+    let mid = forest_reserved c.self.inside.thread c.self.inside.forest c.self.invariant.0 are c.reserve_to.new.self same.0 same.1 same.2 e.kept.0 e.kept.1 e.scale in
     let room = c.in_ok-reserve_to.ensures.room in
     let most = c.reserve_to-2.ensures.most in
     let slots = mid.slots in
