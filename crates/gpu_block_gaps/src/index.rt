@@ -34,11 +34,9 @@ fn grown(room: usize) -> usize
 fn digits_for(count: usize) -> u32
     ensures { result < 24 }
 {
-    if count < 128 {
+    if count < 64 {
         FEW_DIGITS
-    } else if count < 1024 {
-        6
-    } else if count < 16384 {
+    } else if count < 512 {
         8
     } else {
         10
