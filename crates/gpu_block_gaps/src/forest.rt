@@ -9,6 +9,7 @@ ghost use Rattle.gpu_block_gaps.specs.Forest.{IsForest, HasTree, AddsLeaf, Loses
 use crate::class::Scale;
 use crate::class_set::ClassSet;
 use crate::key::Key;
+use crate::root::Root;
 use crate::tree::{Fork, Node, Place, first, insert, nearest, place_of, remove};
 use std::alloc::{AllocError, Global};
 
@@ -18,7 +19,7 @@ pub struct Forest {
     pub(crate) forks: Vec<Fork>,
     // The slots that no tree has.
     pub(crate) spare: Vec<u32>,
-    pub(crate) roots: Vec<Option<Node>>,
+    pub(crate) roots: Vec<Root>,
     pub(crate) classes: ClassSet,
     pub(crate) scale: Scale,
 }
@@ -54,7 +55,7 @@ impl Forest {
         }
         let alloc = *self.roots.allocator();
         let count = self.scale.last as usize + 1;
-        let roots = vec![in alloc; None; count]?;
+        let roots = vec![in alloc; Root::empty(); count]?;
         let classes = ClassSet::with_room(alloc, count)?;
         self.roots = roots;
         self.classes = classes;
@@ -117,7 +118,7 @@ impl Forest {
         ensures { result ≡ root_at self.now.roots.items class }
     {
         match self.roots.get(class) {
-            Some(root) => *root,
+            Some(root) => root.node(),
             None => None,
         }
     }
@@ -193,7 +194,7 @@ impl Forest {
         ensures room { KeepsRoom self.old self.new }
     {
         let class = self.class(key);
-        self.roots[class] = Some(Node::Leaf(leaf));
+        self.roots[class] = Root::at(Node::Leaf(leaf));
         self.classes.insert(class);
     }
 
@@ -215,7 +216,7 @@ impl Forest {
         match (self.root(class), self.spare.pop()) {
             (Some(root), Some(slot)) => {
                 let root = insert(&mut self.forks, root, key, bit, leaf, slot);
-                self.roots[class] = Some(root);
+                self.roots[class] = Root::at(root);
             }
             _ => unreachable!(),
         }
@@ -240,12 +241,12 @@ impl Forest {
         match self.root(class) {
             Some(Node::Branch(slot)) => {
                 let cut = remove(&mut self.forks, slot, key);
-                self.roots[class] = Some(cut.node);
+                self.roots[class] = Root::at(cut.node);
                 self.spare.push_reserved(cut.slot);
                 cut.leaf
             }
             Some(Node::Leaf(leaf)) => {
-                self.roots[class] = None;
+                self.roots[class] = Root::empty();
                 self.classes.remove(class);
                 leaf
             }

@@ -7,6 +7,7 @@ mod forest;
 mod index;
 mod key;
 mod order;
+mod root;
 mod scan;
 mod thread;
 mod tree;

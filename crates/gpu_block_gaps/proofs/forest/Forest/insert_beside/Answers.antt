@@ -1,6 +1,7 @@
-use Rattle.std.proofs.Common.{◌≡◌, ◌<◌, List, sym, ap, subst, ◌∙◌, length, set, Some, vec_capacity, arith}
+use Rattle.std.proofs.Common.{◌≡◌, ◌<◌, List, Option, sym, ap, subst, ◌∙◌, length, set, Some, vec_capacity, arith}
 use Rattle.std.specs.List.{slice_get}
 use Rattle.std.proofs.lemmas.List.{with_items_is}
+use Rattle.gpu_block_gaps.specs.declared.tree.Node.{Node}
 use Rattle.gpu_block_gaps.specs.declared.tree.Fork.{Fork}
 use Rattle.gpu_block_gaps.specs.Key.{code_of}
 use Rattle.gpu_block_gaps.specs.Tree.{Lays, grown, CanGrow, HasGrown}
@@ -46,12 +47,13 @@ returns-clause-trees c = λ key trees t are has is split.
     subst (λ (fs : List Fork). HasGrown (slice_get fs) (slice_get forks') 128 node' t new slot) value (c.insert-root.ensures key 128 t can') in
     let long : length forks' ≡ length self.forks.items = (let a = c.insert-root.auto.forks in let b = ap length value in omega arith) in
     let planted = beside_planted key _ _ _ _ _ _ trees are forks' spare' slot at node node' t n bit leaf was rooted there split class within has long grew in
+    let rooted' = subst (λ (r : Option Node). AreTrees key self.scale forks' spare' (vec_capacity self.spare) (set self.roots.items at r) self.classes (set trees at (Some new))) (sym c.at.ensures) planted in
     let moved = with_items_is self.forks forks' (let a = c.insert-root.auto.forks in let b = c.deref_mut.ensures.len in omega arith) in
     let room = c.in-Some-Some.ensures'.capacity in (
       new,
-      subst (λ (fs : List Fork). AreTrees key self.scale fs spare' (vec_capacity c.pop.new.self) (set self.roots.items at (Some node')) self.classes
+      subst (λ (fs : List Fork). AreTrees key self.scale fs spare' (vec_capacity c.pop.new.self) (set self.roots.items at c.at.result) self.classes
           (set trees (class_in self.scale n) (Some new))) (sym moved)
-          (subst (λ r. AreTrees key self.scale forks' spare' r (set self.roots.items at (Some node')) self.classes (set trees (class_in self.scale n) (Some new))) (sym room)
-          (subst (λ k. AreTrees key self.scale forks' spare' (vec_capacity self.spare) (set self.roots.items at (Some node')) self.classes (set trees k (Some new))) class planted)),
+          (subst (λ r. AreTrees key self.scale forks' spare' r (set self.roots.items at c.at.result) self.classes (set trees (class_in self.scale n) (Some new))) (sym room)
+          (subst (λ k. AreTrees key self.scale forks' spare' (vec_capacity self.spare) (set self.roots.items at c.at.result) self.classes (set trees k (Some new))) class rooted')),
       adds_leaf n bit leaf slot t,
     )

@@ -1,5 +1,5 @@
-use Rattle.std.proofs.Common.{◌<◌, ap, subst, ◌∙◌, length, set, Some, vec_capacity, arith}
-use Rattle.gpu_block_gaps.specs.declared.tree.Node.TheVariants.{Leaf}
+use Rattle.std.proofs.Common.{◌<◌, sym, ap, subst, ◌∙◌, length, set, Option, Some, vec_capacity, arith}
+use Rattle.gpu_block_gaps.specs.declared.tree.Node.{Node}
 use Rattle.gpu_block_gaps.specs.Key.{code_of}
 use Rattle.gpu_block_gaps.specs.Tree.{tip}
 use Rattle.gpu_block_gaps.specs.Forest.{tree_at, AreTrees}
@@ -12,5 +12,7 @@ returns-clause-trees c = λ key trees are has none.
     let within : c.class-class.result < length c.args.self.now.roots.items = (let a = c.class-class.ensures.within in let b = c.requires.wide in omega arith) in
     let planted = first_planted key _ _ _ _ _ _ trees are c.insert.new.self c.class-class.result c.args.leaf (code_of c.args.key) class within has (ap (tree_at trees) class ∙ none) c.insert.ensures in
     let self = c.args.self.now in
-    subst (λ k. AreTrees key self.scale self.forks.items self.spare.items (vec_capacity self.spare) (set self.roots.items c.class-class.result (Some (Leaf c.args.leaf))) c.insert.new.self
-    (set trees k (Some (tip c.args.leaf)))) class planted
+    let rooted = subst (λ (r : Option Node). AreTrees key self.scale self.forks.items self.spare.items (vec_capacity self.spare) (set self.roots.items c.class-class.result r) c.insert.new.self
+    (set trees c.class-class.result (Some (tip c.args.leaf)))) (sym c.at.ensures) planted in
+    subst (λ k. AreTrees key self.scale self.forks.items self.spare.items (vec_capacity self.spare) (set self.roots.items c.class-class.result c.at.result) c.insert.new.self
+    (set trees k (Some (tip c.args.leaf)))) class rooted

@@ -1,7 +1,8 @@
-use Rattle.std.proofs.Common.{◌≡◌, ◌<◌, ℕ, List, [], ◌∷◌, ◌++◌, None, false, sym, ap, subst, ◌∙◌, refl, length, set, Some, vec_capacity, arith, rules}
+use Rattle.std.proofs.Common.{◌≡◌, ◌<◌, ℕ, List, [], ◌∷◌, ◌++◌, Option, None, false, sym, ap, subst, ◌∙◌, refl, length, set, Some, vec_capacity, arith, rules}
 use Rattle.std.specs.List.{slice_get}
 use Rattle.std.proofs.lemmas.Option.{same_Some}
 use Rattle.std.proofs.lemmas.List.{with_items_is}
+use Rattle.gpu_block_gaps.specs.declared.tree.Node.{Node}
 use Rattle.gpu_block_gaps.specs.declared.tree.Node.TheVariants.{Leaf, Branch}
 use Rattle.gpu_block_gaps.specs.declared.tree.Fork.{Fork}
 use Rattle.gpu_block_gaps.specs.Key.{code_of}
@@ -58,17 +59,19 @@ returns-in-Some-Branch-clause-trees c = λ key trees t are is.
     subst (λ (fs : List Fork). HasPruned (slice_get fs) (slice_get forks') 128 cut.node t n cut.slot) value (c.remove-cut.ensures.tree key 128 t laid' sorted) in
     let long : length forks' ≡ length self.forks.items = (let a = c.remove-cut.auto.forks in let b = ap length value in omega arith) in
     let planted = pruned_planted key _ _ _ _ _ _ trees are forks' cut.slot at node cut.node t n rooted found more within long gone in
+    let rooted' = subst (λ (r : Option Node). AreTrees key self.scale forks' (self.spare.items ++ cut.slot ∷ []) (vec_capacity self.spare) (set self.roots.items at r) self.classes
+    (set trees at (Some (pruned n t)))) (sym c.at.ensures) planted in
     let moved = with_items_is self.forks forks' (let a = c.remove-cut.auto.forks in let b = c.deref_mut.ensures.len in omega arith) in
     let spare' = c.push_reserved.new.self in (
       Some (pruned n t),
-      subst (λ (fs : List Fork). AreTrees key self.scale fs spare'.items (vec_capacity spare') (set self.roots.items at (Some cut.node)) self.classes
+      subst (λ (fs : List Fork). AreTrees key self.scale fs spare'.items (vec_capacity spare') (set self.roots.items at c.at.result) self.classes
           (set trees (class_in self.scale n) (Some (pruned n t)))) (sym moved)
-          (subst (λ (ss : List ℕ). AreTrees key self.scale forks' ss (vec_capacity spare') (set self.roots.items at (Some cut.node)) self.classes
+          (subst (λ (ss : List ℕ). AreTrees key self.scale forks' ss (vec_capacity spare') (set self.roots.items at c.at.result) self.classes
           (set trees (class_in self.scale n) (Some (pruned n t)))) (sym c.push_reserved.ensures.items)
-          (subst (λ r. AreTrees key self.scale forks' (self.spare.items ++ cut.slot ∷ []) r (set self.roots.items at (Some cut.node)) self.classes
+          (subst (λ r. AreTrees key self.scale forks' (self.spare.items ++ cut.slot ∷ []) r (set self.roots.items at c.at.result) self.classes
           (set trees (class_in self.scale n) (Some (pruned n t)))) (sym c.push_reserved.ensures.capacity)
-          (subst (λ k. AreTrees key self.scale forks' (self.spare.items ++ cut.slot ∷ []) (vec_capacity self.spare) (set self.roots.items at (Some cut.node)) self.classes
-          (set trees k (Some (pruned n t)))) class planted))),
+          (subst (λ k. AreTrees key self.scale forks' (self.spare.items ++ cut.slot ∷ []) (vec_capacity self.spare) (set self.roots.items at c.at.result) self.classes
+          (set trees k (Some (pruned n t)))) class rooted'))),
       without_leaf key n t sorted more,
     )
 
@@ -86,9 +89,11 @@ returns-in-Some-Leaf-clause-trees c = λ key trees t are is.
     let alone : there.tree ≡ tip leaf = tip_at (slice_get self.forks.items) 128 (Leaf leaf) there.tree leaf there.laid refl in
     let whole : t ≡ tip leaf = sym same ∙ alone in
     let n = code_of c.args.key in
-    let planted = last_gone key _ _ _ _ _ _ trees are c.remove.new.self at leaf (there.is ∙ ap (λ (u : Tree). Some u) alone) within c.remove.ensures in (
+    let planted = last_gone key _ _ _ _ _ _ trees are c.remove.new.self at leaf (there.is ∙ ap (λ (u : Tree). Some u) alone) within c.remove.ensures in
+    let emptied = subst (λ (r : Option Node). AreTrees key self.scale self.forks.items self.spare.items (vec_capacity self.spare) (set self.roots.items at r) c.remove.new.self (set trees at None))
+    (sym c.empty.ensures) planted in (
       None,
-      subst (λ k. AreTrees key self.scale self.forks.items self.spare.items (vec_capacity self.spare) (set self.roots.items at None) c.remove.new.self (set trees k None)) class planted,
+      subst (λ k. AreTrees key self.scale self.forks.items self.spare.items (vec_capacity self.spare) (set self.roots.items at c.empty.result) c.remove.new.self (set trees k None)) class emptied,
       subst (λ (u : Tree). u ≡ tip (near n u)) (sym whole) refl,
     )
 

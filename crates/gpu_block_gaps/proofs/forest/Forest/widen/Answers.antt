@@ -1,14 +1,10 @@
-use Rattle.std.proofs.Common.{◌≡◌, ◌≤◌, ◌+◌, ◌*◌, ℕ, List, Option, None, Some, refl, sym, subst, length, replicate, vec_capacity, arith}
+use Rattle.std.proofs.Common.{◌≡◌, ◌≤◌, ◌+◌, ◌*◌, ℕ, List, Option, None, refl, sym, ap, ◌∙◌, subst, length, replicate, vec_capacity, arith}
 use Rattle.std.proofs.lemmas.Bool.Decides.{nat_tests}
 use Rattle.gpu_block_gaps.specs.declared.tree.Node.{Node}
 use Rattle.gpu_block_gaps.specs.ClassSet.{NoneFrom, is_in}
 use Rattle.gpu_block_gaps.specs.Forest.{AreTrees, KeepsTrees}
 use Rattle.gpu_block_gaps.proofs.Rooms.{widened}
 use Rattle.gpu_block_gaps.proofs.forest.Forest.widen.Goals as goal
-
-none_only : (P : Option Node → Type 0) → ((x : Node) → P (Some x) → ⊥) → (y : Option Node) → P y → y ≡ None
-none_only P never None h = refl
-none_only P never (Some x) h = absurd (never x h)
 
 pub returns-clause-trees : goal.returns-clause-trees
 returns-clause-trees c = λ key trees are.
@@ -20,7 +16,7 @@ returns-clause-trees c = λ key trees are.
     λ classes' n is enough none. widened key d self.forks.items self.spare.items (vec_capacity self.spare) self.roots.items self.classes trees classes' n are empty is enough none in
     let at = made c.in_ok-classes.classes (d.last + 1) refl c.in_ok-classes.ensures.room c.in_ok-classes.ensures.none in
     let n = d.last + 1 in
-    let same : c.in_ok-roots.roots.items ≡ replicate n None = c.in_ok-roots.ensures.items_if_clones_equal (none_only _ (λ x h. absurd h)) in (
+    let same : c.in_ok-roots.roots.items ≡ replicate n None = c.in_ok-roots.ensures.items_if_clones_equal (λ y is. is) ∙ ap (λ (r : Option Node). replicate n r) c.empty.ensures in (
       replicate n None,
       subst (λ (rs : List (Option Node)). AreTrees key d self.forks.items self.spare.items (vec_capacity self.spare) rs c.in_ok-classes.classes (replicate n None)) (sym same) at.0,
       at.1,
