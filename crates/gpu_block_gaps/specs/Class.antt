@@ -1,5 +1,5 @@
 -- Classes of lengths.
-use Rattle.std.specs.Prelude.{ℕ, ◌+◌, ◌-◌, ◌*◌, ◌/◌, ◌^◌, ◌<◌, min}
+use Rattle.std.specs.Prelude.{ℕ, ◌+◌, ◌-◌, ◌*◌, ◌/◌, ◌^◌, ◌<◌, ◌≡◌, min}
 use Rattle.std.specs.Int.{w64, leading_zeros}
 use Rattle.gpu_block_gaps.specs.declared.class.Scale.{Scale}
 
@@ -22,3 +22,7 @@ class_on scale length = min (class_number scale.digits length) scale.last
 -- the classes of the scale have numbers of 32 bits, and so has their count
 abbrev pub IsFew : Scale → Type 0
 IsFew scale = (scale.digits < 24) × (scale.last + 1 < 2 ^ 32)
+
+-- the last class is that of the length
+abbrev pub EndsAt : Scale → ℕ → Type 0
+EndsAt scale longest = scale.last ≡ class_number scale.digits longest

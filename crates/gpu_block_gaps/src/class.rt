@@ -1,7 +1,7 @@
 //! Classes of lengths: those of one class have their highest digits in common.
 
 ghost use Rattle.std.specs.Prelude.{◌≡◌, ◌<◌, ◌≤◌, ◌^◌};
-ghost use Rattle.gpu_block_gaps.specs.Class.{class_number, class_count, class_on, IsFew};
+ghost use Rattle.gpu_block_gaps.specs.Class.{class_number, class_count, class_on, IsFew, EndsAt};
 
 /// How lengths fall into classes: how many digits a class tells behind the first, and the last class, which all longer lengths share.
 #[derive(Clone, Copy)]
@@ -15,7 +15,7 @@ impl Scale {
     pub fn up_to(longest: u64, digits: u32) -> Scale
         requires { digits < 24 }
         ensures digits { result.digits ≡ digits }
-        ensures last { result.last ≡ class_number digits longest }
+        ensures last { EndsAt result longest }
         ensures few { IsFew result }
     {
         Scale {

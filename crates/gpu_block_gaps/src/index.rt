@@ -65,6 +65,7 @@ pub struct GapIndex {
 impl Model for GapIndex {
     ghost use Rattle.std.specs.Prelude.{◌-◌, length};
     ghost use Rattle.gpu_block_gaps.specs.Index.{Index};
+    ghost use Rattle.gpu_block_gaps.specs.Class.{EndsAt};
     ghost use Rattle.gpu_block_gaps.specs.Ordered.{gaps_of, IsIndexed};
 
     ghost Value = { Index };
@@ -75,7 +76,7 @@ impl Model for GapIndex {
       longest = s.longest;
     } };
 
-    ghost invariant = { λ s. IsIndexed s.thread s.forest };
+    ghost invariant = { λ s. IsIndexed s.thread s.forest × EndsAt s.forest.scale s.longest };
 }
 
 /// Puts the gaps of a thread into an index that has none. There is room for them.

@@ -99,6 +99,7 @@ pub fn put(thread: &mut Thread, forest: &mut Forest, gap: Gap)
     ensures indexed { IsIndexed thread.new forest.new }
     ensures gaps { IsInserted (gaps_of thread.old) gap (gaps_of thread.new) }
     ensures room { length thread.new.gaps ≡ length thread.old.gaps }
+    ensures scale { forest.new.scale ≡ forest.old.scale }
 {
     let key = key_of(&gap);
     let nearby = look_near(thread, forest, key);
@@ -115,6 +116,7 @@ pub fn take(thread: &mut Thread, forest: &mut Forest, size: u64, start: u64)
     ensures indexed { IsIndexed thread.new forest.new }
     ensures gaps { IsRemoved (gaps_of thread.old) size start (gaps_of thread.new) }
     ensures room { length thread.new.gaps ≡ length thread.old.gaps }
+    ensures scale { forest.new.scale ≡ forest.old.scale }
     ensures fewer { length thread.new.order + 1 ≡ length thread.old.order }
 {
     thread.sound();
@@ -137,6 +139,7 @@ pub fn exchange(thread: &mut Thread, forest: &mut Forest, size: u64, start: u64,
     ensures indexed { IsIndexed thread.new forest.new }
     ensures gaps { IsReplaced (gaps_of thread.old) size start gap (gaps_of thread.new) }
     ensures room { length thread.new.gaps ≡ length thread.old.gaps }
+    ensures scale { forest.new.scale ≡ forest.old.scale }
 {
     thread.sound();
     let key = Key {

@@ -16,14 +16,14 @@ use Rattle.gpu_block_gaps.proofs.index.GapIndex.first_at_least.Goals as goal
 pub new-requires : goal.new-requires
 new-requires c =
     let t = c.self.inside.thread in
-    let place = place_there (key_in t.gaps) t.order c.self.invariant.1.ordered.sorted (c.args.size * 2 ^ 64 + 0) in
+    let place = place_there (key_in t.gaps) t.order c.self.invariant.0.1.ordered.sorted (c.args.size * 2 ^ 64 + 0) in
     (place.0, place.1.within, c.next_from.ensures place.0 place.1)
 
 -- the place that the scan begins at
 found : (c : After-new) → (p : ℕ) × IsPlaceIn (key_in c.self.inside.thread.gaps) c.self.inside.thread.order (c.args.size * 2 ^ 64 + 0) p × (c.new.result.place ≡ p)
 found c =
     let t = c.self.inside.thread in
-    let place = place_there (key_in t.gaps) t.order c.self.invariant.1.ordered.sorted (c.args.size * 2 ^ 64 + 0) in
+    let place = place_there (key_in t.gaps) t.order c.self.invariant.0.1.ordered.sorted (c.args.size * 2 ^ 64 + 0) in
     (place.0, place.1, c.new.ensures.place place.0 place.1.within (c.next_from.ensures place.0 place.1))
 
 pub returns-clause-within : goal.returns-clause-within
@@ -39,16 +39,16 @@ pub returns-clause-below : goal.returns-clause-below
 returns-clause-below c =
     let at = found c in
     subst (λ (gs : List Gap). (k : ℕ) (d : Gap) → k < c.new.result.place → (get_or gs k d).length < c.args.size) (ap (λ (x : Index). x.gaps) c.self.view_is)
-    (λ k d lt. shorter_below c.self.inside.thread c.self.inside.forest c.self.invariant.0 c.self.invariant.1 c.args.size at.0 at.1 k d (let is = at.2 in omega arith))
+    (λ k d lt. shorter_below c.self.inside.thread c.self.inside.forest c.self.invariant.0.0 c.self.invariant.0.1 c.args.size at.0 at.1 k d (let is = at.2 in omega arith))
 
 pub returns-clause-from : goal.returns-clause-from
 returns-clause-from c =
     let at = found c in
     subst (λ (gs : List Gap). (k : ℕ) (d : Gap) → c.new.result.place ≤ k → k < length gs → c.args.size ≤ (get_or gs k d).length) (ap (λ (x : Index). x.gaps) c.self.view_is)
-    (λ k d le lt. longer_from c.self.inside.thread c.self.inside.forest c.self.invariant.0 c.self.invariant.1 c.args.size at.0 at.1 k d (let is = at.2 in omega arith) lt)
+    (λ k d le lt. longer_from c.self.inside.thread c.self.inside.forest c.self.invariant.0.0 c.self.invariant.0.1 c.args.size at.0 at.1 k d (let is = at.2 in omega arith) lt)
 
 pub returns-clause-ordered : goal.returns-clause-ordered
-returns-clause-ordered c = subst (λ (gs : List Gap). AllPairs Before gs) (ap (λ (x : Index). x.gaps) c.self.view_is) (gaps_sorted c.self.inside.thread c.self.inside.forest c.self.invariant.0 c.self.invariant.1)
+returns-clause-ordered c = subst (λ (gs : List Gap). AllPairs Before gs) (ap (λ (x : Index). x.gaps) c.self.view_is) (gaps_sorted c.self.inside.thread c.self.inside.forest c.self.invariant.0.0 c.self.invariant.0.1)
 
 pub returns-clause-counted : goal.returns-clause-counted
 returns-clause-counted c = elim c.match-near.branch [
@@ -60,7 +60,7 @@ returns-clause-counted c = elim c.match-near.branch [
       let is = w.cost-is in
       let comparisons = ap (λ (x : Cost). x.comparisons) is ∙ w.compare.ensures.comparisons in
       let t = c.self.inside.thread in
-      let some = some_gap t c.self.inside.forest c.self.invariant.0 c.self.invariant.1 (c.args.size * 2 ^ 64 + 0) c.look_near-near.result (c.look_near-near.ensures c.self.invariant.0 c.self.invariant.1) w.in_default.not-Nothing in
+      let some = some_gap t c.self.inside.forest c.self.invariant.0.0 c.self.invariant.0.1 (c.args.size * 2 ^ 64 + 0) c.look_near-near.result (c.look_near-near.ensures c.self.invariant.0.0 c.self.invariant.0.1) w.in_default.not-Nothing in
       let one = one_digit (length (gaps_of t)) some in
       let seen : digits (length (gaps_of t)) ≡ digits (length c.args.self.now.gaps) = ap (λ (x : Index). digits (length x.gaps)) c.self.view_is in
       record {

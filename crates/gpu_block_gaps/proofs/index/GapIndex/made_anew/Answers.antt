@@ -6,7 +6,7 @@ use Rattle.gpu_block_gaps.proofs.Surface.{gaps_sorted}
 use Rattle.gpu_block_gaps.proofs.index.GapIndex.made_anew.Goals as goal
 
 pub put_all-requires-clause-ordered : goal.put_all-requires-clause-ordered
-put_all-requires-clause-ordered c = gaps_sorted c.self.inside.thread c.self.inside.forest c.self.invariant.0 c.self.invariant.1
+put_all-requires-clause-ordered c = gaps_sorted c.self.inside.thread c.self.inside.forest c.self.invariant.0.0 c.self.invariant.0.1
 
 pub put_all-requires-clause-room : goal.put_all-requires-clause-room
 put_all-requires-clause-room c =
